@@ -1,0 +1,5 @@
+pub mod Refusals
+pub mod Failures
+pub mod Items
+pub mod Highest
+pub mod Numbered

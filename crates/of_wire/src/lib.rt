@@ -1,0 +1,8 @@
+//! What the other crates share: bytes, error codes, and lists of items on the wire.
+#![tactic(auto)]
+
+mod bytes;
+mod code;
+
+pub use bytes::Bytes;
+pub use code::{Code, ReadError};
