@@ -8,7 +8,7 @@ ghost use Rattle.of_headers.specs.FieldMap.{is_served};
 #[derive(Clone, Copy, Debug, PartialEq, Eq)]
 pub enum Need {
     Nothing,
-    /// A VLAN_VID whose bit 0x1000 is set.
+    /// A VLAN_VID other than 0, which says that there is no tag.
     Tag,
     /// ETH_TYPE 0x0800 or 0x86dd.
     Ip,
