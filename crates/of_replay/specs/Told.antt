@@ -1,0 +1,78 @@
+-- What a source answered and what a sink took, where they tell it.
+use Rattle.std.specs.Prelude.{ℕ, ◌<◌, ◌≤◌, ◌++◌, List, [], ◌∷◌, take, Option}
+use Rattle.std.specs.Option.{option_map}
+use Rattle.std.specs.List.{flat_map}
+use Rattle.of_replay.specs.declared.io.Reading.{Reading}
+use Rattle.of_replay.specs.declared.io.Reading.TheVariants as reading
+use Rattle.of_replay.specs.declared.io.Writing.{Writing}
+use Rattle.of_replay.specs.declared.io.Writing.TheVariants as writing
+
+-- what one read answered
+pub data Answer : Type 0 where
+  Gave : (bytes : List ℕ) → Answer
+  Idle : Answer
+  Ended : Answer
+  Failed : Answer
+
+-- known bytes, and then these
+abbrev pub then_bytes : Option (List ℕ) → List ℕ → Option (List ℕ)
+then_bytes known bytes = option_map (λ bs. bs ++ bytes) known
+
+-- known answers, and then this one
+abbrev pub then_answer : Option (List Answer) → Answer → Option (List Answer)
+then_answer known answer = option_map (λ as'. as' ++ answer ∷ []) known
+
+-- the answer, where the buffer is as the read left it
+abbrev pub answer_of : Reading → List ℕ → Answer
+answer_of (reading.Bytes n) buffer = Gave (take n buffer)
+answer_of reading.Nothing buffer = Idle
+answer_of reading.End buffer = Ended
+answer_of reading.Fault buffer = Failed
+
+-- the bytes that answers gave
+abbrev pub bytes_of : Answer → List ℕ
+bytes_of (Gave bytes) = bytes
+bytes_of Idle = []
+bytes_of Ended = []
+bytes_of Failed = []
+
+abbrev pub given : List Answer → List ℕ
+given answers = flat_map bytes_of answers
+
+abbrev pub read_count : Reading → ℕ
+read_count (reading.Bytes n) = n
+read_count reading.Nothing = 0
+read_count reading.End = 0
+read_count reading.Fault = 0
+
+abbrev pub read_ends : Reading → ℕ
+read_ends (reading.Bytes n) = 0
+read_ends reading.Nothing = 0
+read_ends reading.End = 1
+read_ends reading.Fault = 0
+
+abbrev pub read_faults : Reading → ℕ
+read_faults (reading.Bytes n) = 0
+read_faults reading.Nothing = 0
+read_faults reading.End = 0
+read_faults reading.Fault = 1
+
+-- a read gives one byte at least, and no more than there is room for
+abbrev pub IsReading : Reading → ℕ → Type 0
+IsReading (reading.Bytes n) room = (0 < n) × (n ≤ room)
+IsReading reading.Nothing room = Unit {0}
+IsReading reading.End room = Unit {0}
+IsReading reading.Fault room = Unit {0}
+
+abbrev pub write_count : Writing → ℕ
+write_count (writing.Wrote n) = n
+write_count writing.Fault = 0
+
+abbrev pub write_faults : Writing → ℕ
+write_faults (writing.Wrote n) = 0
+write_faults writing.Fault = 1
+
+-- a write takes one byte at least, and no more than there are
+abbrev pub IsWriting : Writing → ℕ → Type 0
+IsWriting (writing.Wrote n) len = (0 < n) × (n ≤ len)
+IsWriting writing.Fault len = Unit {0}

@@ -1,0 +1,65 @@
+//! Where bytes come from and go to.
+ghost use Rattle.std.specs.Prelude.{◌≡◌, ◌+◌, ◌<◌, ◌≤◌, ◌^◌, ℕ, List, Option, length, take};
+ghost use Rattle.of_replay.specs.Told.{then_bytes, then_answer, answer_of, read_count, read_ends, read_faults, write_count, write_faults, IsReading, IsWriting, Answer};
+
+/// What a read answered.
+#[derive(Clone, Copy, Debug, PartialEq, Eq)]
+pub enum Reading {
+    /// So many bytes, one at least, at the front of the buffer.
+    Bytes(usize),
+    /// Nothing came this time.
+    Nothing,
+    /// No more bytes come.
+    End,
+    /// The read failed.
+    Fault,
+}
+
+/// What a write answered.
+#[derive(Clone, Copy, Debug, PartialEq, Eq)]
+pub enum Writing {
+    /// So many bytes, one at least, were taken from the front.
+    Wrote(usize),
+    /// The write failed, or took nothing.
+    Fault,
+}
+
+/// Where bytes come from.
+pub trait Source {
+    /// What its reads answered, in order, where it tells that.
+    ghost answers: { Self → Option (List Answer) };
+
+    /// How many reads there were, how many of them found the end, and how many failed.
+    ghost reads: { Self → ℕ };
+
+    ghost ends: { Self → ℕ };
+
+    ghost failures: { Self → ℕ };
+
+    /// Reads bytes into the front of the buffer.
+    fn read(&mut self, buffer: &mut [u8]) -> Reading
+        requires room { 0 < length buffer.old }
+        requires few { reads self.old < 2 ^ 63 }
+        ensures fits { IsReading result (length buffer.new) }
+        ensures answers { answers self.new ≡ then_answer (answers self.old) (answer_of result buffer.new) }
+        ensures reads { reads self.new ≡ reads self.old + 1 }
+        ensures ends { ends self.new ≡ ends self.old + read_ends result }
+        ensures failures { failures self.new ≡ failures self.old + read_faults result };
+}
+
+/// Where bytes go to.
+pub trait Sink {
+    /// The bytes that its writes took, in order, where it tells them.
+    ghost taken: { Self → Option (List ℕ) };
+
+    /// How many writes failed.
+    ghost failures: { Self → ℕ };
+
+    /// Writes some of the bytes, from the front.
+    fn write(&mut self, bytes: &[u8]) -> Writing
+        requires some { 0 < length bytes.now }
+        requires few { failures self.old < 2 ^ 63 }
+        ensures fits { IsWriting result (length bytes.now) }
+        ensures taken { taken self.new ≡ then_bytes (taken self.old) (take (write_count result) bytes.now) }
+        ensures failures { failures self.new ≡ failures self.old + write_faults result };
+}

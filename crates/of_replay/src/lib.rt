@@ -1,0 +1,7 @@
+//! Event files: rows from a source, and what a switch gives for them to a sink.
+#![tactic(auto)]
+
+mod io;
+mod transfer;
+
+pub use io::{Reading, Sink, Source, Writing};

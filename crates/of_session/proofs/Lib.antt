@@ -1,0 +1,3 @@
+pub mod Compacting
+pub mod Fronts
+pub mod Splitting

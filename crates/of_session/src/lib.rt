@@ -1,0 +1,6 @@
+//! The controller's side of a switch: the stream of its messages, and where its connection stands.
+#![tactic(auto)]
+
+mod stream;
+
+pub use stream::{Front, Stream, splits_once};

@@ -1,0 +1,151 @@
+//! The bytes of a controller, as messages.
+ghost use Rattle.std.specs.Prelude.{◌≡◌, ◌++◌, ◌≤◌, ℕ, List, [], length, take, drop, OnOk, OnErr};
+ghost use Rattle.of_session.specs.Stream.{front_of, front_is, IsThere, Splits};
+
+use std::alloc::{AllocError, Global};
+use std::marker::Model;
+
+/// How many bytes a message's header has (OpenFlow 1.3.5, 7.1).
+pub const HEADER: usize = 8;
+
+/// How the bytes that are left begin.
+#[derive(Clone, Copy, Debug, PartialEq, Eq)]
+pub enum Front {
+    /// With a whole message of that many bytes.
+    Message(usize),
+    /// With a header whose length is below its own 8 bytes.
+    Malformed,
+    /// With neither yet.
+    Waiting,
+}
+
+/// The bytes that came and were not yet taken.
+#[derive(Debug, Drop)]
+pub struct Stream {
+    bytes: Vec<u8>,
+    start: usize,
+}
+
+impl Model for Stream {
+    ghost use Rattle.std.specs.Prelude.{List, ℕ, drop, length, ◌≤◌};
+
+    ghost Value = { List ℕ };
+
+    ghost view = { λ s. drop s.start s.bytes.items };
+
+    ghost invariant = { λ s. s.start ≤ length s.bytes.items };
+}
+
+impl Stream {
+    /// A stream from which nothing came.
+    pub fn new(alloc: Global) -> Stream
+        ensures { result ≡ [] }
+    {
+        Stream {
+            bytes: Vec::new(alloc),
+            start: 0,
+        }
+    }
+
+    /// These bytes came next.
+    #[tactic(auto, using(crate::proofs::Compacting::drop_append))]
+    pub fn feed(&mut self, piece: &[u8]) -> Result<(), AllocError>
+        ensures ok { OnOk result (self.new ≡ self.old ++ piece.now) }
+        ensures err { OnErr result (self.new ≡ self.old) }
+    {
+        if self.start >= self.bytes.len() - self.start {
+            self.compact();
+        }
+        self.bytes.extend_from_slice(piece)
+    }
+
+    // Gives up the place of what was taken: no more bytes move than were taken since the last time.
+    #[tactic(auto, using(crate::proofs::Compacting::rotated))]
+    fn compact(&mut self)
+        ensures { self.new ≡ self.old }
+    {
+        let left = self.bytes.len() - self.start;
+        self.bytes.rotate_left(self.start);
+        self.bytes.truncate(left);
+        self.start = 0;
+    }
+
+    /// How the bytes begin.
+    pub fn front(&self) -> Front
+        ensures front { front_of self.now ≡ front_is result self.now }
+        ensures there { IsThere result self.now }
+    {
+        front_in(self.left())
+    }
+
+    /// All bytes that are left.
+    pub fn left(&self) -> &[u8]
+        ensures { result.now ≡ self.now }
+    {
+        rest_from(&self.bytes, self.start)
+    }
+
+    /// The first bytes that are left.
+    pub fn first(&self, size: usize) -> &[u8]
+        requires { size ≤ length self.now }
+        ensures { result.now ≡ take size self.now }
+    {
+        front_part(self.left(), size)
+    }
+
+    /// Takes the first bytes.
+    #[tactic(auto, using(crate::proofs::Compacting::drop_more))]
+    pub fn take(&mut self, size: usize)
+        requires { size ≤ length self.old }
+        ensures { self.new ≡ drop size self.old }
+    {
+        self.start += size;
+    }
+
+    /// Forgets all bytes.
+    pub fn clear(&mut self)
+        ensures { self.new ≡ [] }
+    {
+        self.bytes.clear();
+        self.start = 0;
+    }
+}
+
+fn rest_from(bytes: &[u8], start: usize) -> &[u8]
+    requires { start ≤ length bytes.now }
+    ensures { result.now ≡ drop start bytes.now }
+{
+    &bytes[start..]
+}
+
+fn front_part(bytes: &[u8], size: usize) -> &[u8]
+    requires { size ≤ length bytes.now }
+    ensures { result.now ≡ take size bytes.now }
+{
+    &bytes[..size]
+}
+
+fn front_in(bytes: &[u8]) -> Front
+    ensures front { front_of bytes.now ≡ front_is result bytes.now }
+    ensures there { IsThere result bytes.now }
+{
+    if bytes.len() < HEADER {
+        return Front::Waiting;
+    }
+    let size = usize::from(bytes[2]) * 256 + usize::from(bytes[3]);
+    if size < HEADER {
+        return Front::Malformed;
+    }
+    if bytes.len() < size {
+        return Front::Waiting;
+    }
+    Front::Message(size)
+}
+
+/// A stream is whole messages and a rest that is malformed or too short, in one way; and bytes that come later change
+/// none of its messages.
+pub fn splits_once()
+    ensures one { (stream : List ℕ) → (messages : List (List ℕ)) × (rest : List ℕ) × Splits stream messages rest }
+    ensures only { (stream : List ℕ) (ms ns : List (List ℕ)) (r s : List ℕ) → Splits stream ms r → Splits stream ns s → (ms ≡ ns) × (r ≡ s) }
+    ensures more { (stream piece : List ℕ) (ms ns : List (List ℕ)) (r s : List ℕ) → Splits stream ms r → Splits (r ++ piece) ns s → Splits (stream ++ piece) (ms ++ ns) s }
+{}
