@@ -1,0 +1,125 @@
+-- What the bytes of a message say (OpenFlow 1.3.5, 7.1 and 7.3), or the first refusal in the written order (7.4.4).
+use Rattle.std.specs.Prelude.{◌≡◌, ℕ, ◌+◌, ◌*◌, ◌==◌, nat_lt, Bool, not, ◌&&◌, ◌||◌, List, [], ◌∷◌, length, drop, slice_index, Option, Some, None, Result, Ok, Err, if◌then◌else◌}
+use Rattle.byteorder.specs.Endian.{big_number}
+use Rattle.of_wire.specs.declared.code.Code.{Code}
+use Rattle.of_wire.specs.declared.code.ReadError.{ReadError}
+use Rattle.of_wire.specs.Refusals.{refusal, first_of}
+use Rattle.of_wire.specs.Failures.{Fails}
+use Rattle.of_oxm.specs.declared.match_field.MatchField.{MatchField}
+use Rattle.of_oxm.specs.MatchReading.{match_of}
+use Rattle.of_actions.specs.declared.instruction.Instruction.{Instruction}
+use Rattle.of_actions.specs.InstructionReading.{instructions_of}
+use Rattle.of_messages.specs.declared.message.Message.{Message}
+use Rattle.of_messages.specs.declared.message.Message.TheVariants.{Hello, EchoRequest, BarrierRequest, FlowMod as IsFlowMod}
+use Rattle.of_messages.specs.declared.message.FlowMod.{FlowMod}
+use Rattle.of_messages.specs.declared.message.FlowModCommand.TheVariants.{Add}
+
+-- THE HEADER
+
+abbrev pub version_of : List ℕ → ℕ
+version_of m = slice_index m 0
+
+abbrev pub type_of : List ℕ → ℕ
+type_of m = slice_index m 1
+
+abbrev pub header_length : List ℕ → ℕ
+header_length m = big_number 2 (drop 2 m)
+
+-- the transaction id
+abbrev pub xid_of : List ℕ → ℕ
+xid_of m = big_number 4 (drop 4 m)
+
+abbrev pub hello : ℕ
+hello = 0
+
+abbrev pub echo_request : ℕ
+echo_request = 2
+
+abbrev pub flow_mod : ℕ
+flow_mod = 14
+
+abbrev pub barrier_request : ℕ
+barrier_request = 20
+
+-- the types that are served
+abbrev pub is_served : ℕ → Bool
+is_served type = type == hello || type == echo_request || type == flow_mod || type == barrier_request
+
+-- of the length, the version (a HELLO may have any), the type, and the length of the type
+abbrev pub head_refusals : List ℕ → List (Bool × Code)
+head_refusals m =
+    (nat_lt (length m) 8 || not (header_length m == length m), refusal 1 6)
+    ∷ (not (type_of m == hello) && not (version_of m == 4), refusal 1 0)
+    ∷ (not (is_served (type_of m)), refusal 1 1)
+    ∷ (type_of m == barrier_request && not (length m == 8), refusal 1 6)
+    ∷ (type_of m == flow_mod && nat_lt (length m) 56, refusal 1 6)
+    ∷ []
+
+-- FLOW_MOD (7.3.4.1)
+
+-- for now the command is ADD, the table is 0, and no flag stands
+abbrev pub flow_mod_refusals : List ℕ → List (Bool × Code)
+flow_mod_refusals m =
+    (not (slice_index m 25 == 0), refusal 5 6)
+    ∷ (not (slice_index m 24 == 0), refusal 5 2)
+    ∷ (not (big_number 2 (drop 44 m) == 0), refusal 5 7)
+    ∷ []
+
+-- its fixed fields, with a match and instructions
+abbrev pub flow_mod_with : List ℕ → List MatchField → List Instruction → FlowMod
+flow_mod_with m fields instructions = record {
+  cookie = big_number 8 (drop 8 m);
+  cookie_mask = big_number 8 (drop 16 m);
+  table = slice_index m 24;
+  command = Add;
+  idle_timeout = big_number 2 (drop 26 m);
+  hard_timeout = big_number 2 (drop 28 m);
+  priority = big_number 2 (drop 30 m);
+  buffer = big_number 4 (drop 32 m);
+  out_port = big_number 4 (drop 36 m);
+  out_group = big_number 4 (drop 40 m);
+  flags = big_number 2 (drop 44 m);
+  fields = fields;
+  instructions = instructions;
+}
+
+abbrev pub then_instructions : List ℕ → List MatchField → Result (List Instruction) Code → Result FlowMod Code
+then_instructions m fields (Ok instructions) = Ok (flow_mod_with m fields instructions)
+then_instructions m fields (Err code) = Err code
+
+-- the match stands behind the fixed fields, the instructions behind the match
+abbrev pub then_match : List ℕ → Result (List MatchField × ℕ) Code → Result FlowMod Code
+then_match m (Ok r) = then_instructions m r.0 (instructions_of (slice_index m 24) (drop r.1 (drop 48 m)))
+then_match m (Err code) = Err code
+
+abbrev pub flow_mod_by : List ℕ → Option Code → Result FlowMod Code
+flow_mod_by m (Some code) = Err code
+flow_mod_by m None = then_match m (match_of (drop 48 m))
+
+abbrev pub flow_mod_of : List ℕ → Result FlowMod Code
+flow_mod_of m = flow_mod_by m (first_of (flow_mod_refusals m))
+
+-- A MESSAGE
+
+abbrev pub as_message : Result FlowMod Code → Result Message Code
+as_message (Ok v) = Ok (IsFlowMod v)
+as_message (Err code) = Err code
+
+abbrev pub body_of : List ℕ → Result Message Code
+body_of m =
+    if type_of m == hello then Ok Hello
+    else (if type_of m == echo_request then Ok (EchoRequest (drop 8 m))
+    else (if type_of m == barrier_request then Ok BarrierRequest
+    else as_message (flow_mod_of m)))
+
+abbrev pub message_by : List ℕ → Option Code → Result Message Code
+message_by m (Some code) = Err code
+message_by m None = body_of m
+
+unfoldable pub message_of : List ℕ → Result Message Code
+message_of m = message_by m (first_of (head_refusals m))
+
+-- what a reader answered is what the bytes say, unless memory ran out
+abbrev pub Reads : {V : Type 0} → Result V ReadError → Result V Code → Type 0
+Reads (Ok v) said = said ≡ Ok v
+Reads (Err e) said = Fails (λ code. said ≡ Err code) e

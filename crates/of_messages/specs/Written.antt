@@ -1,0 +1,28 @@
+-- The bytes of the messages that the switch sends.
+use Rattle.std.specs.Prelude.{ℕ, ◌+◌, List, [], ◌∷◌, ◌++◌, length}
+use Rattle.byteorder.specs.Endian.{big_bytes}
+use Rattle.of_wire.specs.declared.code.Code.{Code}
+
+-- version 4, type, length, transaction id (OpenFlow 1.3.5, 7.1)
+abbrev pub header : ℕ → ℕ → ℕ → List ℕ
+header kind size xid = 4 ∷ kind ∷ (big_bytes 2 size ++ big_bytes 4 xid)
+
+-- a message of that type, with its length
+abbrev pub message : ℕ → ℕ → List ℕ → List ℕ
+message kind xid body = header kind (8 + length body) xid ++ body
+
+-- the HELLO of this switch: one element, the bitmap of versions, in which bit 4 stands (7.5.1)
+abbrev pub hello_bytes : List ℕ
+hello_bytes = message 0 0 (big_bytes 2 1 ++ (big_bytes 2 8 ++ big_bytes 4 16))
+
+-- 7.4.4
+abbrev pub error_bytes : ℕ → Code → List ℕ → List ℕ
+error_bytes xid code «data» = message 1 xid (big_bytes 2 code.kind ++ (big_bytes 2 code.code ++ «data»))
+
+-- 7.5.3
+abbrev pub echo_reply_bytes : ℕ → List ℕ → List ℕ
+echo_reply_bytes xid «data» = message 3 xid «data»
+
+-- 7.3.7
+abbrev pub barrier_reply_bytes : ℕ → List ℕ
+barrier_reply_bytes xid = message 21 xid []

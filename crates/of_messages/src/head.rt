@@ -1,0 +1,43 @@
+//! What a header alone can be refused for.
+ghost use Rattle.std.specs.Prelude.{◌≡◌, ◌≤◌, length, OnOk, Ok, MatchResult, None, Some};
+ghost use Rattle.of_wire.specs.Refusals.{first_of};
+ghost use Rattle.of_messages.specs.Messages.{head_refusals};
+
+use byteorder::{BigEndian, ByteOrder};
+use of_wire::Code;
+
+pub const HELLO: u8 = 0;
+pub const ECHO_REQUEST: u8 = 2;
+pub const FLOW_MOD: u8 = 14;
+pub const BARRIER_REQUEST: u8 = 20;
+
+const BAD_VERSION: Code = Code { kind: 1, code: 0 };
+const BAD_TYPE: Code = Code { kind: 1, code: 1 };
+const BAD_LEN: Code = Code { kind: 1, code: 6 };
+
+/// Refuses a message by its version, type and length alone, in that order (OpenFlow 1.3.5, 7.1 and 7.4.4).
+///
+/// A message is refused with the first that applies: it is not as long as its header says (1/6); it is of another version,
+/// and no HELLO (1/0); its type is not served (1/1); its length is not that of its type (1/6).
+pub fn check_head(message: &[u8]) -> Result<(), Code>
+    ensures refusal { MatchResult result (λ _. first_of (head_refusals message.now) ≡ None) (λ code. first_of (head_refusals message.now) ≡ Some code) }
+    ensures header { OnOk result (8 ≤ length message.now) }
+{
+    if message.len() < 8 || BigEndian::read_u16(&message[2..]) as usize != message.len() {
+        return Err(BAD_LEN);
+    }
+    let kind = message[1];
+    if kind != HELLO && message[0] != 4 {
+        return Err(BAD_VERSION);
+    }
+    if kind != HELLO && kind != ECHO_REQUEST && kind != FLOW_MOD && kind != BARRIER_REQUEST {
+        return Err(BAD_TYPE);
+    }
+    if kind == BARRIER_REQUEST && message.len() != 8 {
+        return Err(BAD_LEN);
+    }
+    if kind == FLOW_MOD && message.len() < 56 {
+        return Err(BAD_LEN);
+    }
+    Ok(())
+}

@@ -1,0 +1,12 @@
+//! OpenFlow messages: their values, and the bytes that spell them.
+#![tactic(auto)]
+
+mod head;
+mod message;
+mod reading;
+mod writing;
+
+pub use head::check_head;
+pub use message::{FlowMod, FlowModCommand, Message};
+pub use reading::read_message;
+pub use writing::{write_barrier_reply, write_echo_reply, write_error, write_hello};
