@@ -1,5 +1,5 @@
 -- Items one after the other, each in the place where it stands, until the bytes end or an item is refused.
-use Rattle.std.specs.Prelude.{◌≡◌, ◌<◌, ℕ, Bool, List, [], ◌∷◌, ◌++◌, length, drop, Option, Some, None, IsSome}
+use Rattle.std.specs.Prelude.{◌≡◌, ◌<◌, ℕ, zero, suc, Bool, List, [], ◌∷◌, ◌++◌, length, drop, Option, Some, None, IsSome, Result, Ok, Err}
 use Rattle.of_wire.specs.declared.code.Code.{Code}
 use Rattle.of_wire.specs.Refusals.{first_of}
 
@@ -19,3 +19,23 @@ abbrev pub AreItems : {V : Type 0} → Items V → List V → List ℕ → List 
 AreItems kind seen bytes [] fault = IsEnd kind seen bytes fault
 AreItems kind seen bytes (v ∷ vs) fault =
     (0 < length bytes) × (first_of (kind.refusals seen bytes) ≡ None) × (kind.value_at bytes ≡ Some v) × AreItems kind (seen ++ v ∷ []) (drop (kind.size_at bytes) bytes) vs fault
+
+-- The same as a function, at most so many items: the values, or the code of the first item that is refused.
+abbrev pub item_then : {V : Type 0} → Items V → (List V → List ℕ → Result (List V) Code) → List V → List ℕ → Option Code → Option V → Result (List V) Code
+item_then kind others seen bytes (Some code) value = Err code
+item_then kind others seen bytes None (Some v) = others (seen ++ v ∷ []) (drop (kind.size_at bytes) bytes)
+item_then kind others seen bytes None None = Ok seen
+
+unfoldable pub items_of : {V : Type 0} → Items V → ℕ → List V → List ℕ → Result (List V) Code
+items_of kind zero seen bytes = Ok seen
+items_of kind (suc n) seen [] = Ok seen
+items_of kind (suc n) seen (b ∷ bs) = item_then kind (items_of kind n) seen (b ∷ bs) (first_of (kind.refusals seen (b ∷ bs))) (kind.value_at (b ∷ bs))
+
+-- the values, or the code of the first refusal
+abbrev pub outcome : {V : Type 0} → List V → Option Code → Result (List V) Code
+outcome values None = Ok values
+outcome values (Some code) = Err code
+
+-- an item that is not refused takes some bytes
+abbrev pub TakesBytes : {V : Type 0} → Items V → Type 0
+TakesBytes {V} kind = (seen : List V) (bytes : List ℕ) → 0 < length bytes → first_of (kind.refusals seen bytes) ≡ None → 0 < kind.size_at bytes
