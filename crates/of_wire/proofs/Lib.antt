@@ -1,3 +1,5 @@
 pub mod Numbers
 pub mod Walking
 pub mod ItemsAgain
+pub mod NumberedLemmas
+pub mod HighestLemmas
