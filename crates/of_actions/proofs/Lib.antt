@@ -5,3 +5,4 @@ pub mod HeaderLists
 pub mod Bodies
 pub mod InstructionLaws
 pub mod InstructionsAgain
+pub mod Computed

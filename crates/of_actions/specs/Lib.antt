@@ -5,3 +5,4 @@ pub mod CanonicalActions
 pub mod Headers
 pub mod Instructions
 pub mod CanonicalInstructions
+pub mod InstructionReading

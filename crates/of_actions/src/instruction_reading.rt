@@ -2,13 +2,14 @@
 ghost use Rattle.std.specs.Prelude.{◌≡◌, ◌≤◌, ◌==◌, ℕ, List, [], true, false, length, IsTrue, IfOk, OnOk, IfErr, Some, None};
 ghost use Rattle.std.specs.List.{list_all};
 ghost use Rattle.of_wire.specs.declared.code.Code.{Code as ErrorCode};
-ghost use Rattle.of_wire.specs.Failures.{Fails};
+ghost use Rattle.of_wire.specs.Failures.{Fails, Reads as AnswersAs};
 ghost use Rattle.of_wire.specs.Refusals.{first_of};
 ghost use Rattle.of_wire.specs.Numbered.{is_used, is_distinct};
 ghost use Rattle.of_actions.specs.declared.instruction.Instruction.{Instruction as AnInstruction};
 ghost use Rattle.of_actions.specs.Beginnings.{len_at};
 ghost use Rattle.of_actions.specs.Headers.{Header, AreHeaders, header_at, header_refusals, is_apply, is_unserved as is_unserved_kind, kind_of};
 ghost use Rattle.of_actions.specs.Instructions.{AreBodies, IsBody, IsFault, IsRefused, SpellsInstructions};
+ghost use Rattle.of_actions.specs.InstructionReading.{instructions_of};
 ghost use Rattle.of_actions.specs.Readings.{Reads, Refuses};
 
 use crate::action_reading::read_actions;
@@ -141,6 +142,8 @@ pub fn read_instructions(
     // Other bytes have one code, and it is answered, unless memory runs out.
     ensures refused { IfErr result (Fails (IsRefused table bytes.now)) }
     ensures exact { (code : ErrorCode) → IsRefused table bytes.now code → Refuses result code }
+    // Both, as a function of the bytes.
+    ensures reads { AnswersAs result (instructions_of table bytes.now) }
 {
     parse_instructions(alloc, bytes, table)
 }

@@ -4,3 +4,4 @@ pub mod ItemsAgain
 pub mod ItemsRead
 pub mod NumberedLemmas
 pub mod HighestLemmas
+pub mod FirstLemmas

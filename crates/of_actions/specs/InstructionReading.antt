@@ -1,0 +1,35 @@
+-- What the bytes of instructions say, as a function: the instructions, or the code of the first refusal (OpenFlow 1.3.5, 7.2.4 and 7.4.4).
+use Rattle.std.specs.Prelude.{ℕ, Bool, false, List, [], ◌∷◌, length, Result, Ok, Err}
+use Rattle.of_wire.specs.declared.code.Code.{Code}
+use Rattle.of_wire.specs.Items.{items_of}
+use Rattle.of_actions.specs.declared.action.Action.{Action}
+use Rattle.of_actions.specs.declared.instruction.Instruction.{Instruction}
+use Rattle.of_actions.specs.declared.instruction.Instruction.TheVariants.{Apply}
+use Rattle.of_actions.specs.Actions.{actions_of}
+use Rattle.of_actions.specs.Headers.{Header, headers}
+
+abbrev pub with_actions : Result (List Action) Code → Result Instruction Code
+with_actions (Ok actions) = Ok (Apply actions)
+with_actions (Err code) = Err code
+
+-- the instruction that a header begins
+abbrev pub body_of : Header → Result Instruction Code
+body_of h = with_actions (items_of (actions_of false) (length h.body) [] h.body)
+
+abbrev pub in_front : Result Instruction Code → Result (List Instruction) Code → Result (List Instruction) Code
+in_front (Ok i) (Ok others) = Ok (i ∷ others)
+in_front (Ok i) (Err code) = Err code
+in_front (Err code) others = Err code
+
+-- those of all headers, or the first refusal
+abbrev pub bodies_of : List Header → Result (List Instruction) Code
+bodies_of [] = Ok []
+bodies_of (h ∷ hs) = in_front (body_of h) (bodies_of hs)
+
+abbrev pub then_bodies : Result (List Header) Code → Result (List Instruction) Code
+then_bodies (Ok hs) = bodies_of hs
+then_bodies (Err code) = Err code
+
+-- all headers are looked at before the first action
+unfoldable pub instructions_of : ℕ → List ℕ → Result (List Instruction) Code
+instructions_of table bytes = then_bodies (items_of headers (length bytes) [] bytes)
