@@ -1,7 +1,7 @@
 //! What a header alone can be refused for.
-ghost use Rattle.std.specs.Prelude.{◌≡◌, ◌≤◌, length, OnOk, Ok, MatchResult, None, Some};
+ghost use Rattle.std.specs.Prelude.{◌≡◌, ◌≤◌, length, OnOk, MatchResult, None, Some, true};
 ghost use Rattle.of_wire.specs.Refusals.{first_of};
-ghost use Rattle.of_messages.specs.Messages.{head_refusals};
+ghost use Rattle.of_messages.specs.Messages.{head_refusals, type_of, is_served};
 
 use byteorder::{BigEndian, ByteOrder};
 use of_wire::Code;
@@ -22,6 +22,8 @@ const BAD_LEN: Code = Code { kind: 1, code: 6 };
 pub fn check_head(message: &[u8]) -> Result<(), Code>
     ensures refusal { MatchResult result (λ _. first_of (head_refusals message.now) ≡ None) (λ code. first_of (head_refusals message.now) ≡ Some code) }
     ensures header { OnOk result (8 ≤ length message.now) }
+    ensures flow_mod { OnOk result (type_of message.now ≡ 14 → 56 ≤ length message.now) }
+    ensures served { OnOk result (is_served (type_of message.now) ≡ true) }
 {
     if message.len() < 8 || BigEndian::read_u16(&message[2..]) as usize != message.len() {
         return Err(BAD_LEN);

@@ -1,8 +1,8 @@
 //! Messages from bytes.
-ghost use Rattle.std.specs.Prelude.{◌≡◌, ◌≤◌, ◌<◌, length, drop, Some, None, OnOk, MatchResult};
+ghost use Rattle.std.specs.Prelude.{◌≡◌, ◌≤◌, ◌<◌, length, drop, Some, None, true, MatchResult};
 ghost use Rattle.of_wire.specs.Refusals.{first_of};
 ghost use Rattle.of_wire.specs.Failures.{Reads};
-ghost use Rattle.of_messages.specs.Messages.{message_of, flow_mod_of, flow_mod_refusals};
+ghost use Rattle.of_messages.specs.Messages.{message_of, body_of, type_of, is_served, flow_mod_of, flow_mod_refusals};
 
 use crate::head::{BARRIER_REQUEST, ECHO_REQUEST, HELLO, check_head};
 use crate::message::{FlowMod, FlowModCommand, Message};
@@ -68,21 +68,34 @@ fn read_flow_mod(alloc: Global, message: &[u8]) -> Result<FlowMod, ReadError>
     })
 }
 
+// A message whose head is not refused.
+fn read_body(alloc: Global, message: &[u8]) -> Result<Message, ReadError>
+    requires size { 8 ≤ length message.now }
+    requires flow_mod { type_of message.now ≡ 14 → 48 ≤ length message.now }
+    requires served { is_served (type_of message.now) ≡ true }
+    ensures { Reads result (body_of message.now) }
+{
+    match message[1] {
+        HELLO => Ok(Message::Hello),
+        ECHO_REQUEST => Ok(Message::EchoRequest(Bytes::from_slice(
+            alloc,
+            rest_from(message, 8),
+        )?)),
+        BARRIER_REQUEST => Ok(Message::BarrierRequest),
+        _ => Ok(Message::FlowMod(read_flow_mod(alloc, message)?)),
+    }
+}
+
 /// The message that the bytes spell, all of them.
 ///
-/// Other bytes are refused with one code, by the first that applies: what `check_head` looks at; of a FLOW_MOD, the command
-/// (5/6), the table (5/2) and the flags (5/7), its match, and its instructions with their actions.
+/// Other bytes are refused with one code, by the first that applies: what `check_head` looks at; of a FLOW_MOD, the
+/// command (5/6), the table (5/2) and the flags (5/7), its match, and its instructions with their actions.
+#[tactic(auto, unfolding(crate::specs::Messages::message_of))]
 pub fn read_message(alloc: Global, message: &[u8]) -> Result<Message, ReadError>
     ensures { Reads result (message_of message.now) }
 {
     match check_head(message) {
-        Ok(()) => {}
-        Err(code) => return Err(ReadError::Refused(code)),
-    }
-    match message[1] {
-        HELLO => Ok(Message::Hello),
-        ECHO_REQUEST => Ok(Message::EchoRequest(Bytes::from_slice(alloc, rest_from(message, 8))?)),
-        BARRIER_REQUEST => Ok(Message::BarrierRequest),
-        _ => Ok(Message::FlowMod(read_flow_mod(alloc, message)?)),
+        Ok(()) => read_body(alloc, message),
+        Err(code) => Err(ReadError::Refused(code)),
     }
 }
