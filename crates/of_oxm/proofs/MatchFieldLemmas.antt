@@ -86,14 +86,14 @@ known f seen (a ∷ b ∷ c ∷ d ∷ tail) fits h4 hd class number none =
     let split : (m : Bool) → is_masked_at rest ≡ m → IsRead (match_field_of f rest) seen rest
     = λ m. elim m as (λ m. is_masked_at rest ≡ m → IsRead (match_field_of f rest) seen rest) [
       | true ↦ λ masked.
-          let t8 = rw masked at t.1.1.0 in
-          let t5 = rw masked at t.1.1.1.1.0 in
+          let mask_test = rw masked at t.1.1.0 in
+          let value_test = rw masked at t.1.1.1.1.0 in
           let d_is : d ≡ 2 * bytes_of f = len ∙ ap (body_len f) masked in
           let c_is : c ≡ 2 * number_of f + 1 = omega (arith, number, eqb-true (c % 2) 1 masked) in
           let after : drop (4 + d) rest ≡ drop (2 * bytes_of f) tail = sym (drop-drop d 4 rest) ∙ ap (λ (k : ℕ). drop k tail) d_is in
           let body = bytes_masked (bytes_of f) tail (omega arith) tail_fits in
           rw masked (record {
-            spelt = record { served = here; value = value_fits; mask = record { fits = big_from-lt 0 (bytes_of f) (drop (bytes_of f) tail) (IsBytes-drop (bytes_of f) tail tail_fits); allowed = may_be t8; covers = eqb-true _ _ (not_false _ t5) } };
+            spelt = record { served = here; value = value_fits; mask = record { fits = big_from-lt 0 (bytes_of f) (drop (bytes_of f) tail) (IsBytes-drop (bytes_of f) tail tail_fits); allowed = may_be mask_test; covers = eqb-true _ _ (not_false _ value_test) } };
             first = t.1.0;
             text = cc;
           })

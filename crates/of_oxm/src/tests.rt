@@ -70,6 +70,8 @@ fn port_one(rt: HostRuntime) -> Result<(), Fail> {
     assert!(rt; matches(&m, &key));
     let other = FieldKey { in_port: 2, ..key };
     assert!(rt; !matches(&m, &other));
+    let made = Match::of_in_port(rt.alloc(), 1)?;
+    assert!(rt; m.equals(&made));
     let copied = m.copy()?;
     assert!(rt; m.equals(&copied));
     assert!(rt; covers(&m, &copied));
