@@ -1,5 +1,5 @@
 //! Messages from bytes.
-ghost use Rattle.std.specs.Prelude.{◌≡◌, ◌≤◌, ◌<◌, length, drop, Some, None, true, MatchResult};
+ghost use Rattle.std.specs.Prelude.{◌≡◌, ◌≤◌, ◌+◌, length, drop, Some, None, true, MatchResult};
 ghost use Rattle.of_wire.specs.Refusals.{first_of};
 ghost use Rattle.of_wire.specs.Failures.{Reads};
 ghost use Rattle.of_messages.specs.Messages.{message_of, body_of, type_of, is_served, flow_mod_of, flow_mod_refusals};
@@ -18,7 +18,8 @@ const BAD_FLAGS: Code = Code { kind: 5, code: 7 };
 
 fn rest_from(bytes: &[u8], at: usize) -> &[u8]
     requires { at ≤ length bytes.now }
-    ensures { result.now ≡ drop at bytes.now }
+    ensures rest { result.now ≡ drop at bytes.now }
+    ensures size { length result.now + at ≡ length bytes.now }
 {
     &bytes[at..]
 }

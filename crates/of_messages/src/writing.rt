@@ -23,25 +23,25 @@ pub fn write_hello(alloc: Global) -> Result<Bytes, AllocError>
 }
 
 /// An ERROR with its data (OpenFlow 1.3.5, 7.4.4).
-pub fn write_error(alloc: Global, xid: u32, code: Code, data: &[u8]) -> Result<Bytes, AllocError>
-    ensures { IfOk result (λ bytes. bytes ≡ error_bytes xid code data.now) }
+pub fn write_error(alloc: Global, xid: u32, code: Code, body: &[u8]) -> Result<Bytes, AllocError>
+    ensures { IfOk result (λ bytes. bytes ≡ error_bytes xid code body.now) }
 {
     let kind = code.kind.to_be_bytes();
     let number = code.code.to_be_bytes();
     let mut out = Vec::new(alloc);
-    put_header(&mut out, 1, 12 + data.len(), xid)?;
+    put_header(&mut out, 1, 12 + body.len(), xid)?;
     out.extend_from_slice(&[kind[0], kind[1], number[0], number[1]])?;
-    out.extend_from_slice(data)?;
+    out.extend_from_slice(body)?;
     Ok(Bytes::new(out))
 }
 
 /// The ECHO_REPLY that gives a request's data back (OpenFlow 1.3.5, 7.5.3).
-pub fn write_echo_reply(alloc: Global, xid: u32, data: &[u8]) -> Result<Bytes, AllocError>
-    ensures { IfOk result (λ bytes. bytes ≡ echo_reply_bytes xid data.now) }
+pub fn write_echo_reply(alloc: Global, xid: u32, body: &[u8]) -> Result<Bytes, AllocError>
+    ensures { IfOk result (λ bytes. bytes ≡ echo_reply_bytes xid body.now) }
 {
     let mut out = Vec::new(alloc);
-    put_header(&mut out, 3, 8 + data.len(), xid)?;
-    out.extend_from_slice(data)?;
+    put_header(&mut out, 3, 8 + body.len(), xid)?;
+    out.extend_from_slice(body)?;
     Ok(Bytes::new(out))
 }
 
