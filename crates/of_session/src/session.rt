@@ -134,7 +134,10 @@ impl Session {
         match next {
             Next::Opened => self.phase = Phase::Open,
             Next::NotHello { .. } => self.close(),
-            Next::Nothing | Next::BadStream { .. } | Next::Read { .. } | Next::Refused { .. } => {}
+            Next::BadStream { .. } => self.close(),
+            Next::Nothing => {}
+            Next::Read { .. } => {}
+            Next::Refused { .. } => {}
         }
     }
 }
