@@ -1,5 +1,5 @@
 -- A controller's connection (OpenFlow 1.3.5, 6.3.1): where it stands, and what comes next.
-use Rattle.std.specs.Prelude.{ℕ, ◌==◌, ◌&&◌, Bool, true, false, List, [], ◌++◌, length, take, slice_index, Result, Ok, Err, if◌then◌else◌}
+use Rattle.std.specs.Prelude.{◌≡◌, ℕ, ◌==◌, ◌&&◌, Bool, true, false, ◌≤◌, List, [], ◌++◌, length, take, drop, slice_index, Result, Ok, Err, if◌then◌else◌}
 use Rattle.of_wire.specs.declared.code.Code.{Code}
 use Rattle.of_messages.specs.declared.message.Message.{Message}
 use Rattle.of_messages.specs.Messages.{xid_of, message_of}
@@ -30,49 +30,63 @@ greeting = record { phase = Greeting; pending = [] }
 abbrev pub fed : List ℕ → Connection → Connection
 fed piece c = record c { pending = c.pending ++ piece }
 
--- what came, and the connection after it
-pub record Got : Type 0 where
-  pub next : Next
-  pub connection : Connection
-
-abbrev pub got : Next → Connection → Got
-got next c = record { next = next; connection = c }
-
 -- for now a first message is accepted that is a HELLO of version 4 with no elements
 abbrev pub is_first_hello : List ℕ → Bool
 is_first_hello m = slice_index m 0 == 4 && slice_index m 1 == 0 && length m == 8
 
-abbrev pub greeted : ℕ → List ℕ → Next
-greeted xid m = if is_first_hello m then Opened else NotHello xid
+abbrev pub greeted : List ℕ → Next
+greeted m = if is_first_hello m then Opened (length m) else NotHello (xid_of m)
 
--- a message of an open connection: what it says, or the code and its first 64 bytes
+-- a message of an open connection
 abbrev pub read_as : List ℕ → Result Message Code → Next
-read_as m (Ok message) = Read (xid_of m) message
-read_as m (Err code) = Refused (xid_of m) code (take 64 m)
+read_as m (Ok message) = Read (xid_of m) (length m) message
+read_as m (Err code) = Refused (xid_of m) (length m) code
 
 abbrev pub judged : Phase → List ℕ → Next
-judged Disconnected m = greeted (xid_of m) m
-judged Greeting m = greeted (xid_of m) m
+judged Disconnected m = greeted m
+judged Greeting m = greeted m
 judged Open m = read_as m (message_of m)
 
--- the connection after that
+abbrev pub next_by : Connection → First → Next
+next_by c Partial = Nothing
+next_by c Bad = BadStream (xid_of (take 8 c.pending))
+next_by c (Whole m rest) = judged c.phase m
+
+-- WHAT COMES NEXT: the first whole message, or a malformed header, or neither; without a connection nothing does
+abbrev pub next_of : Connection → Next
+next_of c = if is_disconnected c.phase then Nothing else next_by c (front_of c.pending)
+
+-- without its first message
+abbrev pub taken : ℕ → Connection → Connection
+taken size c = record c { pending = drop size c.pending }
+
+-- by its HELLO
+abbrev pub opened : ℕ → Connection → Connection
+opened size c = record { phase = Open; pending = drop size c.pending }
+
+-- the connection after that: the message is taken, and at a fault of the stream or of the greeting the connection ends
 abbrev pub entered : Next → Connection → Connection
 entered Nothing c = c
-entered (BadStream xid header) c = alone
+entered (BadStream xid) c = alone
 entered (NotHello xid) c = alone
-entered Opened c = record c { phase = Open }
-entered (Read xid message) c = c
-entered (Refused xid code failed) c = c
+entered (Opened size) c = opened size c
+entered (Read xid size message) c = taken size c
+entered (Refused xid size code) c = taken size c
 
-abbrev pub after : Next → Connection → Got
-after next c = got next (entered next c)
+-- so many bytes are there
+abbrev pub IsWithin : Next → Connection → Type 0
+IsWithin Nothing c = Unit {0}
+IsWithin (BadStream xid) c = 8 ≤ length c.pending
+IsWithin (NotHello xid) c = Unit {0}
+IsWithin (Opened size) c = size ≤ length c.pending
+IsWithin (Read xid size message) c = size ≤ length c.pending
+IsWithin (Refused xid size code) c = size ≤ length c.pending
 
--- the first whole message, or a malformed header, or neither
-abbrev pub next_by : Connection → First → Got
-next_by c Partial = got Nothing c
-next_by c Bad = after (BadStream (xid_of (take 8 c.pending)) (take 8 c.pending)) c
-next_by c (Whole m rest) = after (judged c.phase m) (record c { pending = rest })
-
--- without a connection nothing is handled
-abbrev pub next_of : Connection → Got
-next_of c = if is_disconnected c.phase then got Nothing c else next_by c (front_of c.pending)
+-- a message of so many bytes, or what ends the connection
+abbrev pub IsSized : Next → ℕ → Type 0
+IsSized Nothing n = ⊥
+IsSized (BadStream xid) n = ⊥
+IsSized (NotHello xid) n = Unit {0}
+IsSized (Opened size) n = size ≡ n
+IsSized (Read xid size message) n = size ≡ n
+IsSized (Refused xid size code) n = size ≡ n

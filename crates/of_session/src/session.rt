@@ -1,17 +1,14 @@
 //! A controller's connection: its stream, and which messages of it are handled.
 ghost use Rattle.std.specs.Prelude.{◌≡◌, ◌++◌, ◌≤◌, length, take, [], OnOk, OnErr, IfOk};
 ghost use Rattle.of_messages.specs.Messages.{xid_of};
-ghost use Rattle.of_session.specs.Session.{next_of, got, fed, is_first_hello, judged, greeted, entered};
+ghost use Rattle.of_session.specs.Session.{next_of, fed, is_first_hello, judged, greeted, taken, opened, IsWithin, IsSized};
 
-use crate::stream::{Front, Stream};
+use crate::stream::{Front, HEADER, Stream};
 use byteorder::{BigEndian, ByteOrder};
 use of_messages::{Message, read_message};
-use of_wire::{Bytes, Code, ReadError};
+use of_wire::{Code, ReadError};
 use std::alloc::{AllocError, Global};
 use std::marker::Model;
-
-/// How many bytes of a message an ERROR gives back at most (OpenFlow 1.3.5, 7.4.4).
-const ERROR_DATA: usize = 64;
 
 /// Where a connection stands (OpenFlow 1.3.5, 6.3.1).
 #[derive(Clone, Copy, Debug, PartialEq, Eq)]
@@ -24,21 +21,25 @@ pub enum Phase {
     Open,
 }
 
-/// What came next.
+/// What comes next of a connection.
 #[derive(Debug, Drop)]
 pub enum Next {
     /// Neither a whole message nor a malformed header is there.
     Nothing,
-    /// A header whose length is below 8, with its 8 bytes: the connection is closed.
-    BadStream { xid: u32, header: Bytes },
-    /// A first message that is no HELLO of version 4: the connection is closed.
+    /// A header whose length is below 8: the connection is to be closed.
+    BadStream { xid: u32 },
+    /// A first message that is no HELLO of version 4: the connection is to be closed.
     NotHello { xid: u32 },
-    /// The HELLO that opens the connection.
-    Opened,
-    /// A message.
-    Read { xid: u32, message: Message },
-    /// A message that is refused, with its first 64 bytes.
-    Refused { xid: u32, code: Code, failed: Bytes },
+    /// The HELLO that opens the connection, of so many bytes.
+    Opened { size: usize },
+    /// A message of so many bytes.
+    Read {
+        xid: u32,
+        size: usize,
+        message: Message,
+    },
+    /// A message of so many bytes, which is refused.
+    Refused { xid: u32, size: usize, code: Code },
 }
 
 /// A controller's connection, or that there is none.
@@ -102,43 +103,46 @@ impl Session {
         self.stream.feed(piece)
     }
 
-    /// Takes the first whole message, or ends the connection at a malformed header.
-    pub fn next(&mut self) -> Result<Next, AllocError>
-        ensures { IfOk result (λ next. next_of self.old ≡ got next self.new) }
+    /// What comes next. It changes nothing: who handles it takes it, or closes the connection.
+    pub fn next(&self) -> Result<Next, AllocError>
+        ensures next { IfOk result (λ next. next ≡ next_of self.now) }
+        ensures there { IfOk result (λ next. IsWithin next self.now) }
     {
         if self.phase == Phase::Disconnected {
             return Ok(Next::Nothing);
         }
         match self.stream.front() {
             Front::Waiting => Ok(Next::Nothing),
-            Front::Malformed => {
-                let header = self.stream.first(8);
-                let xid = xid_at(header);
-                let header = Bytes::from_slice(self.alloc, header)?;
-                self.close();
-                Ok(Next::BadStream { xid, header })
-            }
-            Front::Message(size) => {
-                let next = judge(self.alloc, self.phase, self.stream.first(size))?;
-                self.stream.take(size);
-                self.enter(&next);
-                Ok(next)
-            }
+            Front::Malformed => Ok(Next::BadStream {
+                xid: xid_at(self.stream.first(HEADER)),
+            }),
+            Front::Message(size) => judge(self.alloc, self.phase, self.stream.first(size)),
         }
     }
 
-    // Where the connection stands after the first message.
-    fn enter(&mut self, next: &Next)
-        ensures { self.new ≡ entered next.now self.old }
+    /// The first bytes that came and were not yet handled.
+    pub fn first(&self, size: usize) -> &[u8]
+        requires { size ≤ length self.now.pending }
+        ensures { result.now ≡ take size self.now.pending }
     {
-        match next {
-            Next::Opened => self.phase = Phase::Open,
-            Next::NotHello { .. } => self.close(),
-            Next::BadStream { .. } => self.close(),
-            Next::Nothing => {}
-            Next::Read { .. } => {}
-            Next::Refused { .. } => {}
-        }
+        self.stream.first(size)
+    }
+
+    /// Takes the first message, of so many bytes, which was handled.
+    pub fn take(&mut self, size: usize)
+        requires { size ≤ length self.old.pending }
+        ensures { self.new ≡ taken size self.old }
+    {
+        self.stream.take(size);
+    }
+
+    /// Takes the HELLO, of so many bytes, which opens the connection.
+    pub fn open(&mut self, size: usize)
+        requires { size ≤ length self.old.pending }
+        ensures { self.new ≡ opened size self.old }
+    {
+        self.stream.take(size);
+        self.phase = Phase::Open;
     }
 }
 
@@ -161,40 +165,33 @@ fn is_accepted(message: &[u8]) -> bool
 // What a whole message is to a connection that stands there.
 fn judge(alloc: Global, phase: Phase, message: &[u8]) -> Result<Next, AllocError>
     requires { 8 ≤ length message.now }
-    ensures { IfOk result (λ next. next ≡ judged phase message.now) }
+    ensures next { IfOk result (λ next. next ≡ judged phase message.now) }
+    ensures size { IfOk result (λ next. IsSized next (length message.now)) }
 {
-    let xid = xid_at(message);
+    let size = message.len();
     if phase != Phase::Open {
-        return Ok(greet(xid, message));
+        return Ok(greet(message));
     }
+    let xid = xid_at(message);
     match read_message(alloc, message) {
-        Ok(message) => Ok(Next::Read { xid, message }),
+        Ok(message) => Ok(Next::Read { xid, size, message }),
         Err(ReadError::Memory) => Err(AllocError),
-        Err(ReadError::Refused(code)) => {
-            let failed = Bytes::from_slice(alloc, front_part(message, ERROR_DATA))?;
-            Ok(Next::Refused { xid, code, failed })
-        }
+        Err(ReadError::Refused(code)) => Ok(Next::Refused { xid, size, code }),
     }
 }
 
-fn greet(xid: u32, message: &[u8]) -> Next
+fn greet(message: &[u8]) -> Next
     requires { 8 ≤ length message.now }
-    ensures { result ≡ greeted xid message.now }
+    ensures next { result ≡ greeted message.now }
+    ensures size { IsSized result (length message.now) }
 {
     if is_accepted(message) {
-        Next::Opened
+        Next::Opened {
+            size: message.len(),
+        }
     } else {
-        Next::NotHello { xid }
-    }
-}
-
-// The first bytes, so many at most.
-fn front_part(bytes: &[u8], most: usize) -> &[u8]
-    ensures { result.now ≡ take most bytes.now }
-{
-    if bytes.len() <= most {
-        bytes
-    } else {
-        &bytes[..most]
+        Next::NotHello {
+            xid: xid_at(message),
+        }
     }
 }

@@ -1,0 +1,97 @@
+-- Frames through the flow table and out of the ports (OpenFlow 1.3.5, 5.1 and 7.2.1).
+use Rattle.std.specs.Prelude.{ℕ, ◌==◌, Bool, List, [], ◌∷◌, ◌++◌, length, map, slice_get, Option, Some, None, if◌then◌else◌}
+use Rattle.std.specs.Option.{option_map}
+use Rattle.of_headers.specs.declared.field.Field.{Field}
+use Rattle.of_headers.specs.declared.headers.FrameFault.{FrameFault}
+use Rattle.of_headers.specs.Faults.{frame_fault}
+use Rattle.of_table.specs.Table.{Table, looked, matched_at, winner_place, added}
+use Rattle.of_table.specs.declared.flow.Flow.{Flow}
+use Rattle.of_machine.specs.declared.port.Port.{Port}
+use Rattle.of_machine.specs.declared.data.Item.{Item}
+use Rattle.of_machine.specs.declared.data.Item.TheVariants as item
+use Rattle.of_machine.specs.declared.data.Count.{Count}
+use Rattle.of_machine.specs.declared.data.Count.TheVariants.{Lookup, Matched, TxDropped}
+use Rattle.of_machine.specs.Ports.{port_at}
+use Rattle.of_machine.specs.TheWorld.{TheWorld}
+use Rattle.of_machine.specs.Rows.{entering}
+use Rattle.of_machine.specs.Runs.{Machine, run_of}
+use Rattle.of_switch.specs.declared.effect.Effect.{Effect}
+use Rattle.of_switch.specs.declared.effect.Effect.TheVariants.{Sent}
+use Rattle.of_switch.specs.declared.plane.PortCount.{PortCount}
+use Rattle.of_switch.specs.declared.plane.PortCount.TheVariants.{Received, ReceiveDropped, ReceiveError, Sent as SentBytes, SendDropped}
+use Rattle.of_switch.specs.Ports.{all_counted}
+
+-- the flow table, and the ports in the order in which they were added
+pub record Forwarding : Type 0 where
+  pub table : Table
+  pub ports : List Port
+
+-- a port counts this
+abbrev pub count_port : ℕ → PortCount → Forwarding → Forwarding
+count_port number what f = record f { ports = all_counted number what f.ports }
+
+-- WHAT THE MACHINE SEES: entries are named by their place by age, from 0; table 0 alone is there for now
+
+abbrev pub winner_in : Forwarding → ℕ → (Field → Option ℕ) → Option ℕ
+winner_in f t map = if t == 0 then winner_place map f.table.flows else None
+
+abbrev pub flow_in : Forwarding → ℕ → ℕ → Option Flow
+flow_in f t place = if t == 0 then option_map (λ e. e.flow) (slice_get f.table.flows place) else None
+
+abbrev pub world_of : Forwarding → TheWorld
+world_of f = record { winner = winner_in f; flow = flow_in f; ports = f.ports }
+
+-- WHAT A RUN LEAVES
+
+-- what the machine counted, in order
+abbrev pub tallied : Count → Forwarding → Forwarding
+tallied (Lookup t) f = record f { table = looked f.table }
+tallied (Matched t place bytes) f = record f { table = matched_at place bytes f.table }
+tallied (TxDropped port) f = count_port port SendDropped f
+
+abbrev pub all_tallied : List Count → Forwarding → Forwarding
+all_tallied [] f = f
+all_tallied (c ∷ cs) f = all_tallied cs (tallied c f)
+
+-- what it emitted, in order
+abbrev pub sent : Item → Forwarding → Forwarding
+sent (item.Sent port frame) f = count_port port (SentBytes (length frame)) f
+
+abbrev pub all_sent : List Item → Forwarding → Forwarding
+all_sent [] f = f
+all_sent (i ∷ is) f = all_sent is (sent i f)
+
+abbrev pub effect_of : Item → Effect
+effect_of (item.Sent port frame) = Sent port frame
+
+abbrev pub effects_of : List Item → List Effect
+effects_of items = map effect_of items
+
+-- A FRAME
+
+pub record Forwarded : Type 0 where
+  pub effects : List Effect
+  pub forwarding : Forwarding
+
+abbrev pub forwards : List Effect → Forwarding → Forwarded
+forwards effects f = record { effects = effects; forwarding = f }
+
+abbrev pub applied : Machine → Forwarding → Forwarded
+applied m f = forwards (effects_of m.items) (all_sent m.items (all_tallied m.counts f))
+
+-- through the tables
+abbrev pub through : ℕ → List ℕ → Forwarding → Forwarded
+through number bytes f = applied (run_of (world_of f) (entering bytes number)) f
+
+-- too short or too long a frame is an error of its port; else it is received, and looked up
+abbrev pub taken_in : ℕ → List ℕ → Forwarding → Option FrameFault → Forwarded
+taken_in number bytes f (Some fault) = forwards [] (count_port number ReceiveError f)
+taken_in number bytes f None = through number bytes (count_port number (Received (length bytes)) f)
+
+-- at a port that is not there nothing happens; at one whose link is down the frame is dropped
+abbrev pub arriving : ℕ → List ℕ → Forwarding → Option Port → Forwarded
+arriving number bytes f None = forwards [] f
+arriving number bytes f (Some p) = if p.is_link_up then taken_in number bytes f (frame_fault bytes) else forwards [] (count_port number ReceiveDropped f)
+
+abbrev pub framed : ℕ → List ℕ → Forwarding → Forwarded
+framed number bytes f = arriving number bytes f (port_at f.ports number)

@@ -1,0 +1,67 @@
+-- What each event does to the abstract switch.
+use Rattle.std.specs.Prelude.{ℕ, ◌==◌, ◌&&◌, nat_le, Bool, true, not, List, [], ◌∷◌, ◌++◌, length, Option, Some, None, if◌then◌else◌}
+use Rattle.of_wire.specs.declared.code.Code.{Code}
+use Rattle.of_wire.specs.Refusals.{refusal, first_of}
+use Rattle.of_messages.specs.declared.message.Message.{Message}
+use Rattle.of_messages.specs.declared.message.Message.TheVariants.{Hello, EchoRequest, BarrierRequest, FlowMod as IsFlowMod}
+use Rattle.of_messages.specs.declared.message.FlowMod.{FlowMod}
+use Rattle.of_messages.specs.Written.{hello_bytes, error_bytes, echo_reply_bytes, barrier_reply_bytes}
+use Rattle.of_session.specs.declared.session.Next.{Next}
+use Rattle.of_session.specs.declared.session.Next.TheVariants.{Nothing, BadStream, NotHello, Opened, Read, Refused}
+use Rattle.of_session.specs.Session.{Connection, Got, greeting, is_disconnected, fed as fed_connection, next_of as next_in}
+use Rattle.of_table.specs.declared.flow.Flow.{Flow}
+use Rattle.of_table.specs.Table.{added, is_full}
+use Rattle.of_switch.specs.declared.effect.Effect.{Effect}
+use Rattle.of_switch.specs.declared.effect.Effect.TheVariants.{Answer, Closed}
+use Rattle.of_switch.specs.declared.port_change.PortChange.{PortChange}
+use Rattle.of_switch.specs.declared.port_change.PortChange.TheVariants.{Add}
+use Rattle.of_switch.specs.Ports.{has_port, is_number, new_port}
+use Rattle.of_switch.specs.Plane.{Forwarding, Forwarded, framed}
+use Rattle.of_switch.specs.State.{State}
+
+-- what an event gives, and the switch after it
+pub record Outcome : Type 0 where
+  pub effects : List Effect
+  pub state : State
+
+abbrev pub gives : List Effect → State → Outcome
+gives effects s = record { effects = effects; state = s }
+
+-- A CONNECTION (6.3.1): the switch begins with its HELLO
+
+abbrev pub connected : State → Outcome
+connected s = gives (Answer hello_bytes ∷ []) (record s { connection = greeting })
+
+-- bytes of the controller come
+abbrev pub fed : List ℕ → State → State
+fed piece s = record s { connection = fed_connection piece s.connection }
+
+-- A MESSAGE (7.3)
+
+-- the flow of a FLOW_MOD
+abbrev pub flow_of : FlowMod → Flow
+flow_of m = record { fields = m.fields; priority = m.priority; cookie = m.cookie; idle_timeout = m.idle_timeout; hard_timeout = m.hard_timeout; flags = m.flags; instructions = m.instructions }
+
+-- no packet is buffered, so each buffer but none (all ones) is unknown (7.4.4: 1/8); the table may be full (5/1)
+abbrev pub flow_mod_refusals : FlowMod → State → List (Bool × Code)
+flow_mod_refusals m s =
+    (not (m.buffer == 0xffffffff), refusal 1 8)
+    ∷ (is_full (flow_of m) s.forwarding.table.flows, refusal 5 1)
+    ∷ []
+
+abbrev pub with_flow : Flow → State → State
+with_flow flow s = record s { forwarding = record s.forwarding { table = record s.forwarding.table { flows = added flow s.forwarding.table.flows } } }
+
+abbrev pub answered : List ℕ → State → Outcome
+answered bytes s = gives (Answer bytes ∷ []) s
+
+-- the whole FLOW_MOD is given back by an error, up to 64 bytes
+abbrev pub flow_modded : ℕ → FlowMod → List ℕ → State → Option Code → Outcome
+flow_modded xid m failed s (Some code) = answered (error_bytes xid code failed) s
+flow_modded xid m failed s None = gives [] (with_flow (flow_of m) s)
+
+abbrev pub handled : ℕ → Message → List ℕ → State → Outcome
+handled xid Hello failed s = gives [] s
+handled xid (EchoRequest echoed) failed s = answered (echo_reply_bytes xid echoed) s
+handled xid BarrierRequest failed s = answered (barrier_reply_bytes xid) s
+handled xid (IsFlowMod m) failed s = flow_modded xid m failed s (first_of (flow_mod_refusals m s))

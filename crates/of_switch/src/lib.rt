@@ -1,0 +1,12 @@
+//! The switch: events to effects.
+#![tactic(auto)]
+
+mod effect;
+mod engine;
+mod plane;
+mod port_change;
+mod switch;
+
+pub use effect::Effect;
+pub use port_change::PortChange;
+pub use switch::{Switch, SwitchError};
