@@ -1,0 +1,10 @@
+pub mod MatchFieldLemmas
+pub mod Placing
+pub mod Walk
+pub mod Whole
+pub mod Normal
+pub mod Laws
+pub mod Written
+pub mod Same
+pub mod Related
+pub mod PortMatch

@@ -1,0 +1,131 @@
+-- What is written is a spelling.
+use Rattle.std.proofs.Common.{◌≡◌, ℕ, suc, ◌+◌, ◌-◌, ◌*◌, ◌^◌, ◌<◌, ◌≤◌, Bool, false, eqb, List, [], ◌∷◌, ◌++◌, length, take, replicate, Option, Some, None, refl, sym, ap, ◌∙◌, arith, inl}
+use Rattle.std.specs.Prelude.{IfSome, ◌||◌}
+use Rattle.std.specs.List.{AllByRecursion}
+use Rattle.std.proofs.lemmas.Bool.{lt-ltb, ne_eqb}
+use Rattle.std.proofs.lemmas.List.{append_assoc, length-append, take_at, length-replicate, take-replicate}
+use Rattle.byteorder.specs.Endian.{big_bytes}
+use Rattle.byteorder.specs.Numbers.{length-bytes_high_first}
+use Rattle.of_headers.specs.declared.field.Field.{Field}
+use Rattle.of_oxm.specs.declared.match_field.MatchField.{MatchField}
+use Rattle.of_headers.specs.Fields.{number_of, bytes_of, ones_of}
+use Rattle.of_oxm.specs.MatchFieldWire.{IsSpelt, IsMask, spelling}
+use Rattle.of_oxm.specs.NormalForm.{kept, put, put_kept, normal, IsKept, IsKeptMask, IsRising, IsMatch}
+use Rattle.of_oxm.specs.MatchGrammar.{AreFieldsAfter, spellings, padded, SpellsMatch}
+use Rattle.of_oxm.specs.MatchFieldWire.{is_among}
+use Rattle.of_oxm.specs.Canonical.{written_len, canonical}
+use Rattle.of_headers.proofs.Table.{number_below, bytes_most, value_below}
+use Rattle.of_oxm.proofs.Normal.{among_append}
+
+pub front_of : (n x : ℕ) (rest : List ℕ) → take n (big_bytes n x ++ rest) ≡ big_bytes n x
+front_of n x rest = take_at (big_bytes n x) rest n (length-bytes_high_first n x)
+
+-- ---- a field of a match has a spelling
+
+kept_mask : (f : Field) (v : ℕ) (mask : Option ℕ) → IfSome mask (IsKeptMask f v) → IfSome mask (IsMask f v)
+kept_mask f v None h = tt
+kept_mask f v (Some m) h = record { fits = value_below f m (omega (arith, h.not_all)); allowed = inl h.maskable; covers = h.covers }
+
+pub kept_spelt : (e : MatchField) → IsKept e → IsSpelt e
+kept_spelt e h = record { served = h.served; value = h.value; mask = kept_mask e.field e.value e.mask h.mask }
+
+pub all_spelt : (m : List MatchField) → AllByRecursion IsKept m → AllByRecursion IsSpelt m
+all_spelt [] h = tt
+all_spelt (e ∷ es) h = (kept_spelt e h.0, all_spelt es h.1)
+
+-- ---- a match is its own normal form
+
+eqb-zero : (n : ℕ) → 0 < n → eqb n 0 ≡ false
+eqb-zero n h = ne_eqb n 0 (λ e. omega (arith, e, h))
+
+kept_by : (f : Field) (v : ℕ) (mask : Option ℕ) → IfSome mask (IsKeptMask f v) → let e : MatchField = record { field = f; value = v; mask = mask } in kept e ≡ Some e
+unfolding kept
+kept_by f v None h = refl
+kept_by f v (Some m) h = rw (h.within, eqb-zero m h.some, ne_eqb m (ones_of f) (λ e. omega (arith, e, h.not_all))) refl
+
+kept_same : (e : MatchField) → IsKept e → kept e ≡ Some e
+kept_same e h = kept_by e.field e.value e.mask h.mask
+
+put_first : (e : MatchField) (es : List MatchField) → AllByRecursion (λ x. number_of e.field < number_of x.field) es → put e es ≡ e ∷ es
+put_first e [] h = refl
+put_first e (x ∷ xs) h = rw (lt-ltb _ _ h.0) refl
+
+normal_same : (m : List MatchField) → AllByRecursion IsKept m → IsRising m → normal m ≡ m
+normal_same [] each up = refl
+normal_same (e ∷ es) each up = ap (λ (o : Option MatchField). put_kept o (normal es)) (kept_same e each.0) ∙ ap (put e) (normal_same es each.1 up.1) ∙ put_first e es up.0
+
+-- ---- each field stands once
+
+not_among : (e : MatchField) (seen es : List MatchField) → AllByRecursion (λ x. is_among x.field seen ≡ false) es → AllByRecursion (λ x. number_of e.field < number_of x.field) es → AllByRecursion (λ x. is_among x.field (seen ++ e ∷ []) ≡ false) es
+not_among e seen [] h up = tt
+not_among e seen (x ∷ xs) h up =
+    let ne : eqb (number_of e.field) (number_of x.field) ≡ false = ne_eqb _ _ (λ s. omega (arith, s, up.0)) in
+    (among_append x.field seen (e ∷ []) ∙ ap (λ (b : Bool). b || (eqb (number_of e.field) (number_of x.field) || false)) h.0 ∙ ap (λ (b : Bool). b || false) ne, not_among e seen xs h.1 up.1)
+
+fine_rising : (seen m : List MatchField) → AllByRecursion IsKept m → IsRising m → AllByRecursion (λ x. is_among x.field seen ≡ false) m → AreFieldsAfter seen m
+fine_rising seen [] each up h = tt
+fine_rising seen (e ∷ es) each up h = (kept_spelt e each.0, h.0, fine_rising (seen ++ e ∷ []) es each.1 up.1 (not_among e seen es h.1 up.0))
+
+none_before : (m : List MatchField) → AllByRecursion (λ x. is_among x.field [] ≡ false) m
+none_before [] = tt
+none_before (e ∷ es) = (refl, none_before es)
+
+-- ---- how long a match is
+
+all_from : (n m : ℕ) (xs : List MatchField) → n ≤ m → AllByRecursion (λ x. m < number_of x.field) xs → AllByRecursion (λ x. suc n ≤ number_of x.field) xs
+all_from n m [] le h = tt
+all_from n m (x ∷ xs) le h = (omega (arith, h.0), all_from n m xs le h.1)
+
+count : (m : List MatchField) (n : ℕ) → IsRising m → AllByRecursion (λ x. n ≤ number_of x.field) m → n ≤ 31 → length m + n ≤ 31
+count [] n up h le = omega arith
+count (e ∷ es) n up h le =
+    let here = number_below e.field in
+    let rest = count es (suc (number_of e.field)) up.1 (all_from (number_of e.field) (number_of e.field) es (omega arith) up.0) (omega (arith, here)) in
+    omega (arith, rest, h.0)
+
+length-spelling : (f : Field) (v : ℕ) (mask : Option ℕ) → let e : MatchField = record { field = f; value = v; mask = mask } in length (spelling e) ≤ 36
+unfolding spelling
+length-spelling f v None = let b = bytes_most f in simp length-append (omega (arith, b, length-bytes_high_first (bytes_of f) v))
+length-spelling f v (Some m) = let b = bytes_most f in simp length-append (omega (arith, b, length-bytes_high_first (bytes_of f) v, length-bytes_high_first (bytes_of f) m))
+
+length-spellings : (m : List MatchField) → length (spellings m) ≤ 36 * length m
+length-spellings [] = omega arith
+length-spellings (e ∷ es) = omega (arith, length-append (spelling e) (spellings es), length-spelling e.field e.value e.mask, length-spellings es)
+
+none_low : (m : List MatchField) → AllByRecursion (λ x. 0 ≤ number_of x.field) m
+none_low [] = tt
+none_low (e ∷ es) = (omega arith, none_low es)
+
+pub written_fits : (m : List MatchField) → IsRising m → written_len m < 2 ^ 16
+written_fits m up = omega (arith, length-spellings m, count m 0 up (none_low m) (omega arith))
+
+pub canonical_spells : (m : List MatchField) → IsMatch m → SpellsMatch (canonical m) m
+unfolding canonical
+canonical_spells m h =
+    let len = written_len m in
+    let le : len ≤ padded len = omega arith in
+    record {
+      fields = m;
+      padding = replicate (padded len - len) 0;
+      len = len;
+      fine = fine_rising [] m h.each h.rising (none_before m);
+      len_is = refl;
+      len_fits = written_fits m h.rising;
+      whole = refl;
+      size = simp (length-append, length-replicate) (omega arith);
+      normal_form = sym (normal_same m h.each h.rising);
+      met = h.met;
+    }
+
+pub is_canonical : (m kept_fields : List MatchField) (fields copied s1 s2 s3 s4 padding : List ℕ) (n k : ℕ) → kept_fields ≡ m → fields ≡ spellings kept_fields → n ≡ length fields → copied ≡ fields → s1 ≡ 0 ∷ 1 ∷ []
+    → s2 ≡ s1 ++ big_bytes 2 (4 + n) → s3 ≡ s2 ++ copied → s4 ≡ s3 ++ padding → k ≡ padded (4 + n) - (4 + n) → padding ≡ take k (replicate 8 0) → s4 ≡ canonical m
+unfolding canonical
+is_canonical m kept_fields fields copied s1 s2 s3 s4 padding n k same fields_is n_is copied_is e1 e2 e3 e4 k_is pad_is =
+    let text : fields ≡ spellings m = fields_is ∙ ap spellings same in
+    let len : 4 + n ≡ written_len m = ap (λ (x : ℕ). 4 + x) (n_is ∙ ap length text) in
+    let few : k ≤ 8 = omega arith in
+    let zeros : padding ≡ replicate (padded (written_len m) - written_len m) 0 = pad_is ∙ take-replicate k 8 0 few ∙ ap (λ (x : ℕ). replicate x 0) (k_is ∙ ap (λ (x : ℕ). padded x - x) len) in
+    let front : s2 ≡ 0 ∷ 1 ∷ big_bytes 2 (written_len m) = e2 ∙ ap (λ (x : List ℕ). x ++ big_bytes 2 (4 + n)) e1 ∙ ap (λ (x : ℕ). 0 ∷ 1 ∷ big_bytes 2 x) len in
+    let body : s3 ≡ 0 ∷ 1 ∷ (big_bytes 2 (written_len m) ++ spellings m) = e3 ∙ ap (λ (x : List ℕ). x ++ copied) front ∙ ap (λ (x : List ℕ). 0 ∷ 1 ∷ (big_bytes 2 (written_len m) ++ x)) (copied_is ∙ text) in
+    e4 ∙ ap (λ (x : List ℕ). x ++ padding) body ∙ ap (λ (x : List ℕ). (0 ∷ 1 ∷ (big_bytes 2 (written_len m) ++ spellings m)) ++ x) zeros
+    ∙ ap (λ (x : List ℕ). 0 ∷ 1 ∷ x) (append_assoc (big_bytes 2 (written_len m)) (spellings m) (replicate (padded (written_len m) - written_len m) 0))

@@ -1,0 +1,91 @@
+//! Matches.
+
+ghost use Rattle.std.specs.Prelude.{◌≡◌, ◌==◌, ◌↔◌, length, IfOk, IsTrue};
+ghost use Rattle.of_oxm.specs.InPortMatch.{in_port_match};
+ghost use Rattle.of_oxm.specs.SameMatch.{is_same_match};
+
+use crate::match_field::MatchField;
+use of_headers::Field;
+use std::alloc::{AllocError, Global};
+use std::marker::Model;
+
+/// What the match of a flow asks of a frame (OpenFlow 1.3.5, 7.2.3).
+///
+/// It is a normal form: no mask of zeros alone or of ones alone, each field once and by rising
+/// number, and all that its fields need stands in it.
+#[derive(Debug, Drop)]
+pub struct Match {
+    pub(crate) fields: Vec<MatchField>,
+}
+
+impl Model for Match {
+    ghost use Rattle.std.specs.Prelude.{List};
+    ghost use Rattle.of_oxm.specs.declared.match_field.MatchField.{MatchField};
+    ghost use Rattle.of_oxm.specs.NormalForm.{IsMatch};
+
+    ghost Value = { List MatchField };
+
+    ghost view = { λ m. m.fields.items };
+
+    ghost invariant = { λ m. IsMatch m.fields.items };
+}
+
+fn same_fields(xs: &[MatchField], ys: &[MatchField]) -> bool
+    ensures same { IsTrue result ↔ (xs.now ≡ ys.now) }
+    ensures value { result ≡ is_same_match xs.now ys.now }
+{
+    xs == ys
+}
+
+impl Match {
+    /// The match of a frame that came by this port, as a PACKET_IN carries it (OpenFlow 1.3.5, 7.4.1).
+    pub fn of_in_port(alloc: Global, port: u32) -> Result<Match, AllocError>
+        ensures { IfOk result (λ m. m ≡ in_port_match port) }
+    {
+        let mut fields = Vec::new(alloc);
+        fields.push(MatchField {
+            field: Field::InPort,
+            value: u128::from(port),
+            mask: None,
+        })?;
+        Ok(Match { fields })
+    }
+
+    /// The fields that it looks at, by rising number.
+    pub fn fields(&self) -> &[MatchField]
+        ensures { result.now ≡ self.now }
+    {
+        self.fields.as_slice()
+    }
+
+    /// How many fields it looks at.
+    pub fn len(&self) -> usize
+        ensures { result ≡ length self.now }
+    {
+        self.fields.len()
+    }
+
+    /// Whether it looks at no field, and so matches each frame.
+    pub fn is_empty(&self) -> bool
+        ensures { result ≡ (length self.now == 0) }
+    {
+        self.fields.is_empty()
+    }
+
+    /// The same match again.
+    pub fn copy(&self) -> Result<Match, AllocError>
+        ensures { IfOk result (λ m. m ≡ self.now) }
+    {
+        Ok(Match {
+            fields: self.fields.clone()?,
+        })
+    }
+
+    /// Whether the two are one match.
+    pub fn equals(&self, other: &Match) -> bool
+        ensures same { IsTrue result ↔ (self.now ≡ other.now) }
+        ensures value { result ≡ is_same_match self.now other.now }
+    {
+        same_fields(&self.fields, &other.fields)
+    }
+}

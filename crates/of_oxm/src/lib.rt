@@ -1,0 +1,23 @@
+//! Matches of flows: how they are spelt on the wire, what they match, cover and overlap (OpenFlow 1.3.5, 7.2.3).
+#![tactic(auto)]
+
+mod codes;
+mod field_reading;
+mod flow_match;
+mod match_field;
+mod normal_form;
+mod prerequisites;
+mod reading;
+mod relations;
+mod writing;
+
+pub use flow_match::Match;
+pub use match_field::MatchField;
+pub use of_wire::{Code, ReadError};
+pub use prerequisites::is_met;
+pub use reading::{one_code, one_spelling, read_match};
+pub use relations::{covered_is_matched, covers, matched_by_both_overlap, matches, overlaps};
+pub use writing::write_match;
+
+#[cfg(test)]
+mod tests;

@@ -1,0 +1,108 @@
+//! What a match matches, covers and overlaps.
+
+ghost use Rattle.std.specs.Prelude.{◌≡◌, ℕ, List, Option, true};
+ghost use Rattle.std.specs.List.{list_any, list_all};
+ghost use Rattle.of_headers.specs.FieldMap.{value};
+ghost use Rattle.of_oxm.specs.Relations.{bits_looked_at, agrees as agrees_with, is_within as within, can_both as both_can, matches_map, covers_match, overlaps_match};
+ghost use Rattle.of_oxm.specs.declared.match_field.MatchField.{MatchField};
+ghost use Rattle.of_headers.specs.declared.field.Field.{Field};
+
+use crate::flow_match::Match;
+use crate::match_field::MatchField;
+use of_headers::FieldKey;
+
+fn mask(e: &MatchField) -> u128
+    ensures { result ≡ bits_looked_at e.now }
+{
+    match e.mask {
+        Some(mask) => mask,
+        None => e.field.row().ones,
+    }
+}
+
+fn agrees(e: &MatchField, value: Option<u128>) -> bool
+    ensures { result ≡ agrees_with e.now value }
+{
+    match value {
+        None => false,
+        Some(value) => value & mask(e) == e.value,
+    }
+}
+
+fn is_within(x: &MatchField, y: &MatchField) -> bool
+    ensures { result ≡ within x.now y.now }
+{
+    let bits = mask(x);
+    y.field.row().number == x.field.row().number
+        && bits & mask(y) == bits
+        && y.value & bits == x.value
+}
+
+fn can_both(x: &MatchField, y: &MatchField) -> bool
+    ensures { result ≡ both_can x.now y.now }
+{
+    !(y.field.row().number == x.field.row().number) || y.value & mask(x) == x.value & mask(y)
+}
+
+fn has_within(x: &MatchField, fields: &[MatchField]) -> bool
+    ensures { result ≡ list_any (λ y. within x.now y) fields.now }
+{
+    fields.iter().any(|y| is_within(x, y))
+}
+
+fn can_all(x: &MatchField, fields: &[MatchField]) -> bool
+    ensures { result ≡ list_all (λ y. both_can x.now y) fields.now }
+{
+    fields.iter().all(|y| can_both(x, y))
+}
+
+fn fields_match(fields: &[MatchField], key: &FieldKey) -> bool
+    ensures { result ≡ matches_map fields.now (value key.now) }
+{
+    fields.iter().all(|e| agrees(e, key.get(e.field)))
+}
+
+fn fields_cover(d: &[MatchField], m: &[MatchField]) -> bool
+    ensures { result ≡ covers_match d.now m.now }
+{
+    d.iter().all(|x| has_within(x, m))
+}
+
+fn fields_overlap(m: &[MatchField], n: &[MatchField]) -> bool
+    ensures { result ≡ overlaps_match m.now n.now }
+{
+    m.iter().all(|x| can_all(x, n))
+}
+
+/// Whether a frame of this key is matched: it has each field of the match, and agrees with its value under its mask (OpenFlow 1.3.5, 5.3).
+pub fn matches(m: &Match, key: &FieldKey) -> bool
+    ensures { result ≡ matches_map m.now (value key.now) }
+{
+    fields_match(&m.fields, key)
+}
+
+/// Whether the first match covers the second: each field of the first is in the second, with at least its mask and the same bits under it (OpenFlow 1.3.5, 6.4).
+pub fn covers(d: &Match, m: &Match) -> bool
+    ensures { result ≡ covers_match d.now m.now }
+{
+    fields_cover(&d.fields, &m.fields)
+}
+
+/// Whether two matches overlap: where both look at a field, their values agree under both masks (OpenFlow 1.3.5, 6.4).
+pub fn overlaps(m: &Match, n: &Match) -> bool
+    ensures { result ≡ overlaps_match m.now n.now }
+{
+    fields_overlap(&m.fields, &n.fields)
+}
+
+/// What a match covers, it matches wherever the covered one does.
+pub fn covered_is_matched()
+    ensures { (d m : List MatchField) (map : Field → Option ℕ) →
+        covers_match d m ≡ true → matches_map m map ≡ true → matches_map d map ≡ true }
+{}
+
+/// Two matches that match one field map overlap.
+pub fn matched_by_both_overlap()
+    ensures { (m n : List MatchField) (map : Field → Option ℕ) →
+        matches_map m map ≡ true → matches_map n map ≡ true → overlaps_match m n ≡ true }
+{}

@@ -1,0 +1,74 @@
+//! Matches as bytes.
+
+ghost use Rattle.std.specs.Prelude.{◌≡◌, ◌≤◌, ◌<◌, ◌^◌, ◌++◌, OnOk, IfOk};
+ghost use Rattle.std.specs.List.{AllByRecursion};
+ghost use Rattle.byteorder.specs.Endian.{big_bytes};
+ghost use Rattle.of_oxm.specs.MatchFieldWire.{IsSpelt, spelling};
+ghost use Rattle.of_oxm.specs.MatchGrammar.{SpellsMatch, spellings};
+ghost use Rattle.of_oxm.specs.Canonical.{canonical};
+
+use crate::flow_match::Match;
+use crate::match_field::MatchField;
+use byteorder::{BigEndian, ByteOrder};
+use std::alloc::{AllocError, Global};
+
+#[tactic(auto, using(crate::proofs::Written::front_of))]
+fn put_number(out: &mut Vec<u8>, len: usize, number: u128) -> Result<(), AllocError>
+    requires some { 1 ≤ len }
+    requires most { len ≤ 16 }
+    requires fits { number < 256 ^ len }
+    ensures { OnOk result (out.new.items ≡ out.old.items ++ big_bytes len number) }
+{
+    let mut bytes = [0u8; 16];
+    BigEndian::write_uint128(&mut bytes, number, len);
+    let (front, _) = bytes.split_at(len);
+    out.extend_from_slice(front)
+}
+
+#[tactic(auto, using(of_headers::proofs::Table::value_below), unfolding(crate::specs::MatchFieldWire::spelling))]
+fn put_field(out: &mut Vec<u8>, e: &MatchField) -> Result<(), AllocError>
+    requires { IsSpelt e.now }
+    ensures { OnOk result (out.new.items ≡ out.old.items ++ spelling e.now) }
+{
+    let row = e.field.row();
+    match e.mask {
+        None => {
+            out.extend_from_slice(&[0x80, 0, 2 * row.number, row.bytes as u8])?;
+            put_number(out, row.bytes, e.value)
+        }
+        Some(mask) => {
+            out.extend_from_slice(&[0x80, 0, 2 * row.number + 1, (2 * row.bytes) as u8])?;
+            put_number(out, row.bytes, e.value)?;
+            put_number(out, row.bytes, mask)
+        }
+    }
+}
+
+fn put_fields(out: &mut Vec<u8>, fields: &[MatchField]) -> Result<(), AllocError>
+    requires { AllByRecursion IsSpelt fields.now }
+    ensures { OnOk result (out.new.items ≡ out.old.items ++ spellings fields.now) }
+{
+    for e in fields {
+        put_field(out, e)?;
+    }
+    Ok(())
+}
+
+/// The one spelling of a match that is written: its fields by rising number, and zeros for padding (OpenFlow 1.3.5, 7.2.3).
+pub fn write_match(alloc: Global, m: &Match) -> Result<Vec<u8>, AllocError>
+    ensures canonical { IfOk result (λ v. v.items ≡ canonical m.now) }
+    ensures spells { IfOk result (λ v. SpellsMatch v.items m.now) }
+{
+    let mut fields = Vec::new(alloc);
+    put_fields(&mut fields, &m.fields)?;
+    let len = 4 + fields.len();
+    let size = (len + 7) / 8 * 8;
+    let mut out = Vec::new(alloc);
+    out.extend_from_slice(&[0, 1])?;
+    put_number(&mut out, 2, len as u128)?;
+    out.extend_from_slice(&fields)?;
+    let zeros = [0u8; 8];
+    let (padding, _) = zeros.split_at(size - len);
+    out.extend_from_slice(padding)?;
+    Ok(out)
+}
