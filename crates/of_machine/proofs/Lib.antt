@@ -1,0 +1,4 @@
+pub mod Reaching
+pub mod Moving
+pub mod Ending
+pub mod Renumbering

@@ -1,0 +1,6 @@
+use Rattle.std.proofs.Common.{rules, arith}
+use Rattle.std.proofs.lemmas.Grind.{common_steps}
+use Rattle.of_machine.proofs.frame.Frame.key.Goals as goal
+
+pub returns : goal.returns
+returns c = rw (c.key.ensures, ← c.self.view_is, ← c.deref.ensures.value) c.in-Ok.ensures.key

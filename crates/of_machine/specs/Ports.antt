@@ -1,0 +1,11 @@
+-- Ports of the switch (OpenFlow 1.3.5, 7.2.1).
+use Rattle.std.specs.Prelude.{ℕ, Bool, ◌==◌, List, Option, find}
+use Rattle.of_machine.specs.declared.port.Port.{Port}
+
+-- a port may send where its link is up
+abbrev pub may_send : Port → Bool
+may_send p = p.is_link_up
+
+-- the port of that number
+abbrev pub port_at : List Port → ℕ → Option Port
+port_at ports n = find (λ q. q.number == n) ports

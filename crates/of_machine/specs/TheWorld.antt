@@ -1,0 +1,12 @@
+-- What the machine reads of its world: the flow tables and the ports (OpenFlow 1.3.5, 2).
+use Rattle.std.specs.Prelude.{ℕ, List, Option}
+use Rattle.of_headers.specs.declared.field.Field.{Field}
+use Rattle.of_table.specs.declared.flow.Flow.{Flow}
+use Rattle.of_machine.specs.declared.port.Port.{Port}
+
+pub record TheWorld : Type 0 where
+  -- the number of the entry of a table that wins for a field map (5.3)
+  pub winner : ℕ → (Field → Option ℕ) → Option ℕ
+  -- the entry of a table that has a number
+  pub flow : ℕ → ℕ → Option Flow
+  pub ports : List Port

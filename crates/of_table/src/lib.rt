@@ -1,0 +1,6 @@
+//! Flow tables.
+#![tactic(auto)]
+
+mod flow;
+
+pub use flow::Flow;
