@@ -1,3 +1,4 @@
 pub mod Told
 pub mod Transfer
 pub mod Lexing
+pub mod Rows

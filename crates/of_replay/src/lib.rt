@@ -3,6 +3,7 @@
 
 mod io;
 mod lexing;
+mod rows;
 mod transfer;
 
 pub use io::{Reading, Sink, Source, Writing};

@@ -1,0 +1,80 @@
+-- The rows of event files: words parted by one space, as
+--   connect
+--   c HEX
+--   f PORT HEX
+--   port add N HW NAME up|down
+use Rattle.std.specs.Prelude.{ℕ, Bool, not, List, codes, Option, Some, None, if◌then◌else◌}
+use Rattle.std.specs.Option.{option_map}
+use Rattle.std.specs.Str.{bytes_eq}
+use Rattle.of_replay.specs.declared.rows.NewPort.{NewPort}
+use Rattle.of_replay.specs.declared.rows.Row.{Row}
+use Rattle.of_replay.specs.declared.rows.Row.TheVariants as row
+use Rattle.of_replay.specs.Lexing.{is_line, is_passed, first_word, after_word, number_of, bytes_of, hw_of, name_of, state_of}
+
+-- a row with its bytes
+pub data EventRow : Type 0 where
+  Passed : EventRow
+  Connect : EventRow
+  Piece : (bytes : List ℕ) → EventRow
+  Frame : (port : ℕ) (bytes : List ℕ) → EventRow
+  PortAdd : (port : NewPort) → EventRow
+
+-- the second step, if the first gave a value
+infixl 10 ◌>>=◌
+abbrev pub ◌>>=◌ : {A B : Type 0} → Option A → (A → Option B) → Option B
+None >>= f = None
+(Some a) >>= f = f a
+
+abbrev pub piece_row : List ℕ → Option EventRow
+piece_row word = do
+  bytes ← bytes_of word
+  Some (Piece bytes)
+
+abbrev pub frame_row : List ℕ → Option EventRow
+frame_row words = do
+  port ← number_of (first_word words)
+  word ← after_word words
+  bytes ← bytes_of word
+  Some (Frame port bytes)
+
+-- behind `port add`
+abbrev pub added_port : List ℕ → Option NewPort
+added_port words = do
+  number ← number_of (first_word words)
+  more ← after_word words
+  hw ← hw_of (first_word more)
+  last ← after_word more
+  name ← name_of (first_word last)
+  word ← after_word last
+  up ← state_of word
+  Some (record { number = number; hw = hw; name = name; up = up })
+
+abbrev pub port_of : List ℕ → Option NewPort
+port_of words = if bytes_eq (first_word words) (codes "add") then after_word words >>= added_port else None
+
+-- a row of that name, and its other words
+abbrev pub named_row : List ℕ → List ℕ → Option EventRow
+named_row name words =
+    if bytes_eq name (codes "c") then piece_row words
+    else (if bytes_eq name (codes "f") then frame_row words
+    else (if bytes_eq name (codes "port") then option_map PortAdd (port_of words)
+    else None))
+
+abbrev pub row_in : List ℕ → Option (List ℕ) → Option EventRow
+row_in name None = if bytes_eq name (codes "connect") then Some Connect else None
+row_in name (Some words) = named_row name words
+
+-- THE ROW OF A LINE; None for a bad row
+abbrev pub row_of : List ℕ → Option EventRow
+row_of line =
+    if not (is_line line) then None
+    else (if is_passed line then Some Passed
+    else row_in (first_word line) (after_word line))
+
+-- what the code keeps of a row, with its buffer
+abbrev pub with_bytes : List ℕ → Row → EventRow
+with_bytes bytes row.Passed = Passed
+with_bytes bytes row.Connect = Connect
+with_bytes bytes row.Piece = Piece bytes
+with_bytes bytes (row.Frame port) = Frame port bytes
+with_bytes bytes (row.PortAdd port) = PortAdd port

@@ -1,0 +1,134 @@
+//! The rows of event files.
+ghost use Rattle.std.specs.Prelude.{◌≡◌, IfOk};
+ghost use Rattle.std.specs.Option.{option_map};
+ghost use Rattle.of_replay.specs.Rows.{row_of, with_bytes, piece_row, frame_row, port_of, added_port, named_row};
+
+use crate::lexing::{
+    cut_word, is, is_passed_over, is_readable, read_bytes, read_hw, read_name, read_number,
+    read_state,
+};
+use std::alloc::AllocError;
+
+/// A port as a row gives it.
+#[derive(Clone, Copy, Debug, PartialEq, Eq)]
+pub struct NewPort {
+    pub number: u32,
+    /// The hardware address.
+    pub hw: [u8; 6],
+    /// The name, padded with zeros.
+    pub name: [u8; 16],
+    /// Whether its link is up.
+    pub up: bool,
+}
+
+/// A row of an event file. The bytes of a piece or a frame stand in the buffer that it was read with.
+#[derive(Clone, Copy, Debug, PartialEq, Eq)]
+pub enum Row {
+    /// An empty line or a comment.
+    Passed,
+    /// A controller connects.
+    Connect,
+    /// Bytes of the controller.
+    Piece,
+    /// A frame comes in by a port.
+    Frame { port: u32 },
+    /// A port is added.
+    PortAdd(NewPort),
+}
+
+// `c HEX`, from its second word on.
+fn read_piece(word: &[u8], bytes: &mut Vec<u8>) -> Result<Option<Row>, AllocError>
+    ensures { IfOk result (λ row. piece_row word.now ≡ option_map (with_bytes bytes.new.items) row) }
+{
+    if read_bytes(word, bytes)? {
+        Ok(Some(Row::Piece))
+    } else {
+        Ok(None)
+    }
+}
+
+// `f PORT HEX`, from its second word on.
+fn read_frame(words: &[u8], bytes: &mut Vec<u8>) -> Result<Option<Row>, AllocError>
+    ensures { IfOk result (λ row. frame_row words.now ≡ option_map (with_bytes bytes.new.items) row) }
+{
+    let (first, rest) = cut_word(words);
+    let Some(port) = read_number(first) else {
+        return Ok(None);
+    };
+    let Some(word) = rest else {
+        return Ok(None);
+    };
+    if read_bytes(word, bytes)? {
+        Ok(Some(Row::Frame { port }))
+    } else {
+        Ok(None)
+    }
+}
+
+// `port add N HW NAME up|down`, from its third word on.
+fn read_port_add(words: &[u8]) -> Option<NewPort>
+    ensures { result ≡ added_port words.now }
+{
+    let (number, rest) = cut_word(words);
+    let number = read_number(number)?;
+    let (hw, rest) = cut_word(rest?);
+    let hw = read_hw(hw)?;
+    let (name, rest) = cut_word(rest?);
+    let name = read_name(name)?;
+    let up = read_state(rest?)?;
+    Some(NewPort {
+        number,
+        hw,
+        name,
+        up,
+    })
+}
+
+// `port ..`, from its second word on.
+fn read_port(words: &[u8]) -> Option<NewPort>
+    ensures { result ≡ port_of words.now }
+{
+    let (change, rest) = cut_word(words);
+    if !is(change, b"add") {
+        return None;
+    }
+    read_port_add(rest?)
+}
+
+// A row of more words than one.
+fn read_named(
+    name: &[u8],
+    words: &[u8],
+    bytes: &mut Vec<u8>,
+) -> Result<Option<Row>, AllocError>
+    ensures { IfOk result (λ row. named_row name.now words.now ≡ option_map (with_bytes bytes.new.items) row) }
+{
+    if is(name, b"c") {
+        return read_piece(words, bytes);
+    }
+    if is(name, b"f") {
+        return read_frame(words, bytes);
+    }
+    if is(name, b"port") {
+        return Ok(read_port(words).map(Row::PortAdd));
+    }
+    Ok(None)
+}
+
+/// The row of a line, whose bytes it decodes into the buffer; None for a bad row.
+pub fn read_row(line: &[u8], bytes: &mut Vec<u8>) -> Result<Option<Row>, AllocError>
+    ensures { IfOk result (λ row. row_of line.now ≡ option_map (with_bytes bytes.new.items) row) }
+{
+    if !is_readable(line) {
+        return Ok(None);
+    }
+    if is_passed_over(line) {
+        return Ok(Some(Row::Passed));
+    }
+    let (name, rest) = cut_word(line);
+    match rest {
+        None if is(name, b"connect") => Ok(Some(Row::Connect)),
+        None => Ok(None),
+        Some(words) => read_named(name, words, bytes),
+    }
+}
