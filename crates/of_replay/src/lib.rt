@@ -3,6 +3,7 @@
 
 mod io;
 mod lexing;
+mod output;
 mod rows;
 mod transfer;
 

@@ -1,5 +1,5 @@
 -- The oldest of the highest, one more element at a time, and what it is.
-use Rattle.std.proofs.Common.{◌≡◌, ℕ, ◌<◌, ◌≤◌, Bool, true, false, cond, List, [], ◌∷◌, ◌++◌, Option, Some, None, max, refl, ◌∙◌, ap, arith, inl, inr, ◌⊎◌, ⊎_elim}
+use Rattle.std.proofs.Common.{◌≡◌, ℕ, ◌<◌, ◌≤◌, Bool, true, false, cond, List, [], ◌∷◌, ◌++◌, Option, Some, None, max, refl, sym, ◌∙◌, ap, arith, inl, inr, ◌⊎◌, ⊎_elim}
 use Rattle.std.specs.Prelude.{find, map, nat_le, if◌then◌else◌}
 use Rattle.std.specs.List.{list_all}
 use Rattle.std.specs.Option.{option_or, option_map}
@@ -101,3 +101,12 @@ pub oldest_highest-map : {X Y : Type 0} (g : X → Y) (rank : Y → ℕ) (xs : L
 oldest_highest-map g rank xs =
     find-map g (is_highest rank (map g xs)) xs
     ∙ ap (option_map g) (find_same _ _ (λ x. list_all-map g (λ y. nat_le (rank y) (rank (g x))) xs) xs)
+
+-- ---- of no element alone there is none
+
+pub oldest_highest-none : {X : Type 0} (rank : X → ℕ) (xs : List X) → oldest_highest rank xs ≡ None → xs ≡ []
+oldest_highest-none rank [] h = refl
+oldest_highest-none rank (x ∷ xs) h =
+    let found = top_reached rank _ x xs refl in
+    let e = sym h ∙ oldest-top rank (x ∷ xs) ∙ found.is in
+    absurd cc

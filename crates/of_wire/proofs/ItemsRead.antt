@@ -1,10 +1,10 @@
 -- Items that bytes are, are what reading them as a function gives.
-use Rattle.std.proofs.Common.{◌≡◌, ℕ, zero, suc, ◌+◌, ◌-◌, ◌<◌, ◌≤◌, List, [], ◌∷◌, ◌++◌, length, drop, Option, Some, None, Result, Ok, Err, refl, sym, ap, subst, ◌∙◌, arith}
+use Rattle.std.proofs.Common.{◌≡◌, ℕ, zero, suc, ◌≤◌, List, [], ◌∷◌, ◌++◌, length, drop, Option, Some, None, Ok, refl, sym, ap, ◌∙◌, arith}
 use Rattle.std.specs.Prelude.{IsSome}
 use Rattle.std.proofs.lemmas.List.{append_assoc, append-nil, length-drop}
 use Rattle.of_wire.specs.declared.code.Code.{Code}
 use Rattle.of_wire.specs.Refusals.{first_of}
-use Rattle.of_wire.specs.Items.{Items, IsEnd, AreItems, item_then, items_of, outcome, TakesBytes}
+use Rattle.of_wire.specs.Items.{Items, AreItems, item_then, items_of, outcome, TakesBytes}
 
 no_more : {V : Type 0} (kind : Items V) (n : ℕ) (seen : List V) → items_of kind n seen [] ≡ Ok seen
 unfolding items_of

@@ -1,0 +1,4 @@
+pub mod Best
+pub mod Given
+pub mod Finding
+pub mod WinnerLaw
