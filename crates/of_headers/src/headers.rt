@@ -72,6 +72,21 @@ pub fn read_inside(frame: &[u8], in_port: u32, metadata: u64) -> Result<Headers,
     Ok(Headers { layout, key })
 }
 
+/// Refuses bytes that are no frame by their length alone.
+///
+/// They are refused as `Short` below 14 bytes, and as `Long` above 9,216.
+pub fn check_length(frame: &[u8]) -> Result<(), FrameFault>
+    ensures { result_err result ≡ frame_fault frame.now }
+{
+    if frame.len() > 9216 {
+        return Err(FrameFault::Long);
+    }
+    if frame.len() < 14 {
+        return Err(FrameFault::Short);
+    }
+    Ok(())
+}
+
 /// Reads a frame that came in by a port, with the metadata that a lookup sees.
 ///
 /// It is refused as `Short` below 14 bytes, and as `Long` above 9,216.
@@ -80,8 +95,6 @@ pub fn read(frame: &[u8], in_port: u32, metadata: u64) -> Result<Headers, FrameF
     ensures layout { IfOk result (λ h. h.layout ≡ layout_of (layers_of frame.now)) }
     ensures key { IfOk result (λ h. value h.key ≡ field_map (layers_of frame.now) in_port metadata) }
 {
-    if frame.len() > 9216 {
-        return Err(FrameFault::Long);
-    }
+    check_length(frame)?;
     read_inside(frame, in_port, metadata)
 }

@@ -1,3 +1,4 @@
 pub mod Compacting
 pub mod Fronts
 pub mod Splitting
+pub mod Nexts

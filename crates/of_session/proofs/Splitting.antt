@@ -36,7 +36,7 @@ alone : (stream : List ℕ) → IsMalformed stream ⊎ IsPartial stream → Spli
 alone stream h = record { whole = refl; each = tt; ends = h }
 
 -- the message in front is one
-front_message : (stream : List ℕ) → 8 ≤ length_of stream → length_of stream ≤ length stream → IsMessage (take (length_of stream) stream)
+pub front_message : (stream : List ℕ) → 8 ≤ length_of stream → length_of stream ≤ length stream → IsMessage (take (length_of stream) stream)
 front_message stream low high =
     let size : length (take (length_of stream) stream) ≡ length_of stream = omega (arith, length-take (length_of stream) stream, high) in
     let joined : take (length_of stream) stream ++ drop (length_of stream) stream ≡ stream = take-append-drop (length_of stream) stream in

@@ -1,5 +1,6 @@
 pub mod Ports
 pub mod Plane
+pub mod Numbers
 pub mod State
 pub mod Steps
 pub mod Runs

@@ -1,10 +1,9 @@
 -- Frames through the flow table and out of the ports (OpenFlow 1.3.5, 5.1 and 7.2.1).
-use Rattle.std.specs.Prelude.{ℕ, ◌==◌, Bool, List, [], ◌∷◌, ◌++◌, length, map, slice_get, Option, Some, None, if◌then◌else◌}
-use Rattle.std.specs.Option.{option_map}
+use Rattle.std.specs.Prelude.{ℕ, ◌==◌, Bool, List, [], ◌∷◌, ◌++◌, length, map, Option, Some, None, if◌then◌else◌}
 use Rattle.of_headers.specs.declared.field.Field.{Field}
 use Rattle.of_headers.specs.declared.headers.FrameFault.{FrameFault}
 use Rattle.of_headers.specs.Faults.{frame_fault}
-use Rattle.of_table.specs.Table.{Table, looked, matched_at, winner_place, added}
+use Rattle.of_table.specs.Table.{Table, empty_table, flow_at, looked, matched_at, winner_place}
 use Rattle.of_table.specs.declared.flow.Flow.{Flow}
 use Rattle.of_machine.specs.declared.port.Port.{Port}
 use Rattle.of_machine.specs.declared.data.Item.{Item}
@@ -26,6 +25,10 @@ pub record Forwarding : Type 0 where
   pub table : Table
   pub ports : List Port
 
+-- no flow, no port
+abbrev pub idle : Forwarding
+idle = record { table = empty_table; ports = [] }
+
 -- a port counts this
 abbrev pub count_port : ℕ → PortCount → Forwarding → Forwarding
 count_port number what f = record f { ports = all_counted number what f.ports }
@@ -33,10 +36,10 @@ count_port number what f = record f { ports = all_counted number what f.ports }
 -- WHAT THE MACHINE SEES: entries are named by their place by age, from 0; table 0 alone is there for now
 
 abbrev pub winner_in : Forwarding → ℕ → (Field → Option ℕ) → Option ℕ
-winner_in f t map = if t == 0 then winner_place map f.table.flows else None
+winner_in f t fields = if t == 0 then winner_place fields f.table.flows else None
 
 abbrev pub flow_in : Forwarding → ℕ → ℕ → Option Flow
-flow_in f t place = if t == 0 then option_map (λ e. e.flow) (slice_get f.table.flows place) else None
+flow_in f t place = if t == 0 then flow_at place f.table.flows else None
 
 abbrev pub world_of : Forwarding → TheWorld
 world_of f = record { winner = winner_in f; flow = flow_in f; ports = f.ports }

@@ -1,8 +1,7 @@
 -- The abstract switch.
-use Rattle.std.specs.Prelude.{ℕ, List, []}
-use Rattle.of_table.specs.Table.{empty_table}
+use Rattle.std.specs.Prelude.{ℕ}
 use Rattle.of_session.specs.Session.{Connection, alone}
-use Rattle.of_switch.specs.Plane.{Forwarding}
+use Rattle.of_switch.specs.Plane.{Forwarding, idle}
 
 pub record State : Type 0 where
   -- the switch's own number (OpenFlow 1.3.5, 7.3.1)
@@ -12,4 +11,4 @@ pub record State : Type 0 where
 
 -- a new switch: no connection, no flow, no port
 abbrev pub start : ℕ → State
-start dpid = record { dpid = dpid; connection = alone; forwarding = record { table = empty_table; ports = [] } }
+start dpid = record { dpid = dpid; connection = alone; forwarding = idle }

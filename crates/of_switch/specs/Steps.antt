@@ -1,5 +1,5 @@
 -- What each event does to the abstract switch.
-use Rattle.std.specs.Prelude.{ℕ, ◌==◌, ◌&&◌, nat_le, Bool, true, not, List, [], ◌∷◌, ◌++◌, length, Option, Some, None, if◌then◌else◌}
+use Rattle.std.specs.Prelude.{ℕ, ◌==◌, Bool, not, List, [], ◌∷◌, ◌++◌, take, Option, Some, None}
 use Rattle.of_wire.specs.declared.code.Code.{Code}
 use Rattle.of_wire.specs.Refusals.{refusal, first_of}
 use Rattle.of_messages.specs.declared.message.Message.{Message}
@@ -8,14 +8,14 @@ use Rattle.of_messages.specs.declared.message.FlowMod.{FlowMod}
 use Rattle.of_messages.specs.Written.{hello_bytes, error_bytes, echo_reply_bytes, barrier_reply_bytes}
 use Rattle.of_session.specs.declared.session.Next.{Next}
 use Rattle.of_session.specs.declared.session.Next.TheVariants.{Nothing, BadStream, NotHello, Opened, Read, Refused}
-use Rattle.of_session.specs.Session.{Connection, Got, greeting, is_disconnected, fed as fed_connection, next_of as next_in}
+use Rattle.of_session.specs.Session.{Connection, greeting, fed as fed_connection, entered, next_of as next_in}
 use Rattle.of_table.specs.declared.flow.Flow.{Flow}
 use Rattle.of_table.specs.Table.{added, is_full}
 use Rattle.of_switch.specs.declared.effect.Effect.{Effect}
 use Rattle.of_switch.specs.declared.effect.Effect.TheVariants.{Answer, Closed}
 use Rattle.of_switch.specs.declared.port_change.PortChange.{PortChange}
 use Rattle.of_switch.specs.declared.port_change.PortChange.TheVariants.{Add}
-use Rattle.of_switch.specs.Ports.{has_port, is_number, new_port}
+use Rattle.of_switch.specs.Ports.{new_port}
 use Rattle.of_switch.specs.Plane.{Forwarding, Forwarded, framed}
 use Rattle.of_switch.specs.State.{State}
 
@@ -65,3 +65,43 @@ handled xid Hello failed s = gives [] s
 handled xid (EchoRequest echoed) failed s = answered (echo_reply_bytes xid echoed) s
 handled xid BarrierRequest failed s = answered (barrier_reply_bytes xid) s
 handled xid (IsFlowMod m) failed s = flow_modded xid m failed s (first_of (flow_mod_refusals m s))
+
+-- WHAT COMES NEXT OF THE CONTROLLER'S STREAM
+
+-- the first 64 bytes of the message that comes next
+abbrev pub failed_of : ℕ → Connection → List ℕ
+failed_of size c = take 64 (take size c.pending)
+
+abbrev pub after : Next → State → State
+after next s = record s { connection = entered next s.connection }
+
+-- an error without the message, and the end of the connection
+abbrev pub closing : List ℕ → State → Outcome
+closing error s = gives (Answer error ∷ Closed ∷ []) s
+
+-- a malformed header is BAD_REQUEST, BAD_LEN (7.4.4: 1/6) with its 8 bytes; a first message that is not accepted is
+-- HELLO_FAILED, INCOMPATIBLE (0/0) without data
+abbrev pub came : Next → State → Option Outcome
+came Nothing s = None
+came (BadStream xid) s = Some (closing (error_bytes xid (refusal 1 6) (take 8 s.connection.pending)) (after (BadStream xid) s))
+came (NotHello xid) s = Some (closing (error_bytes xid (refusal 0 0) []) (after (NotHello xid) s))
+came (Opened size) s = Some (gives [] (after (Opened size) s))
+came (Refused xid size code) s = Some (answered (error_bytes xid code (failed_of size s.connection)) (after (Refused xid size code) s))
+came (Read xid size message) s = Some (handled xid message (failed_of size s.connection) (after (Read xid size message) s))
+
+-- the first whole message is handled, or the malformed header; or there is neither
+abbrev pub next_of : State → Option Outcome
+next_of s = came (next_in s.connection) s
+
+-- A FRAME
+
+abbrev pub with_forwarding : State → Forwarded → Outcome
+with_forwarding s f = gives f.effects (record s { forwarding = f.forwarding })
+
+abbrev pub frame_in : ℕ → List ℕ → State → Outcome
+frame_in port bytes s = with_forwarding s (framed port bytes s.forwarding)
+
+-- A PORT
+
+abbrev pub port_changed : PortChange → State → State
+port_changed (Add number hw name up) s = record s { forwarding = record s.forwarding { ports = s.forwarding.ports ++ new_port number hw name up ∷ [] } }

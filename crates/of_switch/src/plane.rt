@@ -1,19 +1,16 @@
 //! What forwards frames: the flow table and the ports.
-ghost use Rattle.std.specs.Prelude.{◌≡◌, ◌==◌, ◌≤◌, ◌+◌, [], Some, None, IfOk, OnOk, OnErr, IfErr, length};
-ghost use Rattle.std.specs.Option.{option_copied};
+ghost use Rattle.std.specs.Prelude.{◌≡◌, ◌≤◌, IfOk, OnOk, length};
 ghost use Rattle.of_machine.specs.Ports.{port_at};
-ghost use Rattle.of_switch.specs.declared.plane.PortCount.TheVariants.{ReceiveError, Received};
-ghost use Rattle.of_table.specs.Table.{added, is_full};
-ghost use Rattle.of_switch.specs.Ports.{counted, all_counted, has_port, tally, plus};
-ghost use Rattle.of_switch.specs.Plane.{all_sent, all_tallied, count_port, effects_of, forwards, framed, sent, tallied, through};
-ghost use Rattle.of_switch.specs.Numbers.{forwarding_of, numbered_world, placed, all_placed};
+ghost use Rattle.of_table.specs.Entries.{numbers_of};
+ghost use Rattle.of_switch.specs.Ports.{all_counted, counted, has_port, plus, tally};
+ghost use Rattle.of_switch.specs.Plane.{all_sent, all_tallied, effect_of, effects_of, forwards, framed, idle, sent, tallied, through};
+ghost use Rattle.of_switch.specs.Numbers.{all_placed, forwarding_of, numbered_world, placed};
 
 use crate::effect::Effect;
 use of_classifier::Lookup;
-use of_headers::{FieldKey, read};
+use of_headers::{FieldKey, check_length};
 use of_machine::{Count, Frame, Item, NoLog, Packet, Port, PortCounters, World, run};
-use of_table::{Flow, FlowTable, TableFault};
-use of_wire::Bytes;
+use of_table::{Flow, FlowTable};
 use std::alloc::{AllocError, Global};
 
 /// What a port counts (OpenFlow 1.3.5, 5.8).
@@ -137,7 +134,7 @@ impl<L: Lookup> World for Plane<L> {
 impl<L: Lookup> Plane<L> {
     /// Without flows and ports.
     pub fn new(alloc: Global) -> Result<Self, AllocError>
-        ensures { IfOk result (λ p. forwarding_of p.table p.ports.items ≡ empty) }
+        ensures { IfOk result (λ p. forwarding_of p.table p.ports.items ≡ idle) }
     {
         Ok(Plane {
             table: FlowTable::new(alloc)?,
@@ -145,14 +142,7 @@ impl<L: Lookup> Plane<L> {
         })
     }
 
-    /// Adds a flow to the table, or refuses it where the table is full.
-    pub fn add(&mut self, flow: Flow) -> Result<(), TableFault>
-        ensures ok { OnOk result (forwarding_of self.new.table self.new.ports.items ≡ with_flow flow (forwarding_of self.old.table self.old.ports.items)) }
-    {
-        self.table.add(flow)
-    }
-
-    /// A frame comes in by a port.
+    /// A frame comes in by a port (OpenFlow 1.3.5, 5.1).
     pub fn frame(
         &mut self,
         alloc: Global,
@@ -168,11 +158,71 @@ impl<L: Lookup> Plane<L> {
             count_at(&mut self.ports, number, PortCount::ReceiveDropped);
             return Ok(Vec::new(alloc));
         }
-        if read(bytes, number, 0).is_err() {
+        if check_length(bytes).is_err() {
             count_at(&mut self.ports, number, PortCount::ReceiveError);
             return Ok(Vec::new(alloc));
         }
         count_at(&mut self.ports, number, PortCount::Received(bytes.len()));
         self.forward(alloc, number, bytes)
+    }
+
+    // Runs a frame, and counts and sends what comes of it.
+    fn forward(
+        &mut self,
+        alloc: Global,
+        number: u32,
+        bytes: &[u8],
+    ) -> Result<Vec<Effect>, AllocError>
+        requires { 14 ≤ length bytes.now }
+        ensures { IfOk result (λ effects. through number bytes.now (forwarding_of self.old.table self.old.ports.items) ≡ forwards effects.items (forwarding_of self.new.table self.new.ports.items)) }
+    {
+        let packet = Packet::new(Frame::new(bytes.to_vec(alloc)?), number);
+        let outcome = run(alloc, self, packet, &mut NoLog)?;
+        self.tally_all(&outcome.counts);
+        self.send_all(alloc, outcome.items)
+    }
+
+    // Counts what a run counted.
+    fn tally_all(&mut self, counts: &[Count])
+        ensures { forwarding_of self.new.table self.new.ports.items ≡ all_tallied (all_placed self.old.table.entries counts.now) (forwarding_of self.old.table self.old.ports.items) }
+    {
+        for count in counts {
+            self.tally(*count);
+        }
+    }
+
+    fn tally(&mut self, count: Count)
+        ensures forwarding { forwarding_of self.new.table self.new.ports.items ≡ tallied (placed self.old.table.entries count) (forwarding_of self.old.table self.old.ports.items) }
+        ensures numbers { numbers_of self.new.table.entries ≡ numbers_of self.old.table.entries }
+    {
+        match count {
+            Count::Lookup(_) => self.table.looked(),
+            Count::Matched { number, bytes, .. } => self.table.count(number, bytes),
+            Count::TxDropped(port) => count_at(&mut self.ports, port, PortCount::SendDropped),
+        }
+    }
+
+    // Sends what a run emitted.
+    fn send_all(&mut self, alloc: Global, items: Vec<Item>) -> Result<Vec<Effect>, AllocError>
+        ensures effects { IfOk result (λ effects. effects.items ≡ effects_of items.items) }
+        ensures forwarding { OnOk result (forwarding_of self.new.table self.new.ports.items ≡ all_sent items.items (forwarding_of self.old.table self.old.ports.items)) }
+    {
+        let mut effects = Vec::new(alloc);
+        for item in items {
+            effects.push(self.send(item))?;
+        }
+        Ok(effects)
+    }
+
+    fn send(&mut self, item: Item) -> Effect
+        ensures effect { result ≡ effect_of item }
+        ensures forwarding { forwarding_of self.new.table self.new.ports.items ≡ sent item (forwarding_of self.old.table self.old.ports.items) }
+    {
+        match item {
+            Item::Sent { port, frame } => {
+                count_at(&mut self.ports, port, PortCount::Sent(frame.len()));
+                Effect::Sent { port, frame }
+            }
+        }
     }
 }

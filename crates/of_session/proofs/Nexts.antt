@@ -1,0 +1,79 @@
+-- What comes next of a connection: its size, and that it stays where more bytes come.
+use Rattle.std.proofs.Common.{◌≡◌, ℕ, ◌+◌, ◌<◌, ◌≤◌, ◌⊎◌, inl, inr, Bool, true, false, cond, List, [], ◌∷◌, ◌++◌, length, take, drop, Result, Ok, Err, refl, sym, ◌∙◌, ap, subst, arith, append_assoc, length-append, length-drop}
+use Rattle.std.proofs.lemmas.List.{take-append-drop, take-append-le, drop-append-le, length-take}
+use Rattle.of_wire.specs.declared.code.Code.{Code}
+use Rattle.of_messages.specs.declared.message.Message.{Message}
+use Rattle.of_messages.specs.Messages.{xid_of, message_of}
+use Rattle.of_session.specs.declared.session.Phase.{Phase}
+use Rattle.of_session.specs.declared.session.Phase.TheVariants.{Disconnected, Greeting, Open}
+use Rattle.of_session.specs.declared.session.Next.{Next}
+use Rattle.of_session.specs.declared.session.Next.TheVariants.{Nothing, BadStream, NotHello, Opened, Read, Refused}
+use Rattle.of_session.specs.Stream.{First, Whole, Bad, Partial, front_of, length_of, IsMessage}
+use Rattle.of_session.specs.Session.{Connection, is_disconnected, fed, is_first_hello, greeted, read_as, judged, next_by, next_of, entered, taken, opened, alone}
+use Rattle.of_session.proofs.Fronts.{Looks, looks, length_of-append, message_front, malformed_front}
+use Rattle.of_session.proofs.Splitting.{front_message}
+
+-- a message that comes next has a header and is there whole; a malformed header is there
+abbrev pub IsSizedIn : Next → List ℕ → Type 0
+IsSizedIn Nothing bytes = Unit {0}
+IsSizedIn (BadStream xid) bytes = 8 ≤ length bytes
+IsSizedIn (NotHello xid) bytes = 8 ≤ length bytes
+IsSizedIn (Opened size) bytes = (8 ≤ size) × (size ≤ length bytes)
+IsSizedIn (Read xid size message) bytes = (8 ≤ size) × (size ≤ length bytes)
+IsSizedIn (Refused xid size code) bytes = (8 ≤ size) × (size ≤ length bytes)
+
+greeted_by : (m bytes : List ℕ) (t : Bool) → 8 ≤ length m → length m ≤ length bytes → IsSizedIn (cond t (Opened (length m)) (NotHello (xid_of m))) bytes
+greeted_by m bytes true low high = (low, high)
+greeted_by m bytes false low high = omega (arith, low, high)
+
+read_by : (m bytes : List ℕ) (r : Result Message Code) → 8 ≤ length m → length m ≤ length bytes → IsSizedIn (read_as m r) bytes
+read_by m bytes (Ok message) low high = (low, high)
+read_by m bytes (Err code) low high = (low, high)
+
+judged_sized : (phase : Phase) (m bytes : List ℕ) → 8 ≤ length m → length m ≤ length bytes → IsSizedIn (judged phase m) bytes
+judged_sized Disconnected m bytes low high = greeted_by m bytes (is_first_hello m) low high
+judged_sized Greeting m bytes low high = greeted_by m bytes (is_first_hello m) low high
+judged_sized Open m bytes low high = read_by m bytes (message_of m) low high
+
+by_front : (c : Connection) (f : First) → Looks c.pending f → IsSizedIn (next_by c f) c.pending
+by_front c Partial look = tt
+by_front c Bad look = look.0
+by_front c (Whole m rest) look =
+    let size : length m ≡ length_of c.pending = rw look.2 (omega (arith, length-take (length_of c.pending) c.pending, look.1)) in
+    judged_sized c.phase m c.pending (omega (arith, size, look.0)) (omega (arith, size, look.1))
+
+by_phase : (c : Connection) (t : Bool) → IsSizedIn (cond t Nothing (next_by c (front_of c.pending))) c.pending
+by_phase c true = tt
+by_phase c false = by_front c (front_of c.pending) (looks c.pending)
+
+pub next_sized : (c : Connection) → IsSizedIn (next_of c) c.pending
+next_sized c = by_phase c (is_disconnected c.phase)
+
+-- something comes next
+abbrev pub IsSomething : Next → Type 0
+IsSomething Nothing = ⊥
+IsSomething (BadStream xid) = Unit {0}
+IsSomething (NotHello xid) = Unit {0}
+IsSomething (Opened size) = Unit {0}
+IsSomething (Read xid size message) = Unit {0}
+IsSomething (Refused xid size code) = Unit {0}
+
+front_more : (c : Connection) (q : List ℕ) (f : First) → Looks c.pending f → IsSomething (next_by c f) → next_by (fed q c) (front_of (c.pending ++ q)) ≡ next_by c f
+front_more c q Partial look some = absurd some
+front_more c q Bad look some =
+    let bad : front_of (c.pending ++ q) ≡ Bad = malformed_front (c.pending ++ q) (record { header = omega (arith, length-append c.pending q, look.0); short = rw (length_of-append c.pending q look.0) look.1 }) in
+    let front : take 8 (c.pending ++ q) ≡ take 8 c.pending = take-append-le 8 c.pending q look.0 in
+    ap (next_by (fed q c)) bad ∙ ap (λ (h : List ℕ). BadStream (xid_of h)) front
+front_more c q (Whole m rest) look some =
+    let is : IsMessage m = rw look.2 (front_message c.pending look.0 look.1) in
+    let joined : m ++ rest ≡ c.pending = rw (look.2, look.3) (take-append-drop (length_of c.pending) c.pending) in
+    let all : c.pending ++ q ≡ m ++ (rest ++ q) = ap (λ (x : List ℕ). x ++ q) (sym joined) ∙ append_assoc m rest q in
+    ap (λ (f : First). next_by (fed q c) f) (ap front_of all ∙ message_front m (rest ++ q) is)
+
+more_by : (c : Connection) (q : List ℕ) (t : Bool) → IsSomething (cond t Nothing (next_by c (front_of c.pending))) → cond t Nothing (next_by (fed q c) (front_of (c.pending ++ q))) ≡ cond t Nothing (next_by c (front_of c.pending))
+more_by c q true some = absurd some
+more_by c q false some = front_more c q (front_of c.pending) (looks c.pending) some
+
+-- more bytes change nothing of what comes next
+pub next_more : (c : Connection) (q : List ℕ) → IsSomething (next_of c) → next_of (fed q c) ≡ next_of c
+next_more c q some = more_by c q (is_disconnected c.phase) some

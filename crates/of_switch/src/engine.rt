@@ -1,0 +1,267 @@
+//! The switch while memory lasts.
+ghost use Rattle.std.specs.Prelude.{◌≡◌, ◌≤◌, ◌∷◌, [], IfOk, IfNone, OnOk, OnErr, length, take};
+ghost use Rattle.std.specs.Option.{option_map};
+ghost use Rattle.of_wire.specs.Refusals.{first_of};
+ghost use Rattle.of_messages.specs.Written.{error_bytes};
+ghost use Rattle.of_switch.specs.State.{start};
+ghost use Rattle.of_switch.specs.Ports.{has_port, no_counters as zero_counters};
+ghost use Rattle.of_switch.specs.Steps.{connected, failed_of, fed, flow_mod_refusals, flow_modded, flow_of, frame_in, gives, handled, next_of, port_changed};
+
+use crate::effect::Effect;
+use crate::plane::{Plane, contains};
+use crate::port_change::PortChange;
+use of_classifier::Lookup;
+use of_machine::{Port, PortCounters};
+use of_messages::{
+    FlowMod, Message, write_barrier_reply, write_echo_reply, write_error, write_hello,
+};
+use of_session::{Next, Phase, Session};
+use of_table::{Flow, TableFault};
+use of_wire::{Bytes, Code};
+use std::alloc::{AllocError, Global};
+use std::marker::Model;
+
+/// How many bytes of a message an ERROR gives back at most (OpenFlow 1.3.5, 7.4.4).
+const ERROR_DATA: usize = 64;
+
+/// The buffer of a FLOW_MOD that applies to no packet (OpenFlow 1.3.5, 7.3.4.1).
+const NO_BUFFER: u32 = 0xffff_ffff;
+
+const HELLO_INCOMPATIBLE: Code = Code { kind: 0, code: 0 };
+const BAD_LEN: Code = Code { kind: 1, code: 6 };
+const BUFFER_UNKNOWN: Code = Code { kind: 1, code: 8 };
+const TABLE_FULL: Code = Code { kind: 5, code: 1 };
+
+#[derive(Drop)]
+pub struct Engine<L: Lookup> {
+    dpid: u64,
+    session: Session,
+    plane: Plane<L>,
+    alloc: Global,
+}
+
+impl<L: Lookup> Model for Engine<L> {
+    ghost use Rattle.of_switch.specs.State.{State};
+    ghost use Rattle.of_switch.specs.Numbers.{forwarding_of};
+
+    ghost Value = { State };
+
+    ghost view = { λ e. record { dpid = e.dpid; connection = e.session; forwarding = forwarding_of e.plane.table e.plane.ports.items } };
+}
+
+impl<L: Lookup> Engine<L> {
+    pub fn new(alloc: Global, dpid: u64) -> Result<Self, AllocError>
+        ensures { IfOk result (λ e. e ≡ start dpid) }
+    {
+        Ok(Engine {
+            dpid,
+            session: Session::new(alloc),
+            plane: Plane::new(alloc)?,
+            alloc,
+        })
+    }
+
+    pub fn phase(&self) -> Phase
+        ensures { result ≡ self.now.connection.phase }
+    {
+        self.session.phase()
+    }
+
+    pub fn has_port(&self, number: u32) -> bool
+        ensures { result ≡ has_port number self.now.forwarding.ports }
+    {
+        contains(&self.plane.ports, number)
+    }
+
+    pub fn count_ports(&self) -> usize
+        ensures { result ≡ length self.now.forwarding.ports }
+    {
+        self.plane.ports.len()
+    }
+
+    pub fn change_port(&mut self, change: PortChange) -> Result<(), AllocError>
+        ensures { OnOk result (self.new ≡ port_changed change self.old) }
+    {
+        match change {
+            PortChange::Add {
+                number,
+                hw,
+                name,
+                up,
+            } => {
+                self.plane.ports.push(Port {
+                    number,
+                    hw,
+                    name,
+                    is_link_up: up,
+                    counters: no_counters(),
+                })?;
+                Ok(())
+            }
+        }
+    }
+
+    pub fn connect(&mut self) -> Result<Vec<Effect>, AllocError>
+        ensures { IfOk result (λ effects. connected self.old ≡ gives effects.items self.new) }
+    {
+        let effects = one(self.alloc, Effect::Answer(write_hello(self.alloc)?))?;
+        self.session.connect();
+        Ok(effects)
+    }
+
+    pub fn feed(&mut self, piece: &[u8]) -> Result<(), AllocError>
+        ensures ok { OnOk result (self.new ≡ fed piece.now self.old) }
+        ensures err { OnErr result (self.new ≡ self.old) }
+    {
+        self.session.feed(piece)
+    }
+
+    pub fn frame(&mut self, number: u32, bytes: &[u8]) -> Result<Vec<Effect>, AllocError>
+        ensures { IfOk result (λ effects. frame_in number bytes.now self.old ≡ gives effects.items self.new) }
+    {
+        self.plane.frame(self.alloc, number, bytes)
+    }
+
+    pub fn next(&mut self) -> Result<Option<Vec<Effect>>, AllocError>
+        ensures next { IfOk result (λ found. next_of self.old ≡ option_map (λ effects. gives effects.items self.new) found) }
+        ensures none { IfOk result (λ found. IfNone found (self.new ≡ self.old)) }
+    {
+        match self.session.next()? {
+            Next::Nothing => Ok(None),
+            Next::BadStream { xid } => {
+                let error = write_error(self.alloc, xid, BAD_LEN, self.session.first(8))?;
+                let effects = closing(self.alloc, error)?;
+                self.session.close();
+                Ok(Some(effects))
+            }
+            Next::NotHello { xid } => {
+                let error = write_error(self.alloc, xid, HELLO_INCOMPATIBLE, &[])?;
+                let effects = closing(self.alloc, error)?;
+                self.session.close();
+                Ok(Some(effects))
+            }
+            Next::Opened { size } => {
+                self.session.open(size);
+                Ok(Some(Vec::new(self.alloc)))
+            }
+            Next::Refused { xid, size, code } => {
+                let effects = self.refused(xid, size, code)?;
+                self.session.take(size);
+                Ok(Some(effects))
+            }
+            Next::Read { xid, size, message } => {
+                let effects = self.handle(xid, size, message)?;
+                self.session.take(size);
+                Ok(Some(effects))
+            }
+        }
+    }
+
+    // The error that answers the message that comes next, with its first bytes.
+    fn refused(&self, xid: u32, size: usize, code: Code) -> Result<Vec<Effect>, AllocError>
+        requires { size ≤ length self.now.connection.pending }
+        ensures { IfOk result (λ effects. effects.items ≡ Effect.Answer (error_bytes xid code (failed_of size self.now.connection)) ∷ []) }
+    {
+        let failed = front_part(self.session.first(size), ERROR_DATA);
+        one(self.alloc, Effect::Answer(write_error(self.alloc, xid, code, failed)?))
+    }
+
+    fn handle(
+        &mut self,
+        xid: u32,
+        size: usize,
+        message: Message,
+    ) -> Result<Vec<Effect>, AllocError>
+        requires { size ≤ length self.old.connection.pending }
+        ensures { IfOk result (λ effects. handled xid message (failed_of size self.old.connection) self.old ≡ gives effects.items self.new) }
+    {
+        match message {
+            Message::Hello => Ok(Vec::new(self.alloc)),
+            Message::EchoRequest(echoed) => {
+                let reply = write_echo_reply(self.alloc, xid, echoed.as_slice())?;
+                one(self.alloc, Effect::Answer(reply))
+            }
+            Message::BarrierRequest => {
+                one(self.alloc, Effect::Answer(write_barrier_reply(self.alloc, xid)?))
+            }
+            Message::FlowMod(flow_mod) => self.flow_mod(xid, size, flow_mod),
+        }
+    }
+
+    fn flow_mod(
+        &mut self,
+        xid: u32,
+        size: usize,
+        flow_mod: FlowMod,
+    ) -> Result<Vec<Effect>, AllocError>
+        requires { size ≤ length self.old.connection.pending }
+        ensures { IfOk result (λ effects. flow_modded xid flow_mod (failed_of size self.old.connection) self.old (first_of (flow_mod_refusals flow_mod self.old)) ≡ gives effects.items self.new) }
+    {
+        if flow_mod.buffer != NO_BUFFER {
+            return self.refused(xid, size, BUFFER_UNKNOWN);
+        }
+        match self.plane.table.add(flow_from(flow_mod)) {
+            Ok(()) => Ok(Vec::new(self.alloc)),
+            Err(TableFault::Full) => self.refused(xid, size, TABLE_FULL),
+            Err(TableFault::NoMemory) => Err(AllocError),
+        }
+    }
+}
+
+// The flow that a FLOW_MOD adds.
+fn flow_from(flow_mod: FlowMod) -> Flow
+    ensures { result ≡ flow_of flow_mod }
+{
+    Flow {
+        fields: flow_mod.fields,
+        priority: flow_mod.priority,
+        cookie: flow_mod.cookie,
+        idle_timeout: flow_mod.idle_timeout,
+        hard_timeout: flow_mod.hard_timeout,
+        flags: flow_mod.flags,
+        instructions: flow_mod.instructions,
+    }
+}
+
+fn no_counters() -> PortCounters
+    ensures { result ≡ zero_counters }
+{
+    PortCounters {
+        rx_packets: 0,
+        tx_packets: 0,
+        rx_bytes: 0,
+        tx_bytes: 0,
+        rx_dropped: 0,
+        tx_dropped: 0,
+        rx_errors: 0,
+    }
+}
+
+fn one(alloc: Global, effect: Effect) -> Result<Vec<Effect>, AllocError>
+    ensures { IfOk result (λ effects. effects.items ≡ effect ∷ []) }
+{
+    let mut effects = Vec::new(alloc);
+    effects.push(effect)?;
+    Ok(effects)
+}
+
+// An error, and the end of the connection.
+fn closing(alloc: Global, error: Bytes) -> Result<Vec<Effect>, AllocError>
+    ensures { IfOk result (λ effects. effects.items ≡ Effect.Answer error ∷ Effect.Closed ∷ []) }
+{
+    let mut effects = Vec::new(alloc);
+    effects.push(Effect::Answer(error))?;
+    effects.push(Effect::Closed)?;
+    Ok(effects)
+}
+
+// The first bytes, so many at most.
+fn front_part(bytes: &[u8], most: usize) -> &[u8]
+    ensures { result.now ≡ take most bytes.now }
+{
+    if bytes.len() <= most {
+        bytes
+    } else {
+        &bytes[..most]
+    }
+}

@@ -1,0 +1,38 @@
+//! The words of the command line.
+
+use clap::{Arg, Command};
+use std::alloc::{AllocError, Global};
+
+const STATUSES: &str = "Exit status: 0 done; 1 bad arguments; 2 a bad row in FILE (`line N: bad row` on standard error, after the \
+effects of the rows before it); 3 `read fault`, `write fault` or `no memory`.";
+
+const EVENT_FILES: &str = "An event file has one event a line, and words are parted by one space:
+
+  port add 1 0200000000a1 p1 up     a port: number, hardware address, name, up or down
+  connect                           a controller connects
+  c 0400000800000001                bytes of the controller, in hex (- for none)
+  f 1 020000000002...               a frame comes in by port 1, in hex
+  # ...                             a comment
+
+Printed are the messages to the controller (`a HEX`), the frames that leave (`s PORT HEX`), `closed` where the switch
+ends the connection, and `refused N` where an event has no place: 3 no connection, 4 connected already, 5 the port is
+there, 7 too many ports, 8 bad port number.
+
+  ofswitch replay examples/first-path.events";
+
+/// The command line of the program.
+pub fn command(alloc: Global) -> Result<Command<'static>, AllocError> {
+    let file = Arg::new(alloc, "FILE")
+        .required(true)
+        .help("The event file to run");
+    let replay = Command::new(alloc, "replay")
+        .about("Runs an event file on a new switch and prints what it gives")
+        .after_help(EVENT_FILES)
+        .arg(file)?;
+    Command::new(alloc, "ofswitch")
+        .about("An OpenFlow 1.3.5 switch whose behaviour is proved")
+        .after_help(STATUSES)
+        .subcommand_required(true)
+        .arg_required_else_help(true)
+        .subcommand(replay)
+}
