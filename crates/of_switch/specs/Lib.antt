@@ -3,5 +3,5 @@ pub mod Plane
 pub mod Numbers
 pub mod State
 pub mod Steps
-pub mod Runs
 pub mod Calls
+pub mod Runs

@@ -1,0 +1,158 @@
+-- Bytes that come in two pieces do what they do in one.
+use Rattle.std.proofs.Common.{◌≡◌, ℕ, ◌+◌, ◌<◌, ◌≤◌, suc, zero, Bool, true, false, cond, List, [], ◌∷◌, ◌++◌, length, take, drop, Option, Some, None, refl, sym, ◌∙◌, ap, subst, arith, append_assoc, add-one}
+use Rattle.std.proofs.lemmas.List.{append-nil, take-append-le, drop-append-le}
+use Rattle.std.proofs.lemmas.Option.{same_Some}
+use Rattle.of_wire.specs.declared.code.Code.{Code}
+use Rattle.of_wire.specs.Refusals.{first_of, refusal}
+use Rattle.of_messages.specs.declared.message.Message.{Message}
+use Rattle.of_messages.specs.declared.message.Message.TheVariants.{Hello, EchoRequest, BarrierRequest, FlowMod as IsFlowMod}
+use Rattle.of_messages.specs.declared.message.FlowMod.{FlowMod}
+use Rattle.of_messages.specs.Messages.{xid_of}
+use Rattle.of_messages.specs.Written.{error_bytes}
+use Rattle.of_session.specs.declared.session.Phase.{Phase}
+use Rattle.of_session.specs.declared.session.Phase.TheVariants.{Disconnected, Greeting, Open}
+use Rattle.of_session.specs.declared.session.Next.{Next}
+use Rattle.of_session.specs.declared.session.Next.TheVariants.{Nothing, BadStream, NotHello, Opened, Read, Refused}
+use Rattle.of_session.specs.Session.{Connection, is_disconnected, next_of as next_in}
+use Rattle.of_session.proofs.Nexts.{IsSizedIn, next_sized, IsSomething, next_more}
+use Rattle.of_switch.specs.declared.effect.Effect.{Effect}
+use Rattle.of_switch.specs.State.{State}
+use Rattle.of_switch.specs.Steps.{Outcome, gives, fed, flow_mod_refusals, flow_modded, handled, failed_of, after, answered, closing, came, next_of}
+use Rattle.of_switch.specs.Runs.{behind, then_more, drain, drained, piece_in, come}
+use Rattle.of_switch.proofs.Draining.{next_shorter, handled_keeps}
+
+same_by : (n m : ℕ) (s : State) (o : Option Outcome) → next_of s ≡ o → ((t : State) → length t.connection.pending < length s.connection.pending → drain n t ≡ drain m t) → then_more (drain n) s o ≡ then_more (drain m) s o
+same_by n m s None e ih = refl
+same_by n m s (Some o) e ih = ap (behind o.effects) (ih o.state (next_shorter s o e))
+
+-- enough turns are as good as more
+drain_same : (n m : ℕ) (s : State) → length s.connection.pending < n → length s.connection.pending < m → drain n s ≡ drain m s
+unfolding drain
+drain_same zero m s a b = absurd (omega (arith, a))
+drain_same (suc n) zero s a b = absurd (omega (arith, b))
+drain_same (suc n) (suc m) s a b = same_by n m s (next_of s) refl (λ t less. drain_same n m t (omega (arith, less, a)) (omega (arith, less, b)))
+
+come_open : (q : List ℕ) (s : State) → is_disconnected s.connection.phase ≡ false → come q s ≡ fed q s
+come_open q s open_ = rw open_ refl
+
+come_gone : (q : List ℕ) (s : State) → is_disconnected s.connection.phase ≡ true → come q s ≡ s
+come_gone q s gone = rw gone refl
+
+-- a message of an open connection does the same whatever follows it
+modded_fed : (xid : ℕ) (m : FlowMod) (failed q : List ℕ) (s : State) (o : Option Code) → flow_modded xid m failed (fed q s) o ≡ gives (flow_modded xid m failed s o).effects (fed q (flow_modded xid m failed s o).state)
+modded_fed xid m failed q s None = refl
+modded_fed xid m failed q s (Some code) = refl
+
+handled_fed : (xid : ℕ) (m : Message) (failed q : List ℕ) (s : State) → handled xid m failed (fed q s) ≡ gives (handled xid m failed s).effects (fed q (handled xid m failed s).state)
+handled_fed xid Hello failed q s = refl
+handled_fed xid (EchoRequest echoed) failed q s = refl
+handled_fed xid BarrierRequest failed q s = refl
+handled_fed xid (IsFlowMod m) failed q s = modded_fed xid m failed q s (first_of (flow_mod_refusals m s))
+
+failed_fed : (size : ℕ) (q : List ℕ) (c : Connection) → size ≤ length c.pending → take 64 (take size (c.pending ++ q)) ≡ failed_of size c
+failed_fed size q c h = ap (take 64) (take-append-le size c.pending q h)
+
+-- what an event says of bytes that follow it
+abbrev Follows : List ℕ → State → Next → Outcome → Type 0
+Follows q s n o = came n (fed q s) ≡ Some (gives o.effects (come q o.state))
+
+more_by : (n : Next) (s : State) (q : List ℕ) (o : Outcome) → is_disconnected s.connection.phase ≡ false → IsSizedIn n s.connection.pending → came n s ≡ Some o → Follows q s n o
+more_by Nothing s q o open_ sized h = absurd cc
+more_by (BadStream xid) s q o open_ sized h =
+    subst (Follows q s (BadStream xid)) (same_Some _ _ h) (ap (λ (bytes : List ℕ). Some (closing (error_bytes xid (refusal 1 6) bytes) (after (BadStream xid) s))) (take-append-le 8 s.connection.pending q sized))
+more_by (NotHello xid) s q o open_ sized h = subst (Follows q s (NotHello xid)) (same_Some _ _ h) refl
+more_by (Opened size) s q o open_ sized h =
+    subst (Follows q s (Opened size)) (same_Some _ _ h) (ap (λ (bytes : List ℕ). Some (gives [] (record s { connection = record { phase = Open; pending = bytes } }))) (drop-append-le size s.connection.pending q sized.1))
+more_by (Refused xid size code) s q o open_ sized h =
+    let n = Refused xid size code in
+    let there : after n (fed q s) ≡ fed q (after n s) = ap (λ (bytes : List ℕ). record s { connection = record { phase = s.connection.phase; pending = bytes } }) (drop-append-le size s.connection.pending q sized.1) in
+    let stays : come q (after n s) ≡ fed q (after n s) = come_open q (after n s) open_ in
+    subst (Follows q s n) (same_Some _ _ h)
+      (ap (λ (bytes : List ℕ). Some (answered (error_bytes xid code bytes) (after n (fed q s)))) (failed_fed size q s.connection sized.1)
+      ∙ ap (λ (t : State). Some (answered (error_bytes xid code (failed_of size s.connection)) t)) (there ∙ sym stays))
+more_by (Read xid size m) s q o open_ sized h =
+    let n = Read xid size m in
+    let failed = failed_of size s.connection in
+    let there : after n (fed q s) ≡ fed q (after n s) = ap (λ (bytes : List ℕ). record s { connection = record { phase = s.connection.phase; pending = bytes } }) (drop-append-le size s.connection.pending q sized.1) in
+    let kept : (handled xid m failed (after n s)).state.connection ≡ (after n s).connection = handled_keeps xid m failed (after n s) in
+    let open' : is_disconnected (handled xid m failed (after n s)).state.connection.phase ≡ false = ap (λ (c : Connection). is_disconnected c.phase) kept ∙ open_ in
+    let stays : come q (handled xid m failed (after n s)).state ≡ fed q (handled xid m failed (after n s)).state = come_open q (handled xid m failed (after n s)).state open' in
+    subst (Follows q s n) (same_Some _ _ h)
+      (ap (λ (bytes : List ℕ). Some (handled xid m bytes (after n (fed q s)))) (failed_fed size q s.connection sized.1)
+      ∙ (ap (λ (t : State). Some (handled xid m failed t)) there
+      ∙ (ap Some (handled_fed xid m failed q (after n s))
+      ∙ ap (λ (t : State). Some (gives (handled xid m failed (after n s)).effects t)) (sym stays))))
+
+something : (n : Next) (s : State) (o : Outcome) → came n s ≡ Some o → IsSomething n
+something Nothing s o h = absurd cc
+something (BadStream xid) s o h = tt
+something (NotHello xid) s o h = tt
+something (Opened size) s o h = tt
+something (Read xid size m) s o h = tt
+something (Refused xid size code) s o h = tt
+
+-- one message does the same whatever follows it
+step_more : (s : State) (q : List ℕ) (o : Outcome) → is_disconnected s.connection.phase ≡ false → next_of s ≡ Some o → next_of (fed q s) ≡ Some (gives o.effects (come q o.state))
+step_more s q o open_ h =
+    let some = something (next_in s.connection) s o h in
+    ap (λ (n : Next). came n (fed q s)) (next_more s.connection q some)
+    ∙ more_by (next_in s.connection) s q o open_ (next_sized s.connection) h
+
+-- without a connection nothing comes next
+gone_by : (s : State) (t : Bool) → is_disconnected s.connection.phase ≡ t → t ≡ true → next_of s ≡ None
+gone_by s true e h = rw e refl
+gone_by s false e h = absurd cc
+
+drain_gone : (n : ℕ) (s : State) → is_disconnected s.connection.phase ≡ true → drain n s ≡ gives [] s
+unfolding drain
+drain_gone zero s gone = refl
+drain_gone (suc n) s gone = ap (then_more (drain n) s) (gone_by s true gone refl)
+
+-- one message, and then what is left
+drained_more : (s : State) (o : Outcome) → next_of s ≡ Some o → drained s ≡ behind o.effects (drained o.state)
+unfolding drain
+drained_more s o h =
+    let short = next_shorter s o h in
+    let one : drained s ≡ behind o.effects (drain (length s.connection.pending) o.state) = let e : drain (suc (length s.connection.pending)) s ≡ then_more (drain (length s.connection.pending)) s (Some o) = ap (then_more (drain (length s.connection.pending)) s) h in ap (λ (k : ℕ). drain k s) (omega arith) ∙ e in
+    one ∙ ap (behind o.effects) (drain_same (length s.connection.pending) (length o.state.connection.pending + 1) o.state (omega (arith, short)) (omega arith))
+
+drained_none : (s : State) → next_of s ≡ None → drained s ≡ gives [] s
+unfolding drain
+drained_none s h = ap (λ (k : ℕ). drain k s) (add-one (length s.connection.pending)) ∙ ap (then_more (drain (length s.connection.pending)) s) h
+
+behind_behind : (a b : List Effect) (o : Outcome) → behind a (behind b o) ≡ behind (a ++ b) o
+behind_behind a b o = ap (λ (es : List Effect). gives es o.state) (sym (append_assoc a b o.effects))
+
+-- what the bytes up to here give, and then what the bytes that follow give
+abbrev Joins : List ℕ → State → Type 0
+Joins q s = drained (come q s) ≡ behind (drained s).effects (drained (come q (drained s).state))
+
+join_gone : (q : List ℕ) (s : State) → is_disconnected s.connection.phase ≡ true → Joins q s
+join_gone q s gone =
+    let here : drained s ≡ gives [] s = drain_gone (length s.connection.pending + 1) s gone in
+    rw here refl
+
+join_by : (q : List ℕ) (s : State) (o : Option Outcome) → is_disconnected s.connection.phase ≡ false → next_of s ≡ o → ((t : State) → length t.connection.pending < length s.connection.pending → Joins q t) → Joins q s
+join_by q s None open_ e ih = let here : drained s ≡ gives [] s = drained_none s e in rw here refl
+join_by q s (Some o) open_ e ih =
+    let fed_first : drained (fed q s) ≡ behind o.effects (drained (come q o.state)) = drained_more (fed q s) (gives o.effects (come q o.state)) (step_more s q o open_ e) in
+    let first : drained s ≡ behind o.effects (drained o.state) = drained_more s o e in
+    let others : Joins q o.state = ih o.state (next_shorter s o e) in
+    rw (come_open q s open_, first) (fed_first ∙ (ap (behind o.effects) others ∙ behind_behind o.effects (drained o.state).effects (drained (come q (drained o.state).state))))
+
+joins_phase : (q : List ℕ) (s : State) (t : Bool) → is_disconnected s.connection.phase ≡ t → ((u : State) → length u.connection.pending < length s.connection.pending → Joins q u) → Joins q s
+joins_phase q s true e ih = join_gone q s e
+joins_phase q s false e ih = join_by q s (next_of s) e refl ih
+
+joins_within : (n : ℕ) (q : List ℕ) (s : State) → length s.connection.pending < n → Joins q s
+joins_within zero q s h = absurd (omega (arith, h))
+joins_within (suc n) q s h = joins_phase q s (is_disconnected s.connection.phase) refl (λ t less. joins_within n q t (omega (arith, less, h)))
+
+pub joins : (q : List ℕ) (s : State) → Joins q s
+joins q s = joins_within (length s.connection.pending + 1) q s (omega arith)
+
+-- in two pieces or in one
+pub two_pieces : (p q : List ℕ) (s : State) → is_disconnected s.connection.phase ≡ false → piece_in (p ++ q) s ≡ behind (piece_in p s).effects (drained (come q (piece_in p s).state))
+two_pieces p q s open_ =
+    let whole : fed (p ++ q) s ≡ come q (fed p s) = ap (λ (bytes : List ℕ). record s { connection = record { phase = s.connection.phase; pending = bytes } }) (sym (append_assoc s.connection.pending p q)) ∙ sym (come_open q (fed p s) open_) in
+    ap drained whole ∙ joins q (fed p s)

@@ -1,0 +1,4 @@
+pub mod PlaceNumbers
+pub mod Worlds
+pub mod Draining
+pub mod Joining

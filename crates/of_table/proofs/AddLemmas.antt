@@ -1,0 +1,84 @@
+-- Entries after a flow is added.
+use Rattle.std.proofs.Common.{◌≡◌, ℕ, ◌+◌, ◌<◌, ◌≤◌, suc, Bool, true, false, ◌&&◌, eqb, List, [], ◌∷◌, ◌++◌, length, take, drop, get_or, Option, Some, None, refl, sym, ap, ◌∙◌, arith, add-one}
+use Rattle.std.specs.Prelude.{position, find, map, remove, nat_le, nat_lt, slice_get}
+use Rattle.std.specs.List.{list_any, position_or_len, before_first, after_first}
+use Rattle.std.specs.Cmp.Lexicographic.{pointwise}
+use Rattle.std.proofs.Math.ListN.{get_or-map}
+use Rattle.std.proofs.lemmas.Bool.Decides.{nat_tests}
+use Rattle.std.proofs.lemmas.List.{map-append, take-map, drop-map, take_all, drop_all, append-nil, length-map}
+use Rattle.std.proofs.lemmas.List.Quantifiers.{position-Some}
+use Rattle.std.proofs.lemmas.List.Folds.{find_at}
+use Rattle.std.proofs.lemmas.Option.{slice_get-get_or, slice_get_past}
+use Rattle.of_wire.specs.Numbered.{is_used, is_distinct, renewed}
+use Rattle.of_wire.proofs.NumberedLemmas as low
+use Rattle.of_oxm.specs.SameMatch.{is_same_match}
+use Rattle.of_oxm.specs.declared.match_field.MatchField.{MatchField}
+use Rattle.of_oxm.specs.contracts.match_field.MatchFieldPartialEq.TheImpl as the_match_field
+use Rattle.of_oxm.proofs.Same.{same_match, same_fields}
+use Rattle.of_classifier.specs.Rows.{row_number}
+use Rattle.of_table.proofs.PlaceLemmas.{any-place, any-map, position-map, position_some, position_some-any, position_none}
+use Rattle.of_table.specs.Table.{FlowEntry, is_same, is_full, with_flow, added}
+use Rattle.of_table.specs.Entries.{entry_of, flows_of, row_of, rows_of}
+use Rattle.of_table.specs.declared.entry.Entry.{Entry}
+use Rattle.of_table.specs.declared.flow.Flow.{Flow}
+
+same_is : (xs ys : List MatchField) → is_same_match xs ys ≡ true → xs ≡ ys
+same_is xs ys h =
+    let test = pointwise the_match_field.eq-value.it xs ys in
+    (same_fields xs ys test refl).0 (same_match xs ys test refl ∙ h)
+
+-- the flow comes last, and no entry goes
+pub added_new : (flow : Flow) (es : List Entry) (e : Entry) → list_any (is_same flow) (flows_of es) ≡ false → entry_of e ≡ with_flow flow None → flows_of (es ++ e ∷ []) ≡ added flow (flows_of es)
+added_new flow es e new is =
+    let fs = flows_of es in
+    let p = is_same flow in
+    let place = position_or_len p fs in
+    let past : length fs ≤ place = grind (arith, nat_tests, any-place p fs, new) in
+    let none : find p fs ≡ None = find_at p fs ∙ slice_get_past fs place past in
+    let before : before_first p fs ≡ fs = take_all place fs past in
+    let after : after_first p fs ≡ [] = drop_all (place + 1) fs (omega (arith, past)) in
+    map-append entry_of es (e ∷ []) ∙ rw (none, before, after, is) (ap (λ (xs : List FlowEntry). xs ++ with_flow flow None ∷ []) (sym (append-nil fs)))
+
+map-remove : {X Y : Type 0} (g : X → Y) (xs : List X) (k : ℕ) → map g (remove xs k) ≡ remove (map g xs) k
+map-remove g xs k = map-append g (take k xs) (drop (suc k) xs) ∙ rw (take-map, drop-map) refl
+
+-- the entry at the place of the flow's match and priority gets it and comes last
+pub added_again : (flow : Flow) (es : List Entry) (k : ℕ) (e f : Entry) → position (λ x. is_same flow (entry_of x)) es ≡ Some k → e ≡ get_or es k e → entry_of f ≡ record (entry_of e) { flow = flow } → flows_of (remove es k ++ f ∷ []) ≡ added flow (flows_of es)
+added_again flow es k e f h is made =
+    let fs = flows_of es in
+    let p = is_same flow in
+    let s = position_some p fs k (position-map entry_of p es ∙ h) in
+    let value : get_or fs k (entry_of e) ≡ entry_of e = get_or-map entry_of es k e ∙ ap entry_of (sym is) in
+    let found : find p fs ≡ Some (entry_of e) = find_at p fs ∙ ap (slice_get fs) (sym s.0) ∙ slice_get-get_or fs k (entry_of e) s.1 ∙ ap Some value in
+    map-append entry_of (remove es k) (f ∷ []) ∙ rw (map-remove entry_of es k, found, ← s.0, made, add-one) refl
+
+-- what the classifier knows of it stays
+pub row_again : (flow : Flow) (es : List Entry) (k : ℕ) (e f : Entry) → position (λ x. is_same flow (entry_of x)) es ≡ Some k → e ≡ get_or es k e → f.number ≡ e.number → f.flow ≡ flow → row_of f ≡ row_of e
+row_again flow es k e f h is number gets =
+    let passes : is_same flow (entry_of e) ≡ true = rw (← is) at (position-Some (λ x. is_same flow (entry_of x)) es k e h).1 in
+    let priority : e.flow.priority ≡ flow.priority = grind (arith, nat_tests, passes) in
+    let test : is_same_match e.flow.fields flow.fields ≡ true = grind (arith, nat_tests, passes) in
+    let fields = same_is e.flow.fields flow.fields test in
+    rw (number, gets, priority, fields) refl
+
+pub used_again : (es : List Entry) (k : ℕ) (e : Entry) → k < length es → e ≡ get_or es k e → is_used row_number e.number (rows_of es) ≡ true
+used_again es k e lt is = rw (get_or-map row_of es k e, ← is) at (low.used_at row_number (rows_of es) k (row_of e) (rw length-map lt))
+
+pub rows_again : (es : List Entry) (k : ℕ) (e f : Entry) → is_distinct row_number (rows_of es) ≡ true → k < length es → e ≡ get_or es k e → row_of f ≡ row_of e → rows_of (remove es k ++ f ∷ []) ≡ renewed row_number e.number (rows_of es)
+rows_again es k e f distinct lt is same =
+    let value : get_or (rows_of es) k (row_of e) ≡ row_of e = get_or-map row_of es k e ∙ ap row_of (sym is) in
+    let r = low.renewed_at row_number (rows_of es) k (row_of e) e.number distinct (rw length-map lt) (rw value refl) in
+    map-append row_of (remove es k) (f ∷ []) ∙ rw (map-remove row_of es k, same) (rw value at r)
+
+-- where there is no entry of the flow's match and priority
+pub new_flow : (flow : Flow) (es : List Entry) → position (λ x. is_same flow (entry_of x)) es ≡ None → list_any (is_same flow) (flows_of es) ≡ false
+new_flow flow es h = any-map entry_of (is_same flow) es ∙ position_none (λ x. is_same flow (entry_of x)) es h
+
+pub old_flow : (flow : Flow) (es : List Entry) (k : ℕ) → position (λ x. is_same flow (entry_of x)) es ≡ Some k → list_any (is_same flow) (flows_of es) ≡ true
+old_flow flow es k h = any-map entry_of (is_same flow) es ∙ position_some-any (λ x. is_same flow (entry_of x)) es k h
+
+pub full_new : (flow : Flow) (es : List Entry) → position (λ x. is_same flow (entry_of x)) es ≡ None → 4096 ≤ length es → is_full flow (flows_of es) ≡ true
+full_new flow es h le =
+    let long : 4096 ≤ length (flows_of es) = rw length-map le in
+    let test : nat_le 4096 (length (flows_of es)) ≡ true = grind (arith, nat_tests) in
+    rw (new_flow flow es h, test) refl

@@ -1,0 +1,12 @@
+use Rattle.std.proofs.Common.{◌≡◌, false, refl}
+use Rattle.std.specs.List.{list_any}
+use Rattle.of_table.specs.Table.{is_same}
+use Rattle.of_table.specs.Entries.{flows_of}
+use Rattle.of_table.proofs.AddLemmas.{added_new}
+use Rattle.of_table.proofs.flow_table.FlowTable.append.Goals as goal
+
+pub returns-clause-ok : goal.returns-clause-ok
+returns-clause-ok g c =
+    let es = c.self.inside.entries.items in
+    let new : list_any (is_same c.args.flow) (flows_of es) ≡ false = rw (← c.self.view_is) at c.requires in
+    rw (← c.self.view_is, c.push_reserved.ensures, c.reserve.ensures.items, added_new c.args.flow es (record { number = c.in_ok-number.number; flow = c.args.flow; packets = 0; bytes = 0 }) new refl) refl

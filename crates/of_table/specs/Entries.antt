@@ -1,0 +1,50 @@
+-- The entries of a flow table, oldest first, with the numbers by which it names them.
+use Rattle.std.specs.Prelude.{ℕ, ◌==◌, Bool, List, [], Option, map, find}
+use Rattle.std.specs.List.{list_any, position_or_len}
+use Rattle.of_classifier.specs.declared.Row.{Row}
+use Rattle.of_classifier.specs.Rows.{made_row}
+use Rattle.of_table.specs.declared.entry.Entry.{Entry}
+use Rattle.of_table.specs.Table.{FlowEntry, Table}
+
+-- an entry without its number
+abbrev pub entry_of : Entry → FlowEntry
+entry_of e = record { flow = e.flow; packets = e.packets; bytes = e.bytes }
+
+abbrev pub flows_of : List Entry → List FlowEntry
+flows_of entries = map entry_of entries
+
+-- what a classifier knows of an entry
+abbrev pub row_of : Entry → Row
+row_of e = made_row e.number e.flow.priority e.flow.fields
+
+abbrev pub rows_of : List Entry → List Row
+rows_of entries = map row_of entries
+
+abbrev pub entry_number : Entry → ℕ
+entry_number e = e.number
+
+abbrev pub numbers_of : List Entry → List ℕ
+numbers_of entries = map entry_number entries
+
+-- some entry has the number
+abbrev pub is_there : ℕ → List Entry → Bool
+is_there number entries = list_any (λ n. n == number) (numbers_of entries)
+
+-- the place of the entry of a number, from 0; the length where there is none
+abbrev pub place_of : ℕ → List Entry → ℕ
+place_of number entries = position_or_len (λ n. n == number) (numbers_of entries)
+
+abbrev pub find_number : ℕ → List Entry → Option Entry
+find_number number entries = find (λ e. e.number == number) entries
+
+-- a table, with numbers
+pub record Numbered : Type 0 where
+  pub lookups : ℕ
+  pub matched : ℕ
+  pub entries : List Entry
+
+abbrev pub no_entries : Numbered
+no_entries = record { lookups = 0; matched = 0; entries = [] }
+
+abbrev pub table_of : Numbered → Table
+table_of t = record { lookups = t.lookups; matched = t.matched; flows = flows_of t.entries }

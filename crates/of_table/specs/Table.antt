@@ -1,0 +1,94 @@
+-- A flow table as a reader sees it (OpenFlow 1.3.5, 5.2, 5.3, 5.8 and 6.4): its entries, oldest first, and its counters.
+use Rattle.std.specs.Prelude.{◌≡◌, ℕ, ◌+◌, ◌≤◌, ◌%◌, ◌^◌, ◌==◌, ◌&&◌, ◌++◌, Bool, true, false, not, List, [], ◌∷◌, length, Option, Some, None, zero, suc, filter, find, position, nat_le, slice_get}
+use Rattle.std.specs.List.{list_any, before_first, after_first}
+use Rattle.std.specs.Option.{option_map}
+use Rattle.of_headers.specs.declared.field.Field.{Field}
+use Rattle.of_wire.specs.Highest.{is_highest}
+use Rattle.of_oxm.specs.Relations.{matches_map}
+use Rattle.of_oxm.specs.SameMatch.{is_same_match}
+use Rattle.of_table.specs.declared.flow.Flow.{Flow}
+
+-- an entry (5.2): a flow, and how many packets and bytes hit it (5.8)
+pub record FlowEntry : Type 0 where
+  pub flow : Flow
+  pub packets : ℕ
+  pub bytes : ℕ
+
+-- a table: how many packets were looked up and how many hit an entry (5.8), and its entries
+pub record Table : Type 0 where
+  pub lookups : ℕ
+  pub matched : ℕ
+  pub flows : List FlowEntry
+
+abbrev pub empty_table : Table
+empty_table = record { lookups = 0; matched = 0; flows = [] }
+
+-- ---- adding (6.4)
+
+-- the entry has the flow's priority and match
+abbrev pub is_same : Flow → FlowEntry → Bool
+is_same flow e = e.flow.priority == flow.priority && is_same_match e.flow.fields flow.fields
+
+-- the entry of a flow: it keeps the counters of the entry that it replaces, where there is one
+abbrev pub with_flow : Flow → Option FlowEntry → FlowEntry
+with_flow flow None = record { flow = flow; packets = 0; bytes = 0 }
+with_flow flow (Some e) = record e { flow = flow }
+
+-- the entry of the same priority and match goes, and the flow stands last
+abbrev pub added : Flow → List FlowEntry → List FlowEntry
+added flow flows = (before_first (is_same flow) flows ++ after_first (is_same flow) flows) ++ with_flow flow (find (is_same flow) flows) ∷ []
+
+-- the flow would be one more than 4,096 entries
+abbrev pub is_full : Flow → List FlowEntry → Bool
+is_full flow flows = not (list_any (is_same flow) flows) && nat_le 4096 (length flows)
+
+-- ---- matching (5.3)
+
+abbrev pub is_matching : (Field → Option ℕ) → FlowEntry → Bool
+is_matching map e = matches_map e.flow.fields map
+
+abbrev pub priority_of : FlowEntry → ℕ
+priority_of e = e.flow.priority
+
+-- it matches, and no matching entry has a higher priority
+abbrev pub is_best : (Field → Option ℕ) → List FlowEntry → FlowEntry → Bool
+is_best map flows e = is_matching map e && is_highest priority_of (filter (is_matching map) flows) e
+
+-- the place, from 0, of the entry that a packet hits: the oldest of the best
+abbrev pub winner_place : (Field → Option ℕ) → List FlowEntry → Option ℕ
+winner_place map flows = position (is_best map flows) flows
+
+-- The entry stands at this place and matches, no matching entry has a higher priority, and none of its priority stands before it.
+pub record Wins (map : Field → Option ℕ) (flows : List FlowEntry) (place : ℕ) (e : FlowEntry) : Type 0 where
+  pub stands : slice_get flows place ≡ Some e
+  pub matches : is_matching map e ≡ true
+  pub highest : (k : ℕ) (f : FlowEntry) → slice_get flows k ≡ Some f → is_matching map f ≡ true → f.flow.priority ≤ e.flow.priority
+  pub oldest : (k : ℕ) (f : FlowEntry) → slice_get flows k ≡ Some f → is_matching map f ≡ true → f.flow.priority ≡ e.flow.priority → place ≤ k
+
+-- no entry matches
+abbrev pub NoneMatches : (Field → Option ℕ) → List FlowEntry → Type 0
+NoneMatches map flows = (k : ℕ) (f : FlowEntry) → slice_get flows k ≡ Some f → is_matching map f ≡ false
+
+-- the flow of the entry at a place
+abbrev pub flow_at : ℕ → List FlowEntry → Option Flow
+flow_at place flows = option_map (λ e. e.flow) (slice_get flows place)
+
+-- ---- counting (5.8)
+
+-- a packet of so many bytes more
+abbrev pub counted : ℕ → FlowEntry → FlowEntry
+counted bytes e = record e { packets = (e.packets + 1) % 2 ^ 64; bytes = (e.bytes + bytes) % 2 ^ 64 }
+
+-- at the entry of a place
+abbrev pub counted_at : ℕ → ℕ → List FlowEntry → List FlowEntry
+counted_at place bytes [] = []
+counted_at zero bytes (e ∷ flows) = counted bytes e ∷ flows
+counted_at (suc place) bytes (e ∷ flows) = e ∷ counted_at place bytes flows
+
+-- a packet more was looked up
+abbrev pub looked : Table → Table
+looked t = record t { lookups = (t.lookups + 1) % 2 ^ 64 }
+
+-- a packet of so many bytes hit the entry at a place
+abbrev pub matched_at : ℕ → ℕ → Table → Table
+matched_at place bytes t = record t { matched = (t.matched + 1) % 2 ^ 64; flows = counted_at place bytes t.flows }

@@ -1,0 +1,14 @@
+//! Entries of a flow table.
+
+use crate::flow::Flow;
+
+/// A flow entry, with the number by which its table names it (OpenFlow 1.3.5, 5.2).
+#[derive(Debug, Drop)]
+pub struct Entry {
+    pub number: usize,
+    pub flow: Flow,
+    /// How many packets hit it (OpenFlow 1.3.5, 5.8). It wraps.
+    pub packets: u64,
+    /// How many bytes they had. It wraps.
+    pub bytes: u64,
+}

@@ -1,0 +1,9 @@
+//! Why a flow is not added.
+
+/// Why a flow is not added (OpenFlow 1.3.5, 6.4).
+#[derive(Clone, Copy, Debug, PartialEq, Eq)]
+pub enum TableFault {
+    /// There are 4,096 entries, none of them of the flow's match and priority.
+    Full,
+    NoMemory,
+}
