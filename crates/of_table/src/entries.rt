@@ -1,6 +1,7 @@
 //! Lists of entries.
 
 ghost use Rattle.std.specs.Prelude.{◌≡◌, ◌==◌, ◌<◌, ◌++◌, ◌∷◌, [], Some, true, IsTrue, position, length, vec_len, vec_capacity};
+ghost use Rattle.std.specs.List.{list_any};
 ghost use Rattle.of_wire.specs.Numbered.{is_used, is_distinct, renewed};
 ghost use Rattle.of_classifier.specs.Rows.{row_number};
 ghost use Rattle.of_table.specs.Table.{is_same, added, counted_at};
@@ -43,6 +44,13 @@ fn number_place(entries: &[Entry], number: usize) -> Option<usize>
     entries.iter().position(|entry| entry.number == number)
 }
 
+/// Whether an entry of that number is there.
+pub(crate) fn has_number(entries: &[Entry], number: usize) -> bool
+    ensures { result ≡ list_any (λ e. e.number == number) entries.now }
+{
+    entries.iter().any(|entry| entry.number == number)
+}
+
 /// The entry at that place gets the flow and comes last. Its number.
 pub(crate) fn move_last(entries: &mut Vec<Entry>, place: usize, flow: Flow) -> usize
     requires same { position (λ e. is_same flow (entry_of e)) entries.old.items ≡ Some place }
@@ -69,8 +77,18 @@ pub(crate) fn push_reserved(entries: &mut Vec<Entry>, entry: Entry)
     }
 }
 
-/// The entry of that number counts a packet of so many bytes.
+/// The entry of that number, where it is there, counts a packet of so many bytes.
 pub(crate) fn count_at(entries: &mut Vec<Entry>, number: usize, bytes: usize)
+    ensures flows { flows_of entries.new.items ≡ counted_at (place_of number entries.old.items) bytes (flows_of entries.old.items) }
+    ensures numbers { numbers_of entries.new.items ≡ numbers_of entries.old.items }
+    ensures rows { rows_of entries.new.items ≡ rows_of entries.old.items }
+{
+    if has_number(entries, number) {
+        count_there(entries, number, bytes);
+    }
+}
+
+fn count_there(entries: &mut Vec<Entry>, number: usize, bytes: usize)
     requires { IsTrue (is_there number entries.old.items) }
     ensures flows { flows_of entries.new.items ≡ counted_at (place_of number entries.old.items) bytes (flows_of entries.old.items) }
     ensures numbers { numbers_of entries.new.items ≡ numbers_of entries.old.items }

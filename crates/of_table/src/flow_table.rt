@@ -139,9 +139,8 @@ impl<L: Lookup> FlowTable<L> {
         self.lookups = self.lookups.wrapping_add(1);
     }
 
-    /// A packet of so many bytes hit the entry of that number.
+    /// A packet of so many bytes hit the entry of that number; where none is there, the table alone counts it.
     pub fn count(&mut self, number: usize, bytes: usize)
-        requires { IsTrue (is_there number self.old.entries) }
         ensures table { table_of self.new ≡ matched_at (place_of number self.old.entries) bytes (table_of self.old) }
         ensures numbers { numbers_of self.new.entries ≡ numbers_of self.old.entries }
     {

@@ -1,20 +1,16 @@
-use Rattle.std.proofs.Common.{◌≡◌, ◌<◌, length, ap}
-use Rattle.std.proofs.Math.Seq.{map-set_same}
-use Rattle.of_table.proofs.CountLemmas.{counted-set}
-use Rattle.of_table.specs.Table.{counted}
-use Rattle.of_table.specs.Entries.{entry_of, row_of, entry_number, place_of}
-use Rattle.of_table.specs.declared.entry.Entry.{Entry}
+use Rattle.std.proofs.Common.{◌≡◌, ◌∙◌, sym, true, false, eqb}
+use Rattle.std.specs.List.{list_any}
+use Rattle.of_table.specs.Entries.{entry_number, is_there}
+use Rattle.of_table.proofs.PlaceLemmas.{any-map}
+use Rattle.of_table.proofs.CountLemmas.{counted_none}
 use Rattle.of_table.proofs.entries.count_at.Goals as goal
 
-pub returns-clause-flows : goal.returns-clause-flows
-returns-clause-flows c =
-    let es = c.args.entries.now.items in
-    let place : c.place_in-place.result ≡ place_of c.args.number es = rw c.deref.ensures.value at c.place_in-place.ensures.place in
-    let within : c.place_in-place.result < length es = rw c.deref.ensures.value at c.place_in-place.ensures.within in
-    rw (← place) (counted-set c.args.bytes es c.place_in-place.result _ c.index_mut-entry.result.now within (ap (λ (e : Entry). counted c.args.bytes (entry_of e)) c.index_mut-entry.ensures.value))
+pub count_there-requires : goal.count_there-requires
+count_there-requires c =
+    let found = rw c.deref.ensures.value at c.has_number.ensures in
+    any-map entry_number (λ n. eqb n c.args.number) c.args.entries.now.items ∙ (sym found ∙ c.if-has_number.true)
 
-pub returns-clause-numbers : goal.returns-clause-numbers
-returns-clause-numbers c = map-set_same entry_number c.args.entries.now.items c.place_in-place.result _ c.index_mut-entry.result.now (ap entry_number c.index_mut-entry.ensures.value)
-
-pub returns-clause-rows : goal.returns-clause-rows
-returns-clause-rows c = map-set_same row_of c.args.entries.now.items c.place_in-place.result _ c.index_mut-entry.result.now (ap row_of c.index_mut-entry.ensures.value)
+pub returns-else-has_number-clause-flows : goal.returns-else-has_number-clause-flows
+returns-else-has_number-clause-flows c =
+    let found = rw c.deref.ensures.value at c.has_number.ensures in
+    counted_none c.args.number c.args.bytes c.args.entries.now.items (any-map entry_number (λ n. eqb n c.args.number) c.args.entries.now.items ∙ (sym found ∙ c.if-has_number.false))
