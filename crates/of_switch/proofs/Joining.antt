@@ -113,7 +113,10 @@ drained_more : (s : State) (o : Outcome) → next_of s ≡ Some o → drained s 
 unfolding drain
 drained_more s o h =
     let short = next_shorter s o h in
-    let one : drained s ≡ behind o.effects (drain (length s.connection.pending) o.state) = let e : drain (suc (length s.connection.pending)) s ≡ then_more (drain (length s.connection.pending)) s (Some o) = ap (then_more (drain (length s.connection.pending)) s) h in ap (λ (k : ℕ). drain k s) (omega arith) ∙ e in
+    let size = length s.connection.pending in
+    let turns : drain (size + 1) s ≡ drain (suc size) s = ap (λ (k : ℕ). drain k s) (add-one size) in
+    let step : drain (suc size) s ≡ behind o.effects (drain size o.state) = ap (then_more (drain size) s) h in
+    let one : drained s ≡ behind o.effects (drain size o.state) = turns ∙ step in
     one ∙ ap (behind o.effects) (drain_same (length s.connection.pending) (length o.state.connection.pending + 1) o.state (omega (arith, short)) (omega arith))
 
 drained_none : (s : State) → next_of s ≡ None → drained s ≡ gives [] s

@@ -30,7 +30,7 @@ answer_is es w (Some n) e there = rw e (ap Some (sym (number_at_place n (numbers
 place_within : (fields : Field → Option ℕ) (es : List Entry) (k : ℕ) → winner_place fields (flows_of es) ≡ Some k → k < length (numbers_of es)
 place_within fields es k h =
     let within = (position_some (is_best fields (flows_of es)) (flows_of es) k h).1 in
-    omega (arith, within, length-map entry_of es, length-map entry_number es)
+    omega (arith, within, length-map es entry_of, length-map es entry_number)
 
 distinct_numbers : (es : List Entry) → is_distinct entry_number es ≡ true → is_distinct itself (numbers_of es) ≡ true
 distinct_numbers es h = distinct-map entry_number itself es ∙ h
@@ -74,7 +74,7 @@ sound_by es fields n true (Some k) distinct e h none =
     let same : number_at es k ≡ n = cc in
     let lt = place_within fields es k e in
     let at : place_of n es ≡ k = ap (λ (x : ℕ). place_of x es) (sym same) ∙ place_of_number (numbers_of es) k (distinct_numbers es distinct) lt in
-    flow_some k (flows_of es) (omega (arith, lt, length-map entry_of es, length-map entry_number es)) (ap (λ (x : ℕ). flow_at x (flows_of es)) (sym at) ∙ none)
+    flow_some k (flows_of es) (omega (arith, lt, length-map es entry_of, length-map es entry_number)) (ap (λ (x : ℕ). flow_at x (flows_of es)) (sym at) ∙ none)
 sound_by es fields n false w distinct e h none = absurd cc
 
 -- each winner is the number of an entry
@@ -88,7 +88,7 @@ there_by es n true b e some = e
 there_by es n false false e some = absurd (some refl)
 there_by es n false true e some =
     let far : ltb (place_of n es) (length (numbers_of es)) ≡ false = sym (any-place (λ m. eqb m n) (numbers_of es)) ∙ e in
-    absurd (some (flow_none (place_of n es) (flows_of es) (omega (arith, ltb-false _ _ far, length-map entry_of es, length-map entry_number es))))
+    absurd (some (flow_none (place_of n es) (flows_of es) (omega (arith, ltb-false _ _ far, length-map es entry_of, length-map es entry_number))))
 
 -- a flow that is there has the number of an entry
 pub is_there_by : (t : Numbered) (table n : ℕ) → numbered_flow t table n ≢ None → IsTrue (is_there n t.entries)

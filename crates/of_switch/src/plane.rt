@@ -118,7 +118,8 @@ impl<L: Lookup> World for Plane<L> {
         }
     }
 
-    fn flow(&self, _table: u8, number: usize) -> &Flow {
+    fn flow(&self, table: u8, number: usize) -> &Flow {
+        let _ = table;
         self.table.flow(number)
     }
 

@@ -32,4 +32,4 @@ counted_past (suc k) bytes (e ∷ flows) le = ap (λ (fs : List FlowEntry). e �
 pub counted_none : (number bytes : ℕ) (es : List Entry) → is_there number es ≡ false → flows_of es ≡ counted_at (place_of number es) bytes (flows_of es)
 counted_none number bytes es absent =
     let far : ltb (place_of number es) (length (numbers_of es)) ≡ false = sym (any-place (λ n. eqb n number) (numbers_of es)) ∙ absent in
-    sym (counted_past (place_of number es) bytes (flows_of es) (omega (arith, ltb-false _ _ far, length-map entry_of es, length-map entry_number es)))
+    sym (counted_past (place_of number es) bytes (flows_of es) (omega (arith, ltb-false _ _ far, length-map es entry_of, length-map es entry_number)))
