@@ -2,9 +2,7 @@
 use Rattle.std.specs.Prelude.{◌≡◌, ℕ, ◌+◌, ◌*◌, ◌==◌, nat_lt, Bool, not, ◌&&◌, ◌||◌, List, [], ◌∷◌, length, drop, slice_index, Option, Some, None, Result, Ok, Err, if◌then◌else◌}
 use Rattle.byteorder.specs.Endian.{big_number}
 use Rattle.of_wire.specs.declared.code.Code.{Code}
-use Rattle.of_wire.specs.declared.code.ReadError.{ReadError}
 use Rattle.of_wire.specs.Refusals.{refusal, first_of}
-use Rattle.of_wire.specs.Failures.{Fails}
 use Rattle.of_oxm.specs.declared.match_field.MatchField.{MatchField}
 use Rattle.of_oxm.specs.MatchReading.{match_of}
 use Rattle.of_actions.specs.declared.instruction.Instruction.{Instruction}
@@ -118,8 +116,3 @@ message_by m None = body_of m
 
 unfoldable pub message_of : List ℕ → Result Message Code
 message_of m = message_by m (first_of (head_refusals m))
-
--- what a reader answered is what the bytes say, unless memory ran out
-abbrev pub Reads : {V : Type 0} → Result V ReadError → Result V Code → Type 0
-Reads (Ok v) said = said ≡ Ok v
-Reads (Err e) said = Fails (λ code. said ≡ Err code) e

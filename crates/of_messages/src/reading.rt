@@ -1,7 +1,8 @@
 //! Messages from bytes.
 ghost use Rattle.std.specs.Prelude.{◌≡◌, ◌≤◌, ◌<◌, length, drop, Some, None, OnOk, MatchResult};
 ghost use Rattle.of_wire.specs.Refusals.{first_of};
-ghost use Rattle.of_messages.specs.Messages.{Reads, message_of, flow_mod_of, flow_mod_refusals};
+ghost use Rattle.of_wire.specs.Failures.{Reads};
+ghost use Rattle.of_messages.specs.Messages.{message_of, flow_mod_of, flow_mod_refusals};
 
 use crate::head::{BARRIER_REQUEST, ECHO_REQUEST, HELLO, check_head};
 use crate::message::{FlowMod, FlowModCommand, Message};

@@ -8,3 +8,4 @@ pub mod Written
 pub mod Same
 pub mod Related
 pub mod PortMatch
+pub mod Computed

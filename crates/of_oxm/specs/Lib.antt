@@ -6,3 +6,4 @@ pub mod Canonical
 pub mod Relations
 pub mod SameMatch
 pub mod InPortMatch
+pub mod MatchReading

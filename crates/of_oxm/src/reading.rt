@@ -2,8 +2,9 @@
 
 ghost use Rattle.std.specs.Prelude.{◌≡◌, ◌++◌, ℕ, ◌≤◌, ◌<◌, List, [], Some, None, Ok, ◌-◌, length, take, drop, IfOk, OnOk, IfErr};
 ghost use Rattle.of_wire.specs.Refusals.{first_of};
-ghost use Rattle.of_wire.specs.Failures.{Fails};
+ghost use Rattle.of_wire.specs.Failures.{Fails, Reads};
 ghost use Rattle.of_oxm.specs.MatchGrammar.{Fields, IsFaulty, SpellsMatch, IsRefusedMatch, ReadsAs, RefusesAs, head_refusals, match_len, padded};
+ghost use Rattle.of_oxm.specs.MatchReading.{match_of};
 ghost use Rattle.of_oxm.specs.declared.match_field.MatchField.{MatchField};
 ghost use Rattle.of_wire.specs.declared.code.Code.{Code};
 
@@ -73,6 +74,7 @@ fn parse(alloc: Global, bytes: &[u8]) -> Result<(Match, usize), ReadError>
     ensures size { IfOk result (λ r. r.1 ≤ length bytes.now) }
     ensures found { IfOk result (λ r. SpellsMatch (take r.1 bytes.now) r.0) }
     ensures refused { IfErr result (Fails (IsRefusedMatch bytes.now)) }
+    ensures reads { Reads result (match_of bytes.now) }
 {
     let len = match read_head(bytes) {
         Ok(len) => len,
@@ -99,6 +101,9 @@ pub fn read_match(alloc: Global, bytes: &[u8]) -> Result<(Match, usize), ReadErr
     // Other bytes have one code, and it is answered, unless memory runs out.
     ensures refused { IfErr result (Fails (IsRefusedMatch bytes.now)) }
     ensures exact { (code : Code) → IsRefusedMatch bytes.now code → RefusesAs code result }
+
+    // Both, as a function of the bytes.
+    ensures reads { Reads result (match_of bytes.now) }
 {
     parse(alloc, bytes)
 }

@@ -2,6 +2,7 @@
 #![tactic(auto)]
 
 mod io;
+mod lexing;
 mod transfer;
 
 pub use io::{Reading, Sink, Source, Writing};

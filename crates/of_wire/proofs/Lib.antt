@@ -2,3 +2,5 @@ pub mod Numbers
 pub mod Walking
 pub mod ItemsAgain
 pub mod ItemsRead
+pub mod NumberedLemmas
+pub mod HighestLemmas

@@ -1,0 +1,15 @@
+use Rattle.std.proofs.Common.{rules, sym, subst, ◌≡◌, ◌≤◌, ℕ, Bool, List, [], None, length}
+use Rattle.of_actions.specs.Actions.{AreActions}
+use Rattle.of_actions.specs.CanonicalActions.{canonical_actions}
+use Rattle.of_actions.proofs.ActionsAgain.{canonical_spelt, canonical_short}
+use Rattle.of_actions.proofs.action_writing.write_actions.Goals as goal
+
+pub returns-clause-spelt : goal.returns-clause-spelt
+returns-clause-spelt c =
+    let text : c.put_actions.new.out.items ≡ canonical_actions c.args.actions.now = search rules in
+    λ (packet_out : Bool). subst (λ (x : List ℕ). AreActions packet_out [] x c.args.actions.now None) (sym text) (canonical_spelt packet_out c.args.actions.now c.as_slice.ensures.served)
+
+pub returns-clause-short : goal.returns-clause-short
+returns-clause-short c =
+    let text : c.put_actions.new.out.items ≡ canonical_actions c.args.actions.now = search rules in
+    subst (λ (x : List ℕ). length x ≤ 1024) (sym text) (canonical_short c.args.actions.now c.as_slice.ensures.served)

@@ -1,0 +1,8 @@
+use Rattle.of_actions.proofs.InstructionLaws.{is_only, is_exact}
+use Rattle.of_actions.proofs.instruction_reading.read_instructions.Goals as goal
+
+pub returns-clause-only : goal.returns-clause-only
+returns-clause-only c = is_only c.args.table c.args.bytes.now c.parse_instructions.result c.parse_instructions.ensures.found c.parse_instructions.ensures.refused
+
+pub returns-clause-exact : goal.returns-clause-exact
+returns-clause-exact c = is_exact c.args.table c.args.bytes.now c.parse_instructions.result c.parse_instructions.ensures.found c.parse_instructions.ensures.refused

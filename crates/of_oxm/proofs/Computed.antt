@@ -1,0 +1,70 @@
+-- What the grammar of matches says, computed.
+use Rattle.std.proofs.Common.{◌≡◌, ℕ, ◌+◌, ◌<◌, ◌≤◌, Bool, true, false, List, [], ◌∷◌, ◌++◌, length, get_or, drop, Option, Some, None, Result, Ok, Err, refl, sym, ap, subst, ◌∙◌, arith, cond}
+use Rattle.std.specs.Option.{option_map}
+use Rattle.std.proofs.lemmas.List.{append_assoc, append-nil, drop_at, length-append}
+use Rattle.of_wire.specs.declared.code.Code.{Code}
+use Rattle.of_wire.specs.declared.code.ReadError.{ReadError}
+use Rattle.of_wire.specs.declared.code.ReadError.TheVariants as errors
+use Rattle.of_wire.specs.Refusals.{refusal, first_of}
+use Rattle.of_wire.specs.Failures.{Fails}
+use Rattle.of_wire.specs.Items.{Items, AreItems, IsEnd as ItemsEnd, items_of, outcome}
+use Rattle.of_wire.proofs.ItemsRead.{items_are}
+use Rattle.of_headers.specs.declared.field.Field.{Field}
+use Rattle.of_headers.specs.Fields.{field_at}
+use Rattle.of_oxm.specs.declared.match_field.MatchField.{MatchField}
+use Rattle.of_oxm.specs.MatchFieldWire.{spelling, number_at, match_field_of, field_refusals}
+use Rattle.of_oxm.specs.MatchGrammar.{match_len, padded, body_of, head_refusals, spellings, AreFieldsAfter, IsEnd, Fields, IsFaulty}
+use Rattle.of_oxm.specs.NormalForm.{normal}
+use Rattle.of_oxm.specs.Prerequisites.{all_met}
+use Rattle.of_oxm.specs.MatchReading.{match_fields, normal_match, then_normal, match_by, match_of}
+use Rattle.of_oxm.proofs.MatchFieldLemmas.{IsFound, field_again}
+
+ends_so : (seen : List MatchField) (rest : List ℕ) (fault : Option Code) → IsEnd seen rest fault → ItemsEnd match_fields seen rest fault
+ends_so seen [] fault h = h
+ends_so seen (b ∷ bs) fault h = h
+
+are_items : (seen fs : List MatchField) (bytes rest : List ℕ) (fault : Option Code) → bytes ≡ spellings fs ++ rest → AreFieldsAfter seen fs → IsEnd (seen ++ fs) rest fault → AreItems match_fields seen bytes fs fault
+are_items seen [] bytes rest fault whole fine ended =
+    let here : IsEnd seen rest fault = subst (λ (s : List MatchField). IsEnd s rest fault) (append-nil seen) ended in
+    subst (λ (x : List ℕ). ItemsEnd match_fields seen x fault) (sym whole) (ends_so seen rest fault here)
+are_items seen (e ∷ es) bytes rest fault whole fine ended =
+    let x = spellings es ++ rest in
+    let found = field_again e seen x fine.0 fine.1 in
+    let text : bytes ≡ spelling e ++ x = whole ∙ append_assoc (spelling e) (spellings es) rest in
+    let size : 4 + get_or (spelling e ++ x) 3 0 ≡ length (spelling e) = found.size_is in
+    let some : 0 < length (spelling e ++ x) = omega (arith, length-append (spelling e) x, size) in
+    let cut : drop (4 + get_or (spelling e ++ x) 3 0) (spelling e ++ x) ≡ x = ap (λ (n : ℕ). drop n (spelling e ++ x)) size ∙ drop_at (spelling e) x (length (spelling e)) refl in
+    let value : option_map (λ (f : Field). match_field_of f (spelling e ++ x)) (field_at (number_at (spelling e ++ x))) ≡ Some e = ap (λ (o : Option Field). option_map (λ (f : Field). match_field_of f (spelling e ++ x)) o) found.at ∙ ap Some found.same in
+    let others = are_items (seen ++ e ∷ []) es (drop (4 + get_or (spelling e ++ x) 3 0) (spelling e ++ x)) rest fault cut fine.2 (subst (λ (s : List MatchField). IsEnd s rest fault) (sym (append_assoc seen (e ∷ []) es)) ended) in
+    subst (λ (b : List ℕ). AreItems match_fields seen b (e ∷ es) fault) (sym text) (some, found.none, value, others)
+
+-- the fields of a body, computed
+pub fields_are : (body : List ℕ) (fields : List MatchField) (fault : Option Code) → Fields [] body fields fault → items_of match_fields (length body) [] body ≡ outcome fields fault
+fields_are body fields fault h = items_are match_fields (length body) [] body fields fault (λ seen bytes some none. omega arith) (omega arith) (are_items [] fields body h.rest fault h.whole h.fine h.ended)
+
+head_is : (bytes : List ℕ) (o : Option Code) → first_of (head_refusals bytes) ≡ o → match_of bytes ≡ match_by bytes o
+unfolding match_of
+head_is bytes o e = ap (match_by bytes) e
+
+pub head_computed : (bytes : List ℕ) (code : Code) → first_of (head_refusals bytes) ≡ Some code → match_of bytes ≡ Err code
+head_computed bytes code e = head_is bytes (Some code) e
+
+fields_by : (bytes body : List ℕ) (fields : List MatchField) (fault : Option Code) → first_of (head_refusals bytes) ≡ None → body ≡ body_of bytes → Fields [] body fields fault → match_of bytes ≡ then_normal (padded (match_len bytes)) (outcome fields fault)
+fields_by bytes body fields fault none same h =
+    let here : items_of match_fields (length (body_of bytes)) [] (body_of bytes) ≡ outcome fields fault = subst (λ (b : List ℕ). items_of match_fields (length b) [] b ≡ outcome fields fault) same (fields_are body fields fault h) in
+    head_is bytes None none ∙ ap (then_normal (padded (match_len bytes))) here
+
+pub fault_computed : (bytes body : List ℕ) (e : ReadError) → first_of (head_refusals bytes) ≡ None → body ≡ body_of bytes → Fails (IsFaulty body) e → Fails (λ code. match_of bytes ≡ Err code) e
+fault_computed bytes body errors.Memory none same h = tt
+fault_computed bytes body (errors.Refused code) none same h = fields_by bytes body h.0 (Some code) none same h.1
+
+pub need_computed : (bytes body : List ℕ) (fields kept : List MatchField) → first_of (head_refusals bytes) ≡ None → body ≡ body_of bytes → Fields [] body fields None → kept ≡ normal fields → all_met kept ≡ false → match_of bytes ≡ Err (refusal 4 9)
+need_computed bytes body fields kept none same h is met =
+    let unmet : all_met (normal fields) ≡ false = ap all_met (sym is) ∙ met in
+    fields_by bytes body fields None none same h ∙ ap (λ (t : Bool). cond t (Ok (normal fields, padded (match_len bytes))) (Err (refusal 4 9))) unmet
+
+pub found_computed : (bytes body : List ℕ) (len : ℕ) (fields kept : List MatchField) → first_of (head_refusals bytes) ≡ None → len ≡ match_len bytes → body ≡ body_of bytes → Fields [] body fields None → kept ≡ normal fields → all_met kept ≡ true → match_of bytes ≡ Ok (kept, padded len)
+found_computed bytes body len fields kept none len_is same h is met =
+    let met' : all_met (normal fields) ≡ true = ap all_met (sym is) ∙ met in
+    let done : match_of bytes ≡ Ok (normal fields, padded (match_len bytes)) = fields_by bytes body fields None none same h ∙ ap (λ (t : Bool). cond t (Ok (normal fields, padded (match_len bytes))) (Err (refusal 4 9))) met' in
+    rw (is, len_is) done

@@ -1,0 +1,179 @@
+//! Words, numbers and bytes of event files.
+ghost use Rattle.std.specs.Prelude.{◌≡◌, ◌==◌, ◌&&◌, ◌<◌, ◌≤◌, ◌^◌, ◌+◌, ◌*◌, ◌++◌, ◌-◌, if◌then◌else◌, length, take, drop, replicate, Some, None, IfOk, IfSome, position, vec_len};
+ghost use Rattle.std.specs.Option.{option_copied};
+ghost use Rattle.std.specs.Result.{result_ok};
+ghost use Rattle.hex.specs.Hex.{decode_of};
+ghost use Rattle.std.specs.List.{list_all};
+ghost use Rattle.std.specs.Str.{bytes_eq, is_utf8};
+ghost use Rattle.of_replay.specs.Lexing.{first_word, after_word, is_line, is_passed, number_of, below, digits_value, bytes_of, hw_of, name_of, state_of, is_name_byte};
+
+use std::alloc::AllocError;
+
+/// How many bytes a line has at most, without its end.
+const LONGEST_LINE: usize = 1_048_576;
+
+/// Whether the two are the same bytes.
+pub fn is(word: &[u8], text: &[u8]) -> bool
+    ensures { result ≡ bytes_eq word.now text.now }
+{
+    word == text
+}
+
+fn rest_from(bytes: &[u8], at: usize) -> &[u8]
+    requires { at ≤ length bytes.now }
+    ensures { result.now ≡ drop at bytes.now }
+{
+    &bytes[at..]
+}
+
+fn front_part(bytes: &[u8], size: usize) -> &[u8]
+    requires { size ≤ length bytes.now }
+    ensures { result.now ≡ take size bytes.now }
+{
+    &bytes[..size]
+}
+
+// The place of the first space.
+fn space_in(line: &[u8]) -> Option<usize>
+    ensures place { result ≡ position (λ b. b == 32) line.now }
+    ensures within { IfSome result (λ k. k < length line.now) }
+{
+    line.iter().position(|b| *b == b' ')
+}
+
+/// The first word of a line, and what follows the space behind it.
+pub fn cut_word(line: &[u8]) -> (&[u8], Option<&[u8]>)
+    ensures word { result.0.now ≡ first_word line.now }
+    ensures rest { option_copied result.1 ≡ after_word line.now }
+{
+    match space_in(line) {
+        None => (line, None),
+        Some(at) => (front_part(line, at), Some(rest_from(line, at + 1))),
+    }
+}
+
+/// Whether a line is one that a file may have: UTF-8, of 1,048,576 bytes at most.
+pub fn is_readable(line: &[u8]) -> bool
+    ensures { result ≡ is_line line.now }
+{
+    line.len() <= LONGEST_LINE && is_text(line)
+}
+
+fn is_text(line: &[u8]) -> bool
+    ensures { result ≡ is_utf8 line.now }
+{
+    match std::str::from_utf8(line) {
+        Ok(_) => true,
+        Err(_) => false,
+    }
+}
+
+/// Whether a line is empty or a comment.
+pub fn is_passed_over(line: &[u8]) -> bool
+    ensures { result ≡ is_passed line.now }
+{
+    match line {
+        [] => true,
+        [first, ..] => *first == b'#',
+    }
+}
+
+/// A decimal number of 32 bits, without leading zeros.
+pub fn read_number(word: &[u8]) -> Option<u32>
+    ensures { result ≡ number_of word.now }
+{
+    match word {
+        [] => None,
+        [b'0', _, ..] => None,
+        _ => read_digits(word),
+    }
+}
+
+#[tactic(auto, using(crate::proofs::DigitLemmas::grown, crate::proofs::DigitLemmas::digit_more))]
+fn read_digits(word: &[u8]) -> Option<u32>
+    ensures { result ≡ below (2 ^ 32) (digits_value 0 word.now) }
+{
+    let mut value: u64 = 0;
+    for digit in word {
+        if *digit < b'0' || *digit > b'9' {
+            return None;
+        }
+        value = 10 * value + u64::from(*digit - b'0');
+        if value > 0xffff_ffff {
+            return None;
+        }
+    }
+    Some(value as u32)
+}
+
+/// Decodes a word of hex digits, or `-` for no bytes, into the buffer; answers whether it is one.
+pub fn read_bytes(word: &[u8], bytes: &mut Vec<u8>) -> Result<bool, AllocError>
+    ensures { IfOk result (λ found. bytes_of word.now ≡ (if found then Some bytes.new.items else None)) }
+{
+    if is(word, b"-") {
+        bytes.clear();
+        return Ok(true);
+    }
+    if word.is_empty() || word.len() % 2 == 1 {
+        return Ok(false);
+    }
+    bytes.resize(word.len() / 2, 0)?;
+    Ok(decode_into(word, bytes))
+}
+
+fn decode_into(word: &[u8], bytes: &mut Vec<u8>) -> bool
+    requires { 2 * vec_len bytes.old ≡ length word.now }
+    ensures { result_ok (decode_of word.now) ≡ (if result then Some bytes.new.items else None) }
+{
+    hex::decode_to_slice(word, bytes.as_mut_slice()).is_ok()
+}
+
+/// A hardware address: 12 hex digits.
+pub fn read_hw(word: &[u8]) -> Option<[u8; 6]>
+    ensures { result ≡ hw_of word.now }
+{
+    let mut hw = [0u8; 6];
+    match hex::decode_to_slice(word, &mut hw) {
+        Ok(()) => Some(hw),
+        Err(_) => None,
+    }
+}
+
+fn is_name_text(word: &[u8]) -> bool
+    ensures { result ≡ list_all is_name_byte word.now }
+{
+    word.iter()
+        .all(|b| *b >= b'a' && *b <= b'z' || *b >= b'0' && *b <= b'9')
+}
+
+/// A port's name: 1 to 15 of a to z and 0 to 9, filled up with zeros.
+pub fn read_name(word: &[u8]) -> Option<[u8; 16]>
+    ensures { result ≡ name_of word.now }
+{
+    if word.is_empty() || word.len() > 15 || !is_name_text(word) {
+        return None;
+    }
+    Some(padded(word))
+}
+
+fn padded(word: &[u8]) -> [u8; 16]
+    requires { length word.now ≤ 16 }
+    ensures { result ≡ word.now ++ replicate (16 - length word.now) 0 }
+{
+    let mut name = [0u8; 16];
+    name[..word.len()].copy_from_slice(word);
+    name
+}
+
+/// `up` or `down`.
+pub fn read_state(word: &[u8]) -> Option<bool>
+    ensures { result ≡ state_of word.now }
+{
+    if is(word, b"up") {
+        Some(true)
+    } else if is(word, b"down") {
+        Some(false)
+    } else {
+        None
+    }
+}
