@@ -1,5 +1,5 @@
 -- The end of a run.
-use Rattle.std.proofs.Common.{◌≡◌, ℕ, ◌+◌, suc, zero, Bool, true, List, [], ◌∷◌, ◌++◌, refl, sym, ◌∙◌, ap, subst, length, arith, Option, Some, None, length-append, add_comm, zero-add}
+use Rattle.std.proofs.Common.{◌≡◌, ℕ, ◌+◌, true, suc, zero, Bool, List, [], ◌∷◌, ◌++◌, refl, sym, ◌∙◌, ap, subst, length, arith, Option, Some, None, length-append, add_comm, zero-add}
 use Rattle.std.specs.List.{sum_by}
 use Rattle.std.proofs.lemmas.List.Sums.{sum_by-cons}
 use Rattle.of_actions.specs.declared.action.Action.{Action}
@@ -11,7 +11,7 @@ use Rattle.of_machine.specs.declared.data.Packet.{Packet}
 use Rattle.of_machine.specs.declared.data.Step.{Step}
 use Rattle.of_machine.specs.declared.data.Outcome.{Outcome}
 use Rattle.of_machine.specs.TheWorld.{TheWorld}
-use Rattle.of_machine.specs.Rows.{Work, Act, Do, Lookup, RunSet, lookup_row, entry_row, miss_row, at_entry, works, key_of, Task, task, Row, row, acts, set_out}
+use Rattle.of_machine.specs.Rows.{Work, Lookup, RunSet, lookup_row, entry_row, miss_row, at_entry, works, key_of, Task, task, Row, row, acts, set_out}
 use Rattle.of_machine.specs.Runs.{Machine, taken, step, first_step, after, starting, run_of, steps_of, found_steps, entry_steps, instruction_steps, IsRun}
 use Rattle.of_machine.proofs.Reaching.{Came}
 
@@ -77,7 +77,7 @@ module _ (w : TheWorld) where
       let all : length l + 1 ≡ length (Output port max_len ∷ l) = omega arith in
       subst (λ (n : ℕ). Leads n (task p (acts (Output port max_len ∷ l) ++ rest) ∷ others) (task p rest ∷ others)) all
       (then_leads 1 (length l) (task p (acts (Output port max_len ∷ l) ++ rest) ∷ others) (task p (acts l ++ rest) ∷ others) (task p rest ∷ others)
-        (leads_row p (acts (Output port max_len ∷ l) ++ rest) others _ refl) (leads_acts p l rest others))
+      (leads_row p (acts (Output port max_len ∷ l) ++ rest) others _ refl) (leads_acts p l rest others))
 
   leads_works : (p : Packet) (l : List Instruction) → Leads (sum_by instruction_steps l + 2) (task p (works l) ∷ []) []
   leads_works p [] =
@@ -88,9 +88,9 @@ module _ (w : TheWorld) where
       let all : (n + length a) + 1 ≡ sum_by instruction_steps (Apply a ∷ l) + 2 = omega (arith, sum_by-cons instruction_steps (Apply a) l) in
       subst (λ (i : ℕ). Leads i (task p (works (Apply a ∷ l)) ∷ []) []) all
       (then_leads 1 (n + length a) (task p (works (Apply a ∷ l)) ∷ []) (task p (acts a ++ works l) ∷ []) []
-        (leads_row p (works (Apply a ∷ l)) [] _ refl)
-        (then_leads (length a) n (task p (acts a ++ works l) ∷ []) (task p (works l) ∷ []) []
-          (leads_acts p a (works l) []) (leads_works p l)))
+      (leads_row p (works (Apply a ∷ l)) [] _ refl)
+      (then_leads (length a) n (task p (acts a ++ works l) ∷ []) (task p (works l) ∷ []) []
+      (leads_acts p a (works l) []) (leads_works p l)))
 
   -- a packet with no work has its end
   leads_end : (p : Packet) → Leads 1 (task p [] ∷ []) []
@@ -103,7 +103,7 @@ module _ (w : TheWorld) where
       let all : (sum_by instruction_steps f.instructions + 2) + 1 ≡ 3 + sum_by instruction_steps f.instructions = omega arith in
       subst (λ (i : ℕ). Leads i (task p (Lookup 0 ∷ []) ∷ []) []) all
       (then_leads 1 (sum_by instruction_steps f.instructions + 2) (task p (Lookup 0 ∷ []) ∷ []) (task (at_entry 0 f p) (works f.instructions) ∷ []) []
-        (leads_row p (Lookup 0 ∷ []) [] (entry_row p 0 n (Some f)) e) (leads_works (at_entry 0 f p) f.instructions))
+      (leads_row p (Lookup 0 ∷ []) [] (entry_row p 0 n (Some f)) e) (leads_works (at_entry 0 f p) f.instructions))
 
   leads_found : (p : Packet) (found : Option ℕ) → row w p (Lookup 0 ∷ []) ≡ lookup_row w p 0 found → Leads (found_steps w found) (task p (Lookup 0 ∷ []) ∷ []) []
   leads_found p None e =
@@ -140,3 +140,6 @@ items_of w keeps p o old new h = sym (ap (λ (m : Machine). m.items) h.run)
 
 pub counts_of : (w : TheWorld) (keeps : Bool) (p : Packet) (o : Outcome) (old new : List Step) → IsRun w keeps p o old new → o.counts.items ≡ (run_of w p).counts
 counts_of w keeps p o old new h = sym (ap (λ (m : Machine). m.counts) h.run)
+
+pub lines_of : (w : TheWorld) (keeps : Bool) (p : Packet) (o : Outcome) (old new : List Step) → IsRun w keeps p o old new → keeps ≡ true → new ≡ old ++ (run_of w p).lines
+lines_of w keeps p o old new h k = h.tells k ∙ ap (λ (ls : List Step). old ++ ls) (sym (ap (λ (m : Machine). m.lines) h.run))

@@ -1,5 +1,5 @@
 -- What each row moves.
-use Rattle.std.proofs.Common.{◌≡◌, ℕ, ◌+◌, ◌<◌, suc, zero, Bool, true, List, [], ◌∷◌, ◌++◌, refl, sym, ◌∙◌, ap, subst, length, get_or, drop, arith, Option, Some, None, add-one, drop-cons}
+use Rattle.std.proofs.Common.{◌≡◌, ℕ, ◌+◌, ◌<◌, suc, Bool, true, List, [], ◌∷◌, ◌++◌, refl, sym, ◌∙◌, ap, subst, length, get_or, drop, Some, None, add-one, drop-cons}
 use Rattle.std.proofs.lemmas.List.{append-nil}
 use Rattle.of_actions.specs.declared.action.Action.{Action}
 use Rattle.of_actions.specs.declared.action.Action.TheVariants.{Output}
@@ -14,7 +14,7 @@ use Rattle.of_machine.specs.declared.data.Outcome.{Outcome}
 use Rattle.of_machine.specs.TheWorld.{TheWorld}
 use Rattle.of_machine.specs.Gained.{Gains}
 use Rattle.of_machine.specs.Rows.{Work, Act, Do, Lookup, RunSet, lookup_row, entry_row, miss_row, at_entry, works, key_of, Task, task, Row, row, goes_on, emission, acts, set_out, set_in_order}
-use Rattle.of_machine.specs.Runs.{Point, point, Moves}
+use Rattle.of_machine.specs.Runs.{point, Moves}
 use Rattle.of_machine.proofs.Reaching.{one}
 
 module _ (w : TheWorld) (keeps : Bool) (p : Packet) (rest : List Work) (others : List Task) (o : Outcome) (told told' : List Step) where

@@ -1,5 +1,5 @@
 -- From one point of a run to the next.
-use Rattle.std.proofs.Common.{◌≡◌, ℕ, ◌+◌, suc, zero, Bool, true, List, [], ◌∷◌, ◌++◌, refl, sym, ◌∙◌, ap, append_assoc}
+use Rattle.std.proofs.Common.{◌≡◌, ℕ, suc, zero, Bool, true, List, [], ◌∷◌, ◌++◌, refl, sym, ◌∙◌, ap, append_assoc}
 use Rattle.std.proofs.lemmas.List.{append-nil}
 use Rattle.of_machine.specs.declared.data.Packet.{Packet}
 use Rattle.of_machine.specs.declared.data.Item.{Item}
@@ -7,7 +7,7 @@ use Rattle.of_machine.specs.declared.data.Count.{Count}
 use Rattle.of_machine.specs.declared.data.Step.{Step}
 use Rattle.of_machine.specs.declared.data.Outcome.{Outcome}
 use Rattle.of_machine.specs.TheWorld.{TheWorld}
-use Rattle.of_machine.specs.Rows.{Work, Lookup, Task, task, Row, row}
+use Rattle.of_machine.specs.Rows.{Work, Lookup, Task, task, row}
 use Rattle.of_machine.specs.Runs.{Machine, step, first_step, taken, after, Point, point, Reached, Stopped, Moves, Stops, starting, IsFront}
 
 -- a point of a list of packets

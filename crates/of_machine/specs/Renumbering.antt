@@ -1,5 +1,5 @@
 -- Runs where the entries of the tables have other numbers.
-use Rattle.std.specs.Prelude.{◌≡◌, ℕ, List, Option, Some, map}
+use Rattle.std.specs.Prelude.{◌≡◌, ℕ, Option, Some, map}
 use Rattle.std.specs.Option.{option_map}
 use Rattle.of_headers.specs.declared.field.Field.{Field}
 use Rattle.of_machine.specs.declared.data.Count.{Count}

@@ -10,11 +10,9 @@ pub fn every_run_ends()
     ensures ends { (w : TheWorld) (p : Packet) → (run_of w p).tasks ≡ [] }
     ensures steps { (w : TheWorld) (p : Packet) → length (run_of w p).lines ≡ steps_of w p }
     ensures settled { (w : TheWorld) (k n : ℕ) (m : Machine) → (after w n m).tasks ≡ [] → after w (k + n) m ≡ after w n m }
-{
-}
+{}
 
 /// The numbers of entries are names alone: where entries have other numbers, a run is the same but for them.
 pub fn numbers_are_names()
     ensures { (number : ℕ → ℕ → ℕ) (w v : TheWorld) (p : Packet) → IsRenumbered number w v → run_of v p ≡ renumbered number (run_of w p) }
-{
-}
+{}

@@ -16,5 +16,5 @@ pub use machine::{is_miss, run};
 pub use port::{Port, PortCounters};
 pub use world::{NoLog, StepLog, Steps, World};
 
-
-
+#[cfg(test)]
+mod tests;

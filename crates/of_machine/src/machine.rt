@@ -1,5 +1,5 @@
 //! Runs.
-ghost use Rattle.std.specs.Prelude.{◌≡◌, ◌∷◌, [], List, IfOk, OnOk, OnErr};
+ghost use Rattle.std.specs.Prelude.{◌≡◌, ◌∷◌, ◌++◌, [], List, true, IfOk, OnOk, OnErr};
 ghost use Rattle.of_machine.specs.Rows.{RunSet, Act as ActWork, Lookup as LookupWork, acts, works, is_miss as is_miss_entry};
 ghost use Rattle.of_machine.specs.Runs.{Acts, Ends, Breaks, Follows, Fails, IsRun, IsFront, then_works, run_of};
 ghost use Rattle.of_machine.specs.Sound.{IsSound};
@@ -183,6 +183,7 @@ pub fn run<W: World, S: StepLog>(
     ensures ok { IfOk result (λ outcome. IsRun (W.view world.old) S.KEEPS packet outcome (S.list log.old) (S.list log.new)) }
     ensures items { IfOk result (λ outcome. outcome.items.items ≡ (run_of (W.view world.old) packet).items) }
     ensures counts { IfOk result (λ outcome. outcome.counts.items ≡ (run_of (W.view world.old) packet).counts) }
+    ensures lines { OnOk result (S.KEEPS ≡ true → S.list log.new ≡ S.list log.old ++ (run_of (W.view world.old) packet).lines) }
     ensures err { OnErr result (IsFront (W.view world.old) S.KEEPS packet (S.list log.old) (S.list log.new)) }
 {
     world.known();

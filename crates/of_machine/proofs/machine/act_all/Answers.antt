@@ -1,11 +1,8 @@
-use Rattle.std.proofs.Common.{◌≡◌, ◌+◌, ◌++◌, ◌∷◌, [], refl, sym, ◌∙◌, drop, append_assoc}
-use Rattle.std.proofs.lemmas.Result.{err_from_is_err_and, on_ok_weaker, on_err_weaker}
+use Rattle.std.proofs.Common.{◌+◌, ◌++◌, drop}
+use Rattle.std.proofs.lemmas.Result.{err_from_is_err_and}
 use Rattle.of_actions.specs.declared.action.Action.TheVariants.{Output}
-use Rattle.of_machine.specs.Rows.{Lookup, RunSet, acts, works, task, at_entry, set_out}
-use Rattle.of_machine.specs.Runs.{point}
-use Rattle.of_machine.proofs.Reaching.{stays, begins, begun, whole_run, whole_front}
-use Rattle.of_machine.proofs.Moving.{ends, acted, applied, runs_set, misses, enters, acts_at, instructions_at}
-use Rattle.of_machine.proofs.Ending.{is_run, items_of, counts_of}
+use Rattle.of_machine.specs.Rows.{acts}
+use Rattle.of_machine.proofs.Moving.{acts_at}
 use Rattle.of_machine.proofs.machine.act_all.Goals as goal
 
 pub returns-in_err-act-clause-err : goal.returns-in_err-act-clause-err
@@ -14,4 +11,4 @@ returns-in_err-act-clause-err g c =
     let l = c.args.actions.now in
     let i = c.loop-action.action-index in
     rw p.1 (λ rest others start h. c.in_err-act.ensures.err (acts (drop (i + 1) l) ++ rest) others start
-      (rw (acts_at l i (Output 0 0) c.loop-action-test.true) at (c.loop-action.invariant rest others start h)))
+    (rw (acts_at l i (Output 0 0) c.loop-action-test.true) at (c.loop-action.invariant rest others start h)))

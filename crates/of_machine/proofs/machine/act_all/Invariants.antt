@@ -7,5 +7,5 @@ abbrev pub invariant-loop-action : goal.invariant-loop-action
 invariant-loop-action g l =
     (rest : List Work) (others : List Task) →
     Moves (g.W.World.view l.world) g.S.StepLog.KEEPS
-      (point (task l.packet (acts l.actions ++ rest) ∷ others) l.initial.outcome (g.S.StepLog.list l.initial.log))
-      (point (task l.packet (acts (drop l.action-index l.actions) ++ rest) ∷ others) l.outcome (g.S.StepLog.list l.log))
+    (point (task l.packet (acts l.actions ++ rest) ∷ others) l.initial.outcome (g.S.StepLog.list l.initial.log))
+    (point (task l.packet (acts (drop l.action-index l.actions) ++ rest) ∷ others) l.outcome (g.S.StepLog.list l.log))

@@ -1,11 +1,6 @@
-use Rattle.std.proofs.Common.{◌≡◌, ◌+◌, ◌++◌, ◌∷◌, [], refl, sym, ◌∙◌, drop, append_assoc}
-use Rattle.std.proofs.lemmas.Result.{err_from_is_err_and, on_ok_weaker, on_err_weaker}
-use Rattle.of_actions.specs.declared.action.Action.TheVariants.{Output}
-use Rattle.of_machine.specs.Rows.{Lookup, RunSet, acts, works, task, at_entry, set_out}
-use Rattle.of_machine.specs.Runs.{point}
-use Rattle.of_machine.proofs.Reaching.{stays, begins, begun, whole_run, whole_front}
-use Rattle.of_machine.proofs.Moving.{ends, acted, applied, runs_set, misses, enters, acts_at, instructions_at}
-use Rattle.of_machine.proofs.Ending.{is_run, items_of, counts_of}
+use Rattle.std.proofs.Common.{[], refl, sym, append_assoc}
+use Rattle.std.proofs.lemmas.Result.{err_from_is_err_and}
+use Rattle.of_machine.proofs.Moving.{misses, enters}
 use Rattle.of_machine.proofs.machine.look_up.Goals as goal
 
 pub returns-in_ok-step-in-None-clause-ok : goal.returns-in_ok-step-in-None-clause-ok

@@ -1,11 +1,9 @@
-use Rattle.std.proofs.Common.{◌≡◌, ◌+◌, ◌++◌, ◌∷◌, [], refl, sym, ◌∙◌, drop, append_assoc}
-use Rattle.std.proofs.lemmas.Result.{err_from_is_err_and, on_ok_weaker, on_err_weaker}
-use Rattle.of_actions.specs.declared.action.Action.TheVariants.{Output}
-use Rattle.of_machine.specs.Rows.{Lookup, RunSet, acts, works, task, at_entry, set_out}
+use Rattle.std.proofs.Common.{◌∷◌, []}
+use Rattle.std.proofs.lemmas.Result.{on_ok_weaker, on_err_weaker}
+use Rattle.of_machine.specs.Rows.{task}
 use Rattle.of_machine.specs.Runs.{point}
-use Rattle.of_machine.proofs.Reaching.{stays, begins, begun, whole_run, whole_front}
-use Rattle.of_machine.proofs.Moving.{ends, acted, applied, runs_set, misses, enters, acts_at, instructions_at}
-use Rattle.of_machine.proofs.Ending.{is_run, items_of, counts_of}
+use Rattle.of_machine.proofs.Reaching.{stays}
+use Rattle.of_machine.proofs.Moving.{ends}
 use Rattle.of_machine.proofs.machine.pipeline.Goals as goal
 
 pub returns-in-Set-clause-err : goal.returns-in-Set-clause-err
@@ -19,13 +17,13 @@ returns-in-Ended-clause-ok g c =
     let w = g.W.World.view c.args.world.now in
     let moved = rw c.in-Ended.is at c.in_ok-look_up.ensures.ok in
     on_ok_weaker c.step.result
-      (λ line others start h. ends w g.S.StepLog.KEEPS c.look_up.new.packet [] others c.look_up.new.outcome (g.S.StepLog.list c.look_up.new.log) (g.S.StepLog.list c.step.new.self) line start (moved others start h))
-      c.step.ensures.ok
+    (λ line others start h. ends w g.S.StepLog.KEEPS c.look_up.new.packet [] others c.look_up.new.outcome (g.S.StepLog.list c.look_up.new.log) (g.S.StepLog.list c.step.new.self) line start (moved others start h))
+    c.step.ensures.ok
 
 pub returns-in-Ended-clause-err : goal.returns-in-Ended-clause-err
 returns-in-Ended-clause-err g c =
     let w = g.W.World.view c.args.world.now in
     let moved = rw c.in-Ended.is at c.in_ok-look_up.ensures.ok in
     on_err_weaker c.step.result
-      (λ same others start h. stays w g.S.StepLog.KEEPS (point (task c.look_up.new.packet [] ∷ others) c.look_up.new.outcome (g.S.StepLog.list c.look_up.new.log)) (g.S.StepLog.list c.step.new.self) same start (moved others start h))
-      c.step.ensures.err
+    (λ same others start h. stays w g.S.StepLog.KEEPS (point (task c.look_up.new.packet [] ∷ others) c.look_up.new.outcome (g.S.StepLog.list c.look_up.new.log)) (g.S.StepLog.list c.step.new.self) same start (moved others start h))
+    c.step.ensures.err

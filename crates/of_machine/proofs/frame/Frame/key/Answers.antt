@@ -1,5 +1,3 @@
-use Rattle.std.proofs.Common.{rules, arith}
-use Rattle.std.proofs.lemmas.Grind.{common_steps}
 use Rattle.of_machine.proofs.frame.Frame.key.Goals as goal
 
 pub returns : goal.returns
