@@ -124,6 +124,7 @@ fn look_up<W: World, S: StepLog>(
 ) -> Result<Then, AllocError>
     requires { IsSound (W.view world.old) }
     ensures kept { W.view world.new ≡ W.view world.old }
+    ensures content { W.content world.new ≡ W.content world.old }
     ensures ok { IfOk result (λ then. Follows (W.view world.old) S.KEEPS packet.old (LookupWork table ∷ []) outcome.old (S.list log.old) (then_works then) packet.new outcome.new (S.list log.new)) }
     ensures err { OnErr result (Fails (W.view world.old) S.KEEPS packet.old (LookupWork table ∷ []) outcome.old (S.list log.old) (S.list log.new)) }
 {
@@ -162,6 +163,7 @@ fn pipeline<W: World, S: StepLog>(
 ) -> Result<(), AllocError>
     requires { IsSound (W.view world.old) }
     ensures kept { W.view world.new ≡ W.view world.old }
+    ensures content { W.content world.new ≡ W.content world.old }
     ensures ok { OnOk result (Ends (W.view world.old) S.KEEPS packet (LookupWork 0 ∷ []) outcome.old (S.list log.old) outcome.new (S.list log.new)) }
     ensures err { OnErr result (Fails (W.view world.old) S.KEEPS packet (LookupWork 0 ∷ []) outcome.old (S.list log.old) (S.list log.new)) }
 {
@@ -180,6 +182,7 @@ pub fn run<W: World, S: StepLog>(
     log: &mut S,
 ) -> Result<Outcome, AllocError>
     ensures kept { W.view world.new ≡ W.view world.old }
+    ensures content { W.content world.new ≡ W.content world.old }
     ensures ok { IfOk result (λ outcome. IsRun (W.view world.old) S.KEEPS packet outcome (S.list log.old) (S.list log.new)) }
     ensures items { IfOk result (λ outcome. outcome.items.items ≡ (run_of (W.view world.old) packet).items) }
     ensures counts { IfOk result (λ outcome. outcome.counts.items ≡ (run_of (W.view world.old) packet).counts) }

@@ -18,6 +18,10 @@ struct OneEntry {
 impl World for OneEntry {
     ghost view = { λ s. record { winner = λ _ _. Some 0; flow = λ _ _. Some s.flow; ports = s.ports } };
 
+    ghost Content = { Unit {0} };
+
+    ghost content = { λ _. tt };
+
     fn find(&mut self, _table: u8, _key: &FieldKey) -> Option<usize> {
         Some(0)
     }

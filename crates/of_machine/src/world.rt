@@ -15,11 +15,17 @@ use std::alloc::{AllocError, Global};
 pub trait World {
     ghost view: { Self → TheWorld };
 
+    ghost Content: { Type 0 };
+
+    // all that a run keeps
+    ghost content: { Self → Content };
+
     /// The number of the entry of the table that wins for these fields (OpenFlow 1.3.5, 5.3).
     /// What helps to find it may be rearranged.
     fn find(&mut self, table: u8, key: &FieldKey) -> Option<usize>
         ensures found { result ≡ (view self.old).winner table (value key.now) }
-        ensures kept { view self.new ≡ view self.old };
+        ensures kept { view self.new ≡ view self.old }
+        ensures content { content self.new ≡ content self.old };
 
     /// The entry of that number.
     fn flow(&self, table: u8, number: usize) -> &Flow

@@ -16,6 +16,14 @@ use Rattle.of_switch.specs.Plane.{Forwarding}
 abbrev pub forwarding_of : Numbered → List Port → Forwarding
 forwarding_of t ports = record { table = table_of t; ports = ports }
 
+-- with them
+pub record Contents : Type 0 where
+  pub table : Numbered
+  pub ports : List Port
+
+abbrev pub contents : Numbered → List Port → Contents
+contents t ports = record { table = t; ports = ports }
+
 -- the number of the entry at a place
 abbrev pub number_at : List Entry → ℕ → ℕ
 number_at entries place = slice_index (numbers_of entries) place

@@ -4,7 +4,7 @@ ghost use Rattle.of_machine.specs.Ports.{port_at};
 ghost use Rattle.of_table.specs.Entries.{numbers_of};
 ghost use Rattle.of_switch.specs.Ports.{all_counted, counted, has_port, plus, tally};
 ghost use Rattle.of_switch.specs.Plane.{all_sent, all_tallied, effect_of, effects_of, forwards, framed, idle, sent, tallied, through};
-ghost use Rattle.of_switch.specs.Numbers.{all_placed, forwarding_of, numbered_world, placed};
+ghost use Rattle.of_switch.specs.Numbers.{Contents, all_placed, contents, forwarding_of, numbered_world, placed};
 
 use crate::effect::Effect;
 use of_classifier::Lookup;
@@ -110,6 +110,10 @@ fn find_port(ports: &[Port], number: u32) -> Option<Port>
 impl<L: Lookup> World for Plane<L> {
     ghost view = { λ p. numbered_world p.table p.ports.items };
 
+    ghost Content = { Contents };
+
+    ghost content = { λ p. contents p.table p.ports.items };
+
     fn find(&mut self, table: u8, key: &FieldKey) -> Option<usize> {
         if table == 0 {
             self.table.lookup(key)
@@ -177,6 +181,7 @@ impl<L: Lookup> Plane<L> {
         requires { 14 ≤ length bytes.now }
         ensures { IfOk result (λ effects. through number bytes.now (forwarding_of self.old.table self.old.ports.items) ≡ forwards effects.items (forwarding_of self.new.table self.new.ports.items)) }
     {
+        self.table.known();
         let packet = Packet::new(Frame::new(bytes.to_vec(alloc)?), number);
         let outcome = run(alloc, self, packet, &mut NoLog)?;
         self.tally_all(&outcome.counts);
