@@ -1,4 +1,4 @@
--- What a source in memory answers, and what it answered.
+-- What a source and a sink in memory answer, and what the source answered.
 use Rattle.std.specs.Prelude.{◌≡◌, ℕ, ◌+◌, ◌-◌, ◌<◌, ◌≤◌, ◌⊎◌, min, List, [], ◌∷◌, ◌++◌, take, drop, length, replicate, vec_len, vec_capacity}
 use Rattle.of_replay.specs.declared.io.Reading.{Reading}
 use Rattle.of_replay.specs.declared.io.Reading.TheVariants as reading
