@@ -1,2 +1,3 @@
 pub mod TellingLemmas
 pub mod DigitLemmas
+pub mod MemoryLemmas

@@ -2,3 +2,4 @@ pub mod Told
 pub mod Transfer
 pub mod Lexing
 pub mod Rows
+pub mod Memory

@@ -3,6 +3,7 @@
 
 mod io;
 mod lexing;
+pub mod memory;
 mod output;
 mod rows;
 mod transfer;

@@ -1,0 +1,38 @@
+-- What a source and a sink in memory answer, and what the source answered.
+use Rattle.std.specs.Prelude.{◌≡◌, ℕ, ◌+◌, ◌-◌, ◌<◌, ◌≤◌, ◌⊎◌, min, List, [], ◌∷◌, ◌++◌, take, drop, length, replicate, vec_len, vec_capacity}
+use Rattle.of_replay.specs.declared.io.Reading.{Reading}
+use Rattle.of_replay.specs.declared.io.Reading.TheVariants as reading
+use Rattle.of_replay.specs.declared.io.Writing.{Writing}
+use Rattle.of_replay.specs.declared.io.Writing.TheVariants as writing
+use Rattle.of_replay.specs.declared.memory.MemorySource.{MemorySource}
+use Rattle.of_replay.specs.declared.memory.MemorySink.{MemorySink}
+use Rattle.of_replay.specs.Told.{Answer, Gave, Ended, Failed}
+
+-- bytes in pieces of these lengths
+abbrev pub pieces_of : List ℕ → List ℕ → List Answer
+pieces_of bytes [] = []
+pieces_of bytes (n ∷ lengths) = Gave (take n bytes) ∷ pieces_of (drop n bytes) lengths
+
+-- the pieces, then the ends, then the faults
+abbrev pub told : MemorySource → List Answer
+told s = pieces_of s.bytes.items s.lengths.items ++ (replicate s.ends Ended ++ replicate s.failures Failed)
+
+-- how many reads there were
+abbrev pub reads_of : MemorySource → ℕ
+reads_of s = vec_len s.lengths + s.ends + s.failures
+
+-- calls fail from the call `fails_at` on, counted from 1; 0: none fails
+abbrev pub Fails : ℕ → ℕ → Type 0
+Fails fails_at call = (0 < fails_at) × (fails_at ≤ call)
+
+-- a read fails where it is told to, and only there; before that it gives a piece of what is left, then the end
+abbrev pub IsNext : MemorySource → ℕ → Reading → Type 0
+IsNext s room (reading.Bytes n) = (¬ Fails s.fails_at (reads_of s + 1)) × (n ≡ min s.piece (min room (length s.bytes.items - s.at)))
+IsNext s room reading.Nothing = ⊥
+IsNext s room reading.End = (¬ Fails s.fails_at (reads_of s + 1)) × (s.at ≡ length s.bytes.items)
+IsNext s room reading.Fault = Fails s.fails_at (reads_of s + 1)
+
+-- a write takes a piece; it fails where it is told to, and where memory is refused
+abbrev pub IsTaking : MemorySink → ℕ → Writing → Type 0
+IsTaking s len (writing.Wrote n) = (¬ Fails s.fails_at (s.writes + 1)) × (n ≡ min s.piece len)
+IsTaking s len writing.Fault = Fails s.fails_at (s.writes + 1) ⊎ (vec_capacity s.bytes < vec_len s.bytes + min s.piece len)

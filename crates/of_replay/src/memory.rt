@@ -1,0 +1,247 @@
+//! Sources and sinks in memory, whose reads and writes can be made to fail.
+ghost use Rattle.std.specs.Prelude.{◌≡◌, ◌+◌, ◌-◌, ◌<◌, ◌≤◌, ◌^◌, ◌++◌, ◌∷◌, ◌↔◌, ℕ, [], Some, IsTrue, length, take, drop, min, vec_len, vec_capacity, IfOk};
+ghost use Rattle.std.specs.List.{sum};
+
+use crate::io::{Reading, Sink, Source, Writing};
+use std::alloc::{AllocError, Global};
+
+/// A source over bytes in memory, which keeps what its reads answered.
+///
+/// Its reads give the bytes in pieces, and then each read is `End`. From a chosen read on each read is `Fault`.
+#[derive(Drop)]
+pub struct MemorySource {
+    bytes: Vec<u8>,
+    /// How many bytes were given.
+    at: usize,
+    /// How many bytes a read gives at most.
+    piece: usize,
+    /// The first read that fails, counted from 1; 0: none.
+    fails_at: u64,
+    /// The lengths of the pieces that were given.
+    lengths: Vec<usize>,
+    ends: u64,
+    failures: u64,
+    ghost within: { at ≤ length bytes.items },
+    ghost some: { 0 < piece },
+    ghost place: { at ≡ sum lengths.items },
+    ghost count: { vec_len lengths ≤ at },
+    ghost room: { length bytes.items ≤ vec_capacity lengths },
+    ghost ended: { at < length bytes.items → ends ≡ 0 },
+    ghost failing: { 0 < failures → (0 < fails_at) × (fails_at ≤ vec_len lengths + ends + failures) },
+}
+
+impl MemorySource {
+    ghost use Rattle.of_replay.specs.Told.{Gave};
+    ghost use Rattle.of_replay.specs.Memory.{told, reads_of, Fails};
+
+    /// A source of these bytes, in pieces of `piece` bytes at most. From the read `fails_at` on, counted from 1, each
+    /// read fails; 0: none does. Fails only where memory is refused.
+    pub fn new(
+        alloc: Global,
+        bytes: &[u8],
+        piece: usize,
+        fails_at: u64,
+    ) -> Result<MemorySource, AllocError>
+        requires { 0 < piece }
+        ensures bytes { IfOk result (λ s. s.bytes.items ≡ bytes.now) }
+        ensures settings { IfOk result (λ s. (s.piece ≡ piece) × (s.fails_at ≡ fails_at)) }
+        ensures told { IfOk result (λ s. told s ≡ []) }
+        ensures counts { IfOk result (λ s. (s.at ≡ 0) × (reads_of s ≡ 0) × (s.ends ≡ 0) × (s.failures ≡ 0)) }
+    {
+        Ok(MemorySource {
+            bytes: Vec::from_slice(alloc, bytes)?,
+            at: 0,
+            piece,
+            fails_at,
+            lengths: Vec::with_capacity(alloc, bytes.len())?,
+            ends: 0,
+            failures: 0,
+        })
+    }
+
+    /// Whether the next read fails.
+    fn fails_now(&self) -> bool
+        requires { reads_of self.now < 2 ^ 63 }
+        ensures { IsTrue result ↔ Fails self.now.fails_at (reads_of self.now + 1) }
+    {
+        let reads = self.lengths.len() as u64 + self.ends + self.failures;
+        self.fails_at != 0 && self.fails_at <= reads + 1
+    }
+
+    /// Gives the next piece, and answers its length.
+    fn give(&mut self, buffer: &mut [u8]) -> usize
+        requires room { 0 < length buffer.old }
+        requires left { self.old.at < length self.old.bytes.items }
+        requires well { self.old.failures ≡ 0 }
+        ensures piece { result ≡ min self.old.piece (min (length buffer.old) (length self.old.bytes.items - self.old.at)) }
+        ensures told { told self.new ≡ told self.old ++ Gave (take result buffer.new) ∷ [] }
+        ensures reads { reads_of self.new ≡ reads_of self.old + 1 }
+        ensures ends { self.new.ends ≡ self.old.ends }
+        ensures failures { self.new.failures ≡ self.old.failures }
+        ensures at { self.new.at ≡ self.old.at + result }
+        ensures same { (self.new.bytes.items ≡ self.old.bytes.items) × (self.new.piece ≡ self.old.piece) × (self.new.fails_at ≡ self.old.fails_at) }
+    {
+        let left = self.bytes.len() - self.at;
+        let count = self.piece.min(buffer.len().min(left));
+        let end = self.at + count;
+        buffer[..count].copy_from_slice(&self.bytes[self.at..end]);
+        match self.lengths.push(count) {
+            Ok(()) => {}
+            Err(_) => unreachable!(),
+        }
+        self.at = end;
+        count
+    }
+}
+
+impl Source for MemorySource {
+    ghost use Rattle.of_replay.specs.Told.{then_answer, answer_of, read_count, read_ends, read_faults, IsReading, given};
+    ghost use Rattle.of_replay.specs.Memory.{told, reads_of, IsNext};
+
+    ghost answers = { λ s. Some (told s) };
+
+    ghost reads = { reads_of };
+
+    ghost ends = { λ s. s.ends };
+
+    ghost failures = { λ s. s.failures };
+
+    /// Reads bytes into the front of the buffer: a piece of what is left, or all that there is room for.
+    fn read(&mut self, buffer: &mut [u8]) -> Reading
+        requires room { 0 < length buffer.old }
+        requires few { reads_of self.old < 2 ^ 63 }
+        ensures fits { IsReading result (length buffer.new) }
+        ensures answers { Some (told self.new) ≡ then_answer (Some (told self.old)) (answer_of result buffer.new) }
+        ensures reads { reads_of self.new ≡ reads_of self.old + 1 }
+        ensures ends { self.new.ends ≡ self.old.ends + read_ends result }
+        ensures failures { self.new.failures ≡ self.old.failures + read_faults result }
+        ensures next { IsNext self.old (length buffer.old) result }
+        ensures at { self.new.at ≡ self.old.at + read_count result }
+        ensures given { given (told self.new) ≡ take self.new.at self.new.bytes.items }
+        ensures same { (self.new.bytes.items ≡ self.old.bytes.items) × (self.new.piece ≡ self.old.piece) × (self.new.fails_at ≡ self.old.fails_at) }
+    {
+        if self.fails_now() {
+            self.failures += 1;
+            return Reading::Fault;
+        }
+        if self.at == self.bytes.len() {
+            self.ends += 1;
+            return Reading::End;
+        }
+        Reading::Bytes(self.give(buffer))
+    }
+}
+
+/// A sink into memory.
+///
+/// A write takes some bytes from the front. From a chosen write on each write is `Fault`, and so is a write for which
+/// memory is refused: nothing of it is taken.
+#[derive(Drop)]
+pub struct MemorySink {
+    bytes: Vec<u8>,
+    /// How many bytes a write takes at most.
+    piece: usize,
+    /// The first write that fails, counted from 1; 0: none.
+    fails_at: u64,
+    /// How many writes there were, or the greatest number where there were more.
+    writes: u64,
+    failures: u64,
+    ghost some: { 0 < piece },
+}
+
+impl MemorySink {
+    /// A sink that has taken nothing, and takes `piece` bytes a write at most. From the write `fails_at` on, counted
+    /// from 1, each write fails; 0: none does.
+    pub fn new(alloc: Global, piece: usize, fails_at: u64) -> MemorySink
+        requires { 0 < piece }
+        ensures bytes { result.bytes.items ≡ [] }
+        ensures settings { (result.piece ≡ piece) × (result.fails_at ≡ fails_at) }
+        ensures counts { (result.writes ≡ 0) × (result.failures ≡ 0) }
+    {
+        MemorySink {
+            bytes: Vec::new(alloc),
+            piece,
+            fails_at,
+            writes: 0,
+            failures: 0,
+        }
+    }
+
+    /// The bytes that were taken.
+    pub fn bytes(&self) -> &[u8]
+        ensures { result.now ≡ self.now.bytes.items }
+    {
+        &self.bytes
+    }
+}
+
+impl Sink for MemorySink {
+    ghost use Rattle.of_replay.specs.Told.{then_bytes, write_count, write_faults, IsWriting};
+    ghost use Rattle.of_replay.specs.Memory.{IsTaking};
+
+    ghost taken = { λ s. Some s.bytes.items };
+
+    ghost failures = { λ s. s.failures };
+
+    /// Takes the first bytes, as many as a write takes.
+    fn write(&mut self, bytes: &[u8]) -> Writing
+        requires some { 0 < length bytes.now }
+        requires few { self.old.failures < 2 ^ 63 }
+        ensures fits { IsWriting result (length bytes.now) }
+        ensures taken { Some self.new.bytes.items ≡ then_bytes (Some self.old.bytes.items) (take (write_count result) bytes.now) }
+        ensures failures { self.new.failures ≡ self.old.failures + write_faults result }
+        ensures next { IsTaking self.old (length bytes.now) result }
+        ensures writes { self.new.writes ≡ min (self.old.writes + 1) u64.MAX }
+        ensures same { (self.new.piece ≡ self.old.piece) × (self.new.fails_at ≡ self.old.fails_at) }
+    {
+        self.writes = self.writes.saturating_add(1);
+        let count = self.piece.min(bytes.len());
+        let fails = self.fails_at != 0 && self.fails_at <= self.writes;
+        if fails || self.bytes.extend_from_slice(&bytes[..count]).is_err() {
+            self.failures += 1;
+            return Writing::Fault;
+        }
+        Writing::Wrote(count)
+    }
+}
+
+#[cfg(test)]
+mod tests {
+    use super::*;
+    use std::test::Fail;
+
+    #[test]
+    fn source_is_read_in_pieces_to_its_end(rt: HostRuntime) -> Result<(), Fail> {
+        let mut source = MemorySource::new(rt.alloc(), b"0123456789", 4, 0)?;
+        let mut buffer = [0; 8];
+        assert_eq!(rt; source.read(&mut buffer), Reading::Bytes(4));
+        assert_eq!(rt; &buffer[..4], b"0123".as_slice());
+        assert_eq!(rt; source.read(&mut buffer), Reading::Bytes(4));
+        assert_eq!(rt; &buffer[..4], b"4567".as_slice());
+        assert_eq!(rt; source.read(&mut buffer), Reading::Bytes(2));
+        assert_eq!(rt; &buffer[..2], b"89".as_slice());
+        assert_eq!(rt; source.read(&mut buffer), Reading::End);
+        assert_eq!(rt; source.read(&mut buffer), Reading::End);
+        Ok(())
+    }
+
+    #[test]
+    fn source_fails_from_the_second_read_on(rt: HostRuntime) -> Result<(), Fail> {
+        let mut source = MemorySource::new(rt.alloc(), b"0123456789", 4, 2)?;
+        let mut buffer = [0; 3];
+        assert_eq!(rt; source.read(&mut buffer), Reading::Bytes(3));
+        assert_eq!(rt; buffer.as_slice(), b"012".as_slice());
+        assert_eq!(rt; source.read(&mut buffer), Reading::Fault);
+        assert_eq!(rt; source.read(&mut buffer), Reading::Fault);
+        Ok(())
+    }
+
+    #[test]
+    fn sink_takes_pieces_and_fails_at_the_third_write(rt: HostRuntime) {
+        let mut sink = MemorySink::new(rt.alloc(), 3, 3);
+        assert_eq!(rt; sink.write(b"01234"), Writing::Wrote(3));
+        assert_eq!(rt; sink.write(b"34"), Writing::Wrote(2));
+        assert_eq!(rt; sink.write(b"5"), Writing::Fault);
+        assert_eq!(rt; sink.bytes(), b"01234".as_slice());
+    }
+}
