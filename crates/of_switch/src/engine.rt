@@ -1,10 +1,11 @@
 //! The switch while memory lasts.
-ghost use Rattle.std.specs.Prelude.{◌≡◌, ◌≤◌, ◌∷◌, [], IfOk, IfNone, OnOk, OnErr, length, take};
+ghost use Rattle.std.specs.Prelude.{◌≡◌, ◌≤◌, ◌++◌, ◌∷◌, [], IfOk, IfNone, OnOk, OnErr, length, take};
 ghost use Rattle.std.specs.Option.{option_map};
 ghost use Rattle.of_wire.specs.Refusals.{first_of};
 ghost use Rattle.of_messages.specs.Written.{error_bytes};
 ghost use Rattle.of_switch.specs.State.{start};
 ghost use Rattle.of_switch.specs.Ports.{has_port, no_counters as zero_counters};
+ghost use Rattle.of_switch.specs.Runs.{drained, piece_in};
 ghost use Rattle.of_switch.specs.Steps.{connected, failed_of, fed, flow_mod_refusals, flow_modded, flow_of, frame_in, gives, handled, next_of, port_changed};
 
 use crate::effect::Effect;
@@ -157,6 +158,27 @@ impl<L: Lookup> Engine<L> {
         }
     }
 
+    /// Bytes of the controller come, and all messages that are there are handled.
+    pub fn piece(&mut self, piece: &[u8]) -> Result<Vec<Effect>, AllocError>
+        ensures { IfOk result (λ effects. piece_in piece.now self.old ≡ gives effects.items self.new) }
+    {
+        self.feed(piece)?;
+        self.drain()
+    }
+
+    // Handles all messages that are there.
+    fn drain(&mut self) -> Result<Vec<Effect>, AllocError>
+        ensures { IfOk result (λ effects. drained self.old ≡ gives effects.items self.new) }
+    {
+        let mut effects = Vec::new(self.alloc);
+        loop {
+            match self.next()? {
+                None => return Ok(effects),
+                Some(more) => append(&mut effects, more)?,
+            }
+        }
+    }
+
     // The error that answers the message that comes next, with its first bytes.
     fn refused(&self, xid: u32, size: usize, code: Code) -> Result<Vec<Effect>, AllocError>
         requires { size ≤ length self.now.connection.pending }
@@ -243,6 +265,14 @@ fn one(alloc: Global, effect: Effect) -> Result<Vec<Effect>, AllocError>
     let mut effects = Vec::new(alloc);
     effects.push(effect)?;
     Ok(effects)
+}
+
+// Effects after effects.
+fn append(effects: &mut Vec<Effect>, more: Vec<Effect>) -> Result<(), AllocError>
+    ensures { OnOk result (effects.new.items ≡ effects.old.items ++ more.items) }
+{
+    let mut more = more;
+    effects.append(&mut more)
 }
 
 // An error, and the end of the connection.

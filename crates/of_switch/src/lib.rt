@@ -3,6 +3,7 @@
 
 mod effect;
 mod engine;
+mod laws;
 mod plane;
 mod port_change;
 mod switch;

@@ -3,7 +3,7 @@ ghost use Rattle.std.specs.Prelude.{◌≡◌, false, IfOk, IfNone};
 ghost use Rattle.std.specs.Option.{option_map};
 ghost use Rattle.of_switch.specs.State.{start};
 ghost use Rattle.of_switch.specs.Steps.{connected, fed, frame_in, gives, next_of, port_changed};
-ghost use Rattle.of_switch.specs.Runs.{piece_in, drained};
+ghost use Rattle.of_switch.specs.Runs.{piece_in};
 ghost use Rattle.of_switch.specs.Calls.{Call, any_refusal, connect_refusal, feed_refusal, port_refusal, well};
 
 use crate::effect::Effect;
@@ -121,6 +121,28 @@ impl<L: Lookup> Switch<L> {
         }
         match self.engine.next() {
             Ok(found) => Ok(found),
+            Err(AllocError) => {
+                self.failed = true;
+                Err(SwitchError::NoMemory)
+            }
+        }
+    }
+
+    /// Bytes of the controller come, cut anywhere, and each whole message is handled: `feed`, and then `next` until there is none.
+    ///
+    /// Refused, in this order: `Failed`; `NotConnected`.
+    pub fn piece(&mut self, piece: &[u8]) -> Result<Vec<Effect>, SwitchError>
+        ensures { Call (feed_refusal self.old) (λ effects new.
+            (piece_in piece.now self.old.state ≡ gives effects.items new.state) × (new.failed ≡ false)) self.old result self.new }
+    {
+        if self.failed {
+            return Err(SwitchError::Failed);
+        }
+        if self.engine.phase() == Phase::Disconnected {
+            return Err(SwitchError::NotConnected);
+        }
+        match self.engine.piece(piece) {
+            Ok(effects) => Ok(effects),
             Err(AllocError) => {
                 self.failed = true;
                 Err(SwitchError::NoMemory)
