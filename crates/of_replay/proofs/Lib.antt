@@ -1,3 +1,4 @@
 pub mod TellingLemmas
 pub mod DigitLemmas
 pub mod MemoryLemmas
+pub mod Lines

@@ -1,11 +1,14 @@
 //! Event files: rows from a source, and what a switch gives for them to a sink.
 #![tactic(auto)]
 
+mod event_file;
 mod io;
 mod lexing;
 pub mod memory;
 mod output;
+mod play;
 mod rows;
 mod transfer;
 
 pub use io::{Reading, Sink, Source, Writing};
+pub use event_file::{Ended, replay, status};

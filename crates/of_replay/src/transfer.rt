@@ -66,6 +66,7 @@ pub fn read_all<S: Source>(
     ensures given { GaveMore (S.answers reader.old) file.old.items (S.answers reader.new) file.new.items }
     ensures stop { IfErr result (StopsFor (S.reads reader.new) (S.ends reader.old) (S.ends reader.new) (S.failures reader.old) (S.failures reader.new)) }
     ensures end { OnOk result (S.ends reader.new ≡ S.ends reader.old + 1) }
+    ensures open { OnErr result (S.ends reader.new ≡ S.ends reader.old) }
     ensures well { OnOk result (S.failures reader.new ≡ S.failures reader.old) }
 {
     for _ in 0..MOST_READS {

@@ -16,6 +16,16 @@ pub record Held : Type 0 where
 abbrev pub well : State → Held
 well s = record { failed = false; state = s }
 
+-- the numbers of the refusals
+abbrev pub number_of : SwitchError → ℕ
+number_of NoMemory = 1
+number_of Failed = 2
+number_of NotConnected = 3
+number_of Connected = 4
+number_of PortExists = 5
+number_of TooManyPorts = 7
+number_of BadPortNumber = 8
+
 -- What a call does: the refusal that applies, and nothing else; or what `does` says; or memory ran out, and it is failed from then on.
 abbrev pub Call : {A : Type 0} → Option SwitchError → (A → Held → Type 0) → Held → Result A SwitchError → Held → Type 0
 Call (Some e) does old result new = (result ≡ Err e) × (new ≡ old)

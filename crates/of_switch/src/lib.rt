@@ -9,5 +9,6 @@ mod port_change;
 mod switch;
 
 pub use effect::Effect;
+pub use laws::two_pieces;
 pub use port_change::PortChange;
 pub use switch::{Switch, SwitchError};

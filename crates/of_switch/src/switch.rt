@@ -4,7 +4,7 @@ ghost use Rattle.std.specs.Option.{option_map};
 ghost use Rattle.of_switch.specs.State.{start};
 ghost use Rattle.of_switch.specs.Steps.{connected, fed, frame_in, gives, next_of, port_changed};
 ghost use Rattle.of_switch.specs.Runs.{piece_in};
-ghost use Rattle.of_switch.specs.Calls.{Call, any_refusal, connect_refusal, feed_refusal, port_refusal, well};
+ghost use Rattle.of_switch.specs.Calls.{Call, any_refusal, connect_refusal, feed_refusal, number_of, port_refusal, well};
 
 use crate::effect::Effect;
 use crate::engine::Engine;
@@ -34,6 +34,14 @@ pub enum SwitchError {
     TooManyPorts = 7,
     /// The number is not 1 to 0xffffff00.
     BadPortNumber = 8,
+}
+
+impl SwitchError {
+    pub fn number(self) -> u32
+        ensures { result ≡ number_of self }
+    {
+        self as u32
+    }
 }
 
 /// An OpenFlow 1.3 switch, whose lookups go by the classifier `L`.

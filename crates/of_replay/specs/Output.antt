@@ -1,0 +1,26 @@
+-- The lines that are printed for what a switch gives.
+use Rattle.std.specs.Prelude.{ℕ, List, [], ◌∷◌, ◌++◌, codes, decimal}
+use Rattle.std.specs.List.{flat_map}
+use Rattle.hex.specs.Hex.{encode_lower}
+use Rattle.of_switch.specs.declared.effect.Effect.{Effect}
+use Rattle.of_switch.specs.declared.effect.Effect.TheVariants.{Answer, Sent, Closed}
+use Rattle.of_switch.specs.declared.switch.SwitchError.{SwitchError}
+use Rattle.of_switch.specs.Calls.{number_of}
+use Rattle.of_switch.specs.Runs.{Report, Gives, IsRefused}
+
+-- `a HEX`, `s PORT HEX` or `closed`
+abbrev pub line_of : Effect → List ℕ
+line_of (Answer bytes) = codes "a " ++ encode_lower bytes ++ 10 ∷ []
+line_of (Sent port frame) = codes "s " ++ decimal port ++ 32 ∷ encode_lower frame ++ 10 ∷ []
+line_of Closed = codes "closed" ++ 10 ∷ []
+
+abbrev pub text_of : List Effect → List ℕ
+text_of effects = flat_map line_of effects
+
+-- `refused N`
+abbrev pub refused_line : SwitchError → List ℕ
+refused_line refusal = codes "refused " ++ decimal (number_of refusal) ++ 10 ∷ []
+
+abbrev pub report_text : Report → List ℕ
+report_text (Gives effects) = text_of effects
+report_text (IsRefused refusal) = refused_line refusal

@@ -1,0 +1,90 @@
+//! Event files from a source, played on a new switch, and what it gives to a sink.
+ghost use Rattle.std.specs.Prelude.{◌≡◌, ◌⊎◌, ◌<◌, IfOk, replicate};
+ghost use Rattle.of_replay.specs.Play.{Replays};
+ghost use Rattle.of_replay.specs.Ended.{ended_so, status_of};
+
+use crate::io::{Sink, Source};
+use crate::play::{Halt, Player};
+use crate::transfer::{Stop, read_all};
+use of_classifier::Lookup;
+use of_switch::Switch;
+use std::alloc::{AllocError, Global};
+
+/// A read asks for so many bytes.
+const READ_SIZE: usize = 65_536;
+
+/// The number of the switch that rows are played on (OpenFlow 1.3.5, 7.3.1).
+const DPID: u64 = 1;
+
+/// How a run ended.
+#[derive(Clone, Copy, Debug, PartialEq, Eq)]
+pub enum Ended {
+    /// All rows were played, and what they print was written.
+    Done,
+    /// The line of this number, from 1, is a bad row; what the rows before it print was written.
+    BadRow(u64),
+    /// A read failed, or a million reads found no end; what the whole lines that were read print was written.
+    ReadFault,
+    /// A write failed; a front of what the rows print was written.
+    WriteFault,
+    /// Memory ran out; what the rows before that print was written.
+    NoMemory,
+}
+
+/// The exit status of a run.
+pub fn status(ended: &Ended) -> u8
+    ensures { result ≡ status_of ended.now }
+{
+    match ended {
+        Ended::Done => 0,
+        Ended::BadRow(_) => 2,
+        Ended::ReadFault | Ended::WriteFault | Ended::NoMemory => 3,
+    }
+}
+
+// Why a run of the lines ended, where it would end so if all of them were played.
+fn ended_by(played: Result<(), Halt>, end: Ended) -> Ended
+    ensures { result ≡ ended_so played end }
+{
+    match played {
+        Ok(()) => end,
+        Err(Halt::Bad(number)) => Ended::BadRow(number),
+        Err(Halt::Memory) => Ended::NoMemory,
+        Err(Halt::Write) => Ended::WriteFault,
+    }
+}
+
+fn zeros(alloc: Global, len: usize) -> Result<Vec<u8>, AllocError>
+    ensures { IfOk result (λ bytes. bytes.items ≡ replicate len 0) }
+{
+    let mut bytes = Vec::new(alloc);
+    bytes.resize(len, 0)?;
+    Ok(bytes)
+}
+
+/// Plays the rows of a source on a new switch without a connection, flows and ports, whose number is 1, and writes what it gives.
+pub fn replay<L: Lookup, S: Source, W: Sink>(
+    alloc: Global,
+    reader: &mut S,
+    writer: &mut W,
+) -> Ended
+    requires reads { S.reads reader.old ≡ 0 }
+    requires failures { W.failures writer.old ≡ 0 }
+    ensures output { Replays result (S.answers reader.old) (S.answers reader.new) (S.ends reader.old) (S.ends reader.new) (W.taken writer.old) (W.taken writer.new) }
+    ensures read_fault { result ≡ Ended.ReadFault → (S.failures reader.old < S.failures reader.new) ⊎ (S.reads reader.new ≡ 1000000) }
+    ensures write_fault { result ≡ Ended.WriteFault → 0 < W.failures writer.new }
+{
+    let Ok(mut buffer) = zeros(alloc, READ_SIZE) else {
+        return Ended::NoMemory;
+    };
+    let Ok(switch) = Switch::<L>::new(alloc, DPID) else {
+        return Ended::NoMemory;
+    };
+    let mut player = Player::new(alloc, switch);
+    let mut file = Vec::new(alloc);
+    match read_all(reader, &mut buffer, &mut file) {
+        Ok(()) => ended_by(player.play(&file, true, writer), Ended::Done),
+        Err(Stop::Fault) => ended_by(player.play(&file, false, writer), Ended::ReadFault),
+        Err(Stop::Memory) => ended_by(player.play(&file, false, writer), Ended::NoMemory),
+    }
+}
