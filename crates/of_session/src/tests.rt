@@ -34,7 +34,10 @@ fn greeting_and_echo(rt: HostRuntime) -> Result<(), Fail> {
     assert_eq!(rt; session.phase(), Phase::Open);
     if let Next::Read { xid, size, message } = session.next()? {
         assert_eq!(rt; xid, 2);
-        assert_eq!(rt; session.first(size), [4u8, 2, 0, 9, 0, 0, 0, 2, 0xab].as_slice());
+        assert_eq!(rt;
+            session.first(size),
+            [4u8, 2, 0, 9, 0, 0, 0, 2, 0xab].as_slice()
+        );
         assert!(rt; matches!(message, Message::EchoRequest(_)));
         session.take(size);
     }
