@@ -7,12 +7,17 @@ use byteorder::{BigEndian, ByteOrder};
 use of_wire::Code;
 
 pub const HELLO: u8 = 0;
+
 pub const ECHO_REQUEST: u8 = 2;
+
 pub const FLOW_MOD: u8 = 14;
+
 pub const BARRIER_REQUEST: u8 = 20;
 
 const BAD_VERSION: Code = Code { kind: 1, code: 0 };
+
 const BAD_TYPE: Code = Code { kind: 1, code: 1 };
+
 const BAD_LEN: Code = Code { kind: 1, code: 6 };
 
 /// Refuses a message by its version, type and length alone, in that order (OpenFlow 1.3.5, 7.1 and 7.4.4).

@@ -10,3 +10,6 @@ pub use head::check_head;
 pub use message::{FlowMod, FlowModCommand, Message};
 pub use reading::read_message;
 pub use writing::{write_barrier_reply, write_echo_reply, write_error, write_hello};
+
+#[cfg(test)]
+mod tests;

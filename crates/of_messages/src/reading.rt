@@ -13,7 +13,9 @@ use of_wire::{Bytes, Code, ReadError};
 use std::alloc::Global;
 
 const BAD_COMMAND: Code = Code { kind: 5, code: 6 };
+
 const BAD_TABLE: Code = Code { kind: 5, code: 2 };
+
 const BAD_FLAGS: Code = Code { kind: 5, code: 7 };
 
 fn rest_from(bytes: &[u8], at: usize) -> &[u8]
@@ -78,10 +80,7 @@ fn read_body(alloc: Global, message: &[u8]) -> Result<Message, ReadError>
 {
     match message[1] {
         HELLO => Ok(Message::Hello),
-        ECHO_REQUEST => Ok(Message::EchoRequest(Bytes::from_slice(
-            alloc,
-            rest_from(message, 8),
-        )?)),
+        ECHO_REQUEST => Ok(Message::EchoRequest(Bytes::from_slice(alloc, rest_from(message, 8))?)),
         BARRIER_REQUEST => Ok(Message::BarrierRequest),
         _ => Ok(Message::FlowMod(read_flow_mod(alloc, message)?)),
     }

@@ -1,6 +1,6 @@
 -- What comes next of a connection: its size, and that it stays where more bytes come.
-use Rattle.std.proofs.Common.{◌≡◌, ℕ, ◌+◌, ◌<◌, ◌≤◌, ◌⊎◌, inl, inr, Bool, true, false, cond, List, [], ◌∷◌, ◌++◌, length, take, drop, Result, Ok, Err, refl, sym, ◌∙◌, ap, subst, arith, append_assoc, length-append, length-drop}
-use Rattle.std.proofs.lemmas.List.{take-append-drop, take-append-le, drop-append-le, length-take}
+use Rattle.std.proofs.Common.{◌≡◌, ℕ, ◌≤◌, Bool, true, false, cond, List, ◌++◌, length, take, Result, Ok, Err, sym, ◌∙◌, ap, arith, append_assoc, length-append}
+use Rattle.std.proofs.lemmas.List.{take-append-drop, take-append-le, length-take}
 use Rattle.of_wire.specs.declared.code.Code.{Code}
 use Rattle.of_messages.specs.declared.message.Message.{Message}
 use Rattle.of_messages.specs.Messages.{xid_of, message_of}
@@ -9,7 +9,7 @@ use Rattle.of_session.specs.declared.session.Phase.TheVariants.{Disconnected, Gr
 use Rattle.of_session.specs.declared.session.Next.{Next}
 use Rattle.of_session.specs.declared.session.Next.TheVariants.{Nothing, BadStream, NotHello, Opened, Read, Refused}
 use Rattle.of_session.specs.Stream.{First, Whole, Bad, Partial, front_of, length_of, IsMessage}
-use Rattle.of_session.specs.Session.{Connection, is_disconnected, fed, is_first_hello, greeted, read_as, judged, next_by, next_of, entered, taken, opened, alone}
+use Rattle.of_session.specs.Session.{Connection, is_disconnected, fed, is_first_hello, read_as, judged, next_by, next_of}
 use Rattle.of_session.proofs.Fronts.{Looks, looks, length_of-append, message_front, malformed_front}
 use Rattle.of_session.proofs.Splitting.{front_message}
 

@@ -27,11 +27,17 @@ pub enum Next {
     /// Neither a whole message nor a malformed header is there.
     Nothing,
     /// A header whose length is below 8: the connection is to be closed.
-    BadStream { xid: u32 },
+    BadStream {
+        xid: u32,
+    },
     /// A first message that is no HELLO of version 4: the connection is to be closed.
-    NotHello { xid: u32 },
+    NotHello {
+        xid: u32,
+    },
     /// The HELLO that opens the connection, of so many bytes.
-    Opened { size: usize },
+    Opened {
+        size: usize,
+    },
     /// A message of so many bytes.
     Read {
         xid: u32,
@@ -39,7 +45,11 @@ pub enum Next {
         message: Message,
     },
     /// A message of so many bytes, which is refused.
-    Refused { xid: u32, size: usize, code: Code },
+    Refused {
+        xid: u32,
+        size: usize,
+        code: Code,
+    },
 }
 
 /// A controller's connection, or that there is none.
