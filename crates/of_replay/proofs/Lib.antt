@@ -2,3 +2,4 @@ pub mod TellingLemmas
 pub mod DigitLemmas
 pub mod MemoryLemmas
 pub mod Lines
+pub mod Replaying

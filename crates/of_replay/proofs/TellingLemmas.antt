@@ -13,7 +13,7 @@ pub then-nil : (k : Option (List ℕ)) → then_bytes k [] ≡ k
 then-nil None = refl
 then-nil (Some bs) = ap Some (append-nil bs)
 
-answers-nil : (k : Option (List Answer)) → then_answers k [] ≡ k
+pub answers-nil : (k : Option (List Answer)) → then_answers k [] ≡ k
 answers-nil None = refl
 answers-nil (Some bs) = ap Some (append-nil bs)
 
