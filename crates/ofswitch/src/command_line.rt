@@ -21,7 +21,7 @@ there, 7 too many ports, 8 bad port number.
   ofswitch replay examples/first-path.events";
 
 /// The command line of the program.
-pub fn command(alloc: Global) -> Result<Command<'static>, AllocError> {
+pub fn command<'a>(alloc: Global) -> Result<Command<'a>, AllocError> {
     let file = Arg::new(alloc, "FILE")
         .required(true)
         .help("The event file to run");

@@ -1,5 +1,5 @@
 //! Files and streams as sources and sinks.
-ghost use Rattle.std.specs.Prelude.{◌≡◌, None};
+ghost use Rattle.std.specs.Prelude.{◌≡◌, ◌≤◌, None};
 
 use of_replay::{Reading, Sink, Source, Writing};
 use std::io::{ErrorKind, Read, Write};
@@ -11,6 +11,8 @@ pub struct ReaderSource<R: Read + Drop> {
     reads: u64,
     ends: u64,
     failures: u64,
+    ghost few_ends: { ends ≤ reads },
+    ghost few_failures: { failures ≤ reads },
 }
 
 impl<R: Read + Drop> ReaderSource<R> {

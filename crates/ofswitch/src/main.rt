@@ -4,7 +4,8 @@
 mod command_line;
 mod files;
 
-use clap::{ArgMatches, Error, ErrorKind};
+use clap::error::ErrorKind;
+use clap::{ArgMatches, Error};
 use command_line::command;
 use files::{ReaderSource, WriterSink};
 use of_classifier::Scan;
