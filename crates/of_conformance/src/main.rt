@@ -1,0 +1,58 @@
+//! Replays the event files of data/ by the public `replay`, and says whether each prints what the standard wants.
+#![tactic(auto)]
+
+use of_classifier::Scan;
+use of_replay::memory::{MemorySink, MemorySource};
+use of_replay::{Ended, replay};
+use std::fs;
+use std::io;
+
+#[cfg(test)]
+mod tests;
+
+/// The event files, each beside the text that it is to print.
+const NAMES: [&str; 16] = [
+    "hello",
+    "wrong-version",
+    "first-path",
+    "three-pieces",
+    "single-bytes",
+    "one-piece",
+    "two-messages-in-one-piece",
+    "bad-header-length",
+    "replaced-flow",
+    "frame-lengths",
+    "short-flow-mod",
+    "bad-flow-mod-length",
+    "bad-match-type",
+    "bad-instruction-length",
+    "bad-action-one",
+    "bad-action-two",
+];
+
+/// A read gives so many bytes at most.
+const PIECE: usize = 1000;
+
+fn main(rt: HostRuntime) -> io::Result<()> {
+    for name in NAMES {
+        let events = fs::read_to_string(&rt, &format!(in rt.alloc(); "{name}.events")?)?;
+        let expected = fs::read_to_string(&rt, &format!(in rt.alloc(); "{name}.expected")?)?;
+        println!(rt; "{name}: {}", verdict(&rt, events.as_bytes(), expected.as_bytes()))?;
+    }
+    Ok(())
+}
+
+fn verdict(rt: &HostRuntime, events: &[u8], expected: &[u8]) -> &'static str {
+    let Ok(mut source) = MemorySource::new(rt.alloc(), events, PIECE, 0) else {
+        return "no memory";
+    };
+    let mut sink = MemorySink::new(rt.alloc(), PIECE, 0);
+    match replay::<Scan, _, _>(rt.alloc(), &mut source, &mut sink) {
+        Ended::Done if sink.bytes() == expected => "as expected",
+        Ended::Done => "other output",
+        Ended::BadRow(_) => "bad row",
+        Ended::ReadFault => "read fault",
+        Ended::WriteFault => "write fault",
+        Ended::NoMemory => "no memory",
+    }
+}
