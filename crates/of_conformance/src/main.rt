@@ -4,8 +4,7 @@
 use of_classifier::Scan;
 use of_replay::memory::{MemorySink, MemorySource};
 use of_replay::{Ended, replay};
-use std::fs;
-use std::io;
+use std::{fs, io};
 
 #[cfg(test)]
 mod tests;
@@ -37,7 +36,10 @@ fn main(rt: HostRuntime) -> io::Result<()> {
     for name in NAMES {
         let events = fs::read_to_string(&rt, &format!(in rt.alloc(); "{name}.events")?)?;
         let expected = fs::read_to_string(&rt, &format!(in rt.alloc(); "{name}.expected")?)?;
-        println!(rt; "{name}: {}", verdict(&rt, events.as_bytes(), expected.as_bytes()))?;
+        println!(rt;
+            "{name}: {}",
+            verdict(&rt, events.as_bytes(), expected.as_bytes())
+        )?;
     }
     Ok(())
 }

@@ -3,6 +3,7 @@ use std::test::Fail;
 
 // HELLO, an ECHO_REQUEST and its reply (OpenFlow 1.3.5, 7.5.1 and 7.5.2).
 const EVENTS: &[u8] = b"connect\nc 0400000800000001\nc 0402000800000002\n";
+
 const PRINTED: &[u8] = b"a 04000010000000000001000800000010\na 0403000800000002\n";
 
 #[test]
@@ -45,6 +46,9 @@ fn first_bad_row_is_named(rt: HostRuntime) -> Result<(), Fail> {
     let mut sink = MemorySink::new(rt.alloc(), 1000, 0);
     let ended = replay::<Scan, _, _>(rt.alloc(), &mut source, &mut sink);
     assert_eq!(rt; ended, Ended::BadRow(3));
-    assert_eq!(rt; sink.bytes(), b"a 04000010000000000001000800000010\n".as_slice());
+    assert_eq!(rt;
+        sink.bytes(),
+        b"a 04000010000000000001000800000010\n".as_slice()
+    );
     Ok(())
 }

@@ -10,7 +10,7 @@ mod layout;
 mod tests;
 
 pub use field::{Field, FieldRow, Need};
-pub use headers::{check_length, FrameFault, Headers, read, read_inside};
+pub use headers::{FrameFault, Headers, check_length, read, read_inside};
 pub use key::FieldKey;
 pub use laws::spelt_by_one;
 pub use layout::Layout;

@@ -83,8 +83,7 @@ going_on lines left line n s out out' first taken taken' held going h =
     let more = h.1 in
     let t = h.2 in
     let texts : (going.wrote ++ out) ++ text ≡ (going.wrote ++ more) ++ out' =
-      append_assoc going.wrote out text ∙ (ap (λ (x : List ℕ). going.wrote ++ x) (sym h.5) ∙ sym (append_assoc going.wrote more out')) in
-    (
+    append_assoc going.wrote out text ∙ (ap (λ (x : List ℕ). going.wrote ++ x) (sym h.5) ∙ sym (append_assoc going.wrote more out')) in (
       ap (λ (x : Held). x.failed) h.3,
       record {
         front = going.front ++ line ∷ [];
@@ -92,12 +91,12 @@ going_on lines left line n s out out' first taken taken' held going h =
         taken_is = h.4 ∙ (ap (λ (k : Option (List ℕ)). then_bytes k more) going.taken_is ∙ then-then first going.wrote more);
         lines_are = going.lines_are ∙ sym (append_assoc going.front (line ∷ []) left);
         goes = λ tail.
-          ap played_lines (append_assoc going.front (line ∷ []) tail)
-          ∙ (going.goes (line ∷ tail)
-          ∙ (ap (after_text (going.wrote ++ out)) (h.6 (λ u. played u (n + 1) tail))
-          ∙ (texts_after (going.wrote ++ out) text (played t (n + 1) tail)
-          ∙ (ap (λ (x : List ℕ). after_text x (played t (n + 1) tail)) texts
-          ∙ ap (λ (x : Held). after_text ((going.wrote ++ more) ++ out') (played x.state (n + 1) tail)) (sym h.3)))));
+            ap played_lines (append_assoc going.front (line ∷ []) tail)
+            ∙ (going.goes (line ∷ tail)
+            ∙ (ap (after_text (going.wrote ++ out)) (h.6 (λ u. played u (n + 1) tail))
+            ∙ (texts_after (going.wrote ++ out) text (played t (n + 1) tail)
+            ∙ (ap (λ (x : List ℕ). after_text x (played t (n + 1) tail)) texts
+            ∙ ap (λ (x : Held). after_text ((going.wrote ++ more) ++ out') (played x.state (n + 1) tail)) (sym h.3)))));
       },
     )
 
@@ -187,11 +186,10 @@ Parts ended line bytes (Some k) = (k < length bytes) × (lines_from ended line b
 
 parts_more : (ended : Bool) (line : List ℕ) (b : ℕ) (bs : List ℕ) (o : Option ℕ) → is_lf b ≡ false → Parts ended (line ++ b ∷ []) bs o → Parts ended line (b ∷ bs) (option_map (λ n. n + 1) o)
 parts_more ended line b bs None e h = rw e (h ∙ ap (open_line ended) (append_assoc line (b ∷ []) bs))
-parts_more ended line b bs (Some k) e h =
-    (
-      omega (arith, h.0, add-one k),
-      rw (e, add-one k) (h.1 ∙ ap (λ (x : List ℕ). x ∷ lines_from ended [] (drop (suc k) bs)) (append_assoc line (b ∷ []) (take k bs))),
-    )
+parts_more ended line b bs (Some k) e h = (
+  omega (arith, h.0, add-one k),
+  rw (e, add-one k) (h.1 ∙ ap (λ (x : List ℕ). x ∷ lines_from ended [] (drop (suc k) bs)) (append_assoc line (b ∷ []) (take k bs))),
+)
 
 parts_by : (ended : Bool) (line : List ℕ) (b : ℕ) (bs : List ℕ) (t : Bool) → is_lf b ≡ t → ((more : List ℕ) → Parts ended more bs (first_end bs)) → Parts ended line (b ∷ bs) (first_end (b ∷ bs))
 parts_by ended line b bs true e ih =
@@ -219,8 +217,7 @@ pub left_lines : (ended : Bool) (file : List ℕ) (at k : ℕ) → at ≤ length
     → (at + (k + 1) ≤ length file) × (lines_read ended (drop at file) ≡ take k (drop at file) ∷ lines_read ended (drop (at + (k + 1)) file))
 left_lines ended file at k le e =
     let h = line_first ended (drop at file) k e in
-    let same : drop (suc k) (drop at file) ≡ drop (at + (k + 1)) file = drop-drop (suc k) at file ∙ ap (λ (n : ℕ). drop n file) (omega arith) in
-    (
+    let same : drop (suc k) (drop at file) ≡ drop (at + (k + 1)) file = drop-drop (suc k) at file ∙ ap (λ (n : ℕ). drop n file) (omega arith) in (
       omega (arith, h.0, length-drop at file, le),
       h.1 ∙ ap (λ (x : List ℕ). take k (drop at file) ∷ lines_read ended x) same,
     )
@@ -235,7 +232,7 @@ go_on ended file at k n rest line s out out' first taken taken' held le is e fro
     let l = left_lines ended file at k le at_end in
     let same : line ≡ take k (drop at file) = front ∙ ap (take k) is in
     let here : Going (lines_read ended file) (line ∷ lines_read ended (drop (at + (k + 1)) file)) n s out first taken =
-      subst (λ (left : List (List ℕ)). Going (lines_read ended file) left n s out first taken) (l.1 ∙ ap (λ (x : List ℕ). x ∷ lines_read ended (drop (at + (k + 1)) file)) (sym same)) going in
+    subst (λ (left : List (List ℕ)). Going (lines_read ended file) left n s out first taken) (l.1 ∙ ap (λ (x : List ℕ). x ∷ lines_read ended (drop (at + (k + 1)) file)) (sym same)) going in
     let m = going_on (lines_read ended file) (lines_read ended (drop (at + (k + 1)) file)) line n s out out' first taken taken' held here h in
     (l.0, m.0, m.1)
 
@@ -248,7 +245,7 @@ go_halts ended file at k n rest line s out out' first taken taken' held halt le 
     let l = left_lines ended file at k le at_end in
     let same : line ≡ take k (drop at file) = front ∙ ap (take k) is in
     let here : Going (lines_read ended file) (line ∷ lines_read ended (drop (at + (k + 1)) file)) n s out first taken =
-      subst (λ (left : List (List ℕ)). Going (lines_read ended file) left n s out first taken) (l.1 ∙ ap (λ (x : List ℕ). x ∷ lines_read ended (drop (at + (k + 1)) file)) (sym same)) going in
+    subst (λ (left : List (List ℕ)). Going (lines_read ended file) left n s out first taken) (l.1 ∙ ap (λ (x : List ℕ). x ∷ lines_read ended (drop (at + (k + 1)) file)) (sym same)) going in
     going_halts halt (lines_read ended file) (lines_read ended (drop (at + (k + 1)) file)) line n s out out' first taken taken' held here h
 
 -- the line that is left open
@@ -264,7 +261,7 @@ pub last_halts : (ended : Bool) (file rest line : List ℕ) (at n : ℕ) (s : St
 last_halts ended file rest line at n s out out' first taken taken' held halt is_end is e same going h =
     let last = last_going ended file rest at n s out first taken is e going in
     let here : Going (lines_read ended file) (line ∷ []) n s out first taken =
-      subst (λ (left : List (List ℕ)). Going (lines_read ended file) left n s out first taken) (ap (λ (t : Bool). open_line t (drop at file)) is_end ∙ ap (λ (x : List ℕ). x ∷ []) (sym same)) last in
+    subst (λ (left : List (List ℕ)). Going (lines_read ended file) left n s out first taken) (ap (λ (t : Bool). open_line t (drop at file)) is_end ∙ ap (λ (x : List ℕ). x ∷ []) (sym same)) last in
     going_halts halt (lines_read ended file) [] line n s out out' first taken taken' held here h
 
 -- all lines are played: the rest is written, or it is not
@@ -279,7 +276,7 @@ unfolding Over
 over_last ended file rest line at n s out out' first taken taken' held is_end is e same going h =
     let last = last_going ended file rest at n s out first taken is e going in
     let here : Going (lines_read ended file) (line ∷ []) n s out first taken =
-      subst (λ (left : List (List ℕ)). Going (lines_read ended file) left n s out first taken) (ap (λ (t : Bool). open_line t (drop at file)) is_end ∙ ap (λ (x : List ℕ). x ∷ []) (sym same)) last in
+    subst (λ (left : List (List ℕ)). Going (lines_read ended file) left n s out first taken) (ap (λ (t : Bool). open_line t (drop at file)) is_end ∙ ap (λ (x : List ℕ). x ∷ []) (sym same)) last in
     (n + 1, held.state, (going_on (lines_read ended file) [] line n s out out' first taken taken' held here h).1)
 
 pub over_open : (ended : Bool) (file rest : List ℕ) (at n : ℕ) (s : State) (out : List ℕ) (first taken : Option (List ℕ))

@@ -35,7 +35,7 @@ replays_by r end answers answers' ends ends' taken taken' file ended is gave pla
   more = gave.more;
   answers_are = gave.answers;
   ends_so = subst (λ (t : Bool). Ends (ended_so r end) t (lines_read t (given gave.more)) taken taken') (sym is)
-    (subst (λ (f : List ℕ). Ends (ended_so r end) ended (lines_read ended f) taken taken') gave.bytes (by_result r end ended (lines_read ended file) taken taken' plays all));
+      (subst (λ (f : List ℕ). Ends (ended_so r end) ended (lines_read ended f) taken taken') gave.bytes (by_result r end ended (lines_read ended file) taken taken' plays all));
 }
 
 -- the source told its end
@@ -60,4 +60,4 @@ pub read_within : (r : Result (Unit {0}) Halt) (answers answers' : Option (List 
 read_within r answers answers' ends ends' taken taken' file e gave plays =
     let lines = lines_read false file in
     replays_by r NoMemory answers answers' ends ends' taken taken' file false (not_ended ends ends' e) gave plays
-      (λ w. record { front = lines; rest = []; lines_are = sym (append-nil lines); wrote = w })
+    (λ w. record { front = lines; rest = []; lines_are = sym (append-nil lines); wrote = w })

@@ -10,5 +10,5 @@ mod play;
 mod rows;
 mod transfer;
 
-pub use io::{Reading, Sink, Source, Writing};
 pub use event_file::{Ended, replay, status};
+pub use io::{Reading, Sink, Source, Writing};

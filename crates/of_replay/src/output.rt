@@ -55,7 +55,11 @@ pub fn push_effects(alloc: Global, out: &mut Vec<u8>, effects: &[Effect]) -> Res
 }
 
 /// Appends the line of a refused call.
-pub fn push_refusal(alloc: Global, out: &mut Vec<u8>, refusal: SwitchError) -> Result<(), AllocError>
+pub fn push_refusal(
+    alloc: Global,
+    out: &mut Vec<u8>,
+    refusal: SwitchError,
+) -> Result<(), AllocError>
     ensures { OnOk result (out.new.items ≡ out.old.items ++ refused_line refusal) }
 {
     out.extend_from_slice(b"refused ")?;

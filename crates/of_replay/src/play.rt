@@ -180,12 +180,7 @@ impl<L: Lookup> Player<L> {
     }
 
     /// Plays the lines of a file, on a new switch; where the file has not ended, its whole lines alone.
-    pub fn play<W: Sink>(
-        &mut self,
-        file: &[u8],
-        ended: bool,
-        writer: &mut W,
-    ) -> Result<(), Halt>
+    pub fn play<W: Sink>(&mut self, file: &[u8], ended: bool, writer: &mut W) -> Result<(), Halt>
         requires fresh { self.old.switch ≡ well (start 1) }
         requires empty { self.old.out.items ≡ [] }
         requires well { W.failures writer.old ≡ 0 }

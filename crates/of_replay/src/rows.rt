@@ -96,11 +96,7 @@ fn read_port(words: &[u8]) -> Option<NewPort>
 }
 
 // A row of more words than one.
-fn read_named(
-    name: &[u8],
-    words: &[u8],
-    bytes: &mut Vec<u8>,
-) -> Result<Option<Row>, AllocError>
+fn read_named(name: &[u8], words: &[u8], bytes: &mut Vec<u8>) -> Result<Option<Row>, AllocError>
     ensures { IfOk result (λ row. named_row name.now words.now ≡ option_map (with_bytes bytes.new.items) row) }
 {
     if is(name, b"c") {

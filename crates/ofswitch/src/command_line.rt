@@ -3,7 +3,8 @@
 use clap::{Arg, Command};
 use std::alloc::{AllocError, Global};
 
-const STATUSES: &str = "Exit status: 0 done; 1 bad arguments; 2 a bad row in FILE (`line N: bad row` on standard error, after the \
+const STATUSES: &str =
+    "Exit status: 0 done; 1 bad arguments; 2 a bad row in FILE (`line N: bad row` on standard error, after the \
 effects of the rows before it); 3 `read fault`, `write fault` or `no memory`.";
 
 const EVENT_FILES: &str = "An event file has one event a line, and words are parted by one space:
