@@ -22,7 +22,7 @@ by_places : (number : ℕ) (bytes : List ℕ) (t : Numbered) (ports : List Port)
     → through number bytes (forwarding_of t ports) ≡ applied (renumbered (place_in t.entries) (run_of (numbered_world t ports) (entering bytes number))) (forwarding_of t ports)
 by_places number bytes t ports distinct =
     ap (λ (m : Machine). applied m (forwarding_of t ports))
-      (run_is_renumbered (place_in t.entries) (numbered_world t ports) (world_of (forwarding_of t ports)) (renumbered_world t ports distinct) (entering bytes number))
+    (run_is_renumbered (place_in t.entries) (numbered_world t ports) (world_of (forwarding_of t ports)) (renumbered_world t ports distinct) (entering bytes number))
 
 pub through_is : {E A : Type 0} (number : ℕ) (bytes : List ℕ) (t : Numbered) (ports : List Port) (run : Contents) (packet : Packet) (items : List Item) (counts : List Count) (f2 f3 : Forwarding) (r : Result (Vec Effect A) E)
     → is_distinct entry_number t.entries ≡ true
@@ -40,11 +40,11 @@ through_is number bytes t ports run packet items counts f2 f3 (Ok es) distinct e
     let the_items : items ≡ m.items = is_items ∙ ap (λ (p : Packet). (run_of (numbered_world t ports) p).items) enters in
     let the_counts : counts ≡ m.counts = is_counts ∙ ap (λ (p : Packet). (run_of (numbered_world t ports) p).counts) enters in
     let tallied_f : f2 ≡ all_tallied (all_placed t.entries m.counts) (forwarding_of t ports) =
-      tallies ∙ ap (λ (k : Contents). all_tallied (all_placed k.table.entries counts) (forwarding_of k.table k.ports)) kept
-        ∙ ap (λ (cs : List Count). all_tallied (all_placed t.entries cs) (forwarding_of t ports)) the_counts in
+    tallies ∙ ap (λ (k : Contents). all_tallied (all_placed k.table.entries counts) (forwarding_of k.table k.ports)) kept
+    ∙ ap (λ (cs : List Count). all_tallied (all_placed t.entries cs) (forwarding_of t ports)) the_counts in
     let the_effects : effects_of m.items ≡ es.items = ap effects_of (sym the_items) ∙ sym effects in
     let the_rest : all_sent m.items (all_tallied (all_placed t.entries m.counts) (forwarding_of t ports)) ≡ f3 =
-      ap (λ (f : Forwarding). all_sent m.items f) (sym tallied_f) ∙ ap (λ (is : List Item). all_sent is f2) (sym the_items) ∙ sym sends in
+    ap (λ (f : Forwarding). all_sent m.items f) (sym tallied_f) ∙ ap (λ (is : List Item). all_sent is f2) (sym the_items) ∙ sym sends in
     by_places number bytes t ports distinct
-      ∙ ap (λ (l : List Effect). forwards l (all_sent m.items (all_tallied (all_placed t.entries m.counts) (forwarding_of t ports)))) the_effects
-      ∙ ap (λ (f : Forwarding). forwards es.items f) the_rest
+    ∙ ap (λ (l : List Effect). forwards l (all_sent m.items (all_tallied (all_placed t.entries m.counts) (forwarding_of t ports)))) the_effects
+    ∙ ap (λ (f : Forwarding). forwards es.items f) the_rest

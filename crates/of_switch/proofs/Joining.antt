@@ -68,8 +68,8 @@ more_by (Refused xid size code) s q o open_ sized h =
     let there : after n (fed q s) ≡ fed q (after n s) = ap (λ (bytes : List ℕ). record s { connection = record { phase = s.connection.phase; pending = bytes } }) (drop-append-le size s.connection.pending q sized.1) in
     let stays : come q (after n s) ≡ fed q (after n s) = come_open q (after n s) open_ in
     subst (Follows q s n) (same_Some _ _ h)
-      (ap (λ (bytes : List ℕ). Some (answered (error_bytes xid code bytes) (after n (fed q s)))) (failed_fed size q s.connection sized.1)
-      ∙ ap (λ (t : State). Some (answered (error_bytes xid code (failed_of size s.connection)) t)) (there ∙ sym stays))
+    (ap (λ (bytes : List ℕ). Some (answered (error_bytes xid code bytes) (after n (fed q s)))) (failed_fed size q s.connection sized.1)
+    ∙ ap (λ (t : State). Some (answered (error_bytes xid code (failed_of size s.connection)) t)) (there ∙ sym stays))
 more_by (Read xid size m) s q o open_ sized h =
     let n = Read xid size m in
     let failed = failed_of size s.connection in
@@ -78,10 +78,10 @@ more_by (Read xid size m) s q o open_ sized h =
     let open' : is_disconnected (handled xid m failed (after n s)).state.connection.phase ≡ false = ap (λ (c : Connection). is_disconnected c.phase) kept ∙ open_ in
     let stays : come q (handled xid m failed (after n s)).state ≡ fed q (handled xid m failed (after n s)).state = come_open q (handled xid m failed (after n s)).state open' in
     subst (Follows q s n) (same_Some _ _ h)
-      (ap (λ (bytes : List ℕ). Some (handled xid m bytes (after n (fed q s)))) (failed_fed size q s.connection sized.1)
-      ∙ (ap (λ (t : State). Some (handled xid m failed t)) there
-      ∙ (ap Some (handled_fed xid m failed q (after n s))
-      ∙ ap (λ (t : State). Some (gives (handled xid m failed (after n s)).effects t)) (sym stays))))
+    (ap (λ (bytes : List ℕ). Some (handled xid m bytes (after n (fed q s)))) (failed_fed size q s.connection sized.1)
+    ∙ (ap (λ (t : State). Some (handled xid m failed t)) there
+    ∙ (ap Some (handled_fed xid m failed q (after n s))
+    ∙ ap (λ (t : State). Some (gives (handled xid m failed (after n s)).effects t)) (sym stays))))
 
 something : (n : Next) (s : State) (o : Outcome) → came n s ≡ Some o → IsSomething n
 something Nothing s o h = absurd cc

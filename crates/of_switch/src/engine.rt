@@ -29,8 +29,11 @@ const ERROR_DATA: usize = 64;
 const NO_BUFFER: u32 = 0xffff_ffff;
 
 const HELLO_INCOMPATIBLE: Code = Code { kind: 0, code: 0 };
+
 const BAD_LEN: Code = Code { kind: 1, code: 6 };
+
 const BUFFER_UNKNOWN: Code = Code { kind: 1, code: 8 };
+
 const TABLE_FULL: Code = Code { kind: 5, code: 1 };
 
 #[derive(Drop)]
@@ -185,15 +188,13 @@ impl<L: Lookup> Engine<L> {
         ensures { IfOk result (λ effects. effects.items ≡ Effect.Answer (error_bytes xid code (failed_of size self.now.connection)) ∷ []) }
     {
         let failed = front_part(self.session.first(size), ERROR_DATA);
-        one(self.alloc, Effect::Answer(write_error(self.alloc, xid, code, failed)?))
+        one(
+            self.alloc,
+            Effect::Answer(write_error(self.alloc, xid, code, failed)?),
+        )
     }
 
-    fn handle(
-        &mut self,
-        xid: u32,
-        size: usize,
-        message: Message,
-    ) -> Result<Vec<Effect>, AllocError>
+    fn handle(&mut self, xid: u32, size: usize, message: Message) -> Result<Vec<Effect>, AllocError>
         requires { size ≤ length self.old.connection.pending }
         ensures { IfOk result (λ effects. handled xid message (failed_of size self.old.connection) self.old ≡ gives effects.items self.new) }
     {
@@ -204,7 +205,10 @@ impl<L: Lookup> Engine<L> {
                 one(self.alloc, Effect::Answer(reply))
             }
             Message::BarrierRequest => {
-                one(self.alloc, Effect::Answer(write_barrier_reply(self.alloc, xid)?))
+                one(
+                    self.alloc,
+                    Effect::Answer(write_barrier_reply(self.alloc, xid)?),
+                )
             }
             Message::FlowMod(flow_mod) => self.flow_mod(xid, size, flow_mod),
         }
