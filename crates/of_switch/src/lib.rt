@@ -12,3 +12,6 @@ pub use effect::Effect;
 pub use laws::two_pieces;
 pub use port_change::PortChange;
 pub use switch::{Switch, SwitchError};
+
+#[cfg(test)]
+mod tests;

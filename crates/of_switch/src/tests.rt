@@ -1,0 +1,77 @@
+use crate::{Effect, PortChange, Switch, SwitchError, two_pieces};
+use of_classifier::Scan;
+use std::alloc::Global;
+use std::process::Abort;
+use std::test::Fail;
+
+// What comes in at port 1 goes out at port 2.
+const FLOW_MOD: [u8; 88] = [
+    4, 14, 0, 88, 0, 0, 0, 3, // header
+    0, 0, 0, 0, 0, 0, 0, 0x2a, // cookie
+    0, 0, 0, 0, 0, 0, 0, 0, // its mask
+    0, 0, 0, 0, 0, 0, 0, 100, // table, command, idle and hard timeout, priority
+    0xff, 0xff, 0xff, 0xff, 0, 0, 0, 0, // buffer, out port
+    0, 0, 0, 0, 0, 0, 0, 0, // out group, flags, padding
+    0, 1, 0, 12, 0x80, 0, 0, 4, 0, 0, 0, 1, 0, 0, 0, 0, // match
+    0, 4, 0, 24, 0, 0, 0, 0, 0, 0, 0, 16, 0, 0, 0, 2, 0, 0, 0, 0, 0, 0, 0, 0,
+];
+
+fn added(number: u32) -> PortChange {
+    PortChange::Add {
+        number,
+        hw: [2, 0, 0, 0, 0, 1],
+        name: [0; 16],
+        up: true,
+    }
+}
+
+// A switch of two ports, and a controller that said HELLO.
+fn opened(rt: &impl Abort, alloc: Global) -> Result<Switch<Scan>, Fail> {
+    let mut switch = Switch::<Scan>::new(alloc, 1)?;
+    switch.port_change(added(1))?;
+    switch.port_change(added(2))?;
+    let effects = switch.connected()?;
+    assert_eq!(rt; effects.len(), 1);
+    assert!(rt; matches!(&effects[0], Effect::Answer(_)));
+    if let Effect::Answer(hello) = &effects[0] {
+        let bytes = [4u8, 0, 0, 16, 0, 0, 0, 0, 0, 1, 0, 8, 0, 0, 0, 0x10];
+        assert_eq!(rt; hello.as_slice(), bytes.as_slice());
+    }
+    let effects = switch.piece(&[4, 0, 0, 8, 0, 0, 0, 1])?;
+    assert!(rt; effects.is_empty());
+    Ok(switch)
+}
+
+#[test]
+fn echo(rt: HostRuntime) -> Result<(), Fail> {
+    let mut switch = opened(&rt, rt.alloc())?;
+    switch.feed(&[4, 2, 0, 10, 0, 0, 0, 9, 0xab, 0xcd])?;
+    let effects = switch.next()?.ok_or("a message")?;
+    assert_eq!(rt; effects.len(), 1);
+    assert!(rt; matches!(&effects[0], Effect::Answer(_)));
+    if let Effect::Answer(reply) = &effects[0] {
+        let bytes = [4u8, 3, 0, 10, 0, 0, 0, 9, 0xab, 0xcd];
+        assert_eq!(rt; reply.as_slice(), bytes.as_slice());
+    }
+    assert!(rt; switch.next()?.is_none());
+    two_pieces();
+    Ok(())
+}
+
+#[test]
+fn frames(rt: HostRuntime) -> Result<(), Fail> {
+    let mut switch = opened(&rt, rt.alloc())?;
+    assert!(rt; switch.frame(1, &[0u8; 60])?.is_empty());
+    assert!(rt; switch.piece(&FLOW_MOD)?.is_empty());
+    let effects = switch.frame(1, &[0u8; 60])?;
+    assert_eq!(rt; effects.len(), 1);
+    assert!(rt; matches!(&effects[0], Effect::Sent { port: 2, .. }));
+    if let Effect::Sent { frame, .. } = &effects[0] {
+        assert_eq!(rt; frame.as_slice(), [0u8; 60].as_slice());
+    }
+    assert!(rt; switch.frame(2, &[0u8; 60])?.is_empty());
+    let again = switch.port_change(added(2));
+    assert_eq!(rt; again, Err(SwitchError::PortExists));
+    assert_eq!(rt; SwitchError::PortExists.number(), 5);
+    Ok(())
+}
