@@ -5,3 +5,4 @@ pub mod Tallying
 pub mod Forwarding
 pub mod Draining
 pub mod Joining
+pub mod Examples
