@@ -1,22 +1,13 @@
 -- What a new switch does at short sequences of events, computed from the definitions.
 use Rattle.std.proofs.Common.{◌≡◌, ℕ, true, List, [], ◌∷◌, ◌++◌, take, drop, refl}
 use Rattle.std.specs.Prelude.{replicate}
-use Rattle.of_wire.specs.Items.{items_of}
-use Rattle.of_headers.specs.Fields.{field_at, row_of}
-use Rattle.of_oxm.specs.MatchReading.{match_of}
-use Rattle.of_oxm.specs.NormalForm.{kept}
-use Rattle.of_oxm.specs.Prerequisites.{all_met}
-use Rattle.of_actions.specs.Headers.{header_at, header_refusals}
-use Rattle.of_actions.specs.Actions.{action_at, action_refusals, type_refusals}
-use Rattle.of_actions.specs.InstructionReading.{instructions_of}
-use Rattle.of_messages.specs.Messages.{message_of}
-use Rattle.of_machine.specs.Runs.{run_of, after, step}
 use Rattle.of_switch.specs.declared.effect.Effect.{Effect}
 use Rattle.of_switch.specs.declared.effect.Effect.TheVariants.{Answer, Sent, Closed}
 use Rattle.of_switch.specs.declared.port_change.PortChange.TheVariants.{Add}
 use Rattle.of_switch.specs.declared.switch.SwitchError.TheVariants.{NotConnected}
 use Rattle.of_switch.specs.State.{start}
-use Rattle.of_switch.specs.Runs.{Event, Connect, Piece, Frame, Ports, Report, Gives, IsRefused, drain, run}
+use Rattle.of_switch.specs.Runs.{Event, Connect, Piece, Frame, Ports, Report, Gives, IsRefused, run}
+use Rattle.of_switch.proofs.OnLiterals.{switch_on_literals}
 
 -- BYTES
 
@@ -75,19 +66,19 @@ reports_of events = (run events (start 1)).reports
 
 -- the switch sends its HELLO on connecting, and answers nothing to that of the controller
 pub hello_is_answered : reports_of (Connect ∷ Piece hello ∷ []) ≡ Gives (Answer own_hello ∷ []) ∷ Gives [] ∷ []
-unfolding drain
+unfolding switch_on_literals
 hello_is_answered = refl
 
 -- a header whose length is below 8 is answered by an error, and the connection ends
 pub bad_length_ends_the_connection : reports_of (Connect ∷ Piece hello ∷ Piece bad_header ∷ Piece hello ∷ [])
     ≡ Gives (Answer own_hello ∷ []) ∷ Gives [] ∷ Gives (Answer bad_length ∷ Closed ∷ []) ∷ IsRefused NotConnected ∷ []
-unfolding drain
+unfolding switch_on_literals
 bad_length_ends_the_connection = refl
 
 -- a flow that sends frames of port 1 out of port 2 does so
 pub flow_forwards_frame : reports_of (three_ports ++ Connect ∷ Piece hello ∷ Piece flow_mod ∷ Frame 1 frame ∷ [])
     ≡ replicate 3 (Gives []) ++ Gives (Answer own_hello ∷ []) ∷ Gives [] ∷ Gives [] ∷ Gives (Sent 2 frame ∷ []) ∷ []
-unfolding drain message_of match_of instructions_of items_of field_at row_of all_met kept header_at header_refusals action_at action_refusals type_refusals run_of after step
+unfolding switch_on_literals
 flow_forwards_frame = refl
 
 -- so it does where the FLOW_MOD comes in three pieces, and not before the last of them
@@ -99,5 +90,5 @@ pub pieces_do_the_same : reports_of (three_ports ++ Connect ∷ Piece hello
         ∷ Gives [] ∷ Gives []
         ∷ Gives [] ∷ Gives []
         ∷ Gives [] ∷ Gives (Sent 2 frame ∷ []) ∷ []
-unfolding drain message_of match_of instructions_of items_of field_at row_of all_met kept header_at header_refusals action_at action_refusals type_refusals run_of after step
+unfolding switch_on_literals
 pieces_do_the_same = refl
