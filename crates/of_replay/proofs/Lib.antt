@@ -3,3 +3,4 @@ pub mod DigitLemmas
 pub mod MemoryLemmas
 pub mod Lines
 pub mod Replaying
+pub mod Examples

@@ -5,3 +5,5 @@ pub mod Tallying
 pub mod Forwarding
 pub mod Draining
 pub mod Joining
+pub mod OnLiterals
+pub mod Examples

@@ -1,0 +1,17 @@
+-- What an answer unfolds to compute runs of the switch on literal bytes.
+use Rattle.std.specs.Prelude.{⊤}
+use Rattle.of_wire.specs.Items.{items_of}
+use Rattle.of_headers.specs.Fields.{field_at, row_of}
+use Rattle.of_oxm.specs.MatchReading.{match_of}
+use Rattle.of_oxm.specs.NormalForm.{kept}
+use Rattle.of_oxm.specs.Prerequisites.{all_met}
+use Rattle.of_actions.specs.Headers.{header_at, header_refusals}
+use Rattle.of_actions.specs.Actions.{action_at, action_refusals, type_refusals}
+use Rattle.of_actions.specs.InstructionReading.{instructions_of}
+use Rattle.of_messages.specs.Messages.{message_of}
+use Rattle.of_machine.specs.Runs.{run_of, after, step}
+use Rattle.of_switch.specs.Runs.{drain}
+
+unfoldable pub switch_on_literals : ⊤
+unfolding drain message_of match_of instructions_of items_of field_at row_of all_met kept header_at header_refusals action_at action_refusals type_refusals run_of after step
+switch_on_literals = tt
