@@ -83,12 +83,12 @@ flow_forwards_frame = refl
 
 -- so it does where the FLOW_MOD comes in three pieces, and not before the last of them
 pub pieces_do_the_same : reports_of (three_ports ++ Connect ∷ Piece hello
-        ∷ Piece (take 7 flow_mod) ∷ Frame 1 frame
-        ∷ Piece (take 43 (drop 7 flow_mod)) ∷ Frame 1 frame
-        ∷ Piece (drop 50 flow_mod) ∷ Frame 1 frame ∷ [])
+    ∷ Piece (take 7 flow_mod) ∷ Frame 1 frame
+    ∷ Piece (take 43 (drop 7 flow_mod)) ∷ Frame 1 frame
+    ∷ Piece (drop 50 flow_mod) ∷ Frame 1 frame ∷ [])
     ≡ replicate 3 (Gives []) ++ Gives (Answer own_hello ∷ []) ∷ Gives []
-        ∷ Gives [] ∷ Gives []
-        ∷ Gives [] ∷ Gives []
-        ∷ Gives [] ∷ Gives (Sent 2 frame ∷ []) ∷ []
+    ∷ Gives [] ∷ Gives []
+    ∷ Gives [] ∷ Gives []
+    ∷ Gives [] ∷ Gives (Sent 2 frame ∷ []) ∷ []
 unfolding switch_on_literals
 pieces_do_the_same = refl
