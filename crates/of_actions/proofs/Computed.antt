@@ -1,13 +1,12 @@
 -- What the grammar of instructions says, computed.
-use Rattle.std.proofs.Common.{◌≡◌, ℕ, ◌<◌, ◌≤◌, Bool, true, false, ltb, List, [], ◌∷◌, length, Option, Some, None, Result, Ok, Err, refl, sym, ap, ◌∙◌, arith}
-use Rattle.std.specs.Prelude.{◌||◌, IfOk, IfErr}
+use Rattle.std.proofs.Common.{◌≡◌, ℕ, Bool, false, List, [], ◌∷◌, length, Option, Some, None, Result, Ok, Err, refl, sym, ap, ◌∙◌, arith}
+use Rattle.std.specs.Prelude.{IfOk, IfErr}
 use Rattle.std.proofs.lemmas.Bool.{ltb-false}
 use Rattle.of_wire.specs.declared.code.Code.{Code}
 use Rattle.of_wire.specs.declared.code.ReadError.{ReadError}
 use Rattle.of_wire.specs.declared.code.ReadError.TheVariants as errors
-use Rattle.of_wire.specs.Refusals.{first_of}
 use Rattle.of_wire.specs.Failures.{Fails, Reads}
-use Rattle.of_wire.specs.Items.{Items, TakesBytes, items_of, outcome}
+use Rattle.of_wire.specs.Items.{TakesBytes, items_of, outcome}
 use Rattle.of_wire.proofs.ItemsRead.{items_are}
 use Rattle.of_wire.proofs.FirstLemmas.{none_applies, first_false}
 use Rattle.of_actions.specs.declared.action.Action.{Action}

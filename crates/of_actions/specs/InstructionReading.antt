@@ -1,5 +1,5 @@
 -- What the bytes of instructions say, as a function: the instructions, or the code of the first refusal (OpenFlow 1.3.5, 7.2.4 and 7.4.4).
-use Rattle.std.specs.Prelude.{ℕ, Bool, false, List, [], ◌∷◌, length, Result, Ok, Err}
+use Rattle.std.specs.Prelude.{ℕ, false, List, [], ◌∷◌, length, Result, Ok, Err}
 use Rattle.of_wire.specs.declared.code.Code.{Code}
 use Rattle.of_wire.specs.Items.{items_of}
 use Rattle.of_actions.specs.declared.action.Action.{Action}

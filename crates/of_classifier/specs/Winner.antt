@@ -1,6 +1,6 @@
 -- The entry that wins where several match (OpenFlow 1.3.5, 5.3): the oldest of the matching ones of the highest priority.
 use Rattle.std.specs.Prelude.{◌≡◌, ◌≤◌, ℕ, Bool, true, false, List, Option, Some, None, filter, slice_get}
-use Rattle.of_headers.specs.declared.field.Field.{Field}
+use Rattle.of_layers.specs.declared.field.Field.{Field}
 use Rattle.of_wire.specs.Highest.{oldest_highest}
 use Rattle.of_oxm.specs.Relations.{matches_map}
 use Rattle.of_classifier.specs.declared.Row.{Row}

@@ -1,6 +1,6 @@
 //! What it is to win.
 ghost use Rattle.std.specs.Prelude.{◌≡◌, ◌↔◌, ℕ, List, Option, Some, None};
-ghost use Rattle.of_headers.specs.declared.field.Field.{Field as AField};
+ghost use Rattle.of_layers.specs.declared.field.Field.{Field as AField};
 ghost use Rattle.of_classifier.specs.declared.Row.{Row as ARow};
 ghost use Rattle.of_classifier.specs.Winner.{winner_of, Wins, NoneMatches};
 

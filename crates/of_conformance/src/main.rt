@@ -10,7 +10,7 @@ use std::{fs, io};
 mod tests;
 
 /// The event files, each beside the text that it is to print.
-const NAMES: [&str; 16] = [
+const NAMES: [&str; 27] = [
     "hello",
     "wrong-version",
     "first-path",
@@ -27,6 +27,17 @@ const NAMES: [&str; 16] = [
     "bad-instruction-length",
     "bad-action-one",
     "bad-action-two",
+    "tag-bit-under-a-mask",
+    "fields-of-a-tag",
+    "cut-tag",
+    "missing-prerequisite",
+    "value-bit-outside-mask",
+    "first-and-later-fragments",
+    "checked-overlap",
+    "stale-misses",
+    "idle-timeout",
+    "hard-before-idle",
+    "moment-below-the-latest",
 ];
 
 /// A read gives so many bytes at most.

@@ -1,48 +1,46 @@
 -- Field maps: the value of each field, or none where it is absent (OpenFlow 1.3.5, 5.3 and 7.2.3.7).
-use Rattle.std.specs.Prelude.{ℕ, Bool, true, false, ◌==◌, if◌then◌else◌, List, [], ◌∷◌, length, Option, Some, None}
-use Rattle.of_headers.specs.declared.field.Field.{Field}
-use Rattle.of_headers.specs.declared.field.Field.TheVariants.{InPort, EthDst, EthSrc, EthType}
+use Rattle.std.specs.Prelude.{ℕ, ◌+◌, ◌==◌, if◌then◌else◌, List, [], ◌∷◌, slice_index, bit_and, Option, Some, None}
+use Rattle.std.specs.Int.{bit_at}
+use Rattle.of_layers.specs.declared.field.Field.{Field}
+use Rattle.of_layers.specs.declared.field.Field.TheVariants.{InPort, Metadata, VlanVid}
+use Rattle.of_layers.specs.Fields.{number_of}
+use Rattle.of_layers.specs.Layers.{Layers, cells}
+use Rattle.of_layers.specs.Looking.{look}
 use Rattle.of_headers.specs.declared.key.FieldKey.{FieldKey}
-use Rattle.of_headers.specs.declared.layout.Layout.{Layout}
-use Rattle.of_headers.specs.Fields.{number_of}
-use Rattle.of_headers.specs.Layers.{Cell, Layers, cells}
 
-abbrev pub name_is : ℕ → Option ℕ → Bool
-name_is n None = false
-name_is n (Some m) = n == m
+-- ---- the field map of a frame
 
--- the number in the first cell of that name
-abbrev pub look_up : ℕ → List Cell → Option ℕ
-look_up n [] = None
-look_up n (c ∷ cs) = if name_is n c.name then Some c.value else look_up n cs
-
-abbrev pub look : Field → List Cell → Option ℕ
-look f = look_up (number_of f)
-
--- the fields that a key has so far
-abbrev pub is_served : Field → Bool
-is_served InPort = true
-is_served EthDst = true
-is_served EthSrc = true
-is_served EthType = true
-is_served f = false
+-- VLAN_VID is always there: 0 without a tag, else the tag's VID with the bit 0x1000 (7.2.3.7)
+abbrev pub vid : Option ℕ → ℕ
+vid None = 0
+vid (Some v) = 4096 + v
 
 -- the fields of a frame that came by a port, with metadata
 abbrev pub field_map : Layers → ℕ → ℕ → Field → Option ℕ
 field_map l port metadata InPort = Some port
-field_map l port metadata EthDst = look EthDst (cells l)
-field_map l port metadata EthSrc = look EthSrc (cells l)
-field_map l port metadata EthType = look EthType (cells l)
-field_map l port metadata f = None
+field_map l port metadata Metadata = Some metadata
+field_map l port metadata VlanVid = Some (vid (look VlanVid (cells l)))
+field_map l port metadata f = look f (cells l)
 
--- a key as a field map
-abbrev pub value : FieldKey → Field → Option ℕ
-value k InPort = Some k.in_port
-value k EthDst = Some k.eth_dst
-value k EthSrc = Some k.eth_src
-value k EthType = Some k.eth_type
-value k f = None
+-- ---- a key as a field map
 
--- where the layers stand
-abbrev pub layout_of : Layers → Layout
-layout_of l = record { tags = length l.tags }
+-- the numbers of a key, each in the place of its field's number; no field has the numbers 1, 17 and 18
+abbrev pub numbers_in : FieldKey → List ℕ
+numbers_in k =
+    k.in_port ∷ 0 ∷ k.metadata ∷ k.eth_dst ∷ k.eth_src ∷ k.eth_type ∷ k.vlan_vid ∷ k.vlan_pcp ∷ k.ip_dscp ∷ k.ip_ecn ∷ k.ip_proto ∷ k.ipv4_src ∷ k.ipv4_dst
+    ∷ k.tcp_src ∷ k.tcp_dst ∷ k.udp_src ∷ k.udp_dst ∷ 0 ∷ 0 ∷ k.icmpv4_type ∷ k.icmpv4_code ∷ k.arp_op ∷ k.arp_spa ∷ k.arp_tpa ∷ k.arp_sha ∷ k.arp_tha
+    ∷ k.ipv6_src ∷ k.ipv6_dst ∷ k.ipv6_flabel ∷ k.icmpv6_type ∷ k.icmpv6_code ∷ []
+
+-- a number, if the word says that it is there
+abbrev pub there : ℕ → ℕ → ℕ → Option ℕ
+there present n v = if bit_at present n == 1 then Some v else None
+
+unfoldable pub value : FieldKey → Field → Option ℕ
+value k f = there k.present (number_of f) (slice_index (numbers_in k) (number_of f))
+
+-- ---- what is seen of a field under a mask, if any: nothing where no mask is, else whether it is there, and the bits under the mask
+
+abbrev pub seen : Option ℕ → Option ℕ → Option ℕ
+seen None v = None
+seen (Some mask) None = None
+seen (Some mask) (Some v) = Some (bit_and v mask)

@@ -1,7 +1,5 @@
-pub mod Fields
-pub mod Bits
-pub mod Layers
-pub mod Reading
+pub mod Presence
 pub mod FieldMap
+pub mod Places
 pub mod Faults
-pub mod WellFormed
+pub mod Parts

@@ -1,13 +1,18 @@
 //! Reading the headers of a frame.
 
-ghost use Rattle.std.specs.Prelude.{◌≡◌, ◌+◌, ◌*◌, ◌≤◌, length, drop, IfOk};
+ghost use Rattle.std.specs.Prelude.{◌≡◌, ◌≤◌, ◌<◌, ◌*◌, ◌^◌, ℕ, List, length, IfOk};
 ghost use Rattle.std.specs.Result.{result_err};
-ghost use Rattle.of_headers.specs.Reading.{tag_count, layers_of};
-ghost use Rattle.of_headers.specs.FieldMap.{layout_of, value, field_map};
+ghost use Rattle.of_layers.specs.Layers.{cells};
+ghost use Rattle.of_layers.specs.Looking.{locate};
+ghost use Rattle.of_layers.specs.Reading.{layers_of};
+ghost use Rattle.of_headers.specs.FieldMap.{value, field_map};
+ghost use Rattle.of_headers.specs.Places.{layout_of};
 ghost use Rattle.of_headers.specs.Faults.{frame_fault, inside_fault};
 
 use crate::key::FieldKey;
-use crate::layout::{Layout, layout_in, six_at, word_at};
+use crate::layout::{Layout, layout_in};
+use crate::reading::key_in;
+use of_layers::{Field, Place};
 
 /// Why bytes are no frame that the switch takes.
 #[derive(Clone, Copy, Debug, PartialEq, Eq)]
@@ -32,28 +37,13 @@ impl Headers {
     {
         self.key
     }
-}
 
-fn key_at(frame: &[u8], layout: Layout, in_port: u32, metadata: u64) -> FieldKey
-    requires room { 12 + 4 * layout.tags + 2 ≤ length frame.now }
-    requires tags { layout.tags ≡ tag_count (drop 12 frame.now) }
-    ensures { value result ≡ field_map (layers_of frame.now) in_port metadata }
-{
-    FieldKey {
-        in_port,
-        eth_dst: six_at(frame, 0),
-        eth_src: six_at(frame, 6),
-        eth_type: word_at(frame, 12 + 4 * layout.tags),
+    /// Where a field stands in the frame, as [`Layout::place`] says.
+    pub fn place(&self, field: Field) -> Option<Place>
+        ensures { (s : List ℕ) → 14 ≤ length s → 8 * length s < 2 ^ 64 → self.now.layout ≡ layout_of (layers_of s) → result ≡ locate field (cells (layers_of s)) }
+    {
+        self.layout.place(field)
     }
-}
-
-/// The fields of a frame whose layers stand so.
-fn key_in(frame: &[u8], layout: Layout, in_port: u32, metadata: u64) -> FieldKey
-    requires long { 14 ≤ length frame.now }
-    requires places { layout ≡ layout_of (layers_of frame.now) }
-    ensures { value result ≡ field_map (layers_of frame.now) in_port metadata }
-{
-    key_at(frame, layout, in_port, metadata)
 }
 
 /// Reads a frame that may have grown inside the switch, by tags that were put on it.

@@ -1,39 +1,40 @@
 //! Where the layers of a frame stand.
 
-ghost use Rattle.std.specs.Prelude.{◌≡◌, ◌+◌, ◌*◌, ◌≤◌, length, drop};
-ghost use Rattle.of_headers.specs.Reading.{word, six, tag_count, is_tag_type, layers_of};
-ghost use Rattle.of_headers.specs.FieldMap.{layout_of};
+ghost use Rattle.std.specs.Prelude.{◌≡◌, ◌+◌, ◌*◌, ◌≤◌, ◌==◌, ◌&&◌, length, drop, IsTrue};
+ghost use Rattle.of_layers.specs.Reading.{tag_count, is_tag_type, is_arp, is_ipv4, is_ipv6, ipv4_of, ipv6_of, body_of, layers_of};
+ghost use Rattle.of_headers.specs.Places.{network_of, layout_of};
 
-/// Where the layers of a frame stand: the type is behind the addresses and so many tags.
+use crate::bytes::{rest_from, word_at};
+use crate::chain::chain_in;
+use crate::transport::{named_over_ipv4, transport_in};
+use of_layers::Transport;
+
+/// What an IP packet carries, and where it begins, from the packet's start.
+#[derive(Clone, Copy, Debug, PartialEq, Eq)]
+pub struct Payload {
+    pub transport: Transport,
+    pub at: usize,
+}
+
+/// What stands after the type of a frame.
+#[derive(Clone, Copy, Debug, PartialEq, Eq)]
+pub enum Network {
+    /// Bytes that are not read further.
+    Plain,
+    /// ARP for Ethernet and IPv4 (RFC 826).
+    Arp,
+    /// An IPv4 packet (RFC 791).
+    Ipv4(Payload),
+    /// An IPv6 packet (RFC 8200): the byte of the number that names what it carries, from the packet's start, and its payload.
+    Ipv6(usize, Payload),
+}
+
+/// Where the layers of a frame stand. The type is behind the addresses and so many tags, and the network layer is behind the type; so a tag that is put on or taken off changes the number of tags alone.
 #[derive(Clone, Copy, Debug, PartialEq, Eq)]
 pub struct Layout {
     /// How many VLAN tags the frame has.
     pub tags: usize,
-}
-
-/// The two bytes from a place on, the high one first.
-pub fn word_at(s: &[u8], at: usize) -> u16
-    requires { at + 2 ≤ length s.now }
-    ensures { result ≡ word s.now at }
-{
-    u16::from_be_bytes([s[at], s[at + 1]])
-}
-
-/// The six bytes from a place on, the highest first.
-pub fn six_at(s: &[u8], at: usize) -> u64
-    requires { at + 6 ≤ length s.now }
-    ensures { result ≡ six s.now at }
-{
-    u64::from_be_bytes([
-        0,
-        0,
-        s[at],
-        s[at + 1],
-        s[at + 2],
-        s[at + 3],
-        s[at + 4],
-        s[at + 5],
-    ])
+    pub network: Network,
 }
 
 /// Whether a type is that of a VLAN tag (IEEE 802.1Q, 9.5).
@@ -58,12 +59,87 @@ fn tags_in(frame: &[u8]) -> usize
     tags
 }
 
+/// Whether the bytes after a type begin with a whole ARP packet for Ethernet and IPv4.
+fn has_arp(kind: u16, packet: &[u8]) -> bool
+    ensures { result ≡ ((kind == 0x0806) && is_arp packet.now) }
+{
+    kind == 0x0806
+        && packet.len() >= 28
+        && word_at(packet, 0) == 1
+        && word_at(packet, 2) == 0x0800
+        && packet[4] == 6
+        && packet[5] == 4
+}
+
+/// Whether the bytes after a type begin with a whole IPv4 header whose total length holds it.
+fn has_ipv4(kind: u16, packet: &[u8]) -> bool
+    ensures { result ≡ ((kind == 0x0800) && is_ipv4 packet.now) }
+{
+    if kind != 0x0800 || packet.len() < 20 {
+        return false;
+    }
+    let header = 4 * (packet[0] % 16) as usize;
+    packet[0] / 16 == 4
+        && header >= 20
+        && header <= packet.len()
+        && header <= word_at(packet, 2) as usize
+}
+
+/// Where the layers of an IPv4 packet stand. A later fragment carries bytes alone.
+fn ipv4_in(packet: &[u8]) -> Network
+    requires { IsTrue (is_ipv4 packet.now) }
+    ensures { result ≡ network_of (ipv4_of packet.now) }
+{
+    let at = 4 * (packet[0] % 16) as usize;
+    let end = (word_at(packet, 2) as usize).min(packet.len());
+    let transport = if word_at(packet, 6) % 8192 == 0 {
+        transport_in(named_over_ipv4(packet[9]), end - at)
+    } else {
+        Transport::Nothing
+    };
+    Network::Ipv4(Payload { transport, at })
+}
+
+/// Whether the bytes after a type begin with a whole IPv6 header.
+fn has_ipv6(kind: u16, packet: &[u8]) -> bool
+    ensures { result ≡ ((kind == 0x86dd) && is_ipv6 packet.now) }
+{
+    kind == 0x86dd && packet.len() >= 40 && packet[0] / 16 == 6
+}
+
+/// Where the layers of an IPv6 packet stand.
+fn ipv6_in(packet: &[u8]) -> Network
+    requires { IsTrue (is_ipv6 packet.now) }
+    ensures { result ≡ network_of (ipv6_of packet.now) }
+{
+    let end = (40 + word_at(packet, 4) as usize).min(packet.len());
+    chain_in(&packet[..end], packet[6])
+}
+
+/// Where the layers of the bytes after a type stand.
+fn network_in(kind: u16, packet: &[u8]) -> Network
+    ensures { result ≡ network_of (body_of kind packet.now) }
+{
+    if has_arp(kind, packet) {
+        Network::Arp
+    } else if has_ipv4(kind, packet) {
+        ipv4_in(packet)
+    } else if has_ipv6(kind, packet) {
+        ipv6_in(packet)
+    } else {
+        Network::Plain
+    }
+}
+
 /// Where the layers of a frame stand.
 pub fn layout_in(frame: &[u8]) -> Layout
     requires { 14 ≤ length frame.now }
     ensures { result ≡ layout_of (layers_of frame.now) }
 {
+    let tags = tags_in(frame);
+    let at = 12 + 4 * tags;
     Layout {
-        tags: tags_in(frame),
+        tags,
+        network: network_in(word_at(frame, at), rest_from(frame, at + 2)),
     }
 }

@@ -1,16 +1,19 @@
-//! The match fields of OpenFlow 1.3.5, the layers of a frame, and the key that a lookup takes.
+//! The fields of a frame, as a lookup takes them, and where its layers stand.
 #![tactic(auto)]
 
-mod field;
+mod bytes;
+mod chain;
+mod fields;
 mod headers;
 mod key;
-mod laws;
 mod layout;
+mod place;
+mod reading;
 #[cfg(test)]
 mod tests;
+mod transport;
 
-pub use field::{Field, FieldRow, Need};
 pub use headers::{FrameFault, Headers, check_length, read, read_inside};
 pub use key::FieldKey;
-pub use laws::spelt_by_one;
-pub use layout::Layout;
+pub use layout::{Layout, Network, Payload, layout_in};
+pub use of_layers::{Field, FieldRow, Need, Place, Transport, spelt_by_one};

@@ -1,7 +1,7 @@
 -- Runs where the entries of the tables have other numbers.
 use Rattle.std.specs.Prelude.{◌≡◌, ℕ, Option, Some, map}
 use Rattle.std.specs.Option.{option_map}
-use Rattle.of_headers.specs.declared.field.Field.{Field}
+use Rattle.of_layers.specs.declared.field.Field.{Field}
 use Rattle.of_machine.specs.declared.data.Count.{Count}
 use Rattle.of_machine.specs.declared.data.Count.TheVariants.{Lookup, Matched, TxDropped}
 use Rattle.of_machine.specs.declared.data.Step.{Step}

@@ -1,6 +1,6 @@
 -- What a world promises.
 use Rattle.std.specs.Prelude.{◌≡◌, ◌≢◌, ℕ, Option, Some, None}
-use Rattle.of_headers.specs.declared.field.Field.{Field}
+use Rattle.of_layers.specs.declared.field.Field.{Field}
 use Rattle.of_machine.specs.TheWorld.{TheWorld}
 
 pub record IsSound (w : TheWorld) : Type 0 where

@@ -1,6 +1,6 @@
 -- What the machine reads of its world: the flow tables and the ports (OpenFlow 1.3.5, 2).
 use Rattle.std.specs.Prelude.{ℕ, List, Option}
-use Rattle.of_headers.specs.declared.field.Field.{Field}
+use Rattle.of_layers.specs.declared.field.Field.{Field}
 use Rattle.of_table.specs.declared.flow.Flow.{Flow}
 use Rattle.of_machine.specs.declared.port.Port.{Port}
 

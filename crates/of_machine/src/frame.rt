@@ -1,6 +1,6 @@
 //! Frames inside the switch.
 ghost use Rattle.std.specs.Prelude.{◌≡◌, ◌≤◌, length, IfOk};
-ghost use Rattle.of_headers.specs.Reading.{layers_of};
+ghost use Rattle.of_layers.specs.Reading.{layers_of};
 ghost use Rattle.of_headers.specs.FieldMap.{value, field_map};
 
 use of_headers::{FieldKey, read_inside};

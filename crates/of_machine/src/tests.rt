@@ -4,7 +4,7 @@ use crate::{Count, Frame, Item, Packet, Port, PortCounters, Step, Steps, World, 
 use of_actions::{Action, ActionList, Instruction, InstructionList};
 use of_headers::FieldKey;
 use of_oxm::Match;
-use of_table::Flow;
+use of_table::{Flow, FlowFlags};
 use std::alloc::Global;
 use std::test::Fail;
 
@@ -65,6 +65,14 @@ fn applied(alloc: Global, action: Action) -> Result<InstructionList, Fail> {
     Ok(InstructionList::new(instructions).ok_or("one instruction is a list")?)
 }
 
+const NO_FLAGS: FlowFlags = FlowFlags {
+    send_removed: false,
+    check_overlap: false,
+    reset_counts: false,
+    no_packet_counts: false,
+    no_byte_counts: false,
+};
+
 #[test]
 fn from_port_one_to_port_two(rt: HostRuntime) -> Result<(), Fail> {
     let output = Action::Output {
@@ -77,7 +85,7 @@ fn from_port_one_to_port_two(rt: HostRuntime) -> Result<(), Fail> {
         cookie: 7,
         idle_timeout: 0,
         hard_timeout: 0,
-        flags: 0,
+        flags: NO_FLAGS,
         instructions: applied(rt.alloc(), output)?,
     };
     let mut world = OneEntry {

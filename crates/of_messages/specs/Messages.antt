@@ -1,5 +1,5 @@
 -- What the bytes of a message say (OpenFlow 1.3.5, 7.1 and 7.3), or the first refusal in the written order (7.4.4).
-use Rattle.std.specs.Prelude.{ℕ, ◌==◌, nat_lt, Bool, not, ◌&&◌, ◌||◌, List, [], ◌∷◌, length, drop, slice_index, Option, Some, None, Result, Ok, Err, if◌then◌else◌}
+use Rattle.std.specs.Prelude.{ℕ, ◌==◌, nat_lt, Bool, true, false, not, ◌&&◌, ◌||◌, List, [], ◌∷◌, length, drop, slice_index, Option, Some, None, Result, Ok, Err, if◌then◌else◌}
 use Rattle.byteorder.specs.Endian.{big_number}
 use Rattle.of_wire.specs.declared.code.Code.{Code}
 use Rattle.of_wire.specs.Refusals.{refusal, first_of}
@@ -10,7 +10,8 @@ use Rattle.of_actions.specs.InstructionReading.{instructions_of}
 use Rattle.of_messages.specs.declared.message.Message.{Message}
 use Rattle.of_messages.specs.declared.message.Message.TheVariants.{Hello, EchoRequest, BarrierRequest, FlowMod as IsFlowMod}
 use Rattle.of_messages.specs.declared.message.FlowMod.{FlowMod}
-use Rattle.of_messages.specs.declared.message.FlowModCommand.TheVariants.{Add}
+use Rattle.of_messages.specs.declared.message.FlowModCommand.{FlowModCommand}
+use Rattle.of_messages.specs.declared.message.FlowModCommand.TheVariants.{Add, Modify, ModifyStrict, Delete, DeleteStrict}
 
 -- THE HEADER
 
@@ -55,21 +56,47 @@ head_refusals m =
 
 -- FLOW_MOD (7.3.4.1)
 
--- for now the command is ADD, the table is 0, and no flag stands
+-- the command that a byte names
+abbrev pub command_of : ℕ → Option FlowModCommand
+command_of byte =
+    if byte == 0 then Some Add
+    else (if byte == 1 then Some Modify
+    else (if byte == 2 then Some ModifyStrict
+    else (if byte == 3 then Some Delete
+    else (if byte == 4 then Some DeleteStrict
+    else None))))
+
+abbrev pub is_delete : FlowModCommand → Bool
+is_delete Add = false
+is_delete Modify = false
+is_delete ModifyStrict = false
+is_delete Delete = true
+is_delete DeleteStrict = true
+
+abbrev pub is_unknown : Option FlowModCommand → Bool
+is_unknown None = true
+is_unknown (Some command) = false
+
+-- the last table is 15; 255 is all tables, which only the two DELETE commands may name
+abbrev pub is_bad_table : ℕ → Option FlowModCommand → Bool
+is_bad_table table None = false
+is_bad_table table (Some command) = nat_lt 15 table && not (is_delete command && table == 255)
+
+-- of the command, the table, and the flags (five are known)
 abbrev pub flow_mod_refusals : List ℕ → List (Bool × Code)
 flow_mod_refusals m =
-    (not (slice_index m 25 == 0), refusal 5 6)
-    ∷ (not (slice_index m 24 == 0), refusal 5 2)
-    ∷ (not (big_number 2 (drop 44 m) == 0), refusal 5 7)
+    (is_unknown (command_of (slice_index m 25)), refusal 5 6)
+    ∷ (is_bad_table (slice_index m 24) (command_of (slice_index m 25)), refusal 5 2)
+    ∷ (nat_lt 31 (big_number 2 (drop 44 m)), refusal 5 7)
     ∷ []
 
--- its fixed fields, with a match and instructions
-abbrev pub flow_mod_with : List ℕ → List MatchField → List Instruction → FlowMod
-flow_mod_with m fields instructions = record {
+-- its fixed fields, with a command, a match and instructions
+abbrev pub flow_mod_with : List ℕ → FlowModCommand → List MatchField → List Instruction → FlowMod
+flow_mod_with m command fields instructions = record {
   cookie = big_number 8 (drop 8 m);
   cookie_mask = big_number 8 (drop 16 m);
   table = slice_index m 24;
-  command = Add;
+  command = command;
   idle_timeout = big_number 2 (drop 26 m);
   hard_timeout = big_number 2 (drop 28 m);
   priority = big_number 2 (drop 30 m);
@@ -81,21 +108,27 @@ flow_mod_with m fields instructions = record {
   instructions = instructions;
 }
 
-abbrev pub then_instructions : List ℕ → List MatchField → Result (List Instruction) Code → Result FlowMod Code
-then_instructions m fields (Ok instructions) = Ok (flow_mod_with m fields instructions)
-then_instructions m fields (Err code) = Err code
+-- the two DELETE commands have no instructions, whatever stands behind the match
+abbrev pub instructions_for : FlowModCommand → ℕ → List ℕ → Result (List Instruction) Code
+instructions_for command table bytes = if is_delete command then Ok [] else instructions_of table bytes
+
+abbrev pub then_instructions : List ℕ → FlowModCommand → List MatchField → Result (List Instruction) Code → Result FlowMod Code
+then_instructions m command fields (Ok instructions) = Ok (flow_mod_with m command fields instructions)
+then_instructions m command fields (Err code) = Err code
 
 -- the match stands behind the fixed fields, the instructions behind the match
-abbrev pub then_match : List ℕ → Result (List MatchField × ℕ) Code → Result FlowMod Code
-then_match m (Ok r) = then_instructions m r.0 (instructions_of (slice_index m 24) (drop r.1 (drop 48 m)))
-then_match m (Err code) = Err code
+abbrev pub then_match : List ℕ → FlowModCommand → Result (List MatchField × ℕ) Code → Result FlowMod Code
+then_match m command (Ok r) = then_instructions m command r.0 (instructions_for command (slice_index m 24) (drop r.1 (drop 48 m)))
+then_match m command (Err code) = Err code
 
-abbrev pub flow_mod_by : List ℕ → Option Code → Result FlowMod Code
-flow_mod_by m (Some code) = Err code
-flow_mod_by m None = then_match m (match_of (drop 48 m))
+-- an unknown command is always refused, so the last line never applies
+abbrev pub flow_mod_by : List ℕ → Option Code → Option FlowModCommand → Result FlowMod Code
+flow_mod_by m (Some code) command = Err code
+flow_mod_by m None (Some command) = then_match m command (match_of (drop 48 m))
+flow_mod_by m None None = Err (refusal 5 6)
 
 abbrev pub flow_mod_of : List ℕ → Result FlowMod Code
-flow_mod_of m = flow_mod_by m (first_of (flow_mod_refusals m))
+flow_mod_of m = flow_mod_by m (first_of (flow_mod_refusals m)) (command_of (slice_index m 25))
 
 -- A MESSAGE
 

@@ -2,6 +2,11 @@
 use Rattle.std.specs.Prelude.{ℕ, ◌+◌, List, [], ◌∷◌, ◌++◌, length}
 use Rattle.byteorder.specs.Endian.{big_bytes}
 use Rattle.of_wire.specs.declared.code.Code.{Code}
+use Rattle.of_oxm.specs.declared.match_field.MatchField.{MatchField}
+use Rattle.of_oxm.specs.Canonical.{canonical}
+use Rattle.of_messages.specs.declared.message.FlowRemoved.{FlowRemoved}
+use Rattle.of_messages.specs.declared.message.FlowRemovedReason.{FlowRemovedReason}
+use Rattle.of_messages.specs.declared.message.FlowRemovedReason.TheVariants.{IdleTimeout, HardTimeout, Delete, GroupDelete}
 
 -- version 4, type, length, transaction id (OpenFlow 1.3.5, 7.1)
 abbrev pub header : ℕ → ℕ → ℕ → List ℕ
@@ -26,3 +31,27 @@ echo_reply_bytes xid «data» = message 3 xid «data»
 -- 7.3.7
 abbrev pub barrier_reply_bytes : ℕ → List ℕ
 barrier_reply_bytes xid = message 21 xid []
+
+-- FLOW_REMOVED (7.4.2)
+
+abbrev pub reason_number : FlowRemovedReason → ℕ
+reason_number IdleTimeout = 0
+reason_number HardTimeout = 1
+reason_number Delete = 2
+reason_number GroupDelete = 3
+
+-- what stands in front of the match
+unfoldable pub flow_removed_front : FlowRemoved → List ℕ
+flow_removed_front removed =
+    big_bytes 8 removed.cookie
+    ++ (big_bytes 2 removed.priority
+    ++ (reason_number removed.reason ∷ removed.table
+    ∷ (big_bytes 4 removed.duration_sec
+    ++ (big_bytes 4 removed.duration_nsec
+    ++ (big_bytes 2 removed.idle_timeout
+    ++ (big_bytes 2 removed.hard_timeout
+    ++ (big_bytes 8 removed.packets
+    ++ big_bytes 8 removed.bytes)))))))
+
+abbrev pub flow_removed_bytes : ℕ → FlowRemoved → List MatchField → List ℕ
+flow_removed_bytes xid removed fields = message 11 xid (flow_removed_front removed ++ canonical fields)

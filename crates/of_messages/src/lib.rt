@@ -7,9 +7,11 @@ mod reading;
 mod writing;
 
 pub use head::check_head;
-pub use message::{FlowMod, FlowModCommand, Message};
+pub use message::{FlowMod, FlowModCommand, FlowRemoved, FlowRemovedReason, Message};
 pub use reading::read_message;
-pub use writing::{write_barrier_reply, write_echo_reply, write_error, write_hello};
+pub use writing::{
+    write_barrier_reply, write_echo_reply, write_error, write_flow_removed, write_hello,
+};
 
 #[cfg(test)]
 mod tests;

@@ -1,13 +1,13 @@
 //! Messages from bytes.
-ghost use Rattle.std.specs.Prelude.{◌≡◌, ◌≤◌, ◌+◌, length, drop, Some, None, true, MatchResult};
+ghost use Rattle.std.specs.Prelude.{◌≡◌, ◌≤◌, ◌+◌, length, drop, Some, None, true, slice_index, IfOk, MatchResult};
 ghost use Rattle.of_wire.specs.Refusals.{first_of};
 ghost use Rattle.of_wire.specs.Failures.{Reads};
-ghost use Rattle.of_messages.specs.Messages.{message_of, body_of, type_of, is_served, flow_mod_of, flow_mod_refusals};
+ghost use Rattle.of_messages.specs.Messages.{message_of, body_of, type_of, is_served, command_of, flow_mod_of, flow_mod_refusals, instructions_for};
 
 use crate::head::{BARRIER_REQUEST, ECHO_REQUEST, HELLO, check_head};
 use crate::message::{FlowMod, FlowModCommand, Message};
 use byteorder::{BigEndian, ByteOrder};
-use of_actions::read_instructions;
+use of_actions::{InstructionList, read_instructions};
 use of_oxm::read_match;
 use of_wire::{Bytes, Code, ReadError};
 use std::alloc::Global;
@@ -18,6 +18,14 @@ const BAD_TABLE: Code = Code { kind: 5, code: 2 };
 
 const BAD_FLAGS: Code = Code { kind: 5, code: 7 };
 
+const LAST_TABLE: u8 = 15;
+
+// The number that stands for each table.
+const ALL_TABLES: u8 = 255;
+
+// The flags that are known, each a bit.
+const ALL_FLAGS: u16 = 31;
+
 fn rest_from(bytes: &[u8], at: usize) -> &[u8]
     requires { at ≤ length bytes.now }
     ensures rest { result.now ≡ drop at bytes.now }
@@ -26,39 +34,58 @@ fn rest_from(bytes: &[u8], at: usize) -> &[u8]
     &bytes[at..]
 }
 
-// The fixed fields of a FLOW_MOD.
-fn check_flow_mod(message: &[u8]) -> Result<(), Code>
+// The command of a FLOW_MOD whose fixed fields are not refused.
+fn check_flow_mod(message: &[u8]) -> Result<FlowModCommand, Code>
     requires { 48 ≤ length message.now }
-    ensures { MatchResult result (λ _. first_of (flow_mod_refusals message.now) ≡ None) (λ code. first_of (flow_mod_refusals message.now) ≡ Some code) }
+    ensures refusal { MatchResult result (λ _. first_of (flow_mod_refusals message.now) ≡ None) (λ code. first_of (flow_mod_refusals message.now) ≡ Some code) }
+    ensures command { IfOk result (λ command. command_of (slice_index message.now 25) ≡ Some command) }
 {
-    if message[25] != 0 {
+    let Some(command) = FlowModCommand::of_byte(message[25]) else {
         return Err(BAD_COMMAND);
-    }
-    if message[24] != 0 {
+    };
+    let table = message[24];
+    if table > LAST_TABLE && !(command.is_delete() && table == ALL_TABLES) {
         return Err(BAD_TABLE);
     }
-    if BigEndian::read_u16(rest_from(message, 44)) != 0 {
+    if BigEndian::read_u16(rest_from(message, 44)) > ALL_FLAGS {
         return Err(BAD_FLAGS);
     }
-    Ok(())
+    Ok(command)
+}
+
+// The instructions behind a match. The two DELETE commands have none, whatever stands there.
+#[tactic(auto, using(crate::proofs::NoInstructions::no_instructions))]
+fn read_instructions_for(
+    alloc: Global,
+    command: FlowModCommand,
+    bytes: &[u8],
+    table: u8,
+) -> Result<InstructionList, ReadError>
+    ensures { Reads result (instructions_for command table bytes.now) }
+{
+    if command.is_delete() {
+        read_instructions(alloc, &[], table)
+    } else {
+        read_instructions(alloc, bytes, table)
+    }
 }
 
 fn read_flow_mod(alloc: Global, message: &[u8]) -> Result<FlowMod, ReadError>
     requires { 48 ≤ length message.now }
     ensures { Reads result (flow_mod_of message.now) }
 {
-    match check_flow_mod(message) {
-        Ok(()) => {}
+    let command = match check_flow_mod(message) {
+        Ok(command) => command,
         Err(code) => return Err(ReadError::Refused(code)),
-    }
+    };
     let body = rest_from(message, 48);
     let (fields, size) = read_match(alloc, body)?;
-    let instructions = read_instructions(alloc, rest_from(body, size), message[24])?;
+    let instructions = read_instructions_for(alloc, command, rest_from(body, size), message[24])?;
     Ok(FlowMod {
         cookie: BigEndian::read_u64(rest_from(message, 8)),
         cookie_mask: BigEndian::read_u64(rest_from(message, 16)),
         table: message[24],
-        command: FlowModCommand::Add,
+        command,
         idle_timeout: BigEndian::read_u16(rest_from(message, 26)),
         hard_timeout: BigEndian::read_u16(rest_from(message, 28)),
         priority: BigEndian::read_u16(rest_from(message, 30)),
@@ -88,8 +115,10 @@ fn read_body(alloc: Global, message: &[u8]) -> Result<Message, ReadError>
 
 /// The message that the bytes spell, all of them.
 ///
-/// Other bytes are refused with one code, by the first that applies: what `check_head` looks at; of a FLOW_MOD, the
-/// command (5/6), the table (5/2) and the flags (5/7), its match, and its instructions with their actions.
+/// Other bytes are refused with one code, by the first that applies: what `check_head` looks at; of a FLOW_MOD, a command
+/// above 4 (5/6), a table above 15 (5/2; but a DELETE command may name 255, all tables) and flags above 31 (5/7), its
+/// match, and, for ADD and the MODIFY commands, its instructions with their actions. A DELETE command has no
+/// instructions: what stands behind its match is not looked at.
 #[tactic(auto, unfolding(crate::specs::Messages::message_of))]
 pub fn read_message(alloc: Global, message: &[u8]) -> Result<Message, ReadError>
     ensures { Reads result (message_of message.now) }

@@ -1,9 +1,11 @@
 use crate::{
-    FlowModCommand, Message, check_head, read_message, write_barrier_reply, write_echo_reply,
-    write_error, write_hello,
+    FlowMod, FlowModCommand, FlowRemoved, FlowRemovedReason, Message, check_head, read_message,
+    write_barrier_reply, write_echo_reply, write_error, write_flow_removed, write_hello,
 };
 use of_actions::{Action, Instruction};
+use of_oxm::Match;
 use of_wire::{Code, ReadError};
+use std::alloc::Global;
 use std::test::Fail;
 
 #[test]
@@ -77,5 +79,137 @@ fn flow_mod(rt: HostRuntime) -> Result<(), Fail> {
         max_len: 0,
     };
     assert_eq!(rt; actions.as_slice(), [output].as_slice());
+    Ok(())
+}
+
+// A FLOW_MOD with an empty match and no instruction.
+fn short_flow_mod(table: u8, command: u8, flags: u8) -> [u8; 56] {
+    [
+        4, 14, 0, 56, 0, 0, 0, 3, // header
+        0, 0, 0, 0, 0, 0, 0, 0x2a, // cookie
+        0, 0, 0, 0, 0, 0, 0, 0xff, // its mask
+        table, command, 0, 60, 1, 0x2c, 0, 100, // idle and hard timeout, priority
+        0xff, 0xff, 0xff, 0xff, 0, 0, 0, 7, // buffer, out port
+        0, 0, 0, 9, 0, flags, 0, 0, // out group, flags, padding
+        0, 1, 0, 4, 0, 0, 0, 0, // match
+    ]
+}
+
+// A FLOW_MOD of table 0 with an empty match, and an instruction of an unknown type behind it.
+fn unknown_instruction(command: u8) -> [u8; 64] {
+    [
+        4, 14, 0, 64, 0, 0, 0, 3, // header
+        0, 0, 0, 0, 0, 0, 0, 0x2a, // cookie
+        0, 0, 0, 0, 0, 0, 0, 0xff, // its mask
+        0, command, 0, 60, 1, 0x2c, 0, 100, // table, idle and hard timeout, priority
+        0xff, 0xff, 0xff, 0xff, 0, 0, 0, 7, // buffer, out port
+        0, 0, 0, 9, 0, 0, 0, 0, // out group, flags, padding
+        0, 1, 0, 4, 0, 0, 0, 0, // match
+        0, 99, 0, 8, 0, 0, 0, 0, // instruction
+    ]
+}
+
+fn flow_mod_in(alloc: Global, bytes: &[u8]) -> Option<FlowMod> {
+    match read_message(alloc, bytes) {
+        Ok(Message::FlowMod(flow_mod)) => Some(flow_mod),
+        _ => None,
+    }
+}
+
+fn refusal_of(alloc: Global, bytes: &[u8]) -> Option<Code> {
+    match read_message(alloc, bytes) {
+        Err(ReadError::Refused(code)) => Some(code),
+        _ => None,
+    }
+}
+
+#[test]
+fn commands(rt: HostRuntime) -> Result<(), Fail> {
+    let commands = [
+        FlowModCommand::Add,
+        FlowModCommand::Modify,
+        FlowModCommand::ModifyStrict,
+        FlowModCommand::Delete,
+        FlowModCommand::DeleteStrict,
+    ];
+    for (number, command) in commands.iter().enumerate() {
+        let bytes = short_flow_mod(15, number as u8, 31);
+        let flow_mod = flow_mod_in(rt.alloc(), &bytes).ok_or("a FLOW_MOD")?;
+        assert_eq!(rt; flow_mod.command, *command);
+        assert_eq!(rt; flow_mod.table, 15);
+        assert_eq!(rt; flow_mod.flags, 31);
+        assert_eq!(rt; flow_mod.cookie_mask, 0xff);
+        assert_eq!(rt; flow_mod.out_port, 7);
+        assert_eq!(rt; flow_mod.out_group, 9);
+        assert!(rt; flow_mod.instructions.is_empty());
+    }
+    Ok(())
+}
+
+#[test]
+fn refused_fixed_fields(rt: HostRuntime) -> Result<(), Fail> {
+    let bad_command = Some(Code { kind: 5, code: 6 });
+    let bad_table = Some(Code { kind: 5, code: 2 });
+    let bad_flags = Some(Code { kind: 5, code: 7 });
+    for command in 0..5u8 {
+        let table_16 = short_flow_mod(16, command, 32);
+        assert_eq!(rt; refusal_of(rt.alloc(), &table_16), bad_table);
+        let flags_32 = short_flow_mod(0, command, 32);
+        assert_eq!(rt; refusal_of(rt.alloc(), &flags_32), bad_flags);
+        let all_tables = short_flow_mod(255, command, 0);
+        let wanted = if command < 3 { bad_table } else { None };
+        assert_eq!(rt; refusal_of(rt.alloc(), &all_tables), wanted);
+    }
+    let command_5 = short_flow_mod(16, 5, 32);
+    assert_eq!(rt; refusal_of(rt.alloc(), &command_5), bad_command);
+    let flow_mod = flow_mod_in(rt.alloc(), &short_flow_mod(255, 3, 0)).ok_or("a FLOW_MOD")?;
+    assert_eq!(rt; flow_mod.table, 255);
+    Ok(())
+}
+
+#[test]
+fn behind_the_match(rt: HostRuntime) -> Result<(), Fail> {
+    let unknown = Some(Code { kind: 3, code: 0 });
+    for command in 0..3u8 {
+        assert_eq!(rt;
+            refusal_of(rt.alloc(), &unknown_instruction(command)),
+            unknown
+        );
+    }
+    for command in 3..5u8 {
+        let bytes = unknown_instruction(command);
+        let flow_mod = flow_mod_in(rt.alloc(), &bytes).ok_or("a FLOW_MOD")?;
+        assert!(rt; flow_mod.command.is_delete());
+        assert!(rt; flow_mod.instructions.is_empty());
+    }
+    Ok(())
+}
+
+#[test]
+fn flow_removed(rt: HostRuntime) -> Result<(), Fail> {
+    let removed = FlowRemoved {
+        cookie: 0x0102_0304_0506_0708,
+        priority: 100,
+        reason: FlowRemovedReason::HardTimeout,
+        table: 5,
+        duration_sec: 300,
+        duration_nsec: 1_000_000,
+        idle_timeout: 60,
+        hard_timeout: 300,
+        packets: 3,
+        bytes: 0x1_0000_0000,
+    };
+    let fields = Match::of_in_port(rt.alloc(), 1)?;
+    let message = write_flow_removed(rt.alloc(), 0x0a0b_0c0d, &removed, &fields)?;
+    let bytes = [
+        4u8, 11, 0, 64, 0x0a, 0x0b, 0x0c, 0x0d, // header
+        1, 2, 3, 4, 5, 6, 7, 8, // cookie
+        0, 100, 1, 5, 0, 0, 1, 0x2c, // priority, reason, table, seconds
+        0, 0x0f, 0x42, 0x40, 0, 60, 1, 0x2c, // nanoseconds, idle and hard timeout
+        0, 0, 0, 0, 0, 0, 0, 3, // packets
+        0, 0, 0, 1, 0, 0, 0, 0, // bytes
+        0, 1, 0, 12, 0x80, 0, 0, 4, 0, 0, 0, 1, 0, 0, 0, 0, // match
+    ];
+    assert_eq!(rt; message.as_slice(), bytes.as_slice());
     Ok(())
 }

@@ -1,7 +1,10 @@
 //! The bytes of messages that the switch sends.
 ghost use Rattle.std.specs.Prelude.{◌≡◌, ◌++◌, OnOk, IfOk};
-ghost use Rattle.of_messages.specs.Written.{header, hello_bytes, error_bytes, echo_reply_bytes, barrier_reply_bytes};
+ghost use Rattle.byteorder.specs.Endian.{big_bytes};
+ghost use Rattle.of_messages.specs.Written.{header, hello_bytes, error_bytes, echo_reply_bytes, barrier_reply_bytes, reason_number, flow_removed_front, flow_removed_bytes};
 
+use crate::message::{FlowRemoved, FlowRemovedReason};
+use of_oxm::{Match, write_match};
 use of_wire::{Bytes, Code};
 use std::alloc::{AllocError, Global};
 
@@ -51,5 +54,67 @@ pub fn write_barrier_reply(alloc: Global, xid: u32) -> Result<Bytes, AllocError>
 {
     let mut out = Vec::new(alloc);
     put_header(&mut out, 21, 8, xid)?;
+    Ok(Bytes::new(out))
+}
+
+fn number_of(reason: FlowRemovedReason) -> u8
+    ensures { result ≡ reason_number reason }
+{
+    match reason {
+        FlowRemovedReason::IdleTimeout => 0,
+        FlowRemovedReason::HardTimeout => 1,
+        FlowRemovedReason::Delete => 2,
+        FlowRemovedReason::GroupDelete => 3,
+    }
+}
+
+fn put_u16(out: &mut Vec<u8>, number: u16) -> Result<(), AllocError>
+    ensures { OnOk result (out.new.items ≡ out.old.items ++ big_bytes 2 number) }
+{
+    out.extend_from_slice(&number.to_be_bytes())
+}
+
+fn put_u32(out: &mut Vec<u8>, number: u32) -> Result<(), AllocError>
+    ensures { OnOk result (out.new.items ≡ out.old.items ++ big_bytes 4 number) }
+{
+    out.extend_from_slice(&number.to_be_bytes())
+}
+
+fn put_u64(out: &mut Vec<u8>, number: u64) -> Result<(), AllocError>
+    ensures { OnOk result (out.new.items ≡ out.old.items ++ big_bytes 8 number) }
+{
+    out.extend_from_slice(&number.to_be_bytes())
+}
+
+// What stands in front of the match, 40 bytes.
+fn put_flow_removed(out: &mut Vec<u8>, removed: &FlowRemoved) -> Result<(), AllocError>
+    ensures { OnOk result (out.new.items ≡ out.old.items ++ flow_removed_front removed.now) }
+{
+    put_u64(out, removed.cookie)?;
+    put_u16(out, removed.priority)?;
+    out.extend_from_slice(&[number_of(removed.reason), removed.table])?;
+    put_u32(out, removed.duration_sec)?;
+    put_u32(out, removed.duration_nsec)?;
+    put_u16(out, removed.idle_timeout)?;
+    put_u16(out, removed.hard_timeout)?;
+    put_u64(out, removed.packets)?;
+    put_u64(out, removed.bytes)
+}
+
+/// The FLOW_REMOVED of an entry with this match (OpenFlow 1.3.5, 7.4.2).
+#[tactic(auto, using(crate::proofs::Appended::length_front))]
+pub fn write_flow_removed(
+    alloc: Global,
+    xid: u32,
+    removed: &FlowRemoved,
+    fields: &Match,
+) -> Result<Bytes, AllocError>
+    ensures { IfOk result (λ bytes. bytes ≡ flow_removed_bytes xid removed.now fields.now) }
+{
+    let spelling = write_match(alloc, fields)?;
+    let mut out = Vec::new(alloc);
+    put_header(&mut out, 11, 48 + spelling.len(), xid)?;
+    put_flow_removed(&mut out, removed)?;
+    out.extend_from_slice(&spelling)?;
     Ok(Bytes::new(out))
 }

@@ -1,5 +1,5 @@
 -- What the grammar of matches says, computed.
-use Rattle.std.proofs.Common.{◌≡◌, ℕ, ◌+◌, ◌<◌, ◌≤◌, Bool, true, false, List, [], ◌∷◌, ◌++◌, length, get_or, drop, Option, Some, None, Result, Ok, Err, refl, sym, ap, subst, ◌∙◌, arith, cond}
+use Rattle.std.proofs.Common.{◌≡◌, ℕ, ◌+◌, ◌<◌, Bool, true, false, List, [], ◌∷◌, ◌++◌, length, get_or, drop, Option, Some, None, Ok, Err, refl, sym, ap, subst, ◌∙◌, arith, cond}
 use Rattle.std.specs.Option.{option_map}
 use Rattle.std.proofs.lemmas.List.{append_assoc, append-nil, drop_at, length-append}
 use Rattle.of_wire.specs.declared.code.Code.{Code}
@@ -7,17 +7,17 @@ use Rattle.of_wire.specs.declared.code.ReadError.{ReadError}
 use Rattle.of_wire.specs.declared.code.ReadError.TheVariants as errors
 use Rattle.of_wire.specs.Refusals.{refusal, first_of}
 use Rattle.of_wire.specs.Failures.{Fails}
-use Rattle.of_wire.specs.Items.{Items, AreItems, IsEnd as ItemsEnd, items_of, outcome}
+use Rattle.of_wire.specs.Items.{AreItems, IsEnd as ItemsEnd, items_of, outcome}
 use Rattle.of_wire.proofs.ItemsRead.{items_are}
-use Rattle.of_headers.specs.declared.field.Field.{Field}
-use Rattle.of_headers.specs.Fields.{field_at}
+use Rattle.of_layers.specs.declared.field.Field.{Field}
+use Rattle.of_layers.specs.Fields.{field_at}
 use Rattle.of_oxm.specs.declared.match_field.MatchField.{MatchField}
-use Rattle.of_oxm.specs.MatchFieldWire.{spelling, number_at, match_field_of, field_refusals}
+use Rattle.of_oxm.specs.MatchFieldWire.{spelling, number_at, match_field_of}
 use Rattle.of_oxm.specs.MatchGrammar.{match_len, padded, body_of, head_refusals, spellings, AreFieldsAfter, IsEnd, Fields, IsFaulty}
 use Rattle.of_oxm.specs.NormalForm.{normal}
 use Rattle.of_oxm.specs.Prerequisites.{all_met}
-use Rattle.of_oxm.specs.MatchReading.{match_fields, normal_match, then_normal, match_by, match_of}
-use Rattle.of_oxm.proofs.MatchFieldLemmas.{IsFound, field_again}
+use Rattle.of_oxm.specs.MatchReading.{match_fields, then_normal, match_by, match_of}
+use Rattle.of_oxm.proofs.MatchFieldLemmas.{field_again}
 
 ends_so : (seen : List MatchField) (rest : List ℕ) (fault : Option Code) → IsEnd seen rest fault → ItemsEnd match_fields seen rest fault
 ends_so seen [] fault h = h

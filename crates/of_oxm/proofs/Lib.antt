@@ -7,5 +7,7 @@ pub mod Laws
 pub mod Written
 pub mod Same
 pub mod Related
+pub mod Seen
+pub mod Joined
 pub mod PortMatch
 pub mod Computed

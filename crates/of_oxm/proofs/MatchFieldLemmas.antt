@@ -8,13 +8,12 @@ use Rattle.std.proofs.Math.Nat.{mod-lt}
 use Rattle.byteorder.specs.Endian.{big_number, big_bytes}
 use Rattle.byteorder.specs.Numbers.{big_from-lt, big_number-reads_back, length-bytes_high_first}
 use Rattle.of_wire.specs.declared.code.Code.{Code}
-use Rattle.of_headers.specs.declared.field.Field.{Field}
+use Rattle.of_layers.specs.declared.field.Field.{Field}
 use Rattle.of_oxm.specs.declared.match_field.MatchField.{MatchField}
-use Rattle.of_headers.specs.Fields.{number_of, bytes_of, ones_of, is_maskable, field_at}
-use Rattle.of_headers.specs.FieldMap.{is_served}
+use Rattle.of_layers.specs.Fields.{number_of, bytes_of, ones_of, is_maskable, field_at}
 use Rattle.of_wire.specs.Refusals.{first_of}
 use Rattle.of_oxm.specs.MatchFieldWire.{spelling, IsSpelt, IsMask, body_len, is_masked_at, number_at, value_at, mask_at, match_field_of, field_refusals, known_field_refusals}
-use Rattle.of_headers.proofs.Table.{field_at-number_of, number_of-field_at, value_below}
+use Rattle.of_layers.proofs.Table.{field_at-number_of, number_of-field_at, value_below}
 use Rattle.of_wire.proofs.Numbers.{IsBytes, IsBytes-drop, big_bytes-big_number}
 
 -- ---- lists of refusals
@@ -73,9 +72,7 @@ known : (f : Field) (seen : List MatchField) (rest : List ℕ) → IsBytes rest 
 unfolding spelling
 known f seen (a ∷ b ∷ c ∷ d ∷ tail) fits h4 hd class number none =
     let rest = a ∷ b ∷ c ∷ d ∷ tail in
-    let u = none_applies (known_field_refusals f seen rest) none in
-    let t = u.1 in
-    let here : is_served f ≡ true = not_false _ u.0 in
+    let t = none_applies (known_field_refusals f seen rest) none in
     let len : d ≡ body_len f (is_masked_at rest) = eqb-true _ _ (not_false _ t.0) in
     let high : a ≡ 128 = omega (arith, fits 0, fits 1) in
     let low : b ≡ 0 = omega (arith, fits 0, fits 1) in
@@ -93,7 +90,7 @@ known f seen (a ∷ b ∷ c ∷ d ∷ tail) fits h4 hd class number none =
           let after : drop (4 + d) rest ≡ drop (2 * bytes_of f) tail = sym (drop-drop d 4 rest) ∙ ap (λ (k : ℕ). drop k tail) d_is in
           let body = bytes_masked (bytes_of f) tail (omega arith) tail_fits in
           rw masked (record {
-            spelt = record { served = here; value = value_fits; mask = record { fits = big_from-lt 0 (bytes_of f) (drop (bytes_of f) tail) (IsBytes-drop (bytes_of f) tail tail_fits); allowed = may_be mask_test; covers = eqb-true _ _ (not_false _ value_test) } };
+            spelt = record { value = value_fits; mask = record { fits = big_from-lt 0 (bytes_of f) (drop (bytes_of f) tail) (IsBytes-drop (bytes_of f) tail tail_fits); allowed = may_be mask_test; covers = eqb-true _ _ (not_false _ value_test) } };
             first = t.1.0;
             text = cc;
           })
@@ -103,7 +100,7 @@ known f seen (a ∷ b ∷ c ∷ d ∷ tail) fits h4 hd class number none =
           let c_is : c ≡ 2 * number_of f + 0 = omega (arith, number, eqb-false (c % 2) 1 masked) in
           let after : drop (4 + d) rest ≡ drop (bytes_of f) tail = sym (drop-drop d 4 rest) ∙ ap (λ (k : ℕ). drop k tail) d_is in
           let body = bytes_plain (bytes_of f) tail (omega arith) tail_fits in
-          rw masked (record { spelt = record { served = here; value = value_fits; mask = tt }; first = t.1.0; text = cc })
+          rw masked (record { spelt = record { value = value_fits; mask = tt }; first = t.1.0; text = cc })
     ] in
     split (is_masked_at rest) refl
 known f seen [] fits h4 hd class number none = absurd (omega arith)
@@ -131,11 +128,11 @@ pub record IsFound (e : MatchField) (seen : List MatchField) (rest : List ℕ) (
   pub same : match_field_of e.field rest ≡ e
   pub size_is : 4 + get_or rest 3 0 ≡ size
 
-known_plain : (f : Field) (seen : List MatchField) (rest : List ℕ) → is_served f ≡ true → is_masked_at rest ≡ false → get_or rest 3 0 ≡ bytes_of f → list_any (λ y. eqb (number_of y.field) (number_of f)) seen ≡ false
+known_plain : (f : Field) (seen : List MatchField) (rest : List ℕ) → is_masked_at rest ≡ false → get_or rest 3 0 ≡ bytes_of f → list_any (λ y. eqb (number_of y.field) (number_of f)) seen ≡ false
     → value_at f rest ≤ ones_of f → NoneApplies (known_field_refusals f seen rest)
-known_plain f seen rest here masked len first fits =
+known_plain f seen rest masked len first fits =
     let size : not (eqb (get_or rest 3 0) (body_len f false)) ≡ false = ap not (eq-eqb _ _ len) in
-    rw masked (ap not here, (size, (first, (refl, (le-ltb _ _ fits, (refl, tt))))))
+    rw masked (size, (first, (refl, (le-ltb _ _ fits, (refl, tt)))))
 
 not_covered : (f : Field) (a b : ℕ) → (is_maskable f ≡ true) ⊎ (a ≡ b) → (not (is_maskable f) && not (eqb a b)) ≡ false
 not_covered f a b h = elim h [
@@ -143,11 +140,11 @@ not_covered f a b h = elim h [
   | inr q ↦ ap (λ (m : Bool). not (is_maskable f) && not m) (eq-eqb a b q) ∙ and_none (not (is_maskable f))
 ]
 
-known_masked : (f : Field) (seen : List MatchField) (rest : List ℕ) → is_served f ≡ true → is_masked_at rest ≡ true → get_or rest 3 0 ≡ 2 * bytes_of f → list_any (λ y. eqb (number_of y.field) (number_of f)) seen ≡ false
+known_masked : (f : Field) (seen : List MatchField) (rest : List ℕ) → is_masked_at rest ≡ true → get_or rest 3 0 ≡ 2 * bytes_of f → list_any (λ y. eqb (number_of y.field) (number_of f)) seen ≡ false
     → value_at f rest ≤ ones_of f → IsMask f (value_at f rest) (mask_at f rest) → NoneApplies (known_field_refusals f seen rest)
-known_masked f seen rest here masked len first fits mask =
+known_masked f seen rest masked len first fits mask =
     let size : not (eqb (get_or rest 3 0) (body_len f true)) ≡ false = ap not (eq-eqb _ _ len) in
-    rw masked (ap not here, (size, (first, (not_covered f _ _ mask.allowed, (le-ltb _ _ fits, (ap not (eq-eqb _ _ mask.covers), tt))))))
+    rw masked (size, (first, (not_covered f _ _ mask.allowed, (le-ltb _ _ fits, (ap not (eq-eqb _ _ mask.covers), tt)))))
 
 made_plain : (f : Field) (v : ℕ) (rest : List ℕ) → is_masked_at rest ≡ false → value_at f rest ≡ v → let e : MatchField = record { field = f; value = v; mask = None } in match_field_of f rest ≡ e
 made_plain f v rest masked value = rw (masked, value) refl
@@ -155,10 +152,10 @@ made_plain f v rest masked value = rw (masked, value) refl
 made_masked : (f : Field) (v m : ℕ) (rest : List ℕ) → is_masked_at rest ≡ true → value_at f rest ≡ v → mask_at f rest ≡ m → let e : MatchField = record { field = f; value = v; mask = Some m } in match_field_of f rest ≡ e
 made_masked f v m rest masked value mask = rw (masked, value, mask) refl
 
-plain_found : (f : Field) (v : ℕ) (seen : List MatchField) (x : List ℕ) → is_served f ≡ true → v ≤ ones_of f → list_any (λ y. eqb (number_of y.field) (number_of f)) seen ≡ false
+plain_found : (f : Field) (v : ℕ) (seen : List MatchField) (x : List ℕ) → v ≤ ones_of f → list_any (λ y. eqb (number_of y.field) (number_of f)) seen ≡ false
     → let e : MatchField = record { field = f; value = v; mask = None } in IsFound e seen (spelling e ++ x) (length (spelling e))
 unfolding spelling
-plain_found f v seen x here fits first =
+plain_found f v seen x fits first =
     let e : MatchField = record { field = f; value = v; mask = None } in
     let rest = spelling e ++ x in
     let n = bytes_of f in
@@ -169,7 +166,7 @@ plain_found f v seen x here fits first =
     let at : field_at (number_at rest) ≡ Some f = ap field_at number ∙ field_at-number_of f in
     let value : value_at f rest ≡ v = ap (big_number n) (simp append_assoc) ∙ big_number-reads_back n v ([] ++ x) (value_below f v fits) in
     let size : length rest ≡ 4 + (n + length x) = simp length-append (omega (arith, len)) in
-    let known = known_plain f seen rest here masked refl first (rw value fits) in
+    let known = known_plain f seen rest masked refl first (rw value fits) in
     record {
       none = refusals_none f seen rest (omega (arith, size)) (omega (arith, size)) refl at known;
       at = at;
@@ -177,10 +174,10 @@ plain_found f v seen x here fits first =
       size_is = simp length-append (omega (arith, len));
     }
 
-masked_found : (f : Field) (v m : ℕ) (seen : List MatchField) (x : List ℕ) → is_served f ≡ true → v ≤ ones_of f → IsMask f v m → list_any (λ y. eqb (number_of y.field) (number_of f)) seen ≡ false
+masked_found : (f : Field) (v m : ℕ) (seen : List MatchField) (x : List ℕ) → v ≤ ones_of f → IsMask f v m → list_any (λ y. eqb (number_of y.field) (number_of f)) seen ≡ false
     → let e : MatchField = record { field = f; value = v; mask = Some m } in IsFound e seen (spelling e ++ x) (length (spelling e))
 unfolding spelling
-masked_found f v m seen x here fits mask first =
+masked_found f v m seen x fits mask first =
     let e : MatchField = record { field = f; value = v; mask = Some m } in
     let rest = spelling e ++ x in
     let n = bytes_of f in
@@ -194,7 +191,7 @@ masked_found f v m seen x here fits mask first =
     let value : value_at f rest ≡ v = ap (big_number n) body ∙ big_number-reads_back n v (big_bytes n m ++ x) (value_below f v fits) in
     let mask_is : mask_at f rest ≡ m = ap (λ (y : List ℕ). big_number n (drop n y)) body ∙ ap (big_number n) (drop_at (big_bytes n v) (big_bytes n m ++ x) n len) ∙ big_number-reads_back n m x (mask.fits) in
     let size : length rest ≡ 4 + (2 * n + length x) = simp length-append (omega (arith, len, len2)) in
-    let known = known_masked f seen rest here masked refl first (rw value fits) (rw (value, mask_is) mask) in
+    let known = known_masked f seen rest masked refl first (rw value fits) (rw (value, mask_is) mask) in
     record {
       none = refusals_none f seen rest (omega (arith, size)) (omega (arith, size)) refl at known;
       at = at;
@@ -202,11 +199,11 @@ masked_found f v m seen x here fits mask first =
       size_is = simp length-append (omega (arith, len, len2));
     }
 
-found : (f : Field) (v : ℕ) (mask : Option ℕ) (seen : List MatchField) (x : List ℕ) → is_served f ≡ true → v ≤ ones_of f → IfSome mask (IsMask f v) → list_any (λ y. eqb (number_of y.field) (number_of f)) seen ≡ false
+found : (f : Field) (v : ℕ) (mask : Option ℕ) (seen : List MatchField) (x : List ℕ) → v ≤ ones_of f → IfSome mask (IsMask f v) → list_any (λ y. eqb (number_of y.field) (number_of f)) seen ≡ false
     → let e : MatchField = record { field = f; value = v; mask = mask } in IsFound e seen (spelling e ++ x) (length (spelling e))
-found f v None seen x here fits mask first = plain_found f v seen x here fits first
-found f v (Some m) seen x here fits mask first = masked_found f v m seen x here fits mask first
+found f v None seen x fits mask first = plain_found f v seen x fits first
+found f v (Some m) seen x fits mask first = masked_found f v m seen x fits mask first
 
 -- a field that is spelt is read, whatever follows
 pub field_again : (e : MatchField) (seen : List MatchField) (x : List ℕ) → IsSpelt e → list_any (λ y. eqb (number_of y.field) (number_of e.field)) seen ≡ false → IsFound e seen (spelling e ++ x) (length (spelling e))
-field_again e seen x spelt first = found e.field e.value e.mask seen x spelt.served spelt.value spelt.mask first
+field_again e seen x spelt first = found e.field e.value e.mask seen x spelt.value spelt.mask first

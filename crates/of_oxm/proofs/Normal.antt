@@ -7,11 +7,10 @@ use Rattle.std.proofs.lemmas.Nat.{and_mask, and_assoc}
 use Rattle.std.specs.Int.Bits.{and_self}
 use Rattle.std.proofs.Math.Pow.{pow_pos}
 use Rattle.std.proofs.Math.Nat.{mod-eq_of_lt, mod-lt}
-use Rattle.of_headers.specs.declared.field.Field.{Field}
+use Rattle.of_layers.specs.declared.field.Field.{Field}
 use Rattle.of_oxm.specs.declared.match_field.MatchField.{MatchField}
-use Rattle.of_headers.specs.Fields.{number_of, bits_of, ones_of, is_maskable}
-use Rattle.of_headers.proofs.Table.{ones_is}
-use Rattle.of_headers.specs.FieldMap.{is_served}
+use Rattle.of_layers.specs.Fields.{number_of, bits_of, ones_of, is_maskable}
+use Rattle.of_layers.proofs.Table.{ones_is}
 use Rattle.of_oxm.specs.MatchFieldWire.{IsSpelt, IsMask}
 use Rattle.of_oxm.specs.NormalForm.{under, kept, put, put_kept, normal, IsKept, IsRising}
 use Rattle.of_oxm.specs.MatchGrammar.{AreFieldsAfter}
@@ -89,7 +88,7 @@ and_ones f n = ap (bit_and n) (ones_is f) ∙ and_mask n (bits_of f)
 ones_pos : (f : Field) → 0 < 2 ^ bits_of f
 ones_pos f = pow_pos (bits_of f)
 
-under_ones : (f : Field) (n : ℕ) → n ≤ ones_of f → bit_and n (ones_of f) ≡ n
+pub under_ones : (f : Field) (n : ℕ) → n ≤ ones_of f → bit_and n (ones_of f) ≡ n
 under_ones f n h = and_ones f n ∙ mod-eq_of_lt (omega (arith, h, ones_is f, ones_pos f))
 
 at_most_ones : (f : Field) (n : ℕ) → bit_and n (ones_of f) ≤ ones_of f
@@ -99,15 +98,15 @@ pub record Keeps (e k : MatchField) : Type 0 where
   pub field : k.field ≡ e.field
   pub kept : IsKept k
 
-keeps_masked : (e k : MatchField) (m : ℕ) → is_served e.field ≡ true → e.value ≤ ones_of e.field → IsMask e.field e.value m → under e (bit_and m (ones_of e.field)) ≡ Some k → Keeps e k
-keeps_masked e k m here fits mask h =
+keeps_masked : (e k : MatchField) (m : ℕ) → e.value ≤ ones_of e.field → IsMask e.field e.value m → under e (bit_and m (ones_of e.field)) ≡ Some k → Keeps e k
+keeps_masked e k m fits mask h =
     let f = e.field in
     let w = bit_and m (ones_of f) in
     let whole : (b : Bool) → eqb w (ones_of f) ≡ b → 0 < w → cond b (Some (record e { mask = None })) (Some (record e { mask = Some w })) ≡ Some k → Keeps e k
     = λ b. elim b as (λ b. eqb w (ones_of f) ≡ b → 0 < w → cond b (Some (record e { mask = None })) (Some (record e { mask = Some w })) ≡ Some k → Keeps e k) [
       | true ↦ λ t some h.
           let same : record e { mask = None } ≡ k = cc in
-          subst (λ (x : MatchField). Keeps e x) same (record { field = refl; kept = record { served = here; value = fits; mask = tt } })
+          subst (λ (x : MatchField). Keeps e x) same (record { field = refl; kept = record { value = fits; mask = tt } })
       | false ↦ λ t some h.
           let same : record e { mask = Some w } ≡ k = cc in
           let ne : w ≡ ones_of f → ⊥ = eqb-false _ _ t in
@@ -115,7 +114,6 @@ keeps_masked e k m here fits mask h =
           subst (λ (x : MatchField). Keeps e x) same (record {
             field = refl;
             kept = record {
-              served = here;
               value = fits;
               mask = record {
                 maskable = maskable;
@@ -134,16 +132,16 @@ keeps_masked e k m here fits mask h =
     ] in
     first (eqb w 0) refl h
 
-keeps_by : (f : Field) (v : ℕ) (mask : Option ℕ) (k : MatchField) → is_served f ≡ true → v ≤ ones_of f → IfSome mask (IsMask f v) → let e : MatchField = record { field = f; value = v; mask = mask } in kept e ≡ Some k → Keeps e k
+keeps_by : (f : Field) (v : ℕ) (mask : Option ℕ) (k : MatchField) → v ≤ ones_of f → IfSome mask (IsMask f v) → let e : MatchField = record { field = f; value = v; mask = mask } in kept e ≡ Some k → Keeps e k
 unfolding kept
-keeps_by f v None k here fits mask h =
+keeps_by f v None k fits mask h =
     let e : MatchField = record { field = f; value = v; mask = None } in
     let same : e ≡ k = cc in
-    subst (λ (x : MatchField). Keeps e x) same (record { field = refl; kept = record { served = here; value = fits; mask = tt } })
-keeps_by f v (Some m) k here fits mask h = keeps_masked (record { field = f; value = v; mask = Some m }) k m here fits mask h
+    subst (λ (x : MatchField). Keeps e x) same (record { field = refl; kept = record { value = fits; mask = tt } })
+keeps_by f v (Some m) k fits mask h = keeps_masked (record { field = f; value = v; mask = Some m }) k m fits mask h
 
 keeps : (e k : MatchField) → IsSpelt e → kept e ≡ Some k → Keeps e k
-keeps e k spelt h = keeps_by e.field e.value e.mask k spelt.served spelt.value spelt.mask h
+keeps e k spelt h = keeps_by e.field e.value e.mask k spelt.value spelt.mask h
 
 among_normal : (f : Field) (seen es : List MatchField) → AreFieldsAfter seen es → is_among f es ≡ false → is_among f (normal es) ≡ false
 among_normal f seen [] fine h = refl

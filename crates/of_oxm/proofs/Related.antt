@@ -5,13 +5,13 @@ use Rattle.std.specs.List.{list_any, list_all}
 use Rattle.std.proofs.lemmas.Bool.{eqb-true, eq-eqb}
 use Rattle.std.proofs.lemmas.Nat.{and_assoc}
 use Rattle.std.specs.Int.Bits.{and_comm}
-use Rattle.of_headers.specs.declared.field.Field.{Field}
-use Rattle.of_headers.specs.Fields.{number_of}
-use Rattle.of_headers.proofs.Table.{same_number}
+use Rattle.of_layers.specs.declared.field.Field.{Field}
+use Rattle.of_layers.specs.Fields.{number_of}
+use Rattle.of_layers.proofs.Table.{same_number}
 use Rattle.of_oxm.specs.declared.match_field.MatchField.{MatchField}
 use Rattle.of_oxm.specs.Relations.{bits_looked_at, agrees, matches_map, is_within, covers_match, can_both, overlaps_match}
 
-and_true : (a b : Bool) → (a && b) ≡ true → (a ≡ true) × (b ≡ true)
+pub and_true : (a b : Bool) → (a && b) ≡ true → (a ≡ true) × (b ≡ true)
 and_true true b h = (refl, h)
 and_true false b h = absurd cc
 

@@ -8,12 +8,12 @@ use Rattle.std.proofs.lemmas.Bool.{eqb-true, eq-eqb}
 use Rattle.std.proofs.lemmas.Bool.Decides.{Decides-and, Decides-eqb, Decides-like}
 use Rattle.std.proofs.lemmas.Slice.Eq.{slice_eq-Decides}
 use denote.Enum.Bare.{same_true}
-use Rattle.of_headers.specs.contracts.field.Field.{the_type}
-use Rattle.of_headers.specs.contracts.field.FieldPartialEq.TheImpl as the_field
-use Rattle.of_headers.specs.declared.field.Field.{Field}
-use Rattle.of_headers.specs.declared.field.Field.TheVariants.{InPort}
-use Rattle.of_headers.specs.Fields.{number_of}
-use Rattle.of_headers.proofs.Table.{same_number}
+use Rattle.of_layers.specs.contracts.field.Field.{the_type}
+use Rattle.of_layers.specs.contracts.field.FieldPartialEq.TheImpl as the_field
+use Rattle.of_layers.specs.declared.field.Field.{Field}
+use Rattle.of_layers.specs.declared.field.Field.TheVariants.{InPort}
+use Rattle.of_layers.specs.Fields.{number_of}
+use Rattle.of_layers.proofs.Table.{same_number}
 use Rattle.of_oxm.specs.contracts.match_field.MatchFieldPartialEq.TheImpl as the_match_field
 use Rattle.of_oxm.specs.declared.match_field.MatchField.{MatchField}
 use Rattle.of_oxm.specs.SameMatch.{is_same_field, is_same_match}

@@ -3,9 +3,9 @@ use Rattle.std.proofs.Common.{◌≡◌, ℕ, ◌+◌, true, false, List, [], �
 use Rattle.std.proofs.lemmas.List.{append_assoc, append-nil, drop_at}
 use Rattle.std.proofs.lemmas.List.Concat.{flat_map-append}
 use Rattle.of_wire.specs.declared.code.Code.{Code}
-use Rattle.of_headers.specs.declared.field.Field.{Field}
+use Rattle.of_layers.specs.declared.field.Field.{Field}
 use Rattle.of_oxm.specs.declared.match_field.MatchField.{MatchField}
-use Rattle.of_headers.specs.Fields.{field_at}
+use Rattle.of_layers.specs.Fields.{field_at}
 use Rattle.of_wire.specs.Refusals.{first_of}
 use Rattle.of_oxm.specs.MatchFieldWire.{IsSpelt, spelling, number_at, match_field_of, field_refusals}
 use Rattle.of_oxm.specs.MatchGrammar.{spellings, AreFieldsAfter, IsEnd, Fields}

@@ -6,15 +6,15 @@ use Rattle.std.proofs.lemmas.Bool.{lt-ltb, ne_eqb}
 use Rattle.std.proofs.lemmas.List.{append_assoc, length-append, take_at, length-replicate, take-replicate}
 use Rattle.byteorder.specs.Endian.{big_bytes}
 use Rattle.byteorder.specs.Numbers.{length-bytes_high_first}
-use Rattle.of_headers.specs.declared.field.Field.{Field}
+use Rattle.of_layers.specs.declared.field.Field.{Field}
 use Rattle.of_oxm.specs.declared.match_field.MatchField.{MatchField}
-use Rattle.of_headers.specs.Fields.{number_of, bytes_of, ones_of}
+use Rattle.of_layers.specs.Fields.{number_of, bytes_of, ones_of}
 use Rattle.of_oxm.specs.MatchFieldWire.{IsSpelt, IsMask, spelling}
 use Rattle.of_oxm.specs.NormalForm.{kept, put, put_kept, normal, IsKept, IsKeptMask, IsRising, IsMatch}
 use Rattle.of_oxm.specs.MatchGrammar.{AreFieldsAfter, spellings, padded, SpellsMatch}
 use Rattle.of_oxm.specs.MatchFieldWire.{is_among}
 use Rattle.of_oxm.specs.Canonical.{written_len, canonical}
-use Rattle.of_headers.proofs.Table.{number_below, bytes_most, value_below}
+use Rattle.of_layers.proofs.Table.{number_below, bytes_most, value_below}
 use Rattle.of_oxm.proofs.Normal.{among_append}
 
 pub front_of : (n x : ℕ) (rest : List ℕ) → take n (big_bytes n x ++ rest) ≡ big_bytes n x
@@ -27,7 +27,7 @@ kept_mask f v None h = tt
 kept_mask f v (Some m) h = record { fits = value_below f m (omega (arith, h.not_all)); allowed = inl h.maskable; covers = h.covers }
 
 pub kept_spelt : (e : MatchField) → IsKept e → IsSpelt e
-kept_spelt e h = record { served = h.served; value = h.value; mask = kept_mask e.field e.value e.mask h.mask }
+kept_spelt e h = record { value = h.value; mask = kept_mask e.field e.value e.mask h.mask }
 
 pub all_spelt : (m : List MatchField) → AllByRecursion IsKept m → AllByRecursion IsSpelt m
 all_spelt [] h = tt

@@ -4,6 +4,7 @@ pub mod NormalForm
 pub mod MatchGrammar
 pub mod Canonical
 pub mod Relations
+pub mod Masks
 pub mod SameMatch
 pub mod InPortMatch
 pub mod MatchReading

@@ -5,9 +5,8 @@ use Rattle.std.specs.Option.{option_map_or}
 use Rattle.byteorder.specs.Endian.{big_number, big_bytes}
 use Rattle.of_wire.specs.declared.code.Code.{Code}
 use Rattle.of_wire.specs.Refusals.{refusal}
-use Rattle.of_headers.specs.declared.field.Field.{Field}
-use Rattle.of_headers.specs.Fields.{number_of, bytes_of, ones_of, is_maskable, field_at}
-use Rattle.of_headers.specs.FieldMap.{is_served}
+use Rattle.of_layers.specs.declared.field.Field.{Field}
+use Rattle.of_layers.specs.Fields.{number_of, bytes_of, ones_of, is_maskable, field_at}
 use Rattle.of_oxm.specs.declared.match_field.MatchField.{MatchField}
 
 -- ---- the spelling of a field
@@ -35,7 +34,6 @@ pub record IsMask (f : Field) (value mask : ℕ) : Type 0 where
 
 -- what has a spelling
 pub record IsSpelt (e : MatchField) : Type 0 where
-  pub served : is_served e.field ≡ true
   pub value : e.value ≤ ones_of e.field
   pub mask : IfSome e.mask (IsMask e.field e.value)
 
@@ -68,8 +66,7 @@ known_field_refusals f seen rest =
     let masked = is_masked_at rest in
     let value = value_at f rest in
     let mask = mask_at f rest in
-    (not (is_served f), refusal 4 6)
-    ∷ (not (slice_index rest 3 == body_len f masked), refusal 4 1)
+    (not (slice_index rest 3 == body_len f masked), refusal 4 1)
     ∷ (is_among f seen, refusal 4 10)
     ∷ (masked && not (is_maskable f) && not (bit_and mask (ones_of f) == ones_of f), refusal 4 8)
     ∷ (nat_lt (ones_of f) value, refusal 4 7)

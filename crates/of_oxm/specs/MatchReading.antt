@@ -4,7 +4,7 @@ use Rattle.std.specs.Option.{option_map}
 use Rattle.of_wire.specs.declared.code.Code.{Code}
 use Rattle.of_wire.specs.Refusals.{refusal, first_of}
 use Rattle.of_wire.specs.Items.{Items, items_of}
-use Rattle.of_headers.specs.Fields.{field_at}
+use Rattle.of_layers.specs.Fields.{field_at}
 use Rattle.of_oxm.specs.declared.match_field.MatchField.{MatchField}
 use Rattle.of_oxm.specs.MatchFieldWire.{number_at, match_field_of, field_refusals}
 use Rattle.of_oxm.specs.MatchGrammar.{match_len, padded, body_of, head_refusals}

@@ -1,9 +1,13 @@
 -- What a match matches, covers and overlaps (OpenFlow 1.3.5, 5.3 and 6.4). A field map has for each field a value or none.
-use Rattle.std.specs.Prelude.{ℕ, Bool, false, not, ◌==◌, ◌&&◌, ◌||◌, List, Option, Some, None, bit_and, unwrap_or}
+use Rattle.std.specs.Prelude.{ℕ, ◌≤◌, Bool, false, not, ◌==◌, ◌&&◌, ◌||◌, List, Option, Some, None, bit_and, unwrap_or, IfSome}
 use Rattle.std.specs.List.{list_any, list_all}
-use Rattle.of_headers.specs.declared.field.Field.{Field}
-use Rattle.of_headers.specs.Fields.{number_of, ones_of}
+use Rattle.of_layers.specs.declared.field.Field.{Field}
+use Rattle.of_layers.specs.Fields.{number_of, ones_of}
 use Rattle.of_oxm.specs.declared.match_field.MatchField.{MatchField}
+
+-- each value of the map is one of the field's bits
+abbrev pub IsWithinBits : (Field → Option ℕ) → Type 0
+IsWithinBits map = (f : Field) → IfSome (map f) (λ v. v ≤ ones_of f)
 
 -- the bits that a field of a match looks at
 abbrev pub bits_looked_at : MatchField → ℕ

@@ -2,7 +2,7 @@
 use Rattle.std.specs.Prelude.{◌==◌, ◌&&◌, nat_eq, Bool, List}
 use Rattle.std.specs.Option.{option_eq}
 use Rattle.std.specs.Cmp.Lexicographic.{pointwise}
-use Rattle.of_headers.specs.Fields.{number_of}
+use Rattle.of_layers.specs.Fields.{number_of}
 use Rattle.of_oxm.specs.declared.match_field.MatchField.{MatchField}
 
 abbrev pub is_same_field : MatchField → MatchField → Bool

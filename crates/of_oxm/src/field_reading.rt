@@ -2,13 +2,13 @@
 
 ghost use Rattle.std.specs.Prelude.{◌≡◌, ◌≤◌, ◌+◌, length, slice_index, MatchResult, Some, None};
 ghost use Rattle.of_wire.specs.Refusals.{first_of};
-ghost use Rattle.of_headers.specs.Fields.{field_at};
+ghost use Rattle.of_layers.specs.Fields.{field_at};
 ghost use Rattle.of_oxm.specs.MatchFieldWire.{field_refusals, known_field_refusals, match_field_of, number_at, is_among as is_among_fields};
 
 use crate::codes::{BAD_FIELD, BAD_LEN, BAD_MASK, BAD_VALUE, BAD_WILDCARDS, DUP_FIELD};
 use crate::match_field::MatchField;
 use byteorder::{BigEndian, ByteOrder};
-use of_headers::Field;
+use of_layers::Field;
 use of_wire::Code;
 
 fn is_among(field: Field, seen: &[MatchField]) -> bool
@@ -25,9 +25,6 @@ fn read_known_field(field: Field, rest: &[u8], seen: &[MatchField]) -> Result<Ma
         (λ e. (first_of (known_field_refusals field seen.now rest.now) ≡ None) × (e ≡ match_field_of field rest.now))
         (λ code. first_of (known_field_refusals field seen.now rest.now) ≡ Some code) }
 {
-    if !field.is_served() {
-        return Err(BAD_FIELD);
-    }
     let row = field.row();
     let masked = rest[2] % 2 == 1;
     let wanted = if masked { 2 * row.bytes } else { row.bytes };

@@ -5,7 +5,7 @@ ghost use Rattle.of_oxm.specs.InPortMatch.{in_port_match};
 ghost use Rattle.of_oxm.specs.SameMatch.{is_same_match};
 
 use crate::match_field::MatchField;
-use of_headers::Field;
+use of_layers::Field;
 use std::alloc::{AllocError, Global};
 use std::marker::Model;
 

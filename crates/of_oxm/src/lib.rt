@@ -4,6 +4,7 @@
 mod codes;
 mod field_reading;
 mod flow_match;
+mod masks;
 mod match_field;
 mod normal_form;
 mod prerequisites;
@@ -12,11 +13,12 @@ mod relations;
 mod writing;
 
 pub use flow_match::Match;
+pub use masks::{FieldMask, agreeing_match_alike, key_of, mask_of, matched_is_seen};
 pub use match_field::MatchField;
 pub use of_wire::{Code, ReadError};
 pub use prerequisites::is_met;
 pub use reading::{one_code, one_spelling, read_match};
-pub use relations::{covered_is_matched, covers, matched_by_both_overlap, matches, overlaps};
+pub use relations::{covered_is_matched, covers, matches, overlap_is_common_match, overlaps};
 pub use writing::write_match;
 
 #[cfg(test)]

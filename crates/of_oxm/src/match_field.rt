@@ -1,4 +1,4 @@
-use of_headers::Field;
+use of_layers::Field;
 
 /// A field of a match with its value, and the mask where there is one (OpenFlow 1.3.5, 7.2.3.2).
 ///

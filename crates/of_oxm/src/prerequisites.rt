@@ -4,7 +4,7 @@ ghost use Rattle.std.specs.Prelude.{◌≡◌};
 ghost use Rattle.of_oxm.specs.Prerequisites.{has, is_met as need_is_met, all_met as needs_are_met};
 
 use crate::match_field::MatchField;
-use of_headers::{Field, Need};
+use of_layers::{Field, Need};
 
 fn holds(fields: &[MatchField], field: Field, value: u128) -> bool
     ensures { result ≡ has fields.now field value }

@@ -90,8 +90,6 @@ fn parse(alloc: Global, bytes: &[u8]) -> Result<(Match, usize), ReadError>
 }
 
 /// The match at the front of the bytes, and how many bytes it takes with its padding (OpenFlow 1.3.5, 7.2.3).
-///
-/// A field that keys do not have so far (`Field::is_served`) is refused with `OFPBMC_BAD_FIELD`.
 pub fn read_match(alloc: Global, bytes: &[u8]) -> Result<(Match, usize), ReadError>
     // What is read is spelled so.
     ensures size { IfOk result (λ r. r.1 ≤ length bytes.now) }

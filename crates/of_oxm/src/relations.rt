@@ -3,15 +3,16 @@
 ghost use Rattle.std.specs.Prelude.{◌≡◌, ℕ, List, Option, true};
 ghost use Rattle.std.specs.List.{list_any, list_all};
 ghost use Rattle.of_headers.specs.FieldMap.{value};
-ghost use Rattle.of_oxm.specs.Relations.{bits_looked_at, agrees as agrees_with, is_within as within, can_both as both_can, matches_map, covers_match, overlaps_match};
+ghost use Rattle.of_oxm.specs.Relations.{bits_looked_at, agrees as agrees_with, is_within as within, can_both as both_can, IsWithinBits, matches_map, covers_match, overlaps_match};
+ghost use Rattle.of_oxm.specs.NormalForm.{IsMatch};
 ghost use Rattle.of_oxm.specs.declared.match_field.MatchField.{MatchField};
-ghost use Rattle.of_headers.specs.declared.field.Field.{Field};
+ghost use Rattle.of_layers.specs.declared.field.Field.{Field};
 
 use crate::flow_match::Match;
 use crate::match_field::MatchField;
 use of_headers::FieldKey;
 
-fn mask(e: &MatchField) -> u128
+pub(crate) fn mask(e: &MatchField) -> u128
     ensures { result ≡ bits_looked_at e.now }
 {
     match e.mask {
@@ -101,8 +102,10 @@ pub fn covered_is_matched()
         covers_match d m ≡ true → matches_map m map ≡ true → matches_map d map ≡ true }
 {}
 
-/// Two matches that match one field map overlap.
-pub fn matched_by_both_overlap()
-    ensures { (m n : List MatchField) (map : Field → Option ℕ) →
+/// Two matches overlap exactly where some field map is matched by both.
+pub fn overlap_is_common_match()
+    ensures common { (m n : List MatchField) → IsMatch m → IsMatch n → overlaps_match m n ≡ true →
+        (map : Field → Option ℕ) × IsWithinBits map × (matches_map m map ≡ true) × (matches_map n map ≡ true) }
+    ensures overlap { (m n : List MatchField) (map : Field → Option ℕ) →
         matches_map m map ≡ true → matches_map n map ≡ true → overlaps_match m n ≡ true }
 {}

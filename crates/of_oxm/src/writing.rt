@@ -25,7 +25,7 @@ fn put_number(out: &mut Vec<u8>, len: usize, number: u128) -> Result<(), AllocEr
     out.extend_from_slice(front)
 }
 
-#[tactic(auto, using(of_headers::proofs::Table::value_below), unfolding(crate::specs::MatchFieldWire::spelling))]
+#[tactic(auto, using(of_layers::proofs::Table::value_below), unfolding(crate::specs::MatchFieldWire::spelling))]
 fn put_field(out: &mut Vec<u8>, e: &MatchField) -> Result<(), AllocError>
     requires { IsSpelt e.now }
     ensures { OnOk result (out.new.items ≡ out.old.items ++ spelling e.now) }

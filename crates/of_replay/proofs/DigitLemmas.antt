@@ -1,5 +1,5 @@
 -- Numbers that digits make.
-use Rattle.std.proofs.Common.{◌≡◌, ℕ, ◌+◌, ◌-◌, ◌*◌, ◌<◌, ◌≤◌, Bool, true, false, cond, ltb, List, [], ◌∷◌, Option, Some, None, refl, sym, ap, ◌∙◌, arith, drop, get_or, length, add-one, drop-cons}
+use Rattle.std.proofs.Common.{◌≡◌, ℕ, ◌+◌, ◌-◌, ◌*◌, ◌<◌, ◌≤◌, Bool, true, false, cond, List, [], ◌∷◌, None, refl, arith, drop, get_or, length, add-one, drop-cons}
 use Rattle.std.proofs.lemmas.Bool.{le-ltb}
 use Rattle.of_replay.specs.Lexing.{is_digit, digits_value, below}
 

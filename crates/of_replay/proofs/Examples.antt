@@ -7,7 +7,7 @@ use lib.Utf8.{encode}
 use Rattle.hex.specs.Hex.{decode_pairs, encode_with}
 use Rattle.of_switch.proofs.OnLiterals.{switch_on_literals}
 use Rattle.of_replay.specs.Lexing.{lines_of}
-use Rattle.of_replay.specs.Play.{Play, played_lines}
+use Rattle.of_replay.specs.Play.{played_lines}
 
 -- a text of these lines, each ended by LF
 abbrev pub text_of : List (List ℕ) → List ℕ

@@ -1,20 +1,20 @@
 -- A line's part in a run.
-use Rattle.std.proofs.Common.{◌≡◌, ℕ, ◌+◌, ◌<◌, ◌≤◌, suc, zero, eqb, Bool, true, false, cond, length, take, drop, List, [], ◌∷◌, ◌++◌, Option, Some, None, Ok, Err, refl, sym, ◌∙◌, ap, subst, append_assoc, add-one, arith, length-drop, Result}
+use Rattle.std.proofs.Common.{◌≡◌, ℕ, ◌+◌, ◌<◌, ◌≤◌, suc, eqb, Bool, true, false, cond, length, take, drop, List, [], ◌∷◌, ◌++◌, Option, Some, None, Ok, Err, refl, sym, ◌∙◌, ap, subst, append_assoc, add-one, arith, length-drop, Result}
 use Rattle.std.proofs.lemmas.List.{append-nil, drop-drop}
 use Rattle.std.specs.Prelude.{position, nat_lt, OnOk, OnErr, IfErr}
 use Rattle.std.specs.List.{position_or_len}
 use Rattle.std.specs.Option.{option_map}
 use Rattle.std.proofs.lemmas.Bool.Decides.{nat_tests}
 use Rattle.of_switch.specs.State.{State, start}
-use Rattle.of_switch.specs.Calls.{Held, well}
+use Rattle.of_switch.specs.Calls.{Held}
 use Rattle.of_replay.specs.declared.play.Halt.{Halt}
 use Rattle.of_replay.specs.declared.play.Halt.TheVariants.{Bad, Memory, Write}
 use Rattle.of_replay.specs.Told.{then_bytes}
 use Rattle.of_replay.specs.Transfer.{WroteFront}
-use Rattle.of_replay.specs.Lexing.{whole_from, whole_lines, last_from}
+use Rattle.of_replay.specs.Lexing.{whole_from, last_from}
 use Rattle.of_replay.specs.Rows.{EventRow, row_of}
 use Rattle.of_replay.specs.Output.{report_text}
-use Rattle.of_replay.specs.Play.{Play, played, played_lines, after_text, line_played, row_happened, open_line, lines_read, WroteAll, WroteUntil, WroteFirst, LineTells, Halts, LineGoes, Plays}
+use Rattle.of_replay.specs.Play.{Play, played, played_lines, after_text, line_played, row_happened, open_line, lines_read, WroteAll, WroteFirst, LineTells, LineGoes, Plays}
 use Rattle.of_replay.proofs.TellingLemmas.{then-then, then-nil}
 
 -- A LINE

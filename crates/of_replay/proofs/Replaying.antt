@@ -1,5 +1,5 @@
 -- A whole run, from what was read to what was written.
-use Rattle.std.proofs.Common.{◌≡◌, ℕ, ◌+◌, Bool, true, false, List, [], ◌++◌, Option, None, Result, Ok, Err, refl, sym, ◌∙◌, ap, subst, arith}
+use Rattle.std.proofs.Common.{◌≡◌, ℕ, ◌+◌, Bool, true, false, List, [], Option, Result, Ok, Err, refl, sym, subst, arith}
 use Rattle.std.proofs.lemmas.List.{append-nil}
 use Rattle.std.specs.Prelude.{nat_lt}
 use Rattle.std.proofs.lemmas.Bool.Decides.{nat_tests}
@@ -10,7 +10,7 @@ use Rattle.of_replay.specs.declared.event_file.Ended.TheVariants.{Done, ReadFaul
 use Rattle.of_replay.specs.Told.{Answer, given}
 use Rattle.of_replay.specs.Transfer.{GaveMore}
 use Rattle.of_replay.specs.Ended.{ended_so}
-use Rattle.of_replay.specs.Play.{lines_read, WroteAll, WroteFirst, Ends, Replays, Plays}
+use Rattle.of_replay.specs.Play.{lines_read, WroteAll, Ends, Replays, Plays}
 use Rattle.of_replay.proofs.TellingLemmas.{answers-nil, then-nil}
 
 -- nothing was read or written

@@ -64,10 +64,19 @@ abbrev pub below : ℕ → Option ℕ → Option ℕ
 below limit None = None
 below limit (Some n) = if nat_lt n limit then Some n else None
 
+-- below a limit, and without leading zeros
+abbrev pub decimal : ℕ → List ℕ → Option ℕ
+decimal limit [] = None
+decimal limit (d ∷ []) = below limit (digits_value 0 (d ∷ []))
+decimal limit (d ∷ e ∷ ds) = if d == 48 then None else below limit (digits_value 0 (d ∷ e ∷ ds))
+
+-- of 32 bits
 abbrev pub number_of : List ℕ → Option ℕ
-number_of [] = None
-number_of (d ∷ []) = below (2 ^ 32) (digits_value 0 (d ∷ []))
-number_of (d ∷ e ∷ ds) = if d == 48 then None else below (2 ^ 32) (digits_value 0 (d ∷ e ∷ ds))
+number_of word = decimal (2 ^ 32) word
+
+-- of 64 bits
+abbrev pub moment_of : List ℕ → Option ℕ
+moment_of word = decimal (2 ^ 64) word
 
 -- BYTES: hex digits in either case, or `-` for none
 

@@ -13,11 +13,10 @@ use Rattle.of_replay.specs.declared.play.Halt.{Halt}
 use Rattle.of_replay.specs.declared.play.Halt.TheVariants as halt
 use Rattle.of_replay.specs.declared.event_file.Ended.{Ended}
 use Rattle.of_replay.specs.declared.event_file.Ended.TheVariants.{Done, BadRow, ReadFault, WriteFault, NoMemory}
-use Rattle.of_replay.specs.declared.rows.NewPort.{NewPort}
 use Rattle.of_replay.specs.Told.{Answer, then_bytes, given}
 use Rattle.of_replay.specs.Transfer.{then_answers, WroteFront}
 use Rattle.of_replay.specs.Lexing.{whole_lines, last_from}
-use Rattle.of_replay.specs.Rows.{EventRow, Passed, Connect, Piece, Frame, PortAdd, row_of}
+use Rattle.of_replay.specs.Rows.{EventRow, Passed, Connect, Piece, Frame, Moment, PortAdd, row_of}
 use Rattle.of_replay.specs.Output.{report_text}
 
 -- A ROW
@@ -27,6 +26,7 @@ row_happened s Passed = record { report = Gives []; state = s }
 row_happened s Connect = happened event.Connect s
 row_happened s (Piece bytes) = happened (event.Piece bytes) s
 row_happened s (Frame port bytes) = happened (event.Frame port bytes) s
+row_happened s (Moment nanos) = happened (event.Moment nanos) s
 row_happened s (PortAdd p) = happened (event.Ports (Add p.number p.hw p.name p.up)) s
 
 -- LINES

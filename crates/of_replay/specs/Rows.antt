@@ -2,14 +2,15 @@
 --   connect
 --   c HEX
 --   f PORT HEX
+--   t NANOS
 --   port add N HW NAME up|down
-use Rattle.std.specs.Prelude.{ℕ, Bool, not, List, codes, Option, Some, None, if◌then◌else◌}
+use Rattle.std.specs.Prelude.{ℕ, not, List, codes, Option, Some, None, if◌then◌else◌}
 use Rattle.std.specs.Option.{option_map}
 use Rattle.std.specs.Str.{bytes_eq}
 use Rattle.of_replay.specs.declared.rows.NewPort.{NewPort}
 use Rattle.of_replay.specs.declared.rows.Row.{Row}
 use Rattle.of_replay.specs.declared.rows.Row.TheVariants as row
-use Rattle.of_replay.specs.Lexing.{is_line, is_passed, first_word, after_word, number_of, bytes_of, hw_of, name_of, state_of}
+use Rattle.of_replay.specs.Lexing.{is_line, is_passed, first_word, after_word, number_of, moment_of, bytes_of, hw_of, name_of, state_of}
 
 -- a row with its bytes
 pub data EventRow : Type 0 where
@@ -17,6 +18,7 @@ pub data EventRow : Type 0 where
   Connect : EventRow
   Piece : (bytes : List ℕ) → EventRow
   Frame : (port : ℕ) (bytes : List ℕ) → EventRow
+  Moment : (nanos : ℕ) → EventRow
   PortAdd : (port : NewPort) → EventRow
 
 -- the second step, if the first gave a value
@@ -57,8 +59,9 @@ abbrev pub named_row : List ℕ → List ℕ → Option EventRow
 named_row name words =
     if bytes_eq name (codes "c") then piece_row words
     else (if bytes_eq name (codes "f") then frame_row words
+    else (if bytes_eq name (codes "t") then option_map Moment (moment_of words)
     else (if bytes_eq name (codes "port") then option_map PortAdd (port_of words)
-    else None))
+    else None)))
 
 abbrev pub row_in : List ℕ → Option (List ℕ) → Option EventRow
 row_in name None = if bytes_eq name (codes "connect") then Some Connect else None
@@ -77,4 +80,5 @@ with_bytes bytes row.Passed = Passed
 with_bytes bytes row.Connect = Connect
 with_bytes bytes row.Piece = Piece bytes
 with_bytes bytes (row.Frame port) = Frame port bytes
+with_bytes bytes (row.Moment nanos) = Moment nanos
 with_bytes bytes (row.PortAdd port) = PortAdd port

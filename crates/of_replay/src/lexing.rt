@@ -5,7 +5,7 @@ ghost use Rattle.std.specs.Result.{result_ok};
 ghost use Rattle.hex.specs.Hex.{decode_of};
 ghost use Rattle.std.specs.List.{list_all};
 ghost use Rattle.std.specs.Str.{bytes_eq, is_utf8};
-ghost use Rattle.of_replay.specs.Lexing.{first_word, after_word, is_line, is_passed, number_of, below, digits_value, bytes_of, hw_of, name_of, state_of, is_name_byte};
+ghost use Rattle.of_replay.specs.Lexing.{first_word, after_word, is_line, is_passed, number_of, moment_of, decimal, below, digits_value, bytes_of, hw_of, name_of, state_of, is_name_byte};
 
 use std::alloc::AllocError;
 
@@ -82,28 +82,53 @@ pub fn is_passed_over(line: &[u8]) -> bool
 pub fn read_number(word: &[u8]) -> Option<u32>
     ensures { result ≡ number_of word.now }
 {
+    match read_decimal(word, 1 << 32) {
+        Some(value) => Some(value as u32),
+        None => None,
+    }
+}
+
+/// A decimal number of 64 bits, without leading zeros.
+pub fn read_moment(word: &[u8]) -> Option<u64>
+    ensures { result ≡ moment_of word.now }
+{
+    match read_decimal(word, 1 << 64) {
+        Some(value) => Some(value as u64),
+        None => None,
+    }
+}
+
+fn read_decimal(word: &[u8], limit: u128) -> Option<u128>
+    requires some { 0 < limit }
+    requires most { limit ≤ 2 ^ 64 }
+    ensures value { result ≡ decimal limit word.now }
+    ensures below { IfSome result (λ value. value < limit) }
+{
     match word {
         [] => None,
         [b'0', _, ..] => None,
-        _ => read_digits(word),
+        _ => read_digits(word, limit),
     }
 }
 
 #[tactic(auto, using(crate::proofs::DigitLemmas::grown, crate::proofs::DigitLemmas::digit_more))]
-fn read_digits(word: &[u8]) -> Option<u32>
-    ensures { result ≡ below (2 ^ 32) (digits_value 0 word.now) }
+fn read_digits(word: &[u8], limit: u128) -> Option<u128>
+    requires some { 0 < limit }
+    requires most { limit ≤ 2 ^ 64 }
+    ensures value { result ≡ below limit (digits_value 0 word.now) }
+    ensures below { IfSome result (λ value. value < limit) }
 {
-    let mut value: u64 = 0;
+    let mut value: u128 = 0;
     for digit in word {
         if *digit < b'0' || *digit > b'9' {
             return None;
         }
-        value = 10 * value + u64::from(*digit - b'0');
-        if value > 0xffff_ffff {
+        value = 10 * value + u128::from(*digit - b'0');
+        if value >= limit {
             return None;
         }
     }
-    Some(value as u32)
+    Some(value)
 }
 
 /// Decodes a word of hex digits, or `-` for no bytes, into the buffer; answers whether it is one.

@@ -44,6 +44,7 @@ fn play_row<L: Lookup>(
         Row::Connect => switch.connected(),
         Row::Piece => switch.piece(bytes),
         Row::Frame { port } => switch.frame(port, bytes),
+        Row::Moment { nanos } => switch.moment(nanos),
         Row::PortAdd(port) => {
             let NewPort {
                 number,

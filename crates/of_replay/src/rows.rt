@@ -4,8 +4,8 @@ ghost use Rattle.std.specs.Option.{option_map};
 ghost use Rattle.of_replay.specs.Rows.{row_of, with_bytes, piece_row, frame_row, port_of, added_port, named_row};
 
 use crate::lexing::{
-    cut_word, is, is_passed_over, is_readable, read_bytes, read_hw, read_name, read_number,
-    read_state,
+    cut_word, is, is_passed_over, is_readable, read_bytes, read_hw, read_moment, read_name,
+    read_number, read_state,
 };
 use std::alloc::AllocError;
 
@@ -32,6 +32,8 @@ pub enum Row {
     Piece,
     /// A frame comes in by a port.
     Frame { port: u32 },
+    /// It is so many nanoseconds.
+    Moment { nanos: u64 },
     /// A port is added.
     PortAdd(NewPort),
 }
@@ -104,6 +106,9 @@ fn read_named(name: &[u8], words: &[u8], bytes: &mut Vec<u8>) -> Result<Option<R
     }
     if is(name, b"f") {
         return read_frame(words, bytes);
+    }
+    if is(name, b"t") {
+        return Ok(read_moment(words).map(|nanos| Row::Moment { nanos }));
     }
     if is(name, b"port") {
         return Ok(read_port(words).map(Row::PortAdd));

@@ -1,5 +1,5 @@
 -- Messages, until there is none.
-use Rattle.std.proofs.Common.{◌≡◌, ℕ, ◌+◌, ◌<◌, ◌≤◌, suc, zero, List, [], ◌∷◌, ◌++◌, length, take, drop, Option, Some, None, refl, sym, ◌∙◌, ap, subst, arith, append_assoc, length-drop}
+use Rattle.std.proofs.Common.{◌≡◌, ℕ, ◌+◌, ◌<◌, suc, zero, List, [], ◌++◌, length, drop, Option, Some, None, refl, sym, ◌∙◌, ap, subst, arith, append_assoc, length-drop}
 use Rattle.std.proofs.lemmas.List.{append-nil}
 use Rattle.std.proofs.lemmas.Option.{same_Some}
 use Rattle.of_wire.specs.declared.code.Code.{Code}
@@ -13,7 +13,8 @@ use Rattle.of_session.proofs.Nexts.{IsSizedIn, next_sized}
 use Rattle.of_wire.specs.Refusals.{first_of}
 use Rattle.of_switch.specs.declared.effect.Effect.{Effect}
 use Rattle.of_switch.specs.State.{State}
-use Rattle.of_switch.specs.Steps.{Outcome, gives, flow_mod_refusals, flow_modded, handled, failed_of, after, came, next_of}
+use Rattle.of_switch.specs.Commands.{flow_mod_refusals}
+use Rattle.of_switch.specs.Steps.{Outcome, gives, flow_modded, handled, failed_of, after, came, next_of}
 use Rattle.of_switch.specs.Runs.{behind, drain, drained}
 
 -- a message leaves the connection alone
@@ -25,7 +26,7 @@ pub handled_keeps : (xid : ℕ) (m : Message) (failed : List ℕ) (s : State) �
 handled_keeps xid Hello failed s = refl
 handled_keeps xid (EchoRequest echoed) failed s = refl
 handled_keeps xid BarrierRequest failed s = refl
-handled_keeps xid (IsFlowMod m) failed s = modded_keeps xid m failed s (first_of (flow_mod_refusals m s))
+handled_keeps xid (IsFlowMod m) failed s = modded_keeps xid m failed s (first_of (flow_mod_refusals m s.forwarding.tables))
 
 -- as many bytes as an outcome leaves
 abbrev left : Outcome → ℕ

@@ -1,23 +1,22 @@
 -- Bytes that come in two pieces do what they do in one.
-use Rattle.std.proofs.Common.{◌≡◌, ℕ, ◌+◌, ◌<◌, ◌≤◌, suc, zero, Bool, true, false, cond, List, [], ◌∷◌, ◌++◌, length, take, drop, Option, Some, None, refl, sym, ◌∙◌, ap, subst, arith, append_assoc, add-one}
-use Rattle.std.proofs.lemmas.List.{append-nil, take-append-le, drop-append-le}
+use Rattle.std.proofs.Common.{◌≡◌, ℕ, ◌+◌, ◌<◌, ◌≤◌, suc, zero, Bool, true, false, List, [], ◌++◌, length, take, Option, Some, None, refl, sym, ◌∙◌, ap, subst, arith, append_assoc, add-one}
+use Rattle.std.proofs.lemmas.List.{take-append-le, drop-append-le}
 use Rattle.std.proofs.lemmas.Option.{same_Some}
 use Rattle.of_wire.specs.declared.code.Code.{Code}
 use Rattle.of_wire.specs.Refusals.{first_of, refusal}
 use Rattle.of_messages.specs.declared.message.Message.{Message}
 use Rattle.of_messages.specs.declared.message.Message.TheVariants.{Hello, EchoRequest, BarrierRequest, FlowMod as IsFlowMod}
 use Rattle.of_messages.specs.declared.message.FlowMod.{FlowMod}
-use Rattle.of_messages.specs.Messages.{xid_of}
 use Rattle.of_messages.specs.Written.{error_bytes}
-use Rattle.of_session.specs.declared.session.Phase.{Phase}
-use Rattle.of_session.specs.declared.session.Phase.TheVariants.{Disconnected, Greeting, Open}
+use Rattle.of_session.specs.declared.session.Phase.TheVariants.{Open}
 use Rattle.of_session.specs.declared.session.Next.{Next}
 use Rattle.of_session.specs.declared.session.Next.TheVariants.{Nothing, BadStream, NotHello, Opened, Read, Refused}
 use Rattle.of_session.specs.Session.{Connection, is_disconnected, next_of as next_in}
 use Rattle.of_session.proofs.Nexts.{IsSizedIn, next_sized, IsSomething, next_more}
 use Rattle.of_switch.specs.declared.effect.Effect.{Effect}
 use Rattle.of_switch.specs.State.{State}
-use Rattle.of_switch.specs.Steps.{Outcome, gives, fed, flow_mod_refusals, flow_modded, handled, failed_of, after, answered, closing, came, next_of}
+use Rattle.of_switch.specs.Commands.{flow_mod_refusals}
+use Rattle.of_switch.specs.Steps.{Outcome, gives, fed, flow_modded, handled, failed_of, after, answered, closing, came, next_of}
 use Rattle.of_switch.specs.Runs.{behind, then_more, drain, drained, piece_in, come}
 use Rattle.of_switch.proofs.Draining.{next_shorter, handled_keeps}
 
@@ -47,7 +46,7 @@ handled_fed : (xid : ℕ) (m : Message) (failed q : List ℕ) (s : State) → ha
 handled_fed xid Hello failed q s = refl
 handled_fed xid (EchoRequest echoed) failed q s = refl
 handled_fed xid BarrierRequest failed q s = refl
-handled_fed xid (IsFlowMod m) failed q s = modded_fed xid m failed q s (first_of (flow_mod_refusals m s))
+handled_fed xid (IsFlowMod m) failed q s = modded_fed xid m failed q s (first_of (flow_mod_refusals m s.forwarding.tables))
 
 failed_fed : (size : ℕ) (q : List ℕ) (c : Connection) → size ≤ length c.pending → take 64 (take size (c.pending ++ q)) ≡ failed_of size c
 failed_fed size q c h = ap (take 64) (take-append-le size c.pending q h)

@@ -1,6 +1,5 @@
 pub mod PlaceNumbers
 pub mod Worlds
-pub mod Counting
 pub mod Tallying
 pub mod Forwarding
 pub mod Draining

@@ -1,7 +1,7 @@
 -- What an answer unfolds to compute runs of the switch on literal bytes.
 use Rattle.std.specs.Prelude.{⊤}
 use Rattle.of_wire.specs.Items.{items_of}
-use Rattle.of_headers.specs.Fields.{field_at, row_of}
+use Rattle.of_layers.specs.Fields.{field_at, row_of}
 use Rattle.of_oxm.specs.MatchReading.{match_of}
 use Rattle.of_oxm.specs.NormalForm.{kept}
 use Rattle.of_oxm.specs.Prerequisites.{all_met}

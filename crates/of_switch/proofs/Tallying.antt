@@ -1,28 +1,33 @@
 -- What a run counted and emitted, one after the other.
-use Rattle.std.proofs.Common.{◌≡◌, ℕ, zero, suc, ◌+◌, ◌<◌, List, [], ◌∷◌, ◌++◌, length, get_or, drop, refl, sym, ◌∙◌, ap, arith, add-one, drop-cons}
-use Rattle.std.specs.Prelude.{map}
+use Rattle.std.proofs.Common.{◌≡◌, ℕ, suc, ◌+◌, ◌<◌, List, [], ◌∷◌, ◌++◌, length, get_or, drop, refl, sym, ◌∙◌, ap, add-one, drop-cons}
 use Rattle.std.specs.List.{position_or_len}
 use Rattle.std.proofs.Common.{eqb}
-use Rattle.of_table.specs.declared.entry.Entry.{Entry}
-use Rattle.of_table.specs.Entries.{numbers_of}
+use Rattle.std.specs.Prelude.{slice_index_or}
+use Rattle.std.proofs.Math.ListN.{get_or-map}
+use Rattle.of_table.specs.Entries.{no_entries, numbers_of}
+use Rattle.of_table.specs.Tables.{NumberedTables, all_numbers}
 use Rattle.of_machine.specs.declared.data.Item.{Item}
 use Rattle.of_machine.specs.declared.data.Count.{Count}
 use Rattle.of_machine.specs.declared.data.Count.TheVariants.{Lookup, Matched, TxDropped}
 use Rattle.of_switch.specs.declared.effect.Effect.{Effect}
 use Rattle.of_switch.specs.Plane.{Forwarding, tallied, all_tallied, sent, all_sent, effect_of, effects_of}
-use Rattle.of_switch.specs.Numbers.{placed, all_placed}
+use Rattle.of_switch.specs.Numbers.{entries_at, placed, all_placed}
 
 -- a place goes by the numbers alone
-placed_same : (es fs : List Entry) (c : Count) → numbers_of es ≡ numbers_of fs → placed es c ≡ placed fs c
-placed_same es fs (Lookup t) e = refl
-placed_same es fs (Matched t n bytes) e = ap (λ (ns : List ℕ). Matched t (position_or_len (λ m. eqb m n) ns) bytes) e
-placed_same es fs (TxDropped port) e = refl
+numbers_at : (n : NumberedTables) (t : ℕ) → numbers_of (entries_at n t) ≡ slice_index_or (all_numbers n) t []
+numbers_at n t = sym (get_or-map (λ x. numbers_of x.entries) n.tables t no_entries)
+
+placed_same : (n m : NumberedTables) (c : Count) → all_numbers n ≡ all_numbers m → placed n c ≡ placed m c
+placed_same n m (Lookup t) e = refl
+placed_same n m (Matched t number bytes) e =
+    ap (λ (ns : List ℕ). Matched t (position_or_len (λ k. eqb k number) ns) bytes) (numbers_at n t ∙ ap (λ (ns : List (List ℕ)). slice_index_or ns t []) e ∙ sym (numbers_at m t))
+placed_same n m (TxDropped port) e = refl
 
 -- one count more
-pub tallied_more : (first now : List Entry) (counts : List Count) (i : ℕ) (c : Count) (f f' : Forwarding) (whole : Forwarding) → i < length counts → c ≡ get_or counts i c
-    → numbers_of now ≡ numbers_of first → all_tallied (all_placed first (drop i counts)) f ≡ whole → f' ≡ tallied (placed now c) f → all_tallied (all_placed first (drop (i + 1) counts)) f' ≡ whole
-tallied_more first now counts i c f f' whole lt is numbers so step =
-    let here : drop i counts ≡ c ∷ drop (suc i) counts = drop-cons counts i c lt ∙ ap (λ (x : Count). x ∷ drop (suc i) counts) (sym is) in
+pub tallied_more : (first now : NumberedTables) (counts : List Count) (i : ℕ) (c d : Count) (f f' : Forwarding) (whole : Forwarding) → i < length counts → c ≡ get_or counts i d
+    → all_numbers now ≡ all_numbers first → all_tallied (all_placed first (drop i counts)) f ≡ whole → f' ≡ tallied (placed now c) f → all_tallied (all_placed first (drop (i + 1) counts)) f' ≡ whole
+tallied_more first now counts i c d f f' whole lt is numbers so step =
+    let here : drop i counts ≡ c ∷ drop (suc i) counts = drop-cons counts i d lt ∙ ap (λ (x : Count). x ∷ drop (suc i) counts) (sym is) in
     let next : f' ≡ tallied (placed first c) f = step ∙ ap (λ (x : Count). tallied x f) (placed_same now first c numbers) in
     rw (add-one i, next) (ap (λ (cs : List Count). all_tallied (all_placed first cs) f) (sym here) ∙ so)
 

@@ -1,24 +1,24 @@
--- What the machine sees of the table, by its numbers and by places.
-use Rattle.std.proofs.Common.{◌≡◌, ◌≢◌, ℕ, zero, suc, ◌<◌, ◌≤◌, Bool, true, false, cond, eqb, ltb, List, [], ◌∷◌, length, get_or, Option, Some, None, refl, sym, ap, ◌∙◌, arith}
+-- What the machine sees of the tables, by its numbers and by places.
+use Rattle.std.proofs.Common.{◌≡◌, ◌≢◌, ℕ, zero, suc, ◌<◌, ◌≤◌, Bool, true, false, eqb, ltb, List, [], ◌∷◌, length, Option, Some, None, refl, sym, ap, ◌∙◌, arith, inl, inr}
 use Rattle.std.proofs.lemmas.List.{length-map}
-use Rattle.std.specs.Prelude.{IsTrue, IfSome, map, position, slice_get}
-use Rattle.std.specs.List.{list_any, position_or_len}
+use Rattle.std.specs.Prelude.{IsTrue, IfSome}
 use Rattle.std.specs.Option.{option_map}
-use Rattle.std.proofs.lemmas.Bool.{ltb-false}
-use Rattle.of_headers.specs.declared.field.Field.{Field}
+use Rattle.std.proofs.lemmas.Bool.{ltb-false, cases_lt}
+use Rattle.std.proofs.Math.ListN.{get_or-map}
+use Rattle.of_table.proofs.TablesLemmas.{get_or_past}
+use Rattle.of_layers.specs.declared.field.Field.{Field}
 use Rattle.of_wire.specs.Numbered.{is_distinct}
 use Rattle.of_wire.proofs.NumberedLemmas.{distinct-map}
-use Rattle.of_table.specs.declared.flow.Flow.{Flow}
 use Rattle.of_table.specs.declared.entry.Entry.{Entry}
-use Rattle.of_table.specs.Table.{FlowEntry, is_best, winner_place, flow_at}
-use Rattle.of_table.specs.Entries.{Numbered, entry_of, flows_of, numbers_of, entry_number, place_of, is_there, table_of}
+use Rattle.of_table.specs.Table.{FlowEntry, Table, is_best, winner_place, flow_at}
+use Rattle.of_table.specs.Tables.{NumberedTables, numbered_at, tables_of, table_at}
+use Rattle.of_table.specs.Entries.{Numbered, no_entries, entry_of, flows_of, numbers_of, entry_number, place_of, is_there, table_of}
 use Rattle.of_table.proofs.PlaceLemmas.{position_some, any-place}
 use Rattle.of_machine.specs.declared.port.Port.{Port}
-use Rattle.of_machine.specs.TheWorld.{TheWorld}
 use Rattle.of_machine.specs.Sound.{IsSound}
 use Rattle.of_machine.specs.Renumbering.{IsRenumbered}
-use Rattle.of_switch.specs.Plane.{world_of, winner_in}
-use Rattle.of_switch.specs.Numbers.{forwarding_of, number_at, numbered_winner, numbered_flow, numbered_world, place_in}
+use Rattle.of_switch.specs.Plane.{world_of}
+use Rattle.of_switch.specs.Numbers.{forwarding_of, entries_at, number_at, numbered_winner, numbered_flow, numbered_world, place_in}
 use Rattle.of_switch.proofs.PlaceNumbers.{itself, number_at_place, place_of_number}
 
 -- the number that a look-up answered is that of the winner's place
@@ -39,17 +39,20 @@ same_place : (es : List Entry) (fields : Field → Option ℕ) (o : Option ℕ) 
 same_place es fields None distinct e = refl
 same_place es fields (Some k) distinct e = ap Some (sym (place_of_number (numbers_of es) k (distinct_numbers es distinct) (place_within fields es k e)))
 
-winners : (t : Numbered) (ports : List Port) (fields : Field → Option ℕ) (b : Bool) → is_distinct entry_number t.entries ≡ true →
-    cond b (winner_place fields (flows_of t.entries)) None ≡ option_map (λ n. place_of n t.entries) (cond b (option_map (number_at t.entries) (winner_place fields (flows_of t.entries))) None)
-winners t ports fields true distinct = same_place t.entries fields (winner_place fields (flows_of t.entries)) distinct refl
-winners t ports fields false distinct = refl
+-- the tables have distinct numbers, each
+abbrev pub AreDistinct : NumberedTables → Type 0
+AreDistinct n = (t : ℕ) → is_distinct entry_number (entries_at n t) ≡ true
+
+-- a table without the numbers
+pub table_is : (n : NumberedTables) (t : ℕ) → table_at t (tables_of n) ≡ table_of (numbered_at t n)
+table_is n t = get_or-map table_of n.tables t no_entries
 
 -- the two worlds are one but for the numbers
-pub renumbered_world : (t : Numbered) (ports : List Port) → is_distinct entry_number t.entries ≡ true → IsRenumbered (place_in t.entries) (numbered_world t ports) (world_of (forwarding_of t ports))
-renumbered_world t ports distinct = record {
+pub renumbered_world : (n : NumberedTables) (ports : List Port) → AreDistinct n → IsRenumbered (place_in n) (numbered_world n ports) (world_of (forwarding_of n ports))
+renumbered_world n ports distinct = record {
   ports = refl;
-  winner = λ table fields. winners t ports fields (eqb table 0) distinct;
-  flow = λ table n fields h. refl;
+  winner = λ t fields. ap (λ (x : Table). winner_place fields x.flows) (table_is n t) ∙ same_place (entries_at n t) fields (winner_place fields (flows_of (entries_at n t))) (distinct t) refl;
+  flow = λ t number fields h. ap (λ (x : Table). flow_at (place_in n t number) x.flows) (table_is n t);
 }
 
 -- an entry that is there has a flow
@@ -67,37 +70,41 @@ flow_none k [] le = slice_none k
 flow_none zero (f ∷ flows) le = absurd (omega (arith, le))
 flow_none (suc k) (f ∷ flows) le = flow_none k flows (omega (arith, le))
 
-sound_by : (es : List Entry) (fields : Field → Option ℕ) (n : ℕ) (b : Bool) (w : Option ℕ) → is_distinct entry_number es ≡ true → winner_place fields (flows_of es) ≡ w
-    → cond b (option_map (number_at es) w) None ≡ Some n → cond b (flow_at (place_of n es) (flows_of es)) None ≡ None → ⊥
-sound_by es fields n true None distinct e h none = absurd cc
-sound_by es fields n true (Some k) distinct e h none =
+sound_by : (es : List Entry) (fields : Field → Option ℕ) (n : ℕ) (w : Option ℕ) → is_distinct entry_number es ≡ true → winner_place fields (flows_of es) ≡ w
+    → option_map (number_at es) w ≡ Some n → flow_at (place_of n es) (flows_of es) ≡ None → ⊥
+sound_by es fields n None distinct e h none = absurd cc
+sound_by es fields n (Some k) distinct e h none =
     let same : number_at es k ≡ n = cc in
     let lt = place_within fields es k e in
     let at : place_of n es ≡ k = ap (λ (x : ℕ). place_of x es) (sym same) ∙ place_of_number (numbers_of es) k (distinct_numbers es distinct) lt in
     flow_some k (flows_of es) (omega (arith, lt, length-map es entry_of, length-map es entry_number)) (ap (λ (x : ℕ). flow_at x (flows_of es)) (sym at) ∙ none)
-sound_by es fields n false w distinct e h none = absurd cc
 
 -- each winner is the number of an entry
-pub sound_world : (t : Numbered) (ports : List Port) → is_distinct entry_number t.entries ≡ true → IsSound (numbered_world t ports)
-sound_world t ports distinct = record {
-  found = λ table fields n h none. sound_by t.entries fields n (eqb table 0) (winner_place fields (flows_of t.entries)) distinct refl h none;
+pub sound_world : (n : NumberedTables) (ports : List Port) → AreDistinct n → IsSound (numbered_world n ports)
+sound_world n ports distinct = record {
+  found = λ t fields number h none. sound_by (entries_at n t) fields number (winner_place fields (flows_of (entries_at n t))) (distinct t) refl h none;
 }
 
-there_by : (es : List Entry) (n : ℕ) (there : Bool) (b : Bool) → is_there n es ≡ there → (cond b (flow_at (place_of n es) (flows_of es)) None ≡ None → ⊥) → is_there n es ≡ true
-there_by es n true b e some = e
-there_by es n false false e some = absurd (some refl)
-there_by es n false true e some =
+there_by : (es : List Entry) (n : ℕ) (there : Bool) → is_there n es ≡ there → (flow_at (place_of n es) (flows_of es) ≡ None → ⊥) → is_there n es ≡ true
+there_by es n true e some = e
+there_by es n false e some =
     let far : ltb (place_of n es) (length (numbers_of es)) ≡ false = sym (any-place (λ m. eqb m n) (numbers_of es)) ∙ e in
     absurd (some (flow_none (place_of n es) (flows_of es) (omega (arith, ltb-false _ _ far, length-map es entry_of, length-map es entry_number))))
 
 -- a flow that is there has the number of an entry
-pub is_there_by : (t : Numbered) (table n : ℕ) → numbered_flow t table n ≢ None → IsTrue (is_there n t.entries)
-is_there_by t table n h = there_by t.entries n (is_there n t.entries) (eqb table 0) refl h
+pub is_there_by : (n : NumberedTables) (t number : ℕ) → numbered_flow n t number ≢ None → IsTrue (is_there number (entries_at n t))
+is_there_by n t number h = there_by (entries_at n t) number (is_there number (entries_at n t)) refl h
 
-table_by : (es : List Entry) (n : ℕ) (b : Bool) (flow : Flow) → (cond b (flow_at (place_of n es) (flows_of es)) None ≡ None → ⊥) → flow_at (place_of n es) (flows_of es) ≡ Some flow → cond b (flow_at (place_of n es) (flows_of es)) None ≡ Some flow
-table_by es n true flow some e = e
-table_by es n false flow some e = absurd (some refl)
+-- and its table is one of the sixteen
+pub is_table : (n : NumberedTables) (t number : ℕ) → length n.tables ≡ 16 → numbered_flow n t number ≢ None → t < 16
+is_table n t number sixteen h = elim (cases_lt t 16) [
+  | inl lt ↦ lt
+  | inr le ↦ absurd (h (past (ap (λ (x : Numbered). x.entries) (get_or_past n.tables t no_entries (omega (arith, le, sixteen))))))
+]
+  where
+    past : entries_at n t ≡ [] → numbered_flow n t number ≡ None
+    past e = ap (λ (es : List Entry). flow_at (place_of number es) (flows_of es)) e ∙ flow_none (place_of number []) [] (omega arith)
 
--- a flow that is there is that of table 0
-pub flow_is : (t : Numbered) (table n : ℕ) (flow : Flow) → numbered_flow t table n ≢ None → flow_at (place_of n t.entries) (flows_of t.entries) ≡ Some flow → numbered_flow t table n ≡ Some flow
-flow_is t table n flow h e = table_by t.entries n (eqb table 0) flow h e
+-- beyond them no entry wins
+pub no_winner : (n : NumberedTables) (t : ℕ) (fields : Field → Option ℕ) → length n.tables ≤ t → numbered_winner n t fields ≡ None
+no_winner n t fields le = ap (λ (x : Numbered). option_map (number_at x.entries) (winner_place fields (flows_of x.entries))) (get_or_past n.tables t no_entries le)

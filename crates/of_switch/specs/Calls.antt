@@ -1,5 +1,5 @@
 -- Calls on a switch: each is refused by the first refusal of its written order, or does what the abstract switch does, or meets want of memory.
-use Rattle.std.specs.Prelude.{◌≡◌, ℕ, ◌==◌, nat_le, Bool, true, false, not, List, [], ◌∷◌, length, Option, Some, None, Result, Ok, Err, if◌then◌else◌}
+use Rattle.std.specs.Prelude.{◌≡◌, ℕ, nat_le, Bool, true, false, not, List, [], ◌∷◌, length, Option, Some, None, Result, Ok, Err, if◌then◌else◌}
 use Rattle.of_session.specs.Session.{is_disconnected}
 use Rattle.of_switch.specs.declared.switch.SwitchError.{SwitchError}
 use Rattle.of_switch.specs.declared.switch.SwitchError.TheVariants.{NoMemory, Failed, NotConnected, Connected, PortExists, TooManyPorts, BadPortNumber}

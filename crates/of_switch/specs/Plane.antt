@@ -1,9 +1,10 @@
--- Frames through the flow table and out of the ports (OpenFlow 1.3.5, 5.1 and 7.2.1).
-use Rattle.std.specs.Prelude.{ℕ, ◌==◌, Bool, List, [], ◌∷◌, ◌++◌, length, map, Option, Some, None, if◌then◌else◌}
-use Rattle.of_headers.specs.declared.field.Field.{Field}
+-- Frames through the flow tables and out of the ports (OpenFlow 1.3.5, 5.1 and 7.2.1).
+use Rattle.std.specs.Prelude.{ℕ, List, [], ◌∷◌, length, map, Option, Some, None, if◌then◌else◌}
+use Rattle.of_layers.specs.declared.field.Field.{Field}
 use Rattle.of_headers.specs.declared.headers.FrameFault.{FrameFault}
 use Rattle.of_headers.specs.Faults.{frame_fault}
-use Rattle.of_table.specs.Table.{Table, empty_table, flow_at, looked, matched_at, winner_place}
+use Rattle.of_table.specs.Table.{flow_at, winner_place}
+use Rattle.of_table.specs.Tables.{Tables, no_tables, tables_of, table_at, looked_in, matched_in}
 use Rattle.of_table.specs.declared.flow.Flow.{Flow}
 use Rattle.of_machine.specs.declared.port.Port.{Port}
 use Rattle.of_machine.specs.declared.data.Item.{Item}
@@ -20,26 +21,26 @@ use Rattle.of_switch.specs.declared.plane.PortCount.{PortCount}
 use Rattle.of_switch.specs.declared.plane.PortCount.TheVariants.{Received, ReceiveDropped, ReceiveError, Sent as SentBytes, SendDropped}
 use Rattle.of_switch.specs.Ports.{all_counted}
 
--- the flow table, and the ports in the order in which they were added
+-- the flow tables, and the ports in the order in which they were added
 pub record Forwarding : Type 0 where
-  pub table : Table
+  pub tables : Tables
   pub ports : List Port
 
 -- no flow, no port
 abbrev pub idle : Forwarding
-idle = record { table = empty_table; ports = [] }
+idle = record { tables = tables_of no_tables; ports = [] }
 
 -- a port counts this
 abbrev pub count_port : ℕ → PortCount → Forwarding → Forwarding
 count_port number what f = record f { ports = all_counted number what f.ports }
 
--- WHAT THE MACHINE SEES: entries are named by their place by age, from 0; table 0 alone is there for now
+-- WHAT THE MACHINE SEES: entries are named by their place by age, from 0
 
 abbrev pub winner_in : Forwarding → ℕ → (Field → Option ℕ) → Option ℕ
-winner_in f t fields = if t == 0 then winner_place fields f.table.flows else None
+winner_in f t fields = winner_place fields (table_at t f.tables).flows
 
 abbrev pub flow_in : Forwarding → ℕ → ℕ → Option Flow
-flow_in f t place = if t == 0 then flow_at place f.table.flows else None
+flow_in f t place = flow_at place (table_at t f.tables).flows
 
 abbrev pub world_of : Forwarding → TheWorld
 world_of f = record { winner = winner_in f; flow = flow_in f; ports = f.ports }
@@ -48,8 +49,8 @@ world_of f = record { winner = winner_in f; flow = flow_in f; ports = f.ports }
 
 -- what the machine counted, in order
 abbrev pub tallied : Count → Forwarding → Forwarding
-tallied (Lookup t) f = record f { table = looked f.table }
-tallied (Matched t place bytes) f = record f { table = matched_at place bytes f.table }
+tallied (Lookup t) f = record f { tables = looked_in t f.tables }
+tallied (Matched t place bytes) f = record f { tables = matched_in t place bytes f.tables }
 tallied (TxDropped port) f = count_port port SendDropped f
 
 abbrev pub all_tallied : List Count → Forwarding → Forwarding

@@ -1,5 +1,5 @@
 -- The ports of a switch, and what they count (OpenFlow 1.3.5, 4.1, 5.8 and 7.3.5.6).
-use Rattle.std.specs.Prelude.{ℕ, ◌+◌, ◌%◌, ◌^◌, ◌==◌, ◌&&◌, nat_le, nat_lt, Bool, not, List, ◌∷◌, [], ◌++◌, length, map, find, Option, if◌then◌else◌}
+use Rattle.std.specs.Prelude.{ℕ, ◌+◌, ◌%◌, ◌^◌, ◌==◌, ◌&&◌, nat_le, Bool, List, map, if◌then◌else◌}
 use Rattle.std.specs.List.{list_any}
 use Rattle.of_machine.specs.declared.port.Port.{Port}
 use Rattle.of_machine.specs.declared.port.PortCounters.{PortCounters}

@@ -5,7 +5,7 @@ use Rattle.of_switch.specs.declared.switch.SwitchError.{SwitchError}
 use Rattle.of_switch.specs.declared.port_change.PortChange.{PortChange}
 use Rattle.of_switch.specs.declared.effect.Effect.{Effect}
 use Rattle.of_switch.specs.State.{State}
-use Rattle.of_switch.specs.Steps.{Outcome, gives, connected, fed, next_of, frame_in, port_changed}
+use Rattle.of_switch.specs.Steps.{Outcome, gives, connected, fed, next_of, frame_in, moment_in, port_changed}
 use Rattle.of_switch.specs.Calls.{well, any_refusal, connect_refusal, feed_refusal, port_refusal}
 
 -- effects before those of an outcome
@@ -41,6 +41,7 @@ pub data Event : Type 0 where
   Connect : Event
   Piece : (bytes : List ℕ) → Event
   Frame : (port : ℕ) (bytes : List ℕ) → Event
+  Moment : (nanos : ℕ) → Event
   Ports : (change : PortChange) → Event
 
 -- an event gives effects, or is refused and changes nothing
@@ -60,6 +61,7 @@ abbrev pub happened : Event → State → Happened
 happened Connect s = unless (connect_refusal (well s)) s (connected s)
 happened (Piece bytes) s = unless (feed_refusal (well s)) s (piece_in bytes s)
 happened (Frame port bytes) s = unless (any_refusal (well s)) s (frame_in port bytes s)
+happened (Moment nanos) s = unless (any_refusal (well s)) s (moment_in nanos s)
 happened (Ports change) s = unless (port_refusal change (well s)) s (gives [] (port_changed change s))
 
 -- the reports of events in any order and number, and the switch after them

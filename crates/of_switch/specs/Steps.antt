@@ -1,5 +1,5 @@
 -- What each event does to the abstract switch.
-use Rattle.std.specs.Prelude.{ℕ, ◌==◌, Bool, not, List, [], ◌∷◌, ◌++◌, take, Option, Some, None}
+use Rattle.std.specs.Prelude.{ℕ, max, List, [], ◌∷◌, ◌++◌, take, Option, Some, None}
 use Rattle.of_wire.specs.declared.code.Code.{Code}
 use Rattle.of_wire.specs.Refusals.{refusal, first_of}
 use Rattle.of_messages.specs.declared.message.Message.{Message}
@@ -9,14 +9,16 @@ use Rattle.of_messages.specs.Written.{hello_bytes, error_bytes, echo_reply_bytes
 use Rattle.of_session.specs.declared.session.Next.{Next}
 use Rattle.of_session.specs.declared.session.Next.TheVariants.{Nothing, BadStream, NotHello, Opened, Read, Refused}
 use Rattle.of_session.specs.Session.{Connection, greeting, fed as fed_connection, entered, next_of as next_in}
-use Rattle.of_table.specs.declared.flow.Flow.{Flow}
-use Rattle.of_table.specs.Table.{added, is_full}
+use Rattle.of_session.specs.declared.session.Phase.{Phase}
+use Rattle.of_session.specs.declared.session.Phase.TheVariants.{Disconnected, Greeting, Open}
+use Rattle.of_table.specs.Tables.{Tables, expired, expiry_notices}
+use Rattle.of_switch.specs.Commands.{flow_mod_refusals, commanded, command_notices, notice_effects}
 use Rattle.of_switch.specs.declared.effect.Effect.{Effect}
 use Rattle.of_switch.specs.declared.effect.Effect.TheVariants.{Answer, Closed}
 use Rattle.of_switch.specs.declared.port_change.PortChange.{PortChange}
 use Rattle.of_switch.specs.declared.port_change.PortChange.TheVariants.{Add}
 use Rattle.of_switch.specs.Ports.{new_port}
-use Rattle.of_switch.specs.Plane.{Forwarding, Forwarded, framed}
+use Rattle.of_switch.specs.Plane.{Forwarded, framed}
 use Rattle.of_switch.specs.State.{State}
 
 -- what an event gives, and the switch after it
@@ -38,33 +40,22 @@ fed piece s = record s { connection = fed_connection piece s.connection }
 
 -- A MESSAGE (7.3)
 
--- the flow of a FLOW_MOD
-abbrev pub flow_of : FlowMod → Flow
-flow_of m = record { fields = m.fields; priority = m.priority; cookie = m.cookie; idle_timeout = m.idle_timeout; hard_timeout = m.hard_timeout; flags = m.flags; instructions = m.instructions }
-
--- no packet is buffered, so each buffer but none (all ones) is unknown (7.4.4: 1/8); the table may be full (5/1)
-abbrev pub flow_mod_refusals : FlowMod → State → List (Bool × Code)
-flow_mod_refusals m s =
-    (not (m.buffer == 0xffffffff), refusal 1 8)
-    ∷ (is_full (flow_of m) s.forwarding.table.flows, refusal 5 1)
-    ∷ []
-
-abbrev pub with_flow : Flow → State → State
-with_flow flow s = record s { forwarding = record s.forwarding { table = record s.forwarding.table { flows = added flow s.forwarding.table.flows } } }
+abbrev pub with_tables : Tables → State → State
+with_tables ts s = record s { forwarding = record s.forwarding { tables = ts } }
 
 abbrev pub answered : List ℕ → State → Outcome
 answered bytes s = gives (Answer bytes ∷ []) s
 
--- the whole FLOW_MOD is given back by an error, up to 64 bytes
+-- the whole FLOW_MOD is given back by an error, up to 64 bytes; else its command is done, with a notice of each entry that went
 abbrev pub flow_modded : ℕ → FlowMod → List ℕ → State → Option Code → Outcome
 flow_modded xid m failed s (Some code) = answered (error_bytes xid code failed) s
-flow_modded xid m failed s None = gives [] (with_flow (flow_of m) s)
+flow_modded xid m failed s None = gives (notice_effects s.forwarding.tables.latest (command_notices m s.forwarding.tables)) (with_tables (commanded m s.forwarding.tables) s)
 
 abbrev pub handled : ℕ → Message → List ℕ → State → Outcome
 handled xid Hello failed s = gives [] s
 handled xid (EchoRequest echoed) failed s = answered (echo_reply_bytes xid echoed) s
 handled xid BarrierRequest failed s = answered (barrier_reply_bytes xid) s
-handled xid (IsFlowMod m) failed s = flow_modded xid m failed s (first_of (flow_mod_refusals m s))
+handled xid (IsFlowMod m) failed s = flow_modded xid m failed s (first_of (flow_mod_refusals m s.forwarding.tables))
 
 -- WHAT COMES NEXT OF THE CONTROLLER'S STREAM
 
@@ -100,6 +91,18 @@ with_forwarding s f = gives f.effects (record s { forwarding = f.forwarding })
 
 abbrev pub frame_in : ℕ → List ℕ → State → Outcome
 frame_in port bytes s = with_forwarding s (framed port bytes s.forwarding)
+
+-- A MOMENT: entries whose time is over go (5.5). A controller whose HELLO was accepted gets a notice of each whose flags ask for one.
+
+abbrev pub told_by : Phase → List Effect → List Effect
+told_by Disconnected effects = []
+told_by Greeting effects = []
+told_by Open effects = effects
+
+abbrev pub moment_in : ℕ → State → Outcome
+moment_in now s =
+    gives (told_by s.connection.phase (notice_effects (max s.forwarding.tables.latest now) (expiry_notices now s.forwarding.tables)))
+    (with_tables (expired now s.forwarding.tables) s)
 
 -- A PORT
 

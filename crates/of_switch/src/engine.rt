@@ -6,18 +6,23 @@ ghost use Rattle.of_messages.specs.Written.{error_bytes};
 ghost use Rattle.of_switch.specs.State.{start};
 ghost use Rattle.of_switch.specs.Ports.{has_port, no_counters as zero_counters};
 ghost use Rattle.of_switch.specs.Runs.{drained, piece_in};
-ghost use Rattle.of_switch.specs.Steps.{connected, failed_of, fed, flow_mod_refusals, flow_modded, flow_of, frame_in, gives, handled, next_of, port_changed};
+ghost use Rattle.of_table.specs.declared.selection.Cause.TheVariants.{Command};
+ghost use Rattle.of_table.specs.Tables.{modified_in, left_in, notices_in};
+ghost use Rattle.of_switch.specs.Commands.{flow_mod_refusals, has_flag as with_flag, notice_effects, which_of};
+ghost use Rattle.of_switch.specs.Steps.{connected, failed_of, fed, flow_modded, frame_in, gives, handled, moment_in, next_of, port_changed, with_tables};
 
+use crate::commands::{flow_from, has_flag, notices, which_from};
 use crate::effect::Effect;
 use crate::plane::{Plane, contains};
 use crate::port_change::PortChange;
 use of_classifier::Lookup;
 use of_machine::{Port, PortCounters};
 use of_messages::{
-    FlowMod, Message, write_barrier_reply, write_echo_reply, write_error, write_hello,
+    FlowMod, FlowModCommand, Message, write_barrier_reply, write_echo_reply, write_error,
+    write_hello,
 };
 use of_session::{Next, Phase, Session};
-use of_table::{Flow, TableFault};
+use of_table::TableFault;
 use of_wire::{Bytes, Code};
 use std::alloc::{AllocError, Global};
 use std::marker::Model;
@@ -33,6 +38,10 @@ const HELLO_INCOMPATIBLE: Code = Code { kind: 0, code: 0 };
 const BAD_LEN: Code = Code { kind: 1, code: 6 };
 
 const BUFFER_UNKNOWN: Code = Code { kind: 1, code: 8 };
+
+const BAD_TABLE: Code = Code { kind: 5, code: 2 };
+
+const OVERLAP: Code = Code { kind: 5, code: 3 };
 
 const TABLE_FULL: Code = Code { kind: 5, code: 1 };
 
@@ -50,7 +59,7 @@ impl<L: Lookup> Model for Engine<L> {
 
     ghost Value = { State };
 
-    ghost view = { λ e. record { dpid = e.dpid; connection = e.session; forwarding = forwarding_of e.plane.table e.plane.ports.items } };
+    ghost view = { λ e. record { dpid = e.dpid; connection = e.session; forwarding = forwarding_of e.plane.tables e.plane.ports.items } };
 }
 
 impl<L: Lookup> Engine<L> {
@@ -221,31 +230,65 @@ impl<L: Lookup> Engine<L> {
         flow_mod: FlowMod,
     ) -> Result<Vec<Effect>, AllocError>
         requires { size ≤ length self.old.connection.pending }
-        ensures { IfOk result (λ effects. flow_modded xid flow_mod (failed_of size self.old.connection) self.old (first_of (flow_mod_refusals flow_mod self.old)) ≡ gives effects.items self.new) }
+        ensures { IfOk result (λ effects. flow_modded xid flow_mod (failed_of size self.old.connection) self.old (first_of (flow_mod_refusals flow_mod self.old.forwarding.tables)) ≡ gives effects.items self.new) }
     {
-        if flow_mod.buffer != NO_BUFFER {
+        if !flow_mod.command.is_delete() && flow_mod.buffer != NO_BUFFER {
             return self.refused(xid, size, BUFFER_UNKNOWN);
         }
-        match self.plane.table.add(flow_from(flow_mod)) {
+        match flow_mod.command {
+            FlowModCommand::Add => self.add_flow(xid, size, flow_mod),
+            FlowModCommand::Modify | FlowModCommand::ModifyStrict => self.modify_flows(flow_mod),
+            FlowModCommand::Delete | FlowModCommand::DeleteStrict => self.delete_flows(flow_mod),
+        }
+    }
+
+    fn add_flow(
+        &mut self,
+        xid: u32,
+        size: usize,
+        flow_mod: FlowMod,
+    ) -> Result<Vec<Effect>, AllocError>
+        requires size { size ≤ length self.old.connection.pending }
+        requires add { flow_mod.command ≡ FlowModCommand.Add }
+        requires buffer { flow_mod.buffer ≡ 0xffffffff }
+        ensures { IfOk result (λ effects. flow_modded xid flow_mod (failed_of size self.old.connection) self.old (first_of (flow_mod_refusals flow_mod self.old.forwarding.tables)) ≡ gives effects.items self.new) }
+    {
+        match self.plane.tables.add(flow_mod.table, flow_from(flow_mod)) {
             Ok(()) => Ok(Vec::new(self.alloc)),
+            Err(TableFault::BadTable) => self.refused(xid, size, BAD_TABLE),
+            Err(TableFault::Overlap) => self.refused(xid, size, OVERLAP),
             Err(TableFault::Full) => self.refused(xid, size, TABLE_FULL),
             Err(TableFault::NoMemory) => Err(AllocError),
         }
     }
-}
 
-// The flow that a FLOW_MOD adds.
-fn flow_from(flow_mod: FlowMod) -> Flow
-    ensures { result ≡ flow_of flow_mod }
-{
-    Flow {
-        fields: flow_mod.fields,
-        priority: flow_mod.priority,
-        cookie: flow_mod.cookie,
-        idle_timeout: flow_mod.idle_timeout,
-        hard_timeout: flow_mod.hard_timeout,
-        flags: flow_mod.flags,
-        instructions: flow_mod.instructions,
+    fn modify_flows(&mut self, flow_mod: FlowMod) -> Result<Vec<Effect>, AllocError>
+        ensures { IfOk result (λ effects. gives [] (with_tables (modified_in (which_of flow_mod) flow_mod.instructions (with_flag flow_mod.flags 4) self.old.forwarding.tables) self.old) ≡ gives effects.items self.new) }
+    {
+        let reset = has_flag(flow_mod.flags, 4);
+        let instructions = flow_mod.instructions.copy()?;
+        let which = which_from(flow_mod);
+        self.plane.tables.modify(&which, &instructions, reset)?;
+        Ok(Vec::new(self.alloc))
+    }
+
+    fn delete_flows(&mut self, flow_mod: FlowMod) -> Result<Vec<Effect>, AllocError>
+        ensures { IfOk result (λ effects. gives (notice_effects self.old.forwarding.tables.latest (notices_in (Command (which_of flow_mod)) self.old.forwarding.tables)) (with_tables (left_in (Command (which_of flow_mod)) self.old.forwarding.tables) self.old) ≡ gives effects.items self.new) }
+    {
+        let now = self.plane.tables.latest();
+        let removed = self.plane.tables.delete(self.alloc, which_from(flow_mod))?;
+        notices(self.alloc, &removed, now)
+    }
+
+    /// It is so many nanoseconds.
+    pub fn moment(&mut self, nanos: u64) -> Result<Vec<Effect>, AllocError>
+        ensures { IfOk result (λ effects. moment_in nanos self.old ≡ gives effects.items self.new) }
+    {
+        let removed = self.plane.tables.expire(self.alloc, nanos)?;
+        if self.session.phase() != Phase::Open {
+            return Ok(Vec::new(self.alloc));
+        }
+        notices(self.alloc, &removed, self.plane.tables.latest())
     }
 }
 

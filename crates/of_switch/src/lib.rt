@@ -1,6 +1,7 @@
 //! The switch: events to effects.
 #![tactic(auto)]
 
+mod commands;
 mod effect;
 mod engine;
 mod laws;

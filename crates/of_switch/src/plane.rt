@@ -1,16 +1,16 @@
-//! What forwards frames: the flow table and the ports.
+//! What forwards frames: the flow tables and the ports.
 ghost use Rattle.std.specs.Prelude.{◌≡◌, ◌≤◌, IfOk, OnOk, length};
 ghost use Rattle.of_machine.specs.Ports.{port_at};
-ghost use Rattle.of_table.specs.Entries.{numbers_of};
+ghost use Rattle.of_table.specs.Tables.{all_numbers, tables_of, looked_in, matched_in};
 ghost use Rattle.of_switch.specs.Ports.{all_counted, counted, has_port, plus, tally};
 ghost use Rattle.of_switch.specs.Plane.{all_sent, all_tallied, effect_of, effects_of, forwards, framed, idle, sent, tallied, through};
-ghost use Rattle.of_switch.specs.Numbers.{Contents, all_placed, contents, forwarding_of, numbered_world, placed};
+ghost use Rattle.of_switch.specs.Numbers.{Contents, all_placed, contents, forwarding_of, numbered_world, place_in, placed};
 
 use crate::effect::Effect;
 use of_classifier::Lookup;
 use of_headers::{FieldKey, check_length};
 use of_machine::{Count, Frame, Item, NoLog, Packet, Port, PortCounters, World, run};
-use of_table::{Flow, FlowTable};
+use of_table::{Flow, FlowTables};
 use std::alloc::{AllocError, Global};
 
 /// What a port counts (OpenFlow 1.3.5, 5.8).
@@ -28,10 +28,13 @@ pub enum PortCount {
     SendDropped,
 }
 
-/// The flow table and the ports.
+/// How many flow tables there are.
+const TABLES: usize = 16;
+
+/// The flow tables and the ports.
 #[derive(Drop)]
 pub struct Plane<L: Lookup> {
-    pub table: FlowTable<L>,
+    pub tables: FlowTables<L>,
     pub ports: Vec<Port>,
 }
 
@@ -108,23 +111,24 @@ fn find_port(ports: &[Port], number: u32) -> Option<Port>
 }
 
 impl<L: Lookup> World for Plane<L> {
-    ghost view = { λ p. numbered_world p.table p.ports.items };
+    ghost view = { λ p. numbered_world p.tables p.ports.items };
 
     ghost Content = { Contents };
 
-    ghost content = { λ p. contents p.table p.ports.items };
+    ghost content = { λ p. contents p.tables p.ports.items };
 
     fn find(&mut self, table: u8, key: &FieldKey) -> Option<usize> {
-        if table == 0 {
-            self.table.lookup(key)
+        self.tables.known();
+        if (table as usize) < TABLES {
+            self.tables.lookup(table, key)
         } else {
             None
         }
     }
 
     fn flow(&self, table: u8, number: usize) -> &Flow {
-        let _ = table;
-        self.table.flow(number)
+        self.tables.known();
+        self.tables.flow(table, number)
     }
 
     fn ports(&self) -> &[Port] {
@@ -132,17 +136,17 @@ impl<L: Lookup> World for Plane<L> {
     }
 
     fn known(&self) {
-        self.table.known();
+        self.tables.known();
     }
 }
 
 impl<L: Lookup> Plane<L> {
     /// Without flows and ports.
     pub fn new(alloc: Global) -> Result<Self, AllocError>
-        ensures { IfOk result (λ p. forwarding_of p.table p.ports.items ≡ idle) }
+        ensures { IfOk result (λ p. forwarding_of p.tables p.ports.items ≡ idle) }
     {
         Ok(Plane {
-            table: FlowTable::new(alloc)?,
+            tables: FlowTables::new(alloc)?,
             ports: Vec::new(alloc),
         })
     }
@@ -154,7 +158,7 @@ impl<L: Lookup> Plane<L> {
         number: u32,
         bytes: &[u8],
     ) -> Result<Vec<Effect>, AllocError>
-        ensures { IfOk result (λ effects. framed number bytes.now (forwarding_of self.old.table self.old.ports.items) ≡ forwards effects.items (forwarding_of self.new.table self.new.ports.items)) }
+        ensures { IfOk result (λ effects. framed number bytes.now (forwarding_of self.old.tables self.old.ports.items) ≡ forwards effects.items (forwarding_of self.new.tables self.new.ports.items)) }
     {
         let Some(port) = find_port(&self.ports, number) else {
             return Ok(Vec::new(alloc));
@@ -179,9 +183,9 @@ impl<L: Lookup> Plane<L> {
         bytes: &[u8],
     ) -> Result<Vec<Effect>, AllocError>
         requires { 14 ≤ length bytes.now }
-        ensures { IfOk result (λ effects. through number bytes.now (forwarding_of self.old.table self.old.ports.items) ≡ forwards effects.items (forwarding_of self.new.table self.new.ports.items)) }
+        ensures { IfOk result (λ effects. through number bytes.now (forwarding_of self.old.tables self.old.ports.items) ≡ forwards effects.items (forwarding_of self.new.tables self.new.ports.items)) }
     {
-        self.table.known();
+        self.tables.known();
         let packet = Packet::new(Frame::new(bytes.to_vec(alloc)?), number);
         let outcome = run(alloc, self, packet, &mut NoLog)?;
         self.tally_all(&outcome.counts);
@@ -190,28 +194,52 @@ impl<L: Lookup> Plane<L> {
 
     // Counts what a run counted.
     fn tally_all(&mut self, counts: &[Count])
-        ensures { forwarding_of self.new.table self.new.ports.items ≡ all_tallied (all_placed self.old.table.entries counts.now) (forwarding_of self.old.table self.old.ports.items) }
+        ensures { forwarding_of self.new.tables self.new.ports.items ≡ all_tallied (all_placed self.old.tables counts.now) (forwarding_of self.old.tables self.old.ports.items) }
     {
         for count in counts {
-            self.tally(*count);
+            self.tally(count);
         }
     }
 
-    fn tally(&mut self, count: Count)
-        ensures forwarding { forwarding_of self.new.table self.new.ports.items ≡ tallied (placed self.old.table.entries count) (forwarding_of self.old.table self.old.ports.items) }
-        ensures numbers { numbers_of self.new.table.entries ≡ numbers_of self.old.table.entries }
+    fn tally(&mut self, count: &Count)
+        ensures forwarding { forwarding_of self.new.tables self.new.ports.items ≡ tallied (placed self.old.tables count.now) (forwarding_of self.old.tables self.old.ports.items) }
+        ensures numbers { all_numbers self.new.tables ≡ all_numbers self.old.tables }
     {
-        match count {
-            Count::Lookup(_) => self.table.looked(),
-            Count::Matched { number, bytes, .. } => self.table.count(number, bytes),
+        match *count {
+            Count::Lookup(table) => self.looked(table),
+            Count::Matched {
+                table,
+                number,
+                bytes,
+            } => self.matched(table, number, bytes),
             Count::TxDropped(port) => count_at(&mut self.ports, port, PortCount::SendDropped),
+        }
+    }
+
+    fn looked(&mut self, table: u8)
+        ensures forwarding { forwarding_of self.new.tables self.new.ports.items ≡ record (forwarding_of self.old.tables self.old.ports.items) { tables = looked_in table (tables_of self.old.tables) } }
+        ensures numbers { all_numbers self.new.tables ≡ all_numbers self.old.tables }
+    {
+        self.tables.known();
+        if (table as usize) < TABLES {
+            self.tables.looked(table);
+        }
+    }
+
+    fn matched(&mut self, table: u8, number: usize, bytes: usize)
+        ensures forwarding { forwarding_of self.new.tables self.new.ports.items ≡ record (forwarding_of self.old.tables self.old.ports.items) { tables = matched_in table (place_in self.old.tables table number) bytes (tables_of self.old.tables) } }
+        ensures numbers { all_numbers self.new.tables ≡ all_numbers self.old.tables }
+    {
+        self.tables.known();
+        if (table as usize) < TABLES {
+            self.tables.count(table, number, bytes);
         }
     }
 
     // Sends what a run emitted.
     fn send_all(&mut self, alloc: Global, items: Vec<Item>) -> Result<Vec<Effect>, AllocError>
         ensures effects { IfOk result (λ effects. effects.items ≡ effects_of items.items) }
-        ensures forwarding { OnOk result (forwarding_of self.new.table self.new.ports.items ≡ all_sent items.items (forwarding_of self.old.table self.old.ports.items)) }
+        ensures forwarding { OnOk result (forwarding_of self.new.tables self.new.ports.items ≡ all_sent items.items (forwarding_of self.old.tables self.old.ports.items)) }
     {
         let mut effects = Vec::new(alloc);
         for item in items {
@@ -222,7 +250,7 @@ impl<L: Lookup> Plane<L> {
 
     fn send(&mut self, item: Item) -> Effect
         ensures effect { result ≡ effect_of item }
-        ensures forwarding { forwarding_of self.new.table self.new.ports.items ≡ sent item (forwarding_of self.old.table self.old.ports.items) }
+        ensures forwarding { forwarding_of self.new.tables self.new.ports.items ≡ sent item (forwarding_of self.old.tables self.old.ports.items) }
     {
         match item {
             Item::Sent { port, frame } => {

@@ -2,7 +2,7 @@
 ghost use Rattle.std.specs.Prelude.{◌≡◌, false, IfOk, IfNone};
 ghost use Rattle.std.specs.Option.{option_map};
 ghost use Rattle.of_switch.specs.State.{start};
-ghost use Rattle.of_switch.specs.Steps.{connected, fed, frame_in, gives, next_of, port_changed};
+ghost use Rattle.of_switch.specs.Steps.{connected, fed, frame_in, moment_in, gives, next_of, port_changed};
 ghost use Rattle.of_switch.specs.Runs.{piece_in};
 ghost use Rattle.of_switch.specs.Calls.{Call, any_refusal, connect_refusal, feed_refusal, number_of, port_refusal, well};
 
@@ -169,6 +169,25 @@ impl<L: Lookup> Switch<L> {
             return Err(SwitchError::Failed);
         }
         match self.engine.frame(port, frame) {
+            Ok(effects) => Ok(effects),
+            Err(AllocError) => {
+                self.failed = true;
+                Err(SwitchError::NoMemory)
+            }
+        }
+    }
+
+    /// It is so many nanoseconds, or the latest moment if that is later: entries whose time is over go (OpenFlow 1.3.5, 5.5).
+    ///
+    /// An open connection gets a FLOW_REMOVED of each whose flags ask for one, by table, then by age. Refused: `Failed`.
+    pub fn moment(&mut self, nanos: u64) -> Result<Vec<Effect>, SwitchError>
+        ensures { Call (any_refusal self.old) (λ effects new.
+            (moment_in nanos self.old.state ≡ gives effects.items new.state) × (new.failed ≡ false)) self.old result self.new }
+    {
+        if self.failed {
+            return Err(SwitchError::Failed);
+        }
+        match self.engine.moment(nanos) {
             Ok(effects) => Ok(effects),
             Err(AllocError) => {
                 self.failed = true;

@@ -75,3 +75,31 @@ fn frames(rt: HostRuntime) -> Result<(), Fail> {
     assert_eq!(rt; SwitchError::PortExists.number(), 5);
     Ok(())
 }
+
+#[test]
+fn hard_timeout(rt: HostRuntime) -> Result<(), Fail> {
+    let mut switch = opened(&rt, rt.alloc())?;
+    let mut message = FLOW_MOD;
+    message[29] = 10;
+    message[45] = 1;
+    assert!(rt; switch.piece(&message)?.is_empty());
+    assert!(rt; switch.moment(9_999_999_999)?.is_empty());
+    let effects = switch.moment(10_000_000_000)?;
+    assert_eq!(rt; effects.len(), 1);
+    assert!(rt; matches!(&effects[0], Effect::Answer(_)));
+    if let Effect::Answer(removed) = &effects[0] {
+        let bytes = [
+            4u8, 11, 0, 64, 0, 0, 0, 0, // header
+            0, 0, 0, 0, 0, 0, 0, 0x2a, // cookie
+            0, 100, 1, 0, // priority, reason, table
+            0, 0, 0, 10, 0, 0, 0, 0, // how long it stood
+            0, 0, 0, 10, // idle and hard timeout
+            0, 0, 0, 0, 0, 0, 0, 0, // packets
+            0, 0, 0, 0, 0, 0, 0, 0, // bytes
+            0, 1, 0, 12, 0x80, 0, 0, 4, 0, 0, 0, 1, 0, 0, 0, 0, // match
+        ];
+        assert_eq!(rt; removed.as_slice(), bytes.as_slice());
+    }
+    assert!(rt; switch.frame(1, &[0u8; 60])?.is_empty());
+    Ok(())
+}

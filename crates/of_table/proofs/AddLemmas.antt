@@ -1,6 +1,6 @@
 -- Entries after a flow is added.
-use Rattle.std.proofs.Common.{◌≡◌, ℕ, ◌+◌, ◌<◌, ◌≤◌, suc, Bool, true, false, ◌&&◌, eqb, List, [], ◌∷◌, ◌++◌, length, take, drop, get_or, Option, Some, None, refl, sym, ap, ◌∙◌, arith, add-one}
-use Rattle.std.specs.Prelude.{position, find, map, remove, nat_le, nat_lt, slice_get}
+use Rattle.std.proofs.Common.{◌≡◌, ℕ, ◌+◌, ◌<◌, ◌≤◌, suc, Bool, true, false, not, cond, ◌&&◌, List, [], ◌∷◌, ◌++◌, length, take, drop, get_or, Some, None, refl, sym, ap, ◌∙◌, arith, add-one}
+use Rattle.std.specs.Prelude.{position, find, map, remove, nat_le, slice_get}
 use Rattle.std.specs.List.{list_any, position_or_len, before_first, after_first}
 use Rattle.std.specs.Cmp.Lexicographic.{pointwise}
 use Rattle.std.proofs.Math.ListN.{get_or-map}
@@ -17,7 +17,8 @@ use Rattle.of_oxm.specs.contracts.match_field.MatchFieldPartialEq.TheImpl as the
 use Rattle.of_oxm.proofs.Same.{same_match, same_fields}
 use Rattle.of_classifier.specs.Rows.{row_number}
 use Rattle.of_table.proofs.PlaceLemmas.{any-place, any-map, position-map, position_some, position_some-any, position_none}
-use Rattle.of_table.specs.Table.{FlowEntry, is_same, is_full, with_flow, added}
+use Rattle.of_table.specs.Table.{FlowEntry, is_same, is_overlapped, add_fault, kept_flow, with_flow, added}
+use Rattle.of_table.specs.declared.table_fault.TableFault.TheVariants.{Overlap, Full}
 use Rattle.of_table.specs.Entries.{entry_of, flows_of, row_of, rows_of}
 use Rattle.of_table.specs.declared.entry.Entry.{Entry}
 use Rattle.of_table.specs.declared.flow.Flow.{Flow}
@@ -28,8 +29,8 @@ same_is xs ys h =
     (same_fields xs ys test refl).0 (same_match xs ys test refl ∙ h)
 
 -- the flow comes last, and no entry goes
-pub added_new : (flow : Flow) (es : List Entry) (e : Entry) → list_any (is_same flow) (flows_of es) ≡ false → entry_of e ≡ with_flow flow None → flows_of (es ++ e ∷ []) ≡ added flow (flows_of es)
-added_new flow es e new is =
+pub added_new : (now : ℕ) (flow : Flow) (es : List Entry) (e : Entry) → list_any (is_same flow) (flows_of es) ≡ false → entry_of e ≡ with_flow now flow None → flows_of (es ++ e ∷ []) ≡ added now flow (flows_of es)
+added_new now flow es e new is =
     let fs = flows_of es in
     let p = is_same flow in
     let place = position_or_len p fs in
@@ -37,14 +38,14 @@ added_new flow es e new is =
     let none : find p fs ≡ None = find_at p fs ∙ slice_get_past fs place past in
     let before : before_first p fs ≡ fs = take_all place fs past in
     let after : after_first p fs ≡ [] = drop_all (place + 1) fs (omega (arith, past)) in
-    map-append entry_of es (e ∷ []) ∙ rw (none, before, after, is) (ap (λ (xs : List FlowEntry). xs ++ with_flow flow None ∷ []) (sym (append-nil fs)))
+    map-append entry_of es (e ∷ []) ∙ rw (none, before, after, is) (ap (λ (xs : List FlowEntry). xs ++ with_flow now flow None ∷ []) (sym (append-nil fs)))
 
 map-remove : {X Y : Type 0} (g : X → Y) (xs : List X) (k : ℕ) → map g (remove xs k) ≡ remove (map g xs) k
 map-remove g xs k = map-append g (take k xs) (drop (suc k) xs) ∙ rw (take-map, drop-map) refl
 
 -- the entry at the place of the flow's match and priority gets it and comes last
-pub added_again : (flow : Flow) (es : List Entry) (k : ℕ) (e f : Entry) → position (λ x. is_same flow (entry_of x)) es ≡ Some k → e ≡ get_or es k e → entry_of f ≡ record (entry_of e) { flow = flow } → flows_of (remove es k ++ f ∷ []) ≡ added flow (flows_of es)
-added_again flow es k e f h is made =
+pub added_again : (now : ℕ) (flow : Flow) (es : List Entry) (k : ℕ) (e f : Entry) → position (λ x. is_same flow (entry_of x)) es ≡ Some k → e ≡ get_or es k e → entry_of f ≡ with_flow now flow (Some (entry_of e)) → flows_of (remove es k ++ f ∷ []) ≡ added now flow (flows_of es)
+added_again now flow es k e f h is made =
     let fs = flows_of es in
     let p = is_same flow in
     let s = position_some p fs k (position-map entry_of p es ∙ h) in
@@ -53,13 +54,17 @@ added_again flow es k e f h is made =
     map-append entry_of (remove es k) (f ∷ []) ∙ rw (map-remove entry_of es k, found, ← s.0, made, add-one) refl
 
 -- what the classifier knows of it stays
-pub row_again : (flow : Flow) (es : List Entry) (k : ℕ) (e f : Entry) → position (λ x. is_same flow (entry_of x)) es ≡ Some k → e ≡ get_or es k e → f.number ≡ e.number → f.flow ≡ flow → row_of f ≡ row_of e
+pub row_again : (flow : Flow) (es : List Entry) (k : ℕ) (e f : Entry) → position (λ x. is_same flow (entry_of x)) es ≡ Some k → e ≡ get_or es k e → f.number ≡ e.number → f.flow ≡ kept_flow flow → row_of f ≡ row_of e
 row_again flow es k e f h is number gets =
     let passes : is_same flow (entry_of e) ≡ true = rw (← is) at (position-Some (λ x. is_same flow (entry_of x)) es k e h).1 in
     let priority : e.flow.priority ≡ flow.priority = grind (arith, nat_tests, passes) in
     let test : is_same_match e.flow.fields flow.fields ≡ true = grind (arith, nat_tests, passes) in
     let fields = same_is e.flow.fields flow.fields test in
     rw (number, gets, priority, fields) refl
+
+-- the flow of an entry that replaced another
+pub flow_is : (now : ℕ) (flow : Flow) (f : Entry) (e : FlowEntry) → entry_of f ≡ with_flow now flow (Some e) → f.flow ≡ kept_flow flow
+flow_is now flow f e is = ap (λ (x : FlowEntry). x.flow) is
 
 pub used_again : (es : List Entry) (k : ℕ) (e : Entry) → k < length es → e ≡ get_or es k e → is_used row_number e.number (rows_of es) ≡ true
 used_again es k e lt is = rw (get_or-map row_of es k e, ← is) at (low.used_at row_number (rows_of es) k (row_of e) (rw length-map lt))
@@ -77,8 +82,26 @@ new_flow flow es h = any-map entry_of (is_same flow) es ∙ position_none (λ x.
 pub old_flow : (flow : Flow) (es : List Entry) (k : ℕ) → position (λ x. is_same flow (entry_of x)) es ≡ Some k → list_any (is_same flow) (flows_of es) ≡ true
 old_flow flow es k h = any-map entry_of (is_same flow) es ∙ position_some-any (λ x. is_same flow (entry_of x)) es k h
 
-pub full_new : (flow : Flow) (es : List Entry) → position (λ x. is_same flow (entry_of x)) es ≡ None → 4096 ≤ length es → is_full flow (flows_of es) ≡ true
-full_new flow es h le =
+-- ---- why a flow is not added
+
+pub fault_overlap : (flow : Flow) (es : List Entry) → is_overlapped flow (flows_of es) ≡ true → add_fault flow (flows_of es) ≡ Some Overlap
+fault_overlap flow es h = rw h refl
+
+pub fault_full : (flow : Flow) (es : List Entry) → is_overlapped flow (flows_of es) ≡ false → position (λ x. is_same flow (entry_of x)) es ≡ None → 4096 ≤ length es → add_fault flow (flows_of es) ≡ Some Full
+fault_full flow es apart h le =
     let long : 4096 ≤ length (flows_of es) = rw length-map le in
     let test : nat_le 4096 (length (flows_of es)) ≡ true = grind (arith, nat_tests) in
-    rw (new_flow flow es h, test) refl
+    rw (apart, new_flow flow es h, test) refl
+
+pub fault_few : (flow : Flow) (es : List Entry) → is_overlapped flow (flows_of es) ≡ false → length es < 4096 → add_fault flow (flows_of es) ≡ None
+fault_few flow es apart lt =
+    let short : length (flows_of es) < 4096 = rw length-map lt in
+    let test : nat_le 4096 (length (flows_of es)) ≡ false = grind (arith, nat_tests) in
+    rw (apart, test) (not_full (list_any (is_same flow) (flows_of es)))
+  where
+    not_full : (b : Bool) → cond (not b && false) (Some Full) None ≡ None
+    not_full true = refl
+    not_full false = refl
+
+pub fault_old : (flow : Flow) (es : List Entry) (k : ℕ) → is_overlapped flow (flows_of es) ≡ false → position (λ x. is_same flow (entry_of x)) es ≡ Some k → add_fault flow (flows_of es) ≡ None
+fault_old flow es k apart h = rw (apart, old_flow flow es k h) refl

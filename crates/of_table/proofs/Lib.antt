@@ -2,5 +2,8 @@ pub mod PlaceLemmas
 pub mod NumberLemmas
 pub mod AddLemmas
 pub mod CountLemmas
+pub mod ModifyLemmas
+pub mod RemoveLemmas
+pub mod TablesLemmas
 pub mod WinnerLemmas
 pub mod WinnerLaw

@@ -1,7 +1,7 @@
 -- Entries by their numbers.
-use Rattle.std.proofs.Common.{◌≡◌, ℕ, ◌+◌, ◌<◌, suc, Bool, true, false, cond, eqb, List, [], ◌∷◌, length, Option, Some, None, refl, sym, ap, ◌∙◌, arith}
-use Rattle.std.specs.Prelude.{position, find, map, slice_get, is_some}
-use Rattle.std.specs.List.{list_any, position_or_len}
+use Rattle.std.proofs.Common.{◌≡◌, ℕ, ◌+◌, ◌<◌, Bool, true, false, cond, eqb, List, [], ◌∷◌, length, Option, Some, None, refl, sym, ap, ◌∙◌, arith}
+use Rattle.std.specs.Prelude.{position, find, slice_get}
+use Rattle.std.specs.List.{position_or_len}
 use Rattle.std.specs.Option.{option_map}
 use Rattle.std.proofs.lemmas.Bool.Decides.{nat_tests, eqb_tells}
 use Rattle.std.proofs.lemmas.Option.{slice_get-map}
@@ -11,7 +11,7 @@ use Rattle.of_wire.proofs.NumberedLemmas.{distinct-map}
 use Rattle.of_classifier.specs.Rows.{row_number}
 use Rattle.of_table.proofs.PlaceLemmas.{any-map, place-map, position_some, position_none, position-first, position-later}
 use Rattle.of_table.specs.Table.{FlowEntry, flow_at}
-use Rattle.of_table.specs.Entries.{entry_of, flows_of, row_of, rows_of, entry_number, numbers_of, is_there, place_of, find_number}
+use Rattle.of_table.specs.Entries.{entry_of, flows_of, row_of, rows_of, entry_number, is_there, place_of, find_number}
 use Rattle.of_table.specs.declared.entry.Entry.{Entry}
 
 -- the classifier's numbers are distinct exactly where those of the entries are

@@ -4,7 +4,7 @@ use Rattle.std.specs.Prelude.{find, filter, nat_le, slice_get, ◌&&◌, ◌↔�
 use Rattle.std.specs.List.{list_all}
 use Rattle.std.proofs.lemmas.Bool.{cases_lt}
 use Rattle.std.proofs.lemmas.Bool.Decides.{nat_tests}
-use Rattle.of_headers.specs.declared.field.Field.{Field}
+use Rattle.of_layers.specs.declared.field.Field.{Field}
 use Rattle.of_wire.specs.Highest.{is_highest, oldest_highest}
 use Rattle.of_wire.proofs.HighestLemmas.{oldest_highest-none}
 use Rattle.of_classifier.proofs.Finding.{FoundAt, find-filter, kept_at, kept_all, filter_empty, filter_none}

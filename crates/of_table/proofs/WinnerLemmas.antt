@@ -3,16 +3,16 @@ use Rattle.std.proofs.Common.{◌≡◌, ℕ, Bool, true, false, ◌&&◌, cond,
 use Rattle.std.specs.Prelude.{find, filter, nat_le, IfSome, IsTrue}
 use Rattle.std.specs.List.{list_all}
 use Rattle.std.specs.Option.{option_map}
-use Rattle.of_headers.specs.declared.field.Field.{Field}
+use Rattle.of_layers.specs.declared.field.Field.{Field}
 use Rattle.of_wire.specs.Highest.{is_highest}
 use Rattle.of_wire.specs.Numbered.{is_distinct}
 use Rattle.of_oxm.specs.Relations.{matches_map}
-use Rattle.of_classifier.specs.Rows.{row_number, row_priority}
+use Rattle.of_classifier.specs.Rows.{row_priority}
 use Rattle.of_classifier.specs.Winner as rows
 use Rattle.of_classifier.proofs.Finding.{find-filter}
 use Rattle.of_table.proofs.PlaceLemmas.{find-map, find_same}
 use Rattle.of_table.proofs.NumberLemmas.{found_place, found_is_there}
-use Rattle.of_table.specs.Table.{is_matching, priority_of, is_best, winner_place}
+use Rattle.of_table.specs.Table.{is_matching, is_best, winner_place}
 use Rattle.of_table.specs.Entries.{entry_of, flows_of, row_of, rows_of, entry_number, place_of, is_there}
 use Rattle.of_table.specs.declared.entry.Entry.{Entry}
 

@@ -8,7 +8,7 @@ use Rattle.of_table.specs.Table.{FlowEntry, Table}
 
 -- an entry without its number
 abbrev pub entry_of : Entry → FlowEntry
-entry_of e = record { flow = e.flow; packets = e.packets; bytes = e.bytes }
+entry_of e = record { flow = e.flow; packets = e.packets; bytes = e.bytes; created = e.created; last = e.last }
 
 abbrev pub flows_of : List Entry → List FlowEntry
 flows_of entries = map entry_of entries

@@ -1,10 +1,12 @@
--- Why a flow is not added.
-use Rattle.std.specs.Prelude.{Bool, true, false, Result, Ok, Err}
+-- Why a flow was not added.
+use Rattle.std.specs.Prelude.{Option, Some, None, Result, Ok, Err}
 use Rattle.of_table.specs.declared.table_fault.TableFault.{TableFault}
-use Rattle.of_table.specs.declared.table_fault.TableFault.TheVariants.{Full, NoMemory}
+use Rattle.of_table.specs.declared.table_fault.TableFault.TheVariants.{BadTable, Overlap, Full, NoMemory}
 
--- it is refused since the table is full
-abbrev pub is_full_fault : {A : Type 0} → Result A TableFault → Bool
-is_full_fault (Ok x) = false
-is_full_fault (Err Full) = true
-is_full_fault (Err NoMemory) = false
+-- the fault of the flow that an answer tells, want of memory being none
+abbrev pub fault_in : {A : Type 0} → Result A TableFault → Option TableFault
+fault_in (Ok x) = None
+fault_in (Err NoMemory) = None
+fault_in (Err BadTable) = Some BadTable
+fault_in (Err Overlap) = Some Overlap
+fault_in (Err Full) = Some Full

@@ -1,3 +1,5 @@
 pub mod Table
 pub mod Entries
+pub mod Selecting
 pub mod Faults
+pub mod Tables

@@ -1,18 +1,23 @@
 -- A flow table as a reader sees it (OpenFlow 1.3.5, 5.2, 5.3, 5.8 and 6.4): its entries, oldest first, and its counters.
-use Rattle.std.specs.Prelude.{◌≡◌, ℕ, ◌+◌, ◌≤◌, ◌%◌, ◌^◌, ◌==◌, ◌&&◌, ◌++◌, Bool, true, false, not, List, [], ◌∷◌, length, Option, Some, None, zero, suc, filter, find, position, nat_le, slice_get}
+use Rattle.std.specs.Prelude.{◌≡◌, ℕ, ◌+◌, ◌≤◌, ◌%◌, ◌^◌, ◌==◌, ◌&&◌, ◌++◌, Bool, true, false, not, List, [], ◌∷◌, length, Option, Some, None, zero, suc, filter, find, position, nat_le, slice_get, if◌then◌else◌}
 use Rattle.std.specs.List.{list_any, before_first, after_first}
 use Rattle.std.specs.Option.{option_map}
-use Rattle.of_headers.specs.declared.field.Field.{Field}
+use Rattle.of_layers.specs.declared.field.Field.{Field}
 use Rattle.of_wire.specs.Highest.{is_highest}
-use Rattle.of_oxm.specs.Relations.{matches_map}
+use Rattle.of_oxm.specs.Relations.{matches_map, overlaps_match}
 use Rattle.of_oxm.specs.SameMatch.{is_same_match}
 use Rattle.of_table.specs.declared.flow.Flow.{Flow}
+use Rattle.of_table.specs.declared.flow.FlowFlags.{FlowFlags}
+use Rattle.of_table.specs.declared.table_fault.TableFault.{TableFault}
+use Rattle.of_table.specs.declared.table_fault.TableFault.TheVariants.{Overlap, Full}
 
--- an entry (5.2): a flow, and how many packets and bytes hit it (5.8)
+-- an entry (5.2): a flow, how many packets and bytes hit it (5.8), and the moments at which it was added and at which a packet hit it last, in nanoseconds
 pub record FlowEntry : Type 0 where
   pub flow : Flow
   pub packets : ℕ
   pub bytes : ℕ
+  pub created : ℕ
+  pub last : Option ℕ
 
 -- a table: how many packets were looked up and how many hit an entry (5.8), and its entries
 pub record Table : Type 0 where
@@ -29,18 +34,37 @@ empty_table = record { lookups = 0; matched = 0; flows = [] }
 abbrev pub is_same : Flow → FlowEntry → Bool
 is_same flow e = e.flow.priority == flow.priority && is_same_match e.flow.fields flow.fields
 
--- the entry of a flow: it keeps the counters of the entry that it replaces, where there is one
-abbrev pub with_flow : Flow → Option FlowEntry → FlowEntry
-with_flow flow None = record { flow = flow; packets = 0; bytes = 0 }
-with_flow flow (Some e) = record e { flow = flow }
+-- an entry keeps no flag that is for the adding alone
+abbrev pub kept_flags : FlowFlags → FlowFlags
+kept_flags flags = record flags { check_overlap = false; reset_counts = false }
+
+abbrev pub kept_flow : Flow → Flow
+kept_flow flow = record flow { flags = kept_flags flow.flags }
+
+-- counters begin at 0 again where that is asked for
+abbrev pub unless_reset : Bool → ℕ → ℕ
+unless_reset reset counter = if reset then 0 else counter
+
+-- the entry of a flow that is added now: it keeps the counters of the entry that it replaces, where there is one
+abbrev pub with_flow : ℕ → Flow → Option FlowEntry → FlowEntry
+with_flow now flow None = record { flow = kept_flow flow; packets = 0; bytes = 0; created = now; last = None }
+with_flow now flow (Some e) = record { flow = kept_flow flow; packets = unless_reset flow.flags.reset_counts e.packets; bytes = unless_reset flow.flags.reset_counts e.bytes; created = now; last = None }
 
 -- the entry of the same priority and match goes, and the flow stands last
-abbrev pub added : Flow → List FlowEntry → List FlowEntry
-added flow flows = (before_first (is_same flow) flows ++ after_first (is_same flow) flows) ++ with_flow flow (find (is_same flow) flows) ∷ []
+abbrev pub added : ℕ → Flow → List FlowEntry → List FlowEntry
+added now flow flows = (before_first (is_same flow) flows ++ after_first (is_same flow) flows) ++ with_flow now flow (find (is_same flow) flows) ∷ []
+
+-- the flow asks to be checked, and an entry of its priority overlaps it
+abbrev pub is_overlapped : Flow → List FlowEntry → Bool
+is_overlapped flow flows = flow.flags.check_overlap && list_any (λ e. e.flow.priority == flow.priority && overlaps_match e.flow.fields flow.fields) flows
 
 -- the flow would be one more than 4,096 entries
 abbrev pub is_full : Flow → List FlowEntry → Bool
 is_full flow flows = not (list_any (is_same flow) flows) && nat_le 4096 (length flows)
+
+-- why a flow is not added, where it is not
+abbrev pub add_fault : Flow → List FlowEntry → Option TableFault
+add_fault flow flows = if is_overlapped flow flows then Some Overlap else if is_full flow flows then Some Full else None
 
 -- ---- matching (5.3)
 
@@ -75,20 +99,24 @@ flow_at place flows = option_map (λ e. e.flow) (slice_get flows place)
 
 -- ---- counting (5.8)
 
--- a packet of so many bytes more
-abbrev pub counted : ℕ → FlowEntry → FlowEntry
-counted bytes e = record e { packets = (e.packets + 1) % 2 ^ 64; bytes = (e.bytes + bytes) % 2 ^ 64 }
+-- a counter after so many more, where they are counted; it wraps
+abbrev pub risen : Bool → ℕ → ℕ → ℕ
+risen uncounted counter n = if uncounted then counter else (counter + n) % 2 ^ 64
+
+-- a packet of so many bytes more, now
+abbrev pub counted : ℕ → ℕ → FlowEntry → FlowEntry
+counted now bytes e = record e { packets = risen e.flow.flags.no_packet_counts e.packets 1; bytes = risen e.flow.flags.no_byte_counts e.bytes bytes; last = Some now }
 
 -- at the entry of a place
-abbrev pub counted_at : ℕ → ℕ → List FlowEntry → List FlowEntry
-counted_at place bytes [] = []
-counted_at zero bytes (e ∷ flows) = counted bytes e ∷ flows
-counted_at (suc place) bytes (e ∷ flows) = e ∷ counted_at place bytes flows
+abbrev pub counted_at : ℕ → ℕ → ℕ → List FlowEntry → List FlowEntry
+counted_at now place bytes [] = []
+counted_at now zero bytes (e ∷ flows) = counted now bytes e ∷ flows
+counted_at now (suc place) bytes (e ∷ flows) = e ∷ counted_at now place bytes flows
 
 -- a packet more was looked up
 abbrev pub looked : Table → Table
 looked t = record t { lookups = (t.lookups + 1) % 2 ^ 64 }
 
--- a packet of so many bytes hit the entry at a place
-abbrev pub matched_at : ℕ → ℕ → Table → Table
-matched_at place bytes t = record t { matched = (t.matched + 1) % 2 ^ 64; flows = counted_at place bytes t.flows }
+-- a packet of so many bytes hit the entry at a place, now
+abbrev pub matched_at : ℕ → ℕ → ℕ → Table → Table
+matched_at now place bytes t = record t { matched = (t.matched + 1) % 2 ^ 64; flows = counted_at now place bytes t.flows }

@@ -1,14 +1,16 @@
 //! Lists of entries.
 
-ghost use Rattle.std.specs.Prelude.{◌≡◌, ◌==◌, ◌<◌, ◌++◌, ◌∷◌, [], Some, true, IsTrue, position, length, vec_len, vec_capacity};
+ghost use Rattle.std.specs.Prelude.{◌≡◌, ◌==◌, ◌&&◌, ◌<◌, ◌≤◌, ◌+◌, ◌++◌, ◌∷◌, [], Some, None, true, IsTrue, position, length, vec_len, vec_capacity};
 ghost use Rattle.std.specs.List.{list_any};
 ghost use Rattle.of_wire.specs.Numbered.{is_used, is_distinct, renewed};
 ghost use Rattle.of_classifier.specs.Rows.{row_number};
-ghost use Rattle.of_table.specs.Table.{is_same, added, counted_at};
+ghost use Rattle.of_oxm.specs.Relations.{overlaps_match};
+ghost use Rattle.of_table.specs.Table.{is_same, is_overlapped as overlapped, with_flow, kept_flow as kept, unless_reset as zero_or, added, risen as with_more, counted_at};
 ghost use Rattle.of_table.specs.Entries.{entry_of, flows_of, rows_of, numbers_of, place_of, is_there};
 
 use crate::entry::Entry;
-use crate::flow::Flow;
+use crate::flow::{Flow, FlowFlags};
+use of_oxm::overlaps;
 
 /// The place of the first entry of the flow's match and priority.
 pub(crate) fn same_place(entries: &[Entry], flow: &Flow) -> Option<usize>
@@ -21,7 +23,7 @@ pub(crate) fn same_place(entries: &[Entry], flow: &Flow) -> Option<usize>
 
 // Whether the two are of one match and priority.
 fn is_same_flow(old: &Flow, new: &Flow) -> bool
-    ensures { result ≡ is_same new.now (record { flow = old.now; packets = 0; bytes = 0 }) }
+    ensures { result ≡ is_same new.now (record { flow = old.now; packets = 0; bytes = 0; created = 0; last = None }) }
 {
     old.priority == new.priority && old.fields.equals(&new.fields)
 }
@@ -51,17 +53,86 @@ pub(crate) fn has_number(entries: &[Entry], number: usize) -> bool
     entries.iter().any(|entry| entry.number == number)
 }
 
+/// Whether the flow asks to be checked, and an entry of its priority overlaps it.
+pub(crate) fn is_overlapped(entries: &[Entry], flow: &Flow) -> bool
+    ensures { result ≡ overlapped flow.now (flows_of entries.now) }
+{
+    flow.flags.check_overlap && has_rival(entries, flow)
+}
+
+// Whether an entry of the flow's priority overlaps it.
+fn has_rival(entries: &[Entry], flow: &Flow) -> bool
+    ensures { result ≡ list_any (λ e. e.flow.priority == flow.now.priority && overlaps_match e.flow.fields flow.now.fields) entries.now }
+{
+    entries.iter().any(|entry| is_rival(&entry.flow, flow))
+}
+
+// Whether the two are of one priority and overlap.
+fn is_rival(old: &Flow, new: &Flow) -> bool
+    ensures { result ≡ (old.now.priority == new.now.priority && overlaps_match old.now.fields new.now.fields) }
+{
+    old.priority == new.priority && overlaps(&old.fields, &new.fields)
+}
+
+/// The entry of a flow that is added now.
+pub(crate) fn new_entry(number: usize, flow: Flow, now: u64) -> Entry
+    ensures number { result.number ≡ number }
+    ensures entry { entry_of result ≡ with_flow now flow None }
+{
+    Entry {
+        number,
+        flow: kept_flow(flow),
+        packets: 0,
+        bytes: 0,
+        created: now,
+        last: None,
+    }
+}
+
+// The flow without the flags that are for the adding alone.
+fn kept_flow(flow: Flow) -> Flow
+    ensures { result ≡ kept flow }
+{
+    Flow {
+        flags: FlowFlags {
+            check_overlap: false,
+            reset_counts: false,
+            ..flow.flags
+        },
+        ..flow
+    }
+}
+
+/// A counter, or 0 where it is to be reset.
+pub(crate) fn unless_reset(reset: bool, counter: u64) -> u64
+    ensures { result ≡ zero_or reset counter }
+{
+    if reset { 0 } else { counter }
+}
+
+// The entry with another flow of its match and priority, which is added now.
+fn replaced_entry(entry: Entry, flow: Flow, now: u64) -> Entry
+    ensures number { result.number ≡ entry.number }
+    ensures entry { entry_of result ≡ with_flow now flow (Some (entry_of entry)) }
+{
+    let reset = flow.flags.reset_counts;
+    Entry {
+        packets: unless_reset(reset, entry.packets),
+        bytes: unless_reset(reset, entry.bytes),
+        ..new_entry(entry.number, flow, now)
+    }
+}
+
 /// The entry at that place gets the flow and comes last. Its number.
-pub(crate) fn move_last(entries: &mut Vec<Entry>, place: usize, flow: Flow) -> usize
+pub(crate) fn move_last(entries: &mut Vec<Entry>, place: usize, flow: Flow, now: u64) -> usize
     requires same { position (λ e. is_same flow (entry_of e)) entries.old.items ≡ Some place }
     requires distinct { IsTrue (is_distinct row_number (rows_of entries.old.items)) }
     ensures used { IsTrue (is_used row_number result (rows_of entries.old.items)) }
     ensures rows { rows_of entries.new.items ≡ renewed row_number result (rows_of entries.old.items) }
-    ensures flows { flows_of entries.new.items ≡ added flow (flows_of entries.old.items) }
+    ensures flows { flows_of entries.new.items ≡ added now flow (flows_of entries.old.items) }
 {
-    let mut entry = entries.remove(place);
+    let entry = replaced_entry(entries.remove(place), flow, now);
     let number = entry.number;
-    entry.flow = flow;
     push_reserved(entries, entry);
     number
 }
@@ -69,7 +140,9 @@ pub(crate) fn move_last(entries: &mut Vec<Entry>, place: usize, flow: Flow) -> u
 /// Puts an entry last, where there is room.
 pub(crate) fn push_reserved(entries: &mut Vec<Entry>, entry: Entry)
     requires { vec_len entries.old < vec_capacity entries.old }
-    ensures { entries.new.items ≡ entries.old.items ++ entry ∷ [] }
+    ensures items { entries.new.items ≡ entries.old.items ++ entry ∷ [] }
+    ensures len { vec_len entries.new ≡ vec_len entries.old + 1 }
+    ensures capacity { vec_capacity entries.old ≤ vec_capacity entries.new }
 {
     match entries.push(entry) {
         Ok(()) => {}
@@ -77,25 +150,38 @@ pub(crate) fn push_reserved(entries: &mut Vec<Entry>, entry: Entry)
     }
 }
 
-/// The entry of that number, where it is there, counts a packet of so many bytes.
-pub(crate) fn count_at(entries: &mut Vec<Entry>, number: usize, bytes: usize)
-    ensures flows { flows_of entries.new.items ≡ counted_at (place_of number entries.old.items) bytes (flows_of entries.old.items) }
+/// The entry of that number, where it is there, counts a packet of so many bytes, now.
+pub(crate) fn count_at(entries: &mut Vec<Entry>, number: usize, bytes: usize, now: u64)
+    ensures flows { flows_of entries.new.items ≡ counted_at now (place_of number entries.old.items) bytes (flows_of entries.old.items) }
     ensures numbers { numbers_of entries.new.items ≡ numbers_of entries.old.items }
     ensures rows { rows_of entries.new.items ≡ rows_of entries.old.items }
 {
     if has_number(entries, number) {
-        count_there(entries, number, bytes);
+        count_there(entries, number, bytes, now);
     }
 }
 
-fn count_there(entries: &mut Vec<Entry>, number: usize, bytes: usize)
+fn count_there(entries: &mut Vec<Entry>, number: usize, bytes: usize, now: u64)
     requires { IsTrue (is_there number entries.old.items) }
-    ensures flows { flows_of entries.new.items ≡ counted_at (place_of number entries.old.items) bytes (flows_of entries.old.items) }
+    ensures flows { flows_of entries.new.items ≡ counted_at now (place_of number entries.old.items) bytes (flows_of entries.old.items) }
     ensures numbers { numbers_of entries.new.items ≡ numbers_of entries.old.items }
     ensures rows { rows_of entries.new.items ≡ rows_of entries.old.items }
 {
     let place = place_in(entries, number);
     let entry = &mut entries[place];
-    entry.packets = entry.packets.wrapping_add(1);
-    entry.bytes = entry.bytes.wrapping_add(bytes as u64);
+    let flags = entry.flow.flags;
+    entry.packets = risen(flags.no_packet_counts, entry.packets, 1);
+    entry.bytes = risen(flags.no_byte_counts, entry.bytes, bytes as u64);
+    entry.last = Some(now);
+}
+
+// A counter after so many more, where they are counted.
+fn risen(uncounted: bool, counter: u64, more: u64) -> u64
+    ensures { result ≡ with_more uncounted counter more }
+{
+    if uncounted {
+        counter
+    } else {
+        counter.wrapping_add(more)
+    }
 }

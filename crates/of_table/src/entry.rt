@@ -11,4 +11,8 @@ pub struct Entry {
     pub packets: u64,
     /// How many bytes they had. It wraps.
     pub bytes: u64,
+    /// The moment at which it was added, in nanoseconds.
+    pub created: u64,
+    /// The moment at which a packet hit it last, in nanoseconds.
+    pub last: Option<u64>,
 }

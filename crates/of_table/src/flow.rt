@@ -3,6 +3,21 @@
 use of_actions::InstructionList;
 use of_oxm::Match;
 
+/// The flags of a flow (OpenFlow 1.3.5, 7.3.4.1).
+#[derive(Clone, Copy, Debug, PartialEq, Eq)]
+pub struct FlowFlags {
+    /// OFPFF_SEND_FLOW_REM: a notice is wanted when the entry goes.
+    pub send_removed: bool,
+    /// OFPFF_CHECK_OVERLAP: it is not to be added where one of its priority overlaps it.
+    pub check_overlap: bool,
+    /// OFPFF_RESET_COUNTS: counters are to begin at 0 again.
+    pub reset_counts: bool,
+    /// OFPFF_NO_PKT_COUNTS: packets are not counted.
+    pub no_packet_counts: bool,
+    /// OFPFF_NO_BYT_COUNTS: bytes are not counted.
+    pub no_byte_counts: bool,
+}
+
 /// A flow entry's fixed parts (OpenFlow 1.3.5, 5.2).
 #[derive(Debug, Drop)]
 pub struct Flow {
@@ -13,6 +28,6 @@ pub struct Flow {
     pub idle_timeout: u16,
     /// In seconds; 0 for none.
     pub hard_timeout: u16,
-    pub flags: u16,
+    pub flags: FlowFlags,
     pub instructions: InstructionList,
 }

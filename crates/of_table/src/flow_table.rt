@@ -1,22 +1,30 @@
 //! Flow tables.
 
-ghost use Rattle.std.specs.Prelude.{◌≡◌, Some, false, IsTrue, IfOk, IfSome, OnOk, OnErr, position};
+ghost use Rattle.std.specs.Prelude.{◌≡◌, ◌++◌, Some, false, IsTrue, IfOk, IfSome, OnOk, OnErr, position};
 ghost use Rattle.std.specs.List.{list_any};
 ghost use Rattle.std.specs.Option.{option_map};
 ghost use Rattle.of_headers.specs.FieldMap.{value};
 ghost use Rattle.of_wire.specs.Numbered.{is_distinct};
-ghost use Rattle.of_table.specs.Table.{is_same, is_full, added, winner_place, looked as one_looked_up, matched_at, flow_at};
+ghost use Rattle.of_table.specs.Table.{is_same, add_fault, added, winner_place, looked as one_looked_up, matched_at, flow_at};
 ghost use Rattle.of_table.specs.Entries.{Numbered, no_entries, table_of, entry_of, flows_of, numbers_of, entry_number, place_of, is_there, find_number};
-ghost use Rattle.of_table.specs.Faults.{is_full_fault};
+ghost use Rattle.of_table.specs.Selecting.{modified, left, notices, notices_of};
+ghost use Rattle.of_table.specs.Faults.{fault_in};
 
-use crate::entries::{count_at, move_last, place_in, push_reserved, same_place};
+use crate::entries::{
+    count_at, is_overlapped, move_last, new_entry, place_in, push_reserved, same_place,
+};
 use crate::entry::Entry;
 use crate::flow::Flow;
+use crate::modifying::modify_all;
+use crate::removing::{all_stay, sort_out, take_gone};
+use crate::selection::{Cause, Removed, Which};
 use crate::table_fault::TableFault;
+use of_actions::InstructionList;
 use of_classifier::Lookup;
 use of_headers::FieldKey;
 use std::alloc::{AllocError, Global};
 use std::marker::Model;
+use std::mem;
 
 /// How many entries a table has at most.
 const MOST_ENTRIES: usize = 4096;
@@ -56,18 +64,22 @@ impl<L: Lookup> FlowTable<L> {
         })
     }
 
-    /// Adds a flow (OpenFlow 1.3.5, 6.4).
+    /// Adds a flow, now (OpenFlow 1.3.5, 6.4).
     ///
-    /// An entry of its match and priority gets it, keeps its number and counters, and becomes the
-    /// youngest. That needs no memory. Else there is a new entry, with counters of 0.
-    pub fn add(&mut self, flow: Flow) -> Result<(), TableFault>
-        ensures full { is_full_fault result ≡ is_full flow (flows_of self.old.entries) }
-        ensures ok { OnOk result (table_of self.new ≡ record (table_of self.old) { flows = added flow (flows_of self.old.entries) }) }
+    /// An entry of its match and priority gets it, keeps its number, and its counters unless they
+    /// are to be reset, and becomes the youngest; that needs no memory. Else there is a new entry,
+    /// with counters of 0.
+    pub fn add(&mut self, flow: Flow, now: u64) -> Result<(), TableFault>
+        ensures fault { fault_in result ≡ add_fault flow (flows_of self.old.entries) }
+        ensures ok { OnOk result (table_of self.new ≡ record (table_of self.old) { flows = added now flow (flows_of self.old.entries) }) }
         ensures err { OnErr result (self.new ≡ self.old) }
     {
+        if is_overlapped(&self.entries, &flow) {
+            return Err(TableFault::Overlap);
+        }
         match same_place(&self.entries, &flow) {
             Some(place) => {
-                self.replace(place, flow);
+                self.replace(place, flow, now);
                 return Ok(());
             }
             None => {}
@@ -75,38 +87,73 @@ impl<L: Lookup> FlowTable<L> {
         if self.entries.len() >= MOST_ENTRIES {
             return Err(TableFault::Full);
         }
-        match self.append(flow) {
+        match self.append(flow, now) {
             Ok(()) => Ok(()),
             Err(_) => Err(TableFault::NoMemory),
         }
     }
 
     // The entry at that place gets the flow and becomes the youngest.
-    fn replace(&mut self, place: usize, flow: Flow)
+    fn replace(&mut self, place: usize, flow: Flow, now: u64)
         requires { position (λ e. is_same flow (entry_of e)) self.old.entries ≡ Some place }
-        ensures { table_of self.new ≡ record (table_of self.old) { flows = added flow (flows_of self.old.entries) } }
+        ensures { table_of self.new ≡ record (table_of self.old) { flows = added now flow (flows_of self.old.entries) } }
     {
         self.lookup.known();
-        let number = move_last(&mut self.entries, place, flow);
+        let number = move_last(&mut self.entries, place, flow, now);
         self.lookup.renew(number);
     }
 
     // A new entry.
-    fn append(&mut self, flow: Flow) -> Result<(), AllocError>
+    fn append(&mut self, flow: Flow, now: u64) -> Result<(), AllocError>
         requires { list_any (is_same flow) (flows_of self.old.entries) ≡ false }
-        ensures ok { OnOk result (table_of self.new ≡ record (table_of self.old) { flows = added flow (flows_of self.old.entries) }) }
+        ensures ok { OnOk result (table_of self.new ≡ record (table_of self.old) { flows = added now flow (flows_of self.old.entries) }) }
         ensures err { OnErr result (self.new ≡ self.old) }
     {
         self.entries.reserve(1)?;
         let fields = flow.fields.copy()?;
         let number = self.lookup.add(fields, flow.priority)?;
-        let entry = Entry {
-            number,
-            flow,
-            packets: 0,
-            bytes: 0,
-        };
-        push_reserved(&mut self.entries, entry);
+        push_reserved(&mut self.entries, new_entry(number, flow, now));
+        Ok(())
+    }
+
+    /// Gives the instructions to each entry that the command is for, and counters of 0 where they are to be reset (OpenFlow 1.3.5, 6.4).
+    ///
+    /// All else of an entry stays, and none is added.
+    pub fn modify(
+        &mut self,
+        which: &Which,
+        instructions: &InstructionList,
+        reset: bool,
+    ) -> Result<(), AllocError>
+        ensures ok { OnOk result (table_of self.new ≡ record (table_of self.old) { flows = modified which.now instructions.now reset (flows_of self.old.entries) }) }
+        ensures numbers { numbers_of self.new.entries ≡ numbers_of self.old.entries }
+    {
+        modify_all(&mut self.entries, which, instructions, reset)
+    }
+
+    /// Removes the entries that a command deletes or whose time is over, and puts notices of those whose flags ask for one last (OpenFlow 1.3.5, 5.5 and 6.4).
+    ///
+    /// `table` is the number of this table, for the notices. Where nothing goes, no memory is needed.
+    pub fn remove(
+        &mut self,
+        table: u8,
+        cause: &Cause,
+        removed: &mut Vec<Removed>,
+    ) -> Result<(), AllocError>
+        ensures ok { OnOk result (table_of self.new ≡ record (table_of self.old) { flows = left cause.now (flows_of self.old.entries) }) }
+        ensures notices { OnOk result (notices_of removed.new.items ≡ notices_of removed.old.items ++ notices cause.now table (flows_of self.old.entries)) }
+        ensures err { OnErr result (self.new ≡ self.old) }
+        ensures none { OnErr result (notices_of removed.new.items ≡ notices_of removed.old.items) }
+    {
+        if all_stay(&self.entries, cause) {
+            return Ok(());
+        }
+        let count = self.entries.len();
+        let kept = Vec::with_capacity(*self.entries.allocator(), count)?;
+        removed.reserve(count)?;
+        take_gone(&mut self.lookup, &self.entries, cause);
+        let entries = mem::replace(&mut self.entries, kept);
+        sort_out(entries, cause, table, &mut self.entries, removed);
         Ok(())
     }
 
@@ -139,12 +186,12 @@ impl<L: Lookup> FlowTable<L> {
         self.lookups = self.lookups.wrapping_add(1);
     }
 
-    /// A packet of so many bytes hit the entry of that number; where none is there, the table alone counts it.
-    pub fn count(&mut self, number: usize, bytes: usize)
-        ensures table { table_of self.new ≡ matched_at (place_of number self.old.entries) bytes (table_of self.old) }
+    /// A packet of so many bytes hit the entry of that number, now; where none is there, the table alone counts it.
+    pub fn count(&mut self, number: usize, bytes: usize, now: u64)
+        ensures table { table_of self.new ≡ matched_at now (place_of number self.old.entries) bytes (table_of self.old) }
         ensures numbers { numbers_of self.new.entries ≡ numbers_of self.old.entries }
     {
-        count_at(&mut self.entries, number, bytes);
+        count_at(&mut self.entries, number, bytes, now);
         self.matched = self.matched.wrapping_add(1);
     }
 

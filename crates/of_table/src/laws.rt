@@ -1,6 +1,6 @@
 //! What it is to win.
 ghost use Rattle.std.specs.Prelude.{◌≡◌, ◌↔◌, ℕ, List, Option, Some, None};
-ghost use Rattle.of_headers.specs.declared.field.Field.{Field as AField};
+ghost use Rattle.of_layers.specs.declared.field.Field.{Field as AField};
 ghost use Rattle.of_table.specs.Table.{FlowEntry, winner_place, Wins, NoneMatches};
 
 /// The winner stands at a place exactly where that entry matches, no matching entry has a higher

@@ -1,17 +1,24 @@
 //! Flow tables: their entries, which of them a packet hits, and their counters (OpenFlow 1.3.5, 5.2, 5.3, 5.8 and 6.4).
 #![tactic(auto)]
 
+mod each_table;
 mod entries;
 mod entry;
 mod flow;
 mod flow_table;
+mod flow_tables;
 mod laws;
+mod modifying;
+mod removing;
+mod selection;
 mod table_fault;
 
 pub use entry::Entry;
-pub use flow::Flow;
+pub use flow::{Flow, FlowFlags};
 pub use flow_table::FlowTable;
+pub use flow_tables::FlowTables;
 pub use laws::one_winner;
+pub use selection::{Cause, Removed, RemovedReason, Which};
 pub use table_fault::TableFault;
 
 #[cfg(test)]

@@ -5,3 +5,4 @@ pub mod ItemsRead
 pub mod NumberedLemmas
 pub mod HighestLemmas
 pub mod FirstLemmas
+pub mod Changing

@@ -13,6 +13,7 @@ const EVENT_FILES: &str = "An event file has one event a line, and words are par
   connect                           a controller connects
   c 0400000800000001                bytes of the controller, in hex (- for none)
   f 1 020000000002...               a frame comes in by port 1, in hex
+  t 9000000000                      it is 9 seconds after the start, in nanoseconds
   # ...                             a comment
 
 Printed are the messages to the controller (`a HEX`), the frames that leave (`s PORT HEX`), `closed` where the switch

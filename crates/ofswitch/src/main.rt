@@ -16,7 +16,10 @@ use std::process::ExitCode;
 
 fn main(rt: HostRuntime) -> io::Result<ExitCode> {
     let alloc = rt.alloc();
-    let Ok(words) = std::env::args(&rt)?.collect::<Vec<String>>(alloc) else {
+    let Ok(arguments) = std::env::args(&rt) else {
+        return no_memory(&rt);
+    };
+    let Ok(words) = arguments.collect::<Vec<String>>(alloc) else {
         return no_memory(&rt);
     };
     let Ok(command) = command(alloc) else {
@@ -55,7 +58,7 @@ fn run(rt: &HostRuntime, matches: &ArgMatches) -> io::Result<ExitCode> {
     }
 }
 
-// A file that does not open is a read fault.
+// A file that does not open is a read fault, unless memory ran out.
 fn replay_file(rt: &HostRuntime, path: &str) -> Ended {
     match File::open(rt, path) {
         Ok(file) => {
@@ -63,6 +66,7 @@ fn replay_file(rt: &HostRuntime, path: &str) -> Ended {
             let mut writer = WriterSink::new(rt.stdout());
             replay::<Scan, _, _>(rt.alloc(), &mut reader, &mut writer)
         }
+        Err(error) if error.kind() == io::ErrorKind::OutOfMemory => Ended::NoMemory,
         Err(_) => Ended::ReadFault,
     }
 }

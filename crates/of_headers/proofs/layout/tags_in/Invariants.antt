@@ -1,5 +1,5 @@
 use Rattle.std.proofs.Common.{length, ◌+◌, ◌-◌, ◌≡◌, ◌*◌, ◌≤◌, drop}
-use Rattle.of_headers.specs.Reading.{tag_count}
+use Rattle.of_layers.specs.Reading.{tag_count}
 use Rattle.of_headers.proofs.layout.tags_in.Given as goal
 
 abbrev pub invariant-loop-at : goal.invariant-loop-at

@@ -1,6 +1,5 @@
-use Rattle.std.proofs.Common.{◌≡◌, ◌++◌, ◌∙◌, sym, ap, arith, rules, take, append_assoc}
+use Rattle.std.proofs.Common.{◌++◌, ◌∙◌, sym, ap, arith, take}
 use Rattle.std.proofs.lemmas.List.{append-nil}
-use Rattle.std.proofs.lemmas.Grind.{common_steps}
 use Rattle.of_replay.specs.Told.{Gave, Idle, Ended, Failed}
 use Rattle.of_replay.proofs.TellingLemmas.{gave_one}
 use Rattle.of_replay.proofs.transfer.read_all.Goals as goal

@@ -1,5 +1,5 @@
 use Rattle.of_switch.specs.Ports.{counted}
-use Rattle.of_switch.proofs.Counting.{changed_more}
+use Rattle.of_wire.proofs.Changing.{changed_more}
 use Rattle.of_switch.proofs.plane.count_at.Goals as goal
 
 pub loop-port-preserved : goal.loop-port-preserved

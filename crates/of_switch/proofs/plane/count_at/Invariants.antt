@@ -1,6 +1,6 @@
 use Rattle.std.proofs.Common.{◌≡◌}
 use Rattle.of_switch.specs.Ports.{counted}
-use Rattle.of_switch.proofs.Counting.{changed_to}
+use Rattle.of_wire.proofs.Changing.{changed_to}
 use Rattle.of_switch.proofs.plane.count_at.Given as goal
 
 abbrev pub invariant-loop-port : goal.invariant-loop-port

@@ -1,6 +1,5 @@
-use Rattle.std.proofs.Common.{◌≡◌, ◌∙◌, sym, true, false, eqb}
-use Rattle.std.specs.List.{list_any}
-use Rattle.of_table.specs.Entries.{entry_number, is_there}
+use Rattle.std.proofs.Common.{◌∙◌, sym, eqb}
+use Rattle.of_table.specs.Entries.{entry_number}
 use Rattle.of_table.proofs.PlaceLemmas.{any-map}
 use Rattle.of_table.proofs.CountLemmas.{counted_none}
 use Rattle.of_table.proofs.entries.count_at.Goals as goal
@@ -13,4 +12,4 @@ count_there-requires c =
 pub returns-else-has_number-clause-flows : goal.returns-else-has_number-clause-flows
 returns-else-has_number-clause-flows c =
     let found = rw c.deref.ensures.value at c.has_number.ensures in
-    counted_none c.args.number c.args.bytes c.args.entries.now.items (any-map entry_number (λ n. eqb n c.args.number) c.args.entries.now.items ∙ (sym found ∙ c.if-has_number.false))
+    counted_none c.args.now c.args.number c.args.bytes c.args.entries.now.items (any-map entry_number (λ n. eqb n c.args.number) c.args.entries.now.items ∙ (sym found ∙ c.if-has_number.false))

@@ -11,7 +11,7 @@ returns-clause-flows c =
     let es = c.args.entries.now.items in
     let place : c.place_in-place.result ≡ place_of c.args.number es = rw c.deref.ensures.value at c.place_in-place.ensures.place in
     let within : c.place_in-place.result < length es = rw c.deref.ensures.value at c.place_in-place.ensures.within in
-    rw (← place) (counted-set c.args.bytes es c.place_in-place.result _ c.index_mut-entry.result.now within (ap (λ (e : Entry). counted c.args.bytes (entry_of e)) c.index_mut-entry.ensures.value))
+    rw (← place, c.risen-entry.ensures, c.risen-entry-2.ensures) (counted-set c.args.now c.args.bytes es c.place_in-place.result _ c.index_mut-entry.result.now within (ap (λ (e : Entry). counted c.args.now c.args.bytes (entry_of e)) c.index_mut-entry.ensures.value))
 
 pub returns-clause-numbers : goal.returns-clause-numbers
 returns-clause-numbers c = map-set_same entry_number c.args.entries.now.items c.place_in-place.result _ c.index_mut-entry.result.now (ap entry_number c.index_mut-entry.ensures.value)

@@ -1,7 +1,9 @@
-use Rattle.std.proofs.Common.{◌≡◌, ◌<◌, ◌∙◌, refl, length, get_or}
-use Rattle.of_table.specs.Entries.{entry_of, row_of}
+use Rattle.std.proofs.Common.{ℕ, ◌∙◌, sym, ap}
+use Rattle.of_wire.specs.Numbered.{renewed}
+use Rattle.of_classifier.specs.Rows.{row_number}
+use Rattle.of_table.specs.Entries.{entry_of, rows_of}
 use Rattle.of_table.proofs.PlaceLemmas.{position_some}
-use Rattle.of_table.proofs.AddLemmas.{added_again, row_again, used_again, rows_again}
+use Rattle.of_table.proofs.AddLemmas.{flow_is, added_again, row_again, used_again, rows_again}
 use Rattle.of_table.specs.Table.{is_same}
 use Rattle.of_table.proofs.entries.move_last.Goals as goal
 
@@ -9,18 +11,18 @@ pub returns-clause-used : goal.returns-clause-used
 returns-clause-used c =
     let es = c.args.entries.now.items in
     let s = position_some (λ x. is_same c.args.flow (entry_of x)) es c.args.place c.requires.same in
-    used_again es c.args.place c.remove-entry.result s.1 c.remove-entry.ensures.value
+    rw c.replaced_entry-entry.ensures.number (used_again es c.args.place c.remove.result s.1 c.remove.ensures.value)
 
 pub returns-clause-rows : goal.returns-clause-rows
 returns-clause-rows c =
     let es = c.args.entries.now.items in
-    let e = c.remove-entry.result in
+    let e = c.remove.result in
+    let f = c.replaced_entry-entry.result in
     let s = position_some (λ x. is_same c.args.flow (entry_of x)) es c.args.place c.requires.same in
-    let same = row_again c.args.flow es c.args.place e (record e { flow = c.args.flow }) c.requires.same c.remove-entry.ensures.value refl refl in
-    rw (c.push_reserved.ensures, c.remove-entry.ensures.items) (rows_again es c.args.place e (record e { flow = c.args.flow }) c.requires.distinct s.1 c.remove-entry.ensures.value same)
+    let same = row_again c.args.flow es c.args.place e f c.requires.same c.remove.ensures.value c.replaced_entry-entry.ensures.number (flow_is c.args.now c.args.flow f (entry_of e) c.replaced_entry-entry.ensures.entry) in
+    rw (c.push_reserved.ensures.items, c.remove.ensures.items) (rows_again es c.args.place e f c.requires.distinct s.1 c.remove.ensures.value same ∙ ap (λ (n : ℕ). renewed row_number n (rows_of es)) (sym c.replaced_entry-entry.ensures.number))
 
 pub returns-clause-flows : goal.returns-clause-flows
 returns-clause-flows c =
     let es = c.args.entries.now.items in
-    let e = c.remove-entry.result in
-    rw (c.push_reserved.ensures, c.remove-entry.ensures.items) (added_again c.args.flow es c.args.place e (record e { flow = c.args.flow }) c.requires.same c.remove-entry.ensures.value refl)
+    rw (c.push_reserved.ensures.items, c.remove.ensures.items) (added_again c.args.now c.args.flow es c.args.place c.remove.result c.replaced_entry-entry.result c.requires.same c.remove.ensures.value c.replaced_entry-entry.ensures.entry)

@@ -1,7 +1,7 @@
 use Rattle.std.proofs.Common.{refl}
 use Rattle.std.proofs.lemmas.Result.{err_from_is_err_and}
 use Rattle.of_replay.specs.Rows.{row_of}
-use Rattle.of_replay.proofs.Lines.{line_kept, line_flushed, line_unwritten, line_before, line_halts, line_memory}
+use Rattle.of_replay.proofs.Lines.{line_kept, line_flushed, line_unwritten, line_before}
 use Rattle.of_replay.proofs.play.Player.line.Goals as goal
 
 pub returns-in_err-flush-clause-goes : goal.returns-in_err-flush-clause-goes

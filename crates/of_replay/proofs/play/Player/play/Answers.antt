@@ -1,6 +1,5 @@
-use Rattle.std.proofs.Common.{◌≡◌, ◌≤◌, ◌<◌, ◌+◌, ℕ, List, [], true, false, Err, refl, sym, ap, subst, ◌∙◌, arith}
+use Rattle.std.proofs.Common.{sym, arith}
 use Rattle.std.proofs.lemmas.Result.{err_from_is_err_and}
-use Rattle.of_replay.specs.Play.{LineGoes, Plays, lines_read}
 use Rattle.of_replay.proofs.Lines.{Over, go_on, go_halts, last_halts, over_last, over_open, over_ends}
 use Rattle.of_replay.proofs.play.Player.play.Goals as goal
 use Rattle.of_replay.proofs.play.Player.play.Goals.{then-ended+in_ok-line-2, else-ended}

@@ -1,5 +1,5 @@
 use Rattle.of_switch.specs.Steps.{gives}
-use Rattle.of_switch.proofs.Draining.{next_shorter, left_none, left_more, left_all}
+use Rattle.of_switch.proofs.Draining.{next_shorter, left_more, left_all}
 use Rattle.of_switch.proofs.engine.Engine.drain.Goals as goal
 
 pub returns-in-None : goal.returns-in-None

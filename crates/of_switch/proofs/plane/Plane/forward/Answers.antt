@@ -13,6 +13,6 @@ returns g c =
     let tallied = c.tally_all.new.self in
     let last = c.send_all.new.self in
     let whole : c.new.result ≡ c.args.bytes.now = c.new.ensures ∙ c.in_ok-to_vec.ensures.items_if_clones_equal (λ _ _ e. e) in
-    through_is c.args.number c.args.bytes.now now.table now.ports.items (contents ran.table ran.ports.items) _
-    c.in_ok-outcome.outcome.items.items c.in_ok-outcome.outcome.counts.items (forwarding_of tallied.table tallied.ports.items) (forwarding_of last.table last.ports.items) c.send_all.result
-    c.known.ensures (c.new-packet.ensures ∙ ap (λ (b : List ℕ). entering b c.args.number) whole) c.in_ok-outcome.ensures.items c.in_ok-outcome.ensures.counts c.run.ensures.content (c.tally_all.ensures ∙ ap (λ (cs : List Count). all_tallied (all_placed ran.table.entries cs) (forwarding_of ran.table ran.ports.items)) c.deref.ensures.value) c.send_all.ensures.effects c.send_all.ensures.forwarding
+    through_is c.args.number c.args.bytes.now now.tables now.ports.items (contents ran.tables ran.ports.items) _
+    c.in_ok-outcome.outcome.items.items c.in_ok-outcome.outcome.counts.items (forwarding_of tallied.tables tallied.ports.items) (forwarding_of last.tables last.ports.items) c.send_all.result
+    c.known.ensures.distinct (c.new-packet.ensures ∙ ap (λ (b : List ℕ). entering b c.args.number) whole) c.in_ok-outcome.ensures.items c.in_ok-outcome.ensures.counts c.run.ensures.content (c.tally_all.ensures ∙ ap (λ (cs : List Count). all_tallied (all_placed ran.tables cs) (forwarding_of ran.tables ran.ports.items)) c.deref.ensures.value) c.send_all.ensures.effects c.send_all.ensures.forwarding

@@ -6,5 +6,5 @@ use Rattle.of_switch.proofs.plane.Plane.send_all.Given as goal
 abbrev pub invariant-loop-item : goal.invariant-loop-item
 invariant-loop-item g l = record {
   effects : l.effects.items ≡ effects_of l.yielded;
-  forwarding : forwarding_of l.self.table l.self.ports.items ≡ all_sent l.yielded (forwarding_of l.fn.self.table l.fn.self.ports.items);
+  forwarding : forwarding_of l.self.tables l.self.ports.items ≡ all_sent l.yielded (forwarding_of l.fn.self.tables l.fn.self.ports.items);
 }

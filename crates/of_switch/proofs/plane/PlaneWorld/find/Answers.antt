@@ -1,14 +1,11 @@
-use Rattle.std.proofs.Common.{◌≡◌, ◌∙◌, sym, refl, ap, eqb, true, cond, None}
-use Rattle.std.specs.Option.{option_map}
 use Rattle.of_headers.specs.FieldMap.{value}
 use Rattle.of_table.specs.Table.{winner_place}
 use Rattle.of_table.specs.Entries.{flows_of}
-use Rattle.of_switch.specs.Numbers.{number_at}
+use Rattle.of_switch.specs.Numbers.{entries_at}
 use Rattle.of_switch.proofs.Worlds.{answer_is}
 use Rattle.of_switch.proofs.plane.PlaneWorld.find.Goals as goal
 
-pub returns-then-table-eq0-clause-found : goal.returns-then-table-eq0-clause-found
-returns-then-table-eq0-clause-found g c =
-    let es = c.args.self.now.table.entries in
-    let w = winner_place (value c.args.key.now) (flows_of es) in
-    rw c.if-table-eq0.true (answer_is es w c.lookup.result c.lookup.ensures.place c.lookup.ensures.there)
+pub returns-then-table-lt-TABLES-clause-found : goal.returns-then-table-lt-TABLES-clause-found
+returns-then-table-lt-TABLES-clause-found g c =
+    let es = entries_at c.args.self.now.tables c.args.table in
+    answer_is es (winner_place (value c.args.key.now) (flows_of es)) c.lookup.result c.lookup.ensures.place c.lookup.ensures.there

@@ -1,8 +1,8 @@
-use Rattle.of_switch.proofs.Worlds.{is_there_by, flow_is}
+use Rattle.of_switch.proofs.Worlds.{is_table, is_there_by}
 use Rattle.of_switch.proofs.plane.PlaneWorld.flow.Goals as goal
 
-pub flow-requires : goal.flow-requires
-flow-requires g c = is_there_by c.args.self.now.table c.args.table c.args.number c.requires
+pub flow-requires-clause-table : goal.flow-requires-clause-table
+flow-requires-clause-table g c = is_table c.args.self.now.tables c.args.table c.args.number c.known.ensures.sixteen c.requires
 
-pub returns : goal.returns
-returns g c = flow_is c.args.self.now.table c.args.table c.args.number _ c.requires c.flow.ensures
+pub flow-requires-clause-number : goal.flow-requires-clause-number
+flow-requires-clause-number g c = is_there_by c.args.self.now.tables c.args.table c.args.number c.requires

@@ -1,20 +1,24 @@
-use Rattle.std.proofs.Common.{◌≡◌, ◌≤◌, refl, sym, length}
-use Rattle.of_table.proofs.AddLemmas.{new_flow, old_flow, full_new}
+use Rattle.std.proofs.Common.{◌≡◌, ◌≤◌, sym, ◌∙◌, length, false}
+use Rattle.of_table.specs.Table.{is_overlapped}
+use Rattle.of_table.specs.Entries.{flows_of}
+use Rattle.of_table.proofs.AddLemmas.{new_flow, fault_full, fault_old}
 use Rattle.of_table.proofs.flow_table.FlowTable.add.Goals as goal
 
-pub returns-in-Some-clause-full : goal.returns-in-Some-clause-full
-returns-in-Some-clause-full g c =
+pub returns-in-Some-clause-fault : goal.returns-in-Some-clause-fault
+returns-in-Some-clause-fault g c =
     let es = c.self.inside.entries.items in
-    rw (← c.self.view_is, old_flow c.args.flow es c.in-Some.place (rw c.deref.ensures.value at (sym c.in-Some.ensures))) refl
+    let apart : is_overlapped c.args.flow (flows_of es) ≡ false = sym (rw c.deref.ensures.value at c.is_overlapped.ensures) ∙ c.if-is_overlapped.false in
+    rw (← c.self.view_is) (sym (fault_old c.args.flow es c.in-Some.place apart (rw c.deref-2.ensures.value at (sym c.in-Some.ensures))))
 
-pub returns-then-len-ge-MOST_ENTRIES-clause-full : goal.returns-then-len-ge-MOST_ENTRIES-clause-full
-returns-then-len-ge-MOST_ENTRIES-clause-full g c =
+pub returns-then-len-ge-MOST_ENTRIES-clause-fault : goal.returns-then-len-ge-MOST_ENTRIES-clause-fault
+returns-then-len-ge-MOST_ENTRIES-clause-fault g c =
     let es = c.self.inside.entries.items in
-    let same = rw c.deref.ensures.value at c.deref.ensures.len in
+    let apart : is_overlapped c.args.flow (flows_of es) ≡ false = sym (rw c.deref.ensures.value at c.is_overlapped.ensures) ∙ c.if-is_overlapped.false in
+    let same = rw c.deref-2.ensures.value at c.deref-2.ensures.len in
     let many : 4096 ≤ length es = rw same (rw c.len.ensures at c.if-len-ge-MOST_ENTRIES.true) in
-    rw (← c.self.view_is) (sym (full_new c.args.flow es (rw c.deref.ensures.value at (sym c.in-None.ensures)) many))
+    rw (← c.self.view_is) (sym (fault_full c.args.flow es apart (rw c.deref-2.ensures.value at (sym c.in-None.ensures)) many))
 
 pub append-requires : goal.append-requires
 append-requires g c =
     let es = c.self.inside.entries.items in
-    rw (← c.self.view_is) (new_flow c.args.flow es (rw c.deref.ensures.value at (sym c.in-None.ensures)))
+    rw (← c.self.view_is) (new_flow c.args.flow es (rw c.deref-2.ensures.value at (sym c.in-None.ensures)))

@@ -9,4 +9,4 @@ pub returns-clause-ok : goal.returns-clause-ok
 returns-clause-ok g c =
     let es = c.self.inside.entries.items in
     let new : list_any (is_same c.args.flow) (flows_of es) ≡ false = rw (← c.self.view_is) at c.requires in
-    rw (← c.self.view_is, c.push_reserved.ensures, c.reserve.ensures.items, added_new c.args.flow es (record { number = c.in_ok-number.number; flow = c.args.flow; packets = 0; bytes = 0 }) new refl) refl
+    rw (← c.self.view_is, c.push_reserved.ensures.items, c.reserve.ensures.items, added_new c.args.now c.args.flow es c.new_entry.result new c.new_entry.ensures.entry) refl

@@ -1,7 +1,6 @@
-use Rattle.std.proofs.Common.{◌≡◌, ◌<◌, ◌∙◌, refl, ap, length}
-use Rattle.std.specs.Prelude.{slice_get}
+use Rattle.std.proofs.Common.{◌≡◌, ◌<◌, ◌∙◌, refl, length}
 use Rattle.std.proofs.lemmas.Option.{slice_get_read}
-use Rattle.of_table.specs.Entries.{place_of, find_number}
+use Rattle.of_table.specs.Entries.{place_of}
 use Rattle.of_table.proofs.NumberLemmas.{found_number}
 use Rattle.of_table.proofs.flow_table.FlowTable.entry.Goals as goal
 

@@ -1,0 +1,34 @@
+//! Times one thing by the clock: `of_bench NAME` prints the time of a call and a checksum of the answers, and without a name nothing.
+#![tactic(auto)]
+
+mod clock;
+mod frames;
+mod headers;
+mod matching;
+mod switching;
+
+use std::{env, io};
+
+fn main(rt: HostRuntime) -> io::Result<()> {
+    let mut arguments = env::args(&rt)?;
+    let _program = arguments.next();
+    match arguments.next() {
+        None => Ok(()),
+        Some(name) => run(&rt, &name),
+    }
+}
+
+fn run(rt: &HostRuntime, name: &str) -> io::Result<()> {
+    match name {
+        "key" => headers::time_key(rt),
+        "matches" => matching::time_matches(rt),
+        "read_match" => matching::time_read_match(rt),
+        "flow_mod" => switching::time_flow_mod(rt),
+        "frame_scan" => switching::time_frame_scan(rt),
+        _ => {
+            println!(rt;
+                "of_bench: no such name; there are key, matches, read_match, flow_mod, frame_scan"
+            )
+        }
+    }
+}

@@ -1,0 +1,2 @@
+mod Reversed
+mod Older

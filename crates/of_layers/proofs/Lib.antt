@@ -1,0 +1,13 @@
+pub mod Table
+pub mod BitLemmas
+pub mod TagLemmas
+pub mod SpellingLemmas
+pub mod FrontLemmas
+pub mod TestLemmas
+pub mod ArpLemmas
+pub mod CarriedLemmas
+pub mod Ipv4Lemmas
+pub mod ChainLemmas
+pub mod Ipv6Lemmas
+pub mod BodyLemmas
+pub mod FrameLemmas

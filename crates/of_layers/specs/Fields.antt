@@ -1,0 +1,82 @@
+-- The match fields (OpenFlow 1.3.5, 7.2.3.7): their numbers, their bits, the bytes of a value,
+-- whether a mask may stand (7.2.3.5), whether a set-field action may set them (5.12), and what they need (7.2.3.6).
+use Rattle.std.specs.Prelude.{ℕ, ◌^◌, ◌-◌, Bool, true, false, ◌==◌, Option, find}
+use Rattle.of_layers.specs.declared.field.Field.{Field}
+use Rattle.of_layers.specs.declared.field.Field.TheVariants.{InPort, Metadata, EthDst, EthSrc, EthType, VlanVid, VlanPcp, IpDscp, IpEcn, IpProto, Ipv4Src, Ipv4Dst, TcpSrc, TcpDst, UdpSrc, UdpDst, Icmpv4Type, Icmpv4Code, ArpOp, ArpSpa, ArpTpa, ArpSha, ArpTha, Ipv6Src, Ipv6Dst, Ipv6Flabel, Icmpv6Type, Icmpv6Code}
+use Rattle.of_layers.specs.declared.field.Need.{Need}
+use Rattle.of_layers.specs.declared.field.Need.TheVariants.{Nothing, Tag, Ip, Ipv4, Ipv6, Arp, Tcp, Udp, Icmpv4, Icmpv6}
+use Rattle.of_layers.specs.declared.field.FieldRow.{FieldRow}
+use Rattle.of_layers.specs.declared.field.TheConstants.Field as constants
+
+-- words for the two columns of yes and no
+abbrev pub plain : Bool
+plain = false
+
+abbrev pub masks : Bool
+masks = true
+
+abbrev pub fixed : Bool
+fixed = false
+
+abbrev pub sets : Bool
+sets = true
+
+-- a value is at most a one in each bit
+abbrev pub row : ℕ → ℕ → ℕ → Bool → Bool → Need → FieldRow
+row number bits bytes maskable settable need = record { number = number; bits = bits; bytes = bytes; ones = 2 ^ bits - 1; maskable = maskable; settable = settable; need = need }
+
+-- the table: number, bits, bytes, mask, set-field, need
+unfoldable pub row_of : Field → FieldRow
+row_of InPort = row 0 32 4 plain fixed Nothing
+row_of Metadata = row 2 64 8 masks fixed Nothing
+row_of EthDst = row 3 48 6 masks sets Nothing
+row_of EthSrc = row 4 48 6 masks sets Nothing
+row_of EthType = row 5 16 2 plain fixed Nothing
+row_of VlanVid = row 6 13 2 masks sets Nothing
+row_of VlanPcp = row 7 3 1 plain sets Tag
+row_of IpDscp = row 8 6 1 plain sets Ip
+row_of IpEcn = row 9 2 1 plain sets Ip
+row_of IpProto = row 10 8 1 plain fixed Ip
+row_of Ipv4Src = row 11 32 4 masks sets Ipv4
+row_of Ipv4Dst = row 12 32 4 masks sets Ipv4
+row_of TcpSrc = row 13 16 2 plain sets Tcp
+row_of TcpDst = row 14 16 2 plain sets Tcp
+row_of UdpSrc = row 15 16 2 plain sets Udp
+row_of UdpDst = row 16 16 2 plain sets Udp
+row_of Icmpv4Type = row 19 8 1 plain sets Icmpv4
+row_of Icmpv4Code = row 20 8 1 plain sets Icmpv4
+row_of ArpOp = row 21 16 2 plain sets Arp
+row_of ArpSpa = row 22 32 4 masks sets Arp
+row_of ArpTpa = row 23 32 4 masks sets Arp
+row_of ArpSha = row 24 48 6 masks sets Arp
+row_of ArpTha = row 25 48 6 masks sets Arp
+row_of Ipv6Src = row 26 128 16 masks sets Ipv6
+row_of Ipv6Dst = row 27 128 16 masks sets Ipv6
+row_of Ipv6Flabel = row 28 20 4 masks sets Ipv6
+row_of Icmpv6Type = row 29 8 1 plain sets Icmpv6
+row_of Icmpv6Code = row 30 8 1 plain sets Icmpv6
+
+abbrev pub number_of : Field → ℕ
+number_of f = (row_of f).number
+
+abbrev pub bits_of : Field → ℕ
+bits_of f = (row_of f).bits
+
+abbrev pub bytes_of : Field → ℕ
+bytes_of f = (row_of f).bytes
+
+abbrev pub ones_of : Field → ℕ
+ones_of f = (row_of f).ones
+
+abbrev pub is_maskable : Field → Bool
+is_maskable f = (row_of f).maskable
+
+abbrev pub is_settable : Field → Bool
+is_settable f = (row_of f).settable
+
+abbrev pub need_of : Field → Need
+need_of f = (row_of f).need
+
+-- the field that has a number
+unfoldable pub field_at : ℕ → Option Field
+field_at n = find (λ f. number_of f == n) constants.ALL

@@ -1,0 +1,8 @@
+//! Where a field stands in a frame.
+
+/// Where a field stands in a frame: its first bit, counted from the frame's start, and how many bits it has.
+#[derive(Clone, Copy, Debug, PartialEq, Eq)]
+pub struct Place {
+    pub first: usize,
+    pub bits: usize,
+}

@@ -1,0 +1,14 @@
+pub mod Folding
+pub mod TagPut
+pub mod Changes
+pub mod Following
+pub mod Putting
+pub mod Going
+pub mod Finding
+pub mod Structure
+pub mod Standing
+pub mod Renewing
+pub mod Unset
+pub mod Narrow
+pub mod Parts
+pub mod Covering

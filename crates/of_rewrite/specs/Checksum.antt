@@ -1,0 +1,60 @@
+-- How a checksum follows a change of the words that it covers (RFC 1624, 3; UDP: RFC 768 and RFC 8200, 8.1).
+use Rattle.std.specs.Prelude.{◌≡◌, ℕ, zero, suc, ◌+◌, ◌-◌, ◌*◌, ◌%◌, ◌^◌, ◌<◌, Bool, false, not, ◌&&◌, ◌||◌, ◌==◌, if◌then◌else◌, List, [], ◌∷◌, length, take, drop, sum, slice_index}
+use Rattle.of_layers.specs.declared.transport.Transport.{Transport}
+use Rattle.of_layers.specs.declared.transport.Transport.TheVariants.{Nothing, Tcp, Udp, Icmpv4, Icmpv6}
+
+-- ---- the words of 16 bits that bits are, the highest bit of each first
+
+unfoldable pub number : List ℕ → ℕ
+number [] = 0
+number (b ∷ bs) = b * 2 ^ length bs + number bs
+
+unfoldable pub words_of : ℕ → List ℕ → List ℕ
+words_of zero s = []
+words_of (suc n) s = number (take 16 s) ∷ words_of n (drop 16 s)
+
+-- ---- sums in ones' complement
+
+-- a sum folded to 16 bits, its carries added until none is left
+abbrev pub fold : ℕ → ℕ
+fold s = if s == 0 then 0 else 1 + (s - 1) % 65535
+
+-- what a change of words adds: words that stay do not count
+abbrev pub change : List ℕ → List ℕ → ℕ
+change [] new = 0
+change (o ∷ old) [] = 0
+change (o ∷ old) (n ∷ new) = (if o == n then 0 else 65535 - o + n) + change old new
+
+-- the checksum after the change
+abbrev pub renewed : ℕ → List ℕ → List ℕ → ℕ
+renewed c old new = 65535 - fold (65535 - c + change old new)
+
+-- ---- UDP
+
+abbrev pub differ : List ℕ → List ℕ → Bool
+differ [] new = false
+differ (o ∷ old) [] = false
+differ (o ∷ old) (n ∷ new) = not (o == n) || differ old new
+
+-- a computed 0 is written 65535
+abbrev pub never_zero : ℕ → ℕ
+never_zero c = if c == 0 then 65535 else c
+
+-- where it may be left out, as over IPv4, a checksum of 0 was not computed
+abbrev pub udp_renewed : Bool → ℕ → List ℕ → List ℕ → ℕ
+udp_renewed may_lack c old new = if (may_lack && (c == 0)) || not (differ old new) then c else never_zero (renewed c old new)
+
+-- the checksum in the header of what an IP packet carries
+abbrev pub carried_renewed : Bool → Transport → ℕ → List ℕ → List ℕ → ℕ
+carried_renewed may_lack Udp = udp_renewed may_lack
+carried_renewed may_lack Nothing = renewed
+carried_renewed may_lack Tcp = renewed
+carried_renewed may_lack Icmpv4 = renewed
+carried_renewed may_lack Icmpv6 = renewed
+
+-- ---- what a checksum is for: with the other words it sums up to ones (RFC 1071, 1)
+abbrev pub IsRight : ℕ → List ℕ → Type 0
+IsRight c others = (0 < c + sum others) × ((c + sum others) % 65535 ≡ 0)
+
+abbrev pub AreWords : List ℕ → Type 0
+AreWords s = (i : ℕ) → slice_index s i < 65536

@@ -1,0 +1,17 @@
+//! Frames rewritten in place, with their checksums.
+#![tactic(auto)]
+
+mod bytes;
+mod checksum;
+mod frame;
+mod laws;
+mod renewal;
+mod rewrite;
+mod sums;
+mod tags;
+#[cfg(test)]
+mod tests;
+mod writing;
+
+pub use frame::{Frame, Ttl};
+pub use laws::stays_right;

@@ -1,0 +1,92 @@
+//! A number of a frame replaced, and its checksums renewed.
+
+ghost use Rattle.std.specs.Prelude.{ℕ, ◌≡◌, ◌≢◌, ◌+◌, ◌*◌, ◌/◌, ◌≤◌, ◌<◌, ◌^◌, length, Some};
+ghost use Rattle.of_layers.specs.Bits.{bits_of};
+ghost use Rattle.of_layers.specs.Layers.{cells, spelt, ttl};
+ghost use Rattle.of_layers.specs.Looking.{locate_at};
+ghost use Rattle.of_layers.specs.Reading.{layers_of};
+ghost use Rattle.of_headers.specs.Places.{layout_of};
+ghost use Rattle.of_rewrite.specs.Rewriting.{number_set, field_set};
+ghost use Rattle.of_rewrite.specs.Aging.{ttl_of};
+ghost use Rattle.of_rewrite.specs.Renewal.{ttl_at, packet_at};
+ghost use Rattle.of_rewrite.specs.Replaced.{Replaceable};
+
+use crate::bytes::all_bytes;
+use crate::renewal::{put_sums, sums_in};
+use crate::writing::put_number;
+use of_headers::{Layout, Network, layout_in};
+use of_layers::{Field, Place};
+
+/// Replaces the number of a place, and renews each checksum that covers it.
+pub fn set_number(bytes: &mut [u8], layout: Layout, place: Place, value: u128)
+    requires long { 14 ≤ length bytes.old }
+    requires layout { layout ≡ layout_of (layers_of bytes.old) }
+    requires most { place.bits ≤ 128 }
+    requires fits { place.first + place.bits < 2 ^ 64 }
+    requires room { (place.first + place.bits + 15) / 16 * 2 ≤ length bytes.old }
+    ensures { (name : ℕ) → Replaceable name → locate_at 0 name (cells (layers_of bytes.old)) ≡ Some place → bits_of bytes.new ≡ spelt (number_set name value (layers_of bytes.old)) }
+{
+    all_bytes(bytes);
+    let sums = sums_in(bytes, layout);
+    let sums = put_number(bytes, place, value, sums);
+    all_bytes(bytes);
+    put_sums(bytes, layout, sums);
+}
+
+/// Replaces a field, and renews each checksum that covers it. Where the frame has no such field nothing changes.
+pub fn set_field(bytes: &mut [u8], field: Field, value: u128)
+    requires long { 14 ≤ length bytes.old }
+    requires short { length bytes.old < 2 ^ 61 }
+    ensures { bits_of bytes.new ≡ spelt (field_set field value (layers_of bytes.old)) }
+{
+    all_bytes(bytes);
+    let layout = layout_in(bytes);
+    if let Some(place) = layout.place(field) {
+        set_number(bytes, layout, place, value);
+    }
+}
+
+/// The byte of IPv4's time to live or of IPv6's hop limit.
+fn ttl_byte(layout: Layout) -> Option<usize>
+    requires { packet_at layout < 2 ^ 62 }
+    ensures { result ≡ ttl_at (packet_at layout) layout.network }
+{
+    let at = 14 + 4 * layout.tags;
+    match layout.network {
+        Network::Plain | Network::Arp => None,
+        Network::Ipv4(_) => Some(at + 8),
+        Network::Ipv6(..) => Some(at + 7),
+    }
+}
+
+/// Replaces IPv4's time to live or IPv6's hop limit, and renews the checksum of an IPv4 header. Without an IP layer nothing changes.
+pub fn set_ttl(bytes: &mut [u8], value: u8)
+    requires long { 14 ≤ length bytes.old }
+    requires short { length bytes.old < 2 ^ 61 }
+    ensures { bits_of bytes.new ≡ spelt (number_set ttl value (layers_of bytes.old)) }
+{
+    all_bytes(bytes);
+    let layout = layout_in(bytes);
+    if let Some(at) = ttl_byte(layout) {
+        let place = Place {
+            first: 8 * at,
+            bits: 8,
+        };
+        set_number(bytes, layout, place, u128::from(value));
+    }
+}
+
+/// IPv4's time to live or IPv6's hop limit, if the frame has an IP layer.
+pub fn ttl_in(bytes: &[u8]) -> Option<u8>
+    requires long { 14 ≤ length bytes.now }
+    requires short { length bytes.now < 2 ^ 61 }
+    ensures value { result ≡ ttl_of (layers_of bytes.now) }
+    ensures spelt { bits_of bytes.now ≡ spelt (cells (layers_of bytes.now)) }
+{
+    all_bytes(bytes);
+    let layout = layout_in(bytes);
+    match ttl_byte(layout) {
+        Some(at) => Some(bytes[at]),
+        None => None,
+    }
+}

@@ -1,0 +1,125 @@
+-- What a FLOW_MOD does to the flow tables (OpenFlow 1.3.5, 6.4 and 7.3.4.1), and the notices of entries that went (7.4.2).
+use Rattle.std.specs.Prelude.{ℕ, ◌-◌, ◌/◌, ◌%◌, ◌^◌, ◌==◌, ◌&&◌, nat_le, bit_and, Bool, true, false, not, List, [], ◌∷◌, map, Option, Some, None, if◌then◌else◌}
+use Rattle.of_wire.specs.declared.code.Code.{Code}
+use Rattle.of_wire.specs.Refusals.{refusal}
+use Rattle.of_messages.specs.declared.message.FlowMod.{FlowMod}
+use Rattle.of_messages.specs.declared.message.FlowModCommand.{FlowModCommand}
+use Rattle.of_messages.specs.declared.message.FlowModCommand.TheVariants.{Add, Modify, ModifyStrict, Delete, DeleteStrict}
+use Rattle.of_messages.specs.declared.message.FlowRemoved.{FlowRemoved}
+use Rattle.of_messages.specs.declared.message.FlowRemovedReason.{FlowRemovedReason}
+use Rattle.of_messages.specs.declared.message.FlowRemovedReason.TheVariants as wire
+use Rattle.of_messages.specs.Messages.{is_delete}
+use Rattle.of_messages.specs.Written.{flow_removed_bytes}
+use Rattle.of_table.specs.declared.flow.Flow.{Flow}
+use Rattle.of_table.specs.declared.flow.FlowFlags.{FlowFlags}
+use Rattle.of_table.specs.declared.selection.Which.{Which}
+use Rattle.of_table.specs.declared.selection.Cause.TheVariants.{Command}
+use Rattle.of_table.specs.declared.selection.RemovedReason.{RemovedReason}
+use Rattle.of_table.specs.declared.selection.RemovedReason.TheVariants as reason
+use Rattle.of_table.specs.Table.{is_overlapped, is_full}
+use Rattle.of_table.specs.Selecting.{Notice}
+use Rattle.of_table.specs.Tables.{Tables, table_at, added_to, modified_in, left_in, notices_in}
+use Rattle.of_switch.specs.declared.effect.Effect.{Effect}
+use Rattle.of_switch.specs.declared.effect.Effect.TheVariants.{Answer}
+
+-- ---- the flow, and the entries that a command is for
+
+-- the flags of a FLOW_MOD, bit by bit
+abbrev pub has_flag : ℕ → ℕ → Bool
+has_flag flags flag = not (bit_and flags flag == 0)
+
+abbrev pub flags_of : ℕ → FlowFlags
+flags_of flags = record { send_removed = has_flag flags 1; check_overlap = has_flag flags 2; reset_counts = has_flag flags 4; no_packet_counts = has_flag flags 8; no_byte_counts = has_flag flags 16 }
+
+abbrev pub flow_of : FlowMod → Flow
+flow_of m = record { fields = m.fields; priority = m.priority; cookie = m.cookie; idle_timeout = m.idle_timeout; hard_timeout = m.hard_timeout; flags = flags_of m.flags; instructions = m.instructions }
+
+abbrev pub is_add : FlowModCommand → Bool
+is_add Add = true
+is_add Modify = false
+is_add ModifyStrict = false
+is_add Delete = false
+is_add DeleteStrict = false
+
+abbrev pub is_strict : FlowModCommand → Bool
+is_strict Add = false
+is_strict Modify = false
+is_strict ModifyStrict = true
+is_strict Delete = false
+is_strict DeleteStrict = true
+
+-- a number that may stand for any: OFPTT_ALL, OFPP_ANY and OFPG_ANY are all ones
+abbrev pub unless_any : ℕ → ℕ → Option ℕ
+unless_any any n = if n == any then None else Some n
+
+-- DELETE alone looks at out_port and out_group
+abbrev pub out_of : FlowModCommand → ℕ → Option ℕ
+out_of command n = if is_delete command then unless_any 0xffffffff n else None
+
+abbrev pub which_of : FlowMod → Which
+which_of m = record {
+  table = unless_any 255 m.table;
+  fields = m.fields;
+  priority = if is_strict m.command then Some m.priority else None;
+  cookie = m.cookie;
+  cookie_mask = m.cookie_mask;
+  out_port = out_of m.command m.out_port;
+  out_group = out_of m.command m.out_group;
+}
+
+-- ---- what is refused, in order
+
+-- no packet is buffered, so each buffer but none (all ones) is unknown (7.4.4: 1/8), and DELETE does not look at it; of an ADD: the table is not there (5/2), an entry overlaps the flow (5/3), the table is full (5/1)
+abbrev pub flow_mod_refusals : FlowMod → Tables → List (Bool × Code)
+flow_mod_refusals m ts =
+    (not (is_delete m.command) && not (m.buffer == 0xffffffff), refusal 1 8)
+    ∷ (is_add m.command && nat_le 16 m.table, refusal 5 2)
+    ∷ (is_add m.command && is_overlapped (flow_of m) (table_at m.table ts).flows, refusal 5 3)
+    ∷ (is_add m.command && is_full (flow_of m) (table_at m.table ts).flows, refusal 5 1)
+    ∷ []
+
+-- ---- what is done
+
+-- the tables after a command
+abbrev pub commanded_by : FlowModCommand → FlowMod → Tables → Tables
+commanded_by Add m ts = added_to m.table (flow_of m) ts
+commanded_by Modify m ts = modified_in (which_of m) m.instructions (has_flag m.flags 4) ts
+commanded_by ModifyStrict m ts = modified_in (which_of m) m.instructions (has_flag m.flags 4) ts
+commanded_by Delete m ts = left_in (Command (which_of m)) ts
+commanded_by DeleteStrict m ts = left_in (Command (which_of m)) ts
+
+abbrev pub commanded : FlowMod → Tables → Tables
+commanded m ts = commanded_by m.command m ts
+
+-- the notices that a command gives
+abbrev pub command_notices : FlowMod → Tables → List Notice
+command_notices m ts = if is_delete m.command then notices_in (Command (which_of m)) ts else []
+
+-- ---- FLOW_REMOVED
+
+abbrev pub wire_reason : RemovedReason → FlowRemovedReason
+wire_reason reason.IdleTimeout = wire.IdleTimeout
+wire_reason reason.HardTimeout = wire.HardTimeout
+wire_reason reason.Delete = wire.Delete
+
+-- of an entry that went now; the seconds are cut to 32 bits
+abbrev pub removed_of : ℕ → Notice → FlowRemoved
+removed_of now n = record {
+  cookie = n.entry.flow.cookie;
+  priority = n.entry.flow.priority;
+  reason = wire_reason n.reason;
+  table = n.table;
+  duration_sec = (now - n.entry.created) / 1000000000 % 2 ^ 32;
+  duration_nsec = (now - n.entry.created) % 1000000000;
+  idle_timeout = n.entry.flow.idle_timeout;
+  hard_timeout = n.entry.flow.hard_timeout;
+  packets = n.entry.packets;
+  bytes = n.entry.bytes;
+}
+
+-- a message that the switch begins has the transaction id 0
+abbrev pub notice_effect : ℕ → Notice → Effect
+notice_effect now n = Answer (flow_removed_bytes 0 (removed_of now n) n.entry.flow.fields)
+
+abbrev pub notice_effects : ℕ → List Notice → List Effect
+notice_effects now ns = map (notice_effect now) ns

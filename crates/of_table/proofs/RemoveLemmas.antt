@@ -1,0 +1,108 @@
+-- Entries after one more of them was looked at, and taken if it goes.
+use Rattle.std.proofs.Common.{◌≡◌, ℕ, ◌+◌, ◌<◌, Bool, true, false, cond, ◌&&◌, eqb, List, [], ◌∷◌, ◌++◌, length, get_or, take, drop, Option, Some, None, refl, sym, ap, ◌∙◌, arith, append_assoc}
+use Rattle.std.specs.Prelude.{is_none}
+use Rattle.std.specs.List.{list_all}
+use Rattle.std.specs.Option.{option_to_list}
+use Rattle.std.proofs.lemmas.Bool.Decides.{nat_tests}
+use Rattle.std.proofs.lemmas.List.{map-append, append-nil, drop_more, take_more}
+use Rattle.std.proofs.lemmas.List.Elements.{filter-append}
+use Rattle.of_wire.specs.Numbered.{is_used, is_distinct, without}
+use Rattle.of_wire.proofs.NumberedLemmas.{without_unused}
+use Rattle.of_classifier.specs.Rows.{row_number}
+use Rattle.of_table.specs.Table.{FlowEntry}
+use Rattle.of_table.specs.Entries.{entry_of, flows_of, row_of, rows_of}
+use Rattle.of_table.specs.Selecting.{stays, left, reason_of, notice_by, notices, kept_of}
+use Rattle.of_table.specs.declared.selection.RemovedReason.{RemovedReason}
+use Rattle.of_table.specs.declared.selection.Cause.{Cause}
+use Rattle.of_table.specs.declared.entry.Entry.{Entry}
+
+-- an element stands between others
+used_between : {X : Type 0} (f : X → ℕ) (xs ys : List X) (x : X) → is_used f (f x) (xs ++ x ∷ ys) ≡ true
+used_between f [] ys x = grind (arith, nat_tests)
+used_between f (y ∷ xs) ys x = let rest = used_between f xs ys x in grind (arith, nat_tests, rest)
+
+-- where numbers are distinct, it alone has its number
+without_between : {X : Type 0} (f : X → ℕ) (xs ys : List X) (x : X) → is_distinct f (xs ++ x ∷ ys) ≡ true → without f (f x) (xs ++ x ∷ ys) ≡ xs ++ ys
+without_between f [] ys x h =
+    let unused : is_used f (f x) ys ≡ false = grind (arith, nat_tests, h) in
+    let same : eqb (f x) (f x) ≡ true = grind (arith, nat_tests) in
+    rw same (without_unused f (f x) ys unused)
+without_between {X} f (y ∷ xs) ys x h =
+    let rest : is_distinct f (xs ++ x ∷ ys) ≡ true = grind (arith, nat_tests, h) in
+    let used = used_between f xs ys x in
+    let apart : eqb (f y) (f x) ≡ false = apart_by (eqb (f y) (f x)) refl h in
+    rw apart (ap (λ (zs : List X). y ∷ zs) (without_between f xs ys x rest))
+  where
+    apart_by : (b : Bool) → eqb (f y) (f x) ≡ b → is_distinct f (y ∷ (xs ++ x ∷ ys)) ≡ true → b ≡ false
+    apart_by true e d =
+        let same : f y ≡ f x = grind (arith, nat_tests, e) in
+        let used : is_used f (f y) (xs ++ x ∷ ys) ≡ true = rw same (used_between f xs ys x) in
+        let never : true ≡ false = grind (arith, nat_tests, used, d) in
+        never
+    apart_by false e d = refl
+
+-- the entries of which so many were looked at: those of them that stay, and the others
+abbrev pub looked_to : Cause → ℕ → List Entry → List Entry
+looked_to cause i es = kept_of cause (take i es) ++ drop i es
+
+-- among entries k and r, the one between them stays or goes
+between : (b : Bool) (k r : List Entry) (e : Entry) → is_distinct row_number (rows_of (k ++ e ∷ r)) ≡ true →
+    cond b (rows_of (k ++ e ∷ r)) (without row_number e.number (rows_of (k ++ e ∷ r))) ≡ rows_of ((k ++ cond b (e ∷ []) []) ++ r)
+between true k r e distinct = ap rows_of (sym (append_assoc k (e ∷ []) r))
+between false k r e distinct =
+    let parts : rows_of (k ++ e ∷ r) ≡ rows_of k ++ row_of e ∷ rows_of r = map-append row_of k (e ∷ r) in
+    let apart : is_distinct row_number (rows_of k ++ row_of e ∷ rows_of r) ≡ true = rw parts at distinct in
+    ap (without row_number e.number) parts ∙ without_between row_number (rows_of k) (rows_of r) (row_of e) apart ∙ sym (map-append row_of k r)
+    ∙ ap (λ (zs : List Entry). rows_of (zs ++ r)) (sym (append-nil k))
+
+-- the entry that stands next is taken if it goes
+pub looked_more : (cause : Cause) (es : List Entry) (i : ℕ) (e d : Entry) → i < length es → e ≡ get_or es i d → is_distinct row_number (rows_of (looked_to cause i es)) ≡ true →
+    cond (stays cause (entry_of e)) (rows_of (looked_to cause i es)) (without row_number e.number (rows_of (looked_to cause i es))) ≡ rows_of (looked_to cause (i + 1) es)
+looked_more cause es i e d lt at distinct =
+    let next : drop i es ≡ e ∷ drop (i + 1) es = drop_more es i d lt ∙ ap (λ (x : Entry). x ∷ drop (i + 1) es) (sym at) in
+    let taken : take (i + 1) es ≡ take i es ++ e ∷ [] = take_more es i d lt ∙ ap (λ (x : Entry). take i es ++ x ∷ []) (sym at) in
+    let before : looked_to cause i es ≡ kept_of cause (take i es) ++ e ∷ drop (i + 1) es = ap (λ (xs : List Entry). kept_of cause (take i es) ++ xs) next in
+    let after : looked_to cause (i + 1) es ≡ (kept_of cause (take i es) ++ kept_of cause (e ∷ [])) ++ drop (i + 1) es =
+    ap (λ (xs : List Entry). xs ++ drop (i + 1) es) (ap (kept_of cause) taken ∙ filter-append (λ x. stays cause (entry_of x)) (take i es) (e ∷ [])) in
+    let apart : is_distinct row_number (rows_of (kept_of cause (take i es) ++ e ∷ drop (i + 1) es)) ≡ true = rw before at distinct in
+    (λ j. cond (stays cause (entry_of e)) (rows_of (before j)) (without row_number e.number (rows_of (before j))))
+    ∙ between (stays cause (entry_of e)) (kept_of cause (take i es)) (drop (i + 1) es) e apart ∙ ap rows_of (sym after)
+
+-- ---- the same without the numbers
+
+pub flows_left : (cause : Cause) (es : List Entry) → flows_of (kept_of cause es) ≡ left cause (flows_of es)
+flows_left cause [] = refl
+flows_left cause (e ∷ es) = by_test (stays cause (entry_of e)) (flows_left cause es)
+  where
+    by_test : (b : Bool) → flows_of (kept_of cause es) ≡ left cause (flows_of es) → flows_of (cond b (e ∷ kept_of cause es) (kept_of cause es)) ≡ cond b (entry_of e ∷ left cause (flows_of es)) (left cause (flows_of es))
+    by_test true ih = ap (λ (fs : List FlowEntry). entry_of e ∷ fs) ih
+    by_test false ih = ih
+
+-- where all stay, nothing changes and there is no notice
+pub all_left : (cause : Cause) (es : List Entry) → list_all (λ e. stays cause (entry_of e)) es ≡ true → flows_of es ≡ left cause (flows_of es)
+all_left cause [] h = refl
+all_left cause (e ∷ es) h = by_test (stays cause (entry_of e)) h (all_left cause es)
+  where
+    by_test : (b : Bool) → (b && list_all (λ x. stays cause (entry_of x)) es) ≡ true → (list_all (λ x. stays cause (entry_of x)) es ≡ true → flows_of es ≡ left cause (flows_of es)) →
+        entry_of e ∷ flows_of es ≡ cond b (entry_of e ∷ left cause (flows_of es)) (left cause (flows_of es))
+    by_test true g ih = ap (λ (fs : List FlowEntry). entry_of e ∷ fs) (ih g)
+    by_test false g ih = absurd cc
+
+none_by : (table : ℕ) (e : FlowEntry) (reason : Option RemovedReason) → is_none reason ≡ true → option_to_list (notice_by table e reason) ≡ []
+none_by table e None h = refl
+none_by table e (Some reason) h = absurd cc
+
+pub no_notices : (cause : Cause) (table : ℕ) (es : List Entry) → list_all (λ e. stays cause (entry_of e)) es ≡ true → notices cause table (flows_of es) ≡ []
+no_notices cause table [] h = refl
+no_notices cause table (e ∷ es) h =
+    let stays_here : stays cause (entry_of e) ≡ true = and_first (stays cause (entry_of e)) (list_all (λ x. stays cause (entry_of x)) es) h in
+    let others : list_all (λ x. stays cause (entry_of x)) es ≡ true = and_second (stays cause (entry_of e)) (list_all (λ x. stays cause (entry_of x)) es) h in
+    (λ j. none_by table (entry_of e) (reason_of cause (entry_of e)) stays_here j ++ no_notices cause table es others j)
+  where
+    and_first : (a b : Bool) → (a && b) ≡ true → a ≡ true
+    and_first true b g = refl
+    and_first false b g = absurd cc
+
+    and_second : (a b : Bool) → (a && b) ≡ true → b ≡ true
+    and_second true b g = g
+    and_second false b g = absurd cc

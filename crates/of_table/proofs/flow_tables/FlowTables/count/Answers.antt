@@ -1,0 +1,22 @@
+use Rattle.std.proofs.Common.{◌≡◌, ℕ, ◌<◌, ◌∙◌, length, arith, ap}
+use Rattle.std.specs.Prelude.{slice_index_or}
+use Rattle.of_table.specs.Table.{matched_at}
+use Rattle.of_table.specs.Entries.{Numbered, no_entries, table_of, place_of}
+use Rattle.of_table.proofs.TablesLemmas.{table_is, tables_set, numbers_set}
+use Rattle.of_table.proofs.flow_tables.FlowTables.count.Goals as goal
+
+pub returns-clause-tables : goal.returns-clause-tables
+returns-clause-tables g c =
+    let ns = c.self.inside.tables.items in
+    let within : c.args.table < length ns = omega (arith, c.requires, c.self.invariant) in
+    let old : c.index_mut.result.now ≡ slice_index_or ns c.args.table no_entries = table_is ns c.args.table c.index_mut.result.now _ within c.index_mut.ensures.value in
+    let place : ℕ = place_of c.args.number (slice_index_or ns c.args.table no_entries).entries in
+    let counted : table_of c.count.new.self ≡ matched_at c.self.inside.latest (place_of c.args.number (slice_index_or ns c.args.table no_entries).entries) c.args.bytes (table_of c.index_mut.result.now) =
+    c.count.ensures.table ∙ ap (λ (t : Numbered). matched_at c.self.inside.latest (place_of c.args.number t.entries) c.args.bytes (table_of c.index_mut.result.now)) old in
+    rw (← c.self.view_is) (tables_set ns c.args.table c.self.inside.latest c.index_mut.result.now c.count.new.self _ (matched_at c.self.inside.latest place c.args.bytes) within c.index_mut.ensures.value counted)
+
+pub returns-clause-numbers : goal.returns-clause-numbers
+returns-clause-numbers g c =
+    let ns = c.self.inside.tables.items in
+    let within : c.args.table < length ns = omega (arith, c.requires, c.self.invariant) in
+    rw (← c.self.view_is) (numbers_set ns c.args.table c.self.inside.latest c.index_mut.result.now c.count.new.self _ within c.index_mut.ensures.value c.count.ensures.numbers)

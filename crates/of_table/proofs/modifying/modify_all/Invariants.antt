@@ -1,0 +1,11 @@
+use Rattle.std.proofs.Common.{◌≡◌}
+use Rattle.of_wire.proofs.Changing.{changed_to}
+use Rattle.of_table.specs.Entries.{flows_of, rows_of}
+use Rattle.of_table.specs.Selecting.{modified_by}
+use Rattle.of_table.proofs.modifying.modify_all.Given as goal
+
+abbrev pub invariant-loop-entry : goal.invariant-loop-entry
+invariant-loop-entry l = record {
+  rows : rows_of l.entries ≡ rows_of l.initial.entries;
+  flows : flows_of l.entries ≡ changed_to (modified_by l.which l.instructions l.reset) l.entry-index (flows_of l.initial.entries);
+}

@@ -1,0 +1,120 @@
+-- Which entries a command is for, and which go at a moment (OpenFlow 1.3.5, 5.5 and 6.4).
+use Rattle.std.specs.Prelude.{ℕ, ◌-◌, ◌*◌, ◌==◌, ◌&&◌, nat_le, not, Bool, true, false, List, map, filter, Option, Some, None, is_none, unwrap_or, bit_and, if◌then◌else◌}
+use Rattle.std.specs.List.{list_any, flat_map}
+use Rattle.std.specs.Option.{option_map_or, option_to_list}
+use Rattle.of_actions.specs.declared.action.Action.{Action}
+use Rattle.of_actions.specs.declared.action.Action.TheVariants.{Output}
+use Rattle.of_actions.specs.declared.instruction.Instruction.{Instruction}
+use Rattle.of_actions.specs.declared.instruction.Instruction.TheVariants.{Apply}
+use Rattle.of_oxm.specs.Relations.{covers_match}
+use Rattle.of_oxm.specs.SameMatch.{is_same_match}
+use Rattle.of_table.specs.declared.selection.Which.{Which}
+use Rattle.of_table.specs.declared.selection.Cause.{Cause}
+use Rattle.of_table.specs.declared.selection.Cause.TheVariants.{Command, Moment}
+use Rattle.of_table.specs.declared.selection.RemovedReason.{RemovedReason}
+use Rattle.of_table.specs.declared.selection.RemovedReason.TheVariants.{IdleTimeout, HardTimeout, Delete}
+use Rattle.of_table.specs.declared.selection.Removed.{Removed}
+use Rattle.of_table.specs.declared.entry.Entry.{Entry}
+use Rattle.of_table.specs.Table.{FlowEntry, unless_reset}
+use Rattle.of_table.specs.Entries.{entry_of}
+
+-- ---- which entries a command is for (6.4)
+
+-- the match covers the entry's; or, of a strict command, match and priority are the entry's
+abbrev pub is_meant_by : Option ℕ → Which → FlowEntry → Bool
+is_meant_by None w e = covers_match w.fields e.flow.fields
+is_meant_by (Some priority) w e = e.flow.priority == priority && is_same_match e.flow.fields w.fields
+
+abbrev pub is_meant : Which → FlowEntry → Bool
+is_meant w e = is_meant_by w.priority w e
+
+-- the cookies agree in the bits of the mask
+abbrev pub has_cookie : Which → FlowEntry → Bool
+has_cookie w e = bit_and e.flow.cookie w.cookie_mask == bit_and w.cookie w.cookie_mask
+
+abbrev pub is_output_to : ℕ → Action → Bool
+is_output_to port (Output to max_len) = to == port
+
+abbrev pub sends_to : ℕ → Instruction → Bool
+sends_to port (Apply actions) = list_any (is_output_to port) actions
+
+-- no port is asked for, or some action sends to it
+abbrev pub passes_port : Which → FlowEntry → Bool
+passes_port w e = option_map_or (λ port. list_any (sends_to port) e.flow.instructions) w.out_port true
+
+-- no action names a group so far
+abbrev pub names_group : ℕ → Instruction → Bool
+names_group group (Apply actions) = false
+
+-- no group is asked for, or some action sends to it
+abbrev pub passes_group : Which → FlowEntry → Bool
+passes_group w e = option_map_or (λ group. list_any (names_group group) e.flow.instructions) w.out_group true
+
+abbrev pub selects : Which → FlowEntry → Bool
+selects w e = is_meant w e && has_cookie w e && passes_port w e && passes_group w e
+
+-- ---- MODIFY
+
+abbrev pub modified_entry : List Instruction → Bool → FlowEntry → FlowEntry
+modified_entry instructions reset e = record e { flow = record e.flow { instructions = instructions }; packets = unless_reset reset e.packets; bytes = unless_reset reset e.bytes }
+
+-- the entries that it is for get the instructions; all else stays
+abbrev pub modified_by : Which → List Instruction → Bool → FlowEntry → FlowEntry
+modified_by w instructions reset e = if selects w e then modified_entry instructions reset e else e
+
+abbrev pub modified : Which → List Instruction → Bool → List FlowEntry → List FlowEntry
+modified w instructions reset flows = map (modified_by w instructions reset) flows
+
+-- ---- what goes (5.5)
+
+-- so many seconds passed since a moment
+abbrev pub has_passed : ℕ → ℕ → ℕ → Bool
+has_passed now since seconds = nat_le (1000000000 * seconds) (now - since)
+
+-- a timeout of 0 is none
+abbrev pub is_over : ℕ → ℕ → ℕ → Bool
+is_over now since seconds = not (seconds == 0) && has_passed now since seconds
+
+-- the hard timeout counts from the adding, the idle one from the last packet
+abbrev pub timeout_reason : ℕ → FlowEntry → Option RemovedReason
+timeout_reason now e =
+    if is_over now e.created e.flow.hard_timeout then Some HardTimeout
+    else if is_over now (unwrap_or e.last e.created) e.flow.idle_timeout then Some IdleTimeout
+    else None
+
+-- why an entry goes, or that it stays
+abbrev pub reason_of : Cause → FlowEntry → Option RemovedReason
+reason_of (Command w) e = if selects w e then Some Delete else None
+reason_of (Moment now) e = timeout_reason now e
+
+abbrev pub stays : Cause → FlowEntry → Bool
+stays cause e = is_none (reason_of cause e)
+
+-- the entries that stay, in order
+abbrev pub left : Cause → List FlowEntry → List FlowEntry
+left cause flows = filter (stays cause) flows
+
+-- a notice of an entry that went
+pub record Notice : Type 0 where
+  pub table : ℕ
+  pub reason : RemovedReason
+  pub entry : FlowEntry
+
+-- it is given where the entry's flags ask for it
+abbrev pub notice_by : ℕ → FlowEntry → Option RemovedReason → Option Notice
+notice_by table e None = None
+notice_by table e (Some reason) = if e.flow.flags.send_removed then Some (record { table = table; reason = reason; entry = e }) else None
+
+abbrev pub notices : Cause → ℕ → List FlowEntry → List Notice
+notices cause table flows = flat_map (λ e. option_to_list (notice_by table e (reason_of cause e))) flows
+
+-- the entries that stay, with their numbers
+abbrev pub kept_of : Cause → List Entry → List Entry
+kept_of cause entries = filter (λ e. stays cause (entry_of e)) entries
+
+-- notices without the numbers
+abbrev pub notice_of : Removed → Notice
+notice_of r = record { table = r.table; reason = r.reason; entry = entry_of r.entry }
+
+abbrev pub notices_of : List Removed → List Notice
+notices_of removed = map notice_of removed

@@ -1,0 +1,108 @@
+-- The sixteen flow tables of the switch (OpenFlow 1.3.5, 5.1), and the latest moment that they know of.
+use Rattle.std.specs.Prelude.{ℕ, suc, ◌==◌, nat_le, max, Bool, true, List, [], ◌∷◌, ◌++◌, map, replicate, slice_set, slice_index_or, Option, Some, if◌then◌else◌}
+use Rattle.std.specs.Option.{option_map_or}
+use Rattle.of_actions.specs.declared.instruction.Instruction.{Instruction}
+use Rattle.of_table.specs.declared.flow.Flow.{Flow}
+use Rattle.of_table.specs.declared.table_fault.TableFault.{TableFault}
+use Rattle.of_table.specs.declared.table_fault.TableFault.TheVariants.{BadTable}
+use Rattle.of_table.specs.declared.selection.Which.{Which}
+use Rattle.of_table.specs.declared.selection.Cause.{Cause}
+use Rattle.of_table.specs.declared.selection.Cause.TheVariants.{Command, Moment}
+use Rattle.of_table.specs.Table.{Table, empty_table, added, add_fault, looked, matched_at}
+use Rattle.of_table.specs.Selecting.{Notice, modified, left, notices}
+use Rattle.of_table.specs.Entries.{Numbered, no_entries, table_of, numbers_of}
+
+-- ---- as a reader sees them
+
+pub record Tables : Type 0 where
+  pub tables : List Table
+  pub latest : ℕ
+
+-- a table by its number
+abbrev pub table_at : ℕ → Tables → Table
+table_at k ts = slice_index_or ts.tables k empty_table
+
+abbrev pub with_table : ℕ → Table → Tables → Tables
+with_table k t ts = record ts { tables = slice_set ts.tables k t }
+
+-- ADD: the number is looked at first
+abbrev pub tables_fault : ℕ → Flow → Tables → Option TableFault
+tables_fault k flow ts = if nat_le 16 k then Some BadTable else add_fault flow (table_at k ts).flows
+
+abbrev pub added_to : ℕ → Flow → Tables → Tables
+added_to k flow ts = with_table k (record (table_at k ts) { flows = added ts.latest flow (table_at k ts).flows }) ts
+
+-- a command is for one table, or for all
+abbrev pub is_in : Option ℕ → ℕ → Bool
+is_in table k = option_map_or (λ t. t == k) table true
+
+-- each table, from number k on, changed by its number
+abbrev pub each_from : (ℕ → Table → Table) → ℕ → List Table → List Table
+each_from f k [] = []
+each_from f k (t ∷ ts) = f k t ∷ each_from f (suc k) ts
+
+abbrev pub modified_table : Which → List Instruction → Bool → ℕ → Table → Table
+modified_table w instructions reset k t = if is_in w.table k then record t { flows = modified w instructions reset t.flows } else t
+
+abbrev pub modified_in : Which → List Instruction → Bool → Tables → Tables
+modified_in w instructions reset ts = record ts { tables = each_from (modified_table w instructions reset) 0 ts.tables }
+
+-- a moment is for all tables
+abbrev pub concerns : Cause → ℕ → Bool
+concerns (Command w) k = is_in w.table k
+concerns (Moment now) k = true
+
+abbrev pub left_table : Cause → ℕ → Table → Table
+left_table cause k t = if concerns cause k then record t { flows = left cause t.flows } else t
+
+abbrev pub left_in : Cause → Tables → Tables
+left_in cause ts = record ts { tables = each_from (left_table cause) 0 ts.tables }
+
+-- by table, then by age
+abbrev pub table_notices : Cause → ℕ → Table → List Notice
+table_notices cause k t = if concerns cause k then notices cause k t.flows else []
+
+abbrev pub notices_from : Cause → ℕ → List Table → List Notice
+notices_from cause k [] = []
+notices_from cause k (t ∷ ts) = table_notices cause k t ++ notices_from cause (suc k) ts
+
+abbrev pub notices_in : Cause → Tables → List Notice
+notices_in cause ts = notices_from cause 0 ts.tables
+
+-- a moment below the latest counts as the latest
+abbrev pub at_moment : ℕ → Tables → Tables
+at_moment now ts = record ts { latest = max ts.latest now }
+
+-- entries whose time is over go
+abbrev pub expired : ℕ → Tables → Tables
+expired now ts = left_in (Moment (max ts.latest now)) (at_moment now ts)
+
+abbrev pub expiry_notices : ℕ → Tables → List Notice
+expiry_notices now ts = notices_in (Moment (max ts.latest now)) ts
+
+-- a packet was looked up in a table
+abbrev pub looked_in : ℕ → Tables → Tables
+looked_in k ts = with_table k (looked (table_at k ts)) ts
+
+-- a packet of so many bytes hit the entry at a place of a table
+abbrev pub matched_in : ℕ → ℕ → ℕ → Tables → Tables
+matched_in k place bytes ts = with_table k (matched_at ts.latest place bytes (table_at k ts)) ts
+
+-- ---- with the numbers of the entries
+
+pub record NumberedTables : Type 0 where
+  pub tables : List Numbered
+  pub latest : ℕ
+
+abbrev pub no_tables : NumberedTables
+no_tables = record { tables = replicate 16 no_entries; latest = 0 }
+
+abbrev pub numbered_at : ℕ → NumberedTables → Numbered
+numbered_at k n = slice_index_or n.tables k no_entries
+
+abbrev pub tables_of : NumberedTables → Tables
+tables_of n = record { tables = map table_of n.tables; latest = n.latest }
+
+-- the numbers of the entries of each table
+abbrev pub all_numbers : NumberedTables → List (List ℕ)
+all_numbers n = map (λ t. numbers_of t.entries) n.tables

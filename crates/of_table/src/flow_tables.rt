@@ -1,0 +1,233 @@
+//! The flow tables of a switch.
+
+ghost use Rattle.std.specs.Prelude.{◌≡◌, ◌<◌, ℕ, Some, IsTrue, length, slice_index_or, IfOk, IfSome, OnOk, OnErr};
+ghost use Rattle.std.specs.Option.{option_map};
+ghost use Rattle.of_headers.specs.FieldMap.{value};
+ghost use Rattle.of_wire.specs.Numbered.{is_distinct};
+ghost use Rattle.of_table.specs.Table.{winner_place, flow_at};
+ghost use Rattle.of_table.specs.Selecting.{notices_of};
+ghost use Rattle.of_table.specs.Entries.{no_entries, flows_of, place_of, is_there, find_number, entry_number};
+ghost use Rattle.of_table.specs.Tables.{no_tables, numbered_at, tables_of, all_numbers, tables_fault, added_to, modified_in, left_in, expired, expiry_notices, notices_in, looked_in, matched_in};
+ghost use Rattle.of_table.specs.Faults.{fault_in};
+ghost use Rattle.of_table.specs.declared.selection.Cause.TheVariants.{Command};
+
+use crate::each_table::{modify_tables, remove_all};
+use crate::entry::Entry;
+use crate::flow::Flow;
+use crate::flow_table::FlowTable;
+use crate::selection::{Cause, Removed, Which};
+use crate::table_fault::TableFault;
+use of_actions::InstructionList;
+use of_classifier::Lookup;
+use of_headers::FieldKey;
+use std::alloc::{AllocError, Global};
+use std::marker::Model;
+
+/// How many tables a switch has.
+const TABLES: usize = 16;
+
+/// Sixteen flow tables, numbered from 0, and the latest moment that they know of (OpenFlow 1.3.5, 5.1).
+#[derive(Drop)]
+pub struct FlowTables<L: Lookup> {
+    tables: Vec<FlowTable<L>>,
+    latest: u64,
+}
+
+impl<L: Lookup> Model for FlowTables<L> {
+    ghost use Rattle.std.specs.Prelude.{◌≡◌, length};
+    ghost use Rattle.of_table.specs.Tables.{NumberedTables};
+
+    ghost Value = { NumberedTables };
+
+    ghost view = { λ t. record { tables = t.tables.items; latest = t.latest } };
+
+    ghost invariant = { λ t. length t.tables.items ≡ 16 };
+}
+
+impl<L: Lookup> FlowTables<L> {
+    /// Without entries, with counters of 0, at the moment 0.
+    pub fn new(alloc: Global) -> Result<Self, AllocError>
+        ensures { IfOk result (λ t. t ≡ no_tables) }
+    {
+        Ok(FlowTables {
+            tables: empty_tables(alloc)?,
+            latest: 0,
+        })
+    }
+
+    /// The latest moment, in nanoseconds.
+    pub fn latest(&self) -> u64
+        ensures { result ≡ self.now.latest }
+    {
+        self.latest
+    }
+
+    /// Adds a flow to a table, at the latest moment (OpenFlow 1.3.5, 6.4).
+    ///
+    /// It is refused, in this order, where there is no such table, where it asks to be checked and an
+    /// entry of its priority overlaps it, and where the table has 4,096 entries and none of its match
+    /// and priority. An entry of its match and priority gets it, keeps its number, and its counters
+    /// unless they are to be reset, and becomes the youngest. A call that fails changes nothing.
+    pub fn add(&mut self, table: u8, flow: Flow) -> Result<(), TableFault>
+        ensures fault { fault_in result ≡ tables_fault table flow (tables_of self.old) }
+        ensures ok { OnOk result (tables_of self.new ≡ added_to table flow (tables_of self.old)) }
+        ensures err { OnErr result (self.new ≡ self.old) }
+    {
+        if table as usize >= TABLES {
+            return Err(TableFault::BadTable);
+        }
+        let now = self.latest;
+        self.tables[table as usize].add(flow, now)
+    }
+
+    /// Gives the instructions to each entry that a command is for, and counters of 0 where they are to be reset (OpenFlow 1.3.5, 6.4).
+    ///
+    /// All else of an entry stays, and none is added.
+    pub fn modify(
+        &mut self,
+        which: &Which,
+        instructions: &InstructionList,
+        reset: bool,
+    ) -> Result<(), AllocError>
+        ensures { OnOk result (tables_of self.new ≡ modified_in which.now instructions.now reset (tables_of self.old)) }
+    {
+        modify_tables(&mut self.tables, which, instructions, reset)
+    }
+
+    /// Deletes the entries that a command is for, and gives a notice of each whose flags ask for one, by table, then by age (OpenFlow 1.3.5, 6.4).
+    pub fn delete(&mut self, alloc: Global, which: Which) -> Result<Vec<Removed>, AllocError>
+        ensures tables { IfOk result (λ v. tables_of self.new ≡ left_in (Command which) (tables_of self.old)) }
+        ensures notices { IfOk result (λ v. notices_of v.items ≡ notices_in (Command which) (tables_of self.old)) }
+    {
+        self.remove(alloc, &Cause::Command(which))
+    }
+
+    /// It is so many nanoseconds, or the latest moment if that is later: the entries whose time is over go (OpenFlow 1.3.5, 5.5).
+    ///
+    /// There is a notice of each whose flags ask for one, by table, then by age.
+    pub fn expire(&mut self, alloc: Global, moment: u64) -> Result<Vec<Removed>, AllocError>
+        ensures tables { IfOk result (λ v. tables_of self.new ≡ expired moment (tables_of self.old)) }
+        ensures notices { IfOk result (λ v. notices_of v.items ≡ expiry_notices moment (tables_of self.old)) }
+    {
+        self.latest = self.latest.max(moment);
+        let now = self.latest;
+        self.remove(alloc, &Cause::Moment(now))
+    }
+
+    fn remove(&mut self, alloc: Global, cause: &Cause) -> Result<Vec<Removed>, AllocError>
+        ensures tables { IfOk result (λ v. tables_of self.new ≡ left_in cause.now (tables_of self.old)) }
+        ensures notices { IfOk result (λ v. notices_of v.items ≡ notices_in cause.now (tables_of self.old)) }
+    {
+        let mut removed = Vec::new(alloc);
+        remove_all(&mut self.tables, cause, &mut removed)?;
+        Ok(removed)
+    }
+
+    /// The number of the entry of a table that a packet of this key hits, or `None` where it misses (OpenFlow 1.3.5, 5.3).
+    ///
+    /// It raises no counter.
+    pub fn lookup(&mut self, table: u8, key: &FieldKey) -> Option<usize>
+        requires { table < 16 }
+        ensures place { winner_place (value key.now) (flows_of (numbered_at table self.old).entries) ≡ option_map (λ number. place_of number (numbered_at table self.old).entries) result }
+        ensures there { IfSome result (λ number. IsTrue (is_there number (numbered_at table self.old).entries)) }
+        ensures kept { self.new ≡ self.old }
+    {
+        self.tables[table as usize].lookup(key)
+    }
+
+    /// As `lookup`, for tables that only lend themselves.
+    pub fn peek(&self, table: u8, key: &FieldKey) -> Option<usize>
+        requires { table < 16 }
+        ensures place { winner_place (value key.now) (flows_of (numbered_at table self.now).entries) ≡ option_map (λ number. place_of number (numbered_at table self.now).entries) result }
+        ensures there { IfSome result (λ number. IsTrue (is_there number (numbered_at table self.now).entries)) }
+    {
+        self.tables[table as usize].peek(key)
+    }
+
+    /// A packet was looked up in a table.
+    pub fn looked(&mut self, table: u8)
+        requires { table < 16 }
+        ensures tables { tables_of self.new ≡ looked_in table (tables_of self.old) }
+        ensures numbers { all_numbers self.new ≡ all_numbers self.old }
+    {
+        self.tables[table as usize].looked();
+    }
+
+    /// A packet of so many bytes hit the entry of that number of a table, at the latest moment; where none is there, the table alone counts it.
+    pub fn count(&mut self, table: u8, number: usize, bytes: usize)
+        requires { table < 16 }
+        ensures tables { tables_of self.new ≡ matched_in table (place_of number (numbered_at table self.old).entries) bytes (tables_of self.old) }
+        ensures numbers { all_numbers self.new ≡ all_numbers self.old }
+    {
+        let now = self.latest;
+        self.tables[table as usize].count(number, bytes, now);
+    }
+
+    /// The flow of the entry of that number of a table.
+    pub fn flow(&self, table: u8, number: usize) -> &Flow
+        requires table { table < 16 }
+        requires number { IsTrue (is_there number (numbered_at table self.now).entries) }
+        ensures { flow_at (place_of number (numbered_at table self.now).entries) (flows_of (numbered_at table self.now).entries) ≡ Some result.now }
+    {
+        self.tables[table as usize].flow(number)
+    }
+
+    /// The entry of that number of a table.
+    pub fn entry(&self, table: u8, number: usize) -> &Entry
+        requires table { table < 16 }
+        requires number { IsTrue (is_there number (numbered_at table self.now).entries) }
+        ensures { find_number number (numbered_at table self.now).entries ≡ Some result.now }
+    {
+        self.tables[table as usize].entry(number)
+    }
+
+    /// The entries of a table, oldest first.
+    pub fn entries(&self, table: u8) -> &[Entry]
+        requires { table < 16 }
+        ensures { result.now ≡ (numbered_at table self.now).entries }
+    {
+        self.tables[table as usize].entries()
+    }
+
+    /// How many packets were looked up in a table. It wraps.
+    pub fn lookups(&self, table: u8) -> u64
+        requires { table < 16 }
+        ensures { result ≡ (numbered_at table self.now).lookups }
+    {
+        self.tables[table as usize].lookups()
+    }
+
+    /// How many packets hit an entry of a table. It wraps.
+    pub fn matched(&self, table: u8) -> u64
+        requires { table < 16 }
+        ensures { result ≡ (numbered_at table self.now).matched }
+    {
+        self.tables[table as usize].matched()
+    }
+
+    /// There are sixteen tables, and in each no two entries have one number.
+    pub fn known(&self)
+        ensures sixteen { length self.now.tables ≡ 16 }
+        ensures distinct { (k : ℕ) → IsTrue (is_distinct entry_number (numbered_at k self.now).entries) }
+    {
+        known_tables(&self.tables);
+    }
+}
+
+fn empty_tables<L: Lookup>(alloc: Global) -> Result<Vec<FlowTable<L>>, AllocError>
+    ensures { IfOk result (λ v. v.items ≡ no_tables.tables) }
+{
+    let mut tables = Vec::new(alloc);
+    while tables.len() < TABLES {
+        tables.push(FlowTable::new(alloc)?)?;
+    }
+    Ok(tables)
+}
+
+fn known_tables<L: Lookup>(tables: &[FlowTable<L>])
+    ensures { (k : ℕ) → IsTrue (is_distinct entry_number (slice_index_or tables.now k no_entries).entries) }
+{
+    for table in tables {
+        table.known();
+    }
+}

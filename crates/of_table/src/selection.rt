@@ -1,0 +1,190 @@
+//! Which entries a command is for, or go at a moment.
+
+ghost use Rattle.std.specs.Prelude.{◌≡◌};
+ghost use Rattle.of_table.specs.Entries.{entry_of};
+ghost use Rattle.std.specs.List.{list_any};
+ghost use Rattle.of_table.specs.Selecting.{is_meant as meant, has_cookie as with_cookie, is_output_to as output_to, sends_to as sending_to, passes_port as passing_port, names_group as naming_group, passes_group as passing_group, selects as selected, is_over as over, timeout_reason as reason_at, reason_of};
+
+use crate::entry::Entry;
+use of_actions::{Action, Instruction};
+use of_oxm::{Match, covers};
+
+/// The entries that a MODIFY or DELETE command is for (OpenFlow 1.3.5, 6.4).
+#[derive(Debug, Drop)]
+pub struct Which {
+    /// The number of a table; `None` for all.
+    pub table: Option<u8>,
+    pub fields: Match,
+    /// That of a strict command, which is for the entry of this match and priority; `None` for all that the match covers.
+    pub priority: Option<u16>,
+    pub cookie: u64,
+    /// The bits of the cookie that are to agree.
+    pub cookie_mask: u64,
+    /// A port to which an action of the entry has to send.
+    pub out_port: Option<u32>,
+    /// A group to which an action of the entry has to send.
+    pub out_group: Option<u32>,
+}
+
+/// Why an entry went (OpenFlow 1.3.5, 7.4.2).
+#[derive(Clone, Copy, Debug, PartialEq, Eq)]
+pub enum RemovedReason {
+    /// No packet hit it for its idle timeout.
+    IdleTimeout,
+    /// Its hard timeout passed.
+    HardTimeout,
+    /// A DELETE command.
+    Delete,
+}
+
+/// What makes entries go.
+#[derive(Debug, Drop)]
+pub enum Cause {
+    /// A DELETE command.
+    Command(Which),
+    /// It is so many nanoseconds.
+    Moment(u64),
+}
+
+/// An entry that went, and why.
+#[derive(Debug, Drop)]
+pub struct Removed {
+    pub table: u8,
+    pub reason: RemovedReason,
+    pub entry: Entry,
+}
+
+// Whether the match, and the priority of a strict command, are for the entry.
+fn is_meant(which: &Which, entry: &Entry) -> bool
+    ensures { result ≡ meant which.now (entry_of entry.now) }
+{
+    match which.priority {
+        None => covers(&which.fields, &entry.flow.fields),
+        Some(priority) => {
+            entry.flow.priority == priority && entry.flow.fields.equals(&which.fields)
+        }
+    }
+}
+
+fn has_cookie(which: &Which, entry: &Entry) -> bool
+    ensures { result ≡ with_cookie which.now (entry_of entry.now) }
+{
+    entry.flow.cookie & which.cookie_mask == which.cookie & which.cookie_mask
+}
+
+fn is_output_to(action: &Action, port: u32) -> bool
+    ensures { result ≡ output_to port action.now }
+{
+    match action {
+        Action::Output { port: to, .. } => *to == port,
+    }
+}
+
+fn any_output_to(actions: &[Action], port: u32) -> bool
+    ensures { result ≡ list_any (output_to port) actions.now }
+{
+    actions.iter().any(|action| is_output_to(action, port))
+}
+
+fn sends_to(instruction: &Instruction, port: u32) -> bool
+    ensures { result ≡ sending_to port instruction.now }
+{
+    match instruction {
+        Instruction::Apply(actions) => any_output_to(actions.as_slice(), port),
+    }
+}
+
+fn any_sends_to(instructions: &[Instruction], port: u32) -> bool
+    ensures { result ≡ list_any (sending_to port) instructions.now }
+{
+    instructions
+        .iter()
+        .any(|instruction| sends_to(instruction, port))
+}
+
+fn passes_port(which: &Which, entry: &Entry) -> bool
+    ensures { result ≡ passing_port which.now (entry_of entry.now) }
+{
+    match which.out_port {
+        None => true,
+        Some(port) => any_sends_to(entry.flow.instructions.as_slice(), port),
+    }
+}
+
+// No action names a group so far.
+fn names_group(instruction: &Instruction, group: u32) -> bool
+    ensures { result ≡ naming_group group instruction.now }
+{
+    let _ = group;
+    match instruction {
+        Instruction::Apply(_) => false,
+    }
+}
+
+fn any_names_group(instructions: &[Instruction], group: u32) -> bool
+    ensures { result ≡ list_any (naming_group group) instructions.now }
+{
+    instructions
+        .iter()
+        .any(|instruction| names_group(instruction, group))
+}
+
+fn passes_group(which: &Which, entry: &Entry) -> bool
+    ensures { result ≡ passing_group which.now (entry_of entry.now) }
+{
+    match which.out_group {
+        None => true,
+        Some(group) => any_names_group(entry.flow.instructions.as_slice(), group),
+    }
+}
+
+/// Whether a command is for the entry.
+pub(crate) fn selects(which: &Which, entry: &Entry) -> bool
+    ensures { result ≡ selected which.now (entry_of entry.now) }
+{
+    is_meant(which, entry)
+        && has_cookie(which, entry)
+        && passes_port(which, entry)
+        && passes_group(which, entry)
+}
+
+const NANOS: u64 = 1_000_000_000;
+
+// Whether a timeout of so many seconds is over; 0 is none.
+fn is_over(now: u64, since: u64, seconds: u16) -> bool
+    ensures { result ≡ over now since seconds }
+{
+    seconds != 0 && NANOS * u64::from(seconds) <= now.saturating_sub(since)
+}
+
+fn timeout_reason(entry: &Entry, now: u64) -> Option<RemovedReason>
+    ensures { result ≡ reason_at now (entry_of entry.now) }
+{
+    if is_over(now, entry.created, entry.flow.hard_timeout) {
+        return Some(RemovedReason::HardTimeout);
+    }
+    if is_over(
+        now,
+        entry.last.unwrap_or(entry.created),
+        entry.flow.idle_timeout,
+    ) {
+        return Some(RemovedReason::IdleTimeout);
+    }
+    None
+}
+
+/// Why the entry goes, or that it stays.
+pub(crate) fn reason(cause: &Cause, entry: &Entry) -> Option<RemovedReason>
+    ensures { result ≡ reason_of cause.now (entry_of entry.now) }
+{
+    match cause {
+        Cause::Command(which) => {
+            if selects(which, entry) {
+                Some(RemovedReason::Delete)
+            } else {
+                None
+            }
+        }
+        Cause::Moment(now) => timeout_reason(entry, *now),
+    }
+}
