@@ -1,29 +1,63 @@
 -- Lists of actions that are served.
-use Rattle.std.proofs.Common.{◌≡◌, ◌≤◌, true, List, [], ◌∷◌, ◌++◌, length, refl, sym, ap, subst, arith}
-use Rattle.std.specs.Prelude.{nat_le}
+use Rattle.std.proofs.Common.{◌≡◌, ◌≤◌, ℕ, Bool, true, false, List, [], ◌∷◌, ◌++◌, length, refl, sym, ap, subst, arith}
+use Rattle.std.specs.Prelude.{nat_le, ◌&&◌}
 use Rattle.std.specs.List.{list_all}
 use Rattle.std.proofs.lemmas.Bool.Decides.{nat_tests}
 use Rattle.std.proofs.lemmas.List.{length-append}
 use Rattle.std.proofs.lemmas.List.Folds.{list_all-append}
 use Rattle.of_actions.specs.declared.action.Action.{Action}
-use Rattle.of_actions.specs.Actions.{is_served, are_served}
+use Rattle.of_actions.specs.declared.action.Action.TheVariants.{Output, PushVlan, PopVlan, Group, SetNwTtl, DecNwTtl, SetField}
+use Rattle.of_actions.specs.PortNumbers.{is_port}
+use Rattle.of_actions.specs.Served.{is_served, are_served}
 
 -- so many actions, all of them served
-pub record Served (actions : List Action) : Type 0 where
+pub record Served (packet_out : Bool) (actions : List Action) : Type 0 where
   pub few : length actions ≤ 64
-  pub all : list_all is_served actions ≡ true
+  pub all : list_all (is_served packet_out) actions ≡ true
 
-pub served_push : (actions given new : List Action) (a : Action) → Served actions → given ≡ actions → length given ≤ 63 → is_served a ≡ true → new ≡ actions ++ a ∷ [] → Served new
-served_push actions given new a h e room served is =
+pub served_push : (packet_out : Bool) (actions given new : List Action) (a : Action) → Served packet_out actions → given ≡ actions → length given ≤ 63 → is_served packet_out a ≡ true → new ≡ actions ++ a ∷ [] → Served packet_out new
+served_push packet_out actions given new a h e room served is =
     let few : length (actions ++ a ∷ []) ≤ 64 = omega (arith, ap length e, length-append actions (a ∷ [])) in
-    let all : list_all is_served (actions ++ a ∷ []) ≡ true = rw (list_all-append is_served actions (a ∷ []), h.all, served) refl in
-    let pushed : Served (actions ++ a ∷ []) = record { few = few; all = all } in
-    subst Served (sym is) pushed
+    let all : list_all (is_served packet_out) (actions ++ a ∷ []) ≡ true = rw (list_all-append (is_served packet_out) actions (a ∷ []), h.all, served) refl in
+    let pushed : Served packet_out (actions ++ a ∷ []) = record { few = few; all = all } in
+    subst (Served packet_out) (sym is) pushed
 
-pub served_is : (actions : List Action) → Served actions → are_served actions ≡ true
-served_is actions h =
+pub served_is : (packet_out : Bool) (actions : List Action) → Served packet_out actions → are_served packet_out actions ≡ true
+served_is packet_out actions h =
     let few : nat_le (length actions) 64 ≡ true = grind (arith, nat_tests, h.few) in
     rw (few, h.all) refl
 
-pub is_served_list : (actions : List Action) → are_served actions ≡ true → Served actions
-is_served_list actions h = record { few = grind (arith, nat_tests); all = grind (arith, nat_tests) }
+pub is_served_list : (packet_out : Bool) (actions : List Action) → are_served packet_out actions ≡ true → Served packet_out actions
+is_served_list packet_out actions h = record { few = grind (arith, nat_tests); all = grind (arith, nat_tests) }
+
+-- ---- what may stand in an instruction may stand in a PACKET_OUT
+
+port_wider : (packet_out : Bool) (port : ℕ) → is_port packet_out port ≡ true → is_port true port ≡ true
+port_wider true port h = h
+port_wider false port h = grind (arith, nat_tests)
+
+both : (a b c : Bool) → (a && b) ≡ true → (a ≡ true → c ≡ true) → (c && b) ≡ true
+both true b c h f = rw (f refl) h
+both false b c h f = absurd cc
+
+action_wider : (packet_out : Bool) (a : Action) → is_served packet_out a ≡ true → is_served true a ≡ true
+unfolding is_served
+action_wider packet_out (Output port max_len) h = both _ _ _ h (port_wider packet_out port)
+action_wider packet_out (PushVlan type) h = h
+action_wider packet_out PopVlan h = h
+action_wider packet_out (Group group) h = h
+action_wider packet_out (SetNwTtl ttl) h = h
+action_wider packet_out DecNwTtl h = h
+action_wider packet_out (SetField field value) h = h
+
+all_wider : (packet_out : Bool) (actions : List Action) → list_all (is_served packet_out) actions ≡ true → list_all (is_served true) actions ≡ true
+all_wider packet_out [] h = refl
+all_wider packet_out (a ∷ actions) h =
+    let this : is_served packet_out a ≡ true = grind (arith, nat_tests) in
+    let others : list_all (is_served packet_out) actions ≡ true = grind (arith, nat_tests) in
+    rw (action_wider packet_out a this, all_wider packet_out actions others) refl
+
+pub served_wider : (packet_out : Bool) (actions : List Action) → are_served packet_out actions ≡ true → are_served true actions ≡ true
+served_wider packet_out actions h =
+    let s = is_served_list packet_out actions h in
+    served_is true actions (record { few = s.few; all = all_wider packet_out actions s.all })

@@ -1,29 +1,38 @@
 -- Actions on the wire (OpenFlow 1.3.5, 7.2.5).
-use Rattle.std.specs.Prelude.{ℕ, ◌%◌, ◌==◌, nat_lt, nat_le, Bool, true, not, ◌&&◌, ◌||◌, List, [], ◌∷◌, length, drop, Option, Some, None, if◌then◌else◌}
-use Rattle.std.specs.List.{list_all}
+use Rattle.std.specs.Prelude.{ℕ, ◌%◌, ◌==◌, nat_lt, Bool, true, not, ◌||◌, List, [], ◌∷◌, length, drop, slice_index, Option, Some, None, Result, if◌then◌else◌}
+use Rattle.std.specs.Option.{option_map}
 use Rattle.byteorder.specs.Endian.{big_number}
 use Rattle.of_wire.specs.declared.code.Code.{Code}
 use Rattle.of_wire.specs.Refusals.{refusal}
-use Rattle.of_wire.specs.Items.{Items, AreItems}
+use Rattle.of_wire.specs.Items.{Items, AreItems, items_of}
+use Rattle.of_layers.specs.Reading.{is_tag_type}
 use Rattle.of_actions.specs.Beginnings.{type_at, len_at}
+use Rattle.of_actions.specs.PortNumbers.{is_port}
+use Rattle.of_actions.specs.SetField.{set_field_at, set_value_at, set_refusals}
 use Rattle.of_actions.specs.declared.action.Action.{Action}
-use Rattle.of_actions.specs.declared.action.Action.TheVariants.{Output}
+use Rattle.of_actions.specs.declared.action.Action.TheVariants.{Output, PushVlan, PopVlan, Group, SetNwTtl, DecNwTtl, SetField}
 
--- the port and the max_len of an OUTPUT
-abbrev pub port_at : List ℕ → ℕ
-port_at rest = big_number 4 (drop 4 rest)
+-- the port of an OUTPUT, the type of a PUSH_VLAN, the number of a GROUP, and the time to live of a SET_NW_TTL stand first; the max_len of an OUTPUT follows its port
+abbrev pub first_at : ℕ → List ℕ → ℕ
+first_at bytes rest = big_number bytes (drop 4 rest)
 
 abbrev pub max_len_at : List ℕ → ℕ
 max_len_at rest = big_number 2 (drop 8 rest)
 
--- A port that an action may name: 1 to OFPP_MAX (7.2.1). No reserved port is served, so it is the same in a PACKET_OUT.
-abbrev pub is_port : Bool → ℕ → Bool
-is_port packet_out port = nat_le 1 port && nat_le port 0xffffff00
+-- an action of another size: OFPBAC_BAD_LEN
+abbrev pub wrong_size : ℕ → List ℕ → Bool × Code
+wrong_size size rest = (not (len_at rest == size), refusal 2 1)
 
--- The refusals of an action by its type (7.4.4): OFPBAC_BAD_LEN and OFPBAC_BAD_OUT_PORT of an OUTPUT, else OFPBAC_BAD_EXPERIMENTER or OFPBAC_BAD_TYPE.
+-- The refusals of an action by its type, in order (7.4.4): of its size, OFPBAC_BAD_OUT_PORT of an OUTPUT, OFPBAC_BAD_ARGUMENT of a PUSH_VLAN, those of a set field, OFPBAC_BAD_EXPERIMENTER, and OFPBAC_BAD_TYPE of all other types.
 unfoldable pub type_refusals : Bool → List ℕ → List (Bool × Code)
 type_refusals packet_out rest =
-    if type_at rest == 0 then (not (len_at rest == 16), refusal 2 1) ∷ (not (is_port packet_out (port_at rest)), refusal 2 4) ∷ []
+    if type_at rest == 0 then wrong_size 16 rest ∷ (not (is_port packet_out (first_at 4 rest)), refusal 2 4) ∷ []
+    else if type_at rest == 17 then wrong_size 8 rest ∷ (not (is_tag_type (first_at 2 rest)), refusal 2 5) ∷ []
+    else if type_at rest == 18 then wrong_size 8 rest ∷ []
+    else if type_at rest == 22 then wrong_size 8 rest ∷ []
+    else if type_at rest == 23 then wrong_size 8 rest ∷ []
+    else if type_at rest == 24 then wrong_size 8 rest ∷ []
+    else if type_at rest == 25 then set_refusals rest
     else if type_at rest == 0xffff then (true, refusal 2 2) ∷ []
     else (true, refusal 2 0) ∷ []
 
@@ -35,9 +44,17 @@ action_refusals packet_out seen rest =
     ∷ (nat_lt (len_at rest) 8 || not (len_at rest % 8 == 0) || nat_lt (length rest) (len_at rest), refusal 2 1)
     ∷ type_refusals packet_out rest
 
--- what an action that is not refused stands for
+-- what an action that is not refused stands for: OUTPUT, PUSH_VLAN, POP_VLAN, GROUP, SET_NW_TTL, DEC_NW_TTL, SET_FIELD
 unfoldable pub action_at : List ℕ → Option Action
-action_at rest = if type_at rest == 0 then Some (Output (port_at rest) (max_len_at rest)) else None
+action_at rest =
+    if type_at rest == 0 then Some (Output (first_at 4 rest) (max_len_at rest))
+    else if type_at rest == 17 then Some (PushVlan (first_at 2 rest))
+    else if type_at rest == 18 then Some PopVlan
+    else if type_at rest == 22 then Some (Group (first_at 4 rest))
+    else if type_at rest == 23 then Some (SetNwTtl (slice_index rest 4))
+    else if type_at rest == 24 then Some DecNwTtl
+    else if type_at rest == 25 then option_map (λ f. SetField f (set_value_at f rest)) (set_field_at rest)
+    else None
 
 abbrev pub actions_of : Bool → Items Action
 actions_of packet_out = record { refusals = action_refusals packet_out; value_at = action_at; size_at = len_at }
@@ -46,10 +63,6 @@ actions_of packet_out = record { refusals = action_refusals packet_out; value_at
 abbrev pub AreActions : Bool → List Action → List ℕ → List Action → Option Code → Type 0
 AreActions packet_out = AreItems (actions_of packet_out)
 
--- an action that some bytes spell
-unfoldable pub is_served : Action → Bool
-is_served (Output port max_len) = is_port true port && nat_lt max_len 0x10000
-
--- at most 64 actions that some bytes spell
-abbrev pub are_served : List Action → Bool
-are_served actions = nat_le (length actions) 64 && list_all is_served actions
+-- the same as a function: the actions that bytes are, or the code of the first refusal
+unfoldable pub actions_said : Bool → List ℕ → Result (List Action) Code
+actions_said packet_out bytes = items_of (actions_of packet_out) (length bytes) [] bytes

@@ -1,44 +1,73 @@
 -- The headers of instructions (OpenFlow 1.3.5, 7.2.4).
-use Rattle.std.specs.Prelude.{ℕ, ◌-◌, ◌%◌, ◌==◌, nat_lt, Bool, not, ◌||◌, List, [], ◌∷◌, length, take, drop, Option, Some, None, if◌then◌else◌}
+use Rattle.std.specs.Prelude.{ℕ, ◌-◌, ◌%◌, ◌==◌, nat_lt, nat_le, Bool, true, not, ◌&&◌, ◌||◌, List, [], ◌∷◌, length, take, drop, slice_index, Option, Some, None, if◌then◌else◌}
+use Rattle.byteorder.specs.Endian.{big_number}
 use Rattle.of_wire.specs.declared.code.Code.{Code}
 use Rattle.of_wire.specs.Refusals.{refusal}
 use Rattle.of_wire.specs.Items.{Items, AreItems}
 use Rattle.of_wire.specs.Numbered.{is_used}
 use Rattle.of_actions.specs.Beginnings.{type_at, len_at}
 
--- an instruction whose body is not read further: its type, and what stands after its header and padding
-pub record Header : Type 0 where
-  pub kind : ℕ
-  pub body : List ℕ
+-- an instruction whose actions are not read yet: of WRITE_ACTIONS and APPLY_ACTIONS the bytes of their actions
+pub data Header : Type 0 where
+  goto : ℕ → Header
+  metadata : ℕ → ℕ → Header
+  write : List ℕ → Header
+  apply : List ℕ → Header
+  clear : Header
 
+-- its type on the wire
 abbrev pub kind_of : Header → ℕ
-kind_of h = h.kind
+kind_of (goto table) = 1
+kind_of (metadata value mask) = 2
+kind_of (write bytes) = 3
+kind_of (apply bytes) = 4
+kind_of clear = 5
 
-abbrev pub is_apply : Header → Bool
-is_apply h = h.kind == 4
+abbrev pub is_known : ℕ → Bool
+is_known kind = nat_le 1 kind && nat_le kind 5
 
--- the types that are known and not served: GOTO_TABLE, WRITE_METADATA, WRITE_ACTIONS, CLEAR_ACTIONS and METER
-abbrev pub is_unserved : ℕ → Bool
-is_unserved kind = (kind == 1) || (kind == 2) || (kind == 3) || (kind == 5) || (kind == 6)
+-- GOTO_TABLE and CLEAR_ACTIONS have 8 bytes, WRITE_METADATA has 24, and what is unknown has any size
+abbrev pub is_size : ℕ → ℕ → Bool
+is_size kind len = if (kind == 1) || (kind == 5) then len == 8 else if kind == 2 then len == 24 else true
 
--- The refusals of the instruction that begins `rest`, in order, where those of the headers `seen` stand before it (7.4.4): OFPBIC_BAD_LEN, OFPBIC_BAD_EXPERIMENTER, OFPBIC_UNSUP_INST, OFPBIC_UNKNOWN_INST, and OFPBIC_UNSUP_INST for the second of a type.
-unfoldable pub header_refusals : List Header → List ℕ → List (Bool × Code)
-header_refusals seen rest =
+-- the table of a GOTO_TABLE
+abbrev pub table_at : List ℕ → ℕ
+table_at rest = slice_index rest 4
+
+-- a table that an entry of this table may lead to: a later one of the 16
+abbrev pub is_next : ℕ → ℕ → Bool
+is_next table to = nat_lt table to && nat_lt to 16
+
+-- The refusals of the instruction that begins `rest`, in order, where those of the headers `seen` stand before it (7.4.4): OFPBIC_BAD_LEN, OFPBIC_UNSUP_INST of a METER, OFPBIC_BAD_EXPERIMENTER, OFPBIC_UNKNOWN_INST, OFPBIC_UNSUP_INST for the second of a type, and OFPBIC_BAD_TABLE_ID.
+unfoldable pub header_refusals : ℕ → List Header → List ℕ → List (Bool × Code)
+header_refusals table seen rest =
     (nat_lt (length rest) 4, refusal 3 7)
     ∷ (nat_lt (len_at rest) 8 || not (len_at rest % 8 == 0) || nat_lt (length rest) (len_at rest), refusal 3 7)
+    ∷ (not (is_size (type_at rest) (len_at rest)), refusal 3 7)
+    ∷ (type_at rest == 6, refusal 3 1)
     ∷ (type_at rest == 0xffff, refusal 3 5)
-    ∷ (is_unserved (type_at rest), refusal 3 1)
-    ∷ (not (type_at rest == 4), refusal 3 0)
+    ∷ (not (is_known (type_at rest)), refusal 3 0)
     ∷ (is_used kind_of (type_at rest) seen, refusal 3 1)
+    ∷ ((type_at rest == 1) && not (is_next table (table_at rest)), refusal 3 2)
     ∷ []
 
--- what a header that is not refused begins: APPLY_ACTIONS, with four bytes of padding
-unfoldable pub header_at : List ℕ → Option Header
-header_at rest = if type_at rest == 4 then Some (record { kind = 4; body = take (len_at rest - 8) (drop 8 rest) }) else None
+-- the bytes of its actions: after type, length and four bytes of padding
+abbrev pub actions_at : List ℕ → List ℕ
+actions_at rest = take (len_at rest - 8) (drop 8 rest)
 
-abbrev pub headers : Items Header
-headers = record { refusals = header_refusals; value_at = header_at; size_at = len_at }
+-- what a header that is not refused begins: GOTO_TABLE, WRITE_METADATA, WRITE_ACTIONS, APPLY_ACTIONS, CLEAR_ACTIONS
+unfoldable pub header_at : List ℕ → Option Header
+header_at rest =
+    if type_at rest == 1 then Some (goto (table_at rest))
+    else if type_at rest == 2 then Some (metadata (big_number 8 (drop 8 rest)) (big_number 8 (drop 16 rest)))
+    else if type_at rest == 3 then Some (write (actions_at rest))
+    else if type_at rest == 4 then Some (apply (actions_at rest))
+    else if type_at rest == 5 then Some clear
+    else None
+
+abbrev pub headers_of : ℕ → Items Header
+headers_of table = record { refusals = header_refusals table; value_at = header_at; size_at = len_at }
 
 -- after the headers `seen`, bytes are instructions with these headers, and then they end or have a fault
-abbrev pub AreHeaders : List Header → List ℕ → List Header → Option Code → Type 0
-AreHeaders = AreItems headers
+abbrev pub AreHeaders : ℕ → List Header → List ℕ → List Header → Option Code → Type 0
+AreHeaders table = AreItems (headers_of table)

@@ -4,17 +4,22 @@ use Rattle.of_wire.specs.declared.code.Code.{Code}
 use Rattle.of_wire.specs.Items.{items_of}
 use Rattle.of_actions.specs.declared.action.Action.{Action}
 use Rattle.of_actions.specs.declared.instruction.Instruction.{Instruction}
-use Rattle.of_actions.specs.declared.instruction.Instruction.TheVariants.{Apply}
-use Rattle.of_actions.specs.Actions.{actions_of}
-use Rattle.of_actions.specs.Headers.{Header, headers}
+use Rattle.of_actions.specs.declared.instruction.Instruction.TheVariants.{Apply, Clear, Write, Metadata, Goto}
+use Rattle.of_actions.specs.Actions.{actions_said}
+use Rattle.of_actions.specs.Headers.{Header, goto, metadata, write, apply, clear, headers_of}
+use Rattle.of_actions.specs.RunOrder.{in_run_order}
 
-abbrev pub with_actions : Result (List Action) Code → Result Instruction Code
-with_actions (Ok actions) = Ok (Apply actions)
-with_actions (Err code) = Err code
+abbrev pub with_actions : (List Action → Instruction) → Result (List Action) Code → Result Instruction Code
+with_actions make (Ok actions) = Ok (make actions)
+with_actions make (Err code) = Err code
 
 -- the instruction that a header begins
 abbrev pub body_of : Header → Result Instruction Code
-body_of h = with_actions (items_of (actions_of false) (length h.body) [] h.body)
+body_of (goto table) = Ok (Goto table)
+body_of (metadata value mask) = Ok (Metadata value mask)
+body_of (write bytes) = with_actions Write (actions_said false bytes)
+body_of (apply bytes) = with_actions Apply (actions_said false bytes)
+body_of clear = Ok Clear
 
 abbrev pub in_front : Result Instruction Code → Result (List Instruction) Code → Result (List Instruction) Code
 in_front (Ok i) (Ok others) = Ok (i ∷ others)
@@ -30,6 +35,10 @@ abbrev pub then_bodies : Result (List Header) Code → Result (List Instruction)
 then_bodies (Ok hs) = bodies_of hs
 then_bodies (Err code) = Err code
 
+abbrev pub then_ordered : Result (List Instruction) Code → Result (List Instruction) Code
+then_ordered (Ok instructions) = Ok (in_run_order instructions)
+then_ordered (Err code) = Err code
+
 -- all headers are looked at before the first action
 unfoldable pub instructions_of : ℕ → List ℕ → Result (List Instruction) Code
-instructions_of table bytes = then_bodies (items_of headers (length bytes) [] bytes)
+instructions_of table bytes = then_ordered (then_bodies (items_of (headers_of table) (length bytes) [] bytes))

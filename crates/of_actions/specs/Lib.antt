@@ -1,8 +1,16 @@
+pub mod PortNumbers
+pub mod Served
+pub mod Rising
+pub mod InstructionLists
+pub mod RunOrder
+pub mod FlowCheck
 pub mod Readings
 pub mod Beginnings
+pub mod SetField
 pub mod Actions
 pub mod CanonicalActions
 pub mod Headers
+pub mod Unread
 pub mod Instructions
-pub mod CanonicalInstructions
 pub mod InstructionReading
+pub mod CanonicalInstructions

@@ -1,7 +1,7 @@
 //! Lists of actions.
-ghost use Rattle.std.specs.Prelude.{◌≡◌, ◌↔◌, [], false, length, IsTrue, IfOk, IfSome, IfNone};
+ghost use Rattle.std.specs.Prelude.{◌≡◌, ◌↔◌, [], false, true, length, IsTrue, IfOk, IfSome, IfNone};
 ghost use Rattle.std.specs.List.{list_all};
-ghost use Rattle.of_actions.specs.Actions.{is_port as is_port_number, is_served as is_served_action, are_served as are_served_actions};
+ghost use Rattle.of_actions.specs.Served.{is_served as is_served_action, are_served as are_served_actions};
 
 use crate::action::Action;
 use std::alloc::AllocError;
@@ -14,25 +14,25 @@ pub struct ActionList {
 }
 
 impl Model for ActionList {
-    ghost use Rattle.std.specs.Prelude.{List, IsTrue};
+    ghost use Rattle.std.specs.Prelude.{List, IsTrue, true};
     ghost use Rattle.of_actions.specs.declared.action.Action.{Action};
-    ghost use Rattle.of_actions.specs.Actions.{are_served};
+    ghost use Rattle.of_actions.specs.Served.{are_served};
 
     ghost Value = { List Action };
 
     ghost view = { λ list. list.actions.items };
 
-    ghost invariant = { λ list. IsTrue (are_served list.actions.items) };
+    ghost invariant = { λ list. IsTrue (are_served true list.actions.items) };
 }
 
 impl ActionList {
     /// The list of these actions. None where there are more than 64 of them, or one is not served.
     pub fn new(actions: Vec<Action>) -> Option<ActionList>
         ensures list { IfSome result (λ list. list ≡ actions.items) }
-        ensures served { IfSome result (λ list. IsTrue (are_served_actions list)) }
-        ensures none { IfNone result (are_served_actions actions.items ≡ false) }
+        ensures served { IfSome result (λ list. IsTrue (are_served_actions true list)) }
+        ensures none { IfNone result (are_served_actions true actions.items ≡ false) }
     {
-        if are_served(&actions) {
+        if are_served(&actions, true) {
             Some(ActionList { actions })
         } else {
             None
@@ -41,7 +41,7 @@ impl ActionList {
 
     pub fn as_slice(&self) -> &[Action]
         ensures actions { result.now ≡ self.now }
-        ensures served { IsTrue (are_served_actions self.now) }
+        ensures served { IsTrue (are_served_actions true self.now) }
     {
         self.actions.as_slice()
     }
@@ -67,29 +67,15 @@ impl ActionList {
     }
 }
 
-pub(crate) fn is_port(_packet_out: bool, port: u32) -> bool
-    ensures { result ≡ is_port_number _packet_out port }
+fn all_served(actions: &[Action], packet_out: bool) -> bool
+    ensures { result ≡ list_all (is_served_action packet_out) actions.now }
 {
-    1 <= port && port <= 0xffff_ff00
+    actions.iter().all(|action| action.is_served(packet_out))
 }
 
-#[tactic(auto, unfolding(crate::specs::Actions::is_served))]
-fn is_served(action: Action) -> bool
-    ensures { result ≡ is_served_action action }
+/// Whether some bytes spell these actions: of a PACKET_OUT, or of an instruction.
+pub(crate) fn are_served(actions: &[Action], packet_out: bool) -> bool
+    ensures { result ≡ are_served_actions packet_out actions.now }
 {
-    match action {
-        Action::Output { port, .. } => is_port(true, port),
-    }
-}
-
-fn all_served(actions: &[Action]) -> bool
-    ensures { result ≡ list_all is_served_action actions.now }
-{
-    actions.iter().all(|action| is_served(*action))
-}
-
-fn are_served(actions: &[Action]) -> bool
-    ensures { result ≡ are_served_actions actions.now }
-{
-    actions.len() <= 64 && all_served(actions)
+    actions.len() <= 64 && all_served(actions, packet_out)
 }

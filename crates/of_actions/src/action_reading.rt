@@ -1,46 +1,104 @@
 //! Actions from bytes.
-ghost use Rattle.std.specs.Prelude.{◌≡◌, ◌≤◌, ℕ, Bool, Option, List, [], length, IsTrue, IfOk, OnOk, IfErr, Some, None};
+ghost use Rattle.std.specs.Prelude.{◌≡◌, ◌≤◌, ◌==◌, ℕ, Bool, true, false, Option, List, [], length, IsTrue, IfOk, OnOk, IfErr, Some, None};
 ghost use Rattle.of_wire.specs.declared.code.Code.{Code as ErrorCode};
-ghost use Rattle.of_wire.specs.Failures.{Fails};
+ghost use Rattle.of_wire.specs.Failures.{Fails, Reads as AnswersAs};
 ghost use Rattle.of_wire.specs.Refusals.{first_of};
 ghost use Rattle.of_actions.specs.declared.action.Action.{Action as AnAction};
-ghost use Rattle.of_actions.specs.Actions.{AreActions, action_at, action_refusals, are_served, is_served, type_refusals};
-ghost use Rattle.of_actions.specs.Beginnings.{len_at};
+ghost use Rattle.of_actions.specs.Actions.{AreActions, action_at, action_refusals, actions_said, type_refusals, wrong_size};
+ghost use Rattle.of_actions.specs.Beginnings.{type_at, len_at};
 ghost use Rattle.of_actions.specs.Readings.{Reads, Refuses};
+ghost use Rattle.of_actions.specs.Served.{are_served, is_served};
 
 use crate::action::Action;
-use crate::action_list::{ActionList, is_port};
+use crate::action_list::ActionList;
 use crate::codes::{
-    BAD_ACTION_EXPERIMENTER, BAD_ACTION_LEN, BAD_ACTION_TYPE, BAD_OUT_PORT, TOO_MANY_ACTIONS,
+    BAD_ACTION_EXPERIMENTER, BAD_ACTION_LEN, BAD_ACTION_TYPE, BAD_ARGUMENT, BAD_OUT_PORT,
+    TOO_MANY_ACTIONS,
 };
+use crate::port_number::is_port;
+use crate::set_field::read_set_field;
 use byteorder::{BigEndian, ByteOrder};
 use of_wire::{Code, ReadError};
 use std::alloc::Global;
 
-#[tactic(auto, unfolding(crate::specs::Actions::type_refusals, crate::specs::Actions::action_at, crate::specs::Actions::is_served))]
+#[tactic(auto, unfolding(crate::specs::Actions::type_refusals, crate::specs::Actions::action_at, crate::specs::Served::is_served))]
+fn read_output(rest: &[u8], len: usize, packet_out: bool) -> Result<Action, Code>
+    requires long { 8 ≤ len }
+    requires whole { len ≤ length rest.now }
+    requires len { len ≡ len_at rest.now }
+    requires kind { type_at rest.now ≡ 0 }
+    ensures none { OnOk result (first_of (type_refusals packet_out rest.now) ≡ None) }
+    ensures action { IfOk result (λ action. action_at rest.now ≡ Some action) }
+    ensures served { IfOk result (λ action. IsTrue (is_served packet_out action)) }
+    ensures first { IfErr result (λ code. first_of (type_refusals packet_out rest.now) ≡ Some code) }
+{
+    if len != 16 {
+        return Err(BAD_ACTION_LEN);
+    }
+    let (_, body) = rest.split_at(4);
+    let port = BigEndian::read_u32(body);
+    if !is_port(packet_out, port) {
+        return Err(BAD_OUT_PORT);
+    }
+    let (_, after) = rest.split_at(8);
+    let max_len = BigEndian::read_u16(after);
+    Ok(Action::Output { port, max_len })
+}
+
+#[tactic(auto, unfolding(crate::specs::Actions::type_refusals, crate::specs::Actions::action_at, crate::specs::Served::is_served))]
+fn read_push_vlan(rest: &[u8], len: usize, packet_out: bool) -> Result<Action, Code>
+    requires long { 8 ≤ len }
+    requires whole { len ≤ length rest.now }
+    requires len { len ≡ len_at rest.now }
+    requires kind { type_at rest.now ≡ 17 }
+    ensures none { OnOk result (first_of (type_refusals packet_out rest.now) ≡ None) }
+    ensures action { IfOk result (λ action. action_at rest.now ≡ Some action) }
+    ensures served { IfOk result (λ action. IsTrue (is_served packet_out action)) }
+    ensures first { IfErr result (λ code. first_of (type_refusals packet_out rest.now) ≡ Some code) }
+{
+    if len != 8 {
+        return Err(BAD_ACTION_LEN);
+    }
+    let (_, body) = rest.split_at(4);
+    let ethertype = BigEndian::read_u16(body);
+    if ethertype != 0x8100 && ethertype != 0x88a8 {
+        return Err(BAD_ARGUMENT);
+    }
+    Ok(Action::PushVlan(ethertype))
+}
+
+// The action, if its length is 8.
+fn with_eight_bytes(action: Action, len: usize) -> Result<Action, Code>
+    ensures eight { OnOk result ((len == 8) ≡ true) }
+    ensures same { IfOk result (λ read. read ≡ action) }
+    ensures other { IfErr result (λ code. ((len == 8) ≡ false) × (code ≡ record { kind = 2; code = 1 })) }
+{
+    if len == 8 {
+        Ok(action)
+    } else {
+        Err(BAD_ACTION_LEN)
+    }
+}
+
+#[tactic(auto, unfolding(crate::specs::Actions::type_refusals, crate::specs::Actions::action_at, crate::specs::Served::is_served))]
 fn read_type(rest: &[u8], len: usize, packet_out: bool) -> Result<Action, Code>
     requires long { 8 ≤ len }
     requires whole { len ≤ length rest.now }
     requires len { len ≡ len_at rest.now }
     ensures none { OnOk result (first_of (type_refusals packet_out rest.now) ≡ None) }
     ensures action { IfOk result (λ action. action_at rest.now ≡ Some action) }
-    ensures served { IfOk result (λ action. IsTrue (is_served action)) }
+    ensures served { IfOk result (λ action. IsTrue (is_served packet_out action)) }
     ensures first { IfErr result (λ code. first_of (type_refusals packet_out rest.now) ≡ Some code) }
 {
+    let (_, body) = rest.split_at(4);
     match BigEndian::read_u16(rest) {
-        0 => {
-            if len != 16 {
-                return Err(BAD_ACTION_LEN);
-            }
-            let (_, body) = rest.split_at(4);
-            let port = BigEndian::read_u32(body);
-            if !is_port(packet_out, port) {
-                return Err(BAD_OUT_PORT);
-            }
-            let (_, after) = rest.split_at(8);
-            let max_len = BigEndian::read_u16(after);
-            Ok(Action::Output { port, max_len })
-        }
+        0 => read_output(rest, len, packet_out),
+        17 => read_push_vlan(rest, len, packet_out),
+        18 => with_eight_bytes(Action::PopVlan, len),
+        22 => with_eight_bytes(Action::Group(BigEndian::read_u32(body)), len),
+        23 => with_eight_bytes(Action::SetNwTtl(rest[4]), len),
+        24 => with_eight_bytes(Action::DecNwTtl, len),
+        25 => read_set_field(rest, len),
         0xffff => Err(BAD_ACTION_EXPERIMENTER),
         _ => Err(BAD_ACTION_TYPE),
     }
@@ -55,7 +113,7 @@ fn read_action(rest: &[u8], seen: &[Action], packet_out: bool) -> Result<(Action
     ensures room { OnOk result (length seen.now ≤ 63) }
     ensures none { OnOk result (first_of (action_refusals packet_out seen.now rest.now) ≡ None) }
     ensures action { IfOk result (λ read. action_at rest.now ≡ Some read.0) }
-    ensures served { IfOk result (λ read. IsTrue (is_served read.0)) }
+    ensures served { IfOk result (λ read. IsTrue (is_served packet_out read.0)) }
     ensures first { IfErr result (λ code. first_of (action_refusals packet_out seen.now rest.now) ≡ Some code) }
 {
     if seen.len() > 63 {
@@ -75,7 +133,7 @@ fn read_action(rest: &[u8], seen: &[Action], packet_out: bool) -> Result<(Action
 
 fn read_all(alloc: Global, bytes: &[u8], packet_out: bool) -> Result<Vec<Action>, ReadError>
     ensures found { IfOk result (λ v. AreActions packet_out [] bytes.now v.items None) }
-    ensures served { IfOk result (λ v. IsTrue (are_served v.items)) }
+    ensures served { IfOk result (λ v. IsTrue (are_served packet_out v.items)) }
     ensures refused { IfErr result (Fails (λ code. (before : List AnAction) × AreActions packet_out [] bytes.now before (Some code))) }
 {
     let mut actions = Vec::new(alloc);
@@ -95,6 +153,7 @@ fn read_all(alloc: Global, bytes: &[u8], packet_out: bool) -> Result<Vec<Action>
 
 fn parse_actions(alloc: Global, bytes: &[u8], packet_out: bool) -> Result<ActionList, ReadError>
     ensures found { IfOk result (λ list. AreActions packet_out [] bytes.now list None) }
+    ensures served { IfOk result (λ list. IsTrue (are_served packet_out list)) }
     ensures refused { IfErr result (Fails (λ code. (before : List AnAction) × AreActions packet_out [] bytes.now before (Some code))) }
 {
     let actions = read_all(alloc, bytes, packet_out)?;
@@ -110,6 +169,10 @@ pub fn read_actions(alloc: Global, bytes: &[u8], packet_out: bool) -> Result<Act
     // Other bytes have one code, and it is answered, unless memory runs out.
     ensures refused { IfErr result (Fails (λ code. (before : List AnAction) × AreActions packet_out [] bytes.now before (Some code))) }
     ensures exact { (code : ErrorCode) (before : List AnAction) → AreActions packet_out [] bytes.now before (Some code) → Refuses result code }
+    // Both, as a function of the bytes.
+    ensures reads { AnswersAs result (actions_said packet_out bytes.now) }
+    // What is read may stand where it was read.
+    ensures served { IfOk result (λ list. IsTrue (are_served packet_out list)) }
 {
     parse_actions(alloc, bytes, packet_out)
 }

@@ -1,6 +1,8 @@
 //! The instructions of an entry.
-ghost use Rattle.std.specs.Prelude.{◌≡◌, ◌↔◌, ◌∷◌, ◌++◌, [], false, length, IsTrue, IfOk, IfSome, IfNone};
-ghost use Rattle.of_actions.specs.Instructions.{are_once as are_once_each};
+ghost use Rattle.std.specs.Prelude.{◌≡◌, ◌↔◌, ◌∷◌, ◌++◌, [], false, nat_lt, length, IsTrue, IfOk, IfSome, IfNone};
+ghost use Rattle.std.specs.List.{list_all};
+ghost use Rattle.of_actions.specs.InstructionLists.{are_kept as are_kept_so, is_served_body, is_for as is_for_table, are_for as are_for_table, run_place};
+ghost use Rattle.of_actions.specs.Rising.{is_rising};
 
 use crate::instruction::Instruction;
 use std::alloc::{AllocError, Global};
@@ -15,23 +17,23 @@ pub struct InstructionList {
 impl Model for InstructionList {
     ghost use Rattle.std.specs.Prelude.{List, IsTrue};
     ghost use Rattle.of_actions.specs.declared.instruction.Instruction.{Instruction};
-    ghost use Rattle.of_actions.specs.Instructions.{are_once};
+    ghost use Rattle.of_actions.specs.InstructionLists.{are_kept};
 
     ghost Value = { List Instruction };
 
     ghost view = { λ list. list.instructions.items };
 
-    ghost invariant = { λ list. IsTrue (are_once list.instructions.items) };
+    ghost invariant = { λ list. IsTrue (are_kept list.instructions.items) };
 }
 
 impl InstructionList {
-    /// The list of these instructions. None where a type stands twice.
+    /// The list of these instructions. None where they are not in the order of running, one of a type, or one is not served.
     pub fn new(instructions: Vec<Instruction>) -> Option<InstructionList>
         ensures list { IfSome result (λ list. list ≡ instructions.items) }
-        ensures once { IfSome result (λ list. IsTrue (are_once_each list)) }
-        ensures none { IfNone result (are_once_each instructions.items ≡ false) }
+        ensures kept { IfSome result (λ list. IsTrue (are_kept_so list)) }
+        ensures none { IfNone result (are_kept_so instructions.items ≡ false) }
     {
-        if are_once(&instructions) {
+        if are_kept(&instructions) {
             Some(InstructionList { instructions })
         } else {
             None
@@ -40,7 +42,7 @@ impl InstructionList {
 
     pub fn as_slice(&self) -> &[Instruction]
         ensures instructions { result.now ≡ self.now }
-        ensures once { IsTrue (are_once_each self.now) }
+        ensures kept { IsTrue (are_kept_so self.now) }
     {
         self.instructions.as_slice()
     }
@@ -55,6 +57,13 @@ impl InstructionList {
         ensures { IsTrue result ↔ (self.now ≡ []) }
     {
         self.instructions.is_empty()
+    }
+
+    /// Whether an entry of the table may have them: a GOTO_TABLE leads to a later table (OpenFlow 1.3.5, 5.9).
+    pub fn are_for(&self, table: u8) -> bool
+        ensures { result ≡ are_for_table table self.now }
+    {
+        all_for(&self.instructions, table)
     }
 
     pub fn copy(&self) -> Result<InstructionList, AllocError>
@@ -80,18 +89,63 @@ fn copy_instruction(instruction: &Instruction) -> Result<Instruction, AllocError
 {
     match instruction {
         Instruction::Apply(actions) => Ok(Instruction::Apply(actions.copy()?)),
+        Instruction::Clear => Ok(Instruction::Clear),
+        Instruction::Write(actions) => Ok(Instruction::Write(actions.copy()?)),
+        Instruction::Metadata { value, mask } => Ok(Instruction::Metadata {
+            value: *value,
+            mask: *mask,
+        }),
+        Instruction::Goto(table) => Ok(Instruction::Goto(*table)),
     }
 }
 
-fn are_once(instructions: &[Instruction]) -> bool
-    ensures { result ≡ are_once_each instructions.now }
+fn is_for(instruction: &Instruction, table: u8) -> bool
+    ensures { result ≡ is_for_table table instruction.now }
+{
+    match instruction {
+        Instruction::Goto(to) => table < *to,
+        _ => true,
+    }
+}
+
+fn all_for(instructions: &[Instruction], table: u8) -> bool
+    ensures { result ≡ are_for_table table instructions.now }
+{
+    instructions
+        .iter()
+        .all(|instruction| is_for(instruction, table))
+}
+
+fn all_served(instructions: &[Instruction]) -> bool
+    ensures { result ≡ list_all is_served_body instructions.now }
+{
+    instructions
+        .iter()
+        .all(|instruction| instruction.is_served_body())
+}
+
+fn is_before(first: &Instruction, after: &[Instruction]) -> bool
+    ensures { result ≡ list_all (λ y. nat_lt (run_place first.now) (run_place y)) after.now }
+{
+    let place = first.run_place();
+    after.iter().all(|other| place < other.run_place())
+}
+
+fn are_rising(instructions: &[Instruction]) -> bool
+    ensures { result ≡ is_rising run_place instructions.now }
 {
     let mut rest = instructions;
     while let [first, after @ ..] = rest {
-        if after.iter().any(|other| other.kind() == first.kind()) {
+        if !is_before(first, after) {
             return false;
         }
         rest = after;
     }
     true
+}
+
+fn are_kept(instructions: &[Instruction]) -> bool
+    ensures { result ≡ are_kept_so instructions.now }
+{
+    are_rising(instructions) && all_served(instructions)
 }

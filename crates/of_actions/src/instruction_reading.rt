@@ -1,115 +1,43 @@
 //! Instructions from bytes.
-ghost use Rattle.std.specs.Prelude.{◌≡◌, ◌≤◌, ◌==◌, ℕ, List, [], true, false, length, IsTrue, IfOk, OnOk, IfErr, Some, None};
+ghost use Rattle.std.specs.Prelude.{◌≡◌, ℕ, List, true, IsTrue, IfOk, IfErr, Some, None};
 ghost use Rattle.std.specs.List.{list_all};
 ghost use Rattle.of_wire.specs.declared.code.Code.{Code as ErrorCode};
 ghost use Rattle.of_wire.specs.Failures.{Fails, Reads as AnswersAs};
-ghost use Rattle.of_wire.specs.Refusals.{first_of};
-ghost use Rattle.of_wire.specs.Numbered.{is_used, is_distinct};
 ghost use Rattle.of_actions.specs.declared.instruction.Instruction.{Instruction as AnInstruction};
-ghost use Rattle.of_actions.specs.Beginnings.{len_at};
-ghost use Rattle.of_actions.specs.Headers.{Header, AreHeaders, header_at, header_refusals, is_apply, is_unserved as is_unserved_kind, kind_of};
+ghost use Rattle.of_actions.specs.InstructionLists.{is_served_body, are_for};
 ghost use Rattle.of_actions.specs.Instructions.{AreBodies, IsBody, IsFault, IsRefused, SpellsInstructions};
 ghost use Rattle.of_actions.specs.InstructionReading.{instructions_of};
 ghost use Rattle.of_actions.specs.Readings.{Reads, Refuses};
+ghost use Rattle.of_actions.specs.Unread.{is_sound};
 
 use crate::action_reading::read_actions;
-use crate::codes::{
-    APPLY_ACTIONS, BAD_INSTRUCTION_EXPERIMENTER, BAD_INSTRUCTION_LEN, UNKNOWN_INSTRUCTION,
-    UNSUPPORTED_INSTRUCTION,
-};
+use crate::header_reading::read_headers;
 use crate::instruction::Instruction;
 use crate::instruction_list::InstructionList;
-use crate::unread::UnreadInstruction;
-use byteorder::{BigEndian, ByteOrder};
-use of_wire::{Code, ReadError};
+use crate::run_order::arrange;
+use crate::unread::{Header, UnreadInstruction};
+use of_wire::ReadError;
 use std::alloc::Global;
 
-fn is_unserved(kind: u16) -> bool
-    ensures { result ≡ is_unserved_kind kind }
+fn read_body(alloc: Global, unread: &UnreadInstruction) -> Result<Instruction, ReadError>
+    requires { is_sound unread.now ≡ true }
+    ensures found { IfOk result (λ instruction. IsBody unread.now instruction) }
+    ensures served { IfOk result (λ instruction. is_served_body instruction ≡ true) }
+    ensures refused { IfErr result (Fails (λ code. IsFault unread.now (Some code))) }
 {
-    matches!(kind, 1 | 2 | 3 | 5 | 6)
-}
-
-fn has_kind(seen: &[UnreadInstruction], kind: u16) -> bool
-    ensures { result ≡ is_used kind_of kind seen.now }
-{
-    seen.iter().any(|other| other.kind == kind)
-}
-
-// The instruction at the front, and its size.
-#[tactic(auto, unfolding(crate::specs::Headers::header_refusals, crate::specs::Headers::header_at))]
-fn read_header<'a>(
-    rest: &'a [u8],
-    seen: &[UnreadInstruction],
-) -> Result<(UnreadInstruction<'a>, usize), Code>
-    ensures size { IfOk result (λ read. read.1 ≡ len_at rest.now) }
-    ensures some { IfOk result (λ read. 8 ≤ read.1) }
-    ensures whole { IfOk result (λ read. read.1 ≤ length rest.now) }
-    ensures none { OnOk result (first_of (header_refusals seen.now rest.now) ≡ None) }
-    ensures header { IfOk result (λ read. header_at rest.now ≡ Some read.0) }
-    ensures kind { IfOk result (λ read. read.0.kind ≡ 4) }
-    ensures once { IfOk result (λ read. is_used kind_of read.0.kind seen.now ≡ false) }
-    ensures first { IfErr result (λ code. first_of (header_refusals seen.now rest.now) ≡ Some code) }
-{
-    if rest.len() < 4 {
-        return Err(BAD_INSTRUCTION_LEN);
+    match unread.header {
+        Header::Goto(table) => Ok(Instruction::Goto(table)),
+        Header::Metadata { value, mask } => Ok(Instruction::Metadata { value, mask }),
+        Header::Write(bytes) => Ok(Instruction::Write(read_actions(alloc, bytes, false)?)),
+        Header::Apply(bytes) => Ok(Instruction::Apply(read_actions(alloc, bytes, false)?)),
+        Header::Clear => Ok(Instruction::Clear),
     }
-    let (_, after) = rest.split_at(2);
-    let len = BigEndian::read_u16(after) as usize;
-    if len < 8 || len % 8 != 0 || rest.len() < len {
-        return Err(BAD_INSTRUCTION_LEN);
-    }
-    let kind = BigEndian::read_u16(rest);
-    if kind == 0xffff {
-        return Err(BAD_INSTRUCTION_EXPERIMENTER);
-    }
-    if is_unserved(kind) {
-        return Err(UNSUPPORTED_INSTRUCTION);
-    }
-    if kind != APPLY_ACTIONS {
-        return Err(UNKNOWN_INSTRUCTION);
-    }
-    if has_kind(seen, kind) {
-        return Err(UNSUPPORTED_INSTRUCTION);
-    }
-    let (_, padded) = rest.split_at(8);
-    let (body, _) = padded.split_at(len - 8);
-    Ok((UnreadInstruction { kind, body }, len))
-}
-
-fn read_headers(alloc: Global, bytes: &[u8]) -> Result<Vec<UnreadInstruction>, ReadError>
-    ensures found { IfOk result (λ v. AreHeaders [] bytes.now v.items None) }
-    ensures kinds { IfOk result (λ v. list_all is_apply v.items ≡ true) }
-    ensures once { IfOk result (λ v. is_distinct kind_of v.items ≡ true) }
-    ensures refused { IfErr result (Fails (λ code. (before : List Header) × AreHeaders [] bytes.now before (Some code))) }
-{
-    let mut headers = Vec::new(alloc);
-    let mut rest = bytes;
-    while !rest.is_empty() {
-        match read_header(rest, &headers) {
-            Err(code) => return Err(ReadError::Refused(code)),
-            Ok((header, size)) => {
-                let (_, after) = rest.split_at(size);
-                rest = after;
-                headers.push(header)?;
-            }
-        }
-    }
-    Ok(headers)
-}
-
-fn read_body(alloc: Global, header: &UnreadInstruction) -> Result<Instruction, ReadError>
-    requires { header.now.kind ≡ 4 }
-    ensures found { IfOk result (λ instruction. IsBody header.now instruction) }
-    ensures refused { IfErr result (Fails (λ code. IsFault header.now (Some code))) }
-{
-    let actions = read_actions(alloc, header.body, false)?;
-    Ok(Instruction::Apply(actions))
 }
 
 fn read_bodies(alloc: Global, headers: &[UnreadInstruction]) -> Result<Vec<Instruction>, ReadError>
-    requires { list_all is_apply headers.now ≡ true }
+    requires { list_all is_sound headers.now ≡ true }
     ensures found { IfOk result (λ v. AreBodies headers.now v.items None) }
+    ensures served { IfOk result (λ v. list_all is_served_body v.items ≡ true) }
     ensures refused { IfErr result (Fails (λ code. (before : List AnInstruction) × AreBodies headers.now before (Some code))) }
 {
     let mut instructions = Vec::new(alloc);
@@ -122,14 +50,16 @@ fn read_bodies(alloc: Global, headers: &[UnreadInstruction]) -> Result<Vec<Instr
 
 fn parse_instructions(alloc: Global, bytes: &[u8], table: u8) -> Result<InstructionList, ReadError>
     ensures found { IfOk result (λ list. SpellsInstructions table bytes.now list) }
+    ensures valid { IfOk result (λ list. IsTrue (are_for table list)) }
     ensures refused { IfErr result (Fails (IsRefused table bytes.now)) }
 {
-    let headers = read_headers(alloc, bytes)?;
-    let instructions = read_bodies(alloc, &headers)?;
+    let headers = read_headers(alloc, bytes, table)?;
+    let message = read_bodies(alloc, &headers)?;
+    let instructions = arrange(alloc, message)?;
     Ok(InstructionList { instructions })
 }
 
-/// All of the bytes as the instructions of an entry of the table (OpenFlow 1.3.5, 7.2.4).
+/// All of the bytes as the instructions of an entry of the table, in the order of running (OpenFlow 1.3.5, 5.9 and 7.2.4).
 /// All headers are looked at before the first action, and then the actions in the order of the message.
 pub fn read_instructions(
     alloc: Global,
@@ -144,6 +74,8 @@ pub fn read_instructions(
     ensures exact { (code : ErrorCode) → IsRefused table bytes.now code → Refuses result code }
     // Both, as a function of the bytes.
     ensures reads { AnswersAs result (instructions_of table bytes.now) }
+    // An entry of the table may have what is read.
+    ensures valid { IfOk result (λ list. IsTrue (are_for table list)) }
 {
     parse_instructions(alloc, bytes, table)
 }

@@ -1,10 +1,14 @@
 //! Times one thing by the clock: `of_bench NAME` prints the time of a call and a checksum of the answers, and without a name nothing.
 #![tactic(auto)]
 
+mod acting;
 mod clock;
+mod flows;
+mod forwarding;
 mod frames;
 mod headers;
 mod matching;
+mod rewriting;
 mod switching;
 
 use std::{env, io};
@@ -25,10 +29,11 @@ fn run(rt: &HostRuntime, name: &str) -> io::Result<()> {
         "read_match" => matching::time_read_match(rt),
         "flow_mod" => switching::time_flow_mod(rt),
         "frame_scan" => switching::time_frame_scan(rt),
-        _ => {
-            println!(rt;
-                "of_bench: no such name; there are key, matches, read_match, flow_mod, frame_scan"
-            )
-        }
+        "set" => rewriting::time_set(rt),
+        "push_pop" => rewriting::time_push_pop(rt),
+        "read_actions" => acting::time_read_actions(rt),
+        "frame" => forwarding::time_frame(rt),
+        "pipeline" => forwarding::time_pipeline(rt),
+        _ => println!(rt; "of_bench: no such name; bench/README.md lists them"),
     }
 }

@@ -3,6 +3,7 @@
 use crate::clock::{Timed, time};
 use of_classifier::Scan;
 use of_switch::{PortChange, Switch};
+use std::alloc::Global;
 use std::io;
 
 const HELLO: [u8; 8] = [4, 0, 0, 8, 0, 0, 0, 1];
@@ -35,12 +36,19 @@ fn port(number: u32) -> PortChange {
     }
 }
 
-// A switch of one port with so many flows that its frames do not match; None where memory runs out.
-fn switch_with(rt: &HostRuntime, flows: u16) -> Option<Switch<Scan>> {
-    let mut switch = Switch::<Scan>::new(rt.alloc(), 1).ok()?;
+/// A switch of the ports 1 and 2, with a controller that said HELLO; `None` where memory runs out.
+pub fn open_switch(alloc: Global) -> Option<Switch<Scan>> {
+    let mut switch = Switch::<Scan>::new(alloc, 1).ok()?;
     switch.port_change(port(1)).ok()?;
+    switch.port_change(port(2)).ok()?;
     switch.connected().ok()?;
     switch.piece(&HELLO).ok()?;
+    Some(switch)
+}
+
+// A switch with so many flows that its frames do not match; None where memory runs out.
+fn switch_with(rt: &HostRuntime, flows: u16) -> Option<Switch<Scan>> {
+    let mut switch = open_switch(rt.alloc())?;
     for priority in 0..flows {
         switch.piece(&add(priority)).ok()?;
     }

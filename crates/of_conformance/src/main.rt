@@ -10,7 +10,7 @@ use std::{fs, io};
 mod tests;
 
 /// The event files, each beside the text that it is to print.
-const NAMES: [&str; 27] = [
+const NAMES: [&str; 49] = [
     "hello",
     "wrong-version",
     "first-path",
@@ -38,6 +38,28 @@ const NAMES: [&str; 27] = [
     "idle-timeout",
     "hard-before-idle",
     "moment-below-the-latest",
+    "second-tag-pushed",
+    "vlan-set",
+    "absent-layers-left-alone",
+    "ttl-of-two-lowered",
+    "ttl-and-checksum",
+    "udp-port-and-checksum",
+    "action-set-order",
+    "ttl-expires-between-outputs",
+    "table-miss-to-controller",
+    "packet-in-whole-without-buffer",
+    "packet-out-to-table",
+    "packet-out-bad-action",
+    "packet-out-bad-length",
+    "three-tables",
+    "idle-and-hard-timeout",
+    "reserved-ports",
+    "output-to-ingress-or-absent-port",
+    "refused-packet-outs",
+    "refused-flow-mods",
+    "packet-ins-before-and-after-hello",
+    "packet-in-reasons",
+    "cleared-set-and-late-miss",
 ];
 
 /// A read gives so many bytes at most.

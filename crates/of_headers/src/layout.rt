@@ -38,7 +38,7 @@ pub struct Layout {
 }
 
 /// Whether a type is that of a VLAN tag (IEEE 802.1Q, 9.5).
-fn is_tag(kind: u16) -> bool
+pub fn is_tag(kind: u16) -> bool
     ensures { result ≡ is_tag_type kind }
 {
     kind == 0x8100 || kind == 0x88a8

@@ -13,7 +13,8 @@ mod reading;
 mod tests;
 mod transport;
 
+pub use bytes::word_at;
 pub use headers::{FrameFault, Headers, check_length, read, read_inside};
 pub use key::FieldKey;
-pub use layout::{Layout, Network, Payload, layout_in};
+pub use layout::{Layout, Network, Payload, is_tag, layout_in};
 pub use of_layers::{Field, FieldRow, Need, Place, Transport, spelt_by_one};

@@ -1,4 +1,11 @@
+pub mod Aged
+pub mod Promises
+pub mod Sets
 pub mod Reaching
 pub mod Moving
 pub mod Ending
+pub mod Weighing
+pub mod Whole
+pub mod Growing
 pub mod Renumbering
+pub mod Turns

@@ -1,20 +1,33 @@
 -- What each row moves.
-use Rattle.std.proofs.Common.{◌≡◌, ℕ, ◌+◌, ◌<◌, suc, Bool, true, List, [], ◌∷◌, ◌++◌, refl, sym, ◌∙◌, ap, subst, length, get_or, drop, Some, None, add-one, drop-cons}
+use Rattle.std.proofs.Common.{◌≡◌, ◌≢◌, ◌==◌, ℕ, ◌+◌, ◌<◌, suc, Bool, true, false, List, [], ◌∷◌, ◌++◌, refl, sym, ◌∙◌, ap, subst, length, get_or, drop, Some, None, append_assoc, add-one, drop-cons, ◌⊎◌, inl, inr}
+use Rattle.std.specs.Prelude.{map, IsTrue}
 use Rattle.std.proofs.lemmas.List.{append-nil}
+use Rattle.of_layers.specs.Reading.{layers_of}
+use Rattle.of_rewrite.specs.declared.frame.Ttl.{Ttl}
+use Rattle.of_rewrite.specs.declared.frame.Ttl.TheVariants.{Done, Expired, Absent}
+use Rattle.of_rewrite.specs.Aging.{ttl_of, answer_to}
+use Rattle.of_rewrite.specs.Frames.{IsFrame, frame_aged}
 use Rattle.of_actions.specs.declared.action.Action.{Action}
-use Rattle.of_actions.specs.declared.action.Action.TheVariants.{Output}
+use Rattle.of_actions.specs.declared.action.Action.TheVariants.{Output, PushVlan, PopVlan, Group as ToGroup, SetNwTtl, DecNwTtl, SetField}
+use Rattle.of_actions.specs.PortNumbers.{table}
 use Rattle.of_actions.specs.declared.instruction.Instruction.{Instruction}
-use Rattle.of_actions.specs.declared.instruction.Instruction.TheVariants.{Apply}
+use Rattle.of_actions.specs.declared.instruction.Instruction.TheVariants.{Apply, Clear, Write, Metadata, Goto}
+use Rattle.of_action_set.specs.Sets.{with_actions, in_order}
 use Rattle.of_table.specs.declared.flow.Flow.{Flow}
 use Rattle.of_machine.specs.declared.data.Packet.{Packet}
-use Rattle.of_machine.specs.declared.data.Count.TheVariants.{Lookup as CountLookup, Matched}
+use Rattle.of_machine.specs.declared.data.PacketInReason.TheVariants.{InvalidTtl}
+use Rattle.of_machine.specs.declared.data.Count.TheVariants.{Lookup as CountLookup, Matched, Group as CountGroup, Bucket}
 use Rattle.of_machine.specs.declared.data.Step.{Step}
-use Rattle.of_machine.specs.declared.data.Step.TheVariants.{Act as DidAct, End, Set as DidSet, Apply as DidApply, Miss, Entry}
+use Rattle.of_machine.specs.declared.data.Step.TheVariants.{Miss, Entry, Apply as DidApply, Clear as DidClear, Write as DidWrite, Metadata as DidMetadata, Goto as DidGoto, Set as DidSet, Act as DidAct, TtlExpired, End}
 use Rattle.of_machine.specs.declared.data.Outcome.{Outcome}
-use Rattle.of_machine.specs.TheWorld.{TheWorld}
+use Rattle.of_machine.specs.declared.machine.Going.{Going}
+use Rattle.of_machine.specs.declared.machine.Going.TheVariants.{Continues, Ended}
 use Rattle.of_machine.specs.Gained.{Gains}
-use Rattle.of_machine.specs.Rows.{Work, Act, Do, Lookup, RunSet, lookup_row, entry_row, miss_row, at_entry, works, key_of, Task, task, Row, row, goes_on, emission, acts, set_out, set_in_order}
-use Rattle.of_machine.specs.Runs.{point, Moves}
+use Rattle.of_machine.specs.Outside.{is_to_tables}
+use Rattle.of_machine.specs.TheWorld.{TheWorld}
+use Rattle.of_machine.specs.Rows.{Work, Lookup, Do, RunSet, Act, lookup_row, entry_row, miss_row, at_entry, works, key_of, Task, task, Row, row, act_row, output_row, table_row, rewritten, aged_row, group_row, goes_on, emits, emission, packet_in, fresh, bucket_copy, copies, with_metadata, acts, set_out}
+use Rattle.of_machine.specs.Runs.{point, Moves, left_of}
+use Rattle.of_machine.proofs.Aged.{aged_same}
 use Rattle.of_machine.proofs.Reaching.{one}
 
 module _ (w : TheWorld) (keeps : Bool) (p : Packet) (rest : List Work) (others : List Task) (o : Outcome) (told told' : List Step) where
@@ -37,27 +50,104 @@ module _ (w : TheWorld) (keeps : Bool) (p : Packet) (rest : List Work) (others :
   pub ends : (keeps ≡ true → told' ≡ told ++ End ∷ []) → Moves w keeps (point (task p [] ∷ others) o told) (point others o told')
   ends = by_row o [] (row w p []) refl (sym (append-nil o.items.items)) (sym (append-nil o.counts.items))
 
-  pub outputs : (o' : Outcome) (port max_len : ℕ) → Gains o (emission w.ports p port) o' → (keeps ≡ true → told' ≡ told ++ DidAct (Output port max_len) ∷ []) →
+  -- ---- actions
+
+  output_is : (a : Action) (port : ℕ) → (port == table) ≡ false → output_row w p rest a port ≡ emits (DidAct a) (emission w.ports p port) (task p rest ∷ [])
+  output_is a port e = rw e refl
+
+  pub outputs : (o' : Outcome) (port max_len : ℕ) → (port == table) ≡ false → Gains o (emission w.ports p port) o' → (keeps ≡ true → told' ≡ told ++ DidAct (Output port max_len) ∷ []) →
       Moves w keeps (point (task p (Act (Output port max_len) ∷ rest) ∷ others) o told) (point (task p rest ∷ others) o' told')
-  outputs o' port max_len gains = by_row o' (Act (Output port max_len) ∷ rest) (row w p (Act (Output port max_len) ∷ rest)) refl gains.items gains.counts
+  outputs o' port max_len out gains =
+      by_row o' (Act (Output port max_len) ∷ rest) (emits (DidAct (Output port max_len)) (emission w.ports p port) (task p rest ∷ [])) (output_is (Output port max_len) port out) gains.items gains.counts
 
-  -- the port of the action, as the code has it
-  pub acted : (a : Action) (n : ℕ) → ((port max_len : ℕ) → a ≡ Output port max_len → n ≡ port) → (o' : Outcome) → Gains o (emission w.ports p n) o' → (keeps ≡ true → told' ≡ told ++ DidAct a ∷ []) →
-      Moves w keeps (point (task p (Act a ∷ rest) ∷ others) o told) (point (task p rest ∷ others) o' told')
-  acted (Output port max_len) n is o' gains = outputs o' port max_len (rw (is port max_len refl) at gains)
+  tables_is : (a : Action) → IsTrue (is_to_tables a) → act_row w p rest a ≡ table_row p rest a
+  tables_is (Output port max_len) e = rw e refl
+  tables_is (PushVlan type) e = cc
+  tables_is PopVlan e = cc
+  tables_is (ToGroup g) e = cc
+  tables_is (SetNwTtl ttl) e = cc
+  tables_is DecNwTtl e = cc
+  tables_is (SetField f v) e = cc
 
-  pub runs_set : (keeps ≡ true → told' ≡ told ++ DidSet ∷ []) →
-      Moves w keeps (point (task p (RunSet ∷ rest) ∷ others) o told) (point (task (set_out p) (acts (set_in_order p) ++ rest) ∷ others) o told')
-  runs_set = quiet (RunSet ∷ rest) DidSet (set_out p) (acts (set_in_order p) ++ rest) refl
+  pub dispatches : (a : Action) → IsTrue (is_to_tables a) → (keeps ≡ true → told' ≡ told ++ DidAct a ∷ []) →
+      Moves w keeps (point (task p (Act a ∷ rest) ∷ others) o told) (point (task (fresh p) (Lookup 0 ∷ []) ∷ task p rest ∷ others) o told')
+  dispatches a e = by_row o (Act a ∷ rest) (table_row p rest a) (tables_is a e) (sym (append-nil o.items.items)) (sym (append-nil o.counts.items))
+
+  -- neither an output nor a group nor an aging
+  pub rewrites : (a : Action) → ((port max_len : ℕ) → a ≢ Output port max_len) → ((g : ℕ) → a ≢ ToGroup g) → a ≢ DecNwTtl → (frame : List ℕ) → frame ≡ rewritten a p.frame → (keeps ≡ true → told' ≡ told ++ DidAct a ∷ []) →
+      Moves w keeps (point (task p (Act a ∷ rest) ∷ others) o told) (point (task (record p { frame = frame }) rest ∷ others) o told')
+  rewrites (Output port max_len) not_output not_group not_dec frame e = absurd (not_output port max_len refl)
+  rewrites (PushVlan type) not_output not_group not_dec frame e = rw e (quiet (Act (PushVlan type) ∷ rest) (DidAct (PushVlan type)) (record p { frame = rewritten (PushVlan type) p.frame }) rest refl)
+  rewrites PopVlan not_output not_group not_dec frame e = rw e (quiet (Act PopVlan ∷ rest) (DidAct PopVlan) (record p { frame = rewritten PopVlan p.frame }) rest refl)
+  rewrites (ToGroup g) not_output not_group not_dec frame e = absurd (not_group g refl)
+  rewrites (SetNwTtl ttl) not_output not_group not_dec frame e = rw e (quiet (Act (SetNwTtl ttl) ∷ rest) (DidAct (SetNwTtl ttl)) (record p { frame = rewritten (SetNwTtl ttl) p.frame }) rest refl)
+  rewrites DecNwTtl not_output not_group not_dec frame e = absurd (not_dec refl)
+  rewrites (SetField f v) not_output not_group not_dec frame e = rw e (quiet (Act (SetField f v) ∷ rest) (DidAct (SetField f v)) (record p { frame = rewritten (SetField f v) p.frame }) rest refl)
+
+  aged_is : (answer : Ttl) → answer ≡ answer_to (ttl_of (layers_of p.frame)) → act_row w p rest DecNwTtl ≡ aged_row p rest answer
+  aged_is answer e = rw (← e) refl
+
+  pub expires : (o' : Outcome) (frame : List ℕ) (answer : Ttl) → answer ≡ Expired → answer ≡ answer_to (ttl_of (layers_of p.frame)) → IsFrame p.frame → frame ≡ frame_aged p.frame → Gains o (packet_in InvalidTtl (record p { frame = frame })) o' → (keeps ≡ true → told' ≡ told ++ TtlExpired ∷ []) →
+      Moves w keeps (point (task p (Act DecNwTtl ∷ rest) ∷ others) o told) (point (task (record p { frame = frame }) [] ∷ others) o' told')
+  expires o' frame answer is e known same =
+      let expired : Expired ≡ answer_to (ttl_of (layers_of p.frame)) = sym is ∙ e in
+      let kept : frame ≡ p.frame = same ∙ aged_same p.frame known (λ done. let x = expired in cc) in
+      rw kept (λ gains. by_row o' (Act DecNwTtl ∷ rest) (aged_row p rest Expired) (aged_is Expired expired) gains.items gains.counts)
+
+  pub ages : (frame : List ℕ) (answer : Ttl) → (answer ≡ Done) ⊎ (answer ≡ Absent) → answer ≡ answer_to (ttl_of (layers_of p.frame)) → IsFrame p.frame → frame ≡ frame_aged p.frame → (keeps ≡ true → told' ≡ told ++ DidAct DecNwTtl ∷ []) →
+      Moves w keeps (point (task p (Act DecNwTtl ∷ rest) ∷ others) o told) (point (task (record p { frame = frame }) rest ∷ others) o told')
+  ages frame answer (inl done) e known same =
+      rw same (quiet (Act DecNwTtl ∷ rest) (DidAct DecNwTtl) (record p { frame = frame_aged p.frame }) rest (aged_is Done (sym done ∙ e)))
+  ages frame answer (inr absent) e known same =
+      let none : Absent ≡ answer_to (ttl_of (layers_of p.frame)) = sym absent ∙ e in
+      let kept : frame ≡ p.frame = same ∙ aged_same p.frame known (λ done. let x = none in cc) in
+      rw kept (quiet (Act DecNwTtl ∷ rest) (DidAct DecNwTtl) p rest (aged_is Absent none))
+
+  no_group : (g : ℕ) → None ≡ w.chosen g → group_row w p rest g (w.chosen g) ≡ goes_on (DidAct (ToGroup g)) p rest
+  no_group g e = rw (← e) refl
+
+  pub passes_by : (g : ℕ) → None ≡ w.chosen g → (keeps ≡ true → told' ≡ told ++ DidAct (ToGroup g) ∷ []) →
+      Moves w keeps (point (task p (Act (ToGroup g) ∷ rest) ∷ others) o told) (point (task p rest ∷ others) o told')
+  passes_by g e = quiet (Act (ToGroup g) ∷ rest) (DidAct (ToGroup g)) p rest (no_group g e)
+
+  group_is : (g : ℕ) (places : List ℕ) → Some places ≡ w.chosen g → group_row w p rest g (w.chosen g) ≡ group_row w p rest g (Some places)
+  group_is g places e = rw (← e) refl
+
+  pub groups : (o' : Outcome) (g : ℕ) (places : List ℕ) → Some places ≡ w.chosen g →
+      o'.items.items ≡ o.items.items → o'.counts.items ≡ o.counts.items ++ (CountGroup g (length p.frame) ∷ map (λ place. Bucket g place (length p.frame)) places) →
+      (keeps ≡ true → told' ≡ told ++ DidAct (ToGroup g) ∷ []) →
+      Moves w keeps (point (task p (Act (ToGroup g) ∷ rest) ∷ others) o told) (point (copies w g p places ++ task p rest ∷ others) o' told')
+  groups o' g places e items counts line =
+      subst (λ (ts : List Task). Moves w keeps (point (task p (Act (ToGroup g) ∷ rest) ∷ others) o told) (point ts o' told')) (append_assoc (copies w g p places) (task p rest ∷ []) others)
+      (by_row o' (Act (ToGroup g) ∷ rest) (group_row w p rest g (Some places)) (group_is g places e) (items ∙ sym (append-nil o.items.items)) counts line)
+
+  -- ---- instructions
+
+  pub runs_set : (set l : List Action) → set ≡ [] → l ≡ in_order p.action_set → (keeps ≡ true → told' ≡ told ++ DidSet ∷ []) →
+      Moves w keeps (point (task p (RunSet ∷ rest) ∷ others) o told) (point (task (record (set_out p) { action_set = set }) (acts l ++ rest) ∷ others) o told')
+  runs_set set l empty e = rw (empty, e) (quiet (RunSet ∷ rest) DidSet (set_out p) (acts (in_order p.action_set) ++ rest) refl)
 
   pub applies : (l : List Action) → (keeps ≡ true → told' ≡ told ++ DidApply ∷ []) →
       Moves w keeps (point (task p (Do (Apply l) ∷ rest) ∷ others) o told) (point (task p (acts l ++ rest) ∷ others) o told')
   applies l = quiet (Do (Apply l) ∷ rest) DidApply p (acts l ++ rest) refl
 
-  -- the actions of the instruction, as the code has them
-  pub applied : (i : Instruction) (l : List Action) → ((k : List Action) → i ≡ Apply k → l ≡ k) → (keeps ≡ true → told' ≡ told ++ DidApply ∷ []) →
-      Moves w keeps (point (task p (Do i ∷ rest) ∷ others) o told) (point (task p (acts l ++ rest) ∷ others) o told')
-  applied (Apply k) l is = rw (is k refl) (applies k)
+  pub clears : (set : List Action) → set ≡ [] → (keeps ≡ true → told' ≡ told ++ DidClear ∷ []) →
+      Moves w keeps (point (task p (Do Clear ∷ rest) ∷ others) o told) (point (task (record p { action_set = set }) rest ∷ others) o told')
+  clears set e = rw e (quiet (Do Clear ∷ rest) DidClear (record p { action_set = [] }) rest refl)
+
+  pub writes : (l set : List Action) → set ≡ with_actions p.action_set l → (keeps ≡ true → told' ≡ told ++ DidWrite ∷ []) →
+      Moves w keeps (point (task p (Do (Write l) ∷ rest) ∷ others) o told) (point (task (record p { action_set = set }) rest ∷ others) o told')
+  writes l set e = rw e (quiet (Do (Write l) ∷ rest) DidWrite (record p { action_set = with_actions p.action_set l }) rest refl)
+
+  pub marks : (value mask : ℕ) → (keeps ≡ true → told' ≡ told ++ DidMetadata value mask ∷ []) →
+      Moves w keeps (point (task p (Do (Metadata value mask) ∷ rest) ∷ others) o told) (point (task (record p { metadata = with_metadata value mask p.metadata }) rest ∷ others) o told')
+  marks value mask = quiet (Do (Metadata value mask) ∷ rest) (DidMetadata value mask) (record p { metadata = with_metadata value mask p.metadata }) rest refl
+
+  pub jumps : (t : ℕ) → (keeps ≡ true → told' ≡ told ++ DidGoto t ∷ []) →
+      Moves w keeps (point (task p (Do (Goto t) ∷ rest) ∷ others) o told) (point (task p (Lookup t ∷ []) ∷ others) o told')
+  jumps t = quiet (Do (Goto t) ∷ rest) (DidGoto t) p (Lookup t ∷ []) refl
+
+  -- ---- tables
 
   missed : (t : ℕ) → w.winner t (key_of p) ≡ None → lookup_row w p t (w.winner t (key_of p)) ≡ miss_row p t
   missed t e = rw e refl
@@ -80,3 +170,17 @@ acts_at l i d lt = rw (add-one, drop-cons l i d) refl
 -- the rest of a list of instructions
 pub instructions_at : (l : List Instruction) (i : ℕ) (x : Instruction) → x ≡ get_or l i x → i < length l → drop i l ≡ x ∷ drop (i + 1) l
 instructions_at l i x e lt = rw (add-one, drop-cons l i x) (ap (λ (y : Instruction). y ∷ drop (suc i) l) (sym e))
+
+pub copies_at : (w : TheWorld) (g : ℕ) (p : Packet) (ks : List ℕ) (i : ℕ) → i < length ks → copies w g p (drop i ks) ≡ task (bucket_copy w g p (get_or ks i 0)) (RunSet ∷ []) ∷ copies w g p (drop (i + 1) ks)
+copies_at w g p ks i lt = rw (add-one, drop-cons ks i 0) refl
+
+-- the copy that the code makes
+pub copy_is : (w : TheWorld) (g k : ℕ) (p q : Packet) (set l : List Action) → q ≡ record p { action_set = [] } → w.bucket g k ≡ Some l → set ≡ with_actions q.action_set l → record q { action_set = set } ≡ bucket_copy w g p k
+copy_is w g k p q set l same there written = rw (written, same, there) refl
+
+pub fresh_is : (p q : Packet) → q ≡ record p { action_set = [] } → record q { metadata = 0 } ≡ fresh p
+fresh_is p q same = rw same refl
+
+pub left_nil : (going : Going) → left_of going [] ≡ []
+left_nil Continues = refl
+left_nil Ended = refl

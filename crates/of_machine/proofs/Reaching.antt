@@ -7,7 +7,7 @@ use Rattle.of_machine.specs.declared.data.Count.{Count}
 use Rattle.of_machine.specs.declared.data.Step.{Step}
 use Rattle.of_machine.specs.declared.data.Outcome.{Outcome}
 use Rattle.of_machine.specs.TheWorld.{TheWorld}
-use Rattle.of_machine.specs.Rows.{Work, Lookup, Task, task, row}
+use Rattle.of_machine.specs.Rows.{Work, Task, task, row}
 use Rattle.of_machine.specs.Runs.{Machine, step, first_step, taken, after, Point, point, Reached, Stopped, Moves, Stops, starting, IsFront}
 
 -- a point of a list of packets
@@ -98,9 +98,9 @@ whole_run w keeps p work o told new h =
     ends_as : (m : Machine) (o : Outcome) → m.tasks ≡ [] → m.items ≡ o.items.items → m.counts ≡ o.counts.items → m ≡ record { tasks = []; items = o.items.items; counts = o.counts.items; lines = m.lines }
     ends_as m o tasks items counts = rw (← tasks, ← items, ← counts) refl
 
-pub whole_front : (w : TheWorld) (keeps : Bool) (p : Packet) (told new : List Step) →
-    Stopped w keeps (begins p (Lookup 0 ∷ []) told) new → IsFront w keeps p told new
-whole_front w keeps p told new h = record {
+pub whole_front : (w : TheWorld) (keeps : Bool) (p : Packet) (work : List Work) (told new : List Step) →
+    Stopped w keeps (begins p work told) new → IsFront w keeps p work told new
+whole_front w keeps p work told new h = record {
   steps = h.steps;
-  tells = λ k. h.tells k ∙ ap (λ (x : Machine). x.lines) (after_behind w told h.steps (starting p (Lookup 0 ∷ [])));
+  tells = λ k. h.tells k ∙ ap (λ (x : Machine). x.lines) (after_behind w told h.steps (starting p work));
 }

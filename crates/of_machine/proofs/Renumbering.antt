@@ -1,20 +1,30 @@
 -- Runs where the entries of the tables have other numbers.
-use Rattle.std.proofs.Common.{◌≡◌, ◌==◌, ℕ, suc, zero, Bool, true, false, List, [], ◌∷◌, refl, sym, ◌∙◌, ap, Option, Some, None, map, cond}
+use Rattle.std.proofs.Common.{◌≡◌, ◌==◌, ℕ, suc, zero, Bool, true, false, List, [], ◌∷◌, ◌++◌, refl, sym, ◌∙◌, ap, length, Option, Some, None, map, cond}
+use Rattle.std.specs.Prelude.{◌||◌, unwrap_or}
 use Rattle.std.specs.Option.{option_map}
 use Rattle.std.proofs.lemmas.List.{map-append}
+use Rattle.of_layers.specs.Reading.{layers_of}
+use Rattle.of_rewrite.specs.declared.frame.Ttl.{Ttl}
+use Rattle.of_rewrite.specs.declared.frame.Ttl.TheVariants.{Done, Expired, Absent}
+use Rattle.of_rewrite.specs.Aging.{ttl_of, answer_to}
 use Rattle.of_actions.specs.declared.action.Action.{Action}
-use Rattle.of_actions.specs.declared.action.Action.TheVariants.{Output}
-use Rattle.of_actions.specs.declared.instruction.Instruction.TheVariants.{Apply}
+use Rattle.of_actions.specs.declared.action.Action.TheVariants.{Output, PushVlan, PopVlan, Group as ToGroup, SetNwTtl, DecNwTtl, SetField}
+use Rattle.of_actions.specs.declared.instruction.Instruction.TheVariants.{Apply, Clear, Write, Metadata, Goto}
+use Rattle.of_actions.specs.PortNumbers.{in_port, table, flood, all, controller}
+use Rattle.of_action_set.specs.Sets.{with_actions, in_order}
 use Rattle.of_table.specs.declared.flow.Flow.{Flow}
 use Rattle.of_machine.specs.declared.port.Port.{Port}
 use Rattle.of_machine.specs.declared.data.Packet.{Packet}
 use Rattle.of_machine.specs.declared.data.Count.{Count}
+use Rattle.of_machine.specs.declared.data.Count.TheVariants.{Group, Bucket}
 use Rattle.of_machine.specs.declared.data.Step.{Step}
 use Rattle.of_machine.specs.declared.data.Step.TheVariants.{Act as DidAct}
 use Rattle.of_machine.specs.Ports.{port_at}
 use Rattle.of_machine.specs.TheWorld.{TheWorld}
-use Rattle.of_machine.specs.Rows.{Work, Act, Do, Lookup, RunSet, lookup_row, entry_row, act_row, emission, to_port, emits, Emitted, key_of, Task, Row, row}
-use Rattle.of_machine.specs.Runs.{Machine, taken, step, first_step, after, starting, run_of, steps_of, found_steps, entry_steps}
+use Rattle.of_machine.specs.Rows.{Work, Act, Do, Lookup, RunSet, lookup_row, entry_row, act_row, output_row, table_row, aged_row, group_row, copies, bucket_copy, emission, to_port, emits, Emitted, key_of, Task, task, Row, row}
+use Rattle.of_machine.specs.Weights.{act_weight, acts_weight, work_weight, task_weight}
+use Rattle.of_machine.specs.Runs.{Machine, taken, step, first_step, after, starting, run_of}
+use Rattle.of_machine.proofs.Ending.{run_is_after}
 use Rattle.of_machine.specs.Renumbering.{IsRenumbered, renumbered, renumbered_count, renumbered_step}
 
 module _ (number : ℕ → ℕ → ℕ) (w v : TheWorld) (h : IsRenumbered number w v) where
@@ -35,7 +45,11 @@ module _ (number : ℕ → ℕ → ℕ) (w v : TheWorld) (h : IsRenumbered numbe
   port_counts (Some q) p = sent_or_not q.is_link_up _ _ refl refl
 
   emission_counts : (ports : List Port) (p : Packet) (n : ℕ) → same_counts (emission ports p n)
-  emission_counts ports p n = sent_or_not (n == p.ingress) _ _ refl (port_counts (port_at ports n) p)
+  emission_counts ports p n =
+      sent_or_not (n == in_port) _ _ (port_counts (port_at ports p.ingress) p)
+      (sent_or_not ((n == flood) || (n == all)) _ _ refl
+      (sent_or_not (n == controller) _ _ refl
+      (sent_or_not (n == p.ingress) _ _ refl (port_counts (port_at ports n) p))))
 
   entry_is : (p : Packet) (t n : ℕ) (f : Option Flow) → entry_row p t (number t n) f ≡ renumbered_row (entry_row p t n f)
   entry_is p t n None = refl
@@ -45,15 +59,56 @@ module _ (number : ℕ → ℕ → ℕ) (w v : TheWorld) (h : IsRenumbered numbe
   lookup_is p t None e = refl
   lookup_is p t (Some n) e = ap (entry_row p t (number t n)) (h.flow t n (key_of p) e) ∙ entry_is p t n (w.flow t n)
 
+  either_is : (b : Bool) (x y x' y' : Row) → x ≡ renumbered_row x' → y ≡ renumbered_row y' → cond b x y ≡ renumbered_row (cond b x' y')
+  either_is true x y x' y' here there = here
+  either_is false x y x' y' here there = there
+
+  emits_is : (p : Packet) (rest : List Work) (a : Action) (port : ℕ) → emits (DidAct a) (emission v.ports p port) (task p rest ∷ []) ≡ renumbered_row (emits (DidAct a) (emission w.ports p port) (task p rest ∷ []))
+  emits_is p rest a port =
+      ap (λ (ports : List Port). emits (DidAct a) (emission ports p port) (task p rest ∷ [])) h.ports
+      ∙ ap (λ (cs : List Count). record (emits (DidAct a) (emission w.ports p port) (task p rest ∷ [])) { counts = cs }) (sym (emission_counts w.ports p port))
+
+  output_is : (p : Packet) (rest : List Work) (a : Action) (port : ℕ) → output_row v p rest a port ≡ renumbered_row (output_row w p rest a port)
+  output_is p rest a port = either_is (port == table) (table_row p rest a) _ (table_row p rest a) _ refl (emits_is p rest a port)
+
+  bucket_counts : (g bytes : ℕ) (ks : List ℕ) → map (renumbered_count number) (map (λ place. Bucket g place bytes) ks) ≡ map (λ place. Bucket g place bytes) ks
+  bucket_counts g bytes [] = refl
+  bucket_counts g bytes (k ∷ ks) = ap (λ (cs : List Count). Bucket g k bytes ∷ cs) (bucket_counts g bytes ks)
+
+  copies_are : (g : ℕ) (p : Packet) (ks : List ℕ) → copies v g p ks ≡ copies w g p ks
+  copies_are g p [] = refl
+  copies_are g p (k ∷ ks) =
+      ap (λ (o : Option (List Action)). task (record p { action_set = with_actions [] (unwrap_or o []) }) (RunSet ∷ []) ∷ copies v g p ks) (h.bucket g k)
+      ∙ ap (λ (ts : List Task). task (bucket_copy w g p k) (RunSet ∷ []) ∷ ts) (copies_are g p ks)
+
+  group_is : (p : Packet) (rest : List Work) (g : ℕ) (o : Option (List ℕ)) → group_row v p rest g o ≡ renumbered_row (group_row w p rest g o)
+  group_is p rest g None = refl
+  group_is p rest g (Some ks) =
+      ap (λ (ts : List Task). record (group_row v p rest g (Some ks)) { left = ts ++ task p rest ∷ [] }) (copies_are g p ks)
+      ∙ ap (λ (cs : List Count). record (group_row w p rest g (Some ks)) { counts = Group g (length p.frame) ∷ cs }) (sym (bucket_counts g (length p.frame) ks))
+
+  aged_is : (p : Packet) (rest : List Work) (answer : Ttl) → aged_row p rest answer ≡ renumbered_row (aged_row p rest answer)
+  aged_is p rest Done = refl
+  aged_is p rest Expired = refl
+  aged_is p rest Absent = refl
+
   act_is : (p : Packet) (rest : List Work) (a : Action) → act_row v p rest a ≡ renumbered_row (act_row w p rest a)
-  act_is p rest (Output port max_len) =
-      ap (λ (ports : List Port). emits (DidAct (Output port max_len)) (emission ports p port) p rest) h.ports
-      ∙ ap (λ (cs : List Count). record (act_row w p rest (Output port max_len)) { counts = cs }) (sym (emission_counts w.ports p port))
+  act_is p rest (Output port max_len) = output_is p rest (Output port max_len) port
+  act_is p rest (PushVlan type) = refl
+  act_is p rest PopVlan = refl
+  act_is p rest (ToGroup g) = ap (group_row v p rest g) (h.chosen g) ∙ group_is p rest g (w.chosen g)
+  act_is p rest (SetNwTtl ttl) = refl
+  act_is p rest DecNwTtl = aged_is p rest (answer_to (ttl_of (layers_of p.frame)))
+  act_is p rest (SetField f x) = refl
 
   row_is : (p : Packet) (work : List Work) → row v p work ≡ renumbered_row (row w p work)
   row_is p [] = refl
   row_is p (Lookup t ∷ rest) = ap (lookup_row v p t) (h.winner t (key_of p)) ∙ lookup_is p t (w.winner t (key_of p)) refl
   row_is p (Do (Apply l) ∷ rest) = refl
+  row_is p (Do Clear ∷ rest) = refl
+  row_is p (Do (Write l) ∷ rest) = refl
+  row_is p (Do (Metadata value mask) ∷ rest) = refl
+  row_is p (Do (Goto t) ∷ rest) = refl
   row_is p (RunSet ∷ rest) = refl
   row_is p (Act a ∷ rest) = act_is p rest a
 
@@ -71,13 +126,34 @@ module _ (number : ℕ → ℕ → ℕ) (w v : TheWorld) (h : IsRenumbered numbe
   after_is zero m = refl
   after_is (suc n) m = ap (step v) (after_is n m) ∙ first_is (after w n m) (after w n m).tasks
 
-  found_is : (p : Packet) (found : Option ℕ) → w.winner 0 (key_of p) ≡ found → found_steps v (option_map (number 0) found) ≡ found_steps w found
-  found_is p None e = refl
-  found_is p (Some n) e = ap entry_steps (h.flow 0 n (key_of p) e)
+  -- a run has as many steps
+  act_weighs : (a : Action) → act_weight v a ≡ act_weight w a
+  act_weighs (Output port max_len) = refl
+  act_weighs (PushVlan type) = refl
+  act_weighs PopVlan = refl
+  act_weighs (ToGroup g) = rw (h.chain g) refl
+  act_weighs (SetNwTtl ttl) = refl
+  act_weighs DecNwTtl = refl
+  act_weighs (SetField f x) = refl
 
-  steps_are : (p : Packet) → steps_of v p ≡ steps_of w p
-  steps_are p = ap (found_steps v) (h.winner 0 (key_of p)) ∙ found_is p (w.winner 0 (key_of p)) refl
+  acts_weigh : (l : List Action) → acts_weight v l ≡ acts_weight w l
+  acts_weigh [] = refl
+  acts_weigh (a ∷ l) = rw (act_weighs a, acts_weigh l) refl
 
-  pub run_is_renumbered : (p : Packet) → run_of v p ≡ renumbered number (run_of w p)
-  unfolding run_of
-  run_is_renumbered p = ap (λ (n : ℕ). after v n (starting p (Lookup 0 ∷ []))) (steps_are p) ∙ after_is (steps_of w p) (starting p (Lookup 0 ∷ []))
+  work_weighs : (s : List Action) (work : List Work) → work_weight v s work ≡ work_weight w s work
+  work_weighs s [] = refl
+  work_weighs s (Lookup t ∷ rest) = refl
+  work_weighs s (Do (Apply l) ∷ rest) = rw (acts_weigh l, work_weighs s rest) refl
+  work_weighs s (Do Clear ∷ rest) = rw (work_weighs [] rest) refl
+  work_weighs s (Do (Write l) ∷ rest) = rw (work_weighs (with_actions s l) rest) refl
+  work_weighs s (Do (Metadata value mask) ∷ rest) = rw (work_weighs s rest) refl
+  work_weighs s (Do (Goto t) ∷ rest) = refl
+  work_weighs s (RunSet ∷ rest) = rw (acts_weigh (in_order s), work_weighs [] rest) refl
+  work_weighs s (Act a ∷ rest) = rw (act_weighs a, work_weighs s rest) refl
+
+  pub run_is_renumbered : (p : Packet) (work : List Work) → run_of v p work ≡ renumbered number (run_of w p work)
+  run_is_renumbered p work =
+      run_is_after v p work
+      ∙ ap (λ (n : ℕ). after v n (starting p work)) (work_weighs p.action_set work)
+      ∙ after_is (task_weight w (task p work)) (starting p work)
+      ∙ ap (renumbered number) (sym (run_is_after w p work))

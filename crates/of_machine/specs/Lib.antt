@@ -2,6 +2,9 @@ pub mod Ports
 pub mod TheWorld
 pub mod Sound
 pub mod Rows
+pub mod Weights
 pub mod Runs
 pub mod Gained
+pub mod Outside
+pub mod Growth
 pub mod Renumbering

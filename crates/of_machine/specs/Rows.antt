@@ -1,22 +1,30 @@
--- The rows of the machine: what each kind of work does to a packet (OpenFlow 1.3.5, 5.1 and 5.9 to 5.12).
-use Rattle.std.specs.Prelude.{ℕ, ◌^◌, ◌-◌, ◌==◌, Bool, false, ◌&&◌, List, [], ◌∷◌, ◌++◌, Option, Some, None, length, map, if◌then◌else◌}
+-- The rows of the machine: what each kind of work does to a packet (OpenFlow 1.3.5, 5.1, 5.6 and 5.9 to 5.12).
+use Rattle.std.specs.Prelude.{ℕ, ◌^◌, ◌-◌, ◌==◌, Bool, false, ◌&&◌, ◌||◌, List, [], ◌∷◌, ◌++◌, Option, Some, None, length, map, if◌then◌else◌, bit_and, bit_or, unwrap_or}
 use Rattle.of_layers.specs.declared.field.Field.{Field}
 use Rattle.of_layers.specs.Reading.{layers_of}
 use Rattle.of_headers.specs.FieldMap.{field_map}
+use Rattle.of_rewrite.specs.declared.frame.Ttl.{Ttl}
+use Rattle.of_rewrite.specs.declared.frame.Ttl.TheVariants.{Done, Expired, Absent}
+use Rattle.of_rewrite.specs.Aging.{ttl_of, answer_to}
+use Rattle.of_rewrite.specs.Frames.{frame_set, frame_pushed, frame_popped, frame_ttl, frame_aged}
 use Rattle.of_actions.specs.declared.action.Action.{Action}
-use Rattle.of_actions.specs.declared.action.Action.TheVariants.{Output}
+use Rattle.of_actions.specs.declared.action.Action.TheVariants.{Output, PushVlan, PopVlan, Group, SetNwTtl, DecNwTtl, SetField}
+use Rattle.of_actions.specs.PortNumbers.{in_port, table, flood, all, controller}
 use Rattle.of_actions.specs.declared.instruction.Instruction.{Instruction}
-use Rattle.of_actions.specs.declared.instruction.Instruction.TheVariants.{Apply}
+use Rattle.of_actions.specs.declared.instruction.Instruction.TheVariants.{Apply, Clear, Write, Metadata, Goto}
+use Rattle.of_action_set.specs.Sets.{with_actions, in_order}
 use Rattle.of_table.specs.declared.flow.Flow.{Flow}
 use Rattle.of_machine.specs.declared.port.Port.{Port}
 use Rattle.of_machine.specs.declared.data.Packet.{Packet}
+use Rattle.of_machine.specs.declared.data.PacketInReason.{PacketInReason}
+use Rattle.of_machine.specs.declared.data.PacketInReason.TheVariants.{NoMatch, Action as ByAction, InvalidTtl}
 use Rattle.of_machine.specs.declared.data.Item.{Item}
-use Rattle.of_machine.specs.declared.data.Item.TheVariants.{Sent}
+use Rattle.of_machine.specs.declared.data.Item.TheVariants.{Sent, PacketIn}
 use Rattle.of_machine.specs.declared.data.Count.{Count}
-use Rattle.of_machine.specs.declared.data.Count.TheVariants.{Lookup as CountLookup, Matched, TxDropped}
+use Rattle.of_machine.specs.declared.data.Count.TheVariants.{Lookup as CountLookup, Matched, TxDropped, Group as CountGroup, Bucket}
 use Rattle.of_machine.specs.declared.data.Step.{Step}
-use Rattle.of_machine.specs.declared.data.Step.TheVariants.{Miss, Entry, Apply as DidApply, Set as DidSet, Act as DidAct, End}
-use Rattle.of_machine.specs.Ports.{may_send, port_at}
+use Rattle.of_machine.specs.declared.data.Step.TheVariants.{Miss, Entry, Apply as DidApply, Clear as DidClear, Write as DidWrite, Metadata as DidMetadata, Goto as DidGoto, Set as DidSet, Act as DidAct, TtlExpired, End}
+use Rattle.of_machine.specs.Ports.{may_send, port_at, other_ports}
 use Rattle.of_machine.specs.TheWorld.{TheWorld}
 
 -- a kind of work
@@ -52,21 +60,17 @@ no_cookie = 2 ^ 64 - 1
 
 -- a packet that comes in
 abbrev pub entering : List ℕ → ℕ → Packet
-entering frame ingress = record { frame = frame; ingress = ingress; metadata = 0; cookie = no_cookie; table = 0; miss = false }
+entering frame ingress = record { frame = frame; ingress = ingress; metadata = 0; action_set = []; cookie = no_cookie; table = 0; miss = false }
 
 -- what a look-up sees of a packet (5.3)
 abbrev pub key_of : Packet → Field → Option ℕ
 key_of p = field_map (layers_of p.frame) p.ingress p.metadata
 
--- the action set in the order in which it runs (5.10): no instruction writes into it
-abbrev pub set_in_order : Packet → List Action
-set_in_order p = []
-
 -- the entry for table misses has priority 0 and matches each packet (5.4)
 abbrev pub is_miss : Flow → Bool
 is_miss f = (f.priority == 0) && (length f.fields == 0)
 
--- ---- outputs (5.12)
+-- ---- outputs (5.12 and 7.2.5)
 
 pub record Emitted : Type 0 where
   pub items : List Item
@@ -74,6 +78,14 @@ pub record Emitted : Type 0 where
 
 abbrev pub nothing : Emitted
 nothing = record { items = []; counts = [] }
+
+-- to the controller, with the entry and the table that the packet has (7.4.1)
+abbrev pub packet_in : PacketInReason → Packet → Emitted
+packet_in reason p = record { items = PacketIn reason p.table p.cookie p.ingress p.metadata p.frame ∷ []; counts = [] }
+
+-- an output by the entry for table misses tells that none else was found
+abbrev pub output_reason : Packet → PacketInReason
+output_reason p = if p.miss then NoMatch else ByAction
 
 -- a port that may not send counts a drop
 abbrev pub to_port : Option Port → Packet → Emitted
@@ -83,35 +95,110 @@ to_port (Some q) p =
     then record { items = Sent q.number p.frame ∷ []; counts = [] }
     else record { items = []; counts = TxDropped q.number ∷ [] }
 
--- out of the port of a number, but never by it back to where the packet came in (7.2.5)
-abbrev pub emission : List Port → Packet → ℕ → Emitted
-emission ports p n = if n == p.ingress then nothing else to_port (port_at ports n) p
+-- each port but the ingress port that may send
+abbrev pub flooded : List Port → Packet → Emitted
+flooded ports p = record { items = map (λ q. Sent q.number p.frame) (other_ports ports p.ingress); counts = [] }
 
--- ---- rows
+-- what an OUTPUT emits; the ingress port sends to IN_PORT alone
+abbrev pub emission : List Port → Packet → ℕ → Emitted
+emission ports p port =
+    if port == in_port then to_port (port_at ports p.ingress) p
+    else if (port == flood) || (port == all) then flooded ports p
+    else if port == controller then packet_in (output_reason p) p
+    else if port == p.ingress then nothing
+    else to_port (port_at ports port) p
+
+-- ---- actions (5.12)
 
 abbrev pub goes_on : Step → Packet → List Work → Row
 goes_on line p rest = record { line = line; items = []; counts = []; left = task p rest ∷ [] }
 
-abbrev pub emits : Step → Emitted → Packet → List Work → Row
-emits line e p rest = record { line = line; items = e.items; counts = e.counts; left = task p rest ∷ [] }
+abbrev pub emits : Step → Emitted → List Task → Row
+emits line e left = record { line = line; items = e.items; counts = e.counts; left = left }
+
+-- OUTPUT to TABLE: a copy without metadata and actions begins at the first table, before this packet goes on
+abbrev pub fresh : Packet → Packet
+fresh p = record p { metadata = 0; action_set = [] }
+
+abbrev pub table_row : Packet → List Work → Action → Row
+table_row p rest a = record { line = DidAct a; items = []; counts = []; left = task (fresh p) (Lookup 0 ∷ []) ∷ task p rest ∷ [] }
+
+abbrev pub output_row : TheWorld → Packet → List Work → Action → ℕ → Row
+output_row w p rest a port = if port == table then table_row p rest a else emits (DidAct a) (emission w.ports p port) (task p rest ∷ [])
+
+-- a time to live of 0 or 1 is told to the controller, and the packet's work is emptied; without one nothing changes
+abbrev pub aged_row : Packet → List Work → Ttl → Row
+aged_row p rest Expired = emits TtlExpired (packet_in InvalidTtl p) (task p [] ∷ [])
+aged_row p rest Done = goes_on (DidAct DecNwTtl) (record p { frame = frame_aged p.frame }) rest
+aged_row p rest Absent = goes_on (DidAct DecNwTtl) p rest
+
+-- a copy with a bucket's actions as its set
+abbrev pub bucket_copy : TheWorld → ℕ → Packet → ℕ → Packet
+bucket_copy w group p place = record p { action_set = with_actions [] (unwrap_or (w.bucket group place) []) }
+
+abbrev pub copies : TheWorld → ℕ → Packet → List ℕ → List Task
+copies w group p places = map (λ place. task (bucket_copy w group p place) (RunSet ∷ [])) places
+
+-- GROUP: the group and each bucket that runs are counted; the copies come before the packet, which stays as it is (5.6.1)
+abbrev pub group_row : TheWorld → Packet → List Work → ℕ → Option (List ℕ) → Row
+group_row w p rest group None = goes_on (DidAct (Group group)) p rest
+group_row w p rest group (Some places) =
+    record {
+      line = DidAct (Group group);
+      items = [];
+      counts = CountGroup group (length p.frame) ∷ map (λ place. Bucket group place (length p.frame)) places;
+      left = copies w group p places ++ task p rest ∷ [];
+    }
+
+-- the frame that the other actions make
+abbrev pub rewritten : Action → List ℕ → List ℕ
+rewritten (Output port max_len) frame = frame
+rewritten (PushVlan type) frame = frame_pushed type frame
+rewritten PopVlan frame = frame_popped frame
+rewritten (Group group) frame = frame
+rewritten (SetNwTtl ttl) frame = frame_ttl ttl frame
+rewritten DecNwTtl frame = frame
+rewritten (SetField field value) frame = frame_set field value frame
+
+abbrev pub rewrite_row : Packet → List Work → Action → Row
+rewrite_row p rest a = goes_on (DidAct a) (record p { frame = rewritten a p.frame }) rest
 
 abbrev pub act_row : TheWorld → Packet → List Work → Action → Row
-act_row w p rest (Output port max_len) = emits (DidAct (Output port max_len)) (emission w.ports p port) p rest
+act_row w p rest (Output port max_len) = output_row w p rest (Output port max_len) port
+act_row w p rest (PushVlan type) = rewrite_row p rest (PushVlan type)
+act_row w p rest PopVlan = rewrite_row p rest PopVlan
+act_row w p rest (Group group) = group_row w p rest group (w.chosen group)
+act_row w p rest (SetNwTtl ttl) = rewrite_row p rest (SetNwTtl ttl)
+act_row w p rest DecNwTtl = aged_row p rest (answer_to (ttl_of (layers_of p.frame)))
+act_row w p rest (SetField field value) = rewrite_row p rest (SetField field value)
 
--- the instructions, then the action set (5.9)
+-- ---- instructions (5.9)
+
+-- the instructions, then the action set where they have no GOTO_TABLE
 abbrev pub works : List Instruction → List Work
 works [] = RunSet ∷ []
+works (Goto t ∷ rest) = Do (Goto t) ∷ []
 works (i ∷ rest) = Do i ∷ works rest
+
+-- the bits of the mask are those of the value, and the others stay
+abbrev pub with_metadata : ℕ → ℕ → ℕ → ℕ
+with_metadata value mask old = bit_or (bit_and old (2 ^ 64 - 1 - mask)) (bit_and value mask)
 
 -- the actions of an APPLY_ACTIONS come before what is left
 abbrev pub do_row : Packet → List Work → Instruction → Row
 do_row p rest (Apply l) = goes_on DidApply p (acts l ++ rest)
+do_row p rest Clear = goes_on DidClear (record p { action_set = [] }) rest
+do_row p rest (Write l) = goes_on DidWrite (record p { action_set = with_actions p.action_set l }) rest
+do_row p rest (Metadata value mask) = goes_on (DidMetadata value mask) (record p { metadata = with_metadata value mask p.metadata }) rest
+do_row p rest (Goto t) = goes_on (DidGoto t) p (Lookup t ∷ [])
+
+-- ---- tables (5.3 and 5.4)
 
 -- the packet at an entry
 abbrev pub at_entry : ℕ → Flow → Packet → Packet
 at_entry t f p = record p { cookie = f.cookie; table = t; miss = is_miss f }
 
--- no entry: the packet's work is emptied (5.4)
+-- no entry: the packet's work is emptied, and its action set is lost
 abbrev pub miss_row : Packet → ℕ → Row
 miss_row p t = record { line = Miss t; items = []; counts = CountLookup t ∷ []; left = task p [] ∷ [] }
 
@@ -130,14 +217,14 @@ abbrev pub lookup_row : TheWorld → Packet → ℕ → Option ℕ → Row
 lookup_row w p t None = miss_row p t
 lookup_row w p t (Some n) = entry_row p t n (w.flow t n)
 
--- the packet once its action set runs: what is done then is of no entry
+-- the packet once its action set runs: the set is empty, and what is done then is of no entry
 abbrev pub set_out : Packet → Packet
-set_out p = record p { cookie = no_cookie; miss = false }
+set_out p = record p { action_set = []; cookie = no_cookie; miss = false }
 
 -- THE ROW OF A PACKET: that of its first work
 abbrev pub row : TheWorld → Packet → List Work → Row
 row w p [] = record { line = End; items = []; counts = []; left = [] }
 row w p (Lookup t ∷ rest) = lookup_row w p t (w.winner t (key_of p))
 row w p (Do i ∷ rest) = do_row p rest i
-row w p (RunSet ∷ rest) = goes_on DidSet (set_out p) (acts (set_in_order p) ++ rest)
+row w p (RunSet ∷ rest) = goes_on DidSet (set_out p) (acts (in_order p.action_set) ++ rest)
 row w p (Act a ∷ rest) = act_row w p rest a

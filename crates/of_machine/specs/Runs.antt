@@ -1,18 +1,20 @@
 -- Steps and runs of the machine (OpenFlow 1.3.5, 5.1).
-use Rattle.std.specs.Prelude.{◌≡◌, ℕ, ◌+◌, suc, zero, Bool, true, List, [], ◌∷◌, ◌++◌, Option, Some, None, length}
-use Rattle.std.specs.List.{sum_by}
+use Rattle.std.specs.Prelude.{◌≡◌, ℕ, ◌<◌, suc, zero, Bool, true, List, [], ◌∷◌, ◌++◌, ⊤}
 use Rattle.of_actions.specs.declared.instruction.Instruction.{Instruction}
-use Rattle.of_actions.specs.declared.instruction.Instruction.TheVariants.{Apply}
-use Rattle.of_table.specs.declared.flow.Flow.{Flow}
 use Rattle.of_machine.specs.declared.data.Packet.{Packet}
 use Rattle.of_machine.specs.declared.data.Item.{Item}
 use Rattle.of_machine.specs.declared.data.Count.{Count}
 use Rattle.of_machine.specs.declared.data.Step.{Step}
 use Rattle.of_machine.specs.declared.data.Outcome.{Outcome}
-use Rattle.of_machine.specs.declared.machine.Then.{Then}
-use Rattle.of_machine.specs.declared.machine.Then.TheVariants.{Set, Ended}
+use Rattle.of_machine.specs.declared.machine.Going.{Going}
+use Rattle.of_machine.specs.declared.machine.Going.TheVariants.{Continues, Ended}
+use Rattle.of_machine.specs.declared.tables.Next.{Next}
+use Rattle.of_machine.specs.declared.tables.Next.TheVariants.{Continues as Onward, Ended as Over, Lookup as To}
+use Rattle.of_machine.specs.declared.tables.Then.{Then}
+use Rattle.of_machine.specs.declared.tables.Then.TheVariants.{Lookup as ThenTo, Set as ThenSet, Ended as ThenOver}
 use Rattle.of_machine.specs.TheWorld.{TheWorld}
-use Rattle.of_machine.specs.Rows.{Work, Lookup, RunSet, Task, task, Row, row, key_of}
+use Rattle.of_machine.specs.Rows.{Work, Lookup, RunSet, Task, task, Row, row, works}
+use Rattle.of_machine.specs.Weights.{task_weight}
 
 -- the packets with their work, and what was given so far
 pub record Machine : Type 0 where
@@ -38,32 +40,26 @@ unfoldable pub after : TheWorld → ℕ → Machine → Machine
 after w zero m = m
 after w (suc n) m = step w (after w n m)
 
+-- so many steps, or fewer where no packet is left before
+abbrev pub or_end : TheWorld → (Machine → Machine) → Machine → List Task → Machine
+or_end w others m [] = m
+or_end w others m (t ∷ ts) = others (step w m)
+
+unfoldable pub until_none : TheWorld → ℕ → Machine → Machine
+until_none w zero m = m
+until_none w (suc n) m = or_end w (until_none w n) m m.tasks
+
 -- the machine at the start
 abbrev pub starting : Packet → List Work → Machine
 starting p work = record { tasks = task p work ∷ []; items = []; counts = []; lines = [] }
 
--- ---- THE RUN OF A FRAME
+-- THE RUN of a packet with its work: until no packet is left, which takes no more steps than it weighs
+unfoldable pub run_of : TheWorld → Packet → List Work → Machine
+run_of w p work = until_none w (task_weight w (task p work)) (starting p work)
 
--- the instruction and each of its actions
-abbrev pub instruction_steps : Instruction → ℕ
-instruction_steps (Apply l) = 1 + length l
-
--- the entry, its instructions, the action set, the end; else the miss and the end
-abbrev pub entry_steps : Option Flow → ℕ
-entry_steps None = 2
-entry_steps (Some f) = 3 + sum_by instruction_steps f.instructions
-
-abbrev pub found_steps : TheWorld → Option ℕ → ℕ
-found_steps w None = 2
-found_steps w (Some n) = entry_steps (w.flow 0 n)
-
--- how many steps a frame takes
-abbrev pub steps_of : TheWorld → Packet → ℕ
-steps_of w p = found_steps w (w.winner 0 (key_of p))
-
--- the machine at the end of a frame's run, which begins at table 0
-unfoldable pub run_of : TheWorld → Packet → Machine
-run_of w p = after w (steps_of w p) (starting p (Lookup 0 ∷ []))
+-- what the machine x gave after what b gave, with the packets of b behind its own
+abbrev pub ahead_of : Machine → Machine → Machine
+ahead_of b x = record { tasks = x.tasks ++ b.tasks; items = b.items ++ x.items; counts = b.counts ++ x.counts; lines = b.lines ++ x.lines }
 
 -- ---- what the code holds
 
@@ -97,16 +93,30 @@ Stops w keeps old told = (start : Machine) → Reached w keeps start old → Sto
 
 -- ---- what a call does
 
--- the packet does this work, and then the rest of its work
-abbrev pub Acts : TheWorld → Bool → Packet → List Work → Outcome → List Step → Packet → Outcome → List Step → Type 0
-Acts w keeps p work outcome told p' outcome' told' =
+-- the work that is left after actions
+abbrev pub left_of : Going → List Work → List Work
+left_of Continues rest = rest
+left_of Ended rest = []
+
+-- the packet does this work, and then the rest of its work or none
+abbrev pub Acts : TheWorld → Bool → Packet → List Work → Outcome → List Step → Going → Packet → Outcome → List Step → Type 0
+Acts w keeps p work outcome told going p' outcome' told' =
     (rest : List Work) (others : List Task) →
-    Moves w keeps (point (task p (work ++ rest) ∷ others) outcome told) (point (task p' rest ∷ others) outcome' told')
+    Moves w keeps (point (task p (work ++ rest) ∷ others) outcome told) (point (task p' (left_of going rest) ∷ others) outcome' told')
 
 -- a log that keeps tells the first steps of that
 abbrev pub Breaks : TheWorld → Bool → Packet → List Work → Outcome → List Step → List Step → Type 0
 Breaks w keeps p work outcome told told' =
     (rest : List Work) (others : List Task) → Stops w keeps (point (task p (work ++ rest) ∷ others) outcome told) told'
+
+-- these packets, which stand before the others, come to their ends
+abbrev pub AllEnd : TheWorld → Bool → List Task → Outcome → List Step → Outcome → List Step → Type 0
+AllEnd w keeps tasks outcome told outcome' told' =
+    (others : List Task) → Moves w keeps (point (tasks ++ others) outcome told) (point others outcome' told')
+
+abbrev pub AllFail : TheWorld → Bool → List Task → Outcome → List Step → List Step → Type 0
+AllFail w keeps tasks outcome told told' =
+    (others : List Task) → Stops w keeps (point (tasks ++ others) outcome told) told'
 
 -- the packet has this work alone, and comes to that
 abbrev pub Follows : TheWorld → Bool → Packet → List Work → Outcome → List Step → List Work → Packet → Outcome → List Step → Type 0
@@ -123,19 +133,37 @@ abbrev pub Fails : TheWorld → Bool → Packet → List Work → Outcome → Li
 Fails w keeps p work outcome told told' =
     (others : List Task) → Stops w keeps (point (task p work ∷ others) outcome told) told'
 
+-- the work after an instruction, where these would be next
+abbrev pub next_works : Next → List Instruction → List Work
+next_works Onward rest = works rest
+next_works Over rest = []
+next_works (To t) rest = Lookup t ∷ []
+
 abbrev pub then_works : Then → List Work
-then_works Set = RunSet ∷ []
-then_works Ended = []
+then_works (ThenTo t) = Lookup t ∷ []
+then_works ThenSet = RunSet ∷ []
+then_works ThenOver = []
+
+-- the next table is a later one
+abbrev pub IsUp : ℕ → Next → Type 0
+IsUp table Onward = ⊤
+IsUp table Over = ⊤
+IsUp table (To t) = (table < t) × (t < 16)
+
+abbrev pub IsLater : ℕ → Then → Type 0
+IsLater table (ThenTo t) = (table < t) × (t < 16)
+IsLater table ThenSet = ⊤
+IsLater table ThenOver = ⊤
 
 -- ---- what a run does
 
--- the run of the frame gave this outcome and left no packet, and a log that keeps gains its lines
-pub record IsRun (w : TheWorld) (keeps : Bool) (p : Packet) (outcome : Outcome) (old new : List Step) : Type 0 where
+-- the run of the packet gave this outcome and left no packet, and a log that keeps gains its lines
+pub record IsRun (w : TheWorld) (keeps : Bool) (p : Packet) (work : List Work) (outcome : Outcome) (old new : List Step) : Type 0 where
   pub lines : List Step
-  pub run : run_of w p ≡ record { tasks = []; items = outcome.items.items; counts = outcome.counts.items; lines = lines }
+  pub run : run_of w p work ≡ record { tasks = []; items = outcome.items.items; counts = outcome.counts.items; lines = lines }
   pub tells : keeps ≡ true → new ≡ old ++ lines
 
 -- a log that keeps gains the lines of the first steps
-pub record IsFront (w : TheWorld) (keeps : Bool) (p : Packet) (old new : List Step) : Type 0 where
+pub record IsFront (w : TheWorld) (keeps : Bool) (p : Packet) (work : List Work) (old new : List Step) : Type 0 where
   pub steps : ℕ
-  pub tells : keeps ≡ true → new ≡ old ++ (after w steps (starting p (Lookup 0 ∷ []))).lines
+  pub tells : keeps ≡ true → new ≡ old ++ (after w steps (starting p work)).lines

@@ -1,8 +1,52 @@
 -- What a world promises.
-use Rattle.std.specs.Prelude.{◌≡◌, ◌≢◌, ℕ, Option, Some, None}
+use Rattle.std.specs.Prelude.{◌≡◌, ◌≢◌, ℕ, ◌<◌, ◌≤◌, List, [], ◌∷◌, Option, Some, None, length, false, IsTrue, ⊤}
 use Rattle.of_layers.specs.declared.field.Field.{Field}
+use Rattle.of_actions.specs.declared.action.Action.{Action}
+use Rattle.of_actions.specs.declared.action.Action.TheVariants.{Output, PushVlan, PopVlan, Group, SetNwTtl, DecNwTtl, SetField}
+use Rattle.of_actions.specs.Served.{are_served}
+use Rattle.of_actions.specs.InstructionLists.{are_kept, are_for}
+use Rattle.of_table.specs.declared.flow.Flow.{Flow}
 use Rattle.of_machine.specs.TheWorld.{TheWorld}
+
+-- the longest chain of groups that a world may have: a bucket names no group
+abbrev pub longest : ℕ
+longest = 1
+
+-- the chains of the group that an action names, if it names one, have fewer groups than that
+abbrev pub IsBelow : TheWorld → ℕ → Action → Type 0
+IsBelow w n (Output port max_len) = ⊤
+IsBelow w n (PushVlan type) = ⊤
+IsBelow w n PopVlan = ⊤
+IsBelow w n (Group group) = w.chain group < n
+IsBelow w n (SetNwTtl ttl) = ⊤
+IsBelow w n DecNwTtl = ⊤
+IsBelow w n (SetField field value) = ⊤
+
+abbrev pub AllBelow : TheWorld → ℕ → List Action → Type 0
+AllBelow w n [] = ⊤
+AllBelow w n (a ∷ rest) = IsBelow w n a × AllBelow w n rest
+
+-- a bucket that is there: some bytes spell its actions, and the groups that they name have shorter chains than its own
+pub record IsBucket (w : TheWorld) (group place : ℕ) : Type 0 where
+  pub actions : List Action
+  pub there : w.bucket group place ≡ Some actions
+  pub served : IsTrue (are_served false actions)
+  pub below : AllBelow w (w.chain group) actions
+
+abbrev pub AllBuckets : TheWorld → ℕ → List ℕ → Type 0
+AllBuckets w group [] = ⊤
+AllBuckets w group (place ∷ rest) = IsBucket w group place × AllBuckets w group rest
 
 pub record IsSound (w : TheWorld) : Type 0 where
   -- each winner is the number of an entry
   pub found : (t : ℕ) (m : Field → Option ℕ) (n : ℕ) → w.winner t m ≡ Some n → w.flow t n ≢ None
+  -- the instructions of an entry are in the order of running, one of a type, and some bytes spell them
+  pub kept : (t n : ℕ) (f : Flow) → w.flow t n ≡ Some f → IsTrue (are_kept f.instructions)
+  -- and go on to later tables only
+  pub onward : (t n : ℕ) (f : Flow) → w.flow t n ≡ Some f → IsTrue (are_for t f.instructions)
+  -- chains of groups
+  pub short : (g : ℕ) → w.chain g ≤ longest
+  pub chained : (g : ℕ) (places : List ℕ) → w.chosen g ≡ Some places → 0 < w.chain g
+  -- at most 16 buckets of a group run, and they are there
+  pub few : (g : ℕ) (places : List ℕ) → w.chosen g ≡ Some places → length places ≤ 16
+  pub buckets : (g : ℕ) (places : List ℕ) → w.chosen g ≡ Some places → AllBuckets w g places

@@ -1,13 +1,15 @@
 //! Packets, and what a run gives.
-ghost use Rattle.std.specs.Prelude.{◌≡◌, []};
-ghost use Rattle.of_headers.specs.FieldMap.{value};
-ghost use Rattle.of_machine.specs.Rows.{key_of, entering, set_in_order};
+ghost use Rattle.std.specs.Prelude.{◌≡◌, [], IfOk};
+ghost use Rattle.of_headers.specs.FieldMap.{value, field_map};
+ghost use Rattle.of_layers.specs.Reading.{layers_of};
+ghost use Rattle.of_machine.specs.Rows.{key_of, entering};
 
-use crate::frame::Frame;
+use of_action_set::ActionSet;
 use of_actions::Action;
-use of_headers::FieldKey;
+use of_headers::{FieldKey, read_inside};
+use of_rewrite::Frame;
 use of_wire::Bytes;
-use std::alloc::Global;
+use std::alloc::{AllocError, Global};
 
 /// A packet on its way through the tables (OpenFlow 1.3.5, 5.1).
 #[derive(Debug, Drop)]
@@ -16,6 +18,7 @@ pub struct Packet {
     /// The number of the port by which it came in.
     pub ingress: u32,
     pub metadata: u64,
+    pub action_set: ActionSet,
     /// The cookie of the entry whose instructions are followed, and all ones where there is none.
     pub cookie: u64,
     /// The table of the last look-up that found an entry.
@@ -24,11 +27,34 @@ pub struct Packet {
     pub miss: bool,
 }
 
+/// Why a packet goes to the controller (OpenFlow 1.3.5, 7.4.1).
+#[derive(Clone, Copy, Debug, PartialEq, Eq)]
+pub enum PacketInReason {
+    /// OFPR_NO_MATCH: by the entry for table misses.
+    NoMatch,
+    /// OFPR_ACTION: by an OUTPUT to the controller.
+    Action,
+    /// OFPR_INVALID_TTL: its time to live is over.
+    InvalidTtl,
+}
+
 /// What is emitted.
 #[derive(Debug, Drop)]
 pub enum Item {
     /// A frame out of a port.
-    Sent { port: u32, frame: Bytes },
+    Sent {
+        port: u32,
+        frame: Bytes,
+    },
+    /// A packet to the controller (OpenFlow 1.3.5, 7.4.1).
+    PacketIn {
+        reason: PacketInReason,
+        table: u8,
+        cookie: u64,
+        ingress: u32,
+        metadata: u64,
+        frame: Bytes,
+    },
 }
 
 /// What is counted (OpenFlow 1.3.5, 5.8).
@@ -44,6 +70,17 @@ pub enum Count {
     },
     /// A packet that a port could not send.
     TxDropped(u32),
+    /// A packet of so many bytes for a group.
+    Group {
+        group: u32,
+        bytes: usize,
+    },
+    /// A packet of so many bytes for the bucket of a group at that place.
+    Bucket {
+        group: u32,
+        place: u8,
+        bytes: usize,
+    },
 }
 
 /// One step of a packet.
@@ -55,9 +92,19 @@ pub enum Step {
     Entry { table: u8, number: usize },
     /// The APPLY_ACTIONS instruction.
     Apply,
+    /// The CLEAR_ACTIONS instruction.
+    Clear,
+    /// The WRITE_ACTIONS instruction.
+    Write,
+    /// The WRITE_METADATA instruction.
+    Metadata { value: u64, mask: u64 },
+    /// The GOTO_TABLE instruction.
+    Goto(u8),
     /// The action set is taken out.
     Set,
     Act(Action),
+    /// The time to live is over, and the packet's work with it.
+    TtlExpired,
     /// The packet's end.
     End,
 }
@@ -78,6 +125,7 @@ impl Packet {
             frame,
             ingress,
             metadata: 0,
+            action_set: ActionSet::new(),
             cookie: u64::MAX,
             table: 0,
             miss: false,
@@ -88,15 +136,31 @@ impl Packet {
     pub fn key(&self) -> FieldKey
         ensures { value result ≡ key_of self.now }
     {
-        self.frame.key(self.ingress, self.metadata)
+        key_of_frame(&self.frame, self.ingress, self.metadata)
     }
 
-    /// Its action set in the order in which it runs (OpenFlow 1.3.5, 5.10).
-    /// No instruction writes into it, so it is empty.
-    pub fn action_set(&self) -> &[Action]
-        ensures { result.now ≡ set_in_order self.now }
+    /// The packet again, but with an empty action set.
+    pub(crate) fn copy_without_actions(&self, alloc: Global) -> Result<Packet, AllocError>
+        ensures { IfOk result (λ p. p ≡ record self.now { action_set = [] }) }
     {
-        &[]
+        Ok(Packet {
+            frame: self.frame.copy(alloc)?,
+            ingress: self.ingress,
+            metadata: self.metadata,
+            action_set: ActionSet::new(),
+            cookie: self.cookie,
+            table: self.table,
+            miss: self.miss,
+        })
+    }
+}
+
+fn key_of_frame(frame: &Frame, ingress: u32, metadata: u64) -> FieldKey
+    ensures { value result ≡ field_map (layers_of frame.now) ingress metadata }
+{
+    match read_inside(frame.bytes(), ingress, metadata) {
+        Ok(headers) => headers.key(),
+        Err(_) => unreachable!(),
     }
 }
 

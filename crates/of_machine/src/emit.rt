@@ -1,27 +1,76 @@
 //! What outputs emit.
-ghost use Rattle.std.specs.Prelude.{◌≡◌, OnOk};
+ghost use Rattle.std.specs.Prelude.{◌≡◌, IfOk, OnOk};
 ghost use Rattle.std.specs.Option.{option_copied};
-ghost use Rattle.of_machine.specs.Rows.{emission, to_port};
+ghost use Rattle.of_machine.specs.Rows.{emission, to_port, packet_in, flooded, output_reason};
 ghost use Rattle.of_machine.specs.Ports.{port_at};
 ghost use Rattle.of_machine.specs.Gained.{Gains};
 
-use crate::data::{Count, Item, Outcome, Packet};
+use crate::data::{Count, Item, Outcome, Packet, PacketInReason};
 use crate::port::Port;
-use std::alloc::AllocError;
+use of_actions::{PORT_ALL, PORT_CONTROLLER, PORT_FLOOD, PORT_IN_PORT};
+use of_rewrite::Frame;
+use of_wire::Bytes;
+use std::alloc::{AllocError, Global};
 
-/// What an output to the port of that number emits.
+/// What an output to this port, or to a reserved one that is not TABLE, emits (OpenFlow 1.3.5, 7.2.5).
 pub(crate) fn emit(
     ports: &[Port],
-    number: u32,
+    port: u32,
     packet: &Packet,
     outcome: &mut Outcome,
 ) -> Result<(), AllocError>
-    ensures { OnOk result (Gains outcome.old (emission ports.now packet.now number) outcome.new) }
+    ensures { OnOk result (Gains outcome.old (emission ports.now packet.now port) outcome.new) }
 {
-    if number == packet.ingress {
+    if port == PORT_IN_PORT {
+        return send(find_port(ports, packet.ingress), packet, outcome);
+    }
+    if port == PORT_FLOOD || port == PORT_ALL {
+        return flood(ports, packet, outcome);
+    }
+    if port == PORT_CONTROLLER {
+        return to_controller(reason_of_output(packet), packet, outcome);
+    }
+    if port == packet.ingress {
         return Ok(());
     }
-    send(find_port(ports, number), packet, outcome)
+    send(find_port(ports, port), packet, outcome)
+}
+
+fn reason_of_output(packet: &Packet) -> PacketInReason
+    ensures { result ≡ output_reason packet.now }
+{
+    if packet.miss {
+        PacketInReason::NoMatch
+    } else {
+        PacketInReason::Action
+    }
+}
+
+/// The packet to the controller.
+pub(crate) fn to_controller(
+    reason: PacketInReason,
+    packet: &Packet,
+    outcome: &mut Outcome,
+) -> Result<(), AllocError>
+    ensures { OnOk result (Gains outcome.old (packet_in reason packet.now) outcome.new) }
+{
+    let frame = bytes_of(*outcome.items.allocator(), &packet.frame)?;
+    outcome.items.push(Item::PacketIn {
+        reason,
+        table: packet.table,
+        cookie: packet.cookie,
+        ingress: packet.ingress,
+        metadata: packet.metadata,
+        frame,
+    })?;
+    Ok(())
+}
+
+// The frame's bytes again, for what leaves the switch.
+fn bytes_of(alloc: Global, frame: &Frame) -> Result<Bytes, AllocError>
+    ensures { IfOk result (λ bytes. bytes ≡ frame.now) }
+{
+    Bytes::from_slice(alloc, frame.bytes())
 }
 
 fn find_port(ports: &[Port], number: u32) -> Option<&Port>
@@ -36,13 +85,29 @@ fn send(port: Option<&Port>, packet: &Packet, outcome: &mut Outcome) -> Result<(
 {
     if let Some(port) = port {
         if port.may_send() {
-            let frame = packet.frame.copy(*outcome.items.allocator())?;
+            let frame = bytes_of(*outcome.items.allocator(), &packet.frame)?;
             outcome.items.push(Item::Sent {
                 port: port.number,
                 frame,
             })?;
         } else {
             outcome.counts.push(Count::TxDropped(port.number))?;
+        }
+    }
+    Ok(())
+}
+
+// Out of each port that may send but the ingress port.
+fn flood(ports: &[Port], packet: &Packet, outcome: &mut Outcome) -> Result<(), AllocError>
+    ensures { OnOk result (Gains outcome.old (flooded ports.now packet.now) outcome.new) }
+{
+    for port in ports {
+        if port.may_send() && port.number != packet.ingress {
+            let frame = bytes_of(*outcome.items.allocator(), &packet.frame)?;
+            outcome.items.push(Item::Sent {
+                port: port.number,
+                frame,
+            })?;
         }
     }
     Ok(())

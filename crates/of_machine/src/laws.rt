@@ -1,18 +1,39 @@
 //! Laws of runs.
-ghost use Rattle.std.specs.Prelude.{◌≡◌, ◌+◌, ℕ, [], length};
+ghost use Rattle.std.specs.Prelude.{◌≡◌, ◌≤◌, ◌+◌, ◌*◌, ◌∷◌, ℕ, List, [], true, length, IsTrue};
+ghost use Rattle.of_actions.specs.Served.{are_served};
 ghost use Rattle.of_machine.specs.TheWorld.{TheWorld};
-ghost use Rattle.of_machine.specs.Runs.{Machine, after, run_of, steps_of};
+ghost use Rattle.of_machine.specs.Sound.{IsSound, longest};
+ghost use Rattle.of_machine.specs.Rows.{Work, Lookup, acts, task};
+ghost use Rattle.of_machine.specs.Weights.{IsFit, lookup_steps, task_weight};
+ghost use Rattle.of_machine.specs.Runs.{Machine, after, starting, run_of, ahead_of};
+ghost use Rattle.of_machine.specs.Growth.{IsLow, AllShort};
 ghost use Rattle.of_machine.specs.Renumbering.{IsRenumbered, renumbered};
 ghost use Rattle.of_machine.specs.declared.data.Packet.{Packet};
+ghost use Rattle.of_actions.specs.declared.action.Action.{Action};
 
-/// Every run ends, with one line a step, and once no packet is left nothing changes.
+/// Every run ends: after as many steps as its work weighs no packet is left, and then nothing changes.
+///
+/// A line is a step, so a frame takes at most `lookup_steps longest 0` of them, which are 525,952, and a PACKET_OUT as many for each of its 64 actions, one for each action, and its end.
 pub fn every_run_ends()
-    ensures ends { (w : TheWorld) (p : Packet) → (run_of w p).tasks ≡ [] }
-    ensures steps { (w : TheWorld) (p : Packet) → length (run_of w p).lines ≡ steps_of w p }
+    ensures ends { (w : TheWorld) (p : Packet) (work : List Work) → IsSound w → IsFit (task p work) → (run_of w p work).tasks ≡ [] }
     ensures settled { (w : TheWorld) (k n : ℕ) (m : Machine) → (after w n m).tasks ≡ [] → after w (k + n) m ≡ after w n m }
+    ensures lines { (w : TheWorld) (p : Packet) (work : List Work) (k : ℕ) → IsSound w → IsFit (task p work) → length (after w k (starting p work)).lines ≤ task_weight w (task p work) }
+    ensures frame { (w : TheWorld) (p : Packet) (k : ℕ) → IsSound w → p.action_set ≡ [] → length (after w k (starting p (Lookup 0 ∷ []))).lines ≤ lookup_steps longest 0 }
+    ensures number { lookup_steps longest 0 ≡ 525952 }
+    ensures actions { (w : TheWorld) (p : Packet) (l : List Action) (k : ℕ) → IsSound w → p.action_set ≡ [] → IsTrue (are_served true l) → length (after w k (starting p (acts l))).lines ≤ 64 * lookup_steps longest 0 + 65 }
+{}
+
+/// A packet before others has its own run, and then the others are as they were.
+pub fn packets_take_turns()
+    ensures { (w : TheWorld) (p : Packet) (work : List Work) (b : Machine) → IsSound w → IsFit (task p work) → after w (length (run_of w p work).lines) (record b { tasks = task p work ∷ b.tasks }) ≡ record (ahead_of b (run_of w p work)) { tasks = b.tasks } }
+{}
+
+/// Frames grow by four bytes for each VLAN tag that is pushed, and by no more.
+pub fn frames_stay_short()
+    ensures { (w : TheWorld) (p : Packet) (work : List Work) (most k : ℕ) → IsSound w → IsFit (task p work) → IsLow w most (task p work) → AllShort most (after w k (starting p work)).items }
 {}
 
 /// The numbers of entries are names alone: where entries have other numbers, a run is the same but for them.
 pub fn numbers_are_names()
-    ensures { (number : ℕ → ℕ → ℕ) (w v : TheWorld) (p : Packet) → IsRenumbered number w v → run_of v p ≡ renumbered number (run_of w p) }
+    ensures { (number : ℕ → ℕ → ℕ) (w v : TheWorld) (p : Packet) (work : List Work) → IsRenumbered number w v → run_of v p work ≡ renumbered number (run_of w p work) }
 {}

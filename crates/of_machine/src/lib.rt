@@ -1,19 +1,22 @@
-//! The instruction machine: what a packet meets on its way through the flow tables (OpenFlow 1.3.5, 5.1).
+//! The instruction machine: what a packet meets on its way through flow tables and groups (OpenFlow 1.3.5, 5.1).
 #![tactic(auto)]
 
+mod chosen;
 mod data;
 mod emit;
-mod frame;
 mod laws;
 mod machine;
 mod port;
+mod runs;
+mod tables;
 mod world;
 
-pub use data::{Count, Item, Outcome, Packet, Step};
-pub use frame::Frame;
-pub use laws::{every_run_ends, numbers_are_names};
-pub use machine::{is_miss, run};
+pub use chosen::Chosen;
+pub use data::{Count, Item, Outcome, Packet, PacketInReason, Step};
+pub use laws::{every_run_ends, frames_stay_short, numbers_are_names, packets_take_turns};
 pub use port::{Port, PortCounters};
+pub use runs::{run, run_actions};
+pub use tables::is_miss;
 pub use world::{NoLog, StepLog, Steps, World};
 
 #[cfg(test)]

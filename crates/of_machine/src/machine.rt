@@ -1,196 +1,238 @@
-//! Runs.
-ghost use Rattle.std.specs.Prelude.{◌≡◌, ◌∷◌, ◌++◌, [], List, true, IfOk, OnOk, OnErr};
-ghost use Rattle.of_machine.specs.Rows.{RunSet, Act as ActWork, Lookup as LookupWork, acts, works, is_miss as is_miss_entry};
-ghost use Rattle.of_machine.specs.Runs.{Acts, Ends, Breaks, Follows, Fails, IsRun, IsFront, then_works, run_of};
-ghost use Rattle.of_machine.specs.Sound.{IsSound};
-ghost use Rattle.of_actions.specs.declared.instruction.Instruction.{Instruction};
+//! Actions, groups and action sets.
+ghost use Rattle.std.specs.Prelude.{◌≡◌, ◌≤◌, ◌+◌, ◌∷◌, ◌++◌, [], List, Some, false, IsTrue, IfOk, OnOk, OnErr, length, map};
+ghost use Rattle.std.specs.List.{list_all};
+ghost use Rattle.of_actions.specs.Served.{is_served};
+ghost use Rattle.of_rewrite.specs.Frames.{IsFrame};
+ghost use Rattle.of_machine.specs.Rows.{Work, RunSet, Act as ActWork, acts, Task, task, copies, rewritten};
+ghost use Rattle.of_machine.specs.Runs.{Moves, Acts, Ends, Breaks, AllEnd, AllFail, point};
+ghost use Rattle.of_machine.specs.Sound.{IsSound, IsBelow, AllBelow, AllBuckets};
+ghost use Rattle.of_machine.specs.TheWorld.{TheWorld};
 
-use crate::data::{Count, Outcome, Packet, Step};
-use crate::emit::emit;
+use crate::data::{Count, Outcome, Packet, PacketInReason, Step};
+use crate::emit::{emit, to_controller};
 use crate::world::{StepLog, World};
-use of_actions::{Action, Instruction};
-use of_table::Flow;
-use std::alloc::{AllocError, Global};
+use of_action_set::ActionSet;
+use of_actions::Action;
+use of_rewrite::{Frame, Ttl};
+use std::alloc::AllocError;
+use std::mem;
 
-/// What comes after an entry's instructions.
+/// Whether a packet's work goes on.
 #[derive(Clone, Copy)]
-enum Then {
-    Set,
+pub(crate) enum Going {
+    Continues,
     Ended,
 }
 
-/// Whether the entry is the one for table misses (OpenFlow 1.3.5, 5.4).
-pub fn is_miss(flow: &Flow) -> bool
-    ensures { result ≡ is_miss_entry flow.now }
-{
-    flow.priority == 0 && flow.fields.is_empty()
-}
-
-// One action.
-fn act<W: World, S: StepLog>(
+/// One action; `levels` groups may stand in the longest chain that it begins.
+#[cycle(machine)]
+pub(crate) fn act<W: World, S: StepLog>(
     world: &W,
+    levels: u8,
     action: Action,
-    packet: &Packet,
-    outcome: &mut Outcome,
-    log: &mut S,
-) -> Result<(), AllocError>
-    ensures ok { OnOk result (Acts (W.view world.now) S.KEEPS packet.now (ActWork action ∷ []) outcome.old (S.list log.old) packet.now outcome.new (S.list log.new)) }
-    ensures err { OnErr result (Breaks (W.view world.now) S.KEEPS packet.now (ActWork action ∷ []) outcome.old (S.list log.old) (S.list log.new)) }
-{
-    match action {
-        Action::Output { port, .. } => emit(world.ports(), port, packet, outcome)?,
-    }
-    log.step(Step::Act(action))
-}
-
-// A list of actions, in order.
-fn act_all<W: World, S: StepLog>(
-    world: &W,
-    actions: &[Action],
-    packet: &Packet,
-    outcome: &mut Outcome,
-    log: &mut S,
-) -> Result<(), AllocError>
-    ensures ok { OnOk result (Acts (W.view world.now) S.KEEPS packet.now (acts actions.now) outcome.old (S.list log.old) packet.now outcome.new (S.list log.new)) }
-    ensures err { OnErr result (Breaks (W.view world.now) S.KEEPS packet.now (acts actions.now) outcome.old (S.list log.old) (S.list log.new)) }
-{
-    for action in actions {
-        act(world, *action, packet, outcome, log)?;
-    }
-    Ok(())
-}
-
-// The packet's action set, and its end.
-fn run_set<W: World, S: StepLog>(
-    world: &W,
-    packet: Packet,
-    outcome: &mut Outcome,
-    log: &mut S,
-) -> Result<(), AllocError>
-    ensures ok { OnOk result (Ends (W.view world.now) S.KEEPS packet (RunSet ∷ []) outcome.old (S.list log.old) outcome.new (S.list log.new)) }
-    ensures err { OnErr result (Fails (W.view world.now) S.KEEPS packet (RunSet ∷ []) outcome.old (S.list log.old) (S.list log.new)) }
-{
-    let mut packet = packet;
-    packet.cookie = u64::MAX;
-    packet.miss = false;
-    log.step(Step::Set)?;
-    act_all(world, packet.action_set(), &packet, outcome, log)?;
-    log.step(Step::End)
-}
-
-// One instruction.
-fn instruct<W: World, S: StepLog>(
-    world: &W,
-    instruction: &Instruction,
-    packet: &Packet,
-    outcome: &mut Outcome,
-    log: &mut S,
-) -> Result<(), AllocError>
-    ensures ok { OnOk result ((rest : List Instruction) → Follows (W.view world.now) S.KEEPS packet.now (works (instruction.now ∷ rest)) outcome.old (S.list log.old) (works rest) packet.now outcome.new (S.list log.new)) }
-    ensures err { OnErr result ((rest : List Instruction) → Fails (W.view world.now) S.KEEPS packet.now (works (instruction.now ∷ rest)) outcome.old (S.list log.old) (S.list log.new)) }
-{
-    match instruction {
-        Instruction::Apply(actions) => {
-            log.step(Step::Apply)?;
-            act_all(world, actions.as_slice(), packet, outcome, log)
-        }
-    }
-}
-
-// An entry's instructions.
-fn follow<W: World, S: StepLog>(
-    world: &W,
-    instructions: &[Instruction],
-    packet: &Packet,
-    outcome: &mut Outcome,
-    log: &mut S,
-) -> Result<(), AllocError>
-    ensures ok { OnOk result (Follows (W.view world.now) S.KEEPS packet.now (works instructions.now) outcome.old (S.list log.old) (RunSet ∷ []) packet.now outcome.new (S.list log.new)) }
-    ensures err { OnErr result (Fails (W.view world.now) S.KEEPS packet.now (works instructions.now) outcome.old (S.list log.old) (S.list log.new)) }
-{
-    for instruction in instructions {
-        instruct(world, instruction, packet, outcome, log)?;
-    }
-    Ok(())
-}
-
-// One table: the look-up, and the entry's instructions.
-fn look_up<W: World, S: StepLog>(
-    world: &mut W,
-    table: u8,
     packet: &mut Packet,
     outcome: &mut Outcome,
     log: &mut S,
-) -> Result<Then, AllocError>
-    requires { IsSound (W.view world.old) }
-    ensures kept { W.view world.new ≡ W.view world.old }
-    ensures content { W.content world.new ≡ W.content world.old }
-    ensures ok { IfOk result (λ then. Follows (W.view world.old) S.KEEPS packet.old (LookupWork table ∷ []) outcome.old (S.list log.old) (then_works then) packet.new outcome.new (S.list log.new)) }
-    ensures err { OnErr result (Fails (W.view world.old) S.KEEPS packet.old (LookupWork table ∷ []) outcome.old (S.list log.old) (S.list log.new)) }
+) -> Result<Going, AllocError>
+    requires sound { IsSound (W.view world.now) }
+    requires served { IsTrue (is_served false action) }
+    requires below { IsBelow (W.view world.now) (levels + 1) action }
+    ensures ok { IfOk result (λ going. Acts (W.view world.now) S.KEEPS packet.old (ActWork action ∷ []) outcome.old (S.list log.old) going packet.new outcome.new (S.list log.new)) }
+    ensures err { OnErr result (Breaks (W.view world.now) S.KEEPS packet.old (ActWork action ∷ []) outcome.old (S.list log.old) (S.list log.new)) }
 {
-    match world.find(table, &packet.key()) {
-        None => {
-            outcome.counts.push(Count::Lookup(table))?;
-            log.step(Step::Miss(table))?;
-            Ok(Then::Ended)
+    match action {
+        Action::Output { port, .. } => {
+            emit(world.ports(), port, packet, outcome)?;
+            log.step(Step::Act(action))?;
+            Ok(Going::Continues)
         }
-        Some(number) => {
-            let bytes = packet.frame.len();
-            outcome.counts.push(Count::Lookup(table))?;
-            outcome.counts.push(Count::Matched {
-                table,
-                number,
-                bytes,
-            })?;
-            log.step(Step::Entry { table, number })?;
-            let world = &*world;
-            let flow = world.flow(table, number);
-            packet.cookie = flow.cookie;
-            packet.table = table;
-            packet.miss = is_miss(flow);
-            follow(world, flow.instructions.as_slice(), packet, outcome, log)?;
-            Ok(Then::Set)
+        Action::Group(group) => {
+            to_group(world, levels, group, packet, outcome, log)?;
+            Ok(Going::Continues)
+        }
+        Action::DecNwTtl => age(packet, outcome, log),
+        _ => {
+            rewrite(action, &mut packet.frame)?;
+            log.step(Step::Act(action))?;
+            Ok(Going::Continues)
         }
     }
 }
 
-// The tables, and the packet's end.
-fn pipeline<W: World, S: StepLog>(
-    world: &mut W,
+// The frame that an action makes.
+fn rewrite(action: Action, frame: &mut Frame) -> Result<(), AllocError>
+    requires { IsTrue (is_served false action) }
+    ensures { OnOk result (frame.new ≡ rewritten action frame.old) }
+{
+    match action {
+        Action::PushVlan(tpid) => frame.push_vlan(tpid)?,
+        Action::PopVlan => frame.pop_vlan(),
+        Action::SetNwTtl(ttl) => frame.set_ttl(ttl),
+        Action::SetField { field, value } => frame.set(field, value),
+        Action::Output { .. } | Action::Group(_) | Action::DecNwTtl => {}
+    }
+    Ok(())
+}
+
+// DEC_NW_TTL.
+fn age<S: StepLog>(
+    packet: &mut Packet,
+    outcome: &mut Outcome,
+    log: &mut S,
+) -> Result<Going, AllocError>
+    ensures ok { IfOk result (λ going. (w : TheWorld) → Acts w S.KEEPS packet.old (ActWork Action.DecNwTtl ∷ []) outcome.old (S.list log.old) going packet.new outcome.new (S.list log.new)) }
+    ensures err { OnErr result ((w : TheWorld) → Breaks w S.KEEPS packet.old (ActWork Action.DecNwTtl ∷ []) outcome.old (S.list log.old) (S.list log.new)) }
+{
+    frame_is_known(&packet.frame);
+    match packet.frame.dec_ttl() {
+        Ttl::Expired => {
+            to_controller(PacketInReason::InvalidTtl, packet, outcome)?;
+            log.step(Step::TtlExpired)?;
+            Ok(Going::Ended)
+        }
+        Ttl::Done | Ttl::Absent => {
+            log.step(Step::Act(Action::DecNwTtl))?;
+            Ok(Going::Continues)
+        }
+    }
+}
+
+// A frame has at least 14 bytes, each below 256.
+pub(crate) fn frame_is_known(frame: &Frame)
+    ensures { IsFrame frame.now }
+{
+    bytes_are_known(frame.bytes());
+}
+
+fn bytes_are_known(bytes: &[u8])
+    requires { 14 ≤ length bytes.now }
+    ensures { IsFrame bytes.now }
+{}
+
+/// Actions in their order, as far as the packet's work goes on.
+#[cycle(machine)]
+pub(crate) fn act_all<W: World, S: StepLog>(
+    world: &W,
+    levels: u8,
+    actions: &[Action],
+    packet: &mut Packet,
+    outcome: &mut Outcome,
+    log: &mut S,
+) -> Result<Going, AllocError>
+    requires sound { IsSound (W.view world.now) }
+    requires served { IsTrue (list_all (is_served false) actions.now) }
+    requires below { AllBelow (W.view world.now) (levels + 1) actions.now }
+    ensures ok { IfOk result (λ going. Acts (W.view world.now) S.KEEPS packet.old (acts actions.now) outcome.old (S.list log.old) going packet.new outcome.new (S.list log.new)) }
+    ensures err { OnErr result (Breaks (W.view world.now) S.KEEPS packet.old (acts actions.now) outcome.old (S.list log.old) (S.list log.new)) }
+{
+    for action in actions {
+        match act(world, levels, *action, packet, outcome, log)? {
+            Going::Continues => {}
+            Going::Ended => return Ok(Going::Ended),
+        }
+    }
+    Ok(Going::Continues)
+}
+
+// The buckets of a group that run, each on a copy of the packet.
+#[cycle(machine)]
+fn to_group<W: World, S: StepLog>(
+    world: &W,
+    levels: u8,
+    group: u32,
+    packet: &Packet,
+    outcome: &mut Outcome,
+    log: &mut S,
+) -> Result<(), AllocError>
+    requires sound { IsSound (W.view world.now) }
+    requires below { (W.view world.now).chain group ≤ levels }
+    ensures ok { OnOk result ((rest : List Work) (others : List Task) → Moves (W.view world.now) S.KEEPS (point (task packet.now (ActWork (Action.Group group) ∷ rest) ∷ others) outcome.old (S.list log.old)) (point (task packet.now rest ∷ others) outcome.new (S.list log.new))) }
+    ensures err { OnErr result (Breaks (W.view world.now) S.KEEPS packet.now (ActWork (Action.Group group) ∷ []) outcome.old (S.list log.old) (S.list log.new)) }
+{
+    match world.chosen(group) {
+        None => log.step(Step::Act(Action::Group(group))),
+        Some(places) => {
+            count_uses(group, places.as_slice(), packet.frame.len(), outcome)?;
+            log.step(Step::Act(Action::Group(group)))?;
+            run_buckets(
+                world,
+                levels - 1,
+                group,
+                places.as_slice(),
+                packet,
+                outcome,
+                log,
+            )
+        }
+    }
+}
+
+// Counts a packet for a group and for its buckets.
+fn count_uses(
+    group: u32,
+    places: &[u8],
+    bytes: usize,
+    outcome: &mut Outcome,
+) -> Result<(), AllocError>
+    ensures counts { OnOk result (outcome.new.counts.items ≡ outcome.old.counts.items ++ (Count.Group group bytes ∷ map (λ place. Count.Bucket group place bytes) places.now)) }
+    ensures items { OnOk result (outcome.new.items.items ≡ outcome.old.items.items) }
+{
+    outcome.counts.push(Count::Group { group, bytes })?;
+    for place in places {
+        outcome.counts.push(Count::Bucket {
+            group,
+            place: *place,
+            bytes,
+        })?;
+    }
+    Ok(())
+}
+
+// The copies for these buckets, one after the other.
+#[cycle(machine)]
+fn run_buckets<W: World, S: StepLog>(
+    world: &W,
+    levels: u8,
+    group: u32,
+    places: &[u8],
+    packet: &Packet,
+    outcome: &mut Outcome,
+    log: &mut S,
+) -> Result<(), AllocError>
+    requires sound { IsSound (W.view world.now) }
+    requires there { AllBuckets (W.view world.now) group places.now }
+    requires below { (W.view world.now).chain group ≤ levels + 1 }
+    ensures ok { OnOk result (AllEnd (W.view world.now) S.KEEPS (copies (W.view world.now) group packet.now places.now) outcome.old (S.list log.old) outcome.new (S.list log.new)) }
+    ensures err { OnErr result (AllFail (W.view world.now) S.KEEPS (copies (W.view world.now) group packet.now places.now) outcome.old (S.list log.old) (S.list log.new)) }
+{
+    for place in places {
+        let mut copy = packet.copy_without_actions(*outcome.items.allocator())?;
+        copy.action_set.write(world.bucket(group, *place));
+        run_set(world, levels, copy, outcome, log)?;
+    }
+    Ok(())
+}
+
+/// The packet's action set, and its end.
+#[cycle(machine)]
+pub(crate) fn run_set<W: World, S: StepLog>(
+    world: &W,
+    levels: u8,
     packet: Packet,
     outcome: &mut Outcome,
     log: &mut S,
 ) -> Result<(), AllocError>
-    requires { IsSound (W.view world.old) }
-    ensures kept { W.view world.new ≡ W.view world.old }
-    ensures content { W.content world.new ≡ W.content world.old }
-    ensures ok { OnOk result (Ends (W.view world.old) S.KEEPS packet (LookupWork 0 ∷ []) outcome.old (S.list log.old) outcome.new (S.list log.new)) }
-    ensures err { OnErr result (Fails (W.view world.old) S.KEEPS packet (LookupWork 0 ∷ []) outcome.old (S.list log.old) (S.list log.new)) }
+    requires sound { IsSound (W.view world.now) }
+    requires below { AllBelow (W.view world.now) (levels + 1) packet.action_set }
+    ensures ok { OnOk result (Ends (W.view world.now) S.KEEPS packet (RunSet ∷ []) outcome.old (S.list log.old) outcome.new (S.list log.new)) }
+    ensures err { OnErr result (Breaks (W.view world.now) S.KEEPS packet (RunSet ∷ []) outcome.old (S.list log.old) (S.list log.new)) }
 {
     let mut packet = packet;
-    match look_up(world, 0, &mut packet, outcome, log)? {
-        Then::Set => run_set(&*world, packet, outcome, log),
-        Then::Ended => log.step(Step::End),
-    }
-}
-
-/// Runs a packet from table 0 to its end (OpenFlow 1.3.5, 5.1).
-pub fn run<W: World, S: StepLog>(
-    alloc: Global,
-    world: &mut W,
-    packet: Packet,
-    log: &mut S,
-) -> Result<Outcome, AllocError>
-    ensures kept { W.view world.new ≡ W.view world.old }
-    ensures content { W.content world.new ≡ W.content world.old }
-    ensures ok { IfOk result (λ outcome. IsRun (W.view world.old) S.KEEPS packet outcome (S.list log.old) (S.list log.new)) }
-    ensures items { IfOk result (λ outcome. outcome.items.items ≡ (run_of (W.view world.old) packet).items) }
-    ensures counts { IfOk result (λ outcome. outcome.counts.items ≡ (run_of (W.view world.old) packet).counts) }
-    ensures lines { OnOk result (S.KEEPS ≡ true → S.list log.new ≡ S.list log.old ++ (run_of (W.view world.old) packet).lines) }
-    ensures err { OnErr result (IsFront (W.view world.old) S.KEEPS packet (S.list log.old) (S.list log.new)) }
-{
-    world.known();
-    let mut outcome = Outcome::new(alloc);
-    pipeline(world, packet, &mut outcome, log)?;
-    Ok(outcome)
+    let set = mem::replace(&mut packet.action_set, ActionSet::new());
+    packet.cookie = u64::MAX;
+    packet.miss = false;
+    log.step(Step::Set)?;
+    act_all(world, levels, set.in_order(), &mut packet, outcome, log)?;
+    log.step(Step::End)?;
+    Ok(())
 }

@@ -5,13 +5,15 @@ ghost use Rattle.of_machine.specs.TheWorld.{TheWorld};
 ghost use Rattle.of_machine.specs.Sound.{IsSound};
 ghost use Rattle.of_machine.specs.declared.data.Step.{Step};
 
+use crate::chosen::Chosen;
 use crate::data::Step;
 use crate::port::Port;
+use of_actions::Action;
 use of_headers::FieldKey;
 use of_table::Flow;
 use std::alloc::{AllocError, Global};
 
-/// The flow tables and the ports that packets meet.
+/// The flow tables, the groups and the ports that packets meet.
 pub trait World {
     ghost view: { Self → TheWorld };
 
@@ -32,10 +34,20 @@ pub trait World {
         requires { (view self.now).flow table number ≢ None }
         ensures { (view self.now).flow table number ≡ Some result.now };
 
+    /// The buckets of the group that run (OpenFlow 1.3.5, 5.6.1). None where there is no such group.
+    fn chosen(&self, group: u32) -> Option<Chosen>
+        ensures { result ≡ (view self.now).chosen group };
+
+    /// The actions of the bucket of the group at that place.
+    fn bucket(&self, group: u32, place: u8) -> &[Action]
+        requires { (view self.now).bucket group place ≢ None }
+        ensures { (view self.now).bucket group place ≡ Some result.now };
+
+    /// The ports, by rising number.
     fn ports(&self) -> &[Port]
         ensures { result.now ≡ (view self.now).ports };
 
-    /// Each winner is the number of an entry.
+    /// What each world promises: winners are numbers of entries, instructions are as an entry keeps them, and chains of groups are short.
     fn known(&self)
         ensures { IsSound (view self.now) };
 }

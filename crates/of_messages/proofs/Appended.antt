@@ -1,8 +1,10 @@
 -- Bytes that are written one part after the other.
-use Rattle.std.proofs.Common.{◌≡◌, ℕ, List, ◌++◌, length, refl, ◌∙◌, append_assoc}
+use Rattle.std.proofs.Common.{◌≡◌, ℕ, List, [], ◌++◌, ◌∷◌, ◌+◌, length, refl, ◌∙◌, append_assoc, arith}
+use Rattle.std.proofs.lemmas.List.{length-append}
 use Rattle.std.specs.Prelude.{Result, Ok, Err, OnOk}
 use Rattle.of_messages.specs.declared.message.FlowRemoved.{FlowRemoved}
-use Rattle.of_messages.specs.Written.{flow_removed_front}
+use Rattle.of_messages.specs.declared.message.PacketIn.{PacketIn}
+use Rattle.of_messages.specs.Written.{flow_removed_front, packet_in_front, header, message}
 
 pub length_front : (removed : FlowRemoved) → length (flow_removed_front removed) ≡ 40
 unfolding flow_removed_front
@@ -17,3 +19,30 @@ nine_parts (Err x) s0 s9 a b c d e f g h i e1 e2 e3 e4 e5 e6 e7 e8 last = last
 nine_parts (Ok x) s0 s9 a b c d e f g h i e1 e2 e3 e4 e5 e6 e7 e8 last =
     let whole : s9 ≡ ((((((((s0 ++ a) ++ b) ++ c) ++ d) ++ e) ++ f) ++ g) ++ h) ++ i = cc in
     whole ∙ simp append_assoc
+
+-- the same of fewer parts
+pub three_parts : {A E : Type 0} {s1 s2 : List ℕ} (r : Result A E) (s0 s3 a b c : List ℕ) → s1 ≡ s0 ++ a → s2 ≡ s1 ++ b → OnOk r (s3 ≡ s2 ++ c) → OnOk r (s3 ≡ s0 ++ (a ++ (b ++ c)))
+three_parts (Err x) s0 s3 a b c e1 e2 last = last
+three_parts (Ok x) s0 s3 a b c e1 e2 last = let whole : s3 ≡ ((s0 ++ a) ++ b) ++ c = cc in whole ∙ simp append_assoc
+
+pub four_parts : {A E : Type 0} {s1 s2 s3 : List ℕ} (r : Result A E) (s0 s4 a b c d : List ℕ) → s1 ≡ s0 ++ a → s2 ≡ s1 ++ b → s3 ≡ s2 ++ c → OnOk r (s4 ≡ s3 ++ d) → OnOk r (s4 ≡ s0 ++ (a ++ (b ++ (c ++ d))))
+four_parts (Err x) s0 s4 a b c d e1 e2 e3 last = last
+four_parts (Ok x) s0 s4 a b c d e1 e2 e3 last = let whole : s4 ≡ (((s0 ++ a) ++ b) ++ c) ++ d = cc in whole ∙ simp append_assoc
+
+pub five_parts : {s1 s2 s3 s4 : List ℕ} (s0 s5 a b c d e : List ℕ) → s0 ≡ [] → s1 ≡ s0 ++ a → s2 ≡ s1 ++ b → s3 ≡ s2 ++ c → s4 ≡ s3 ++ d → s5 ≡ s4 ++ e → s5 ≡ a ++ (b ++ (c ++ (d ++ e)))
+five_parts s0 s5 a b c d e e0 e1 e2 e3 e4 e5 = let whole : s5 ≡ ((([] ++ a ++ b) ++ c) ++ d) ++ e = cc in whole ∙ simp append_assoc
+
+-- how long the body of a PACKET_IN is
+pub length_body : (p : PacketIn) (size : ℕ) (fields frame : List ℕ) → length (packet_in_front p size ++ (fields ++ (0 ∷ 0 ∷ frame))) ≡ 18 + length fields + length frame
+unfolding packet_in_front
+length_body p size fields frame = let parts = length-append fields (0 ∷ 0 ∷ frame) in omega (arith, parts)
+
+pub packet_in_is : (xid len size : ℕ) (p : PacketIn) (fields frame : List ℕ) {s1 s2 s3 s4 : List ℕ} (s0 s5 : List ℕ)
+    → s0 ≡ [] → s1 ≡ s0 ++ header 10 len xid → s2 ≡ s1 ++ packet_in_front p size → s3 ≡ s2 ++ fields → s4 ≡ s3 ++ 0 ∷ 0 ∷ [] → s5 ≡ s4 ++ frame
+    → size ≡ length frame → len ≡ 26 + length fields + length frame
+    → s5 ≡ message 10 xid (packet_in_front p (length frame) ++ (fields ++ (0 ∷ 0 ∷ frame)))
+packet_in_is xid len size p fields frame s0 s5 e0 e1 e2 e3 e4 e5 size_is len_is =
+    let whole = five_parts s0 s5 (header 10 len xid) (packet_in_front p size) fields (0 ∷ 0 ∷ []) frame e0 e1 e2 e3 e4 e5 in
+    let body = length_body p (length frame) fields frame in
+    let total : len ≡ 8 + length (packet_in_front p (length frame) ++ (fields ++ (0 ∷ 0 ∷ frame))) = omega (arith, len_is, body) in
+    rw (← total, ← size_is) whole

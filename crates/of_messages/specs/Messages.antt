@@ -1,14 +1,22 @@
 -- What the bytes of a message say (OpenFlow 1.3.5, 7.1 and 7.3), or the first refusal in the written order (7.4.4).
-use Rattle.std.specs.Prelude.{ℕ, ◌==◌, nat_lt, Bool, true, false, not, ◌&&◌, ◌||◌, List, [], ◌∷◌, length, drop, slice_index, Option, Some, None, Result, Ok, Err, if◌then◌else◌}
+use Rattle.std.specs.Prelude.{ℕ, ◌+◌, ◌==◌, nat_lt, Bool, true, false, not, ◌&&◌, ◌||◌, List, [], ◌∷◌, length, take, drop, slice_index, Option, Some, None, is_none, Result, Ok, Err, if◌then◌else◌}
 use Rattle.byteorder.specs.Endian.{big_number}
 use Rattle.of_wire.specs.declared.code.Code.{Code}
 use Rattle.of_wire.specs.Refusals.{refusal, first_of}
 use Rattle.of_oxm.specs.declared.match_field.MatchField.{MatchField}
 use Rattle.of_oxm.specs.MatchReading.{match_of}
 use Rattle.of_actions.specs.declared.instruction.Instruction.{Instruction}
+use Rattle.of_actions.specs.declared.action.Action.{Action}
+use Rattle.of_actions.specs.Actions.{actions_said}
 use Rattle.of_actions.specs.InstructionReading.{instructions_of}
+use Rattle.of_actions.specs.FlowCheck.{all_go_with}
+use Rattle.of_actions.specs.PortNumbers.{is_number, controller}
+use Rattle.of_headers.specs.Faults.{frame_fault}
 use Rattle.of_messages.specs.declared.message.Message.{Message}
-use Rattle.of_messages.specs.declared.message.Message.TheVariants.{Hello, EchoRequest, BarrierRequest, FlowMod as IsFlowMod}
+use Rattle.of_messages.specs.declared.message.Message.TheVariants.{Hello, EchoRequest, BarrierRequest, FlowMod as IsFlowMod, PacketOut as IsPacketOut}
+use Rattle.of_messages.specs.declared.message.PacketOut.{PacketOut}
+use Rattle.of_messages.specs.declared.message.PacketData.{PacketData}
+use Rattle.of_messages.specs.declared.message.PacketData.TheVariants.{Buffered, Frame}
 use Rattle.of_messages.specs.declared.message.FlowMod.{FlowMod}
 use Rattle.of_messages.specs.declared.message.FlowModCommand.{FlowModCommand}
 use Rattle.of_messages.specs.declared.message.FlowModCommand.TheVariants.{Add, Modify, ModifyStrict, Delete, DeleteStrict}
@@ -34,6 +42,9 @@ hello = 0
 abbrev pub echo_request : ℕ
 echo_request = 2
 
+abbrev pub packet_out : ℕ
+packet_out = 13
+
 abbrev pub flow_mod : ℕ
 flow_mod = 14
 
@@ -42,9 +53,13 @@ barrier_request = 20
 
 -- the types that are served
 abbrev pub is_served : ℕ → Bool
-is_served type = type == hello || type == echo_request || type == flow_mod || type == barrier_request
+is_served type = type == hello || type == echo_request || type == packet_out || type == flow_mod || type == barrier_request
 
--- of the length, the version (a HELLO may have any), the type, and the length of the type
+-- how many bytes the actions of a PACKET_OUT have
+abbrev pub actions_length : List ℕ → ℕ
+actions_length m = big_number 2 (drop 16 m)
+
+-- of the length, the version (a HELLO may have any), the type, and the length of the type; a PACKET_OUT has its actions
 abbrev pub head_refusals : List ℕ → List (Bool × Code)
 head_refusals m =
     (nat_lt (length m) 8 || not (header_length m == length m), refusal 1 6)
@@ -52,6 +67,7 @@ head_refusals m =
     ∷ (not (is_served (type_of m)), refusal 1 1)
     ∷ (type_of m == barrier_request && not (length m == 8), refusal 1 6)
     ∷ (type_of m == flow_mod && nat_lt (length m) 56, refusal 1 6)
+    ∷ (type_of m == packet_out && (nat_lt (length m) 24 || nat_lt (length m) (24 + actions_length m)), refusal 1 6)
     ∷ []
 
 -- FLOW_MOD (7.3.4.1)
@@ -112,8 +128,9 @@ flow_mod_with m command fields instructions = record {
 abbrev pub instructions_for : FlowModCommand → ℕ → List ℕ → Result (List Instruction) Code
 instructions_for command table bytes = if is_delete command then Ok [] else instructions_of table bytes
 
+-- OFPBAC_MATCH_INCONSISTENT, where a field is set that the match does not ask for
 abbrev pub then_instructions : List ℕ → FlowModCommand → List MatchField → Result (List Instruction) Code → Result FlowMod Code
-then_instructions m command fields (Ok instructions) = Ok (flow_mod_with m command fields instructions)
+then_instructions m command fields (Ok instructions) = if all_go_with fields instructions then Ok (flow_mod_with m command fields instructions) else Err (refusal 2 10)
 then_instructions m command fields (Err code) = Err code
 
 -- the match stands behind the fixed fields, the instructions behind the match
@@ -130,18 +147,65 @@ flow_mod_by m None None = Err (refusal 5 6)
 abbrev pub flow_mod_of : List ℕ → Result FlowMod Code
 flow_mod_of m = flow_mod_by m (first_of (flow_mod_refusals m)) (command_of (slice_index m 25))
 
+-- PACKET_OUT (7.3.6)
+
+-- a packet comes by a port, or is of the controller
+abbrev pub is_ingress : ℕ → Bool
+is_ingress port = is_number port || port == controller
+
+-- of the ingress port: OFPBRC_BAD_PORT
+abbrev pub packet_out_refusals : List ℕ → List (Bool × Code)
+packet_out_refusals m = (not (is_ingress (big_number 4 (drop 12 m))), refusal 1 11) ∷ []
+
+-- the actions, and what stands behind them
+abbrev pub actions_in : List ℕ → List ℕ
+actions_in m = take (actions_length m) (drop 24 m)
+
+abbrev pub frame_in : List ℕ → List ℕ
+frame_in m = drop (actions_length m) (drop 24 m)
+
+abbrev pub packet_out_with : List ℕ → List Action → PacketData → PacketOut
+packet_out_with m actions packet = record { in_port = big_number 4 (drop 12 m); actions = actions; packet = packet }
+
+-- without a buffer (all ones) the frame stands behind the actions: OFPBRC_BAD_PACKET where it is too short or too long; with one, what stands there is not looked at
+abbrev pub packet_in_data : ℕ → List ℕ → Result PacketData Code
+packet_in_data buffer frame =
+    if buffer == 0xffffffff
+    then (if is_none (frame_fault frame) then Ok (Frame frame) else Err (refusal 1 12))
+    else Ok (Buffered buffer)
+
+abbrev pub then_packet : List ℕ → List Action → Result PacketData Code → Result PacketOut Code
+then_packet m actions (Ok packet) = Ok (packet_out_with m actions packet)
+then_packet m actions (Err code) = Err code
+
+abbrev pub then_actions : List ℕ → Result (List Action) Code → Result PacketOut Code
+then_actions m (Ok actions) = then_packet m actions (packet_in_data (big_number 4 (drop 8 m)) (frame_in m))
+then_actions m (Err code) = Err code
+
+abbrev pub packet_out_by : List ℕ → Option Code → Result PacketOut Code
+packet_out_by m (Some code) = Err code
+packet_out_by m None = then_actions m (actions_said true (actions_in m))
+
+abbrev pub packet_out_of : List ℕ → Result PacketOut Code
+packet_out_of m = packet_out_by m (first_of (packet_out_refusals m))
+
 -- A MESSAGE
 
-abbrev pub as_message : Result FlowMod Code → Result Message Code
-as_message (Ok v) = Ok (IsFlowMod v)
-as_message (Err code) = Err code
+abbrev pub as_flow_mod : Result FlowMod Code → Result Message Code
+as_flow_mod (Ok v) = Ok (IsFlowMod v)
+as_flow_mod (Err code) = Err code
+
+abbrev pub as_packet_out : Result PacketOut Code → Result Message Code
+as_packet_out (Ok v) = Ok (IsPacketOut v)
+as_packet_out (Err code) = Err code
 
 abbrev pub body_of : List ℕ → Result Message Code
 body_of m =
     if type_of m == hello then Ok Hello
     else (if type_of m == echo_request then Ok (EchoRequest (drop 8 m))
     else (if type_of m == barrier_request then Ok BarrierRequest
-    else as_message (flow_mod_of m)))
+    else (if type_of m == packet_out then as_packet_out (packet_out_of m)
+    else as_flow_mod (flow_mod_of m))))
 
 abbrev pub message_by : List ℕ → Option Code → Result Message Code
 message_by m (Some code) = Err code

@@ -1,9 +1,13 @@
 -- The bytes of the messages that the switch sends.
-use Rattle.std.specs.Prelude.{ℕ, ◌+◌, List, [], ◌∷◌, ◌++◌, length}
+use Rattle.std.specs.Prelude.{ℕ, ◌+◌, ◌==◌, if◌then◌else◌, List, [], ◌∷◌, ◌++◌, length, replicate, None}
 use Rattle.byteorder.specs.Endian.{big_bytes}
 use Rattle.of_wire.specs.declared.code.Code.{Code}
 use Rattle.of_oxm.specs.declared.match_field.MatchField.{MatchField}
 use Rattle.of_oxm.specs.Canonical.{canonical}
+use Rattle.of_layers.specs.declared.field.Field.TheVariants.{InPort, Metadata}
+use Rattle.of_messages.specs.declared.message.PacketIn.{PacketIn}
+use Rattle.of_messages.specs.declared.message.PacketInReason.{PacketInReason}
+use Rattle.of_messages.specs.declared.message.PacketInReason.TheVariants.{NoMatch, Action, InvalidTtl}
 use Rattle.of_messages.specs.declared.message.FlowRemoved.{FlowRemoved}
 use Rattle.of_messages.specs.declared.message.FlowRemovedReason.{FlowRemovedReason}
 use Rattle.of_messages.specs.declared.message.FlowRemovedReason.TheVariants.{IdleTimeout, HardTimeout, Delete, GroupDelete}
@@ -55,3 +59,27 @@ flow_removed_front removed =
 
 abbrev pub flow_removed_bytes : ℕ → FlowRemoved → List MatchField → List ℕ
 flow_removed_bytes xid removed fields = message 11 xid (flow_removed_front removed ++ canonical fields)
+
+-- PACKET_IN (7.4.1)
+
+abbrev pub packet_in_number : PacketInReason → ℕ
+packet_in_number NoMatch = 0
+packet_in_number Action = 1
+packet_in_number InvalidTtl = 2
+
+-- the match tells the ingress port, and the metadata where it is not 0
+abbrev pub packet_fields : ℕ → ℕ → List MatchField
+packet_fields in_port metadata =
+    record { field = InPort; value = in_port; mask = None }
+    ∷ (if metadata == 0 then [] else record { field = Metadata; value = metadata; mask = None } ∷ [])
+
+-- what stands in front of the match; no buffer (all ones) has the frame, which is all there
+unfoldable pub packet_in_front : PacketIn → ℕ → List ℕ
+packet_in_front p size =
+    big_bytes 4 0xffffffff
+    ++ (big_bytes 2 size
+    ++ (packet_in_number p.reason ∷ p.table
+    ∷ big_bytes 8 p.cookie))
+
+abbrev pub packet_in_bytes : ℕ → PacketIn → List ℕ → List ℕ
+packet_in_bytes xid p frame = message 10 xid (packet_in_front p (length frame) ++ (canonical (packet_fields p.in_port p.metadata) ++ (replicate 2 0 ++ frame)))

@@ -1,7 +1,7 @@
 //! What a header alone can be refused for.
-ghost use Rattle.std.specs.Prelude.{◌≡◌, ◌≤◌, length, OnOk, MatchResult, None, Some, true};
+ghost use Rattle.std.specs.Prelude.{◌≡◌, ◌≤◌, ◌<◌, ◌+◌, ◌||◌, nat_lt, length, OnOk, MatchResult, None, Some, true};
 ghost use Rattle.of_wire.specs.Refusals.{first_of};
-ghost use Rattle.of_messages.specs.Messages.{head_refusals, type_of, is_served};
+ghost use Rattle.of_messages.specs.Messages.{head_refusals, type_of, is_served, actions_length};
 
 use byteorder::{BigEndian, ByteOrder};
 use of_wire::Code;
@@ -9,6 +9,8 @@ use of_wire::Code;
 pub const HELLO: u8 = 0;
 
 pub const ECHO_REQUEST: u8 = 2;
+
+pub const PACKET_OUT: u8 = 13;
 
 pub const FLOW_MOD: u8 = 14;
 
@@ -20,14 +22,41 @@ const BAD_TYPE: Code = Code { kind: 1, code: 1 };
 
 const BAD_LEN: Code = Code { kind: 1, code: 6 };
 
+fn is_served_type(kind: u8) -> bool
+    ensures { result ≡ is_served kind }
+{
+    matches!(
+        kind,
+        HELLO | ECHO_REQUEST | PACKET_OUT | FLOW_MOD | BARRIER_REQUEST
+    )
+}
+
+/// How many bytes the actions of a PACKET_OUT have.
+pub(crate) fn actions_length_in(message: &[u8]) -> usize
+    requires { 24 ≤ length message.now }
+    ensures value { result ≡ actions_length message.now }
+    ensures most { result < 65536 }
+{
+    BigEndian::read_u16(&message[16..]) as usize
+}
+
+// Whether a PACKET_OUT is shorter than its fixed part and its actions.
+fn lacks_actions(message: &[u8]) -> bool
+    ensures { result ≡ (nat_lt (length message.now) 24 || nat_lt (length message.now) (24 + actions_length message.now)) }
+{
+    message.len() < 24 || message.len() < 24 + actions_length_in(message)
+}
+
 /// Refuses a message by its version, type and length alone, in that order (OpenFlow 1.3.5, 7.1 and 7.4.4).
 ///
 /// A message is refused with the first that applies: it is not as long as its header says (1/6); it is of another version,
-/// and no HELLO (1/0); its type is not served (1/1); its length is not that of its type (1/6).
+/// and no HELLO (1/0); its type is not served (1/1); its length is not that of its type (1/6); the actions of a PACKET_OUT
+/// are part of its length.
 pub fn check_head(message: &[u8]) -> Result<(), Code>
     ensures refusal { MatchResult result (λ _. first_of (head_refusals message.now) ≡ None) (λ code. first_of (head_refusals message.now) ≡ Some code) }
     ensures header { OnOk result (8 ≤ length message.now) }
     ensures flow_mod { OnOk result (type_of message.now ≡ 14 → 56 ≤ length message.now) }
+    ensures packet_out { OnOk result (type_of message.now ≡ 13 → 24 + actions_length message.now ≤ length message.now) }
     ensures served { OnOk result (is_served (type_of message.now) ≡ true) }
 {
     if message.len() < 8 || BigEndian::read_u16(&message[2..]) as usize != message.len() {
@@ -37,13 +66,16 @@ pub fn check_head(message: &[u8]) -> Result<(), Code>
     if kind != HELLO && message[0] != 4 {
         return Err(BAD_VERSION);
     }
-    if kind != HELLO && kind != ECHO_REQUEST && kind != FLOW_MOD && kind != BARRIER_REQUEST {
+    if !is_served_type(kind) {
         return Err(BAD_TYPE);
     }
     if kind == BARRIER_REQUEST && message.len() != 8 {
         return Err(BAD_LEN);
     }
     if kind == FLOW_MOD && message.len() < 56 {
+        return Err(BAD_LEN);
+    }
+    if kind == PACKET_OUT && lacks_actions(message) {
         return Err(BAD_LEN);
     }
     Ok(())

@@ -7,10 +7,14 @@ mod reading;
 mod writing;
 
 pub use head::check_head;
-pub use message::{FlowMod, FlowModCommand, FlowRemoved, FlowRemovedReason, Message};
+pub use message::{
+    FlowMod, FlowModCommand, FlowRemoved, FlowRemovedReason, Message, PacketData, PacketIn,
+    PacketInReason, PacketOut,
+};
 pub use reading::read_message;
 pub use writing::{
     write_barrier_reply, write_echo_reply, write_error, write_flow_removed, write_hello,
+    write_packet_in,
 };
 
 #[cfg(test)]

@@ -2,7 +2,7 @@
 ghost use Rattle.std.specs.Prelude.{◌≡◌};
 ghost use Rattle.of_messages.specs.Messages.{command_of, is_delete};
 
-use of_actions::InstructionList;
+use of_actions::{ActionList, InstructionList};
 use of_oxm::Match;
 use of_wire::Bytes;
 
@@ -64,6 +64,45 @@ pub struct FlowMod {
     pub instructions: InstructionList,
 }
 
+/// The packet that a PACKET_OUT sends (OpenFlow 1.3.5, 7.3.6).
+#[derive(Debug, Drop)]
+pub enum PacketData {
+    /// The buffered packet of this number.
+    Buffered(u32),
+    /// A frame of 14 to 9,216 bytes.
+    Frame(Bytes),
+}
+
+/// A PACKET_OUT (OpenFlow 1.3.5, 7.3.6).
+#[derive(Debug, Drop)]
+pub struct PacketOut {
+    /// The port by which the packet is said to have come in: that of a port of the switch, or OFPP_CONTROLLER.
+    pub in_port: u32,
+    pub actions: ActionList,
+    pub packet: PacketData,
+}
+
+/// Why a packet is sent to the controller (OpenFlow 1.3.5, 7.4.1).
+#[derive(Clone, Copy, Debug, PartialEq, Eq)]
+pub enum PacketInReason {
+    /// The entry for table misses sent it.
+    NoMatch,
+    /// Another OUTPUT sent it.
+    Action,
+    /// Its time to live could not be taken down.
+    InvalidTtl,
+}
+
+/// What a PACKET_IN says of a frame (OpenFlow 1.3.5, 7.4.1).
+#[derive(Clone, Copy, Debug, PartialEq, Eq)]
+pub struct PacketIn {
+    pub reason: PacketInReason,
+    pub table: u8,
+    pub cookie: u64,
+    pub in_port: u32,
+    pub metadata: u64,
+}
+
 /// Why an entry was removed (OpenFlow 1.3.5, 7.4.2).
 #[derive(Clone, Copy, Debug, PartialEq, Eq)]
 pub enum FlowRemovedReason {
@@ -101,6 +140,8 @@ pub enum Message {
     EchoRequest(Bytes),
     /// BARRIER_REQUEST (7.3.7).
     BarrierRequest,
+    /// PACKET_OUT (7.3.6).
+    PacketOut(PacketOut),
     /// FLOW_MOD (7.3.4.1).
     FlowMod(FlowMod),
 }

@@ -1,13 +1,20 @@
 //! Messages from bytes.
-ghost use Rattle.std.specs.Prelude.{◌≡◌, ◌≤◌, ◌+◌, length, drop, Some, None, true, slice_index, IfOk, MatchResult};
+ghost use Rattle.std.specs.Prelude.{◌≡◌, ◌≤◌, ◌<◌, ◌+◌, length, drop, Some, None, true, false, slice_index, IfOk, MatchResult};
 ghost use Rattle.of_wire.specs.Refusals.{first_of};
 ghost use Rattle.of_wire.specs.Failures.{Reads};
-ghost use Rattle.of_messages.specs.Messages.{message_of, body_of, type_of, is_served, command_of, flow_mod_of, flow_mod_refusals, instructions_for};
+ghost use Rattle.of_messages.specs.Messages.{message_of, body_of, type_of, is_served, command_of, flow_mod_of, flow_mod_refusals, instructions_for, is_delete, actions_length, is_ingress as may_be_ingress, packet_in_data, packet_out_of};
+ghost use Rattle.of_messages.specs.Promised.{IsSoundFlowMod, IsSoundPacket, IsSoundMessage};
+ghost use Rattle.of_actions.specs.InstructionLists.{are_for};
 
-use crate::head::{BARRIER_REQUEST, ECHO_REQUEST, HELLO, check_head};
-use crate::message::{FlowMod, FlowModCommand, Message};
+use crate::head::{
+    BARRIER_REQUEST, ECHO_REQUEST, HELLO, PACKET_OUT, actions_length_in, check_head,
+};
+use crate::message::{FlowMod, FlowModCommand, Message, PacketData, PacketOut};
 use byteorder::{BigEndian, ByteOrder};
-use of_actions::{InstructionList, read_instructions};
+use of_actions::{
+    InstructionList, PORT_CONTROLLER, check_flow, is_number, read_actions, read_instructions,
+};
+use of_headers::check_length;
 use of_oxm::read_match;
 use of_wire::{Bytes, Code, ReadError};
 use std::alloc::Global;
@@ -17,6 +24,13 @@ const BAD_COMMAND: Code = Code { kind: 5, code: 6 };
 const BAD_TABLE: Code = Code { kind: 5, code: 2 };
 
 const BAD_FLAGS: Code = Code { kind: 5, code: 7 };
+
+const BAD_PORT: Code = Code { kind: 1, code: 11 };
+
+const BAD_PACKET: Code = Code { kind: 1, code: 12 };
+
+// The number that stands for no buffer.
+const NO_BUFFER: u32 = 0xffff_ffff;
 
 const LAST_TABLE: u8 = 15;
 
@@ -39,6 +53,7 @@ fn check_flow_mod(message: &[u8]) -> Result<FlowModCommand, Code>
     requires { 48 ≤ length message.now }
     ensures refusal { MatchResult result (λ _. first_of (flow_mod_refusals message.now) ≡ None) (λ code. first_of (flow_mod_refusals message.now) ≡ Some code) }
     ensures command { IfOk result (λ command. command_of (slice_index message.now 25) ≡ Some command) }
+    ensures table { IfOk result (λ command. is_delete command ≡ false → slice_index message.now 24 < 16) }
 {
     let Some(command) = FlowModCommand::of_byte(message[25]) else {
         return Err(BAD_COMMAND);
@@ -61,7 +76,8 @@ fn read_instructions_for(
     bytes: &[u8],
     table: u8,
 ) -> Result<InstructionList, ReadError>
-    ensures { Reads result (instructions_for command table bytes.now) }
+    ensures reads { Reads result (instructions_for command table bytes.now) }
+    ensures fit { IfOk result (λ list. are_for table list ≡ true) }
 {
     if command.is_delete() {
         read_instructions(alloc, &[], table)
@@ -72,7 +88,8 @@ fn read_instructions_for(
 
 fn read_flow_mod(alloc: Global, message: &[u8]) -> Result<FlowMod, ReadError>
     requires { 48 ≤ length message.now }
-    ensures { Reads result (flow_mod_of message.now) }
+    ensures reads { Reads result (flow_mod_of message.now) }
+    ensures sound { IfOk result IsSoundFlowMod }
 {
     let command = match check_flow_mod(message) {
         Ok(command) => command,
@@ -81,6 +98,9 @@ fn read_flow_mod(alloc: Global, message: &[u8]) -> Result<FlowMod, ReadError>
     let body = rest_from(message, 48);
     let (fields, size) = read_match(alloc, body)?;
     let instructions = read_instructions_for(alloc, command, rest_from(body, size), message[24])?;
+    if let Err(code) = check_flow(&fields, instructions.as_slice()) {
+        return Err(ReadError::Refused(code));
+    }
     Ok(FlowMod {
         cookie: BigEndian::read_u64(rest_from(message, 8)),
         cookie_mask: BigEndian::read_u64(rest_from(message, 16)),
@@ -98,17 +118,60 @@ fn read_flow_mod(alloc: Global, message: &[u8]) -> Result<FlowMod, ReadError>
     })
 }
 
+fn is_ingress(port: u32) -> bool
+    ensures { result ≡ may_be_ingress port }
+{
+    is_number(port) || port == PORT_CONTROLLER
+}
+
+// The frame of a PACKET_OUT, or the number of its buffer.
+fn read_packet(alloc: Global, buffer: u32, frame: &[u8]) -> Result<PacketData, ReadError>
+    ensures reads { Reads result (packet_in_data buffer frame.now) }
+    ensures sound { IfOk result IsSoundPacket }
+{
+    if buffer != NO_BUFFER {
+        return Ok(PacketData::Buffered(buffer));
+    }
+    match check_length(frame) {
+        Ok(()) => Ok(PacketData::Frame(Bytes::from_slice(alloc, frame)?)),
+        Err(_) => Err(ReadError::Refused(BAD_PACKET)),
+    }
+}
+
+fn read_packet_out(alloc: Global, message: &[u8]) -> Result<PacketOut, ReadError>
+    requires { 24 + actions_length message.now ≤ length message.now }
+    ensures reads { Reads result (packet_out_of message.now) }
+    ensures sound { IfOk result (λ m. IsSoundPacket m.packet) }
+{
+    let in_port = BigEndian::read_u32(rest_from(message, 12));
+    if !is_ingress(in_port) {
+        return Err(ReadError::Refused(BAD_PORT));
+    }
+    let (bytes, frame) = rest_from(message, 24).split_at(actions_length_in(message));
+    let actions = read_actions(alloc, bytes, true)?;
+    let buffer = BigEndian::read_u32(rest_from(message, 8));
+    let packet = read_packet(alloc, buffer, frame)?;
+    Ok(PacketOut {
+        in_port,
+        actions,
+        packet,
+    })
+}
+
 // A message whose head is not refused.
 fn read_body(alloc: Global, message: &[u8]) -> Result<Message, ReadError>
     requires size { 8 ≤ length message.now }
     requires flow_mod { type_of message.now ≡ 14 → 48 ≤ length message.now }
+    requires packet_out { type_of message.now ≡ 13 → 24 + actions_length message.now ≤ length message.now }
     requires served { is_served (type_of message.now) ≡ true }
-    ensures { Reads result (body_of message.now) }
+    ensures reads { Reads result (body_of message.now) }
+    ensures sound { IfOk result IsSoundMessage }
 {
     match message[1] {
         HELLO => Ok(Message::Hello),
         ECHO_REQUEST => Ok(Message::EchoRequest(Bytes::from_slice(alloc, rest_from(message, 8))?)),
         BARRIER_REQUEST => Ok(Message::BarrierRequest),
+        PACKET_OUT => Ok(Message::PacketOut(read_packet_out(alloc, message)?)),
         _ => Ok(Message::FlowMod(read_flow_mod(alloc, message)?)),
     }
 }
@@ -117,11 +180,14 @@ fn read_body(alloc: Global, message: &[u8]) -> Result<Message, ReadError>
 ///
 /// Other bytes are refused with one code, by the first that applies: what `check_head` looks at; of a FLOW_MOD, a command
 /// above 4 (5/6), a table above 15 (5/2; but a DELETE command may name 255, all tables) and flags above 31 (5/7), its
-/// match, and, for ADD and the MODIFY commands, its instructions with their actions. A DELETE command has no
-/// instructions: what stands behind its match is not looked at.
+/// match, and, for ADD and the MODIFY commands, its instructions with their actions, and a field that is set without its
+/// prerequisites in the match (2/10). A DELETE command has no instructions: what stands behind its match is not looked
+/// at. Of a PACKET_OUT: an ingress port that is neither 1 to OFPP_MAX nor OFPP_CONTROLLER (1/11), its actions, and,
+/// where it names no buffer, a frame below 14 or above 9,216 bytes (1/12).
 #[tactic(auto, unfolding(crate::specs::Messages::message_of))]
 pub fn read_message(alloc: Global, message: &[u8]) -> Result<Message, ReadError>
-    ensures { Reads result (message_of message.now) }
+    ensures reads { Reads result (message_of message.now) }
+    ensures sound { IfOk result IsSoundMessage }
 {
     match check_head(message) {
         Ok(()) => read_body(alloc, message),

@@ -1,11 +1,12 @@
 use crate::{
-    FlowMod, FlowModCommand, FlowRemoved, FlowRemovedReason, Message, check_head, read_message,
-    write_barrier_reply, write_echo_reply, write_error, write_flow_removed, write_hello,
+    FlowMod, FlowModCommand, FlowRemoved, FlowRemovedReason, Message, PacketData, PacketIn,
+    PacketInReason, PacketOut, check_head, read_message, write_barrier_reply, write_echo_reply,
+    write_error, write_flow_removed, write_hello, write_packet_in,
 };
 use of_actions::{Action, Instruction};
 use of_oxm::Match;
 use of_wire::{Code, ReadError};
-use std::alloc::Global;
+use std::alloc::{AllocError, Global};
 use std::test::Fail;
 
 #[test]
@@ -73,7 +74,11 @@ fn flow_mod(rt: HostRuntime) -> Result<(), Fail> {
     assert_eq!(rt; flow_mod.fields.len(), 1);
     assert_eq!(rt; flow_mod.fields.fields()[0].value, 1);
     assert_eq!(rt; flow_mod.instructions.len(), 1);
-    let Instruction::Apply(actions) = &flow_mod.instructions.as_slice()[0];
+    let actions = match &flow_mod.instructions.as_slice()[0] {
+        Instruction::Apply(actions) => Some(actions),
+        _ => None,
+    };
+    let actions = actions.ok_or("an APPLY_ACTIONS")?;
     let output = Action::Output {
         port: 2,
         max_len: 0,
@@ -211,5 +216,149 @@ fn flow_removed(rt: HostRuntime) -> Result<(), Fail> {
         0, 1, 0, 12, 0x80, 0, 0, 4, 0, 0, 0, 1, 0, 0, 0, 0, // match
     ];
     assert_eq!(rt; message.as_slice(), bytes.as_slice());
+    Ok(())
+}
+
+// A frame of 60 bytes whose EtherType, 0x88b5, is for experiments.
+const FRAME: [u8; 60] = [
+    2, 0, 0, 0, 0, 2, 2, 0, 0, 0, 0, 1, 0x88, 0xb5, // Ethernet header
+    0, 0, 0, 0, 0, 0, 0, 0, 0, 0, 0, 0, 0, 0, 0, 0, 0, 0, 0, 0, 0, 0, 0, //
+    0, 0, 0, 0, 0, 0, 0, 0, 0, 0, 0, 0, 0, 0, 0, 0, 0, 0, 0, 0, 0, 0, 0, //
+];
+
+// A PACKET_OUT of so many bytes with one OUTPUT to OFPP_TABLE.
+fn packet_out_to_table(
+    alloc: Global,
+    length: u8,
+    buffer: u32,
+    in_port: u32,
+    actions_len: u16,
+    frame: &[u8],
+) -> Result<Vec<u8>, AllocError> {
+    let mut out = Vec::new(alloc);
+    out.extend_from_slice(&[4, 13, 0, length, 0, 0, 0, 9])?;
+    out.extend_from_slice(&buffer.to_be_bytes())?;
+    out.extend_from_slice(&in_port.to_be_bytes())?;
+    out.extend_from_slice(&actions_len.to_be_bytes())?;
+    out.extend_from_slice(&[0; 6])?;
+    out.extend_from_slice(&[0, 0, 0, 16, 0xff, 0xff, 0xff, 0xf9, 0, 0, 0, 0, 0, 0, 0, 0])?;
+    out.extend_from_slice(frame)?;
+    Ok(out)
+}
+
+const NO_BUFFER: u32 = 0xffff_ffff;
+
+fn packet_out_in(alloc: Global, bytes: &[u8]) -> Option<PacketOut> {
+    match read_message(alloc, bytes) {
+        Ok(Message::PacketOut(packet_out)) => Some(packet_out),
+        _ => None,
+    }
+}
+
+#[test]
+fn packet_out(rt: HostRuntime) -> Result<(), Fail> {
+    let to_table = Action::Output {
+        port: 0xffff_fff9,
+        max_len: 0,
+    };
+    let bytes = packet_out_to_table(rt.alloc(), 100, NO_BUFFER, 1, 16, &FRAME)?;
+    assert_eq!(rt; bytes.len(), 100);
+    let read = packet_out_in(rt.alloc(), &bytes).ok_or("a PACKET_OUT")?;
+    assert_eq!(rt; read.in_port, 1);
+    assert_eq!(rt; read.actions.as_slice(), [to_table].as_slice());
+    let frame = match &read.packet {
+        PacketData::Frame(frame) => Some(frame),
+        PacketData::Buffered(_) => None,
+    };
+    let frame = frame.ok_or("a frame")?;
+    assert_eq!(rt; frame.as_slice(), FRAME.as_slice());
+    let bytes = packet_out_to_table(rt.alloc(), 40, 3, 0xffff_fffd, 16, &[])?;
+    let read = packet_out_in(rt.alloc(), &bytes).ok_or("a PACKET_OUT")?;
+    assert_eq!(rt; read.in_port, 0xffff_fffd);
+    assert!(rt; matches!(&read.packet, PacketData::Buffered(3)));
+    Ok(())
+}
+
+#[test]
+fn refused_packet_outs(rt: HostRuntime) -> Result<(), Fail> {
+    let whole = FRAME.as_slice();
+    let short = &FRAME[..13];
+    let rows = [
+        (100, 1, 0xffff, whole, (1, 6)),
+        (100, 0xffff_fff8, 16, whole, (1, 11)),
+        (100, 0, 16, whole, (1, 11)),
+        (100, 0xffff_ff01, 16, whole, (1, 11)),
+        (53, 1, 16, short, (1, 12)),
+        (100, 1, 32, whole, (2, 1)),
+    ];
+    for (length, in_port, actions_len, frame, (kind, code)) in rows {
+        let bytes = packet_out_to_table(
+            rt.alloc(),
+            length,
+            NO_BUFFER,
+            in_port,
+            actions_len,
+            frame,
+        )?;
+        let wanted = Some(Code { kind, code });
+        assert_eq!(rt; refusal_of(rt.alloc(), &bytes), wanted);
+    }
+    Ok(())
+}
+
+// SET_FIELD of UDP_DST in a flow whose match names no IP_PROTO (OpenFlow 1.3.5, 7.2.3.8).
+#[test]
+fn set_field_without_prerequisite(rt: HostRuntime) -> Result<(), Fail> {
+    let bytes = [
+        4u8, 14, 0, 88, 0, 0, 0, 9, // header
+        0, 0, 0, 0, 0, 0, 0, 0, // cookie
+        0, 0, 0, 0, 0, 0, 0, 0, // its mask
+        0, 0, 0, 0, 0, 0, 0, 10, // table, command, idle and hard timeout, priority
+        0xff, 0xff, 0xff, 0xff, 0xff, 0xff, 0xff, 0xff, // buffer, out port
+        0xff, 0xff, 0xff, 0xff, 0, 0, 0, 0, // out group, flags, padding
+        0, 1, 0, 10, 0x80, 0, 10, 2, 8, 0, 0, 0, 0, 0, 0, 0, // match of ETH_TYPE 0x0800
+        0, 4, 0, 24, 0, 0, 0, 0, // APPLY_ACTIONS
+        0, 25, 0, 16, 0x80, 0, 0x20, 2, 0, 54, 0, 0, 0, 0, 0, 0, // SET_FIELD
+    ];
+    let inconsistent = Some(Code { kind: 2, code: 10 });
+    assert_eq!(rt; refusal_of(rt.alloc(), &bytes), inconsistent);
+    Ok(())
+}
+
+#[test]
+fn packet_in(rt: HostRuntime) -> Result<(), Fail> {
+    let mut packet = PacketIn {
+        reason: PacketInReason::NoMatch,
+        table: 0,
+        cookie: 0,
+        in_port: 1,
+        metadata: 0,
+    };
+    let message = write_packet_in(rt.alloc(), 0, &packet, &FRAME)?;
+    let front = [
+        4u8, 10, 0, 0x66, 0, 0, 0, 0, // header
+        0xff, 0xff, 0xff, 0xff, 0, 0x3c, 0, 0, // buffer, total length, reason, table
+        0, 0, 0, 0, 0, 0, 0, 0, // cookie
+        0, 1, 0, 12, 0x80, 0, 0, 4, 0, 0, 0, 1, 0, 0, 0, 0, // match
+        0, 0, // padding
+    ];
+    assert_eq!(rt; message.len(), 102);
+    assert!(rt; message.as_slice().starts_with(&front));
+    assert!(rt; message.as_slice().ends_with(&FRAME));
+    packet.reason = PacketInReason::InvalidTtl;
+    packet.table = 2;
+    packet.metadata = 0x0102_0304_0506_0708;
+    let message = write_packet_in(rt.alloc(), 0, &packet, &FRAME)?;
+    let front = [
+        4u8, 10, 0, 0x6e, 0, 0, 0, 0, // header
+        0xff, 0xff, 0xff, 0xff, 0, 0x3c, 2, 2, // buffer, total length, reason, table
+        0, 0, 0, 0, 0, 0, 0, 0, // cookie
+        0, 1, 0, 24, 0x80, 0, 0, 4, 0, 0, 0, 1, // match: IN_PORT
+        0x80, 0, 4, 8, 1, 2, 3, 4, 5, 6, 7, 8, // METADATA
+        0, 0, // padding
+    ];
+    assert_eq!(rt; message.len(), 110);
+    assert!(rt; message.as_slice().starts_with(&front));
+    assert!(rt; message.as_slice().ends_with(&FRAME));
     Ok(())
 }

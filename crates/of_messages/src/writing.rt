@@ -1,9 +1,10 @@
 //! The bytes of messages that the switch sends.
-ghost use Rattle.std.specs.Prelude.{◌≡◌, ◌++◌, OnOk, IfOk};
+ghost use Rattle.std.specs.Prelude.{◌≡◌, ◌≤◌, ◌++◌, length, OnOk, IfOk};
 ghost use Rattle.byteorder.specs.Endian.{big_bytes};
-ghost use Rattle.of_messages.specs.Written.{header, hello_bytes, error_bytes, echo_reply_bytes, barrier_reply_bytes, reason_number, flow_removed_front, flow_removed_bytes};
+ghost use Rattle.of_messages.specs.Written.{header, hello_bytes, error_bytes, echo_reply_bytes, barrier_reply_bytes, reason_number, flow_removed_front, flow_removed_bytes, packet_in_number, packet_fields, packet_in_front, packet_in_bytes};
+ghost use Rattle.of_oxm.specs.Canonical.{canonical};
 
-use crate::message::{FlowRemoved, FlowRemovedReason};
+use crate::message::{FlowRemoved, FlowRemovedReason, PacketIn, PacketInReason};
 use of_oxm::{Match, write_match};
 use of_wire::{Bytes, Code};
 use std::alloc::{AllocError, Global};
@@ -116,5 +117,72 @@ pub fn write_flow_removed(
     put_header(&mut out, 11, 48 + spelling.len(), xid)?;
     put_flow_removed(&mut out, removed)?;
     out.extend_from_slice(&spelling)?;
+    Ok(Bytes::new(out))
+}
+
+fn number_of_reason(reason: PacketInReason) -> u8
+    ensures { result ≡ packet_in_number reason }
+{
+    match reason {
+        PacketInReason::NoMatch => 0,
+        PacketInReason::Action => 1,
+        PacketInReason::InvalidTtl => 2,
+    }
+}
+
+// What stands in front of the match, 16 bytes.
+fn put_packet_in(out: &mut Vec<u8>, packet: &PacketIn, size: u16) -> Result<(), AllocError>
+    ensures { OnOk result (out.new.items ≡ out.old.items ++ packet_in_front packet.now size) }
+{
+    put_u32(out, 0xffff_ffff)?;
+    put_u16(out, size)?;
+    out.extend_from_slice(&[number_of_reason(packet.reason), packet.table])?;
+    put_u64(out, packet.cookie)
+}
+
+// The match of a packet, 16 bytes, or 24 with its metadata.
+fn put_packet_fields(out: &mut Vec<u8>, in_port: u32, metadata: u64) -> Result<(), AllocError>
+    ensures { OnOk result (out.new.items ≡ out.old.items ++ canonical (packet_fields in_port metadata)) }
+{
+    if metadata == 0 {
+        out.extend_from_slice(&[0, 1, 0, 12, 0x80, 0, 0, 4])?;
+        put_u32(out, in_port)?;
+        put_u32(out, 0)
+    } else {
+        out.extend_from_slice(&[0, 1, 0, 24, 0x80, 0, 0, 4])?;
+        put_u32(out, in_port)?;
+        out.extend_from_slice(&[0x80, 0, 4, 8])?;
+        put_u64(out, metadata)
+    }
+}
+
+// The size of that match.
+fn packet_fields_size(in_port: u32, metadata: u64) -> usize
+    ensures size { result ≡ length (canonical (packet_fields in_port metadata)) }
+    ensures most { result ≤ 24 }
+{
+    let _ = in_port;
+    if metadata == 0 { 16 } else { 24 }
+}
+
+/// The PACKET_IN of a frame, which is whole in it (OpenFlow 1.3.5, 7.4.1).
+///
+/// The frame has at most 65,485 bytes, so that the message's length can be told.
+pub fn write_packet_in(
+    alloc: Global,
+    xid: u32,
+    packet: &PacketIn,
+    frame: &[u8],
+) -> Result<Bytes, AllocError>
+    requires { length frame.now ≤ 65485 }
+    ensures { IfOk result (λ bytes. bytes ≡ packet_in_bytes xid packet.now frame.now) }
+{
+    let length = 26 + packet_fields_size(packet.in_port, packet.metadata) + frame.len();
+    let mut out = Vec::with_capacity(alloc, length)?;
+    put_header(&mut out, 10, length, xid)?;
+    put_packet_in(&mut out, packet, frame.len() as u16)?;
+    put_packet_fields(&mut out, packet.in_port, packet.metadata)?;
+    out.extend_from_slice(&[0, 0])?;
+    out.extend_from_slice(frame)?;
     Ok(Bytes::new(out))
 }

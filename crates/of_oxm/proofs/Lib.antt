@@ -11,3 +11,4 @@ pub mod Seen
 pub mod Joined
 pub mod PortMatch
 pub mod Computed
+pub mod Covered

@@ -2,6 +2,7 @@
 
 ghost use Rattle.std.specs.Prelude.{◌≡◌, ◌==◌, ◌↔◌, length, IfOk, IsTrue};
 ghost use Rattle.of_oxm.specs.InPortMatch.{in_port_match};
+ghost use Rattle.of_oxm.specs.NormalForm.{IsMatch};
 ghost use Rattle.of_oxm.specs.SameMatch.{is_same_match};
 
 use crate::match_field::MatchField;
@@ -79,6 +80,13 @@ impl Match {
         Ok(Match {
             fields: self.fields.clone()?,
         })
+    }
+
+    /// Its fields are a normal form, and what they need stands among them (OpenFlow 1.3.5, 7.2.3.5 and 7.2.3.6).
+    pub fn known(&self)
+        ensures { IsMatch self.now }
+    {
+        let _fields = &self.fields;
     }
 
     /// Whether the two are one match.

@@ -18,7 +18,9 @@ pub use match_field::MatchField;
 pub use of_wire::{Code, ReadError};
 pub use prerequisites::is_met;
 pub use reading::{one_code, one_spelling, read_match};
-pub use relations::{covered_is_matched, covers, matches, overlap_is_common_match, overlaps};
+pub use relations::{
+    covered_has_needs, covered_is_matched, covers, matches, overlap_is_common_match, overlaps,
+};
 pub use writing::write_match;
 
 #[cfg(test)]

@@ -5,8 +5,10 @@ ghost use Rattle.std.specs.List.{list_any, list_all};
 ghost use Rattle.of_headers.specs.FieldMap.{value};
 ghost use Rattle.of_oxm.specs.Relations.{bits_looked_at, agrees as agrees_with, is_within as within, can_both as both_can, IsWithinBits, matches_map, covers_match, overlaps_match};
 ghost use Rattle.of_oxm.specs.NormalForm.{IsMatch};
+ghost use Rattle.of_oxm.specs.Prerequisites.{is_met};
 ghost use Rattle.of_oxm.specs.declared.match_field.MatchField.{MatchField};
 ghost use Rattle.of_layers.specs.declared.field.Field.{Field};
+ghost use Rattle.of_layers.specs.declared.field.Need.{Need};
 
 use crate::flow_match::Match;
 use crate::match_field::MatchField;
@@ -100,6 +102,12 @@ pub fn overlaps(m: &Match, n: &Match) -> bool
 pub fn covered_is_matched()
     ensures { (d m : List MatchField) (map : Field → Option ℕ) →
         covers_match d m ≡ true → matches_map m map ≡ true → matches_map d map ≡ true }
+{}
+
+/// What a match covers has what the match has of the prerequisites of a field (OpenFlow 1.3.5, 7.2.3.6).
+pub fn covered_has_needs()
+    ensures { (d m : List MatchField) (need : Need) → IsMatch d → IsMatch m →
+        covers_match d m ≡ true → is_met d need ≡ true → is_met m need ≡ true }
 {}
 
 /// Two matches overlap exactly where some field map is matched by both.

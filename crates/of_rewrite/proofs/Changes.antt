@@ -107,7 +107,7 @@ change_over (x ∷ a) (y ∷ b) (z ∷ c) h =
 
 -- ---- a checksum that is right stays so
 
-abbrev changes : List ℕ → List ℕ → ℕ
+abbrev pub changes : List ℕ → List ℕ → ℕ
 changes [] new = 0
 changes (o ∷ old) [] = 0
 changes (o ∷ old) (n ∷ new) = cond (o == n) 0 1 + changes old new
@@ -118,7 +118,7 @@ sum_step o n s t c k h i = elim (cases_eq o n) [
   | inr ne ↦ rw (ne_eqb o n ne) (omega arith)
 ]
 
-sum_changed : (old new : List ℕ) → AreWords old → length old ≡ length new → change old new + sum old ≡ 65535 * changes old new + sum new
+pub sum_changed : (old new : List ℕ) → AreWords old → length old ≡ length new → change old new + sum old ≡ 65535 * changes old new + sum new
 sum_changed [] [] h l = refl
 sum_changed [] (n ∷ new) h l = absurd (omega arith)
 sum_changed (o ∷ old) [] h l = absurd (omega arith)
@@ -126,7 +126,7 @@ sum_changed (o ∷ old) (n ∷ new) h l =
     let i = sum_changed old new (λ i. h (suc i)) (omega arith) in
     rw (sum_by-cons (λ (x : ℕ). x) o old, sum_by-cons (λ (x : ℕ). x) n new) (sum_step o n (sum old) (sum new) (change old new) (changes old new) (h 0) i)
 
-right_by : (c s t x k : ℕ) → c ≤ 65535 → x + s ≡ 65535 * k + t → 0 < t → 0 < c + s → (c + s) % 65535 ≡ 0 → (0 < 65535 - fold (65535 - c + x) + t) × ((65535 - fold (65535 - c + x) + t) % 65535 ≡ 0)
+pub right_by : (c s t x k : ℕ) → c ≤ 65535 → x + s ≡ 65535 * k + t → 0 < t → 0 < c + s → (c + s) % 65535 ≡ 0 → (0 < 65535 - fold (65535 - c + x) + t) × ((65535 - fold (65535 - c + x) + t) % 65535 ≡ 0)
 right_by c s t x k h e p q r = elim (cases_eq (65535 - c + x) 0) [
   | inl z ↦ rw z (omega arith, omega arith)
   | inr ne ↦

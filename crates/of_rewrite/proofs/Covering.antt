@@ -15,7 +15,8 @@ use Rattle.of_headers.specs.declared.layout.Layout.{Layout}
 use Rattle.of_rewrite.specs.declared.sums.Span.{Span}
 use Rattle.of_rewrite.specs.Checksum.{words_of, renewed}
 use Rattle.of_rewrite.specs.Rewriting.{change_at, replace_at, number_set, rule_in, words, without_addresses, header_cover, address_cover, carried_cover}
-use Rattle.of_rewrite.specs.Renewal.{words_in, header_words, carried_words, carried_rule, packet_at, header_span, address_span, carried_span}
+use Rattle.of_rewrite.specs.Renewal.{packet_at, header_span, address_span, carried_span}
+use Rattle.of_rewrite.proofs.CoveredWords.{words_in, header_words, carried_words, carried_rule}
 use Rattle.of_rewrite.proofs.Structure.{wide, tags_part, Chained, chained, items_total, ipv6_total}
 use Rattle.of_rewrite.proofs.Standing.{own_header, no_header, length_spelt, size_even}
 use Rattle.of_rewrite.proofs.Parts.{part_words, All, apart_by, all_append, all_bytes as all_byte_cells, passes, all_in}
@@ -32,7 +33,7 @@ empty_cells : (is : List Item) → cells_in is [] ≡ []
 empty_cells [] = refl
 empty_cells (i ∷ is) = refl
 
-drop_cells : (k : ℕ) (is : List Item) (ns : List ℕ) → drop k (cells_in is ns) ≡ cells_in (drop k is) (drop k ns)
+pub drop_cells : (k : ℕ) (is : List Item) (ns : List ℕ) → drop k (cells_in is ns) ≡ cells_in (drop k is) (drop k ns)
 drop_cells zero is ns = refl
 drop_cells (suc k) [] ns = refl
 drop_cells (suc k) (i ∷ is) [] = sym (empty_cells (drop k is))
@@ -54,7 +55,7 @@ fits_drop (suc k) (i ∷ is) (m ∷ ns) h = fits_drop k is ns h.1
 
 -- ---- the front of a frame
 
-abbrev front_of : Layers → List Cell
+abbrev pub front_of : Layers → List Cell
 front_of l = cells_in addresses l.ends ++ (tag_cells l.tags ++ cells_in ether_type (l.type ∷ []))
 
 front_long : (l : Layers) → IsLayers l → length (spelt (front_of l)) ≡ 8 * packet_at (layout_of l)
@@ -64,11 +65,11 @@ front_long l h =
     let y : List Cell = cells_in ether_type (l.type ∷ []) in
     length_spelt (front_of l) ∙ width-append a (t ++ y) ∙ omega (arith, wide addresses l.ends h.ends, width-append t y, (tags_part 102 l.tags own_header.inner own_header.outer h.tags).is_wide)
 
-all_inner : (q : ℕ → Bool) (ts : List (List ℕ)) → All q (inner_cells ts)
+pub all_inner : (q : ℕ → Bool) (ts : List (List ℕ)) → All q (inner_cells ts)
 all_inner q [] = tt
 all_inner q (t ∷ ts) = all_append q (cells_in inner_tag t) (inner_cells ts) (all_in q inner_tag t refl) (all_inner q ts)
 
-all_tags : (q : ℕ → Bool) (ts : List (List ℕ)) → passes q outer_tag ≡ true → All q (tag_cells ts)
+pub all_tags : (q : ℕ → Bool) (ts : List (List ℕ)) → passes q outer_tag ≡ true → All q (tag_cells ts)
 all_tags q [] h = tt
 all_tags q (t ∷ ts) h = all_append q (cells_in outer_tag t) (inner_cells ts) (all_in q outer_tag t h) (all_inner q ts)
 
@@ -78,16 +79,16 @@ all_front q l a t y = all_append q (cells_in addresses l.ends) (tag_cells l.tags
 
 -- ---- names: of Ethernet and tags; of IP but the addresses; of all but what IP carries
 
-abbrev outside : ℕ → Bool
+abbrev pub outside : ℕ → Bool
 outside n = nat_lt n 8
 
 abbrev no_address : ℕ → Bool
 no_address n = not (((n == 11) || (n == 12)) || ((n == 26) || (n == 27)))
 
-abbrev no_carried : ℕ → Bool
+abbrev pub no_carried : ℕ → Bool
 no_carried n = nat_lt n 13 || ((n == 101) || ((n == 102) || ((n == 26) || ((n == 27) || (n == 28)))))
 
-front_outside : (l : Layers) → All outside (front_of l)
+pub front_outside : (l : Layers) → All outside (front_of l)
 unfolding row_of
 front_outside l = all_front outside l refl refl refl
 
@@ -99,11 +100,11 @@ front_no_carried : (l : Layers) → All no_carried (front_of l)
 unfolding row_of
 front_no_carried l = all_front no_carried l refl refl refl
 
-items_carried : (k : Transport) → passes (λ n. not (no_carried n)) (items_of k) ≡ true
+pub items_carried : (k : Transport) → passes (λ n. not (no_carried n)) (items_of k) ≡ true
 unfolding row_of
 items_carried k = elim k as (λ k. passes (λ n. not (no_carried n)) (items_of k) ≡ true) [ Nothing ↦ refl | _ ↦ refl ]
 
-extensions_pass : (es : List Extension) → All no_carried (extension_cells es)
+pub extensions_pass : (es : List Extension) → All no_carried (extension_cells es)
 unfolding row_of
 extensions_pass [] = tt
 extensions_pass (Options ns bytes ∷ []) = all_append no_carried (cells_in (options (next_before [])) ns) (byte_cells bytes ++ []) (all_in no_carried (options (next_before [])) ns refl) (all_append no_carried (byte_cells bytes) [] (all_byte_cells no_carried bytes) tt)
@@ -111,7 +112,7 @@ extensions_pass (Options ns bytes ∷ (e ∷ es)) = all_append no_carried (cells
 extensions_pass (Fragment ns ∷ []) = all_append no_carried (cells_in (fragment (next_before [])) ns) [] (all_in no_carried (fragment (next_before [])) ns refl) tt
 extensions_pass (Fragment ns ∷ (e ∷ es)) = all_append no_carried (cells_in (fragment (next_before (e ∷ es))) ns) (extension_cells (e ∷ es)) (all_in no_carried (fragment (next_before (e ∷ es))) ns refl) (extensions_pass (e ∷ es))
 
-ipv6_pass : (es : List Extension) → passes no_carried (ipv6 (next_before es)) ≡ true
+pub ipv6_pass : (es : List Extension) → passes no_carried (ipv6 (next_before es)) ≡ true
 unfolding row_of
 ipv6_pass [] = refl
 ipv6_pass (e ∷ es) = refl
@@ -252,7 +253,7 @@ covers l h n f = covers_at l.ends l.tags l.type l.body h n f
 
 -- ---- the same by where layers stand
 
-change_id : (n : ℕ) (cs : List Cell) → change_at n (λ x. x) cs ≡ cs
+pub change_id : (n : ℕ) (cs : List Cell) → change_at n (λ x. x) cs ≡ cs
 change_id n [] = refl
 change_id n (c ∷ cs) =
     elim (name_is n c.name) as (λ t. cond t (record c { value = c.value } ∷ cs) (c ∷ change_at n (λ x. x) cs) ≡ c ∷ cs) [

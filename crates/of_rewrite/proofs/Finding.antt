@@ -86,7 +86,7 @@ put_changed n cs p f r =
 
 -- ---- other numbers
 
-names_apart : (m n : ℕ) (a : Option ℕ) → m ≢ n → name_is n a ≡ true → name_is m a ≡ false
+pub names_apart : (m n : ℕ) (a : Option ℕ) → m ≢ n → name_is n a ≡ true → name_is m a ≡ false
 names_apart m n None ne t = refl
 names_apart m n (Some k) ne t = let e : n ≡ k = eqb-true n k t in ne_eqb m k (λ q. ne (q ∙ sym e))
 

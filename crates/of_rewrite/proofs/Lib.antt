@@ -12,3 +12,12 @@ pub mod Unset
 pub mod Narrow
 pub mod Parts
 pub mod Covering
+pub mod Framing
+pub mod TagFrames
+pub mod Lending
+pub mod Kept
+pub mod KeptLayers
+pub mod Righting
+pub mod RightLayers
+pub mod StayingRight
+pub mod CoveredWords

@@ -73,7 +73,7 @@ narrow_frame l =
     narrow_append (cells_in addresses l.ends) (tag_cells l.tags ++ (y ++ body_cells l.body)) (narrow_in addresses l.ends refl)
     (narrow_append (tag_cells l.tags) (y ++ body_cells l.body) (narrow_tags l.tags) (narrow_append y (body_cells l.body) (narrow_in ether_type (l.type ∷ []) refl) (narrow_body l.body)))
 
-some_is : (x y : Place) → Some x ≡ Some y → x ≡ y
+pub some_is : (x y : Place) → Some x ≡ Some y → x ≡ y
 some_is x y e = cc
 
 narrow_located : (n at : ℕ) (cs : List Cell) (p : Place) → Narrow cs → locate_at at n cs ≡ Some p → p.bits ≤ 128

@@ -34,10 +34,10 @@ change_back n f (c ∷ a) b h =
       | false ↦ λ g. ap (λ (x : List Cell). c ∷ x) (change_back n f a b g)
     ] h
 
-change_none_in : (n : ℕ) (f : ℕ → ℕ) (a : List Cell) → has n a ≡ false → change_at n f a ≡ a
+pub change_none_in : (n : ℕ) (f : ℕ → ℕ) (a : List Cell) → has n a ≡ false → change_at n f a ≡ a
 change_none_in n f a h = ap (change_at n f) (sym (append-nil a)) ∙ change_back n f a [] h ∙ append-nil a
 
-length_changed : (n : ℕ) (f : ℕ → ℕ) (a : List Cell) → length (spelt (change_at n f a)) ≡ length (spelt a)
+pub length_changed : (n : ℕ) (f : ℕ → ℕ) (a : List Cell) → length (spelt (change_at n f a)) ≡ length (spelt a)
 length_changed n f [] = refl
 length_changed n f (c ∷ a) =
     elim (name_is n c.name) as (λ t. length (spelt (cond t (record c { value = f c.value } ∷ a) (c ∷ change_at n f a))) ≡ length (bits c.width c.value ++ spelt a)) [
@@ -103,7 +103,7 @@ abbrev pub All : (ℕ → Bool) → List Cell → Type 0
 All q [] = Unit {0}
 All q (c ∷ cs) = ((n : ℕ) → name_is n c.name ≡ true → q n ≡ true) × All q cs
 
-all_has : (q : ℕ → Bool) (n : ℕ) (cs : List Cell) → All q cs → has n cs ≡ true → q n ≡ true
+pub all_has : (q : ℕ → Bool) (n : ℕ) (cs : List Cell) → All q cs → has n cs ≡ true → q n ≡ true
 all_has q n [] h e = absurd cc
 all_has q n (c ∷ cs) h e =
     elim (name_is n c.name) as (λ t. (name_is n c.name ≡ t) → (t || has n cs) ≡ true → q n ≡ true) [

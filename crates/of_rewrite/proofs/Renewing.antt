@@ -25,7 +25,8 @@ use Rattle.of_rewrite.specs.declared.sums.Sums.{Sums}
 use Rattle.of_rewrite.specs.Checksum.{number, words_of, differ, renewed, never_zero, carried_renewed}
 use Rattle.of_rewrite.specs.Rewriting.{change_at, replace_at, without_addresses}
 use Rattle.of_rewrite.specs.Spans.{put, words_at, span_words, covered, both_followed, AreEven}
-use Rattle.of_rewrite.specs.Renewal.{checksum_byte, word_or_zero, moved, header_at, carried_at, sums_of, settled, settled_in, written_at, with_header, with_carried, HasRoomIn, HasRoom, words_in, no_words, packet_at, header_span, address_span, carried_span, header_words, carried_words, carried_rule}
+use Rattle.of_rewrite.specs.Renewal.{checksum_byte, word_or_zero, moved, header_at, carried_at, sums_of, settled, settled_in, written_at, with_header, with_carried, HasRoomIn, HasRoom, no_words, packet_at, header_span, address_span, carried_span}
+use Rattle.of_rewrite.proofs.CoveredWords.{words_in, header_words, carried_words, carried_rule}
 use Rattle.of_rewrite.specs.Replaced.{Replaceable}
 use Rattle.of_rewrite.proofs.Changes.{renewed_below}
 use Rattle.of_rewrite.proofs.Finding.{Sound, Found, found, not_found, put_changed, others, word_put, word_found, bytes_with_word}
@@ -34,7 +35,7 @@ use Rattle.of_rewrite.proofs.Standing.{number_place, Stands, IsEvenIn}
 
 -- ---- words of bits and of bytes
 
-number-bits : (n v : ℕ) → number (bits n v) ≡ v % 2 ^ n
+pub number-bits : (n v : ℕ) → number (bits n v) ≡ v % 2 ^ n
 unfolding bits number
 number-bits zero v = omega arith
 number-bits (suc n) v =

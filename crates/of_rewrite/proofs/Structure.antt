@@ -46,7 +46,7 @@ pub sound_append : (a b : List Cell) → Sound a → Sound b → Sound (a ++ b)
 sound_append [] b h k = k
 sound_append (c ∷ a) b h k = (h.0, sound_append a b h.1 k)
 
-outer_fits : (t : List ℕ) → Fits inner_tag t → Fits outer_tag t
+pub outer_fits : (t : List ℕ) → Fits inner_tag t → Fits outer_tag t
 outer_fits [] h = h
 outer_fits (a ∷ []) h = h
 outer_fits (a ∷ b ∷ []) h = h

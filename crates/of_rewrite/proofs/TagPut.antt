@@ -50,7 +50,7 @@ layers_are : (s : List ℕ) (n : ℕ) → tag_count (drop 12 s) ≡ n → layers
 unfolding layers_of
 layers_are s n e = ap (λ (k : ℕ). layers_at k s) e
 
-abbrev four : ℕ → ℕ → ℕ → ℕ → List ℕ
+abbrev pub four : ℕ → ℕ → ℕ → ℕ → List ℕ
 four a b c d = a ∷ b ∷ c ∷ d ∷ []
 
 tag_more : (a b c d : ℕ) (s : List ℕ) → 2 ≤ length s → is_tag_type (256 * a + b) ≡ true → tag_count (four a b c d ++ s) ≡ suc (tag_count s)
@@ -88,12 +88,12 @@ untagged s e =
       | false ↦ λ short none. tag_count_short s 12 (omega (arith, leb-false 18 (length s) short))
     ] refl e
 
-record Tagged (s : List ℕ) : Type 0 where
+pub record Tagged (s : List ℕ) : Type 0 where
   pub long : 18 ≤ length s
   pub is : is_tag_type (word s 12) ≡ true
   pub count : tag_count (drop 12 s) ≡ suc (tag_count (drop 16 s))
 
-is_tagged : (s : List ℕ) → has_tag s ≡ true → Tagged s
+pub is_tagged : (s : List ℕ) → has_tag s ≡ true → Tagged s
 is_tagged s e =
     let both = and_true (nat_le 18 (length s)) (is_tag_type (word s 12)) e in
     let long : 18 ≤ length s = leb-true 18 (length s) both.0 in

@@ -19,7 +19,8 @@ use Rattle.of_headers.specs.declared.layout.Network.TheVariants as network
 use Rattle.of_headers.specs.Places.{layout_of}
 use Rattle.of_rewrite.specs.Checksum.{renewed, carried_renewed}
 use Rattle.of_rewrite.specs.Rewriting.{change_at, replace_at, number_set}
-use Rattle.of_rewrite.specs.Renewal.{header_at, carried_at, ttl_at, HasRoomIn, packet_at, header_words, carried_words, carried_rule}
+use Rattle.of_rewrite.specs.Renewal.{header_at, carried_at, ttl_at, HasRoomIn, packet_at}
+use Rattle.of_rewrite.proofs.CoveredWords.{header_words, carried_words, carried_rule}
 use Rattle.of_rewrite.proofs.Changes.{renewed_same, differ_none}
 use Rattle.of_rewrite.proofs.Finding.{Sound, Found, found, not_found}
 use Rattle.of_rewrite.proofs.Covering.{set_in_place, set_where}
@@ -133,3 +134,6 @@ replaceable f = let b : number_of f < 31 = number_below f in (omega arith, omega
 
 pub unset_frame : (n v : ℕ) (s : List ℕ) → AreBytes s → 14 ≤ length s → locate_at 0 n (cells (layers_of s)) ≡ None → bits_of s ≡ spelt (number_set n v (layers_of s))
 unset_frame n v s b h e = frame_spelt s b h ∙ ap spelt (sym (set_where n v (layers_of s) (are_layers s b h) ∙ unset n v (layers_of s) s (frame_stands s b h) e))
+
+pub place_inside : (n : ℕ) (s : List ℕ) (p : Place) → AreBytes s → 14 ≤ length s → locate_at 0 n (cells (layers_of s)) ≡ Some p → p.first + p.bits ≤ 8 * length s
+place_inside n s p b h e = (frame_stands s b h).inside n p e

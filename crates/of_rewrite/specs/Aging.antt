@@ -3,6 +3,7 @@ use Rattle.std.specs.Prelude.{ℕ, ◌-◌, nat_le, if◌then◌else◌, List, O
 use Rattle.of_layers.specs.Layers.{Layers, Cell, cells, ttl}
 use Rattle.of_layers.specs.Looking.{look_up}
 use Rattle.of_rewrite.specs.Rewriting.{number_set}
+use Rattle.of_rewrite.specs.Replaced.{layers_set}
 use Rattle.of_rewrite.specs.declared.frame.Ttl.{Ttl}
 use Rattle.of_rewrite.specs.declared.frame.Ttl.TheVariants.{Done, Expired, Absent}
 
@@ -17,3 +18,7 @@ answer_to (Some t) = if nat_le t 1 then Expired else Done
 abbrev pub aged_from : Option ℕ → Layers → List Cell
 aged_from None l = cells l
 aged_from (Some t) l = if nat_le t 1 then cells l else number_set ttl (t - 1) l
+
+abbrev pub layers_aged : Option ℕ → Layers → Layers
+layers_aged None l = l
+layers_aged (Some t) l = if nat_le t 1 then l else layers_set ttl (t - 1) l

@@ -1,8 +1,11 @@
 pub mod Checksum
 pub mod Rewriting
 pub mod Tags
+pub mod Replaced
 pub mod Aging
+pub mod Frames
+pub mod Right
+pub mod Loans
 pub mod Tagging
 pub mod Spans
 pub mod Renewal
-pub mod Replaced

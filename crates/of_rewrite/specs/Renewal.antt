@@ -1,5 +1,5 @@
--- The checksums of a frame, with what they cover, as they are read and written back.
-use Rattle.std.specs.Prelude.{ℕ, ◌+◌, ◌*◌, ◌/◌, ◌≤◌, Bool, true, false, not, ◌&&◌, ◌||◌, ◌==◌, if◌then◌else◌, List, ◌++◌, drop, Option, Some, None}
+-- For contracts inside this crate: the checksums of a frame, with where they stand and what they cover, as they are read and written back.
+use Rattle.std.specs.Prelude.{ℕ, ◌+◌, ◌*◌, ◌/◌, ◌≤◌, Bool, true, false, not, ◌&&◌, ◌||◌, ◌==◌, if◌then◌else◌, List, Option, Some, None}
 use Rattle.of_layers.specs.declared.transport.Transport.{Transport}
 use Rattle.of_layers.specs.declared.transport.Transport.TheVariants.{Nothing, Tcp, Udp, Icmpv4, Icmpv6}
 use Rattle.of_layers.specs.Layers.{size_of}
@@ -10,7 +10,7 @@ use Rattle.of_headers.specs.declared.layout.Network.TheVariants.{Plain, Arp, Ipv
 use Rattle.of_rewrite.specs.declared.sums.Sum.{Sum}
 use Rattle.of_rewrite.specs.declared.sums.Sums.{Sums}
 use Rattle.of_rewrite.specs.declared.sums.Span.{Span}
-use Rattle.of_rewrite.specs.Checksum.{words_of, renewed, carried_renewed, never_zero}
+use Rattle.of_rewrite.specs.Checksum.{never_zero}
 use Rattle.of_rewrite.specs.Rewriting.{without_addresses}
 use Rattle.of_rewrite.specs.Spans.{with_word}
 
@@ -21,10 +21,6 @@ span at n = record { at = at; words = n }
 
 abbrev pub no_words : Span
 no_words = span 0 0
-
--- a span's words in the bits of a frame
-abbrev pub words_in : Span → List ℕ → List ℕ
-words_in p s = words_of p.words (drop (8 * p.at) s)
 
 -- behind two addresses, the tags and a type
 abbrev pub packet_at : Layout → ℕ
@@ -50,19 +46,6 @@ carried_span at Plain = no_words
 carried_span at Arp = no_words
 carried_span at (Ipv4 p) = span (at + p.at) (size_of p.transport / 2)
 carried_span at (Ipv6 named p) = span (at + p.at) (size_of p.transport / 2)
-
-abbrev pub header_words : Layout → List ℕ → List ℕ
-header_words l s = words_in (header_span (packet_at l) l.network) s
-
-abbrev pub carried_words : Layout → List ℕ → List ℕ
-carried_words l s = words_in (address_span (packet_at l) l.network) s ++ words_in (carried_span (packet_at l) l.network) s
-
--- how the checksum of what is carried is renewed: over IPv4 UDP's may be left out
-abbrev pub carried_rule : Network → ℕ → List ℕ → List ℕ → ℕ
-carried_rule Plain = renewed
-carried_rule Arp = renewed
-carried_rule (Ipv4 p) = carried_renewed true p.transport
-carried_rule (Ipv6 named p) = carried_renewed false p.transport
 
 -- the byte of the checksum in the header of what an IP packet carries
 abbrev pub checksum_byte : Transport → Option ℕ

@@ -1,4 +1,4 @@
--- Words of a frame's bytes that a checksum covers, and the checksum after the bytes changed.
+-- For contracts inside this crate: words of a frame's bytes that a checksum covers, and the checksum after the bytes changed.
 use Rattle.std.specs.Prelude.{◌≡◌, ℕ, zero, suc, ◌+◌, ◌*◌, ◌/◌, ◌%◌, ◌^◌, Bool, not, ◌||◌, ◌==◌, if◌then◌else◌, List, [], ◌∷◌, ◌++◌, slice_set, take, drop}
 use Rattle.of_layers.specs.Bits.{bits}
 use Rattle.of_layers.specs.Reading.{word}

@@ -1,17 +1,8 @@
 //! Words of 16 bits in bytes, the highest byte first.
 
 ghost use Rattle.std.specs.Prelude.{◌≡◌, ◌+◌, ◌*◌, ◌/◌, ◌%◌, ◌^◌, ◌-◌, ◌≤◌, ◌<◌, length};
-ghost use Rattle.of_layers.specs.Reading.{word};
 ghost use Rattle.of_rewrite.specs.Spans.{with_word};
 ghost use Rattle.of_layers.specs.WellFormed.{AreBytes};
-
-/// The two bytes from a place on.
-pub fn word_at(s: &[u8], at: usize) -> u16
-    requires { at + 2 ≤ length s.now }
-    ensures { result ≡ word s.now at }
-{
-    u16::from_be_bytes([s[at], s[at + 1]])
-}
 
 /// Writes a word over two bytes.
 pub fn put_word(bytes: &mut [u8], at: usize, word: u16)

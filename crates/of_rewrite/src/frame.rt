@@ -1,18 +1,24 @@
 //! A frame that is rewritten in place.
 
-ghost use Rattle.std.specs.Prelude.{◌≡◌, ◌≤◌, ◌<◌, ◌^◌, length, IsTrue, OnOk, OnErr};
+ghost use Rattle.std.specs.Prelude.{◌≡◌, ◌+◌, ◌≤◌, ◌<◌, ◌^◌, length, slice_range, nat_lt, IsTrue, IfOk, OnOk, OnErr};
+ghost use Rattle.std.specs.Borrow.{sem};
 ghost use Rattle.of_layers.specs.Bits.{bits_of};
-ghost use Rattle.of_layers.specs.Fields.{is_settable, ones_of};
+ghost use Rattle.of_layers.specs.Fields.{number_of, is_settable, ones_of};
 ghost use Rattle.of_layers.specs.Layers.{spelt, ttl};
 ghost use Rattle.of_layers.specs.Reading.{layers_of, is_tag_type};
 ghost use Rattle.of_rewrite.specs.Rewriting.{field_set, number_set};
+ghost use Rattle.of_rewrite.specs.Frames.{frame_set, frame_pushed, frame_popped, frame_ttl, frame_aged};
+ghost use Rattle.of_rewrite.specs.Loans.{lent, LendsField};
+ghost use Rattle.of_rewrite.specs.Replaced.{layers_set};
+ghost use Rattle.of_rewrite.specs.Right.{StayRight};
 ghost use Rattle.of_rewrite.specs.Tags.{pushed, popped};
-ghost use Rattle.of_rewrite.specs.Aging.{ttl_of, answer_to, aged_from};
+ghost use Rattle.of_rewrite.specs.Aging.{ttl_of, answer_to, aged_from, layers_aged};
 
+use crate::bytes::all_bytes;
 use crate::rewrite;
 use crate::tags::{control_of, insert_tag, is_tagged, remove_tag, tag_bytes};
 use of_layers::Field;
-use std::alloc::AllocError;
+use std::alloc::{AllocError, Global};
 use std::marker::Model;
 
 /// What became of a time to live that was to be taken down by one.
@@ -27,7 +33,7 @@ pub enum Ttl {
 }
 
 /// The bytes of a frame, at least 14, which are rewritten in place (OpenFlow 1.3.5, 5.12).
-#[derive(Drop)]
+#[derive(Debug, Drop)]
 pub struct Frame {
     bytes: Vec<u8>,
 }
@@ -66,17 +72,38 @@ impl Frame {
         &self.bytes
     }
 
+    /// How many bytes the frame has.
+    pub fn len(&self) -> usize
+        ensures length { result ≡ length self.now }
+        ensures long { 14 ≤ result }
+        ensures most { result < 2 ^ 61 }
+    {
+        self.bytes.len()
+    }
+
+    /// A frame of the same bytes.
+    pub fn copy(&self, alloc: Global) -> Result<Frame, AllocError>
+        ensures { IfOk result (λ f. f ≡ self.now) }
+    {
+        let mut bytes = Vec::new(alloc);
+        bytes.extend_from_slice(&self.bytes)?;
+        Ok(Frame { bytes })
+    }
+
     /// Puts a VLAN tag of this type, 0x8100 or 0x88a8, behind the source address (OpenFlow 1.3.5, 5.12).
     ///
     /// PCP and VID are those of the outermost tag, or 0; DEI is 0. Without memory for the four bytes nothing changes.
     pub fn push_vlan(&mut self, tpid: u16) -> Result<(), AllocError>
         requires { IsTrue (is_tag_type tpid) }
-        ensures ok { OnOk result (layers_of self.new ≡ pushed tpid (layers_of self.old)) }
+        ensures ok { OnOk result (self.new ≡ frame_pushed tpid self.old) }
+        ensures layers { OnOk result (layers_of self.new ≡ pushed tpid (layers_of self.old)) }
+        ensures length { OnOk result (length self.new ≡ length self.old + 4) }
         ensures err { OnErr result (self.new ≡ self.old) }
     {
         if self.bytes.len() >= LONGEST {
             return Err(AllocError);
         }
+        all_bytes(&self.bytes);
         let control = control_of(&self.bytes);
         let tag = tag_bytes(tpid, control);
         insert_tag(&mut self.bytes, &tag)
@@ -84,8 +111,11 @@ impl Frame {
 
     /// Takes the outermost VLAN tag off (OpenFlow 1.3.5, 5.12). Without a tag nothing changes.
     pub fn pop_vlan(&mut self)
-        ensures { layers_of self.new ≡ popped (layers_of self.old) }
+        ensures frame { self.new ≡ frame_popped self.old }
+        ensures layers { layers_of self.new ≡ popped (layers_of self.old) }
+        ensures length { length self.new ≤ length self.old }
     {
+        all_bytes(&self.bytes);
         if is_tagged(&self.bytes) {
             remove_tag(&mut self.bytes);
         }
@@ -97,16 +127,22 @@ impl Frame {
     pub fn set(&mut self, field: Field, value: u128)
         requires settable { IsTrue (is_settable field) }
         requires fits { value ≤ ones_of field }
+        ensures frame { self.new ≡ frame_set field value self.old }
+        ensures layers { layers_of self.new ≡ layers_set (number_of field) value (layers_of self.old) }
         ensures bytes { bits_of self.new ≡ spelt (field_set field value (layers_of self.old)) }
         ensures length { length self.new ≡ length self.old }
+        ensures checksums { StayRight self.old self.new }
     {
         rewrite::set_field(&mut self.bytes, field, value);
     }
 
     /// Replaces IPv4's time to live or IPv6's hop limit, and renews the checksum of an IPv4 header. Without an IP layer nothing changes.
     pub fn set_ttl(&mut self, value: u8)
+        ensures frame { self.new ≡ frame_ttl value self.old }
+        ensures layers { layers_of self.new ≡ layers_set ttl value (layers_of self.old) }
         ensures bytes { bits_of self.new ≡ spelt (number_set ttl value (layers_of self.old)) }
         ensures length { length self.new ≡ length self.old }
+        ensures checksums { StayRight self.old self.new }
     {
         rewrite::set_ttl(&mut self.bytes, value);
     }
@@ -116,16 +152,33 @@ impl Frame {
     /// Nothing changes where it is 0 or 1, nor without an IP layer.
     pub fn dec_ttl(&mut self) -> Ttl
         ensures answer { result ≡ answer_to (ttl_of (layers_of self.old)) }
+        ensures frame { self.new ≡ frame_aged self.old }
+        ensures layers { layers_of self.new ≡ layers_aged (ttl_of (layers_of self.old)) (layers_of self.old) }
         ensures bytes { bits_of self.new ≡ spelt (aged_from (ttl_of (layers_of self.old)) (layers_of self.old)) }
         ensures length { length self.new ≡ length self.old }
+        ensures checksums { StayRight self.old self.new }
     {
-        match rewrite::ttl_in(&self.bytes) {
-            None => Ttl::Absent,
-            Some(0 | 1) => Ttl::Expired,
-            Some(old) => {
-                rewrite::set_ttl(&mut self.bytes, old - 1);
-                Ttl::Done
-            }
-        }
+        rewrite::dec_ttl(&mut self.bytes)
+    }
+
+    /// Whether [`Frame::field_mut`] lends a field: it fills whole bytes, and the frame has it.
+    ///
+    /// VLAN_VID, VLAN_PCP, IP_DSCP, IP_ECN and IPV6_FLABEL fill no whole bytes; IN_PORT and METADATA are no part of a frame.
+    pub fn lends(&self, field: Field) -> bool
+        ensures { result ≡ nat_lt (lent field self.now).0 (lent field self.now).1 }
+    {
+        !rewrite::field_range(&self.bytes, field).is_empty()
+    }
+
+    /// Lends the bytes of a field that fills whole bytes, to be written, and no bytes for another field ([`Frame::lends`]).
+    ///
+    /// No checksum is renewed.
+    pub fn field_mut(&mut self, field: Field) -> &mut [u8]
+        ensures* lends { sem 𝓛 (LendsField self.entry field result) }
+        ensures bytes { result.now ≡ slice_range self.old (lent field self.old).0 (lent field self.old).1 }
+        ensures inside { ((lent field self.old).0 ≤ (lent field self.old).1) × ((lent field self.old).1 ≤ length self.old) }
+    {
+        let range = rewrite::field_range(&self.bytes, field);
+        self.bytes.slice_mut(range)
     }
 }

@@ -5,9 +5,9 @@ ghost use Rattle.of_rewrite.specs.Rewriting.{without_addresses};
 ghost use Rattle.of_layers.specs.Layers.{size_of};
 ghost use Rattle.of_rewrite.specs.Renewal.{checksum_byte, word_or_zero, header_at, carried_at, sums_of, is_udp, settled, settled_in, with_header, with_carried, moved, written_at, HasRoom, no_words, packet_at, header_span, address_span, carried_span};
 
-use crate::bytes::{put_word, word_at};
+use crate::bytes::put_word;
 use crate::sums::{Span, Sum, Sums};
-use of_headers::{Layout, Network, Payload};
+use of_headers::{Layout, Network, Payload, word_at};
 use of_layers::Transport;
 
 /// No words.

@@ -1,21 +1,27 @@
 //! A number of a frame replaced, and its checksums renewed.
 
-ghost use Rattle.std.specs.Prelude.{ℕ, ◌≡◌, ◌≢◌, ◌+◌, ◌*◌, ◌/◌, ◌≤◌, ◌<◌, ◌^◌, length, Some};
+ghost use Rattle.std.specs.Prelude.{ℕ, ◌≡◌, ◌≢◌, ◌+◌, ◌*◌, ◌/◌, ◌≤◌, ◌<◌, ◌^◌, length, Some, IsTrue};
 ghost use Rattle.of_layers.specs.Bits.{bits_of};
+ghost use Rattle.of_layers.specs.Fields.{number_of, is_settable};
 ghost use Rattle.of_layers.specs.Layers.{cells, spelt, ttl};
 ghost use Rattle.of_layers.specs.Looking.{locate_at};
 ghost use Rattle.of_layers.specs.Reading.{layers_of};
 ghost use Rattle.of_headers.specs.Places.{layout_of};
 ghost use Rattle.of_rewrite.specs.Rewriting.{number_set, field_set};
-ghost use Rattle.of_rewrite.specs.Aging.{ttl_of};
+ghost use Rattle.of_rewrite.specs.Frames.{bytes_in, frame_set, frame_ttl, frame_aged};
+ghost use Rattle.of_rewrite.specs.Loans.{lent};
+ghost use Rattle.of_rewrite.specs.Right.{StayRight};
+ghost use Rattle.of_rewrite.specs.Aging.{ttl_of, answer_to, aged_from, layers_aged};
 ghost use Rattle.of_rewrite.specs.Renewal.{ttl_at, packet_at};
-ghost use Rattle.of_rewrite.specs.Replaced.{Replaceable};
+ghost use Rattle.of_rewrite.specs.Replaced.{Replaceable, layers_set};
 
 use crate::bytes::all_bytes;
+use crate::frame::Ttl;
 use crate::renewal::{put_sums, sums_in};
 use crate::writing::put_number;
 use of_headers::{Layout, Network, layout_in};
 use of_layers::{Field, Place};
+use std::ops::Range;
 
 /// Replaces the number of a place, and renews each checksum that covers it.
 pub fn set_number(bytes: &mut [u8], layout: Layout, place: Place, value: u128)
@@ -35,9 +41,13 @@ pub fn set_number(bytes: &mut [u8], layout: Layout, place: Place, value: u128)
 
 /// Replaces a field, and renews each checksum that covers it. Where the frame has no such field nothing changes.
 pub fn set_field(bytes: &mut [u8], field: Field, value: u128)
+    requires settable { IsTrue (is_settable field) }
     requires long { 14 ≤ length bytes.old }
     requires short { length bytes.old < 2 ^ 61 }
-    ensures { bits_of bytes.new ≡ spelt (field_set field value (layers_of bytes.old)) }
+    ensures bits { bits_of bytes.new ≡ spelt (field_set field value (layers_of bytes.old)) }
+    ensures frame { bytes.new ≡ frame_set field value bytes.old }
+    ensures layers { layers_of bytes.new ≡ layers_set (number_of field) value (layers_of bytes.old) }
+    ensures checksums { StayRight bytes.old bytes.new }
 {
     all_bytes(bytes);
     let layout = layout_in(bytes);
@@ -63,7 +73,10 @@ fn ttl_byte(layout: Layout) -> Option<usize>
 pub fn set_ttl(bytes: &mut [u8], value: u8)
     requires long { 14 ≤ length bytes.old }
     requires short { length bytes.old < 2 ^ 61 }
-    ensures { bits_of bytes.new ≡ spelt (number_set ttl value (layers_of bytes.old)) }
+    ensures bits { bits_of bytes.new ≡ spelt (number_set ttl value (layers_of bytes.old)) }
+    ensures frame { bytes.new ≡ frame_ttl value bytes.old }
+    ensures layers { layers_of bytes.new ≡ layers_set ttl value (layers_of bytes.old) }
+    ensures checksums { StayRight bytes.old bytes.new }
 {
     all_bytes(bytes);
     let layout = layout_in(bytes);
@@ -81,6 +94,7 @@ pub fn ttl_in(bytes: &[u8]) -> Option<u8>
     requires long { 14 ≤ length bytes.now }
     requires short { length bytes.now < 2 ^ 61 }
     ensures value { result ≡ ttl_of (layers_of bytes.now) }
+    ensures frame { bytes.now ≡ bytes_in (cells (layers_of bytes.now)) }
     ensures spelt { bits_of bytes.now ≡ spelt (cells (layers_of bytes.now)) }
 {
     all_bytes(bytes);
@@ -88,5 +102,43 @@ pub fn ttl_in(bytes: &[u8]) -> Option<u8>
     match ttl_byte(layout) {
         Some(at) => Some(bytes[at]),
         None => None,
+    }
+}
+
+/// Takes IPv4's time to live or IPv6's hop limit down by one, and renews the checksum of an IPv4 header.
+pub fn dec_ttl(bytes: &mut [u8]) -> Ttl
+    requires long { 14 ≤ length bytes.old }
+    requires short { length bytes.old < 2 ^ 61 }
+    ensures answer { result ≡ answer_to (ttl_of (layers_of bytes.old)) }
+    ensures bits { bits_of bytes.new ≡ spelt (aged_from (ttl_of (layers_of bytes.old)) (layers_of bytes.old)) }
+    ensures frame { bytes.new ≡ frame_aged bytes.old }
+    ensures layers { layers_of bytes.new ≡ layers_aged (ttl_of (layers_of bytes.old)) (layers_of bytes.old) }
+    ensures checksums { StayRight bytes.old bytes.new }
+{
+    match ttl_in(bytes) {
+        None => Ttl::Absent,
+        Some(0 | 1) => Ttl::Expired,
+        Some(old) => {
+            set_ttl(bytes, old - 1);
+            Ttl::Done
+        }
+    }
+}
+
+/// The bytes of a field that fills whole bytes; none for other fields, nor where the frame lacks it.
+pub fn field_range(bytes: &[u8], field: Field) -> Range<usize>
+    requires long { 14 ≤ length bytes.now }
+    requires short { length bytes.now < 2 ^ 61 }
+    ensures bounds { (result.start, result.end) ≡ lent field bytes.now }
+    ensures order { result.start ≤ result.end }
+    ensures room { result.end ≤ length bytes.now }
+{
+    all_bytes(bytes);
+    let layout = layout_in(bytes);
+    match layout.place(field) {
+        Some(place) if place.first % 8 == 0 && place.bits % 8 == 0 => {
+            place.first / 8..(place.first + place.bits) / 8
+        }
+        _ => 0..0,
     }
 }

@@ -1,21 +1,13 @@
 //! VLAN tags put on and taken off (IEEE 802.1Q, 9.3).
 
 ghost use Rattle.std.specs.Prelude.{◌≡◌, ◌≤◌, ◌+◌, ◌*◌, ◌/◌, ◌%◌, ◌∷◌, [], ◌++◌, ◌&&◌, nat_le, length, take, drop, OnOk, OnErr, if◌then◌else◌, IsTrue};
-ghost use Rattle.of_layers.specs.Reading.{is_tag_type};
 ghost use Rattle.of_rewrite.specs.Tagging.{has_tag, control_in};
 
-use crate::bytes::word_at;
+use of_headers::{is_tag, word_at};
 use std::alloc::AllocError;
 
 /// Where the outermost tag stands, behind two addresses of six bytes.
 const TAG_AT: usize = 12;
-
-/// Whether a type is that of a VLAN tag (IEEE 802.1Q, 9.5).
-fn is_tag(kind: u16) -> bool
-    ensures { result ≡ is_tag_type kind }
-{
-    kind == 0x8100 || kind == 0x88a8
-}
 
 /// Whether a frame has a tag: two bytes behind its own four hold what comes next.
 pub fn is_tagged(frame: &[u8]) -> bool

@@ -1,4 +1,4 @@
-ghost use Rattle.std.specs.Prelude.{◌≤◌, ◌<◌, ◌^◌, length};
+ghost use Rattle.std.specs.Prelude.{◌≡◌, ◌≤◌, ◌<◌, ◌^◌, length};
 
 use crate::{Frame, Ttl};
 use of_layers::Field;
@@ -6,6 +6,7 @@ use std::alloc::{AllocError, Global};
 use std::process::Abort;
 use std::test::Fail;
 
+mod fields;
 mod ip;
 
 /// A frame of a type that is not read, with a customer tag of PCP 5, DEI 1 and VID 5 (IEEE 802.1Q, 9.3).
@@ -81,5 +82,42 @@ fn absent(rt: HostRuntime) -> Result<(), Fail> {
     frame.pop_vlan();
     assert_eq!(rt; frame.dec_ttl(), Ttl::Absent);
     holds(&rt, &frame, &UNTAGGED);
+    Ok(())
+}
+
+/// Writes over the source address. What the loan's contract says of the bytes behind it is enough for this one.
+#[tactic(auto, using(crate::proofs::Lending::length_with))]
+fn fill_source(frame: &mut Frame, byte: u8)
+    ensures { length frame.new ≡ length frame.old }
+{
+    frame.field_mut(Field::EthSrc).fill(byte);
+}
+
+#[test]
+fn loans(rt: HostRuntime) -> Result<(), Fail> {
+    let mut frame = frame_of(rt.alloc(), &TAGGED)?;
+    assert!(rt;
+        frame.lends(Field::EthSrc) && !frame.lends(Field::VlanVid) && !frame.lends(Field::Ipv4Dst)
+    );
+    assert_eq!(rt; frame.field_mut(Field::EthSrc).len(), 6);
+    fill_source(&mut frame, 7);
+    assert!(rt; frame.field_mut(Field::InPort).is_empty());
+    assert!(rt;
+        frame
+            .bytes()
+            .starts_with(&[2, 0, 0, 0, 0, 2, 7, 7, 7, 7, 7, 7, 0x81])
+    );
+    ends_as(&rt, &frame, &[0x81, 0x00, 0xb0, 0x05, 0x88, 0xb5, 1, 2]);
+    Ok(())
+}
+
+#[test]
+fn copies(rt: HostRuntime) -> Result<(), Fail> {
+    let mut frame = frame_of(rt.alloc(), &TAGGED)?;
+    let copy = frame.copy(rt.alloc())?;
+    frame.pop_vlan();
+    assert_eq!(rt; frame.len(), 16);
+    holds(&rt, &frame, &UNTAGGED);
+    holds(&rt, &copy, &TAGGED);
     Ok(())
 }

@@ -5,8 +5,9 @@ ghost use Rattle.of_layers.specs.Bits.{bits_of};
 ghost use Rattle.of_layers.specs.Reading.{word};
 ghost use Rattle.of_rewrite.specs.Spans.{put, both_followed, AreEven, part_put};
 
-use crate::bytes::{all_bytes, put_word, word_at};
+use crate::bytes::{all_bytes, put_word};
 use crate::sums::Sums;
+use of_headers::word_at;
 use of_layers::Place;
 
 /// A power of two.

@@ -3,6 +3,7 @@ use Rattle.std.specs.Prelude.{◌≡◌, ℕ, ◌==◌, ◌&&◌, Bool, true, fa
 use Rattle.of_wire.specs.declared.code.Code.{Code}
 use Rattle.of_messages.specs.declared.message.Message.{Message}
 use Rattle.of_messages.specs.Messages.{xid_of, message_of}
+use Rattle.of_messages.specs.Promised.{IsSoundMessage}
 use Rattle.of_session.specs.declared.session.Phase.{Phase}
 use Rattle.of_session.specs.declared.session.Phase.TheVariants.{Disconnected, Greeting, Open}
 use Rattle.of_session.specs.declared.session.Next.{Next}
@@ -90,3 +91,12 @@ IsSized (NotHello xid) n = Unit {0}
 IsSized (Opened size) n = size ≡ n
 IsSized (Read xid size message) n = size ≡ n
 IsSized (Refused xid size code) n = size ≡ n
+
+-- what holds of each message that was read
+abbrev pub IsSound : Next → Type 0
+IsSound Nothing = Unit {0}
+IsSound (BadStream xid) = Unit {0}
+IsSound (NotHello xid) = Unit {0}
+IsSound (Opened size) = Unit {0}
+IsSound (Read xid size message) = IsSoundMessage message
+IsSound (Refused xid size code) = Unit {0}

@@ -1,7 +1,7 @@
 //! A controller's connection: its stream, and which messages of it are handled.
 ghost use Rattle.std.specs.Prelude.{◌≡◌, ◌++◌, ◌≤◌, length, take, [], OnOk, OnErr, IfOk};
 ghost use Rattle.of_messages.specs.Messages.{xid_of};
-ghost use Rattle.of_session.specs.Session.{next_of, fed, is_first_hello, judged, greeted, taken, opened, IsWithin, IsSized};
+ghost use Rattle.of_session.specs.Session.{next_of, fed, is_first_hello, judged, greeted, taken, opened, IsWithin, IsSound, IsSized};
 
 use crate::stream::{Front, HEADER, Stream};
 use byteorder::{BigEndian, ByteOrder};
@@ -117,6 +117,7 @@ impl Session {
     pub fn next(&self) -> Result<Next, AllocError>
         ensures next { IfOk result (λ next. next ≡ next_of self.now) }
         ensures there { IfOk result (λ next. IsWithin next self.now) }
+        ensures sound { IfOk result IsSound }
     {
         if self.phase == Phase::Disconnected {
             return Ok(Next::Nothing);
@@ -177,6 +178,7 @@ fn judge(alloc: Global, phase: Phase, message: &[u8]) -> Result<Next, AllocError
     requires { 8 ≤ length message.now }
     ensures next { IfOk result (λ next. next ≡ judged phase message.now) }
     ensures size { IfOk result (λ next. IsSized next (length message.now)) }
+    ensures sound { IfOk result IsSound }
 {
     let size = message.len();
     if phase != Phase::Open {
@@ -194,6 +196,7 @@ fn greet(message: &[u8]) -> Next
     requires { 8 ≤ length message.now }
     ensures next { result ≡ greeted message.now }
     ensures size { IsSized result (length message.now) }
+    ensures sound { IsSound result }
 {
     if is_accepted(message) {
         Next::Opened {

@@ -4,7 +4,8 @@ use Rattle.std.proofs.lemmas.List.{append-nil}
 use Rattle.std.proofs.lemmas.Option.{same_Some}
 use Rattle.of_wire.specs.declared.code.Code.{Code}
 use Rattle.of_messages.specs.declared.message.Message.{Message}
-use Rattle.of_messages.specs.declared.message.Message.TheVariants.{Hello, EchoRequest, BarrierRequest, FlowMod as IsFlowMod}
+use Rattle.of_messages.specs.declared.message.Message.TheVariants.{Hello, EchoRequest, BarrierRequest, FlowMod as IsFlowMod, PacketOut as IsPacketOut}
+use Rattle.of_messages.specs.declared.message.PacketOut.{PacketOut}
 use Rattle.of_messages.specs.declared.message.FlowMod.{FlowMod}
 use Rattle.of_session.specs.declared.session.Next.{Next}
 use Rattle.of_session.specs.declared.session.Next.TheVariants.{Nothing, BadStream, NotHello, Opened, Read, Refused}
@@ -13,8 +14,8 @@ use Rattle.of_session.proofs.Nexts.{IsSizedIn, next_sized}
 use Rattle.of_wire.specs.Refusals.{first_of}
 use Rattle.of_switch.specs.declared.effect.Effect.{Effect}
 use Rattle.of_switch.specs.State.{State}
-use Rattle.of_switch.specs.Commands.{flow_mod_refusals}
-use Rattle.of_switch.specs.Steps.{Outcome, gives, flow_modded, handled, failed_of, after, came, next_of}
+use Rattle.of_switch.specs.Commands.{flow_mod_refusals, packet_out_refusals}
+use Rattle.of_switch.specs.Steps.{Outcome, gives, flow_modded, packet_outed, handled, failed_of, after, came, next_of}
 use Rattle.of_switch.specs.Runs.{behind, drain, drained}
 
 -- a message leaves the connection alone
@@ -22,10 +23,15 @@ modded_keeps : (xid : ℕ) (m : FlowMod) (failed : List ℕ) (s : State) (o : Op
 modded_keeps xid m failed s None = refl
 modded_keeps xid m failed s (Some code) = refl
 
+outed_keeps : (xid : ℕ) (m : PacketOut) (failed : List ℕ) (s : State) (o : Option Code) → (packet_outed xid m failed s o).state.connection ≡ s.connection
+outed_keeps xid m failed s None = refl
+outed_keeps xid m failed s (Some code) = refl
+
 pub handled_keeps : (xid : ℕ) (m : Message) (failed : List ℕ) (s : State) → (handled xid m failed s).state.connection ≡ s.connection
 handled_keeps xid Hello failed s = refl
 handled_keeps xid (EchoRequest echoed) failed s = refl
 handled_keeps xid BarrierRequest failed s = refl
+handled_keeps xid (IsPacketOut m) failed s = outed_keeps xid m failed s (first_of (packet_out_refusals m))
 handled_keeps xid (IsFlowMod m) failed s = modded_keeps xid m failed s (first_of (flow_mod_refusals m s.forwarding.tables))
 
 -- as many bytes as an outcome leaves

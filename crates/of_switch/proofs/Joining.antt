@@ -5,7 +5,8 @@ use Rattle.std.proofs.lemmas.Option.{same_Some}
 use Rattle.of_wire.specs.declared.code.Code.{Code}
 use Rattle.of_wire.specs.Refusals.{first_of, refusal}
 use Rattle.of_messages.specs.declared.message.Message.{Message}
-use Rattle.of_messages.specs.declared.message.Message.TheVariants.{Hello, EchoRequest, BarrierRequest, FlowMod as IsFlowMod}
+use Rattle.of_messages.specs.declared.message.Message.TheVariants.{Hello, EchoRequest, BarrierRequest, FlowMod as IsFlowMod, PacketOut as IsPacketOut}
+use Rattle.of_messages.specs.declared.message.PacketOut.{PacketOut}
 use Rattle.of_messages.specs.declared.message.FlowMod.{FlowMod}
 use Rattle.of_messages.specs.Written.{error_bytes}
 use Rattle.of_session.specs.declared.session.Phase.TheVariants.{Open}
@@ -15,8 +16,8 @@ use Rattle.of_session.specs.Session.{Connection, is_disconnected, next_of as nex
 use Rattle.of_session.proofs.Nexts.{IsSizedIn, next_sized, IsSomething, next_more}
 use Rattle.of_switch.specs.declared.effect.Effect.{Effect}
 use Rattle.of_switch.specs.State.{State}
-use Rattle.of_switch.specs.Commands.{flow_mod_refusals}
-use Rattle.of_switch.specs.Steps.{Outcome, gives, fed, flow_modded, handled, failed_of, after, answered, closing, came, next_of}
+use Rattle.of_switch.specs.Commands.{flow_mod_refusals, packet_out_refusals}
+use Rattle.of_switch.specs.Steps.{Outcome, gives, fed, flow_modded, packet_outed, handled, failed_of, after, answered, closing, came, next_of}
 use Rattle.of_switch.specs.Runs.{behind, then_more, drain, drained, piece_in, come}
 use Rattle.of_switch.proofs.Draining.{next_shorter, handled_keeps}
 
@@ -42,10 +43,15 @@ modded_fed : (xid : ℕ) (m : FlowMod) (failed q : List ℕ) (s : State) (o : Op
 modded_fed xid m failed q s None = refl
 modded_fed xid m failed q s (Some code) = refl
 
+outed_fed : (xid : ℕ) (m : PacketOut) (failed q : List ℕ) (s : State) (o : Option Code) → packet_outed xid m failed (fed q s) o ≡ gives (packet_outed xid m failed s o).effects (fed q (packet_outed xid m failed s o).state)
+outed_fed xid m failed q s None = refl
+outed_fed xid m failed q s (Some code) = refl
+
 handled_fed : (xid : ℕ) (m : Message) (failed q : List ℕ) (s : State) → handled xid m failed (fed q s) ≡ gives (handled xid m failed s).effects (fed q (handled xid m failed s).state)
 handled_fed xid Hello failed q s = refl
 handled_fed xid (EchoRequest echoed) failed q s = refl
 handled_fed xid BarrierRequest failed q s = refl
+handled_fed xid (IsPacketOut m) failed q s = outed_fed xid m failed q s (first_of (packet_out_refusals m))
 handled_fed xid (IsFlowMod m) failed q s = modded_fed xid m failed q s (first_of (flow_mod_refusals m s.forwarding.tables))
 
 failed_fed : (size : ℕ) (q : List ℕ) (c : Connection) → size ≤ length c.pending → take 64 (take size (c.pending ++ q)) ≡ failed_of size c

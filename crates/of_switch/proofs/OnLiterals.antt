@@ -6,12 +6,14 @@ use Rattle.of_oxm.specs.MatchReading.{match_of}
 use Rattle.of_oxm.specs.NormalForm.{kept}
 use Rattle.of_oxm.specs.Prerequisites.{all_met}
 use Rattle.of_actions.specs.Headers.{header_at, header_refusals}
-use Rattle.of_actions.specs.Actions.{action_at, action_refusals, type_refusals}
+use Rattle.of_actions.specs.Actions.{action_at, action_refusals, type_refusals, actions_said}
 use Rattle.of_actions.specs.InstructionReading.{instructions_of}
 use Rattle.of_messages.specs.Messages.{message_of}
-use Rattle.of_machine.specs.Runs.{run_of, after, step}
+use Rattle.of_machine.specs.Runs.{run_of, until_none, step}
+use Rattle.of_machine.specs.Weights.{copy_steps, action_steps, table_steps, set_steps, lookup_steps}
+use Rattle.of_actions.specs.RunOrder.{in_run_order}
 use Rattle.of_switch.specs.Runs.{drain}
 
 unfoldable pub switch_on_literals : ⊤
-unfolding drain message_of match_of instructions_of items_of field_at row_of all_met kept header_at header_refusals action_at action_refusals type_refusals run_of after step
+unfolding drain message_of match_of instructions_of items_of field_at row_of all_met kept header_at header_refusals action_at action_refusals type_refusals actions_said in_run_order run_of until_none step copy_steps action_steps table_steps set_steps lookup_steps
 switch_on_literals = tt

@@ -8,9 +8,14 @@ use Rattle.of_table.specs.Entries.{no_entries, numbers_of}
 use Rattle.of_table.specs.Tables.{NumberedTables, all_numbers}
 use Rattle.of_machine.specs.declared.data.Item.{Item}
 use Rattle.of_machine.specs.declared.data.Count.{Count}
-use Rattle.of_machine.specs.declared.data.Count.TheVariants.{Lookup, Matched, TxDropped}
+use Rattle.of_machine.specs.declared.data.Count.TheVariants.{Lookup, Matched, TxDropped, Group, Bucket}
 use Rattle.of_switch.specs.declared.effect.Effect.{Effect}
-use Rattle.of_switch.specs.Plane.{Forwarding, tallied, all_tallied, sent, all_sent, effect_of, effects_of}
+use Rattle.of_switch.specs.Plane.{Forwarding, tallied, all_tallied, sent, all_sent}
+use Rattle.std.specs.Prelude.{filter}
+use Rattle.std.proofs.lemmas.List.{map-append}
+use Rattle.std.proofs.lemmas.List.Elements.{filter-append}
+use Rattle.of_session.specs.declared.session.Phase.{Phase}
+use Rattle.of_switch.specs.Told.{effect_of, effects_of, is_given}
 use Rattle.of_switch.specs.Numbers.{entries_at, placed, all_placed}
 
 -- a place goes by the numbers alone
@@ -22,6 +27,8 @@ placed_same n m (Lookup t) e = refl
 placed_same n m (Matched t number bytes) e =
     ap (λ (ns : List ℕ). Matched t (position_or_len (λ k. eqb k number) ns) bytes) (numbers_at n t ∙ ap (λ (ns : List (List ℕ)). slice_index_or ns t []) e ∙ sym (numbers_at m t))
 placed_same n m (TxDropped port) e = refl
+placed_same n m (Group group bytes) e = refl
+placed_same n m (Bucket group place bytes) e = refl
 
 -- one count more
 pub tallied_more : (first now : NumberedTables) (counts : List Count) (i : ℕ) (c d : Count) (f f' : Forwarding) (whole : Forwarding) → i < length counts → c ≡ get_or counts i d
@@ -32,10 +39,11 @@ tallied_more first now counts i c d f f' whole lt is numbers so step =
     rw (add-one i, next) (ap (λ (cs : List Count). all_tallied (all_placed first cs) f) (sym here) ∙ so)
 
 -- one item more
-pub sent_more : (items : List Item) (i : Item) (f : Forwarding) → all_sent (items ++ i ∷ []) f ≡ sent i (all_sent items f)
-sent_more [] i f = refl
-sent_more (x ∷ items) i f = sent_more items i (sent x f)
+pub sent_more : (items : List Item) (i : ℕ) (d x : Item) (f f' whole : Forwarding) → i < length items → x ≡ get_or items i d → all_sent (drop i items) f ≡ whole → f' ≡ sent x f → all_sent (drop (i + 1) items) f' ≡ whole
+sent_more items i d x f f' whole lt is so step =
+    let here : drop i items ≡ x ∷ drop (suc i) items = drop-cons items i d lt ∙ ap (λ (y : Item). y ∷ drop (suc i) items) (sym is) in
+    rw (add-one i, step) (ap (λ (is : List Item). all_sent is f) (sym here) ∙ so)
 
-pub effects_more : (items : List Item) (i : Item) → effects_of (items ++ i ∷ []) ≡ effects_of items ++ effect_of i ∷ []
-effects_more [] i = refl
-effects_more (x ∷ items) i = ap (λ (es : List Effect). effect_of x ∷ es) (effects_more items i)
+-- one effect more
+pub effects_more : (phase : Phase) (items : List Item) (i : Item) → effects_of phase (items ++ i ∷ []) ≡ effects_of phase items ++ effects_of phase (i ∷ [])
+effects_more phase items i = rw (filter-append (is_given phase) items (i ∷ [])) (map-append effect_of (filter (is_given phase) items) (filter (is_given phase) (i ∷ [])))

@@ -1,5 +1,5 @@
 -- What the machine sees of the tables, by its numbers and by places.
-use Rattle.std.proofs.Common.{◌≡◌, ◌≢◌, ℕ, zero, suc, ◌<◌, ◌≤◌, Bool, true, false, eqb, ltb, List, [], ◌∷◌, length, Option, Some, None, refl, sym, ap, ◌∙◌, arith, inl, inr}
+use Rattle.std.proofs.Common.{◌≡◌, ◌≢◌, ℕ, zero, suc, ◌<◌, ◌≤◌, Bool, true, false, ◌&&◌, eqb, ltb, List, [], ◌∷◌, length, Option, Some, None, refl, sym, ap, ◌∙◌, arith, inl, inr}
 use Rattle.std.proofs.lemmas.List.{length-map}
 use Rattle.std.specs.Prelude.{IsTrue, IfSome}
 use Rattle.std.specs.Option.{option_map}
@@ -15,6 +15,10 @@ use Rattle.of_table.specs.Tables.{NumberedTables, numbered_at, tables_of, table_
 use Rattle.of_table.specs.Entries.{Numbered, no_entries, entry_of, flows_of, numbers_of, entry_number, place_of, is_there, table_of}
 use Rattle.of_table.proofs.PlaceLemmas.{position_some, any-place}
 use Rattle.of_machine.specs.declared.port.Port.{Port}
+use Rattle.of_table.specs.declared.flow.Flow.{Flow}
+use Rattle.of_table.specs.Sound.{AreSound, are_fit, is_fit}
+use Rattle.of_actions.specs.InstructionLists.{are_kept, are_for}
+use Rattle.std.specs.List.{list_all}
 use Rattle.of_machine.specs.Sound.{IsSound}
 use Rattle.of_machine.specs.Renumbering.{IsRenumbered}
 use Rattle.of_switch.specs.Plane.{world_of}
@@ -53,6 +57,9 @@ renumbered_world n ports distinct = record {
   ports = refl;
   winner = λ t fields. ap (λ (x : Table). winner_place fields x.flows) (table_is n t) ∙ same_place (entries_at n t) fields (winner_place fields (flows_of (entries_at n t))) (distinct t) refl;
   flow = λ t number fields h. ap (λ (x : Table). flow_at (place_in n t number) x.flows) (table_is n t);
+  chosen = λ g. refl;
+  bucket = λ g place. refl;
+  chain = λ g. refl;
 }
 
 -- an entry that is there has a flow
@@ -79,9 +86,40 @@ sound_by es fields n (Some k) distinct e h none =
     let at : place_of n es ≡ k = ap (λ (x : ℕ). place_of x es) (sym same) ∙ place_of_number (numbers_of es) k (distinct_numbers es distinct) lt in
     flow_some k (flows_of es) (omega (arith, lt, length-map es entry_of, length-map es entry_number)) (ap (λ (x : ℕ). flow_at x (flows_of es)) (sym at) ∙ none)
 
--- each winner is the number of an entry
-pub sound_world : (n : NumberedTables) (ports : List Port) → AreDistinct n → IsSound (numbered_world n ports)
-sound_world n ports distinct = record {
+-- a flow at a place has what each has
+flow_fit : (k place : ℕ) (flows : List FlowEntry) (f : Flow) → list_all (is_fit k) flows ≡ true → flow_at place flows ≡ Some f → are_fit k f.instructions ≡ true
+flow_fit k place [] f h e = absurd (no_flow place e)
+  where
+    no_flow : (k : ℕ) → flow_at k [] ≡ Some f → ⊥
+    no_flow zero e = absurd cc
+    no_flow (suc k) e = absurd cc
+flow_fit k zero (x ∷ flows) f h e =
+    let same : x.flow ≡ f = cc in
+    rw (← same) (grind arith)
+flow_fit k (suc place) (x ∷ flows) f h e = flow_fit k place flows f (grind arith) e
+
+both : (a b : Bool) → (a && b) ≡ true → (a ≡ true) × (b ≡ true)
+both true b h = (refl, h)
+both false b h = absurd cc
+
+-- the instructions of an entry may stand in its table
+abbrev pub AreFit : NumberedTables → Type 0
+AreFit n = (t : ℕ) → AreSound t (table_at t (tables_of n)).flows
+
+fit_here : (n : NumberedTables) (t number : ℕ) (f : Flow) → AreFit n → numbered_flow n t number ≡ Some f → (are_kept f.instructions ≡ true) × (are_for t f.instructions ≡ true)
+fit_here n t number f fit e =
+    let flows : list_all (is_fit t) (flows_of (entries_at n t)) ≡ true = rw (table_is n t) at (fit t).fit in
+    both (are_kept f.instructions) (are_for t f.instructions) (flow_fit t (place_of number (entries_at n t)) (flows_of (entries_at n t)) f flows e)
+
+-- what a world promises: each winner is the number of an entry, its instructions may stand there, and there are no groups
+pub sound_world : (n : NumberedTables) (ports : List Port) → AreDistinct n → AreFit n → IsSound (numbered_world n ports)
+sound_world n ports distinct fit = record {
+  kept = λ t number f e. (fit_here n t number f fit e).0;
+  onward = λ t number f e. (fit_here n t number f fit e).1;
+  short = λ g. omega arith;
+  chained = λ g places e. absurd cc;
+  few = λ g places e. absurd cc;
+  buckets = λ g places e. absurd cc;
   found = λ t fields number h none. sound_by (entries_at n t) fields number (winner_place fields (flows_of (entries_at n t))) (distinct t) refl h none;
 }
 

@@ -1,5 +1,6 @@
 -- What a FLOW_MOD does to the flow tables (OpenFlow 1.3.5, 6.4 and 7.3.4.1), and the notices of entries that went (7.4.2).
 use Rattle.std.specs.Prelude.{ℕ, ◌-◌, ◌/◌, ◌%◌, ◌^◌, ◌==◌, ◌&&◌, nat_le, bit_and, Bool, true, false, not, List, [], ◌∷◌, map, Option, Some, None, if◌then◌else◌}
+use Rattle.std.specs.List.{list_any}
 use Rattle.of_wire.specs.declared.code.Code.{Code}
 use Rattle.of_wire.specs.Refusals.{refusal}
 use Rattle.of_messages.specs.declared.message.FlowMod.{FlowMod}
@@ -17,7 +18,13 @@ use Rattle.of_table.specs.declared.selection.Cause.TheVariants.{Command}
 use Rattle.of_table.specs.declared.selection.RemovedReason.{RemovedReason}
 use Rattle.of_table.specs.declared.selection.RemovedReason.TheVariants as reason
 use Rattle.of_table.specs.Table.{is_overlapped, is_full}
-use Rattle.of_table.specs.Selecting.{Notice}
+use Rattle.of_table.specs.Selecting.{Notice, has_action}
+use Rattle.of_actions.specs.declared.action.Action.{Action}
+use Rattle.of_actions.specs.declared.instruction.Instruction.{Instruction}
+use Rattle.of_action_set.specs.Sets.{is_group}
+use Rattle.of_messages.specs.declared.message.PacketOut.{PacketOut}
+use Rattle.of_messages.specs.declared.message.PacketData.{PacketData}
+use Rattle.of_messages.specs.declared.message.PacketData.TheVariants.{Buffered, Frame}
 use Rattle.of_table.specs.Tables.{Tables, table_at, added_to, modified_in, left_in, notices_in}
 use Rattle.of_switch.specs.declared.effect.Effect.{Effect}
 use Rattle.of_switch.specs.declared.effect.Effect.TheVariants.{Answer}
@@ -69,10 +76,15 @@ which_of m = record {
 
 -- ---- what is refused, in order
 
--- no packet is buffered, so each buffer but none (all ones) is unknown (7.4.4: 1/8), and DELETE does not look at it; of an ADD: the table is not there (5/2), an entry overlaps the flow (5/3), the table is full (5/1)
+-- some action gives the packet to a group
+abbrev pub names_a_group : List Instruction → Bool
+names_a_group instructions = list_any (has_action is_group) instructions
+
+-- there are no groups so far, so each that is named is absent (7.4.4: 2/9); no packet is buffered, so each buffer but none (all ones) is unknown (1/8); DELETE does not look at them; of an ADD: the table is not there (5/2), an entry overlaps the flow (5/3), the table is full (5/1)
 abbrev pub flow_mod_refusals : FlowMod → Tables → List (Bool × Code)
 flow_mod_refusals m ts =
-    (not (is_delete m.command) && not (m.buffer == 0xffffffff), refusal 1 8)
+    (not (is_delete m.command) && names_a_group m.instructions, refusal 2 9)
+    ∷ (not (is_delete m.command) && not (m.buffer == 0xffffffff), refusal 1 8)
     ∷ (is_add m.command && nat_le 16 m.table, refusal 5 2)
     ∷ (is_add m.command && is_overlapped (flow_of m) (table_at m.table ts).flows, refusal 5 3)
     ∷ (is_add m.command && is_full (flow_of m) (table_at m.table ts).flows, refusal 5 1)
@@ -101,6 +113,7 @@ abbrev pub wire_reason : RemovedReason → FlowRemovedReason
 wire_reason reason.IdleTimeout = wire.IdleTimeout
 wire_reason reason.HardTimeout = wire.HardTimeout
 wire_reason reason.Delete = wire.Delete
+wire_reason reason.GroupDelete = wire.GroupDelete
 
 -- of an entry that went now; the seconds are cut to 32 bits
 abbrev pub removed_of : ℕ → Notice → FlowRemoved
@@ -123,3 +136,20 @@ notice_effect now n = Answer (flow_removed_bytes 0 (removed_of now n) n.entry.fl
 
 abbrev pub notice_effects : ℕ → List Notice → List Effect
 notice_effects now ns = map (notice_effect now) ns
+
+-- ---- PACKET_OUT (7.3.6)
+
+abbrev pub is_buffered : PacketData → Bool
+is_buffered (Buffered number) = true
+is_buffered (Frame bytes) = false
+
+abbrev pub frame_of : PacketData → List ℕ
+frame_of (Buffered number) = []
+frame_of (Frame bytes) = bytes
+
+-- each buffer is unknown (1/8), and each group absent (2/9)
+abbrev pub packet_out_refusals : PacketOut → List (Bool × Code)
+packet_out_refusals m =
+    (is_buffered m.packet, refusal 1 8)
+    ∷ (list_any is_group m.actions, refusal 2 9)
+    ∷ []

@@ -3,6 +3,7 @@ pub mod Plane
 pub mod Numbers
 pub mod State
 pub mod Commands
+pub mod Told
 pub mod Steps
 pub mod Calls
 pub mod Runs

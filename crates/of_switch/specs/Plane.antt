@@ -1,5 +1,5 @@
 -- Frames through the flow tables and out of the ports (OpenFlow 1.3.5, 5.1 and 7.2.1).
-use Rattle.std.specs.Prelude.{ℕ, List, [], ◌∷◌, length, map, Option, Some, None, if◌then◌else◌}
+use Rattle.std.specs.Prelude.{ℕ, List, [], ◌∷◌, length, Option, Some, None, if◌then◌else◌}
 use Rattle.of_layers.specs.declared.field.Field.{Field}
 use Rattle.of_headers.specs.declared.headers.FrameFault.{FrameFault}
 use Rattle.of_headers.specs.Faults.{frame_fault}
@@ -10,13 +10,12 @@ use Rattle.of_machine.specs.declared.port.Port.{Port}
 use Rattle.of_machine.specs.declared.data.Item.{Item}
 use Rattle.of_machine.specs.declared.data.Item.TheVariants as item
 use Rattle.of_machine.specs.declared.data.Count.{Count}
-use Rattle.of_machine.specs.declared.data.Count.TheVariants.{Lookup, Matched, TxDropped}
+use Rattle.of_machine.specs.declared.data.Count.TheVariants.{Lookup, Matched, TxDropped, Group, Bucket}
+use Rattle.of_machine.specs.declared.data.Packet.{Packet}
 use Rattle.of_machine.specs.Ports.{port_at}
 use Rattle.of_machine.specs.TheWorld.{TheWorld}
-use Rattle.of_machine.specs.Rows.{entering}
+use Rattle.of_machine.specs.Rows.{Work, Lookup as LookUp, entering}
 use Rattle.of_machine.specs.Runs.{Machine, run_of}
-use Rattle.of_switch.specs.declared.effect.Effect.{Effect}
-use Rattle.of_switch.specs.declared.effect.Effect.TheVariants.{Sent}
 use Rattle.of_switch.specs.declared.plane.PortCount.{PortCount}
 use Rattle.of_switch.specs.declared.plane.PortCount.TheVariants.{Received, ReceiveDropped, ReceiveError, Sent as SentBytes, SendDropped}
 use Rattle.of_switch.specs.Ports.{all_counted}
@@ -42,8 +41,9 @@ winner_in f t fields = winner_place fields (table_at t f.tables).flows
 abbrev pub flow_in : Forwarding → ℕ → ℕ → Option Flow
 flow_in f t place = flow_at place (table_at t f.tables).flows
 
+-- there are no groups so far
 abbrev pub world_of : Forwarding → TheWorld
-world_of f = record { winner = winner_in f; flow = flow_in f; ports = f.ports }
+world_of f = record { winner = winner_in f; flow = flow_in f; chosen = λ group. None; bucket = λ group place. None; ports = f.ports; chain = λ group. 0 }
 
 -- WHAT A RUN LEAVES
 
@@ -52,45 +52,45 @@ abbrev pub tallied : Count → Forwarding → Forwarding
 tallied (Lookup t) f = record f { tables = looked_in t f.tables }
 tallied (Matched t place bytes) f = record f { tables = matched_in t place bytes f.tables }
 tallied (TxDropped port) f = count_port port SendDropped f
+tallied (Group group bytes) f = f
+tallied (Bucket group place bytes) f = f
 
 abbrev pub all_tallied : List Count → Forwarding → Forwarding
 all_tallied [] f = f
 all_tallied (c ∷ cs) f = all_tallied cs (tallied c f)
 
--- what it emitted, in order
+-- what it emitted, in order: a port counts what it sends
 abbrev pub sent : Item → Forwarding → Forwarding
 sent (item.Sent port frame) f = count_port port (SentBytes (length frame)) f
+sent (item.PacketIn reason table cookie ingress metadata frame) f = f
 
 abbrev pub all_sent : List Item → Forwarding → Forwarding
 all_sent [] f = f
 all_sent (i ∷ is) f = all_sent is (sent i f)
 
-abbrev pub effect_of : Item → Effect
-effect_of (item.Sent port frame) = Sent port frame
+-- A PACKET
 
-abbrev pub effects_of : List Item → List Effect
-effects_of items = map effect_of items
+-- what is emitted, and the tables and ports after it
+pub record Forwarded : Type 0 where
+  pub items : List Item
+  pub forwarding : Forwarding
+
+abbrev pub forwards : List Item → Forwarding → Forwarded
+forwards items f = record { items = items; forwarding = f }
+
+abbrev pub applied : Machine → Forwarding → Forwarded
+applied m f = forwards m.items (all_sent m.items (all_tallied m.counts f))
+
+-- a packet does its work
+abbrev pub through : Packet → List Work → Forwarding → Forwarded
+through p work f = applied (run_of (world_of f) p work) f
 
 -- A FRAME
 
-pub record Forwarded : Type 0 where
-  pub effects : List Effect
-  pub forwarding : Forwarding
-
-abbrev pub forwards : List Effect → Forwarding → Forwarded
-forwards effects f = record { effects = effects; forwarding = f }
-
-abbrev pub applied : Machine → Forwarding → Forwarded
-applied m f = forwards (effects_of m.items) (all_sent m.items (all_tallied m.counts f))
-
--- through the tables
-abbrev pub through : ℕ → List ℕ → Forwarding → Forwarded
-through number bytes f = applied (run_of (world_of f) (entering bytes number)) f
-
--- too short or too long a frame is an error of its port; else it is received, and looked up
+-- too short or too long a frame is an error of its port; else it is received, and looked up in the first table
 abbrev pub taken_in : ℕ → List ℕ → Forwarding → Option FrameFault → Forwarded
 taken_in number bytes f (Some fault) = forwards [] (count_port number ReceiveError f)
-taken_in number bytes f None = through number bytes (count_port number (Received (length bytes)) f)
+taken_in number bytes f None = through (entering bytes number) (LookUp 0 ∷ []) (count_port number (Received (length bytes)) f)
 
 -- at a port that is not there nothing happens; at one whose link is down the frame is dropped
 abbrev pub arriving : ℕ → List ℕ → Forwarding → Option Port → Forwarded

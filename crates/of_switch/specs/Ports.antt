@@ -1,6 +1,6 @@
 -- The ports of a switch, and what they count (OpenFlow 1.3.5, 4.1, 5.8 and 7.3.5.6).
-use Rattle.std.specs.Prelude.{ℕ, ◌+◌, ◌%◌, ◌^◌, ◌==◌, ◌&&◌, nat_le, Bool, List, map, if◌then◌else◌}
-use Rattle.std.specs.List.{list_any}
+use Rattle.std.specs.Prelude.{ℕ, ◌+◌, ◌%◌, ◌^◌, ◌==◌, ◌&&◌, nat_le, nat_lt, Bool, List, map, insert, if◌then◌else◌}
+use Rattle.std.specs.List.{list_any, position_or_len}
 use Rattle.of_machine.specs.declared.port.Port.{Port}
 use Rattle.of_machine.specs.declared.port.PortCounters.{PortCounters}
 use Rattle.of_switch.specs.declared.plane.PortCount.{PortCount}
@@ -36,3 +36,7 @@ no_counters = record { rx_packets = 0; tx_packets = 0; rx_bytes = 0; tx_bytes = 
 
 abbrev pub new_port : ℕ → List ℕ → List ℕ → Bool → Port
 new_port number hw name up = record { number = number; hw = hw; name = name; is_link_up = up; counters = no_counters }
+
+-- a port goes in front of the first of a higher number, so that ports stand by rising number
+abbrev pub with_port : Port → List Port → List Port
+with_port p ports = insert ports (position_or_len (λ q. nat_lt p.number q.number) ports) p

@@ -3,7 +3,8 @@ use Rattle.std.specs.Prelude.{ℕ, max, List, [], ◌∷◌, ◌++◌, take, Opt
 use Rattle.of_wire.specs.declared.code.Code.{Code}
 use Rattle.of_wire.specs.Refusals.{refusal, first_of}
 use Rattle.of_messages.specs.declared.message.Message.{Message}
-use Rattle.of_messages.specs.declared.message.Message.TheVariants.{Hello, EchoRequest, BarrierRequest, FlowMod as IsFlowMod}
+use Rattle.of_messages.specs.declared.message.Message.TheVariants.{Hello, EchoRequest, BarrierRequest, FlowMod as IsFlowMod, PacketOut as IsPacketOut}
+use Rattle.of_messages.specs.declared.message.PacketOut.{PacketOut}
 use Rattle.of_messages.specs.declared.message.FlowMod.{FlowMod}
 use Rattle.of_messages.specs.Written.{hello_bytes, error_bytes, echo_reply_bytes, barrier_reply_bytes}
 use Rattle.of_session.specs.declared.session.Next.{Next}
@@ -12,13 +13,15 @@ use Rattle.of_session.specs.Session.{Connection, greeting, fed as fed_connection
 use Rattle.of_session.specs.declared.session.Phase.{Phase}
 use Rattle.of_session.specs.declared.session.Phase.TheVariants.{Disconnected, Greeting, Open}
 use Rattle.of_table.specs.Tables.{Tables, expired, expiry_notices}
-use Rattle.of_switch.specs.Commands.{flow_mod_refusals, commanded, command_notices, notice_effects}
+use Rattle.of_machine.specs.Rows.{acts, entering}
+use Rattle.of_switch.specs.Commands.{flow_mod_refusals, commanded, command_notices, notice_effects, packet_out_refusals, frame_of}
+use Rattle.of_switch.specs.Told.{effects_of}
 use Rattle.of_switch.specs.declared.effect.Effect.{Effect}
 use Rattle.of_switch.specs.declared.effect.Effect.TheVariants.{Answer, Closed}
 use Rattle.of_switch.specs.declared.port_change.PortChange.{PortChange}
 use Rattle.of_switch.specs.declared.port_change.PortChange.TheVariants.{Add}
-use Rattle.of_switch.specs.Ports.{new_port}
-use Rattle.of_switch.specs.Plane.{Forwarded, framed}
+use Rattle.of_switch.specs.Ports.{new_port, with_port}
+use Rattle.of_switch.specs.Plane.{Forwarded, framed, through}
 use Rattle.of_switch.specs.State.{State}
 
 -- what an event gives, and the switch after it
@@ -51,10 +54,20 @@ abbrev pub flow_modded : ℕ → FlowMod → List ℕ → State → Option Code 
 flow_modded xid m failed s (Some code) = answered (error_bytes xid code failed) s
 flow_modded xid m failed s None = gives (notice_effects s.forwarding.tables.latest (command_notices m s.forwarding.tables)) (with_tables (commanded m s.forwarding.tables) s)
 
+-- what is emitted is sent
+abbrev pub with_forwarding : State → Forwarded → Outcome
+with_forwarding s f = gives (effects_of s.connection.phase f.items) (record s { forwarding = f.forwarding })
+
+-- a packet of the controller does its actions; it came in by no look-up
+abbrev pub packet_outed : ℕ → PacketOut → List ℕ → State → Option Code → Outcome
+packet_outed xid m failed s (Some code) = answered (error_bytes xid code failed) s
+packet_outed xid m failed s None = with_forwarding s (through (entering (frame_of m.packet) m.in_port) (acts m.actions) s.forwarding)
+
 abbrev pub handled : ℕ → Message → List ℕ → State → Outcome
 handled xid Hello failed s = gives [] s
 handled xid (EchoRequest echoed) failed s = answered (echo_reply_bytes xid echoed) s
 handled xid BarrierRequest failed s = answered (barrier_reply_bytes xid) s
+handled xid (IsPacketOut m) failed s = packet_outed xid m failed s (first_of (packet_out_refusals m))
 handled xid (IsFlowMod m) failed s = flow_modded xid m failed s (first_of (flow_mod_refusals m s.forwarding.tables))
 
 -- WHAT COMES NEXT OF THE CONTROLLER'S STREAM
@@ -86,9 +99,6 @@ next_of s = came (next_in s.connection) s
 
 -- A FRAME
 
-abbrev pub with_forwarding : State → Forwarded → Outcome
-with_forwarding s f = gives f.effects (record s { forwarding = f.forwarding })
-
 abbrev pub frame_in : ℕ → List ℕ → State → Outcome
 frame_in port bytes s = with_forwarding s (framed port bytes s.forwarding)
 
@@ -107,4 +117,4 @@ moment_in now s =
 -- A PORT
 
 abbrev pub port_changed : PortChange → State → State
-port_changed (Add number hw name up) s = record s { forwarding = record s.forwarding { ports = s.forwarding.ports ++ new_port number hw name up ∷ [] } }
+port_changed (Add number hw name up) s = record s { forwarding = record s.forwarding { ports = with_port (new_port number hw name up) s.forwarding.ports } }

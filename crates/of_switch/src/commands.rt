@@ -2,9 +2,13 @@
 
 ghost use Rattle.std.specs.Prelude.{◌≡◌, OnOk, IfOk};
 ghost use Rattle.of_table.specs.Selecting.{notice_of, notices_of};
-ghost use Rattle.of_switch.specs.Commands.{flags_of, flow_of, has_flag as with_flag, is_strict as strict, notice_effect, notice_effects, out_of, removed_of, unless_any as none_for, which_of, wire_reason};
+ghost use Rattle.of_switch.specs.Commands.{flags_of, flow_of, has_flag as with_flag, is_strict as strict, notice_effect, notice_effects, out_of, removed_of, unless_any as none_for, which_of, wire_reason, names_a_group as some_group_named};
+ghost use Rattle.std.specs.List.{list_any};
+ghost use Rattle.of_action_set.specs.Sets.{is_group as is_to_group};
+ghost use Rattle.of_table.specs.Selecting.{has_action};
 
 use crate::effect::Effect;
+use of_actions::{Action, Instruction};
 use of_messages::{FlowMod, FlowModCommand, FlowRemoved, FlowRemovedReason, write_flow_removed};
 use of_table::{Flow, FlowFlags, Removed, RemovedReason, Which};
 use std::alloc::{AllocError, Global};
@@ -33,6 +37,37 @@ fn flags_from(flags: u16) -> FlowFlags
         no_packet_counts: has_flag(flags, 8),
         no_byte_counts: has_flag(flags, 16),
     }
+}
+
+fn is_group(action: Action) -> bool
+    ensures { result ≡ is_to_group action }
+{
+    matches!(action, Action::Group(_))
+}
+
+/// Whether some action gives the packet to a group.
+pub fn has_group(actions: &[Action]) -> bool
+    ensures { result ≡ list_any is_to_group actions.now }
+{
+    actions.iter().any(|action| is_group(*action))
+}
+
+fn instruction_has_group(instruction: &Instruction) -> bool
+    ensures { result ≡ has_action is_to_group instruction.now }
+{
+    match instruction {
+        Instruction::Apply(actions) | Instruction::Write(actions) => has_group(actions.as_slice()),
+        _ => false,
+    }
+}
+
+/// Whether some action of the instructions gives the packet to a group.
+pub fn names_a_group(instructions: &[Instruction]) -> bool
+    ensures { result ≡ some_group_named instructions.now }
+{
+    instructions
+        .iter()
+        .any(|instruction| instruction_has_group(instruction))
 }
 
 /// The flow that a FLOW_MOD adds.
@@ -99,6 +134,7 @@ fn reason_from(reason: RemovedReason) -> FlowRemovedReason
         RemovedReason::IdleTimeout => FlowRemovedReason::IdleTimeout,
         RemovedReason::HardTimeout => FlowRemovedReason::HardTimeout,
         RemovedReason::Delete => FlowRemovedReason::Delete,
+        RemovedReason::GroupDelete => FlowRemovedReason::GroupDelete,
     }
 }
 

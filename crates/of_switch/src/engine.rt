@@ -1,5 +1,5 @@
 //! The switch while memory lasts.
-ghost use Rattle.std.specs.Prelude.{◌≡◌, ◌≤◌, ◌++◌, ◌∷◌, [], IfOk, IfNone, OnOk, OnErr, length, take};
+ghost use Rattle.std.specs.Prelude.{◌≡◌, ◌≤◌, ◌<◌, true, false, ◌++◌, ◌∷◌, [], IfOk, IfNone, OnOk, OnErr, length, take};
 ghost use Rattle.std.specs.Option.{option_map};
 ghost use Rattle.of_wire.specs.Refusals.{first_of};
 ghost use Rattle.of_messages.specs.Written.{error_bytes};
@@ -8,18 +8,22 @@ ghost use Rattle.of_switch.specs.Ports.{has_port, no_counters as zero_counters};
 ghost use Rattle.of_switch.specs.Runs.{drained, piece_in};
 ghost use Rattle.of_table.specs.declared.selection.Cause.TheVariants.{Command};
 ghost use Rattle.of_table.specs.Tables.{modified_in, left_in, notices_in};
-ghost use Rattle.of_switch.specs.Commands.{flow_mod_refusals, has_flag as with_flag, notice_effects, which_of};
-ghost use Rattle.of_switch.specs.Steps.{connected, failed_of, fed, flow_modded, frame_in, gives, handled, moment_in, next_of, port_changed, with_tables};
+ghost use Rattle.of_actions.specs.FlowCheck.{all_go_with};
+ghost use Rattle.of_actions.specs.InstructionLists.{are_for};
+ghost use Rattle.of_messages.specs.Promised.{IsSoundFlowMod, IsSoundMessage, IsSoundPacket};
+ghost use Rattle.of_switch.specs.Commands.{names_a_group as names_some_group, packet_out_refusals, flow_mod_refusals, has_flag as with_flag, notice_effects, which_of};
+ghost use Rattle.of_switch.specs.Steps.{connected, failed_of, fed, flow_modded, frame_in, gives, handled, moment_in, next_of, packet_outed, port_changed, with_tables};
 
-use crate::commands::{flow_from, has_flag, notices, which_from};
+use crate::commands::{flow_from, has_flag, has_group, names_a_group, notices, which_from};
 use crate::effect::Effect;
-use crate::plane::{Plane, contains};
+use crate::plane::{Plane, contains, put_port};
 use crate::port_change::PortChange;
+use crate::told::effects_from;
 use of_classifier::Lookup;
 use of_machine::{Port, PortCounters};
 use of_messages::{
-    FlowMod, FlowModCommand, Message, write_barrier_reply, write_echo_reply, write_error,
-    write_hello,
+    FlowMod, FlowModCommand, Message, PacketData, PacketOut, write_barrier_reply, write_echo_reply,
+    write_error, write_hello,
 };
 use of_session::{Next, Phase, Session};
 use of_table::TableFault;
@@ -38,6 +42,8 @@ const HELLO_INCOMPATIBLE: Code = Code { kind: 0, code: 0 };
 const BAD_LEN: Code = Code { kind: 1, code: 6 };
 
 const BUFFER_UNKNOWN: Code = Code { kind: 1, code: 8 };
+
+const BAD_OUT_GROUP: Code = Code { kind: 2, code: 9 };
 
 const BAD_TABLE: Code = Code { kind: 5, code: 2 };
 
@@ -102,14 +108,14 @@ impl<L: Lookup> Engine<L> {
                 name,
                 up,
             } => {
-                self.plane.ports.push(Port {
+                let port = Port {
                     number,
                     hw,
                     name,
                     is_link_up: up,
                     counters: no_counters(),
-                })?;
-                Ok(())
+                };
+                put_port(&mut self.plane.ports, port)
             }
         }
     }
@@ -132,7 +138,8 @@ impl<L: Lookup> Engine<L> {
     pub fn frame(&mut self, number: u32, bytes: &[u8]) -> Result<Vec<Effect>, AllocError>
         ensures { IfOk result (λ effects. frame_in number bytes.now self.old ≡ gives effects.items self.new) }
     {
-        self.plane.frame(self.alloc, number, bytes)
+        let items = self.plane.frame(self.alloc, number, bytes)?;
+        effects_from(self.alloc, self.session.phase(), items)
     }
 
     pub fn next(&mut self) -> Result<Option<Vec<Effect>>, AllocError>
@@ -204,7 +211,8 @@ impl<L: Lookup> Engine<L> {
     }
 
     fn handle(&mut self, xid: u32, size: usize, message: Message) -> Result<Vec<Effect>, AllocError>
-        requires { size ≤ length self.old.connection.pending }
+        requires size { size ≤ length self.old.connection.pending }
+        requires sound { IsSoundMessage message }
         ensures { IfOk result (λ effects. handled xid message (failed_of size self.old.connection) self.old ≡ gives effects.items self.new) }
     {
         match message {
@@ -219,8 +227,32 @@ impl<L: Lookup> Engine<L> {
                     Effect::Answer(write_barrier_reply(self.alloc, xid)?),
                 )
             }
+            Message::PacketOut(packet_out) => self.packet_out(xid, size, packet_out),
             Message::FlowMod(flow_mod) => self.flow_mod(xid, size, flow_mod),
         }
+    }
+
+    fn packet_out(
+        &mut self,
+        xid: u32,
+        size: usize,
+        packet_out: PacketOut,
+    ) -> Result<Vec<Effect>, AllocError>
+        requires size { size ≤ length self.old.connection.pending }
+        requires sound { IsSoundPacket packet_out.packet }
+        ensures { IfOk result (λ effects. packet_outed xid packet_out (failed_of size self.old.connection) self.old (first_of (packet_out_refusals packet_out)) ≡ gives effects.items self.new) }
+    {
+        let PacketData::Frame(frame) = &packet_out.packet else {
+            return self.refused(xid, size, BUFFER_UNKNOWN);
+        };
+        let actions = packet_out.actions.as_slice();
+        if has_group(actions) {
+            return self.refused(xid, size, BAD_OUT_GROUP);
+        }
+        let items = self
+            .plane
+            .packet_out(self.alloc, packet_out.in_port, frame.as_slice(), actions)?;
+        effects_from(self.alloc, self.session.phase(), items)
     }
 
     fn flow_mod(
@@ -229,11 +261,17 @@ impl<L: Lookup> Engine<L> {
         size: usize,
         flow_mod: FlowMod,
     ) -> Result<Vec<Effect>, AllocError>
-        requires { size ≤ length self.old.connection.pending }
+        requires size { size ≤ length self.old.connection.pending }
+        requires sound { IsSoundFlowMod flow_mod }
         ensures { IfOk result (λ effects. flow_modded xid flow_mod (failed_of size self.old.connection) self.old (first_of (flow_mod_refusals flow_mod self.old.forwarding.tables)) ≡ gives effects.items self.new) }
     {
-        if !flow_mod.command.is_delete() && flow_mod.buffer != NO_BUFFER {
-            return self.refused(xid, size, BUFFER_UNKNOWN);
+        if !flow_mod.command.is_delete() {
+            if names_a_group(flow_mod.instructions.as_slice()) {
+                return self.refused(xid, size, BAD_OUT_GROUP);
+            }
+            if flow_mod.buffer != NO_BUFFER {
+                return self.refused(xid, size, BUFFER_UNKNOWN);
+            }
         }
         match flow_mod.command {
             FlowModCommand::Add => self.add_flow(xid, size, flow_mod),
@@ -251,6 +289,9 @@ impl<L: Lookup> Engine<L> {
         requires size { size ≤ length self.old.connection.pending }
         requires add { flow_mod.command ≡ FlowModCommand.Add }
         requires buffer { flow_mod.buffer ≡ 0xffffffff }
+        requires group { names_some_group flow_mod.instructions ≡ false }
+        requires fit { are_for flow_mod.table flow_mod.instructions ≡ true }
+        requires checked { all_go_with flow_mod.fields flow_mod.instructions ≡ true }
         ensures { IfOk result (λ effects. flow_modded xid flow_mod (failed_of size self.old.connection) self.old (first_of (flow_mod_refusals flow_mod self.old.forwarding.tables)) ≡ gives effects.items self.new) }
     {
         match self.plane.tables.add(flow_mod.table, flow_from(flow_mod)) {
@@ -263,6 +304,9 @@ impl<L: Lookup> Engine<L> {
     }
 
     fn modify_flows(&mut self, flow_mod: FlowMod) -> Result<Vec<Effect>, AllocError>
+        requires table { flow_mod.table < 16 }
+        requires fit { are_for flow_mod.table flow_mod.instructions ≡ true }
+        requires checked { all_go_with flow_mod.fields flow_mod.instructions ≡ true }
         ensures { IfOk result (λ effects. gives [] (with_tables (modified_in (which_of flow_mod) flow_mod.instructions (with_flag flow_mod.flags 4) self.old.forwarding.tables) self.old) ≡ gives effects.items self.new) }
     {
         let reset = has_flag(flow_mod.flags, 4);

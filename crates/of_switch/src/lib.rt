@@ -8,6 +8,7 @@ mod laws;
 mod plane;
 mod port_change;
 mod switch;
+mod told;
 
 pub use effect::Effect;
 pub use laws::two_pieces;

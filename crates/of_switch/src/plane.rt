@@ -2,14 +2,23 @@
 ghost use Rattle.std.specs.Prelude.{◌≡◌, ◌≤◌, IfOk, OnOk, length};
 ghost use Rattle.of_machine.specs.Ports.{port_at};
 ghost use Rattle.of_table.specs.Tables.{all_numbers, tables_of, looked_in, matched_in};
-ghost use Rattle.of_switch.specs.Ports.{all_counted, counted, has_port, plus, tally};
-ghost use Rattle.of_switch.specs.Plane.{all_sent, all_tallied, effect_of, effects_of, forwards, framed, idle, sent, tallied, through};
+ghost use Rattle.of_switch.specs.Ports.{all_counted, counted, has_port, plus, tally, with_port};
+ghost use Rattle.std.specs.Prelude.{nat_lt};
+ghost use Rattle.std.specs.List.{position_or_len};
+ghost use Rattle.std.specs.Prelude.{IsTrue, true, [], ◌∷◌};
+ghost use Rattle.of_actions.specs.Served.{are_served};
+ghost use Rattle.of_machine.specs.Growth.{AllShort};
+ghost use Rattle.of_machine.specs.Rows.{acts, entering, Lookup as LookUp};
+ghost use Rattle.of_switch.specs.Plane.{all_sent, all_tallied, forwards, framed, idle, sent, tallied, through};
 ghost use Rattle.of_switch.specs.Numbers.{Contents, all_placed, contents, forwarding_of, numbered_world, place_in, placed};
 
-use crate::effect::Effect;
+use of_actions::Action;
 use of_classifier::Lookup;
 use of_headers::{FieldKey, check_length};
-use of_machine::{Count, Frame, Item, NoLog, Packet, Port, PortCounters, World, run};
+use of_machine::{
+    Chosen, Count, Item, NoLog, Outcome, Packet, Port, PortCounters, World, run, run_actions,
+};
+use of_rewrite::Frame;
 use of_table::{Flow, FlowTables};
 use std::alloc::{AllocError, Global};
 
@@ -103,6 +112,28 @@ pub fn contains(ports: &[Port], number: u32) -> bool
     ports.iter().any(|port| port.number == number)
 }
 
+// The place of the first port of a higher number, or the end.
+fn place_above(ports: &[Port], number: u32) -> usize
+    ensures place { result ≡ position_or_len (λ q. nat_lt number q.number) ports.now }
+    ensures bound { result ≤ length ports.now }
+{
+    for (place, port) in ports.iter().enumerate() {
+        if number < port.number {
+            return place;
+        }
+    }
+    ports.len()
+}
+
+/// Puts a port among the others, by rising number.
+pub fn put_port(ports: &mut Vec<Port>, port: Port) -> Result<(), AllocError>
+    ensures { OnOk result (ports.new.items ≡ with_port port ports.old.items) }
+{
+    let place = place_above(ports, port.number);
+    ports.insert(place, port)?;
+    Ok(())
+}
+
 // The port of that number.
 fn find_port(ports: &[Port], number: u32) -> Option<Port>
     ensures { result ≡ port_at ports.now number }
@@ -131,6 +162,15 @@ impl<L: Lookup> World for Plane<L> {
         self.tables.flow(table, number)
     }
 
+    // There are no groups so far.
+    fn chosen(&self, _group: u32) -> Option<Chosen> {
+        None
+    }
+
+    fn bucket(&self, _group: u32, _place: u8) -> &[Action] {
+        unreachable!()
+    }
+
     fn ports(&self) -> &[Port] {
         self.ports.as_slice()
     }
@@ -151,14 +191,15 @@ impl<L: Lookup> Plane<L> {
         })
     }
 
-    /// A frame comes in by a port (OpenFlow 1.3.5, 5.1).
+    /// A frame comes in by a port (OpenFlow 1.3.5, 5.1). What is emitted is for the caller to send.
     pub fn frame(
         &mut self,
         alloc: Global,
         number: u32,
         bytes: &[u8],
-    ) -> Result<Vec<Effect>, AllocError>
-        ensures { IfOk result (λ effects. framed number bytes.now (forwarding_of self.old.tables self.old.ports.items) ≡ forwards effects.items (forwarding_of self.new.tables self.new.ports.items)) }
+    ) -> Result<Vec<Item>, AllocError>
+        ensures forwarded { IfOk result (λ items. framed number bytes.now (forwarding_of self.old.tables self.old.ports.items) ≡ forwards items.items (forwarding_of self.new.tables self.new.ports.items)) }
+        ensures short { IfOk result (λ items. AllShort 65485 items.items) }
     {
         let Some(port) = find_port(&self.ports, number) else {
             return Ok(Vec::new(alloc));
@@ -175,21 +216,47 @@ impl<L: Lookup> Plane<L> {
         self.forward(alloc, number, bytes)
     }
 
-    // Runs a frame, and counts and sends what comes of it.
-    fn forward(
-        &mut self,
-        alloc: Global,
-        number: u32,
-        bytes: &[u8],
-    ) -> Result<Vec<Effect>, AllocError>
-        requires { 14 ≤ length bytes.now }
-        ensures { IfOk result (λ effects. through number bytes.now (forwarding_of self.old.tables self.old.ports.items) ≡ forwards effects.items (forwarding_of self.new.tables self.new.ports.items)) }
+    // Runs a frame, and counts what comes of it.
+    fn forward(&mut self, alloc: Global, number: u32, bytes: &[u8]) -> Result<Vec<Item>, AllocError>
+        requires long { 14 ≤ length bytes.now }
+        requires most { length bytes.now ≤ 9216 }
+        ensures forwarded { IfOk result (λ items. through (entering bytes.now number) (LookUp 0 ∷ []) (forwarding_of self.old.tables self.old.ports.items) ≡ forwards items.items (forwarding_of self.new.tables self.new.ports.items)) }
+        ensures short { IfOk result (λ items. AllShort 65485 items.items) }
     {
         self.tables.known();
         let packet = Packet::new(Frame::new(bytes.to_vec(alloc)?), number);
         let outcome = run(alloc, self, packet, &mut NoLog)?;
+        Ok(self.apply(outcome))
+    }
+
+    /// A packet of the controller does its actions (OpenFlow 1.3.5, 7.3.6). What is emitted is for the caller to send.
+    pub fn packet_out(
+        &mut self,
+        alloc: Global,
+        in_port: u32,
+        bytes: &[u8],
+        actions: &[Action],
+    ) -> Result<Vec<Item>, AllocError>
+        requires long { 14 ≤ length bytes.now }
+        requires most { length bytes.now ≤ 9216 }
+        requires served { IsTrue (are_served true actions.now) }
+        ensures forwarded { IfOk result (λ items. through (entering bytes.now in_port) (acts actions.now) (forwarding_of self.old.tables self.old.ports.items) ≡ forwards items.items (forwarding_of self.new.tables self.new.ports.items)) }
+        ensures short { IfOk result (λ items. AllShort 65485 items.items) }
+    {
+        self.tables.known();
+        let packet = Packet::new(Frame::new(bytes.to_vec(alloc)?), in_port);
+        let outcome = run_actions(alloc, self, packet, actions, &mut NoLog)?;
+        Ok(self.apply(outcome))
+    }
+
+    // Counts what a run counted and emitted.
+    fn apply(&mut self, outcome: Outcome) -> Vec<Item>
+        ensures items { result.items ≡ outcome.items.items }
+        ensures forwarding { forwarding_of self.new.tables self.new.ports.items ≡ all_sent outcome.items.items (all_tallied (all_placed self.old.tables outcome.counts.items) (forwarding_of self.old.tables self.old.ports.items)) }
+    {
         self.tally_all(&outcome.counts);
-        self.send_all(alloc, outcome.items)
+        self.count_sent(&outcome.items);
+        outcome.items
     }
 
     // Counts what a run counted.
@@ -213,6 +280,7 @@ impl<L: Lookup> Plane<L> {
                 bytes,
             } => self.matched(table, number, bytes),
             Count::TxDropped(port) => count_at(&mut self.ports, port, PortCount::SendDropped),
+            Count::Group { .. } | Count::Bucket { .. } => {}
         }
     }
 
@@ -236,27 +304,23 @@ impl<L: Lookup> Plane<L> {
         }
     }
 
-    // Sends what a run emitted.
-    fn send_all(&mut self, alloc: Global, items: Vec<Item>) -> Result<Vec<Effect>, AllocError>
-        ensures effects { IfOk result (λ effects. effects.items ≡ effects_of items.items) }
-        ensures forwarding { OnOk result (forwarding_of self.new.tables self.new.ports.items ≡ all_sent items.items (forwarding_of self.old.tables self.old.ports.items)) }
+    // Counts what a run emitted.
+    fn count_sent(&mut self, items: &[Item])
+        ensures { forwarding_of self.new.tables self.new.ports.items ≡ all_sent items.now (forwarding_of self.old.tables self.old.ports.items) }
     {
-        let mut effects = Vec::new(alloc);
         for item in items {
-            effects.push(self.send(item))?;
+            self.count_item(item);
         }
-        Ok(effects)
     }
 
-    fn send(&mut self, item: Item) -> Effect
-        ensures effect { result ≡ effect_of item }
-        ensures forwarding { forwarding_of self.new.tables self.new.ports.items ≡ sent item (forwarding_of self.old.tables self.old.ports.items) }
+    fn count_item(&mut self, item: &Item)
+        ensures { forwarding_of self.new.tables self.new.ports.items ≡ sent item.now (forwarding_of self.old.tables self.old.ports.items) }
     {
         match item {
             Item::Sent { port, frame } => {
-                count_at(&mut self.ports, port, PortCount::Sent(frame.len()));
-                Effect::Sent { port, frame }
+                count_at(&mut self.ports, *port, PortCount::Sent(frame.len()));
             }
+            Item::PacketIn { .. } => {}
         }
     }
 }

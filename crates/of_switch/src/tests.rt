@@ -103,3 +103,37 @@ fn hard_timeout(rt: HostRuntime) -> Result<(), Fail> {
     assert!(rt; switch.frame(1, &[0u8; 60])?.is_empty());
     Ok(())
 }
+
+// A PACKET_OUT of a frame of 60 zeros with one OUTPUT to OFPP_TABLE.
+const PACKET_OUT: [u8; 100] = [
+    4, 13, 0, 100, 0, 0, 0, 9, // header
+    0xff, 0xff, 0xff, 0xff, 0, 0, 0, 1, // buffer, ingress port
+    0, 16, 0, 0, 0, 0, 0, 0, // length of the actions
+    0, 0, 0, 16, 0xff, 0xff, 0xff, 0xf9, 0, 0, 0, 0, 0, 0, 0, 0, // OUTPUT
+    0, 0, 0, 0, 0, 0, 0, 0, 0, 0, 0, 0, 0, 0, 0, 0, 0, 0, 0, 0, // frame
+    0, 0, 0, 0, 0, 0, 0, 0, 0, 0, 0, 0, 0, 0, 0, 0, 0, 0, 0, 0, //
+    0, 0, 0, 0, 0, 0, 0, 0, 0, 0, 0, 0, 0, 0, 0, 0, 0, 0, 0, 0, //
+];
+
+#[test]
+fn packet_outs(rt: HostRuntime) -> Result<(), Fail> {
+    let mut switch = opened(&rt, rt.alloc())?;
+    assert!(rt; switch.piece(&FLOW_MOD)?.is_empty());
+    let effects = switch.piece(&PACKET_OUT)?;
+    assert_eq!(rt; effects.len(), 1);
+    assert!(rt; matches!(&effects[0], Effect::Sent { port: 2, .. }));
+    let mut buffered = PACKET_OUT;
+    buffered[8] = 0;
+    let effects = switch.piece(&buffered)?;
+    assert_eq!(rt; effects.len(), 1);
+    assert!(rt; matches!(&effects[0], Effect::Answer(_)));
+    if let Effect::Answer(error) = &effects[0] {
+        let front = [
+            4u8, 1, 0, 76, 0, 0, 0, 9, 0, 1, 0, 8, // header, type and code
+            4, 13, 0, 100, 0, 0, 0, 9, 0, 0xff, 0xff, 0xff, // the message
+        ];
+        assert_eq!(rt; error.len(), 76);
+        assert!(rt; error.as_slice().starts_with(&front));
+    }
+    Ok(())
+}

@@ -23,10 +23,15 @@ use Rattle.of_table.specs.Entries.{entry_of, flows_of, row_of, rows_of}
 use Rattle.of_table.specs.declared.entry.Entry.{Entry}
 use Rattle.of_table.specs.declared.flow.Flow.{Flow}
 
-same_is : (xs ys : List MatchField) → is_same_match xs ys ≡ true → xs ≡ ys
+pub same_is : (xs ys : List MatchField) → is_same_match xs ys ≡ true → xs ≡ ys
 same_is xs ys h =
     let test = pointwise the_match_field.eq-value.it xs ys in
     (same_fields xs ys test refl).0 (same_match xs ys test refl ∙ h)
+
+pub is_itself : (xs : List MatchField) → is_same_match xs xs ≡ true
+is_itself xs =
+    let test = pointwise the_match_field.eq-value.it xs xs in
+    sym (same_match xs xs test refl) ∙ (same_fields xs xs test refl).1 refl
 
 -- the flow comes last, and no entry goes
 pub added_new : (now : ℕ) (flow : Flow) (es : List Entry) (e : Entry) → list_any (is_same flow) (flows_of es) ≡ false → entry_of e ≡ with_flow now flow None → flows_of (es ++ e ∷ []) ≡ added now flow (flows_of es)

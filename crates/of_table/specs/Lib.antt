@@ -3,3 +3,4 @@ pub mod Entries
 pub mod Selecting
 pub mod Faults
 pub mod Tables
+pub mod Sound

@@ -1,18 +1,18 @@
--- Which entries a command is for, and which go at a moment (OpenFlow 1.3.5, 5.5 and 6.4).
+-- Which entries a command is for, and which go at a moment or with a group (OpenFlow 1.3.5, 5.5, 6.4 and 6.5).
 use Rattle.std.specs.Prelude.{ℕ, ◌-◌, ◌*◌, ◌==◌, ◌&&◌, nat_le, not, Bool, true, false, List, map, filter, Option, Some, None, is_none, unwrap_or, bit_and, if◌then◌else◌}
 use Rattle.std.specs.List.{list_any, flat_map}
 use Rattle.std.specs.Option.{option_map_or, option_to_list}
 use Rattle.of_actions.specs.declared.action.Action.{Action}
-use Rattle.of_actions.specs.declared.action.Action.TheVariants.{Output}
+use Rattle.of_actions.specs.declared.action.Action.TheVariants.{Output, PushVlan, PopVlan, Group, SetNwTtl, DecNwTtl, SetField}
 use Rattle.of_actions.specs.declared.instruction.Instruction.{Instruction}
-use Rattle.of_actions.specs.declared.instruction.Instruction.TheVariants.{Apply}
+use Rattle.of_actions.specs.declared.instruction.Instruction.TheVariants.{Apply, Clear, Write, Metadata, Goto}
 use Rattle.of_oxm.specs.Relations.{covers_match}
 use Rattle.of_oxm.specs.SameMatch.{is_same_match}
 use Rattle.of_table.specs.declared.selection.Which.{Which}
 use Rattle.of_table.specs.declared.selection.Cause.{Cause}
-use Rattle.of_table.specs.declared.selection.Cause.TheVariants.{Command, Moment}
+use Rattle.of_table.specs.declared.selection.Cause.TheVariants as causes
 use Rattle.of_table.specs.declared.selection.RemovedReason.{RemovedReason}
-use Rattle.of_table.specs.declared.selection.RemovedReason.TheVariants.{IdleTimeout, HardTimeout, Delete}
+use Rattle.of_table.specs.declared.selection.RemovedReason.TheVariants.{IdleTimeout, HardTimeout, Delete, GroupDelete}
 use Rattle.of_table.specs.declared.selection.Removed.{Removed}
 use Rattle.of_table.specs.declared.entry.Entry.{Entry}
 use Rattle.of_table.specs.Table.{FlowEntry, unless_reset}
@@ -34,17 +34,47 @@ has_cookie w e = bit_and e.flow.cookie w.cookie_mask == bit_and w.cookie w.cooki
 
 abbrev pub is_output_to : ℕ → Action → Bool
 is_output_to port (Output to max_len) = to == port
+is_output_to port (PushVlan type) = false
+is_output_to port PopVlan = false
+is_output_to port (Group to) = false
+is_output_to port (SetNwTtl ttl) = false
+is_output_to port DecNwTtl = false
+is_output_to port (SetField field value) = false
+
+-- some action that is done at once or written into the action set is so
+abbrev pub has_action : (Action → Bool) → Instruction → Bool
+has_action is_so (Apply actions) = list_any is_so actions
+has_action is_so Clear = false
+has_action is_so (Write actions) = list_any is_so actions
+has_action is_so (Metadata value mask) = false
+has_action is_so (Goto table) = false
 
 abbrev pub sends_to : ℕ → Instruction → Bool
-sends_to port (Apply actions) = list_any (is_output_to port) actions
+sends_to port = has_action (is_output_to port)
 
 -- no port is asked for, or some action sends to it
 abbrev pub passes_port : Which → FlowEntry → Bool
 passes_port w e = option_map_or (λ port. list_any (sends_to port) e.flow.instructions) w.out_port true
 
--- no action names a group so far
+-- to this group; where none is named, to any
+abbrev pub is_to : Option ℕ → Action → Bool
+is_to group (Output to max_len) = false
+is_to group (PushVlan type) = false
+is_to group PopVlan = false
+is_to group (Group to) = option_map_or (λ g. to == g) group true
+is_to group (SetNwTtl ttl) = false
+is_to group DecNwTtl = false
+is_to group (SetField field value) = false
+
+abbrev pub is_to_group : ℕ → Action → Bool
+is_to_group group = is_to (Some group)
+
 abbrev pub names_group : ℕ → Instruction → Bool
-names_group group (Apply actions) = false
+names_group group = has_action (is_to_group group)
+
+-- some action sends to this group; where none is named, to any
+abbrev pub names : Option ℕ → Instruction → Bool
+names group = has_action (is_to group)
 
 -- no group is asked for, or some action sends to it
 abbrev pub passes_group : Which → FlowEntry → Bool
@@ -65,7 +95,7 @@ modified_by w instructions reset e = if selects w e then modified_entry instruct
 abbrev pub modified : Which → List Instruction → Bool → List FlowEntry → List FlowEntry
 modified w instructions reset flows = map (modified_by w instructions reset) flows
 
--- ---- what goes (5.5)
+-- ---- what goes (5.5 and 6.5)
 
 -- so many seconds passed since a moment
 abbrev pub has_passed : ℕ → ℕ → ℕ → Bool
@@ -84,8 +114,9 @@ timeout_reason now e =
 
 -- why an entry goes, or that it stays
 abbrev pub reason_of : Cause → FlowEntry → Option RemovedReason
-reason_of (Command w) e = if selects w e then Some Delete else None
-reason_of (Moment now) e = timeout_reason now e
+reason_of (causes.Command w) e = if selects w e then Some Delete else None
+reason_of (causes.Moment now) e = timeout_reason now e
+reason_of (causes.Group group) e = if list_any (names group) e.flow.instructions then Some GroupDelete else None
 
 abbrev pub stays : Cause → FlowEntry → Bool
 stays cause e = is_none (reason_of cause e)

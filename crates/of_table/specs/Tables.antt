@@ -7,7 +7,7 @@ use Rattle.of_table.specs.declared.table_fault.TableFault.{TableFault}
 use Rattle.of_table.specs.declared.table_fault.TableFault.TheVariants.{BadTable}
 use Rattle.of_table.specs.declared.selection.Which.{Which}
 use Rattle.of_table.specs.declared.selection.Cause.{Cause}
-use Rattle.of_table.specs.declared.selection.Cause.TheVariants.{Command, Moment}
+use Rattle.of_table.specs.declared.selection.Cause.TheVariants.{Command, Moment, Group}
 use Rattle.of_table.specs.Table.{Table, empty_table, added, add_fault, looked, matched_at}
 use Rattle.of_table.specs.Selecting.{Notice, modified, left, notices}
 use Rattle.of_table.specs.Entries.{Numbered, no_entries, table_of, numbers_of}
@@ -47,10 +47,11 @@ modified_table w instructions reset k t = if is_in w.table k then record t { flo
 abbrev pub modified_in : Which → List Instruction → Bool → Tables → Tables
 modified_in w instructions reset ts = record ts { tables = each_from (modified_table w instructions reset) 0 ts.tables }
 
--- a moment is for all tables
+-- a moment is for all tables, and so is a group
 abbrev pub concerns : Cause → ℕ → Bool
 concerns (Command w) k = is_in w.table k
 concerns (Moment now) k = true
+concerns (Group group) k = true
 
 abbrev pub left_table : Cause → ℕ → Table → Table
 left_table cause k t = if concerns cause k then record t { flows = left cause t.flows } else t

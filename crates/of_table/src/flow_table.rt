@@ -1,14 +1,16 @@
 //! Flow tables.
 
-ghost use Rattle.std.specs.Prelude.{◌≡◌, ◌++◌, Some, false, IsTrue, IfOk, IfSome, OnOk, OnErr, position};
+ghost use Rattle.std.specs.Prelude.{◌≡◌, ◌++◌, ℕ, Some, false, true, IsTrue, IfOk, IfSome, OnOk, OnErr, position};
 ghost use Rattle.std.specs.List.{list_any};
-ghost use Rattle.std.specs.Option.{option_map};
+ghost use Rattle.std.specs.Option.{option_map, option_copied};
 ghost use Rattle.of_headers.specs.FieldMap.{value};
 ghost use Rattle.of_wire.specs.Numbered.{is_distinct};
 ghost use Rattle.of_table.specs.Table.{is_same, add_fault, added, winner_place, looked as one_looked_up, matched_at, flow_at};
 ghost use Rattle.of_table.specs.Entries.{Numbered, no_entries, table_of, entry_of, flows_of, numbers_of, entry_number, place_of, is_there, find_number};
 ghost use Rattle.of_table.specs.Selecting.{modified, left, notices, notices_of};
 ghost use Rattle.of_table.specs.Faults.{fault_in};
+ghost use Rattle.of_table.specs.Sound.{AreSound, are_fit};
+ghost use Rattle.of_actions.specs.FlowCheck.{all_go_with};
 
 use crate::entries::{
     count_at, is_overlapped, move_last, new_entry, place_in, push_reserved, same_place,
@@ -127,6 +129,7 @@ impl<L: Lookup> FlowTable<L> {
     ) -> Result<(), AllocError>
         ensures ok { OnOk result (table_of self.new ≡ record (table_of self.old) { flows = modified which.now instructions.now reset (flows_of self.old.entries) }) }
         ensures numbers { numbers_of self.new.entries ≡ numbers_of self.old.entries }
+        ensures sound { (k : ℕ) → are_fit k instructions.now ≡ true → all_go_with which.now.fields instructions.now ≡ true → AreSound k (flows_of self.old.entries) → AreSound k (flows_of self.new.entries) }
     {
         modify_all(&mut self.entries, which, instructions, reset)
     }
@@ -200,16 +203,15 @@ impl<L: Lookup> FlowTable<L> {
         requires { IsTrue (is_there number self.now.entries) }
         ensures { flow_at (place_of number self.now.entries) (flows_of self.now.entries) ≡ Some result.now }
     {
-        &self.entry(number).flow
+        let place = place_in(&self.entries, number);
+        &self.entries[place].flow
     }
 
-    /// The entry of that number.
-    pub fn entry(&self, number: usize) -> &Entry
-        requires { IsTrue (is_there number self.now.entries) }
-        ensures { find_number number self.now.entries ≡ Some result.now }
+    /// The entry of that number, if it is there.
+    pub fn entry(&self, number: usize) -> Option<&Entry>
+        ensures { option_copied result ≡ find_number number self.now.entries }
     {
-        let place = place_in(&self.entries, number);
-        &self.entries[place]
+        self.entries.iter().find(|entry| entry.number == number)
     }
 
     /// The entries, oldest first.

@@ -1,15 +1,18 @@
 //! The flow tables of a switch.
 
-ghost use Rattle.std.specs.Prelude.{◌≡◌, ◌<◌, ℕ, Some, IsTrue, length, slice_index_or, IfOk, IfSome, OnOk, OnErr};
-ghost use Rattle.std.specs.Option.{option_map};
+ghost use Rattle.std.specs.Prelude.{◌≡◌, ◌<◌, ℕ, true, Some, IsTrue, length, slice_index_or, IfOk, IfSome, OnOk, OnErr};
+ghost use Rattle.std.specs.Option.{option_map, option_copied};
 ghost use Rattle.of_headers.specs.FieldMap.{value};
 ghost use Rattle.of_wire.specs.Numbered.{is_distinct};
 ghost use Rattle.of_table.specs.Table.{winner_place, flow_at};
 ghost use Rattle.of_table.specs.Selecting.{notices_of};
 ghost use Rattle.of_table.specs.Entries.{no_entries, flows_of, place_of, is_there, find_number, entry_number};
-ghost use Rattle.of_table.specs.Tables.{no_tables, numbered_at, tables_of, all_numbers, tables_fault, added_to, modified_in, left_in, expired, expiry_notices, notices_in, looked_in, matched_in};
+ghost use Rattle.of_table.specs.Tables.{no_tables, numbered_at, table_at, tables_of, all_numbers, tables_fault, added_to, modified_in, left_in, expired, expiry_notices, notices_in, looked_in, matched_in};
 ghost use Rattle.of_table.specs.Faults.{fault_in};
-ghost use Rattle.of_table.specs.declared.selection.Cause.TheVariants.{Command};
+ghost use Rattle.of_table.specs.Sound.{AreForAll, AreSound};
+ghost use Rattle.of_actions.specs.FlowCheck.{all_go_with};
+ghost use Rattle.of_actions.specs.InstructionLists.{are_for, are_kept};
+ghost use Rattle.of_table.specs.declared.selection.Cause.TheVariants.{Command, Group};
 
 use crate::each_table::{modify_tables, remove_all};
 use crate::entry::Entry;
@@ -17,6 +20,7 @@ use crate::flow::Flow;
 use crate::flow_table::FlowTable;
 use crate::selection::{Cause, Removed, Which};
 use crate::table_fault::TableFault;
+use crate::walk::Entries;
 use of_actions::InstructionList;
 use of_classifier::Lookup;
 use of_headers::FieldKey;
@@ -34,14 +38,16 @@ pub struct FlowTables<L: Lookup> {
 }
 
 impl<L: Lookup> Model for FlowTables<L> {
-    ghost use Rattle.std.specs.Prelude.{◌≡◌, length};
+    ghost use Rattle.std.specs.Prelude.{◌≡◌, length, map};
+    ghost use Rattle.of_table.specs.Entries.{table_of};
     ghost use Rattle.of_table.specs.Tables.{NumberedTables};
+    ghost use Rattle.of_table.specs.Sound.{AllSound};
 
     ghost Value = { NumberedTables };
 
     ghost view = { λ t. record { tables = t.tables.items; latest = t.latest } };
 
-    ghost invariant = { λ t. length t.tables.items ≡ 16 };
+    ghost invariant = { λ t. (length t.tables.items ≡ 16) × AllSound 0 (map table_of t.tables.items) };
 }
 
 impl<L: Lookup> FlowTables<L> {
@@ -69,6 +75,8 @@ impl<L: Lookup> FlowTables<L> {
     /// and priority. An entry of its match and priority gets it, keeps its number, and its counters
     /// unless they are to be reset, and becomes the youngest. A call that fails changes nothing.
     pub fn add(&mut self, table: u8, flow: Flow) -> Result<(), TableFault>
+        requires fit { are_for table flow.instructions ≡ true }
+        requires checked { all_go_with flow.fields flow.instructions ≡ true }
         ensures fault { fault_in result ≡ tables_fault table flow (tables_of self.old) }
         ensures ok { OnOk result (tables_of self.new ≡ added_to table flow (tables_of self.old)) }
         ensures err { OnErr result (self.new ≡ self.old) }
@@ -77,6 +85,7 @@ impl<L: Lookup> FlowTables<L> {
             return Err(TableFault::BadTable);
         }
         let now = self.latest;
+        known_kept(&flow);
         self.tables[table as usize].add(flow, now)
     }
 
@@ -89,8 +98,11 @@ impl<L: Lookup> FlowTables<L> {
         instructions: &InstructionList,
         reset: bool,
     ) -> Result<(), AllocError>
+        requires fit { AreForAll which.now instructions.now }
+        requires checked { all_go_with which.now.fields instructions.now ≡ true }
         ensures { OnOk result (tables_of self.new ≡ modified_in which.now instructions.now reset (tables_of self.old)) }
     {
+        let _ = instructions.as_slice();
         modify_tables(&mut self.tables, which, instructions, reset)
     }
 
@@ -100,6 +112,20 @@ impl<L: Lookup> FlowTables<L> {
         ensures notices { IfOk result (λ v. notices_of v.items ≡ notices_in (Command which) (tables_of self.old)) }
     {
         self.remove(alloc, &Cause::Command(which))
+    }
+
+    /// A group was deleted, or for `None` all groups: the entries go of which an action sends to it (OpenFlow 1.3.5, 6.5).
+    ///
+    /// There is a notice of each whose flags ask for one, by table, then by age.
+    pub fn delete_group(
+        &mut self,
+        alloc: Global,
+        group: Option<u32>,
+    ) -> Result<Vec<Removed>, AllocError>
+        ensures tables { IfOk result (λ v. tables_of self.new ≡ left_in (Group group) (tables_of self.old)) }
+        ensures notices { IfOk result (λ v. notices_of v.items ≡ notices_in (Group group) (tables_of self.old)) }
+    {
+        self.remove(alloc, &Cause::Group(group))
     }
 
     /// It is so many nanoseconds, or the latest moment if that is later: the entries whose time is over go (OpenFlow 1.3.5, 5.5).
@@ -172,21 +198,20 @@ impl<L: Lookup> FlowTables<L> {
         self.tables[table as usize].flow(number)
     }
 
-    /// The entry of that number of a table.
-    pub fn entry(&self, table: u8, number: usize) -> &Entry
-        requires table { table < 16 }
-        requires number { IsTrue (is_there number (numbered_at table self.now).entries) }
-        ensures { find_number number (numbered_at table self.now).entries ≡ Some result.now }
+    /// The entry of that number of a table, if it is there.
+    pub fn entry(&self, table: u8, number: usize) -> Option<&Entry>
+        requires { table < 16 }
+        ensures { option_copied result ≡ find_number number (numbered_at table self.now).entries }
     {
         self.tables[table as usize].entry(number)
     }
 
     /// The entries of a table, oldest first.
-    pub fn entries(&self, table: u8) -> &[Entry]
+    pub fn entries(&self, table: u8) -> Entries<'_>
         requires { table < 16 }
-        ensures { result.now ≡ (numbered_at table self.now).entries }
+        ensures { result ≡ (numbered_at table self.now).entries }
     {
-        self.tables[table as usize].entries()
+        Entries::of(self.tables[table as usize].entries())
     }
 
     /// How many packets were looked up in a table. It wraps.
@@ -205,9 +230,10 @@ impl<L: Lookup> FlowTables<L> {
         self.tables[table as usize].matched()
     }
 
-    /// There are sixteen tables, and in each no two entries have one number.
+    /// There are sixteen tables; in each there are at most 4,096 entries, no two of one number or of one priority and match, and the instructions of each may stand in it.
     pub fn known(&self)
         ensures sixteen { length self.now.tables ≡ 16 }
+        ensures sound { (k : ℕ) → AreSound k (table_at k (tables_of self.now)).flows }
         ensures distinct { (k : ℕ) → IsTrue (is_distinct entry_number (numbered_at k self.now).entries) }
     {
         known_tables(&self.tables);
@@ -222,6 +248,13 @@ fn empty_tables<L: Lookup>(alloc: Global) -> Result<Vec<FlowTable<L>>, AllocErro
         tables.push(FlowTable::new(alloc)?)?;
     }
     Ok(tables)
+}
+
+// The instructions of a flow are in the order of running.
+fn known_kept(flow: &Flow)
+    ensures { are_kept flow.now.instructions ≡ true }
+{
+    let _ = flow.instructions.as_slice();
 }
 
 fn known_tables<L: Lookup>(tables: &[FlowTable<L>])

@@ -12,14 +12,15 @@ mod modifying;
 mod removing;
 mod selection;
 mod table_fault;
+mod walk;
 
 pub use entry::Entry;
 pub use flow::{Flow, FlowFlags};
-pub use flow_table::FlowTable;
 pub use flow_tables::FlowTables;
 pub use laws::one_winner;
 pub use selection::{Cause, Removed, RemovedReason, Which};
 pub use table_fault::TableFault;
+pub use walk::Entries;
 
 #[cfg(test)]
 mod tests;

@@ -1,9 +1,9 @@
-//! Which entries a command is for, or go at a moment.
+//! Which entries a command is for, or go at a moment or with a group.
 
 ghost use Rattle.std.specs.Prelude.{◌≡◌};
 ghost use Rattle.of_table.specs.Entries.{entry_of};
 ghost use Rattle.std.specs.List.{list_any};
-ghost use Rattle.of_table.specs.Selecting.{is_meant as meant, has_cookie as with_cookie, is_output_to as output_to, sends_to as sending_to, passes_port as passing_port, names_group as naming_group, passes_group as passing_group, selects as selected, is_over as over, timeout_reason as reason_at, reason_of};
+ghost use Rattle.of_table.specs.Selecting.{is_meant as meant, has_cookie as with_cookie, is_output_to as output_to, is_to as to_this, sends_to as sending_to, passes_port as passing_port, names as naming, passes_group as passing_group, selects as selected, is_over as over, timeout_reason as reason_at, reason_of};
 
 use crate::entry::Entry;
 use of_actions::{Action, Instruction};
@@ -35,6 +35,8 @@ pub enum RemovedReason {
     HardTimeout,
     /// A DELETE command.
     Delete,
+    /// A group that it named was deleted.
+    GroupDelete,
 }
 
 /// What makes entries go.
@@ -44,6 +46,8 @@ pub enum Cause {
     Command(Which),
     /// It is so many nanoseconds.
     Moment(u64),
+    /// This group was deleted; `None` for all groups.
+    Group(Option<u32>),
 }
 
 /// An entry that went, and why.
@@ -77,6 +81,7 @@ fn is_output_to(action: &Action, port: u32) -> bool
 {
     match action {
         Action::Output { port: to, .. } => *to == port,
+        _ => false,
     }
 }
 
@@ -90,7 +95,10 @@ fn sends_to(instruction: &Instruction, port: u32) -> bool
     ensures { result ≡ sending_to port instruction.now }
 {
     match instruction {
-        Instruction::Apply(actions) => any_output_to(actions.as_slice(), port),
+        Instruction::Apply(actions) | Instruction::Write(actions) => {
+            any_output_to(actions.as_slice(), port)
+        }
+        _ => false,
     }
 }
 
@@ -111,22 +119,42 @@ fn passes_port(which: &Which, entry: &Entry) -> bool
     }
 }
 
-// No action names a group so far.
-fn names_group(instruction: &Instruction, group: u32) -> bool
-    ensures { result ≡ naming_group group instruction.now }
+// Whether it sends to this group; where none is named, to any.
+fn is_to(action: &Action, group: Option<u32>) -> bool
+    ensures { result ≡ to_this group action.now }
 {
-    let _ = group;
-    match instruction {
-        Instruction::Apply(_) => false,
+    match action {
+        Action::Group(to) => match group {
+            None => true,
+            Some(group) => *to == group,
+        },
+        _ => false,
     }
 }
 
-fn any_names_group(instructions: &[Instruction], group: u32) -> bool
-    ensures { result ≡ list_any (naming_group group) instructions.now }
+fn any_is_to(actions: &[Action], group: Option<u32>) -> bool
+    ensures { result ≡ list_any (to_this group) actions.now }
+{
+    actions.iter().any(|action| is_to(action, group))
+}
+
+fn names(instruction: &Instruction, group: Option<u32>) -> bool
+    ensures { result ≡ naming group instruction.now }
+{
+    match instruction {
+        Instruction::Apply(actions) | Instruction::Write(actions) => {
+            any_is_to(actions.as_slice(), group)
+        }
+        _ => false,
+    }
+}
+
+fn any_names(instructions: &[Instruction], group: Option<u32>) -> bool
+    ensures { result ≡ list_any (naming group) instructions.now }
 {
     instructions
         .iter()
-        .any(|instruction| names_group(instruction, group))
+        .any(|instruction| names(instruction, group))
 }
 
 fn passes_group(which: &Which, entry: &Entry) -> bool
@@ -134,7 +162,7 @@ fn passes_group(which: &Which, entry: &Entry) -> bool
 {
     match which.out_group {
         None => true,
-        Some(group) => any_names_group(entry.flow.instructions.as_slice(), group),
+        Some(group) => any_names(entry.flow.instructions.as_slice(), Some(group)),
     }
 }
 
@@ -186,5 +214,12 @@ pub(crate) fn reason(cause: &Cause, entry: &Entry) -> Option<RemovedReason>
             }
         }
         Cause::Moment(now) => timeout_reason(entry, *now),
+        Cause::Group(group) => {
+            if any_names(entry.flow.instructions.as_slice(), *group) {
+                Some(RemovedReason::GroupDelete)
+            } else {
+                None
+            }
+        }
     }
 }

@@ -1,5 +1,8 @@
+ghost use Rattle.std.specs.Prelude.{◌≡◌, ℕ, true, IfOk};
+ghost use Rattle.of_actions.specs.InstructionLists.{are_for};
+
 use crate::{Flow, FlowFlags, FlowTables, RemovedReason, TableFault, Which};
-use of_actions::{Action, ActionList, Instruction, InstructionList};
+use of_actions::{Action, ActionList, Instruction, InstructionList, check_flow};
 use of_classifier::{Lookup, Scan};
 use of_headers::{FieldKey, read};
 use of_oxm::Match;
@@ -33,6 +36,21 @@ fn flow_of_port(alloc: Global, in_port: u32, cookie: u64) -> Result<Flow, Fail> 
     })
 }
 
+// Adds a flow whose instructions are fit and go with its match.
+fn add<L: Lookup>(
+    tables: &mut FlowTables<L>,
+    table: u8,
+    flow: Flow,
+) -> Result<Result<(), TableFault>, Fail> {
+    if !flow.instructions.are_for(table) {
+        return Err(Fail::from("GOTO_TABLE leads back"));
+    }
+    if check_flow(&flow.fields, flow.instructions.as_slice()).is_err() {
+        return Err(Fail::from("a field that is set may be absent"));
+    }
+    Ok(tables.add(table, flow))
+}
+
 // All entries of port 1 in table 2.
 fn which_of_port_one(alloc: Global) -> Result<Which, Fail> {
     Ok(Which {
@@ -46,7 +64,9 @@ fn which_of_port_one(alloc: Global) -> Result<Which, Fail> {
     })
 }
 
-fn output_to(alloc: Global, port: u32) -> Result<InstructionList, Fail> {
+fn output_to(alloc: Global, port: u32) -> Result<InstructionList, Fail>
+    ensures { IfOk result (λ list. (k : ℕ) → are_for k list ≡ true) }
+{
     let mut actions = Vec::new(alloc);
     actions.push(Action::Output { port, max_len: 0 })?;
     let actions = ActionList::new(actions).ok_or("one action is a list")?;
@@ -60,8 +80,8 @@ fn two_flows<L: Lookup>(rt: &impl Abort, alloc: Global) -> Result<(), Fail> {
     let key = key_of_port(1)?;
     let mut tables = FlowTables::<L>::new(alloc)?;
     assert_eq!(rt; tables.lookup(2, &key), None);
-    tables.add(2, flow_of_port(alloc, 1, 10)?)?;
-    tables.add(2, flow_of_port(alloc, 2, 20)?)?;
+    add(&mut tables, 2, flow_of_port(alloc, 1, 10)?)??;
+    add(&mut tables, 2, flow_of_port(alloc, 2, 20)?)??;
     tables.known();
     tables.looked(2);
     match tables.lookup(2, &key) {
@@ -72,14 +92,15 @@ fn two_flows<L: Lookup>(rt: &impl Abort, alloc: Global) -> Result<(), Fail> {
         None => assert!(rt; false, "port 1 hits"),
     }
     match tables.peek(2, &key) {
-        Some(number) => assert_eq!(rt; tables.entry(2, number).packets, 1),
+        Some(number) => assert_eq!(rt; tables.flow(2, number).cookie, 10),
         None => assert!(rt; false, "port 1 hits"),
     }
-    tables.add(2, flow_of_port(alloc, 1, 11)?)?;
+    add(&mut tables, 2, flow_of_port(alloc, 1, 11)?)??;
     assert_eq!(rt; tables.lookups(2), 1);
     assert_eq!(rt; tables.matched(2), 1);
-    match tables.entries(2) {
-        [first, second] => {
+    let mut entries = tables.entries(2);
+    match (entries.next(), entries.next(), entries.next()) {
+        (Some(first), Some(second), None) => {
             assert_eq!(rt; first.flow.cookie, 20);
             assert_eq!(rt; first.packets, 0);
             assert_eq!(rt; second.flow.cookie, 11);
@@ -102,13 +123,13 @@ fn scan_of_two_flows(rt: HostRuntime) -> Result<(), Fail> {
 #[test]
 fn why_a_flow_is_not_added(rt: HostRuntime) -> Result<(), Fail> {
     let mut tables = FlowTables::<Scan>::new(rt.alloc())?;
-    tables.add(0, flow_of_port(rt.alloc(), 1, 10)?)?;
+    add(&mut tables, 0, flow_of_port(rt.alloc(), 1, 10)?)??;
     let mut flow = flow_of_port(rt.alloc(), 1, 11)?;
     flow.flags.check_overlap = true;
-    assert_eq!(rt; tables.add(0, flow), Err(TableFault::Overlap));
+    assert_eq!(rt; add(&mut tables, 0, flow)?, Err(TableFault::Overlap));
     let flow = flow_of_port(rt.alloc(), 1, 12)?;
-    assert_eq!(rt; tables.add(16, flow), Err(TableFault::BadTable));
-    assert_eq!(rt; tables.entries(0).len(), 1);
+    assert_eq!(rt; add(&mut tables, 16, flow)?, Err(TableFault::BadTable));
+    assert_eq!(rt; tables.entries(0).count(), 1);
     Ok(())
 }
 
@@ -117,12 +138,17 @@ fn modified_and_deleted(rt: HostRuntime) -> Result<(), Fail> {
     let mut tables = FlowTables::<Scan>::new(rt.alloc())?;
     let mut flow = flow_of_port(rt.alloc(), 1, 10)?;
     flow.flags.send_removed = true;
-    tables.add(2, flow)?;
-    tables.add(2, flow_of_port(rt.alloc(), 2, 20)?)?;
+    add(&mut tables, 2, flow)??;
+    add(&mut tables, 2, flow_of_port(rt.alloc(), 2, 20)?)??;
     let outputs = output_to(rt.alloc(), 7)?;
-    tables.modify(&which_of_port_one(rt.alloc())?, &outputs, true)?;
-    match tables.entries(2) {
-        [first, second] => {
+    let which = which_of_port_one(rt.alloc())?;
+    if check_flow(&which.fields, outputs.as_slice()).is_err() {
+        return Err(Fail::from("an OUTPUT sets no field"));
+    }
+    tables.modify(&which, &outputs, true)?;
+    let mut entries = tables.entries(2);
+    match (entries.next(), entries.next(), entries.next()) {
+        (Some(first), Some(second), None) => {
             assert_eq!(rt; first.flow.instructions.len(), 1);
             assert_eq!(rt; second.flow.instructions.len(), 0);
         }
@@ -142,7 +168,41 @@ fn modified_and_deleted(rt: HostRuntime) -> Result<(), Fail> {
         }
         _ => assert!(rt; false, "there is one notice"),
     }
-    assert_eq!(rt; tables.entries(2).len(), 1);
+    assert_eq!(rt; tables.entries(2).count(), 1);
+    Ok(())
+}
+
+// A flow that sends to a group, and asks for a notice.
+fn flow_to_group(alloc: Global, in_port: u32, group: u32) -> Result<Flow, Fail> {
+    let mut actions = Vec::new(alloc);
+    actions.push(Action::Group(group))?;
+    let actions = ActionList::new(actions).ok_or("one action is a list")?;
+    let mut instructions = Vec::new(alloc);
+    instructions.push(Instruction::Write(actions))?;
+    let mut flow = flow_of_port(alloc, in_port, u64::from(group))?;
+    flow.flags.send_removed = true;
+    flow.instructions = InstructionList::new(instructions).ok_or("one instruction is a list")?;
+    Ok(flow)
+}
+
+#[test]
+fn flows_of_a_group(rt: HostRuntime) -> Result<(), Fail> {
+    let mut tables = FlowTables::<Scan>::new(rt.alloc())?;
+    add(&mut tables, 0, flow_to_group(rt.alloc(), 1, 7)?)??;
+    add(&mut tables, 1, flow_to_group(rt.alloc(), 1, 8)?)??;
+    add(&mut tables, 1, flow_of_port(rt.alloc(), 2, 20)?)??;
+    let removed = tables.delete_group(rt.alloc(), Some(8))?;
+    match removed.as_slice() {
+        [notice] => {
+            assert_eq!(rt; notice.table, 1);
+            assert_eq!(rt; notice.reason, RemovedReason::GroupDelete);
+            assert_eq!(rt; notice.entry.flow.cookie, 8);
+        }
+        _ => assert!(rt; false, "there is one notice"),
+    }
+    assert_eq!(rt; tables.delete_group(rt.alloc(), None)?.len(), 1);
+    assert_eq!(rt; tables.entries(0).count(), 0);
+    assert_eq!(rt; tables.entries(1).count(), 1);
     Ok(())
 }
 
@@ -153,7 +213,7 @@ fn hard_before_idle(rt: HostRuntime) -> Result<(), Fail> {
     flow.idle_timeout = 5;
     flow.hard_timeout = 10;
     flow.flags.send_removed = true;
-    tables.add(0, flow)?;
+    add(&mut tables, 0, flow)??;
     assert_eq!(rt; tables.expire(rt.alloc(), 4 * SECOND)?.len(), 0);
     match tables.lookup(0, &key_of_port(1)?) {
         Some(number) => tables.count(0, number, 60),

@@ -5,7 +5,7 @@ use Rattle.of_actions.proofs.ActionLists.{Served}
 use Rattle.of_actions.proofs.action_reading.read_all.Given as goal
 
 abbrev pub invariant-loop-rest : goal.invariant-loop-rest
-invariant-loop-rest l = record { going : Going (actions_of l.packet_out) l.bytes l.actions.items l.rest; served : Served l.actions.items }
+invariant-loop-rest l = record { going : Going (actions_of l.packet_out) l.bytes l.actions.items l.rest; served : Served l.packet_out l.actions.items }
 
 abbrev pub decreases-loop-rest : goal.decreases-loop-rest
 decreases-loop-rest l = length l.rest

@@ -1,11 +1,25 @@
-use Rattle.of_machine.proofs.Ending.{run_ends, run_steps, settled}
+use Rattle.of_machine.proofs.Ending.{settled}
+use Rattle.of_machine.proofs.Promises.{list_few}
+use Rattle.of_machine.proofs.Weighing.{frame_steps}
+use Rattle.of_machine.proofs.Whole.{run_ends, lines_few, frame_fits, action_lines}
+use Rattle.of_machine.specs.Rows.{Lookup}
+use Rattle.std.proofs.Common.{◌∷◌, []}
 use Rattle.of_machine.proofs.laws.every_run_ends.Goals as goal
 
 pub returns-clause-ends : goal.returns-clause-ends
-returns-clause-ends c = run_ends
-
-pub returns-clause-steps : goal.returns-clause-steps
-returns-clause-steps c = run_steps
+returns-clause-ends c = λ w p work sound fit. run_ends w sound p work fit
 
 pub returns-clause-settled : goal.returns-clause-settled
 returns-clause-settled c = settled
+
+pub returns-clause-lines : goal.returns-clause-lines
+returns-clause-lines c = λ w p work k sound fit. lines_few w sound p work k fit
+
+pub returns-clause-frame : goal.returns-clause-frame
+returns-clause-frame c = λ w p k sound empty. lines_few w sound p (Lookup 0 ∷ []) k (frame_fits w sound p empty)
+
+pub returns-clause-actions : goal.returns-clause-actions
+returns-clause-actions c = λ w p l k sound empty served. action_lines w sound p l k empty (list_few l served)
+
+pub returns-clause-number : goal.returns-clause-number
+returns-clause-number c = frame_steps

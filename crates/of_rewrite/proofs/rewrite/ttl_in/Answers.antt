@@ -5,6 +5,7 @@ use Rattle.of_layers.proofs.FrameLemmas.{frame_spelt}
 use Rattle.of_rewrite.specs.Renewal.{packet_at}
 use Rattle.of_rewrite.proofs.Finding.{not_found}
 use Rattle.of_rewrite.proofs.Unset.{ttl_is, no_ttl, packet_below}
+use Rattle.of_rewrite.proofs.Framing.{bytes_are}
 use Rattle.of_rewrite.proofs.rewrite.ttl_in.Goals as goal
 
 pub ttl_byte-requires : goal.ttl_byte-requires
@@ -25,3 +26,9 @@ returns-in-None-clause-value c =
 
 pub returns-in-None-clause-spelt : goal.returns-in-None-clause-spelt
 returns-in-None-clause-spelt c = frame_spelt c.args.bytes.now c.all_bytes.ensures c.requires.long
+
+pub returns-in-Some-clause-frame : goal.returns-in-Some-clause-frame
+returns-in-Some-clause-frame c = bytes_are (cells (layers_of c.args.bytes.now)) c.args.bytes.now c.all_bytes.ensures (frame_spelt c.args.bytes.now c.all_bytes.ensures c.requires.long)
+
+pub returns-in-None-clause-frame : goal.returns-in-None-clause-frame
+returns-in-None-clause-frame c = bytes_are (cells (layers_of c.args.bytes.now)) c.args.bytes.now c.all_bytes.ensures (frame_spelt c.args.bytes.now c.all_bytes.ensures c.requires.long)

@@ -1,0 +1,153 @@
+-- The kinds of actions that some bytes spell: 30 ranks.
+use Rattle.std.proofs.Common.{◌≡◌, ℕ, ◌≤◌, ◌<◌, ◌+◌, ◌++◌, Bool, true, false, not, cond, eqb, ltb, List, [], ◌∷◌, length, refl, sym, arith}
+use Rattle.std.specs.Prelude.{filter, find, Option, None}
+use Rattle.std.specs.List.{list_all}
+use Rattle.std.proofs.lemmas.Bool.Decides.{nat_tests, eqb_tells}
+use Rattle.std.proofs.lemmas.List.Folds.{list_all-append}
+use Rattle.std.proofs.lemmas.List.{append-nil}
+use Rattle.std.proofs.lemmas.List.Edits.{length-insert}
+use Rattle.of_layers.proofs.Table.{number_below}
+use Rattle.of_layers.specs.declared.field.Field.{Field}
+use Rattle.of_layers.specs.declared.field.Field.TheVariants.{InPort, Metadata, EthDst, EthSrc, EthType, VlanVid, VlanPcp, IpDscp, IpEcn, IpProto, Ipv4Src, Ipv4Dst, TcpSrc, TcpDst, UdpSrc, UdpDst, Icmpv4Type, Icmpv4Code, ArpOp, ArpSpa, ArpTpa, ArpSha, ArpTha, Ipv6Src, Ipv6Dst, Ipv6Flabel, Icmpv6Type, Icmpv6Code}
+use Rattle.of_layers.specs.Fields.{number_of, is_settable, row_of}
+use Rattle.of_actions.specs.declared.action.Action.{Action}
+use Rattle.of_actions.specs.declared.action.Action.TheVariants.{Output, PushVlan, PopVlan, Group, SetNwTtl, DecNwTtl, SetField}
+use Rattle.of_actions.specs.Served.{is_served}
+use Rattle.of_actions.specs.Rising.{is_rising}
+use Rattle.of_action_set.specs.Sets.{rank, is_output, is_group}
+use Rattle.of_action_set.proofs.Ranked.{is_in, at_most, one, below, but, put, rising_put, all_put, insert_is_put, length-filter_le}
+
+abbrev pub ranks : List ℕ
+ranks = 0 ∷ 1 ∷ 2 ∷ 3 ∷ 7 ∷ 8 ∷ 10 ∷ 11 ∷ 12 ∷ 13 ∷ 15 ∷ 16 ∷ 17 ∷ 18 ∷ 19 ∷ 20 ∷ 23 ∷ 24 ∷ 25 ∷ 26 ∷ 27 ∷ 28 ∷ 29 ∷ 30 ∷ 31 ∷ 32 ∷ 33 ∷ 34 ∷ 40 ∷ 41 ∷ []
+
+settable_in : (f : Field) → is_settable f ≡ true → is_in (4 + number_of f) ranks ≡ true
+unfolding row_of
+settable_in InPort h = cc
+settable_in Metadata h = cc
+settable_in EthDst h = refl
+settable_in EthSrc h = refl
+settable_in EthType h = cc
+settable_in VlanVid h = refl
+settable_in VlanPcp h = refl
+settable_in IpDscp h = refl
+settable_in IpEcn h = refl
+settable_in IpProto h = cc
+settable_in Ipv4Src h = refl
+settable_in Ipv4Dst h = refl
+settable_in TcpSrc h = refl
+settable_in TcpDst h = refl
+settable_in UdpSrc h = refl
+settable_in UdpDst h = refl
+settable_in Icmpv4Type h = refl
+settable_in Icmpv4Code h = refl
+settable_in ArpOp h = refl
+settable_in ArpSpa h = refl
+settable_in ArpTpa h = refl
+settable_in ArpSha h = refl
+settable_in ArpTha h = refl
+settable_in Ipv6Src h = refl
+settable_in Ipv6Dst h = refl
+settable_in Ipv6Flabel h = refl
+settable_in Icmpv6Type h = refl
+settable_in Icmpv6Code h = refl
+
+served_in : (a : Action) → is_served false a ≡ true → is_in (rank a) ranks ≡ true
+unfolding is_served
+served_in (Output port max_len) h = refl
+served_in (PushVlan type) h = refl
+served_in PopVlan h = refl
+served_in (Group group) h = refl
+served_in (SetNwTtl ttl) h = refl
+served_in DecNwTtl h = refl
+served_in (SetField field value) h = settable_in field (grind (arith, nat_tests))
+
+all_in : (s : List Action) → list_all (is_served false) s ≡ true → list_all (λ a. is_in (rank a) ranks) s ≡ true
+all_in [] h = refl
+all_in (a ∷ s) h =
+    let one : is_served false a ≡ true = grind (arith, nat_tests) in
+    let others : list_all (is_served false) s ≡ true = grind (arith, nat_tests) in
+    rw (served_in a one, all_in s others) refl
+
+-- a set has at most 30 actions
+pub few : (s : List Action) → is_rising rank s ≡ true → list_all (is_served false) s ≡ true → length s ≤ 30
+few s rising served = at_most rank ranks s refl rising (all_in s served)
+
+-- ---- OUTPUT ranks highest
+
+field_below : (f : Field) → eqb (4 + number_of f) 41 ≡ false
+field_below f = grind (arith, nat_tests, number_below f)
+
+pub rank_of_output : (a : Action) → eqb (rank a) 41 ≡ is_output a
+rank_of_output (Output port max_len) = refl
+rank_of_output (PushVlan type) = refl
+rank_of_output PopVlan = refl
+rank_of_output (Group group) = refl
+rank_of_output (SetNwTtl ttl) = refl
+rank_of_output DecNwTtl = refl
+rank_of_output (SetField field value) = field_below field
+
+pub rank_most : (a : Action) → rank a ≤ 41
+rank_most (Output port max_len) = omega arith
+rank_most (PushVlan type) = omega arith
+rank_most PopVlan = omega arith
+rank_most (Group group) = omega arith
+rank_most (SetNwTtl ttl) = omega arith
+rank_most DecNwTtl = omega arith
+rank_most (SetField field value) = omega (arith, number_below field)
+
+last_passes : (p : Action → Bool) (s : List Action) (x : Action) → list_all p (s ++ x ∷ []) ≡ true → p x ≡ true
+last_passes p [] x h = grind (arith, nat_tests)
+last_passes p (a ∷ s) x h = last_passes p s x (grind (arith, nat_tests))
+
+-- what ranks below another action is no OUTPUT
+lower_no_output : (b x : Action) → ltb (rank b) (rank x) ≡ true → is_output b ≡ false
+lower_no_output b x lt = grind (arith, nat_tests, rank_of_output b, rank_most x, eqb_tells (rank b) 41)
+
+-- no OUTPUT stands before the last
+pub before_output : (s : List Action) (x : Action) → is_rising rank (s ++ x ∷ []) ≡ true → filter (λ a. not (is_output a)) s ≡ s
+before_output [] x h = refl
+before_output (b ∷ s) x h =
+    let above : list_all (λ y. ltb (rank b) (rank y)) (s ++ x ∷ []) ≡ true = grind (arith, nat_tests) in
+    let rest : is_rising rank (s ++ x ∷ []) ≡ true = grind (arith, nat_tests) in
+    rw (lower_no_output b x (last_passes (λ y. ltb (rank b) (rank y)) s x above), before_output s x rest) refl
+
+filter_append : (p : Action → Bool) (s t : List Action) → filter p (s ++ t) ≡ filter p s ++ filter p t
+filter_append p [] t = refl
+filter_append p (a ∷ s) t = grind (arith, filter_append p s t)
+
+pub only_last : (s : List Action) (x : Action) → is_rising rank (s ++ x ∷ []) ≡ true → is_output x ≡ true → filter (λ a. not (is_output a)) (s ++ x ∷ []) ≡ s
+only_last s x h is = rw (filter_append (λ a. not (is_output a)) s (x ∷ []), before_output s x h, is) (append-nil s)
+
+pub none_but_last : (s : List Action) (x : Action) → is_rising rank (s ++ x ∷ []) ≡ true → is_output x ≡ false → filter (λ a. not (is_output a)) (s ++ x ∷ []) ≡ s ++ x ∷ []
+none_but_last s x h is = rw (filter_append (λ a. not (is_output a)) s (x ∷ []), before_output s x h, is) refl
+
+not_output_by : (kind : ℕ) (a : Action) (s : List Action) (is same : Bool) → is_output a ≡ is → eqb (rank a) kind ≡ same
+    → find (λ a. eqb (rank a) kind) (filter (λ a. not (is_output a)) s) ≡ cond (eqb kind 41) None (find (λ a. eqb (rank a) kind) s)
+    → find (λ a. eqb (rank a) kind) (filter (λ a. not (is_output a)) (a ∷ s)) ≡ cond (eqb kind 41) None (find (λ a. eqb (rank a) kind) (a ∷ s))
+not_output_by kind a s true true is_is same_is again =
+    let last : eqb kind 41 ≡ true = grind (arith, nat_tests, rank_of_output a, eqb_tells (rank a) kind, eqb_tells (rank a) 41, eqb_tells kind 41) in
+    let rest : find (λ a. eqb (rank a) kind) (filter (λ a. not (is_output a)) s) ≡ None = rw last at again in
+    rw (is_is, last) rest
+not_output_by kind a s true false is_is same_is again = rw (is_is, same_is) again
+not_output_by kind a s false true is_is same_is again =
+    let other : eqb kind 41 ≡ false = grind (arith, nat_tests, rank_of_output a, eqb_tells (rank a) kind, eqb_tells (rank a) 41, eqb_tells kind 41) in
+    rw (is_is, same_is, other) refl
+not_output_by kind a s false false is_is same_is again = rw (is_is, same_is) again
+
+none_both : (b : Bool) → cond {A = Option Action} b None None ≡ None
+none_both true = refl
+none_both false = refl
+
+pub find_not_output : (kind : ℕ) (s : List Action) → find (λ a. eqb (rank a) kind) (filter (λ a. not (is_output a)) s) ≡ cond (eqb kind 41) None (find (λ a. eqb (rank a) kind) s)
+find_not_output kind [] = sym (none_both (eqb kind 41))
+find_not_output kind (a ∷ s) = not_output_by kind a s (is_output a) (eqb (rank a) kind) refl refl (find_not_output kind s)
+
+-- ---- one more action
+
+pub put_few : (a : Action) (s : List Action) → is_rising rank s ≡ true → list_all (is_served false) s ≡ true → is_served false a ≡ true → length (but rank (rank a) s) < 30
+put_few a s rising served is =
+    let most : length (put rank a s) ≤ 30 = few (put rank a s) (rising_put rank a s rising) (all_put rank (is_served false) a s is served) in
+    let fits = length-filter_le (λ b. ltb (rank b) (rank a)) (but rank (rank a) s) in
+    let more = length-insert (but rank (rank a) s) (length (below rank (rank a) (but rank (rank a) s))) a fits in
+    let same : length (put rank a s) ≡ length (but rank (rank a) s) + 1 = rw (insert_is_put rank a s rising) at more in
+    omega (arith, most, same)

@@ -1,0 +1,51 @@
+-- Action sets (OpenFlow 1.3.5, 5.10): one action of a kind, and one set-field action of a field.
+use Rattle.std.specs.Prelude.{ℕ, ◌+◌, ◌==◌, nat_lt, Bool, true, false, not, List, [], ◌∷◌, ◌++◌, Option, filter, find, if◌then◌else◌}
+use Rattle.std.specs.List.{list_any}
+use Rattle.of_layers.specs.Fields.{number_of}
+use Rattle.of_actions.specs.declared.action.Action.{Action}
+use Rattle.of_actions.specs.declared.action.Action.TheVariants.{Output, PushVlan, PopVlan, Group, SetNwTtl, DecNwTtl, SetField}
+
+-- The kind of an action, as its rank in the order of running: POP_VLAN, PUSH_VLAN, DEC_NW_TTL, SET_NW_TTL, SET_FIELD by rising field, GROUP, OUTPUT. The standard says no more than that pops come before pushes, these before changes of the TTL, and sets, group and output last.
+abbrev pub rank : Action → ℕ
+rank PopVlan = 0
+rank (PushVlan type) = 1
+rank DecNwTtl = 2
+rank (SetNwTtl ttl) = 3
+rank (SetField field value) = 4 + number_of field
+rank (Group group) = 40
+rank (Output port max_len) = 41
+
+-- a set is the list of its actions by rising rank; this is its action of a kind
+abbrev pub held : ℕ → List Action → Option Action
+held kind set = find (λ a. rank a == kind) set
+
+-- an action takes the place of the one of its kind
+abbrev pub with_action : List Action → Action → List Action
+with_action set a = filter (λ b. nat_lt (rank b) (rank a)) set ++ a ∷ filter (λ b. nat_lt (rank a) (rank b)) set
+
+-- actions are written in the order of their list
+abbrev pub with_actions : List Action → List Action → List Action
+with_actions set [] = set
+with_actions set (a ∷ others) = with_actions (with_action set a) others
+
+abbrev pub is_group : Action → Bool
+is_group (Output port max_len) = false
+is_group (PushVlan type) = false
+is_group PopVlan = false
+is_group (Group group) = true
+is_group (SetNwTtl ttl) = false
+is_group DecNwTtl = false
+is_group (SetField field value) = false
+
+abbrev pub is_output : Action → Bool
+is_output (Output port max_len) = true
+is_output (PushVlan type) = false
+is_output PopVlan = false
+is_output (Group group) = false
+is_output (SetNwTtl ttl) = false
+is_output DecNwTtl = false
+is_output (SetField field value) = false
+
+-- what a set runs: beside a GROUP, OUTPUT is left out
+abbrev pub in_order : List Action → List Action
+in_order set = if list_any is_group set then filter (λ a. not (is_output a)) set else set

@@ -1,0 +1,115 @@
+//! Action sets.
+ghost use Rattle.std.specs.Prelude.{◌≡◌, ◌≤◌, ◌==◌, [], true, false, not, length, filter, IsTrue};
+ghost use Rattle.std.specs.List.{list_all};
+ghost use Rattle.of_actions.specs.Served.{is_served};
+ghost use Rattle.of_actions.specs.Rising.{is_rising};
+ghost use Rattle.of_action_set.specs.Sets.{rank as rank_of, is_output as is_an_output, with_action, with_actions, in_order as run_order};
+
+use crate::rank::{has_group, is_output, place_of, rank};
+use arrayvec::ArrayVec;
+use of_actions::Action;
+use std::marker::Model;
+
+/// How many kinds there are: six without set-field, and 24 fields that may be set.
+const KINDS: usize = 30;
+
+/// The actions that a packet gathers on its way, at most one of a kind (OpenFlow 1.3.5, 5.10).
+///
+/// It is of fixed size and needs no memory.
+#[derive(Debug, Drop)]
+pub struct ActionSet {
+    actions: ArrayVec<Action, KINDS>,
+}
+
+impl Model for ActionSet {
+    ghost use Rattle.std.specs.Prelude.{List, IsTrue, false};
+    ghost use Rattle.std.specs.List.{list_all};
+    ghost use Rattle.of_actions.specs.declared.action.Action.{Action};
+    ghost use Rattle.of_actions.specs.Served.{is_served};
+    ghost use Rattle.of_actions.specs.Rising.{is_rising};
+    ghost use Rattle.of_action_set.specs.Sets.{rank};
+
+    ghost Value = { List Action };
+
+    ghost view = { λ set. set.actions.items };
+
+    ghost invariant = { λ set. IsTrue (is_rising rank set.actions.items) × IsTrue (list_all (is_served false) set.actions.items) };
+}
+
+impl ActionSet {
+    /// Without actions.
+    pub fn new() -> ActionSet
+        ensures { result ≡ [] }
+    {
+        ActionSet {
+            actions: ArrayVec::new(),
+        }
+    }
+
+    /// Writes actions in their order: each takes the place of the one of its kind, where there is one (OpenFlow 1.3.5, 5.9 and 5.10).
+    pub fn write(&mut self, actions: &[Action])
+        requires { IsTrue (list_all (is_served false) actions.now) }
+        ensures { self.new ≡ with_actions self.old actions.now }
+    {
+        for action in actions {
+            self.put(*action);
+        }
+    }
+
+    fn put(&mut self, action: Action)
+        requires { IsTrue (is_served false action) }
+        ensures { self.new ≡ with_action self.old action }
+    {
+        let kind = rank(action);
+        remove_kind(&mut self.actions, kind);
+        let place = place_of(&self.actions, kind);
+        self.actions.insert(place, action);
+    }
+
+    /// Empties it (OpenFlow 1.3.5, 5.9).
+    pub fn clear(&mut self)
+        ensures { self.new ≡ [] }
+    {
+        self.actions.clear();
+    }
+
+    /// The actions in the order of running: OUTPUT is left out beside GROUP (OpenFlow 1.3.5, 5.10).
+    pub fn in_order(&self) -> &[Action]
+        ensures actions { result.now ≡ run_order self.now }
+        ensures served { IsTrue (list_all (is_served false) result.now) }
+        ensures few { length result.now ≤ 30 }
+    {
+        let actions = self.actions.as_slice();
+        if has_group(actions) {
+            without_output(actions)
+        } else {
+            actions
+        }
+    }
+
+    /// What is known of each set: its actions stand by rising rank, and some bytes spell each.
+    pub fn known(&self)
+        ensures rising { IsTrue (is_rising rank_of self.now) }
+        ensures served { IsTrue (list_all (is_served false) self.now) }
+        ensures few { length self.now ≤ 30 }
+    {
+        let _ = &self.actions;
+    }
+}
+
+fn remove_kind(actions: &mut ArrayVec<Action, KINDS>, kind: u8)
+    ensures { actions.new.items ≡ filter (λ a. not (rank_of a == kind)) actions.old.items }
+{
+    actions.retain(|action| rank(*action) != kind);
+}
+
+// OUTPUT ranks highest, so it is the last.
+fn without_output(actions: &[Action]) -> &[Action]
+    requires { IsTrue (is_rising rank_of actions.now) }
+    ensures { result.now ≡ filter (λ a. not (is_an_output a)) actions.now }
+{
+    let Some((last, before)) = actions.split_last() else {
+        return actions;
+    };
+    if is_output(*last) { before } else { actions }
+}

@@ -1,0 +1,70 @@
+use crate::ActionSet;
+use of_actions::Action;
+use of_layers::Field;
+
+const OUTPUT: Action = Action::Output {
+    port: 2,
+    max_len: 0,
+};
+
+const VID: Action = Action::SetField {
+    field: Field::VlanVid,
+    value: 0x1005,
+};
+
+const PCP: Action = Action::SetField {
+    field: Field::VlanPcp,
+    value: 3,
+};
+
+#[test]
+#[tactic(auto, unfolding(of_actions::specs::Served::is_served, of_layers::specs::Fields::row_of))]
+fn tag_is_pushed_before_it_is_set_and_sent(rt: HostRuntime) {
+    let mut set = ActionSet::new();
+    set.write(&[OUTPUT, VID, Action::PushVlan(0x8100)]);
+    assert_eq!(rt;
+        set.in_order(),
+        [Action::PushVlan(0x8100), VID, OUTPUT].as_slice()
+    );
+}
+
+#[test]
+#[tactic(auto, unfolding(of_actions::specs::Served::is_served, of_layers::specs::Fields::row_of))]
+fn last_written_action_of_a_kind_stays(rt: HostRuntime) {
+    let mut set = ActionSet::new();
+    set.write(&[PCP, VID, Action::PushVlan(0x8100)]);
+    let other = Action::SetField {
+        field: Field::VlanVid,
+        value: 0x1007,
+    };
+    set.write(&[other, Action::PushVlan(0x88a8)]);
+    assert_eq!(rt;
+        set.in_order(),
+        [Action::PushVlan(0x88a8), other, PCP].as_slice()
+    );
+}
+
+#[test]
+#[tactic(auto, unfolding(of_actions::specs::Served::is_served, of_layers::specs::Fields::row_of))]
+fn kinds_run_in_their_order(rt: HostRuntime) {
+    let mut set = ActionSet::new();
+    set.write(&[Action::SetNwTtl(9), Action::DecNwTtl]);
+    set.write(&[Action::PushVlan(0x8100), Action::PopVlan]);
+    let order = [
+        Action::PopVlan,
+        Action::PushVlan(0x8100),
+        Action::DecNwTtl,
+        Action::SetNwTtl(9),
+    ];
+    assert_eq!(rt; set.in_order(), order.as_slice());
+}
+
+#[test]
+#[tactic(auto, unfolding(of_actions::specs::Served::is_served, of_layers::specs::Fields::row_of))]
+fn output_is_left_out_beside_group(rt: HostRuntime) {
+    let mut set = ActionSet::new();
+    set.write(&[OUTPUT, Action::Group(7)]);
+    assert_eq!(rt; set.in_order(), [Action::Group(7)].as_slice());
+    set.clear();
+    assert!(rt; set.in_order().is_empty());
+}

@@ -1,0 +1,93 @@
+//! A set-field action from bytes and as bytes (OpenFlow 1.3.5, 7.2.5).
+ghost use Rattle.std.specs.Prelude.{◌≡◌, ◌≤◌, ◌<◌, ◌^◌, ◌++◌, Bool, length, replicate, IsTrue, IfOk, OnOk, IfErr, Some, None};
+ghost use Rattle.byteorder.specs.Endian.{big_bytes};
+ghost use Rattle.of_wire.specs.Refusals.{first_of};
+ghost use Rattle.of_actions.specs.Beginnings.{type_at, len_at};
+ghost use Rattle.of_actions.specs.SetField.{set_field_at, set_refusals};
+ghost use Rattle.of_layers.specs.Fields.{ones_of};
+ghost use Rattle.of_actions.specs.Actions.{action_at};
+ghost use Rattle.of_actions.specs.CanonicalActions.{canonical_set_field};
+ghost use Rattle.of_actions.specs.Served.{is_served};
+
+use crate::action::Action;
+use crate::codes::{BAD_SET_ARGUMENT, BAD_SET_LEN, BAD_SET_TYPE};
+use byteorder::{BigEndian, ByteOrder};
+use of_layers::Field;
+use of_wire::Code;
+use std::alloc::AllocError;
+
+fn field_to_set(rest: &[u8]) -> Option<Field>
+    requires { 8 ≤ length rest.now }
+    ensures { result ≡ set_field_at rest.now }
+{
+    let (_, header) = rest.split_at(4);
+    if BigEndian::read_u16(header) != 0x8000 || rest[6] % 2 != 0 {
+        return None;
+    }
+    match Field::from_number(rest[6] / 2) {
+        Some(field) if field.row().settable => Some(field),
+        _ => None,
+    }
+}
+
+#[tactic(auto, unfolding(crate::specs::SetField::set_refusals, crate::specs::Actions::action_at, crate::specs::Served::is_served))]
+pub(crate) fn read_set_field(rest: &[u8], len: usize) -> Result<Action, Code>
+    requires long { 8 ≤ len }
+    requires whole { len ≤ length rest.now }
+    requires len { len ≡ len_at rest.now }
+    requires kind { type_at rest.now ≡ 25 }
+    ensures none { OnOk result (first_of (set_refusals rest.now) ≡ None) }
+    ensures action { IfOk result (λ action. action_at rest.now ≡ Some action) }
+    ensures served { (packet_out : Bool) → IfOk result (λ action. IsTrue (is_served packet_out action)) }
+    ensures first { IfErr result (λ code. first_of (set_refusals rest.now) ≡ Some code) }
+{
+    let Some(field) = field_to_set(rest) else {
+        return Err(BAD_SET_TYPE);
+    };
+    let row = field.row();
+    if rest[7] as usize != row.bytes || len != (8 + row.bytes + 7) / 8 * 8 {
+        return Err(BAD_SET_LEN);
+    }
+    let (_, body) = rest.split_at(8);
+    let value = BigEndian::read_uint128(body, row.bytes);
+    if row.ones < value {
+        return Err(BAD_SET_ARGUMENT);
+    }
+    Ok(Action::SetField { field, value })
+}
+
+#[tactic(auto, using(of_oxm::proofs::Written::front_of))]
+fn put_number(out: &mut Vec<u8>, len: usize, number: u128) -> Result<(), AllocError>
+    requires some { 1 ≤ len }
+    requires most { len ≤ 16 }
+    requires fits { number < 256 ^ len }
+    ensures { OnOk result (out.new.items ≡ out.old.items ++ big_bytes len number) }
+{
+    let mut bytes = [0u8; 16];
+    BigEndian::write_uint128(&mut bytes, number, len);
+    let (front, _) = bytes.split_at(len);
+    out.extend_from_slice(front)
+}
+
+#[tactic(auto, using(crate::proofs::SetFieldText::front_zeros))]
+fn put_zeros(out: &mut Vec<u8>, count: usize) -> Result<(), AllocError>
+    requires { count ≤ 8 }
+    ensures { OnOk result (out.new.items ≡ out.old.items ++ replicate count 0) }
+{
+    let zeros = [0u8; 8];
+    let (padding, _) = zeros.split_at(count);
+    out.extend_from_slice(padding)
+}
+
+#[tactic(auto, using(of_layers::proofs::Table::value_below), unfolding(crate::specs::CanonicalActions::canonical_set_field))]
+pub(crate) fn put_set_field(out: &mut Vec<u8>, field: Field, value: u128) -> Result<(), AllocError>
+    requires { value ≤ ones_of field }
+    ensures { OnOk result (out.new.items ≡ out.old.items ++ canonical_set_field field value) }
+{
+    let row = field.row();
+    let len = (8 + row.bytes + 7) / 8 * 8;
+    out.extend_from_slice(&[0, 25, 0, len as u8])?;
+    out.extend_from_slice(&[0x80, 0, 2 * row.number, row.bytes as u8])?;
+    put_number(out, row.bytes, value)?;
+    put_zeros(out, len - (8 + row.bytes))
+}

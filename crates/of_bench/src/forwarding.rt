@@ -1,0 +1,83 @@
+//! Frames that a switch sends on.
+
+use crate::clock::{Timed, time};
+use crate::flows;
+use crate::flows::add;
+use crate::frames::TCP;
+use crate::switching::open_switch;
+use of_classifier::Scan;
+use of_switch::{Effect, Switch};
+use std::alloc::Global;
+use std::io;
+
+#[derive(Drop)]
+struct Forward {
+    switch: Switch<Scan>,
+    bytes: [u8; 60],
+}
+
+impl Timed for Forward {
+    fn call(&mut self, turn: u64) -> u64 {
+        // The low byte of the source address.
+        self.bytes[29] = (turn % 256) as u8;
+        match self.switch.frame(1, &self.bytes) {
+            Ok(effects) => sent(&effects),
+            Err(_) => 0,
+        }
+    }
+}
+
+// A number of the port and the length of the frame that is sent first; 0 where none is.
+fn sent(effects: &[Effect]) -> u64 {
+    match effects.first() {
+        Some(Effect::Sent { port, frame }) => u64::from(*port).wrapping_add(frame.len() as u64),
+        _ => 0,
+    }
+}
+
+fn time_forward(rt: &HostRuntime, name: &str, made: Option<Switch<Scan>>) -> io::Result<()> {
+    let Some(switch) = made else {
+        return println!(rt; "{name}: no memory");
+    };
+    let mut timed = Forward { switch, bytes: TCP };
+    if timed.call(0) == 0 {
+        return println!(rt; "{name}: no frame leaves");
+    }
+    time(rt, name, &mut timed)
+}
+
+// Eight flows in table 0, for the TCP ports 73 to 80; None where memory runs out.
+fn eight_flows(alloc: Global) -> Option<Switch<Scan>> {
+    let mut switch = open_switch(alloc)?;
+    for port in 73..81 {
+        let flow = add(alloc, 0, &flows::web_match(port), &flows::OUTPUT).ok()?;
+        switch.piece(&flow).ok()?;
+    }
+    Some(switch)
+}
+
+/// A frame that the last of eight flows matches, and that goes out at one port.
+pub fn time_frame(rt: &HostRuntime) -> io::Result<()> {
+    time_forward(rt, "frame", eight_flows(rt.alloc()))
+}
+
+// Four tables of one flow; None where memory runs out.
+fn four_tables(alloc: Global) -> Option<Switch<Scan>> {
+    let mut switch = open_switch(alloc)?;
+    let flow = add(alloc, 0, &flows::PORT_MATCH, &flows::SET_ETHERNET).ok()?;
+    switch.piece(&flow).ok()?;
+    let flow = add(alloc, 1, &flows::IPV4_MATCH, &flows::WRITE_OUTPUT).ok()?;
+    switch.piece(&flow).ok()?;
+    let flow = add(alloc, 2, &flows::web_match(80), &flows::SET_TRANSPORT).ok()?;
+    switch.piece(&flow).ok()?;
+    let flow = add(alloc, 3, &flows::web_match(8080), &flows::WRITE_AGING).ok()?;
+    switch.piece(&flow).ok()?;
+    Some(switch)
+}
+
+/// A frame through four tables by GOTO_TABLE: a SET_FIELD in the first and the third, the action set in the second and the fourth.
+///
+/// The set has SET_FIELD, DEC_NW_TTL and OUTPUT, and the frame goes out at one port.
+pub fn time_pipeline(rt: &HostRuntime) -> io::Result<()> {
+    time_forward(rt, "pipeline", four_tables(rt.alloc()))
+}

@@ -1,0 +1,305 @@
+-- No step lets a frame outgrow its bound.
+use Rattle.std.proofs.Common.{◌≡◌, ◌==◌, ℕ, ◌+◌, ◌*◌, ◌-◌, ◌<◌, ◌≤◌, suc, zero, Bool, true, false, cond, List, [], ◌∷◌, ◌++◌, refl, length, arith, Option, Some, None}
+use Rattle.std.specs.Prelude.{IsTrue, nat_lt, unwrap_or, map, max, ⊤, ◌||◌}
+use Rattle.std.specs.List.{list_all}
+use Rattle.of_layers.specs.Reading.{layers_of}
+use Rattle.of_layers.proofs.TestLemmas.{and_true}
+use Rattle.of_rewrite.specs.declared.frame.Ttl.{Ttl}
+use Rattle.of_rewrite.specs.declared.frame.Ttl.TheVariants.{Done, Expired, Absent}
+use Rattle.of_rewrite.specs.Aging.{ttl_of, answer_to}
+use Rattle.of_rewrite.specs.Frames.{IsFrame, frame_aged}
+use Rattle.of_rewrite.proofs.Framing.{set_frame, ttl_frame, aged_frame, pushed_frame, popped_frame}
+use Rattle.of_actions.specs.declared.action.Action.{Action}
+use Rattle.of_actions.specs.declared.action.Action.TheVariants.{Output, PushVlan, PopVlan, Group, SetNwTtl, DecNwTtl, SetField}
+use Rattle.of_actions.specs.declared.instruction.Instruction.{Instruction}
+use Rattle.of_actions.specs.declared.instruction.Instruction.TheVariants.{Apply, Clear, Write, Metadata, Goto}
+use Rattle.of_actions.specs.InstructionLists.{run_place, is_served_body}
+use Rattle.of_actions.specs.PortNumbers.{in_port, table, flood, all, controller}
+use Rattle.of_actions.specs.Rising.{is_rising}
+use Rattle.of_actions.specs.Served.{is_served}
+use Rattle.of_action_set.specs.Sets.{rank, with_actions, in_order}
+use Rattle.of_table.specs.declared.flow.Flow.{Flow}
+use Rattle.of_machine.specs.declared.port.Port.{Port}
+use Rattle.of_machine.specs.declared.data.Packet.{Packet}
+use Rattle.of_machine.specs.declared.data.Item.{Item}
+use Rattle.of_machine.specs.declared.data.Item.TheVariants.{Sent}
+use Rattle.of_machine.specs.Ports.{port_at, other_ports}
+use Rattle.of_machine.specs.TheWorld.{TheWorld}
+use Rattle.of_machine.specs.Sound.{longest, IsSound, IsBelow, AllBelow, IsBucket, AllBuckets}
+use Rattle.of_machine.specs.Rows.{Work, Lookup, Do, RunSet, Act, Task, task, row, acts, works, key_of, lookup_row, entry_row, at_entry, output_row, rewritten, aged_row, group_row, copies, with_metadata, set_out, Emitted, emission, to_port}
+use Rattle.of_machine.specs.Weights.{IsSet, AllFitWork, IsFit, AllFit}
+use Rattle.of_machine.specs.Runs.{Machine, step, first_step, after, starting}
+use Rattle.of_machine.specs.Growth.{table_pushes, act_pushes, list_pushes, work_pushes, IsLow, AllLow, frame_of, AllShort}
+use Rattle.of_machine.proofs.Promises.{out_of_tables, list_served, all_are_below, all_below_more, set_below, order_below}
+use Rattle.of_machine.proofs.Sets.{empty_set, written_set, run_set}
+use Rattle.of_machine.proofs.Weighing.{AllInstructions, IsInOrder, instructions_are, order_is, begins_low, bounded}
+
+-- ---- items
+
+abbrev Shorts : ℕ → List Item → Type 0
+Shorts most [] = ⊤
+Shorts most (i ∷ rest) = (length (frame_of i) ≤ most) × Shorts most rest
+
+shorts_more : (most : ℕ) (xs ys : List Item) → Shorts most xs → Shorts most ys → Shorts most (xs ++ ys)
+shorts_more most [] ys a b = b
+shorts_more most (x ∷ xs) ys a b = (a.0, shorts_more most xs ys a.1 b)
+
+pub all_short : (most : ℕ) (xs : List Item) → Shorts most xs → AllShort most xs
+all_short most [] h k d lt = absurd (omega arith)
+all_short most (x ∷ xs) h zero d lt = h.0
+all_short most (x ∷ xs) h (suc k) d lt = all_short most xs h.1 k d (omega arith)
+
+module _ (most : ℕ) (p : Packet) (low : length p.frame ≤ most) where
+  sent_short : (ports : List Port) → Shorts most (map (λ q. Sent q.number p.frame) ports)
+  sent_short [] = tt
+  sent_short (q ∷ ports) = (low, sent_short ports)
+
+  either_short : (b : Bool) (x y : Emitted) → Shorts most x.items → Shorts most y.items → Shorts most (cond b x y).items
+  either_short true x y h k = h
+  either_short false x y h k = k
+
+  port_short : (q : Option Port) → Shorts most (to_port q p).items
+  port_short None = tt
+  port_short (Some q) = either_short q.is_link_up _ _ (low, tt) tt
+
+  emission_short : (ports : List Port) (port : ℕ) → Shorts most (emission ports p port).items
+  emission_short ports port =
+      either_short (port == in_port) _ _ (port_short (port_at ports p.ingress))
+      (either_short ((port == flood) || (port == all)) _ _ (sent_short (other_ports ports p.ingress))
+      (either_short (port == controller) _ _ (low, tt)
+      (either_short (port == p.ingress) _ _ tt (port_short (port_at ports port)))))
+
+  output_short : (w : TheWorld) (rest : List Work) (a : Action) (port : ℕ) (b : Bool) → (port == table) ≡ b → Shorts most (output_row w p rest a port).items
+  output_short w rest a port true e = rw e tt
+  output_short w rest a port false e = rw e (emission_short w.ports port)
+
+  aged_short : (rest : List Work) (answer : Ttl) → Shorts most (aged_row p rest answer).items
+  aged_short rest Done = tt
+  aged_short rest Expired = (low, tt)
+  aged_short rest Absent = tt
+
+  group_short : (w : TheWorld) (rest : List Work) (g : ℕ) (o : Option (List ℕ)) → Shorts most (group_row w p rest g o).items
+  group_short w rest g None = tt
+  group_short w rest g (Some ks) = tt
+
+  entry_short : (t n : ℕ) (o : Option Flow) → Shorts most (entry_row p t n o).items
+  entry_short t n None = tt
+  entry_short t n (Some f) = tt
+
+  lookup_short : (w : TheWorld) (t : ℕ) (o : Option ℕ) → Shorts most (lookup_row w p t o).items
+  lookup_short w t None = tt
+  lookup_short w t (Some n) = entry_short t n (w.flow t n)
+
+  row_short : (w : TheWorld) (work : List Work) → Shorts most (row w p work).items
+  row_short w [] = tt
+  row_short w (Lookup t ∷ rest) = lookup_short w t (w.winner t (key_of p))
+  row_short w (Do (Apply l) ∷ rest) = tt
+  row_short w (Do Clear ∷ rest) = tt
+  row_short w (Do (Write l) ∷ rest) = tt
+  row_short w (Do (Metadata value mask) ∷ rest) = tt
+  row_short w (Do (Goto t) ∷ rest) = tt
+  row_short w (RunSet ∷ rest) = tt
+  row_short w (Act (Output port max_len) ∷ rest) = output_short w rest (Output port max_len) port (port == table) refl
+  row_short w (Act (PushVlan type) ∷ rest) = tt
+  row_short w (Act PopVlan ∷ rest) = tt
+  row_short w (Act (Group g) ∷ rest) = group_short w rest g (w.chosen g)
+  row_short w (Act (SetNwTtl ttl) ∷ rest) = tt
+  row_short w (Act DecNwTtl ∷ rest) = aged_short rest (answer_to (ttl_of (layers_of p.frame)))
+  row_short w (Act (SetField f v) ∷ rest) = tt
+
+-- ---- pushes of lists
+
+module _ (w : TheWorld) where
+  acts_pushes : (l : List Action) (s : List Action) (rest : List Work) → work_pushes w s (acts l ++ rest) ≡ list_pushes w l (work_pushes w s rest)
+  acts_pushes [] s rest = refl
+  acts_pushes (a ∷ l) s rest = rw (acts_pushes l s rest) refl
+
+  -- an action of a flow, whose groups have chains of at most m
+  act_room : (m : ℕ) (a : Action) (later : ℕ) → IsBelow w (suc m) a → IsTrue (is_served false a) → act_pushes w a later ≤ 1 + max m later
+  act_room m (Output port max_len) later h served = rw (out_of_tables port max_len served) (omega arith)
+  act_room m (PushVlan type) later h served = omega arith
+  act_room m PopVlan later h served = omega arith
+  act_room m (Group g) later h served = let le : w.chain g < suc m = h in omega arith
+  act_room m (SetNwTtl ttl) later h served = omega arith
+  act_room m DecNwTtl later h served = omega arith
+  act_room m (SetField f v) later h served = omega arith
+
+  list_room : (m : ℕ) (l : List Action) (later : ℕ) → AllBelow w (suc m) l → IsTrue (list_all (is_served false) l) → list_pushes w l later ≤ length l + max m later
+  list_room m [] later h served = omega arith
+  list_room m (a ∷ l) later h served =
+      let both = and_true (is_served false a) (list_all (is_served false) l) served in
+      let ih = list_room m l later h.1 both.1 in
+      let x = act_room m a (list_pushes w l later) h.0 both.0 in
+      omega (arith, ih, x)
+
+  -- beyond PUSH_VLAN a set pushes in the copies of its group alone
+  tail_room : (m : ℕ) (s : List Action) → IsTrue (list_all (λ y. nat_lt 1 (rank y)) s) → IsTrue (list_all (is_served false) s) → AllBelow w (suc m) s → list_pushes w s 0 ≤ m
+  tail_room m [] high served below = omega arith
+  tail_room m (a ∷ s) high served below =
+      let hs = and_true (nat_lt 1 (rank a)) (list_all (λ y. nat_lt 1 (rank y)) s) high in
+      let both = and_true (is_served false a) (list_all (is_served false) s) served in
+      by_action a hs.0 both.0 below.0 (tail_room m s hs.1 both.1 below.1)
+    where
+      by_action : (a : Action) → nat_lt 1 (rank a) ≡ true → is_served false a ≡ true → IsBelow w (suc m) a → list_pushes w s 0 ≤ m → list_pushes w (a ∷ s) 0 ≤ m
+      by_action (Output port max_len) e here h ih = rw (out_of_tables port max_len here) ih
+      by_action (PushVlan type) e here h ih = absurd cc
+      by_action PopVlan e here h ih = ih
+      by_action (Group g) e here h ih = let le : w.chain g < suc m = h in omega arith
+      by_action (SetNwTtl ttl) e here h ih = ih
+      by_action DecNwTtl e here h ih = ih
+      by_action (SetField f v) e here h ih = ih
+
+  rising_room : (m : ℕ) (s : List Action) → IsTrue (is_rising rank s) → IsTrue (list_all (is_served false) s) → AllBelow w (suc m) s → list_pushes w s 0 ≤ 1 + m
+  rising_room m [] rising served below = omega arith
+  rising_room m (a ∷ s) rising served below =
+      let rs = and_true (list_all (λ y. nat_lt (rank a) (rank y)) s) (is_rising rank s) rising in
+      let both = and_true (is_served false a) (list_all (is_served false) s) served in
+      by_action a rs.0 both.0 both.1 below.0 below.1 (rising_room m s rs.1 both.1 below.1)
+    where
+      by_action : (a : Action) → list_all (λ y. nat_lt (rank a) (rank y)) s ≡ true → is_served false a ≡ true → list_all (is_served false) s ≡ true → IsBelow w (suc m) a → AllBelow w (suc m) s → list_pushes w s 0 ≤ 1 + m → list_pushes w (a ∷ s) 0 ≤ 1 + m
+      by_action (Output port max_len) high here others h hs ih = rw (out_of_tables port max_len here) ih
+      by_action (PushVlan type) high here others h hs ih = let x = tail_room m s high others hs in omega arith
+      by_action PopVlan high here others h hs ih = ih
+      by_action (Group g) high here others h hs ih = let le : w.chain g < suc m = h in omega arith
+      by_action (SetNwTtl ttl) high here others h hs ih = ih
+      by_action DecNwTtl high here others h hs ih = ih
+      by_action (SetField f v) high here others h hs ih = ih
+
+  set_room : (m : ℕ) (s : List Action) → IsSet s → AllBelow w (suc m) s → list_pushes w (in_order s) 0 ≤ 1 + m
+  set_room m s h below = let k = run_set s h in rising_room m (in_order s) k.rising k.served (order_below w (suc m) s below)
+
+  module _ (sound : IsSound w) where
+    after_room : (t n : ℕ) (l : List Instruction) (s : List Action) → 1 ≤ n → IsInOrder n l → AllInstructions t l → IsSet s → work_pushes w s (works l) ≤ (15 - t) * 64 + (1 + longest)
+    after_room t n [] s low order all set = let x = set_room longest s set (all_are_below w s sound) in omega (arith, x)
+    after_room t n (Apply l ∷ rest) s low order all set = absurd (omega (arith, order.0))
+    after_room t n (Clear ∷ rest) s low order all set = after_room t 2 rest [] (omega arith) order.1 all.1 empty_set
+    after_room t n (Write l ∷ rest) s low order all set = after_room t 3 rest (with_actions s l) (omega arith) order.1 all.1 (written_set s l set all.0)
+    after_room t n (Metadata value mask ∷ rest) s low order all set = after_room t 4 rest s (omega arith) order.1 all.1 set
+    after_room t n (Goto u ∷ rest) s low order all set = let up = all.0.0 in omega arith
+
+    works_room : (t : ℕ) (l : List Instruction) (s : List Action) → t < 16 → IsInOrder 0 l → AllInstructions t l → IsSet s → work_pushes w s (works l) ≤ table_pushes t
+    works_room t (Apply l ∷ rest) s inside order all set =
+        let x = list_room longest l (work_pushes w s (works rest)) (all_are_below w l sound) all.0.0 in
+        let ih = after_room t 1 rest s (omega arith) order.1 all.1 set in
+        let many = all.0.1 in omega (arith, x, ih, many)
+    works_room t [] s inside order all set = let x = after_room t 1 [] s (omega arith) tt tt set in omega (arith, x)
+    works_room t (i ∷ rest) s inside order all set = let x = after_room t 1 (i ∷ rest) s (omega arith) (omega arith, order.1) all set in omega (arith, x)
+
+    -- ---- rows
+
+    low_more : (b : ℕ) (xs ys : List Task) → AllLow w b xs → AllLow w b ys → AllLow w b (xs ++ ys)
+    low_more b [] ys x y = y
+    low_more b (t ∷ xs) ys x y = (x.0, low_more b xs ys x.1 y)
+
+    one_low : (b : ℕ) (p : Packet) (work : List Work) → IsFrame p.frame → length p.frame + 4 * work_pushes w p.action_set work ≤ b → AllLow w b (task p work ∷ [])
+    one_low b p work frame room = (record { frame = frame; room = room }, tt)
+
+    copy_room : (b g k : ℕ) (p : Packet) → length p.frame + 4 * w.chain g ≤ b → 0 < w.chain g → IsBucket w g k → length p.frame + 4 * list_pushes w (in_order (with_actions [] (unwrap_or (w.bucket g k) []))) 0 ≤ b
+    copy_room b g k p room chain c =
+        let m = w.chain g - 1 in
+        let below : AllBelow w (suc m) c.actions = all_below_more w (w.chain g) (suc m) c.actions (omega arith) c.below in
+        let x = set_room m (with_actions [] c.actions) (written_set [] c.actions empty_set (list_served c.actions c.served)) (set_below w (suc m) [] c.actions tt below) in
+        rw c.there (omega (arith, x))
+
+    copies_low : (b g : ℕ) (p : Packet) (ks : List ℕ) → IsFrame p.frame → length p.frame + 4 * w.chain g ≤ b → 0 < w.chain g → AllBuckets w g ks → AllLow w b (copies w g p ks)
+    copies_low b g p [] frame room chain there = tt
+    copies_low b g p (k ∷ ks) frame room chain there =
+        (record { frame = frame; room = copy_room b g k p room chain there.0 }, copies_low b g p ks frame room chain there.1)
+
+    group_low : (b g : ℕ) (p : Packet) (rest : List Work) (o : Option (List ℕ)) → w.chosen g ≡ o → IsFrame p.frame → length p.frame + 4 * max (w.chain g) (work_pushes w p.action_set rest) ≤ b → AllLow w b (group_row w p rest g o).left
+    group_low b g p rest None e frame room = one_low b p rest frame (omega arith)
+    group_low b g p rest (Some ks) e frame room =
+        low_more b (copies w g p ks) (task p rest ∷ [])
+        (copies_low b g p ks frame (omega arith) (sound.chained g ks e) (sound.buckets g ks e)) (one_low b p rest frame (omega arith))
+
+    entry_low : (b t k : ℕ) (p : Packet) (o : Option Flow) → t < 16 → IsSet p.action_set → w.flow t k ≡ o → IsFrame p.frame → length p.frame + 4 * table_pushes t ≤ b → AllLow w b (entry_row p t k o).left
+    entry_low b t k p None inside set e frame room = one_low b p [] frame (omega arith)
+    entry_low b t k p (Some f) inside set e frame room =
+        let kept = and_true (is_rising run_place f.instructions) (list_all is_served_body f.instructions) (sound.kept t k f e) in
+        let x = works_room t f.instructions p.action_set inside (order_is 0 f.instructions (begins_low f.instructions) kept.0) (instructions_are t f.instructions kept.1 (sound.onward t k f e)) set in
+        one_low b (at_entry t f p) (works f.instructions) frame (omega (arith, x, room))
+
+    lookup_low : (b t : ℕ) (p : Packet) (o : Option ℕ) → t < 16 → IsSet p.action_set → IsFrame p.frame → length p.frame + 4 * table_pushes t ≤ b → AllLow w b (lookup_row w p t o).left
+    lookup_low b t p None inside set frame room = one_low b p [] frame (omega arith)
+    lookup_low b t p (Some k) inside set frame room = entry_low b t k p (w.flow t k) inside set refl frame room
+
+    aged_low : (b : ℕ) (p : Packet) (rest : List Work) (answer : Ttl) → IsFrame p.frame → length p.frame + 4 * work_pushes w p.action_set rest ≤ b → AllLow w b (aged_row p rest answer).left
+    aged_low b p rest Done frame room = let k = aged_frame p.frame frame in one_low b (record p { frame = frame_aged p.frame }) rest k.1 (let same = k.0 in omega (arith, same, room))
+    aged_low b p rest Expired frame room = one_low b p [] frame (omega arith)
+    aged_low b p rest Absent frame room = one_low b p rest frame room
+
+    -- a frame that is as long, or less
+    rewritten_low : (b : ℕ) (p : Packet) (rest : List Work) (a : Action) → (length (rewritten a p.frame) ≤ length p.frame) × IsFrame (rewritten a p.frame) → length p.frame + 4 * work_pushes w p.action_set rest ≤ b → AllLow w b (task (record p { frame = rewritten a p.frame }) rest ∷ [])
+    rewritten_low b p rest a k room = one_low b (record p { frame = rewritten a p.frame }) rest k.1 (let le = k.0 in omega (arith, le, room))
+
+    output_low : (b : ℕ) (p : Packet) (rest : List Work) (port max_len : ℕ) (c : Bool) → (port == table) ≡ c → IsFrame p.frame → length p.frame + 4 * cond c (max (table_pushes 0) (work_pushes w p.action_set rest)) (work_pushes w p.action_set rest) ≤ b → AllLow w b (output_row w p rest (Output port max_len) port).left
+    output_low b p rest port max_len true e frame room = rw e (record { frame = frame; room = omega arith }, one_low b p rest frame (omega arith))
+    output_low b p rest port max_len false e frame room = rw e (one_low b p rest frame room)
+
+    pub row_low : (b : ℕ) (p : Packet) (work : List Work) → IsSet p.action_set → AllFitWork work → IsLow w b (task p work) → AllLow w b (row w p work).left
+    row_low b p [] set fit low = tt
+    row_low b p (Lookup t ∷ rest) set fit low = lookup_low b t p (w.winner t (key_of p)) fit.0 set low.frame low.room
+    row_low b p (Do (Apply l) ∷ rest) set fit low = one_low b p (acts l ++ rest) low.frame (rw (acts_pushes l p.action_set rest) low.room)
+    row_low b p (Do Clear ∷ rest) set fit low = one_low b (record p { action_set = [] }) rest low.frame low.room
+    row_low b p (Do (Write l) ∷ rest) set fit low = one_low b (record p { action_set = with_actions p.action_set l }) rest low.frame low.room
+    row_low b p (Do (Metadata value mask) ∷ rest) set fit low = one_low b (record p { metadata = with_metadata value mask p.metadata }) rest low.frame low.room
+    row_low b p (Do (Goto t) ∷ rest) set fit low = one_low b p (Lookup t ∷ []) low.frame low.room
+    row_low b p (RunSet ∷ rest) set fit low = one_low b (set_out p) (acts (in_order p.action_set) ++ rest) low.frame (rw (acts_pushes (in_order p.action_set) [] rest) low.room)
+    row_low b p (Act (Output port max_len) ∷ rest) set fit low = output_low b p rest port max_len (port == table) refl low.frame low.room
+    row_low b p (Act (PushVlan type) ∷ rest) set fit low =
+        let k = pushed_frame type p.frame low.frame in
+        let room = low.room in
+        one_low b (record p { frame = rewritten (PushVlan type) p.frame }) rest k.1 (let longer = k.0 in omega (arith, longer, room))
+    row_low b p (Act PopVlan ∷ rest) set fit low = rewritten_low b p rest PopVlan (popped_frame p.frame low.frame) low.room
+    row_low b p (Act (Group g) ∷ rest) set fit low = group_low b g p rest (w.chosen g) refl low.frame low.room
+    row_low b p (Act (SetNwTtl ttl) ∷ rest) set fit low = let k = ttl_frame ttl p.frame low.frame in rewritten_low b p rest (SetNwTtl ttl) (let same = k.0 in omega (arith, same), k.1) low.room
+    row_low b p (Act DecNwTtl ∷ rest) set fit low = aged_low b p rest (answer_to (ttl_of (layers_of p.frame))) low.frame low.room
+    row_low b p (Act (SetField f v) ∷ rest) set fit low = let k = set_frame f v p.frame low.frame in rewritten_low b p rest (SetField f v) (let same = k.0 in omega (arith, same), k.1) low.room
+
+    -- ---- the whole run
+
+    pub record AreLow (b : ℕ) (m : Machine) : Type 0 where
+      pub tasks : AllLow w b m.tasks
+      pub items : Shorts b m.items
+
+    first_low : (b : ℕ) (m : Machine) (ts : List Task) → AllFit ts → AllLow w b ts → m.tasks ≡ ts → AreLow b m → AreLow b (first_step w m ts)
+    first_low b m [] fit low e h = h
+    first_low b m (t ∷ others) fit low e h = record {
+      tasks = low_more b (row w t.packet t.work).left others (row_low b t.packet t.work fit.0.set fit.0.work low.0) low.1;
+      items = shorts_more b m.items (row w t.packet t.work).items h.items (row_short b t.packet (let room = low.0.room in omega (arith, room)) w t.work);
+    }
+
+    low_after : (b k : ℕ) (m : Machine) → AllFit m.tasks → AreLow b m → AreLow b (after w k m)
+    unfolding after step
+    low_after b zero m fit h = h
+    low_after b (suc k) m fit h =
+        let ih = low_after b k m fit h in
+        first_low b (after w k m) (after w k m).tasks (bounded w sound k m fit).0 ih.tasks refl ih
+
+    pub all_are_short : (b k : ℕ) (p : Packet) (work : List Work) → IsFit (task p work) → IsLow w b (task p work) → AllShort b (after w k (starting p work)).items
+    all_are_short b k p work fit low = all_short b (after w k (starting p work)).items (low_after b k (starting p work) (fit, tt) (record { tasks = (low, tt); items = tt })).items
+
+    -- ---- a frame, and the actions of a PACKET_OUT
+
+    pub frame_low : (p : Packet) → IsFrame p.frame → length p.frame ≤ 9216 → IsLow w 13320 (task p (Lookup 0 ∷ []))
+    frame_low p frame le = record { frame = frame; room = omega (arith, le) }
+
+    output_more : (port later : ℕ) (c : Bool) → (port == table) ≡ c → cond c (max (table_pushes 0) later) later ≤ 1 + max (table_pushes 0) later
+    output_more port later true e = omega arith
+    output_more port later false e = omega arith
+
+    act_more : (a : Action) (later : ℕ) → act_pushes w a later ≤ 1 + max (table_pushes 0) later
+    act_more (Output port max_len) later = output_more port later (port == table) refl
+    act_more (PushVlan type) later = omega arith
+    act_more PopVlan later = omega arith
+    act_more (Group g) later = let le : w.chain g ≤ longest = sound.short g in omega (arith, le)
+    act_more (SetNwTtl ttl) later = omega arith
+    act_more DecNwTtl later = omega arith
+    act_more (SetField f v) later = omega arith
+
+    acts_more : (l : List Action) (s : List Action) → work_pushes w s (acts l) ≤ length l + table_pushes 0
+    acts_more [] s = omega arith
+    acts_more (a ∷ l) s = let x = act_more a (work_pushes w s (acts l)) in let ih = acts_more l s in omega (arith, x, ih)
+
+    pub actions_low : (p : Packet) (l : List Action) → IsFrame p.frame → length l ≤ 64 → length p.frame ≤ 9216 → IsLow w 13576 (task p (acts l))
+    actions_low p l frame few le = let x = acts_more l p.action_set in record { frame = frame; room = omega (arith, x, few, le) }

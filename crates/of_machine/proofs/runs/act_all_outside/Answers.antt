@@ -1,0 +1,21 @@
+use Rattle.std.proofs.Common.{◌+◌, ◌++◌, true, drop}
+use Rattle.std.proofs.lemmas.Result.{err_from_is_err_and}
+use Rattle.of_actions.specs.declared.action.Action.TheVariants.{Output}
+use Rattle.of_actions.specs.Served.{is_served}
+use Rattle.of_machine.specs.Rows.{acts}
+use Rattle.of_machine.proofs.Promises.{all_at}
+use Rattle.of_machine.proofs.Moving.{acts_at}
+use Rattle.of_machine.proofs.runs.act_all_outside.Goals as goal
+
+pub act_outside-requires-clause-served : goal.act_outside-requires-clause-served
+act_outside-requires-clause-served g c =
+    all_at (is_served true) c.args.actions.now c.loop-action.action-index (Output 0 0) c.requires.served c.loop-action-test.true
+
+pub returns-in_err-act_outside-clause-err : goal.returns-in_err-act_outside-clause-err
+returns-in_err-act_outside-clause-err g c =
+    let p = err_from_is_err_and c.from_residual.result c.from_residual.ensures.1 in
+    let failed = rw c.loop-action.invariant.kept at c.in_err-act_outside.ensures.err in
+    let l = c.args.actions.now in
+    let i = c.loop-action.action-index in
+    rw p.1 (λ rest others start h. failed (acts (drop (i + 1) l) ++ rest) others start
+    (rw (acts_at l i (Output 0 0) c.loop-action-test.true) at (c.loop-action.invariant.so_far rest others start h)))

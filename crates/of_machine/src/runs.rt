@@ -1,0 +1,145 @@
+//! Runs of frames, and of packets that bring their actions along.
+ghost use Rattle.std.specs.Prelude.{◌≡◌, ◌≤◌, ◌∷◌, ◌++◌, [], List, true, IsTrue, IfOk, OnOk, OnErr, length};
+ghost use Rattle.std.specs.List.{list_all};
+ghost use Rattle.of_actions.specs.Served.{is_served, are_served};
+ghost use Rattle.of_machine.specs.Growth.{AllShort};
+ghost use Rattle.of_machine.specs.Rows.{Work, Act as ActWork, Lookup as LookupWork, acts, Task, task};
+ghost use Rattle.of_machine.specs.Runs.{Moves, Acts, Breaks, IsRun, IsFront, run_of, point};
+ghost use Rattle.of_machine.specs.Outside.{is_to_tables};
+ghost use Rattle.of_machine.specs.Sound.{IsSound};
+
+use crate::data::{Outcome, Packet, Step};
+use crate::machine::{Going, act, frame_is_known};
+use crate::tables::pipeline;
+use crate::world::{StepLog, World};
+use of_actions::{Action, PORT_TABLE};
+use std::alloc::{AllocError, Global};
+
+/// Runs a packet from table 0 to its end (OpenFlow 1.3.5, 5.1).
+pub fn run<W: World, S: StepLog>(
+    alloc: Global,
+    world: &mut W,
+    packet: Packet,
+    log: &mut S,
+) -> Result<Outcome, AllocError>
+    requires { packet.action_set ≡ [] }
+    ensures kept { W.view world.new ≡ W.view world.old }
+    ensures content { W.content world.new ≡ W.content world.old }
+    ensures ok { IfOk result (λ outcome. IsRun (W.view world.old) S.KEEPS packet (LookupWork 0 ∷ []) outcome (S.list log.old) (S.list log.new)) }
+    ensures items { IfOk result (λ outcome. outcome.items.items ≡ (run_of (W.view world.old) packet (LookupWork 0 ∷ [])).items) }
+    ensures counts { IfOk result (λ outcome. outcome.counts.items ≡ (run_of (W.view world.old) packet (LookupWork 0 ∷ [])).counts) }
+    ensures lines { OnOk result (S.KEEPS ≡ true → S.list log.new ≡ S.list log.old ++ (run_of (W.view world.old) packet (LookupWork 0 ∷ [])).lines) }
+    ensures grown { IfOk result (λ outcome. length packet.frame ≤ 9216 → AllShort 13320 outcome.items.items) }
+    ensures err { OnErr result (IsFront (W.view world.old) S.KEEPS packet (LookupWork 0 ∷ []) (S.list log.old) (S.list log.new)) }
+{
+    world.known();
+    frame_is_known(&packet.frame);
+    let mut outcome = Outcome::new(alloc);
+    pipeline(world, packet, &mut outcome, log)?;
+    Ok(outcome)
+}
+
+/// Runs the actions of a PACKET_OUT (OpenFlow 1.3.5, 7.3.7). An OUTPUT to TABLE makes a copy that begins at table 0.
+pub fn run_actions<W: World, S: StepLog>(
+    alloc: Global,
+    world: &mut W,
+    packet: Packet,
+    actions: &[Action],
+    log: &mut S,
+) -> Result<Outcome, AllocError>
+    requires empty { packet.action_set ≡ [] }
+    requires served { IsTrue (are_served true actions.now) }
+    ensures kept { W.view world.new ≡ W.view world.old }
+    ensures content { W.content world.new ≡ W.content world.old }
+    ensures ok { IfOk result (λ outcome. IsRun (W.view world.old) S.KEEPS packet (acts actions.now) outcome (S.list log.old) (S.list log.new)) }
+    ensures items { IfOk result (λ outcome. outcome.items.items ≡ (run_of (W.view world.old) packet (acts actions.now)).items) }
+    ensures counts { IfOk result (λ outcome. outcome.counts.items ≡ (run_of (W.view world.old) packet (acts actions.now)).counts) }
+    ensures lines { OnOk result (S.KEEPS ≡ true → S.list log.new ≡ S.list log.old ++ (run_of (W.view world.old) packet (acts actions.now)).lines) }
+    ensures grown { IfOk result (λ outcome. length packet.frame ≤ 9216 → AllShort 13576 outcome.items.items) }
+    ensures err { OnErr result (IsFront (W.view world.old) S.KEEPS packet (acts actions.now) (S.list log.old) (S.list log.new)) }
+{
+    world.known();
+    frame_is_known(&packet.frame);
+    let mut outcome = Outcome::new(alloc);
+    let mut current = packet;
+    act_all_outside(world, actions, &mut current, &mut outcome, log)?;
+    log.step(Step::End)?;
+    Ok(outcome)
+}
+
+// Actions that stand in no flow, in their order, as far as the packet's work goes on.
+fn act_all_outside<W: World, S: StepLog>(
+    world: &mut W,
+    actions: &[Action],
+    packet: &mut Packet,
+    outcome: &mut Outcome,
+    log: &mut S,
+) -> Result<Going, AllocError>
+    requires sound { IsSound (W.view world.old) }
+    requires served { IsTrue (list_all (is_served true) actions.now) }
+    ensures kept { W.view world.new ≡ W.view world.old }
+    ensures content { W.content world.new ≡ W.content world.old }
+    ensures ok { IfOk result (λ going. Acts (W.view world.old) S.KEEPS packet.old (acts actions.now) outcome.old (S.list log.old) going packet.new outcome.new (S.list log.new)) }
+    ensures err { OnErr result (Breaks (W.view world.old) S.KEEPS packet.old (acts actions.now) outcome.old (S.list log.old) (S.list log.new)) }
+{
+    for action in actions {
+        match act_outside(world, *action, packet, outcome, log)? {
+            Going::Continues => {}
+            Going::Ended => return Ok(Going::Ended),
+        }
+    }
+    Ok(Going::Continues)
+}
+
+// One action that stands in no flow: it may give a copy of the packet to the tables.
+fn act_outside<W: World, S: StepLog>(
+    world: &mut W,
+    action: Action,
+    packet: &mut Packet,
+    outcome: &mut Outcome,
+    log: &mut S,
+) -> Result<Going, AllocError>
+    requires sound { IsSound (W.view world.old) }
+    requires served { IsTrue (is_served true action) }
+    ensures kept { W.view world.new ≡ W.view world.old }
+    ensures content { W.content world.new ≡ W.content world.old }
+    ensures ok { IfOk result (λ going. Acts (W.view world.old) S.KEEPS packet.old (ActWork action ∷ []) outcome.old (S.list log.old) going packet.new outcome.new (S.list log.new)) }
+    ensures err { OnErr result (Breaks (W.view world.old) S.KEEPS packet.old (ActWork action ∷ []) outcome.old (S.list log.old) (S.list log.new)) }
+{
+    if goes_to_tables(action) {
+        to_tables(world, action, packet, outcome, log)?;
+        Ok(Going::Continues)
+    } else {
+        act(&*world, 1, action, packet, outcome, log)
+    }
+}
+
+fn goes_to_tables(action: Action) -> bool
+    ensures { result ≡ is_to_tables action }
+{
+    match action {
+        Action::Output { port, .. } => port == PORT_TABLE,
+        _ => false,
+    }
+}
+
+// A copy without metadata and actions, from the first table on.
+fn to_tables<W: World, S: StepLog>(
+    world: &mut W,
+    action: Action,
+    packet: &Packet,
+    outcome: &mut Outcome,
+    log: &mut S,
+) -> Result<(), AllocError>
+    requires sound { IsSound (W.view world.old) }
+    requires table { IsTrue (is_to_tables action) }
+    ensures kept { W.view world.new ≡ W.view world.old }
+    ensures content { W.content world.new ≡ W.content world.old }
+    ensures ok { OnOk result ((rest : List Work) (others : List Task) → Moves (W.view world.old) S.KEEPS (point (task packet.now (ActWork action ∷ rest) ∷ others) outcome.old (S.list log.old)) (point (task packet.now rest ∷ others) outcome.new (S.list log.new))) }
+    ensures err { OnErr result (Breaks (W.view world.old) S.KEEPS packet.now (ActWork action ∷ []) outcome.old (S.list log.old) (S.list log.new)) }
+{
+    let mut copy = packet.copy_without_actions(*outcome.items.allocator())?;
+    copy.metadata = 0;
+    log.step(Step::Act(action))?;
+    pipeline(world, copy, outcome, log)
+}

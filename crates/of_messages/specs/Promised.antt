@@ -1,0 +1,29 @@
+-- What holds of each message that was read, beyond its fields.
+use Rattle.std.specs.Prelude.{◌≡◌, ◌<◌, false, true, List, Option, Some, None, ⊤}
+use Rattle.of_actions.specs.InstructionLists.{are_for}
+use Rattle.of_actions.specs.FlowCheck.{all_go_with}
+use Rattle.of_headers.specs.Faults.{frame_fault}
+use Rattle.of_messages.specs.declared.message.Message.{Message}
+use Rattle.of_messages.specs.declared.message.Message.TheVariants.{Hello, EchoRequest, BarrierRequest, FlowMod as IsFlowMod, PacketOut as IsPacketOut}
+use Rattle.of_messages.specs.declared.message.FlowMod.{FlowMod}
+use Rattle.of_messages.specs.declared.message.PacketData.{PacketData}
+use Rattle.of_messages.specs.declared.message.PacketData.TheVariants.{Buffered, Frame}
+use Rattle.of_messages.specs.Messages.{is_delete}
+
+-- an ADD or a MODIFY names a table, its instructions may stand there, and they set no field that the match does not ask for
+pub record IsSoundFlowMod (m : FlowMod) : Type 0 where
+  pub table : is_delete m.command ≡ false → m.table < 16
+  pub fit : are_for m.table m.instructions ≡ true
+  pub checked : all_go_with m.fields m.instructions ≡ true
+
+-- a frame of 14 to 9,216 bytes
+abbrev pub IsSoundPacket : PacketData → Type 0
+IsSoundPacket (Buffered number) = ⊤
+IsSoundPacket (Frame bytes) = frame_fault bytes ≡ None
+
+abbrev pub IsSoundMessage : Message → Type 0
+IsSoundMessage Hello = ⊤
+IsSoundMessage (EchoRequest bytes) = ⊤
+IsSoundMessage BarrierRequest = ⊤
+IsSoundMessage (IsPacketOut m) = IsSoundPacket m.packet
+IsSoundMessage (IsFlowMod m) = IsSoundFlowMod m

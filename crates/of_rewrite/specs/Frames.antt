@@ -1,0 +1,45 @@
+-- The frames that actions make of a frame, as bytes (OpenFlow 1.3.5, 5.12).
+use Rattle.std.specs.Prelude.{ℕ, zero, suc, ◌/◌, ◌≤◌, List, [], ◌∷◌, length, take, drop}
+use Rattle.of_layers.specs.declared.field.Field.{Field}
+use Rattle.of_layers.specs.Layers.{Cell, cells, spelt, ttl}
+use Rattle.of_layers.specs.Reading.{layers_of}
+use Rattle.of_layers.specs.WellFormed.{AreBytes}
+use Rattle.of_rewrite.specs.Checksum.{number}
+use Rattle.of_rewrite.specs.Rewriting.{number_set, field_set}
+use Rattle.of_rewrite.specs.Tags.{pushed, popped}
+use Rattle.of_rewrite.specs.Aging.{ttl_of, aged_from}
+
+-- bytes that are a frame: at least two addresses and a type (IEEE 802.3, 3.1.1)
+abbrev pub IsFrame : List ℕ → Type 0
+IsFrame frame = (14 ≤ length frame) × AreBytes frame
+
+-- the bytes of 8 bits that bits are, the highest bit of each first
+unfoldable pub octets_of : ℕ → List ℕ → List ℕ
+octets_of zero s = []
+octets_of (suc n) s = number (take 8 s) ∷ octets_of n (drop 8 s)
+
+-- the bytes that cells spell
+abbrev pub bytes_in : List Cell → List ℕ
+bytes_in cs = octets_of (length (spelt cs) / 8) (spelt cs)
+
+-- ---- a frame
+
+-- with another value of a field
+unfoldable pub frame_set : Field → ℕ → List ℕ → List ℕ
+frame_set f v frame = bytes_in (field_set f v (layers_of frame))
+
+-- with a VLAN tag of a type put on
+unfoldable pub frame_pushed : ℕ → List ℕ → List ℕ
+frame_pushed type frame = bytes_in (cells (pushed type (layers_of frame)))
+
+-- without its outermost tag
+unfoldable pub frame_popped : List ℕ → List ℕ
+frame_popped frame = bytes_in (cells (popped (layers_of frame)))
+
+-- with another time to live
+unfoldable pub frame_ttl : ℕ → List ℕ → List ℕ
+frame_ttl v frame = bytes_in (number_set ttl v (layers_of frame))
+
+-- with a time to live that is one less
+unfoldable pub frame_aged : List ℕ → List ℕ
+frame_aged frame = bytes_in (aged_from (ttl_of (layers_of frame)) (layers_of frame))

@@ -1,0 +1,42 @@
+-- Checksums that are right: with all the words that they cover they sum up to ones (RFC 1071, 1).
+use Rattle.std.specs.Prelude.{ℕ, ◌<◌, Bool, false, IsTrue, ◌||◌, ◌==◌, List, ◌++◌, sum, Option, Some, None}
+use Rattle.of_layers.specs.declared.transport.Transport.{Transport}
+use Rattle.of_layers.specs.declared.transport.Transport.TheVariants.{Nothing, Tcp, Udp, Icmpv4, Icmpv6}
+use Rattle.of_layers.specs.Layers.{Body, Plain, Arp, Ipv4, Ipv6, checksum}
+use Rattle.of_layers.specs.Looking.{look_up}
+use Rattle.of_layers.specs.Reading.{layers_of}
+use Rattle.of_rewrite.specs.Checksum.{fold}
+use Rattle.of_rewrite.specs.Rewriting.{words, header_cover, address_cover, carried_cover}
+
+-- words, the checksum one of them
+abbrev pub sums_to_ones : List ℕ → Bool
+sums_to_ones ws = fold (sum ws) == 65535
+
+-- that of the IPv4 header (RFC 791, 3.1)
+abbrev pub header_is_right : Body → Bool
+header_is_right b = sums_to_ones (words (header_cover b))
+
+-- of UDP over IPv4 a checksum of 0 says that none was computed (RFC 768)
+abbrev pub is_left_out : Transport → Option ℕ → Bool
+is_left_out Udp (Some c) = c == 0
+is_left_out Udp None = false
+is_left_out Nothing c = false
+is_left_out Tcp c = false
+is_left_out Icmpv4 c = false
+is_left_out Icmpv6 c = false
+
+abbrev pub left_out : Body → Bool
+left_out (Plain rest) = false
+left_out (Arp ns rest) = false
+left_out (Ipv4 ns opts carried rest) = is_left_out carried.kind (look_up checksum (carried_cover (Ipv4 ns opts carried rest)))
+left_out (Ipv6 ns extensions carried rest) = false
+
+-- That of what an IP packet carries. Beside the addresses and its header it covers more words, which no action changes: the protocol and the length (RFC 768; RFC 8200, 8.1; RFC 9293, 3.1), and the bytes behind its header.
+abbrev pub carried_is_right : List ℕ → Body → Bool
+carried_is_right more b = left_out b || sums_to_ones (more ++ (words (address_cover b) ++ words (carried_cover b)))
+
+-- Of two frames: where the checksums of the first are right, those of the second are. Some of the further words is not 0, as the protocol.
+abbrev pub StayRight : List ℕ → List ℕ → Type 0
+StayRight old new =
+    (IsTrue (header_is_right (layers_of old).body) → IsTrue (header_is_right (layers_of new).body))
+    × ((more : List ℕ) → 0 < sum more → IsTrue (carried_is_right more (layers_of old).body) → IsTrue (carried_is_right more (layers_of new).body))

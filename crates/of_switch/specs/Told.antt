@@ -1,0 +1,38 @@
+-- What a switch sends of what a packet's run emitted: frames out of ports, and PACKET_INs to the controller (OpenFlow 1.3.5, 7.4.1).
+use Rattle.std.specs.Prelude.{ℕ, Bool, true, false, List, map, filter}
+use Rattle.of_messages.specs.declared.message.PacketIn.{PacketIn}
+use Rattle.of_messages.specs.declared.message.PacketInReason.{PacketInReason}
+use Rattle.of_messages.specs.declared.message.PacketInReason.TheVariants as wire
+use Rattle.of_messages.specs.Written.{packet_in_bytes}
+use Rattle.of_machine.specs.declared.data.PacketInReason.{PacketInReason as Reason}
+use Rattle.of_machine.specs.declared.data.PacketInReason.TheVariants as reason
+use Rattle.of_machine.specs.declared.data.Item.{Item}
+use Rattle.of_machine.specs.declared.data.Item.TheVariants as item
+use Rattle.of_session.specs.declared.session.Phase.{Phase}
+use Rattle.of_session.specs.declared.session.Phase.TheVariants.{Disconnected, Greeting, Open}
+use Rattle.of_switch.specs.declared.effect.Effect.{Effect}
+use Rattle.of_switch.specs.declared.effect.Effect.TheVariants.{Answer, Sent}
+
+abbrev pub packet_in_reason : Reason → PacketInReason
+packet_in_reason reason.NoMatch = wire.NoMatch
+packet_in_reason reason.Action = wire.Action
+packet_in_reason reason.InvalidTtl = wire.InvalidTtl
+
+-- a message that the switch begins has the transaction id 0
+abbrev pub effect_of : Item → Effect
+effect_of (item.Sent port frame) = Sent port frame
+effect_of (item.PacketIn reason table cookie ingress metadata frame) =
+    Answer (packet_in_bytes 0 (record { reason = packet_in_reason reason; table = table; cookie = cookie; in_port = ingress; metadata = metadata }) frame)
+
+abbrev pub is_open : Phase → Bool
+is_open Disconnected = false
+is_open Greeting = false
+is_open Open = true
+
+-- a controller is told once its HELLO was accepted
+abbrev pub is_given : Phase → Item → Bool
+is_given phase (item.Sent port frame) = true
+is_given phase (item.PacketIn reason table cookie ingress metadata frame) = is_open phase
+
+abbrev pub effects_of : Phase → List Item → List Effect
+effects_of phase items = map effect_of (filter (is_given phase) items)

@@ -1,0 +1,74 @@
+//! What is sent of what a packet's run emitted.
+ghost use Rattle.std.specs.Prelude.{◌≡◌, ◌≤◌, IfOk, length};
+ghost use Rattle.of_machine.specs.Growth.{AllShort, frame_of};
+ghost use Rattle.of_switch.specs.Told.{effect_of, effects_of, is_given as is_given_to, packet_in_reason};
+
+use crate::effect::Effect;
+use of_machine::{Item, PacketInReason};
+use of_messages::{PacketIn, write_packet_in};
+use of_session::Phase;
+use std::alloc::{AllocError, Global};
+
+fn reason_from(reason: PacketInReason) -> of_messages::PacketInReason
+    ensures { result ≡ packet_in_reason reason }
+{
+    match reason {
+        PacketInReason::NoMatch => of_messages::PacketInReason::NoMatch,
+        PacketInReason::Action => of_messages::PacketInReason::Action,
+        PacketInReason::InvalidTtl => of_messages::PacketInReason::InvalidTtl,
+    }
+}
+
+// Whether it is sent: a controller is told once its HELLO was accepted.
+fn is_given(phase: Phase, item: &Item) -> bool
+    ensures { result ≡ is_given_to phase item.now }
+{
+    match item {
+        Item::Sent { .. } => true,
+        Item::PacketIn { .. } => phase == Phase::Open,
+    }
+}
+
+fn effect_from(alloc: Global, item: Item) -> Result<Effect, AllocError>
+    requires { length (frame_of item) ≤ 65485 }
+    ensures { IfOk result (λ effect. effect ≡ effect_of item) }
+{
+    match item {
+        Item::Sent { port, frame } => Ok(Effect::Sent { port, frame }),
+        Item::PacketIn {
+            reason,
+            table,
+            cookie,
+            ingress,
+            metadata,
+            frame,
+        } => {
+            let packet = PacketIn {
+                reason: reason_from(reason),
+                table,
+                cookie,
+                in_port: ingress,
+                metadata,
+            };
+            Ok(Effect::Answer(write_packet_in(alloc, 0, &packet, frame.as_slice())?))
+        }
+    }
+}
+
+/// What a switch whose connection stands there sends of what was emitted, in order.
+pub fn effects_from(
+    alloc: Global,
+    phase: Phase,
+    items: Vec<Item>,
+) -> Result<Vec<Effect>, AllocError>
+    requires { AllShort 65485 items.items }
+    ensures { IfOk result (λ effects. effects.items ≡ effects_of phase items.items) }
+{
+    let mut effects = Vec::new(alloc);
+    for item in items {
+        if is_given(phase, &item) {
+            effects.push(effect_from(alloc, item)?)?;
+        }
+    }
+    Ok(effects)
+}
