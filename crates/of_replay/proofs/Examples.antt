@@ -37,6 +37,7 @@ pub bad_length_ends_the_connection : Prints
     (answered_hello ∷ codes "a 0401001400000008000100060405000700000008" ∷ codes "closed" ∷ codes "refused 3" ∷ [])
 unfolding switch_on_literals is_utf8 chars encode decode_pairs encode_with digits
 bad_length_ends_the_connection = refl
+
 abbrev pub frame_in : List ℕ
 frame_in = codes "f 1 02000000000202000000000188b500000000000000000000000000000000000000000000000000000000000000000000000000000000000000000000"
 
