@@ -1,5 +1,5 @@
 -- The tables as the code keeps them: their classifiers give entries numbers, which need not be their places by age.
-use Rattle.std.specs.Prelude.{ℕ, List, map, slice_index, Option, None}
+use Rattle.std.specs.Prelude.{ℕ, List, map, slice_index, [], Option, Some, None}
 use Rattle.std.specs.Option.{option_map}
 use Rattle.of_layers.specs.declared.field.Field.{Field}
 use Rattle.of_table.specs.declared.flow.Flow.{Flow}
@@ -41,7 +41,7 @@ numbered_flow n t number = flow_at (place_of number (entries_at n t)) (flows_of 
 
 -- what the machine sees of it
 abbrev pub numbered_world : NumberedTables → List Port → TheWorld
-numbered_world n ports = record { winner = numbered_winner n; flow = numbered_flow n; chosen = λ group. None; bucket = λ group place. None; ports = ports; chain = λ group. 0 }
+numbered_world n ports = record { winner = numbered_winner n; flow = numbered_flow n; chosen = λ group. None; bucket = λ group place. Some []; ports = ports; chain = λ group. 0 }
 
 -- the place of a number in a table
 abbrev pub place_in : NumberedTables → ℕ → ℕ → ℕ

@@ -41,9 +41,9 @@ winner_in f t fields = winner_place fields (table_at t f.tables).flows
 abbrev pub flow_in : Forwarding → ℕ → ℕ → Option Flow
 flow_in f t place = flow_at place (table_at t f.tables).flows
 
--- there are no groups so far
+-- there are no groups so far: none is chosen, and so no bucket is asked for
 abbrev pub world_of : Forwarding → TheWorld
-world_of f = record { winner = winner_in f; flow = flow_in f; chosen = λ group. None; bucket = λ group place. None; ports = f.ports; chain = λ group. 0 }
+world_of f = record { winner = winner_in f; flow = flow_in f; chosen = λ group. None; bucket = λ group place. Some []; ports = f.ports; chain = λ group. 0 }
 
 -- WHAT A RUN LEAVES
 

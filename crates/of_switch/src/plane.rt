@@ -168,7 +168,7 @@ impl<L: Lookup> World for Plane<L> {
     }
 
     fn bucket(&self, _group: u32, _place: u8) -> &[Action] {
-        unreachable!()
+        &[]
     }
 
     fn ports(&self) -> &[Port] {
