@@ -16,6 +16,8 @@ use of_actions::{Action, PORT_TABLE};
 use std::alloc::{AllocError, Global};
 
 /// Runs a packet from table 0 to its end (OpenFlow 1.3.5, 5.1).
+///
+/// Where memory is wanted, the log has the first steps, and tables, groups and ports are as before.
 pub fn run<W: World, S: StepLog>(
     alloc: Global,
     world: &mut W,
@@ -40,6 +42,8 @@ pub fn run<W: World, S: StepLog>(
 }
 
 /// Runs the actions of a PACKET_OUT (OpenFlow 1.3.5, 7.3.7). An OUTPUT to TABLE makes a copy that begins at table 0.
+///
+/// Where memory is wanted, the log has the first steps, and tables, groups and ports are as before.
 pub fn run_actions<W: World, S: StepLog>(
     alloc: Global,
     world: &mut W,

@@ -91,7 +91,7 @@ impl<L: Lookup> FlowTables<L> {
 
     /// Gives the instructions to each entry that a command is for, and counters of 0 where they are to be reset (OpenFlow 1.3.5, 6.4).
     ///
-    /// All else of an entry stays, and none is added.
+    /// All else of an entry stays, and none is added. Where memory is wanted, some tables may have changed.
     pub fn modify(
         &mut self,
         which: &Which,
@@ -107,6 +107,8 @@ impl<L: Lookup> FlowTables<L> {
     }
 
     /// Deletes the entries that a command is for, and gives a notice of each whose flags ask for one, by table, then by age (OpenFlow 1.3.5, 6.4).
+    ///
+    /// Where memory is wanted, some entries may have gone already.
     pub fn delete(&mut self, alloc: Global, which: Which) -> Result<Vec<Removed>, AllocError>
         ensures tables { IfOk result (λ v. tables_of self.new ≡ left_in (Command which) (tables_of self.old)) }
         ensures notices { IfOk result (λ v. notices_of v.items ≡ notices_in (Command which) (tables_of self.old)) }
@@ -117,6 +119,7 @@ impl<L: Lookup> FlowTables<L> {
     /// A group was deleted, or for `None` all groups: the entries go of which an action sends to it (OpenFlow 1.3.5, 6.5).
     ///
     /// There is a notice of each whose flags ask for one, by table, then by age.
+    /// Where memory is wanted, some entries may have gone already.
     pub fn delete_group(
         &mut self,
         alloc: Global,
@@ -131,6 +134,7 @@ impl<L: Lookup> FlowTables<L> {
     /// It is so many nanoseconds, or the latest moment if that is later: the entries whose time is over go (OpenFlow 1.3.5, 5.5).
     ///
     /// There is a notice of each whose flags ask for one, by table, then by age.
+    /// Where memory is wanted, some entries may have gone already.
     pub fn expire(&mut self, alloc: Global, moment: u64) -> Result<Vec<Removed>, AllocError>
         ensures tables { IfOk result (λ v. tables_of self.new ≡ expired moment (tables_of self.old)) }
         ensures notices { IfOk result (λ v. notices_of v.items ≡ expiry_notices moment (tables_of self.old)) }
