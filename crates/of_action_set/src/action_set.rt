@@ -18,7 +18,8 @@ const KINDS: usize = 30;
 /// It is of fixed size and needs no memory.
 #[derive(Debug, Drop)]
 pub struct ActionSet {
-    actions: ArrayVec<Action, KINDS>,
+    // none until the first is written: most packets write none, and blank places take time to make
+    actions: Option<ArrayVec<Action, KINDS>>,
 }
 
 impl Model for ActionSet {
@@ -28,12 +29,13 @@ impl Model for ActionSet {
     ghost use Rattle.of_actions.specs.Served.{is_served};
     ghost use Rattle.of_actions.specs.Rising.{is_rising};
     ghost use Rattle.of_action_set.specs.Sets.{rank};
+    ghost use Rattle.of_action_set.specs.Storage.{stored};
 
     ghost Value = { List Action };
 
-    ghost view = { λ set. set.actions.items };
+    ghost view = { λ set. stored set.actions };
 
-    ghost invariant = { λ set. IsTrue (is_rising rank set.actions.items) × IsTrue (list_all (is_served false) set.actions.items) };
+    ghost invariant = { λ set. IsTrue (is_rising rank (stored set.actions)) × IsTrue (list_all (is_served false) (stored set.actions)) };
 }
 
 impl ActionSet {
@@ -41,9 +43,7 @@ impl ActionSet {
     pub fn new() -> ActionSet
         ensures { result ≡ [] }
     {
-        ActionSet {
-            actions: ArrayVec::new(),
-        }
+        ActionSet { actions: None }
     }
 
     /// Writes actions in their order: each takes the place of the one of its kind, where there is one (OpenFlow 1.3.5, 5.9 and 5.10).
@@ -60,17 +60,24 @@ impl ActionSet {
         requires { IsTrue (is_served false action) }
         ensures { self.new ≡ with_action self.old action }
     {
-        let kind = rank(action);
-        remove_kind(&mut self.actions, kind);
-        let place = place_of(&self.actions, kind);
-        self.actions.insert(place, action);
+        put_in(self.actions.get_or_insert_with(ArrayVec::new), action);
     }
 
     /// Empties it (OpenFlow 1.3.5, 5.9).
     pub fn clear(&mut self)
         ensures { self.new ≡ [] }
     {
-        self.actions.clear();
+        self.actions = None;
+    }
+
+    /// Takes the actions out, and leaves none (OpenFlow 1.3.5, 5.10).
+    pub fn take(&mut self) -> ActionSet
+        ensures taken { result ≡ self.old }
+        ensures left { self.new ≡ [] }
+    {
+        ActionSet {
+            actions: self.actions.take(),
+        }
     }
 
     /// The actions in the order of running: OUTPUT is left out beside GROUP (OpenFlow 1.3.5, 5.10).
@@ -79,11 +86,21 @@ impl ActionSet {
         ensures served { IsTrue (list_all (is_served false) result.now) }
         ensures few { length result.now ≤ 30 }
     {
-        let actions = self.actions.as_slice();
+        self.known();
+        let actions = self.as_slice();
         if has_group(actions) {
             without_output(actions)
         } else {
             actions
+        }
+    }
+
+    fn as_slice(&self) -> &[Action]
+        ensures { result.now ≡ self.now }
+    {
+        match &self.actions {
+            Some(actions) => actions.as_slice(),
+            None => &[],
         }
     }
 
@@ -95,6 +112,19 @@ impl ActionSet {
     {
         let _ = &self.actions;
     }
+}
+
+// Takes the place of the action of its kind.
+fn put_in(actions: &mut ArrayVec<Action, KINDS>, action: Action)
+    requires rising { IsTrue (is_rising rank_of actions.old.items) }
+    requires served { IsTrue (list_all (is_served false) actions.old.items) }
+    requires one { IsTrue (is_served false action) }
+    ensures { actions.new.items ≡ with_action actions.old.items action }
+{
+    let kind = rank(action);
+    remove_kind(actions, kind);
+    let place = place_of(actions, kind);
+    actions.insert(place, action);
 }
 
 fn remove_kind(actions: &mut ArrayVec<Action, KINDS>, kind: u8)

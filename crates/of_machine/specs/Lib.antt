@@ -8,3 +8,4 @@ pub mod Gained
 pub mod Outside
 pub mod Growth
 pub mod Renumbering
+pub mod Held

@@ -1,20 +1,22 @@
 //! Packets, and what a run gives.
-ghost use Rattle.std.specs.Prelude.{◌≡◌, [], IfOk};
+ghost use Rattle.std.specs.Prelude.{◌≡◌, []};
 ghost use Rattle.of_headers.specs.FieldMap.{value, field_map};
 ghost use Rattle.of_layers.specs.Reading.{layers_of};
 ghost use Rattle.of_machine.specs.Rows.{key_of, entering};
 
+use crate::packet_frame::PacketFrame;
 use of_action_set::ActionSet;
 use of_actions::Action;
 use of_headers::{FieldKey, read_inside};
-use of_rewrite::Frame;
 use of_wire::Bytes;
-use std::alloc::{AllocError, Global};
+use smallvec::SmallVec;
+use std::alloc::Global;
+use std::default::MadeWith;
 
 /// A packet on its way through the tables (OpenFlow 1.3.5, 5.1).
 #[derive(Debug, Drop)]
-pub struct Packet {
-    pub frame: Frame,
+pub struct Packet<'a> {
+    pub frame: PacketFrame<'a>,
     /// The number of the port by which it came in.
     pub ingress: u32,
     pub metadata: u64,
@@ -109,17 +111,40 @@ pub enum Step {
     End,
 }
 
-/// What a run gives, each in order.
+/// What is emitted, in order. Two items need no memory of their own.
+pub type Items = SmallVec<Item, 2>;
+
+/// What is counted, in order. Eight counts, those of four tables, need no memory of their own.
+pub type Counts = SmallVec<Count, 8>;
+
+/// What a run gives.
 #[derive(Debug, Drop)]
 pub struct Outcome {
-    pub items: Vec<Item>,
-    pub counts: Vec<Count>,
+    pub items: Items,
+    pub counts: Counts,
 }
 
-impl Packet {
+// What stands in unused places.
+impl MadeWith<Global> for Item {
+    fn made_with(alloc: Global) -> Self {
+        Item::Sent {
+            port: 0,
+            frame: Bytes::new(Vec::new(alloc)),
+        }
+    }
+}
+
+// What stands in unused places.
+impl Default for Count {
+    fn default() -> Self {
+        Count::Lookup(0)
+    }
+}
+
+impl<'a> Packet<'a> {
     /// A packet that comes in.
-    pub fn new(frame: Frame, ingress: u32) -> Packet
-        ensures { result ≡ entering frame ingress }
+    pub fn new(frame: PacketFrame<'a>, ingress: u32) -> Self
+        ensures { result ≡ entering frame.entry ingress }
     {
         Packet {
             frame,
@@ -139,23 +164,23 @@ impl Packet {
         key_of_frame(&self.frame, self.ingress, self.metadata)
     }
 
-    /// The packet again, but with an empty action set.
-    pub(crate) fn copy_without_actions(&self, alloc: Global) -> Result<Packet, AllocError>
-        ensures { IfOk result (λ p. p ≡ record self.now { action_set = [] }) }
+    /// The packet again, but with an empty action set. Its bytes are lent.
+    pub(crate) fn copy_without_actions(&self) -> Packet<'_>
+        ensures { result ≡ record self.now { action_set = [] } }
     {
-        Ok(Packet {
-            frame: self.frame.copy(alloc)?,
+        Packet {
+            frame: self.frame.lend(),
             ingress: self.ingress,
             metadata: self.metadata,
             action_set: ActionSet::new(),
             cookie: self.cookie,
             table: self.table,
             miss: self.miss,
-        })
+        }
     }
 }
 
-fn key_of_frame(frame: &Frame, ingress: u32, metadata: u64) -> FieldKey
+fn key_of_frame(frame: &PacketFrame<'_>, ingress: u32, metadata: u64) -> FieldKey
     ensures { value result ≡ field_map (layers_of frame.now) ingress metadata }
 {
     match read_inside(frame.bytes(), ingress, metadata) {
@@ -170,8 +195,8 @@ impl Outcome {
         ensures counts { result.counts.items ≡ [] }
     {
         Outcome {
-            items: Vec::new(alloc),
-            counts: Vec::new(alloc),
+            items: Items::new(alloc),
+            counts: Counts::new(alloc),
         }
     }
 }

@@ -6,9 +6,9 @@ ghost use Rattle.of_machine.specs.Ports.{port_at};
 ghost use Rattle.of_machine.specs.Gained.{Gains};
 
 use crate::data::{Count, Item, Outcome, Packet, PacketInReason};
+use crate::packet_frame::PacketFrame;
 use crate::port::Port;
 use of_actions::{PORT_ALL, PORT_CONTROLLER, PORT_FLOOD, PORT_IN_PORT};
-use of_rewrite::Frame;
 use of_wire::Bytes;
 use std::alloc::{AllocError, Global};
 
@@ -16,7 +16,7 @@ use std::alloc::{AllocError, Global};
 pub(crate) fn emit(
     ports: &[Port],
     port: u32,
-    packet: &Packet,
+    packet: &Packet<'_>,
     outcome: &mut Outcome,
 ) -> Result<(), AllocError>
     ensures { OnOk result (Gains outcome.old (emission ports.now packet.now port) outcome.new) }
@@ -36,7 +36,7 @@ pub(crate) fn emit(
     send(find_port(ports, port), packet, outcome)
 }
 
-fn reason_of_output(packet: &Packet) -> PacketInReason
+fn reason_of_output(packet: &Packet<'_>) -> PacketInReason
     ensures { result ≡ output_reason packet.now }
 {
     if packet.miss {
@@ -49,7 +49,7 @@ fn reason_of_output(packet: &Packet) -> PacketInReason
 /// The packet to the controller.
 pub(crate) fn to_controller(
     reason: PacketInReason,
-    packet: &Packet,
+    packet: &Packet<'_>,
     outcome: &mut Outcome,
 ) -> Result<(), AllocError>
     ensures { OnOk result (Gains outcome.old (packet_in reason packet.now) outcome.new) }
@@ -67,7 +67,7 @@ pub(crate) fn to_controller(
 }
 
 // The frame's bytes again, for what leaves the switch.
-fn bytes_of(alloc: Global, frame: &Frame) -> Result<Bytes, AllocError>
+fn bytes_of(alloc: Global, frame: &PacketFrame<'_>) -> Result<Bytes, AllocError>
     ensures { IfOk result (λ bytes. bytes ≡ frame.now) }
 {
     Bytes::from_slice(alloc, frame.bytes())
@@ -80,7 +80,7 @@ fn find_port(ports: &[Port], number: u32) -> Option<&Port>
 }
 
 // Out of a port, where it is there and may send.
-fn send(port: Option<&Port>, packet: &Packet, outcome: &mut Outcome) -> Result<(), AllocError>
+fn send(port: Option<&Port>, packet: &Packet<'_>, outcome: &mut Outcome) -> Result<(), AllocError>
     ensures { OnOk result (Gains outcome.old (to_port (option_copied port.entry) packet.now) outcome.new) }
 {
     if let Some(port) = port {
@@ -98,7 +98,7 @@ fn send(port: Option<&Port>, packet: &Packet, outcome: &mut Outcome) -> Result<(
 }
 
 // Out of each port that may send but the ingress port.
-fn flood(ports: &[Port], packet: &Packet, outcome: &mut Outcome) -> Result<(), AllocError>
+fn flood(ports: &[Port], packet: &Packet<'_>, outcome: &mut Outcome) -> Result<(), AllocError>
     ensures { OnOk result (Gains outcome.old (flooded ports.now packet.now) outcome.new) }
 {
     for port in ports {

@@ -6,14 +6,16 @@ mod data;
 mod emit;
 mod laws;
 mod machine;
+mod packet_frame;
 mod port;
 mod runs;
 mod tables;
 mod world;
 
 pub use chosen::Chosen;
-pub use data::{Count, Item, Outcome, Packet, PacketInReason, Step};
+pub use data::{Count, Counts, Item, Items, Outcome, Packet, PacketInReason, Step};
 pub use laws::{every_run_ends, frames_stay_short, numbers_are_names, packets_take_turns};
+pub use packet_frame::PacketFrame;
 pub use port::{Port, PortCounters};
 pub use runs::{run, run_actions};
 pub use tables::is_miss;

@@ -3,19 +3,18 @@ ghost use Rattle.std.specs.Prelude.{◌≡◌, ◌≤◌, ◌+◌, ◌∷◌, �
 ghost use Rattle.std.specs.List.{list_all};
 ghost use Rattle.of_actions.specs.Served.{is_served};
 ghost use Rattle.of_rewrite.specs.Frames.{IsFrame};
-ghost use Rattle.of_machine.specs.Rows.{Work, RunSet, Act as ActWork, acts, Task, task, copies, rewritten};
+ghost use Rattle.of_machine.specs.Rows.{Work, RunSet, Act as ActWork, acts, Task, task, copies};
 ghost use Rattle.of_machine.specs.Runs.{Moves, Acts, Ends, Breaks, AllEnd, AllFail, point};
 ghost use Rattle.of_machine.specs.Sound.{IsSound, IsBelow, AllBelow, AllBuckets};
 ghost use Rattle.of_machine.specs.TheWorld.{TheWorld};
 
 use crate::data::{Count, Outcome, Packet, PacketInReason, Step};
 use crate::emit::{emit, to_controller};
+use crate::packet_frame::PacketFrame;
 use crate::world::{StepLog, World};
-use of_action_set::ActionSet;
 use of_actions::Action;
-use of_rewrite::{Frame, Ttl};
+use of_rewrite::Ttl;
 use std::alloc::AllocError;
-use std::mem;
 
 /// Whether a packet's work goes on.
 #[derive(Clone, Copy)]
@@ -30,7 +29,7 @@ pub(crate) fn act<W: World, S: StepLog>(
     world: &W,
     levels: u8,
     action: Action,
-    packet: &mut Packet,
+    packet: &mut Packet<'_>,
     outcome: &mut Outcome,
     log: &mut S,
 ) -> Result<Going, AllocError>
@@ -52,31 +51,16 @@ pub(crate) fn act<W: World, S: StepLog>(
         }
         Action::DecNwTtl => age(packet, outcome, log),
         _ => {
-            rewrite(action, &mut packet.frame)?;
+            packet.frame.rewrite(*outcome.items.allocator(), action)?;
             log.step(Step::Act(action))?;
             Ok(Going::Continues)
         }
     }
 }
 
-// The frame that an action makes.
-fn rewrite(action: Action, frame: &mut Frame) -> Result<(), AllocError>
-    requires { IsTrue (is_served false action) }
-    ensures { OnOk result (frame.new ≡ rewritten action frame.old) }
-{
-    match action {
-        Action::PushVlan(tpid) => frame.push_vlan(tpid)?,
-        Action::PopVlan => frame.pop_vlan(),
-        Action::SetNwTtl(ttl) => frame.set_ttl(ttl),
-        Action::SetField { field, value } => frame.set(field, value),
-        Action::Output { .. } | Action::Group(_) | Action::DecNwTtl => {}
-    }
-    Ok(())
-}
-
 // DEC_NW_TTL.
 fn age<S: StepLog>(
-    packet: &mut Packet,
+    packet: &mut Packet<'_>,
     outcome: &mut Outcome,
     log: &mut S,
 ) -> Result<Going, AllocError>
@@ -84,7 +68,7 @@ fn age<S: StepLog>(
     ensures err { OnErr result ((w : TheWorld) → Breaks w S.KEEPS packet.old (ActWork Action.DecNwTtl ∷ []) outcome.old (S.list log.old) (S.list log.new)) }
 {
     frame_is_known(&packet.frame);
-    match packet.frame.dec_ttl() {
+    match packet.frame.dec_ttl(*outcome.items.allocator())? {
         Ttl::Expired => {
             to_controller(PacketInReason::InvalidTtl, packet, outcome)?;
             log.step(Step::TtlExpired)?;
@@ -98,7 +82,7 @@ fn age<S: StepLog>(
 }
 
 // A frame has at least 14 bytes, each below 256.
-pub(crate) fn frame_is_known(frame: &Frame)
+pub(crate) fn frame_is_known(frame: &PacketFrame<'_>)
     ensures { IsFrame frame.now }
 {
     bytes_are_known(frame.bytes());
@@ -115,7 +99,7 @@ pub(crate) fn act_all<W: World, S: StepLog>(
     world: &W,
     levels: u8,
     actions: &[Action],
-    packet: &mut Packet,
+    packet: &mut Packet<'_>,
     outcome: &mut Outcome,
     log: &mut S,
 ) -> Result<Going, AllocError>
@@ -140,7 +124,7 @@ fn to_group<W: World, S: StepLog>(
     world: &W,
     levels: u8,
     group: u32,
-    packet: &Packet,
+    packet: &Packet<'_>,
     outcome: &mut Outcome,
     log: &mut S,
 ) -> Result<(), AllocError>
@@ -195,7 +179,7 @@ fn run_buckets<W: World, S: StepLog>(
     levels: u8,
     group: u32,
     places: &[u8],
-    packet: &Packet,
+    packet: &Packet<'_>,
     outcome: &mut Outcome,
     log: &mut S,
 ) -> Result<(), AllocError>
@@ -206,9 +190,9 @@ fn run_buckets<W: World, S: StepLog>(
     ensures err { OnErr result (AllFail (W.view world.now) S.KEEPS (copies (W.view world.now) group packet.now places.now) outcome.old (S.list log.old) (S.list log.new)) }
 {
     for place in places {
-        let mut copy = packet.copy_without_actions(*outcome.items.allocator())?;
+        let mut copy = packet.copy_without_actions();
         copy.action_set.write(world.bucket(group, *place));
-        run_set(world, levels, copy, outcome, log)?;
+        run_set(world, levels, &mut copy, outcome, log)?;
     }
     Ok(())
 }
@@ -218,21 +202,20 @@ fn run_buckets<W: World, S: StepLog>(
 pub(crate) fn run_set<W: World, S: StepLog>(
     world: &W,
     levels: u8,
-    packet: Packet,
+    packet: &mut Packet<'_>,
     outcome: &mut Outcome,
     log: &mut S,
 ) -> Result<(), AllocError>
     requires sound { IsSound (W.view world.now) }
-    requires below { AllBelow (W.view world.now) (levels + 1) packet.action_set }
-    ensures ok { OnOk result (Ends (W.view world.now) S.KEEPS packet (RunSet ∷ []) outcome.old (S.list log.old) outcome.new (S.list log.new)) }
-    ensures err { OnErr result (Breaks (W.view world.now) S.KEEPS packet (RunSet ∷ []) outcome.old (S.list log.old) (S.list log.new)) }
+    requires below { AllBelow (W.view world.now) (levels + 1) packet.old.action_set }
+    ensures ok { OnOk result (Ends (W.view world.now) S.KEEPS packet.old (RunSet ∷ []) outcome.old (S.list log.old) outcome.new (S.list log.new)) }
+    ensures err { OnErr result (Breaks (W.view world.now) S.KEEPS packet.old (RunSet ∷ []) outcome.old (S.list log.old) (S.list log.new)) }
 {
-    let mut packet = packet;
-    let set = mem::replace(&mut packet.action_set, ActionSet::new());
+    let set = packet.action_set.take();
     packet.cookie = u64::MAX;
     packet.miss = false;
     log.step(Step::Set)?;
-    act_all(world, levels, set.in_order(), &mut packet, outcome, log)?;
+    act_all(world, levels, set.in_order(), packet, outcome, log)?;
     log.step(Step::End)?;
     Ok(())
 }

@@ -21,23 +21,24 @@ use std::alloc::{AllocError, Global};
 pub fn run<W: World, S: StepLog>(
     alloc: Global,
     world: &mut W,
-    packet: Packet,
+    packet: Packet<'_>,
     log: &mut S,
 ) -> Result<Outcome, AllocError>
     requires { packet.action_set ≡ [] }
     ensures kept { W.view world.new ≡ W.view world.old }
     ensures content { W.content world.new ≡ W.content world.old }
-    ensures ok { IfOk result (λ outcome. IsRun (W.view world.old) S.KEEPS packet (LookupWork 0 ∷ []) outcome (S.list log.old) (S.list log.new)) }
-    ensures items { IfOk result (λ outcome. outcome.items.items ≡ (run_of (W.view world.old) packet (LookupWork 0 ∷ [])).items) }
-    ensures counts { IfOk result (λ outcome. outcome.counts.items ≡ (run_of (W.view world.old) packet (LookupWork 0 ∷ [])).counts) }
-    ensures lines { OnOk result (S.KEEPS ≡ true → S.list log.new ≡ S.list log.old ++ (run_of (W.view world.old) packet (LookupWork 0 ∷ [])).lines) }
-    ensures grown { IfOk result (λ outcome. length packet.frame ≤ 9216 → AllShort 13320 outcome.items.items) }
-    ensures err { OnErr result (IsFront (W.view world.old) S.KEEPS packet (LookupWork 0 ∷ []) (S.list log.old) (S.list log.new)) }
+    ensures ok { IfOk result (λ outcome. IsRun (W.view world.old) S.KEEPS packet.entry (LookupWork 0 ∷ []) outcome (S.list log.old) (S.list log.new)) }
+    ensures items { IfOk result (λ outcome. outcome.items.items ≡ (run_of (W.view world.old) packet.entry (LookupWork 0 ∷ [])).items) }
+    ensures counts { IfOk result (λ outcome. outcome.counts.items ≡ (run_of (W.view world.old) packet.entry (LookupWork 0 ∷ [])).counts) }
+    ensures lines { OnOk result (S.KEEPS ≡ true → S.list log.new ≡ S.list log.old ++ (run_of (W.view world.old) packet.entry (LookupWork 0 ∷ [])).lines) }
+    ensures grown { IfOk result (λ outcome. length packet.entry.frame ≤ 9216 → AllShort 13320 outcome.items.items) }
+    ensures err { OnErr result (IsFront (W.view world.old) S.KEEPS packet.entry (LookupWork 0 ∷ []) (S.list log.old) (S.list log.new)) }
 {
     world.known();
     frame_is_known(&packet.frame);
     let mut outcome = Outcome::new(alloc);
-    pipeline(world, packet, &mut outcome, log)?;
+    let mut current = packet;
+    pipeline(world, &mut current, &mut outcome, log)?;
     Ok(outcome)
 }
 
@@ -47,7 +48,7 @@ pub fn run<W: World, S: StepLog>(
 pub fn run_actions<W: World, S: StepLog>(
     alloc: Global,
     world: &mut W,
-    packet: Packet,
+    packet: Packet<'_>,
     actions: &[Action],
     log: &mut S,
 ) -> Result<Outcome, AllocError>
@@ -55,12 +56,12 @@ pub fn run_actions<W: World, S: StepLog>(
     requires served { IsTrue (are_served true actions.now) }
     ensures kept { W.view world.new ≡ W.view world.old }
     ensures content { W.content world.new ≡ W.content world.old }
-    ensures ok { IfOk result (λ outcome. IsRun (W.view world.old) S.KEEPS packet (acts actions.now) outcome (S.list log.old) (S.list log.new)) }
-    ensures items { IfOk result (λ outcome. outcome.items.items ≡ (run_of (W.view world.old) packet (acts actions.now)).items) }
-    ensures counts { IfOk result (λ outcome. outcome.counts.items ≡ (run_of (W.view world.old) packet (acts actions.now)).counts) }
-    ensures lines { OnOk result (S.KEEPS ≡ true → S.list log.new ≡ S.list log.old ++ (run_of (W.view world.old) packet (acts actions.now)).lines) }
-    ensures grown { IfOk result (λ outcome. length packet.frame ≤ 9216 → AllShort 13576 outcome.items.items) }
-    ensures err { OnErr result (IsFront (W.view world.old) S.KEEPS packet (acts actions.now) (S.list log.old) (S.list log.new)) }
+    ensures ok { IfOk result (λ outcome. IsRun (W.view world.old) S.KEEPS packet.entry (acts actions.now) outcome (S.list log.old) (S.list log.new)) }
+    ensures items { IfOk result (λ outcome. outcome.items.items ≡ (run_of (W.view world.old) packet.entry (acts actions.now)).items) }
+    ensures counts { IfOk result (λ outcome. outcome.counts.items ≡ (run_of (W.view world.old) packet.entry (acts actions.now)).counts) }
+    ensures lines { OnOk result (S.KEEPS ≡ true → S.list log.new ≡ S.list log.old ++ (run_of (W.view world.old) packet.entry (acts actions.now)).lines) }
+    ensures grown { IfOk result (λ outcome. length packet.entry.frame ≤ 9216 → AllShort 13576 outcome.items.items) }
+    ensures err { OnErr result (IsFront (W.view world.old) S.KEEPS packet.entry (acts actions.now) (S.list log.old) (S.list log.new)) }
 {
     world.known();
     frame_is_known(&packet.frame);
@@ -75,7 +76,7 @@ pub fn run_actions<W: World, S: StepLog>(
 fn act_all_outside<W: World, S: StepLog>(
     world: &mut W,
     actions: &[Action],
-    packet: &mut Packet,
+    packet: &mut Packet<'_>,
     outcome: &mut Outcome,
     log: &mut S,
 ) -> Result<Going, AllocError>
@@ -99,7 +100,7 @@ fn act_all_outside<W: World, S: StepLog>(
 fn act_outside<W: World, S: StepLog>(
     world: &mut W,
     action: Action,
-    packet: &mut Packet,
+    packet: &mut Packet<'_>,
     outcome: &mut Outcome,
     log: &mut S,
 ) -> Result<Going, AllocError>
@@ -131,7 +132,7 @@ fn goes_to_tables(action: Action) -> bool
 fn to_tables<W: World, S: StepLog>(
     world: &mut W,
     action: Action,
-    packet: &Packet,
+    packet: &Packet<'_>,
     outcome: &mut Outcome,
     log: &mut S,
 ) -> Result<(), AllocError>
@@ -142,8 +143,8 @@ fn to_tables<W: World, S: StepLog>(
     ensures ok { OnOk result ((rest : List Work) (others : List Task) → Moves (W.view world.old) S.KEEPS (point (task packet.now (ActWork action ∷ rest) ∷ others) outcome.old (S.list log.old)) (point (task packet.now rest ∷ others) outcome.new (S.list log.new))) }
     ensures err { OnErr result (Breaks (W.view world.old) S.KEEPS packet.now (ActWork action ∷ []) outcome.old (S.list log.old) (S.list log.new)) }
 {
-    let mut copy = packet.copy_without_actions(*outcome.items.allocator())?;
+    let mut copy = packet.copy_without_actions();
     copy.metadata = 0;
     log.step(Step::Act(action))?;
-    pipeline(world, copy, outcome, log)
+    pipeline(world, &mut copy, outcome, log)
 }

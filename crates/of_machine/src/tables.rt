@@ -42,7 +42,7 @@ fn instruct<W: World, S: StepLog>(
     world: &W,
     table: u8,
     instruction: &Instruction,
-    packet: &mut Packet,
+    packet: &mut Packet<'_>,
     outcome: &mut Outcome,
     log: &mut S,
 ) -> Result<Next, AllocError>
@@ -91,7 +91,7 @@ fn follow<W: World, S: StepLog>(
     world: &W,
     table: u8,
     instructions: &[Instruction],
-    packet: &mut Packet,
+    packet: &mut Packet<'_>,
     outcome: &mut Outcome,
     log: &mut S,
 ) -> Result<Then, AllocError>
@@ -116,7 +116,7 @@ fn follow<W: World, S: StepLog>(
 fn look_up<W: World, S: StepLog>(
     world: &mut W,
     table: u8,
-    packet: &mut Packet,
+    packet: &mut Packet<'_>,
     outcome: &mut Outcome,
     log: &mut S,
 ) -> Result<Then, AllocError>
@@ -156,22 +156,21 @@ fn look_up<W: World, S: StepLog>(
 /// The tables from the first on, and the packet's end.
 pub(crate) fn pipeline<W: World, S: StepLog>(
     world: &mut W,
-    packet: Packet,
+    packet: &mut Packet<'_>,
     outcome: &mut Outcome,
     log: &mut S,
 ) -> Result<(), AllocError>
     requires { IsSound (W.view world.old) }
     ensures kept { W.view world.new ≡ W.view world.old }
     ensures content { W.content world.new ≡ W.content world.old }
-    ensures ok { OnOk result (Ends (W.view world.old) S.KEEPS packet (LookupWork 0 ∷ []) outcome.old (S.list log.old) outcome.new (S.list log.new)) }
-    ensures err { OnErr result (Fails (W.view world.old) S.KEEPS packet (LookupWork 0 ∷ []) outcome.old (S.list log.old) (S.list log.new)) }
+    ensures ok { OnOk result (Ends (W.view world.old) S.KEEPS packet.old (LookupWork 0 ∷ []) outcome.old (S.list log.old) outcome.new (S.list log.new)) }
+    ensures err { OnErr result (Fails (W.view world.old) S.KEEPS packet.old (LookupWork 0 ∷ []) outcome.old (S.list log.old) (S.list log.new)) }
 {
-    let mut current = packet;
     let mut table: u8 = 0;
     loop {
-        match look_up(world, table, &mut current, outcome, log)? {
+        match look_up(world, table, packet, outcome, log)? {
             Then::Lookup(next) => table = next,
-            Then::Set => return run_set(&*world, 1, current, outcome, log),
+            Then::Set => return run_set(&*world, 1, packet, outcome, log),
             Then::Ended => {
                 log.step(Step::End)?;
                 return Ok(());

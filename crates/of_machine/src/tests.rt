@@ -3,14 +3,13 @@ ghost use Rattle.of_actions.specs.declared.action.Action.TheVariants.{Output};
 ghost use Rattle.of_actions.specs.InstructionLists.{are_for};
 
 use crate::{
-    Chosen, Count, Item, NoLog, Outcome, Packet, PacketInReason, Port, PortCounters, Step, Steps,
-    World, run, run_actions,
+    Chosen, Count, Item, NoLog, Outcome, Packet, PacketFrame, PacketInReason, Port, PortCounters,
+    Step, Steps, World, run, run_actions,
 };
 use of_actions::{Action, ActionList, Instruction, InstructionList, PORT_CONTROLLER, PORT_TABLE};
 use of_headers::FieldKey;
 use of_layers::Field;
 use of_oxm::read_match;
-use of_rewrite::Frame;
 use of_table::{Flow, FlowFlags};
 use std::alloc::Global;
 use std::process::Abort;
@@ -135,12 +134,12 @@ fn list(alloc: Global, actions: &[Action]) -> Result<ActionList, Fail> {
 }
 
 // A packet that came by port 1.
-fn packet(alloc: Global, bytes: &[u8]) -> Result<Packet, Fail>
+fn packet(bytes: &[u8]) -> Packet<'_>
     requires long { 14 ≤ length bytes.now }
     requires most { length bytes.now < 2 ^ 61 }
-    ensures { IfOk result (λ p. p.action_set ≡ []) }
+    ensures { result.action_set ≡ [] }
 {
-    Ok(Packet::new(Frame::new(bytes.to_vec(alloc)?), 1))
+    Packet::new(PacketFrame::new(bytes), 1)
 }
 
 // Asserts that a frame of these bytes was sent out of the port.
@@ -204,12 +203,7 @@ fn set_tags_and_sends(rt: HostRuntime) -> Result<(), Fail> {
     let written = list(rt.alloc(), &[TO_TWO, set_vid, Action::PushVlan(0x8100)])?;
     let mut world = world(rt.alloc(), 1, Instruction::Write(written))?;
     let mut log = Steps::new(rt.alloc());
-    let outcome = run(
-        rt.alloc(),
-        &mut world,
-        packet(rt.alloc(), &UNTAGGED)?,
-        &mut log,
-    )?;
+    let outcome = run(rt.alloc(), &mut world, packet(&UNTAGGED), &mut log)?;
     let steps = [
         FOUND,
         Step::Write,
@@ -230,12 +224,7 @@ fn last_hop_ends_the_work(rt: HostRuntime) -> Result<(), Fail> {
     let applied = list(rt.alloc(), &[TO_TWO, Action::DecNwTtl, TO_THREE])?;
     let mut world = world(rt.alloc(), 1, Instruction::Apply(applied))?;
     let mut log = Steps::new(rt.alloc());
-    let outcome = run(
-        rt.alloc(),
-        &mut world,
-        packet(rt.alloc(), &LAST_HOP)?,
-        &mut log,
-    )?;
+    let outcome = run(rt.alloc(), &mut world, packet(&LAST_HOP), &mut log)?;
     let steps = [
         FOUND,
         Step::Apply,
@@ -261,12 +250,7 @@ fn miss_entry_tells(rt: HostRuntime) -> Result<(), Fail> {
         0,
         Instruction::Apply(list(rt.alloc(), &[to_controller])?),
     )?;
-    let outcome = run(
-        rt.alloc(),
-        &mut world,
-        packet(rt.alloc(), &UNTAGGED)?,
-        &mut NoLog,
-    )?;
+    let outcome = run(rt.alloc(), &mut world, packet(&UNTAGGED), &mut NoLog)?;
     assert_eq!(rt; outcome.items.len(), 1);
     was_told(&rt, &outcome, 0, PacketInReason::NoMatch);
     Ok(())
@@ -277,12 +261,7 @@ fn group_of_two(rt: HostRuntime) -> Result<(), Fail> {
     let applied = list(rt.alloc(), &[Action::Group(9), TO_TWO])?;
     let mut world = world(rt.alloc(), 1, Instruction::Apply(applied))?;
     let mut log = Steps::new(rt.alloc());
-    let outcome = run(
-        rt.alloc(),
-        &mut world,
-        packet(rt.alloc(), &UNTAGGED)?,
-        &mut log,
-    )?;
+    let outcome = run(rt.alloc(), &mut world, packet(&UNTAGGED), &mut log)?;
     assert_eq!(rt; outcome.items.len(), 3);
     was_sent(&rt, &outcome, 0, 2, &UNTAGGED);
     was_sent(&rt, &outcome, 1, 3, &UNTAGGED);
@@ -326,7 +305,7 @@ fn packet_out_to_the_tables(rt: HostRuntime) -> Result<(), Fail> {
     )?;
     let actions = list(rt.alloc(), &[to_tables])?;
     let mut log = Steps::new(rt.alloc());
-    let packet = packet(rt.alloc(), &UNTAGGED)?;
+    let packet = packet(&UNTAGGED);
     let outcome = run_actions(rt.alloc(), &mut world, packet, actions.as_slice(), &mut log)?;
     let steps = [
         Step::Act(to_tables),

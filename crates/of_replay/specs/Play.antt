@@ -1,6 +1,6 @@
 -- What is printed for the lines of a file.
 use Rattle.std.specs.Prelude.{◌≡◌, ◌⊎◌, ℕ, ◌+◌, Bool, true, false, nat_lt, List, [], ◌∷◌, ◌++◌, Option, Some, None, Result, Ok, Err, if◌then◌else◌}
-use Rattle.std.specs.Global.{Vec}
+use Rattle.smallvec.specs.SmallVec.{SmallVec}
 use Rattle.of_switch.specs.declared.effect.Effect.{Effect}
 use Rattle.of_switch.specs.declared.switch.SwitchError.{SwitchError}
 use Rattle.of_switch.specs.declared.switch.SwitchError.TheVariants as error
@@ -94,14 +94,14 @@ pub record Replays (ended : Ended) (answers answers' : Option (List Answer)) (en
 -- STEPS OF A RUN
 
 -- a call's report
-abbrev pub IsReport : Result (Vec Effect) SwitchError → Report → Type 0
+abbrev pub IsReport : Result (SmallVec Effect) SwitchError → Report → Type 0
 IsReport (Ok es) (Gives effects) = es.items ≡ effects
 IsReport (Ok es) (IsRefused refusal) = ⊥
 IsReport (Err e) (Gives effects) = ⊥
 IsReport (Err e) (IsRefused refusal) = e ≡ refusal
 
 -- what a row's call answers: its report, unless memory ran out
-abbrev pub RowGives : Result (Vec Effect) SwitchError → Happened → Held → Type 0
+abbrev pub RowGives : Result (SmallVec Effect) SwitchError → Happened → Held → Type 0
 RowGives result h new = (result ≡ Err error.NoMemory) ⊎ (IsReport result h.report × (new ≡ well h.state))
 
 -- what a line prints, or why the run halts at it

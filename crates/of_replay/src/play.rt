@@ -12,7 +12,7 @@ use crate::output::{push_effects, push_refusal};
 use crate::rows::{NewPort, Row, read_row};
 use crate::transfer::write_all;
 use of_classifier::Lookup;
-use of_switch::{Effect, PortChange, Switch, SwitchError};
+use of_switch::{Effects, PortChange, Switch, SwitchError};
 use std::alloc::{AllocError, Global};
 
 /// What is printed is written in parts of so many bytes at least.
@@ -35,12 +35,12 @@ fn play_row<L: Lookup>(
     switch: &mut Switch<L>,
     row: Row,
     bytes: &[u8],
-) -> Result<Vec<Effect>, SwitchError>
+) -> Result<Effects, SwitchError>
     requires { switch.old.failed ≡ false }
     ensures { RowGives result (row_happened switch.old.state (with_bytes bytes.now row)) switch.new }
 {
     match row {
-        Row::Passed => Ok(Vec::new(alloc)),
+        Row::Passed => Ok(Effects::new(alloc)),
         Row::Connect => switch.connected(),
         Row::Piece => switch.piece(bytes),
         Row::Frame { port } => switch.frame(port, bytes),
@@ -58,7 +58,7 @@ fn play_row<L: Lookup>(
                 name,
                 up,
             }) {
-                Ok(()) => Ok(Vec::new(alloc)),
+                Ok(()) => Ok(Effects::new(alloc)),
                 Err(refusal) => Err(refusal),
             }
         }

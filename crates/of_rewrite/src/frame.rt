@@ -1,6 +1,6 @@
 //! A frame that is rewritten in place.
 
-ghost use Rattle.std.specs.Prelude.{◌≡◌, ◌+◌, ◌≤◌, ◌<◌, ◌^◌, length, slice_range, nat_lt, IsTrue, IfOk, OnOk, OnErr};
+ghost use Rattle.std.specs.Prelude.{◌≡◌, ◌+◌, ◌≤◌, ◌<◌, ◌^◌, length, slice_range, nat_lt, IsTrue, OnOk, OnErr};
 ghost use Rattle.std.specs.Borrow.{sem};
 ghost use Rattle.of_layers.specs.Bits.{bits_of};
 ghost use Rattle.of_layers.specs.Fields.{number_of, is_settable, ones_of};
@@ -79,15 +79,6 @@ impl Frame {
         ensures most { result < 2 ^ 61 }
     {
         self.bytes.len()
-    }
-
-    /// A frame of the same bytes.
-    pub fn copy(&self, alloc: Global) -> Result<Frame, AllocError>
-        ensures { IfOk result (λ f. f ≡ self.now) }
-    {
-        let mut bytes = Vec::new(alloc);
-        bytes.extend_from_slice(&self.bytes)?;
-        Ok(Frame { bytes })
     }
 
     /// Puts a VLAN tag of this type, 0x8100 or 0x88a8, behind the source address (OpenFlow 1.3.5, 5.12).

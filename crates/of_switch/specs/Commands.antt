@@ -19,7 +19,6 @@ use Rattle.of_table.specs.declared.selection.RemovedReason.{RemovedReason}
 use Rattle.of_table.specs.declared.selection.RemovedReason.TheVariants as reason
 use Rattle.of_table.specs.Table.{is_overlapped, is_full}
 use Rattle.of_table.specs.Selecting.{Notice, has_action}
-use Rattle.of_actions.specs.declared.action.Action.{Action}
 use Rattle.of_actions.specs.declared.instruction.Instruction.{Instruction}
 use Rattle.of_action_set.specs.Sets.{is_group}
 use Rattle.of_messages.specs.declared.message.PacketOut.{PacketOut}

@@ -1,6 +1,5 @@
 -- What a switch sends of what a packet's run emitted: frames out of ports, and PACKET_INs to the controller (OpenFlow 1.3.5, 7.4.1).
-use Rattle.std.specs.Prelude.{ℕ, Bool, true, false, List, map, filter}
-use Rattle.of_messages.specs.declared.message.PacketIn.{PacketIn}
+use Rattle.std.specs.Prelude.{Bool, true, false, List, map, filter}
 use Rattle.of_messages.specs.declared.message.PacketInReason.{PacketInReason}
 use Rattle.of_messages.specs.declared.message.PacketInReason.TheVariants as wire
 use Rattle.of_messages.specs.Written.{packet_in_bytes}

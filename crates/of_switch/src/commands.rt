@@ -7,7 +7,7 @@ ghost use Rattle.std.specs.List.{list_any};
 ghost use Rattle.of_action_set.specs.Sets.{is_group as is_to_group};
 ghost use Rattle.of_table.specs.Selecting.{has_action};
 
-use crate::effect::Effect;
+use crate::effect::{Effect, Effects};
 use of_actions::{Action, Instruction};
 use of_messages::{FlowMod, FlowModCommand, FlowRemoved, FlowRemovedReason, write_flow_removed};
 use of_table::{Flow, FlowFlags, Removed, RemovedReason, Which};
@@ -165,10 +165,10 @@ fn notice(alloc: Global, removed: &Removed, now: u64) -> Result<Effect, AllocErr
 }
 
 /// The FLOW_REMOVED messages of entries that went, in their order.
-pub fn notices(alloc: Global, removed: &[Removed], now: u64) -> Result<Vec<Effect>, AllocError>
+pub fn notices(alloc: Global, removed: &[Removed], now: u64) -> Result<Effects, AllocError>
     ensures { IfOk result (λ effects. effects.items ≡ notice_effects now (notices_of removed.now)) }
 {
-    let mut effects = Vec::new(alloc);
+    let mut effects = Effects::new(alloc);
     for one in removed {
         effects.push(notice(alloc, one, now)?)?;
     }

@@ -1,12 +1,17 @@
 use of_wire::Bytes;
+use smallvec::SmallVec;
 
-/// What a call of the switch gives.
-#[derive(Debug, Drop)]
+/// What a call of the switch gives, in order. Two effects need no memory of their own.
+pub type Effects = SmallVec<Effect, 2>;
+
+/// One thing that a call of the switch gives.
+#[derive(Debug, Default, Drop)]
 pub enum Effect {
     /// A message to the controller.
     Answer(Bytes),
     /// A frame out of a port.
     Sent { port: u32, frame: Bytes },
     /// The end of the connection.
+    #[default]
     Closed,
 }

@@ -15,7 +15,7 @@ ghost use Rattle.of_switch.specs.Commands.{names_a_group as names_some_group, pa
 ghost use Rattle.of_switch.specs.Steps.{connected, failed_of, fed, flow_modded, frame_in, gives, handled, moment_in, next_of, packet_outed, port_changed, with_tables};
 
 use crate::commands::{flow_from, has_flag, has_group, names_a_group, notices, which_from};
-use crate::effect::Effect;
+use crate::effect::{Effect, Effects};
 use crate::plane::{Plane, contains, put_port};
 use crate::port_change::PortChange;
 use crate::told::effects_from;
@@ -120,7 +120,7 @@ impl<L: Lookup> Engine<L> {
         }
     }
 
-    pub fn connect(&mut self) -> Result<Vec<Effect>, AllocError>
+    pub fn connect(&mut self) -> Result<Effects, AllocError>
         ensures { IfOk result (λ effects. connected self.old ≡ gives effects.items self.new) }
     {
         let effects = one(self.alloc, Effect::Answer(write_hello(self.alloc)?))?;
@@ -135,14 +135,14 @@ impl<L: Lookup> Engine<L> {
         self.session.feed(piece)
     }
 
-    pub fn frame(&mut self, number: u32, bytes: &[u8]) -> Result<Vec<Effect>, AllocError>
+    pub fn frame(&mut self, number: u32, bytes: &[u8]) -> Result<Effects, AllocError>
         ensures { IfOk result (λ effects. frame_in number bytes.now self.old ≡ gives effects.items self.new) }
     {
         let items = self.plane.frame(self.alloc, number, bytes)?;
         effects_from(self.alloc, self.session.phase(), items)
     }
 
-    pub fn next(&mut self) -> Result<Option<Vec<Effect>>, AllocError>
+    pub fn next(&mut self) -> Result<Option<Effects>, AllocError>
         ensures next { IfOk result (λ found. next_of self.old ≡ option_map (λ effects. gives effects.items self.new) found) }
         ensures none { IfOk result (λ found. IfNone found (self.new ≡ self.old)) }
     {
@@ -162,7 +162,7 @@ impl<L: Lookup> Engine<L> {
             }
             Next::Opened { size } => {
                 self.session.open(size);
-                Ok(Some(Vec::new(self.alloc)))
+                Ok(Some(Effects::new(self.alloc)))
             }
             Next::Refused { xid, size, code } => {
                 let effects = self.refused(xid, size, code)?;
@@ -178,7 +178,7 @@ impl<L: Lookup> Engine<L> {
     }
 
     /// Bytes of the controller come, and all messages that are there are handled.
-    pub fn piece(&mut self, piece: &[u8]) -> Result<Vec<Effect>, AllocError>
+    pub fn piece(&mut self, piece: &[u8]) -> Result<Effects, AllocError>
         ensures { IfOk result (λ effects. piece_in piece.now self.old ≡ gives effects.items self.new) }
     {
         self.feed(piece)?;
@@ -186,10 +186,10 @@ impl<L: Lookup> Engine<L> {
     }
 
     // Handles all messages that are there.
-    fn drain(&mut self) -> Result<Vec<Effect>, AllocError>
+    fn drain(&mut self) -> Result<Effects, AllocError>
         ensures { IfOk result (λ effects. drained self.old ≡ gives effects.items self.new) }
     {
-        let mut effects = Vec::new(self.alloc);
+        let mut effects = Effects::new(self.alloc);
         loop {
             match self.next()? {
                 None => return Ok(effects),
@@ -199,7 +199,7 @@ impl<L: Lookup> Engine<L> {
     }
 
     // The error that answers the message that comes next, with its first bytes.
-    fn refused(&self, xid: u32, size: usize, code: Code) -> Result<Vec<Effect>, AllocError>
+    fn refused(&self, xid: u32, size: usize, code: Code) -> Result<Effects, AllocError>
         requires { size ≤ length self.now.connection.pending }
         ensures { IfOk result (λ effects. effects.items ≡ Effect.Answer (error_bytes xid code (failed_of size self.now.connection)) ∷ []) }
     {
@@ -210,13 +210,13 @@ impl<L: Lookup> Engine<L> {
         )
     }
 
-    fn handle(&mut self, xid: u32, size: usize, message: Message) -> Result<Vec<Effect>, AllocError>
+    fn handle(&mut self, xid: u32, size: usize, message: Message) -> Result<Effects, AllocError>
         requires size { size ≤ length self.old.connection.pending }
         requires sound { IsSoundMessage message }
         ensures { IfOk result (λ effects. handled xid message (failed_of size self.old.connection) self.old ≡ gives effects.items self.new) }
     {
         match message {
-            Message::Hello => Ok(Vec::new(self.alloc)),
+            Message::Hello => Ok(Effects::new(self.alloc)),
             Message::EchoRequest(echoed) => {
                 let reply = write_echo_reply(self.alloc, xid, echoed.as_slice())?;
                 one(self.alloc, Effect::Answer(reply))
@@ -237,7 +237,7 @@ impl<L: Lookup> Engine<L> {
         xid: u32,
         size: usize,
         packet_out: PacketOut,
-    ) -> Result<Vec<Effect>, AllocError>
+    ) -> Result<Effects, AllocError>
         requires size { size ≤ length self.old.connection.pending }
         requires sound { IsSoundPacket packet_out.packet }
         ensures { IfOk result (λ effects. packet_outed xid packet_out (failed_of size self.old.connection) self.old (first_of (packet_out_refusals packet_out)) ≡ gives effects.items self.new) }
@@ -255,12 +255,7 @@ impl<L: Lookup> Engine<L> {
         effects_from(self.alloc, self.session.phase(), items)
     }
 
-    fn flow_mod(
-        &mut self,
-        xid: u32,
-        size: usize,
-        flow_mod: FlowMod,
-    ) -> Result<Vec<Effect>, AllocError>
+    fn flow_mod(&mut self, xid: u32, size: usize, flow_mod: FlowMod) -> Result<Effects, AllocError>
         requires size { size ≤ length self.old.connection.pending }
         requires sound { IsSoundFlowMod flow_mod }
         ensures { IfOk result (λ effects. flow_modded xid flow_mod (failed_of size self.old.connection) self.old (first_of (flow_mod_refusals flow_mod self.old.forwarding.tables)) ≡ gives effects.items self.new) }
@@ -280,12 +275,7 @@ impl<L: Lookup> Engine<L> {
         }
     }
 
-    fn add_flow(
-        &mut self,
-        xid: u32,
-        size: usize,
-        flow_mod: FlowMod,
-    ) -> Result<Vec<Effect>, AllocError>
+    fn add_flow(&mut self, xid: u32, size: usize, flow_mod: FlowMod) -> Result<Effects, AllocError>
         requires size { size ≤ length self.old.connection.pending }
         requires add { flow_mod.command ≡ FlowModCommand.Add }
         requires buffer { flow_mod.buffer ≡ 0xffffffff }
@@ -295,7 +285,7 @@ impl<L: Lookup> Engine<L> {
         ensures { IfOk result (λ effects. flow_modded xid flow_mod (failed_of size self.old.connection) self.old (first_of (flow_mod_refusals flow_mod self.old.forwarding.tables)) ≡ gives effects.items self.new) }
     {
         match self.plane.tables.add(flow_mod.table, flow_from(flow_mod)) {
-            Ok(()) => Ok(Vec::new(self.alloc)),
+            Ok(()) => Ok(Effects::new(self.alloc)),
             Err(TableFault::BadTable) => self.refused(xid, size, BAD_TABLE),
             Err(TableFault::Overlap) => self.refused(xid, size, OVERLAP),
             Err(TableFault::Full) => self.refused(xid, size, TABLE_FULL),
@@ -303,7 +293,7 @@ impl<L: Lookup> Engine<L> {
         }
     }
 
-    fn modify_flows(&mut self, flow_mod: FlowMod) -> Result<Vec<Effect>, AllocError>
+    fn modify_flows(&mut self, flow_mod: FlowMod) -> Result<Effects, AllocError>
         requires table { flow_mod.table < 16 }
         requires fit { are_for flow_mod.table flow_mod.instructions ≡ true }
         requires checked { all_go_with flow_mod.fields flow_mod.instructions ≡ true }
@@ -313,10 +303,10 @@ impl<L: Lookup> Engine<L> {
         let instructions = flow_mod.instructions.copy()?;
         let which = which_from(flow_mod);
         self.plane.tables.modify(&which, &instructions, reset)?;
-        Ok(Vec::new(self.alloc))
+        Ok(Effects::new(self.alloc))
     }
 
-    fn delete_flows(&mut self, flow_mod: FlowMod) -> Result<Vec<Effect>, AllocError>
+    fn delete_flows(&mut self, flow_mod: FlowMod) -> Result<Effects, AllocError>
         ensures { IfOk result (λ effects. gives (notice_effects self.old.forwarding.tables.latest (notices_in (Command (which_of flow_mod)) self.old.forwarding.tables)) (with_tables (left_in (Command (which_of flow_mod)) self.old.forwarding.tables) self.old) ≡ gives effects.items self.new) }
     {
         let now = self.plane.tables.latest();
@@ -325,12 +315,12 @@ impl<L: Lookup> Engine<L> {
     }
 
     /// It is so many nanoseconds.
-    pub fn moment(&mut self, nanos: u64) -> Result<Vec<Effect>, AllocError>
+    pub fn moment(&mut self, nanos: u64) -> Result<Effects, AllocError>
         ensures { IfOk result (λ effects. moment_in nanos self.old ≡ gives effects.items self.new) }
     {
         let removed = self.plane.tables.expire(self.alloc, nanos)?;
         if self.session.phase() != Phase::Open {
-            return Ok(Vec::new(self.alloc));
+            return Ok(Effects::new(self.alloc));
         }
         notices(self.alloc, &removed, self.plane.tables.latest())
     }
@@ -350,16 +340,16 @@ fn no_counters() -> PortCounters
     }
 }
 
-fn one(alloc: Global, effect: Effect) -> Result<Vec<Effect>, AllocError>
+fn one(alloc: Global, effect: Effect) -> Result<Effects, AllocError>
     ensures { IfOk result (λ effects. effects.items ≡ effect ∷ []) }
 {
-    let mut effects = Vec::new(alloc);
+    let mut effects = Effects::new(alloc);
     effects.push(effect)?;
     Ok(effects)
 }
 
 // Effects after effects.
-fn append(effects: &mut Vec<Effect>, more: Vec<Effect>) -> Result<(), AllocError>
+fn append(effects: &mut Effects, more: Effects) -> Result<(), AllocError>
     ensures { OnOk result (effects.new.items ≡ effects.old.items ++ more.items) }
 {
     let mut more = more;
@@ -367,10 +357,10 @@ fn append(effects: &mut Vec<Effect>, more: Vec<Effect>) -> Result<(), AllocError
 }
 
 // An error, and the end of the connection.
-fn closing(alloc: Global, error: Bytes) -> Result<Vec<Effect>, AllocError>
+fn closing(alloc: Global, error: Bytes) -> Result<Effects, AllocError>
     ensures { IfOk result (λ effects. effects.items ≡ Effect.Answer error ∷ Effect.Closed ∷ []) }
 {
-    let mut effects = Vec::new(alloc);
+    let mut effects = Effects::new(alloc);
     effects.push(Effect::Answer(error))?;
     effects.push(Effect::Closed)?;
     Ok(effects)

@@ -10,7 +10,7 @@ mod port_change;
 mod switch;
 mod told;
 
-pub use effect::Effect;
+pub use effect::{Effect, Effects};
 pub use laws::two_pieces;
 pub use port_change::PortChange;
 pub use switch::{Switch, SwitchError};

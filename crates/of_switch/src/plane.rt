@@ -16,9 +16,9 @@ use of_actions::Action;
 use of_classifier::Lookup;
 use of_headers::{FieldKey, check_length};
 use of_machine::{
-    Chosen, Count, Item, NoLog, Outcome, Packet, Port, PortCounters, World, run, run_actions,
+    Chosen, Count, Item, Items, NoLog, Outcome, Packet, PacketFrame, Port, PortCounters, World,
+    run, run_actions,
 };
-use of_rewrite::Frame;
 use of_table::{Flow, FlowTables};
 use std::alloc::{AllocError, Global};
 
@@ -192,39 +192,34 @@ impl<L: Lookup> Plane<L> {
     }
 
     /// A frame comes in by a port (OpenFlow 1.3.5, 5.1). What is emitted is for the caller to send.
-    pub fn frame(
-        &mut self,
-        alloc: Global,
-        number: u32,
-        bytes: &[u8],
-    ) -> Result<Vec<Item>, AllocError>
+    pub fn frame(&mut self, alloc: Global, number: u32, bytes: &[u8]) -> Result<Items, AllocError>
         ensures forwarded { IfOk result (λ items. framed number bytes.now (forwarding_of self.old.tables self.old.ports.items) ≡ forwards items.items (forwarding_of self.new.tables self.new.ports.items)) }
         ensures short { IfOk result (λ items. AllShort 65485 items.items) }
     {
         let Some(port) = find_port(&self.ports, number) else {
-            return Ok(Vec::new(alloc));
+            return Ok(Items::new(alloc));
         };
         if !port.is_link_up {
             count_at(&mut self.ports, number, PortCount::ReceiveDropped);
-            return Ok(Vec::new(alloc));
+            return Ok(Items::new(alloc));
         }
         if check_length(bytes).is_err() {
             count_at(&mut self.ports, number, PortCount::ReceiveError);
-            return Ok(Vec::new(alloc));
+            return Ok(Items::new(alloc));
         }
         count_at(&mut self.ports, number, PortCount::Received(bytes.len()));
         self.forward(alloc, number, bytes)
     }
 
     // Runs a frame, and counts what comes of it.
-    fn forward(&mut self, alloc: Global, number: u32, bytes: &[u8]) -> Result<Vec<Item>, AllocError>
+    fn forward(&mut self, alloc: Global, number: u32, bytes: &[u8]) -> Result<Items, AllocError>
         requires long { 14 ≤ length bytes.now }
         requires most { length bytes.now ≤ 9216 }
         ensures forwarded { IfOk result (λ items. through (entering bytes.now number) (LookUp 0 ∷ []) (forwarding_of self.old.tables self.old.ports.items) ≡ forwards items.items (forwarding_of self.new.tables self.new.ports.items)) }
         ensures short { IfOk result (λ items. AllShort 65485 items.items) }
     {
         self.tables.known();
-        let packet = Packet::new(Frame::new(bytes.to_vec(alloc)?), number);
+        let packet = Packet::new(PacketFrame::new(bytes), number);
         let outcome = run(alloc, self, packet, &mut NoLog)?;
         Ok(self.apply(outcome))
     }
@@ -236,7 +231,7 @@ impl<L: Lookup> Plane<L> {
         in_port: u32,
         bytes: &[u8],
         actions: &[Action],
-    ) -> Result<Vec<Item>, AllocError>
+    ) -> Result<Items, AllocError>
         requires long { 14 ≤ length bytes.now }
         requires most { length bytes.now ≤ 9216 }
         requires served { IsTrue (are_served true actions.now) }
@@ -244,13 +239,13 @@ impl<L: Lookup> Plane<L> {
         ensures short { IfOk result (λ items. AllShort 65485 items.items) }
     {
         self.tables.known();
-        let packet = Packet::new(Frame::new(bytes.to_vec(alloc)?), in_port);
+        let packet = Packet::new(PacketFrame::new(bytes), in_port);
         let outcome = run_actions(alloc, self, packet, actions, &mut NoLog)?;
         Ok(self.apply(outcome))
     }
 
     // Counts what a run counted and emitted.
-    fn apply(&mut self, outcome: Outcome) -> Vec<Item>
+    fn apply(&mut self, outcome: Outcome) -> Items
         ensures items { result.items ≡ outcome.items.items }
         ensures forwarding { forwarding_of self.new.tables self.new.ports.items ≡ all_sent outcome.items.items (all_tallied (all_placed self.old.tables outcome.counts.items) (forwarding_of self.old.tables self.old.ports.items)) }
     {

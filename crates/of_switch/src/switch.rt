@@ -6,7 +6,7 @@ ghost use Rattle.of_switch.specs.Steps.{connected, fed, frame_in, moment_in, giv
 ghost use Rattle.of_switch.specs.Runs.{piece_in};
 ghost use Rattle.of_switch.specs.Calls.{Call, any_refusal, connect_refusal, feed_refusal, number_of, port_refusal, well};
 
-use crate::effect::Effect;
+use crate::effect::Effects;
 use crate::engine::Engine;
 use crate::port_change::PortChange;
 use of_classifier::Lookup;
@@ -75,7 +75,7 @@ impl<L: Lookup> Switch<L> {
     /// A controller connects (OpenFlow 1.3.5, 6.3.1): the switch says HELLO.
     ///
     /// Refused, in this order: `Failed`; `Connected`.
-    pub fn connected(&mut self) -> Result<Vec<Effect>, SwitchError>
+    pub fn connected(&mut self) -> Result<Effects, SwitchError>
         ensures { Call (connect_refusal self.old) (λ effects new.
             (connected self.old.state ≡ gives effects.items new.state) × (new.failed ≡ false)) self.old result self.new }
     {
@@ -118,7 +118,7 @@ impl<L: Lookup> Switch<L> {
     /// Handles the first whole message, or the malformed header that ends the connection; None where there is neither.
     ///
     /// Refused: `Failed`.
-    pub fn next(&mut self) -> Result<Option<Vec<Effect>>, SwitchError>
+    pub fn next(&mut self) -> Result<Option<Effects>, SwitchError>
         ensures { Call (any_refusal self.old) (λ found new.
             (next_of self.old.state ≡ option_map (λ effects. gives effects.items new.state) found)
             × (new.failed ≡ false)
@@ -139,7 +139,7 @@ impl<L: Lookup> Switch<L> {
     /// Bytes of the controller come, cut anywhere, and each whole message is handled: `feed`, and then `next` until there is none.
     ///
     /// Refused, in this order: `Failed`; `NotConnected`.
-    pub fn piece(&mut self, piece: &[u8]) -> Result<Vec<Effect>, SwitchError>
+    pub fn piece(&mut self, piece: &[u8]) -> Result<Effects, SwitchError>
         ensures { Call (feed_refusal self.old) (λ effects new.
             (piece_in piece.now self.old.state ≡ gives effects.items new.state) × (new.failed ≡ false)) self.old result self.new }
     {
@@ -161,7 +161,7 @@ impl<L: Lookup> Switch<L> {
     /// A frame comes in by a port.
     ///
     /// Refused: `Failed`.
-    pub fn frame(&mut self, port: u32, frame: &[u8]) -> Result<Vec<Effect>, SwitchError>
+    pub fn frame(&mut self, port: u32, frame: &[u8]) -> Result<Effects, SwitchError>
         ensures { Call (any_refusal self.old) (λ effects new.
             (frame_in port frame.now self.old.state ≡ gives effects.items new.state) × (new.failed ≡ false)) self.old result self.new }
     {
@@ -180,7 +180,7 @@ impl<L: Lookup> Switch<L> {
     /// It is so many nanoseconds, or the latest moment if that is later: entries whose time is over go (OpenFlow 1.3.5, 5.5).
     ///
     /// An open connection gets a FLOW_REMOVED of each whose flags ask for one, by table, then by age. Refused: `Failed`.
-    pub fn moment(&mut self, nanos: u64) -> Result<Vec<Effect>, SwitchError>
+    pub fn moment(&mut self, nanos: u64) -> Result<Effects, SwitchError>
         ensures { Call (any_refusal self.old) (λ effects new.
             (moment_in nanos self.old.state ≡ gives effects.items new.state) × (new.failed ≡ false)) self.old result self.new }
     {

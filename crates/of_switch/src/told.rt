@@ -3,8 +3,8 @@ ghost use Rattle.std.specs.Prelude.{◌≡◌, ◌≤◌, IfOk, length};
 ghost use Rattle.of_machine.specs.Growth.{AllShort, frame_of};
 ghost use Rattle.of_switch.specs.Told.{effect_of, effects_of, is_given as is_given_to, packet_in_reason};
 
-use crate::effect::Effect;
-use of_machine::{Item, PacketInReason};
+use crate::effect::{Effect, Effects};
+use of_machine::{Item, Items, PacketInReason};
 use of_messages::{PacketIn, write_packet_in};
 use of_session::Phase;
 use std::alloc::{AllocError, Global};
@@ -56,15 +56,11 @@ fn effect_from(alloc: Global, item: Item) -> Result<Effect, AllocError>
 }
 
 /// What a switch whose connection stands there sends of what was emitted, in order.
-pub fn effects_from(
-    alloc: Global,
-    phase: Phase,
-    items: Vec<Item>,
-) -> Result<Vec<Effect>, AllocError>
+pub fn effects_from(alloc: Global, phase: Phase, items: Items) -> Result<Effects, AllocError>
     requires { AllShort 65485 items.items }
     ensures { IfOk result (λ effects. effects.items ≡ effects_of phase items.items) }
 {
-    let mut effects = Vec::new(alloc);
+    let mut effects = Effects::new(alloc);
     for item in items {
         if is_given(phase, &item) {
             effects.push(effect_from(alloc, item)?)?;

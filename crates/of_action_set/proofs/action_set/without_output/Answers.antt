@@ -1,6 +1,4 @@
-use Rattle.std.proofs.Common.{sym, ◌∙◌, ◌≡◌, ◌++◌, ◌∷◌, [], false, true, IsTrue}
-use Rattle.of_actions.specs.Rising.{is_rising}
-use Rattle.of_action_set.specs.Sets.{rank, is_output}
+use Rattle.std.proofs.Common.{sym, ◌∙◌, ◌≡◌, ◌++◌, ◌∷◌, []}
 use Rattle.of_action_set.proofs.Kinded.{only_last, none_but_last}
 use Rattle.of_action_set.proofs.action_set.without_output.Goals as goal
 

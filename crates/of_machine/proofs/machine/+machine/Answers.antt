@@ -1,4 +1,4 @@
-use Rattle.std.proofs.Common.{◌≡◌, ◌+◌, ◌++◌, ◌∷◌, [], false, rules, refl, drop, get_or, ◌∙◌, ap}
+use Rattle.std.proofs.Common.{◌≡◌, ◌+◌, ◌++◌, ◌∷◌, [], false, rules, drop, get_or, ◌∙◌, ap}
 use Rattle.std.specs.Prelude.{IsTrue}
 use Rattle.std.proofs.lemmas.List.{drop_all}
 use Rattle.std.proofs.lemmas.Result.{err_from_is_err_and, on_ok_weaker, on_err_weaker}
@@ -30,7 +30,7 @@ act-returns-in-DecNwTtl-clause-err g t c =
 pub act-returns-in_ok-step-in_default : goal.act-returns-in_ok-step-in_default
 act-returns-in_ok-step-in_default g t c =
     record {
-      ok = λ rest others. rewrites (g.W.World.view c.args.world.now) g.S.StepLog.KEEPS c.args.packet.now rest others c.args.outcome.now (g.S.StepLog.list c.args.log.now) (g.S.StepLog.list c.step-in_default.new.self) c.args.action c.in_default.not-Output c.in_default.not-Group c.in_default.not-DecNwTtl c.rewrite.new.frame c.in_ok-rewrite-in_default.ensures c.in_ok-step-in_default.ensures.ok;
+      ok = λ rest others. rewrites (g.W.World.view c.args.world.now) g.S.StepLog.KEEPS c.args.packet.now rest others c.args.outcome.now (g.S.StepLog.list c.args.log.now) (g.S.StepLog.list c.step-in_default.new.self) c.args.action c.in_default.not-Output c.in_default.not-Group c.in_default.not-DecNwTtl c.rewrite.new.self c.in_ok-rewrite-in_default.ensures c.in_ok-step-in_default.ensures.ok;
       err = tt;
     }
 
@@ -50,11 +50,6 @@ act_all-returns-in_err-act-clause-err g t c =
     rw p.1 (λ rest others start h. c.in_err-act.ensures.err (acts (drop (i + 1) l) ++ rest) others start
     (rw (acts_at l i (Output 0 0) c.loop-action-test.true) at (c.loop-action.invariant rest others start h)))
 
-pub run_buckets-returns-in_err-copy-clause-err : goal.run_buckets-returns-in_err-copy-clause-err
-run_buckets-returns-in_err-copy-clause-err g t c =
-    let p = err_from_is_err_and c.from_residual.result c.from_residual.ensures.1 in
-    rw p.1 (λ others start h. stays (g.W.World.view c.args.world.now) g.S.StepLog.KEEPS _ (g.S.StepLog.list c.loop-place.log) refl start (c.loop-place.invariant others start h))
-
 pub run_buckets-bucket-requires : goal.run_buckets-bucket-requires
 run_buckets-bucket-requires g t c =
     λ none. let b = bucket_at (g.W.World.view c.args.world.now) c.args.group c.args.places.now c.loop-place.place-index c.requires.there c.loop-place-test.true in
@@ -67,17 +62,17 @@ run_buckets-write-requires g t c =
 pub run_buckets-run_set-requires : goal.run_buckets-run_set-requires
 run_buckets-run_set-requires g t c κs lives =
     let b = bucket_at (g.W.World.view c.args.world.now) c.args.group c.args.places.now c.loop-place.place-index c.requires.there c.loop-place-test.true in
-    let empty : c.in_ok-copy.copy.action_set ≡ [] = ap (λ (p : Packet). p.action_set) c.in_ok-copy.ensures in
+    let empty : c.copy_without_actions-copy.result.action_set ≡ [] = ap (λ (p : Packet). p.action_set) c.copy_without_actions-copy.ensures in
     let below : AllBelow (g.W.World.view c.args.world.now) (c.args.levels + 1) c.write.new.self =
-    rw c.write.ensures (bucket_below (g.W.World.view c.args.world.now) c.args.group (get_or c.args.places.now c.loop-place.place-index 0) (c.args.levels + 1) c.bucket.result.now c.in_ok-copy.copy.action_set b c.bucket.ensures c.requires.below empty) in
+    rw c.write.ensures (bucket_below (g.W.World.view c.args.world.now) c.args.group (get_or c.args.places.now c.loop-place.place-index 0) (c.args.levels + 1) c.bucket.result.now c.copy_without_actions-copy.result.action_set b c.bucket.ensures c.requires.below empty) in
     search rules
 
 pub run_buckets-returns-in_err-run_set-clause-err : goal.run_buckets-returns-in_err-run_set-clause-err
 run_buckets-returns-in_err-run_set-clause-err g t c =
-    let p = err_from_is_err_and c.from_residual-in_err-run_set.result c.from_residual-in_err-run_set.ensures.1 in
+    let p = err_from_is_err_and c.from_residual.result c.from_residual.ensures.1 in
     let ks = c.args.places.now in
     let i = c.loop-place.place-index in
-    let copied = copy_is (g.W.World.view c.args.world.now) c.args.group (get_or ks i 0) c.args.packet.now c.in_ok-copy.copy c.write.new.self c.bucket.result.now c.in_ok-copy.ensures c.bucket.ensures c.write.ensures in
+    let copied = copy_is (g.W.World.view c.args.world.now) c.args.group (get_or ks i 0) c.args.packet.now c.copy_without_actions-copy.result c.write.new.self c.bucket.result.now c.copy_without_actions-copy.ensures c.bucket.ensures c.write.ensures in
     rw p.1 (λ others start h. c.in_err-run_set.ensures.err [] (copies (g.W.World.view c.args.world.now) c.args.group c.args.packet.now (drop (i + 1) ks) ++ others) start
     (rw copied (rw (copies_at (g.W.World.view c.args.world.now) c.args.group c.args.packet.now ks i c.loop-place-test.true) at (c.loop-place.invariant others start h))))
 
@@ -85,7 +80,7 @@ pub run_buckets-loop-place-preserved : goal.run_buckets-loop-place-preserved
 run_buckets-loop-place-preserved g t c =
     let ks = c.args.places.now in
     let i = c.loop-place.place-index in
-    let copied = copy_is (g.W.World.view c.args.world.now) c.args.group (get_or ks i 0) c.args.packet.now c.in_ok-copy.copy c.write.new.self c.bucket.result.now c.in_ok-copy.ensures c.bucket.ensures c.write.ensures in
+    let copied = copy_is (g.W.World.view c.args.world.now) c.args.group (get_or ks i 0) c.args.packet.now c.copy_without_actions-copy.result c.write.new.self c.bucket.result.now c.copy_without_actions-copy.ensures c.bucket.ensures c.write.ensures in
     λ others start h. c.in_ok-run_set.ensures.ok (copies (g.W.World.view c.args.world.now) c.args.group c.args.packet.now (drop (i + 1) ks) ++ others) start
     (rw copied (rw (copies_at (g.W.World.view c.args.world.now) c.args.group c.args.packet.now ks i c.loop-place-test.true) at (c.loop-place.invariant others start h)))
 
@@ -97,23 +92,23 @@ run_buckets-returns-clause-ok g t c =
 pub run_set-returns-in_err-act_all-clause-err : goal.run_set-returns-in_err-act_all-clause-err
 run_set-returns-in_err-act_all-clause-err g t c =
     let p = err_from_is_err_and c.from_residual-in_err-act_all.result c.from_residual-in_err-act_all.ensures.1 in
-    rw p.1 (λ rest others start h. c.in_err-act_all.ensures.err rest others start (runs_set (g.W.World.view c.args.world.now) g.S.StepLog.KEEPS c.args.packet rest others c.args.outcome.now (g.S.StepLog.list c.args.log.now) (g.S.StepLog.list c.step.new.self) c.replace-set.new.dest c.in_order.result.now (c.replace-set.ensures.after ∙ c.new.ensures) (c.in_order.ensures.actions ∙ ap in_order c.replace-set.ensures.value) c.in_ok-step.ensures.ok start h))
+    rw p.1 (λ rest others start h. c.in_err-act_all.ensures.err rest others start (runs_set (g.W.World.view c.args.world.now) g.S.StepLog.KEEPS c.args.packet.now rest others c.args.outcome.now (g.S.StepLog.list c.args.log.now) (g.S.StepLog.list c.step.new.self) c.take-set.new.self c.in_order.result.now c.take-set.ensures.left (c.in_order.ensures.actions ∙ ap in_order c.take-set.ensures.taken) c.in_ok-step.ensures.ok start h))
 
 pub run_set-returns-in_err-step-2-clause-err : goal.run_set-returns-in_err-step-2-clause-err
 run_set-returns-in_err-step-2-clause-err g t c =
     let p = err_from_is_err_and c.from_residual-in_err-step-2.result c.from_residual-in_err-step-2.ensures.1 in
     rw p.1 (λ rest others start h. stays (g.W.World.view c.args.world.now) g.S.StepLog.KEEPS _ (g.S.StepLog.list c.step-2.new.self) c.in_err-step-2.ensures.err start
-    (c.in_ok-act_all.ensures.ok rest others start (runs_set (g.W.World.view c.args.world.now) g.S.StepLog.KEEPS c.args.packet rest others c.args.outcome.now (g.S.StepLog.list c.args.log.now) (g.S.StepLog.list c.step.new.self) c.replace-set.new.dest c.in_order.result.now (c.replace-set.ensures.after ∙ c.new.ensures) (c.in_order.ensures.actions ∙ ap in_order c.replace-set.ensures.value) c.in_ok-step.ensures.ok start h)))
+    (c.in_ok-act_all.ensures.ok rest others start (runs_set (g.W.World.view c.args.world.now) g.S.StepLog.KEEPS c.args.packet.now rest others c.args.outcome.now (g.S.StepLog.list c.args.log.now) (g.S.StepLog.list c.step.new.self) c.take-set.new.self c.in_order.result.now c.take-set.ensures.left (c.in_order.ensures.actions ∙ ap in_order c.take-set.ensures.taken) c.in_ok-step.ensures.ok start h)))
 
 pub run_set-returns-clause-ok : goal.run_set-returns-clause-ok
 run_set-returns-clause-ok g t c =
     λ others start h. ends (g.W.World.view c.args.world.now) g.S.StepLog.KEEPS c.act_all.new.packet [] others c.act_all.new.outcome (g.S.StepLog.list c.act_all.new.log) (g.S.StepLog.list c.step-2.new.self) c.in_ok-step-2.ensures.ok start
-    (rw (left_nil c.in_ok-act_all.field-0) at (c.in_ok-act_all.ensures.ok [] others start (runs_set (g.W.World.view c.args.world.now) g.S.StepLog.KEEPS c.args.packet [] others c.args.outcome.now (g.S.StepLog.list c.args.log.now) (g.S.StepLog.list c.step.new.self) c.replace-set.new.dest c.in_order.result.now (c.replace-set.ensures.after ∙ c.new.ensures) (c.in_order.ensures.actions ∙ ap in_order c.replace-set.ensures.value) c.in_ok-step.ensures.ok start h)))
+    (rw (left_nil c.in_ok-act_all.field-0) at (c.in_ok-act_all.ensures.ok [] others start (runs_set (g.W.World.view c.args.world.now) g.S.StepLog.KEEPS c.args.packet.now [] others c.args.outcome.now (g.S.StepLog.list c.args.log.now) (g.S.StepLog.list c.step.new.self) c.take-set.new.self c.in_order.result.now c.take-set.ensures.left (c.in_order.ensures.actions ∙ ap in_order c.take-set.ensures.taken) c.in_ok-step.ensures.ok start h)))
 
 pub run_set-act_all-requires : goal.run_set-act_all-requires
 run_set-act_all-requires g t c κs lives =
     let below : AllBelow (g.W.World.view c.args.world.now) (c.args.levels + 1) c.in_order.result.now =
-    rw (c.in_order.ensures.actions, c.replace-set.ensures.value) (order_below (g.W.World.view c.args.world.now) (c.args.levels + 1) c.args.packet.action_set c.requires.below) in
+    rw (c.in_order.ensures.actions, c.take-set.ensures.taken) (order_below (g.W.World.view c.args.world.now) (c.args.levels + 1) c.args.packet.now.action_set c.requires.below) in
     let served = c.in_order.ensures.served in
     search rules
 
@@ -123,10 +118,10 @@ to_group-returns-in-None-clause-ok g t c =
 
 pub to_group-returns-in_ok-step-in-Some-clause-ok : goal.to_group-returns-in_ok-step-in-Some-clause-ok
 to_group-returns-in_ok-step-in-Some-clause-ok g t c =
-    let counts = rw (c.as_slice.ensures.places, c.len.ensures.length) at c.in_ok-count_uses-in-Some.ensures.counts in
+    let counts = rw (c.as_slice.ensures.places, c.len.ensures) at c.in_ok-count_uses-in-Some.ensures.counts in
     on_ok_weaker c.run_buckets.result (λ m rest others start h. m (task c.args.packet.now rest ∷ others) start (rw c.as_slice-in-Some.ensures.places (groups (g.W.World.view c.args.world.now) g.S.StepLog.KEEPS c.args.packet.now rest others c.args.outcome.now (g.S.StepLog.list c.args.log.now) (g.S.StepLog.list c.step-in-Some.new.self) c.count_uses.new.outcome c.args.group c.in-Some.places c.in-Some.ensures c.in_ok-count_uses-in-Some.ensures.items counts c.in_ok-step-in-Some.ensures.ok start h))) c.run_buckets.ensures.ok
 
 pub to_group-returns-in_ok-step-in-Some-clause-err : goal.to_group-returns-in_ok-step-in-Some-clause-err
 to_group-returns-in_ok-step-in-Some-clause-err g t c =
-    let counts = rw (c.as_slice.ensures.places, c.len.ensures.length) at c.in_ok-count_uses-in-Some.ensures.counts in
+    let counts = rw (c.as_slice.ensures.places, c.len.ensures) at c.in_ok-count_uses-in-Some.ensures.counts in
     on_err_weaker c.run_buckets.result (λ m rest others start h. m (task c.args.packet.now rest ∷ others) start (rw c.as_slice-in-Some.ensures.places (groups (g.W.World.view c.args.world.now) g.S.StepLog.KEEPS c.args.packet.now rest others c.args.outcome.now (g.S.StepLog.list c.args.log.now) (g.S.StepLog.list c.step-in-Some.new.self) c.count_uses.new.outcome c.args.group c.in-Some.places c.in-Some.ensures c.in_ok-count_uses-in-Some.ensures.items counts c.in_ok-step-in-Some.ensures.ok start h))) c.run_buckets.ensures.err

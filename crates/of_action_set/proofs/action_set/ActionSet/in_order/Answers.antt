@@ -7,9 +7,9 @@ use Rattle.of_action_set.proofs.Kinded.{few}
 use Rattle.of_action_set.proofs.action_set.ActionSet.in_order.Goals as goal
 
 pub returns-then-has_group-clause-served : goal.returns-then-has_group-clause-served
-returns-then-has_group-clause-served c = rw (c.without_output.ensures, c.as_slice-actions.ensures.value) (all-filter (is_served false) (λ a. not (is_output a)) c.self.inside.actions.items c.self.invariant.1)
+returns-then-has_group-clause-served c = rw (c.without_output.ensures, c.as_slice-actions.ensures) (all-filter (is_served false) (λ a. not (is_output a)) c.args.self.now c.known.ensures.served)
 
 pub returns-then-has_group-clause-few : goal.returns-then-has_group-clause-few
 returns-then-has_group-clause-few c =
-    rw (c.without_output.ensures, c.as_slice-actions.ensures.value)
-    (few (filter (λ a. not (is_output a)) c.self.inside.actions.items) (rising-filter rank (λ a. not (is_output a)) c.self.inside.actions.items c.self.invariant.0) (all-filter (is_served false) (λ a. not (is_output a)) c.self.inside.actions.items c.self.invariant.1))
+    rw (c.without_output.ensures, c.as_slice-actions.ensures)
+    (few (filter (λ a. not (is_output a)) c.args.self.now) (rising-filter rank (λ a. not (is_output a)) c.args.self.now c.known.ensures.rising) (all-filter (is_served false) (λ a. not (is_output a)) c.args.self.now c.known.ensures.served))

@@ -8,7 +8,7 @@ pub returns-clause-forwarded : goal.returns-clause-forwarded
 returns-clause-forwarded g c =
     let now = c.args.self.now in
     let ran = c.run.new.world in
-    let whole : c.new.result ≡ c.args.bytes.now = c.new.ensures ∙ c.in_ok-to_vec.ensures.items_if_clones_equal (λ _ _ e. e) in
+    let whole : c.new.result ≡ c.args.bytes.now = c.new.ensures in
     rw c.apply.ensures.items
     (through_is (entering c.args.bytes.now c.args.number) _ (Lookup 0 ∷ []) now.tables now.ports.items (contents ran.tables ran.ports.items)
     c.in_ok-outcome.outcome.items.items c.in_ok-outcome.outcome.counts.items (forwarding_of c.apply.new.self.tables c.apply.new.self.ports.items)
