@@ -73,7 +73,7 @@ impl<'a> PacketFrame<'a> {
         PacketFrame::new(self.bytes())
     }
 
-    // Does to it what the action does to a frame. Without memory it stays as it is.
+    // Does to it what the action does to a frame.
     pub(crate) fn rewrite(&mut self, alloc: Global, action: Action) -> Result<(), AllocError>
         requires { IsTrue (is_served false action) }
         ensures { OnOk result (self.new ≡ rewritten action self.old) }
