@@ -29,6 +29,3 @@ pub use instruction_writing::write_instructions;
 pub use port_number::{
     PORT_ALL, PORT_CONTROLLER, PORT_FLOOD, PORT_IN_PORT, PORT_MAX, PORT_TABLE, is_number,
 };
-
-#[cfg(test)]
-mod tests;

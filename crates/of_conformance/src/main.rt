@@ -7,6 +7,8 @@ use of_replay::{Ended, replay};
 use std::{fs, io};
 
 #[cfg(test)]
+mod stream_tests;
+#[cfg(test)]
 mod tests;
 
 /// The event files, each beside the text that it is to print.

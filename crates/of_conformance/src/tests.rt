@@ -2,9 +2,9 @@ use super::*;
 use std::test::Fail;
 
 // HELLO, an ECHO_REQUEST and its reply (OpenFlow 1.3.5, 7.5.1 and 7.5.2).
-const EVENTS: &[u8] = b"connect\nc 0400000800000001\nc 0402000800000002\n";
+pub const EVENTS: &[u8] = b"connect\nc 0400000800000001\nc 0402000800000002\n";
 
-const PRINTED: &[u8] = b"a 04000010000000000001000800000010\na 0403000800000002\n";
+pub const PRINTED: &[u8] = b"a 04000010000000000001000800000010\na 0403000800000002\n";
 
 #[test]
 fn each_read_fails_in_turn(rt: HostRuntime) -> Result<(), Fail> {

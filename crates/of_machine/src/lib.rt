@@ -20,6 +20,3 @@ pub use port::{Port, PortCounters};
 pub use runs::{run, run_actions};
 pub use tables::is_miss;
 pub use world::{NoLog, StepLog, Steps, World};
-
-#[cfg(test)]
-mod tests;

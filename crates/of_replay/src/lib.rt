@@ -8,6 +8,7 @@ pub mod memory;
 mod output;
 mod play;
 mod rows;
+pub mod streams;
 mod transfer;
 
 pub use event_file::{Ended, replay, status};

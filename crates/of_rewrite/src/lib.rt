@@ -9,8 +9,6 @@ mod renewal;
 mod rewrite;
 mod sums;
 mod tags;
-#[cfg(test)]
-mod tests;
 mod writing;
 
 pub use frame::{Frame, Ttl};

@@ -1,84 +1,81 @@
 //! `ofswitch`: an OpenFlow 1.3 switch on the command line.
 #![tactic(auto)]
 
-mod command_line;
-mod files;
-
-use clap::error::ErrorKind;
-use clap::{ArgMatches, Error};
-use command_line::command;
-use files::{ReaderSource, WriterSink};
 use of_classifier::Scan;
+use of_command_line::{NoRequest, Request, read_request};
+use of_replay::streams::{ReaderSource, WriterSink};
 use of_replay::{Ended, replay, status};
 use std::fs::File;
-use std::io;
+use std::io::{self, Read};
 use std::process::ExitCode;
 
-fn main(rt: HostRuntime) -> io::Result<ExitCode> {
-    let alloc = rt.alloc();
-    let Ok(arguments) = std::env::args(&rt) else {
-        return no_memory(&rt);
-    };
-    let Ok(words) = arguments.collect::<Vec<String>>(alloc) else {
-        return no_memory(&rt);
-    };
-    let Ok(command) = command(alloc) else {
-        return no_memory(&rt);
-    };
-    match command.try_get_matches_from(words.as_slice()) {
-        Ok(matches) => run(&rt, &matches),
-        Err(error) => refuse(&rt, &error),
-    }
-}
+/// The exit status where the arguments are not understood.
+const BAD_ARGUMENTS: u8 = 1;
 
-// Help goes to standard output with status 0, and bad arguments to standard error with status 1.
-fn refuse(rt: &HostRuntime, error: &Error) -> io::Result<ExitCode> {
-    if error.kind() == ErrorKind::OutOfMemory {
-        return no_memory(rt);
-    }
-    error.print(rt)?;
-    if error.exit_code() == 0 {
-        Ok(ExitCode::SUCCESS)
-    } else {
-        Ok(ExitCode::from(1))
-    }
-}
-
-fn no_memory(rt: &HostRuntime) -> io::Result<ExitCode> {
-    tell(rt, &Ended::NoMemory)
-}
-
-fn run(rt: &HostRuntime, matches: &ArgMatches) -> io::Result<ExitCode> {
-    match matches.subcommand() {
-        Some(("replay", matches)) => {
-            let ended = replay_file(rt, matches.get_str("FILE").unwrap_or(""));
-            tell(rt, &ended)
+// A standard error that takes nothing changes no status, here and below.
+fn main(rt: HostRuntime) -> ExitCode {
+    let arguments = match std::env::args(&rt) {
+        Ok(arguments) => arguments,
+        Err(error) if error.kind() == io::ErrorKind::InvalidData => {
+            let _ = eprintln!(rt; "argument is not UTF-8");
+            return ExitCode::from(BAD_ARGUMENTS);
         }
-        _ => Ok(ExitCode::from(1)),
+        Err(_) => return end(&rt, &Ended::NoMemory),
+    };
+    let Ok(words) = arguments.collect::<Vec<String>>(rt.alloc()) else {
+        return end(&rt, &Ended::NoMemory);
+    };
+    match read_request(rt.alloc(), &words) {
+        Ok(Request::Replay { file }) => replay_file(&rt, &file),
+        Err(why) => tell(&rt, &why),
+    }
+}
+
+// Help goes to standard output with status 0, and what is wrong with the arguments to standard error with status 1.
+fn tell(rt: &HostRuntime, why: &NoRequest) -> ExitCode {
+    match why {
+        NoRequest::NoMemory => end(rt, &Ended::NoMemory),
+        NoRequest::Asked(text) => match rt.print(text.as_str()) {
+            Ok(()) => ExitCode::SUCCESS,
+            Err(_) => end(rt, &Ended::WriteFault),
+        },
+        NoRequest::Refused(text) => {
+            let _ = eprint!(rt; "{text}");
+            ExitCode::from(BAD_ARGUMENTS)
+        }
     }
 }
 
 // A file that does not open is a read fault, unless memory ran out.
-fn replay_file(rt: &HostRuntime, path: &str) -> Ended {
+fn replay_file(rt: &HostRuntime, path: &str) -> ExitCode {
+    if path == "-" {
+        return end(rt, &replay_reader(rt, rt.stdin()));
+    }
     match File::open(rt, path) {
-        Ok(file) => {
-            let mut reader = ReaderSource::new(file);
-            let mut writer = WriterSink::new(rt.stdout());
-            replay::<Scan, _, _>(rt.alloc(), &mut reader, &mut writer)
+        Ok(file) => end(rt, &replay_reader(rt, file)),
+        Err(error) if error.kind() == io::ErrorKind::OutOfMemory => end(rt, &Ended::NoMemory),
+        Err(error) => {
+            let code = end(rt, &Ended::ReadFault);
+            let _ = eprintln!(rt; "cannot open {path}: {error}");
+            code
         }
-        Err(error) if error.kind() == io::ErrorKind::OutOfMemory => Ended::NoMemory,
-        Err(_) => Ended::ReadFault,
     }
 }
 
+fn replay_reader<R: Read + Drop>(rt: &HostRuntime, reader: R) -> Ended {
+    let mut reader = ReaderSource::new(reader);
+    let mut writer = WriterSink::new(rt.stdout());
+    replay::<Scan, _, _>(rt.alloc(), &mut reader, &mut writer)
+}
+
 // Why the run ended, on standard error where it is a fault, and the status.
-fn tell(rt: &HostRuntime, ended: &Ended) -> io::Result<ExitCode> {
-    match ended {
-        Ended::Done => {}
-        Ended::BadRow(line) => eprintln!(rt; "line {line}: bad row")?,
-        Ended::ReadFault => eprintln!(rt; "read fault")?,
-        Ended::WriteFault => eprintln!(rt; "write fault")?,
-        Ended::NoMemory => eprintln!(rt; "no memory")?,
-    }
-    Ok(ExitCode::from(status(ended)))
+fn end(rt: &HostRuntime, ended: &Ended) -> ExitCode {
+    let _ = match ended {
+        Ended::Done => Ok(()),
+        Ended::BadRow(line) => eprintln!(rt; "line {line}: bad row"),
+        Ended::ReadFault => eprintln!(rt; "read fault"),
+        Ended::WriteFault => eprintln!(rt; "write fault"),
+        Ended::NoMemory => eprintln!(rt; "no memory"),
+    };
+    ExitCode::from(status(ended))
 }

@@ -1,7 +1,7 @@
 ghost use Rattle.std.specs.Prelude.{◌≡◌, ◌≤◌, ◌<◌, ◌^◌, length};
 
-use crate::{Frame, Ttl};
 use of_layers::Field;
+use of_rewrite::{Frame, Ttl};
 use std::alloc::{AllocError, Global};
 use std::process::Abort;
 use std::test::Fail;
@@ -87,7 +87,7 @@ fn absent(rt: HostRuntime) -> Result<(), Fail> {
 }
 
 /// Writes over the source address. What the loan's contract says of the bytes behind it is enough for this one.
-#[tactic(auto, using(crate::proofs::Lending::length_with))]
+#[tactic(auto, using(of_rewrite::proofs::Lending::length_with))]
 fn fill_source(frame: &mut Frame, byte: u8)
     ensures { length frame.new ≡ length frame.old }
 {

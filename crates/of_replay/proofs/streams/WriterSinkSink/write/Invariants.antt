@@ -1,5 +1,5 @@
 use Rattle.std.proofs.Common.{◌≡◌}
-use Rattle.ofswitch.proofs.files.WriterSinkSink.write.Given as goal
+use Rattle.of_replay.proofs.streams.WriterSinkSink.write.Given as goal
 
 abbrev pub invariant-loop : goal.invariant-loop
 invariant-loop g l = l.self.failures ≡ l.fn.self.failures

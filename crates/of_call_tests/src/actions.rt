@@ -1,4 +1,7 @@
-use super::*;
+use of_actions::{
+    Action, ActionList, Instruction, InstructionList, PORT_MAX, PORT_TABLE, check_flow, is_number,
+    read_actions, read_instructions, write_actions, write_instructions,
+};
 use of_layers::Field;
 use of_oxm::read_match;
 use of_wire::{Code, ReadError};

@@ -1,7 +1,7 @@
-//! Files and streams as sources and sinks.
+//! Readers and writers, as files and standard output are, as sources and sinks.
 ghost use Rattle.std.specs.Prelude.{◌≡◌, ◌≤◌, None};
 
-use of_replay::{Reading, Sink, Source, Writing};
+use crate::io::{Reading, Sink, Source, Writing};
 use std::io::{ErrorKind, Read, Write};
 
 /// A source over a reader. It does not tell what it read.

@@ -22,16 +22,19 @@ there, 7 too many ports, 8 bad port number.
 
   ofswitch replay examples/first-path.events";
 
+const VERSION: &str = "0.1.0";
+
 /// The command line of the program.
 pub fn command<'a>(alloc: Global) -> Result<Command<'a>, AllocError> {
     let file = Arg::new(alloc, "FILE")
         .required(true)
-        .help("The event file to run");
+        .help("The event file to run; - is standard input");
     let replay = Command::new(alloc, "replay")
         .about("Runs an event file on a new switch and prints what it gives")
         .after_help(EVENT_FILES)
         .arg(file)?;
     Command::new(alloc, "ofswitch")
+        .version(VERSION)
         .about("An OpenFlow 1.3.5 switch whose behaviour is proved")
         .after_help(STATUSES)
         .subcommand_required(true)

@@ -2,13 +2,13 @@ ghost use Rattle.std.specs.Prelude.{◌≡◌, ◌==◌, ◌≤◌, ◌<◌, ◌
 ghost use Rattle.of_actions.specs.declared.action.Action.TheVariants.{Output};
 ghost use Rattle.of_actions.specs.InstructionLists.{are_for};
 
-use crate::{
-    Chosen, Count, Item, NoLog, Outcome, Packet, PacketFrame, PacketInReason, Port, PortCounters,
-    Step, Steps, World, run, run_actions,
-};
 use of_actions::{Action, ActionList, Instruction, InstructionList, PORT_CONTROLLER, PORT_TABLE};
 use of_headers::FieldKey;
 use of_layers::Field;
+use of_machine::{
+    Chosen, Count, Item, NoLog, Outcome, Packet, PacketFrame, PacketInReason, Port, PortCounters,
+    Step, Steps, World, run, run_actions,
+};
 use of_oxm::read_match;
 use of_table::{Flow, FlowFlags};
 use std::alloc::Global;

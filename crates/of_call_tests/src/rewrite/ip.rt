@@ -1,6 +1,6 @@
 use super::{ends_as, frame_of, holds};
-use crate::Ttl;
 use of_layers::Field;
+use of_rewrite::Ttl;
 use std::test::Fail;
 
 /// From 10.0.0.1, port 49153, to 10.0.0.2, port 80, of DSCP 46 and ECN 1; both checksums are right, here and below (RFC 791, 3.1; RFC 9293, 3.1).
