@@ -7,6 +7,3 @@ mod rank;
 
 pub use action_set::ActionSet;
 pub use laws::{order_is_by_rank, set_is_map};
-
-#[cfg(test)]
-mod tests;

@@ -9,11 +9,10 @@ mod key;
 mod layout;
 mod place;
 mod reading;
-#[cfg(test)]
-mod tests;
 mod transport;
 
 pub use bytes::word_at;
+pub use fields::same_fields;
 pub use headers::{FrameFault, Headers, check_length, read, read_inside};
 pub use key::FieldKey;
 pub use layout::{Layout, Network, Payload, is_tag, layout_in};

@@ -1,6 +1,8 @@
 //! What the layers of a frame are: the only ones that spell it.
 
-ghost use Rattle.std.specs.Prelude.{◌≡◌, ◌≤◌, List, ℕ, length};
+ghost use Rattle.std.specs.Prelude.{◌≡◌, ◌≤◌, List, ℕ, Some, length};
+ghost use Rattle.of_layers.specs.declared.field.Field.{Field};
+ghost use Rattle.of_layers.specs.Fields.{number_of, field_at};
 ghost use Rattle.of_layers.specs.Layers.{Layers, Spells};
 ghost use Rattle.of_layers.specs.Reading.{layers_of};
 ghost use Rattle.of_layers.specs.WellFormed.{AreBytes, IsLayers};
@@ -12,4 +14,12 @@ pub fn spelt_by_one()
     ensures spells { (frame : List ℕ) → AreBytes frame → 14 ≤ length frame → Spells (layers_of frame) frame }
     ensures layered { (frame : List ℕ) → AreBytes frame → 14 ≤ length frame → IsLayers (layers_of frame) }
     ensures only { (l : Layers) (frame : List ℕ) → IsLayers l → AreBytes frame → Spells l frame → l ≡ layers_of frame }
+{}
+
+/// The number of a field names that field, and no number names two (OpenFlow 1.3.5, 7.2.3.7).
+///
+/// `named`: so `Field::ALL`, in which a number is looked for, has each field. `only`: a number names only the field whose number it is.
+pub fn number_names_field()
+    ensures named { (f : Field) → field_at (number_of f) ≡ Some f }
+    ensures only { (number : ℕ) (f : Field) → field_at number ≡ Some f → number_of f ≡ number }
 {}

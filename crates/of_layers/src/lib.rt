@@ -7,6 +7,6 @@ mod place;
 mod transport;
 
 pub use field::{Field, FieldRow, Need};
-pub use laws::spelt_by_one;
+pub use laws::{number_names_field, spelt_by_one};
 pub use place::Place;
 pub use transport::Transport;

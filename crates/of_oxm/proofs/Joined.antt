@@ -83,7 +83,7 @@ covered_by f v None fits h = under_ones f v fits
 covered_by f v (Some m) fits h = h.covers
 
 -- a value lies under its mask
-covered : (x : MatchField) → IsKept x → bit_and x.value (bits_looked_at x) ≡ x.value
+pub covered : (x : MatchField) → IsKept x → bit_and x.value (bits_looked_at x) ≡ x.value
 covered x h = covered_by x.field x.value x.mask h.value h.mask
 
 can_at : (x y : MatchField) → x.field ≡ y.field → can_both x y ≡ true → bit_and y.value (bits_looked_at x) ≡ bit_and x.value (bits_looked_at y)
@@ -113,13 +113,13 @@ second_sees f None (Some y) h = ap Some (covered y h.other.0)
 second_sees f (Some x) (Some y) h =
     ap Some (second_kept x.value y.value (bits_looked_at x) (bits_looked_at y) (covered x h.one.0) (covered y h.other.0) (can_at x y (h.one.1 ∙ sym h.other.1) (h.both x y refl refl)))
 
-at_most : (f : Field) (a b : ℕ) → a ≤ ones_of f → b ≤ ones_of f → bit_or a b ≤ ones_of f
+pub at_most : (f : Field) (a b : ℕ) → a ≤ ones_of f → b ≤ ones_of f → bit_or a b ≤ ones_of f
 at_most f a b p q =
     let pos = pow_pos (bits_of f) in
     let lt : bit_or a b < 2 ^ bits_of f = or_lt (bits_of f) a b (omega (arith, p, ones_is f, pos)) (omega (arith, q, ones_is f, pos)) in
     omega (arith, lt, ones_is f)
 
-kept_within : (f : Field) (x : MatchField) → IsKept x × (x.field ≡ f) → x.value ≤ ones_of f
+pub kept_within : (f : Field) (x : MatchField) → IsKept x × (x.field ≡ f) → x.value ≤ ones_of f
 kept_within f x h = subst (λ (g : Field). x.value ≤ ones_of g) h.1 (h.0.value)
 
 within : (f : Field) (o p : Option MatchField) → AreBoth f o p → IfSome (joined (option_map (λ e. e.value) o) (option_map (λ e. e.value) p)) (λ v. v ≤ ones_of f)
@@ -129,7 +129,7 @@ within f None (Some y) h = kept_within f y h.other
 within f (Some x) None h = kept_within f x h.one
 within f (Some x) (Some y) h = at_most f x.value y.value (kept_within f x h.one) (kept_within f y h.other)
 
-found_if : (m : List MatchField) (f : Field) (o : Option MatchField) → AllByRecursion IsKept m → first_at m f ≡ o → IfSome o (λ x. IsKept x × (x.field ≡ f))
+pub found_if : (m : List MatchField) (f : Field) (o : Option MatchField) → AllByRecursion IsKept m → first_at m f ≡ o → IfSome o (λ x. IsKept x × (x.field ≡ f))
 found_if m f None all e = tt
 found_if m f (Some x) all e = (found_kept m f x all e, found_number m f x e)
 

@@ -12,3 +12,5 @@ pub mod Joined
 pub mod PortMatch
 pub mod Computed
 pub mod Covered
+pub mod Covering
+pub mod Meant

@@ -8,3 +8,4 @@ pub mod Masks
 pub mod SameMatch
 pub mod InPortMatch
 pub mod MatchReading
+pub mod Meaning

@@ -19,9 +19,7 @@ pub use of_wire::{Code, ReadError};
 pub use prerequisites::is_met;
 pub use reading::{one_code, one_spelling, read_match};
 pub use relations::{
-    covered_has_needs, covered_is_matched, covers, matches, overlap_is_common_match, overlaps,
+    covered_has_needs, covered_is_matched, covers, matched_is_covered, matches,
+    normal_form_is_meant, overlap_is_common_match, overlaps,
 };
 pub use writing::write_match;
-
-#[cfg(test)]
-mod tests;

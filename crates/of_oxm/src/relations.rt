@@ -4,7 +4,8 @@ ghost use Rattle.std.specs.Prelude.{◌≡◌, ℕ, List, Option, true};
 ghost use Rattle.std.specs.List.{list_any, list_all};
 ghost use Rattle.of_headers.specs.FieldMap.{value};
 ghost use Rattle.of_oxm.specs.Relations.{bits_looked_at, agrees as agrees_with, is_within as within, can_both as both_can, IsWithinBits, matches_map, covers_match, overlaps_match};
-ghost use Rattle.of_oxm.specs.NormalForm.{IsMatch};
+ghost use Rattle.of_oxm.specs.NormalForm.{IsMatch, normal};
+ghost use Rattle.of_oxm.specs.Meaning.{are_met};
 ghost use Rattle.of_oxm.specs.Prerequisites.{is_met};
 ghost use Rattle.of_oxm.specs.declared.match_field.MatchField.{MatchField};
 ghost use Rattle.of_layers.specs.declared.field.Field.{Field};
@@ -104,10 +105,21 @@ pub fn covered_is_matched()
         covers_match d m ≡ true → matches_map m map ≡ true → matches_map d map ≡ true }
 {}
 
+/// What is matched wherever another match matches covers it, so that `covers` answers yes wherever it may.
+pub fn matched_is_covered()
+    ensures { (d m : List MatchField) → IsMatch d → IsMatch m →
+        ((map : Field → Option ℕ) → IsWithinBits map → matches_map m map ≡ true → matches_map d map ≡ true) → covers_match d m ≡ true }
+{}
+
 /// What a match covers has what the match has of the prerequisites of a field (OpenFlow 1.3.5, 7.2.3.6).
 pub fn covered_has_needs()
     ensures { (d m : List MatchField) (need : Need) → IsMatch d → IsMatch m →
         covers_match d m ≡ true → is_met d need ≡ true → is_met m need ≡ true }
+{}
+
+/// The normal form of a match matches what each of its fields agrees with as it was spelt, a mask of zeros agreeing with anything (OpenFlow 1.3.5, 7.2.3.5).
+pub fn normal_form_is_meant()
+    ensures { (fields : List MatchField) (map : Field → Option ℕ) → matches_map (normal fields) map ≡ are_met fields map }
 {}
 
 /// Two matches overlap exactly where some field map is matched by both.

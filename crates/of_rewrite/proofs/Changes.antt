@@ -134,6 +134,18 @@ right_by c s t x k h e p q r = elim (cases_eq (65535 - c + x) 0) [
       rw f (omega arith, omega arith)
 ]
 
+off_by : (c s t x k : ℕ) → c ≤ 65535 → x + s ≡ 65535 * k + t → (65535 - fold (65535 - c + x) + t) % 65535 ≡ (c + s) % 65535
+off_by c s t x k h e = elim (cases_eq (65535 - c + x) 0) [
+  | inl z ↦ rw z (omega arith)
+  | inr ne ↦
+      let f : fold (65535 - c + x) ≡ 1 + (65535 - c + x - 1) % 65535 = fold_is (65535 - c + x) (omega arith) in
+      rw f (omega arith)
+]
+
+-- a checksum that is off stays off by as much
+pub off_again : (c : ℕ) (old new : List ℕ) → c < 65536 → AreWords old → length old ≡ length new → (renewed c old new + sum new) % 65535 ≡ (c + sum old) % 65535
+off_again c old new h w l = off_by c (sum old) (sum new) (change old new) (changes old new) (omega arith) (sum_changed old new w l)
+
 pub right_again : (c : ℕ) (old new : List ℕ) → c < 65536 → AreWords old → length old ≡ length new → 0 < sum new → IsRight c old → IsRight (renewed c old new) new
 right_again c old new h w l p r = right_by c (sum old) (sum new) (change old new) (changes old new) (omega arith) (sum_changed old new w l) p r.0 r.1
 

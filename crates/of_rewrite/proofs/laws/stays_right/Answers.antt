@@ -1,5 +1,5 @@
-use Rattle.of_rewrite.proofs.Changes.{right_again, never_wrong, without_word}
+use Rattle.of_rewrite.proofs.Changes.{right_again, never_wrong, without_word, off_again}
 use Rattle.of_rewrite.proofs.laws.stays_right.Goals as goal
 
 pub returns : goal.returns
-returns c = record { kept = λ c old new h w l. right_again c old new h w l; staying = without_word; udp = never_wrong }
+returns c = record { kept = λ c old new h w l. right_again c old new h w l; staying = without_word; off = off_again; udp = never_wrong }

@@ -1,4 +1,4 @@
-use crate::ActionSet;
+use of_action_set::ActionSet;
 use of_actions::Action;
 use of_layers::Field;
 

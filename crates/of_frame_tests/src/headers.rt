@@ -1,6 +1,4 @@
-use crate::fields::same_fields;
-use crate::headers::{FrameFault, check_length, read, read_inside};
-use crate::key::FieldKey;
+use of_headers::{FieldKey, FrameFault, check_length, read, read_inside, same_fields};
 use of_layers::{Field, Place};
 use std::alloc::Global;
 use std::process::Abort;

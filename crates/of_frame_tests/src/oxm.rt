@@ -1,6 +1,9 @@
-use super::*;
 use of_headers::FieldKey;
 use of_layers::Field;
+use of_oxm::{
+    Code, Match, MatchField, ReadError, covers, key_of, mask_of, matches, overlaps, read_match,
+    write_match,
+};
 use std::alloc::Global;
 use std::test::Fail;
 
