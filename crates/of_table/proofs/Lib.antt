@@ -7,7 +7,6 @@ pub mod CopyLemmas
 pub mod RemoveLemmas
 pub mod TablesLemmas
 pub mod WinnerLemmas
-pub mod WinnerLaw
 pub mod Soundness
 pub mod Unlike
 pub mod CheckLemmas

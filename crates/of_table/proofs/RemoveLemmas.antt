@@ -8,7 +8,7 @@ use Rattle.std.proofs.lemmas.List.Elements.{filter-append}
 use Rattle.of_wire.specs.Numbered.{is_used, is_distinct, without}
 use Rattle.of_wire.proofs.NumberedLemmas.{without_unused}
 use Rattle.of_classifier.specs.Rows.{row_number}
-use Rattle.of_table.specs.Table.{FlowEntry}
+use Rattle.of_table.proofs.PlaceLemmas.{filter-map}
 use Rattle.of_table.specs.Entries.{entry_of, flows_of, row_of, rows_of}
 use Rattle.of_table.specs.Selecting.{Notice, Told, stays, left, reason_of, notice_by, notices, notice_of, notices_of, with_number, told_by, told, all_told, kept_of}
 use Rattle.of_table.specs.declared.selection.RemovedReason.{RemovedReason}
@@ -71,12 +71,7 @@ looked_more cause es i e d lt at distinct =
 -- ---- the same without the numbers
 
 pub flows_left : (cause : Cause) (es : List Entry) → flows_of (kept_of cause es) ≡ left cause (flows_of es)
-flows_left cause [] = refl
-flows_left cause (e ∷ es) = by_test (stays cause (entry_of e)) (flows_left cause es)
-  where
-    by_test : (b : Bool) → flows_of (kept_of cause es) ≡ left cause (flows_of es) → flows_of (cond b (e ∷ kept_of cause es) (kept_of cause es)) ≡ cond b (entry_of e ∷ left cause (flows_of es)) (left cause (flows_of es))
-    by_test true ih = ap (λ (fs : List FlowEntry). entry_of e ∷ fs) ih
-    by_test false ih = ih
+flows_left cause es = sym (filter-map entry_of (stays cause) es)
 
 -- a notice without the number
 abbrev pub untold : Told → Notice

@@ -1,5 +1,5 @@
 -- Tables after one of them is changed.
-use Rattle.std.proofs.Common.{◌≡◌, ℕ, zero, suc, ◌+◌, ◌<◌, Bool, true, false, cond, List, [], ◌∷◌, ◌++◌, Result, Ok, Err, length, get_or, set, take, drop, ◌≤◌, add-one, append_assoc, refl, sym, ap, ◌∙◌, inl, inr, ◌⊎◌, arith}
+use Rattle.std.proofs.Common.{◌≡◌, ℕ, zero, suc, ◌+◌, ◌<◌, Bool, true, false, cond, List, [], ◌∷◌, ◌++◌, Result, Ok, Err, length, get_or, set, take, drop, ◌≤◌, add-one, append_assoc, refl, sym, ap, subst, ◌∙◌, inl, inr, ◌⊎◌, arith}
 use Rattle.std.specs.Prelude.{Option, map, replicate, slice_set, slice_index_or, IfOk, OnOk}
 use Rattle.std.proofs.lemmas.List.{map-set, map-append, take_all, drop_all, append-nil}
 use Rattle.std.proofs.Math.ListN.{get_or-map}
@@ -7,15 +7,17 @@ use Rattle.of_actions.specs.declared.instruction.Instruction.{Instruction}
 use Rattle.of_table.proofs.ModifyLemmas.{set_same, flows_modified}
 use Rattle.of_table.proofs.RemoveLemmas.{flows_left, untold, notices_told, notices_all}
 use Rattle.of_table.proofs.CopyLemmas.{replicate_more}
-use Rattle.of_table.specs.Table.{FlowEntry, Table, empty_table}
-use Rattle.of_table.specs.Entries.{Numbered, no_entries, table_of, flows_of, numbers_of}
+use Rattle.of_table.proofs.AddLemmas.{flows_added}
+use Rattle.of_table.specs.declared.flow.Flow.{Flow}
+use Rattle.of_table.specs.Table.{FlowEntry, Table, empty_table, added}
+use Rattle.of_table.specs.Entries.{Numbered, AddsEntry, IsNumberFor, added_entries, no_entries, table_of, flows_of, numbers_of}
 use Rattle.of_table.specs.Selecting.{Told, left, kept_of, modified, modified_entries, notices, notices_of, told, all_told}
 use Rattle.of_table.specs.Copies.{wanted_in, wanted_from}
 use Rattle.of_table.specs.declared.selection.Cause.{Cause}
 use Rattle.of_table.specs.declared.selection.Cause.TheVariants.{Delete, Group}
 use Rattle.of_table.specs.declared.selection.Which.{Which}
 use Rattle.of_table.specs.declared.selection.Removed.{Removed}
-use Rattle.of_table.specs.Tables.{NumberedTables, is_in, concerns, table_at, with_table, tables_of, all_numbers, each_from, cause_at, latest_after, left_table, left_in, modified_table, modified_in, table_notices, notices_from, notices_in, modified_numbered, all_modified, kept_table, all_kept, told_table, told_from, told_in}
+use Rattle.of_table.specs.Tables.{NumberedTables, AddsFlow, numbered_at, added_to, is_in, concerns, table_at, with_table, tables_of, all_numbers, each_from, cause_at, latest_after, left_table, left_in, modified_table, modified_in, table_notices, notices_from, notices_in, modified_numbered, all_modified, kept_table, all_kept, told_table, told_from, told_in}
 
 any_default : {X : Type 0} (xs : List X) (k : ℕ) (c d : X) → k < length xs → get_or xs k c ≡ get_or xs k d
 any_default [] k c d lt = absurd (omega (arith, lt))
@@ -49,11 +51,6 @@ tables_set ns k latest old new d f lt is by =
 pub numbers_set : (ns : List Numbered) (k latest : ℕ) (old new d : Numbered) → k < length ns → old ≡ get_or ns k d → numbers_of new.entries ≡ numbers_of old.entries →
     all_numbers (record { tables = set ns k new; latest = latest }) ≡ all_numbers (record { tables = ns; latest = latest })
 numbers_set ns k latest old new d lt is same = set_same (λ t. numbers_of t.entries) ns k new d lt (same ∙ ap (λ (t : Numbered). numbers_of t.entries) is)
-
-pub ok_set : {A E : Type 0} (r : Result A E) (ns : List Numbered) (k latest : ℕ) (old new d : Numbered) (f : Table → Table) → k < length ns → old ≡ get_or ns k d → OnOk r (table_of new ≡ f (table_of old)) →
-    OnOk r (tables_of (record { tables = set ns k new; latest = latest }) ≡ with_table k (f (table_at k (tables_of (record { tables = ns; latest = latest })))) (tables_of (record { tables = ns; latest = latest })))
-ok_set (Ok a) ns k latest old new d f lt is by = tables_set ns k latest old new d f lt is by
-ok_set (Err e) ns k latest old new d f lt is by = by
 
 -- ---- tables changed one after the other, each by its number
 
@@ -170,6 +167,29 @@ notices_from_told cause j (t ∷ ns) = map-append untold (told_table cause j t) 
 -- a list that tells what is told gives the notices
 pub notices_listed : (cause : Cause) (n : NumberedTables) (removed : List Removed) → all_told removed ≡ told_in cause n → notices_of removed ≡ notices_in cause (tables_of n)
 notices_listed cause n removed is = notices_all removed ∙ ap (map untold) is ∙ notices_from_told (cause_at n.latest cause) 0 n.tables
+
+-- ---- a flow is added to one of them
+
+pub adds_set : {A E : Type 0} (r : Result A E) (k : ℕ) (flow : Flow) (ns : List Numbered) (latest : ℕ) (old new d : Numbered) → k < length ns → old ≡ get_or ns k d → OnOk r (AddsEntry latest flow old new) →
+    OnOk r (AddsFlow k flow (record { tables = ns; latest = latest }) (record { tables = set ns k new; latest = latest }))
+adds_set (Ok a) k flow ns latest old new d lt is adds =
+    let there : old ≡ slice_index_or ns k no_entries = table_is ns k old d lt is in
+    record {
+      number = adds.number;
+      named = subst (λ (t : Numbered). IsNumberFor flow t.entries adds.number) there adds.named;
+      tables = ap (λ (t : Numbered). record { tables = set ns k t; latest = latest }) (adds.table ∙ ap (λ (t : Numbered). record t { entries = added_entries adds.number latest flow t.entries }) there);
+    }
+adds_set (Err e) k flow ns latest old new d lt is adds = adds
+
+pub tables_added : {A E : Type 0} (r : Result A E) (k : ℕ) (flow : Flow) (old new : NumberedTables) → OnOk r (AddsFlow k flow old new) → OnOk r (tables_of new ≡ added_to k flow (tables_of old))
+tables_added (Ok a) k flow old new adds =
+    let t : Numbered = numbered_at k old in
+    let same : table_at k (tables_of old) ≡ table_of t = get_or-map table_of old.tables k no_entries in
+    let flows : flows_of (added_entries adds.number old.latest flow t.entries) ≡ added old.latest flow (flows_of t.entries) = flows_added adds.number old.latest flow t.entries in
+    let table : table_of (record t { entries = added_entries adds.number old.latest flow t.entries }) ≡ record (table_at k (tables_of old)) { flows = added old.latest flow (table_at k (tables_of old)).flows } =
+    ap (λ (fs : List FlowEntry). record (table_of t) { flows = fs }) flows ∙ ap (λ (u : Table). record u { flows = added old.latest flow u.flows }) (sym same) in
+    ap tables_of adds.tables ∙ ap (λ (ts : List Table). record { tables = ts; latest = old.latest }) (map-set table_of old.tables k (record t { entries = added_entries adds.number old.latest flow t.entries }) ∙ ap (set (map table_of old.tables) k) table)
+tables_added (Err e) k flow old new adds = adds
 
 -- ---- as the functions on all tables leave them
 

@@ -66,19 +66,13 @@ is_to group (SetNwTtl ttl) = false
 is_to group DecNwTtl = false
 is_to group (SetField field value) = false
 
-abbrev pub is_to_group : ℕ → Action → Bool
-is_to_group group = is_to (Some group)
-
-abbrev pub names_group : ℕ → Instruction → Bool
-names_group group = has_action (is_to_group group)
-
--- some action sends to this group; where none is named, to any
-abbrev pub names : Option ℕ → Instruction → Bool
-names group = has_action (is_to group)
+-- some action of the entry sends to this group; where none is named, to any
+abbrev pub names_group : Option ℕ → FlowEntry → Bool
+names_group group e = list_any (has_action (is_to group)) e.flow.instructions
 
 -- no group is asked for, or some action sends to it
 abbrev pub passes_group : Which → FlowEntry → Bool
-passes_group w e = option_map_or (λ group. list_any (names_group group) e.flow.instructions) w.out_group true
+passes_group w e = option_map_or (λ group. names_group (Some group) e) w.out_group true
 
 -- of a MODIFY, which looks at no port and no group
 abbrev pub modifies : Which → FlowEntry → Bool
@@ -125,7 +119,7 @@ timeout_reason now e =
 abbrev pub reason_of : Cause → FlowEntry → Option RemovedReason
 reason_of (causes.Delete w) e = if selects w e then Some Delete else None
 reason_of (causes.Moment now) e = timeout_reason now e
-reason_of (causes.Group group) e = if list_any (names group) e.flow.instructions then Some GroupDelete else None
+reason_of (causes.Group group) e = if names_group group e then Some GroupDelete else None
 
 abbrev pub stays : Cause → FlowEntry → Bool
 stays cause e = is_none (reason_of cause e)

@@ -1,5 +1,5 @@
 -- The sixteen flow tables of the switch (OpenFlow 1.3.5, 5.1), and the latest moment that they know of.
-use Rattle.std.specs.Prelude.{ℕ, suc, ◌==◌, nat_le, max, Bool, true, List, [], ◌∷◌, ◌++◌, map, replicate, slice_set, slice_index_or, Option, Some, if◌then◌else◌}
+use Rattle.std.specs.Prelude.{◌≡◌, ℕ, suc, ◌==◌, nat_le, max, Bool, true, List, [], ◌∷◌, ◌++◌, map, replicate, slice_set, slice_index_or, Option, Some, if◌then◌else◌}
 use Rattle.std.specs.Option.{option_map_or}
 use Rattle.of_actions.specs.declared.instruction.Instruction.{Instruction}
 use Rattle.of_table.specs.declared.flow.Flow.{Flow}
@@ -10,7 +10,7 @@ use Rattle.of_table.specs.declared.selection.Cause.{Cause}
 use Rattle.of_table.specs.declared.selection.Cause.TheVariants.{Delete, Moment, Group}
 use Rattle.of_table.specs.Table.{Table, empty_table, added, add_fault, looked, matched_at}
 use Rattle.of_table.specs.Selecting.{Notice, Told, modified, modified_entries, left, kept_of, notices, told}
-use Rattle.of_table.specs.Entries.{Numbered, no_entries, table_of, numbers_of}
+use Rattle.of_table.specs.Entries.{Numbered, no_entries, table_of, numbers_of, IsNumberFor, added_entries}
 
 -- ---- as a reader sees them
 
@@ -117,6 +117,15 @@ abbrev pub all_numbers : NumberedTables → List (List ℕ)
 all_numbers n = map (λ t. numbers_of t.entries) n.tables
 
 -- ---- what the commands do to them
+
+abbrev pub added_numbered : ℕ → ℕ → Flow → NumberedTables → NumberedTables
+added_numbered number k flow n = record n { tables = slice_set n.tables k (record (numbered_at k n) { entries = added_entries number n.latest flow (numbered_at k n).entries }) }
+
+-- a flow is added to a table at the latest moment
+pub record AddsFlow (k : ℕ) (flow : Flow) (old new : NumberedTables) : Type 0 where
+  pub number : ℕ
+  pub named : IsNumberFor flow (numbered_at k old).entries number
+  pub tables : new ≡ added_numbered number k flow old
 
 abbrev pub modified_numbered : Which → List Instruction → Bool → ℕ → Numbered → Numbered
 modified_numbered w instructions reset k t = if is_in w.table k then record t { entries = modified_entries w instructions reset t.entries } else t

@@ -1,16 +1,16 @@
 //! Flow tables.
 
-ghost use Rattle.std.specs.Prelude.{◌≡◌, ◌++◌, ◌+◌, ◌-◌, ◌≤◌, ℕ, Some, false, true, IsTrue, IfOk, IfSome, OnOk, OnErr, position};
+ghost use Rattle.std.specs.Prelude.{◌≡◌, ◌++◌, ◌+◌, ◌-◌, ◌≤◌, ℕ, Some, false, true, IsTrue, IfOk, IfSome, OnOk, OnErr, map, position};
 ghost use Rattle.std.specs.List.{list_any};
 ghost use Rattle.std.specs.Option.{option_map, option_copied};
 ghost use Rattle.of_headers.specs.FieldMap.{value};
 ghost use Rattle.of_wire.specs.Numbered.{is_distinct};
-ghost use Rattle.of_table.specs.Table.{is_same, add_fault, added, winner_place, looked as one_looked_up, matched_at, flow_at};
-ghost use Rattle.of_table.specs.Entries.{Numbered, no_entries, table_of, entry_of, flows_of, numbers_of, entry_number, place_of, is_there, find_number};
+ghost use Rattle.of_table.specs.Table.{is_same, add_fault, winner_place, looked as one_looked_up, matched_at, flow_at};
+ghost use Rattle.of_table.specs.Entries.{Numbered, AddsEntry, no_entries, table_of, entry_of, flows_of, numbers_of, entry_number, place_of, is_there, find_number};
 ghost use Rattle.of_table.specs.Selecting.{modified_entries, kept_of, told, all_told};
 ghost use Rattle.of_table.specs.Copies.{Supply, wanted};
 ghost use Rattle.of_table.specs.Faults.{fault_in};
-ghost use Rattle.of_table.specs.Sound.{AreSound, are_fit};
+ghost use Rattle.of_table.specs.Sound.{AreSound, are_fit, key_of, are_unlike};
 ghost use Rattle.of_actions.specs.FlowCheck.{all_go_with};
 
 use crate::copies::Copies;
@@ -72,8 +72,9 @@ impl<L: Lookup> FlowTable<L> {
     /// are to be reset, and becomes the youngest; that needs no memory. Else there is a new entry,
     /// with counters of 0.
     pub fn add(&mut self, flow: Flow, now: u64) -> Result<(), TableFault>
+        requires { are_unlike (map key_of (flows_of self.old.entries)) ≡ true }
         ensures fault { fault_in result ≡ add_fault flow (flows_of self.old.entries) }
-        ensures ok { OnOk result (table_of self.new ≡ record (table_of self.old) { flows = added now flow (flows_of self.old.entries) }) }
+        ensures ok { OnOk result (AddsEntry now flow self.old self.new) }
         ensures err { OnErr result (self.new ≡ self.old) }
     {
         if is_overlapped(&self.entries, &flow) {
@@ -97,8 +98,9 @@ impl<L: Lookup> FlowTable<L> {
 
     // The entry at that place gets the flow and becomes the youngest.
     fn replace(&mut self, place: usize, flow: Flow, now: u64)
-        requires { position (λ e. is_same flow (entry_of e)) self.old.entries ≡ Some place }
-        ensures { table_of self.new ≡ record (table_of self.old) { flows = added now flow (flows_of self.old.entries) } }
+        requires same { position (λ e. is_same flow (entry_of e)) self.old.entries ≡ Some place }
+        requires unlike { are_unlike (map key_of (flows_of self.old.entries)) ≡ true }
+        ensures { AddsEntry now flow self.old self.new }
     {
         self.lookup.known();
         let number = move_last(&mut self.entries, place, flow, now);
@@ -108,7 +110,7 @@ impl<L: Lookup> FlowTable<L> {
     // A new entry.
     fn append(&mut self, flow: Flow, now: u64) -> Result<(), AllocError>
         requires { list_any (is_same flow) (flows_of self.old.entries) ≡ false }
-        ensures ok { OnOk result (table_of self.new ≡ record (table_of self.old) { flows = added now flow (flows_of self.old.entries) }) }
+        ensures ok { OnOk result (AddsEntry now flow self.old self.new) }
         ensures err { OnErr result (self.new ≡ self.old) }
     {
         self.entries.reserve(1)?;

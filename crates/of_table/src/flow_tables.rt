@@ -7,7 +7,7 @@ ghost use Rattle.of_wire.specs.Numbered.{is_distinct};
 ghost use Rattle.of_table.specs.Table.{winner_place, flow_at};
 ghost use Rattle.of_table.specs.Selecting.{notices_of, all_told};
 ghost use Rattle.of_table.specs.Entries.{no_entries, flows_of, place_of, is_there, find_number, entry_number};
-ghost use Rattle.of_table.specs.Tables.{no_tables, numbered_at, table_at, tables_of, all_numbers, tables_fault, added_to, modified_in, left_in, notices_in, looked_in, matched_in, all_modified, all_kept, told_from, told_in};
+ghost use Rattle.of_table.specs.Tables.{no_tables, AddsFlow, numbered_at, table_at, tables_of, all_numbers, tables_fault, added_to, modified_in, left_in, notices_in, looked_in, matched_in, all_modified, all_kept, told_from, told_in};
 ghost use Rattle.of_table.specs.Faults.{fault_in};
 ghost use Rattle.of_table.specs.Sound.{AreForAll, AreSound};
 ghost use Rattle.of_actions.specs.FlowCheck.{all_go_with};
@@ -75,10 +75,11 @@ impl<L: Lookup> FlowTables<L> {
     /// and priority. An entry of its match and priority gets it, keeps its number, and its counters
     /// unless they are to be reset, and becomes the youngest. A call that fails changes nothing.
     pub fn add(&mut self, table: u8, flow: Flow) -> Result<(), TableFault>
-        requires fit { are_for table flow.instructions ≡ true }
-        requires checked { all_go_with flow.fields flow.instructions ≡ true }
+        requires fit { table < 16 → are_for table flow.instructions ≡ true }
+        requires checked { table < 16 → all_go_with flow.fields flow.instructions ≡ true }
         ensures fault { fault_in result ≡ tables_fault table flow (tables_of self.old) }
-        ensures ok { OnOk result (tables_of self.new ≡ added_to table flow (tables_of self.old)) }
+        ensures tables { OnOk result (tables_of self.new ≡ added_to table flow (tables_of self.old)) }
+        ensures ok { OnOk result (AddsFlow table flow self.old self.new) }
         ensures err { OnErr result (self.new ≡ self.old) }
     {
         if table as usize >= TABLES {

@@ -8,7 +8,6 @@ mod entry;
 mod flow;
 mod flow_table;
 mod flow_tables;
-mod laws;
 mod modifying;
 mod removing;
 mod selection;
@@ -18,8 +17,7 @@ mod walk;
 pub use entry::Entry;
 pub use flow::{Flow, FlowFlags};
 pub use flow_tables::FlowTables;
-pub use laws::one_winner;
-pub use selection::{Cause, Removed, RemovedReason, Which};
+pub use selection::{Cause, Removed, RemovedReason, Which, names_group, selects};
 pub use table_fault::TableFault;
 pub use walk::Entries;
 

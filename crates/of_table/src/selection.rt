@@ -3,7 +3,7 @@
 ghost use Rattle.std.specs.Prelude.{◌≡◌};
 ghost use Rattle.of_table.specs.Entries.{entry_of};
 ghost use Rattle.std.specs.List.{list_any};
-ghost use Rattle.of_table.specs.Selecting.{is_meant as meant, has_cookie as with_cookie, is_output_to as output_to, is_to as to_this, sends_to as sending_to, passes_port as passing_port, names as naming, passes_group as passing_group, modifies as modified_by_it, selects as selected, is_over as over, timeout_reason as reason_at, reason_of};
+ghost use Rattle.of_table.specs.Selecting.{is_meant as meant, has_cookie as with_cookie, is_output_to as output_to, is_to as to_this, sends_to as sending_to, passes_port as passing_port, has_action as with_action, names_group as naming, passes_group as passing_group, modifies as modified_by_it, selects as selected, is_over as over, timeout_reason as reason_at, reason_of};
 
 use crate::entry::Entry;
 use of_actions::{Action, Instruction};
@@ -138,8 +138,8 @@ fn any_is_to(actions: &[Action], group: Option<u32>) -> bool
     actions.iter().any(|action| is_to(action, group))
 }
 
-fn names(instruction: &Instruction, group: Option<u32>) -> bool
-    ensures { result ≡ naming group instruction.now }
+fn sends_to_group(instruction: &Instruction, group: Option<u32>) -> bool
+    ensures { result ≡ with_action (to_this group) instruction.now }
 {
     match instruction {
         Instruction::Apply(actions) | Instruction::Write(actions) => {
@@ -149,12 +149,19 @@ fn names(instruction: &Instruction, group: Option<u32>) -> bool
     }
 }
 
-fn any_names(instructions: &[Instruction], group: Option<u32>) -> bool
-    ensures { result ≡ list_any (naming group) instructions.now }
+fn any_sends_to_group(instructions: &[Instruction], group: Option<u32>) -> bool
+    ensures { result ≡ list_any (with_action (to_this group)) instructions.now }
 {
     instructions
         .iter()
-        .any(|instruction| names(instruction, group))
+        .any(|instruction| sends_to_group(instruction, group))
+}
+
+/// Whether some action of the entry sends to this group; for `None`, to any group (OpenFlow 1.3.5, 6.5).
+pub fn names_group(entry: &Entry, group: Option<u32>) -> bool
+    ensures { result ≡ naming group (entry_of entry.now) }
+{
+    any_sends_to_group(entry.flow.instructions.as_slice(), group)
 }
 
 fn passes_group(which: &Which, entry: &Entry) -> bool
@@ -162,7 +169,7 @@ fn passes_group(which: &Which, entry: &Entry) -> bool
 {
     match which.out_group {
         None => true,
-        Some(group) => any_names(entry.flow.instructions.as_slice(), Some(group)),
+        Some(group) => names_group(entry, Some(group)),
     }
 }
 
@@ -173,8 +180,10 @@ pub(crate) fn modifies(which: &Which, entry: &Entry) -> bool
     is_meant(which, entry) && has_cookie(which, entry)
 }
 
-/// Whether a DELETE is for the entry.
-pub(crate) fn selects(which: &Which, entry: &Entry) -> bool
+/// Whether a DELETE, or a request for statistics, is for the entry: its match, or match and priority of a strict one, its cookie, and what its actions send to (OpenFlow 1.3.5, 6.4).
+///
+/// It does not look at the number of the table.
+pub fn selects(which: &Which, entry: &Entry) -> bool
     ensures { result ≡ selected which.now (entry_of entry.now) }
 {
     modifies(which, entry) && passes_port(which, entry) && passes_group(which, entry)
@@ -219,7 +228,7 @@ pub(crate) fn reason(cause: &Cause, entry: &Entry) -> Option<RemovedReason>
         }
         Cause::Moment(now) => timeout_reason(entry, *now),
         Cause::Group(group) => {
-            if any_names(entry.flow.instructions.as_slice(), *group) {
+            if names_group(entry, *group) {
                 Some(RemovedReason::GroupDelete)
             } else {
                 None
