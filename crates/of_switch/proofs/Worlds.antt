@@ -10,10 +10,11 @@ use Rattle.of_layers.specs.declared.field.Field.{Field}
 use Rattle.of_wire.specs.Numbered.{is_distinct}
 use Rattle.of_wire.proofs.NumberedLemmas.{distinct-map}
 use Rattle.of_table.specs.declared.entry.Entry.{Entry}
-use Rattle.of_table.specs.Table.{FlowEntry, Table, is_best, winner_place, flow_at}
+use Rattle.of_table.specs.Table.{FlowEntry, Table, winner_place, flow_at}
 use Rattle.of_table.specs.Tables.{NumberedTables, numbered_at, tables_of, table_at}
 use Rattle.of_table.specs.Entries.{Numbered, no_entries, entry_of, flows_of, numbers_of, entry_number, place_of, is_there, table_of}
-use Rattle.of_table.proofs.PlaceLemmas.{position_some, any-place}
+use Rattle.of_table.proofs.PlaceLemmas.{any-place}
+use Rattle.of_table.proofs.WinnerLemmas.{winner_within}
 use Rattle.of_machine.specs.declared.port.Port.{Port}
 use Rattle.of_table.specs.declared.flow.Flow.{Flow}
 use Rattle.of_table.specs.Sound.{AreSound, are_fit, is_fit}
@@ -33,8 +34,8 @@ answer_is es w (Some n) e there = rw e (ap Some (sym (number_at_place n (numbers
 -- where a winner stands there is an entry
 place_within : (fields : Field → Option ℕ) (es : List Entry) (k : ℕ) → winner_place fields (flows_of es) ≡ Some k → k < length (numbers_of es)
 place_within fields es k h =
-    let within = (position_some (is_best fields (flows_of es)) (flows_of es) k h).1 in
-    omega (arith, within, length-map es entry_of, length-map es entry_number)
+    let within = winner_within fields es k h in
+    omega (arith, within, length-map es entry_number)
 
 distinct_numbers : (es : List Entry) → is_distinct entry_number es ≡ true → is_distinct itself (numbers_of es) ≡ true
 distinct_numbers es h = distinct-map entry_number itself es ∙ h

@@ -6,7 +6,6 @@ ghost use Rattle.of_messages.specs.Written.{error_bytes};
 ghost use Rattle.of_switch.specs.State.{start};
 ghost use Rattle.of_switch.specs.Ports.{has_port, no_counters as zero_counters};
 ghost use Rattle.of_switch.specs.Runs.{drained, piece_in};
-ghost use Rattle.of_table.specs.declared.selection.Cause.TheVariants.{Command};
 ghost use Rattle.of_table.specs.Tables.{modified_in, left_in, notices_in};
 ghost use Rattle.of_actions.specs.FlowCheck.{all_go_with};
 ghost use Rattle.of_actions.specs.InstructionLists.{are_for};
@@ -26,7 +25,7 @@ use of_messages::{
     write_error, write_hello,
 };
 use of_session::{Next, Phase, Session};
-use of_table::TableFault;
+use of_table::{Cause, TableFault};
 use of_wire::{Bytes, Code};
 use std::alloc::{AllocError, Global};
 use std::marker::Model;
@@ -307,10 +306,19 @@ impl<L: Lookup> Engine<L> {
     }
 
     fn delete_flows(&mut self, flow_mod: FlowMod) -> Result<Effects, AllocError>
-        ensures { IfOk result (λ effects. gives (notice_effects self.old.forwarding.tables.latest (notices_in (Command (which_of flow_mod)) self.old.forwarding.tables)) (with_tables (left_in (Command (which_of flow_mod)) self.old.forwarding.tables) self.old) ≡ gives effects.items self.new) }
+        ensures { IfOk result (λ effects. gives (notice_effects self.old.forwarding.tables.latest (notices_in (Cause.Delete (which_of flow_mod)) self.old.forwarding.tables)) (with_tables (left_in (Cause.Delete (which_of flow_mod)) self.old.forwarding.tables) self.old) ≡ gives effects.items self.new) }
     {
-        let now = self.plane.tables.latest();
-        let removed = self.plane.tables.delete(self.alloc, which_from(flow_mod))?;
+        let cause = Cause::Delete(which_from(flow_mod));
+        let effects = self.notices_of(&cause, self.plane.tables.latest())?;
+        self.plane.tables.remove(&cause);
+        Ok(effects)
+    }
+
+    // Notices, sent now, of the entries that go.
+    fn notices_of(&self, cause: &Cause, now: u64) -> Result<Effects, AllocError>
+        ensures { IfOk result (λ effects. effects.items ≡ notice_effects now (notices_in cause.now self.now.forwarding.tables)) }
+    {
+        let removed = self.plane.tables.listed(cause)?;
         notices(self.alloc, &removed, now)
     }
 
@@ -318,11 +326,15 @@ impl<L: Lookup> Engine<L> {
     pub fn moment(&mut self, nanos: u64) -> Result<Effects, AllocError>
         ensures { IfOk result (λ effects. moment_in nanos self.old ≡ gives effects.items self.new) }
     {
-        let removed = self.plane.tables.expire(self.alloc, nanos)?;
-        if self.session.phase() != Phase::Open {
-            return Ok(Effects::new(self.alloc));
-        }
-        notices(self.alloc, &removed, self.plane.tables.latest())
+        let cause = Cause::Moment(nanos);
+        let now = self.plane.tables.latest().max(nanos);
+        let effects = if self.session.phase() == Phase::Open {
+            self.notices_of(&cause, now)?
+        } else {
+            Effects::new(self.alloc)
+        };
+        self.plane.tables.remove(&cause);
+        Ok(effects)
     }
 }
 

@@ -1,14 +1,15 @@
 -- Entries after a flow is added.
-use Rattle.std.proofs.Common.{◌≡◌, ℕ, ◌+◌, ◌<◌, ◌≤◌, suc, Bool, true, false, not, cond, ◌&&◌, List, [], ◌∷◌, ◌++◌, length, take, drop, get_or, Some, None, refl, sym, ap, ◌∙◌, arith, add-one}
-use Rattle.std.specs.Prelude.{position, find, map, remove, nat_le, slice_get}
-use Rattle.std.specs.List.{list_any, position_or_len, before_first, after_first}
+use Rattle.std.proofs.Common.{◌≡◌, ℕ, ◌<◌, ◌≤◌, suc, Bool, true, false, not, cond, ◌&&◌, List, [], ◌∷◌, ◌++◌, length, take, drop, get_or, Some, None, refl, sym, ap, ◌∙◌, arith}
+use Rattle.std.specs.Prelude.{position, map, filter, remove, nat_le, slice_get}
+use Rattle.std.specs.List.{list_any}
+use Rattle.std.specs.Option.{option_map}
 use Rattle.std.specs.Cmp.Lexicographic.{pointwise}
 use Rattle.std.proofs.Math.ListN.{get_or-map}
 use Rattle.std.proofs.lemmas.Bool.Decides.{nat_tests}
-use Rattle.std.proofs.lemmas.List.{map-append, take-map, drop-map, take_all, drop_all, append-nil, length-map}
+use Rattle.std.proofs.lemmas.List.{map-append, take-map, drop-map, length-map}
 use Rattle.std.proofs.lemmas.List.Quantifiers.{position-Some}
 use Rattle.std.proofs.lemmas.List.Folds.{find_at}
-use Rattle.std.proofs.lemmas.Option.{slice_get-get_or, slice_get_past}
+use Rattle.std.proofs.lemmas.Option.{slice_get-get_or}
 use Rattle.of_wire.specs.Numbered.{is_used, is_distinct, renewed}
 use Rattle.of_wire.proofs.NumberedLemmas as low
 use Rattle.of_oxm.specs.SameMatch.{is_same_match}
@@ -16,10 +17,11 @@ use Rattle.of_oxm.specs.declared.match_field.MatchField.{MatchField}
 use Rattle.of_oxm.specs.contracts.match_field.MatchFieldPartialEq.TheImpl as the_match_field
 use Rattle.of_oxm.proofs.Same.{same_match, same_fields}
 use Rattle.of_classifier.specs.Rows.{row_number}
-use Rattle.of_table.proofs.PlaceLemmas.{any-place, any-map, position-map, position_some, position_some-any, position_none}
+use Rattle.of_table.proofs.PlaceLemmas.{any-map, find-map, filter-map, find_none, filter_others, position_some, position_some-any, position_none}
+use Rattle.of_table.proofs.NumberLemmas.{used-rows}
 use Rattle.of_table.specs.Table.{FlowEntry, is_same, is_overlapped, add_fault, kept_flow, with_flow, added}
 use Rattle.of_table.specs.declared.table_fault.TableFault.TheVariants.{Overlap, Full}
-use Rattle.of_table.specs.Entries.{entry_of, flows_of, row_of, rows_of}
+use Rattle.of_table.specs.Entries.{Numbered, entry_of, numbered, flows_of, row_of, rows_of, same_entry, IsNumberFor, added_entries}
 use Rattle.of_table.specs.declared.entry.Entry.{Entry}
 use Rattle.of_table.specs.declared.flow.Flow.{Flow}
 
@@ -33,30 +35,47 @@ is_itself xs =
     let test = pointwise the_match_field.eq-value.it xs xs in
     sym (same_match xs xs test refl) ∙ (same_fields xs xs test refl).1 refl
 
+-- a table of so many look-ups and hits
+abbrev pub with_entries : ℕ → ℕ → List Entry → Numbered
+with_entries lookups matched es = record { lookups = lookups; matched = matched; entries = es }
+
 -- the flow comes last, and no entry goes
-pub added_new : (now : ℕ) (flow : Flow) (es : List Entry) (e : Entry) → list_any (is_same flow) (flows_of es) ≡ false → entry_of e ≡ with_flow now flow None → flows_of (es ++ e ∷ []) ≡ added now flow (flows_of es)
+pub added_new : (now : ℕ) (flow : Flow) (es : List Entry) (e : Entry) → list_any (is_same flow) (flows_of es) ≡ false → entry_of e ≡ with_flow now flow None → es ++ e ∷ [] ≡ added_entries e.number now flow es
 added_new now flow es e new is =
-    let fs = flows_of es in
-    let p = is_same flow in
-    let place = position_or_len p fs in
-    let past : length fs ≤ place = grind (arith, nat_tests, any-place p fs, new) in
-    let none : find p fs ≡ None = find_at p fs ∙ slice_get_past fs place past in
-    let before : before_first p fs ≡ fs = take_all place fs past in
-    let after : after_first p fs ≡ [] = drop_all (place + 1) fs (omega (arith, past)) in
-    map-append entry_of es (e ∷ []) ∙ rw (none, before, after, is) (ap (λ (xs : List FlowEntry). xs ++ with_flow now flow None ∷ []) (sym (append-nil fs)))
+    let none : list_any (λ x. is_same flow (entry_of x)) es ≡ false = sym (any-map entry_of (is_same flow) es) ∙ new in
+    let made : e ≡ numbered e.number (with_flow now flow None) = ap (numbered e.number) is in
+    rw (find_none (λ x. is_same flow (entry_of x)) es none, filter_others (λ x. is_same flow (entry_of x)) es none) (ap (λ (x : Entry). es ++ x ∷ []) made)
+
+pub new_number : (flow : Flow) (es : List Entry) (number : ℕ) → list_any (is_same flow) (flows_of es) ≡ false → is_used row_number number (rows_of es) ≡ false → IsNumberFor flow es number
+new_number flow es number new unused =
+    let none : list_any (λ x. is_same flow (entry_of x)) es ≡ false = sym (any-map entry_of (is_same flow) es) ∙ new in
+    rw (find_none (λ x. is_same flow (entry_of x)) es none) (sym (used-rows number es) ∙ unused)
 
 map-remove : {X Y : Type 0} (g : X → Y) (xs : List X) (k : ℕ) → map g (remove xs k) ≡ remove (map g xs) k
 map-remove g xs k = map-append g (take k xs) (drop (suc k) xs) ∙ rw (take-map, drop-map) refl
 
--- the entry at the place of the flow's match and priority gets it and comes last
-pub added_again : (now : ℕ) (flow : Flow) (es : List Entry) (k : ℕ) (e f : Entry) → position (λ x. is_same flow (entry_of x)) es ≡ Some k → e ≡ get_or es k e → entry_of f ≡ with_flow now flow (Some (entry_of e)) → flows_of (remove es k ++ f ∷ []) ≡ added now flow (flows_of es)
-added_again now flow es k e f h is made =
-    let fs = flows_of es in
-    let p = is_same flow in
-    let s = position_some p fs k (position-map entry_of p es ∙ h) in
-    let value : get_or fs k (entry_of e) ≡ entry_of e = get_or-map entry_of es k e ∙ ap entry_of (sym is) in
-    let found : find p fs ≡ Some (entry_of e) = find_at p fs ∙ ap (slice_get fs) (sym s.0) ∙ slice_get-get_or fs k (entry_of e) s.1 ∙ ap Some value in
-    map-append entry_of (remove es k) (f ∷ []) ∙ rw (map-remove entry_of es k, found, ← s.0, made, add-one) refl
+-- the entry at the place of the flow's match and priority
+same_there : (flow : Flow) (es : List Entry) (k : ℕ) (e : Entry) → position (λ x. is_same flow (entry_of x)) es ≡ Some k → e ≡ get_or es k e → same_entry flow es ≡ Some e
+same_there flow es k e h is =
+    let p = λ (x : Entry). is_same flow (entry_of x) in
+    let s = position_some p es k h in
+    find_at p es ∙ ap (slice_get es) (sym s.0) ∙ slice_get-get_or es k e s.1 ∙ ap Some (sym is)
+
+-- it gets the flow and comes last
+pub added_again : (now : ℕ) (flow : Flow) (es : List Entry) (k : ℕ) (e f : Entry) → position (λ x. is_same flow (entry_of x)) es ≡ Some k → e ≡ get_or es k e → remove es k ≡ filter (λ x. not (is_same flow (entry_of x))) es → entry_of f ≡ with_flow now flow (Some (entry_of e)) →
+    remove es k ++ f ∷ [] ≡ added_entries f.number now flow es
+added_again now flow es k e f h is rest made =
+    let there : f ≡ numbered f.number (with_flow now flow (Some (entry_of e))) = ap (numbered f.number) made in
+    rw (same_there flow es k e h is, rest) (ap (λ (x : Entry). filter (λ x. not (is_same flow (entry_of x))) es ++ x ∷ []) there)
+
+pub same_number : (flow : Flow) (es : List Entry) (k : ℕ) (e : Entry) (number : ℕ) → position (λ x. is_same flow (entry_of x)) es ≡ Some k → e ≡ get_or es k e → number ≡ e.number → IsNumberFor flow es number
+same_number flow es k e number h is same = rw (same_there flow es k e h is) same
+
+-- without the numbers
+pub flows_added : (number now : ℕ) (flow : Flow) (es : List Entry) → flows_of (added_entries number now flow es) ≡ added now flow (flows_of es)
+flows_added number now flow es =
+    map-append entry_of (filter (λ e. not (is_same flow (entry_of e))) es) (numbered number (with_flow now flow (option_map entry_of (same_entry flow es))) ∷ [])
+    ∙ rw (filter-map entry_of (λ e. not (is_same flow e)) es, find-map entry_of (is_same flow) es) refl
 
 -- what the classifier knows of it stays
 pub row_again : (flow : Flow) (es : List Entry) (k : ℕ) (e f : Entry) → position (λ x. is_same flow (entry_of x)) es ≡ Some k → e ≡ get_or es k e → f.number ≡ e.number → f.flow ≡ kept_flow flow → row_of f ≡ row_of e

@@ -3,10 +3,10 @@ pub mod NumberLemmas
 pub mod AddLemmas
 pub mod CountLemmas
 pub mod ModifyLemmas
+pub mod CopyLemmas
 pub mod RemoveLemmas
 pub mod TablesLemmas
 pub mod WinnerLemmas
-pub mod WinnerLaw
 pub mod Soundness
 pub mod Unlike
 pub mod CheckLemmas

@@ -10,7 +10,7 @@ use Rattle.of_wire.specs.Numbered.{is_used, is_distinct}
 use Rattle.of_wire.proofs.NumberedLemmas.{distinct-map}
 use Rattle.of_classifier.specs.Rows.{row_number}
 use Rattle.of_table.proofs.PlaceLemmas.{any-map, place-map, position_some, position_none, position-first, position-later}
-use Rattle.of_table.specs.Table.{FlowEntry, flow_at}
+use Rattle.of_table.specs.Table.{flow_at}
 use Rattle.of_table.specs.Entries.{entry_of, flows_of, row_of, rows_of, entry_number, is_there, place_of, find_number}
 use Rattle.of_table.specs.declared.entry.Entry.{Entry}
 
@@ -62,19 +62,19 @@ here e es = let same : eqb e.number e.number ≡ true = grind (arith, nat_tests)
 later : (e x : Entry) (es : List Entry) → eqb e.number x.number ≡ false → place_of x.number (e ∷ es) ≡ place_of x.number es + 1
 later e x es differ = rw differ (omega arith)
 
-pub found_place : (p : FlowEntry → Bool) (es : List Entry) → is_distinct entry_number es ≡ true → position p (flows_of es) ≡ option_map (λ e. place_of e.number es) (find (λ e. p (entry_of e)) es)
+pub found_place : (p : Entry → Bool) (es : List Entry) → is_distinct entry_number es ≡ true → position p es ≡ option_map (λ e. place_of e.number es) (find p es)
 found_place p [] distinct = refl
-found_place p (e ∷ es) distinct = by_test (p (entry_of e)) refl (found_place p es (grind (arith, nat_tests, distinct)))
+found_place p (e ∷ es) distinct = by_test (p e) refl (found_place p es (grind (arith, nat_tests, distinct)))
   where
-    by_rest : (o : Option Entry) → find (λ x. p (entry_of x)) es ≡ o → p (entry_of e) ≡ false → position p (flows_of es) ≡ option_map (λ x. place_of x.number es) o → position p (flows_of (e ∷ es)) ≡ option_map (λ x. place_of x.number (e ∷ es)) o
-    by_rest None is fails ih = position-later p (entry_of e) (flows_of es) fails ∙ rw ih refl
+    by_rest : (o : Option Entry) → find p es ≡ o → p e ≡ false → position p es ≡ option_map (λ x. place_of x.number es) o → position p (e ∷ es) ≡ option_map (λ x. place_of x.number (e ∷ es)) o
+    by_rest None is fails ih = position-later p e es fails ∙ rw ih refl
     by_rest (Some x) is fails ih =
-        let used = found_there (λ y. p (entry_of y)) es x is in
+        let used = found_there p es x is in
         let differ : eqb e.number x.number ≡ false = grind (arith, nat_tests, eqb_tells e.number x.number, used, distinct) in
-        position-later p (entry_of e) (flows_of es) fails ∙ rw ih (ap Some (sym (later e x es differ)))
+        position-later p e es fails ∙ rw ih (ap Some (sym (later e x es differ)))
 
-    by_test : (b : Bool) → p (entry_of e) ≡ b → position p (flows_of es) ≡ option_map (λ x. place_of x.number es) (find (λ x. p (entry_of x)) es) → position p (flows_of (e ∷ es)) ≡ option_map (λ x. place_of x.number (e ∷ es)) (find (λ x. p (entry_of x)) (e ∷ es))
-    by_test true passes ih = position-first p (entry_of e) (flows_of es) passes ∙ rw passes (ap Some (sym (here e es)))
+    by_test : (b : Bool) → p e ≡ b → position p es ≡ option_map (λ x. place_of x.number es) (find p es) → position p (e ∷ es) ≡ option_map (λ x. place_of x.number (e ∷ es)) (find p (e ∷ es))
+    by_test true passes ih = position-first p e es passes ∙ rw passes (ap Some (sym (here e es)))
     by_test false fails ih =
-        let same : find (λ x. p (entry_of x)) (e ∷ es) ≡ find (λ x. p (entry_of x)) es = rw fails refl in
-        by_rest (find (λ x. p (entry_of x)) es) refl fails ih ∙ ap (option_map (λ x. place_of x.number (e ∷ es))) (sym same)
+        let same : find p (e ∷ es) ≡ find p es = rw fails refl in
+        by_rest (find p es) refl fails ih ∙ ap (option_map (λ x. place_of x.number (e ∷ es))) (sym same)

@@ -1,11 +1,10 @@
 -- The first element that passes, by its place.
-use Rattle.std.proofs.Common.{◌≡◌, ℕ, ◌+◌, ◌<◌, zero, suc, Bool, true, false, cond, List, [], ◌∷◌, length, Option, Some, None, refl, sym, ap, subst, ◌∙◌, arith}
-use Rattle.std.specs.Prelude.{position, find, map, nat_lt, slice_get}
+use Rattle.std.proofs.Common.{◌≡◌, ℕ, ◌+◌, ◌<◌, suc, Bool, true, false, not, cond, ◌||◌, List, [], ◌∷◌, length, Option, Some, None, refl, ap, ◌∙◌, arith}
+use Rattle.std.specs.Prelude.{position, find, filter, map, nat_lt}
 use Rattle.std.specs.List.{list_any, position_or_len}
 use Rattle.std.specs.Option.{option_map}
 use Rattle.std.proofs.lemmas.Bool.Decides.{nat_tests}
 use Rattle.std.proofs.lemmas.List.{length-map}
-use Rattle.of_classifier.proofs.Finding.{FoundAt}
 
 pub any-place : {X : Type 0} (p : X → Bool) (xs : List X) → list_any p xs ≡ nat_lt (position_or_len p xs) (length xs)
 any-place p [] = refl
@@ -69,64 +68,27 @@ find-map {X} {Y} g p (x ∷ xs) = by_test (p (g x)) (find-map g p xs)
     by_test true ih = refl
     by_test false ih = ih
 
-pub find_same : {X : Type 0} (p q : X → Bool) → ((x : X) → p x ≡ q x) → (xs : List X) → find p xs ≡ find q xs
-find_same p q h [] = refl
-find_same p q h (x ∷ xs) = rw (h x, find_same p q h xs) refl
-
--- ---- what stands at a position
-
-no_later : {X : Type 0} (p : X → Bool) (y : X) (ys : List X) (place : ℕ) → p y ≡ false → ((k : ℕ) (z : X) → k < place → slice_get ys k ≡ Some z → p z ≡ false)
-    → (k : ℕ) (z : X) → k < suc place → slice_get (y ∷ ys) k ≡ Some z → p z ≡ false
-no_later {X} p y ys place e f zero z lt g = let same : y ≡ z = cc in subst (λ (w : X). p w ≡ false) same e
-no_later p y ys place e f (suc k) z lt g = f k z (omega arith) g
-
-pub found_at_position : {X : Type 0} (p : X → Bool) (xs : List X) (place : ℕ) → position p xs ≡ Some place → (x : X) × FoundAt p xs place x
-found_at_position p [] place h = absurd cc
-found_at_position {X} p (y ∷ ys) place h = by_test (p y) refl (found_at_position p ys)
+-- where none passes, none is found and a filter of the others keeps all
+pub find_none : {X : Type 0} (p : X → Bool) (xs : List X) → list_any p xs ≡ false → find p xs ≡ None
+find_none p [] h = refl
+find_none p (x ∷ xs) h = by_test (p x) h (find_none p xs)
   where
-    by_rest : (o : Option ℕ) → position p ys ≡ o → p y ≡ false → option_map (λ n. n + 1) o ≡ Some place → ((k : ℕ) → position p ys ≡ Some k → (x : X) × FoundAt p ys k x) → (x : X) × FoundAt p (y ∷ ys) place x
-    by_rest None is e g later = absurd cc
-    by_rest (Some k) is e g later =
-        let rest = later k is in
-        let next : suc k ≡ place = (let n : k + 1 ≡ place = cc in omega arith) in
-        subst (λ (n : ℕ). (x : X) × FoundAt p (y ∷ ys) n x) next
-        (rest.0, record { stands = rest.1.stands; passes = rest.1.passes; first = no_later p y ys k e rest.1.first })
+    by_test : (b : Bool) → (b || list_any p xs) ≡ false → (list_any p xs ≡ false → find p xs ≡ None) → cond b (Some x) (find p xs) ≡ None
+    by_test true g ih = absurd cc
+    by_test false g ih = ih g
 
-    by_test : (b : Bool) → p y ≡ b → ((k : ℕ) → position p ys ≡ Some k → (x : X) × FoundAt p ys k x) → (x : X) × FoundAt p (y ∷ ys) place x
-    by_test true e later =
-        let first : 0 ≡ place = (let g = sym (position-first p y ys e) ∙ h in cc) in
-        subst (λ (n : ℕ). (x : X) × FoundAt p (y ∷ ys) n x) first
-        (y, record { stands = refl; passes = e; first = λ k z lt. absurd (omega arith) })
-    by_test false e later = by_rest (position p ys) refl e (sym (position-later p y ys e) ∙ h) later
-
-pub position_from_found : {X : Type 0} (p : X → Bool) (xs : List X) (place : ℕ) (x : X) → FoundAt p xs place x → position p xs ≡ Some place
-position_from_found p [] place x h = absurd (let e = h.stands in cc)
-position_from_found {X} p (y ∷ ys) zero x h =
-    let same : y ≡ x = (let e = h.stands in cc) in
-    position-first p y ys (subst (λ (w : X). p w ≡ true) (sym same) h.passes)
-position_from_found p (y ∷ ys) (suc place) x h =
-    let fails : p y ≡ false = h.first 0 y (omega arith) refl in
-    let rest = position_from_found p ys place x (record { stands = h.stands; passes = h.passes; first = λ k z lt g. h.first (suc k) z (omega arith) g }) in
-    position-later p y ys fails ∙ rw rest (ap Some (omega arith))
-
--- ---- nothing passes
-
-pub none_found : {X : Type 0} (p : X → Bool) (xs : List X) → position p xs ≡ None → find p xs ≡ None
-none_found p [] h = refl
-none_found p (x ∷ xs) h = by_test (p x) refl (none_found p xs)
+pub filter_others : {X : Type 0} (p : X → Bool) (xs : List X) → list_any p xs ≡ false → filter (λ x. not (p x)) xs ≡ xs
+filter_others p [] h = refl
+filter_others {X} p (x ∷ xs) h = by_test (p x) h (filter_others p xs)
   where
-    by_rest : (o : Option ℕ) → position p xs ≡ o → option_map (λ n. n + 1) o ≡ None → (position p xs ≡ None → find p xs ≡ None) → find p xs ≡ None
-    by_rest None is g later = later is
-    by_rest (Some k) is g later = absurd cc
+    by_test : (b : Bool) → (b || list_any p xs) ≡ false → (list_any p xs ≡ false → filter (λ y. not (p y)) xs ≡ xs) → cond (not b) (x ∷ filter (λ y. not (p y)) xs) (filter (λ y. not (p y)) xs) ≡ x ∷ xs
+    by_test true g ih = absurd cc
+    by_test false g ih = ap (λ (ys : List X). x ∷ ys) (ih g)
 
-    by_test : (b : Bool) → p x ≡ b → (position p xs ≡ None → find p xs ≡ None) → find p (x ∷ xs) ≡ None
-    by_test true e later = absurd (let g = sym (position-first p x xs e) ∙ h in cc)
-    by_test false e later = rw e (by_rest (position p xs) refl (sym (position-later p x xs e) ∙ h) later)
-
-pub found_none : {X : Type 0} (p : X → Bool) (xs : List X) → find p xs ≡ None → position p xs ≡ None
-found_none p [] h = refl
-found_none p (x ∷ xs) h = by_test (p x) refl (found_none p xs)
+pub filter-map : {X Y : Type 0} (g : X → Y) (p : Y → Bool) (xs : List X) → filter p (map g xs) ≡ map g (filter (λ x. p (g x)) xs)
+filter-map g p [] = refl
+filter-map {X} {Y} g p (x ∷ xs) = by_test (p (g x)) (filter-map g p xs)
   where
-    by_test : (b : Bool) → p x ≡ b → (find p xs ≡ None → position p xs ≡ None) → position p (x ∷ xs) ≡ None
-    by_test true e later = absurd (let g = rw e at h in cc)
-    by_test false e later = position-later p x xs e ∙ ap (option_map (λ n. n + 1)) (later (rw e at h))
+    by_test : (b : Bool) → filter p (map g xs) ≡ map g (filter (λ y. p (g y)) xs) → cond b (g x ∷ filter p (map g xs)) (filter p (map g xs)) ≡ map g (cond b (x ∷ filter (λ y. p (g y)) xs) (filter (λ y. p (g y)) xs))
+    by_test true ih = ap (λ (ys : List Y). g x ∷ ys) ih
+    by_test false ih = ih

@@ -1,7 +1,7 @@
 -- What holds of the entries of each table stays so.
-use Rattle.std.proofs.Common.{◌≡◌, ℕ, zero, suc, ◌+◌, ◌<◌, ◌≤◌, Bool, true, false, ltb, ltb-true, List, [], ◌∷◌, ◌++◌, ◌&&◌, length, set, get_or, refl, sym, ap, arith, ◌∙◌, take, drop}
+use Rattle.std.proofs.Common.{◌≡◌, ℕ, zero, suc, ◌+◌, ◌<◌, ◌≤◌, Bool, true, false, not, cond, ltb, ltb-true, List, [], ◌∷◌, ◌++◌, ◌&&◌, length, set, get_or, refl, sym, ap, arith, ◌∙◌}
 use Rattle.std.specs.Prelude.{filter, map, find, replicate, Option, Some, None, slice_index_or}
-use Rattle.std.specs.List.{list_all, before_first, after_first}
+use Rattle.std.specs.List.{list_all}
 use Rattle.std.proofs.lemmas.Bool.Decides.{nat_tests}
 use Rattle.std.proofs.lemmas.List.Folds.{list_all-append}
 use Rattle.of_table.specs.declared.flow.Flow.{Flow}
@@ -10,10 +10,12 @@ use Rattle.of_table.specs.Table.{FlowEntry, Table, empty_table, added, with_flow
 use Rattle.of_table.specs.Selecting.{left, stays}
 use Rattle.std.proofs.lemmas.List.{length-map, length-set, map-set, get_or-map}
 use Rattle.std.specs.Prelude.{Result, Ok, Err, OnOk, OnErr}
-use Rattle.of_table.proofs.TablesLemmas.{get_or_past}
+use Rattle.of_table.proofs.TablesLemmas.{get_or_past, each-map, kept_one}
+use Rattle.of_table.specs.Tables.{each_from, concerns, left_table, kept_table}
 use Rattle.of_table.specs.declared.entry.Entry.{Entry}
 use Rattle.of_table.specs.Entries.{Numbered, table_of, entry_of, flows_of}
-use Rattle.of_table.specs.Entries.{row_of}
+use Rattle.of_table.specs.Entries.{row_of, AddsEntry}
+use Rattle.of_table.proofs.AddLemmas.{flows_added}
 use Rattle.of_table.specs.declared.table_fault.TableFault.{TableFault}
 use Rattle.of_table.specs.Faults.{fault_in}
 use Rattle.of_table.specs.Table.{add_fault}
@@ -28,22 +30,6 @@ use Rattle.of_table.proofs.Unlike.{few_added, unlike_added, unlike_filter, filte
 pub all-filter : {X : Type 0} (p q : X → Bool) (xs : List X) → list_all p xs ≡ true → list_all p (filter q xs) ≡ true
 all-filter p q [] h = refl
 all-filter p q (x ∷ xs) h = grind (arith, all-filter p q xs)
-
-all-take : {X : Type 0} (p : X → Bool) (k : ℕ) (xs : List X) → list_all p xs ≡ true → list_all p (take k xs) ≡ true
-all-take p zero xs h = refl
-all-take p (suc k) [] h = refl
-all-take p (suc k) (x ∷ xs) h = grind (arith, all-take p k xs)
-
-all-drop : {X : Type 0} (p : X → Bool) (k : ℕ) (xs : List X) → list_all p xs ≡ true → list_all p (drop k xs) ≡ true
-all-drop p zero xs h = h
-all-drop p (suc k) [] h = refl
-all-drop p (suc k) (x ∷ xs) h = all-drop p k xs (grind arith)
-
-all-before : {X : Type 0} (p q : X → Bool) (xs : List X) → list_all p xs ≡ true → list_all p (before_first q xs) ≡ true
-all-before p q xs h = all-take p _ xs h
-
-all-after : {X : Type 0} (p q : X → Bool) (xs : List X) → list_all p xs ≡ true → list_all p (after_first q xs) ≡ true
-all-after p q xs h = all-drop p _ xs h
 
 all-set : {X : Type 0} (p : X → Bool) (xs : List X) (i : ℕ) (x : X) → list_all p xs ≡ true → p x ≡ true → list_all p (set xs i x) ≡ true
 all-set p [] i x h is = refl
@@ -66,10 +52,8 @@ with_flow_checked now flow (Some e) h = h
 all-added : (p : FlowEntry → Bool) (now : ℕ) (flow : Flow) (flows : List FlowEntry) → p (with_flow now flow (find (is_same flow) flows)) ≡ true → list_all p flows ≡ true → list_all p (added now flow flows) ≡ true
 all-added p now flow flows h all =
     rw (
-      list_all-append p (before_first (is_same flow) flows ++ after_first (is_same flow) flows) (with_flow now flow (find (is_same flow) flows) ∷ []),
-      list_all-append p (before_first (is_same flow) flows) (after_first (is_same flow) flows),
-      all-before p (is_same flow) flows all,
-      all-after p (is_same flow) flows all,
+      list_all-append p (filter (λ e. not (is_same flow e)) flows) (with_flow now flow (find (is_same flow) flows) ∷ []),
+      all-filter p (λ e. not (is_same flow e)) flows all,
       h,
     ) refl
 
@@ -121,6 +105,23 @@ pub empty_sound : (k n : ℕ) → AllSound k (replicate n empty_table)
 empty_sound k zero = tt
 empty_sound k (suc n) = (none_sound k, empty_sound (suc k) n)
 
+left_one_sound : (cause : Cause) (k : ℕ) (t : Table) → AreSound k t.flows → AreSound k (left_table cause k t).flows
+left_one_sound cause k t s = by_test (concerns cause k)
+  where
+    by_test : (b : Bool) → AreSound k (cond b (record t { flows = left cause t.flows }) t).flows
+    by_test true = left_sound k cause t.flows s
+    by_test false = s
+
+left_all_sound : (cause : Cause) (k : ℕ) (ts : List Table) → AllSound k ts → AllSound k (each_from (left_table cause) k ts)
+left_all_sound cause k [] s = tt
+left_all_sound cause k (t ∷ ts) s = (left_one_sound cause k t s.0, left_all_sound cause (suc k) ts s.1)
+
+-- all tables stay sound where entries go
+pub kept_all_sound : (cause : Cause) (ns new : List Numbered) → new ≡ each_from (kept_table cause) 0 ns → AllSound 0 (map table_of ns) → AllSound 0 (map table_of new)
+kept_all_sound cause ns new is s =
+    let tables : map table_of new ≡ each_from (left_table cause) 0 (map table_of ns) = ap (map table_of) is ∙ each-map (kept_table cause) (left_table cause) (kept_one cause) 0 ns in
+    rw tables (left_all_sound cause 0 (map table_of ns) s)
+
 zero_plus : (k : ℕ) → 0 + k ≡ k
 zero_plus k = omega arith
 
@@ -131,6 +132,14 @@ step_sound k ns new d lt step s =
     let old : AreSound k (get_or (map table_of ns) k (table_of d)).flows = rw (zero_plus k) at (sound_at 0 k (map table_of ns) (table_of d) within s) in
     let here : AreSound k (table_of (get_or ns k d)).flows = rw (get_or-map table_of ns k d) at old in
     rw (map-set table_of ns k new) (sound_set 0 k (map table_of ns) (table_of new) (rw (zero_plus k) (step here)) s)
+
+-- no two entries of a table are of one priority and match
+pub unlike_there : (k : ℕ) (ns : List Numbered) (old d : Numbered) → k < length ns → old ≡ get_or ns k d → AllSound 0 (map table_of ns) → are_unlike (map key_of (flows_of old.entries)) ≡ true
+unlike_there k ns old d lt is s =
+    let within : k < length (map table_of ns) = rw length-map lt in
+    let there : AreSound k (get_or (map table_of ns) k (table_of d)).flows = rw (zero_plus k) at (sound_at 0 k (map table_of ns) (table_of d) within s) in
+    let here : AreSound k (table_of (get_or ns k d)).flows = rw (get_or-map table_of ns k d) at there in
+    rw is here.unlike
 
 abbrev row_key : Row → Key
 row_key r = record { priority = r.priority; fields = r.fields }
@@ -148,14 +157,12 @@ step_fit k i entries new d lt row step goes s =
 
 -- ---- what the calls do
 
-pub ok_added : {A : Type 0} (r : Result A TableFault) (k now : ℕ) (flow : Flow) (old new : Numbered) → fault_in r ≡ add_fault flow (flows_of old.entries) → OnOk r (table_of new ≡ record (table_of old) { flows = added now flow (flows_of old.entries) }) → OnErr r (new ≡ old) →
+pub ok_added : {A : Type 0} (r : Result A TableFault) (k now : ℕ) (flow : Flow) (old new : Numbered) → fault_in r ≡ add_fault flow (flows_of old.entries) → OnOk r (AddsEntry now flow old new) → OnErr r (new ≡ old) →
     are_fit k flow.instructions ≡ true → all_go_with flow.fields flow.instructions ≡ true → AreSound k (table_of old).flows → AreSound k (table_of new).flows
-ok_added (Ok a) k now flow old new fault ok err h goes s = let same : flows_of new.entries ≡ added now flow (flows_of old.entries) = ap (λ (t : Table). t.flows) ok in rw same (added_sound k now flow (flows_of old.entries) fault h goes s)
+ok_added (Ok a) k now flow old new fault ok err h goes s =
+    let same : flows_of new.entries ≡ added now flow (flows_of old.entries) = ap (λ (n : Numbered). flows_of n.entries) ok.table ∙ flows_added ok.number now flow old.entries in
+    rw same (added_sound k now flow (flows_of old.entries) fault h goes s)
 ok_added (Err e) k now flow old new fault ok err h goes s = let same : flows_of new.entries ≡ flows_of old.entries = ap (λ (n : Numbered). flows_of n.entries) err in rw same s
-
-pub ok_left : {A E : Type 0} (r : Result A E) (k : ℕ) (cause : Cause) (old new : Numbered) → OnOk r (table_of new ≡ record (table_of old) { flows = left cause (flows_of old.entries) }) → OnErr r (new ≡ old) → AreSound k (table_of old).flows → AreSound k (table_of new).flows
-ok_left (Ok a) k cause old new ok err s = let same : flows_of new.entries ≡ left cause (flows_of old.entries) = ap (λ (t : Table). t.flows) ok in rw same (left_sound k cause (flows_of old.entries) s)
-ok_left (Err e) k cause old new ok err s = let same : flows_of new.entries ≡ flows_of old.entries = ap (λ (n : Numbered). flows_of n.entries) err in rw same s
 
 counted_keys : (now place bytes : ℕ) (flows : List FlowEntry) → map key_of (counted_at now place bytes flows) ≡ map key_of flows
 counted_keys now place bytes [] = refl

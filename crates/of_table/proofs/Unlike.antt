@@ -1,18 +1,21 @@
 -- No two entries have the same priority and match, also after one more is added or some are removed.
-use Rattle.std.proofs.Common.{◌≡◌, ℕ, suc, ◌+◌, ◌<◌, ◌≤◌, Bool, true, false, not, cond, ◌&&◌, ◌||◌, List, [], ◌∷◌, ◌++◌, Option, Some, None, length, take, drop, refl, sym, ap, subst, ◌∙◌, arith}
-use Rattle.std.specs.Prelude.{filter, map, find, nat_le}
-use Rattle.std.specs.List.{list_any, before_first, after_first, position_or_len}
+use Rattle.std.proofs.Common.{◌≡◌, ℕ, suc, ◌+◌, ◌<◌, ◌≤◌, Bool, true, false, not, cond, ◌&&◌, ◌||◌, List, [], ◌∷◌, ◌++◌, Option, Some, None, length, refl, sym, ap, subst, ◌∙◌, arith}
+use Rattle.std.specs.Prelude.{filter, map, find, nat_le, position, remove}
+use Rattle.std.specs.List.{list_any}
+use Rattle.std.specs.Option.{option_map}
 use Rattle.std.proofs.lemmas.Bool.{eq-eqb}
 use Rattle.std.proofs.lemmas.Bool.Decides.{nat_tests}
 use Rattle.std.proofs.lemmas.List.{map-append, length-append}
 use Rattle.std.proofs.lemmas.List.Folds.{list_any-append}
 use Rattle.of_oxm.specs.SameMatch.{is_same_match}
 use Rattle.of_table.specs.declared.flow.Flow.{Flow}
+use Rattle.of_table.specs.declared.entry.Entry.{Entry}
 use Rattle.of_table.specs.declared.table_fault.TableFault.TheVariants.{Overlap, Full}
 use Rattle.of_table.specs.Table.{FlowEntry, is_same, is_full, is_overlapped, add_fault, with_flow, added}
+use Rattle.of_table.specs.Entries.{entry_of, flows_of}
 use Rattle.of_table.specs.Sound.{Key, key_of, is_same_key, are_unlike}
 use Rattle.of_table.proofs.AddLemmas.{same_is, is_itself}
-use Rattle.of_table.proofs.PlaceLemmas.{any-map}
+use Rattle.of_table.proofs.PlaceLemmas.{any-map, filter_others, position-first, position-later}
 
 -- ---- keys
 
@@ -40,22 +43,7 @@ turned_key k l h = split (is_same_key l k) refl
 abbrev flow_key : Flow → Key
 flow_key flow = record { priority = flow.priority; fields = flow.fields }
 
--- ---- all but the first that passes
-
-abbrev pub others : {X : Type 0} → (X → Bool) → List X → List X
-others p xs = before_first p xs ++ after_first p xs
-
-others_first : {X : Type 0} (p : X → Bool) (x : X) (xs : List X) → p x ≡ true → others p (x ∷ xs) ≡ xs
-others_first p x xs e = rw e refl
-
-past_one : {X : Type 0} (n : ℕ) (x : X) (xs : List X) → take (1 + n) (x ∷ xs) ++ drop (1 + n + 1) (x ∷ xs) ≡ x ∷ (take n xs ++ drop (n + 1) xs)
-past_one n x xs =
-    let one : 1 + n ≡ suc n = omega arith in
-    let two : 1 + n + 1 ≡ suc (n + 1) = omega arith in
-    λ j. take (one j) (x ∷ xs) ++ drop (two j) (x ∷ xs)
-
-others_later : {X : Type 0} (p : X → Bool) (x : X) (xs : List X) → p x ≡ false → others p (x ∷ xs) ≡ x ∷ others p xs
-others_later p x xs e = rw e (past_one (position_or_len p xs) x xs)
+-- ---- all that do not pass
 
 none_first : (b c : Bool) → (b || c) ≡ false → b ≡ false
 none_first true c h = h
@@ -65,29 +53,13 @@ none_second : (b c : Bool) → (b || c) ≡ false → c ≡ false
 none_second true c h = absurd cc
 none_second false c h = h
 
-any_others : {X : Type 0} (p q : X → Bool) (xs : List X) → list_any q xs ≡ false → list_any q (others p xs) ≡ false
-any_others p q [] h = refl
-any_others p q (x ∷ xs) h = split (p x) refl (any_others p q xs (none_second (q x) (list_any q xs) h))
+none_passes : {X : Type 0} (p : X → Bool) (xs : List X) → list_any p (filter (λ x. not (p x)) xs) ≡ false
+none_passes p [] = refl
+none_passes p (x ∷ xs) = split (p x) refl (none_passes p xs)
   where
-    split : (b : Bool) → p x ≡ b → list_any q (others p xs) ≡ false → list_any q (others p (x ∷ xs)) ≡ false
-    split true e ih = ap (list_any q) (others_first p x xs e) ∙ none_second (q x) (list_any q xs) h
-    split false e ih = ap (list_any q) (others_later p x xs e) ∙ rw (none_first (q x) (list_any q xs) h, ih) refl
-
-others_fewer : {X : Type 0} (p : X → Bool) (xs : List X) → length (others p xs) ≤ length xs
-others_fewer p [] = omega arith
-others_fewer p (x ∷ xs) = split (p x) refl (others_fewer p xs)
-  where
-    split : (b : Bool) → p x ≡ b → length (others p xs) ≤ length xs → length (others p (x ∷ xs)) ≤ suc (length xs)
-    split true e ih = rw (others_first p x xs e) (omega arith)
-    split false e ih = rw (others_later p x xs e) (omega (arith, ih))
-
-others_one_fewer : {X : Type 0} (p : X → Bool) (xs : List X) → list_any p xs ≡ true → suc (length (others p xs)) ≤ length xs
-others_one_fewer p [] h = absurd cc
-others_one_fewer p (x ∷ xs) h = split (p x) refl h (others_one_fewer p xs)
-  where
-    split : (b : Bool) → p x ≡ b → (b || list_any p xs) ≡ true → (list_any p xs ≡ true → suc (length (others p xs)) ≤ length xs) → suc (length (others p (x ∷ xs))) ≤ suc (length xs)
-    split true e some ih = rw (others_first p x xs e) (omega arith)
-    split false e some ih = rw (others_later p x xs e) (omega (arith, ih some))
+    split : (b : Bool) → p x ≡ b → list_any p (filter (λ y. not (p y)) xs) ≡ false → list_any p (cond (not b) (x ∷ filter (λ y. not (p y)) xs) (filter (λ y. not (p y)) xs)) ≡ false
+    split true is ih = ih
+    split false is ih = rw (is, ih) refl
 
 -- ---- entries
 
@@ -106,28 +78,29 @@ unlike_parts e flows h =
     let p = both (list_any (is_same_key (key_of e)) (map key_of flows)) (are_unlike (map key_of flows)) h in
     (sym (any-map key_of (is_same_key (key_of e)) flows) ∙ p.0, p.1)
 
-unlike_others : (p : FlowEntry → Bool) (flows : List FlowEntry) → are_unlike (map key_of flows) ≡ true → are_unlike (map key_of (others p flows)) ≡ true
-unlike_others p [] h = refl
-unlike_others p (e ∷ es) h =
-    let parts = unlike_parts e es h in
-    split (p e) refl parts.0 parts.1 (unlike_others p es parts.1)
+-- but for the one entry of the flow's priority and match, none is of them
+pub others_left : (flow : Flow) (es : List Entry) (k : ℕ) → are_unlike (map key_of (flows_of es)) ≡ true → position (λ e. is_same flow (entry_of e)) es ≡ Some k → remove es k ≡ filter (λ e. not (is_same flow (entry_of e))) es
+others_left flow [] k unlike h = absurd cc
+others_left flow (e ∷ es) k unlike h =
+    let parts = unlike_parts (entry_of e) (flows_of es) unlike in
+    split (is_same flow (entry_of e)) refl parts.0 (λ j. others_left flow es j parts.1)
   where
-    split : (b : Bool) → p e ≡ b → list_any (λ f. is_same_key (key_of e) (key_of f)) es ≡ false → are_unlike (map key_of es) ≡ true → are_unlike (map key_of (others p es)) ≡ true → are_unlike (map key_of (others p (e ∷ es))) ≡ true
-    split true is none all ih = rw (others_first p e es is) all
-    split false is none all ih = rw (others_later p e es is) (unlike_by e (others p es) (any_others p (λ f. is_same_key (key_of e) (key_of f)) es none) ih)
+    by_rest : (o : Option ℕ) → position (λ x. is_same flow (entry_of x)) es ≡ o → option_map (λ n. n + 1) o ≡ Some k → ((j : ℕ) → position (λ x. is_same flow (entry_of x)) es ≡ Some j → remove es j ≡ filter (λ x. not (is_same flow (entry_of x))) es) →
+        remove (e ∷ es) k ≡ e ∷ filter (λ x. not (is_same flow (entry_of x))) es
+    by_rest None is g ih = absurd cc
+    by_rest (Some j) is g ih =
+        let next : suc j ≡ k = (let n : j + 1 ≡ k = cc in omega arith) in
+        subst (λ (n : ℕ). remove (e ∷ es) n ≡ e ∷ filter (λ x. not (is_same flow (entry_of x))) es) next (ap (λ (xs : List Entry). e ∷ xs) (ih j is))
 
--- all but the first entry of a flow's priority and match are of others
-none_same : (flow : Flow) (flows : List FlowEntry) → are_unlike (map key_of flows) ≡ true → list_any (is_same flow) (others (is_same flow) flows) ≡ false
-none_same flow [] h = refl
-none_same flow (e ∷ es) h =
-    let parts = unlike_parts e es h in
-    split (is_same flow e) refl parts.0 (none_same flow es parts.1)
-  where
-    split : (b : Bool) → is_same flow e ≡ b → list_any (λ f. is_same_key (key_of e) (key_of f)) es ≡ false → list_any (is_same flow) (others (is_same flow) es) ≡ false → list_any (is_same flow) (others (is_same flow) (e ∷ es)) ≡ false
+    split : (b : Bool) → is_same flow (entry_of e) ≡ b → list_any (λ f. is_same_key (key_of (entry_of e)) (key_of f)) (flows_of es) ≡ false → ((j : ℕ) → position (λ x. is_same flow (entry_of x)) es ≡ Some j → remove es j ≡ filter (λ x. not (is_same flow (entry_of x))) es) →
+        remove (e ∷ es) k ≡ filter (λ x. not (is_same flow (entry_of x))) (e ∷ es)
     split true is none ih =
-        let same : key_of e ≡ flow_key flow = same_key (flow_key flow) (key_of e) is in
-        rw (others_first (is_same flow) e es is) (subst (λ (k : Key). list_any (λ f. is_same_key k (key_of f)) es ≡ false) same none)
-    split false is none ih = ap (list_any (is_same flow)) (others_later (is_same flow) e es is) ∙ rw (is, ih) refl
+        let first : 0 ≡ k = (let g = sym (position-first (λ x. is_same flow (entry_of x)) e es is) ∙ h in cc) in
+        let same : key_of (entry_of e) ≡ flow_key flow = same_key (flow_key flow) (key_of (entry_of e)) is in
+        let apart : list_any (is_same flow) (flows_of es) ≡ false = subst (λ (l : Key). list_any (λ f. is_same_key l (key_of f)) (flows_of es) ≡ false) same none in
+        let others : filter (λ x. not (is_same flow (entry_of x))) es ≡ es = filter_others (λ x. is_same flow (entry_of x)) es (sym (any-map entry_of (is_same flow) es) ∙ apart) in
+        subst (λ (n : ℕ). remove (e ∷ es) n ≡ filter (λ x. not (is_same flow (entry_of x))) (e ∷ es)) first (rw (is, others) refl)
+    split false is none ih = rw is (by_rest (position (λ x. is_same flow (entry_of x)) es) refl (sym (position-later (λ x. is_same flow (entry_of x)) e es is) ∙ h) ih)
 
 unlike_last : (ks : List Key) (k : Key) → are_unlike ks ≡ true → list_any (is_same_key k) ks ≡ false → are_unlike (ks ++ k ∷ []) ≡ true
 unlike_last [] k h none = refl
@@ -139,15 +112,6 @@ unlike_last (l ∷ ls) k h none =
 with_flow_key : (now : ℕ) (flow : Flow) (old : Option FlowEntry) → key_of (with_flow now flow old) ≡ flow_key flow
 with_flow_key now flow None = refl
 with_flow_key now flow (Some e) = refl
-
-pub unlike_added : (now : ℕ) (flow : Flow) (flows : List FlowEntry) → are_unlike (map key_of flows) ≡ true → are_unlike (map key_of (added now flow flows)) ≡ true
-unlike_added now flow flows h =
-    let rest = others (is_same flow) flows in
-    let new = with_flow now flow (find (is_same flow) flows) in
-    let last : key_of new ≡ flow_key flow = with_flow_key now flow (find (is_same flow) flows) in
-    let parts : map key_of (rest ++ new ∷ []) ≡ map key_of rest ++ flow_key flow ∷ [] = map-append key_of rest (new ∷ []) ∙ ap (λ (k : Key). map key_of rest ++ k ∷ []) last in
-    let none : list_any (is_same_key (flow_key flow)) (map key_of rest) ≡ false = any-map key_of (is_same_key (flow_key flow)) rest ∙ none_same flow flows h in
-    ap are_unlike parts ∙ unlike_last (map key_of rest) (flow_key flow) (unlike_others (is_same flow) flows h) none
 
 any_filter : {X : Type 0} (p q : X → Bool) (xs : List X) → list_any q xs ≡ false → list_any q (filter p xs) ≡ false
 any_filter p q [] h = refl
@@ -167,6 +131,15 @@ unlike_filter p (e ∷ es) h =
     split true none ih = unlike_by e (filter p es) none ih
     split false none ih = ih
 
+pub unlike_added : (now : ℕ) (flow : Flow) (flows : List FlowEntry) → are_unlike (map key_of flows) ≡ true → are_unlike (map key_of (added now flow flows)) ≡ true
+unlike_added now flow flows h =
+    let rest = filter (λ e. not (is_same flow e)) flows in
+    let new = with_flow now flow (find (is_same flow) flows) in
+    let last : key_of new ≡ flow_key flow = with_flow_key now flow (find (is_same flow) flows) in
+    let parts : map key_of (rest ++ new ∷ []) ≡ map key_of rest ++ flow_key flow ∷ [] = map-append key_of rest (new ∷ []) ∙ ap (λ (k : Key). map key_of rest ++ k ∷ []) last in
+    let none : list_any (is_same_key (flow_key flow)) (map key_of rest) ≡ false = any-map key_of (is_same_key (flow_key flow)) rest ∙ none_passes (is_same flow) flows in
+    ap are_unlike parts ∙ unlike_last (map key_of rest) (flow_key flow) (unlike_filter (λ e. not (is_same flow e)) flows h) none
+
 pub filter_fewer : {X : Type 0} (p : X → Bool) (xs : List X) → length (filter p xs) ≤ length xs
 filter_fewer p [] = omega arith
 filter_fewer p (x ∷ xs) = split (p x) (filter_fewer p xs)
@@ -174,6 +147,14 @@ filter_fewer p (x ∷ xs) = split (p x) (filter_fewer p xs)
     split : (b : Bool) → length (filter p xs) ≤ length xs → length (cond b (x ∷ filter p xs) (filter p xs)) ≤ suc (length xs)
     split true ih = omega (arith, ih)
     split false ih = omega (arith, ih)
+
+filter_one_fewer : {X : Type 0} (p : X → Bool) (xs : List X) → list_any p xs ≡ true → suc (length (filter (λ x. not (p x)) xs)) ≤ length xs
+filter_one_fewer p [] h = absurd cc
+filter_one_fewer p (x ∷ xs) h = split (p x) h (filter_one_fewer p xs)
+  where
+    split : (b : Bool) → (b || list_any p xs) ≡ true → (list_any p xs ≡ true → suc (length (filter (λ y. not (p y)) xs)) ≤ length xs) → suc (length (cond (not b) (x ∷ filter (λ y. not (p y)) xs) (filter (λ y. not (p y)) xs))) ≤ suc (length xs)
+    split true some ih = let fewer = filter_fewer (λ y. not (p y)) xs in omega (arith, fewer)
+    split false some ih = let fewer = ih some in omega (arith, fewer)
 
 -- ---- how many there are
 
@@ -184,13 +165,13 @@ not_full false false h = refl
 
 pub few_added : (now : ℕ) (flow : Flow) (flows : List FlowEntry) → None ≡ add_fault flow flows → length flows ≤ 4096 → length (added now flow flows) ≤ 4096
 few_added now flow flows fault few =
-    let rest = others (is_same flow) flows in
+    let rest = filter (λ e. not (is_same flow e)) flows in
     let new = with_flow now flow (find (is_same flow) flows) in
     let one_more : length (rest ++ new ∷ []) ≡ length rest + 1 = length-append rest (new ∷ []) in
     rw one_more (split (list_any (is_same flow) flows) refl (not_full (is_overlapped flow flows) (is_full flow flows) fault))
   where
-    split : (b : Bool) → list_any (is_same flow) flows ≡ b → (not b && nat_le 4096 (length flows)) ≡ false → length (others (is_same flow) flows) + 1 ≤ 4096
-    split true some full = omega (arith, few, others_one_fewer (is_same flow) flows some)
+    split : (b : Bool) → list_any (is_same flow) flows ≡ b → (not b && nat_le 4096 (length flows)) ≡ false → length (filter (λ e. not (is_same flow e)) flows) + 1 ≤ 4096
+    split true some full = omega (arith, few, filter_one_fewer (is_same flow) flows some)
     split false none full =
         let short : length flows < 4096 = grind (arith, nat_tests, full) in
-        omega (arith, short, others_fewer (is_same flow) flows)
+        omega (arith, short, filter_fewer (λ e. not (is_same flow e)) flows)

@@ -1,11 +1,13 @@
 -- A flow table as a reader sees it (OpenFlow 1.3.5, 5.2, 5.3, 5.8 and 6.4): its entries, oldest first, and its counters.
-use Rattle.std.specs.Prelude.{◌≡◌, ℕ, ◌+◌, ◌≤◌, ◌%◌, ◌^◌, ◌==◌, ◌&&◌, ◌++◌, Bool, true, false, not, List, [], ◌∷◌, length, Option, Some, None, zero, suc, filter, find, position, nat_le, slice_get, if◌then◌else◌}
-use Rattle.std.specs.List.{list_any, before_first, after_first}
+use Rattle.std.specs.Prelude.{ℕ, ◌+◌, ◌%◌, ◌^◌, ◌==◌, ◌&&◌, ◌++◌, Bool, false, not, List, [], ◌∷◌, length, Option, Some, None, zero, suc, filter, find, nat_le, slice_get, if◌then◌else◌}
+use Rattle.std.specs.List.{list_any}
 use Rattle.std.specs.Option.{option_map}
 use Rattle.of_layers.specs.declared.field.Field.{Field}
-use Rattle.of_wire.specs.Highest.{is_highest}
-use Rattle.of_oxm.specs.Relations.{matches_map, overlaps_match}
+use Rattle.of_oxm.specs.Relations.{overlaps_match}
 use Rattle.of_oxm.specs.SameMatch.{is_same_match}
+use Rattle.of_classifier.specs.declared.Row.{Row}
+use Rattle.of_classifier.specs.Rows.{made_row}
+use Rattle.of_classifier.specs.Winner.{winner_of, number_of}
 use Rattle.of_table.specs.declared.flow.Flow.{Flow}
 use Rattle.of_table.specs.declared.flow.FlowFlags.{FlowFlags}
 use Rattle.of_table.specs.declared.table_fault.TableFault.{TableFault}
@@ -50,9 +52,9 @@ abbrev pub with_flow : ℕ → Flow → Option FlowEntry → FlowEntry
 with_flow now flow None = record { flow = kept_flow flow; packets = 0; bytes = 0; created = now; last = None }
 with_flow now flow (Some e) = record { flow = kept_flow flow; packets = unless_reset flow.flags.reset_counts e.packets; bytes = unless_reset flow.flags.reset_counts e.bytes; created = now; last = None }
 
--- the entry of the same priority and match goes, and the flow stands last
+-- the entries of another priority or match, in their order, and then the new one
 abbrev pub added : ℕ → Flow → List FlowEntry → List FlowEntry
-added now flow flows = (before_first (is_same flow) flows ++ after_first (is_same flow) flows) ++ with_flow now flow (find (is_same flow) flows) ∷ []
+added now flow flows = filter (λ e. not (is_same flow e)) flows ++ with_flow now flow (find (is_same flow) flows) ∷ []
 
 -- the flow asks to be checked, and an entry of its priority overlaps it
 abbrev pub is_overlapped : Flow → List FlowEntry → Bool
@@ -68,30 +70,14 @@ add_fault flow flows = if is_overlapped flow flows then Some Overlap else if is_
 
 -- ---- matching (5.3)
 
-abbrev pub is_matching : (Field → Option ℕ) → FlowEntry → Bool
-is_matching map e = matches_map e.flow.fields map
+-- what a classifier sees of entries: it names them by their places, from k on
+abbrev pub rows_from : ℕ → List FlowEntry → List Row
+rows_from k [] = []
+rows_from k (e ∷ flows) = made_row k e.flow.priority e.flow.fields ∷ rows_from (suc k) flows
 
-abbrev pub priority_of : FlowEntry → ℕ
-priority_of e = e.flow.priority
-
--- it matches, and no matching entry has a higher priority
-abbrev pub is_best : (Field → Option ℕ) → List FlowEntry → FlowEntry → Bool
-is_best map flows e = is_matching map e && is_highest priority_of (filter (is_matching map) flows) e
-
--- the place, from 0, of the entry that a packet hits: the oldest of the best
+-- the place, from 0, of the entry that a packet hits: the winner of a classifier
 abbrev pub winner_place : (Field → Option ℕ) → List FlowEntry → Option ℕ
-winner_place map flows = position (is_best map flows) flows
-
--- The entry stands at this place and matches, no matching entry has a higher priority, and none of its priority stands before it.
-pub record Wins (map : Field → Option ℕ) (flows : List FlowEntry) (place : ℕ) (e : FlowEntry) : Type 0 where
-  pub stands : slice_get flows place ≡ Some e
-  pub matches : is_matching map e ≡ true
-  pub highest : (k : ℕ) (f : FlowEntry) → slice_get flows k ≡ Some f → is_matching map f ≡ true → f.flow.priority ≤ e.flow.priority
-  pub oldest : (k : ℕ) (f : FlowEntry) → slice_get flows k ≡ Some f → is_matching map f ≡ true → f.flow.priority ≡ e.flow.priority → place ≤ k
-
--- no entry matches
-abbrev pub NoneMatches : (Field → Option ℕ) → List FlowEntry → Type 0
-NoneMatches map flows = (k : ℕ) (f : FlowEntry) → slice_get flows k ≡ Some f → is_matching map f ≡ false
+winner_place map flows = number_of (winner_of (rows_from 0 flows) map)
 
 -- the flow of the entry at a place
 abbrev pub flow_at : ℕ → List FlowEntry → Option Flow

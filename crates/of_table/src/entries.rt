@@ -1,12 +1,13 @@
 //! Lists of entries.
 
-ghost use Rattle.std.specs.Prelude.{◌≡◌, ◌==◌, ◌&&◌, ◌<◌, ◌≤◌, ◌+◌, ◌++◌, ◌∷◌, [], Some, None, true, IsTrue, position, length, vec_len, vec_capacity};
+ghost use Rattle.std.specs.Prelude.{◌≡◌, ◌==◌, ◌&&◌, ◌<◌, ◌≤◌, ◌+◌, ◌++◌, ◌∷◌, [], Some, None, true, IsTrue, map, position, length, vec_len, vec_capacity};
 ghost use Rattle.std.specs.List.{list_any};
 ghost use Rattle.of_wire.specs.Numbered.{is_used, is_distinct, renewed};
 ghost use Rattle.of_classifier.specs.Rows.{row_number};
 ghost use Rattle.of_oxm.specs.Relations.{overlaps_match};
-ghost use Rattle.of_table.specs.Table.{is_same, is_overlapped as overlapped, with_flow, kept_flow as kept, unless_reset as zero_or, added, risen as with_more, counted_at};
-ghost use Rattle.of_table.specs.Entries.{entry_of, flows_of, rows_of, numbers_of, place_of, is_there};
+ghost use Rattle.of_table.specs.Table.{is_same, is_overlapped as overlapped, with_flow, kept_flow as kept, unless_reset as zero_or, risen as with_more, counted_at};
+ghost use Rattle.of_table.specs.Entries.{entry_of, flows_of, rows_of, numbers_of, place_of, is_there, IsNumberFor, added_entries};
+ghost use Rattle.of_table.specs.Sound.{key_of, are_unlike};
 
 use crate::entry::Entry;
 use crate::flow::{Flow, FlowFlags};
@@ -126,10 +127,12 @@ fn replaced_entry(entry: Entry, flow: Flow, now: u64) -> Entry
 /// The entry at that place gets the flow and comes last. Its number.
 pub(crate) fn move_last(entries: &mut Vec<Entry>, place: usize, flow: Flow, now: u64) -> usize
     requires same { position (λ e. is_same flow (entry_of e)) entries.old.items ≡ Some place }
+    requires unlike { are_unlike (map key_of (flows_of entries.old.items)) ≡ true }
     requires distinct { IsTrue (is_distinct row_number (rows_of entries.old.items)) }
     ensures used { IsTrue (is_used row_number result (rows_of entries.old.items)) }
     ensures rows { rows_of entries.new.items ≡ renewed row_number result (rows_of entries.old.items) }
-    ensures flows { flows_of entries.new.items ≡ added now flow (flows_of entries.old.items) }
+    ensures named { IsNumberFor flow entries.old.items result }
+    ensures entries { entries.new.items ≡ added_entries result now flow entries.old.items }
 {
     let entry = replaced_entry(entries.remove(place), flow, now);
     let number = entry.number;

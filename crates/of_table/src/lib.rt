@@ -1,13 +1,13 @@
 //! Flow tables: their entries, which of them a packet hits, and their counters (OpenFlow 1.3.5, 5.2, 5.3, 5.8 and 6.4).
 #![tactic(auto)]
 
+mod copies;
 mod each_table;
 mod entries;
 mod entry;
 mod flow;
 mod flow_table;
 mod flow_tables;
-mod laws;
 mod modifying;
 mod removing;
 mod selection;
@@ -17,8 +17,7 @@ mod walk;
 pub use entry::Entry;
 pub use flow::{Flow, FlowFlags};
 pub use flow_tables::FlowTables;
-pub use laws::one_winner;
-pub use selection::{Cause, Removed, RemovedReason, Which};
+pub use selection::{Cause, Removed, RemovedReason, Which, names_group, selects};
 pub use table_fault::TableFault;
 pub use walk::Entries;
 

@@ -3,7 +3,7 @@
 ghost use Rattle.std.specs.Prelude.{◌≡◌};
 ghost use Rattle.of_table.specs.Entries.{entry_of};
 ghost use Rattle.std.specs.List.{list_any};
-ghost use Rattle.of_table.specs.Selecting.{is_meant as meant, has_cookie as with_cookie, is_output_to as output_to, is_to as to_this, sends_to as sending_to, passes_port as passing_port, names as naming, passes_group as passing_group, selects as selected, is_over as over, timeout_reason as reason_at, reason_of};
+ghost use Rattle.of_table.specs.Selecting.{is_meant as meant, has_cookie as with_cookie, is_output_to as output_to, is_to as to_this, sends_to as sending_to, passes_port as passing_port, has_action as with_action, names_group as naming, passes_group as passing_group, modifies as modified_by_it, selects as selected, is_over as over, timeout_reason as reason_at, reason_of};
 
 use crate::entry::Entry;
 use of_actions::{Action, Instruction};
@@ -20,9 +20,9 @@ pub struct Which {
     pub cookie: u64,
     /// The bits of the cookie that are to agree.
     pub cookie_mask: u64,
-    /// A port to which an action of the entry has to send.
+    /// Of a DELETE: a port to which an action of the entry has to send.
     pub out_port: Option<u32>,
-    /// A group to which an action of the entry has to send.
+    /// Of a DELETE: a group to which an action of the entry has to send.
     pub out_group: Option<u32>,
 }
 
@@ -39,23 +39,23 @@ pub enum RemovedReason {
     GroupDelete,
 }
 
-/// What makes entries go.
+/// What makes entries go (OpenFlow 1.3.5, 5.5, 6.4 and 6.5).
 #[derive(Debug, Drop)]
 pub enum Cause {
     /// A DELETE command.
-    Command(Which),
-    /// It is so many nanoseconds.
-    Moment(u64),
+    Delete(Which),
     /// This group was deleted; `None` for all groups.
     Group(Option<u32>),
+    /// It is so many nanoseconds, or the latest moment if that is later.
+    Moment(u64),
 }
 
-/// An entry that went, and why.
+/// An entry that goes, and why.
 #[derive(Debug, Drop)]
-pub struct Removed {
+pub struct Removed<'a> {
     pub table: u8,
     pub reason: RemovedReason,
-    pub entry: Entry,
+    pub entry: &'a Entry,
 }
 
 // Whether the match, and the priority of a strict command, are for the entry.
@@ -138,8 +138,8 @@ fn any_is_to(actions: &[Action], group: Option<u32>) -> bool
     actions.iter().any(|action| is_to(action, group))
 }
 
-fn names(instruction: &Instruction, group: Option<u32>) -> bool
-    ensures { result ≡ naming group instruction.now }
+fn sends_to_group(instruction: &Instruction, group: Option<u32>) -> bool
+    ensures { result ≡ with_action (to_this group) instruction.now }
 {
     match instruction {
         Instruction::Apply(actions) | Instruction::Write(actions) => {
@@ -149,12 +149,19 @@ fn names(instruction: &Instruction, group: Option<u32>) -> bool
     }
 }
 
-fn any_names(instructions: &[Instruction], group: Option<u32>) -> bool
-    ensures { result ≡ list_any (naming group) instructions.now }
+fn any_sends_to_group(instructions: &[Instruction], group: Option<u32>) -> bool
+    ensures { result ≡ list_any (with_action (to_this group)) instructions.now }
 {
     instructions
         .iter()
-        .any(|instruction| names(instruction, group))
+        .any(|instruction| sends_to_group(instruction, group))
+}
+
+/// Whether some action of the entry sends to this group; for `None`, to any group (OpenFlow 1.3.5, 6.5).
+pub fn names_group(entry: &Entry, group: Option<u32>) -> bool
+    ensures { result ≡ naming group (entry_of entry.now) }
+{
+    any_sends_to_group(entry.flow.instructions.as_slice(), group)
 }
 
 fn passes_group(which: &Which, entry: &Entry) -> bool
@@ -162,18 +169,24 @@ fn passes_group(which: &Which, entry: &Entry) -> bool
 {
     match which.out_group {
         None => true,
-        Some(group) => any_names(entry.flow.instructions.as_slice(), Some(group)),
+        Some(group) => names_group(entry, Some(group)),
     }
 }
 
-/// Whether a command is for the entry.
-pub(crate) fn selects(which: &Which, entry: &Entry) -> bool
+/// Whether a MODIFY is for the entry: it looks at no port and no group.
+pub(crate) fn modifies(which: &Which, entry: &Entry) -> bool
+    ensures { result ≡ modified_by_it which.now (entry_of entry.now) }
+{
+    is_meant(which, entry) && has_cookie(which, entry)
+}
+
+/// Whether a DELETE, or a request for statistics, is for the entry: its match, or match and priority of a strict one, its cookie, and what its actions send to (OpenFlow 1.3.5, 6.4).
+///
+/// It does not look at the number of the table.
+pub fn selects(which: &Which, entry: &Entry) -> bool
     ensures { result ≡ selected which.now (entry_of entry.now) }
 {
-    is_meant(which, entry)
-        && has_cookie(which, entry)
-        && passes_port(which, entry)
-        && passes_group(which, entry)
+    modifies(which, entry) && passes_port(which, entry) && passes_group(which, entry)
 }
 
 const NANOS: u64 = 1_000_000_000;
@@ -206,7 +219,7 @@ pub(crate) fn reason(cause: &Cause, entry: &Entry) -> Option<RemovedReason>
     ensures { result ≡ reason_of cause.now (entry_of entry.now) }
 {
     match cause {
-        Cause::Command(which) => {
+        Cause::Delete(which) => {
             if selects(which, entry) {
                 Some(RemovedReason::Delete)
             } else {
@@ -215,7 +228,7 @@ pub(crate) fn reason(cause: &Cause, entry: &Entry) -> Option<RemovedReason>
         }
         Cause::Moment(now) => timeout_reason(entry, *now),
         Cause::Group(group) => {
-            if any_names(entry.flow.instructions.as_slice(), *group) {
+            if names_group(entry, *group) {
                 Some(RemovedReason::GroupDelete)
             } else {
                 None

@@ -3,7 +3,8 @@ use Rattle.of_wire.specs.Numbered.{renewed}
 use Rattle.of_classifier.specs.Rows.{row_number}
 use Rattle.of_table.specs.Entries.{entry_of, rows_of}
 use Rattle.of_table.proofs.PlaceLemmas.{position_some}
-use Rattle.of_table.proofs.AddLemmas.{flow_is, added_again, row_again, used_again, rows_again}
+use Rattle.of_table.proofs.AddLemmas.{flow_is, added_again, same_number, row_again, used_again, rows_again}
+use Rattle.of_table.proofs.Unlike.{others_left}
 use Rattle.of_table.specs.Table.{is_same}
 use Rattle.of_table.proofs.entries.move_last.Goals as goal
 
@@ -22,7 +23,11 @@ returns-clause-rows c =
     let same = row_again c.args.flow es c.args.place e f c.requires.same c.remove.ensures.value c.replaced_entry-entry.ensures.number (flow_is c.args.now c.args.flow f (entry_of e) c.replaced_entry-entry.ensures.entry) in
     rw (c.push_reserved.ensures.items, c.remove.ensures.items) (rows_again es c.args.place e f c.requires.distinct s.1 c.remove.ensures.value same ∙ ap (λ (n : ℕ). renewed row_number n (rows_of es)) (sym c.replaced_entry-entry.ensures.number))
 
-pub returns-clause-flows : goal.returns-clause-flows
-returns-clause-flows c =
+pub returns-clause-named : goal.returns-clause-named
+returns-clause-named c = same_number c.args.flow c.args.entries.now.items c.args.place c.remove.result c.replaced_entry-entry.result.number c.requires.same c.remove.ensures.value c.replaced_entry-entry.ensures.number
+
+pub returns-clause-entries : goal.returns-clause-entries
+returns-clause-entries c =
     let es = c.args.entries.now.items in
-    rw (c.push_reserved.ensures.items, c.remove.ensures.items) (added_again c.args.now c.args.flow es c.args.place c.remove.result c.replaced_entry-entry.result c.requires.same c.remove.ensures.value c.replaced_entry-entry.ensures.entry)
+    rw (c.push_reserved.ensures.items, c.remove.ensures.items)
+    (added_again c.args.now c.args.flow es c.args.place c.remove.result c.replaced_entry-entry.result c.requires.same c.remove.ensures.value (others_left c.args.flow es c.args.place c.requires.unlike c.requires.same) c.replaced_entry-entry.ensures.entry)

@@ -1,19 +1,32 @@
+use Rattle.std.proofs.Common.{◌≡◌, ◌<◌, true, set, length, arith, refl}
 use Rattle.of_table.specs.Sound.{are_fit}
-use Rattle.of_table.proofs.Soundness.{tables_sound, ok_added}
-use Rattle.std.proofs.Common.{◌≡◌, ◌<◌, true, length, arith, refl}
-use Rattle.of_table.specs.Table.{added}
-use Rattle.of_table.proofs.TablesLemmas.{ok_set}
+use Rattle.of_table.specs.Tables.{NumberedTables}
+use Rattle.of_table.proofs.Soundness.{tables_sound, unlike_there, ok_added}
+use Rattle.of_table.proofs.TablesLemmas.{adds_set, tables_added}
 use Rattle.of_table.proofs.flow_tables.FlowTables.add.Goals as goal
+
+pub add-requires : goal.add-requires
+add-requires g c =
+    let within : c.args.table < length c.self.inside.tables.items = omega (arith, c.if-table-ge-TABLES.false, c.self.invariant.0) in
+    unlike_there c.args.table c.self.inside.tables.items c.index_mut.result.now _ within c.index_mut.ensures.value c.self.invariant.1
 
 pub returns-clause-ok : goal.returns-clause-ok
 returns-clause-ok g c =
     let ns = c.self.inside.tables.items in
     let within : c.args.table < length ns = omega (arith, c.if-table-ge-TABLES.false, c.self.invariant.0) in
-    rw (← c.self.view_is) (ok_set c.add.result ns c.args.table c.self.inside.latest c.index_mut.result.now c.add.new.self _ (λ t. record t { flows = added c.self.inside.latest c.args.flow t.flows }) within c.index_mut.ensures.value c.add.ensures.ok)
+    rw (← c.self.view_is) (adds_set c.add.result c.args.table c.args.flow ns c.self.inside.latest c.index_mut.result.now c.add.new.self _ within c.index_mut.ensures.value c.add.ensures.ok)
+
+pub returns-clause-tables : goal.returns-clause-tables
+returns-clause-tables g c =
+    let ns = c.self.inside.tables.items in
+    let old : NumberedTables = record { tables = ns; latest = c.self.inside.latest } in
+    let new : NumberedTables = record { tables = set ns c.args.table c.add.new.self; latest = c.self.inside.latest } in
+    let within : c.args.table < length ns = omega (arith, c.if-table-ge-TABLES.false, c.self.invariant.0) in
+    rw (← c.self.view_is) (tables_added c.add.result c.args.table c.args.flow old new (adds_set c.add.result c.args.table c.args.flow ns c.self.inside.latest c.index_mut.result.now c.add.new.self _ within c.index_mut.ensures.value c.add.ensures.ok))
 
 pub invariant_of-self : goal.invariant_of-self
 invariant_of-self g c =
     let within : c.args.table < length c.self.inside.tables.items = omega (arith, c.if-table-ge-TABLES.false, c.self.invariant.0) in
-    let fits : are_fit c.args.table c.args.flow.instructions ≡ true = rw (c.known_kept.ensures, c.requires.fit) refl in
+    let fits : are_fit c.args.table c.args.flow.instructions ≡ true = rw (c.known_kept.ensures, c.requires.fit c.if-table-ge-TABLES.false) refl in
     tables_sound c.args.table c.self.inside.tables.items c.index_mut.result.now c.add.new.self _ c.self.invariant within c.index_mut.ensures.value
-    (λ s. ok_added c.add.result c.args.table c.self.inside.latest c.args.flow c.index_mut.result.now c.add.new.self c.add.ensures.fault c.add.ensures.ok c.add.ensures.err fits c.requires.checked s)
+    (λ s. ok_added c.add.result c.args.table c.self.inside.latest c.args.flow c.index_mut.result.now c.add.new.self c.add.ensures.fault c.add.ensures.ok c.add.ensures.err fits (c.requires.checked c.if-table-ge-TABLES.false) s)
