@@ -2,3 +2,4 @@ pub mod Best
 pub mod Given
 pub mod Finding
 pub mod WinnerLaw
+pub mod SameUsed

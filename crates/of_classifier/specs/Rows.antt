@@ -1,6 +1,7 @@
 -- The entries of a classifier, oldest first, by their numbers and priorities.
-use Rattle.std.specs.Prelude.{ℕ, List}
+use Rattle.std.specs.Prelude.{ℕ, Bool, ◌==◌, ◌&&◌, List, Option, find}
 use Rattle.of_oxm.specs.declared.match_field.MatchField.{MatchField}
+use Rattle.of_oxm.specs.SameMatch.{is_same_match}
 use Rattle.of_classifier.specs.declared.Row.{Row}
 
 abbrev pub made_row : ℕ → ℕ → List MatchField → Row
@@ -11,3 +12,11 @@ row_number r = r.number
 
 abbrev pub row_priority : Row → ℕ
 row_priority r = r.priority
+
+-- the entry is of that match and priority
+abbrev pub is_same_row : List MatchField → ℕ → Row → Bool
+is_same_row fields priority r = r.priority == priority && is_same_match r.fields fields
+
+-- the oldest entry of that match and priority
+abbrev pub same_of : List Row → List MatchField → ℕ → Option Row
+same_of rows fields priority = find (is_same_row fields priority) rows

@@ -8,7 +8,7 @@ ghost use Rattle.std.specs.Prelude.{◌≡◌, ◌++◌, List, [], ◌∷◌, Is
 ghost use Rattle.of_headers.specs.FieldMap.{value};
 ghost use Rattle.of_wire.specs.Numbered.{is_used, is_distinct, without, renewed};
 ghost use Rattle.of_classifier.specs.declared.Row.{Row};
-ghost use Rattle.of_classifier.specs.Rows.{made_row, row_number};
+ghost use Rattle.of_classifier.specs.Rows.{made_row, row_number, same_of};
 ghost use Rattle.of_classifier.specs.Winner.{winner_of, number_of};
 
 pub use laws::one_winner;
@@ -55,6 +55,10 @@ pub trait Lookup: Sized + Drop {
     fn take(&mut self, number: usize)
         requires { IsTrue (is_used row_number number (content self.old)) }
         ensures { content self.new ≡ without row_number number (content self.old) };
+
+    /// The number of the oldest entry of that match and priority.
+    fn same(&self, fields: &Match, priority: u16) -> Option<usize>
+        ensures { result ≡ number_of (same_of (content self.now) fields.now priority) };
 
     /// Makes the entry of that number the youngest.
     fn renew(&mut self, number: usize)

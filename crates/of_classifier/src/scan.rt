@@ -3,7 +3,7 @@ ghost use Rattle.std.specs.Prelude.{◌≡◌, ◌<◌, IsTrue, false, IfSome, I
 ghost use Rattle.of_headers.specs.FieldMap.{value};
 ghost use Rattle.of_wire.specs.Numbered.{is_used, is_distinct, without, renewed};
 ghost use Rattle.of_classifier.specs.declared.Row.{Row};
-ghost use Rattle.of_classifier.specs.Rows.{row_number};
+ghost use Rattle.of_classifier.specs.Rows.{row_number, is_same_row};
 ghost use Rattle.of_classifier.specs.Winner.{winner_of, number_of};
 ghost use Rattle.of_classifier.specs.Scanning.{better_of};
 
@@ -69,6 +69,13 @@ impl Lookup for Scan {
         self.numbers.try_remove(number);
     }
 
+    fn same(&self, fields: &Match, priority: u16) -> Option<usize> {
+        self.rows
+            .iter()
+            .find(|row| is_same(row, fields, priority))
+            .map(|row| row.number)
+    }
+
     fn renew(&mut self, number: usize) {
         renew_row(&mut self.rows, number);
     }
@@ -102,6 +109,13 @@ fn better(best: Option<(usize, u16)>, row: &Row) -> Option<(usize, u16)>
         Some((number, priority)) if row.priority <= priority => Some((number, priority)),
         _ => Some((row.number, row.priority)),
     }
+}
+
+/// Whether an entry is of that match and priority.
+pub(crate) fn is_same(row: &Row, fields: &Match, priority: u16) -> bool
+    ensures { result ≡ is_same_row fields.now priority row.now }
+{
+    row.priority == priority && row.fields.equals(fields)
 }
 
 fn remove_row(rows: &mut Vec<Row>, number: usize)

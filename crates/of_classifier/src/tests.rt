@@ -21,7 +21,10 @@ fn two_entries<L: Lookup>(rt: &impl Abort, alloc: Global) -> Result<(), Fail> {
     let second = lookup.add(Match::of_in_port(alloc, 1)?, 5)?;
     assert_eq!(rt; lookup.winner(&key), Some(first));
     assert_eq!(rt; lookup.winner(&key_of_port(2)?), None);
+    assert_eq!(rt; lookup.same(&Match::of_in_port(alloc, 1)?, 5), Some(first));
+    assert_eq!(rt; lookup.same(&Match::of_in_port(alloc, 1)?, 6), None);
     lookup.renew(first);
+    assert_eq!(rt; lookup.same(&Match::of_in_port(alloc, 1)?, 5), Some(second));
     assert_eq!(rt; lookup.peek(&key), Some(second));
     lookup.take(second);
     assert_eq!(rt; lookup.winner(&key), Some(first));

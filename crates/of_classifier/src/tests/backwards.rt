@@ -6,6 +6,7 @@ ghost use Rattle.of_classifier.specs.declared.Row.{Row};
 ghost use Rattle.of_classifier.specs.Rows.{row_number};
 ghost use Rattle.of_classifier.specs.Winner.{winner_of, number_of};
 
+use crate::scan::is_same;
 use crate::{Lookup, Row};
 use of_headers::FieldKey;
 use of_oxm::{Match, matches};
@@ -69,6 +70,14 @@ impl Lookup for Backwards {
     fn take(&mut self, number: usize) {
         remove_row(&mut self.rows, number);
         self.numbers.try_remove(number);
+    }
+
+    fn same(&self, fields: &Match, priority: u16) -> Option<usize> {
+        self.rows
+            .iter()
+            .rev()
+            .find(|row| is_same(row, fields, priority))
+            .map(|row| row.number)
     }
 
     fn renew(&mut self, number: usize) {

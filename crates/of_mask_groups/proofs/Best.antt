@@ -1,0 +1,84 @@
+-- The best so far after one more.
+use Rattle.std.proofs.Common.{◌≡◌, ℕ, Bool, true, false, cond, eqb, [], ◌&&◌, ◌||◌, Option, Some, None, refl, ap, arith, inl, inr, ◌⊎◌}
+use Rattle.std.specs.Prelude.{nat_lt, nat_le, IsTrue}
+use Rattle.std.proofs.lemmas.List.{take_more}
+use Rattle.std.proofs.lemmas.Bool.Decides.{nat_tests, eqb_tells}
+use Rattle.of_mask_groups.specs.declared.found.Found.{Found}
+use Rattle.std.specs.List.{Contains}
+use Rattle.std.proofs.Common.{List, ◌+◌, ◌<◌, length, take, get_or, sym, ◌∙◌, subst, ⊎_elim}
+use Rattle.slab.specs.Slab.{Slab, get}
+use Rattle.of_mask_groups.specs.declared.entry.Entry.{Entry}
+use Rattle.of_mask_groups.specs.Covering.{beats, covered, better_of, better_with, found_of, IsFound, IsBestOf}
+use Rattle.of_mask_groups.proofs.Members.{in_take_more, in_take, at_place, in_left, in_right, here, not_in_nil}
+
+pub beats_itself : (f : Found) → beats f f ≡ true
+beats_itself f = grind (arith, nat_tests)
+
+pub beats_trans : (f g h : Found) → beats f g ≡ true → beats g h ≡ true → beats f h ≡ true
+beats_trans f g h a b = grind (arith, nat_tests, eqb_tells f.priority g.priority, eqb_tells g.priority h.priority)
+
+-- what is not beaten beats
+pub beats_turned : (f g : Found) → beats f g ≡ false → beats g f ≡ true
+beats_turned f g a = grind (arith, nat_tests, eqb_tells g.priority f.priority)
+
+by_test : (b : Bool) (f g h : Found) → beats f g ≡ b → beats f h ≡ true → covered (cond b (Some f) (Some g)) h ≡ true
+by_test true f g h e a = a
+by_test false f g h e a = beats_trans g f h (beats_turned f g e) a
+
+pub better_keeps : (o : Option Found) (g h : Found) → covered o h ≡ true → covered (better_of o g) h ≡ true
+better_keeps None g h a = absurd cc
+better_keeps (Some f) g h a = by_test (beats f g) f g h refl a
+
+by_test_itself : (b : Bool) (f g : Found) → beats f g ≡ b → covered (cond b (Some f) (Some g)) g ≡ true
+by_test_itself true f g e = e
+by_test_itself false f g e = beats_itself g
+
+pub better_covers : (o : Option Found) (g : Found) → covered (better_of o g) g ≡ true
+better_covers None g = beats_itself g
+better_covers (Some f) g = by_test_itself (beats f g) f g refl
+
+by_test_from : (b : Bool) (f g h : Found) → cond b (Some f) (Some g) ≡ Some h → (Some f ≡ Some h) ⊎ (g ≡ h)
+by_test_from true f g h e = inl e
+by_test_from false f g h e = inr cc
+
+pub better_from : (o : Option Found) (g h : Found) → better_of o g ≡ Some h → (o ≡ Some h) ⊎ (g ≡ h)
+better_from None g h e = inr cc
+better_from (Some f) g h e = by_test_from (beats f g) f g h e
+
+-- ---- one more number
+
+pub take_wider : {X : Type 0} (x : X) (xs : List X) (i : ℕ) → i < length xs → Contains (take i xs) x → Contains (take (i + 1) xs) x
+take_wider x xs i lt h = subst (λ ys. Contains ys x) (sym (take_more xs i x lt)) (in_left x (take i xs) _ h)
+
+pub take_last : {X : Type 0} (xs : List X) (i : ℕ) (d : X) → i < length xs → Contains (take (i + 1) xs) (get_or xs i d)
+take_last xs i d lt = subst (λ ys. Contains ys (get_or xs i d)) (sym (take_more xs i d lt)) (in_right _ (take i xs) _ (here (get_or xs i d) []))
+
+with_sound : (entries : Slab Entry) (o : Option Entry) (n : ℕ) (best : Option Found) (f : Found) → get entries n ≡ o → better_with best n o ≡ Some f → (best ≡ Some f) ⊎ ((n ≡ f.number) × IsFound entries f)
+with_sound entries None n best f g h = inl h
+with_sound entries (Some e) n best f g h =
+    ⊎_elim (λ l. inl l) (λ r. inr (let m : n ≡ f.number = ap (λ (x : Found). x.number) r in (m, record { entry = e; stands = subst (λ k. get entries k ≡ Some e) m g; is = sym r ∙ ap (λ k. found_of k e) m }))) (better_from best (found_of n e) f h)
+
+with_keeps : (o : Option Entry) (n : ℕ) (best : Option Found) (f : Found) → covered best f ≡ true → covered (better_with best n o) f ≡ true
+with_keeps None n best f h = h
+with_keeps (Some e) n best f h = better_keeps best (found_of n e) f h
+
+with_covers : (o : Option Entry) (n : ℕ) (best : Option Found) (e : Entry) → o ≡ Some e → covered (better_with best n o) (found_of n e) ≡ true
+with_covers None n best e h = absurd cc
+with_covers (Some d) n best e h = let s : d ≡ e = cc in subst (λ x. covered (better_of best (found_of n d)) (found_of n x) ≡ true) s (better_covers best (found_of n d))
+
+pub best_more : (entries : Slab Entry) (old : Option Found) (numbers : List ℕ) (i n : ℕ) (best new : Option Found) → i < length numbers → n ≡ get_or numbers i 0
+    → new ≡ better_with best n (get entries n) → IsBestOf entries old (take i numbers) best → IsBestOf entries old (take (i + 1) numbers) new
+best_more entries old numbers i n best new lt at is h = record {
+  sound = λ f e. ⊎_elim
+      (λ l. ⊎_elim (λ o. inl o) (λ p. inr (take_wider f.number numbers i lt p.0, p.1)) (h.sound f l))
+      (λ r. inr (subst (λ k. Contains (take (i + 1) numbers) k) (sym at ∙ r.0) (take_last numbers i 0 lt), r.1))
+      (with_sound entries (get entries n) n best f refl (sym is ∙ e));
+  keeps = λ f c. subst (λ o. covered o f ≡ true) (sym is) (with_keeps (get entries n) n best f (h.keeps f c));
+  covers = λ m e c g. subst (λ o. covered o (found_of m e) ≡ true) (sym is) (⊎_elim
+      (λ l. with_keeps (get entries n) n best (found_of m e) (h.covers m e l g))
+      (λ r. let s : n ≡ m = at ∙ r in subst (λ k. covered (better_with best n (get entries n)) (found_of k e) ≡ true) s (with_covers (get entries n) n best e (ap (get entries) s ∙ g)))
+      (in_take_more m numbers i 0 lt c));
+}
+
+pub best_start : (entries : Slab Entry) (old : Option Found) → IsBestOf entries old [] old
+best_start entries old = record { sound = λ f e. inl e; keeps = λ f c. c; covers = λ n e c g. absurd (not_in_nil n c) }

@@ -1,0 +1,100 @@
+-- The walk over the groups: the best so far, and the winner at its end.
+use Rattle.std.proofs.Common.{◌≡◌, ℕ, zero, suc, ◌+◌, ◌<◌, ◌≤◌, Bool, true, false, eqb, ◌&&◌, ◌||◌, Option, Some, None, List, [], ◌∷◌, length, get_or, take, refl, sym, ◌∙◌, ap, subst, arith, inl, inr, ◌⊎◌, ⊎_elim}
+use Rattle.std.specs.Prelude.{map, slice_get, nat_le, nat_lt, filter}
+use Rattle.std.specs.List.{Contains}
+use Rattle.std.proofs.lemmas.List.{take_more, length-take-le, length-map}
+use Rattle.std.proofs.lemmas.Bool.{cases_lt}
+use Rattle.std.proofs.lemmas.Bool.Decides.{nat_tests, eqb_tells}
+use Rattle.slab.specs.Slab.{Slab, get}
+use Rattle.of_layers.specs.declared.field.Field.{Field}
+use Rattle.of_headers.specs.FieldMap.{value, seen}
+use Rattle.of_headers.specs.declared.key.FieldKey.{FieldKey}
+use Rattle.of_oxm.specs.Relations.{matches_map}
+use Rattle.of_oxm.specs.Masks.{looked_at, value_of, mask_at}
+use Rattle.of_oxm.proofs.Seen.{matched_exactly}
+use Rattle.of_classifier.specs.declared.Row.{Row}
+use Rattle.of_classifier.specs.Winner.{is_matching, winner_of, number_of, Wins, NoneMatches}
+use Rattle.of_classifier.proofs.WinnerLaw.{wins_both, none_both}
+use Rattle.of_mask_groups.specs.declared.entry.Entry.{Entry}
+use Rattle.of_mask_groups.specs.declared.found.Found.{Found}
+use Rattle.of_mask_groups.specs.declared.group.Group.{Group}
+use Rattle.of_mask_groups.specs.Cells.{cell_at}
+use Rattle.of_mask_groups.specs.Covering.{found_of, IsFound, beats, covered, IsBestOf, is_above_best, number_of_found}
+use Rattle.of_mask_groups.specs.Grouping.{LooksLike, AsksFor, IsMember, IsInCell, IsIndex, IsGroup, AreFalling, IsIn, IsIndexed, AreGrouped}
+use Rattle.of_mask_groups.specs.Aged.{row_of, by_age, AreAged}
+use Rattle.of_mask_groups.specs.Probing.{listed, is_same_mask, different, mask_of_row, masks_in, reaching, probes_of, probes_for}
+use Rattle.of_mask_groups.proofs.Members.{here, there, not_in_nil, in_cons, in_take, in_take_more, at_place, in_map, of_map, place_of, of_place}
+use Rattle.of_mask_groups.proofs.Counting.{as_many, in_filter, of_filter}
+use Rattle.of_mask_groups.proofs.Sights.{same_listed, same_mask_decides}
+use Rattle.of_mask_groups.proofs.Falling.{sight, one_group, before_at, before_or_below, falling-take, apart_sights}
+use Rattle.of_mask_groups.proofs.Aging.{IsRowOf, sound_row, complete_row, in_order, older_by_place}
+
+-- what is found is an entry that matches
+pub record IsHit (entries : Slab Entry) (key : Field → Option ℕ) (f : Found) : Type 0 where
+  pub found : IsFound entries f
+  pub matches : matches_map found.entry.fields key ≡ true
+
+-- So many groups are probed: the best of their entries that match is known, and none of them could be left out.
+pub record AreProbed (entries : Slab Entry) (key : Field → Option ℕ) (groups : List Group) (best : Option Found) (probes : ℕ) : Type 0 where
+  pub sound : (f : Found) → best ≡ Some f → IsHit entries key f
+  pub covers : (n : ℕ) (e : Entry) (g : Group) → get entries n ≡ Some e → matches_map e.fields key ≡ true → Contains groups g → LooksLike g e → covered best (found_of n e) ≡ true
+  pub above : (f : Found) (g : Group) → best ≡ Some f → Contains groups g → f.priority ≤ g.best
+  pub count : probes ≡ length groups
+
+pub none_probed : (entries : Slab Entry) (key : Field → Option ℕ) → AreProbed entries key [] None 0
+none_probed entries key = record { sound = λ f e. absurd cc; covers = λ n e g h m c l. absurd (not_in_nil g c); above = λ f g e c. absurd cc; count = refl }
+
+same_entry : (o : Option Entry) (d e : Entry) → o ≡ Some d → o ≡ Some e → d ≡ e
+same_entry o d e h k = cc
+
+-- what stands in the cell of the key that is seen matches
+cell_matches : (entries : Slab Entry) (key : Field → Option ℕ) (g : Group) (k : FieldKey) (n : ℕ) (groups : List Group) → AreGrouped entries groups → ((f : Field) → value k f ≡ seen (mask_at g.mask f) (key f)) → (c : IsInCell entries g k n) → matches_map c.entry.fields key ≡ true
+cell_matches entries key g k n groups fine masked c =
+    (matched_exactly c.entry.fields key (fine.normal n c.entry c.stands)).1 (λ f. ap (λ (o : Option ℕ). seen o (key f)) (sym (c.looks.bits f)) ∙ sym (masked f) ∙ c.asks.values f)
+
+asks_for_seen : (entries : Slab Entry) (key : Field → Option ℕ) (g : Group) (k : FieldKey) (n : ℕ) (e : Entry) (groups : List Group) → AreGrouped entries groups → ((f : Field) → value k f ≡ seen (mask_at g.mask f) (key f)) → get entries n ≡ Some e → LooksLike g e → matches_map e.fields key ≡ true → AsksFor k e
+asks_for_seen entries key g k n e groups fine masked h l m = record {
+  values = λ f. masked f ∙ ap (λ (o : Option ℕ). seen o (key f)) (l.bits f) ∙ (matched_exactly e.fields key (fine.normal n e h)).0 m f;
+}
+
+not_above : (best : Option Found) (p : ℕ) (f : Found) → is_above_best best p ≡ false → best ≡ Some f → f.priority ≤ p
+not_above None p f t e = absurd cc
+not_above (Some x) p f t e = let s : x.priority ≡ f.priority = (let y : x ≡ f = cc in ap (λ (z : Found). z.priority) y) in grind (arith, nat_tests)
+
+pub one_more_group : (entries : Slab Entry) (groups : List Group) (key : Field → Option ℕ) (i : ℕ) (g : Group) (best new : Option Found) (probes next : ℕ) (k : FieldKey) →
+    AreGrouped entries groups → i < length groups → g ≡ get_or groups i g → is_above_best best g.best ≡ false →
+    ((f : Field) → value k f ≡ seen (mask_at g.mask f) (key f)) → IsBestOf entries best (cell_at g.cells k) new → next ≡ probes + 1 →
+    AreProbed entries key (take i groups) best probes → AreProbed entries key (take (i + 1) groups) new next
+one_more_group entries groups key i g best new probes next k fine lt at stays masked is counted old =
+    let in_groups : Contains groups g = subst (λ z. Contains groups z) (sym at) (at_place groups i g lt) in
+    let group = (fine.each g in_groups).index in
+    let priority_of : (f : Found) (c : IsInCell entries g k f.number) → IsFound entries f → f.priority ≤ g.best
+    = λ f c h. (let s : h.entry ≡ c.entry = same_entry (get entries f.number) h.entry c.entry h.stands c.stands in
+    let p : f.priority ≡ h.entry.priority = ap (λ (z : Found). z.priority) h.is in
+    let q : h.entry.priority ≡ c.entry.priority = ap (λ (z : Entry). z.priority) s in
+    omega (arith, group.settled.above c.entry.priority f.number c.ranked)) in
+    let within : (f : Found) → new ≡ Some f → f.priority ≤ g.best
+    = λ f e. ⊎_elim (λ o. not_above best g.best f stays o) (λ r. priority_of f (group.cells k f.number r.0) r.1) (is.sound f e) in
+    record {
+      sound = λ f e. ⊎_elim (λ o. old.sound f o)
+          (λ r.
+          let c = group.cells k f.number r.0 in
+          let s : c.entry ≡ r.1.entry = same_entry (get entries f.number) c.entry r.1.entry c.stands r.1.stands in
+          record { found = r.1; matches = subst (λ (z : Entry). matches_map z.fields key ≡ true) s (cell_matches entries key g k f.number groups fine masked c) })
+          (is.sound f e);
+      covers = λ n e h stands m c l. ⊎_elim
+          (λ a. is.keeps (found_of n e) (old.covers n e h stands m a l))
+          (λ b.
+          let lg : LooksLike g e = subst (λ z. LooksLike z e) (sym b ∙ sym at) l in
+          let x = fine.complete n e stands in
+          let s : x.group ≡ g = one_group groups x.group g e fine.falling x.there in_groups x.within.looks lg in
+          is.covers n e (subst (λ (z : Group). Contains (cell_at z.cells k) n) s (x.within.cell k (asks_for_seen entries key g k n e groups fine masked stands lg m))) stands)
+          (in_take_more h groups i g lt c);
+      above = λ f h e c. ⊎_elim
+          (λ a. let w = within f e in let b : g.best ≤ h.best = subst (λ (z : Group). z.best ≤ h.best) (sym at) (before_at groups i g h fine.falling lt a) in omega arith)
+          (λ b. let w = within f e in let s : g.best ≡ h.best = ap (λ (z : Group). z.best) (at ∙ b) in omega arith)
+          (in_take_more h groups i g lt c);
+      count = (let m : i + 1 ≤ length groups = omega arith in omega (arith, old.count, length-take-le i groups, length-take-le (i + 1) groups));
+    }
+
+-- ---- the end

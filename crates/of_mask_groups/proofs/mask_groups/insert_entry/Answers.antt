@@ -1,0 +1,44 @@
+use Rattle.std.proofs.Common.{◌≡◌, ℕ, Bool, true, false, List, Some, sym, ◌∙◌, subst}
+use Rattle.std.specs.Global.{Vec}
+use Rattle.slab.specs.Slab.{Slab, get, Updates}
+use Rattle.of_mask_groups.specs.declared.group.Group.{Group}
+use Rattle.of_mask_groups.specs.Grouping.{AreGrouped}
+use Rattle.of_mask_groups.proofs.Splitting.{split_same, grouped_left}
+use Rattle.of_mask_groups.proofs.Turning.{split_more}
+use Rattle.of_mask_groups.proofs.Adding.{looks_by, asks_by, some_more}
+use Rattle.of_mask_groups.proofs.mask_groups.insert_entry.Goals as goal
+use Rattle.of_mask_groups.proofs.mask_groups.insert_entry.Goals.{then-not-is_empty, else-not-is_empty}
+
+pub put_back-requires-clause-falling : goal.put_back-requires-clause-falling
+put_back-requires-clause-falling c = (c.take_group-group.ensures.split c.args.entries.now c.requires.grouped).falling
+
+pub put_back-requires-then-not-is_empty-clause-falling : goal.put_back-requires-then-not-is_empty-clause-falling
+put_back-requires-then-not-is_empty-clause-falling c = (c.take_group-group.ensures.split c.args.entries.now c.requires.grouped).falling
+
+pub returns-in-Ok-clause-grouped : goal.returns-in-Ok-clause-grouped
+returns-in-Ok-clause-grouped c =
+    let old = c.args.entries.now in
+    let new = c.insert_reserved.new.self in
+    let n = c.vacant_key-number.result in
+    let e = c.args.entry in
+    let g = c.take_group-group.result in
+    let h = c.insert.new.self in
+    let same = c.insert_reserved.ensures.key ∙ sym c.vacant_key-number.ensures.value in
+    let u : Updates old new n (Some e) = subst (λ k. Updates old new k (Some e)) same c.insert_reserved.ensures.updates in
+    let more = c.in-Ok.ensures.ok in
+    c.put_back.ensures.grouped new
+    (split_more old new c.take_group-group.new.groups.items g h c.key_of-key.result n e c.vacant_key-number.ensures.vacant u c.known.ensures
+    (looks_by g c.mask_of.result e c.take_group-group.ensures.mask c.mask_of.ensures) (asks_by c.key_of-key.result e c.key_of-key.ensures)
+    more (c.take_group-group.ensures.split old c.requires.grouped))
+    (some_more g h c.key_of-key.result e.priority n more)
+
+pub returns-after-not-is_empty-clause-grouped : goal.returns-after-not-is_empty-clause-grouped
+returns-after-not-is_empty-clause-grouped c =
+    let old = c.args.entries.now in
+    let g = c.take_group-group.result in
+    let h = c.insert.new.self in
+    let a = split_same old c.take_group-group.new.groups.items g h c.in-Err.ensures.err (c.take_group-group.ensures.split old c.requires.grouped) in
+    elim c.if-not-is_empty.branch [
+      | then-not-is_empty w ↦ subst (λ (v : Vec Group). AreGrouped old v.items) (sym w.groups-is) (w.put_back-then-not-is_empty.ensures.grouped old a (λ e. absurd (let f : true ≡ false = sym (c.is_empty.ensures.no e) ∙ w.if-not-is_empty.true in cc)))
+      | else-not-is_empty w ↦ subst (λ (v : Vec Group). AreGrouped old v.items) (sym w.groups-is) (grouped_left old c.take_group-group.new.groups.items h a (c.is_empty.ensures.yes w.if-not-is_empty.false))
+    ]

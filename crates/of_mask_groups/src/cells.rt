@@ -1,0 +1,91 @@
+//! The numbers of the entries of a group, by the keys that their matches ask for.
+ghost use Rattle.std.specs.Prelude.{◌≡◌, [], IsTrue, OnOk};
+ghost use Rattle.of_headers.specs.declared.key.FieldKey.{FieldKey as AKey};
+ghost use Rattle.of_mask_groups.specs.Cells.{cell_at, others, HasCell, HasRoomAt, CellMore, CellLess};
+
+use crate::masked::MaskedKey;
+use of_headers::FieldKey;
+use std::alloc::{AllocError, Global};
+use std::collections::HashMap;
+
+pub(crate) type Cells = HashMap<MaskedKey, Vec<usize>>;
+
+// Sees that there is a list under a key.
+fn make_cell(cells: &mut Cells, alloc: Global, key: &FieldKey) -> Result<(), AllocError>
+    ensures same { (k : AKey) → cell_at cells.new k ≡ cell_at cells.old k }
+    ensures there { OnOk result (HasCell cells.new key.now) }
+{
+    let key = MaskedKey { fields: *key };
+    if cells.contains_key(&key) {
+        return Ok(());
+    }
+    cells.insert(key, Vec::new(alloc))?;
+    Ok(())
+}
+
+fn reserve_cell(cells: &mut Cells, key: &FieldKey) -> Result<(), AllocError>
+    requires { HasCell cells.old key.now }
+    ensures same { (k : AKey) → cell_at cells.new k ≡ cell_at cells.old k }
+    ensures room { OnOk result (HasRoomAt cells.new key.now) }
+{
+    match cells.get_mut(&MaskedKey { fields: *key }) {
+        Some(cell) => cell.reserve(1),
+        None => unreachable!(),
+    }
+}
+
+/// Makes room for one more number under a key.
+pub(crate) fn make_room(cells: &mut Cells, alloc: Global, key: &FieldKey) -> Result<(), AllocError>
+    ensures same { (k : AKey) → cell_at cells.new k ≡ cell_at cells.old k }
+    ensures room { OnOk result (HasRoomAt cells.new key.now) }
+{
+    make_cell(cells, alloc, key)?;
+    reserve_cell(cells, key)
+}
+
+/// Puts a number under a key.
+pub(crate) fn push_number(cells: &mut Cells, key: &FieldKey, number: usize)
+    requires { HasRoomAt cells.old key.now }
+    ensures { CellMore cells.old cells.new key.now number }
+{
+    match cells.get_mut(&MaskedKey { fields: *key }) {
+        Some(cell) => match cell.push(number) {
+            Ok(()) => {}
+            Err(_) => unreachable!(),
+        },
+        None => unreachable!(),
+    }
+}
+
+fn keep_others(cell: &mut Vec<usize>, number: usize)
+    ensures { cell.new.items ≡ others number cell.old.items }
+{
+    cell.retain(|n| *n != number);
+}
+
+fn remove_number(cells: &mut Cells, key: &FieldKey, number: usize)
+    ensures { CellLess cells.old cells.new key.now number }
+{
+    if let Some(cell) = cells.get_mut(&MaskedKey { fields: *key }) {
+        keep_others(cell, number);
+    }
+}
+
+fn is_vacant(cells: &Cells, key: &FieldKey) -> bool
+    ensures { IsTrue result → cell_at cells.now key.now ≡ [] }
+{
+    match cells.get(&MaskedKey { fields: *key }) {
+        Some(cell) => cell.is_empty(),
+        None => false,
+    }
+}
+
+/// Takes a number from a key.
+pub(crate) fn drop_number(cells: &mut Cells, key: &FieldKey, number: usize)
+    ensures { CellLess cells.old cells.new key.now number }
+{
+    remove_number(cells, key, number);
+    if is_vacant(cells, key) {
+        cells.remove(&MaskedKey { fields: *key });
+    }
+}

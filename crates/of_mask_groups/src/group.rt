@@ -1,0 +1,87 @@
+//! The entries of one mask.
+ghost use Rattle.std.specs.Prelude.{◌≡◌, ◌+◌, ◌<◌, ◌^◌, IsTrue, ◌↔◌, [], OnOk, OnErr};
+ghost use Rattle.of_headers.specs.declared.key.FieldKey.{FieldKey as AKey};
+ghost use Rattle.of_mask_groups.specs.Cells.{cell_at};
+ghost use Rattle.of_mask_groups.specs.Grouping.{HasMore, HasLess, IsSame};
+
+use crate::cells::{Cells, drop_number, make_room, push_number};
+use crate::masked::MaskedKey;
+use crate::rank::{Rank, highest};
+use of_headers::FieldKey;
+use of_oxm::FieldMask;
+use std::alloc::{AllocError, Global};
+use std::collections::{BTreeSet, HashMap};
+
+/// The entries whose matches look at the bits of one mask.
+#[derive(Drop)]
+pub(crate) struct Group {
+    pub(crate) mask: FieldMask,
+    /// The highest priority of its entries.
+    pub(crate) best: u16,
+    /// Its entries by priority.
+    ranks: BTreeSet<Rank>,
+    /// The numbers of its entries, by the key that their matches ask for.
+    cells: Cells,
+}
+
+impl Group {
+    /// A group without entries.
+    pub(crate) fn empty(alloc: Global, mask: FieldMask) -> Group
+        ensures mask { result.mask ≡ mask }
+        ensures ranks { result.ranks.keys ≡ [] }
+        ensures cells { (k : AKey) → cell_at result.cells k ≡ [] }
+    {
+        Group {
+            mask,
+            best: 0,
+            ranks: BTreeSet::new(alloc),
+            cells: HashMap::new(alloc),
+        }
+    }
+
+    pub(crate) fn is_empty(&self) -> bool
+        ensures yes { IsTrue result → self.now.ranks.keys ≡ [] }
+        ensures no { self.now.ranks.keys ≡ [] → IsTrue result }
+    {
+        self.ranks.is_empty()
+    }
+
+    /// The numbers of the entries that ask for this key. It counts as one probe.
+    pub(crate) fn probe<'a>(&'a self, key: &FieldKey, probes: &mut usize) -> &'a [usize]
+        requires { probes.old + 1 < 2 ^ 64 }
+        ensures numbers { result.now ≡ cell_at self.now.cells key.now }
+        ensures counted { probes.new ≡ probes.old + 1 }
+    {
+        *probes += 1;
+        match self.cells.get(&MaskedKey { fields: *key }) {
+            Some(cell) => cell.as_slice(),
+            None => &[],
+        }
+    }
+
+    /// Puts in an entry that asks for this key. Without memory the group stays.
+    pub(crate) fn insert(
+        &mut self,
+        alloc: Global,
+        key: &FieldKey,
+        rank: Rank,
+    ) -> Result<(), AllocError>
+        ensures ok { OnOk result (HasMore self.old self.new key.now rank.priority rank.number) }
+        ensures err { OnErr result (IsSame self.old self.new) }
+    {
+        make_room(&mut self.cells, alloc, key)?;
+        self.ranks.insert(rank)?;
+        push_number(&mut self.cells, key, rank.number);
+        self.best = highest(&self.ranks);
+        Ok(())
+    }
+
+    /// Takes out an entry that asks for this key.
+    pub(crate) fn remove(&mut self, key: &FieldKey, rank: Rank)
+        ensures { HasLess self.old self.new key.now rank.priority rank.number }
+    {
+        self.ranks.remove(&rank);
+        drop_number(&mut self.cells, key, rank.number);
+        self.best = highest(&self.ranks);
+    }
+}

@@ -1,0 +1,18 @@
+//! A classifier by groups of masks: one hashed map of masked keys for each distinct mask.
+#![tactic(auto)]
+
+mod cells;
+mod entry;
+mod found;
+mod group;
+mod groups;
+mod mask_groups;
+mod masked;
+mod rank;
+mod renumbering;
+mod same;
+
+pub use mask_groups::MaskGroups;
+
+#[cfg(test)]
+mod tests;

@@ -1,0 +1,216 @@
+//! The classifier by groups of masks.
+ghost use Rattle.std.specs.Prelude.{◌≡◌, ℕ, ◌<◌, ◌≤◌, IsTrue, Some, None, IfOk, OnErr, vec_len, vec_capacity};
+ghost use Rattle.slab.specs.Slab.{get, Updates, HasRoomFor};
+ghost use Rattle.of_headers.specs.FieldMap.{value};
+ghost use Rattle.of_classifier.specs.Winner.{winner_of, number_of as number_of_row};
+ghost use Rattle.of_mask_groups.specs.Covering.{is_above_best, number_of_found};
+ghost use Rattle.of_mask_groups.specs.Aged.{by_age, AreAged};
+ghost use Rattle.of_mask_groups.specs.Grouping.{AreGrouped};
+ghost use Rattle.of_mask_groups.specs.Probing.{probes_of};
+
+use crate::entry::Entry;
+use crate::found::{Found, best_among};
+use crate::group::Group;
+use crate::groups::{put_back, take_group};
+use crate::rank::Rank;
+use crate::renumbering::{next_age, set_age};
+use crate::same::same_in;
+use of_classifier::Lookup;
+use of_headers::FieldKey;
+use of_oxm::{Match, key_of, mask_of};
+use slab::Slab;
+use std::alloc::{AllocError, Global};
+use std::marker::Model;
+
+/// The entries in a slab, and their numbers in a group for each distinct mask, by falling best priority.
+#[derive(Drop)]
+pub struct MaskGroups {
+    entries: Slab<Entry>,
+    groups: Vec<Group>,
+    /// The age that was given out last.
+    last: u64,
+    alloc: Global,
+}
+
+impl Model for MaskGroups {
+    ghost use Rattle.std.specs.Prelude.{List, ◌+◌, ◌≤◌, vec_len, vec_capacity};
+    ghost use Rattle.of_classifier.specs.declared.Row.{Row};
+    ghost use Rattle.of_mask_groups.specs.Aged.{by_age, AreAged};
+    ghost use Rattle.of_mask_groups.specs.Grouping.{AreGrouped};
+
+    ghost Value = { List Row };
+
+    ghost view = { λ s. by_age (s.last + 1) s.entries.slots };
+
+    ghost invariant = { λ s. AreAged s.entries (s.last + 1) × AreGrouped s.entries s.groups.items × (vec_len s.groups ≤ vec_capacity s.groups) };
+}
+
+impl MaskGroups {
+    /// The winner, and how many masks were asked for it: those that have an entry of at least its
+    /// priority, and all where no entry wins.
+    pub fn find(&self, key: &FieldKey) -> (Option<usize>, usize)
+        ensures winner { result.0 ≡ number_of_row (winner_of self.now (value key.now)) }
+        ensures probes { result.1 ≡ probes_of self.now (value key.now) }
+    {
+        let mut best: Option<Found> = None;
+        let mut probes: usize = 0;
+        for group in &self.groups {
+            if is_above(best, group.best) {
+                return (number_of(best), probes);
+            }
+            let masked = group.mask.masked(key);
+            let numbers = group.probe(&masked, &mut probes);
+            best = best_among(&self.entries, numbers, best);
+        }
+        (number_of(best), probes)
+    }
+}
+
+impl Lookup for MaskGroups {
+    ghost content = { λ s. s };
+
+    fn empty(alloc: Global) -> Result<Self, AllocError> {
+        Ok(MaskGroups {
+            entries: Slab::new(alloc),
+            groups: Vec::new(alloc),
+            last: 0,
+            alloc,
+        })
+    }
+
+    fn winner(&mut self, key: &FieldKey) -> Option<usize> {
+        self.find(key).0
+    }
+
+    fn peek(&self, key: &FieldKey) -> Option<usize> {
+        self.find(key).0
+    }
+
+    fn add(&mut self, fields: Match, priority: u16) -> Result<usize, AllocError> {
+        let age = next_age(&mut self.entries, self.last);
+        self.last = age;
+        let entry = Entry {
+            priority,
+            age,
+            fields,
+        };
+        add_entry(&mut self.entries, &mut self.groups, self.alloc, entry)
+    }
+
+    fn take(&mut self, number: usize) {
+        take_entry(&mut self.entries, &mut self.groups, self.alloc, number);
+    }
+
+    fn same(&self, fields: &Match, priority: u16) -> Option<usize> {
+        same_in(&self.entries, &self.groups, fields, priority)
+    }
+
+    fn renew(&mut self, number: usize) {
+        let age = next_age(&mut self.entries, self.last);
+        self.last = age;
+        set_age(&mut self.entries, number, age);
+    }
+
+    fn known(&self) {
+        let _entries = &self.entries;
+    }
+}
+
+// Puts in an entry, and gives its number. Without memory the entries stay.
+fn add_entry(
+    entries: &mut Slab<Entry>,
+    groups: &mut Vec<Group>,
+    alloc: Global,
+    entry: Entry,
+) -> Result<usize, AllocError>
+    requires grouped { AreGrouped entries.old groups.old.items }
+    requires held { vec_len groups.old ≤ vec_capacity groups.old }
+    ensures vacant { IfOk result (λ number. get entries.old number ≡ None) }
+    ensures updates { IfOk result (λ number. Updates entries.old entries.new number (Some entry)) }
+    ensures err { OnErr result (entries.new.slots ≡ entries.old.slots) }
+    ensures grouped { AreGrouped entries.new groups.new.items }
+    ensures held { vec_len groups.new ≤ vec_capacity groups.new }
+{
+    entries.reserve(1)?;
+    groups.reserve(1)?;
+    insert_entry(entries, groups, alloc, entry)
+}
+
+// The same where there is room in both lists.
+fn insert_entry(
+    entries: &mut Slab<Entry>,
+    groups: &mut Vec<Group>,
+    alloc: Global,
+    entry: Entry,
+) -> Result<usize, AllocError>
+    requires grouped { AreGrouped entries.old groups.old.items }
+    requires room { HasRoomFor entries.old 1 }
+    requires group_room { vec_len groups.old < vec_capacity groups.old }
+    ensures vacant { IfOk result (λ number. get entries.old number ≡ None) }
+    ensures updates { IfOk result (λ number. Updates entries.old entries.new number (Some entry)) }
+    ensures err { OnErr result (entries.new ≡ entries.old) }
+    ensures grouped { AreGrouped entries.new groups.new.items }
+    ensures held { vec_len groups.new ≤ vec_capacity groups.new }
+{
+    entry.fields.known();
+    let key = key_of(&entry.fields);
+    let number = entries.vacant_key();
+    let rank = Rank {
+        priority: entry.priority,
+        number,
+    };
+    let mut group = take_group(groups, alloc, &mask_of(&entry.fields));
+    match group.insert(alloc, &key, rank) {
+        Ok(()) => {
+            entries.insert_reserved(entry);
+            put_back(groups, group);
+            Ok(number)
+        }
+        Err(error) => {
+            if !group.is_empty() {
+                put_back(groups, group);
+            }
+            Err(error)
+        }
+    }
+}
+
+// Takes out the entry of a number, if there is one.
+fn take_entry(entries: &mut Slab<Entry>, groups: &mut Vec<Group>, alloc: Global, number: usize)
+    requires grouped { AreGrouped entries.old groups.old.items }
+    requires held { vec_len groups.old ≤ vec_capacity groups.old }
+    ensures updates { Updates entries.old entries.new number None }
+    ensures grouped { AreGrouped entries.new groups.new.items }
+    ensures held { vec_len groups.new ≤ vec_capacity groups.new }
+{
+    if let Some(entry) = entries.try_remove(number) {
+        let key = key_of(&entry.fields);
+        let rank = Rank {
+            priority: entry.priority,
+            number,
+        };
+        let mut group = take_group(groups, alloc, &mask_of(&entry.fields));
+        group.remove(&key, rank);
+        if !group.is_empty() {
+            put_back(groups, group);
+        }
+    }
+}
+
+fn is_above(best: Option<Found>, priority: u16) -> bool
+    ensures { result ≡ is_above_best best priority }
+{
+    match best {
+        Some(found) => priority < found.priority,
+        None => false,
+    }
+}
+
+fn number_of(best: Option<Found>) -> Option<usize>
+    ensures { result ≡ number_of_found best }
+{
+    match best {
+        Some(found) => Some(found.number),
+        None => None,
+    }
+}
