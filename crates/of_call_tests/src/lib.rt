@@ -1,4 +1,4 @@
-//! Tests of the public calls on actions, tables and packets: each once with ample memory, and vectors from outside.
+//! Tests of the public calls on actions, tables, packets and messages: each once with ample memory, and vectors from outside.
 //!
 //! They stand here and not beside the code, since a crate that has tests is proved twice.
 #![tactic(auto)]
@@ -9,3 +9,7 @@ mod action_set;
 mod actions;
 #[cfg(test)]
 mod machine;
+#[cfg(test)]
+mod messages;
+#[cfg(test)]
+mod table;

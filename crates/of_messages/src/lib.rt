@@ -16,6 +16,3 @@ pub use writing::{
     write_barrier_reply, write_echo_reply, write_error, write_flow_removed, write_hello,
     write_packet_in,
 };
-
-#[cfg(test)]
-mod tests;

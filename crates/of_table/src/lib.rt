@@ -20,6 +20,3 @@ pub use flow_tables::FlowTables;
 pub use selection::{Cause, Removed, RemovedReason, Which, names_group, selects};
 pub use table_fault::TableFault;
 pub use walk::Entries;
-
-#[cfg(test)]
-mod tests;

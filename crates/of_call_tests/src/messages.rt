@@ -1,9 +1,9 @@
-use crate::{
+use of_actions::{Action, Instruction};
+use of_messages::{
     FlowMod, FlowModCommand, FlowRemoved, FlowRemovedReason, Message, PacketData, PacketIn,
     PacketInReason, PacketOut, check_head, read_message, write_barrier_reply, write_echo_reply,
     write_error, write_flow_removed, write_hello, write_packet_in,
 };
-use of_actions::{Action, Instruction};
 use of_oxm::Match;
 use of_wire::{Code, ReadError};
 use std::alloc::{AllocError, Global};

@@ -1,11 +1,11 @@
 ghost use Rattle.std.specs.Prelude.{◌≡◌, ℕ, true, IfOk};
 ghost use Rattle.of_actions.specs.InstructionLists.{are_for};
 
-use crate::{Cause, Flow, FlowFlags, FlowTables, RemovedReason, TableFault, Which};
 use of_actions::{Action, ActionList, Instruction, InstructionList, check_flow};
 use of_classifier::{Lookup, Scan};
 use of_headers::{FieldKey, read};
 use of_oxm::Match;
+use of_table::{Cause, Flow, FlowFlags, FlowTables, RemovedReason, TableFault, Which};
 use std::alloc::Global;
 use std::process::Abort;
 use std::test::Fail;
