@@ -2,6 +2,7 @@
 #![tactic(auto)]
 
 mod acting;
+mod classifying;
 mod clock;
 mod flows;
 mod forwarding;
@@ -27,6 +28,7 @@ fn run(rt: &HostRuntime, name: &str) -> io::Result<()> {
         "key" => headers::time_key(rt),
         "matches" => matching::time_matches(rt),
         "read_match" => matching::time_read_match(rt),
+        "classify" => classifying::time_classify(rt),
         "flow_mod" => switching::time_flow_mod(rt),
         "frame_scan" => switching::time_frame_scan(rt),
         "set" => rewriting::time_set(rt),

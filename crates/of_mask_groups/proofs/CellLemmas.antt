@@ -7,7 +7,7 @@ use Rattle.of_headers.specs.declared.key.FieldKey.{FieldKey}
 use Rattle.of_mask_groups.specs.declared.masked.MaskedKey.{MaskedKey}
 use Rattle.of_mask_groups.specs.contracts.masked.MaskedKeyPartialEq.TheImpl as the_key
 use Rattle.of_mask_groups.specs.Cells.{masked_key, is_key, items_of, cell_at, HasRoomAt, CellLess, others}
-use Rattle.of_mask_groups.proofs.SameKey.{is_key_same}
+use Rattle.of_mask_groups.proofs.KeyTest.{is_key_same}
 
 module _ {S : Type 0} where
   -- a new list under a key that reads as the old one did

@@ -3,7 +3,7 @@ pub mod Best
 pub mod Aging
 pub mod Counting
 pub mod Sights
-pub mod SameKey
+pub mod KeyTest
 pub mod Falling
 pub mod Searching
 pub mod Winning

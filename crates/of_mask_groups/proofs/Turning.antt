@@ -16,7 +16,7 @@ use Rattle.of_headers.proofs.SameFields.{same_key}
 use Rattle.of_oxm.specs.declared.masks.FieldMask.{FieldMask}
 use Rattle.of_mask_groups.proofs.Members.{here, in_one, in_append, in_left, in_right}
 use Rattle.of_mask_groups.proofs.Counting.{in_filter, of_filter}
-use Rattle.of_mask_groups.proofs.SameKey.{is_key_same, same_is_key}
+use Rattle.of_mask_groups.proofs.KeyTest.{is_key_same, same_is_key}
 use Rattle.of_mask_groups.proofs.Holding.{Stays, group_kept}
 
 none_some : (o : Option Entry) (e : Entry) → o ≡ None → o ≡ Some e → ⊥

@@ -1,5 +1,7 @@
 pub mod Covering
 pub mod Ranks
+pub mod Digest
+pub mod SameKey
 pub mod Cells
 pub mod Grouping
 pub mod Aged

@@ -1,4 +1,4 @@
--- `==` tells keys apart.
+-- `==` tells keys apart, and equal keys hash alike.
 use Rattle.std.proofs.Common.{◌≡◌, ℕ, Bool, true, false, eqb, ◌&&◌, Option, List, [], ◌∷◌, get_or, refl, sym, ◌∙◌, ap, subst, arith}
 use Rattle.std.specs.Prelude.{slice_index}
 use Rattle.std.proofs.lemmas.Bool.{eqb-true, eq-eqb}
@@ -8,7 +8,11 @@ use Rattle.of_headers.specs.FieldMap.{value, there, numbers_in}
 use Rattle.of_headers.specs.declared.key.FieldKey.{FieldKey}
 use Rattle.of_headers.specs.contracts.key.FieldKeyPartialEq.TheImpl as the_key
 use Rattle.of_headers.proofs.SameFields.{same_key}
-use Rattle.of_mask_groups.specs.Cells.{is_key}
+use Rattle.std.specs.Prelude.{IsTrue}
+use Rattle.std.specs.Hash as fed
+use Rattle.of_mask_groups.specs.declared.masked.MaskedKey.{MaskedKey}
+use Rattle.of_mask_groups.specs.contracts.masked.MaskedKeyPartialEq.TheImpl as the_masked_key
+use Rattle.of_mask_groups.specs.Digest.{digest_of}
 
 -- ---- equal numbers, one after the other
 
@@ -63,10 +67,5 @@ equal_keys j k h =
 pub key_itself : (k : FieldKey) → the_key.eq-value.it k k ≡ true
 key_itself k = same_itself k.present (numbers k)
 
--- ---- the keys of a map
-
-pub is_key_same : (j k : FieldKey) → is_key j k ≡ true → j ≡ k
-is_key_same j k h = equal_keys j k h
-
-pub same_is_key : (j k : FieldKey) → j ≡ k → is_key j k ≡ true
-same_is_key j k e = subst (λ (x : FieldKey). is_key j x ≡ true) e (key_itself j)
+pub masked_alike : (x y : MaskedKey) → IsTrue (the_masked_key.eq-value.it x y) → fed.u64 (digest_of x.fields) ≡ fed.u64 (digest_of y.fields)
+masked_alike x y h = ap (λ (k : FieldKey). fed.u64 (digest_of k)) (equal_keys x.fields y.fields h)
