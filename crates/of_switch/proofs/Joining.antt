@@ -21,7 +21,7 @@ same_by n m s None e ih = refl
 same_by n m s (Some o) e ih = ap (behind o.effects) (ih o.state (next_shorter s o e))
 
 -- enough turns are as good as more
-drain_same : (n m : ℕ) (s : State) → length s.connection.pending < n → length s.connection.pending < m → drain n s ≡ drain m s
+pub drain_same : (n m : ℕ) (s : State) → length s.connection.pending < n → length s.connection.pending < m → drain n s ≡ drain m s
 unfolding drain
 drain_same zero m s a b = absurd (omega (arith, a))
 drain_same (suc n) zero s a b = absurd (omega (arith, b))

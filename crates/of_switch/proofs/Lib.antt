@@ -6,5 +6,6 @@ pub mod Draining
 pub mod Joining
 pub mod Handling
 pub mod InTurn
+pub mod Running
 pub mod OnLiterals
 pub mod Examples

@@ -14,7 +14,7 @@ use Rattle.of_messages.specs.Written.{flow_removed_bytes}
 use Rattle.of_table.specs.declared.flow.Flow.{Flow}
 use Rattle.of_table.specs.declared.flow.FlowFlags.{FlowFlags}
 use Rattle.of_table.specs.declared.selection.Which.{Which}
-use Rattle.of_table.specs.declared.selection.Cause.TheVariants.{Command}
+use Rattle.of_table.specs.declared.selection.Cause.TheVariants as cause
 use Rattle.of_table.specs.declared.selection.RemovedReason.{RemovedReason}
 use Rattle.of_table.specs.declared.selection.RemovedReason.TheVariants as reason
 use Rattle.of_table.specs.Table.{is_overlapped, is_full}
@@ -96,15 +96,15 @@ abbrev pub commanded_by : FlowModCommand → FlowMod → Tables → Tables
 commanded_by Add m ts = added_to m.table (flow_of m) ts
 commanded_by Modify m ts = modified_in (which_of m) m.instructions (has_flag m.flags 4) ts
 commanded_by ModifyStrict m ts = modified_in (which_of m) m.instructions (has_flag m.flags 4) ts
-commanded_by Delete m ts = left_in (Command (which_of m)) ts
-commanded_by DeleteStrict m ts = left_in (Command (which_of m)) ts
+commanded_by Delete m ts = left_in (cause.Delete (which_of m)) ts
+commanded_by DeleteStrict m ts = left_in (cause.Delete (which_of m)) ts
 
 abbrev pub commanded : FlowMod → Tables → Tables
 commanded m ts = commanded_by m.command m ts
 
 -- the notices that a command gives
 abbrev pub command_notices : FlowMod → Tables → List Notice
-command_notices m ts = if is_delete m.command then notices_in (Command (which_of m)) ts else []
+command_notices m ts = if is_delete m.command then notices_in (cause.Delete (which_of m)) ts else []
 
 -- ---- FLOW_REMOVED
 

@@ -138,7 +138,7 @@ fn reason_from(reason: RemovedReason) -> FlowRemovedReason
     }
 }
 
-fn removed_from(removed: &Removed, now: u64) -> FlowRemoved
+fn removed_from(removed: &Removed<'_>, now: u64) -> FlowRemoved
     ensures { result ≡ removed_of now (notice_of removed.now) }
 {
     let entry = &removed.entry;
@@ -157,7 +157,7 @@ fn removed_from(removed: &Removed, now: u64) -> FlowRemoved
     }
 }
 
-fn notice(alloc: Global, removed: &Removed, now: u64) -> Result<Effect, AllocError>
+fn notice(alloc: Global, removed: &Removed<'_>, now: u64) -> Result<Effect, AllocError>
     ensures { IfOk result (λ effect. effect ≡ notice_effect now (notice_of removed.now)) }
 {
     let told = removed_from(removed, now);
@@ -165,7 +165,7 @@ fn notice(alloc: Global, removed: &Removed, now: u64) -> Result<Effect, AllocErr
 }
 
 /// The FLOW_REMOVED messages of entries that went, in their order.
-pub fn notices(alloc: Global, removed: &[Removed], now: u64) -> Result<Effects, AllocError>
+pub fn notices(alloc: Global, removed: &[Removed<'_>], now: u64) -> Result<Effects, AllocError>
     ensures { IfOk result (λ effects. effects.items ≡ notice_effects now (notices_of removed.now)) }
 {
     let mut effects = Effects::new(alloc);

@@ -3,7 +3,6 @@ ghost use Rattle.std.specs.Prelude.{◌≡◌, ◌<◌, ◌∷◌, [], true, fal
 ghost use Rattle.of_wire.specs.Refusals.{first_of};
 ghost use Rattle.of_switch.specs.State.{new_core};
 ghost use Rattle.of_switch.specs.Ports.{has_port, no_counters as zero_counters};
-ghost use Rattle.of_table.specs.declared.selection.Cause.TheVariants.{Command};
 ghost use Rattle.of_table.specs.Tables.{modified_in, left_in, notices_in};
 ghost use Rattle.of_actions.specs.FlowCheck.{all_go_with};
 ghost use Rattle.of_actions.specs.InstructionLists.{are_for};
@@ -13,18 +12,17 @@ ghost use Rattle.of_switch.specs.Plane.{framed};
 ghost use Rattle.of_switch.specs.Handling.{Handles};
 ghost use Rattle.of_switch.specs.Steps.{core_port_changed, does, done, flow_modded, forwarded, packet_outed, state_refusals, with_tables, moment_done};
 
-use crate::commands::{flow_from, has_flag, has_group, names_a_group, notices, which_from};
+use crate::commands::{flow_from, has_flag, has_group, names_a_group, which_from};
 use crate::effect::{Effect, Effects};
 use crate::plane::{Plane, contains, put_port};
 use crate::port_change::PortChange;
-use crate::told::is_told;
 use of_classifier::Lookup;
 use of_machine::{Port, PortCounters};
 use of_messages::{
     FlowMod, FlowModCommand, Message, PacketData, PacketOut, write_barrier_reply, write_echo_reply,
 };
 use of_session::Phase;
-use of_table::TableFault;
+use of_table::{Cause, TableFault};
 use of_wire::Code;
 use std::alloc::{AllocError, Global};
 use std::marker::Model;
@@ -225,12 +223,15 @@ impl<L: Lookup> Engine<L> {
     }
 
     fn delete_flows(&mut self, flow_mod: FlowMod) -> Result<Effects, AllocError>
-        ensures ok { IfOk result (λ effects. does (notice_effects self.old.forwarding.tables.latest (notices_in (Command (which_of flow_mod)) self.old.forwarding.tables)) (with_tables (left_in (Command (which_of flow_mod)) self.old.forwarding.tables) self.old) ≡ does effects.items self.new) }
+        ensures ok { IfOk result (λ effects. does (notice_effects self.old.forwarding.tables.latest (notices_in (Cause.Delete (which_of flow_mod)) self.old.forwarding.tables)) (with_tables (left_in (Cause.Delete (which_of flow_mod)) self.old.forwarding.tables) self.old) ≡ does effects.items self.new) }
         ensures err { OnErr result (self.new ≡ self.old) }
     {
         let now = self.plane.tables.latest();
-        let removed = self.plane.tables.delete(self.alloc, which_from(flow_mod))?;
-        notices(self.alloc, &removed, now)
+        let cause = Cause::Delete(which_from(flow_mod));
+        let plan = self
+            .plane
+            .plan_removal(self.alloc, Phase::Open, cause, now)?;
+        Ok(self.plane.carry_out(plan))
     }
 
     /// It is so many nanoseconds, while the connection stands there.
@@ -238,11 +239,11 @@ impl<L: Lookup> Engine<L> {
         ensures ok { IfOk result (λ effects. moment_done phase nanos self.old ≡ does effects.items self.new) }
         ensures err { OnErr result (self.new ≡ self.old) }
     {
-        let removed = self.plane.tables.expire(self.alloc, nanos)?;
-        if !is_told(phase) {
-            return Ok(Effects::new(self.alloc));
-        }
-        notices(self.alloc, &removed, self.plane.tables.latest())
+        let now = self.plane.tables.latest().max(nanos);
+        let plan = self
+            .plane
+            .plan_removal(self.alloc, phase, Cause::Moment(nanos), now)?;
+        Ok(self.plane.carry_out(plan))
     }
 }
 

@@ -1,6 +1,7 @@
 use crate::effect::Effects;
 use crate::plane::PortCount;
 use of_machine::Counts;
+use of_table::Cause;
 
 /// What an event will do: what it gives, ready to be sent, and what it changes. Doing it needs no memory.
 #[derive(Drop)]
@@ -18,6 +19,8 @@ pub enum Change {
         reception: Option<Reception>,
         counts: Counts,
     },
+    /// Entries go.
+    Removal(Cause),
 }
 
 /// What a port counts of a frame that came in by it.

@@ -9,15 +9,17 @@ ghost use Rattle.std.specs.Prelude.{IsTrue, true, [], ◌∷◌};
 ghost use Rattle.of_actions.specs.Served.{are_served};
 ghost use Rattle.of_machine.specs.Growth.{AllShort};
 ghost use Rattle.of_machine.specs.Rows.{acts, entering};
-ghost use Rattle.of_table.specs.Tables.{NumberedTables};
-ghost use Rattle.of_switch.specs.Told.{effects_of};
+ghost use Rattle.of_table.specs.Tables.{NumberedTables, left_in, notices_in};
+ghost use Rattle.of_switch.specs.Commands.{notice_effects};
+ghost use Rattle.of_switch.specs.Told.{effects_of, told};
 ghost use Rattle.of_switch.specs.Plans.{changed, planned, with_reception};
-ghost use Rattle.of_switch.specs.Plane.{Forwarding, all_sent, all_tallied, count_port, framed, idle, received, sent, tallied, through};
+ghost use Rattle.of_switch.specs.Plane.{Forwarding, all_sent, all_tallied, count_port, forwards, framed, idle, received, sent, tallied, through};
 ghost use Rattle.of_switch.specs.Numbers.{Contents, all_placed, contents, forwarding_of, numbered_world, place_in, placed};
 
+use crate::commands::notices;
 use crate::effect::{Effect, Effects};
 use crate::plan::{Change, Plan, Reception};
-use crate::told::effects_from;
+use crate::told::{effects_from, is_told};
 use of_actions::Action;
 use of_classifier::Lookup;
 use of_headers::{FieldKey, check_length};
@@ -26,7 +28,7 @@ use of_machine::{
     run_actions,
 };
 use of_session::Phase;
-use of_table::{Flow, FlowTables};
+use of_table::{Cause, Flow, FlowTables};
 use std::alloc::{AllocError, Global};
 
 /// What a port counts (OpenFlow 1.3.5, 5.8).
@@ -265,6 +267,27 @@ impl<L: Lookup> Plane<L> {
         plan_of(alloc, Phase::Open, None, outcome)
     }
 
+    /// The removal of entries, with a notice of each whose flags ask for one, where the connection stands there: they went now.
+    pub fn plan_removal(
+        &self,
+        alloc: Global,
+        phase: Phase,
+        cause: Cause,
+        now: u64,
+    ) -> Result<Plan, AllocError>
+        ensures { IfOk result (λ plan. planned plan self.now.tables self.now.ports.items ≡ forwards (told phase (notice_effects now (notices_in cause (tables_of self.now.tables)))) (record (forwarding_of self.now.tables self.now.ports.items) { tables = left_in cause (tables_of self.now.tables) })) }
+    {
+        let effects = if is_told(phase) {
+            notices(alloc, &self.tables.listed(&cause)?, now)?
+        } else {
+            Effects::new(alloc)
+        };
+        Ok(Plan {
+            effects,
+            change: Change::Removal(cause),
+        })
+    }
+
     /// Does what was planned, and answers what it gives.
     pub fn carry_out(&mut self, plan: Plan) -> Effects
         ensures effects { result.items ≡ plan.effects.items }
@@ -274,6 +297,7 @@ impl<L: Lookup> Plane<L> {
         match change {
             Change::Nothing => {}
             Change::Counts { reception, counts } => self.count(reception, &counts, &effects),
+            Change::Removal(cause) => self.tables.remove(&cause),
         }
         effects
     }

@@ -234,36 +234,23 @@ impl<L: Lookup> Switch<L> {
         loop {
             match self.next() {
                 Ok(None) => {
-                    keep(reports, Report::Gives(effects));
+                    reports.push_reserved(Report::Gives(effects));
                     return Ok(());
                 }
                 Ok(Some(more)) => {
                     let mut more = more;
                     if let Err(AllocError) = effects.append(&mut more) {
-                        keep(reports, Report::Gives(effects));
-                        keep(reports, Report::Gives(more));
+                        reports.push_reserved(Report::Gives(effects));
+                        reports.push_reserved(Report::Gives(more));
                         return Err(AllocError);
                     }
                 }
                 Err(_) => {
-                    keep(reports, Report::Gives(effects));
+                    reports.push_reserved(Report::Gives(effects));
                     return Err(AllocError);
                 }
             }
         }
-    }
-}
-
-// Appends a report, for which there is room.
-fn keep(reports: &mut Vec<Report>, report: Report)
-    requires { vec_len reports.old < vec_capacity reports.old }
-    ensures items { reports.new.items ≡ reports.old.items ++ report ∷ [] }
-    ensures len { vec_len reports.new ≡ vec_len reports.old + 1 }
-    ensures capacity { vec_capacity reports.old ≤ vec_capacity reports.new }
-{
-    match reports.push(report) {
-        Ok(()) => {}
-        Err(_) => unreachable!(),
     }
 }
 
@@ -280,7 +267,7 @@ fn tell(
         Err(SwitchError::NoMemory) => return Err(AllocError),
         Err(refusal) => Report::Refused(refusal),
     };
-    keep(reports, report);
+    reports.push_reserved(report);
     Ok(())
 }
 

@@ -16,7 +16,7 @@ use Rattle.of_actions.specs.declared.instruction.Instruction.TheVariants.{Apply,
 use Rattle.of_actions.specs.FlowCheck.{is_need_met, are_needs_met, goes_with, all_go_with}
 use Rattle.of_table.specs.declared.selection.Which.{Which}
 use Rattle.of_table.specs.Table.{FlowEntry}
-use Rattle.of_table.specs.Selecting.{is_meant_by, is_meant, has_cookie, passes_port, passes_group, selects}
+use Rattle.of_table.specs.Selecting.{is_meant_by, is_meant, has_cookie, modifies}
 use Rattle.of_table.proofs.AddLemmas.{same_is}
 
 or_more : (a b c : Bool) → (b ≡ true → c ≡ true) → (a || b) ≡ true → (a || c) ≡ true
@@ -57,12 +57,6 @@ meant_goes (Some priority) w e is mw me meant h =
     let test : is_same_match e.flow.fields w.fields ≡ true = grind (arith, nat_tests, meant) in
     subst (λ (m : List MatchField). all_go_with m is ≡ true) (sym (same_is e.flow.fields w.fields test)) h
 
--- what goes with the match of a command goes with each entry that the command is for
-pub selected_goes : (w : Which) (e : FlowEntry) (is : List Instruction) → IsMatch w.fields → IsMatch e.flow.fields → selects w e ≡ true → all_go_with w.fields is ≡ true → all_go_with e.flow.fields is ≡ true
-selected_goes w e is mw me selected h =
-    let meant : is_meant w e ≡ true = first (is_meant w e) (has_cookie w e) (passes_port w e) (passes_group w e) selected in
-    meant_goes w.priority w e is mw me meant h
-  where
-    first : (a b c d : Bool) → (a && b && c && d) ≡ true → a ≡ true
-    first true b c d h = refl
-    first false b c d h = absurd cc
+-- what goes with the match of a MODIFY goes with each entry that it is for
+pub modified_goes : (w : Which) (e : FlowEntry) (is : List Instruction) → IsMatch w.fields → IsMatch e.flow.fields → modifies w e ≡ true → all_go_with w.fields is ≡ true → all_go_with e.flow.fields is ≡ true
+modified_goes w e is mw me modified h = meant_goes w.priority w e is mw me (and_true (is_meant w e) (has_cookie w e) modified).0 h

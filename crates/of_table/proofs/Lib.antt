@@ -3,6 +3,7 @@ pub mod NumberLemmas
 pub mod AddLemmas
 pub mod CountLemmas
 pub mod ModifyLemmas
+pub mod CopyLemmas
 pub mod RemoveLemmas
 pub mod TablesLemmas
 pub mod WinnerLemmas

@@ -1,8 +1,7 @@
 -- Entries after one more of them was looked at, and taken if it goes.
 use Rattle.std.proofs.Common.{◌≡◌, ℕ, ◌+◌, ◌<◌, Bool, true, false, cond, ◌&&◌, eqb, List, [], ◌∷◌, ◌++◌, length, get_or, take, drop, Option, Some, None, refl, sym, ap, ◌∙◌, arith, append_assoc}
-use Rattle.std.specs.Prelude.{is_none}
-use Rattle.std.specs.List.{list_all}
-use Rattle.std.specs.Option.{option_to_list}
+use Rattle.std.specs.Prelude.{map}
+use Rattle.std.specs.Option.{option_map, option_to_list}
 use Rattle.std.proofs.lemmas.Bool.Decides.{nat_tests}
 use Rattle.std.proofs.lemmas.List.{map-append, append-nil, drop_more, take_more}
 use Rattle.std.proofs.lemmas.List.Elements.{filter-append}
@@ -11,9 +10,10 @@ use Rattle.of_wire.proofs.NumberedLemmas.{without_unused}
 use Rattle.of_classifier.specs.Rows.{row_number}
 use Rattle.of_table.specs.Table.{FlowEntry}
 use Rattle.of_table.specs.Entries.{entry_of, flows_of, row_of, rows_of}
-use Rattle.of_table.specs.Selecting.{stays, left, reason_of, notice_by, notices, kept_of}
+use Rattle.of_table.specs.Selecting.{Notice, Told, stays, left, reason_of, notice_by, notices, notice_of, notices_of, with_number, told_by, told, all_told, kept_of}
 use Rattle.of_table.specs.declared.selection.RemovedReason.{RemovedReason}
 use Rattle.of_table.specs.declared.selection.Cause.{Cause}
+use Rattle.of_table.specs.declared.selection.Removed.{Removed}
 use Rattle.of_table.specs.declared.entry.Entry.{Entry}
 
 -- an element stands between others
@@ -78,31 +78,24 @@ flows_left cause (e ∷ es) = by_test (stays cause (entry_of e)) (flows_left cau
     by_test true ih = ap (λ (fs : List FlowEntry). entry_of e ∷ fs) ih
     by_test false ih = ih
 
--- where all stay, nothing changes and there is no notice
-pub all_left : (cause : Cause) (es : List Entry) → list_all (λ e. stays cause (entry_of e)) es ≡ true → flows_of es ≡ left cause (flows_of es)
-all_left cause [] h = refl
-all_left cause (e ∷ es) h = by_test (stays cause (entry_of e)) h (all_left cause es)
+-- a notice without the number
+abbrev pub untold : Told → Notice
+untold t = record { table = t.table; reason = t.reason; entry = entry_of t.entry }
+
+pub notices_all : (removed : List Removed) → notices_of removed ≡ map untold (all_told removed)
+notices_all [] = refl
+notices_all (r ∷ removed) = ap (λ (ns : List Notice). notice_of r ∷ ns) (notices_all removed)
+
+told_one : (table : ℕ) (e : Entry) (reason : Option RemovedReason) → map untold (option_to_list (told_by table e reason)) ≡ option_to_list (notice_by table (entry_of e) reason)
+told_one table e None = refl
+told_one table e (Some reason) = by_test e.flow.flags.send_removed
   where
-    by_test : (b : Bool) → (b && list_all (λ x. stays cause (entry_of x)) es) ≡ true → (list_all (λ x. stays cause (entry_of x)) es ≡ true → flows_of es ≡ left cause (flows_of es)) →
-        entry_of e ∷ flows_of es ≡ cond b (entry_of e ∷ left cause (flows_of es)) (left cause (flows_of es))
-    by_test true g ih = ap (λ (fs : List FlowEntry). entry_of e ∷ fs) (ih g)
-    by_test false g ih = absurd cc
+    by_test : (b : Bool) → map untold (option_to_list (option_map (with_number e) (cond b (Some (record { table = table; reason = reason; entry = entry_of e })) None))) ≡ option_to_list (cond b (Some (record { table = table; reason = reason; entry = entry_of e })) None)
+    by_test true = refl
+    by_test false = refl
 
-none_by : (table : ℕ) (e : FlowEntry) (reason : Option RemovedReason) → is_none reason ≡ true → option_to_list (notice_by table e reason) ≡ []
-none_by table e None h = refl
-none_by table e (Some reason) h = absurd cc
-
-pub no_notices : (cause : Cause) (table : ℕ) (es : List Entry) → list_all (λ e. stays cause (entry_of e)) es ≡ true → notices cause table (flows_of es) ≡ []
-no_notices cause table [] h = refl
-no_notices cause table (e ∷ es) h =
-    let stays_here : stays cause (entry_of e) ≡ true = and_first (stays cause (entry_of e)) (list_all (λ x. stays cause (entry_of x)) es) h in
-    let others : list_all (λ x. stays cause (entry_of x)) es ≡ true = and_second (stays cause (entry_of e)) (list_all (λ x. stays cause (entry_of x)) es) h in
-    (λ j. none_by table (entry_of e) (reason_of cause (entry_of e)) stays_here j ++ no_notices cause table es others j)
-  where
-    and_first : (a b : Bool) → (a && b) ≡ true → a ≡ true
-    and_first true b g = refl
-    and_first false b g = absurd cc
-
-    and_second : (a b : Bool) → (a && b) ≡ true → b ≡ true
-    and_second true b g = g
-    and_second false b g = absurd cc
+pub notices_told : (cause : Cause) (table : ℕ) (es : List Entry) → map untold (told cause table es) ≡ notices cause table (flows_of es)
+notices_told cause table [] = refl
+notices_told cause table (e ∷ es) =
+    map-append untold (option_to_list (told_by table e (reason_of cause (entry_of e)))) (told cause table es)
+    ∙ (λ i. told_one table e (reason_of cause (entry_of e)) i ++ notices_told cause table es i)

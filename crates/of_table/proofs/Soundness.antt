@@ -1,5 +1,5 @@
 -- What holds of the entries of each table stays so.
-use Rattle.std.proofs.Common.{◌≡◌, ℕ, zero, suc, ◌+◌, ◌<◌, ◌≤◌, Bool, true, false, ltb, ltb-true, List, [], ◌∷◌, ◌++◌, ◌&&◌, length, set, get_or, refl, sym, ap, arith, ◌∙◌, take, drop}
+use Rattle.std.proofs.Common.{◌≡◌, ℕ, zero, suc, ◌+◌, ◌<◌, ◌≤◌, Bool, true, false, cond, ltb, ltb-true, List, [], ◌∷◌, ◌++◌, ◌&&◌, length, set, get_or, refl, sym, ap, arith, ◌∙◌, take, drop}
 use Rattle.std.specs.Prelude.{filter, map, find, replicate, Option, Some, None, slice_index_or}
 use Rattle.std.specs.List.{list_all, before_first, after_first}
 use Rattle.std.proofs.lemmas.Bool.Decides.{nat_tests}
@@ -10,7 +10,8 @@ use Rattle.of_table.specs.Table.{FlowEntry, Table, empty_table, added, with_flow
 use Rattle.of_table.specs.Selecting.{left, stays}
 use Rattle.std.proofs.lemmas.List.{length-map, length-set, map-set, get_or-map}
 use Rattle.std.specs.Prelude.{Result, Ok, Err, OnOk, OnErr}
-use Rattle.of_table.proofs.TablesLemmas.{get_or_past}
+use Rattle.of_table.proofs.TablesLemmas.{get_or_past, each-map, kept_one}
+use Rattle.of_table.specs.Tables.{each_from, concerns, left_table, kept_table}
 use Rattle.of_table.specs.declared.entry.Entry.{Entry}
 use Rattle.of_table.specs.Entries.{Numbered, table_of, entry_of, flows_of}
 use Rattle.of_table.specs.Entries.{row_of}
@@ -121,6 +122,23 @@ pub empty_sound : (k n : ℕ) → AllSound k (replicate n empty_table)
 empty_sound k zero = tt
 empty_sound k (suc n) = (none_sound k, empty_sound (suc k) n)
 
+left_one_sound : (cause : Cause) (k : ℕ) (t : Table) → AreSound k t.flows → AreSound k (left_table cause k t).flows
+left_one_sound cause k t s = by_test (concerns cause k)
+  where
+    by_test : (b : Bool) → AreSound k (cond b (record t { flows = left cause t.flows }) t).flows
+    by_test true = left_sound k cause t.flows s
+    by_test false = s
+
+left_all_sound : (cause : Cause) (k : ℕ) (ts : List Table) → AllSound k ts → AllSound k (each_from (left_table cause) k ts)
+left_all_sound cause k [] s = tt
+left_all_sound cause k (t ∷ ts) s = (left_one_sound cause k t s.0, left_all_sound cause (suc k) ts s.1)
+
+-- all tables stay sound where entries go
+pub kept_all_sound : (cause : Cause) (ns new : List Numbered) → new ≡ each_from (kept_table cause) 0 ns → AllSound 0 (map table_of ns) → AllSound 0 (map table_of new)
+kept_all_sound cause ns new is s =
+    let tables : map table_of new ≡ each_from (left_table cause) 0 (map table_of ns) = ap (map table_of) is ∙ each-map (kept_table cause) (left_table cause) (kept_one cause) 0 ns in
+    rw tables (left_all_sound cause 0 (map table_of ns) s)
+
 zero_plus : (k : ℕ) → 0 + k ≡ k
 zero_plus k = omega arith
 
@@ -152,10 +170,6 @@ pub ok_added : {A : Type 0} (r : Result A TableFault) (k now : ℕ) (flow : Flow
     are_fit k flow.instructions ≡ true → all_go_with flow.fields flow.instructions ≡ true → AreSound k (table_of old).flows → AreSound k (table_of new).flows
 ok_added (Ok a) k now flow old new fault ok err h goes s = let same : flows_of new.entries ≡ added now flow (flows_of old.entries) = ap (λ (t : Table). t.flows) ok in rw same (added_sound k now flow (flows_of old.entries) fault h goes s)
 ok_added (Err e) k now flow old new fault ok err h goes s = let same : flows_of new.entries ≡ flows_of old.entries = ap (λ (n : Numbered). flows_of n.entries) err in rw same s
-
-pub ok_left : {A E : Type 0} (r : Result A E) (k : ℕ) (cause : Cause) (old new : Numbered) → OnOk r (table_of new ≡ record (table_of old) { flows = left cause (flows_of old.entries) }) → OnErr r (new ≡ old) → AreSound k (table_of old).flows → AreSound k (table_of new).flows
-ok_left (Ok a) k cause old new ok err s = let same : flows_of new.entries ≡ left cause (flows_of old.entries) = ap (λ (t : Table). t.flows) ok in rw same (left_sound k cause (flows_of old.entries) s)
-ok_left (Err e) k cause old new ok err s = let same : flows_of new.entries ≡ flows_of old.entries = ap (λ (n : Numbered). flows_of n.entries) err in rw same s
 
 counted_keys : (now place bytes : ℕ) (flows : List FlowEntry) → map key_of (counted_at now place bytes flows) ≡ map key_of flows
 counted_keys now place bytes [] = refl

@@ -1,14 +1,21 @@
 -- Tables after one of them is changed.
-use Rattle.std.proofs.Common.{◌≡◌, ℕ, zero, suc, ◌+◌, ◌<◌, List, [], ◌∷◌, ◌++◌, Result, Ok, Err, length, get_or, set, take, drop, ◌≤◌, add-one, append_assoc, refl, sym, ap, ◌∙◌, arith}
-use Rattle.std.specs.Prelude.{map, replicate, slice_set, slice_index_or, OnOk}
-use Rattle.std.proofs.lemmas.List.{map-set, length-map, take_all, drop_all, append-nil}
+use Rattle.std.proofs.Common.{◌≡◌, ℕ, zero, suc, ◌+◌, ◌<◌, Bool, true, false, cond, List, [], ◌∷◌, ◌++◌, Result, Ok, Err, length, get_or, set, take, drop, ◌≤◌, add-one, append_assoc, refl, sym, ap, ◌∙◌, inl, inr, ◌⊎◌, arith}
+use Rattle.std.specs.Prelude.{Option, map, replicate, slice_set, slice_index_or, IfOk, OnOk}
+use Rattle.std.proofs.lemmas.List.{map-set, map-append, take_all, drop_all, append-nil}
 use Rattle.std.proofs.Math.ListN.{get_or-map}
-use Rattle.of_table.proofs.ModifyLemmas.{set_same}
-use Rattle.of_table.specs.Table.{Table, empty_table}
-use Rattle.of_table.specs.Entries.{Numbered, no_entries, table_of, numbers_of}
-use Rattle.of_table.specs.Selecting.{Notice}
+use Rattle.of_actions.specs.declared.instruction.Instruction.{Instruction}
+use Rattle.of_table.proofs.ModifyLemmas.{set_same, flows_modified}
+use Rattle.of_table.proofs.RemoveLemmas.{flows_left, untold, notices_told, notices_all}
+use Rattle.of_table.proofs.CopyLemmas.{replicate_more}
+use Rattle.of_table.specs.Table.{FlowEntry, Table, empty_table}
+use Rattle.of_table.specs.Entries.{Numbered, no_entries, table_of, flows_of, numbers_of}
+use Rattle.of_table.specs.Selecting.{Told, left, kept_of, modified, modified_entries, notices, notices_of, told, all_told}
+use Rattle.of_table.specs.Copies.{wanted_in, wanted_from}
 use Rattle.of_table.specs.declared.selection.Cause.{Cause}
-use Rattle.of_table.specs.Tables.{table_at, with_table, tables_of, all_numbers, each_from, left_table, table_notices, notices_from}
+use Rattle.of_table.specs.declared.selection.Cause.TheVariants.{Delete, Group}
+use Rattle.of_table.specs.declared.selection.Which.{Which}
+use Rattle.of_table.specs.declared.selection.Removed.{Removed}
+use Rattle.of_table.specs.Tables.{NumberedTables, is_in, concerns, table_at, with_table, tables_of, all_numbers, each_from, cause_at, latest_after, left_table, left_in, modified_table, modified_in, table_notices, notices_from, notices_in, modified_numbered, all_modified, kept_table, all_kept, told_table, told_from, told_in}
 
 any_default : {X : Type 0} (xs : List X) (k : ℕ) (c d : X) → k < length xs → get_or xs k c ≡ get_or xs k d
 any_default [] k c d lt = absurd (omega (arith, lt))
@@ -48,61 +55,145 @@ pub ok_set : {A E : Type 0} (r : Result A E) (ns : List Numbered) (k latest : �
 ok_set (Ok a) ns k latest old new d f lt is by = tables_set ns k latest old new d f lt is by
 ok_set (Err e) ns k latest old new d f lt is by = by
 
--- one more empty table
-pub one_more : (n : ℕ) → replicate n no_entries ++ no_entries ∷ [] ≡ replicate (suc n) no_entries
-one_more zero = refl
-one_more (suc n) = ap (λ (ns : List Numbered). no_entries ∷ ns) (one_more n)
-
 -- ---- tables changed one after the other, each by its number
 
 -- the first so many are changed
-abbrev pub each_to : (ℕ → Table → Table) → ℕ → ℕ → List Table → List Table
+abbrev pub each_to : {X : Type 0} → (ℕ → X → X) → ℕ → ℕ → List X → List X
 each_to f j k ts = each_from f j (take k ts) ++ drop k ts
 
-each_at : (f : ℕ → Table → Table) (j k : ℕ) (ts : List Table) (d : Table) → k < length ts → get_or (each_to f j k ts) k d ≡ get_or ts k d
+each_at : {X : Type 0} (f : ℕ → X → X) (j k : ℕ) (ts : List X) (d : X) → k < length ts → get_or (each_to f j k ts) k d ≡ get_or ts k d
 each_at f j k [] d lt = absurd (omega (arith, lt))
 each_at f j zero (t ∷ ts) d lt = refl
 each_at f j (suc k) (t ∷ ts) d lt = each_at f (suc j) k ts d (omega (arith, lt))
 
-each_set : (f : ℕ → Table → Table) (j k : ℕ) (ts : List Table) (d : Table) → k < length ts → set (each_to f j k ts) k (f (j + k) (get_or ts k d)) ≡ each_to f j (suc k) ts
+each_set : {X : Type 0} (f : ℕ → X → X) (j k : ℕ) (ts : List X) (d : X) → k < length ts → set (each_to f j k ts) k (f (j + k) (get_or ts k d)) ≡ each_to f j (suc k) ts
 each_set f j k [] d lt = absurd (omega (arith, lt))
-each_set f j zero (t ∷ ts) d lt = let same : j + 0 ≡ j = omega arith in ap (λ (i : ℕ). f i t ∷ ts) same
-each_set f j (suc k) (t ∷ ts) d lt =
+each_set {X} f j zero (t ∷ ts) d lt = let same : j + 0 ≡ j = omega arith in ap (λ (i : ℕ). f i t ∷ ts) same
+each_set {X} f j (suc k) (t ∷ ts) d lt =
     let same : j + suc k ≡ suc j + k = omega arith in
-    ap (λ (us : List Table). f j t ∷ us) (ap (λ (i : ℕ). set (each_to f (suc j) k ts) k (f i (get_or ts k d))) same ∙ each_set f (suc j) k ts d (omega (arith, lt)))
+    ap (λ (us : List X). f j t ∷ us) (ap (λ (i : ℕ). set (each_to f (suc j) k ts) k (f i (get_or ts k d))) same ∙ each_set f (suc j) k ts d (omega (arith, lt)))
 
 -- the table that comes next is not changed yet
-pub next_is : (f : ℕ → Table → Table) (k : ℕ) (ns all : List Numbered) (d : Numbered) → k < length all → map table_of ns ≡ each_to f 0 k (map table_of all) → table_of (get_or ns k d) ≡ get_or (map table_of all) k (table_of d)
-next_is f k ns all d lt so = sym (get_or-map table_of ns k d) ∙ ap (λ (ts : List Table). get_or ts k (table_of d)) so ∙ each_at f 0 k (map table_of all) (table_of d) (rw length-map lt)
+pub next_is : {X : Type 0} (f : ℕ → X → X) (k : ℕ) (ns all : List X) (d : X) → k < length all → ns ≡ each_to f 0 k all → get_or ns k d ≡ get_or all k d
+next_is {X} f k ns all d lt so = ap (λ (ts : List X). get_or ts k d) so ∙ each_at f 0 k all d lt
 
 -- one more is changed
-pub each_more : (f : ℕ → Table → Table) (k : ℕ) (ns all : List Numbered) (new d : Numbered) → k < length all → map table_of ns ≡ each_to f 0 k (map table_of all) → table_of new ≡ f k (table_of (get_or ns k d)) → map table_of (set ns k new) ≡ each_to f 0 (k + 1) (map table_of all)
+pub each_more : {X : Type 0} (f : ℕ → X → X) (k : ℕ) (ns all : List X) (new d : X) → k < length all → ns ≡ each_to f 0 k all → new ≡ f k (get_or ns k d) → set ns k new ≡ each_to f 0 (k + 1) all
 each_more f k ns all new d lt so by =
-    let value : table_of new ≡ f k (get_or (map table_of all) k (table_of d)) = by ∙ ap (f k) (next_is f k ns all d lt so) in
+    let value : new ≡ f k (get_or all k d) = by ∙ ap (f k) (next_is f k ns all d lt so) in
     let zero_more : k ≡ 0 + k = omega arith in
     rw add-one
-    (map-set table_of ns k new ∙ (λ i. set (so i) k (value i)) ∙ ap (λ (i : ℕ). set (each_to f 0 k (map table_of all)) k (f i (get_or (map table_of all) k (table_of d)))) zero_more
-    ∙ each_set f 0 k (map table_of all) (table_of d) (rw length-map lt))
+    ((λ i. set (so i) k (value i)) ∙ ap (λ (i : ℕ). set (each_to f 0 k all) k (f i (get_or all k d))) zero_more ∙ each_set f 0 k all d lt)
 
 -- all are changed
-pub each_all : (f : ℕ → Table → Table) (k : ℕ) (ts : List Table) → length ts ≤ k → each_to f 0 k ts ≡ each_from f 0 ts
+pub each_all : {X : Type 0} (f : ℕ → X → X) (k : ℕ) (ts : List X) → length ts ≤ k → each_to f 0 k ts ≡ each_from f 0 ts
 each_all f k ts le = rw (take_all k ts le, drop_all k ts le) (append-nil (each_from f 0 ts))
 
 -- the notices of one more table
-notices_more_from : (cause : Cause) (j k : ℕ) (ts : List Table) (d : Table) → k < length ts → notices_from cause j (take k ts) ++ table_notices cause (j + k) (get_or ts k d) ≡ notices_from cause j (take (suc k) ts)
-notices_more_from cause j k [] d lt = absurd (omega (arith, lt))
-notices_more_from cause j zero (t ∷ ts) d lt = let same : j + 0 ≡ j = omega arith in ap (λ (i : ℕ). table_notices cause i t) same ∙ sym (append-nil (table_notices cause j t))
-notices_more_from cause j (suc k) (t ∷ ts) d lt =
+told_more_from : (cause : Cause) (j k : ℕ) (ts : List Numbered) (d : Numbered) → k < length ts → told_from cause j (take k ts) ++ told_table cause (j + k) (get_or ts k d) ≡ told_from cause j (take (suc k) ts)
+told_more_from cause j k [] d lt = absurd (omega (arith, lt))
+told_more_from cause j zero (t ∷ ts) d lt = let same : j + 0 ≡ j = omega arith in ap (λ (i : ℕ). told_table cause i t) same ∙ sym (append-nil (told_table cause j t))
+told_more_from cause j (suc k) (t ∷ ts) d lt =
     let same : j + suc k ≡ suc j + k = omega arith in
-    append_assoc (table_notices cause j t) (notices_from cause (suc j) (take k ts)) (table_notices cause (j + suc k) (get_or ts k d))
-    ∙ ap (λ (ns : List Notice). table_notices cause j t ++ ns) (ap (λ (i : ℕ). notices_from cause (suc j) (take k ts) ++ table_notices cause i (get_or ts k d)) same ∙ notices_more_from cause (suc j) k ts d (omega (arith, lt)))
+    append_assoc (told_table cause j t) (told_from cause (suc j) (take k ts)) (told_table cause (j + suc k) (get_or ts k d))
+    ∙ ap (λ (ns : List Told). told_table cause j t ++ ns) (ap (λ (i : ℕ). told_from cause (suc j) (take k ts) ++ told_table cause i (get_or ts k d)) same ∙ told_more_from cause (suc j) k ts d (omega (arith, lt)))
 
-pub notices_more : (cause : Cause) (k : ℕ) (ns all : List Numbered) (d : Numbered) (before now now' : List Notice) → k < length all → map table_of ns ≡ each_to (left_table cause) 0 k (map table_of all) → now ≡ before ++ notices_from cause 0 (take k (map table_of all)) →
-    now' ≡ now ++ table_notices cause k (table_of (get_or ns k d)) → now' ≡ before ++ notices_from cause 0 (take (k + 1) (map table_of all))
-notices_more cause k ns all d before now now' lt so was is =
+pub told_more : (cause : Cause) (k : ℕ) (ts : List Numbered) (d : Numbered) (before now now' : List Told) → k < length ts → now ≡ before ++ told_from cause 0 (take k ts) → now' ≡ now ++ told_table cause k (get_or ts k d) → now' ≡ before ++ told_from cause 0 (take (k + 1) ts)
+told_more cause k ts d before now now' lt was is =
     let zero_more : k ≡ 0 + k = omega arith in
-    let next : table_notices cause k (table_of (get_or ns k d)) ≡ table_notices cause k (get_or (map table_of all) k (table_of d)) = ap (table_notices cause k) (next_is (left_table cause) k ns all d lt so) in
-    is ∙ (λ i. was i ++ next i) ∙ append_assoc before (notices_from cause 0 (take k (map table_of all))) (table_notices cause k (get_or (map table_of all) k (table_of d)))
-    ∙ ap (λ (ns : List Notice). before ++ ns)
-    (ap (λ (i : ℕ). notices_from cause 0 (take k (map table_of all)) ++ table_notices cause i (get_or (map table_of all) k (table_of d))) zero_more
-    ∙ rw add-one (notices_more_from cause 0 k (map table_of all) (table_of d) (rw length-map lt)))
+    is ∙ ap (λ (ns : List Told). ns ++ told_table cause k (get_or ts k d)) was ∙ append_assoc before (told_from cause 0 (take k ts)) (told_table cause k (get_or ts k d))
+    ∙ ap (λ (ns : List Told). before ++ ns) (ap (λ (i : ℕ). told_from cause 0 (take k ts) ++ told_table cause i (get_or ts k d)) zero_more ∙ rw add-one (told_more_from cause 0 k ts d lt))
+
+-- the copies that one more table wants
+wanted_more_from : (w : Which) (j k : ℕ) (ts : List Numbered) (d : Numbered) → k < length ts → wanted_from w j (take (suc k) ts) ≡ wanted_from w j (take k ts) + wanted_in w (j + k) (get_or ts k d)
+wanted_more_from w j k [] d lt = absurd (omega (arith, lt))
+wanted_more_from w j zero (t ∷ ts) d lt = let same : j + 0 ≡ j = omega arith in rw same (omega arith)
+wanted_more_from w j (suc k) (t ∷ ts) d lt =
+    let same : j + suc k ≡ suc j + k = omega arith in
+    let rest = wanted_more_from w (suc j) k ts d (omega (arith, lt)) in
+    rw (same, rest) (omega arith)
+
+pub wanted_more : (w : Which) (k : ℕ) (ts : List Numbered) (d : Numbered) → k < length ts → wanted_from w 0 (take (k + 1) ts) ≡ wanted_from w 0 (take k ts) + wanted_in w k (get_or ts k d)
+wanted_more w k ts d lt =
+    let zero_more : 0 + k ≡ k = omega arith in
+    rw (add-one k) (rw zero_more at (wanted_more_from w 0 k ts d lt))
+
+-- a part wants no more than all
+wanted_part_from : (w : Which) (j k : ℕ) (ts : List Numbered) → wanted_from w j (take k ts) ≤ wanted_from w j ts
+wanted_part_from w j zero ts = omega arith
+wanted_part_from w j (suc k) [] = omega arith
+wanted_part_from w j (suc k) (t ∷ ts) = let rest = wanted_part_from w (suc j) k ts in omega (arith, rest)
+
+pub wanted_part : (w : Which) (k : ℕ) (ts : List Numbered) → wanted_from w 0 (take k ts) ≤ wanted_from w 0 ts
+wanted_part w k ts = wanted_part_from w 0 k ts
+
+pub wanted_then : (w : Which) (f : ℕ → Numbered → Numbered) (k : ℕ) (ns all : List Numbered) (d : Numbered) → k < length all → ns ≡ each_to f 0 k all → wanted_from w 0 (take (k + 1) all) ≡ wanted_from w 0 (take k all) + wanted_in w k (get_or ns k d)
+wanted_then w f k ns all d lt so = rw (next_is f k ns all d lt so) (wanted_more w k all d lt)
+
+-- ---- the same without the numbers
+
+pub each-map : (f : ℕ → Numbered → Numbered) (g : ℕ → Table → Table) → ((k : ℕ) (t : Numbered) → table_of (f k t) ≡ g k (table_of t)) → (j : ℕ) (ns : List Numbered) → map table_of (each_from f j ns) ≡ each_from g j (map table_of ns)
+each-map f g same j [] = refl
+each-map f g same j (t ∷ ns) = λ i. same j t i ∷ each-map f g same (suc j) ns i
+
+pub kept_one : (cause : Cause) (k : ℕ) (t : Numbered) → table_of (kept_table cause k t) ≡ left_table cause k (table_of t)
+kept_one cause k t = by_test (concerns cause k)
+  where
+    by_test : (b : Bool) → table_of (cond b (record t { entries = kept_of cause t.entries }) t) ≡ cond b (record (table_of t) { flows = left cause (flows_of t.entries) }) (table_of t)
+    by_test true = ap (λ (fs : List FlowEntry). record (table_of t) { flows = fs }) (flows_left cause t.entries)
+    by_test false = refl
+
+pub tables_kept : (cause : Cause) (n : NumberedTables) → tables_of (all_kept cause n) ≡ left_in cause (tables_of n)
+tables_kept cause n = ap (λ (ts : List Table). record { tables = ts; latest = latest_after cause n.latest }) (each-map (kept_table (cause_at n.latest cause)) (left_table (cause_at n.latest cause)) (kept_one (cause_at n.latest cause)) 0 n.tables)
+
+modified_one : (w : Which) (is : List Instruction) (reset : Bool) (k : ℕ) (t : Numbered) → table_of (modified_numbered w is reset k t) ≡ modified_table w is reset k (table_of t)
+modified_one w is reset k t = by_test (is_in w.table k)
+  where
+    by_test : (b : Bool) → table_of (cond b (record t { entries = modified_entries w is reset t.entries }) t) ≡ cond b (record (table_of t) { flows = modified w is reset (flows_of t.entries) }) (table_of t)
+    by_test true = ap (λ (fs : List FlowEntry). record (table_of t) { flows = fs }) (flows_modified w is reset t.entries)
+    by_test false = refl
+
+pub tables_modified : (w : Which) (is : List Instruction) (reset : Bool) (n : NumberedTables) → tables_of (all_modified w is reset n) ≡ modified_in w is reset (tables_of n)
+tables_modified w is reset n = ap (λ (ts : List Table). record { tables = ts; latest = n.latest }) (each-map (modified_numbered w is reset) (modified_table w is reset) (modified_one w is reset) 0 n.tables)
+
+notices_one : (cause : Cause) (k : ℕ) (t : Numbered) → map untold (told_table cause k t) ≡ table_notices cause k (table_of t)
+notices_one cause k t = by_test (concerns cause k)
+  where
+    by_test : (b : Bool) → map untold (cond b (told cause k t.entries) []) ≡ cond b (notices cause k (flows_of t.entries)) []
+    by_test true = notices_told cause k t.entries
+    by_test false = refl
+
+pub notices_from_told : (cause : Cause) (j : ℕ) (ns : List Numbered) → map untold (told_from cause j ns) ≡ notices_from cause j (map table_of ns)
+notices_from_told cause j [] = refl
+notices_from_told cause j (t ∷ ns) = map-append untold (told_table cause j t) (told_from cause (suc j) ns) ∙ (λ i. notices_one cause j t i ++ notices_from_told cause (suc j) ns i)
+
+-- a list that tells what is told gives the notices
+pub notices_listed : (cause : Cause) (n : NumberedTables) (removed : List Removed) → all_told removed ≡ told_in cause n → notices_of removed ≡ notices_in cause (tables_of n)
+notices_listed cause n removed is = notices_all removed ∙ ap (map untold) is ∙ notices_from_told (cause_at n.latest cause) 0 n.tables
+
+-- ---- as the functions on all tables leave them
+
+-- a whole list is written over another
+pub written : {X : Type 0} (xs ys : List X) (len : ℕ) → length xs ≡ len → length ys ≡ len → take len (xs ++ drop (length xs) ys) ≡ xs
+written {X} xs ys len same long =
+    let none : drop (length xs) ys ≡ [] = drop_all (length xs) ys (omega arith) in
+    ap (λ (zs : List X). take len (xs ++ zs)) none ∙ ap (take len) (append-nil xs) ∙ take_all len xs (omega arith)
+
+pub left_by : (cause at : Cause) (ns xs : List Numbered) (latest later : ℕ) → xs ≡ each_from (kept_table at) 0 ns → at ≡ cause_at latest cause → later ≡ latest_after cause latest →
+    tables_of (record { tables = xs; latest = later }) ≡ left_in cause (tables_of (record { tables = ns; latest = latest }))
+left_by cause at ns xs latest later is when then =
+    let kept : xs ≡ each_from (kept_table (cause_at latest cause)) 0 ns = is ∙ ap (λ (c : Cause). each_from (kept_table c) 0 ns) when in
+    (λ i. record { tables = map table_of (kept i); latest = then i }) ∙ tables_kept cause (record { tables = ns; latest = latest })
+
+-- a command is no moment
+pub command_at : (cause : Cause) (latest : ℕ) → ((w : Which) × (cause ≡ Delete w)) ⊎ ((group : Option ℕ) × (cause ≡ Group group)) → (cause ≡ cause_at latest cause) × (latest ≡ latest_after cause latest)
+command_at cause latest (inl d) = rw d.1 (refl, refl)
+command_at cause latest (inr g) = rw g.1 (refl, refl)
+
+pub notices_ok : {V E : Type 0} (r : Result V E) (items : V → List Removed) (cause at : Cause) (n : NumberedTables) → IfOk r (λ v. all_told (items v) ≡ told_from at 0 n.tables) → at ≡ cause_at n.latest cause → IfOk r (λ v. notices_of (items v) ≡ notices_in cause (tables_of n))
+notices_ok (Ok v) items cause at n is when = notices_listed cause n (items v) (is ∙ ap (λ (c : Cause). told_from c 0 n.tables) when)
+notices_ok (Err e) items cause at n is when = is
+
+-- one more empty table
+pub one_more : (n : ℕ) → replicate n no_entries ++ no_entries ∷ [] ≡ replicate (suc n) no_entries
+one_more n = replicate_more n no_entries

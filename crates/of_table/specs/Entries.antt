@@ -10,6 +10,14 @@ use Rattle.of_table.specs.Table.{FlowEntry, Table}
 abbrev pub entry_of : Entry → FlowEntry
 entry_of e = record { flow = e.flow; packets = e.packets; bytes = e.bytes; created = e.created; last = e.last }
 
+-- and with it
+abbrev pub numbered : ℕ → FlowEntry → Entry
+numbered number e = record { number = number; flow = e.flow; packets = e.packets; bytes = e.bytes; created = e.created; last = e.last }
+
+-- a change of an entry, which keeps its number
+abbrev pub on_entry : (FlowEntry → FlowEntry) → Entry → Entry
+on_entry f e = numbered e.number (f (entry_of e))
+
 abbrev pub flows_of : List Entry → List FlowEntry
 flows_of entries = map entry_of entries
 

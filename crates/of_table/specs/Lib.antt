@@ -4,3 +4,4 @@ pub mod Selecting
 pub mod Faults
 pub mod Tables
 pub mod Sound
+pub mod Copies

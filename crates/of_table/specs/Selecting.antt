@@ -1,7 +1,7 @@
 -- Which entries a command is for, and which go at a moment or with a group (OpenFlow 1.3.5, 5.5, 6.4 and 6.5).
 use Rattle.std.specs.Prelude.{ℕ, ◌-◌, ◌*◌, ◌==◌, ◌&&◌, nat_le, not, Bool, true, false, List, map, filter, Option, Some, None, is_none, unwrap_or, bit_and, if◌then◌else◌}
 use Rattle.std.specs.List.{list_any, flat_map}
-use Rattle.std.specs.Option.{option_map_or, option_to_list}
+use Rattle.std.specs.Option.{option_map, option_map_or, option_to_list}
 use Rattle.of_actions.specs.declared.action.Action.{Action}
 use Rattle.of_actions.specs.declared.action.Action.TheVariants.{Output, PushVlan, PopVlan, Group, SetNwTtl, DecNwTtl, SetField}
 use Rattle.of_actions.specs.declared.instruction.Instruction.{Instruction}
@@ -16,7 +16,7 @@ use Rattle.of_table.specs.declared.selection.RemovedReason.TheVariants.{IdleTime
 use Rattle.of_table.specs.declared.selection.Removed.{Removed}
 use Rattle.of_table.specs.declared.entry.Entry.{Entry}
 use Rattle.of_table.specs.Table.{FlowEntry, unless_reset}
-use Rattle.of_table.specs.Entries.{entry_of}
+use Rattle.of_table.specs.Entries.{entry_of, on_entry}
 
 -- ---- which entries a command is for (6.4)
 
@@ -80,8 +80,13 @@ names group = has_action (is_to group)
 abbrev pub passes_group : Which → FlowEntry → Bool
 passes_group w e = option_map_or (λ group. list_any (names_group group) e.flow.instructions) w.out_group true
 
+-- of a MODIFY, which looks at no port and no group
+abbrev pub modifies : Which → FlowEntry → Bool
+modifies w e = is_meant w e && has_cookie w e
+
+-- of a DELETE
 abbrev pub selects : Which → FlowEntry → Bool
-selects w e = is_meant w e && has_cookie w e && passes_port w e && passes_group w e
+selects w e = modifies w e && passes_port w e && passes_group w e
 
 -- ---- MODIFY
 
@@ -90,10 +95,14 @@ modified_entry instructions reset e = record e { flow = record e.flow { instruct
 
 -- the entries that it is for get the instructions; all else stays
 abbrev pub modified_by : Which → List Instruction → Bool → FlowEntry → FlowEntry
-modified_by w instructions reset e = if selects w e then modified_entry instructions reset e else e
+modified_by w instructions reset e = if modifies w e then modified_entry instructions reset e else e
 
 abbrev pub modified : Which → List Instruction → Bool → List FlowEntry → List FlowEntry
 modified w instructions reset flows = map (modified_by w instructions reset) flows
+
+-- with the numbers, which stay
+abbrev pub modified_entries : Which → List Instruction → Bool → List Entry → List Entry
+modified_entries w instructions reset entries = map (on_entry (modified_by w instructions reset)) entries
 
 -- ---- what goes (5.5 and 6.5)
 
@@ -114,7 +123,7 @@ timeout_reason now e =
 
 -- why an entry goes, or that it stays
 abbrev pub reason_of : Cause → FlowEntry → Option RemovedReason
-reason_of (causes.Command w) e = if selects w e then Some Delete else None
+reason_of (causes.Delete w) e = if selects w e then Some Delete else None
 reason_of (causes.Moment now) e = timeout_reason now e
 reason_of (causes.Group group) e = if list_any (names group) e.flow.instructions then Some GroupDelete else None
 
@@ -143,9 +152,30 @@ notices cause table flows = flat_map (λ e. option_to_list (notice_by table e (r
 abbrev pub kept_of : Cause → List Entry → List Entry
 kept_of cause entries = filter (λ e. stays cause (entry_of e)) entries
 
--- notices without the numbers
+-- a notice of an entry that went, with its number
+pub record Told : Type 0 where
+  pub table : ℕ
+  pub reason : RemovedReason
+  pub entry : Entry
+
+abbrev pub with_number : Entry → Notice → Told
+with_number e n = record { table = n.table; reason = n.reason; entry = e }
+
+abbrev pub told_by : ℕ → Entry → Option RemovedReason → Option Told
+told_by table e reason = option_map (with_number e) (notice_by table (entry_of e) reason)
+
+abbrev pub told : Cause → ℕ → List Entry → List Told
+told cause table entries = flat_map (λ e. option_to_list (told_by table e (reason_of cause (entry_of e)))) entries
+
+-- what a list of notices tells, with the numbers of the entries and without
+abbrev pub told_of : Removed → Told
+told_of r = record { table = r.table; reason = r.reason; entry = r.entry.now }
+
+abbrev pub all_told : List Removed → List Told
+all_told removed = map told_of removed
+
 abbrev pub notice_of : Removed → Notice
-notice_of r = record { table = r.table; reason = r.reason; entry = entry_of r.entry }
+notice_of r = record { table = r.table; reason = r.reason; entry = entry_of r.entry.now }
 
 abbrev pub notices_of : List Removed → List Notice
 notices_of removed = map notice_of removed

@@ -7,9 +7,9 @@ use Rattle.of_table.specs.declared.table_fault.TableFault.{TableFault}
 use Rattle.of_table.specs.declared.table_fault.TableFault.TheVariants.{BadTable}
 use Rattle.of_table.specs.declared.selection.Which.{Which}
 use Rattle.of_table.specs.declared.selection.Cause.{Cause}
-use Rattle.of_table.specs.declared.selection.Cause.TheVariants.{Command, Moment, Group}
+use Rattle.of_table.specs.declared.selection.Cause.TheVariants.{Delete, Moment, Group}
 use Rattle.of_table.specs.Table.{Table, empty_table, added, add_fault, looked, matched_at}
-use Rattle.of_table.specs.Selecting.{Notice, modified, left, notices}
+use Rattle.of_table.specs.Selecting.{Notice, Told, modified, modified_entries, left, kept_of, notices, told}
 use Rattle.of_table.specs.Entries.{Numbered, no_entries, table_of, numbers_of}
 
 -- ---- as a reader sees them
@@ -37,7 +37,7 @@ abbrev pub is_in : Option ℕ → ℕ → Bool
 is_in table k = option_map_or (λ t. t == k) table true
 
 -- each table, from number k on, changed by its number
-abbrev pub each_from : (ℕ → Table → Table) → ℕ → List Table → List Table
+abbrev pub each_from : {X : Type 0} → (ℕ → X → X) → ℕ → List X → List X
 each_from f k [] = []
 each_from f k (t ∷ ts) = f k t ∷ each_from f (suc k) ts
 
@@ -49,15 +49,27 @@ modified_in w instructions reset ts = record ts { tables = each_from (modified_t
 
 -- a moment is for all tables, and so is a group
 abbrev pub concerns : Cause → ℕ → Bool
-concerns (Command w) k = is_in w.table k
+concerns (Delete w) k = is_in w.table k
 concerns (Moment now) k = true
 concerns (Group group) k = true
 
 abbrev pub left_table : Cause → ℕ → Table → Table
 left_table cause k t = if concerns cause k then record t { flows = left cause t.flows } else t
 
+-- a moment below the latest counts as the latest
+abbrev pub cause_at : ℕ → Cause → Cause
+cause_at latest (Delete w) = Delete w
+cause_at latest (Moment now) = Moment (max latest now)
+cause_at latest (Group group) = Group group
+
+-- and a later one is the latest from then on
+abbrev pub latest_after : Cause → ℕ → ℕ
+latest_after (Delete w) latest = latest
+latest_after (Moment now) latest = max latest now
+latest_after (Group group) latest = latest
+
 abbrev pub left_in : Cause → Tables → Tables
-left_in cause ts = record ts { tables = each_from (left_table cause) 0 ts.tables }
+left_in cause ts = record { tables = each_from (left_table (cause_at ts.latest cause)) 0 ts.tables; latest = latest_after cause ts.latest }
 
 -- by table, then by age
 abbrev pub table_notices : Cause → ℕ → Table → List Notice
@@ -68,18 +80,14 @@ notices_from cause k [] = []
 notices_from cause k (t ∷ ts) = table_notices cause k t ++ notices_from cause (suc k) ts
 
 abbrev pub notices_in : Cause → Tables → List Notice
-notices_in cause ts = notices_from cause 0 ts.tables
+notices_in cause ts = notices_from (cause_at ts.latest cause) 0 ts.tables
 
--- a moment below the latest counts as the latest
-abbrev pub at_moment : ℕ → Tables → Tables
-at_moment now ts = record ts { latest = max ts.latest now }
-
--- entries whose time is over go
+-- a moment: entries whose time is over go
 abbrev pub expired : ℕ → Tables → Tables
-expired now ts = left_in (Moment (max ts.latest now)) (at_moment now ts)
+expired now ts = left_in (Moment now) ts
 
 abbrev pub expiry_notices : ℕ → Tables → List Notice
-expiry_notices now ts = notices_in (Moment (max ts.latest now)) ts
+expiry_notices now ts = notices_in (Moment now) ts
 
 -- a packet was looked up in a table
 abbrev pub looked_in : ℕ → Tables → Tables
@@ -107,3 +115,27 @@ tables_of n = record { tables = map table_of n.tables; latest = n.latest }
 -- the numbers of the entries of each table
 abbrev pub all_numbers : NumberedTables → List (List ℕ)
 all_numbers n = map (λ t. numbers_of t.entries) n.tables
+
+-- ---- what the commands do to them
+
+abbrev pub modified_numbered : Which → List Instruction → Bool → ℕ → Numbered → Numbered
+modified_numbered w instructions reset k t = if is_in w.table k then record t { entries = modified_entries w instructions reset t.entries } else t
+
+abbrev pub all_modified : Which → List Instruction → Bool → NumberedTables → NumberedTables
+all_modified w instructions reset n = record n { tables = each_from (modified_numbered w instructions reset) 0 n.tables }
+
+abbrev pub kept_table : Cause → ℕ → Numbered → Numbered
+kept_table cause k t = if concerns cause k then record t { entries = kept_of cause t.entries } else t
+
+abbrev pub all_kept : Cause → NumberedTables → NumberedTables
+all_kept cause n = record { tables = each_from (kept_table (cause_at n.latest cause)) 0 n.tables; latest = latest_after cause n.latest }
+
+abbrev pub told_table : Cause → ℕ → Numbered → List Told
+told_table cause k t = if concerns cause k then told cause k t.entries else []
+
+abbrev pub told_from : Cause → ℕ → List Numbered → List Told
+told_from cause k [] = []
+told_from cause k (t ∷ ts) = told_table cause k t ++ told_from cause (suc k) ts
+
+abbrev pub told_in : Cause → NumberedTables → List Told
+told_in cause n = told_from (cause_at n.latest cause) 0 n.tables

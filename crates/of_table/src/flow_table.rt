@@ -1,32 +1,32 @@
 //! Flow tables.
 
-ghost use Rattle.std.specs.Prelude.{◌≡◌, ◌++◌, ℕ, Some, false, true, IsTrue, IfOk, IfSome, OnOk, OnErr, position};
+ghost use Rattle.std.specs.Prelude.{◌≡◌, ◌++◌, ◌+◌, ◌-◌, ◌≤◌, ℕ, Some, false, true, IsTrue, IfOk, IfSome, OnOk, OnErr, position};
 ghost use Rattle.std.specs.List.{list_any};
 ghost use Rattle.std.specs.Option.{option_map, option_copied};
 ghost use Rattle.of_headers.specs.FieldMap.{value};
 ghost use Rattle.of_wire.specs.Numbered.{is_distinct};
 ghost use Rattle.of_table.specs.Table.{is_same, add_fault, added, winner_place, looked as one_looked_up, matched_at, flow_at};
 ghost use Rattle.of_table.specs.Entries.{Numbered, no_entries, table_of, entry_of, flows_of, numbers_of, entry_number, place_of, is_there, find_number};
-ghost use Rattle.of_table.specs.Selecting.{modified, left, notices, notices_of};
+ghost use Rattle.of_table.specs.Selecting.{modified_entries, kept_of, told, all_told};
+ghost use Rattle.of_table.specs.Copies.{Supply, wanted};
 ghost use Rattle.of_table.specs.Faults.{fault_in};
 ghost use Rattle.of_table.specs.Sound.{AreSound, are_fit};
 ghost use Rattle.of_actions.specs.FlowCheck.{all_go_with};
 
+use crate::copies::Copies;
 use crate::entries::{
     count_at, is_overlapped, move_last, new_entry, place_in, push_reserved, same_place,
 };
 use crate::entry::Entry;
 use crate::flow::Flow;
-use crate::modifying::modify_all;
-use crate::removing::{all_stay, sort_out, take_gone};
+use crate::modifying::{make_copies, modify_all};
+use crate::removing::{keep_staying, list_gone, take_gone};
 use crate::selection::{Cause, Removed, Which};
 use crate::table_fault::TableFault;
-use of_actions::InstructionList;
 use of_classifier::Lookup;
 use of_headers::FieldKey;
 use std::alloc::{AllocError, Global};
 use std::marker::Model;
-use std::mem;
 
 /// How many entries a table has at most.
 const MOST_ENTRIES: usize = 4096;
@@ -118,46 +118,45 @@ impl<L: Lookup> FlowTable<L> {
         Ok(())
     }
 
-    /// Gives the instructions to each entry that the command is for, and counters of 0 where they are to be reset (OpenFlow 1.3.5, 6.4).
-    ///
-    /// All else of an entry stays, and none is added.
-    pub fn modify(
-        &mut self,
-        which: &Which,
-        instructions: &InstructionList,
-        reset: bool,
-    ) -> Result<(), AllocError>
-        ensures ok { OnOk result (table_of self.new ≡ record (table_of self.old) { flows = modified which.now instructions.now reset (flows_of self.old.entries) }) }
-        ensures numbers { numbers_of self.new.entries ≡ numbers_of self.old.entries }
-        ensures sound { (k : ℕ) → are_fit k instructions.now ≡ true → all_go_with which.now.fields instructions.now ≡ true → AreSound k (flows_of self.old.entries) → AreSound k (flows_of self.new.entries) }
+    /// Makes a copy of instructions for each entry that a MODIFY command is for.
+    pub fn make_copies(&self, which: &Which, copies: &mut Copies<'_>) -> Result<(), AllocError>
+        ensures { OnOk result (copies.new ≡ record copies.old { count = copies.old.count + wanted which.now self.now.entries }) }
     {
-        modify_all(&mut self.entries, which, instructions, reset)
+        make_copies(&self.entries, which, copies)
     }
 
-    /// Removes the entries that a command deletes or whose time is over, and puts notices of those whose flags ask for one last (OpenFlow 1.3.5, 5.5 and 6.4).
+    /// Gives each entry that a MODIFY command is for such a copy, and counters of 0 where they are to be reset (OpenFlow 1.3.5, 6.4).
     ///
-    /// `table` is the number of this table, for the notices. Where nothing goes, no memory is needed.
-    pub fn remove(
-        &mut self,
+    /// All else of an entry stays, and none is added.
+    pub fn modify(&mut self, which: &Which, copies: &mut Copies<'_>, reset: bool)
+        requires { wanted which.now self.old.entries ≤ copies.old.count }
+        ensures entries { self.new ≡ record self.old { entries = modified_entries which.now copies.old.instructions reset self.old.entries } }
+        ensures copies { copies.new ≡ record copies.old { count = copies.old.count - wanted which.now self.old.entries } }
+        ensures sound { (k : ℕ) → are_fit k copies.old.instructions ≡ true → all_go_with which.now.fields copies.old.instructions ≡ true → AreSound k (flows_of self.old.entries) → AreSound k (flows_of self.new.entries) }
+    {
+        modify_all(&mut self.entries, which, copies, reset);
+    }
+
+    /// Puts notices of the entries that go last, of those whose flags ask for one (OpenFlow 1.3.5, 5.5, 6.4 and 6.5).
+    ///
+    /// `table` is the number of this table.
+    pub fn list<'a>(
+        &'a self,
         table: u8,
         cause: &Cause,
-        removed: &mut Vec<Removed>,
+        removed: &mut Vec<Removed<'a>>,
     ) -> Result<(), AllocError>
-        ensures ok { OnOk result (table_of self.new ≡ record (table_of self.old) { flows = left cause.now (flows_of self.old.entries) }) }
-        ensures notices { OnOk result (notices_of removed.new.items ≡ notices_of removed.old.items ++ notices cause.now table (flows_of self.old.entries)) }
-        ensures err { OnErr result (self.new ≡ self.old) }
-        ensures none { OnErr result (notices_of removed.new.items ≡ notices_of removed.old.items) }
+        ensures { OnOk result (all_told removed.new.items ≡ all_told removed.old.items ++ told cause.now table self.now.entries) }
     {
-        if all_stay(&self.entries, cause) {
-            return Ok(());
-        }
-        let count = self.entries.len();
-        let kept = Vec::with_capacity(*self.entries.allocator(), count)?;
-        removed.reserve(count)?;
+        list_gone(&self.entries, table, cause, removed)
+    }
+
+    /// Removes the entries that go (OpenFlow 1.3.5, 5.5, 6.4 and 6.5).
+    pub fn remove(&mut self, cause: &Cause)
+        ensures { self.new ≡ record self.old { entries = kept_of cause.now self.old.entries } }
+    {
         take_gone(&mut self.lookup, &self.entries, cause);
-        let entries = mem::replace(&mut self.entries, kept);
-        sort_out(entries, cause, table, &mut self.entries, removed);
-        Ok(())
+        keep_staying(&mut self.entries, cause);
     }
 
     /// The number of the entry that a packet of this key hits, or `None` where it misses (OpenFlow 1.3.5, 5.3).

@@ -5,16 +5,16 @@ ghost use Rattle.std.specs.Option.{option_map, option_copied};
 ghost use Rattle.of_headers.specs.FieldMap.{value};
 ghost use Rattle.of_wire.specs.Numbered.{is_distinct};
 ghost use Rattle.of_table.specs.Table.{winner_place, flow_at};
-ghost use Rattle.of_table.specs.Selecting.{notices_of};
+ghost use Rattle.of_table.specs.Selecting.{notices_of, all_told};
 ghost use Rattle.of_table.specs.Entries.{no_entries, flows_of, place_of, is_there, find_number, entry_number};
-ghost use Rattle.of_table.specs.Tables.{no_tables, numbered_at, table_at, tables_of, all_numbers, tables_fault, added_to, modified_in, left_in, expired, expiry_notices, notices_in, looked_in, matched_in};
+ghost use Rattle.of_table.specs.Tables.{no_tables, numbered_at, table_at, tables_of, all_numbers, tables_fault, added_to, modified_in, left_in, notices_in, looked_in, matched_in, all_modified, all_kept, told_from, told_in};
 ghost use Rattle.of_table.specs.Faults.{fault_in};
 ghost use Rattle.of_table.specs.Sound.{AreForAll, AreSound};
 ghost use Rattle.of_actions.specs.FlowCheck.{all_go_with};
 ghost use Rattle.of_actions.specs.InstructionLists.{are_for, are_kept};
-ghost use Rattle.of_table.specs.declared.selection.Cause.TheVariants.{Command, Group};
 
-use crate::each_table::{modify_tables, remove_all};
+use crate::copies::Copies;
+use crate::each_table::{copies_for_all, list_all, modify_tables, remove_all};
 use crate::entry::Entry;
 use crate::flow::Flow;
 use crate::flow_table::FlowTable;
@@ -89,9 +89,10 @@ impl<L: Lookup> FlowTables<L> {
         self.tables[table as usize].add(flow, now)
     }
 
-    /// Gives the instructions to each entry that a command is for, and counters of 0 where they are to be reset (OpenFlow 1.3.5, 6.4).
+    /// Gives the instructions to each entry that a MODIFY command is for, and counters of 0 where they are to be reset (OpenFlow 1.3.5, 6.4).
     ///
-    /// All else of an entry stays, and none is added. Where memory is wanted, some tables may have changed.
+    /// The command looks at match, priority and cookie, and at no port or group. All else of an entry
+    /// stays, and none is added. A call that fails changes nothing.
     pub fn modify(
         &mut self,
         which: &Which,
@@ -100,57 +101,51 @@ impl<L: Lookup> FlowTables<L> {
     ) -> Result<(), AllocError>
         requires fit { AreForAll which.now instructions.now }
         requires checked { all_go_with which.now.fields instructions.now ≡ true }
-        ensures { OnOk result (tables_of self.new ≡ modified_in which.now instructions.now reset (tables_of self.old)) }
+        ensures tables { OnOk result (tables_of self.new ≡ modified_in which.now instructions.now reset (tables_of self.old)) }
+        ensures ok { OnOk result (self.new ≡ all_modified which.now instructions.now reset self.old) }
+        ensures err { OnErr result (self.new ≡ self.old) }
     {
         let _ = instructions.as_slice();
-        modify_tables(&mut self.tables, which, instructions, reset)
+        let mut copies = Copies::of(*self.tables.allocator(), instructions);
+        copies_for_all(&self.tables, which, &mut copies)?;
+        modify_tables(&mut self.tables, which, &mut copies, reset);
+        Ok(())
     }
 
-    /// Deletes the entries that a command is for, and gives a notice of each whose flags ask for one, by table, then by age (OpenFlow 1.3.5, 6.4).
-    ///
-    /// Where memory is wanted, some entries may have gone already.
-    pub fn delete(&mut self, alloc: Global, which: Which) -> Result<Vec<Removed>, AllocError>
-        ensures tables { IfOk result (λ v. tables_of self.new ≡ left_in (Command which) (tables_of self.old)) }
-        ensures notices { IfOk result (λ v. notices_of v.items ≡ notices_in (Command which) (tables_of self.old)) }
+    /// The entries that `remove` would remove and whose flags ask for a notice, by table, then by age (OpenFlow 1.3.5, 5.5, 6.4 and 6.5).
+    pub fn listed(&self, cause: &Cause) -> Result<Vec<Removed<'_>>, AllocError>
+        ensures notices { IfOk result (λ v. notices_of v.items ≡ notices_in cause.now (tables_of self.now)) }
+        ensures numbers { IfOk result (λ v. all_told v.items ≡ told_in cause.now self.now) }
     {
-        self.remove(alloc, &Cause::Command(which))
+        match cause {
+            Cause::Moment(moment) => self.list(&Cause::Moment(self.latest.max(*moment))),
+            Cause::Delete(_) | Cause::Group(_) => self.list(cause),
+        }
     }
 
-    /// A group was deleted, or for `None` all groups: the entries go of which an action sends to it (OpenFlow 1.3.5, 6.5).
-    ///
-    /// There is a notice of each whose flags ask for one, by table, then by age.
-    /// Where memory is wanted, some entries may have gone already.
-    pub fn delete_group(
-        &mut self,
-        alloc: Global,
-        group: Option<u32>,
-    ) -> Result<Vec<Removed>, AllocError>
-        ensures tables { IfOk result (λ v. tables_of self.new ≡ left_in (Group group) (tables_of self.old)) }
-        ensures notices { IfOk result (λ v. notices_of v.items ≡ notices_in (Group group) (tables_of self.old)) }
+    fn list(&self, cause: &Cause) -> Result<Vec<Removed<'_>>, AllocError>
+        ensures { IfOk result (λ v. all_told v.items ≡ told_from cause.now 0 self.now.tables) }
     {
-        self.remove(alloc, &Cause::Group(group))
-    }
-
-    /// It is so many nanoseconds, or the latest moment if that is later: the entries whose time is over go (OpenFlow 1.3.5, 5.5).
-    ///
-    /// There is a notice of each whose flags ask for one, by table, then by age.
-    /// Where memory is wanted, some entries may have gone already.
-    pub fn expire(&mut self, alloc: Global, moment: u64) -> Result<Vec<Removed>, AllocError>
-        ensures tables { IfOk result (λ v. tables_of self.new ≡ expired moment (tables_of self.old)) }
-        ensures notices { IfOk result (λ v. notices_of v.items ≡ expiry_notices moment (tables_of self.old)) }
-    {
-        self.latest = self.latest.max(moment);
-        let now = self.latest;
-        self.remove(alloc, &Cause::Moment(now))
-    }
-
-    fn remove(&mut self, alloc: Global, cause: &Cause) -> Result<Vec<Removed>, AllocError>
-        ensures tables { IfOk result (λ v. tables_of self.new ≡ left_in cause.now (tables_of self.old)) }
-        ensures notices { IfOk result (λ v. notices_of v.items ≡ notices_in cause.now (tables_of self.old)) }
-    {
-        let mut removed = Vec::new(alloc);
-        remove_all(&mut self.tables, cause, &mut removed)?;
+        let mut removed = Vec::new(*self.tables.allocator());
+        list_all(&self.tables, cause, &mut removed)?;
         Ok(removed)
+    }
+
+    /// Removes the entries that a command deletes, whose group is deleted or whose time is over; a later moment becomes the latest one (OpenFlow 1.3.5, 5.5, 6.4 and 6.5).
+    ///
+    /// It takes no memory. The entries that stay keep their numbers and their order.
+    pub fn remove(&mut self, cause: &Cause)
+        ensures tables { tables_of self.new ≡ left_in cause.now (tables_of self.old) }
+        ensures numbers { self.new ≡ all_kept cause.now self.old }
+    {
+        match cause {
+            Cause::Moment(moment) => {
+                self.latest = self.latest.max(*moment);
+                let now = self.latest;
+                remove_all(&mut self.tables, &Cause::Moment(now));
+            }
+            Cause::Delete(_) | Cause::Group(_) => remove_all(&mut self.tables, cause),
+        }
     }
 
     /// The number of the entry of a table that a packet of this key hits, or `None` where it misses (OpenFlow 1.3.5, 5.3).

@@ -1,6 +1,7 @@
 //! Flow tables: their entries, which of them a packet hits, and their counters (OpenFlow 1.3.5, 5.2, 5.3, 5.8 and 6.4).
 #![tactic(auto)]
 
+mod copies;
 mod each_table;
 mod entries;
 mod entry;

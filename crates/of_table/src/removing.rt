@@ -1,24 +1,16 @@
 //! Entries that go, and the notices of them.
 
-ghost use Rattle.std.specs.Prelude.{IsTrue, if◌then◌else◌, ◌≡◌, ◌≤◌, ◌<◌, ◌+◌, ◌++◌, ◌∷◌, [], Some, length, vec_len, vec_capacity};
-ghost use Rattle.std.specs.List.{list_all};
-ghost use Rattle.std.specs.Option.{option_to_list};
+ghost use Rattle.std.specs.Prelude.{IsTrue, if◌then◌else◌, ◌≡◌, ◌++◌, OnOk};
+ghost use Rattle.std.specs.Option.{option_map};
 ghost use Rattle.of_wire.specs.Numbered.{is_used, without};
 ghost use Rattle.of_classifier.specs.Rows.{row_number};
-ghost use Rattle.of_table.specs.Entries.{entry_of, flows_of, rows_of};
-ghost use Rattle.of_table.specs.Selecting.{stays, reason_of, notice_by, notices, notices_of, kept_of};
+ghost use Rattle.of_table.specs.Entries.{entry_of, rows_of};
+ghost use Rattle.of_table.specs.Selecting.{stays, reason_of, told_by, told, told_of, all_told, kept_of};
 
-use crate::entries::push_reserved;
 use crate::entry::Entry;
-use crate::selection::{Cause, Removed, RemovedReason, reason};
+use crate::selection::{Cause, Removed, reason};
 use of_classifier::Lookup;
-
-/// Whether no entry goes.
-pub(crate) fn all_stay(entries: &[Entry], cause: &Cause) -> bool
-    ensures { result ≡ list_all (λ e. stays cause.now (entry_of e)) entries.now }
-{
-    entries.iter().all(|entry| reason(cause, entry).is_none())
-}
+use std::alloc::AllocError;
 
 // Takes the entry from the classifier, if it goes.
 fn take_one<L: Lookup>(lookup: &mut L, entry: &Entry, cause: &Cause)
@@ -41,62 +33,40 @@ pub(crate) fn take_gone<L: Lookup>(lookup: &mut L, entries: &[Entry], cause: &Ca
     }
 }
 
-// Puts a notice of the entry last, where its flags ask for one and there is room.
-fn push_notice(removed: &mut Vec<Removed>, table: u8, entry: Entry, why: RemovedReason)
-    requires { vec_len removed.old < vec_capacity removed.old }
-    ensures notices { notices_of removed.new.items ≡ notices_of removed.old.items ++ option_to_list (notice_by table (entry_of entry) (Some why)) }
-    ensures len { vec_len removed.new ≤ vec_len removed.old + 1 }
-    ensures capacity { vec_capacity removed.old ≤ vec_capacity removed.new }
+/// Keeps the entries that stay.
+pub(crate) fn keep_staying(entries: &mut Vec<Entry>, cause: &Cause)
+    ensures { entries.new.items ≡ kept_of cause.now entries.old.items }
 {
-    if entry.flow.flags.send_removed {
-        match removed.push(Removed {
+    entries.retain(|entry| reason(cause, entry).is_none());
+}
+
+// A notice of the entry, where it goes and its flags ask for one.
+fn notice<'a>(table: u8, entry: &'a Entry, cause: &Cause) -> Option<Removed<'a>>
+    ensures { option_map told_of result ≡ told_by table entry.now (reason_of cause.now (entry_of entry.now)) }
+{
+    match reason(cause, entry) {
+        Some(reason) if entry.flow.flags.send_removed => Some(Removed {
             table,
-            reason: why,
+            reason,
             entry,
-        }) {
-            Ok(()) => {}
-            Err(_) => unreachable!(),
-        }
+        }),
+        _ => None,
     }
 }
 
-// The entry stays, or there is a notice of it.
-fn sort_one(
-    entry: Entry,
-    cause: &Cause,
+/// Puts notices of the entries that go last.
+pub(crate) fn list_gone<'a>(
+    entries: &'a [Entry],
     table: u8,
-    kept: &mut Vec<Entry>,
-    removed: &mut Vec<Removed>,
-)
-    requires room { vec_len kept.old < vec_capacity kept.old }
-    requires more_room { vec_len removed.old < vec_capacity removed.old }
-    ensures kept { kept.new.items ≡ kept.old.items ++ kept_of cause.now (entry ∷ []) }
-    ensures notices { notices_of removed.new.items ≡ notices_of removed.old.items ++ notices cause.now table (entry_of entry ∷ []) }
-    ensures len { vec_len kept.new ≤ vec_len kept.old + 1 }
-    ensures capacity { vec_capacity kept.old ≤ vec_capacity kept.new }
-    ensures removed_len { vec_len removed.new ≤ vec_len removed.old + 1 }
-    ensures removed_capacity { vec_capacity removed.old ≤ vec_capacity removed.new }
-{
-    match reason(cause, &entry) {
-        None => push_reserved(kept, entry),
-        Some(why) => push_notice(removed, table, entry, why),
-    }
-}
-
-/// Parts the entries into those that stay, and notices of those that go.
-pub(crate) fn sort_out(
-    entries: Vec<Entry>,
     cause: &Cause,
-    table: u8,
-    kept: &mut Vec<Entry>,
-    removed: &mut Vec<Removed>,
-)
-    requires room { vec_len kept.old + length entries.items ≤ vec_capacity kept.old }
-    requires more_room { vec_len removed.old + length entries.items ≤ vec_capacity removed.old }
-    ensures kept { kept.new.items ≡ kept.old.items ++ kept_of cause.now entries.items }
-    ensures notices { notices_of removed.new.items ≡ notices_of removed.old.items ++ notices cause.now table (flows_of entries.items) }
+    removed: &mut Vec<Removed<'a>>,
+) -> Result<(), AllocError>
+    ensures { OnOk result (all_told removed.new.items ≡ all_told removed.old.items ++ told cause.now table entries.now) }
 {
     for entry in entries {
-        sort_one(entry, cause, table, kept, removed);
+        if let Some(notice) = notice(table, entry, cause) {
+            removed.push(notice)?;
+        }
     }
+    Ok(())
 }

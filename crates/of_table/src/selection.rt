@@ -3,7 +3,7 @@
 ghost use Rattle.std.specs.Prelude.{◌≡◌};
 ghost use Rattle.of_table.specs.Entries.{entry_of};
 ghost use Rattle.std.specs.List.{list_any};
-ghost use Rattle.of_table.specs.Selecting.{is_meant as meant, has_cookie as with_cookie, is_output_to as output_to, is_to as to_this, sends_to as sending_to, passes_port as passing_port, names as naming, passes_group as passing_group, selects as selected, is_over as over, timeout_reason as reason_at, reason_of};
+ghost use Rattle.of_table.specs.Selecting.{is_meant as meant, has_cookie as with_cookie, is_output_to as output_to, is_to as to_this, sends_to as sending_to, passes_port as passing_port, names as naming, passes_group as passing_group, modifies as modified_by_it, selects as selected, is_over as over, timeout_reason as reason_at, reason_of};
 
 use crate::entry::Entry;
 use of_actions::{Action, Instruction};
@@ -20,9 +20,9 @@ pub struct Which {
     pub cookie: u64,
     /// The bits of the cookie that are to agree.
     pub cookie_mask: u64,
-    /// A port to which an action of the entry has to send.
+    /// Of a DELETE: a port to which an action of the entry has to send.
     pub out_port: Option<u32>,
-    /// A group to which an action of the entry has to send.
+    /// Of a DELETE: a group to which an action of the entry has to send.
     pub out_group: Option<u32>,
 }
 
@@ -39,23 +39,23 @@ pub enum RemovedReason {
     GroupDelete,
 }
 
-/// What makes entries go.
+/// What makes entries go (OpenFlow 1.3.5, 5.5, 6.4 and 6.5).
 #[derive(Debug, Drop)]
 pub enum Cause {
     /// A DELETE command.
-    Command(Which),
-    /// It is so many nanoseconds.
-    Moment(u64),
+    Delete(Which),
     /// This group was deleted; `None` for all groups.
     Group(Option<u32>),
+    /// It is so many nanoseconds, or the latest moment if that is later.
+    Moment(u64),
 }
 
-/// An entry that went, and why.
+/// An entry that goes, and why.
 #[derive(Debug, Drop)]
-pub struct Removed {
+pub struct Removed<'a> {
     pub table: u8,
     pub reason: RemovedReason,
-    pub entry: Entry,
+    pub entry: &'a Entry,
 }
 
 // Whether the match, and the priority of a strict command, are for the entry.
@@ -166,14 +166,18 @@ fn passes_group(which: &Which, entry: &Entry) -> bool
     }
 }
 
-/// Whether a command is for the entry.
+/// Whether a MODIFY is for the entry: it looks at no port and no group.
+pub(crate) fn modifies(which: &Which, entry: &Entry) -> bool
+    ensures { result ≡ modified_by_it which.now (entry_of entry.now) }
+{
+    is_meant(which, entry) && has_cookie(which, entry)
+}
+
+/// Whether a DELETE is for the entry.
 pub(crate) fn selects(which: &Which, entry: &Entry) -> bool
     ensures { result ≡ selected which.now (entry_of entry.now) }
 {
-    is_meant(which, entry)
-        && has_cookie(which, entry)
-        && passes_port(which, entry)
-        && passes_group(which, entry)
+    modifies(which, entry) && passes_port(which, entry) && passes_group(which, entry)
 }
 
 const NANOS: u64 = 1_000_000_000;
@@ -206,7 +210,7 @@ pub(crate) fn reason(cause: &Cause, entry: &Entry) -> Option<RemovedReason>
     ensures { result ≡ reason_of cause.now (entry_of entry.now) }
 {
     match cause {
-        Cause::Command(which) => {
+        Cause::Delete(which) => {
             if selects(which, entry) {
                 Some(RemovedReason::Delete)
             } else {

@@ -1,7 +1,7 @@
 ghost use Rattle.std.specs.Prelude.{◌≡◌, ℕ, true, IfOk};
 ghost use Rattle.of_actions.specs.InstructionLists.{are_for};
 
-use crate::{Flow, FlowFlags, FlowTables, RemovedReason, TableFault, Which};
+use crate::{Cause, Flow, FlowFlags, FlowTables, RemovedReason, TableFault, Which};
 use of_actions::{Action, ActionList, Instruction, InstructionList, check_flow};
 use of_classifier::{Lookup, Scan};
 use of_headers::{FieldKey, read};
@@ -133,6 +133,27 @@ fn why_a_flow_is_not_added(rt: HostRuntime) -> Result<(), Fail> {
     Ok(())
 }
 
+// There is one notice, of the entry of a cookie.
+fn one_notice<L: Lookup>(
+    rt: &impl Abort,
+    tables: &FlowTables<L>,
+    cause: &Cause,
+    table: u8,
+    reason: RemovedReason,
+    cookie: u64,
+) -> Result<(), Fail> {
+    let removed = tables.listed(cause)?;
+    match removed.as_slice() {
+        [notice] => {
+            assert_eq!(rt; notice.table, table);
+            assert_eq!(rt; notice.reason, reason);
+            assert_eq!(rt; notice.entry.flow.cookie, cookie);
+        }
+        _ => assert!(rt; false, "there is one notice"),
+    }
+    Ok(())
+}
+
 #[test]
 fn modified_and_deleted(rt: HostRuntime) -> Result<(), Fail> {
     let mut tables = FlowTables::<Scan>::new(rt.alloc())?;
@@ -156,18 +177,13 @@ fn modified_and_deleted(rt: HostRuntime) -> Result<(), Fail> {
     }
     let mut which = which_of_port_one(rt.alloc())?;
     which.out_port = Some(8);
-    assert_eq!(rt; tables.delete(rt.alloc(), which)?.len(), 0);
+    assert_eq!(rt; tables.listed(&Cause::Delete(which))?.len(), 0);
     let mut which = which_of_port_one(rt.alloc())?;
     which.out_port = Some(7);
-    let removed = tables.delete(rt.alloc(), which)?;
-    match removed.as_slice() {
-        [notice] => {
-            assert_eq!(rt; notice.table, 2);
-            assert_eq!(rt; notice.reason, RemovedReason::Delete);
-            assert_eq!(rt; notice.entry.flow.cookie, 10);
-        }
-        _ => assert!(rt; false, "there is one notice"),
-    }
+    let cause = Cause::Delete(which);
+    one_notice(&rt, &tables, &cause, 2, RemovedReason::Delete, 10)?;
+    tables.remove(&cause);
+    assert_eq!(rt; tables.listed(&cause)?.len(), 0);
     assert_eq!(rt; tables.entries(2).count(), 1);
     Ok(())
 }
@@ -191,16 +207,17 @@ fn flows_of_a_group(rt: HostRuntime) -> Result<(), Fail> {
     add(&mut tables, 0, flow_to_group(rt.alloc(), 1, 7)?)??;
     add(&mut tables, 1, flow_to_group(rt.alloc(), 1, 8)?)??;
     add(&mut tables, 1, flow_of_port(rt.alloc(), 2, 20)?)??;
-    let removed = tables.delete_group(rt.alloc(), Some(8))?;
-    match removed.as_slice() {
-        [notice] => {
-            assert_eq!(rt; notice.table, 1);
-            assert_eq!(rt; notice.reason, RemovedReason::GroupDelete);
-            assert_eq!(rt; notice.entry.flow.cookie, 8);
-        }
-        _ => assert!(rt; false, "there is one notice"),
-    }
-    assert_eq!(rt; tables.delete_group(rt.alloc(), None)?.len(), 1);
+    one_notice(
+        &rt,
+        &tables,
+        &Cause::Group(Some(8)),
+        1,
+        RemovedReason::GroupDelete,
+        8,
+    )?;
+    tables.remove(&Cause::Group(Some(8)));
+    assert_eq!(rt; tables.listed(&Cause::Group(None))?.len(), 1);
+    tables.remove(&Cause::Group(None));
     assert_eq!(rt; tables.entries(0).count(), 0);
     assert_eq!(rt; tables.entries(1).count(), 1);
     Ok(())
@@ -214,20 +231,18 @@ fn hard_before_idle(rt: HostRuntime) -> Result<(), Fail> {
     flow.hard_timeout = 10;
     flow.flags.send_removed = true;
     add(&mut tables, 0, flow)??;
-    assert_eq!(rt; tables.expire(rt.alloc(), 4 * SECOND)?.len(), 0);
+    tables.remove(&Cause::Moment(4 * SECOND));
     match tables.lookup(0, &key_of_port(1)?) {
         Some(number) => tables.count(0, number, 60),
         None => assert!(rt; false, "port 1 hits"),
     }
-    assert_eq!(rt; tables.expire(rt.alloc(), 8 * SECOND)?.len(), 0);
-    let removed = tables.expire(rt.alloc(), 10 * SECOND)?;
-    match removed.as_slice() {
-        [notice] => {
-            assert_eq!(rt; notice.reason, RemovedReason::HardTimeout);
-            assert_eq!(rt; notice.entry.last, Some(4 * SECOND));
-        }
-        _ => assert!(rt; false, "there is one notice"),
-    }
+    tables.remove(&Cause::Moment(8 * SECOND));
+    assert_eq!(rt; tables.listed(&Cause::Moment(0))?.len(), 0);
+    let cause = Cause::Moment(10 * SECOND);
+    one_notice(&rt, &tables, &cause, 0, RemovedReason::HardTimeout, 10)?;
+    assert_eq!(rt; tables.latest(), 8 * SECOND);
+    tables.remove(&cause);
+    assert_eq!(rt; tables.entries(0).count(), 0);
     assert_eq!(rt; tables.latest(), 10 * SECOND);
     Ok(())
 }

@@ -1,16 +1,27 @@
-use Rattle.std.proofs.Common.{◌∙◌, arith}
+use Rattle.std.proofs.Common.{◌≡◌, ℕ, ◌∙◌, true, List, get_or, arith, ap}
 use Rattle.std.proofs.lemmas.List.{length-set}
-use Rattle.of_table.specs.Tables.{modified_table}
-use Rattle.of_table.proofs.TablesLemmas.{each_more}
+use Rattle.of_actions.specs.declared.instruction.Instruction.{Instruction}
+use Rattle.of_table.specs.Copies.{Supply}
+use Rattle.of_table.specs.Tables.{modified_numbered}
+use Rattle.of_table.proofs.CopyLemmas.{supply_less, supply_room}
+use Rattle.of_table.proofs.TablesLemmas.{each_more, wanted_then, wanted_part}
 use Rattle.of_table.proofs.Soundness.{step_sound}
 use Rattle.of_table.proofs.each_table.modify_tables.Goals as goal
 
-pub loop-number-preserved : goal.loop-number-preserved
-loop-number-preserved g c = record {
-  changed = each_more (modified_table c.args.which.now c.args.instructions.now c.args.reset) c.loop-number.number c.loop-number.tables c.args.tables.now c.modify_one.new.table _ c.loop-number-test.true c.loop-number.invariant.changed c.in_ok-modify_one.ensures.ok;
-  length = length-set c.loop-number.tables c.loop-number.number c.modify_one.new.table ∙ c.loop-number.invariant.length;
-  sound = λ given goes all. step_sound c.loop-number.number c.loop-number.tables c.modify_one.new.table _ (omega (arith, c.loop-number-test.true, c.loop-number.invariant.length)) (λ s. c.modify_one.ensures.sound (given c.loop-number.number) goes s) (c.loop-number.invariant.sound given goes all);
-}
+pub modify_one-requires : goal.modify_one-requires
+modify_one-requires g c =
+    supply_room c.args.copies.now c.loop-number.copies _ _ _ _ c.loop-number.invariant.copies
+    (wanted_then c.args.which.now _ c.loop-number.number c.loop-number.tables c.args.tables.now c.index-tables-number.result c.loop-number-test.true c.loop-number.invariant.changed)
+    (wanted_part c.args.which.now _ c.args.tables.now) c.requires.copies
 
-pub returns-in_err-modify_one-clause-sound : goal.returns-in_err-modify_one-clause-sound
-returns-in_err-modify_one-clause-sound g c = λ given goes all. step_sound c.loop-number.number c.loop-number.tables c.modify_one.new.table _ (omega (arith, c.loop-number-test.true, c.loop-number.invariant.length)) (λ s. c.modify_one.ensures.sound (given c.loop-number.number) goes s) (c.loop-number.invariant.sound given goes all)
+pub loop-number-preserved : goal.loop-number-preserved
+loop-number-preserved g c =
+    let same : c.loop-number.copies.instructions ≡ c.args.copies.now.instructions = ap (λ (s : Supply). s.instructions) c.loop-number.invariant.copies in
+    record {
+      changed = each_more (modified_numbered c.args.which.now c.args.copies.now.instructions c.args.reset) c.loop-number.number c.loop-number.tables c.args.tables.now c.modify_one.new.table c.index-tables-number.result c.loop-number-test.true c.loop-number.invariant.changed
+          (c.modify_one.ensures.table ∙ ap (λ (is : List Instruction). modified_numbered c.args.which.now is c.args.reset c.loop-number.number (get_or c.loop-number.tables c.loop-number.number c.index-tables-number.result)) same);
+      copies = supply_less c.args.copies.now c.loop-number.copies c.modify_one.new.copies _ _ _ c.loop-number.invariant.copies c.modify_one.ensures.copies
+          (wanted_then c.args.which.now _ c.loop-number.number c.loop-number.tables c.args.tables.now c.index-tables-number.result c.loop-number-test.true c.loop-number.invariant.changed);
+      length = length-set c.loop-number.tables c.loop-number.number c.modify_one.new.table ∙ c.loop-number.invariant.length;
+      sound = λ given goes all. step_sound c.loop-number.number c.loop-number.tables c.modify_one.new.table _ (omega (arith, c.loop-number-test.true, c.loop-number.invariant.length)) (λ s. c.modify_one.ensures.sound (λ for. rw same (given c.loop-number.number for)) (rw same goes) s) (c.loop-number.invariant.sound given goes all);
+    }

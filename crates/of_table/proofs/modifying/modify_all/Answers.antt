@@ -1,26 +1,30 @@
-use Rattle.std.proofs.Common.{◌∙◌, arith}
+use Rattle.std.proofs.Common.{◌≡◌, ◌∙◌, List, get_or, arith, ap}
 use Rattle.std.proofs.lemmas.List.{length-set}
+use Rattle.of_actions.specs.declared.instruction.Instruction.{Instruction}
+use Rattle.of_wire.proofs.Changing.{changed_more}
+use Rattle.of_table.specs.Entries.{on_entry}
 use Rattle.of_table.specs.Selecting.{modified_by}
-use Rattle.of_table.proofs.ModifyLemmas.{rows_kept, flows_more, numbers_kept}
+use Rattle.of_table.specs.Copies.{Supply}
+use Rattle.of_table.proofs.ModifyLemmas.{rows_kept}
+use Rattle.of_table.proofs.CopyLemmas.{supply_less, supply_room, wanted_now, wanted_some}
 use Rattle.of_table.proofs.Soundness.{step_fit}
 use Rattle.of_table.proofs.modifying.modify_all.Goals as goal
 
+pub modify_entry-requires : goal.modify_entry-requires
+modify_entry-requires c =
+    supply_room c.args.copies.now c.loop-entry.copies _ _ _ _ c.loop-entry.invariant.copies
+    (wanted_now c.args.which.now _ c.args.entries.now c.loop-entry.entries c.loop-entry.entry-index c.entry-item.result c.loop-entry-test.true c.loop-entry.invariant.entries)
+    (wanted_some c.args.which.now c.args.entries.now _) c.requires
+
 pub loop-entry-preserved : goal.loop-entry-preserved
-loop-entry-preserved c = record {
-  rows = rows_kept c.loop-entry.entries c.args.entries.now c.loop-entry.entry-index c.modify_entry.new.entry _ c.loop-entry-test.true c.loop-entry.invariant.rows c.modify_entry.ensures.row;
-  flows = flows_more (modified_by c.args.which.now c.args.instructions.now c.args.reset) c.loop-entry.entries c.args.entries.now c.loop-entry.entry-index c.modify_entry.new.entry _ c.loop-entry-test.true c.loop-entry.invariant.flows c.in_ok-modify_entry.ensures.ok;
-  length = length-set c.loop-entry.entries c.loop-entry.entry-index c.modify_entry.new.entry ∙ c.loop-entry.invariant.length;
-  sound = λ k fits goes s. step_fit k c.loop-entry.entry-index c.loop-entry.entries c.modify_entry.new.entry _ (omega (arith, c.loop-entry-test.true, c.loop-entry.invariant.length)) c.modify_entry.ensures.row (c.modify_entry.ensures.fit k fits) (c.modify_entry.ensures.checked goes) (c.loop-entry.invariant.sound k fits goes s);
-}
-
-pub returns-in_err-modify_entry-clause-rows : goal.returns-in_err-modify_entry-clause-rows
-returns-in_err-modify_entry-clause-rows c = rows_kept c.loop-entry.entries c.args.entries.now c.loop-entry.entry-index c.modify_entry.new.entry _ c.loop-entry-test.true c.loop-entry.invariant.rows c.modify_entry.ensures.row
-
-pub returns-in_err-modify_entry-clause-numbers : goal.returns-in_err-modify_entry-clause-numbers
-returns-in_err-modify_entry-clause-numbers c = numbers_kept _ _ (rows_kept c.loop-entry.entries c.args.entries.now c.loop-entry.entry-index c.modify_entry.new.entry _ c.loop-entry-test.true c.loop-entry.invariant.rows c.modify_entry.ensures.row)
-
-pub returns-clause-numbers : goal.returns-clause-numbers
-returns-clause-numbers c = numbers_kept _ _ c.loop-entry.invariant.rows
-
-pub returns-in_err-modify_entry-clause-sound : goal.returns-in_err-modify_entry-clause-sound
-returns-in_err-modify_entry-clause-sound c = λ k fits goes s. step_fit k c.loop-entry.entry-index c.loop-entry.entries c.modify_entry.new.entry _ (omega (arith, c.loop-entry-test.true, c.loop-entry.invariant.length)) c.modify_entry.ensures.row (c.modify_entry.ensures.fit k fits) (c.modify_entry.ensures.checked goes) (c.loop-entry.invariant.sound k fits goes s)
+loop-entry-preserved c =
+    let same : c.loop-entry.copies.instructions ≡ c.args.copies.now.instructions = ap (λ (s : Supply). s.instructions) c.loop-entry.invariant.copies in
+    record {
+      rows = rows_kept c.loop-entry.entries c.args.entries.now c.loop-entry.entry-index c.modify_entry.new.entry _ c.loop-entry-test.true c.loop-entry.invariant.rows c.modify_entry.ensures.row;
+      entries = changed_more (on_entry (modified_by c.args.which.now c.args.copies.now.instructions c.args.reset)) c.loop-entry.entry-index c.args.entries.now c.loop-entry.entries c.modify_entry.new.entry c.entry-item.result c.loop-entry-test.true c.loop-entry.invariant.entries
+          (c.modify_entry.ensures.entry ∙ ap (λ (is : List Instruction). on_entry (modified_by c.args.which.now is c.args.reset) (get_or c.loop-entry.entries c.loop-entry.entry-index c.entry-item.result)) same);
+      copies = supply_less c.args.copies.now c.loop-entry.copies c.modify_entry.new.copies _ _ _ c.loop-entry.invariant.copies c.modify_entry.ensures.copies
+          (wanted_now c.args.which.now _ c.args.entries.now c.loop-entry.entries c.loop-entry.entry-index c.entry-item.result c.loop-entry-test.true c.loop-entry.invariant.entries);
+      length = length-set c.loop-entry.entries c.loop-entry.entry-index c.modify_entry.new.entry ∙ c.loop-entry.invariant.length;
+      sound = λ k fits goes s. step_fit k c.loop-entry.entry-index c.loop-entry.entries c.modify_entry.new.entry _ (omega (arith, c.loop-entry-test.true, c.loop-entry.invariant.length)) c.modify_entry.ensures.row (c.modify_entry.ensures.fit k (rw same fits)) (c.modify_entry.ensures.checked (rw same goes)) (c.loop-entry.invariant.sound k fits goes s);
+    }

@@ -1,0 +1,19 @@
+use Rattle.std.proofs.Common.{◌≡◌, ◌∙◌, List, arith, ap}
+use Rattle.of_actions.specs.declared.instruction.Instruction.{Instruction}
+use Rattle.of_table.specs.Copies.{Supply}
+use Rattle.of_table.specs.Entries.{Numbered}
+use Rattle.of_table.specs.Tables.{NumberedTables, each_from, modified_numbered, tables_of, all_modified}
+use Rattle.of_table.proofs.TablesLemmas.{tables_modified, written}
+use Rattle.of_table.proofs.flow_tables.FlowTables.modify.Goals as goal
+
+pub returns-clause-tables : goal.returns-clause-tables
+returns-clause-tables g c =
+    let n : NumberedTables = record { tables = c.self.inside.tables.items; latest = c.self.inside.latest } in
+    let new : NumberedTables = record { tables = c.modify_tables.new.tables; latest = c.self.inside.latest } in
+    let same : c.copies_for_all.new.copies.instructions ≡ c.args.instructions.now = ap (λ (s : Supply). s.instructions) c.in_ok-copies_for_all.ensures ∙ ap (λ (s : Supply). s.instructions) c.of-copies.ensures in
+    let tables : c.modify_tables.new.tables ≡ each_from (modified_numbered c.args.which.now c.args.instructions.now c.args.reset) 0 n.tables = c.modify_tables.ensures.tables
+    ∙ ap (λ (is : List Instruction). each_from (modified_numbered c.args.which.now is c.args.reset) 0 c.deref_mut.result.now) same
+    ∙ ap (λ (ns : List Numbered). each_from (modified_numbered c.args.which.now c.args.instructions.now c.args.reset) 0 ns) c.deref_mut.ensures.value in
+    let is : new ≡ all_modified c.args.which.now c.args.instructions.now c.args.reset n = λ i. record { tables = tables i; latest = c.self.inside.latest } in
+    rw (← c.self.view_is, written c.modify_tables.new.tables c.self.inside.tables.items c.self.inside.tables.len (omega arith) (omega arith))
+    (ap tables_of is ∙ tables_modified c.args.which.now c.args.instructions.now c.args.reset n)
