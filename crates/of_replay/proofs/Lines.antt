@@ -84,17 +84,17 @@ going_on lines left line n s out out' first taken taken' held going h =
     let texts : (going.wrote ++ out) ++ text ≡ (going.wrote ++ more) ++ out' =
     append_assoc going.wrote out text ∙ (ap (λ (x : List ℕ). going.wrote ++ x) (sym h.5) ∙ sym (append_assoc going.wrote more out')) in
     record {
-        front = going.front ++ line ∷ [];
-        wrote = going.wrote ++ more;
-        taken_is = h.4 ∙ (ap (λ (k : Option (List ℕ)). then_bytes k more) going.taken_is ∙ then-then first going.wrote more);
-        lines_are = going.lines_are ∙ sym (append_assoc going.front (line ∷ []) left);
-        goes = λ tail.
-            ap played_lines (append_assoc going.front (line ∷ []) tail)
-            ∙ (going.goes (line ∷ tail)
-            ∙ (ap (after_text (going.wrote ++ out)) (h.6 (λ u. played u (n + 1) tail))
-            ∙ (texts_after (going.wrote ++ out) text (played t (n + 1) tail)
-            ∙ (ap (λ (x : List ℕ). after_text x (played t (n + 1) tail)) texts
-            ∙ ap (λ (x : State). after_text ((going.wrote ++ more) ++ out') (played x (n + 1) tail)) (sym h.3)))));
+      front = going.front ++ line ∷ [];
+      wrote = going.wrote ++ more;
+      taken_is = h.4 ∙ (ap (λ (k : Option (List ℕ)). then_bytes k more) going.taken_is ∙ then-then first going.wrote more);
+      lines_are = going.lines_are ∙ sym (append_assoc going.front (line ∷ []) left);
+      goes = λ tail.
+          ap played_lines (append_assoc going.front (line ∷ []) tail)
+          ∙ (going.goes (line ∷ tail)
+          ∙ (ap (after_text (going.wrote ++ out)) (h.6 (λ u. played u (n + 1) tail))
+          ∙ (texts_after (going.wrote ++ out) text (played t (n + 1) tail)
+          ∙ (ap (λ (x : List ℕ). after_text x (played t (n + 1) tail)) texts
+          ∙ ap (λ (x : State). after_text ((going.wrote ++ more) ++ out') (played x (n + 1) tail)) (sym h.3)))));
     }
 
 -- what the lines print, where the run is here

@@ -48,9 +48,11 @@ drains_one first s effects x reports reports' left e =
 -- or two
 pub drains_two : (first s : State) (effects more : List Effect) (x : AllocError) (reports reports' reports'' : List Report) → Left first s (effects ++ more)
     → reports' ≡ reports ++ Gives effects ∷ [] → reports'' ≡ reports' ++ Gives more ∷ [] → Drains (Err x) first s reports reports''
-drains_two first s effects more x reports reports' reports'' left e f =
-    (Gives effects ∷ Gives more ∷ [], f ∙ (ap (λ (rs : List Report). rs ++ Gives more ∷ []) e ∙ append_assoc reports (Gives effects ∷ []) (Gives more ∷ [])),
-    left_told first s (effects ++ more) left ∙ ap (λ (es : List Effect). behind (effects ++ es) (drained s)) (sym (append-nil more)))
+drains_two first s effects more x reports reports' reports'' left e f = (
+  Gives effects ∷ Gives more ∷ [],
+  f ∙ (ap (λ (rs : List Report). rs ++ Gives more ∷ []) e ∙ append_assoc reports (Gives effects ∷ []) (Gives more ∷ [])),
+  left_told first s (effects ++ more) left ∙ ap (λ (es : List Effect). behind (effects ++ es) (drained s)) (sym (append-nil more)),
+)
 
 -- EVENTS
 

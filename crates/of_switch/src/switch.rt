@@ -255,10 +255,7 @@ impl<L: Lookup> Switch<L> {
 }
 
 // Appends the report of a call, unless it met want of memory.
-fn tell(
-    called: Result<Effects, SwitchError>,
-    reports: &mut Vec<Report>,
-) -> Result<(), AllocError>
+fn tell(called: Result<Effects, SwitchError>, reports: &mut Vec<Report>) -> Result<(), AllocError>
     requires { vec_len reports.old < vec_capacity reports.old }
     ensures { Tells called (reports_of reports.old.items) result (reports_of reports.new.items) }
 {
