@@ -1,5 +1,5 @@
 -- What goes with a match goes with each match that it covers.
-use Rattle.std.proofs.Common.{◌≡◌, ℕ, ltb, Bool, true, false, ◌&&◌, ◌||◌, List, [], ◌∷◌, Option, Some, None, refl, sym, subst, arith}
+use Rattle.std.proofs.Common.{◌≡◌, ℕ, ltb, Bool, true, false, ◌||◌, List, [], ◌∷◌, Option, Some, None, refl, sym, subst, arith}
 use Rattle.std.proofs.lemmas.Bool.Decides.{nat_tests}
 use Rattle.of_layers.specs.declared.field.Need.{Need}
 use Rattle.of_layers.specs.Fields.{number_of, need_of}

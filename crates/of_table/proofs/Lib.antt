@@ -10,3 +10,4 @@ pub mod WinnerLemmas
 pub mod Soundness
 pub mod Unlike
 pub mod CheckLemmas
+pub mod DeadlineLemmas

@@ -1,5 +1,5 @@
 -- What holds of the entries of each table stays so.
-use Rattle.std.proofs.Common.{◌≡◌, ℕ, zero, suc, ◌+◌, ◌<◌, ◌≤◌, Bool, true, false, not, cond, ltb, ltb-true, List, [], ◌∷◌, ◌++◌, ◌&&◌, length, set, get_or, refl, sym, ap, arith, ◌∙◌}
+use Rattle.std.proofs.Common.{◌≡◌, ℕ, zero, suc, ◌+◌, ◌<◌, ◌≤◌, Bool, true, false, not, cond, ltb, ltb-true, List, [], ◌∷◌, ◌&&◌, length, set, get_or, refl, sym, ap, arith, ◌∙◌}
 use Rattle.std.specs.Prelude.{filter, map, find, replicate, Option, Some, None, slice_index_or}
 use Rattle.std.specs.List.{list_all}
 use Rattle.std.proofs.lemmas.Bool.Decides.{nat_tests}
@@ -31,7 +31,7 @@ pub all-filter : {X : Type 0} (p q : X → Bool) (xs : List X) → list_all p xs
 all-filter p q [] h = refl
 all-filter p q (x ∷ xs) h = grind (arith, all-filter p q xs)
 
-all-set : {X : Type 0} (p : X → Bool) (xs : List X) (i : ℕ) (x : X) → list_all p xs ≡ true → p x ≡ true → list_all p (set xs i x) ≡ true
+pub all-set : {X : Type 0} (p : X → Bool) (xs : List X) (i : ℕ) (x : X) → list_all p xs ≡ true → p x ≡ true → list_all p (set xs i x) ≡ true
 all-set p [] i x h is = refl
 all-set p (y ∷ xs) zero x h is = grind arith
 all-set p (y ∷ xs) (suc i) x h is = grind (arith, all-set p xs i x)

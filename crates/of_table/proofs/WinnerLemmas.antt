@@ -13,8 +13,8 @@ use Rattle.of_classifier.specs.Winner as rows
 use Rattle.of_classifier.proofs.Finding.{find-filter}
 use Rattle.of_table.proofs.PlaceLemmas.{find-map, position_some, position-first, position-later}
 use Rattle.of_table.proofs.NumberLemmas.{found_place, found_is_there}
-use Rattle.of_table.specs.Table.{FlowEntry, rows_from, winner_place}
-use Rattle.of_table.specs.Entries.{entry_of, flows_of, row_of, rows_of, entry_number, place_of, is_there}
+use Rattle.of_table.specs.Table.{rows_from, winner_place}
+use Rattle.of_table.specs.Entries.{flows_of, row_of, rows_of, entry_number, place_of, is_there}
 use Rattle.of_table.specs.declared.entry.Entry.{Entry}
 
 -- it matches, and none that matches has a higher priority

@@ -5,3 +5,4 @@ pub mod Faults
 pub mod Tables
 pub mod Sound
 pub mod Copies
+pub mod Deadlines

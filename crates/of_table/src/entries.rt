@@ -1,6 +1,6 @@
 //! Lists of entries.
 
-ghost use Rattle.std.specs.Prelude.{◌≡◌, ◌==◌, ◌&&◌, ◌<◌, ◌≤◌, ◌+◌, ◌++◌, ◌∷◌, [], Some, None, true, IsTrue, map, position, length, vec_len, vec_capacity};
+ghost use Rattle.std.specs.Prelude.{◌≡◌, ◌==◌, ◌&&◌, ◌<◌, ◌≤◌, ◌+◌, ◌++◌, ◌∷◌, [], ℕ, Some, None, true, IsTrue, map, position, length, vec_len, vec_capacity};
 ghost use Rattle.std.specs.List.{list_any};
 ghost use Rattle.of_wire.specs.Numbered.{is_used, is_distinct, renewed};
 ghost use Rattle.of_classifier.specs.Rows.{row_number};
@@ -8,9 +8,12 @@ ghost use Rattle.of_oxm.specs.Relations.{overlaps_match};
 ghost use Rattle.of_table.specs.Table.{is_same, is_overlapped as overlapped, with_flow, kept_flow as kept, unless_reset as zero_or, risen as with_more, counted_at};
 ghost use Rattle.of_table.specs.Entries.{entry_of, flows_of, rows_of, numbers_of, place_of, is_there, IsNumberFor, added_entries};
 ghost use Rattle.of_table.specs.Sound.{key_of, are_unlike};
+ghost use Rattle.of_table.specs.Deadlines.{all_stay};
 
+use crate::deadlines::entry_deadline;
 use crate::entry::Entry;
 use crate::flow::{Flow, FlowFlags};
+use crate::selection::Cause;
 use of_oxm::overlaps;
 
 /// The place of the first entry of the flow's match and priority.
@@ -154,18 +157,24 @@ pub(crate) fn push_reserved(entries: &mut Vec<Entry>, entry: Entry)
 }
 
 /// The entry of that number, where it is there, counts a packet of so many bytes, now.
-pub(crate) fn count_at(entries: &mut Vec<Entry>, number: usize, bytes: usize, now: u64)
+///
+/// Before the moment that is answered its time is not over.
+pub(crate) fn count_at(entries: &mut Vec<Entry>, number: usize, bytes: usize, now: u64) -> u64
+    ensures due { (at : ℕ) → at < result → all_stay (Cause.Moment at) entries.old.items ≡ true → all_stay (Cause.Moment at) entries.new.items ≡ true }
     ensures flows { flows_of entries.new.items ≡ counted_at now (place_of number entries.old.items) bytes (flows_of entries.old.items) }
     ensures numbers { numbers_of entries.new.items ≡ numbers_of entries.old.items }
     ensures rows { rows_of entries.new.items ≡ rows_of entries.old.items }
 {
     if has_number(entries, number) {
-        count_there(entries, number, bytes, now);
+        count_there(entries, number, bytes, now)
+    } else {
+        u64::MAX
     }
 }
 
-fn count_there(entries: &mut Vec<Entry>, number: usize, bytes: usize, now: u64)
+fn count_there(entries: &mut Vec<Entry>, number: usize, bytes: usize, now: u64) -> u64
     requires { IsTrue (is_there number entries.old.items) }
+    ensures due { (at : ℕ) → at < result → all_stay (Cause.Moment at) entries.old.items ≡ true → all_stay (Cause.Moment at) entries.new.items ≡ true }
     ensures flows { flows_of entries.new.items ≡ counted_at now (place_of number entries.old.items) bytes (flows_of entries.old.items) }
     ensures numbers { numbers_of entries.new.items ≡ numbers_of entries.old.items }
     ensures rows { rows_of entries.new.items ≡ rows_of entries.old.items }
@@ -176,6 +185,7 @@ fn count_there(entries: &mut Vec<Entry>, number: usize, bytes: usize, now: u64)
     entry.packets = risen(flags.no_packet_counts, entry.packets, 1);
     entry.bytes = risen(flags.no_byte_counts, entry.bytes, bytes as u64);
     entry.last = Some(now);
+    entry_deadline(entry)
 }
 
 // A counter after so many more, where they are counted.

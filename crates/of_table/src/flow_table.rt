@@ -9,11 +9,13 @@ ghost use Rattle.of_table.specs.Table.{is_same, add_fault, winner_place, looked 
 ghost use Rattle.of_table.specs.Entries.{Numbered, AddsEntry, no_entries, table_of, entry_of, flows_of, numbers_of, entry_number, place_of, is_there, find_number};
 ghost use Rattle.of_table.specs.Selecting.{modified_entries, kept_of, told, all_told};
 ghost use Rattle.of_table.specs.Copies.{Supply, wanted};
+ghost use Rattle.of_table.specs.Deadlines.{all_stay};
 ghost use Rattle.of_table.specs.Faults.{fault_in};
 ghost use Rattle.of_table.specs.Sound.{AreSound, are_fit, key_of, are_unlike};
 ghost use Rattle.of_actions.specs.FlowCheck.{all_go_with};
 
 use crate::copies::Copies;
+use crate::deadlines::{earliest, flow_deadline};
 use crate::entries::{
     count_at, is_overlapped, move_last, new_entry, place_in, push_reserved, same_place,
 };
@@ -38,6 +40,8 @@ const MOST_ENTRIES: usize = 4096;
 pub struct FlowTable<L: Lookup> {
     lookup: L,
     entries: Vec<Entry>,
+    /// Before this moment no entry's time is over.
+    due: u64,
     lookups: u64,
     matched: u64,
 }
@@ -45,12 +49,13 @@ pub struct FlowTable<L: Lookup> {
 impl<L: Lookup> Model for FlowTable<L> {
     ghost use Rattle.std.specs.Prelude.{◌≡◌};
     ghost use Rattle.of_table.specs.Entries.{Numbered, rows_of};
+    ghost use Rattle.of_table.specs.Deadlines.{NoneOver};
 
     ghost Value = { Numbered };
 
     ghost view = { λ t. record { lookups = t.lookups; matched = t.matched; entries = t.entries.items } };
 
-    ghost invariant = { λ t. L.content t.lookup ≡ rows_of t.entries.items };
+    ghost invariant = { λ t. (L.content t.lookup ≡ rows_of t.entries.items) × NoneOver t.due t.entries.items };
 }
 
 impl<L: Lookup> FlowTable<L> {
@@ -61,6 +66,7 @@ impl<L: Lookup> FlowTable<L> {
         Ok(FlowTable {
             lookup: L::empty(alloc)?,
             entries: Vec::new(alloc),
+            due: u64::MAX,
             lookups: 0,
             matched: 0,
         })
@@ -103,8 +109,10 @@ impl<L: Lookup> FlowTable<L> {
         ensures { AddsEntry now flow self.old self.new }
     {
         self.lookup.known();
+        let due = self.due.min(flow_deadline(&flow, now));
         let number = move_last(&mut self.entries, place, flow, now);
         self.lookup.renew(number);
+        self.due = due;
     }
 
     // A new entry.
@@ -115,8 +123,10 @@ impl<L: Lookup> FlowTable<L> {
     {
         self.entries.reserve(1)?;
         let fields = flow.fields.copy()?;
+        let due = self.due.min(flow_deadline(&flow, now));
         let number = self.lookup.add(fields, flow.priority)?;
         push_reserved(&mut self.entries, new_entry(number, flow, now));
+        self.due = due;
         Ok(())
     }
 
@@ -150,15 +160,32 @@ impl<L: Lookup> FlowTable<L> {
     ) -> Result<(), AllocError>
         ensures { OnOk result (all_told removed.new.items ≡ all_told removed.old.items ++ told cause.now table self.now.entries) }
     {
+        if self.is_early(cause) {
+            return Ok(());
+        }
         list_gone(&self.entries, table, cause, removed)
+    }
+
+    // Whether it is a moment at which no entry's time is over yet.
+    fn is_early(&self, cause: &Cause) -> bool
+        ensures { result ≡ true → all_stay cause.now self.now.entries ≡ true }
+    {
+        match cause {
+            Cause::Moment(now) => *now < self.due,
+            Cause::Delete(_) | Cause::Group(_) => false,
+        }
     }
 
     /// Removes the entries that go (OpenFlow 1.3.5, 5.5, 6.4 and 6.5).
     pub fn remove(&mut self, cause: &Cause)
         ensures { self.new ≡ record self.old { entries = kept_of cause.now self.old.entries } }
     {
+        if self.is_early(cause) {
+            return;
+        }
         take_gone(&mut self.lookup, &self.entries, cause);
         keep_staying(&mut self.entries, cause);
+        self.due = earliest(&self.entries);
     }
 
     /// The number of the entry that a packet of this key hits, or `None` where it misses (OpenFlow 1.3.5, 5.3).
@@ -195,7 +222,8 @@ impl<L: Lookup> FlowTable<L> {
         ensures table { table_of self.new ≡ matched_at now (place_of number self.old.entries) bytes (table_of self.old) }
         ensures numbers { numbers_of self.new.entries ≡ numbers_of self.old.entries }
     {
-        count_at(&mut self.entries, number, bytes, now);
+        let due = count_at(&mut self.entries, number, bytes, now);
+        self.due = self.due.min(due);
         self.matched = self.matched.wrapping_add(1);
     }
 

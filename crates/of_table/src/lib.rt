@@ -2,6 +2,7 @@
 #![tactic(auto)]
 
 mod copies;
+mod deadlines;
 mod each_table;
 mod entries;
 mod entry;

@@ -189,7 +189,8 @@ pub fn selects(which: &Which, entry: &Entry) -> bool
     modifies(which, entry) && passes_port(which, entry) && passes_group(which, entry)
 }
 
-const NANOS: u64 = 1_000_000_000;
+/// Nanoseconds in a second.
+pub(crate) const NANOS: u64 = 1_000_000_000;
 
 // Whether a timeout of so many seconds is over; 0 is none.
 fn is_over(now: u64, since: u64, seconds: u16) -> bool

@@ -1,5 +1,5 @@
 use Rattle.std.proofs.Common.{◌≡◌, ◌+◌, take}
-use Rattle.of_table.specs.Copies.{Supply, wanted_from}
+use Rattle.of_table.specs.Copies.{wanted_from}
 use Rattle.of_table.proofs.each_table.copies_for_all.Given as goal
 
 abbrev pub invariant-loop-number : goal.invariant-loop-number

@@ -1,5 +1,5 @@
-use Rattle.std.proofs.Common.{◌∙◌, List, ◌++◌, ap}
-use Rattle.of_table.specs.Selecting.{Told, all_told}
+use Rattle.std.proofs.Common.{◌∙◌, ◌++◌, ap}
+use Rattle.of_table.specs.Selecting.{all_told}
 use Rattle.of_table.specs.Entries.{Numbered}
 use Rattle.of_table.specs.Tables.{told_table}
 use Rattle.of_table.proofs.TablesLemmas.{told_more}

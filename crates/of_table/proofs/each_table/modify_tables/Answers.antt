@@ -1,4 +1,4 @@
-use Rattle.std.proofs.Common.{◌≡◌, ℕ, ◌∙◌, true, List, get_or, arith, ap}
+use Rattle.std.proofs.Common.{◌≡◌, ◌∙◌, List, get_or, arith, ap}
 use Rattle.std.proofs.lemmas.List.{length-set}
 use Rattle.of_actions.specs.declared.instruction.Instruction.{Instruction}
 use Rattle.of_table.specs.Copies.{Supply}

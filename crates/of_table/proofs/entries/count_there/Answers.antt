@@ -1,6 +1,7 @@
 use Rattle.std.proofs.Common.{◌≡◌, ◌<◌, length, ap}
 use Rattle.std.proofs.Math.Seq.{map-set_same}
 use Rattle.of_table.proofs.CountLemmas.{counted-set}
+use Rattle.of_table.proofs.DeadlineLemmas.{set_stay}
 use Rattle.of_table.specs.Table.{counted}
 use Rattle.of_table.specs.Entries.{entry_of, row_of, entry_number, place_of}
 use Rattle.of_table.specs.declared.entry.Entry.{Entry}
@@ -18,3 +19,6 @@ returns-clause-numbers c = map-set_same entry_number c.args.entries.now.items c.
 
 pub returns-clause-rows : goal.returns-clause-rows
 returns-clause-rows c = map-set_same row_of c.args.entries.now.items c.place_in-place.result _ c.index_mut-entry.result.now (ap row_of c.index_mut-entry.ensures.value)
+
+pub returns-clause-due : goal.returns-clause-due
+returns-clause-due c = λ at lt was. set_stay at c.args.entries.now.items c.place_in-place.result _ was (c.entry_deadline.ensures at lt)

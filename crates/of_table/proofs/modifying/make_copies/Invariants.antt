@@ -1,5 +1,5 @@
 use Rattle.std.proofs.Common.{◌≡◌, ◌+◌, take}
-use Rattle.of_table.specs.Copies.{Supply, wanted}
+use Rattle.of_table.specs.Copies.{wanted}
 use Rattle.of_table.proofs.modifying.make_copies.Given as goal
 
 abbrev pub invariant-loop-entry : goal.invariant-loop-entry

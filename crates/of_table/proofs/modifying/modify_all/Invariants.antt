@@ -4,7 +4,7 @@ use Rattle.of_actions.specs.FlowCheck.{all_go_with}
 use Rattle.of_wire.proofs.Changing.{changed_to}
 use Rattle.of_table.specs.Entries.{flows_of, rows_of, on_entry}
 use Rattle.of_table.specs.Selecting.{modified_by}
-use Rattle.of_table.specs.Copies.{Supply, wanted}
+use Rattle.of_table.specs.Copies.{wanted}
 use Rattle.of_table.proofs.modifying.modify_all.Given as goal
 
 abbrev pub invariant-loop-entry : goal.invariant-loop-entry

@@ -1,7 +1,8 @@
-use Rattle.std.proofs.Common.{List, ap}
-use Rattle.of_table.specs.declared.entry.Entry.{Entry}
-use Rattle.of_table.specs.Entries.{Numbered, AddsEntry}
+use Rattle.std.proofs.Common.{rules, ◌∙◌, ap}
 use Rattle.of_table.proofs.AddLemmas.{with_entries}
+use Rattle.of_table.specs.declared.selection.Cause.TheVariants.{Moment}
+use Rattle.of_table.specs.Deadlines.{all_stay}
+use Rattle.of_table.proofs.DeadlineLemmas.{added_none_over}
 use Rattle.of_table.proofs.flow_table.FlowTable.replace.Goals as goal
 
 pub returns : goal.returns
@@ -12,3 +13,10 @@ returns g c =
       named = c.move_last-number.ensures.named;
       table = ap (with_entries c.self.inside.lookups c.self.inside.matched) c.move_last-number.ensures.entries;
     })
+
+pub invariant_of-self : goal.invariant_of-self
+invariant_of-self g c = (
+  search rules,
+  λ at lt. ap (all_stay (Moment at)) c.move_last-number.ensures.entries
+      ∙ added_none_over c.self.inside.due c.flow_deadline.result c.move_last-number.result c.args.now c.args.flow c.self.inside.entries.items c.self.invariant.1 c.flow_deadline.ensures at (rw c.min-due.ensures at lt),
+)

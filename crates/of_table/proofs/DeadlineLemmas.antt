@@ -1,0 +1,73 @@
+-- Before which moment no entry's time is over, as entries come, change and go.
+use Rattle.std.proofs.Common.{◌≡◌, ℕ, ◌+◌, ◌*◌, ◌<◌, Bool, true, false, not, cond, ◌&&◌, min, List, [], ◌∷◌, ◌++◌, Option, Some, None, set, refl, ap, ◌∙◌, arith}
+use Rattle.std.specs.Prelude.{filter, is_none, unwrap_or}
+use Rattle.std.proofs.lemmas.Bool.Decides.{nat_tests}
+use Rattle.std.proofs.lemmas.List.Folds.{list_all-append}
+use Rattle.of_actions.specs.declared.instruction.Instruction.{Instruction}
+use Rattle.of_table.specs.declared.entry.Entry.{Entry}
+use Rattle.of_table.specs.declared.flow.Flow.{Flow}
+use Rattle.of_table.specs.declared.selection.Which.{Which}
+use Rattle.of_table.specs.declared.selection.Cause.{Cause}
+use Rattle.of_table.specs.declared.selection.Cause.TheVariants.{Moment}
+use Rattle.of_table.specs.Table.{FlowEntry, is_same, with_flow}
+use Rattle.of_table.specs.Entries.{entry_of, same_entry, added_entries}
+use Rattle.of_table.specs.Selecting.{is_over, modifies, modified_by, modified_entries, modified_entry, reason_of, stays, told_by, told, kept_of}
+use Rattle.of_table.specs.Deadlines.{all_stay, NoneOver}
+use Rattle.of_table.proofs.Soundness.{all-filter, all-set}
+use Rattle.std.specs.Option.{option_map, option_to_list}
+use Rattle.of_oxm.proofs.Related.{and_true}
+use Rattle.of_table.specs.declared.selection.RemovedReason.{RemovedReason}
+
+pub not_over : (now since seconds : ℕ) → now < since + 1000000000 * seconds → is_over now since seconds ≡ false
+not_over now since seconds lt = grind (arith, nat_tests)
+
+pub stays_until : (now : ℕ) (e : FlowEntry) → is_over now e.created e.flow.hard_timeout ≡ false → is_over now (unwrap_or e.last e.created) e.flow.idle_timeout ≡ false → stays (Moment now) e ≡ true
+stays_until now e hard idle = rw (hard, idle) refl
+
+pub new_stays : (at now : ℕ) (flow : Flow) (old : Option FlowEntry) → is_over at now flow.hard_timeout ≡ false → is_over at now flow.idle_timeout ≡ false → stays (Moment at) (with_flow now flow old) ≡ true
+new_stays at now flow None hard idle = rw (hard, idle) refl
+new_stays at now flow (Some e) hard idle = rw (hard, idle) refl
+
+pub added_none_over : (due until number now : ℕ) (flow : Flow) (es : List Entry) → NoneOver due es → ((at : ℕ) (old : Option FlowEntry) → at < until → stays (Moment at) (with_flow now flow old) ≡ true) → NoneOver (min due until) (added_entries number now flow es)
+added_none_over due until number now flow es none new at lt =
+    let before : all_stay (Moment at) es ≡ true = none at (omega arith) in
+    let last : stays (Moment at) (with_flow now flow (option_map entry_of (same_entry flow es))) ≡ true = new at (option_map entry_of (same_entry flow es)) (omega arith) in
+    let kept = all-filter (λ e. stays (Moment at) (entry_of e)) (λ e. not (is_same flow (entry_of e))) es before in
+    rw (list_all-append (λ e. stays (Moment at) (entry_of e)) (filter (λ e. not (is_same flow (entry_of e))) es) _, kept, last) refl
+
+same_time : (at : ℕ) (w : Which) (is : List Instruction) (reset : Bool) (e : FlowEntry) → stays (Moment at) (modified_by w is reset e) ≡ stays (Moment at) e
+same_time at w is reset e = by_test (modifies w e)
+  where
+    by_test : (b : Bool) → stays (Moment at) (cond b (modified_entry is reset e) e) ≡ stays (Moment at) e
+    by_test true = refl
+    by_test false = refl
+
+modified_stay : (at : ℕ) (w : Which) (is : List Instruction) (reset : Bool) (es : List Entry) → all_stay (Moment at) (modified_entries w is reset es) ≡ all_stay (Moment at) es
+modified_stay at w is reset [] = refl
+modified_stay at w is reset (e ∷ es) = λ j. same_time at w is reset (entry_of e) j && modified_stay at w is reset es j
+
+pub modified_none_over : (due : ℕ) (w : Which) (is : List Instruction) (reset : Bool) (es : List Entry) → NoneOver due es → NoneOver due (modified_entries w is reset es)
+modified_none_over due w is reset es none at lt = modified_stay at w is reset es ∙ none at lt
+
+-- where all stay, nothing goes and nothing is told
+pub all_kept : (cause : Cause) (es : List Entry) → all_stay cause es ≡ true → kept_of cause es ≡ es
+all_kept cause [] h = refl
+all_kept cause (e ∷ es) h = by_test (stays cause (entry_of e)) h (all_kept cause es)
+  where
+    by_test : (b : Bool) → (b && all_stay cause es) ≡ true → (all_stay cause es ≡ true → kept_of cause es ≡ es) → cond b (e ∷ kept_of cause es) (kept_of cause es) ≡ e ∷ es
+    by_test true g ih = ap (λ (xs : List Entry). e ∷ xs) (ih g)
+    by_test false g ih = absurd cc
+
+none_by : (table : ℕ) (e : Entry) (reason : Option RemovedReason) → is_none reason ≡ true → option_to_list (told_by table e reason) ≡ []
+none_by table e None h = refl
+none_by table e (Some reason) h = absurd cc
+
+pub none_told : (cause : Cause) (table : ℕ) (es : List Entry) → all_stay cause es ≡ true → told cause table es ≡ []
+none_told cause table [] h = refl
+none_told cause table (e ∷ es) h =
+    let both = and_true (stays cause (entry_of e)) (all_stay cause es) h in
+    λ j. none_by table e (reason_of cause (entry_of e)) both.0 j ++ none_told cause table es both.1 j
+
+-- one entry is changed
+pub set_stay : (at : ℕ) (es : List Entry) (i : ℕ) (e : Entry) → all_stay (Moment at) es ≡ true → stays (Moment at) (entry_of e) ≡ true → all_stay (Moment at) (set es i e) ≡ true
+set_stay at es i e h is = all-set (λ x. stays (Moment at) (entry_of x)) es i e h is
