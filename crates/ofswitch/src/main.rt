@@ -8,7 +8,7 @@ use clap::error::ErrorKind;
 use clap::{ArgMatches, Error};
 use command_line::command;
 use files::{ReaderSource, WriterSink};
-use of_classifier::Scan;
+use of_mask_groups::MaskGroups;
 use of_replay::{Ended, replay, status};
 use std::fs::File;
 use std::io;
@@ -64,7 +64,7 @@ fn replay_file(rt: &HostRuntime, path: &str) -> Ended {
         Ok(file) => {
             let mut reader = ReaderSource::new(file);
             let mut writer = WriterSink::new(rt.stdout());
-            replay::<Scan, _, _>(rt.alloc(), &mut reader, &mut writer)
+            replay::<MaskGroups, _, _>(rt.alloc(), &mut reader, &mut writer)
         }
         Err(error) if error.kind() == io::ErrorKind::OutOfMemory => Ended::NoMemory,
         Err(_) => Ended::ReadFault,
