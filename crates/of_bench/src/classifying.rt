@@ -19,7 +19,8 @@ const KEYS: u64 = 256;
 const MATCH: [u8; 48] = [
     0, 1, 0, 41, 0x80, 0, 0x05, 16, 0, 0, 0, 0, 0, 0, 0, 0, // METADATA
     0, 0, 0, 0, 0, 0, 0xff, 0xff, // its mask
-    0x80, 0, 0x0a, 2, 0x08, 0x00, 0x80, 0, 0x14, 1, 6, 0x80, 0, 0x1c, 2, 0, 80, 0, 0, 0, 0, 0, 0, 0,
+    0x80, 0, 0x0a, 2, 0x08, 0x00, 0x80, 0, 0x14, 1, 6, 0x80, 0, 0x1c, 2, 0, 80, 0, 0, 0, 0, 0, 0,
+    0,
 ];
 
 /// The next of a sequence of numbers that looks random.

@@ -4,6 +4,7 @@
 mod acting;
 mod classifying;
 mod clock;
+mod comparing;
 mod flows;
 mod forwarding;
 mod frames;
@@ -29,6 +30,7 @@ fn run(rt: &HostRuntime, name: &str) -> io::Result<()> {
         "matches" => matching::time_matches(rt),
         "read_match" => matching::time_read_match(rt),
         "classify" => classifying::time_classify(rt),
+        "compare" => comparing::compare(rt),
         "flow_mod" => switching::time_flow_mod(rt),
         "frame_scan" => switching::time_frame_scan(rt),
         "set" => rewriting::time_set(rt),

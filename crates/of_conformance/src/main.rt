@@ -1,7 +1,7 @@
 //! Replays the event files of data/ by the public `replay`, and says whether each prints what the standard wants.
 #![tactic(auto)]
 
-use of_classifier::Scan;
+use of_mask_groups::MaskGroups;
 use of_replay::memory::{MemorySink, MemorySource};
 use of_replay::{Ended, replay};
 use std::{fs, io};
@@ -84,7 +84,7 @@ fn verdict(rt: &HostRuntime, events: &[u8], expected: &[u8]) -> &'static str {
         return "no memory";
     };
     let mut sink = MemorySink::new(rt.alloc(), PIECE, 0);
-    match replay::<Scan, _, _>(rt.alloc(), &mut source, &mut sink) {
+    match replay::<MaskGroups, _, _>(rt.alloc(), &mut source, &mut sink) {
         Ended::Done if sink.bytes() == expected => "as expected",
         Ended::Done => "other output",
         Ended::BadRow(_) => "bad row",

@@ -1,6 +1,6 @@
 //! The sources and sinks over readers and writers, of which some give or take one byte, are interrupted, or fail.
 use super::tests::{EVENTS, PRINTED};
-use of_classifier::Scan;
+use of_mask_groups::MaskGroups;
 use of_replay::streams::{ReaderSource, WriterSink};
 use of_replay::{Ended, replay};
 use std::alloc::Global;
@@ -88,7 +88,7 @@ fn writer(alloc: Global, faulty: u64, kind: ErrorKind) -> OneByteWriter {
 fn play(alloc: Global, reader: OneByteReader, writer: &mut OneByteWriter) -> Ended {
     let mut source = ReaderSource::new(reader);
     let mut sink = WriterSink::new(writer);
-    replay::<Scan, _, _>(alloc, &mut source, &mut sink)
+    replay::<MaskGroups, _, _>(alloc, &mut source, &mut sink)
 }
 
 #[test]

@@ -11,13 +11,13 @@ fn each_read_fails_in_turn(rt: HostRuntime) -> Result<(), Fail> {
     for call in 1..7 {
         let mut source = MemorySource::new(rt.alloc(), EVENTS, 10, call)?;
         let mut sink = MemorySink::new(rt.alloc(), 1000, 0);
-        let ended = replay::<Scan, _, _>(rt.alloc(), &mut source, &mut sink);
+        let ended = replay::<MaskGroups, _, _>(rt.alloc(), &mut source, &mut sink);
         assert_eq!(rt; ended, Ended::ReadFault);
         assert!(rt; PRINTED.starts_with(sink.bytes()));
     }
     let mut source = MemorySource::new(rt.alloc(), EVENTS, 10, 7)?;
     let mut sink = MemorySink::new(rt.alloc(), 1000, 0);
-    let ended = replay::<Scan, _, _>(rt.alloc(), &mut source, &mut sink);
+    let ended = replay::<MaskGroups, _, _>(rt.alloc(), &mut source, &mut sink);
     assert_eq!(rt; ended, Ended::Done);
     assert_eq!(rt; sink.bytes(), PRINTED);
     Ok(())
@@ -28,13 +28,13 @@ fn each_write_fails_in_turn(rt: HostRuntime) -> Result<(), Fail> {
     for call in 1..7 {
         let mut source = MemorySource::new(rt.alloc(), EVENTS, 1000, 0)?;
         let mut sink = MemorySink::new(rt.alloc(), 10, call);
-        let ended = replay::<Scan, _, _>(rt.alloc(), &mut source, &mut sink);
+        let ended = replay::<MaskGroups, _, _>(rt.alloc(), &mut source, &mut sink);
         assert_eq!(rt; ended, Ended::WriteFault);
         assert!(rt; PRINTED.starts_with(sink.bytes()));
     }
     let mut source = MemorySource::new(rt.alloc(), EVENTS, 1000, 0)?;
     let mut sink = MemorySink::new(rt.alloc(), 10, 7);
-    let ended = replay::<Scan, _, _>(rt.alloc(), &mut source, &mut sink);
+    let ended = replay::<MaskGroups, _, _>(rt.alloc(), &mut source, &mut sink);
     assert_eq!(rt; ended, Ended::Done);
     assert_eq!(rt; sink.bytes(), PRINTED);
     Ok(())
@@ -44,7 +44,7 @@ fn each_write_fails_in_turn(rt: HostRuntime) -> Result<(), Fail> {
 fn first_bad_row_is_named(rt: HostRuntime) -> Result<(), Fail> {
     let mut source = MemorySource::new(rt.alloc(), b"connect\n# a comment\nconect\nlost\n", 5, 0)?;
     let mut sink = MemorySink::new(rt.alloc(), 1000, 0);
-    let ended = replay::<Scan, _, _>(rt.alloc(), &mut source, &mut sink);
+    let ended = replay::<MaskGroups, _, _>(rt.alloc(), &mut source, &mut sink);
     assert_eq!(rt; ended, Ended::BadRow(3));
     assert_eq!(rt;
         sink.bytes(),

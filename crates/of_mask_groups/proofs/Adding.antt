@@ -1,16 +1,15 @@
 -- An entry comes, or goes: from the groups as they were to the groups as they are.
-use Rattle.std.proofs.Common.{◌≡◌, ◌≢◌, ℕ, ◌+◌, ◌<◌, ◌≤◌, Bool, true, false, List, [], ◌∷◌, ◌++◌, Option, Some, None, refl, sym, ◌∙◌, ap, subst, arith, inl, inr, ◌⊎◌, ⊎_elim}
+use Rattle.std.proofs.Common.{◌≡◌, ℕ, ◌+◌, false, List, [], ◌∷◌, ◌++◌, Option, Some, None, refl, sym, ◌∙◌, ap, subst, arith, ⊎_elim}
 use Rattle.std.specs.Prelude.{Result, Ok, Err, IfOk, OnErr, slice_index_or}
 use Rattle.slab.specs.Slab.{Slab, get, Updates}
 use Rattle.of_layers.specs.declared.field.Field.{Field}
 use Rattle.of_headers.specs.FieldMap.{value}
 use Rattle.of_headers.specs.declared.key.FieldKey.{FieldKey}
-use Rattle.of_oxm.specs.NormalForm.{IsMatch}
 use Rattle.of_oxm.specs.declared.masks.FieldMask.{FieldMask}
 use Rattle.of_oxm.specs.Masks.{looked_at, value_of, mask_at}
 use Rattle.of_mask_groups.specs.declared.entry.Entry.{Entry}
 use Rattle.of_mask_groups.specs.declared.group.Group.{Group}
-use Rattle.of_mask_groups.specs.Grouping.{LooksLike, AsksFor, AreGrouped, HasSameMask, AreSplit, HasMore, HasLess, IsIn}
+use Rattle.of_mask_groups.specs.Grouping.{LooksLike, AsksFor, AreGrouped, HasSameMask, AreSplit, HasMore, IsIn}
 use Rattle.of_wire.specs.Numbered.{is_used}
 use Rattle.of_classifier.specs.declared.Row.{Row}
 use Rattle.of_classifier.specs.Rows.{row_number}
@@ -21,7 +20,6 @@ use Rattle.of_mask_groups.proofs.Changing.{aged_more, rows_more}
 use Rattle.of_mask_groups.proofs.Holding.{grouped_kept}
 use Rattle.of_mask_groups.proofs.Renewing.{aged_wider, rows_wider}
 use Rattle.of_mask_groups.proofs.Splitting.{no_rank}
-use Rattle.of_mask_groups.proofs.Turning.{split_more, split_less}
 
 -- the group of a mask, and the mask and the key of an entry
 pub looks_by : (g : Group) (mask : FieldMask) (e : Entry) → HasSameMask g mask → ((f : Field) → mask_at mask f ≡ looked_at e.fields f) → LooksLike g e

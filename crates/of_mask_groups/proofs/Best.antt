@@ -1,6 +1,5 @@
 -- The best so far after one more.
-use Rattle.std.proofs.Common.{◌≡◌, ℕ, Bool, true, false, cond, eqb, [], ◌&&◌, ◌||◌, Option, Some, None, refl, ap, arith, inl, inr, ◌⊎◌}
-use Rattle.std.specs.Prelude.{nat_lt, nat_le, IsTrue}
+use Rattle.std.proofs.Common.{◌≡◌, ℕ, Bool, true, false, cond, [], Option, Some, None, refl, ap, arith, inl, inr, ◌⊎◌}
 use Rattle.std.proofs.lemmas.List.{take_more}
 use Rattle.std.proofs.lemmas.Bool.Decides.{nat_tests, eqb_tells}
 use Rattle.of_mask_groups.specs.declared.found.Found.{Found}
@@ -9,7 +8,7 @@ use Rattle.std.proofs.Common.{List, ◌+◌, ◌<◌, length, take, get_or, sym,
 use Rattle.slab.specs.Slab.{Slab, get}
 use Rattle.of_mask_groups.specs.declared.entry.Entry.{Entry}
 use Rattle.of_mask_groups.specs.Covering.{beats, covered, better_of, better_with, found_of, IsFound, IsBestOf}
-use Rattle.of_mask_groups.proofs.Members.{in_take_more, in_take, at_place, in_left, in_right, here, not_in_nil}
+use Rattle.of_mask_groups.proofs.Members.{in_take_more, in_left, in_right, here, not_in_nil}
 
 pub beats_itself : (f : Found) → beats f f ≡ true
 beats_itself f = grind (arith, nat_tests)

@@ -1,5 +1,5 @@
 -- The lists under the keys of a map, one of which changes.
-use Rattle.std.proofs.Common.{◌≡◌, ℕ, Bool, true, false, cond, Option, Some, None, List, [], ◌∷◌, ◌++◌, refl, sym, ◌∙◌, ap, subst, arith}
+use Rattle.std.proofs.Common.{◌≡◌, ℕ, Bool, true, false, cond, Option, Some, None, [], refl, sym, ◌∙◌, ap, arith}
 use Rattle.std.specs.Prelude.{is_some, Result, Ok, Err, OnOk, ◌≤◌, ◌+◌, vec_len, vec_capacity}
 use Rattle.std.specs.Global.{Vec}
 use Rattle.std.specs.HashMap.{HashMap, get_by, UpdatesBy}

@@ -1,17 +1,16 @@
 -- The rows after an entry comes, goes, or becomes the youngest.
-use Rattle.std.proofs.Common.{◌≡◌, ◌≢◌, ℕ, ◌+◌, ◌<◌, ◌≤◌, Bool, true, false, cond, not, eqb, List, [], ◌∷◌, ◌++◌, Option, Some, None, refl, sym, ◌∙◌, ap, subst, arith, inl, inr, ◌⊎◌, ⊎_elim}
+use Rattle.std.proofs.Common.{◌≡◌, ◌≢◌, ℕ, ◌+◌, Bool, true, false, cond, not, eqb, List, [], ◌∷◌, ◌++◌, Option, Some, None, sym, ◌∙◌, ap, subst, arith, ⊎_elim}
 use Rattle.std.specs.List.{Contains, filter}
 use Rattle.std.proofs.lemmas.Bool.{cases_eq, eqb-true, eq-eqb, ne_eqb}
 use Rattle.slab.specs.Slab.{Slab, get, Updates}
-use Rattle.of_oxm.specs.declared.match_field.MatchField.{MatchField}
-use Rattle.of_wire.specs.Numbered.{without, only, renewed}
+use Rattle.of_wire.specs.Numbered.{without, renewed}
 use Rattle.of_classifier.specs.declared.Row.{Row}
-use Rattle.of_classifier.specs.Rows.{row_number, made_row}
+use Rattle.of_classifier.specs.Rows.{row_number}
 use Rattle.of_mask_groups.specs.declared.entry.Entry.{Entry}
 use Rattle.of_mask_groups.specs.Aged.{row_of, by_age, AreAged}
-use Rattle.of_mask_groups.proofs.Members.{here, there, not_in_nil, in_cons, in_one, in_append, in_left, in_right}
+use Rattle.of_mask_groups.proofs.Members.{here, there, not_in_nil, in_one, in_append, in_left, in_right}
 use Rattle.of_mask_groups.proofs.Counting.{in_filter, of_filter}
-use Rattle.of_mask_groups.proofs.Aging.{IsRowOf, sound_row, complete_row, in_order, IsOlder, AreInOrder, order-append, same_rows}
+use Rattle.of_mask_groups.proofs.Aging.{sound_row, complete_row, in_order, AreInOrder, order-append, same_rows}
 
 pub same_entry : (o : Option Entry) (d e : Entry) → o ≡ Some d → o ≡ Some e → d ≡ e
 same_entry o d e h k = cc

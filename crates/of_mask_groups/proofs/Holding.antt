@@ -1,6 +1,5 @@
 -- Groups go on to index the entries where these keep their priorities and fields.
-use Rattle.std.proofs.Common.{◌≡◌, ◌≢◌, ℕ, ◌+◌, ◌<◌, ◌≤◌, true, List, Option, Some, None, refl, sym, ◌∙◌, ap, subst, arith, ⊎_elim}
-use Rattle.std.specs.List.{Contains}
+use Rattle.std.proofs.Common.{◌≡◌, ◌≢◌, ℕ, true, List, Option, Some, refl, sym, ◌∙◌, ap, subst, ⊎_elim}
 use Rattle.std.proofs.lemmas.Bool.{cases_eq}
 use Rattle.slab.specs.Slab.{Slab, get, Updates}
 use Rattle.of_headers.specs.declared.key.FieldKey.{FieldKey}
@@ -9,7 +8,7 @@ use Rattle.of_oxm.specs.NormalForm.{IsMatch}
 use Rattle.of_oxm.specs.Masks.{looked_at, value_of}
 use Rattle.of_mask_groups.specs.declared.entry.Entry.{Entry}
 use Rattle.of_mask_groups.specs.declared.group.Group.{Group}
-use Rattle.of_mask_groups.specs.Grouping.{is_ranked, LooksLike, AsksFor, IsMember, IsInCell, IsIndex, IsGroup, AreFalling, IsIn, IsIndexed, AreGrouped}
+use Rattle.of_mask_groups.specs.Grouping.{is_ranked, LooksLike, AsksFor, IsIndex, IsGroup, IsIn, AreGrouped}
 
 -- the number has an entry of the same priority and fields
 pub record Stays (entries : Slab Entry) (n : ℕ) (e : Entry) : Type 0 where

@@ -23,11 +23,10 @@ use Rattle.of_mask_groups.specs.Aged.{row_of, by_age, AreAged}
 use Rattle.of_mask_groups.specs.Cells.{cell_at}
 use Rattle.of_mask_groups.specs.Grouping.{LooksLike, AsksFor, AreGrouped, HasSameMask}
 use Rattle.of_mask_groups.specs.SameEntry.{is_same_entry, older_of, older_same, IsOldestAt, IsOldestAmong, IsOldestSame}
-use Rattle.of_mask_groups.proofs.Members.{here, there, not_in_nil, in_cons, in_take_more, at_place}
+use Rattle.of_mask_groups.proofs.Members.{here, there, not_in_nil, in_cons, in_take_more}
 use Rattle.of_mask_groups.proofs.Best.{take_wider, take_last}
 use Rattle.of_mask_groups.proofs.Falling.{one_group}
-use Rattle.of_mask_groups.proofs.Aging.{IsRowOf, sound_row, complete_row, in_order, IsOlder, AreInOrder}
-use Rattle.of_mask_groups.proofs.Changing.{same_entry}
+use Rattle.of_mask_groups.proofs.Aging.{sound_row, complete_row, in_order, IsOlder, AreInOrder}
 
 -- ---- one more number
 

@@ -1,33 +1,23 @@
 -- The walk over the groups: the best so far, and the winner at its end.
-use Rattle.std.proofs.Common.{◌≡◌, ℕ, zero, suc, ◌+◌, ◌<◌, ◌≤◌, Bool, true, false, eqb, ◌&&◌, ◌||◌, Option, Some, None, List, [], ◌∷◌, length, get_or, take, refl, sym, ◌∙◌, ap, subst, arith, inl, inr, ◌⊎◌, ⊎_elim}
-use Rattle.std.specs.Prelude.{map, slice_get, nat_le, nat_lt, filter}
+use Rattle.std.proofs.Common.{◌≡◌, ℕ, ◌+◌, ◌<◌, ◌≤◌, true, false, Option, Some, None, List, [], length, get_or, take, refl, sym, ◌∙◌, ap, subst, arith, ⊎_elim}
 use Rattle.std.specs.List.{Contains}
-use Rattle.std.proofs.lemmas.List.{take_more, length-take-le, length-map}
-use Rattle.std.proofs.lemmas.Bool.{cases_lt}
-use Rattle.std.proofs.lemmas.Bool.Decides.{nat_tests, eqb_tells}
+use Rattle.std.proofs.lemmas.List.{length-take-le}
+use Rattle.std.proofs.lemmas.Bool.Decides.{nat_tests}
 use Rattle.slab.specs.Slab.{Slab, get}
 use Rattle.of_layers.specs.declared.field.Field.{Field}
 use Rattle.of_headers.specs.FieldMap.{value, seen}
 use Rattle.of_headers.specs.declared.key.FieldKey.{FieldKey}
 use Rattle.of_oxm.specs.Relations.{matches_map}
-use Rattle.of_oxm.specs.Masks.{looked_at, value_of, mask_at}
+use Rattle.of_oxm.specs.Masks.{mask_at}
 use Rattle.of_oxm.proofs.Seen.{matched_exactly}
-use Rattle.of_classifier.specs.declared.Row.{Row}
-use Rattle.of_classifier.specs.Winner.{is_matching, winner_of, number_of, Wins, NoneMatches}
-use Rattle.of_classifier.proofs.WinnerLaw.{wins_both, none_both}
 use Rattle.of_mask_groups.specs.declared.entry.Entry.{Entry}
 use Rattle.of_mask_groups.specs.declared.found.Found.{Found}
 use Rattle.of_mask_groups.specs.declared.group.Group.{Group}
 use Rattle.of_mask_groups.specs.Cells.{cell_at}
-use Rattle.of_mask_groups.specs.Covering.{found_of, IsFound, beats, covered, IsBestOf, is_above_best, number_of_found}
-use Rattle.of_mask_groups.specs.Grouping.{LooksLike, AsksFor, IsMember, IsInCell, IsIndex, IsGroup, AreFalling, IsIn, IsIndexed, AreGrouped}
-use Rattle.of_mask_groups.specs.Aged.{row_of, by_age, AreAged}
-use Rattle.of_mask_groups.specs.Probing.{listed, is_same_mask, different, mask_of_row, masks_in, reaching, probes_of, probes_for}
-use Rattle.of_mask_groups.proofs.Members.{here, there, not_in_nil, in_cons, in_take, in_take_more, at_place, in_map, of_map, place_of, of_place}
-use Rattle.of_mask_groups.proofs.Counting.{as_many, in_filter, of_filter}
-use Rattle.of_mask_groups.proofs.Sights.{same_listed, same_mask_decides}
-use Rattle.of_mask_groups.proofs.Falling.{sight, one_group, before_at, before_or_below, falling-take, apart_sights}
-use Rattle.of_mask_groups.proofs.Aging.{IsRowOf, sound_row, complete_row, in_order, older_by_place}
+use Rattle.of_mask_groups.specs.Covering.{found_of, IsFound, covered, IsBestOf, is_above_best}
+use Rattle.of_mask_groups.specs.Grouping.{LooksLike, AsksFor, IsInCell, AreGrouped}
+use Rattle.of_mask_groups.proofs.Members.{not_in_nil, in_take_more, at_place}
+use Rattle.of_mask_groups.proofs.Falling.{one_group, before_at}
 
 -- what is found is an entry that matches
 pub record IsHit (entries : Slab Entry) (key : Field → Option ℕ) (f : Found) : Type 0 where

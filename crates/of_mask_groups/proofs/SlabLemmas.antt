@@ -1,5 +1,5 @@
 -- A slab after a value is written.
-use Rattle.std.proofs.Common.{◌≡◌, ◌≢◌, ℕ, zero, suc, ◌<◌, List, [], ◌∷◌, length, get_or, Option, Some, None, arith, get_or-set_other, get_or-set_same}
+use Rattle.std.proofs.Common.{◌≡◌, ℕ, zero, suc, ◌<◌, List, [], ◌∷◌, length, get_or, Option, Some, None, arith, get_or-set_other, get_or-set_same}
 use Rattle.slab.specs.Slab.{Slab, get, Updates, with_value}
 
 pub within_slots : {T : Type 0} (slots : List (Option T)) (n : ℕ) (d : T) → get_or slots n None ≡ Some d → n < length slots

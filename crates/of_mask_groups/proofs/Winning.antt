@@ -1,6 +1,6 @@
 -- What the walk over the groups ends with: the winner, and the number of masks that had to be asked.
-use Rattle.std.proofs.Common.{◌≡◌, ℕ, zero, suc, ◌+◌, ◌<◌, ◌≤◌, Bool, true, false, eqb, Option, Some, None, List, [], ◌∷◌, length, get_or, take, refl, sym, ◌∙◌, ap, subst, arith, inl, inr, ◌⊎◌, ⊎_elim}
-use Rattle.std.specs.Prelude.{map, slice_get, nat_le, nat_lt, filter}
+use Rattle.std.proofs.Common.{◌≡◌, ℕ, ◌<◌, ◌≤◌, Bool, true, false, Option, Some, None, List, length, get_or, take, refl, sym, ◌∙◌, ap, subst, arith, inl, inr, ◌⊎◌, ⊎_elim}
+use Rattle.std.specs.Prelude.{map, slice_get, nat_le}
 use Rattle.std.specs.List.{Contains}
 use Rattle.std.proofs.lemmas.List.{length-map}
 use Rattle.std.proofs.lemmas.Bool.{cases_lt}
@@ -10,21 +10,21 @@ use Rattle.of_layers.specs.declared.field.Field.{Field}
 use Rattle.of_oxm.specs.Relations.{matches_map}
 use Rattle.of_oxm.specs.Masks.{looked_at, mask_at}
 use Rattle.of_classifier.specs.declared.Row.{Row}
-use Rattle.of_classifier.specs.Winner.{is_matching, winner_of, number_of, Wins, NoneMatches}
+use Rattle.of_classifier.specs.Winner.{is_matching, winner_of, number_of, Wins}
 use Rattle.of_classifier.proofs.WinnerLaw.{wins_both, none_both}
 use Rattle.of_mask_groups.specs.declared.entry.Entry.{Entry}
 use Rattle.of_mask_groups.specs.declared.found.Found.{Found}
 use Rattle.of_mask_groups.specs.declared.group.Group.{Group}
-use Rattle.of_mask_groups.specs.Covering.{found_of, IsFound, beats, covered, number_of_found, is_above_best}
-use Rattle.of_mask_groups.specs.Grouping.{LooksLike, IsMember, IsIndex, IsGroup, AreFalling, IsIn, IsIndexed, AreGrouped}
+use Rattle.of_mask_groups.specs.Covering.{found_of, beats, covered, number_of_found, is_above_best}
+use Rattle.of_mask_groups.specs.Grouping.{LooksLike, AreFalling, IsIndexed, AreGrouped}
 use Rattle.of_mask_groups.specs.Aged.{row_of, by_age, AreAged}
-use Rattle.of_mask_groups.specs.Probing.{listed, is_same_mask, different, mask_of_row, masks_in, reaching, probes_of, probes_for}
+use Rattle.of_mask_groups.specs.Probing.{is_same_mask, mask_of_row, masks_in, reaching, probes_of, probes_for}
 use Rattle.of_mask_groups.proofs.Members.{in_map, of_map, place_of, of_place}
 use Rattle.of_mask_groups.proofs.Counting.{as_many, in_filter, of_filter}
 use Rattle.of_mask_groups.proofs.Sights.{same_listed, same_mask_decides}
 use Rattle.of_mask_groups.proofs.Falling.{sight, apart_sights, before_or_below}
 use Rattle.of_mask_groups.proofs.Aging.{IsRowOf, sound_row, complete_row, in_order, older_by_place}
-use Rattle.of_mask_groups.proofs.Searching.{IsHit, AreProbed}
+use Rattle.of_mask_groups.proofs.Searching.{AreProbed}
 
 -- a group that is not probed is below the best
 pub record IsBelow (best : Option Found) (h : Group) : Type 0 where

@@ -1,5 +1,5 @@
 -- Groups of masks, and how they index the entries of a slab.
-use Rattle.std.specs.Prelude.{◌≡◌, ◌⊎◌, ℕ, ◌≤◌, Bool, true, Option, Some, None, List, [], ◌∷◌, length, take, drop}
+use Rattle.std.specs.Prelude.{◌≡◌, ◌⊎◌, ℕ, ◌≤◌, Bool, true, Some, List, [], ◌∷◌, length, take, drop}
 use Rattle.std.specs.List.{Contains}
 use Rattle.slab.specs.Slab.{Slab, get}
 use Rattle.of_layers.specs.declared.field.Field.{Field}

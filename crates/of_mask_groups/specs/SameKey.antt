@@ -1,10 +1,10 @@
 -- `==` tells keys apart, and equal keys hash alike.
-use Rattle.std.proofs.Common.{◌≡◌, ℕ, Bool, true, false, eqb, ◌&&◌, Option, List, [], ◌∷◌, get_or, refl, sym, ◌∙◌, ap, subst, arith}
+use Rattle.std.proofs.Common.{◌≡◌, ℕ, Bool, true, false, eqb, ◌&&◌, Option, List, [], ◌∷◌, get_or, refl, sym, ◌∙◌, ap}
 use Rattle.std.specs.Prelude.{slice_index}
 use Rattle.std.proofs.lemmas.Bool.{eqb-true, eq-eqb}
 use Rattle.of_layers.specs.declared.field.Field.{Field}
 use Rattle.of_layers.specs.Fields.{number_of}
-use Rattle.of_headers.specs.FieldMap.{value, there, numbers_in}
+use Rattle.of_headers.specs.FieldMap.{value, there}
 use Rattle.of_headers.specs.declared.key.FieldKey.{FieldKey}
 use Rattle.of_headers.specs.contracts.key.FieldKeyPartialEq.TheImpl as the_key
 use Rattle.of_headers.proofs.SameFields.{same_key}

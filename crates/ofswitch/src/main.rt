@@ -1,7 +1,7 @@
 //! `ofswitch`: an OpenFlow 1.3 switch on the command line.
 #![tactic(auto)]
 
-use of_classifier::Scan;
+use of_mask_groups::MaskGroups;
 use of_command_line::{NoRequest, Request, read_request};
 use of_replay::streams::{ReaderSource, WriterSink};
 use of_replay::{Ended, replay, status};
@@ -65,7 +65,7 @@ fn replay_file(rt: &HostRuntime, path: &str) -> ExitCode {
 fn replay_reader<R: Read + Drop>(rt: &HostRuntime, reader: R) -> Ended {
     let mut reader = ReaderSource::new(reader);
     let mut writer = WriterSink::new(rt.stdout());
-    replay::<Scan, _, _>(rt.alloc(), &mut reader, &mut writer)
+    replay::<MaskGroups, _, _>(rt.alloc(), &mut reader, &mut writer)
 }
 
 // Why the run ended, on standard error where it is a fault, and the status.

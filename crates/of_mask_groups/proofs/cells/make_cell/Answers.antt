@@ -1,4 +1,4 @@
-use Rattle.std.proofs.Common.{◌≡◌, Some, sym, ◌∙◌}
+use Rattle.std.proofs.Common.{Some, sym, ◌∙◌}
 use Rattle.of_mask_groups.proofs.CellLemmas.{cells_kept, vacant_cell}
 use Rattle.of_mask_groups.proofs.cells.make_cell.Goals as goal
 

@@ -1,5 +1,4 @@
-use Rattle.std.proofs.Common.{◌≡◌, Some, sym, ◌∙◌, ap}
-use Rattle.std.specs.Prelude.{OnOk}
+use Rattle.std.proofs.Common.{Some, ◌∙◌, ap}
 use Rattle.of_mask_groups.specs.Cells.{items_of}
 use Rattle.of_mask_groups.proofs.CellLemmas.{cells_kept, room_made}
 use Rattle.of_mask_groups.proofs.cells.reserve_cell.Goals as goal

@@ -1,4 +1,4 @@
-use Rattle.std.proofs.Common.{◌≡◌, List, Option, sym, ap, subst}
+use Rattle.std.proofs.Common.{List, sym, ap, subst}
 use Rattle.slab.specs.Slab.{Slab}
 use Rattle.of_mask_groups.specs.declared.entry.Entry.{Entry}
 use Rattle.of_mask_groups.specs.declared.group.Group.{Group}

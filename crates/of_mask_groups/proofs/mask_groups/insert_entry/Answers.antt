@@ -1,6 +1,6 @@
-use Rattle.std.proofs.Common.{◌≡◌, ℕ, Bool, true, false, List, Some, sym, ◌∙◌, subst}
+use Rattle.std.proofs.Common.{◌≡◌, true, false, Some, sym, ◌∙◌, subst}
 use Rattle.std.specs.Global.{Vec}
-use Rattle.slab.specs.Slab.{Slab, get, Updates}
+use Rattle.slab.specs.Slab.{Updates}
 use Rattle.of_mask_groups.specs.declared.group.Group.{Group}
 use Rattle.of_mask_groups.specs.Grouping.{AreGrouped}
 use Rattle.of_mask_groups.proofs.Splitting.{split_same, grouped_left}

@@ -1,5 +1,4 @@
-use Rattle.std.proofs.Common.{◌≡◌, ℕ, Bool, true, false, List, Some, sym, ◌∙◌, subst}
-use Rattle.slab.specs.Slab.{Slab, get}
+use Rattle.std.proofs.Common.{◌≡◌, true, false, sym, ◌∙◌}
 use Rattle.of_mask_groups.proofs.Splitting.{grouped_left}
 use Rattle.of_mask_groups.proofs.Turning.{split_less}
 use Rattle.of_mask_groups.proofs.Adding.{looks_by, asks_by}

@@ -1,5 +1,4 @@
-use Rattle.std.proofs.Common.{refl, take_all, subst}
-use Rattle.of_mask_groups.specs.SameEntry.{IsOldestAmong}
+use Rattle.std.proofs.Common.{refl}
 use Rattle.of_mask_groups.proofs.SameLemmas.{same_more}
 use Rattle.of_mask_groups.proofs.same.oldest_same.Goals as goal
 

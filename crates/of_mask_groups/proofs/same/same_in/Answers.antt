@@ -1,4 +1,4 @@
-use Rattle.std.proofs.Common.{◌≡◌, ℕ, List, sym, subst}
+use Rattle.std.proofs.Common.{ℕ, List, sym, subst}
 use Rattle.of_mask_groups.specs.declared.group.Group.{Group}
 use Rattle.std.specs.List.{Contains}
 use Rattle.of_mask_groups.specs.SameEntry.{IsOldestSame}

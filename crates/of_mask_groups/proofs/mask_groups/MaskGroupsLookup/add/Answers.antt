@@ -1,4 +1,4 @@
-use Rattle.std.proofs.Common.{◌≡◌, ◌∙◌, refl}
+use Rattle.std.proofs.Common.{◌∙◌, refl}
 use Rattle.of_mask_groups.proofs.Adding.{added_aged, added_rows, added_unused, added_not}
 use Rattle.of_mask_groups.proofs.mask_groups.MaskGroupsLookup.add.Goals as goal
 

@@ -1,4 +1,4 @@
-use Rattle.std.proofs.Common.{◌≡◌, ◌+◌, true, List, Some, refl, sym, ◌∙◌, ap, subst}
+use Rattle.std.proofs.Common.{◌≡◌, true, List, Some, refl, sym, ◌∙◌, ap, subst}
 use Rattle.slab.specs.Slab.{Slab, Updates}
 use Rattle.of_wire.specs.Numbered.{is_used, renewed}
 use Rattle.of_classifier.specs.declared.Row.{Row}

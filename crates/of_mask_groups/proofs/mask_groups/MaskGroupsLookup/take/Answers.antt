@@ -1,4 +1,4 @@
-use Rattle.std.proofs.Common.{◌≡◌, ◌+◌, List, ◌∙◌, ap}
+use Rattle.std.proofs.Common.{◌+◌, List, ◌∙◌, ap}
 use Rattle.of_wire.specs.Numbered.{without}
 use Rattle.of_classifier.specs.declared.Row.{Row}
 use Rattle.of_classifier.specs.Rows.{row_number}
