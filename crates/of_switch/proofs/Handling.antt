@@ -10,7 +10,7 @@ use Rattle.of_session.specs.Session.{taken, next_of as next_in}
 use Rattle.of_switch.specs.declared.effect.Effect.{Effect}
 use Rattle.of_switch.specs.declared.effect.Effect.TheVariants.{Answer}
 use Rattle.of_switch.specs.State.{Core, State}
-use Rattle.of_switch.specs.Steps.{Done, does, done, state_refusals, refused, unless_refused, handled, gives, failed_of, next_by, next_of, IsRefusedWith}
+use Rattle.of_switch.specs.Steps.{does, done, state_refusals, refused, unless_refused, handled, gives, failed_of, next_by, IsRefusedWith}
 
 handled_by : (xid : ℕ) (m : Message) (failed : List ℕ) (k : Core) (o : Option Code) → first_of (state_refusals m k) ≡ o → handled xid m failed k ≡ unless_refused o xid failed k (done xid m k)
 unfolding handled

@@ -1,12 +1,12 @@
 -- A piece handles the messages that its bytes and those before it are, one after the other.
-use Rattle.std.proofs.Common.{◌≡◌, ℕ, ◌≤◌, ◌⊎◌, inl, inr, Bool, true, false, cond, List, [], ◌∷◌, ◌++◌, length, take, drop, Option, Some, None, refl, sym, ◌∙◌, ap, subst, arith, append_assoc}
+use Rattle.std.proofs.Common.{◌≡◌, ℕ, ◌⊎◌, inl, inr, Bool, true, false, cond, List, [], ◌∷◌, ◌++◌, length, take, drop, Option, Some, None, refl, sym, ◌∙◌, ap, subst, arith, append_assoc}
 use Rattle.std.proofs.lemmas.List.{append-nil, drop_all}
 use Rattle.of_session.specs.declared.session.Phase.{Phase}
 use Rattle.of_session.specs.declared.session.Phase.TheVariants.{Disconnected, Greeting, Open}
 use Rattle.of_session.specs.declared.session.Next.{Next}
 use Rattle.of_session.specs.declared.session.Next.TheVariants.{Nothing, BadStream, NotHello, Opened, Read, Refused}
 use Rattle.of_session.specs.Stream.{First, Whole, Bad, Partial, front_of, IsMessage, IsMalformed, IsPartial, concat, AreMessages, Splits}
-use Rattle.of_session.specs.Session.{Connection, is_disconnected, is_first_hello, read_as, judged, next_by as next_at, next_of as next_in, IsSized}
+use Rattle.of_session.specs.Session.{is_disconnected, is_first_hello, read_as, judged, next_by as next_at, next_of as next_in, IsSized}
 use Rattle.of_session.proofs.Fronts.{message_front, malformed_front, partial_front}
 use Rattle.of_messages.specs.declared.message.Message.{Message}
 use Rattle.of_messages.specs.Messages.{xid_of, message_of}

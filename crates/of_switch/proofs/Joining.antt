@@ -8,11 +8,11 @@ use Rattle.of_session.specs.declared.session.Phase.{Phase}
 use Rattle.of_session.specs.declared.session.Phase.TheVariants.{Open}
 use Rattle.of_session.specs.declared.session.Next.{Next}
 use Rattle.of_session.specs.declared.session.Next.TheVariants.{Nothing, BadStream, NotHello, Opened, Read, Refused}
-use Rattle.of_session.specs.Session.{Connection, is_disconnected, fed as fed_connection, entered, next_of as next_in}
+use Rattle.of_session.specs.Session.{Connection, is_disconnected, entered, next_of as next_in}
 use Rattle.of_session.proofs.Nexts.{IsSizedIn, next_sized, IsSomething, next_more}
 use Rattle.of_switch.specs.declared.effect.Effect.{Effect}
 use Rattle.of_switch.specs.State.{State}
-use Rattle.of_switch.specs.Steps.{Outcome, Done, does, beside, gives, fed, handled, refused, failed_of, closing, came, next_by, next_of}
+use Rattle.of_switch.specs.Steps.{Outcome, Done, does, beside, gives, fed, handled, refused, failed_of, closing, next_by, next_of}
 use Rattle.of_switch.specs.Runs.{behind, then_more, drain, drained, piece_in, come}
 use Rattle.of_switch.proofs.Draining.{next_shorter}
 

@@ -1,27 +1,17 @@
 -- Events, one after the other.
-use Rattle.std.proofs.Common.{◌≡◌, ℕ, ◌+◌, ◌<◌, suc, Bool, true, false, List, [], ◌∷◌, ◌++◌, length, get_or, take, drop, Option, Some, None, Result, Ok, Err, inl, inr, refl, sym, ◌∙◌, ap, subst, arith, append_assoc, add-one, drop-cons}
+use Rattle.std.proofs.Common.{◌≡◌, ℕ, ◌+◌, ◌<◌, suc, List, [], ◌∷◌, ◌++◌, length, get_or, take, drop, None, Result, Ok, Err, inl, refl, sym, ◌∙◌, ap, subst, arith, append_assoc, add-one, drop-cons}
 use Rattle.std.proofs.lemmas.List.{append-nil, map-append, take-append-drop}
 use Rattle.std.proofs.Math.Seq.{take-suc}
 use Rattle.std.specs.declared.alloc.AllocError.{AllocError}
-use Rattle.smallvec.specs.SmallVec.{SmallVec}
 use Rattle.of_switch.specs.declared.effect.Effect.{Effect}
 use Rattle.of_switch.specs.declared.event.Event.{Event}
-use Rattle.of_switch.specs.declared.event.Event.TheVariants.{Connect, Piece, Frame, Moment, Ports}
 use Rattle.of_switch.specs.declared.event.Report.{Report as Reported}
-use Rattle.of_switch.specs.declared.event.Report.TheVariants as reported
-use Rattle.of_switch.specs.declared.port_change.PortChange.{PortChange}
-use Rattle.of_switch.specs.declared.port_change.PortChange.TheVariants.{Add}
-use Rattle.of_switch.specs.declared.switch_error.SwitchError.{SwitchError}
-use Rattle.of_switch.specs.declared.switch_error.SwitchError.TheVariants.{NoMemory, NotConnected, Connected, PortExists, TooManyPorts, BadPortNumber}
-use Rattle.of_session.specs.Session.{is_disconnected}
-use Rattle.of_switch.specs.Ports.{is_number, has_port}
-use Rattle.std.specs.Prelude.{nat_le, not, cond, OnErr}
+use Rattle.std.specs.Prelude.{OnErr}
 use Rattle.of_switch.specs.State.{State}
-use Rattle.of_switch.specs.Steps.{Outcome, gives, fed, next_of}
-use Rattle.of_switch.specs.Calls.{Call, connect_refusal, feed_refusal, port_refusal}
-use Rattle.of_switch.specs.Runs.{behind, drain, drained, piece_in, Report, Gives, IsRefused, report_of, reports_of, Happened, unless, happened, Run, run, effects_in, IsBrokenOff, IsInterrupted, StopsWithin, RunsAll}
-use Rattle.of_switch.specs.Stepping.{TellsRefusal, Tells, Happens, Drains}
-use Rattle.of_switch.proofs.Draining.{Left, left_all, left_more}
+use Rattle.of_switch.specs.Steps.{Outcome, gives, next_of}
+use Rattle.of_switch.specs.Runs.{behind, drain, drained, Report, Gives, report_of, reports_of, Happened, happened, Run, run, IsInterrupted, StopsWithin, RunsAll}
+use Rattle.of_switch.specs.Stepping.{Happens, Drains}
+use Rattle.of_switch.proofs.Draining.{Left, left_all}
 use Rattle.of_switch.proofs.Joining.{drain_same}
 
 -- A PIECE

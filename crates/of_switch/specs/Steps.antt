@@ -21,7 +21,7 @@ use Rattle.of_switch.specs.declared.effect.Effect.TheVariants.{Answer, Closed}
 use Rattle.of_switch.specs.declared.port_change.PortChange.{PortChange}
 use Rattle.of_switch.specs.declared.port_change.PortChange.TheVariants.{Add}
 use Rattle.of_switch.specs.Ports.{new_port, with_port}
-use Rattle.of_switch.specs.Plane.{Forwarding, Forwarded, framed, through}
+use Rattle.of_switch.specs.Plane.{Forwarded, framed, through}
 use Rattle.of_switch.specs.State.{Core, State}
 
 -- A MESSAGE (7.3): what it gives and the core after it, whatever the connection

@@ -294,10 +294,10 @@ impl<L: Lookup> Plane<L> {
         ensures forwarding { forwarding_of self.new.tables self.new.ports.items ≡ (planned plan self.old.tables self.old.ports.items).forwarding }
     {
         let Plan { effects, change } = plan;
-        match change {
+        match &change {
             Change::Nothing => {}
-            Change::Counts { reception, counts } => self.count(reception, &counts, &effects),
-            Change::Removal(cause) => self.tables.remove(&cause),
+            Change::Counts { reception, counts } => self.count(*reception, counts, &effects),
+            Change::Removal(cause) => self.tables.remove(cause),
         }
         effects
     }

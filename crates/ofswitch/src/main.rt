@@ -1,8 +1,8 @@
 //! `ofswitch`: an OpenFlow 1.3 switch on the command line.
 #![tactic(auto)]
 
-use of_mask_groups::MaskGroups;
 use of_command_line::{NoRequest, Request, read_request};
+use of_mask_groups::MaskGroups;
 use of_replay::streams::{ReaderSource, WriterSink};
 use of_replay::{Ended, replay, status};
 use std::fs::File;
