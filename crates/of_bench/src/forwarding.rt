@@ -4,7 +4,7 @@ use crate::clock::{Timed, time};
 use crate::flows;
 use crate::flows::add;
 use crate::frames::TCP;
-use crate::switching::open_switch;
+use crate::switching::{open_switch, piece};
 use of_classifier::Scan;
 use of_switch::{Effect, Switch};
 use std::alloc::Global;
@@ -51,7 +51,7 @@ fn eight_flows(alloc: Global) -> Option<Switch<Scan>> {
     let mut switch = open_switch(alloc)?;
     for port in 73..81 {
         let flow = add(alloc, 0, &flows::web_match(port), &flows::OUTPUT).ok()?;
-        switch.piece(&flow).ok()?;
+        piece(&mut switch, flow.as_slice())?;
     }
     Some(switch)
 }
@@ -65,13 +65,13 @@ pub fn time_frame(rt: &HostRuntime) -> io::Result<()> {
 fn four_tables(alloc: Global) -> Option<Switch<Scan>> {
     let mut switch = open_switch(alloc)?;
     let flow = add(alloc, 0, &flows::PORT_MATCH, &flows::SET_ETHERNET).ok()?;
-    switch.piece(&flow).ok()?;
+    piece(&mut switch, flow.as_slice())?;
     let flow = add(alloc, 1, &flows::IPV4_MATCH, &flows::WRITE_OUTPUT).ok()?;
-    switch.piece(&flow).ok()?;
+    piece(&mut switch, flow.as_slice())?;
     let flow = add(alloc, 2, &flows::web_match(80), &flows::SET_TRANSPORT).ok()?;
-    switch.piece(&flow).ok()?;
+    piece(&mut switch, flow.as_slice())?;
     let flow = add(alloc, 3, &flows::web_match(8080), &flows::WRITE_AGING).ok()?;
-    switch.piece(&flow).ok()?;
+    piece(&mut switch, flow.as_slice())?;
     Some(switch)
 }
 

@@ -36,13 +36,26 @@ fn port(number: u32) -> PortChange {
     }
 }
 
+/// Bytes of the controller come, and each whole message is handled; `None` where that was refused or memory ran out.
+pub fn piece(switch: &mut Switch<Scan>, bytes: &[u8]) -> Option<u64> {
+    switch.feed(bytes).ok()?;
+    let mut effects: u64 = 0;
+    for _ in 0..=bytes.len() {
+        match switch.next().ok()? {
+            None => return Some(effects),
+            Some(more) => effects = effects.wrapping_add(more.len() as u64),
+        }
+    }
+    Some(effects)
+}
+
 /// A switch of the ports 1 and 2, with a controller that said HELLO; `None` where memory runs out.
 pub fn open_switch(alloc: Global) -> Option<Switch<Scan>> {
     let mut switch = Switch::<Scan>::new(alloc, 1).ok()?;
     switch.port_change(port(1)).ok()?;
     switch.port_change(port(2)).ok()?;
     switch.connected().ok()?;
-    switch.piece(&HELLO).ok()?;
+    piece(&mut switch, &HELLO)?;
     Some(switch)
 }
 
@@ -50,7 +63,7 @@ pub fn open_switch(alloc: Global) -> Option<Switch<Scan>> {
 fn switch_with(rt: &HostRuntime, flows: u16) -> Option<Switch<Scan>> {
     let mut switch = open_switch(rt.alloc())?;
     for priority in 0..flows {
-        switch.piece(&add(priority)).ok()?;
+        piece(&mut switch, &add(priority))?;
     }
     Some(switch)
 }
@@ -62,10 +75,7 @@ struct FlowMod {
 
 impl Timed for FlowMod {
     fn call(&mut self, turn: u64) -> u64 {
-        match self.switch.piece(&add((turn % 4) as u16)) {
-            Ok(effects) => effects.len() as u64,
-            Err(_) => 0,
-        }
+        piece(&mut self.switch, &add((turn % 4) as u16)).unwrap_or(0)
     }
 }
 

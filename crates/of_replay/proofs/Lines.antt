@@ -6,7 +6,6 @@ use Rattle.std.specs.List.{position_or_len}
 use Rattle.std.specs.Option.{option_map}
 use Rattle.std.proofs.lemmas.Bool.Decides.{nat_tests}
 use Rattle.of_switch.specs.State.{State, start}
-use Rattle.of_switch.specs.Calls.{Held}
 use Rattle.of_replay.specs.declared.play.Halt.{Halt}
 use Rattle.of_replay.specs.declared.play.Halt.TheVariants.{Bad, Memory, Write}
 use Rattle.of_replay.specs.Told.{then_bytes}
@@ -24,34 +23,34 @@ pub front_more : (old new : Option (List ℕ)) (text more : List ℕ) → WroteF
 front_more old new text more w = (w.0, w.1 ++ more, sym (append_assoc w.0 w.1 more) ∙ ap (λ (xs : List ℕ). xs ++ more) w.2, w.3)
 
 -- nothing was written yet
-pub line_kept : (row : Option EventRow) (text : List ℕ) (s : State) (n : ℕ) (out out' : List ℕ) (taken taken' : Option (List ℕ)) (held : Held) → LineTells (Ok tt) n row s held text → out' ≡ out ++ text → taken' ≡ taken → LineGoes (Ok tt) n row s held out out' taken taken'
+pub line_kept : (row : Option EventRow) (text : List ℕ) (s : State) (n : ℕ) (out out' : List ℕ) (taken taken' : Option (List ℕ)) (held : State) → LineTells (Ok tt) n row s held text → out' ≡ out ++ text → taken' ≡ taken → LineGoes (Ok tt) n row s held out out' taken taken'
 line_kept (Some row) text s n out out' taken taken' held h o t = (report_text (row_happened s row).report, [], (row_happened s row).state, h.1, t ∙ sym (then-nil taken), o ∙ ap (λ (x : List ℕ). out ++ x) h.0, λ rest. refl)
 line_kept None text s n out out' taken taken' held h o t = absurd h
 
 -- all was written
-pub line_flushed : (row : Option EventRow) (text : List ℕ) (s : State) (n : ℕ) (out full out' : List ℕ) (taken taken' : Option (List ℕ)) (held : Held) → LineTells (Ok tt) n row s held text → full ≡ out ++ text → out' ≡ [] → taken' ≡ then_bytes taken full → LineGoes (Ok tt) n row s held out out' taken taken'
+pub line_flushed : (row : Option EventRow) (text : List ℕ) (s : State) (n : ℕ) (out full out' : List ℕ) (taken taken' : Option (List ℕ)) (held : State) → LineTells (Ok tt) n row s held text → full ≡ out ++ text → out' ≡ [] → taken' ≡ then_bytes taken full → LineGoes (Ok tt) n row s held out out' taken taken'
 line_flushed (Some row) text s n out full out' taken taken' held h f o t = (report_text (row_happened s row).report, full, (row_happened s row).state, h.1, t, ap (λ (x : List ℕ). full ++ x) o ∙ (append-nil full ∙ (f ∙ ap (λ (x : List ℕ). out ++ x) h.0)), λ rest. refl)
 line_flushed None text s n out full out' taken taken' held h f o t = absurd h
 
 -- the write failed
-pub line_unwritten : (row : Option EventRow) (text : List ℕ) (s : State) (n : ℕ) (out full out' : List ℕ) (taken taken' : Option (List ℕ)) (told held : Held) → LineTells (Ok tt) n row s told text → full ≡ out ++ text → WroteFront taken full taken' → LineGoes (Err Write) n row s held out out' taken taken'
+pub line_unwritten : (row : Option EventRow) (text : List ℕ) (s : State) (n : ℕ) (out full out' : List ℕ) (taken taken' : Option (List ℕ)) (told held : State) → LineTells (Ok tt) n row s told text → full ≡ out ++ text → WroteFront taken full taken' → LineGoes (Err Write) n row s held out out' taken taken'
 line_unwritten (Some row) text s n out full out' taken taken' told held h f w = λ rest.
     let more = (rest (row_happened s row).state).text in
     subst (λ (x : List ℕ). WroteFront taken x taken') (ap (λ (x : List ℕ). x ++ more) (f ∙ ap (λ (x : List ℕ). out ++ x) h.0) ∙ append_assoc out (report_text (row_happened s row).report) more) (front_more taken taken' full more w)
 line_unwritten None text s n out full out' taken taken' told held h f w = absurd h
 
 -- what was before it could not be written
-pub line_before : (row : Option EventRow) (s : State) (n : ℕ) (out out' : List ℕ) (taken taken' : Option (List ℕ)) (held : Held) → WroteFront taken out taken' → LineGoes (Err Write) n row s held out out' taken taken'
+pub line_before : (row : Option EventRow) (s : State) (n : ℕ) (out out' : List ℕ) (taken taken' : Option (List ℕ)) (held : State) → WroteFront taken out taken' → LineGoes (Err Write) n row s held out out' taken taken'
 line_before row s n out out' taken taken' held w = λ rest. front_more taken taken' out (line_played rest s n row).text w
 
 -- it halts, and what was before it was written
-pub line_halts : (h : Halt) (row : Option EventRow) (text : List ℕ) (s : State) (n : ℕ) (out out' : List ℕ) (taken taken' : Option (List ℕ)) (told held : Held) → LineTells (Err h) n row s told text → taken' ≡ then_bytes taken out → LineGoes (Err h) n row s held out out' taken taken'
+pub line_halts : (h : Halt) (row : Option EventRow) (text : List ℕ) (s : State) (n : ℕ) (out out' : List ℕ) (taken taken' : Option (List ℕ)) (told held : State) → LineTells (Err h) n row s told text → taken' ≡ then_bytes taken out → LineGoes (Err h) n row s held out out' taken taken'
 line_halts (Bad m) (Some row) text s n out out' taken taken' told held h t = absurd h
 line_halts (Bad m) None text s n out out' taken taken' told held h t = λ rest. (ap Some (sym h), t ∙ ap (then_bytes taken) (sym (append-nil out)))
 line_halts Memory row text s n out out' taken taken' told held h t = λ rest. t
 line_halts Write row text s n out out' taken taken' told held h t = absurd h
 
-pub line_memory : (row : Option EventRow) (s : State) (n : ℕ) (out out' : List ℕ) (taken taken' : Option (List ℕ)) (held : Held) → taken' ≡ then_bytes taken out → LineGoes (Err Memory) n row s held out out' taken taken'
+pub line_memory : (row : Option EventRow) (s : State) (n : ℕ) (out out' : List ℕ) (taken taken' : Option (List ℕ)) (held : State) → taken' ≡ then_bytes taken out → LineGoes (Err Memory) n row s held out out' taken taken'
 line_memory row s n out out' taken taken' held t = λ rest. t
 
 -- A RUN
@@ -76,29 +75,27 @@ going_start lines first = record {
 texts_after : (a b : List ℕ) (p : Play) → after_text a (after_text b p) ≡ after_text (a ++ b) p
 texts_after a b p = ap (λ (x : List ℕ). record { text = x; bad = p.bad }) (sym (append_assoc a b p.text))
 
-pub going_on : (lines left : List (List ℕ)) (line : List ℕ) (n : ℕ) (s : State) (out out' : List ℕ) (first taken taken' : Option (List ℕ)) (held : Held)
-    → Going lines (line ∷ left) n s out first taken → LineGoes (Ok tt) n (row_of line) s held out out' taken taken' → (held.failed ≡ false) × Going lines left (n + 1) held.state out' first taken'
+pub going_on : (lines left : List (List ℕ)) (line : List ℕ) (n : ℕ) (s : State) (out out' : List ℕ) (first taken taken' : Option (List ℕ)) (held : State)
+    → Going lines (line ∷ left) n s out first taken → LineGoes (Ok tt) n (row_of line) s held out out' taken taken' → Going lines left (n + 1) held out' first taken'
 going_on lines left line n s out out' first taken taken' held going h =
     let text = h.0 in
     let more = h.1 in
     let t = h.2 in
     let texts : (going.wrote ++ out) ++ text ≡ (going.wrote ++ more) ++ out' =
-    append_assoc going.wrote out text ∙ (ap (λ (x : List ℕ). going.wrote ++ x) (sym h.5) ∙ sym (append_assoc going.wrote more out')) in (
-      ap (λ (x : Held). x.failed) h.3,
-      record {
-        front = going.front ++ line ∷ [];
-        wrote = going.wrote ++ more;
-        taken_is = h.4 ∙ (ap (λ (k : Option (List ℕ)). then_bytes k more) going.taken_is ∙ then-then first going.wrote more);
-        lines_are = going.lines_are ∙ sym (append_assoc going.front (line ∷ []) left);
-        goes = λ tail.
-            ap played_lines (append_assoc going.front (line ∷ []) tail)
-            ∙ (going.goes (line ∷ tail)
-            ∙ (ap (after_text (going.wrote ++ out)) (h.6 (λ u. played u (n + 1) tail))
-            ∙ (texts_after (going.wrote ++ out) text (played t (n + 1) tail)
-            ∙ (ap (λ (x : List ℕ). after_text x (played t (n + 1) tail)) texts
-            ∙ ap (λ (x : Held). after_text ((going.wrote ++ more) ++ out') (played x.state (n + 1) tail)) (sym h.3)))));
-      },
-    )
+    append_assoc going.wrote out text ∙ (ap (λ (x : List ℕ). going.wrote ++ x) (sym h.5) ∙ sym (append_assoc going.wrote more out')) in
+    record {
+      front = going.front ++ line ∷ [];
+      wrote = going.wrote ++ more;
+      taken_is = h.4 ∙ (ap (λ (k : Option (List ℕ)). then_bytes k more) going.taken_is ∙ then-then first going.wrote more);
+      lines_are = going.lines_are ∙ sym (append_assoc going.front (line ∷ []) left);
+      goes = λ tail.
+          ap played_lines (append_assoc going.front (line ∷ []) tail)
+          ∙ (going.goes (line ∷ tail)
+          ∙ (ap (after_text (going.wrote ++ out)) (h.6 (λ u. played u (n + 1) tail))
+          ∙ (texts_after (going.wrote ++ out) text (played t (n + 1) tail)
+          ∙ (ap (λ (x : List ℕ). after_text x (played t (n + 1) tail)) texts
+          ∙ ap (λ (x : State). after_text ((going.wrote ++ more) ++ out') (played x (n + 1) tail)) (sym h.3)))));
+    }
 
 -- what the lines print, where the run is here
 whole : (lines left : List (List ℕ)) (n : ℕ) (s : State) (out : List ℕ) (first taken : Option (List ℕ)) (going : Going lines left n s out first taken) → played_lines lines ≡ after_text (going.wrote ++ out) (played s n left)
@@ -125,7 +122,7 @@ first_lines lines left n s out first taken taken' going e =
       wrote = (ap (λ (p : Play). p.bad) so_far, wrote ∙ ap (λ (p : Play). then_bytes first p.text) (sym so_far));
     }
 
-pub going_halts : (h : Halt) (lines left : List (List ℕ)) (line : List ℕ) (n : ℕ) (s : State) (out out' : List ℕ) (first taken taken' : Option (List ℕ)) (held : Held)
+pub going_halts : (h : Halt) (lines left : List (List ℕ)) (line : List ℕ) (n : ℕ) (s : State) (out out' : List ℕ) (first taken taken' : Option (List ℕ)) (held : State)
     → Going lines (line ∷ left) n s out first taken → LineGoes (Err h) n (row_of line) s held out out' taken taken' → Plays (Err h) lines first taken'
 going_halts (Bad m) lines left line n s out out' first taken taken' held going h =
     let p = line_played (λ t. played t (n + 1) left) s n (row_of line) in
@@ -223,10 +220,10 @@ left_lines ended file at k le e =
     )
 
 -- one line on
-pub go_on : (ended : Bool) (file : List ℕ) (at k n : ℕ) (rest line : List ℕ) (s : State) (out out' : List ℕ) (first taken taken' : Option (List ℕ)) (held : Held)
+pub go_on : (ended : Bool) (file : List ℕ) (at k n : ℕ) (rest line : List ℕ) (s : State) (out out' : List ℕ) (first taken taken' : Option (List ℕ)) (held : State)
     → at ≤ length file → rest ≡ drop at file → position (λ b. eqb b 10) rest ≡ Some k → line ≡ take k rest
     → Going (lines_read ended file) (lines_read ended (drop at file)) n s out first taken → LineGoes (Ok tt) n (row_of line) s held out out' taken taken'
-    → (at + (k + 1) ≤ length file) × (held.failed ≡ false) × Going (lines_read ended file) (lines_read ended (drop (at + (k + 1)) file)) (n + 1) held.state out' first taken'
+    → (at + (k + 1) ≤ length file) × Going (lines_read ended file) (lines_read ended (drop (at + (k + 1)) file)) (n + 1) held out' first taken'
 go_on ended file at k n rest line s out out' first taken taken' held le is e front going h =
     let at_end : position (λ b. eqb b 10) (drop at file) ≡ Some k = ap (position (λ b. eqb b 10)) (sym is) ∙ e in
     let l = left_lines ended file at k le at_end in
@@ -234,9 +231,9 @@ go_on ended file at k n rest line s out out' first taken taken' held le is e fro
     let here : Going (lines_read ended file) (line ∷ lines_read ended (drop (at + (k + 1)) file)) n s out first taken =
     subst (λ (left : List (List ℕ)). Going (lines_read ended file) left n s out first taken) (l.1 ∙ ap (λ (x : List ℕ). x ∷ lines_read ended (drop (at + (k + 1)) file)) (sym same)) going in
     let m = going_on (lines_read ended file) (lines_read ended (drop (at + (k + 1)) file)) line n s out out' first taken taken' held here h in
-    (l.0, m.0, m.1)
+    (l.0, m)
 
-pub go_halts : (ended : Bool) (file : List ℕ) (at k n : ℕ) (rest line : List ℕ) (s : State) (out out' : List ℕ) (first taken taken' : Option (List ℕ)) (held : Held) (halt : Halt)
+pub go_halts : (ended : Bool) (file : List ℕ) (at k n : ℕ) (rest line : List ℕ) (s : State) (out out' : List ℕ) (first taken taken' : Option (List ℕ)) (held : State) (halt : Halt)
     → at ≤ length file → rest ≡ drop at file → position (λ b. eqb b 10) rest ≡ Some k → line ≡ take k rest
     → Going (lines_read ended file) (lines_read ended (drop at file)) n s out first taken → LineGoes (Err halt) n (row_of line) s held out out' taken taken'
     → Plays (Err halt) (lines_read ended file) first taken'
@@ -254,7 +251,7 @@ last_going : (ended : Bool) (file rest : List ℕ) (at n : ℕ) (s : State) (out
 last_going ended file rest at n s out first taken is e going =
     subst (λ (left : List (List ℕ)). Going (lines_read ended file) left n s out first taken) (line_open ended (drop at file) (ap (position (λ b. eqb b 10)) (sym is) ∙ e)) going
 
-pub last_halts : (ended : Bool) (file rest line : List ℕ) (at n : ℕ) (s : State) (out out' : List ℕ) (first taken taken' : Option (List ℕ)) (held : Held) (halt : Halt)
+pub last_halts : (ended : Bool) (file rest line : List ℕ) (at n : ℕ) (s : State) (out out' : List ℕ) (first taken taken' : Option (List ℕ)) (held : State) (halt : Halt)
     → ended ≡ true → rest ≡ drop at file → position (λ b. eqb b 10) rest ≡ None → line ≡ drop at file
     → Going (lines_read ended file) (lines_read ended (drop at file)) n s out first taken → LineGoes (Err halt) n (row_of line) s held out out' taken taken'
     → Plays (Err halt) (lines_read ended file) first taken'
@@ -268,7 +265,7 @@ last_halts ended file rest line at n s out out' first taken taken' held halt is_
 pub Over : Bool → List ℕ → Option (List ℕ) → List ℕ → Option (List ℕ) → Type 0
 Over ended file first out taken = (n : ℕ) × (s : State) × Going (lines_read ended file) [] n s out first taken
 
-pub over_last : (ended : Bool) (file rest line : List ℕ) (at n : ℕ) (s : State) (out out' : List ℕ) (first taken taken' : Option (List ℕ)) (held : Held)
+pub over_last : (ended : Bool) (file rest line : List ℕ) (at n : ℕ) (s : State) (out out' : List ℕ) (first taken taken' : Option (List ℕ)) (held : State)
     → ended ≡ true → rest ≡ drop at file → position (λ b. eqb b 10) rest ≡ None → line ≡ drop at file
     → Going (lines_read ended file) (lines_read ended (drop at file)) n s out first taken → LineGoes (Ok tt) n (row_of line) s held out out' taken taken'
     → Over ended file first out' taken'
@@ -277,7 +274,7 @@ over_last ended file rest line at n s out out' first taken taken' held is_end is
     let last = last_going ended file rest at n s out first taken is e going in
     let here : Going (lines_read ended file) (line ∷ []) n s out first taken =
     subst (λ (left : List (List ℕ)). Going (lines_read ended file) left n s out first taken) (ap (λ (t : Bool). open_line t (drop at file)) is_end ∙ ap (λ (x : List ℕ). x ∷ []) (sym same)) last in
-    (n + 1, held.state, (going_on (lines_read ended file) [] line n s out out' first taken taken' held here h).1)
+    (n + 1, held, going_on (lines_read ended file) [] line n s out out' first taken taken' held here h)
 
 pub over_open : (ended : Bool) (file rest : List ℕ) (at n : ℕ) (s : State) (out : List ℕ) (first taken : Option (List ℕ))
     → ended ≡ false → rest ≡ drop at file → position (λ b. eqb b 10) rest ≡ None

@@ -4,7 +4,7 @@ use Rattle.std.specs.List.{flat_map}
 use Rattle.hex.specs.Hex.{encode_lower}
 use Rattle.of_switch.specs.declared.effect.Effect.{Effect}
 use Rattle.of_switch.specs.declared.effect.Effect.TheVariants.{Answer, Sent, Closed}
-use Rattle.of_switch.specs.declared.switch.SwitchError.{SwitchError}
+use Rattle.of_switch.specs.declared.switch_error.SwitchError.{SwitchError}
 use Rattle.of_switch.specs.Calls.{number_of}
 use Rattle.of_switch.specs.Runs.{Report, Gives, IsRefused}
 

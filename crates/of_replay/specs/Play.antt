@@ -2,13 +2,12 @@
 use Rattle.std.specs.Prelude.{◌≡◌, ◌⊎◌, ℕ, ◌+◌, Bool, true, false, nat_lt, List, [], ◌∷◌, ◌++◌, Option, Some, None, Result, Ok, Err, if◌then◌else◌}
 use Rattle.smallvec.specs.SmallVec.{SmallVec}
 use Rattle.of_switch.specs.declared.effect.Effect.{Effect}
-use Rattle.of_switch.specs.declared.switch.SwitchError.{SwitchError}
-use Rattle.of_switch.specs.declared.switch.SwitchError.TheVariants as error
+use Rattle.of_switch.specs.declared.switch_error.SwitchError.{SwitchError}
+use Rattle.of_switch.specs.declared.switch_error.SwitchError.TheVariants as error
 use Rattle.of_switch.specs.declared.port_change.PortChange.TheVariants.{Add}
 use Rattle.of_switch.specs.State.{State, start}
-use Rattle.of_switch.specs.Calls.{Held, well}
 use Rattle.of_switch.specs.Runs.{Happened, Report, Gives, IsRefused, happened}
-use Rattle.of_switch.specs.Runs as event
+use Rattle.of_switch.specs.declared.event.Event.TheVariants as event
 use Rattle.of_replay.specs.declared.play.Halt.{Halt}
 use Rattle.of_replay.specs.declared.play.Halt.TheVariants as halt
 use Rattle.of_replay.specs.declared.event_file.Ended.{Ended}
@@ -101,12 +100,12 @@ IsReport (Err e) (Gives effects) = ⊥
 IsReport (Err e) (IsRefused refusal) = e ≡ refusal
 
 -- what a row's call answers: its report, unless memory ran out
-abbrev pub RowGives : Result (SmallVec Effect) SwitchError → Happened → Held → Type 0
-RowGives result h new = (result ≡ Err error.NoMemory) ⊎ (IsReport result h.report × (new ≡ well h.state))
+abbrev pub RowGives : Result (SmallVec Effect) SwitchError → Happened → State → Type 0
+RowGives result h new = (result ≡ Err error.NoMemory) ⊎ (IsReport result h.report × (new ≡ h.state))
 
 -- what a line prints, or why the run halts at it
-abbrev pub LineTells : Result (Unit {0}) Halt → ℕ → Option EventRow → State → Held → List ℕ → Type 0
-LineTells (Ok u) n (Some row) s new text = (text ≡ report_text (row_happened s row).report) × (new ≡ well (row_happened s row).state)
+abbrev pub LineTells : Result (Unit {0}) Halt → ℕ → Option EventRow → State → State → List ℕ → Type 0
+LineTells (Ok u) n (Some row) s new text = (text ≡ report_text (row_happened s row).report) × (new ≡ (row_happened s row).state)
 LineTells (Ok u) n None s new text = ⊥
 LineTells (Err halt.Memory) n row s new text = Unit {0}
 LineTells (Err (halt.Bad m)) n (Some row) s new text = ⊥
@@ -120,9 +119,9 @@ Halts halt.Memory p out taken taken' = taken' ≡ then_bytes taken out
 Halts halt.Write p out taken taken' = WroteFront taken (out ++ p.text) taken'
 
 -- a line: it prints a text, part of what is to be written is written, and the run goes on; or it halts
-abbrev pub LineGoes : Result (Unit {0}) Halt → ℕ → Option EventRow → State → Held → List ℕ → List ℕ → Option (List ℕ) → Option (List ℕ) → Type 0
+abbrev pub LineGoes : Result (Unit {0}) Halt → ℕ → Option EventRow → State → State → List ℕ → List ℕ → Option (List ℕ) → Option (List ℕ) → Type 0
 LineGoes (Ok u) n row s held out out' taken taken' =
-    (text : List ℕ) × (wrote : List ℕ) × (t : State) × (held ≡ well t) × (taken' ≡ then_bytes taken wrote) × (wrote ++ out' ≡ out ++ text)
+    (text : List ℕ) × (wrote : List ℕ) × (t : State) × (held ≡ t) × (taken' ≡ then_bytes taken wrote) × (wrote ++ out' ≡ out ++ text)
     × ((rest : State → Play) → line_played rest s n row ≡ after_text text (rest t))
 LineGoes (Err h) n row s held out out' taken taken' = (rest : State → Play) → Halts h (line_played rest s n row) out taken taken'
 

@@ -1,5 +1,5 @@
 //! Event files from a source, played on a new switch, and what it gives to a sink.
-ghost use Rattle.std.specs.Prelude.{◌≡◌, ◌⊎◌, ◌<◌, IfOk, replicate};
+ghost use Rattle.std.specs.Prelude.{◌≡◌, ◌⊎◌, ◌<◌, ◌≤◌, ◌+◌, IfOk, replicate};
 ghost use Rattle.of_replay.specs.Play.{Replays};
 ghost use Rattle.of_replay.specs.Ended.{ended_so, status_of};
 
@@ -67,7 +67,10 @@ pub fn replay<L: Lookup, S: Source, W: Sink>(alloc: Global, reader: &mut S, writ
     requires reads { S.reads reader.old ≡ 0 }
     requires failures { W.failures writer.old ≡ 0 }
     ensures output { Replays result (S.answers reader.old) (S.answers reader.new) (S.ends reader.old) (S.ends reader.new) (W.taken writer.old) (W.taken writer.new) }
-    ensures read_fault { result ≡ Ended.ReadFault → (S.failures reader.old < S.failures reader.new) ⊎ (S.reads reader.new ≡ 1000000) }
+    ensures done { result ≡ Ended.Done → (S.failures reader.new ≡ S.failures reader.old) × (S.ends reader.new ≡ S.ends reader.old + 1) × (W.failures writer.new ≡ 0) }
+    ensures reads { S.reads reader.new ≤ 1000000 }
+    ensures once { S.failures reader.new ≤ S.failures reader.old + 1 }
+    ensures read_fault { result ≡ Ended.ReadFault → (S.failures reader.old < S.failures reader.new) ⊎ ((S.reads reader.new ≡ 1000000) × (S.ends reader.new ≡ S.ends reader.old)) }
     ensures write_fault { result ≡ Ended.WriteFault → 0 < W.failures writer.new }
 {
     let Ok(mut buffer) = zeros(alloc, READ_SIZE) else {

@@ -1,7 +1,9 @@
 //! Lines of event files, played on a switch.
-ghost use Rattle.std.specs.Prelude.{◌≡◌, ◌≤◌, ◌++◌, ◌<◌, ◌==◌, [], IfErr, OnOk, OnErr, Err, false, length, take, drop, position};
+ghost use Rattle.std.specs.Prelude.{◌≡◌, ◌≤◌, ◌++◌, ◌<◌, ◌==◌, [], IfOk, IfErr, OnOk, OnErr, Err, length, take, drop, position};
 ghost use Rattle.of_switch.specs.State.{start};
-ghost use Rattle.of_switch.specs.Calls.{well};
+ghost use Rattle.of_switch.specs.Runs.{drained, happened};
+ghost use Rattle.of_switch.specs.Steps.{gives};
+ghost use Rattle.of_switch.specs.declared.switch_error.SwitchError.TheVariants.{NoMemory};
 ghost use Rattle.of_replay.specs.Told.{then_bytes};
 ghost use Rattle.of_replay.specs.Transfer.{WroteFront};
 ghost use Rattle.of_replay.specs.Rows.{row_of, with_bytes};
@@ -12,7 +14,7 @@ use crate::output::{push_effects, push_refusal};
 use crate::rows::{NewPort, Row, read_row};
 use crate::transfer::write_all;
 use of_classifier::Lookup;
-use of_switch::{Effects, PortChange, Switch, SwitchError};
+use of_switch::{Effects, Event, PortChange, Switch, SwitchError};
 use std::alloc::{AllocError, Global};
 
 /// What is printed is written in parts of so many bytes at least.
@@ -36,13 +38,12 @@ fn play_row<L: Lookup>(
     row: Row,
     bytes: &[u8],
 ) -> Result<Effects, SwitchError>
-    requires { switch.old.failed ≡ false }
-    ensures { RowGives result (row_happened switch.old.state (with_bytes bytes.now row)) switch.new }
+    ensures { RowGives result (row_happened switch.old (with_bytes bytes.now row)) switch.new }
 {
     match row {
         Row::Passed => Ok(Effects::new(alloc)),
         Row::Connect => switch.connected(),
-        Row::Piece => switch.piece(bytes),
+        Row::Piece => play_piece(alloc, switch, bytes),
         Row::Frame { port } => switch.frame(port, bytes),
         Row::Moment { nanos } => switch.moment(nanos),
         Row::PortAdd(port) => {
@@ -63,6 +64,42 @@ fn play_row<L: Lookup>(
             }
         }
     }
+}
+
+// Bytes of the controller come, and each whole message is handled.
+fn play_piece<L: Lookup>(
+    alloc: Global,
+    switch: &mut Switch<L>,
+    piece: &[u8],
+) -> Result<Effects, SwitchError>
+    ensures { RowGives result (happened (Event.Piece piece.now) switch.old) switch.new }
+{
+    match switch.feed(piece) {
+        Ok(()) => drain(alloc, switch),
+        Err(refusal) => Err(refusal),
+    }
+}
+
+// Handles all messages that are there.
+fn drain<L: Lookup>(alloc: Global, switch: &mut Switch<L>) -> Result<Effects, SwitchError>
+    ensures all { IfOk result (λ effects. drained switch.old ≡ gives effects.items switch.new) }
+    ensures memory { IfErr result (λ error. error ≡ NoMemory) }
+{
+    let mut effects = Effects::new(alloc);
+    loop {
+        match switch.next()? {
+            None => return Ok(effects),
+            Some(more) => append(&mut effects, more)?,
+        }
+    }
+}
+
+// Effects after effects.
+fn append(effects: &mut Effects, more: Effects) -> Result<(), AllocError>
+    ensures { OnOk result (effects.new.items ≡ effects.old.items ++ more.items) }
+{
+    let mut more = more;
+    effects.append(&mut more)
 }
 
 /// A switch that lines are played on.
@@ -120,8 +157,7 @@ impl<L: Lookup> Player<L> {
 
     // Keeps what the line prints as the text.
     fn tell(&mut self, line: &[u8], number: u64) -> Result<(), Halt>
-        requires { self.old.switch.failed ≡ false }
-        ensures tells { LineTells result number (row_of line.now) self.old.switch.state self.new.switch self.new.text.items }
+        ensures tells { LineTells result number (row_of line.now) self.old.switch self.new.switch self.new.text.items }
         ensures kept { self.new.out.items ≡ self.old.out.items }
     {
         self.text.clear();
@@ -160,9 +196,8 @@ impl<L: Lookup> Player<L> {
 
     // Plays a line.
     fn line<W: Sink>(&mut self, line: &[u8], number: u64, writer: &mut W) -> Result<(), Halt>
-        requires switch { self.old.switch.failed ≡ false }
-        requires well { W.failures writer.old ≡ 0 }
-        ensures goes { LineGoes result number (row_of line.now) self.old.switch.state self.new.switch self.old.out.items self.new.out.items (W.taken writer.old) (W.taken writer.new) }
+        requires { W.failures writer.old ≡ 0 }
+        ensures goes { LineGoes result number (row_of line.now) self.old.switch self.new.switch self.old.out.items self.new.out.items (W.taken writer.old) (W.taken writer.new) }
         ensures well { OnOk result (W.failures writer.new ≡ 0) }
         ensures failed { result ≡ Err Halt.Write → 0 < W.failures writer.new }
     {
@@ -182,10 +217,11 @@ impl<L: Lookup> Player<L> {
 
     /// Plays the lines of a file, on a new switch; where the file has not ended, its whole lines alone.
     pub fn play<W: Sink>(&mut self, file: &[u8], ended: bool, writer: &mut W) -> Result<(), Halt>
-        requires fresh { self.old.switch ≡ well (start 1) }
+        requires fresh { self.old.switch ≡ start 1 }
         requires empty { self.old.out.items ≡ [] }
         requires well { W.failures writer.old ≡ 0 }
         ensures plays { Plays result (lines_read ended file.now) (W.taken writer.old) (W.taken writer.new) }
+        ensures well { OnOk result (W.failures writer.new ≡ 0) }
         ensures failed { result ≡ Err Halt.Write → 0 < W.failures writer.new }
     {
         let mut at = 0;

@@ -68,6 +68,8 @@ pub fn read_all<S: Source>(
     ensures end { OnOk result (S.ends reader.new ≡ S.ends reader.old + 1) }
     ensures open { OnErr result (S.ends reader.new ≡ S.ends reader.old) }
     ensures well { OnOk result (S.failures reader.new ≡ S.failures reader.old) }
+    ensures once { S.failures reader.new ≤ S.failures reader.old + 1 }
+    ensures few { S.reads reader.new ≤ 1000000 }
 {
     for _ in 0..MOST_READS {
         if file.reserve(buffer.len()).is_err() {

@@ -1,7 +1,7 @@
 //! A controller's connection: its stream, and which messages of it are handled.
 ghost use Rattle.std.specs.Prelude.{◌≡◌, ◌++◌, ◌≤◌, length, take, [], OnOk, OnErr, IfOk};
 ghost use Rattle.of_messages.specs.Messages.{xid_of};
-ghost use Rattle.of_session.specs.Session.{next_of, fed, is_first_hello, judged, greeted, taken, opened, IsWithin, IsSound, IsSized};
+ghost use Rattle.of_session.specs.Session.{next_of, fed, is_first_hello, judged, greeted as greeting_of, entered, IsWithin, IsSound, IsSized};
 
 use crate::stream::{Front, HEADER, Stream};
 use byteorder::{BigEndian, ByteOrder};
@@ -105,7 +105,7 @@ impl Session {
         self.stream.clear();
     }
 
-    /// These bytes came next.
+    /// These bytes came next. Where memory is wanted none of them did.
     pub fn feed(&mut self, piece: &[u8]) -> Result<(), AllocError>
         ensures ok { OnOk result (self.new ≡ fed piece.now self.old) }
         ensures err { OnErr result (self.new ≡ self.old) }
@@ -113,7 +113,7 @@ impl Session {
         self.stream.feed(piece)
     }
 
-    /// What comes next. It changes nothing: who handles it takes it, or closes the connection.
+    /// What comes next. It is the same until it is `taken`.
     pub fn next(&self) -> Result<Next, AllocError>
         ensures next { IfOk result (λ next. next ≡ next_of self.now) }
         ensures there { IfOk result (λ next. IsWithin next self.now) }
@@ -139,21 +139,33 @@ impl Session {
         self.stream.first(size)
     }
 
-    /// Takes the first message, of so many bytes, which was handled.
-    pub fn take(&mut self, size: usize)
-        requires { size ≤ length self.old.pending }
-        ensures { self.new ≡ taken size self.old }
+    /// What `next` gives was handled: a message is taken, a HELLO opens the connection, and a fault ends it.
+    pub fn taken(&mut self)
+        ensures { self.new ≡ entered (next_of self.old) self.old }
     {
-        self.stream.take(size);
+        if self.phase == Phase::Disconnected {
+            return;
+        }
+        match self.stream.front() {
+            Front::Waiting => {}
+            Front::Malformed => self.close(),
+            Front::Message(size) if self.phase == Phase::Open => self.stream.take(size),
+            Front::Message(size) => self.greeted(size),
+        }
     }
 
-    /// Takes the HELLO, of so many bytes, which opens the connection.
-    pub fn open(&mut self, size: usize)
-        requires { size ≤ length self.old.pending }
-        ensures { self.new ≡ opened size self.old }
+    // The first message, of so many bytes, opens the connection, or ends it.
+    fn greeted(&mut self, size: usize)
+        requires header { 8 ≤ size }
+        requires there { size ≤ length self.old.pending }
+        ensures { self.new ≡ entered (greeting_of (take size self.old.pending)) self.old }
     {
-        self.stream.take(size);
-        self.phase = Phase::Open;
+        if is_accepted(self.stream.first(size)) {
+            self.stream.take(size);
+            self.phase = Phase::Open;
+        } else {
+            self.close();
+        }
     }
 }
 
@@ -194,7 +206,7 @@ fn judge(alloc: Global, phase: Phase, message: &[u8]) -> Result<Next, AllocError
 
 fn greet(message: &[u8]) -> Next
     requires { 8 ≤ length message.now }
-    ensures next { result ≡ greeted message.now }
+    ensures next { result ≡ greeting_of message.now }
     ensures size { IsSized result (length message.now) }
     ensures sound { IsSound result }
 {

@@ -1,5 +1,5 @@
 //! The bytes of a controller, as messages.
-ghost use Rattle.std.specs.Prelude.{◌≡◌, ◌++◌, ◌≤◌, ℕ, List, [], length, take, drop, OnOk, OnErr};
+ghost use Rattle.std.specs.Prelude.{◌≡◌, ◌++◌, ◌*◌, ◌≤◌, ℕ, List, [], length, take, drop, OnOk, OnErr};
 ghost use Rattle.of_session.specs.Stream.{front_of, front_is, IsThere, Splits};
 
 use std::alloc::{AllocError, Global};
@@ -20,6 +20,8 @@ pub enum Front {
 }
 
 /// The bytes that came and were not yet taken.
+///
+/// Bytes that were taken are forgotten where they are more than those that are left.
 #[derive(Debug, Drop)]
 pub struct Stream {
     bytes: Vec<u8>,
@@ -27,13 +29,13 @@ pub struct Stream {
 }
 
 impl Model for Stream {
-    ghost use Rattle.std.specs.Prelude.{List, ℕ, drop, length, ◌≤◌};
+    ghost use Rattle.std.specs.Prelude.{List, ℕ, ◌*◌, drop, length, ◌≤◌};
 
     ghost Value = { List ℕ };
 
     ghost view = { λ s. drop s.start s.bytes.items };
 
-    ghost invariant = { λ s. s.start ≤ length s.bytes.items };
+    ghost invariant = { λ s. 2 * s.start ≤ length s.bytes.items };
 }
 
 impl Stream {
@@ -47,27 +49,21 @@ impl Stream {
         }
     }
 
-    /// These bytes came next.
+    /// These bytes came next. Where memory is wanted none of them did.
     #[tactic(auto, using(crate::proofs::Compacting::drop_append))]
     pub fn feed(&mut self, piece: &[u8]) -> Result<(), AllocError>
         ensures ok { OnOk result (self.new ≡ self.old ++ piece.now) }
         ensures err { OnErr result (self.new ≡ self.old) }
     {
-        if self.start >= self.bytes.len() - self.start {
-            self.compact();
-        }
         self.bytes.extend_from_slice(piece)
     }
 
-    // Gives up the place of what was taken: no more bytes move than were taken since the last time.
-    #[tactic(auto, using(crate::proofs::Compacting::rotated))]
-    fn compact(&mut self)
-        ensures { self.new ≡ self.old }
+    /// How many bytes are kept: those that are left, and of those that were taken as many at most.
+    pub fn kept(&self) -> usize
+        ensures left { length self.now ≤ result }
+        ensures most { result ≤ 2 * length self.now }
     {
-        let left = self.bytes.len() - self.start;
-        self.bytes.rotate_left(self.start);
-        self.bytes.truncate(left);
-        self.start = 0;
+        self.bytes.len()
     }
 
     /// How the bytes begin.
@@ -93,13 +89,19 @@ impl Stream {
         front_part(self.left(), size)
     }
 
-    /// Takes the first bytes.
+    /// Takes the first bytes. No more bytes move than were taken since the last time that some moved.
     #[tactic(auto, using(crate::proofs::Compacting::drop_more))]
     pub fn take(&mut self, size: usize)
         requires { size ≤ length self.old }
         ensures { self.new ≡ drop size self.old }
     {
-        self.start += size;
+        let start = self.start + size;
+        if start <= self.bytes.len() - start {
+            self.start = start;
+        } else {
+            drop_front(&mut self.bytes, start);
+            self.start = 0;
+        }
     }
 
     /// Forgets all bytes.
@@ -109,6 +111,17 @@ impl Stream {
         self.bytes.clear();
         self.start = 0;
     }
+}
+
+// The first bytes go, and the others take their place.
+#[tactic(auto, using(crate::proofs::Compacting::moved))]
+fn drop_front(bytes: &mut Vec<u8>, count: usize)
+    requires { count ≤ length bytes.old.items }
+    ensures { bytes.new.items ≡ drop count bytes.old.items }
+{
+    let left = bytes.len() - count;
+    bytes.as_mut_slice().copy_within(count.., 0);
+    bytes.truncate(left);
 }
 
 fn rest_from(bytes: &[u8], start: usize) -> &[u8]

@@ -15,6 +15,7 @@ fn message_in_two_pieces(rt: HostRuntime) -> Result<(), Fail> {
         stream.take(size);
     }
     assert_eq!(rt; stream.left(), [4u8].as_slice());
+    assert_eq!(rt; stream.kept(), 1);
     stream.clear();
     assert!(rt; stream.left().is_empty());
     splits_once();
@@ -28,9 +29,7 @@ fn greeting_and_echo(rt: HostRuntime) -> Result<(), Fail> {
     session.feed(&[4, 0, 0, 8, 0, 0, 0, 1, 4, 2, 0, 9, 0, 0, 0, 2, 0xab])?;
     let next = session.next()?;
     assert!(rt; matches!(next, Next::Opened { size: 8 }));
-    if let Next::Opened { size } = next {
-        session.open(size);
-    }
+    session.taken();
     assert_eq!(rt; session.phase(), Phase::Open);
     if let Next::Read { xid, size, message } = session.next()? {
         assert_eq!(rt; xid, 2);
@@ -39,7 +38,8 @@ fn greeting_and_echo(rt: HostRuntime) -> Result<(), Fail> {
             [4u8, 2, 0, 9, 0, 0, 0, 2, 0xab].as_slice()
         );
         assert!(rt; matches!(message, Message::EchoRequest(_)));
-        session.take(size);
+        assert!(rt; matches!(session.next()?, Next::Read { xid: 2, .. }));
+        session.taken();
     }
     assert!(rt; matches!(session.next()?, Next::Nothing));
     session.close();

@@ -3,9 +3,11 @@ use Rattle.std.proofs.Common.{◌≡◌, ℕ, true, List, [], ◌∷◌, ◌++�
 use Rattle.std.specs.Prelude.{replicate}
 use Rattle.of_switch.specs.declared.effect.Effect.TheVariants.{Answer, Sent, Closed}
 use Rattle.of_switch.specs.declared.port_change.PortChange.TheVariants.{Add}
-use Rattle.of_switch.specs.declared.switch.SwitchError.TheVariants.{NotConnected}
+use Rattle.of_switch.specs.declared.switch_error.SwitchError.TheVariants.{NotConnected}
+use Rattle.of_switch.specs.declared.event.Event.{Event}
+use Rattle.of_switch.specs.declared.event.Event.TheVariants.{Connect, Piece, Frame, Ports}
 use Rattle.of_switch.specs.State.{start}
-use Rattle.of_switch.specs.Runs.{Event, Connect, Piece, Frame, Ports, Report, Gives, IsRefused, run}
+use Rattle.of_switch.specs.Runs.{Report, Gives, IsRefused, run}
 use Rattle.of_switch.proofs.OnLiterals.{switch_on_literals}
 
 -- BYTES

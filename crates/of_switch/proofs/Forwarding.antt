@@ -11,36 +11,40 @@ use Rattle.of_machine.specs.Rows.{Work}
 use Rattle.of_machine.specs.Runs.{Machine, run_of}
 use Rattle.of_machine.specs.Renumbering.{renumbered}
 use Rattle.of_machine.proofs.Renumbering.{run_is_renumbered}
-use Rattle.of_switch.specs.Plane.{Forwarding, world_of, through, applied, forwards, all_sent, all_tallied}
-use Rattle.of_switch.specs.Numbers.{Contents, contents, forwarding_of, numbered_world, place_in, all_placed}
+use Rattle.of_session.specs.declared.session.Phase.{Phase}
+use Rattle.of_switch.specs.declared.effect.Effect.{Effect}
+use Rattle.of_switch.specs.Told.{effects_of}
+use Rattle.of_switch.specs.Plane.{Forwarding, world_of, applied, forwards, all_sent, all_tallied}
+use Rattle.of_switch.specs.Numbers.{forwarding_of, numbered_world, place_in, all_placed}
 use Rattle.of_switch.proofs.Worlds.{AreDistinct, renumbered_world}
 
 -- what is done by places, of a run by numbers
-by_places : (p : Packet) (work : List Work) (t : NumberedTables) (ports : List Port) → AreDistinct t
-    → through p work (forwarding_of t ports) ≡ applied (renumbered (place_in t) (run_of (numbered_world t ports) p work)) (forwarding_of t ports)
-by_places p work t ports distinct =
-    ap (λ (m : Machine). applied m (forwarding_of t ports))
+by_places : (phase : Phase) (p : Packet) (work : List Work) (t : NumberedTables) (ports : List Port) (f : Forwarding) → AreDistinct t
+    → applied phase (run_of (world_of (forwarding_of t ports)) p work) f ≡ applied phase (renumbered (place_in t) (run_of (numbered_world t ports) p work)) f
+by_places phase p work t ports f distinct =
+    ap (λ (m : Machine). applied phase m f)
     (run_is_renumbered (place_in t) (numbered_world t ports) (world_of (forwarding_of t ports)) (renumbered_world t ports distinct) p work)
 
-pub through_is : (p packet : Packet) (work : List Work) (t : NumberedTables) (ports : List Port) (run : Contents) (items : List Item) (counts : List Count) (f : Forwarding)
+-- what a run by numbers gives and counts, as a plan
+pub way_is : (phase : Phase) (p packet : Packet) (work : List Work) (t : NumberedTables) (ports : List Port) (items : List Item) (counts : List Count) (effects : List Effect) (before after : Forwarding)
     → AreDistinct t
     → packet ≡ p
     → items ≡ (run_of (numbered_world t ports) packet work).items
     → counts ≡ (run_of (numbered_world t ports) packet work).counts
-    → run ≡ contents t ports
-    → f ≡ all_sent items (all_tallied (all_placed run.tables counts) (forwarding_of run.tables run.ports))
-    → through p work (forwarding_of t ports) ≡ forwards items f
-through_is p packet work t ports run items counts f distinct enters is_items is_counts kept ends =
+    → effects ≡ effects_of phase items
+    → after ≡ all_sent effects (all_tallied (all_placed t counts) before)
+    → applied phase (run_of (world_of (forwarding_of t ports)) p work) before ≡ forwards effects after
+way_is phase p packet work t ports items counts effects before after distinct enters is_items is_counts told ends =
     let m = run_of (numbered_world t ports) p work in
     let the_items : items ≡ m.items = is_items ∙ ap (λ (q : Packet). (run_of (numbered_world t ports) q work).items) enters in
     let the_counts : counts ≡ m.counts = is_counts ∙ ap (λ (q : Packet). (run_of (numbered_world t ports) q work).counts) enters in
-    let ended : f ≡ all_sent m.items (all_tallied (all_placed t m.counts) (forwarding_of t ports)) =
-    ends ∙ ap (λ (k : Contents). all_sent items (all_tallied (all_placed k.tables counts) (forwarding_of k.tables k.ports))) kept
-    ∙ ap (λ (cs : List Count). all_sent items (all_tallied (all_placed t cs) (forwarding_of t ports))) the_counts
-    ∙ ap (λ (is : List Item). all_sent is (all_tallied (all_placed t m.counts) (forwarding_of t ports))) the_items in
-    by_places p work t ports distinct
-    ∙ ap (λ (g : Forwarding). forwards m.items g) (sym ended)
-    ∙ ap (λ (is : List Item). forwards is f) (sym the_items)
+    let the_effects : effects ≡ effects_of phase m.items = told ∙ ap (effects_of phase) the_items in
+    let ended : after ≡ all_sent (effects_of phase m.items) (all_tallied (all_placed t m.counts) before) =
+    ends ∙ ap (λ (es : List Effect). all_sent es (all_tallied (all_placed t counts) before)) the_effects
+    ∙ ap (λ (cs : List Count). all_sent (effects_of phase m.items) (all_tallied (all_placed t cs) before)) the_counts in
+    by_places phase p work t ports before distinct
+    ∙ (ap (λ (g : Forwarding). forwards (effects_of phase m.items) g) (sym ended)
+    ∙ ap (λ (es : List Effect). forwards es after) (sym the_effects))
 
 -- frames that fit fewer bytes fit more
 pub all_fit : (n : ℕ) (items : List Item) → n ≤ 65485 → AllShort n items → AllShort 65485 items

@@ -1,94 +1,69 @@
 -- Bytes that come in two pieces do what they do in one.
-use Rattle.std.proofs.Common.{◌≡◌, ℕ, ◌+◌, ◌<◌, ◌≤◌, suc, zero, Bool, true, false, List, [], ◌++◌, length, take, Option, Some, None, refl, sym, ◌∙◌, ap, subst, arith, append_assoc, add-one}
+use Rattle.std.proofs.Common.{◌≡◌, ℕ, ◌+◌, ◌<◌, ◌≤◌, suc, zero, Bool, true, false, List, [], ◌++◌, length, take, drop, Option, Some, None, refl, sym, ◌∙◌, ap, subst, arith, append_assoc, add-one}
 use Rattle.std.proofs.lemmas.List.{take-append-le, drop-append-le}
 use Rattle.std.proofs.lemmas.Option.{same_Some}
-use Rattle.of_wire.specs.declared.code.Code.{Code}
-use Rattle.of_wire.specs.Refusals.{first_of, refusal}
-use Rattle.of_messages.specs.declared.message.Message.{Message}
-use Rattle.of_messages.specs.declared.message.Message.TheVariants.{Hello, EchoRequest, BarrierRequest, FlowMod as IsFlowMod, PacketOut as IsPacketOut}
-use Rattle.of_messages.specs.declared.message.PacketOut.{PacketOut}
-use Rattle.of_messages.specs.declared.message.FlowMod.{FlowMod}
+use Rattle.of_wire.specs.Refusals.{refusal}
 use Rattle.of_messages.specs.Written.{error_bytes}
+use Rattle.of_session.specs.declared.session.Phase.{Phase}
 use Rattle.of_session.specs.declared.session.Phase.TheVariants.{Open}
 use Rattle.of_session.specs.declared.session.Next.{Next}
 use Rattle.of_session.specs.declared.session.Next.TheVariants.{Nothing, BadStream, NotHello, Opened, Read, Refused}
-use Rattle.of_session.specs.Session.{Connection, is_disconnected, next_of as next_in}
+use Rattle.of_session.specs.Session.{Connection, is_disconnected, entered, next_of as next_in}
 use Rattle.of_session.proofs.Nexts.{IsSizedIn, next_sized, IsSomething, next_more}
 use Rattle.of_switch.specs.declared.effect.Effect.{Effect}
 use Rattle.of_switch.specs.State.{State}
-use Rattle.of_switch.specs.Commands.{flow_mod_refusals, packet_out_refusals}
-use Rattle.of_switch.specs.Steps.{Outcome, gives, fed, flow_modded, packet_outed, handled, failed_of, after, answered, closing, came, next_of}
+use Rattle.of_switch.specs.Steps.{Outcome, Done, does, beside, gives, fed, handled, refused, failed_of, closing, next_by, next_of}
 use Rattle.of_switch.specs.Runs.{behind, then_more, drain, drained, piece_in, come}
-use Rattle.of_switch.proofs.Draining.{next_shorter, handled_keeps}
+use Rattle.of_switch.proofs.Draining.{next_shorter}
 
 same_by : (n m : ℕ) (s : State) (o : Option Outcome) → next_of s ≡ o → ((t : State) → length t.connection.pending < length s.connection.pending → drain n t ≡ drain m t) → then_more (drain n) s o ≡ then_more (drain m) s o
 same_by n m s None e ih = refl
 same_by n m s (Some o) e ih = ap (behind o.effects) (ih o.state (next_shorter s o e))
 
 -- enough turns are as good as more
-drain_same : (n m : ℕ) (s : State) → length s.connection.pending < n → length s.connection.pending < m → drain n s ≡ drain m s
+pub drain_same : (n m : ℕ) (s : State) → length s.connection.pending < n → length s.connection.pending < m → drain n s ≡ drain m s
 unfolding drain
 drain_same zero m s a b = absurd (omega (arith, a))
 drain_same (suc n) zero s a b = absurd (omega (arith, b))
 drain_same (suc n) (suc m) s a b = same_by n m s (next_of s) refl (λ t less. drain_same n m t (omega (arith, less, a)) (omega (arith, less, b)))
 
-come_open : (q : List ℕ) (s : State) → is_disconnected s.connection.phase ≡ false → come q s ≡ fed q s
+pub come_open : (q : List ℕ) (s : State) → is_disconnected s.connection.phase ≡ false → come q s ≡ fed q s
 come_open q s open_ = rw open_ refl
 
-come_gone : (q : List ℕ) (s : State) → is_disconnected s.connection.phase ≡ true → come q s ≡ s
+pub come_gone : (q : List ℕ) (s : State) → is_disconnected s.connection.phase ≡ true → come q s ≡ s
 come_gone q s gone = rw gone refl
-
--- a message of an open connection does the same whatever follows it
-modded_fed : (xid : ℕ) (m : FlowMod) (failed q : List ℕ) (s : State) (o : Option Code) → flow_modded xid m failed (fed q s) o ≡ gives (flow_modded xid m failed s o).effects (fed q (flow_modded xid m failed s o).state)
-modded_fed xid m failed q s None = refl
-modded_fed xid m failed q s (Some code) = refl
-
-outed_fed : (xid : ℕ) (m : PacketOut) (failed q : List ℕ) (s : State) (o : Option Code) → packet_outed xid m failed (fed q s) o ≡ gives (packet_outed xid m failed s o).effects (fed q (packet_outed xid m failed s o).state)
-outed_fed xid m failed q s None = refl
-outed_fed xid m failed q s (Some code) = refl
-
-handled_fed : (xid : ℕ) (m : Message) (failed q : List ℕ) (s : State) → handled xid m failed (fed q s) ≡ gives (handled xid m failed s).effects (fed q (handled xid m failed s).state)
-handled_fed xid Hello failed q s = refl
-handled_fed xid (EchoRequest echoed) failed q s = refl
-handled_fed xid BarrierRequest failed q s = refl
-handled_fed xid (IsPacketOut m) failed q s = outed_fed xid m failed q s (first_of (packet_out_refusals m))
-handled_fed xid (IsFlowMod m) failed q s = modded_fed xid m failed q s (first_of (flow_mod_refusals m s.forwarding.tables))
 
 failed_fed : (size : ℕ) (q : List ℕ) (c : Connection) → size ≤ length c.pending → take 64 (take size (c.pending ++ q)) ≡ failed_of size c
 failed_fed size q c h = ap (take 64) (take-append-le size c.pending q h)
 
 -- what an event says of bytes that follow it
 abbrev Follows : List ℕ → State → Next → Outcome → Type 0
-Follows q s n o = came n (fed q s) ≡ Some (gives o.effects (come q o.state))
+Follows q s n o = next_by n (fed q s) ≡ Some (gives o.effects (come q o.state))
 
-more_by : (n : Next) (s : State) (q : List ℕ) (o : Outcome) → is_disconnected s.connection.phase ≡ false → IsSizedIn n s.connection.pending → came n s ≡ Some o → Follows q s n o
+-- the message is taken from the front
+taken_front : (size : ℕ) (q : List ℕ) (s : State) (phase : Phase) (d : List ℕ → Done) → size ≤ length s.connection.pending → is_disconnected phase ≡ false
+    → beside (record { phase = phase; pending = drop size (s.connection.pending ++ q) }) (d (take 64 (take size (s.connection.pending ++ q))))
+    ≡ gives (d (failed_of size s.connection)).effects (come q (record { connection = record { phase = phase; pending = drop size s.connection.pending }; core = (d (failed_of size s.connection)).core }))
+taken_front size q s phase d h open_ =
+    let t : State = record { connection = record { phase = phase; pending = drop size s.connection.pending }; core = (d (failed_of size s.connection)).core } in
+    ap (λ (bytes : List ℕ). beside (record { phase = phase; pending = drop size (s.connection.pending ++ q) }) (d bytes)) (failed_fed size q s.connection h)
+    ∙ (ap (λ (bytes : List ℕ). beside (record { phase = phase; pending = bytes }) (d (failed_of size s.connection))) (drop-append-le size s.connection.pending q h)
+    ∙ ap (gives (d (failed_of size s.connection)).effects) (sym (come_open q t open_)))
+
+more_by : (n : Next) (s : State) (q : List ℕ) (o : Outcome) → is_disconnected s.connection.phase ≡ false → IsSizedIn n s.connection.pending → next_by n s ≡ Some o → Follows q s n o
 more_by Nothing s q o open_ sized h = absurd cc
 more_by (BadStream xid) s q o open_ sized h =
-    subst (Follows q s (BadStream xid)) (same_Some _ _ h) (ap (λ (bytes : List ℕ). Some (closing (error_bytes xid (refusal 1 6) bytes) (after (BadStream xid) s))) (take-append-le 8 s.connection.pending q sized))
+    subst (Follows q s (BadStream xid)) (same_Some _ _ h)
+    (ap (λ (bytes : List ℕ). Some (beside (entered (BadStream xid) s.connection) (closing (error_bytes xid (refusal 1 6) bytes) s.core))) (take-append-le 8 s.connection.pending q sized))
 more_by (NotHello xid) s q o open_ sized h = subst (Follows q s (NotHello xid)) (same_Some _ _ h) refl
 more_by (Opened size) s q o open_ sized h =
-    subst (Follows q s (Opened size)) (same_Some _ _ h) (ap (λ (bytes : List ℕ). Some (gives [] (record s { connection = record { phase = Open; pending = bytes } }))) (drop-append-le size s.connection.pending q sized.1))
+    subst (Follows q s (Opened size)) (same_Some _ _ h) (ap Some (taken_front size q s Open (λ failed. does [] s.core) sized.1 refl))
 more_by (Refused xid size code) s q o open_ sized h =
-    let n = Refused xid size code in
-    let there : after n (fed q s) ≡ fed q (after n s) = ap (λ (bytes : List ℕ). record s { connection = record { phase = s.connection.phase; pending = bytes } }) (drop-append-le size s.connection.pending q sized.1) in
-    let stays : come q (after n s) ≡ fed q (after n s) = come_open q (after n s) open_ in
-    subst (Follows q s n) (same_Some _ _ h)
-    (ap (λ (bytes : List ℕ). Some (answered (error_bytes xid code bytes) (after n (fed q s)))) (failed_fed size q s.connection sized.1)
-    ∙ ap (λ (t : State). Some (answered (error_bytes xid code (failed_of size s.connection)) t)) (there ∙ sym stays))
+    subst (Follows q s (Refused xid size code)) (same_Some _ _ h) (ap Some (taken_front size q s s.connection.phase (λ failed. refused xid code failed s.core) sized.1 open_))
 more_by (Read xid size m) s q o open_ sized h =
-    let n = Read xid size m in
-    let failed = failed_of size s.connection in
-    let there : after n (fed q s) ≡ fed q (after n s) = ap (λ (bytes : List ℕ). record s { connection = record { phase = s.connection.phase; pending = bytes } }) (drop-append-le size s.connection.pending q sized.1) in
-    let kept : (handled xid m failed (after n s)).state.connection ≡ (after n s).connection = handled_keeps xid m failed (after n s) in
-    let open' : is_disconnected (handled xid m failed (after n s)).state.connection.phase ≡ false = ap (λ (c : Connection). is_disconnected c.phase) kept ∙ open_ in
-    let stays : come q (handled xid m failed (after n s)).state ≡ fed q (handled xid m failed (after n s)).state = come_open q (handled xid m failed (after n s)).state open' in
-    subst (Follows q s n) (same_Some _ _ h)
-    (ap (λ (bytes : List ℕ). Some (handled xid m bytes (after n (fed q s)))) (failed_fed size q s.connection sized.1)
-    ∙ (ap (λ (t : State). Some (handled xid m failed t)) there
-    ∙ (ap Some (handled_fed xid m failed q (after n s))
-    ∙ ap (λ (t : State). Some (gives (handled xid m failed (after n s)).effects t)) (sym stays))))
+    subst (Follows q s (Read xid size m)) (same_Some _ _ h) (ap Some (taken_front size q s s.connection.phase (λ failed. handled xid m failed s.core) sized.1 open_))
 
-something : (n : Next) (s : State) (o : Outcome) → came n s ≡ Some o → IsSomething n
+something : (n : Next) (s : State) (o : Outcome) → next_by n s ≡ Some o → IsSomething n
 something Nothing s o h = absurd cc
 something (BadStream xid) s o h = tt
 something (NotHello xid) s o h = tt
@@ -97,10 +72,10 @@ something (Read xid size m) s o h = tt
 something (Refused xid size code) s o h = tt
 
 -- one message does the same whatever follows it
-step_more : (s : State) (q : List ℕ) (o : Outcome) → is_disconnected s.connection.phase ≡ false → next_of s ≡ Some o → next_of (fed q s) ≡ Some (gives o.effects (come q o.state))
+pub step_more : (s : State) (q : List ℕ) (o : Outcome) → is_disconnected s.connection.phase ≡ false → next_of s ≡ Some o → next_of (fed q s) ≡ Some (gives o.effects (come q o.state))
 step_more s q o open_ h =
     let some = something (next_in s.connection) s o h in
-    ap (λ (n : Next). came n (fed q s)) (next_more s.connection q some)
+    ap (λ (n : Next). next_by n (fed q s)) (next_more s.connection q some)
     ∙ more_by (next_in s.connection) s q o open_ (next_sized s.connection) h
 
 -- without a connection nothing comes next
@@ -114,7 +89,7 @@ drain_gone zero s gone = refl
 drain_gone (suc n) s gone = ap (then_more (drain n) s) (gone_by s true gone refl)
 
 -- one message, and then what is left
-drained_more : (s : State) (o : Outcome) → next_of s ≡ Some o → drained s ≡ behind o.effects (drained o.state)
+pub drained_more : (s : State) (o : Outcome) → next_of s ≡ Some o → drained s ≡ behind o.effects (drained o.state)
 unfolding drain
 drained_more s o h =
     let short = next_shorter s o h in
@@ -124,9 +99,12 @@ drained_more s o h =
     let one : drained s ≡ behind o.effects (drain size o.state) = turns ∙ step in
     one ∙ ap (behind o.effects) (drain_same (length s.connection.pending) (length o.state.connection.pending + 1) o.state (omega (arith, short)) (omega arith))
 
-drained_none : (s : State) → next_of s ≡ None → drained s ≡ gives [] s
+pub drained_none : (s : State) → next_of s ≡ None → drained s ≡ gives [] s
 unfolding drain
 drained_none s h = ap (λ (k : ℕ). drain k s) (add-one (length s.connection.pending)) ∙ ap (then_more (drain (length s.connection.pending)) s) h
+
+pub drained_gone : (s : State) → is_disconnected s.connection.phase ≡ true → drained s ≡ gives [] s
+drained_gone s gone = drain_gone (length s.connection.pending + 1) s gone
 
 behind_behind : (a b : List Effect) (o : Outcome) → behind a (behind b o) ≡ behind (a ++ b) o
 behind_behind a b o = ap (λ (es : List Effect). gives es o.state) (sym (append_assoc a b o.effects))
@@ -137,7 +115,7 @@ Joins q s = drained (come q s) ≡ behind (drained s).effects (drained (come q (
 
 join_gone : (q : List ℕ) (s : State) → is_disconnected s.connection.phase ≡ true → Joins q s
 join_gone q s gone =
-    let here : drained s ≡ gives [] s = drain_gone (length s.connection.pending + 1) s gone in
+    let here : drained s ≡ gives [] s = drained_gone s gone in
     rw here refl
 
 join_by : (q : List ℕ) (s : State) (o : Option Outcome) → is_disconnected s.connection.phase ≡ false → next_of s ≡ o → ((t : State) → length t.connection.pending < length s.connection.pending → Joins q t) → Joins q s

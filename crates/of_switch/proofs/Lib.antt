@@ -4,5 +4,8 @@ pub mod Tallying
 pub mod Forwarding
 pub mod Draining
 pub mod Joining
+pub mod Handling
+pub mod InTurn
+pub mod Running
 pub mod OnLiterals
 pub mod Examples

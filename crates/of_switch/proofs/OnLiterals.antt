@@ -13,7 +13,8 @@ use Rattle.of_machine.specs.Runs.{run_of, until_none, step}
 use Rattle.of_machine.specs.Weights.{copy_steps, action_steps, table_steps, set_steps, lookup_steps}
 use Rattle.of_actions.specs.RunOrder.{in_run_order}
 use Rattle.of_switch.specs.Runs.{drain}
+use Rattle.of_switch.specs.Steps.{handled}
 
 unfoldable pub switch_on_literals : ⊤
-unfolding drain message_of match_of instructions_of items_of field_at row_of all_met kept header_at header_refusals action_at action_refusals type_refusals actions_said in_run_order run_of until_none step copy_steps action_steps table_steps set_steps lookup_steps
+unfolding drain handled message_of match_of instructions_of items_of field_at row_of all_met kept header_at header_refusals action_at action_refusals type_refusals actions_said in_run_order run_of until_none step copy_steps action_steps table_steps set_steps lookup_steps
 switch_on_literals = tt

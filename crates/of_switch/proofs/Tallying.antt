@@ -9,6 +9,7 @@ use Rattle.of_table.specs.Tables.{NumberedTables, all_numbers}
 use Rattle.of_machine.specs.declared.data.Item.{Item}
 use Rattle.of_machine.specs.declared.data.Count.{Count}
 use Rattle.of_machine.specs.declared.data.Count.TheVariants.{Lookup, Matched, TxDropped, Group, Bucket}
+use Rattle.of_switch.specs.declared.effect.Effect.{Effect}
 use Rattle.of_switch.specs.Plane.{Forwarding, tallied, all_tallied, sent, all_sent}
 use Rattle.std.specs.Prelude.{filter}
 use Rattle.std.proofs.lemmas.List.{map-append}
@@ -37,11 +38,11 @@ tallied_more first now counts i c d f f' whole lt is numbers so step =
     let next : f' ≡ tallied (placed first c) f = step ∙ ap (λ (x : Count). tallied x f) (placed_same now first c numbers) in
     rw (add-one i, next) (ap (λ (cs : List Count). all_tallied (all_placed first cs) f) (sym here) ∙ so)
 
--- one item more
-pub sent_more : (items : List Item) (i : ℕ) (d x : Item) (f f' whole : Forwarding) → i < length items → x ≡ get_or items i d → all_sent (drop i items) f ≡ whole → f' ≡ sent x f → all_sent (drop (i + 1) items) f' ≡ whole
-sent_more items i d x f f' whole lt is so step =
-    let here : drop i items ≡ x ∷ drop (suc i) items = drop-cons items i d lt ∙ ap (λ (y : Item). y ∷ drop (suc i) items) (sym is) in
-    rw (add-one i, step) (ap (λ (is : List Item). all_sent is f) (sym here) ∙ so)
+-- one effect sent more
+pub sent_more : (effects : List Effect) (i : ℕ) (d x : Effect) (f f' whole : Forwarding) → i < length effects → x ≡ get_or effects i d → all_sent (drop i effects) f ≡ whole → f' ≡ sent x f → all_sent (drop (i + 1) effects) f' ≡ whole
+sent_more effects i d x f f' whole lt is so step =
+    let here : drop i effects ≡ x ∷ drop (suc i) effects = drop-cons effects i d lt ∙ ap (λ (y : Effect). y ∷ drop (suc i) effects) (sym is) in
+    rw (add-one i, step) (ap (λ (es : List Effect). all_sent es f) (sym here) ∙ so)
 
 -- one effect more
 pub effects_more : (phase : Phase) (items : List Item) (i : Item) → effects_of phase (items ++ i ∷ []) ≡ effects_of phase items ++ effects_of phase (i ∷ [])

@@ -1,9 +1,12 @@
 pub mod Ports
+pub mod Told
 pub mod Plane
 pub mod Numbers
+pub mod Plans
 pub mod State
 pub mod Commands
-pub mod Told
 pub mod Steps
+pub mod Handling
 pub mod Calls
 pub mod Runs
+pub mod Stepping

@@ -7,8 +7,6 @@ use Rattle.of_table.specs.Table.{flow_at, winner_place}
 use Rattle.of_table.specs.Tables.{Tables, no_tables, tables_of, table_at, looked_in, matched_in}
 use Rattle.of_table.specs.declared.flow.Flow.{Flow}
 use Rattle.of_machine.specs.declared.port.Port.{Port}
-use Rattle.of_machine.specs.declared.data.Item.{Item}
-use Rattle.of_machine.specs.declared.data.Item.TheVariants as item
 use Rattle.of_machine.specs.declared.data.Count.{Count}
 use Rattle.of_machine.specs.declared.data.Count.TheVariants.{Lookup, Matched, TxDropped, Group, Bucket}
 use Rattle.of_machine.specs.declared.data.Packet.{Packet}
@@ -19,6 +17,10 @@ use Rattle.of_machine.specs.Runs.{Machine, run_of}
 use Rattle.of_switch.specs.declared.plane.PortCount.{PortCount}
 use Rattle.of_switch.specs.declared.plane.PortCount.TheVariants.{Received, ReceiveDropped, ReceiveError, Sent as SentBytes, SendDropped}
 use Rattle.of_switch.specs.Ports.{all_counted}
+use Rattle.of_session.specs.declared.session.Phase.{Phase}
+use Rattle.of_switch.specs.declared.effect.Effect.{Effect}
+use Rattle.of_switch.specs.declared.effect.Effect.TheVariants.{Answer, Sent, Closed}
+use Rattle.of_switch.specs.Told.{effects_of}
 
 -- the flow tables, and the ports in the order in which they were added
 pub record Forwarding : Type 0 where
@@ -59,43 +61,49 @@ abbrev pub all_tallied : List Count → Forwarding → Forwarding
 all_tallied [] f = f
 all_tallied (c ∷ cs) f = all_tallied cs (tallied c f)
 
--- what it emitted, in order: a port counts what it sends
-abbrev pub sent : Item → Forwarding → Forwarding
-sent (item.Sent port frame) f = count_port port (SentBytes (length frame)) f
-sent (item.PacketIn reason table cookie ingress metadata frame) f = f
+-- what was sent, in order: a port counts what it sends
+abbrev pub sent : Effect → Forwarding → Forwarding
+sent (Sent port frame) f = count_port port (SentBytes (length frame)) f
+sent (Answer bytes) f = f
+sent Closed f = f
 
-abbrev pub all_sent : List Item → Forwarding → Forwarding
+abbrev pub all_sent : List Effect → Forwarding → Forwarding
 all_sent [] f = f
-all_sent (i ∷ is) f = all_sent is (sent i f)
+all_sent (e ∷ es) f = all_sent es (sent e f)
 
 -- A PACKET
 
--- what is emitted, and the tables and ports after it
+-- what is sent, and the tables and ports after it
 pub record Forwarded : Type 0 where
-  pub items : List Item
+  pub effects : List Effect
   pub forwarding : Forwarding
 
-abbrev pub forwards : List Item → Forwarding → Forwarded
-forwards items f = record { items = items; forwarding = f }
+abbrev pub forwards : List Effect → Forwarding → Forwarded
+forwards effects f = record { effects = effects; forwarding = f }
 
-abbrev pub applied : Machine → Forwarding → Forwarded
-applied m f = forwards m.items (all_sent m.items (all_tallied m.counts f))
+-- what a run emitted is sent where the connection stands there, and what it counted is counted
+abbrev pub applied : Phase → Machine → Forwarding → Forwarded
+applied phase m f = let effects = effects_of phase m.items in forwards effects (all_sent effects (all_tallied m.counts f))
 
 -- a packet does its work
-abbrev pub through : Packet → List Work → Forwarding → Forwarded
-through p work f = applied (run_of (world_of f) p work) f
+abbrev pub through : Phase → Packet → List Work → Forwarding → Forwarded
+through phase p work f = applied phase (run_of (world_of f) p work) f
 
 -- A FRAME
 
--- too short or too long a frame is an error of its port; else it is received, and looked up in the first table
-abbrev pub taken_in : ℕ → List ℕ → Forwarding → Option FrameFault → Forwarded
-taken_in number bytes f (Some fault) = forwards [] (count_port number ReceiveError f)
-taken_in number bytes f None = through (entering bytes number) (LookUp 0 ∷ []) (count_port number (Received (length bytes)) f)
+-- a frame is received, and looked up in the first table
+abbrev pub received : Phase → ℕ → List ℕ → Forwarding → Forwarded
+received phase number bytes f = applied phase (run_of (world_of f) (entering bytes number) (LookUp 0 ∷ [])) (count_port number (Received (length bytes)) f)
+
+-- too short or too long a frame is an error of its port
+abbrev pub taken_in : Phase → ℕ → List ℕ → Forwarding → Option FrameFault → Forwarded
+taken_in phase number bytes f (Some fault) = forwards [] (count_port number ReceiveError f)
+taken_in phase number bytes f None = received phase number bytes f
 
 -- at a port that is not there nothing happens; at one whose link is down the frame is dropped
-abbrev pub arriving : ℕ → List ℕ → Forwarding → Option Port → Forwarded
-arriving number bytes f None = forwards [] f
-arriving number bytes f (Some p) = if p.is_link_up then taken_in number bytes f (frame_fault bytes) else forwards [] (count_port number ReceiveDropped f)
+abbrev pub arriving : Phase → ℕ → List ℕ → Forwarding → Option Port → Forwarded
+arriving phase number bytes f None = forwards [] f
+arriving phase number bytes f (Some p) = if p.is_link_up then taken_in phase number bytes f (frame_fault bytes) else forwards [] (count_port number ReceiveDropped f)
 
-abbrev pub framed : ℕ → List ℕ → Forwarding → Forwarded
-framed number bytes f = arriving number bytes f (port_at f.ports number)
+abbrev pub framed : Phase → ℕ → List ℕ → Forwarding → Forwarded
+framed phase number bytes f = arriving phase number bytes f (port_at f.ports number)

@@ -1,12 +1,16 @@
--- Messages until there is none.
-use Rattle.std.specs.Prelude.{ℕ, ◌+◌, suc, zero, List, [], ◌∷◌, ◌++◌, length, Option, Some, None, if◌then◌else◌}
+-- Messages until there is none, and the system run of any events.
+use Rattle.std.specs.Prelude.{◌≡◌, ◌⊎◌, ℕ, ◌+◌, suc, zero, List, [], ◌∷◌, ◌++◌, length, map, Option, Some, None, if◌then◌else◌}
+use Rattle.std.specs.Prelude.{unwrap_or}
 use Rattle.of_session.specs.Session.{is_disconnected}
-use Rattle.of_switch.specs.declared.switch.SwitchError.{SwitchError}
-use Rattle.of_switch.specs.declared.port_change.PortChange.{PortChange}
+use Rattle.of_switch.specs.declared.switch_error.SwitchError.{SwitchError}
 use Rattle.of_switch.specs.declared.effect.Effect.{Effect}
+use Rattle.of_switch.specs.declared.event.Event.{Event}
+use Rattle.of_switch.specs.declared.event.Event.TheVariants.{Connect, Piece, Frame, Moment, Ports}
+use Rattle.of_switch.specs.declared.event.Report.{Report as Reported}
+use Rattle.of_switch.specs.declared.event.Report.TheVariants as reported
 use Rattle.of_switch.specs.State.{State}
 use Rattle.of_switch.specs.Steps.{Outcome, gives, connected, fed, next_of, frame_in, moment_in, port_changed}
-use Rattle.of_switch.specs.Calls.{well, any_refusal, connect_refusal, feed_refusal, port_refusal}
+use Rattle.of_switch.specs.Calls.{connect_refusal, feed_refusal, port_refusal}
 
 -- effects before those of an outcome
 abbrev pub behind : List Effect → Outcome → Outcome
@@ -34,20 +38,37 @@ piece_in piece s = drained (fed piece s)
 abbrev pub come : List ℕ → State → State
 come piece s = if is_disconnected s.connection.phase then s else fed piece s
 
--- THE SYSTEM RUN
+-- MESSAGES ONE BY ONE
 
--- what happens to a switch
-pub data Event : Type 0 where
-  Connect : Event
-  Piece : (bytes : List ℕ) → Event
-  Frame : (port : ℕ) (bytes : List ℕ) → Event
-  Moment : (nanos : ℕ) → Event
-  Ports : (change : PortChange) → Event
+-- the connection has these bytes alone
+abbrev pub holding : List ℕ → State → State
+holding bytes s = record s { connection = record s.connection { pending = bytes } }
+
+-- these bytes come alone: their first message is handled, or their malformed header; or they wait
+abbrev pub handled_alone : List ℕ → State → Outcome
+handled_alone bytes s = unwrap_or (next_of (holding bytes s)) (gives [] (holding bytes s))
+
+-- one after the other, up to the one that ends the connection
+abbrev pub handled_in_turn : List (List ℕ) → State → Outcome
+handled_in_turn [] s = gives [] s
+handled_in_turn (m ∷ ms) s =
+    let first = handled_alone m s in
+    behind first.effects (if is_disconnected first.state.connection.phase then gives [] first.state else handled_in_turn ms first.state)
+
+-- THE SYSTEM RUN
 
 -- an event gives effects, or is refused and changes nothing
 pub data Report : Type 0 where
   Gives : (effects : List Effect) → Report
   IsRefused : (refusal : SwitchError) → Report
+
+-- as the code keeps it
+abbrev pub report_of : Reported → Report
+report_of (reported.Gives effects) = Gives effects.items
+report_of (reported.Refused refusal) = IsRefused refusal
+
+abbrev pub reports_of : List Reported → List Report
+reports_of reports = map report_of reports
 
 pub record Happened : Type 0 where
   pub report : Report
@@ -58,11 +79,11 @@ unless (Some refusal) s o = record { report = IsRefused refusal; state = s }
 unless None s o = record { report = Gives o.effects; state = o.state }
 
 abbrev pub happened : Event → State → Happened
-happened Connect s = unless (connect_refusal (well s)) s (connected s)
-happened (Piece bytes) s = unless (feed_refusal (well s)) s (piece_in bytes s)
-happened (Frame port bytes) s = unless (any_refusal (well s)) s (frame_in port bytes s)
-happened (Moment nanos) s = unless (any_refusal (well s)) s (moment_in nanos s)
-happened (Ports change) s = unless (port_refusal change (well s)) s (gives [] (port_changed change s))
+happened Connect s = unless (connect_refusal s) s (connected s)
+happened (Piece bytes) s = unless (feed_refusal s) s (piece_in bytes s)
+happened (Frame port bytes) s = unless None s (frame_in port bytes s)
+happened (Moment nanos) s = unless None s (moment_in nanos s)
+happened (Ports change) s = unless (port_refusal change s) s (gives [] (port_changed change s))
 
 -- the reports of events in any order and number, and the switch after them
 pub record Run : Type 0 where
@@ -72,3 +93,36 @@ pub record Run : Type 0 where
 abbrev pub run : List Event → State → Run
 run [] s = record { reports = []; state = s }
 run (e ∷ es) s = let h = happened e s in let others = run es h.state in record { reports = h.report ∷ others.reports; state = others.state }
+
+-- WHERE MEMORY IS WANTED
+
+abbrev pub effects_in : List Report → List Effect
+effects_in [] = []
+effects_in (Gives effects ∷ reports) = effects ++ effects_in reports
+effects_in (IsRefused refusal ∷ reports) = effects_in reports
+
+-- a piece was broken off between two of its messages: those before gave what is reported, and what is left gives the rest
+pub record IsBrokenOff (event : Event) (s t : State) (more : List Report) : Type 0 where
+  pub bytes : List ℕ
+  pub piece : event ≡ Piece bytes
+  pub taken : feed_refusal s ≡ None
+  pub left : piece_in bytes s ≡ behind (effects_in more) (drained t)
+
+-- an event for which there was no memory did nothing, or is a piece that was broken off
+abbrev pub IsInterrupted : Event → State → State → List Report → Type 0
+IsInterrupted event s t more = ((t ≡ s) × (more ≡ [])) ⊎ IsBrokenOff event s t more
+
+-- events up to one that was interrupted
+pub record StopsWithin (events : List Event) (s t : State) (reports reports' : List Report) : Type 0 where
+  pub first : List Event
+  pub event : Event
+  pub others : List Event
+  pub events_are : events ≡ first ++ event ∷ others
+  pub more : List Report
+  pub reports_are : reports' ≡ (reports ++ (run first s).reports) ++ more
+  pub interrupted : IsInterrupted event (run first s).state t more
+
+-- all events
+pub record RunsAll (events : List Event) (s t : State) (reports reports' : List Report) : Type 0 where
+  pub state : t ≡ (run events s).state
+  pub reports_are : reports' ≡ reports ++ (run events s).reports

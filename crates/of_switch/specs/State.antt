@@ -3,12 +3,20 @@ use Rattle.std.specs.Prelude.{ℕ}
 use Rattle.of_session.specs.Session.{Connection, alone}
 use Rattle.of_switch.specs.Plane.{Forwarding, idle}
 
-pub record State : Type 0 where
+-- what messages, frames and moments act on: they neither read nor write the connection
+pub record Core : Type 0 where
   -- the switch's own number (OpenFlow 1.3.5, 7.3.1)
   pub dpid : ℕ
-  pub connection : Connection
   pub forwarding : Forwarding
+
+pub record State : Type 0 where
+  pub connection : Connection
+  pub core : Core
+
+-- without flows and ports
+abbrev pub new_core : ℕ → Core
+new_core dpid = record { dpid = dpid; forwarding = idle }
 
 -- a new switch: no connection, no flow, no port
 abbrev pub start : ℕ → State
-start dpid = record { dpid = dpid; connection = alone; forwarding = idle }
+start dpid = record { connection = alone; core = new_core dpid }

@@ -1,5 +1,5 @@
 -- What each event does to the abstract switch.
-use Rattle.std.specs.Prelude.{ℕ, max, List, [], ◌∷◌, take, Option, Some, None}
+use Rattle.std.specs.Prelude.{◌≡◌, ℕ, max, Bool, List, [], ◌∷◌, take, Option, Some, None}
 use Rattle.of_wire.specs.declared.code.Code.{Code}
 use Rattle.of_wire.specs.Refusals.{refusal, first_of}
 use Rattle.of_messages.specs.declared.message.Message.{Message}
@@ -11,18 +11,71 @@ use Rattle.of_session.specs.declared.session.Next.{Next}
 use Rattle.of_session.specs.declared.session.Next.TheVariants.{Nothing, BadStream, NotHello, Opened, Read, Refused}
 use Rattle.of_session.specs.Session.{Connection, greeting, fed as fed_connection, entered, next_of as next_in}
 use Rattle.of_session.specs.declared.session.Phase.{Phase}
-use Rattle.of_session.specs.declared.session.Phase.TheVariants.{Disconnected, Greeting, Open}
+use Rattle.of_session.specs.declared.session.Phase.TheVariants.{Open}
 use Rattle.of_table.specs.Tables.{Tables, expired, expiry_notices}
 use Rattle.of_machine.specs.Rows.{acts, entering}
 use Rattle.of_switch.specs.Commands.{flow_mod_refusals, commanded, command_notices, notice_effects, packet_out_refusals, frame_of}
-use Rattle.of_switch.specs.Told.{effects_of}
+use Rattle.of_switch.specs.Told.{told}
 use Rattle.of_switch.specs.declared.effect.Effect.{Effect}
 use Rattle.of_switch.specs.declared.effect.Effect.TheVariants.{Answer, Closed}
 use Rattle.of_switch.specs.declared.port_change.PortChange.{PortChange}
 use Rattle.of_switch.specs.declared.port_change.PortChange.TheVariants.{Add}
 use Rattle.of_switch.specs.Ports.{new_port, with_port}
 use Rattle.of_switch.specs.Plane.{Forwarded, framed, through}
-use Rattle.of_switch.specs.State.{State}
+use Rattle.of_switch.specs.State.{Core, State}
+
+-- A MESSAGE (7.3): what it gives and the core after it, whatever the connection
+
+pub record Done : Type 0 where
+  pub effects : List Effect
+  pub core : Core
+
+abbrev pub does : List Effect → Core → Done
+does effects k = record { effects = effects; core = k }
+
+abbrev pub with_tables : Tables → Core → Core
+with_tables ts k = record k { forwarding = record k.forwarding { tables = ts } }
+
+-- what goes by the tables and the ports
+abbrev pub forwarded : Forwarded → Core → Done
+forwarded f k = does f.effects (record k { forwarding = f.forwarding })
+
+-- what a message is refused for that was read, in the written order
+abbrev pub state_refusals : Message → Core → List (Bool × Code)
+state_refusals Hello k = []
+state_refusals (EchoRequest echoed) k = []
+state_refusals BarrierRequest k = []
+state_refusals (IsPacketOut m) k = packet_out_refusals m
+state_refusals (IsFlowMod m) k = flow_mod_refusals m k.forwarding.tables
+
+-- a FLOW_MOD does its command, with a notice of each entry that went
+abbrev pub flow_modded : FlowMod → Core → Done
+flow_modded m k = does (told Open (notice_effects k.forwarding.tables.latest (command_notices m k.forwarding.tables))) (with_tables (commanded m k.forwarding.tables) k)
+
+-- a packet of the controller does its actions; it came in by no look-up
+abbrev pub packet_outed : PacketOut → Core → Done
+packet_outed m k = forwarded (through Open (entering (frame_of m.packet) m.in_port) (acts m.actions) k.forwarding) k
+
+-- what is done where nothing is refused
+abbrev pub done : ℕ → Message → Core → Done
+done xid Hello k = does [] k
+done xid (EchoRequest echoed) k = does (Answer (echo_reply_bytes xid echoed) ∷ []) k
+done xid BarrierRequest k = does (Answer (barrier_reply_bytes xid) ∷ []) k
+done xid (IsPacketOut m) k = packet_outed m k
+done xid (IsFlowMod m) k = flow_modded m k
+
+-- a refused message is answered by an ERROR with its first bytes (7.4.4), and does nothing else
+abbrev pub refused : ℕ → Code → List ℕ → Core → Done
+refused xid code failed k = does (Answer (error_bytes xid code failed) ∷ []) k
+
+abbrev pub unless_refused : Option Code → ℕ → List ℕ → Core → Done → Done
+unless_refused None xid failed k d = d
+unless_refused (Some code) xid failed k d = refused xid code failed k
+
+unfoldable pub handled : ℕ → Message → List ℕ → Core → Done
+handled xid m failed k = unless_refused (first_of (state_refusals m k)) xid failed k (done xid m k)
+
+-- THE SWITCH
 
 -- what an event gives, and the switch after it
 pub record Outcome : Type 0 where
@@ -31,6 +84,10 @@ pub record Outcome : Type 0 where
 
 abbrev pub gives : List Effect → State → Outcome
 gives effects s = record { effects = effects; state = s }
+
+-- the connection stands there, and the core has done that
+abbrev pub beside : Connection → Done → Outcome
+beside c d = gives d.effects (record { connection = c; core = d.core })
 
 -- A CONNECTION (6.3.1): the switch begins with its HELLO
 
@@ -41,80 +98,65 @@ connected s = gives (Answer hello_bytes ∷ []) (record s { connection = greetin
 abbrev pub fed : List ℕ → State → State
 fed piece s = record s { connection = fed_connection piece s.connection }
 
--- A MESSAGE (7.3)
-
-abbrev pub with_tables : Tables → State → State
-with_tables ts s = record s { forwarding = record s.forwarding { tables = ts } }
-
-abbrev pub answered : List ℕ → State → Outcome
-answered bytes s = gives (Answer bytes ∷ []) s
-
--- the whole FLOW_MOD is given back by an error, up to 64 bytes; else its command is done, with a notice of each entry that went
-abbrev pub flow_modded : ℕ → FlowMod → List ℕ → State → Option Code → Outcome
-flow_modded xid m failed s (Some code) = answered (error_bytes xid code failed) s
-flow_modded xid m failed s None = gives (notice_effects s.forwarding.tables.latest (command_notices m s.forwarding.tables)) (with_tables (commanded m s.forwarding.tables) s)
-
--- what is emitted is sent
-abbrev pub with_forwarding : State → Forwarded → Outcome
-with_forwarding s f = gives (effects_of s.connection.phase f.items) (record s { forwarding = f.forwarding })
-
--- a packet of the controller does its actions; it came in by no look-up
-abbrev pub packet_outed : ℕ → PacketOut → List ℕ → State → Option Code → Outcome
-packet_outed xid m failed s (Some code) = answered (error_bytes xid code failed) s
-packet_outed xid m failed s None = with_forwarding s (through (entering (frame_of m.packet) m.in_port) (acts m.actions) s.forwarding)
-
-abbrev pub handled : ℕ → Message → List ℕ → State → Outcome
-handled xid Hello failed s = gives [] s
-handled xid (EchoRequest echoed) failed s = answered (echo_reply_bytes xid echoed) s
-handled xid BarrierRequest failed s = answered (barrier_reply_bytes xid) s
-handled xid (IsPacketOut m) failed s = packet_outed xid m failed s (first_of (packet_out_refusals m))
-handled xid (IsFlowMod m) failed s = flow_modded xid m failed s (first_of (flow_mod_refusals m s.forwarding.tables))
-
 -- WHAT COMES NEXT OF THE CONTROLLER'S STREAM
 
 -- the first 64 bytes of the message that comes next
 abbrev pub failed_of : ℕ → Connection → List ℕ
 failed_of size c = take 64 (take size c.pending)
 
-abbrev pub after : Next → State → State
-after next s = record s { connection = entered next s.connection }
-
 -- an error without the message, and the end of the connection
-abbrev pub closing : List ℕ → State → Outcome
-closing error s = gives (Answer error ∷ Closed ∷ []) s
+abbrev pub closing : List ℕ → Core → Done
+closing error k = does (Answer error ∷ Closed ∷ []) k
 
 -- a malformed header is BAD_REQUEST, BAD_LEN (7.4.4: 1/6) with its 8 bytes; a first message that is not accepted is
 -- HELLO_FAILED, INCOMPATIBLE (0/0) without data
-abbrev pub came : Next → State → Option Outcome
-came Nothing s = None
-came (BadStream xid) s = Some (closing (error_bytes xid (refusal 1 6) (take 8 s.connection.pending)) (after (BadStream xid) s))
-came (NotHello xid) s = Some (closing (error_bytes xid (refusal 0 0) []) (after (NotHello xid) s))
-came (Opened size) s = Some (gives [] (after (Opened size) s))
-came (Refused xid size code) s = Some (answered (error_bytes xid code (failed_of size s.connection)) (after (Refused xid size code) s))
-came (Read xid size message) s = Some (handled xid message (failed_of size s.connection) (after (Read xid size message) s))
+abbrev pub came : Next → Connection → Core → Option Done
+came Nothing c k = None
+came (BadStream xid) c k = Some (closing (error_bytes xid (refusal 1 6) (take 8 c.pending)) k)
+came (NotHello xid) c k = Some (closing (error_bytes xid (refusal 0 0) []) k)
+came (Opened size) c k = Some (does [] k)
+came (Refused xid size code) c k = Some (refused xid code (failed_of size c) k)
+came (Read xid size message) c k = Some (handled xid message (failed_of size c) k)
+
+abbrev pub then_beside : Connection → Option Done → Option Outcome
+then_beside c None = None
+then_beside c (Some d) = Some (beside c d)
+
+abbrev pub next_by : Next → State → Option Outcome
+next_by next s = then_beside (entered next s.connection) (came next s.connection s.core)
 
 -- the first whole message is handled, or the malformed header; or there is neither
 abbrev pub next_of : State → Option Outcome
-next_of s = came (next_in s.connection) s
+next_of s = next_by (next_in s.connection) s
+
+-- what comes next is a message of that transaction id and size that is refused with this code: for its bytes, or for the state
+abbrev pub IsRefusedWith : Next → Core → ℕ → ℕ → Code → Type 0
+IsRefusedWith Nothing k xid size code = ⊥
+IsRefusedWith (BadStream x) k xid size code = ⊥
+IsRefusedWith (NotHello x) k xid size code = ⊥
+IsRefusedWith (Opened n) k xid size code = ⊥
+IsRefusedWith (Refused x n c) k xid size code = (x ≡ xid) × (n ≡ size) × (c ≡ code)
+IsRefusedWith (Read x n m) k xid size code = (x ≡ xid) × (n ≡ size) × (first_of (state_refusals m k) ≡ Some code)
 
 -- A FRAME
 
 abbrev pub frame_in : ℕ → List ℕ → State → Outcome
-frame_in port bytes s = with_forwarding s (framed port bytes s.forwarding)
+frame_in port bytes s = beside s.connection (forwarded (framed s.connection.phase port bytes s.core.forwarding) s.core)
 
--- A MOMENT: entries whose time is over go (5.5). A controller whose HELLO was accepted gets a notice of each whose flags ask for one.
+-- A MOMENT: entries whose time is over go (5.5), with a notice of each whose flags ask for one
 
-abbrev pub told_by : Phase → List Effect → List Effect
-told_by Disconnected effects = []
-told_by Greeting effects = []
-told_by Open effects = effects
+abbrev pub moment_done : Phase → ℕ → Core → Done
+moment_done phase now k =
+    let ts = k.forwarding.tables in
+    does (told phase (notice_effects (max ts.latest now) (expiry_notices now ts))) (with_tables (expired now ts) k)
 
 abbrev pub moment_in : ℕ → State → Outcome
-moment_in now s =
-    gives (told_by s.connection.phase (notice_effects (max s.forwarding.tables.latest now) (expiry_notices now s.forwarding.tables)))
-    (with_tables (expired now s.forwarding.tables) s)
+moment_in now s = beside s.connection (moment_done s.connection.phase now s.core)
 
 -- A PORT
 
+abbrev pub core_port_changed : PortChange → Core → Core
+core_port_changed (Add number hw name up) k = record k { forwarding = record k.forwarding { ports = with_port (new_port number hw name up) k.forwarding.ports } }
+
 abbrev pub port_changed : PortChange → State → State
-port_changed (Add number hw name up) s = record s { forwarding = record s.forwarding { ports = with_port (new_port number hw name up) s.forwarding.ports } }
+port_changed change s = record s { core = core_port_changed change s.core }

@@ -1,5 +1,5 @@
 -- What a switch sends of what a packet's run emitted: frames out of ports, and PACKET_INs to the controller (OpenFlow 1.3.5, 7.4.1).
-use Rattle.std.specs.Prelude.{Bool, true, false, List, map, filter}
+use Rattle.std.specs.Prelude.{Bool, true, false, List, [], map, filter, if◌then◌else◌}
 use Rattle.of_messages.specs.declared.message.PacketInReason.{PacketInReason}
 use Rattle.of_messages.specs.declared.message.PacketInReason.TheVariants as wire
 use Rattle.of_messages.specs.Written.{packet_in_bytes}
@@ -12,6 +12,15 @@ use Rattle.of_session.specs.declared.session.Phase.TheVariants.{Disconnected, Gr
 use Rattle.of_switch.specs.declared.effect.Effect.{Effect}
 use Rattle.of_switch.specs.declared.effect.Effect.TheVariants.{Answer, Sent}
 
+-- WHAT IS TOLD UNASKED, PACKET_INs and FLOW_REMOVEDs alike: a controller is told once its HELLO was accepted
+abbrev pub is_told : Phase → Bool
+is_told Disconnected = false
+is_told Greeting = false
+is_told Open = true
+
+abbrev pub told : Phase → List Effect → List Effect
+told phase effects = if is_told phase then effects else []
+
 abbrev pub packet_in_reason : Reason → PacketInReason
 packet_in_reason reason.NoMatch = wire.NoMatch
 packet_in_reason reason.Action = wire.Action
@@ -23,15 +32,10 @@ effect_of (item.Sent port frame) = Sent port frame
 effect_of (item.PacketIn reason table cookie ingress metadata frame) =
     Answer (packet_in_bytes 0 (record { reason = packet_in_reason reason; table = table; cookie = cookie; in_port = ingress; metadata = metadata }) frame)
 
-abbrev pub is_open : Phase → Bool
-is_open Disconnected = false
-is_open Greeting = false
-is_open Open = true
-
--- a controller is told once its HELLO was accepted
+-- a frame always leaves
 abbrev pub is_given : Phase → Item → Bool
 is_given phase (item.Sent port frame) = true
-is_given phase (item.PacketIn reason table cookie ingress metadata frame) = is_open phase
+is_given phase (item.PacketIn reason table cookie ingress metadata frame) = is_told phase
 
 abbrev pub effects_of : Phase → List Item → List Effect
 effects_of phase items = map effect_of (filter (is_given phase) items)

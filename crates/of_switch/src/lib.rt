@@ -4,16 +4,21 @@
 mod commands;
 mod effect;
 mod engine;
+mod event;
 mod laws;
+mod plan;
 mod plane;
 mod port_change;
 mod switch;
+mod switch_error;
 mod told;
 
 pub use effect::{Effect, Effects};
-pub use laws::two_pieces;
+pub use event::{Event, Report};
+pub use laws::{piece_handles_its_messages, refusal_changes_nothing, two_pieces};
 pub use port_change::PortChange;
-pub use switch::{Switch, SwitchError};
+pub use switch::Switch;
+pub use switch_error::SwitchError;
 
 #[cfg(test)]
 mod tests;

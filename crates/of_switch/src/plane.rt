@@ -1,5 +1,5 @@
 //! What forwards frames: the flow tables and the ports.
-ghost use Rattle.std.specs.Prelude.{◌≡◌, ◌≤◌, IfOk, OnOk, length};
+ghost use Rattle.std.specs.Prelude.{◌≡◌, ◌≤◌, IfOk, OnOk, OnErr, length};
 ghost use Rattle.of_machine.specs.Ports.{port_at};
 ghost use Rattle.of_table.specs.Tables.{all_numbers, tables_of, looked_in, matched_in};
 ghost use Rattle.of_switch.specs.Ports.{all_counted, counted, has_port, plus, tally, with_port};
@@ -8,18 +8,27 @@ ghost use Rattle.std.specs.List.{position_or_len};
 ghost use Rattle.std.specs.Prelude.{IsTrue, true, [], ◌∷◌};
 ghost use Rattle.of_actions.specs.Served.{are_served};
 ghost use Rattle.of_machine.specs.Growth.{AllShort};
-ghost use Rattle.of_machine.specs.Rows.{acts, entering, Lookup as LookUp};
-ghost use Rattle.of_switch.specs.Plane.{all_sent, all_tallied, forwards, framed, idle, sent, tallied, through};
+ghost use Rattle.of_machine.specs.Rows.{acts, entering};
+ghost use Rattle.of_table.specs.Tables.{NumberedTables, left_in, notices_in};
+ghost use Rattle.of_switch.specs.Commands.{notice_effects};
+ghost use Rattle.of_switch.specs.Told.{effects_of, told};
+ghost use Rattle.of_switch.specs.Plans.{changed, planned, with_reception};
+ghost use Rattle.of_switch.specs.Plane.{Forwarding, all_sent, all_tallied, count_port, forwards, framed, idle, received, sent, tallied, through};
 ghost use Rattle.of_switch.specs.Numbers.{Contents, all_placed, contents, forwarding_of, numbered_world, place_in, placed};
 
+use crate::commands::notices;
+use crate::effect::{Effect, Effects};
+use crate::plan::{Change, Plan, Reception};
+use crate::told::{effects_from, is_told};
 use of_actions::Action;
 use of_classifier::Lookup;
 use of_headers::{FieldKey, check_length};
 use of_machine::{
-    Chosen, Count, Item, Items, NoLog, Outcome, Packet, PacketFrame, Port, PortCounters, World,
-    run, run_actions,
+    Chosen, Count, Counts, NoLog, Outcome, Packet, PacketFrame, Port, PortCounters, World, run,
+    run_actions,
 };
-use of_table::{Flow, FlowTables};
+use of_session::Phase;
+use of_table::{Cause, Flow, FlowTables};
 use std::alloc::{AllocError, Global};
 
 /// What a port counts (OpenFlow 1.3.5, 5.8).
@@ -127,7 +136,8 @@ fn place_above(ports: &[Port], number: u32) -> usize
 
 /// Puts a port among the others, by rising number.
 pub fn put_port(ports: &mut Vec<Port>, port: Port) -> Result<(), AllocError>
-    ensures { OnOk result (ports.new.items ≡ with_port port ports.old.items) }
+    ensures ok { OnOk result (ports.new.items ≡ with_port port ports.old.items) }
+    ensures err { OnErr result (ports.new.items ≡ ports.old.items) }
 {
     let place = place_above(ports, port.number);
     ports.insert(place, port)?;
@@ -191,67 +201,116 @@ impl<L: Lookup> Plane<L> {
         })
     }
 
-    /// A frame comes in by a port (OpenFlow 1.3.5, 5.1). What is emitted is for the caller to send.
-    pub fn frame(&mut self, alloc: Global, number: u32, bytes: &[u8]) -> Result<Items, AllocError>
-        ensures forwarded { IfOk result (λ items. framed number bytes.now (forwarding_of self.old.tables self.old.ports.items) ≡ forwards items.items (forwarding_of self.new.tables self.new.ports.items)) }
-        ensures short { IfOk result (λ items. AllShort 65485 items.items) }
+    /// What a frame that comes in by a port will do (OpenFlow 1.3.5, 5.1), where the connection stands there.
+    pub fn plan_frame(
+        &mut self,
+        alloc: Global,
+        phase: Phase,
+        number: u32,
+        bytes: &[u8],
+    ) -> Result<Plan, AllocError>
+        ensures kept { contents self.new.tables self.new.ports.items ≡ contents self.old.tables self.old.ports.items }
+        ensures plan { IfOk result (λ plan. framed phase number bytes.now (forwarding_of self.old.tables self.old.ports.items) ≡ planned plan self.old.tables self.old.ports.items) }
     {
         let Some(port) = find_port(&self.ports, number) else {
-            return Ok(Items::new(alloc));
+            return Ok(no_change(alloc));
         };
         if !port.is_link_up {
-            count_at(&mut self.ports, number, PortCount::ReceiveDropped);
-            return Ok(Items::new(alloc));
+            return Ok(reception_alone(alloc, number, PortCount::ReceiveDropped));
         }
         if check_length(bytes).is_err() {
-            count_at(&mut self.ports, number, PortCount::ReceiveError);
-            return Ok(Items::new(alloc));
+            return Ok(reception_alone(alloc, number, PortCount::ReceiveError));
         }
-        count_at(&mut self.ports, number, PortCount::Received(bytes.len()));
-        self.forward(alloc, number, bytes)
+        self.plan_received(alloc, phase, number, bytes)
     }
 
-    // Runs a frame, and counts what comes of it.
-    fn forward(&mut self, alloc: Global, number: u32, bytes: &[u8]) -> Result<Items, AllocError>
+    // What a frame will do that is received.
+    fn plan_received(
+        &mut self,
+        alloc: Global,
+        phase: Phase,
+        number: u32,
+        bytes: &[u8],
+    ) -> Result<Plan, AllocError>
         requires long { 14 ≤ length bytes.now }
         requires most { length bytes.now ≤ 9216 }
-        ensures forwarded { IfOk result (λ items. through (entering bytes.now number) (LookUp 0 ∷ []) (forwarding_of self.old.tables self.old.ports.items) ≡ forwards items.items (forwarding_of self.new.tables self.new.ports.items)) }
-        ensures short { IfOk result (λ items. AllShort 65485 items.items) }
+        ensures kept { contents self.new.tables self.new.ports.items ≡ contents self.old.tables self.old.ports.items }
+        ensures plan { IfOk result (λ plan. received phase number bytes.now (forwarding_of self.old.tables self.old.ports.items) ≡ planned plan self.old.tables self.old.ports.items) }
     {
         self.tables.known();
         let packet = Packet::new(PacketFrame::new(bytes), number);
         let outcome = run(alloc, self, packet, &mut NoLog)?;
-        Ok(self.apply(outcome))
+        let reception = Reception {
+            port: number,
+            what: PortCount::Received(bytes.len()),
+        };
+        plan_of(alloc, phase, Some(reception), outcome)
     }
 
-    /// A packet of the controller does its actions (OpenFlow 1.3.5, 7.3.6). What is emitted is for the caller to send.
-    pub fn packet_out(
+    /// What a packet of the controller will do by its actions (OpenFlow 1.3.5, 7.3.6).
+    pub fn plan_packet_out(
         &mut self,
         alloc: Global,
         in_port: u32,
         bytes: &[u8],
         actions: &[Action],
-    ) -> Result<Items, AllocError>
+    ) -> Result<Plan, AllocError>
         requires long { 14 ≤ length bytes.now }
         requires most { length bytes.now ≤ 9216 }
         requires served { IsTrue (are_served true actions.now) }
-        ensures forwarded { IfOk result (λ items. through (entering bytes.now in_port) (acts actions.now) (forwarding_of self.old.tables self.old.ports.items) ≡ forwards items.items (forwarding_of self.new.tables self.new.ports.items)) }
-        ensures short { IfOk result (λ items. AllShort 65485 items.items) }
+        ensures kept { contents self.new.tables self.new.ports.items ≡ contents self.old.tables self.old.ports.items }
+        ensures plan { IfOk result (λ plan. through Phase.Open (entering bytes.now in_port) (acts actions.now) (forwarding_of self.old.tables self.old.ports.items) ≡ planned plan self.old.tables self.old.ports.items) }
     {
         self.tables.known();
         let packet = Packet::new(PacketFrame::new(bytes), in_port);
         let outcome = run_actions(alloc, self, packet, actions, &mut NoLog)?;
-        Ok(self.apply(outcome))
+        plan_of(alloc, Phase::Open, None, outcome)
     }
 
-    // Counts what a run counted and emitted.
-    fn apply(&mut self, outcome: Outcome) -> Items
-        ensures items { result.items ≡ outcome.items.items }
-        ensures forwarding { forwarding_of self.new.tables self.new.ports.items ≡ all_sent outcome.items.items (all_tallied (all_placed self.old.tables outcome.counts.items) (forwarding_of self.old.tables self.old.ports.items)) }
+    /// The removal of entries, with a notice of each whose flags ask for one, where the connection stands there: they went now.
+    pub fn plan_removal(
+        &self,
+        alloc: Global,
+        phase: Phase,
+        cause: Cause,
+        now: u64,
+    ) -> Result<Plan, AllocError>
+        ensures { IfOk result (λ plan. planned plan self.now.tables self.now.ports.items ≡ forwards (told phase (notice_effects now (notices_in cause (tables_of self.now.tables)))) (record (forwarding_of self.now.tables self.now.ports.items) { tables = left_in cause (tables_of self.now.tables) })) }
     {
-        self.tally_all(&outcome.counts);
-        self.count_sent(&outcome.items);
-        outcome.items
+        let effects = if is_told(phase) {
+            notices(alloc, &self.tables.listed(&cause)?, now)?
+        } else {
+            Effects::new(alloc)
+        };
+        Ok(Plan {
+            effects,
+            change: Change::Removal(cause),
+        })
+    }
+
+    /// Does what was planned, and answers what it gives.
+    pub fn carry_out(&mut self, plan: Plan) -> Effects
+        ensures effects { result.items ≡ plan.effects.items }
+        ensures forwarding { forwarding_of self.new.tables self.new.ports.items ≡ (planned plan self.old.tables self.old.ports.items).forwarding }
+    {
+        let Plan { effects, change } = plan;
+        match &change {
+            Change::Nothing => {}
+            Change::Counts { reception, counts } => self.count(*reception, counts, &effects),
+            Change::Removal(cause) => self.tables.remove(cause),
+        }
+        effects
+    }
+
+    // Counts the reception of a frame, and what a packet's run counted and sent.
+    fn count(&mut self, reception: Option<Reception>, counts: &[Count], effects: &[Effect])
+        ensures { forwarding_of self.new.tables self.new.ports.items ≡ all_sent effects.now (all_tallied (all_placed self.old.tables counts.now) (with_reception reception (forwarding_of self.old.tables self.old.ports.items))) }
+    {
+        if let Some(Reception { port, what }) = reception {
+            count_at(&mut self.ports, port, what);
+        }
+        self.tally_all(counts);
+        self.count_sent(effects);
     }
 
     // Counts what a run counted.
@@ -299,23 +358,63 @@ impl<L: Lookup> Plane<L> {
         }
     }
 
-    // Counts what a run emitted.
-    fn count_sent(&mut self, items: &[Item])
-        ensures { forwarding_of self.new.tables self.new.ports.items ≡ all_sent items.now (forwarding_of self.old.tables self.old.ports.items) }
+    // Counts what is sent.
+    fn count_sent(&mut self, effects: &[Effect])
+        ensures { forwarding_of self.new.tables self.new.ports.items ≡ all_sent effects.now (forwarding_of self.old.tables self.old.ports.items) }
     {
-        for item in items {
-            self.count_item(item);
+        for effect in effects {
+            self.count_effect(effect);
         }
     }
 
-    fn count_item(&mut self, item: &Item)
-        ensures { forwarding_of self.new.tables self.new.ports.items ≡ sent item.now (forwarding_of self.old.tables self.old.ports.items) }
+    fn count_effect(&mut self, effect: &Effect)
+        ensures { forwarding_of self.new.tables self.new.ports.items ≡ sent effect.now (forwarding_of self.old.tables self.old.ports.items) }
     {
-        match item {
-            Item::Sent { port, frame } => {
+        match effect {
+            Effect::Sent { port, frame } => {
                 count_at(&mut self.ports, *port, PortCount::Sent(frame.len()));
             }
-            Item::PacketIn { .. } => {}
+            Effect::Answer(_) | Effect::Closed => {}
         }
     }
+}
+
+// Nothing is given, and nothing changes.
+fn no_change(alloc: Global) -> Plan
+    ensures { (result.effects.items ≡ []) × (result.change ≡ Change.Nothing) }
+{
+    Plan {
+        effects: Effects::new(alloc),
+        change: Change::Nothing,
+    }
+}
+
+// A port counts what came in, and nothing is given.
+fn reception_alone(alloc: Global, port: u32, what: PortCount) -> Plan
+    ensures { (n : NumberedTables) (f : Forwarding) → (result.effects.items ≡ []) × (changed result.change result.effects.items n f ≡ count_port port what f) }
+{
+    Plan {
+        effects: Effects::new(alloc),
+        change: Change::Counts {
+            reception: Some(Reception { port, what }),
+            counts: Counts::new(alloc),
+        },
+    }
+}
+
+// What a run gives and counts, as a plan.
+fn plan_of(
+    alloc: Global,
+    phase: Phase,
+    reception: Option<Reception>,
+    outcome: Outcome,
+) -> Result<Plan, AllocError>
+    requires { AllShort 65485 outcome.items.items }
+    ensures { IfOk result (λ plan. (n : NumberedTables) (f : Forwarding) → (plan.effects.items ≡ effects_of phase outcome.items.items) × (changed plan.change plan.effects.items n f ≡ all_sent plan.effects.items (all_tallied (all_placed n outcome.counts.items) (with_reception reception f)))) }
+{
+    let Outcome { items, counts } = outcome;
+    Ok(Plan {
+        effects: effects_from(alloc, phase, items)?,
+        change: Change::Counts { reception, counts },
+    })
 }

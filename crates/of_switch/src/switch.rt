@@ -1,210 +1,170 @@
 //! The switch.
-ghost use Rattle.std.specs.Prelude.{◌≡◌, false, IfOk, IfNone};
+ghost use Rattle.std.specs.Prelude.{◌≡◌, ◌≤◌, ◌<◌, ◌∷◌, ◌++◌, ◌+◌, [], IfOk, IfNone, OnOk, OnErr, None, length, take, vec_len, vec_capacity};
 ghost use Rattle.std.specs.Option.{option_map};
+ghost use Rattle.of_messages.specs.Written.{error_bytes};
+ghost use Rattle.of_session.specs.Session.{IsSound, IsWithin};
 ghost use Rattle.of_switch.specs.State.{start};
-ghost use Rattle.of_switch.specs.Steps.{connected, fed, frame_in, moment_in, gives, next_of, port_changed};
-ghost use Rattle.of_switch.specs.Runs.{piece_in};
-ghost use Rattle.of_switch.specs.Calls.{Call, any_refusal, connect_refusal, feed_refusal, number_of, port_refusal, well};
+ghost use Rattle.of_switch.specs.Steps.{came, connected, does, failed_of, fed, frame_in, moment_in, gives, next_of, port_changed, refused as refused_by};
+ghost use Rattle.of_switch.specs.Calls.{Call, connect_refusal, feed_refusal, port_refusal};
+ghost use Rattle.of_switch.specs.Runs.{RunsAll, StopsWithin, reports_of};
+ghost use Rattle.of_switch.specs.Stepping.{Drains, Happens, Tells};
 
-use crate::effect::Effects;
-use crate::engine::Engine;
+use crate::effect::{Effect, Effects};
+use crate::engine::{Engine, Fault, one};
+use crate::event::{Event, Report};
 use crate::port_change::PortChange;
+use crate::switch_error::SwitchError;
 use of_classifier::Lookup;
-use of_session::Phase;
+use of_messages::{write_error, write_hello};
+use of_session::{Next, Phase, Session};
+use of_wire::{Bytes, Code};
 use std::alloc::{AllocError, Global};
 use std::marker::Model;
 
 /// How many ports a switch has at most.
 const MOST_PORTS: usize = 64;
 
-/// Why a call did nothing, or that memory ran out.
-#[derive(Clone, Copy, Debug, PartialEq, Eq)]
-pub enum SwitchError {
-    /// Memory ran out. Each later call answers `Failed`.
-    NoMemory = 1,
-    /// An earlier call met want of memory.
-    Failed = 2,
-    /// There is no connection.
-    NotConnected = 3,
-    /// There is a connection already.
-    Connected = 4,
-    /// A port of that number is there.
-    PortExists = 5,
-    /// There are 64 ports.
-    TooManyPorts = 7,
-    /// The number is not 1 to 0xffffff00.
-    BadPortNumber = 8,
-}
+/// How many bytes of a message an ERROR gives back at most (OpenFlow 1.3.5, 7.4.4).
+const ERROR_DATA: usize = 64;
 
-impl SwitchError {
-    pub fn number(self) -> u32
-        ensures { result ≡ number_of self }
-    {
-        self as u32
-    }
-}
+const HELLO_INCOMPATIBLE: Code = Code { kind: 0, code: 0 };
+
+const BAD_LEN: Code = Code { kind: 1, code: 6 };
 
 /// An OpenFlow 1.3 switch, whose lookups go by the classifier `L`.
 ///
-/// Each call does what the abstract switch does. A call that is refused changes nothing.
+/// Each call does what the abstract switch does. A call that is refused changes nothing, and one for which there is no
+/// memory changes nothing either and can be made again.
 #[derive(Drop)]
 pub struct Switch<L: Lookup> {
+    session: Session,
     engine: Engine<L>,
-    failed: bool,
+    alloc: Global,
 }
 
 impl<L: Lookup> Model for Switch<L> {
-    ghost use Rattle.of_switch.specs.Calls.{Held};
+    ghost use Rattle.of_switch.specs.State.{State};
 
-    ghost Value = { Held };
+    ghost Value = { State };
 
-    ghost view = { λ s. record { failed = s.failed; state = s.engine } };
+    ghost view = { λ s. record { connection = s.session; core = s.engine } };
 }
 
 impl<L: Lookup> Switch<L> {
     /// A switch of that number (OpenFlow 1.3.5, 7.3.1), without a connection, flows and ports.
     pub fn new(alloc: Global, dpid: u64) -> Result<Self, AllocError>
-        ensures { IfOk result (λ s. s ≡ well (start dpid)) }
+        ensures { IfOk result (λ s. s ≡ start dpid) }
     {
         Ok(Switch {
+            session: Session::new(alloc),
             engine: Engine::new(alloc, dpid)?,
-            failed: false,
+            alloc,
         })
     }
 
     /// A controller connects (OpenFlow 1.3.5, 6.3.1): the switch says HELLO.
     ///
-    /// Refused, in this order: `Failed`; `Connected`.
+    /// Refused: `Connected`.
     pub fn connected(&mut self) -> Result<Effects, SwitchError>
-        ensures { Call (connect_refusal self.old) (λ effects new.
-            (connected self.old.state ≡ gives effects.items new.state) × (new.failed ≡ false)) self.old result self.new }
+        ensures { Call (connect_refusal self.old) (λ effects new. connected self.old ≡ gives effects.items new) self.old result self.new }
     {
-        if self.failed {
-            return Err(SwitchError::Failed);
-        }
-        if self.engine.phase() != Phase::Disconnected {
+        if self.session.phase() != Phase::Disconnected {
             return Err(SwitchError::Connected);
         }
-        match self.engine.connect() {
-            Ok(effects) => Ok(effects),
-            Err(AllocError) => {
-                self.failed = true;
-                Err(SwitchError::NoMemory)
-            }
-        }
+        let effects = one(self.alloc, Effect::Answer(write_hello(self.alloc)?))?;
+        self.session.connect();
+        Ok(effects)
     }
 
     /// Bytes of the controller come, cut anywhere. They are handled by `next`.
     ///
-    /// Refused, in this order: `Failed`; `NotConnected`.
+    /// Refused: `NotConnected`.
     pub fn feed(&mut self, piece: &[u8]) -> Result<(), SwitchError>
-        ensures { Call (feed_refusal self.old) (λ _ new. new ≡ well (fed piece.now self.old.state)) self.old result self.new }
+        ensures { Call (feed_refusal self.old) (λ _ new. new ≡ fed piece.now self.old) self.old result self.new }
     {
-        if self.failed {
-            return Err(SwitchError::Failed);
-        }
-        if self.engine.phase() == Phase::Disconnected {
+        if self.session.phase() == Phase::Disconnected {
             return Err(SwitchError::NotConnected);
         }
-        match self.engine.feed(piece) {
-            Ok(()) => Ok(()),
-            Err(AllocError) => {
-                self.failed = true;
-                Err(SwitchError::NoMemory)
-            }
-        }
+        Ok(self.session.feed(piece)?)
     }
 
     /// Handles the first whole message, or the malformed header that ends the connection; None where there is neither.
-    ///
-    /// Refused: `Failed`.
     pub fn next(&mut self) -> Result<Option<Effects>, SwitchError>
-        ensures { Call (any_refusal self.old) (λ found new.
-            (next_of self.old.state ≡ option_map (λ effects. gives effects.items new.state) found)
-            × (new.failed ≡ false)
+        ensures { Call None (λ found new.
+            (next_of self.old ≡ option_map (λ effects. gives effects.items new) found)
             × IfNone found (new ≡ self.old)) self.old result self.new }
     {
-        if self.failed {
-            return Err(SwitchError::Failed);
-        }
-        match self.engine.next() {
-            Ok(found) => Ok(found),
-            Err(AllocError) => {
-                self.failed = true;
-                Err(SwitchError::NoMemory)
+        let next = self.session.next()?;
+        let Some(effects) = self.answer(next)? else {
+            return Ok(None);
+        };
+        self.session.taken();
+        Ok(Some(effects))
+    }
+
+    // Handles what comes next, and leaves it in the stream.
+    fn answer(&mut self, next: Next) -> Result<Option<Effects>, AllocError>
+        requires within { IsWithin next self.old.connection }
+        requires sound { IsSound next }
+        ensures came { IfOk result (λ found. came next self.old.connection self.old.core ≡ option_map (λ effects. does effects.items self.new.core) found) }
+        ensures none { IfOk result (λ found. IfNone found (self.new.core ≡ self.old.core)) }
+        ensures connection { self.new.connection ≡ self.old.connection }
+        ensures err { OnErr result (self.new.core ≡ self.old.core) }
+    {
+        match next {
+            Next::Nothing => Ok(None),
+            Next::BadStream { xid } => {
+                let error = write_error(self.alloc, xid, BAD_LEN, self.session.first(8))?;
+                Ok(Some(closing(self.alloc, error)?))
             }
+            Next::NotHello { xid } => {
+                let error = write_error(self.alloc, xid, HELLO_INCOMPATIBLE, &[])?;
+                Ok(Some(closing(self.alloc, error)?))
+            }
+            Next::Opened { .. } => Ok(Some(Effects::new(self.alloc))),
+            Next::Refused { xid, size, code } => Ok(Some(self.refused(xid, size, code)?)),
+            Next::Read { xid, size, message } => match self.engine.handle(xid, message) {
+                Ok(effects) => Ok(Some(effects)),
+                Err(Fault::Refused(code)) => Ok(Some(self.refused(xid, size, code)?)),
+                Err(Fault::Memory) => Err(AllocError),
+            },
         }
     }
 
-    /// Bytes of the controller come, cut anywhere, and each whole message is handled: `feed`, and then `next` until there is none.
-    ///
-    /// Refused, in this order: `Failed`; `NotConnected`.
-    pub fn piece(&mut self, piece: &[u8]) -> Result<Effects, SwitchError>
-        ensures { Call (feed_refusal self.old) (λ effects new.
-            (piece_in piece.now self.old.state ≡ gives effects.items new.state) × (new.failed ≡ false)) self.old result self.new }
+    // The ERROR that answers the message that comes next, with its first bytes.
+    fn refused(&self, xid: u32, size: usize, code: Code) -> Result<Effects, AllocError>
+        requires { size ≤ length self.now.connection.pending }
+        ensures { IfOk result (λ effects. effects.items ≡ Effect.Answer (error_bytes xid code (failed_of size self.now.connection)) ∷ []) }
     {
-        if self.failed {
-            return Err(SwitchError::Failed);
-        }
-        if self.engine.phase() == Phase::Disconnected {
-            return Err(SwitchError::NotConnected);
-        }
-        match self.engine.piece(piece) {
-            Ok(effects) => Ok(effects),
-            Err(AllocError) => {
-                self.failed = true;
-                Err(SwitchError::NoMemory)
-            }
-        }
+        let failed = front_part(self.session.first(size), ERROR_DATA);
+        one(
+            self.alloc,
+            Effect::Answer(write_error(self.alloc, xid, code, failed)?),
+        )
     }
 
     /// A frame comes in by a port.
-    ///
-    /// Refused: `Failed`.
     pub fn frame(&mut self, port: u32, frame: &[u8]) -> Result<Effects, SwitchError>
-        ensures { Call (any_refusal self.old) (λ effects new.
-            (frame_in port frame.now self.old.state ≡ gives effects.items new.state) × (new.failed ≡ false)) self.old result self.new }
+        ensures { Call None (λ effects new. frame_in port frame.now self.old ≡ gives effects.items new) self.old result self.new }
     {
-        if self.failed {
-            return Err(SwitchError::Failed);
-        }
-        match self.engine.frame(port, frame) {
-            Ok(effects) => Ok(effects),
-            Err(AllocError) => {
-                self.failed = true;
-                Err(SwitchError::NoMemory)
-            }
-        }
+        Ok(self.engine.frame(self.session.phase(), port, frame)?)
     }
 
     /// It is so many nanoseconds, or the latest moment if that is later: entries whose time is over go (OpenFlow 1.3.5, 5.5).
     ///
-    /// An open connection gets a FLOW_REMOVED of each whose flags ask for one, by table, then by age. Refused: `Failed`.
+    /// An open connection gets a FLOW_REMOVED of each whose flags ask for one, by table, then by age.
     pub fn moment(&mut self, nanos: u64) -> Result<Effects, SwitchError>
-        ensures { Call (any_refusal self.old) (λ effects new.
-            (moment_in nanos self.old.state ≡ gives effects.items new.state) × (new.failed ≡ false)) self.old result self.new }
+        ensures { Call None (λ effects new. moment_in nanos self.old ≡ gives effects.items new) self.old result self.new }
     {
-        if self.failed {
-            return Err(SwitchError::Failed);
-        }
-        match self.engine.moment(nanos) {
-            Ok(effects) => Ok(effects),
-            Err(AllocError) => {
-                self.failed = true;
-                Err(SwitchError::NoMemory)
-            }
-        }
+        Ok(self.engine.moment(self.session.phase(), nanos)?)
     }
 
     /// A port is added.
     ///
-    /// Refused, in this order: `Failed`; `BadPortNumber`; `PortExists`; `TooManyPorts`.
+    /// Refused, in this order: `BadPortNumber`; `PortExists`; `TooManyPorts`.
     pub fn port_change(&mut self, change: PortChange) -> Result<(), SwitchError>
-        ensures { Call (port_refusal change self.old) (λ _ new. new ≡ well (port_changed change self.old.state)) self.old result self.new }
+        ensures { Call (port_refusal change self.old) (λ _ new. new ≡ port_changed change self.old) self.old result self.new }
     {
-        if self.failed {
-            return Err(SwitchError::Failed);
-        }
         let PortChange::Add { number, .. } = change;
         if number == 0 || number > 0xffff_ff00 {
             return Err(SwitchError::BadPortNumber);
@@ -215,12 +175,116 @@ impl<L: Lookup> Switch<L> {
         if self.engine.count_ports() >= MOST_PORTS {
             return Err(SwitchError::TooManyPorts);
         }
-        match self.engine.change_port(change) {
-            Ok(()) => Ok(()),
-            Err(AllocError) => {
-                self.failed = true;
-                Err(SwitchError::NoMemory)
+        Ok(self.engine.change_port(change)?)
+    }
+
+    /// Events in any order, whose reports are appended: one an event.
+    ///
+    /// Where memory runs out, the reports of the events before stand, and the switch is as they left it. Only of a piece
+    /// may some messages have been handled: then what they gave is reported too, in one or two reports more, and `next` goes on.
+    pub fn run(&mut self, events: &[Event], reports: &mut Vec<Report>) -> Result<(), AllocError>
+        ensures ok { OnOk result (RunsAll events.now self.old self.new (reports_of reports.old.items) (reports_of reports.new.items)) }
+        ensures err { OnErr result (StopsWithin events.now self.old self.new (reports_of reports.old.items) (reports_of reports.new.items)) }
+    {
+        for event in events {
+            reports.reserve(2)?;
+            self.happen(event, reports)?;
+        }
+        Ok(())
+    }
+
+    // There is room for two reports.
+    fn happen(&mut self, event: &Event, reports: &mut Vec<Report>) -> Result<(), AllocError>
+        requires { vec_len reports.old + 2 ≤ vec_capacity reports.old }
+        ensures { Happens result event.now self.old self.new (reports_of reports.old.items) (reports_of reports.new.items) }
+    {
+        match event {
+            Event::Connect => tell(self.connected(), reports),
+            Event::Piece(bytes) => self.piece(bytes.as_slice(), reports),
+            Event::Frame { port, frame } => tell(self.frame(*port, frame.as_slice()), reports),
+            Event::Moment(nanos) => tell(self.moment(*nanos), reports),
+            Event::Ports(change) => tell(self.port_event(*change), reports),
+        }
+    }
+
+    fn port_event(&mut self, change: PortChange) -> Result<Effects, SwitchError>
+        ensures { Call (port_refusal change self.old) (λ effects new. gives [] (port_changed change self.old) ≡ gives effects.items new) self.old result self.new }
+    {
+        self.port_change(change)?;
+        Ok(Effects::new(self.alloc))
+    }
+
+    // Bytes of the controller come, and each whole message is handled.
+    fn piece(&mut self, piece: &[u8], reports: &mut Vec<Report>) -> Result<(), AllocError>
+        requires { vec_len reports.old + 2 ≤ vec_capacity reports.old }
+        ensures { Happens result (Event.Piece piece.now) self.old self.new (reports_of reports.old.items) (reports_of reports.new.items) }
+    {
+        match self.feed(piece) {
+            Ok(()) => self.drain(reports),
+            Err(refusal) => tell(Err(refusal), reports),
+        }
+    }
+
+    // Handles all messages that are there.
+    fn drain(&mut self, reports: &mut Vec<Report>) -> Result<(), AllocError>
+        requires { vec_len reports.old + 2 ≤ vec_capacity reports.old }
+        ensures { Drains result self.old self.new (reports_of reports.old.items) (reports_of reports.new.items) }
+    {
+        let mut effects = Effects::new(self.alloc);
+        loop {
+            match self.next() {
+                Ok(None) => {
+                    reports.push_reserved(Report::Gives(effects));
+                    return Ok(());
+                }
+                Ok(Some(more)) => {
+                    let mut more = more;
+                    if let Err(AllocError) = effects.append(&mut more) {
+                        reports.push_reserved(Report::Gives(effects));
+                        reports.push_reserved(Report::Gives(more));
+                        return Err(AllocError);
+                    }
+                }
+                Err(_) => {
+                    reports.push_reserved(Report::Gives(effects));
+                    return Err(AllocError);
+                }
             }
         }
+    }
+}
+
+// Appends the report of a call, unless it met want of memory.
+fn tell(called: Result<Effects, SwitchError>, reports: &mut Vec<Report>) -> Result<(), AllocError>
+    requires { vec_len reports.old < vec_capacity reports.old }
+    ensures { Tells called (reports_of reports.old.items) result (reports_of reports.new.items) }
+{
+    let report = match called {
+        Ok(effects) => Report::Gives(effects),
+        Err(SwitchError::NoMemory) => return Err(AllocError),
+        Err(refusal) => Report::Refused(refusal),
+    };
+    reports.push_reserved(report);
+    Ok(())
+}
+
+// An error, and the end of the connection.
+fn closing(alloc: Global, error: Bytes) -> Result<Effects, AllocError>
+    ensures { IfOk result (λ effects. effects.items ≡ Effect.Answer error ∷ Effect.Closed ∷ []) }
+{
+    let mut effects = Effects::new(alloc);
+    effects.push(Effect::Answer(error))?;
+    effects.push(Effect::Closed)?;
+    Ok(effects)
+}
+
+// The first bytes, so many at most.
+fn front_part(bytes: &[u8], most: usize) -> &[u8]
+    ensures { result.now ≡ take most bytes.now }
+{
+    if bytes.len() <= most {
+        bytes
+    } else {
+        &bytes[..most]
     }
 }

@@ -1,5 +1,9 @@
-use crate::{Effect, PortChange, Switch, SwitchError, two_pieces};
+use crate::{
+    Effect, Effects, Event, PortChange, Report, Switch, SwitchError, piece_handles_its_messages,
+    refusal_changes_nothing, two_pieces,
+};
 use of_classifier::Scan;
+use of_wire::Bytes;
 use std::alloc::Global;
 use std::process::Abort;
 use std::test::Fail;
@@ -25,6 +29,14 @@ fn added(number: u32) -> PortChange {
     }
 }
 
+// Bytes that are one message.
+fn handled(rt: &impl Abort, switch: &mut Switch<Scan>, message: &[u8]) -> Result<Effects, Fail> {
+    switch.feed(message)?;
+    let effects = switch.next()?.ok_or("a message")?;
+    assert!(rt; switch.next()?.is_none());
+    Ok(effects)
+}
+
 // A switch of two ports, and a controller that said HELLO.
 fn opened(rt: &impl Abort, alloc: Global) -> Result<Switch<Scan>, Fail> {
     let mut switch = Switch::<Scan>::new(alloc, 1)?;
@@ -37,7 +49,7 @@ fn opened(rt: &impl Abort, alloc: Global) -> Result<Switch<Scan>, Fail> {
         let bytes = [4u8, 0, 0, 16, 0, 0, 0, 0, 0, 1, 0, 8, 0, 0, 0, 0x10];
         assert_eq!(rt; hello.as_slice(), bytes.as_slice());
     }
-    let effects = switch.piece(&[4, 0, 0, 8, 0, 0, 0, 1])?;
+    let effects = handled(rt, &mut switch, &[4, 0, 0, 8, 0, 0, 0, 1])?;
     assert!(rt; effects.is_empty());
     Ok(switch)
 }
@@ -55,6 +67,37 @@ fn echo(rt: HostRuntime) -> Result<(), Fail> {
     }
     assert!(rt; switch.next()?.is_none());
     two_pieces();
+    piece_handles_its_messages();
+    refusal_changes_nothing();
+    Ok(())
+}
+
+// A switch that a controller greets, asks for an echo in two pieces, and greets wrongly again.
+#[test]
+fn events(rt: HostRuntime) -> Result<(), Fail> {
+    let mut switch = Switch::<Scan>::new(rt.alloc(), 1)?;
+    let mut events = Vec::new(rt.alloc());
+    events.push(Event::Ports(added(1)))?;
+    events.push(Event::Connect)?;
+    events.push(Event::Connect)?;
+    events.push(Event::Piece(Bytes::from_slice(
+        rt.alloc(),
+        &[4, 0, 0, 8, 0, 0, 0, 1, 4, 2, 0, 8],
+    )?))?;
+    events.push(Event::Piece(Bytes::from_slice(rt.alloc(), &[0, 0, 0, 9])?))?;
+    events.push(Event::Moment(1))?;
+    let mut reports = Vec::new(rt.alloc());
+    switch.run(&events, &mut reports)?;
+    assert_eq!(rt; reports.len(), 6);
+    assert!(rt; matches!(&reports[2], Report::Refused(SwitchError::Connected)));
+    assert!(rt; matches!(&reports[4], Report::Gives(_)));
+    if let Report::Gives(effects) = &reports[4] {
+        assert_eq!(rt; effects.len(), 1);
+        assert!(rt; matches!(&effects[0], Effect::Answer(_)));
+        if let Effect::Answer(reply) = &effects[0] {
+            assert_eq!(rt; reply.as_slice(), [4u8, 3, 0, 8, 0, 0, 0, 9].as_slice());
+        }
+    }
     Ok(())
 }
 
@@ -62,7 +105,7 @@ fn echo(rt: HostRuntime) -> Result<(), Fail> {
 fn frames(rt: HostRuntime) -> Result<(), Fail> {
     let mut switch = opened(&rt, rt.alloc())?;
     assert!(rt; switch.frame(1, &[0u8; 60])?.is_empty());
-    assert!(rt; switch.piece(&FLOW_MOD)?.is_empty());
+    assert!(rt; handled(&rt, &mut switch, &FLOW_MOD)?.is_empty());
     let effects = switch.frame(1, &[0u8; 60])?;
     assert_eq!(rt; effects.len(), 1);
     assert!(rt; matches!(&effects[0], Effect::Sent { port: 2, .. }));
@@ -82,7 +125,7 @@ fn hard_timeout(rt: HostRuntime) -> Result<(), Fail> {
     let mut message = FLOW_MOD;
     message[29] = 10;
     message[45] = 1;
-    assert!(rt; switch.piece(&message)?.is_empty());
+    assert!(rt; handled(&rt, &mut switch, &message)?.is_empty());
     assert!(rt; switch.moment(9_999_999_999)?.is_empty());
     let effects = switch.moment(10_000_000_000)?;
     assert_eq!(rt; effects.len(), 1);
@@ -118,13 +161,13 @@ const PACKET_OUT: [u8; 100] = [
 #[test]
 fn packet_outs(rt: HostRuntime) -> Result<(), Fail> {
     let mut switch = opened(&rt, rt.alloc())?;
-    assert!(rt; switch.piece(&FLOW_MOD)?.is_empty());
-    let effects = switch.piece(&PACKET_OUT)?;
+    assert!(rt; handled(&rt, &mut switch, &FLOW_MOD)?.is_empty());
+    let effects = handled(&rt, &mut switch, &PACKET_OUT)?;
     assert_eq!(rt; effects.len(), 1);
     assert!(rt; matches!(&effects[0], Effect::Sent { port: 2, .. }));
     let mut buffered = PACKET_OUT;
     buffered[8] = 0;
-    let effects = switch.piece(&buffered)?;
+    let effects = handled(&rt, &mut switch, &buffered)?;
     assert_eq!(rt; effects.len(), 1);
     assert!(rt; matches!(&effects[0], Effect::Answer(_)));
     if let Effect::Answer(error) = &effects[0] {

@@ -1,7 +1,7 @@
 //! What is sent of what a packet's run emitted.
 ghost use Rattle.std.specs.Prelude.{◌≡◌, ◌≤◌, IfOk, length};
 ghost use Rattle.of_machine.specs.Growth.{AllShort, frame_of};
-ghost use Rattle.of_switch.specs.Told.{effect_of, effects_of, is_given as is_given_to, packet_in_reason};
+ghost use Rattle.of_switch.specs.Told.{effect_of, effects_of, is_given as is_given_to, is_told as is_told_at, packet_in_reason};
 
 use crate::effect::{Effect, Effects};
 use of_machine::{Item, Items, PacketInReason};
@@ -19,13 +19,20 @@ fn reason_from(reason: PacketInReason) -> of_messages::PacketInReason
     }
 }
 
-// Whether it is sent: a controller is told once its HELLO was accepted.
+/// Whether a controller whose connection stands there is told what it did not ask for: once its HELLO was accepted.
+pub fn is_told(phase: Phase) -> bool
+    ensures { result ≡ is_told_at phase }
+{
+    phase == Phase::Open
+}
+
+// Whether it is sent.
 fn is_given(phase: Phase, item: &Item) -> bool
     ensures { result ≡ is_given_to phase item.now }
 {
     match item {
         Item::Sent { .. } => true,
-        Item::PacketIn { .. } => phase == Phase::Open,
+        Item::PacketIn { .. } => is_told(phase),
     }
 }
 

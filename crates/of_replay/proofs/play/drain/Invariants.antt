@@ -1,9 +1,9 @@
 use Rattle.std.proofs.Common.{length}
 use Rattle.of_switch.proofs.Draining.{Left}
-use Rattle.of_switch.proofs.engine.Engine.drain.Given as goal
+use Rattle.of_replay.proofs.play.drain.Given as goal
 
 abbrev pub invariant-loop-effects : goal.invariant-loop-effects
-invariant-loop-effects g l = Left l.fn.self l.self l.effects.items
+invariant-loop-effects g l = Left l.fn.switch l.switch l.effects.items
 
 abbrev pub decreases-loop-effects : goal.decreases-loop-effects
-decreases-loop-effects g l = length l.self.connection.pending
+decreases-loop-effects g l = length l.switch.connection.pending

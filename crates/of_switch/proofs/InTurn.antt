@@ -1,0 +1,121 @@
+-- A piece handles the messages that its bytes and those before it are, one after the other.
+use Rattle.std.proofs.Common.{◌≡◌, ℕ, ◌⊎◌, inl, inr, Bool, true, false, cond, List, [], ◌∷◌, ◌++◌, length, take, drop, Option, Some, None, refl, sym, ◌∙◌, ap, subst, arith, append_assoc}
+use Rattle.std.proofs.lemmas.List.{append-nil, drop_all}
+use Rattle.of_session.specs.declared.session.Phase.{Phase}
+use Rattle.of_session.specs.declared.session.Phase.TheVariants.{Disconnected, Greeting, Open}
+use Rattle.of_session.specs.declared.session.Next.{Next}
+use Rattle.of_session.specs.declared.session.Next.TheVariants.{Nothing, BadStream, NotHello, Opened, Read, Refused}
+use Rattle.of_session.specs.Stream.{First, Whole, Bad, Partial, front_of, IsMessage, IsMalformed, IsPartial, concat, AreMessages, Splits}
+use Rattle.of_session.specs.Session.{is_disconnected, is_first_hello, read_as, judged, next_by as next_at, next_of as next_in, IsSized}
+use Rattle.of_session.proofs.Fronts.{message_front, malformed_front, partial_front}
+use Rattle.of_messages.specs.declared.message.Message.{Message}
+use Rattle.of_messages.specs.Messages.{xid_of, message_of}
+use Rattle.of_wire.specs.declared.code.Code.{Code}
+use Rattle.std.specs.Prelude.{Result, Ok, Err, unwrap_or}
+use Rattle.of_switch.specs.declared.effect.Effect.{Effect}
+use Rattle.of_switch.specs.State.{State}
+use Rattle.of_switch.specs.Steps.{Outcome, gives, fed, next_by, next_of}
+use Rattle.of_switch.specs.Runs.{behind, drained, piece_in, come, holding, handled_alone, handled_in_turn}
+use Rattle.of_switch.proofs.Joining.{come_open, come_gone, step_more, drained_more, drained_none, drained_gone}
+
+greeted_size : (m : List ℕ) (t : Bool) → IsSized (cond t (Opened (length m)) (NotHello (xid_of m))) (length m)
+greeted_size m true = refl
+greeted_size m false = tt
+
+read_size : (m : List ℕ) (r : Result Message Code) → IsSized (read_as m r) (length m)
+read_size m (Ok message) = refl
+read_size m (Err code) = refl
+
+judged_size : (phase : Phase) (m : List ℕ) → IsSized (judged phase m) (length m)
+judged_size Disconnected m = greeted_size m (is_first_hello m)
+judged_size Greeting m = greeted_size m (is_first_hello m)
+judged_size Open m = read_size m (message_of m)
+
+-- the outcome of a message that came alone, which leaves nothing
+abbrev Alone : Next → State → Type 0
+Alone n s = (o : Outcome) × (next_by n s ≡ Some o) × (o.state.connection.pending ≡ [])
+
+nothing_more : (size : ℕ) (m : List ℕ) → size ≡ length m → drop size m ≡ []
+nothing_more size m e = drop_all size m (omega (arith, e))
+
+alone_by : (n : Next) (m : List ℕ) (s : State) → IsSized n (length m) → Alone n (holding m s)
+alone_by Nothing m s h = absurd h
+alone_by (BadStream xid) m s h = absurd h
+alone_by (NotHello xid) m s h = (_, refl, refl)
+alone_by (Opened size) m s h = (_, refl, nothing_more size m h)
+alone_by (Read xid size message) m s h = (_, refl, nothing_more size m h)
+alone_by (Refused xid size code) m s h = (_, refl, nothing_more size m h)
+
+-- what comes next of bytes that a connection has alone
+next_held : (f : First) (bytes : List ℕ) (s : State) → is_disconnected s.connection.phase ≡ false → front_of bytes ≡ f → next_in (holding bytes s).connection ≡ next_at (holding bytes s).connection f
+next_held f bytes s open_ e = rw open_ (ap (next_at (holding bytes s).connection) e)
+
+alone_message : (m : List ℕ) (s : State) → IsMessage m → is_disconnected s.connection.phase ≡ false → Alone (next_in (holding m s).connection) (holding m s)
+alone_message m s is open_ =
+    let front : front_of m ≡ Whole m [] = ap front_of (sym (append-nil m)) ∙ message_front m [] is in
+    subst (λ (n : Next). Alone n (holding m s)) (sym (next_held (Whole m []) m s open_ front)) (alone_by (judged s.connection.phase m) m s (judged_size s.connection.phase m))
+
+-- what is left is handled where its header is malformed, or waits
+abbrev Ends : List ℕ → State → Type 0
+Ends rest s = drained (holding rest s) ≡ gives (handled_alone rest s).effects (handled_alone rest s).state
+
+ends_some : (rest : List ℕ) (s : State) (o : Outcome) → next_of (holding rest s) ≡ Some o → is_disconnected o.state.connection.phase ≡ true → Ends rest s
+ends_some rest s o e gone =
+    let last : drained o.state ≡ gives [] o.state = drained_gone o.state gone in
+    drained_more (holding rest s) o e ∙ (ap (behind o.effects) last ∙ rw (e, append-nil o.effects) refl)
+
+ends_none : (rest : List ℕ) (s : State) → next_of (holding rest s) ≡ None → Ends rest s
+ends_none rest s e = drained_none (holding rest s) e ∙ rw e refl
+
+rest_ends : (rest : List ℕ) (s : State) → IsMalformed rest ⊎ IsPartial rest → is_disconnected s.connection.phase ≡ false → Ends rest s
+rest_ends rest s (inl bad) open_ =
+    let next : next_in (holding rest s).connection ≡ BadStream (xid_of (take 8 rest)) = next_held Bad rest s open_ (malformed_front rest bad) in
+    ends_some rest s _ (ap (λ (n : Next). next_by n (holding rest s)) next) refl
+rest_ends rest s (inr part) open_ =
+    let next : next_in (holding rest s).connection ≡ Nothing = next_held Partial rest s open_ (partial_front rest part) in
+    ends_none rest s (ap (λ (n : Next). next_by n (holding rest s)) next)
+
+-- the messages and the rest, one after the other
+abbrev InTurn : List (List ℕ) → List ℕ → State → Type 0
+InTurn ms rest s = drained (holding (concat ms ++ rest) s) ≡ handled_in_turn (ms ++ rest ∷ []) s
+
+closed_or : (t : Bool) (s : State) → cond t (gives [] s) (gives [] s) ≡ gives [] s
+closed_or true s = refl
+closed_or false s = refl
+
+last_in_turn : (rest : List ℕ) (s : State) → IsMalformed rest ⊎ IsPartial rest → is_disconnected s.connection.phase ≡ false → InTurn [] rest s
+last_in_turn rest s ends open_ =
+    let first = handled_alone rest s in
+    let closed : cond (is_disconnected first.state.connection.phase) (gives [] first.state) (gives [] first.state) ≡ gives [] first.state = closed_or (is_disconnected first.state.connection.phase) first.state in
+    rest_ends rest s ends open_ ∙ sym (ap (behind first.effects) closed ∙ ap (λ (es : List Effect). gives es first.state) (append-nil first.effects))
+
+-- behind a message that came alone
+abbrev Then : List (List ℕ) → List ℕ → State → Bool → Type 0
+Then ms rest t gone = drained (come (concat ms ++ rest) t) ≡ cond gone (gives [] t) (handled_in_turn (ms ++ rest ∷ []) t)
+
+then_by : (ms : List (List ℕ)) (rest : List ℕ) (t : State) (gone : Bool) → is_disconnected t.connection.phase ≡ gone → t.connection.pending ≡ []
+    → (is_disconnected t.connection.phase ≡ false → InTurn ms rest t) → Then ms rest t gone
+then_by ms rest t true e empty ih = ap drained (come_gone (concat ms ++ rest) t e) ∙ drained_gone t e
+then_by ms rest t false e empty ih =
+    let all = concat ms ++ rest in
+    let held : fed all t ≡ holding all t = ap (λ (p : List ℕ). record t { connection = record t.connection { pending = p ++ all } }) empty in
+    ap drained (come_open all t e ∙ held) ∙ ih e
+
+in_turn : (ms : List (List ℕ)) (rest : List ℕ) (s : State) → AreMessages ms → IsMalformed rest ⊎ IsPartial rest → is_disconnected s.connection.phase ≡ false → InTurn ms rest s
+in_turn [] rest s each ends open_ = last_in_turn rest s ends open_
+in_turn (m ∷ ms) rest s each ends open_ =
+    let more = concat ms ++ rest in
+    let h = alone_message m s each.0 open_ in
+    let o = h.0 in
+    let first : handled_alone m s ≡ o = ap (λ (x : Option Outcome). unwrap_or x (gives [] (holding m s))) h.1 in
+    let step : next_of (fed more (holding m s)) ≡ Some (gives o.effects (come more o.state)) = step_more (holding m s) more o open_ h.1 in
+    let one : drained (fed more (holding m s)) ≡ behind o.effects (drained (come more o.state)) = drained_more (fed more (holding m s)) (gives o.effects (come more o.state)) step in
+    let others : Then ms rest o.state (is_disconnected o.state.connection.phase) = then_by ms rest o.state (is_disconnected o.state.connection.phase) refl h.2 (λ open'. in_turn ms rest o.state each.1 ends open') in
+    ap (λ (bytes : List ℕ). drained (holding bytes s)) (append_assoc m (concat ms) rest)
+    ∙ (one ∙ (ap (behind o.effects) others
+    ∙ ap (λ (f : Outcome). behind f.effects (cond (is_disconnected f.state.connection.phase) (gives [] f.state) (handled_in_turn (ms ++ rest ∷ []) f.state))) (sym first)))
+
+pub piece_in_turn : (piece : List ℕ) (s : State) (messages : List (List ℕ)) (rest : List ℕ) → is_disconnected s.connection.phase ≡ false
+    → Splits (s.connection.pending ++ piece) messages rest → piece_in piece s ≡ handled_in_turn (messages ++ rest ∷ []) s
+piece_in_turn piece s messages rest open_ splits =
+    ap (λ (bytes : List ℕ). drained (holding bytes s)) splits.whole ∙ in_turn messages rest s splits.each splits.ends open_

@@ -1,0 +1,28 @@
+use crate::effect::Effects;
+use crate::port_change::PortChange;
+use crate::switch_error::SwitchError;
+use of_wire::Bytes;
+
+/// What happens to a switch.
+#[derive(Debug, Drop)]
+pub enum Event {
+    /// A controller connects.
+    Connect,
+    /// Bytes of the controller come, cut anywhere.
+    Piece(Bytes),
+    /// A frame comes in by a port.
+    Frame { port: u32, frame: Bytes },
+    /// It is so many nanoseconds.
+    Moment(u64),
+    /// The ports change.
+    Ports(PortChange),
+}
+
+/// What an event gave.
+#[derive(Debug, Drop)]
+pub enum Report {
+    /// These effects, in order.
+    Gives(Effects),
+    /// Nothing: it was refused, and changed nothing.
+    Refused(SwitchError),
+}

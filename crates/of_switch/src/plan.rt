@@ -1,0 +1,31 @@
+use crate::effect::Effects;
+use crate::plane::PortCount;
+use of_machine::Counts;
+use of_table::Cause;
+
+/// What an event will do: what it gives, ready to be sent, and what it changes. Doing it needs no memory.
+#[derive(Drop)]
+pub struct Plan {
+    pub effects: Effects,
+    pub change: Change,
+}
+
+/// What an event changes.
+#[derive(Drop)]
+pub enum Change {
+    Nothing,
+    /// The reception of a frame is counted, if one came in, and then what a packet's run counted and sent.
+    Counts {
+        reception: Option<Reception>,
+        counts: Counts,
+    },
+    /// Entries go.
+    Removal(Cause),
+}
+
+/// What a port counts of a frame that came in by it.
+#[derive(Clone, Copy, Debug, PartialEq, Eq)]
+pub struct Reception {
+    pub port: u32,
+    pub what: PortCount,
+}
