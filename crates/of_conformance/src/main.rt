@@ -7,7 +7,13 @@ use of_replay::{Ended, replay};
 use std::{fs, io};
 
 #[cfg(test)]
+mod memory_tests;
+#[cfg(test)]
+mod session_tests;
+#[cfg(test)]
 mod stream_tests;
+#[cfg(test)]
+mod switch_tests;
 #[cfg(test)]
 mod tests;
 

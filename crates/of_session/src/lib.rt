@@ -6,6 +6,3 @@ mod stream;
 
 pub use session::{Next, Phase, Session};
 pub use stream::{Front, Stream, splits_once};
-
-#[cfg(test)]
-mod tests;

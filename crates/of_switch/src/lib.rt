@@ -19,6 +19,3 @@ pub use laws::{piece_handles_its_messages, refusal_changes_nothing, two_pieces};
 pub use port_change::PortChange;
 pub use switch::Switch;
 pub use switch_error::SwitchError;
-
-#[cfg(test)]
-mod tests;

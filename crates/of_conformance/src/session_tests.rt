@@ -1,5 +1,5 @@
-use crate::{Front, Next, Phase, Session, Stream, splits_once};
 use of_messages::Message;
+use of_session::{Front, Next, Phase, Session, Stream, splits_once};
 use std::test::Fail;
 
 #[test]

@@ -1,8 +1,8 @@
-use crate::{
+use of_classifier::Scan;
+use of_switch::{
     Effect, Effects, Event, PortChange, Report, Switch, SwitchError, piece_handles_its_messages,
     refusal_changes_nothing, two_pieces,
 };
-use of_classifier::Scan;
 use of_wire::Bytes;
 use std::alloc::Global;
 use std::process::Abort;
