@@ -9,6 +9,7 @@ use crate::transfer::{Stop, read_all};
 use of_classifier::Lookup;
 use of_switch::Switch;
 use std::alloc::{AllocError, Global};
+use thiserror::Error;
 
 /// A read asks for so many bytes.
 const READ_SIZE: usize = 65_536;
@@ -16,18 +17,23 @@ const READ_SIZE: usize = 65_536;
 /// The number of the switch that rows are played on (OpenFlow 1.3.5, 7.3.1).
 const DPID: u64 = 1;
 
-/// How a run ended.
-#[derive(Clone, Copy, Debug, PartialEq, Eq)]
+/// How a run ended. What it shows is the line that stands on standard error.
+#[derive(Clone, Copy, Debug, PartialEq, Eq, Error)]
 pub enum Ended {
     /// All rows were played, and what they print was written.
+    #[error("done")]
     Done,
     /// The line of this number, from 1, is a bad row; what the rows before it print was written.
+    #[error("line {0}: bad row")]
     BadRow(u64),
     /// A read failed, or a million reads found no end; what the whole lines that were read print was written.
+    #[error("read fault")]
     ReadFault,
     /// A write failed; a front of what the rows print was written.
+    #[error("write fault")]
     WriteFault,
     /// Memory ran out; what the rows before that print was written.
+    #[error("no memory")]
     NoMemory,
 }
 

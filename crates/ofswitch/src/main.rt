@@ -70,12 +70,8 @@ fn replay_reader<R: Read + Drop>(rt: &HostRuntime, reader: R) -> Ended {
 
 // Why the run ended, on standard error where it is a fault, and the status.
 fn end(rt: &HostRuntime, ended: &Ended) -> ExitCode {
-    let _ = match ended {
-        Ended::Done => Ok(()),
-        Ended::BadRow(line) => eprintln!(rt; "line {line}: bad row"),
-        Ended::ReadFault => eprintln!(rt; "read fault"),
-        Ended::WriteFault => eprintln!(rt; "write fault"),
-        Ended::NoMemory => eprintln!(rt; "no memory"),
-    };
+    if *ended != Ended::Done {
+        let _ = eprintln!(rt; "{ended}");
+    }
     ExitCode::from(status(ended))
 }
