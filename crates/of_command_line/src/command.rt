@@ -7,7 +7,7 @@ const STATUSES: &str =
     "Exit status: 0 done; 1 bad arguments; 2 a bad row in FILE (`line N: bad row` on standard error, after the \
 effects of the rows before it); 3 `read fault`, `write fault` or `no memory`.";
 
-const EVENT_FILES: &str = "An event file has one event a line, and words are parted by one space:
+const EVENT_FILES: &str = "An event file has one event a line, and words are separated by one space:
 
   port add 1 0200000000a1 p1 up     a port: number, hardware address, name, up or down
   connect                           a controller connects
