@@ -9,11 +9,7 @@ use std::{fs, io};
 #[cfg(test)]
 mod memory_tests;
 #[cfg(test)]
-mod session_tests;
-#[cfg(test)]
 mod stream_tests;
-#[cfg(test)]
-mod switch_tests;
 #[cfg(test)]
 mod tests;
 

@@ -2,12 +2,13 @@ ghost use Rattle.std.specs.Prelude.{◌≡◌, ◌≤◌, ◌<◌, ◌^◌, leng
 
 use of_layers::Field;
 use of_rewrite::{Frame, Ttl};
+use of_test_rows::{bytes_of, number_of, sides};
 use std::alloc::{AllocError, Global};
 use std::process::Abort;
 use std::test::Fail;
 
-mod fields;
 mod ip;
+mod rows;
 
 /// A frame of a type that is not read, with a customer tag of PCP 5, DEI 1 and VID 5 (IEEE 802.1Q, 9.3).
 const TAGGED: [u8; 20] = [
@@ -110,4 +111,77 @@ fn loans(rt: HostRuntime) -> Result<(), Fail> {
     );
     ends_as(&rt, &frame, &[0x81, 0x00, 0xb0, 0x05, 0x88, 0xb5, 1, 2]);
     Ok(())
+}
+
+/// The field of a name.
+fn field_of(alloc: Global, name: &str) -> Result<Field, Fail> {
+    for field in Field::ALL {
+        if format!(in alloc; "{field:?}")?.as_str() == name {
+            return Ok(field);
+        }
+    }
+    Err("a field's name".into())
+}
+
+/// The frame with these runs of bytes, each behind its place, instead of those that stand there.
+fn changed(rt: &impl Abort, alloc: Global, before: &[u8], runs: &str) -> Result<Vec<u8>, Fail> {
+    let mut after = Vec::new(alloc);
+    after.extend_from_slice(before)?;
+    for run in runs.split_whitespace() {
+        let (at, bytes) = run.split_once(':').ok_or("a place and bytes")?;
+        let at = number_of(at)?;
+        let bytes = bytes_of(alloc, bytes)?;
+        assert!(rt;
+            at <= after.len() && bytes.len() <= after.len() - at,
+            "{run}"
+        );
+        after[at..at + bytes.len()].copy_from_slice(&bytes);
+    }
+    Ok(after)
+}
+
+/// Asserts of each row what setting its field changes in a frame.
+fn set_in(rt: &impl Abort, alloc: Global, frame: &str, text: &str) -> Result<(), Fail> {
+    let before = bytes_of(alloc, frame)?;
+    assert!(rt; before.len() >= 14 && before.len() < 1000);
+    for line in text.lines() {
+        if let Some((set, runs)) = sides(line)? {
+            let (name, value) = set.split_once('=').ok_or("a field and its value")?;
+            let field = field_of(alloc, name)?;
+            let value = u128::from_str_radix(value, 16).ok().ok_or("a value")?;
+            let row = field.row();
+            assert!(rt; row.settable && value <= row.ones, "{line}");
+            let mut frame = frame_of(alloc, &before)?;
+            frame.set(field, value);
+            assert_eq!(rt;
+                frame.bytes(),
+                changed(rt, alloc, &before, runs)?.as_slice(),
+                "{line}"
+            );
+        }
+    }
+    Ok(())
+}
+
+#[test]
+fn set_fields(rt: HostRuntime) -> Result<(), Fail> {
+    let alloc = rt.alloc();
+    set_in(&rt, alloc, rows::ARP, rows::SET_IN_ARP)?;
+    set_in(&rt, alloc, rows::ARP_TAGGED, rows::SET_IN_ARP_TAGGED)?;
+    set_in(&rt, alloc, rows::TCP_OVER_IPV4, rows::SET_IN_TCP_OVER_IPV4)?;
+    set_in(&rt, alloc, rows::UDP_OVER_IPV4, rows::SET_IN_UDP_OVER_IPV4)?;
+    set_in(
+        &rt,
+        alloc,
+        rows::ICMP_OVER_IPV4,
+        rows::SET_IN_ICMP_OVER_IPV4,
+    )?;
+    set_in(&rt, alloc, rows::TCP_OVER_IPV6, rows::SET_IN_TCP_OVER_IPV6)?;
+    set_in(&rt, alloc, rows::UDP_OVER_IPV6, rows::SET_IN_UDP_OVER_IPV6)?;
+    set_in(
+        &rt,
+        alloc,
+        rows::ICMPV6_OVER_IPV6,
+        rows::SET_IN_ICMPV6_OVER_IPV6,
+    )
 }

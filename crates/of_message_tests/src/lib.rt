@@ -1,4 +1,4 @@
-//! Tests of the public calls on actions, tables, packets and messages: each once with ample memory, and vectors from outside.
+//! Tests of the public calls on actions, action sets and messages: each once with ample memory, and vectors from outside.
 //!
 //! They stand here and not beside the code, since a crate that has tests is proved twice.
 #![tactic(auto)]
@@ -8,8 +8,4 @@ mod action_set;
 #[cfg(test)]
 mod actions;
 #[cfg(test)]
-mod machine;
-#[cfg(test)]
 mod messages;
-#[cfg(test)]
-mod table;

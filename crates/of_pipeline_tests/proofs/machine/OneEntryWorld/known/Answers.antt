@@ -5,7 +5,7 @@ use Rattle.of_actions.specs.declared.action.Action.TheVariants.{Output}
 use Rattle.of_actions.specs.InstructionLists.{are_kept, are_for}
 use Rattle.of_actions.specs.Served.{is_served, are_served}
 use Rattle.of_table.specs.declared.flow.Flow.{Flow}
-use Rattle.of_call_tests.proofs.machine.OneEntryWorld.known.Goals as goal
+use Rattle.of_pipeline_tests.proofs.machine.OneEntryWorld.known.Goals as goal
 
 two_served : IsTrue (are_served false (Output 2 0 ∷ []))
 unfolding is_served

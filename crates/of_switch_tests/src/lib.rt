@@ -1,0 +1,9 @@
+//! Tests of the public calls on a session's stream and on the switch: each once with ample memory.
+//!
+//! They stand here and not beside the code, since a crate that has tests is proved twice.
+#![tactic(auto)]
+
+#[cfg(test)]
+mod session;
+#[cfg(test)]
+mod switch;
