@@ -80,7 +80,7 @@ tables_again fs = same_tables 16 0 fs (all_flows (tables_from 16 0 fs)) (λ u l 
 
 -- ---- none of a table is refused
 
-Stand : List Flow → List Flow → Type 0
+unfoldable pub Stand : List Flow → List Flow → Type 0
 Stand before [] = Unit {0}
 Stand before (f ∷ fs) = (first_of (flow_refusals f ++ table_refusals before f) ≡ None) × Stand (before ++ f ∷ []) fs
 
@@ -88,7 +88,7 @@ both_none : {A B : Type 0} (g : A → B) (o : Option A) (d : Option B) → optio
 both_none g None d h = (refl, h)
 both_none g (Some a) d h = absurd cc
 
-in_table : (t : ℕ) (before fs : List Flow) → refused_from before fs ≡ None → Stand (flows_for t before) (flows_for t fs)
+pub in_table : (t : ℕ) (before fs : List Flow) → refused_from before fs ≡ None → Stand (flows_for t before) (flows_for t fs)
 unfolding Stand
 in_table t before [] h = tt
 in_table t before (f ∷ fs) h =
@@ -104,10 +104,10 @@ in_table t before (f ∷ fs) h =
         let same : flows_for t (before ++ f ∷ []) ≡ flows_for t before = filter-append (is_for t) before (f ∷ []) ∙ rw e (append-nil (flows_for t before)) in
         rw e (rw same at others)
 
-abbrev AllFor : ℕ → List Flow → Type 0
+abbrev pub AllFor : ℕ → List Flow → Type 0
 AllFor t fs = AllByRecursion (λ (f : Flow). f.head.table ≡ t) fs
 
-all_for : (t : ℕ) (fs : List Flow) → AllFor t (flows_for t fs)
+pub all_for : (t : ℕ) (fs : List Flow) → AllFor t (flows_for t fs)
 all_for t [] = tt
 all_for t (f ∷ fs) = by_test (all_for t fs) (is_for t f) refl
   where
@@ -135,14 +135,14 @@ all_stand (suc n) t before fs e h =
 
 -- ---- they stand in order
 
-abbrev body : Flow → List Row
+abbrev pub body : Flow → List Row
 body f = map rows.Match f.fields ++ flat_map step_rows f.steps
 
-record IsWhole (f : Flow) : Type 0 where
+pub record IsWhole (f : Flow) : Type 0 where
   pub fits : AllByRecursion Fits (flow_rows f)
   pub order : IsSome (standing 0 (body f))
 
-each_whole : (p : ℕ) (fs : List Flow) → AllByRecursion Fits (rows_of fs) → IsSome (standing p (rows_of fs)) → AllByRecursion IsWhole fs
+pub each_whole : (p : ℕ) (fs : List Flow) → AllByRecursion Fits (rows_of fs) → IsSome (standing p (rows_of fs)) → AllByRecursion IsWhole fs
 unfolding following
 each_whole p [] f o = tt
 each_whole p (x ∷ xs) f o =
@@ -164,7 +164,7 @@ whole_stands p (x ∷ xs) h =
     let next = is_some (standing 0 (body x)) h.0.order in
     rw (standing_both 0 (body x) (rows_of xs), next.1) (whole_stands next.0 xs h.1)
 
-kept_whole : (t : ℕ) (fs : List Flow) → AllByRecursion IsWhole fs → AllByRecursion IsWhole (flows_for t fs)
+pub kept_whole : (t : ℕ) (fs : List Flow) → AllByRecursion IsWhole fs → AllByRecursion IsWhole (flows_for t fs)
 kept_whole t [] h = tt
 kept_whole t (f ∷ fs) h = by_test (kept_whole t fs h.1) (is_for t f) refl
   where

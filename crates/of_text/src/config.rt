@@ -1,5 +1,7 @@
 //! Configurations.
-ghost use Rattle.std.specs.Prelude.{◌≡◌, ◌<◌, [], length, slice_index_or, IfOk, OnOk};
+ghost use Rattle.std.specs.Prelude.{◌≡◌, ◌<◌, ℕ, [], length, slice_index_or, IfOk, OnOk};
+ghost use Rattle.std.specs.List.{AllByRecursion};
+ghost use Rattle.of_text.specs.Kept.{IsEntry};
 ghost use Rattle.of_text.specs.Configs.{IsConfig, tables_of, with_flow, view_tables};
 ghost use Rattle.of_text.specs.Views.{view, view_flows};
 
@@ -39,9 +41,11 @@ impl Config {
         self.tables[usize::from(table)].as_slice()
     }
 
-    /// Its flows stand in order, and none of them is refused.
+    /// Its flows are those of a text of which none is refused. Each may stand in its table: its match is one,
+    /// and its instructions are those that an entry of the table may have (OpenFlow 1.3.5, 5.2, 5.9 and 7.2.3).
     pub fn known(&self)
-        ensures { IsConfig self.now }
+        ensures config { IsConfig self.now }
+        ensures entries { (table : ℕ) → table < 16 → AllByRecursion (IsEntry table) (slice_index_or self.now table []) }
     {
         let _tables = &self.tables;
     }
