@@ -63,7 +63,7 @@ none_each f (x ∷ xs) h = let parts = none_both (f x) (flat_map f xs) h in (par
 
 -- ---- matches
 
-within : (f : Field) (mask : ℕ) → mask < ones_of f → bit_and mask (ones_of f) ≡ mask
+pub within : (f : Field) (mask : ℕ) → mask < ones_of f → bit_and mask (ones_of f) ≡ mask
 within f mask h =
     let is = ones_is f in
     let small : mask < 2 ^ bits_of f = omega (arith, h, is) in
