@@ -1,12 +1,11 @@
 -- Flows, table by table.
-use Rattle.std.proofs.Common.{◌≡◌, ℕ, suc, zero, ◌+◌, ◌<◌, ◌≤◌, eqb, Bool, true, false, cond, List, [], ◌∷◌, ◌++◌, length, Option, Some, None, refl, sym, ◌∙◌, ap, subst, append_assoc, arith}
+use Rattle.std.proofs.Common.{◌≡◌, ℕ, suc, zero, ◌+◌, ◌<◌, ◌≤◌, eqb, Bool, true, false, cond, List, [], ◌∷◌, ◌++◌, length, Option, Some, None, refl, sym, ◌∙◌, ap, append_assoc, arith}
 use Rattle.std.specs.Prelude.{map, filter, IsSome}
 use Rattle.std.specs.List.{AllByRecursion, flat_map}
 use Rattle.std.specs.Option.{option_map_or}
 use Rattle.std.proofs.lemmas.Bool.{eq-eqb, ne_eqb, eqb-true}
 use Rattle.std.proofs.lemmas.List.{append-nil}
 use Rattle.std.proofs.lemmas.List.Elements.{filter-append}
-use Rattle.of_wire.specs.declared.code.Code.{Code}
 use Rattle.of_wire.specs.Refusals.{first_of}
 use Rattle.of_text.specs.declared.row.Row.{Row}
 use Rattle.of_text.specs.declared.row.Row.TheVariants as rows
@@ -15,7 +14,7 @@ use Rattle.of_text.specs.Rows.{Fits}
 use Rattle.of_text.specs.Order.{start, following, standing}
 use Rattle.of_text.specs.Flows.{Flow, flow_rows, rows_of, step_rows}
 use Rattle.of_text.specs.Refusals.{flow_refusals, table_refusals}
-use Rattle.of_text.specs.Texts.{AreRows, SpellFlows}
+use Rattle.of_text.specs.Texts.{AreRows}
 use Rattle.of_text.specs.First.{flows_for, refusals_behind, refused_from, first_refusal}
 use Rattle.of_text.specs.Configs.{tables_from, tables_of, IsConfig, SpellConfig, all_flows, config_text}
 use Rattle.of_text.proofs.TextLemmas.{all_front, all_back, all_both, standing_both, some_front, one_list}

@@ -1,5 +1,5 @@
 -- Each flow of a configuration may stand in its table.
-use Rattle.std.proofs.Common.{◌≡◌, ℕ, ◌+◌, ◌-◌, ◌%◌, ◌^◌, ◌<◌, ◌≤◌, eqb, Bool, true, false, cond, List, [], ◌∷◌, ◌++◌, length, take, Option, Some, None, refl, sym, ◌∙◌, ap, subst, arith}
+use Rattle.std.proofs.Common.{◌≡◌, ℕ, ◌+◌, ◌^◌, ◌<◌, ◌≤◌, eqb, Bool, true, false, cond, List, [], ◌∷◌, ◌++◌, length, take, Option, Some, None, refl, sym, ◌∙◌, ap, subst, arith}
 use Rattle.std.specs.Prelude.{map, not, ◌&&◌, nat_lt, nat_le, bit_and, is_some, IsSome, IfSome, slice_index_or}
 use Rattle.std.specs.List.{AllByRecursion, flat_map, list_all}
 use Rattle.std.proofs.Math.Nat.{mod-eq_of_lt}
@@ -11,7 +11,6 @@ use Rattle.of_wire.specs.Refusals.{first_of, refusal}
 use Rattle.of_wire.proofs.FirstLemmas.{none_applies}
 use Rattle.of_layers.specs.declared.field.Field.{Field}
 use Rattle.of_layers.specs.Fields.{number_of, bits_of, ones_of, is_maskable, is_settable}
-use Rattle.of_layers.specs.Reading.{is_tag_type}
 use Rattle.of_layers.proofs.Table.{ones_is}
 use Rattle.of_oxm.specs.declared.match_field.MatchField.{MatchField}
 use Rattle.of_oxm.specs.NormalForm.{IsKept, IsKeptMask, IsRising, IsMatch}
@@ -23,22 +22,22 @@ use Rattle.of_actions.specs.PortNumbers.{is_port}
 use Rattle.of_actions.specs.Headers.{is_next}
 use Rattle.of_actions.specs.Served.{is_served, are_served}
 use Rattle.of_actions.specs.Rising.{is_rising}
-use Rattle.of_actions.specs.InstructionLists.{is_served_body, is_for, are_for, are_kept, run_place}
+use Rattle.of_actions.specs.InstructionLists.{is_served_body, is_for, are_for, run_place}
 use Rattle.of_actions.specs.FlowCheck.{all_go_with}
 use Rattle.of_text.specs.declared.row.Row.{Row}
 use Rattle.of_text.specs.declared.row.Row.TheVariants as rows
 use Rattle.of_text.specs.Rows.{Fits, ActionFits, FieldFits, IsMask}
 use Rattle.of_text.specs.Order.{start, following, standing}
 use Rattle.of_text.specs.Reading.{◌>>=◌}
-use Rattle.of_text.specs.Flows.{Step, Apply, Clear, Write, Metadata, Goto, Flow, step_rows, flow_rows, rows_of}
+use Rattle.of_text.specs.Flows.{Step, Apply, Clear, Write, Metadata, Goto, Flow, step_rows}
 use Rattle.of_text.specs.Refusals.{is_covered, field_refusals, action_refusals, list_refusals, step_refusals, goto_refusals, goes_with, match_refusals, steps_refusals, flow_refusals, table_refusals, or_else}
-use Rattle.of_text.specs.Kept.{instruction_of, instructions_of, IsEntry}
+use Rattle.of_text.specs.Kept.{instruction_of, IsEntry}
 use Rattle.of_text.specs.First.{flows_for}
-use Rattle.of_text.specs.Configs.{tables_of, IsConfig}
+use Rattle.of_text.specs.Configs.{IsConfig}
 use Rattle.of_text.proofs.RefusalLemmas.{first_append}
 use Rattle.of_text.proofs.TextLemmas.{all_front, all_back, standing_both, some_front}
 use Rattle.of_text.proofs.KeptLemmas.{actions_stand}
-use Rattle.of_text.proofs.ConfigLemmas.{Stand, in_table, AllFor, all_for, body, IsWhole, each_whole, kept_whole}
+use Rattle.of_text.proofs.ConfigLemmas.{Stand, in_table, AllFor, all_for, IsWhole, each_whole, kept_whole}
 use Rattle.of_text.proofs.FillLemmas.{table_at}
 
 -- ---- where none is refused

@@ -1,7 +1,6 @@
 -- What is refused of a field and of an action is what their spelling on the wire is refused for.
-use Rattle.std.proofs.Common.{◌≡◌, ℕ, ◌+◌, ◌-◌, ◌*◌, ◌/◌, ◌%◌, ◌^◌, ◌<◌, ◌≤◌, Bool, true, false, ltb, eqb, List, [], ◌∷◌, ◌++◌, length, get_or, drop, replicate, Option, Some, None, refl, sym, ap, ◌∙◌, arith}
+use Rattle.std.proofs.Common.{◌≡◌, ℕ, ◌+◌, ◌-◌, ◌*◌, ◌/◌, ◌%◌, ◌^◌, ◌<◌, ◌≤◌, Bool, true, false, ltb, eqb, List, [], ◌++◌, length, get_or, drop, replicate, Option, Some, None, refl, ap, ◌∙◌, arith}
 use Rattle.std.specs.Prelude.{bit_and, not, ◌&&◌, slice_index, IfSome}
-use Rattle.std.specs.List.{list_any}
 use Rattle.std.proofs.lemmas.Bool.{le-ltb, eq-eqb, ne_eqb}
 use Rattle.std.proofs.lemmas.List.{append_assoc, length-append, length-replicate, drop_at}
 use Rattle.byteorder.specs.Endian.{big_number, big_bytes}
@@ -16,7 +15,6 @@ use Rattle.of_oxm.specs.MatchFieldWire as wire
 use Rattle.of_actions.specs.declared.action.Action.{Action}
 use Rattle.of_actions.specs.declared.action.Action.TheVariants.{Output, PushVlan, PopVlan, Group, SetNwTtl, DecNwTtl, SetField}
 use Rattle.of_actions.specs.Beginnings.{type_at, len_at}
-use Rattle.of_actions.specs.PortNumbers.{is_port}
 use Rattle.of_actions.specs.SetField.{settable, set_field_at, set_value_at, set_len, set_refusals}
 use Rattle.of_actions.specs.Actions.{type_refusals, first_at}
 use Rattle.of_actions.specs.Actions as actions

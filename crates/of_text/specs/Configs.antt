@@ -1,5 +1,5 @@
 -- CONFIGURATIONS: the flows of sixteen tables, each table's oldest first (OpenFlow 1.3.5, 5.1 and 5.2).
-use Rattle.std.specs.Prelude.{◌≡◌, ℕ, suc, zero, ◌==◌, ◌++◌, List, [], ◌∷◌, Option, None, filter, map, slice_set, slice_index_or}
+use Rattle.std.specs.Prelude.{◌≡◌, ℕ, suc, zero, ◌++◌, List, [], ◌∷◌, None, map, slice_set, slice_index_or}
 use Rattle.std.specs.List.{flat_map}
 use Rattle.std.specs.Global.{Vec}
 use Rattle.of_text.specs.declared.flow.FlowText.{FlowText}

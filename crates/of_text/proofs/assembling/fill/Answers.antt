@@ -1,4 +1,4 @@
-use Rattle.std.proofs.Common.{◌≡◌, ◌<◌, ◌∙◌, length, ap, sym, arith}
+use Rattle.std.proofs.Common.{◌∙◌, length, ap, sym, arith}
 use Rattle.std.proofs.lemmas.List.{length-map}
 use Rattle.of_text.specs.Views.{view, view_flows}
 use Rattle.of_text.proofs.FillLemmas.{filling_sixteen, filling_more, filling_stops, filling_done, none_left}

@@ -1,4 +1,4 @@
-use Rattle.std.proofs.Common.{◌≡◌, vec_len, length}
+use Rattle.std.proofs.Common.{vec_len}
 use Rattle.of_text.specs.Views.{view_flows}
 use Rattle.of_text.proofs.FillLemmas.{Filling}
 use Rattle.of_text.proofs.assembling.fill.Given as goal

@@ -1,4 +1,4 @@
-use Rattle.std.proofs.Common.{◌≡◌, ◌<◌, ◌∙◌, List, [], Option, length, ap, sym, arith}
+use Rattle.std.proofs.Common.{◌<◌, ◌∙◌, List, [], Option, length, ap, sym, arith}
 use Rattle.of_wire.specs.declared.code.Code.{Code}
 use Rattle.of_wire.specs.Refusals.{first_of}
 use Rattle.of_text.specs.Flows.{Flow}

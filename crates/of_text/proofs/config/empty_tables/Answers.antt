@@ -1,6 +1,5 @@
 use Rattle.std.proofs.Common.{◌≡◌, ℕ, ◌∙◌, [], ap, arith, vec_len}
 use Rattle.std.specs.Prelude.{replicate}
-use Rattle.of_text.specs.Flows.{Flow}
 use Rattle.of_text.specs.Configs.{tables_of}
 use Rattle.of_text.proofs.config.empty_tables.Goals as goal
 

@@ -1,4 +1,4 @@
-use Rattle.std.proofs.Common.{◌≡◌, ◌<◌, ◌∙◌, length, ap, arith}
+use Rattle.std.proofs.Common.{◌<◌, ◌∙◌, length, ap, arith}
 use Rattle.of_text.specs.Views.{view_flows}
 use Rattle.of_text.proofs.FillLemmas.{config_sixteen, lent_table}
 use Rattle.of_text.proofs.config.Config.flows.Goals as goal
