@@ -2,9 +2,10 @@
 use Rattle.std.proofs.Common.{◌≡◌, ℕ, ◌+◌, ◌^◌, ◌<◌, ◌≤◌, eqb, Bool, true, false, cond, List, [], ◌∷◌, ◌++◌, length, take, Option, Some, None, refl, sym, ◌∙◌, ap, subst, arith}
 use Rattle.std.specs.Prelude.{map, not, ◌&&◌, nat_lt, nat_le, bit_and, is_some, IsSome, IfSome, slice_index_or}
 use Rattle.std.specs.List.{AllByRecursion, flat_map, list_all}
+use Rattle.std.specs.Option.{unwrap_or}
 use Rattle.std.proofs.Math.Nat.{mod-eq_of_lt}
 use Rattle.std.proofs.lemmas.Nat.{and_mask}
-use Rattle.std.proofs.lemmas.Bool.{and_parts, and_from, not-false, ltb-false, leb-true, lt-ltb, le-leb, eqb-true}
+use Rattle.std.proofs.lemmas.Bool.{and_parts, and_from, not-false, ne_eqb, ltb-false, leb-true, lt-ltb, le-leb, eqb-true}
 use Rattle.std.proofs.lemmas.List.{take_all}
 use Rattle.of_wire.specs.declared.code.Code.{Code}
 use Rattle.of_wire.specs.Refusals.{first_of, refusal}
@@ -30,7 +31,7 @@ use Rattle.of_text.specs.Rows.{Fits, ActionFits, FieldFits, IsMask}
 use Rattle.of_text.specs.Order.{start, following, standing}
 use Rattle.of_text.specs.Reading.{◌>>=◌}
 use Rattle.of_text.specs.Flows.{Step, Apply, Clear, Write, Metadata, Goto, Flow, step_rows}
-use Rattle.of_text.specs.Refusals.{is_covered, field_refusals, action_refusals, list_refusals, step_refusals, goto_refusals, goes_with, match_refusals, steps_refusals, flow_refusals, table_refusals, or_else}
+use Rattle.of_text.specs.Refusals.{field_refusals, action_refusals, list_refusals, step_refusals, goto_refusals, goes_with, match_refusals, steps_refusals, flow_refusals, table_refusals, or_else}
 use Rattle.of_text.specs.Kept.{instruction_of, IsEntry}
 use Rattle.of_text.specs.First.{flows_for}
 use Rattle.of_text.specs.Configs.{IsConfig}
@@ -68,9 +69,15 @@ within f mask h =
     let small : mask < 2 ^ bits_of f = omega (arith, h, is) in
     ap (bit_and mask) is ∙ (and_mask mask (bits_of f) ∙ mod-eq_of_lt small)
 
-mask_kept : (f : Field) (v : ℕ) (mask : Option ℕ) → IfSome mask (IsMask f) → (is_some mask && not (is_maskable f)) ≡ false → not (is_covered v mask) ≡ false → IfSome mask (IsKeptMask f v)
+pub and_true : (b : Bool) → (b && true) ≡ b
+and_true true = refl
+and_true false = refl
+
+mask_kept : (f : Field) (v : ℕ) (mask : Option ℕ) → IfSome mask (IsMask f) → (is_some mask && not (is_maskable f) && not (eqb (bit_and (unwrap_or mask 0) (ones_of f)) (ones_of f))) ≡ false → (is_some mask && not (eqb (bit_and v (unwrap_or mask 0)) v)) ≡ false → IfSome mask (IsKeptMask f v)
 mask_kept f v None k h i = tt
-mask_kept f v (Some m) k h i = record { maskable = not-false _ h; some = k.some; not_all = k.not_all; within = within f m k.not_all; covers = eqb-true _ _ (not-false _ i) }
+mask_kept f v (Some m) k h i =
+    let partial : eqb (bit_and m (ones_of f)) (ones_of f) ≡ false = ne_eqb _ _ (λ e. omega (arith, e, within f m k.not_all, k.not_all)) in
+    record { maskable = not-false _ (sym (and_true (not (is_maskable f))) ∙ (rw partial at h)); some = k.some; not_all = k.not_all; within = within f m k.not_all; covers = eqb-true _ _ (not-false _ i) }
 
 field_kept : (e : MatchField) → FieldFits e → first_of (field_refusals e) ≡ None → IsKept e
 field_kept e k h =

@@ -1,13 +1,13 @@
 -- What is refused of a field and of an action is what their spelling on the wire is refused for.
 use Rattle.std.proofs.Common.{◌≡◌, ℕ, ◌+◌, ◌-◌, ◌*◌, ◌/◌, ◌%◌, ◌^◌, ◌<◌, ◌≤◌, Bool, true, false, ltb, eqb, List, [], ◌++◌, length, get_or, drop, replicate, Option, Some, None, refl, ap, ◌∙◌, arith}
-use Rattle.std.specs.Prelude.{bit_and, not, ◌&&◌, slice_index, IfSome}
-use Rattle.std.proofs.lemmas.Bool.{le-ltb, eq-eqb, ne_eqb}
+use Rattle.std.specs.Prelude.{slice_index, IfSome}
+use Rattle.std.proofs.lemmas.Bool.{le-ltb, eq-eqb}
 use Rattle.std.proofs.lemmas.List.{append_assoc, length-append, length-replicate, drop_at}
 use Rattle.byteorder.specs.Endian.{big_number, big_bytes}
 use Rattle.byteorder.specs.Numbers.{big_number-reads_back, length-bytes_high_first}
 use Rattle.of_wire.specs.Refusals.{first_of}
 use Rattle.of_layers.specs.declared.field.Field.{Field}
-use Rattle.of_layers.specs.Fields.{number_of, bytes_of, ones_of, is_maskable, is_settable, field_at}
+use Rattle.of_layers.specs.Fields.{number_of, bytes_of, ones_of, is_settable, field_at}
 use Rattle.of_layers.proofs.Table.{field_at-number_of, bytes_some, bytes_most, value_below}
 use Rattle.of_oxm.specs.declared.match_field.MatchField.{MatchField}
 use Rattle.of_oxm.specs.MatchFieldWire.{spelling, is_among, body_len, is_masked_at, number_at, value_at, mask_at, known_field_refusals}
@@ -21,7 +21,6 @@ use Rattle.of_actions.specs.Actions as actions
 use Rattle.of_actions.specs.CanonicalActions.{canonical_action, canonical_set_field}
 use Rattle.of_text.specs.Rows.{ActionFits, FieldFits, IsMask}
 use Rattle.of_text.specs.Refusals.{field_refusals, action_refusals}
-use Rattle.of_text.proofs.EntryLemmas.{within}
 
 -- ---- a field of a match
 
@@ -39,16 +38,11 @@ plain_known f v seen rest masked len first value =
     let size : eqb (get_or rest 3 0) (body_len f false) ≡ true = eq-eqb _ _ len in
     rw (masked, size, first, value) refl
 
-and_true : (b : Bool) → (b && true) ≡ b
-and_true true = refl
-and_true false = refl
-
 masked_known : (f : Field) (v m : ℕ) (seen : List MatchField) (rest : List ℕ) → is_masked_at rest ≡ true → get_or rest 3 0 ≡ 2 * bytes_of f → is_among f seen ≡ false → value_at f rest ≡ v → mask_at f rest ≡ m → m < ones_of f
     → first_of (known_field_refusals f seen rest) ≡ first_of (field_refusals (record { field = f; value = v; mask = Some m }))
 masked_known f v m seen rest masked len first value mask some =
     let size : eqb (get_or rest 3 0) (body_len f true) ≡ true = eq-eqb _ _ len in
-    let partial : eqb (bit_and m (ones_of f)) (ones_of f) ≡ false = ne_eqb _ _ (λ e. omega (arith, e, within f m some, some)) in
-    rw (masked, size, first, value, mask, partial) (rw (and_true (not (is_maskable f))) refl)
+    rw (masked, size, first, value, mask) refl
 
 plain_same : (f : Field) (v : ℕ) (seen : List MatchField) (x : List ℕ) → v < 256 ^ bytes_of f → is_among f seen ≡ false
     → let e : MatchField = record { field = f; value = v; mask = None } in first_of (wire.field_refusals seen (spelling e ++ x)) ≡ first_of (field_refusals e)
