@@ -22,7 +22,8 @@ fn is_need_met(fields: &[MatchField], action: Action) -> bool
     }
 }
 
-fn are_needs_met(fields: &[MatchField], actions: &[Action]) -> bool
+/// Whether what the fields that the actions set need stands in the match. Fields of Ethernet and of the tag are not asked.
+pub fn are_needs_met(fields: &[MatchField], actions: &[Action]) -> bool
     ensures { result ≡ needs_are_met fields.now actions.now }
 {
     actions.iter().all(|action| is_need_met(fields, *action))

@@ -21,7 +21,7 @@ pub use action::Action;
 pub use action_list::ActionList;
 pub use action_reading::{one_reading, read_actions};
 pub use action_writing::write_actions;
-pub use flow_check::check_flow;
+pub use flow_check::{are_needs_met, check_flow};
 pub use instruction::Instruction;
 pub use instruction_list::InstructionList;
 pub use instruction_reading::{one_instruction_reading, read_instructions};

@@ -60,18 +60,21 @@ match_field_of f rest = record { field = f; value = value_at f rest; mask = if i
 abbrev pub is_among : Field → List MatchField → Bool
 is_among f seen = list_any (λ e. number_of e.field == number_of f) seen
 
+-- the refusals of a field's value and mask: OFPBMC_BAD_MASK, OFPBMC_BAD_VALUE, OFPBMC_BAD_WILDCARDS
+abbrev pub value_refusals : Field → Bool → ℕ → ℕ → List (Bool × Code)
+value_refusals f masked value mask =
+    (masked && not (is_maskable f) && not (bit_and mask (ones_of f) == ones_of f), refusal 4 8)
+    ∷ (nat_lt (ones_of f) value, refusal 4 7)
+    ∷ (masked && not (bit_and value mask == value), refusal 4 5)
+    ∷ []
+
 -- the refusals of a known field, where the fields `seen` stand before it
 abbrev pub known_field_refusals : Field → List MatchField → List ℕ → List (Bool × Code)
 known_field_refusals f seen rest =
     let masked = is_masked_at rest in
-    let value = value_at f rest in
-    let mask = mask_at f rest in
     (not (slice_index rest 3 == body_len f masked), refusal 4 1)
     ∷ (is_among f seen, refusal 4 10)
-    ∷ (masked && not (is_maskable f) && not (bit_and mask (ones_of f) == ones_of f), refusal 4 8)
-    ∷ (nat_lt (ones_of f) value, refusal 4 7)
-    ∷ (masked && not (bit_and value mask == value), refusal 4 5)
-    ∷ []
+    ∷ value_refusals f masked (value_at f rest) (mask_at f rest)
 
 -- the refusals of what stands at the front, where the fields `seen` stand before it
 abbrev pub field_refusals : List MatchField → List ℕ → List (Bool × Code)

@@ -42,6 +42,7 @@ pub fn is_met(fields: &[MatchField], need: Need) -> bool
     }
 }
 
+/// Whether what any of the fields needs stands among them (OpenFlow 1.3.5, 7.2.3.6).
 #[tactic(auto, unfolding(crate::specs::Prerequisites::all_met))]
 pub fn all_met(fields: &[MatchField]) -> bool
     ensures { result ≡ needs_are_met fields.now }

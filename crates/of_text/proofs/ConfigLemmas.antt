@@ -1,0 +1,203 @@
+-- Flows, table by table.
+use Rattle.std.proofs.Common.{◌≡◌, ℕ, suc, zero, ◌+◌, ◌<◌, ◌≤◌, eqb, Bool, true, false, cond, List, [], ◌∷◌, ◌++◌, length, Option, Some, None, refl, sym, ◌∙◌, ap, append_assoc, arith}
+use Rattle.std.specs.Prelude.{map, filter, IsSome}
+use Rattle.std.specs.List.{AllByRecursion, flat_map}
+use Rattle.std.specs.Option.{option_map_or}
+use Rattle.std.proofs.lemmas.Bool.{eq-eqb, ne_eqb, eqb-true}
+use Rattle.std.proofs.lemmas.List.{append-nil}
+use Rattle.std.proofs.lemmas.List.Elements.{filter-append}
+use Rattle.of_wire.specs.Refusals.{first_of}
+use Rattle.of_text.specs.declared.row.Row.{Row}
+use Rattle.of_text.specs.declared.row.Row.TheVariants as rows
+use Rattle.of_text.specs.Lines.{lines_of}
+use Rattle.of_text.specs.Rows.{Fits}
+use Rattle.of_text.specs.Order.{start, following, standing}
+use Rattle.of_text.specs.Flows.{Flow, flow_rows, rows_of, step_rows}
+use Rattle.of_text.specs.Refusals.{flow_refusals, table_refusals}
+use Rattle.of_text.specs.Texts.{AreRows}
+use Rattle.of_text.specs.First.{flows_for, refusals_behind, refused_from, first_refusal}
+use Rattle.of_text.specs.Configs.{tables_from, tables_of, IsConfig, SpellConfig, all_flows, config_text}
+use Rattle.of_text.proofs.TextLemmas.{all_front, all_back, all_both, standing_both, some_front, one_list}
+use Rattle.of_text.proofs.WriteLemmas.{text_spells}
+
+-- ---- the flows of a table
+
+abbrev is_for : ℕ → Flow → Bool
+is_for table f = eqb f.head.table table
+
+for_same : (t : ℕ) (fs : List Flow) → flows_for t (flows_for t fs) ≡ flows_for t fs
+for_same t [] = refl
+for_same t (f ∷ fs) = by_test (for_same t fs) (is_for t f) refl
+  where
+    by_test : flows_for t (flows_for t fs) ≡ flows_for t fs → (b : Bool) → is_for t f ≡ b → filter (is_for t) (cond (is_for t f) (f ∷ flows_for t fs) (flows_for t fs)) ≡ cond (is_for t f) (f ∷ flows_for t fs) (flows_for t fs)
+    by_test others true e = rw e (rw e (ap (λ (x : List Flow). f ∷ x) others))
+    by_test others false e = rw e others
+
+for_other : (t u : ℕ) → (t ≡ u → ⊥) → (fs : List Flow) → flows_for u (flows_for t fs) ≡ []
+for_other t u apart [] = refl
+for_other t u apart (f ∷ fs) = by_test (for_other t u apart fs) (is_for t f) refl
+  where
+    by_test : flows_for u (flows_for t fs) ≡ [] → (b : Bool) → is_for t f ≡ b → filter (is_for u) (cond (is_for t f) (f ∷ flows_for t fs) (flows_for t fs)) ≡ []
+    by_test others true e =
+        let is : f.head.table ≡ t = eqb-true f.head.table t e in
+        let not_u : is_for u f ≡ false = ne_eqb f.head.table u (λ i. apart (sym is ∙ i)) in
+        rw e (rw not_u others)
+    by_test others false e = rw e others
+
+-- ---- the tables, one after the other
+
+none_for : (n t u : ℕ) → u < t → (fs : List Flow) → flows_for u (all_flows (tables_from n t fs)) ≡ []
+none_for zero t u h fs = refl
+none_for (suc n) t u h fs =
+    filter-append (is_for u) (flows_for t fs) (all_flows (tables_from n (suc t) fs))
+    ∙ rw (for_other t u (λ i. omega (arith, i, h)) fs) (none_for n (suc t) u (omega (arith, h)) fs)
+
+some_for : (n t u : ℕ) → t ≤ u → u < t + n → (fs : List Flow) → flows_for u (all_flows (tables_from n t fs)) ≡ flows_for u fs
+some_for zero t u l h fs = absurd (omega (arith, l, h))
+some_for (suc n) t u l h fs = by_test (λ i. some_for n (suc t) u (omega (arith, l, i)) (omega (arith, h)) fs) (eqb t u) refl
+  where
+    by_test : ((t ≡ u → ⊥) → flows_for u (all_flows (tables_from n (suc t) fs)) ≡ flows_for u fs) → (b : Bool) → eqb t u ≡ b → flows_for u (flows_for t fs ++ all_flows (tables_from n (suc t) fs)) ≡ flows_for u fs
+    by_test others true e =
+        let is : t ≡ u = eqb-true t u e in
+        filter-append (is_for u) (flows_for t fs) (all_flows (tables_from n (suc t) fs))
+        ∙ rw (none_for n (suc t) u (omega (arith, is)) fs) (append-nil (flows_for u (flows_for t fs)) ∙ rw is (for_same u fs))
+    by_test others false e =
+        let apart : t ≡ u → ⊥ = λ i. let same = eq-eqb t u i in absurd cc in
+        filter-append (is_for u) (flows_for t fs) (all_flows (tables_from n (suc t) fs))
+        ∙ rw (for_other t u apart fs) (others apart)
+
+same_tables : (n t : ℕ) (fs gs : List Flow) → ((u : ℕ) → t ≤ u → u < t + n → flows_for u gs ≡ flows_for u fs) → tables_from n t gs ≡ tables_from n t fs
+same_tables zero t fs gs h = refl
+same_tables (suc n) t fs gs h =
+    let one = h t (omega arith) (omega arith) in
+    let others = same_tables n (suc t) fs gs (λ u l m. h u (omega (arith, l)) (omega (arith, m))) in
+    rw (one, others) refl
+
+pub tables_again : (fs : List Flow) → tables_of (all_flows (tables_of fs)) ≡ tables_of fs
+unfolding tables_of
+tables_again fs = same_tables 16 0 fs (all_flows (tables_from 16 0 fs)) (λ u l m. some_for 16 0 u l m fs)
+
+-- ---- none of a table is refused
+
+unfoldable pub Stand : List Flow → List Flow → Type 0
+Stand before [] = Unit {0}
+Stand before (f ∷ fs) = (first_of (flow_refusals f ++ table_refusals before f) ≡ None) × Stand (before ++ f ∷ []) fs
+
+both_none : {A B : Type 0} (g : A → B) (o : Option A) (d : Option B) → option_map_or (λ a. Some (g a)) o d ≡ None → (o ≡ None) × (d ≡ None)
+both_none g None d h = (refl, h)
+both_none g (Some a) d h = absurd cc
+
+pub in_table : (t : ℕ) (before fs : List Flow) → refused_from before fs ≡ None → Stand (flows_for t before) (flows_for t fs)
+unfolding Stand
+in_table t before [] h = tt
+in_table t before (f ∷ fs) h =
+    let parts = both_none (λ code. (length before, code)) (first_of (refusals_behind before f)) (refused_from (before ++ f ∷ []) fs) h in
+    by_test parts.0 (in_table t (before ++ f ∷ []) fs parts.1) (is_for t f) refl
+  where
+    by_test : first_of (refusals_behind before f) ≡ None → Stand (flows_for t (before ++ f ∷ [])) (flows_for t fs) → (b : Bool) → is_for t f ≡ b → Stand (flows_for t before) (cond (is_for t f) (f ∷ flows_for t fs) (flows_for t fs))
+    by_test one others true e =
+        let is : f.head.table ≡ t = eqb-true f.head.table t e in
+        let more : flows_for t (before ++ f ∷ []) ≡ flows_for t before ++ f ∷ [] = filter-append (is_for t) before (f ∷ []) ∙ rw e refl in
+        rw e (ap (λ (u : ℕ). first_of (flow_refusals f ++ table_refusals (flows_for u before) f)) (sym is) ∙ one, rw more at others)
+    by_test one others false e =
+        let same : flows_for t (before ++ f ∷ []) ≡ flows_for t before = filter-append (is_for t) before (f ∷ []) ∙ rw e (append-nil (flows_for t before)) in
+        rw e (rw same at others)
+
+abbrev pub AllFor : ℕ → List Flow → Type 0
+AllFor t fs = AllByRecursion (λ (f : Flow). f.head.table ≡ t) fs
+
+pub all_for : (t : ℕ) (fs : List Flow) → AllFor t (flows_for t fs)
+all_for t [] = tt
+all_for t (f ∷ fs) = by_test (all_for t fs) (is_for t f) refl
+  where
+    by_test : AllFor t (flows_for t fs) → (b : Bool) → is_for t f ≡ b → AllFor t (cond (is_for t f) (f ∷ flows_for t fs) (flows_for t fs))
+    by_test others true e = rw e (eqb-true f.head.table t e, others)
+    by_test others false e = rw e others
+
+stands_on : (t : ℕ) (before fs rest : List Flow) → AllFor t fs → Stand (flows_for t before) fs → refused_from before (fs ++ rest) ≡ refused_from (before ++ fs) rest
+unfolding Stand
+stands_on t before [] rest a h = rw (append-nil before) refl
+stands_on t before (f ∷ fs) rest a h =
+    let is : f.head.table ≡ t = a.0 in
+    let mine : is_for t f ≡ true = eq-eqb f.head.table t is in
+    let more : flows_for t (before ++ f ∷ []) ≡ flows_for t before ++ f ∷ [] = filter-append (is_for t) before (f ∷ []) ∙ rw mine refl in
+    let none : first_of (refusals_behind before f) ≡ None = ap (λ (u : ℕ). first_of (flow_refusals f ++ table_refusals (flows_for u before) f)) is ∙ h.0 in
+    let others = stands_on t (before ++ f ∷ []) fs rest a.1 (rw more h.1) in
+    rw none (others ∙ ap (λ (x : List Flow). refused_from x rest) (append_assoc before (f ∷ []) fs))
+
+all_stand : (n t : ℕ) (before fs : List Flow) → ((u : ℕ) → t ≤ u → flows_for u before ≡ []) → first_refusal fs ≡ None → refused_from before (all_flows (tables_from n t fs)) ≡ None
+all_stand zero t before fs e h = refl
+all_stand (suc n) t before fs e h =
+    let here : Stand (flows_for t before) (flows_for t fs) = rw (e t (omega arith)) (in_table t [] fs h) in
+    stands_on t before (flows_for t fs) (all_flows (tables_from n (suc t) fs)) (all_for t fs) here
+    ∙ all_stand n (suc t) (before ++ flows_for t fs) fs (λ u l. filter-append (is_for u) before (flows_for t fs) ∙ rw (e u (omega (arith, l)), for_other t u (λ i. omega (arith, i, l)) fs) refl) h
+
+-- ---- they stand in order
+
+abbrev pub body : Flow → List Row
+body f = map rows.Match f.fields ++ flat_map step_rows f.steps
+
+pub record IsWhole (f : Flow) : Type 0 where
+  pub fits : AllByRecursion Fits (flow_rows f)
+  pub order : IsSome (standing 0 (body f))
+
+pub each_whole : (p : ℕ) (fs : List Flow) → AllByRecursion Fits (rows_of fs) → IsSome (standing p (rows_of fs)) → AllByRecursion IsWhole fs
+unfolding following
+each_whole p [] f o = tt
+each_whole p (x ∷ xs) f o =
+    let next = some_front (standing 0 (body x)) (λ q. standing q (rows_of xs)) (rw (standing_both 0 (body x) (rows_of xs)) at o) in
+    (record { fits = all_front Fits (flow_rows x) (rows_of xs) f; order = rw next.1 refl }, each_whole next.0 xs (all_back Fits (flow_rows x) (rows_of xs) f) (rw (standing_both 0 (body x) (rows_of xs), next.1) at o))
+
+whole_fits : (fs : List Flow) → AllByRecursion IsWhole fs → AllByRecursion Fits (rows_of fs)
+whole_fits [] h = tt
+whole_fits (x ∷ xs) h = all_both Fits (flow_rows x) (rows_of xs) h.0.fits (whole_fits xs h.1)
+
+is_some : (o : Option ℕ) → IsSome o → (q : ℕ) × (o ≡ Some q)
+is_some None h = absurd cc
+is_some (Some q) h = (q, refl)
+
+whole_stands : (p : ℕ) (fs : List Flow) → AllByRecursion IsWhole fs → IsSome (standing p (rows_of fs))
+unfolding following
+whole_stands p [] h = refl
+whole_stands p (x ∷ xs) h =
+    let next = is_some (standing 0 (body x)) h.0.order in
+    rw (standing_both 0 (body x) (rows_of xs), next.1) (whole_stands next.0 xs h.1)
+
+pub kept_whole : (t : ℕ) (fs : List Flow) → AllByRecursion IsWhole fs → AllByRecursion IsWhole (flows_for t fs)
+kept_whole t [] h = tt
+kept_whole t (f ∷ fs) h = by_test (kept_whole t fs h.1) (is_for t f) refl
+  where
+    by_test : AllByRecursion IsWhole (flows_for t fs) → (b : Bool) → is_for t f ≡ b → AllByRecursion IsWhole (cond (is_for t f) (f ∷ flows_for t fs) (flows_for t fs))
+    by_test others true e = rw e (h.0, others)
+    by_test others false e = rw e others
+
+tables_whole : (n t : ℕ) (fs : List Flow) → AllByRecursion IsWhole fs → AllByRecursion IsWhole (all_flows (tables_from n t fs))
+tables_whole zero t fs h = tt
+tables_whole (suc n) t fs h = all_both IsWhole (flows_for t fs) (all_flows (tables_from n (suc t) fs)) (kept_whole t fs h) (tables_whole n (suc t) fs h)
+
+pub rows_again : (fs : List Flow) → AreRows (rows_of fs) → AreRows (rows_of (all_flows (tables_of fs)))
+unfolding tables_of
+rows_again fs h =
+    let whole = tables_whole 16 0 fs (each_whole start fs h.fits h.order) in
+    record { fits = whole_fits (all_flows (tables_from 16 0 fs)) whole; order = whole_stands start (all_flows (tables_from 16 0 fs)) whole }
+
+-- ---- configurations
+
+pub canonical_spells : (tables : List (List Flow)) → IsConfig tables → SpellConfig (lines_of (config_text tables)) tables
+unfolding tables_of
+canonical_spells tables c =
+    rw c.filled (record {
+      flows = all_flows (tables_of c.flows);
+      spelt = text_spells (all_flows (tables_of c.flows)) (rows_again c.flows c.rows);
+      stand = all_stand 16 0 [] c.flows (λ u l. refl) c.stand;
+      filled = sym (tables_again c.flows);
+    })
+
+pub spelt_config : (lines : List (List ℕ)) (tables : List (List Flow)) → SpellConfig lines tables → IsConfig tables
+spelt_config lines tables s = record { flows = s.flows; rows = s.spelt.allowed; stand = s.stand; filled = s.filled }
+
+pub one_config : (lines : List (List ℕ)) (a b : List (List Flow)) → SpellConfig lines a → SpellConfig lines b → a ≡ b
+one_config lines a b s t = s.filled ∙ (ap tables_of (one_list lines s.flows t.flows s.spelt t.spelt) ∙ sym t.filled)
+
+pub config_fits : (tables : List (List Flow)) → IsConfig tables → AllByRecursion Fits (rows_of (all_flows tables))
+config_fits tables c = rw c.filled (rows_again c.flows c.rows).fits

@@ -1,0 +1,241 @@
+-- Each flow of a configuration may stand in its table.
+use Rattle.std.proofs.Common.{◌≡◌, ℕ, ◌+◌, ◌^◌, ◌<◌, ◌≤◌, eqb, Bool, true, false, cond, List, [], ◌∷◌, ◌++◌, length, take, Option, Some, None, refl, sym, ◌∙◌, ap, subst, arith}
+use Rattle.std.specs.Prelude.{map, not, ◌&&◌, nat_lt, nat_le, bit_and, is_some, IsSome, IfSome, slice_index_or}
+use Rattle.std.specs.List.{AllByRecursion, flat_map, list_all}
+use Rattle.std.specs.Option.{unwrap_or}
+use Rattle.std.proofs.Math.Nat.{mod-eq_of_lt}
+use Rattle.std.proofs.lemmas.Nat.{and_mask}
+use Rattle.std.proofs.lemmas.Bool.{and_parts, and_from, not-false, ne_eqb, ltb-false, leb-true, lt-ltb, le-leb, eqb-true}
+use Rattle.std.proofs.lemmas.List.{take_all}
+use Rattle.of_wire.specs.declared.code.Code.{Code}
+use Rattle.of_wire.specs.Refusals.{first_of, refusal}
+use Rattle.of_wire.proofs.FirstLemmas.{none_applies}
+use Rattle.of_layers.specs.declared.field.Field.{Field}
+use Rattle.of_layers.specs.Fields.{number_of, bits_of, ones_of, is_maskable, is_settable}
+use Rattle.of_layers.proofs.Table.{ones_is}
+use Rattle.of_oxm.specs.declared.match_field.MatchField.{MatchField}
+use Rattle.of_oxm.specs.NormalForm.{IsKept, IsKeptMask, IsRising, IsMatch}
+use Rattle.of_oxm.specs.Prerequisites.{all_met}
+use Rattle.of_actions.specs.declared.action.Action.{Action}
+use Rattle.of_actions.specs.declared.action.Action.TheVariants.{Output, PushVlan, PopVlan, Group, SetNwTtl, DecNwTtl, SetField}
+use Rattle.of_actions.specs.declared.instruction.Instruction.{Instruction}
+use Rattle.of_actions.specs.PortNumbers.{is_port}
+use Rattle.of_actions.specs.Headers.{is_next}
+use Rattle.of_actions.specs.Served.{is_served, are_served}
+use Rattle.of_actions.specs.Rising.{is_rising}
+use Rattle.of_actions.specs.InstructionLists.{is_served_body, is_for, are_for, run_place}
+use Rattle.of_actions.specs.FlowCheck.{all_go_with}
+use Rattle.of_text.specs.declared.row.Row.{Row}
+use Rattle.of_text.specs.declared.row.Row.TheVariants as rows
+use Rattle.of_text.specs.Rows.{Fits, ActionFits, FieldFits, IsMask}
+use Rattle.of_text.specs.Order.{start, following, standing}
+use Rattle.of_text.specs.Reading.{◌>>=◌}
+use Rattle.of_text.specs.Flows.{Step, Apply, Clear, Write, Metadata, Goto, Flow, step_rows}
+use Rattle.of_text.specs.Refusals.{field_refusals, action_refusals, list_refusals, step_refusals, goto_refusals, goes_with, match_refusals, steps_refusals, flow_refusals, table_refusals, or_else}
+use Rattle.of_text.specs.Kept.{instruction_of, IsEntry}
+use Rattle.of_text.specs.First.{flows_for}
+use Rattle.of_text.specs.Configs.{IsConfig}
+use Rattle.of_text.proofs.RefusalLemmas.{first_append}
+use Rattle.of_text.proofs.TextLemmas.{all_front, all_back, standing_both, some_front}
+use Rattle.of_text.proofs.KeptLemmas.{actions_stand}
+use Rattle.of_text.proofs.ConfigLemmas.{Stand, in_table, AllFor, all_for, IsWhole, each_whole, kept_whole}
+use Rattle.of_text.proofs.FillLemmas.{table_at}
+
+-- ---- where none is refused
+
+none_next : (r : Bool × Code) (rs : List (Bool × Code)) → first_of (r ∷ rs) ≡ None → (r.0 ≡ false) × (first_of rs ≡ None)
+none_next r rs h = by_test r.0 h
+  where
+    by_test : (t : Bool) → cond t (Some r.1) (first_of rs) ≡ None → (t ≡ false) × (first_of rs ≡ None)
+    by_test true e = absurd cc
+    by_test false e = (refl, e)
+
+none_both : (xs ys : List (Bool × Code)) → first_of (xs ++ ys) ≡ None → (first_of xs ≡ None) × (first_of ys ≡ None)
+none_both xs ys h = by_first (first_of xs) (sym (first_append xs ys) ∙ h)
+  where
+    by_first : (o : Option Code) → or_else o (first_of ys) ≡ None → (o ≡ None) × (first_of ys ≡ None)
+    by_first None e = (refl, e)
+    by_first (Some code) e = absurd cc
+
+none_each : {X : Type 0} (f : X → List (Bool × Code)) (xs : List X) → first_of (flat_map f xs) ≡ None → AllByRecursion (λ x. first_of (f x) ≡ None) xs
+none_each f [] h = tt
+none_each f (x ∷ xs) h = let parts = none_both (f x) (flat_map f xs) h in (parts.0, none_each f xs parts.1)
+
+-- ---- matches
+
+pub within : (f : Field) (mask : ℕ) → mask < ones_of f → bit_and mask (ones_of f) ≡ mask
+within f mask h =
+    let is = ones_is f in
+    let small : mask < 2 ^ bits_of f = omega (arith, h, is) in
+    ap (bit_and mask) is ∙ (and_mask mask (bits_of f) ∙ mod-eq_of_lt small)
+
+pub and_true : (b : Bool) → (b && true) ≡ b
+and_true true = refl
+and_true false = refl
+
+mask_kept : (f : Field) (v : ℕ) (mask : Option ℕ) → IfSome mask (IsMask f) → (is_some mask && not (is_maskable f) && not (eqb (bit_and (unwrap_or mask 0) (ones_of f)) (ones_of f))) ≡ false → (is_some mask && not (eqb (bit_and v (unwrap_or mask 0)) v)) ≡ false → IfSome mask (IsKeptMask f v)
+mask_kept f v None k h i = tt
+mask_kept f v (Some m) k h i =
+    let partial : eqb (bit_and m (ones_of f)) (ones_of f) ≡ false = ne_eqb _ _ (λ e. omega (arith, e, within f m k.not_all, k.not_all)) in
+    record { maskable = not-false _ (sym (and_true (not (is_maskable f))) ∙ (rw partial at h)); some = k.some; not_all = k.not_all; within = within f m k.not_all; covers = eqb-true _ _ (not-false _ i) }
+
+field_kept : (e : MatchField) → FieldFits e → first_of (field_refusals e) ≡ None → IsKept e
+field_kept e k h =
+    let none = none_applies (field_refusals e) h in
+    record { value = ltb-false (ones_of e.field) e.value none.1.0; mask = mask_kept e.field e.value e.mask k.1 none.0 none.1.1.0 }
+
+fields_kept : (m : List MatchField) → AllByRecursion Fits (map rows.Match m) → AllByRecursion (λ e. first_of (field_refusals e) ≡ None) m → AllByRecursion IsKept m
+fields_kept [] k h = tt
+fields_kept (e ∷ es) k h = (field_kept e k.0 h.0, fields_kept es k.1 h.1)
+
+some_bind : (t : Bool) (n : ℕ) (k : ℕ → Option ℕ) → IsSome (cond t (Some n) None >>= k) → (t ≡ true) × IsSome (k n)
+some_bind true n k h = (refl, h)
+some_bind false n k h = absurd cc
+
+fields_rise : (p : ℕ) (m : List MatchField) (rest : List Row) → IsSome (standing p (map rows.Match m ++ rest)) → AllByRecursion (λ e. p ≤ number_of e.field) m × IsRising m
+unfolding following
+fields_rise p [] rest h = (tt, tt)
+fields_rise p (e ∷ es) rest h =
+    let n = number_of e.field in
+    let parts = some_bind (nat_le p n) (n + 1) (λ q. standing q (map rows.Match es ++ rest)) h in
+    let others = fields_rise (n + 1) es rest parts.1 in
+    let low : p ≤ n = leb-true p n parts.0 in
+    ((low, lower p n low es others.0), (above n es others.0, others.1))
+  where
+    lower : (p n : ℕ) → p ≤ n → (xs : List MatchField) → AllByRecursion (λ x. n + 1 ≤ number_of x.field) xs → AllByRecursion (λ x. p ≤ number_of x.field) xs
+    lower p n l [] h = tt
+    lower p n l (x ∷ xs) h = (let k : n + 1 ≤ number_of x.field = h.0 in omega (arith, k, l), lower p n l xs h.1)
+
+    above : (n : ℕ) (xs : List MatchField) → AllByRecursion (λ x. n + 1 ≤ number_of x.field) xs → AllByRecursion (λ x. n < number_of x.field) xs
+    above n [] h = tt
+    above n (x ∷ xs) h = (let k : n + 1 ≤ number_of x.field = h.0 in omega (arith, k), above n xs h.1)
+
+-- ---- instructions
+
+step_after : (p : ℕ) (s : Step) (rest : List Row) → IsSome (standing p (step_rows s ++ rest)) → (p ≤ 40 + run_place (instruction_of s)) × IsSome (standing (41 + run_place (instruction_of s)) rest)
+unfolding following
+step_after p (Apply xs) rest h =
+    let parts = some_bind (nat_le p 40) 41 (λ q. standing q (map rows.Do xs ++ rest)) h in
+    (leb-true p 40 parts.0, subst IsSome (actions_stand 41 xs rest refl) parts.1)
+step_after p Clear rest h = let parts = some_bind (nat_le p 41) 42 (λ q. standing q rest) h in (leb-true p 41 parts.0, parts.1)
+step_after p (Write xs) rest h =
+    let parts = some_bind (nat_le p 42) 43 (λ q. standing q (map rows.Do xs ++ rest)) h in
+    (leb-true p 42 parts.0, subst IsSome (actions_stand 43 xs rest refl) parts.1)
+step_after p (Metadata v m) rest h = let parts = some_bind (nat_le p 43) 44 (λ q. standing q rest) h in (leb-true p 43 parts.0, parts.1)
+step_after p (Goto t) rest h = let parts = some_bind (nat_le p 44) 45 (λ q. standing q rest) h in (leb-true p 44 parts.0, parts.1)
+
+steps_rise : (p : ℕ) (ss : List Step) → IsSome (standing p (flat_map step_rows ss)) → AllByRecursion (λ i. p ≤ 40 + run_place i) (map instruction_of ss) × (is_rising run_place (map instruction_of ss) ≡ true)
+steps_rise p [] h = (tt, refl)
+steps_rise p (s ∷ ss) h =
+    let n = run_place (instruction_of s) in
+    let parts = step_after p s (flat_map step_rows ss) h in
+    let others = steps_rise (41 + n) ss parts.1 in
+    let low : p ≤ 40 + n = parts.0 in
+    ((low, lower p n low (map instruction_of ss) others.0), and_from _ _ (above n (map instruction_of ss) others.0) others.1)
+  where
+    lower : (p n : ℕ) → p ≤ 40 + n → (xs : List Instruction) → AllByRecursion (λ i. 41 + n ≤ 40 + run_place i) xs → AllByRecursion (λ i. p ≤ 40 + run_place i) xs
+    lower p n l [] h = tt
+    lower p n l (x ∷ xs) h = (let k : 41 + n ≤ 40 + run_place x = h.0 in omega (arith, k, l), lower p n l xs h.1)
+
+    above : (n : ℕ) (xs : List Instruction) → AllByRecursion (λ i. 41 + n ≤ 40 + run_place i) xs → list_all (λ y. nat_lt n (run_place y)) xs ≡ true
+    above n [] h = refl
+    above n (x ∷ xs) h = let k : 41 + n ≤ 40 + run_place x = h.0 in and_from _ _ (lt-ltb n (run_place x) (omega (arith, k))) (above n xs h.1)
+
+action_served : (a : Action) → ActionFits a → first_of (action_refusals a) ≡ None → is_served false a ≡ true
+unfolding is_served
+action_served (Output p m) k h = let none = none_applies (action_refusals (Output p m)) h in and_from (is_port false p) (nat_lt m 0x10000) (not-false _ none.0) (lt-ltb m 0x10000 k.1)
+action_served (PushVlan t) k h = let none = none_applies (action_refusals (PushVlan t)) h in not-false _ none.0
+action_served PopVlan k h = refl
+action_served (Group g) k h = lt-ltb g 0x100000000 k
+action_served (SetNwTtl t) k h = lt-ltb t 0x100 k
+action_served DecNwTtl k h = refl
+action_served (SetField f v) k h =
+    let none = none_applies (action_refusals (SetField f v)) h in
+    and_from (is_settable f) (nat_le v (ones_of f)) (not-false _ none.0) (le-leb v (ones_of f) (ltb-false (ones_of f) v none.1.0))
+
+each_served : (xs : List Action) → AllByRecursion Fits (map rows.Do xs) → AllByRecursion (λ a. first_of (action_refusals a) ≡ None) xs → list_all (is_served false) xs ≡ true
+each_served [] k h = refl
+each_served (a ∷ xs) k h = and_from _ _ (action_served a k.0 h.0) (each_served xs k.1 h.1)
+
+list_served : (xs : List Action) → AllByRecursion Fits (map rows.Do xs) → first_of (list_refusals xs) ≡ None → are_served false xs ≡ true
+unfolding list_refusals
+list_served xs k h =
+    let parts = none_both (flat_map action_refusals (take 64 xs)) _ h in
+    let few : length xs ≤ 64 = ltb-false 64 (length xs) (none_next _ [] parts.1).0 in
+    let all : first_of (flat_map action_refusals xs) ≡ None = ap (λ (ys : List Action). first_of (flat_map action_refusals ys)) (sym (take_all 64 xs few)) ∙ parts.0 in
+    and_from (nat_le (length xs) 64) (list_all (is_served false) xs) (le-leb (length xs) 64 few) (each_served xs k (none_each action_refusals xs all))
+
+step_served : (table : ℕ) (s : Step) → AllByRecursion Fits (step_rows s) → first_of (step_refusals s) ≡ None → first_of (goto_refusals table s) ≡ None → (is_served_body (instruction_of s) ≡ true) × (is_for table (instruction_of s) ≡ true)
+unfolding step_refusals
+step_served table (Apply xs) k h g = (list_served xs k.1 h, refl)
+step_served table Clear k h g = (refl, refl)
+step_served table (Write xs) k h g = (list_served xs k.1 h, refl)
+step_served table (Metadata v m) k h g = (and_from (nat_lt v (2 ^ 64)) (nat_lt m (2 ^ 64)) (lt-ltb v (2 ^ 64) k.0.0) (lt-ltb m (2 ^ 64) k.0.1), refl)
+step_served table (Goto to) k h g =
+    let next : is_next table to ≡ true = not-false _ (none_next _ [] g).0 in
+    let parts = and_parts (nat_lt table to) (nat_lt to 16) next in
+    (parts.1, parts.0)
+
+steps_served : (table : ℕ) (ss : List Step) → AllByRecursion Fits (flat_map step_rows ss) → AllByRecursion (λ s. first_of (step_refusals s) ≡ None) ss → AllByRecursion (λ s. first_of (goto_refusals table s) ≡ None) ss → (list_all is_served_body (map instruction_of ss) ≡ true) × (are_for table (map instruction_of ss) ≡ true)
+steps_served table [] k h g = (refl, refl)
+steps_served table (s ∷ ss) k h g =
+    let one = step_served table s (all_front Fits (step_rows s) (flat_map step_rows ss) k) h.0 g.0 in
+    let others = steps_served table ss (all_back Fits (step_rows s) (flat_map step_rows ss) k) h.1 g.1 in
+    (and_from _ _ one.0 others.0, and_from _ _ one.1 others.1)
+
+goes_same : (m : List MatchField) (ss : List Step) → all_go_with m (map instruction_of ss) ≡ list_all (goes_with m) ss
+goes_same m [] = refl
+goes_same m (Apply xs ∷ ss) = ap (λ (b : Bool). goes_with m (Apply xs) && b) (goes_same m ss)
+goes_same m (Clear ∷ ss) = ap (λ (b : Bool). true && b) (goes_same m ss)
+goes_same m (Write xs ∷ ss) = ap (λ (b : Bool). goes_with m (Write xs) && b) (goes_same m ss)
+goes_same m (Metadata v n ∷ ss) = ap (λ (b : Bool). true && b) (goes_same m ss)
+goes_same m (Goto t ∷ ss) = ap (λ (b : Bool). true && b) (goes_same m ss)
+
+-- ---- flows
+
+match_is : (m : List MatchField) (rest : List Row) → AllByRecursion Fits (map rows.Match m) → IsSome (standing 0 (map rows.Match m ++ rest)) → first_of (match_refusals m) ≡ None → IsMatch m
+unfolding match_refusals
+match_is m rest k o h =
+    let parts = none_both (flat_map field_refusals m) _ h in
+    record {
+      each = fields_kept m k (none_each field_refusals m parts.0);
+      rising = (fields_rise 0 m rest o).1;
+      met = not-false (all_met m) (none_next _ [] parts.1).0;
+    }
+
+behind_fields : (m : List MatchField) (ss : List Step) → IsSome (standing 0 (map rows.Match m ++ flat_map step_rows ss)) → is_rising run_place (map instruction_of ss) ≡ true
+behind_fields m ss o =
+    let both = standing_both 0 (map rows.Match m) (flat_map step_rows ss) in
+    let next = some_front (standing 0 (map rows.Match m)) (λ q. standing q (flat_map step_rows ss)) (subst IsSome both o) in
+    (steps_rise next.0 ss (rw next.1 at (subst IsSome both o))).1
+
+flow_entry : (f : Flow) → IsWhole f → first_of (flow_refusals f) ≡ None → IsEntry f.head.table f
+unfolding flow_refusals steps_refusals
+flow_entry f w h =
+    let table = f.head.table in
+    let steps = flat_map step_rows f.steps in
+    let fits : AllByRecursion Fits (map rows.Match f.fields ++ steps) = w.fits.1 in
+    let check : List (Bool × Code) = (not (list_all (goes_with f.fields) f.steps), refusal 2 10) ∷ [] in
+    let behind : List (Bool × Code) = match_refusals f.fields ++ steps_refusals table f.fields f.steps in
+    let flags : Bool × Code = (not (eqb (bit_and f.head.flags 25) f.head.flags), refusal 5 7) in
+    let parts = none_both (match_refusals f.fields) (steps_refusals table f.fields f.steps) (none_next flags behind (none_next (nat_lt 15 table, refusal 5 2) (flags ∷ behind) h).1).1 in
+    let gotos = none_both (flat_map (goto_refusals table) f.steps) (flat_map step_refusals f.steps ++ check) parts.1 in
+    let lists = none_both (flat_map step_refusals f.steps) check gotos.1 in
+    let served = steps_served table f.steps (all_back Fits (map rows.Match f.fields) steps fits) (none_each step_refusals f.steps lists.0) (none_each (goto_refusals table) f.steps gotos.0) in
+    record {
+      fields = match_is f.fields steps (all_front Fits (map rows.Match f.fields) steps fits) w.order parts.0;
+      kept = and_from _ _ (behind_fields f.fields f.steps w.order) served.0;
+      leads_on = served.1;
+      checked = goes_same f.fields f.steps ∙ not-false _ (none_next (not (list_all (goes_with f.fields) f.steps), refusal 2 10) [] lists.1).0;
+    }
+
+table_entries : (table : ℕ) (before fs : List Flow) → AllFor table fs → AllByRecursion IsWhole fs → Stand before fs → AllByRecursion (IsEntry table) fs
+unfolding Stand
+table_entries table before [] a w h = tt
+table_entries table before (f ∷ fs) a w h =
+    (subst (λ (t : ℕ). IsEntry t f) a.0 (flow_entry f w.0 (none_both (flow_refusals f) (table_refusals before f) h.0).0), table_entries table (before ++ f ∷ []) fs a.1 w.1 h.1)
+
+pub config_entries : (tables : List (List Flow)) → IsConfig tables → (table : ℕ) → table < 16 → AllByRecursion (IsEntry table) (slice_index_or tables table [])
+config_entries tables c table lt =
+    let whole = kept_whole table c.flows (each_whole start c.flows c.rows.fits c.rows.order) in
+    rw (c.filled, table_at c.flows table lt) (table_entries table [] (flows_for table c.flows) (all_for table c.flows) whole (in_table table [] c.flows c.stand))

@@ -1,0 +1,10 @@
+use Rattle.std.proofs.Common.{vec_len}
+use Rattle.of_text.specs.Views.{view_flows}
+use Rattle.of_text.proofs.FillLemmas.{Filling}
+use Rattle.of_text.proofs.assembling.fill.Given as goal
+
+abbrev pub decreases-loop-flow : goal.decreases-loop-flow
+decreases-loop-flow l = vec_len l.left
+
+abbrev pub invariant-loop-flow : goal.invariant-loop-flow
+invariant-loop-flow l = Filling (view_flows l.fn.flows.items) l.left.items l.tables.items

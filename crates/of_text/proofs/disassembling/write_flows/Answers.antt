@@ -1,0 +1,12 @@
+use Rattle.std.proofs.Common.{arith}
+use Rattle.of_text.proofs.WriteLemmas.{flow_fits, flow_written}
+use Rattle.of_text.proofs.disassembling.write_flows.Goals as goal
+
+pub write_flow-requires : goal.write_flow-requires
+write_flow-requires c = (flow_fits c.args.flows.now c.loop-flow.flow-index c.flow-item.result (omega arith) c.flow-item.is c.loop-flow.invariant.fits).0
+
+pub loop-flow-preserved : goal.loop-flow-preserved
+loop-flow-preserved c = record {
+  fits = (flow_fits c.args.flows.now c.loop-flow.flow-index c.flow-item.result (omega arith) c.flow-item.is c.loop-flow.invariant.fits).1;
+  text = flow_written c.args.flows.now c.loop-flow.flow-index c.flow-item.result _ _ _ (omega arith) c.flow-item.is c.in_ok-write_flow.ensures c.loop-flow.invariant.text;
+}

@@ -1,0 +1,73 @@
+//! Configurations.
+ghost use Rattle.std.specs.Prelude.{◌≡◌, ◌<◌, ℕ, [], length, slice_index_or, IfOk, OnOk};
+ghost use Rattle.std.specs.List.{AllByRecursion};
+ghost use Rattle.of_text.specs.Kept.{IsEntry};
+ghost use Rattle.of_text.specs.Configs.{IsConfig, tables_of, with_flow, view_tables};
+ghost use Rattle.of_text.specs.Views.{view, view_flows};
+
+use crate::flow::FlowText;
+use std::alloc::{AllocError, Global};
+use std::marker::Model;
+
+/// How many tables a switch has.
+const TABLES: usize = 16;
+
+/// The flows of sixteen tables, each table's oldest first (OpenFlow 1.3.5, 5.1 and 5.2).
+///
+/// They are flows that some text spells, and none of them is refused.
+#[derive(Debug, Drop)]
+pub struct Config {
+    pub(crate) tables: Vec<Vec<FlowText>>,
+}
+
+impl Model for Config {
+    ghost use Rattle.std.specs.Prelude.{List};
+    ghost use Rattle.of_text.specs.Flows.{Flow};
+    ghost use Rattle.of_text.specs.Configs.{IsConfig, view_tables};
+
+    ghost Value = { List (List Flow) };
+
+    ghost view = { λ c. view_tables c.tables.items };
+
+    ghost invariant = { λ c. IsConfig (view_tables c.tables.items) };
+}
+
+impl Config {
+    /// The flows of a table, oldest first.
+    pub fn flows(&self, table: u8) -> &[FlowText]
+        requires { table < 16 }
+        ensures { view_flows result.now ≡ slice_index_or self.now table [] }
+    {
+        self.tables[usize::from(table)].as_slice()
+    }
+
+    /// Its flows are those of a text of which none is refused. Each may stand in its table: its match is one,
+    /// and its instructions are those that an entry of the table may have (OpenFlow 1.3.5, 5.2, 5.9 and 7.2.3).
+    pub fn known(&self)
+        ensures config { IsConfig self.now }
+        ensures entries { (table : ℕ) → table < 16 → AllByRecursion (IsEntry table) (slice_index_or self.now table []) }
+    {
+        let _tables = &self.tables;
+    }
+}
+
+/// Sixteen tables without flows.
+pub fn empty_tables(alloc: Global) -> Result<Vec<Vec<FlowText>>, AllocError>
+    ensures { IfOk result (λ tables. view_tables tables.items ≡ tables_of []) }
+{
+    let mut tables = Vec::new(alloc);
+    while tables.len() < TABLES {
+        tables.push(Vec::new(alloc))?;
+    }
+    Ok(tables)
+}
+
+/// Puts the flow behind those of its table.
+pub fn put_flow(tables: &mut Vec<Vec<FlowText>>, flow: FlowText) -> Result<(), AllocError>
+    requires { flow.head.table < length tables.old.items }
+    ensures { OnOk result (view_tables tables.new.items ≡ with_flow (view flow) (view_tables tables.old.items)) }
+{
+    let table = usize::from(flow.head.table);
+    tables[table].push(flow)?;
+    Ok(())
+}

@@ -1,0 +1,76 @@
+//! Configurations to text.
+ghost use Rattle.std.specs.Prelude.{◌≡◌, ◌++◌, ℕ, List, IfOk, OnOk, MatchResult};
+ghost use Rattle.std.specs.List.{AllByRecursion};
+ghost use Rattle.of_text.specs.Flows.{Flow, rows_of, flow_rows};
+ghost use Rattle.of_text.specs.Lines.{lines_of};
+ghost use Rattle.of_text.specs.Rows.{Fits};
+ghost use Rattle.of_text.specs.Texts.{lines_text, text_of};
+ghost use Rattle.of_text.specs.Views.{view, view_flows};
+ghost use Rattle.of_text.specs.Configs.{IsConfig, SpellConfig, all_flows, config_text, view_tables};
+ghost use Rattle.of_text.specs.declared.assembling.TextFault.TheVariants.{NoMemory};
+
+use crate::assembling::{TextFault, assemble};
+use crate::config::Config;
+use crate::flow::{FlowText, push_flow};
+use crate::row::Row;
+use crate::text::push_lines;
+use std::alloc::{AllocError, Global};
+
+// Appends the lines of a flow. The rows are used again.
+fn write_flow(out: &mut Vec<u8>, rows: &mut Vec<Row>, flow: &FlowText) -> Result<(), AllocError>
+    requires { AllByRecursion Fits (flow_rows (view flow.now)) }
+    ensures { OnOk result (out.new.items ≡ out.old.items ++ lines_text (flow_rows (view flow.now))) }
+{
+    rows.clear();
+    push_flow(rows, flow)?;
+    push_lines(out, rows)
+}
+
+// Appends the lines of flows.
+fn write_flows(out: &mut Vec<u8>, flows: &[FlowText]) -> Result<(), AllocError>
+    requires { AllByRecursion Fits (rows_of (view_flows flows.now)) }
+    ensures { OnOk result (out.new.items ≡ out.old.items ++ text_of (view_flows flows.now)) }
+{
+    let mut rows = Vec::new(*out.allocator());
+    for flow in flows {
+        write_flow(out, &mut rows, flow)?;
+    }
+    Ok(())
+}
+
+// Appends the lines of tables.
+fn write_tables(out: &mut Vec<u8>, tables: &[Vec<FlowText>]) -> Result<(), AllocError>
+    requires { AllByRecursion Fits (rows_of (all_flows (view_tables tables.now))) }
+    ensures { OnOk result (out.new.items ≡ out.old.items ++ config_text (view_tables tables.now)) }
+{
+    for table in tables {
+        write_flows(out, table)?;
+    }
+    Ok(())
+}
+
+/// The canonical text of a configuration: its flows by table, and in a table the oldest first.
+pub fn disassemble(alloc: Global, config: &Config) -> Result<Vec<u8>, AllocError>
+    ensures { IfOk result (λ text. text.items ≡ config_text config.now) }
+{
+    let mut out = Vec::new(alloc);
+    write_tables(&mut out, &config.tables)?;
+    Ok(out)
+}
+
+/// The configuration again, by way of its text.
+pub fn assemble_again(alloc: Global, config: &Config) -> Result<Config, TextFault>
+    ensures { MatchResult result (λ again. again ≡ config.now) (λ e. e ≡ NoMemory) }
+{
+    config.known();
+    let Ok(text) = disassemble(alloc, config) else {
+        return Err(TextFault::NoMemory);
+    };
+    assemble(alloc, &text)
+}
+
+/// The canonical text of a configuration spells it, and no text spells two.
+pub fn texts_are_of_configs()
+    ensures canonical { (tables : List (List Flow)) → IsConfig tables → SpellConfig (lines_of (config_text tables)) tables }
+    ensures one { (lines : List (List ℕ)) (a b : List (List Flow)) → SpellConfig lines a → SpellConfig lines b → a ≡ b }
+{}
