@@ -199,11 +199,11 @@ written {X} xs ys len same long =
     let none : drop (length xs) ys ≡ [] = drop_all (length xs) ys (omega arith) in
     ap (λ (zs : List X). take len (xs ++ zs)) none ∙ ap (take len) (append-nil xs) ∙ take_all len xs (omega arith)
 
-pub left_by : (cause at : Cause) (ns xs : List Numbered) (latest later : ℕ) → xs ≡ each_from (kept_table at) 0 ns → at ≡ cause_at latest cause → later ≡ latest_after cause latest →
-    tables_of (record { tables = xs; latest = later }) ≡ left_in cause (tables_of (record { tables = ns; latest = latest }))
-left_by cause at ns xs latest later is when then =
-    let kept : xs ≡ each_from (kept_table (cause_at latest cause)) 0 ns = is ∙ ap (λ (c : Cause). each_from (kept_table c) 0 ns) when in
-    (λ i. record { tables = map table_of (kept i); latest = then i }) ∙ tables_kept cause (record { tables = ns; latest = latest })
+pub kept_by : (cause at : Cause) (later : ℕ) (old new : NumberedTables) → new ≡ record { tables = each_from (kept_table at) 0 old.tables; latest = later } → at ≡ cause_at old.latest cause → later ≡ latest_after cause old.latest → new ≡ all_kept cause old
+kept_by cause at later old new is when then = is ∙ (λ i. record { tables = each_from (kept_table (when i)) 0 old.tables; latest = then i })
+
+pub left_by : (cause at : Cause) (later : ℕ) (old new : NumberedTables) → new ≡ record { tables = each_from (kept_table at) 0 old.tables; latest = later } → at ≡ cause_at old.latest cause → later ≡ latest_after cause old.latest → tables_of new ≡ left_in cause (tables_of old)
+left_by cause at later old new is when then = ap tables_of (kept_by cause at later old new is when then) ∙ tables_kept cause old
 
 -- a command is no moment
 pub command_at : (cause : Cause) (latest : ℕ) → ((w : Which) × (cause ≡ Delete w)) ⊎ ((group : Option ℕ) × (cause ≡ Group group)) → (cause ≡ cause_at latest cause) × (latest ≡ latest_after cause latest)

@@ -5,7 +5,7 @@ ghost use Rattle.std.specs.List.{list_any};
 ghost use Rattle.of_wire.specs.Numbered.{is_used, is_distinct, renewed};
 ghost use Rattle.of_classifier.specs.Rows.{row_number};
 ghost use Rattle.of_oxm.specs.Relations.{overlaps_match};
-ghost use Rattle.of_table.specs.Table.{is_same, is_overlapped as overlapped, with_flow, kept_flow as kept, unless_reset as zero_or, risen as with_more, counted_at};
+ghost use Rattle.of_table.specs.Table.{is_same, is_overlapped as overlapped, with_flow, unless_reset as zero_or, risen as with_more, counted_at};
 ghost use Rattle.of_table.specs.Entries.{entry_of, flows_of, rows_of, numbers_of, place_of, is_there, IsNumberFor, added_entries};
 ghost use Rattle.of_table.specs.Sound.{key_of, are_unlike};
 ghost use Rattle.of_table.specs.Deadlines.{all_stay};
@@ -37,32 +37,23 @@ fn is_rival(old: &Flow, new: &Flow) -> bool
     old.priority == new.priority && overlaps(&old.fields, &new.fields)
 }
 
-/// The entry of a flow that is added now.
+/// The entry of a flow that is added now. It keeps no flag that is for the adding alone.
 pub(crate) fn new_entry(number: usize, flow: Flow, now: u64) -> Entry
     ensures number { result.number ≡ number }
     ensures entry { entry_of result ≡ with_flow now flow None }
 {
+    let flags = FlowFlags {
+        check_overlap: false,
+        reset_counts: false,
+        ..flow.flags
+    };
     Entry {
         number,
-        flow: kept_flow(flow),
+        flow: Flow { flags, ..flow },
         packets: 0,
         bytes: 0,
         created: now,
         last: None,
-    }
-}
-
-// The flow without the flags that are for the adding alone.
-fn kept_flow(flow: Flow) -> Flow
-    ensures { result ≡ kept flow }
-{
-    Flow {
-        flags: FlowFlags {
-            check_overlap: false,
-            reset_counts: false,
-            ..flow.flags
-        },
-        ..flow
     }
 }
 

@@ -19,7 +19,7 @@ use crate::deadlines::{earliest, flow_deadline};
 use crate::entries::{count_at, is_overlapped, move_last, new_entry, push_reserved};
 use crate::entry::Entry;
 use crate::flow::Flow;
-use crate::modifying::{make_copies, modify_all};
+use crate::modifying::modify_all;
 use crate::places::{note_place, note_places, place_of as place_in};
 use crate::removing::{keep_staying, list_gone, take_gone};
 use crate::selection::{Cause, Removed, Which};
@@ -151,13 +151,6 @@ impl<L: Lookup> FlowTable<L> {
         push_reserved(&mut self.entries, new_entry(number, flow, now));
         self.due = due;
         Ok(())
-    }
-
-    /// Makes a copy of instructions for each entry that a MODIFY command is for.
-    pub fn make_copies(&self, which: &Which, copies: &mut Copies<'_>) -> Result<(), AllocError>
-        ensures { OnOk result (copies.new ≡ record copies.old { count = copies.old.count + wanted which.now self.now.entries }) }
-    {
-        make_copies(&self.entries, which, copies)
     }
 
     /// Gives each entry that a MODIFY command is for such a copy, and counters of 0 where they are to be reset (OpenFlow 1.3.5, 6.4).
