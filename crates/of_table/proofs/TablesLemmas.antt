@@ -95,10 +95,10 @@ told_more_from cause j (suc k) (t ∷ ts) d lt =
     append_assoc (told_table cause j t) (told_from cause (suc j) (take k ts)) (told_table cause (j + suc k) (get_or ts k d))
     ∙ ap (λ (ns : List Told). told_table cause j t ++ ns) (ap (λ (i : ℕ). told_from cause (suc j) (take k ts) ++ told_table cause i (get_or ts k d)) same ∙ told_more_from cause (suc j) k ts d (omega (arith, lt)))
 
-pub told_more : (cause : Cause) (k : ℕ) (ts : List Numbered) (d : Numbered) (before now now' : List Told) → k < length ts → now ≡ before ++ told_from cause 0 (take k ts) → now' ≡ now ++ told_table cause k (get_or ts k d) → now' ≡ before ++ told_from cause 0 (take (k + 1) ts)
-told_more cause k ts d before now now' lt was is =
+pub told_more : (cause : Cause) (k : ℕ) (ts : List Numbered) (d : Numbered) (before now now' : List Told) → k < length ts → d ≡ get_or ts k d → now ≡ before ++ told_from cause 0 (take k ts) → now' ≡ now ++ told_table cause k d → now' ≡ before ++ told_from cause 0 (take (k + 1) ts)
+told_more cause k ts d before now now' lt at was is =
     let zero_more : k ≡ 0 + k = omega arith in
-    is ∙ ap (λ (ns : List Told). ns ++ told_table cause k (get_or ts k d)) was ∙ append_assoc before (told_from cause 0 (take k ts)) (told_table cause k (get_or ts k d))
+    is ∙ ap (λ (t : Numbered). now ++ told_table cause k t) at ∙ ap (λ (ns : List Told). ns ++ told_table cause k (get_or ts k d)) was ∙ append_assoc before (told_from cause 0 (take k ts)) (told_table cause k (get_or ts k d))
     ∙ ap (λ (ns : List Told). before ++ ns) (ap (λ (i : ℕ). told_from cause 0 (take k ts) ++ told_table cause i (get_or ts k d)) zero_more ∙ rw add-one (told_more_from cause 0 k ts d lt))
 
 -- the copies that one more table wants

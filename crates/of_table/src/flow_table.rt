@@ -20,7 +20,7 @@ use crate::entries::{count_at, is_overlapped, move_last, new_entry, push_reserve
 use crate::entry::Entry;
 use crate::flow::Flow;
 use crate::modifying::modify_all;
-use crate::places::{note_place, note_places, place_of as place_in};
+use crate::places::{note_places, place_of as place_in};
 use crate::removing::{keep_staying, list_gone, take_gone};
 use crate::selection::{Cause, Removed, Which};
 use crate::table_fault::TableFault;
@@ -147,8 +147,9 @@ impl<L: Lookup> FlowTable<L> {
         let fields = flow.fields.copy()?;
         let due = self.due.min(flow_deadline(&flow, now));
         let number = self.lookup.add(fields, flow.priority)?;
-        note_place(&mut self.places, number, self.entries.len());
+        let place = self.entries.len();
         push_reserved(&mut self.entries, new_entry(number, flow, now));
+        note_places(&mut self.places, &self.entries, place);
         self.due = due;
         Ok(())
     }

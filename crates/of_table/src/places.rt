@@ -27,18 +27,14 @@ fn stands_at(entries: &[Entry], place: usize, number: usize) -> bool
     place < entries.len() && entries[place].number == number
 }
 
-/// Notes where the entries from that place on stand.
+/// Notes where the entries from that place on stand. One for which there is no memory has to be looked for.
 pub(crate) fn note_places(places: &mut Vec<usize>, entries: &[Entry], from: usize) {
     for place in from..entries.len() {
-        note_place(places, entries[place].number, place);
-    }
-}
-
-/// Notes where the entry of that number stands. Without memory for it, the entry has to be looked for.
-pub(crate) fn note_place(places: &mut Vec<usize>, number: usize, place: usize) {
-    if number < places.len() {
-        places[number] = place;
-    } else if number == places.len() {
-        let _ = places.push(place);
+        let number = entries[place].number;
+        if number < places.len() {
+            places[number] = place;
+        } else if number == places.len() {
+            let _ = places.push(place);
+        }
     }
 }
