@@ -30,14 +30,19 @@ pub fn following(number: u64) -> u64 {
         .wrapping_add(1_442_695_040_888_963_407)
 }
 
-/// A match of two bytes of METADATA, under one of 256 masks.
-pub fn numbered_match(alloc: Global, mask: u8, value: u16) -> Option<Match> {
+/// The bytes of a match of two bytes of METADATA, under one of 256 masks.
+pub fn numbered_fields(mask: u8, value: u16) -> [u8; 48] {
     let mut bytes = MATCH;
     let low = value.to_be_bytes();
     bytes[14] = low[0];
     bytes[15] = low[1];
     bytes[21] = mask;
-    Some(read_match(alloc, &bytes).ok()?.0)
+    bytes
+}
+
+/// Such a match.
+pub fn numbered_match(alloc: Global, mask: u8, value: u16) -> Option<Match> {
+    Some(read_match(alloc, &numbered_fields(mask, value)).ok()?.0)
 }
 
 /// The key of a frame with this METADATA.

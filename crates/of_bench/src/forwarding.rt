@@ -1,18 +1,19 @@
 //! Frames that a switch sends on.
 
+use crate::classifying::numbered_fields;
 use crate::clock::{Timed, time};
 use crate::flows;
 use crate::flows::add;
 use crate::frames::TCP;
 use crate::switching::{open_switch, piece};
-use of_classifier::Scan;
+use of_mask_groups::MaskGroups;
 use of_switch::{Effect, Switch};
 use std::alloc::Global;
 use std::io;
 
 #[derive(Drop)]
 struct Forward {
-    switch: Switch<Scan>,
+    switch: Switch<MaskGroups>,
     bytes: [u8; 60],
 }
 
@@ -35,7 +36,7 @@ fn sent(effects: &[Effect]) -> u64 {
     }
 }
 
-fn time_forward(rt: &HostRuntime, name: &str, made: Option<Switch<Scan>>) -> io::Result<()> {
+fn time_forward(rt: &HostRuntime, name: &str, made: Option<Switch<MaskGroups>>) -> io::Result<()> {
     let Some(switch) = made else {
         return println!(rt; "{name}: no memory");
     };
@@ -47,7 +48,7 @@ fn time_forward(rt: &HostRuntime, name: &str, made: Option<Switch<Scan>>) -> io:
 }
 
 // Eight flows in table 0, for the TCP ports 73 to 80; None where memory runs out.
-fn eight_flows(alloc: Global) -> Option<Switch<Scan>> {
+fn eight_flows(alloc: Global) -> Option<Switch<MaskGroups>> {
     let mut switch = open_switch(alloc)?;
     for port in 73..81 {
         let flow = add(alloc, 0, &flows::web_match(port), &flows::OUTPUT).ok()?;
@@ -61,8 +62,24 @@ pub fn time_frame(rt: &HostRuntime) -> io::Result<()> {
     time_forward(rt, "frame", eight_flows(rt.alloc()))
 }
 
+// 4,096 flows over four masks; None where memory runs out.
+fn four_masks(alloc: Global) -> Option<Switch<MaskGroups>> {
+    let mut switch = open_switch(alloc)?;
+    for value in 0..4096u16 {
+        let fields = numbered_fields((value % 4) as u8, value);
+        let flow = add(alloc, 0, &fields, &flows::OUTPUT).ok()?;
+        piece(&mut switch, flow.as_slice())?;
+    }
+    Some(switch)
+}
+
+/// A frame that one of 4,096 flows over four masks matches, and that goes out at one port. They have one priority, so that all masks are asked.
+pub fn time_frame_full(rt: &HostRuntime) -> io::Result<()> {
+    time_forward(rt, "frame_full", four_masks(rt.alloc()))
+}
+
 // Four tables of one flow; None where memory runs out.
-fn four_tables(alloc: Global) -> Option<Switch<Scan>> {
+fn four_tables(alloc: Global) -> Option<Switch<MaskGroups>> {
     let mut switch = open_switch(alloc)?;
     let flow = add(alloc, 0, &flows::PORT_MATCH, &flows::SET_ETHERNET).ok()?;
     piece(&mut switch, flow.as_slice())?;

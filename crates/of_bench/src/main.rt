@@ -32,11 +32,12 @@ fn run(rt: &HostRuntime, name: &str) -> io::Result<()> {
         "classify" => classifying::time_classify(rt),
         "compare" => comparing::compare(rt),
         "flow_mod" => switching::time_flow_mod(rt),
-        "frame_scan" => switching::time_frame_scan(rt),
+        "moment" => switching::time_moment(rt),
         "set" => rewriting::time_set(rt),
         "push_pop" => rewriting::time_push_pop(rt),
         "read_actions" => acting::time_read_actions(rt),
         "frame" => forwarding::time_frame(rt),
+        "frame_full" => forwarding::time_frame_full(rt),
         "pipeline" => forwarding::time_pipeline(rt),
         _ => println!(rt; "of_bench: no such name; bench/README.md lists them"),
     }

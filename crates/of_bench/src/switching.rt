@@ -1,29 +1,34 @@
 //! FLOW_MODs and frames on a switch.
 
 use crate::clock::{Timed, time};
-use of_classifier::Scan;
+use of_mask_groups::MaskGroups;
 use of_switch::{PortChange, Switch};
 use std::alloc::Global;
 use std::io;
 
 const HELLO: [u8; 8] = [4, 0, 0, 8, 0, 0, 0, 1];
 
-/// ADD of IN_PORT 3 at priority 0 into table 0, without instructions.
+/// ADD of IN_PORT 0 at priority 10 into table 0, without instructions.
 const ADD: [u8; 64] = [
     4, 14, 0, 64, 0, 0, 0, 2, // header
     0, 0, 0, 0, 0, 0, 0, 0, // cookie
     0, 0, 0, 0, 0, 0, 0, 0, // its mask
-    0, 0, 0, 0, 0, 0, 0, 0, // table, command, idle and hard timeout, priority
+    0, 0, 0, 0, 0, 0, 0, 10, // table, command, idle and hard timeout, priority
     0xff, 0xff, 0xff, 0xff, 0xff, 0xff, 0xff, 0xff, // buffer, out port
     0xff, 0xff, 0xff, 0xff, 0, 0, 0, 0, // out group, flags, padding
-    0, 1, 0, 12, 0x80, 0, 0, 4, 0, 0, 0, 3, 0, 0, 0, 0, // match
+    0, 1, 0, 12, 0x80, 0, 0, 4, 0, 0, 0, 0, 0, 0, 0, 0, // match
 ];
 
-fn add(priority: u16) -> [u8; 64] {
+// ADD into a table, of IN_PORT 3 and up, with a hard timeout of so many seconds.
+fn add(table: u8, number: u16, seconds: u16) -> [u8; 64] {
     let mut message = ADD;
-    let bytes = priority.to_be_bytes();
-    message[30] = bytes[0];
-    message[31] = bytes[1];
+    message[24] = table;
+    let bytes = seconds.to_be_bytes();
+    message[28] = bytes[0];
+    message[29] = bytes[1];
+    let bytes = number.wrapping_add(3).to_be_bytes();
+    message[58] = bytes[0];
+    message[59] = bytes[1];
     message
 }
 
@@ -37,7 +42,7 @@ fn port(number: u32) -> PortChange {
 }
 
 /// Bytes of the controller come, and each whole message is handled; `None` where that was refused or memory ran out.
-pub fn piece(switch: &mut Switch<Scan>, bytes: &[u8]) -> Option<u64> {
+pub fn piece(switch: &mut Switch<MaskGroups>, bytes: &[u8]) -> Option<u64> {
     switch.feed(bytes).ok()?;
     let mut effects: u64 = 0;
     for _ in 0..=bytes.len() {
@@ -50,8 +55,8 @@ pub fn piece(switch: &mut Switch<Scan>, bytes: &[u8]) -> Option<u64> {
 }
 
 /// A switch of the ports 1 and 2, with a controller that said HELLO; `None` where memory runs out.
-pub fn open_switch(alloc: Global) -> Option<Switch<Scan>> {
-    let mut switch = Switch::<Scan>::new(alloc, 1).ok()?;
+pub fn open_switch(alloc: Global) -> Option<Switch<MaskGroups>> {
+    let mut switch = Switch::<MaskGroups>::new(alloc, 1).ok()?;
     switch.port_change(port(1)).ok()?;
     switch.port_change(port(2)).ok()?;
     switch.connected().ok()?;
@@ -59,28 +64,35 @@ pub fn open_switch(alloc: Global) -> Option<Switch<Scan>> {
     Some(switch)
 }
 
-// A switch with so many flows that its frames do not match; None where memory runs out.
-fn switch_with(rt: &HostRuntime, flows: u16) -> Option<Switch<Scan>> {
+// A switch with so many flows in each of so many tables, with this hard timeout; None where memory runs out.
+fn switch_with(
+    rt: &HostRuntime,
+    tables: u8,
+    flows: u16,
+    seconds: u16,
+) -> Option<Switch<MaskGroups>> {
     let mut switch = open_switch(rt.alloc())?;
-    for priority in 0..flows {
-        piece(&mut switch, &add(priority))?;
+    for table in 0..tables {
+        for number in 0..flows {
+            piece(&mut switch, &add(table, number, seconds))?;
+        }
     }
     Some(switch)
 }
 
 #[derive(Drop)]
 struct FlowMod {
-    switch: Switch<Scan>,
+    switch: Switch<MaskGroups>,
 }
 
 impl Timed for FlowMod {
     fn call(&mut self, turn: u64) -> u64 {
-        piece(&mut self.switch, &add((turn % 4) as u16)).unwrap_or(0)
+        piece(&mut self.switch, &add(0, (turn % 4) as u16, 0)).unwrap_or(0)
     }
 }
 
 fn time_flow_mod_of(rt: &HostRuntime, name: &str, flows: u16) -> io::Result<()> {
-    match switch_with(rt, flows) {
+    match switch_with(rt, 1, flows, 0) {
         Some(switch) => time(rt, name, &mut FlowMod { switch }),
         None => println!(rt; "{name}: no memory"),
     }
@@ -94,28 +106,23 @@ pub fn time_flow_mod(rt: &HostRuntime) -> io::Result<()> {
 }
 
 #[derive(Drop)]
-struct Frame {
-    switch: Switch<Scan>,
-    bytes: [u8; 60],
+struct Moment {
+    switch: Switch<MaskGroups>,
 }
 
-impl Timed for Frame {
+impl Timed for Moment {
     fn call(&mut self, turn: u64) -> u64 {
-        self.bytes[20] = (turn % 256) as u8;
-        match self.switch.frame(1, &self.bytes) {
+        match self.switch.moment(turn) {
             Ok(effects) => effects.len() as u64,
-            Err(_) => 0,
+            Err(_) => 1,
         }
     }
 }
 
-/// A frame that a table of 100 entries does not match: each is looked at.
-pub fn time_frame_scan(rt: &HostRuntime) -> io::Result<()> {
-    match switch_with(rt, 100) {
-        Some(switch) => {
-            let bytes = [0; 60];
-            time(rt, "frame_scan", &mut Frame { switch, bytes })
-        }
-        None => println!(rt; "frame_scan: no memory"),
+/// A moment at which no entry's time is over, of 16 tables of 4,096 entries with a hard timeout.
+pub fn time_moment(rt: &HostRuntime) -> io::Result<()> {
+    match switch_with(rt, 16, 4096, 0xffff) {
+        Some(switch) => time(rt, "moment", &mut Moment { switch }),
+        None => println!(rt; "moment: no memory"),
     }
 }

@@ -40,11 +40,14 @@ abbrev pub with_entries : ℕ → ℕ → List Entry → Numbered
 with_entries lookups matched es = record { lookups = lookups; matched = matched; entries = es }
 
 -- the flow comes last, and no entry goes
-pub added_new : (now : ℕ) (flow : Flow) (es : List Entry) (e : Entry) → list_any (is_same flow) (flows_of es) ≡ false → entry_of e ≡ with_flow now flow None → es ++ e ∷ [] ≡ added_entries e.number now flow es
+added_new : (now : ℕ) (flow : Flow) (es : List Entry) (e : Entry) → list_any (is_same flow) (flows_of es) ≡ false → entry_of e ≡ with_flow now flow None → es ++ e ∷ [] ≡ added_entries e.number now flow es
 added_new now flow es e new is =
     let none : list_any (λ x. is_same flow (entry_of x)) es ≡ false = sym (any-map entry_of (is_same flow) es) ∙ new in
     let made : e ≡ numbered e.number (with_flow now flow None) = ap (numbered e.number) is in
     rw (find_none (λ x. is_same flow (entry_of x)) es none, filter_others (λ x. is_same flow (entry_of x)) es none) (ap (λ (x : Entry). es ++ x ∷ []) made)
+
+pub appended : (now : ℕ) (flow : Flow) (es before after : List Entry) (e : Entry) → list_any (is_same flow) (flows_of es) ≡ false → entry_of e ≡ with_flow now flow None → before ≡ es → after ≡ before ++ e ∷ [] → after ≡ added_entries e.number now flow es
+appended now flow es before after e new is was last = rw was at last ∙ added_new now flow es e new is
 
 pub new_number : (flow : Flow) (es : List Entry) (number : ℕ) → list_any (is_same flow) (flows_of es) ≡ false → is_used row_number number (rows_of es) ≡ false → IsNumberFor flow es number
 new_number flow es number new unused =

@@ -1,16 +1,19 @@
 -- Entries by their numbers.
-use Rattle.std.proofs.Common.{◌≡◌, ℕ, ◌+◌, ◌<◌, Bool, true, false, cond, eqb, List, [], ◌∷◌, length, Option, Some, None, refl, sym, ap, ◌∙◌, arith}
-use Rattle.std.specs.Prelude.{position, find, slice_get}
-use Rattle.std.specs.List.{position_or_len}
+use Rattle.std.proofs.Common.{◌≡◌, ℕ, zero, suc, ◌+◌, ◌<◌, Bool, true, false, cond, eqb, ◌||◌, List, [], ◌∷◌, length, get_or, Option, Some, None, refl, sym, ap, ◌∙◌, arith}
+use Rattle.std.specs.Prelude.{position, find, slice_get, nat_lt}
+use Rattle.std.specs.List.{position_or_len, list_any}
 use Rattle.std.specs.Option.{option_map}
 use Rattle.std.proofs.lemmas.Bool.Decides.{nat_tests, eqb_tells}
-use Rattle.std.proofs.lemmas.Option.{slice_get-map}
+use Rattle.std.proofs.lemmas.Bool.{eq-eqb}
+use Rattle.std.proofs.lemmas.Option.{slice_get-map, slice_get-get_or}
 use Rattle.std.proofs.lemmas.List.Folds.{find_at}
 use Rattle.of_wire.specs.Numbered.{is_used, is_distinct}
-use Rattle.of_wire.proofs.NumberedLemmas.{distinct-map}
-use Rattle.of_classifier.specs.Rows.{row_number}
-use Rattle.of_table.proofs.PlaceLemmas.{any-map, place-map, position_some, position_none, position-first, position-later}
-use Rattle.of_table.specs.Table.{flow_at}
+use Rattle.of_wire.proofs.NumberedLemmas.{distinct-map, used_at}
+use Rattle.of_classifier.specs.Rows.{row_number, is_same_row, same_of}
+use Rattle.of_classifier.specs.Winner.{number_of}
+use Rattle.of_table.proofs.PlaceLemmas.{any-map, any-place, find-map, find_none, place-map, position_some, position_none, position-first, position-later}
+use Rattle.of_table.specs.Table.{flow_at, is_same}
+use Rattle.of_table.specs.declared.flow.Flow.{Flow}
 use Rattle.of_table.specs.Entries.{entry_of, flows_of, row_of, rows_of, entry_number, is_there, place_of, find_number}
 use Rattle.of_table.specs.declared.entry.Entry.{Entry}
 
@@ -78,3 +81,79 @@ found_place p (e ∷ es) distinct = by_test (p e) refl (found_place p es (grind 
     by_test false fails ih =
         let same : find p (e ∷ es) ≡ find p es = rw fails refl in
         by_rest (find p es) refl fails ih ∙ ap (option_map (λ x. place_of x.number (e ∷ es))) (sym same)
+
+-- ---- where the entry of a number stands
+
+pub stands : (es : List Entry) (k number : ℕ) (d : Entry) → is_distinct entry_number es ≡ true → k < length es → (get_or es k d).number ≡ number → position (λ e. eqb e.number number) es ≡ Some k
+stands [] k number d distinct lt is = absurd (omega (arith, lt))
+stands (e ∷ es) zero number d distinct lt is = position-first (λ x. eqb x.number number) e es (eq-eqb e.number number is)
+stands (e ∷ es) (suc k) number d distinct lt is =
+    let within : k < length es = omega (arith, lt) in
+    let used : is_used entry_number number es ≡ true = rw is at (used_at entry_number es k d within) in
+    let differ : eqb e.number number ≡ false = apart (eqb e.number number) refl used in
+    position-later (λ x. eqb x.number number) e es differ ∙ rw (stands es k number d (grind (arith, nat_tests, distinct)) within is) (ap Some (omega arith))
+  where
+    apart : (b : Bool) → eqb e.number number ≡ b → is_used entry_number number es ≡ true → b ≡ false
+    apart true e_is used =
+        let same : e.number ≡ number = grind (arith, nat_tests, e_is) in
+        let here : is_used entry_number e.number es ≡ true = rw same used in
+        let never : true ≡ false = grind (arith, nat_tests, here, distinct) in
+        never
+    apart false e_is used = refl
+
+number_place : (es : List Entry) (e : Entry) (p : Entry → Bool) → find p es ≡ Some e → position (λ x. eqb x.number e.number) es ≡ Some (place_of e.number es)
+number_place es e p h =
+    let used = found_there p es e h in
+    let within : nat_lt (position_or_len (λ x. eqb x.number e.number) es) (length es) ≡ true = sym (any-place (λ x. eqb x.number e.number) es) ∙ used in
+    rw within (ap Some (sym (place-number e.number es)))
+
+-- the number that a classifier finds for a match and a priority is that of the entry
+answers : (flow : Flow) (es : List Entry) → number_of (same_of (rows_of es) flow.fields flow.priority) ≡ option_map entry_number (find (λ e. is_same flow (entry_of e)) es)
+answers flow es = ap number_of (find-map row_of (is_same_row flow.fields flow.priority) es) ∙ by_case (find (λ e. is_same flow (entry_of e)) es)
+  where
+    by_case : (o : Option Entry) → number_of (option_map row_of o) ≡ option_map entry_number o
+    by_case None = refl
+    by_case (Some e) = refl
+
+pub same_some : (flow : Flow) (es : List Entry) (number : ℕ) → is_distinct entry_number es ≡ true → Some number ≡ number_of (same_of (rows_of es) flow.fields flow.priority) → position (λ e. eqb e.number number) es ≡ position (λ e. is_same flow (entry_of e)) es
+same_some flow es number distinct is = by_case (find (λ e. is_same flow (entry_of e)) es) refl (is ∙ answers flow es)
+  where
+    by_case : (o : Option Entry) → find (λ e. is_same flow (entry_of e)) es ≡ o → Some number ≡ option_map entry_number o → position (λ e. eqb e.number number) es ≡ position (λ e. is_same flow (entry_of e)) es
+    by_case None found h = absurd cc
+    by_case (Some e) found h =
+        let same : e.number ≡ number = cc in
+        let there : position (λ x. eqb x.number number) es ≡ Some (place_of e.number es) = ap (λ (n : ℕ). position (λ x. eqb x.number n) es) (sym same) ∙ number_place es e (λ x. is_same flow (entry_of x)) found in
+        let first : position (λ x. is_same flow (entry_of x)) es ≡ Some (place_of e.number es) = rw found at (found_place (λ x. is_same flow (entry_of x)) es distinct) in
+        there ∙ sym first
+
+pub same_none : (flow : Flow) (es : List Entry) → is_distinct entry_number es ≡ true → None ≡ number_of (same_of (rows_of es) flow.fields flow.priority) → position (λ e. is_same flow (entry_of e)) es ≡ None
+same_none flow es distinct is = by_case (find (λ e. is_same flow (entry_of e)) es) refl (is ∙ answers flow es)
+  where
+    by_case : (o : Option Entry) → find (λ e. is_same flow (entry_of e)) es ≡ o → None ≡ option_map entry_number o → position (λ e. is_same flow (entry_of e)) es ≡ None
+    by_case None found h = rw found at (found_place (λ x. is_same flow (entry_of x)) es distinct)
+    by_case (Some e) found h = absurd cc
+
+-- what stands at the place of a number
+pub number_at : (number : ℕ) (es : List Entry) (k : ℕ) (e : Entry) → position (λ x. eqb x.number number) es ≡ Some k → e ≡ get_or es k e → find_number number es ≡ Some e
+number_at number es k e h is =
+    let s = position_some (λ x. eqb x.number number) es k h in
+    find_at (λ x. eqb x.number number) es ∙ ap (slice_get es) (sym s.0) ∙ slice_get-get_or es k e s.1 ∙ ap Some (sym is)
+
+pub number_nowhere : (number : ℕ) (es : List Entry) → position (λ x. eqb x.number number) es ≡ None → find_number number es ≡ None
+number_nowhere number es h = find_none (λ x. eqb x.number number) es (position_none (λ x. eqb x.number number) es h)
+
+pub there_not_none : {A : Type 0} (number : ℕ) (es : List Entry) → is_there number es ≡ true → find_number number es ≡ None → A
+there_not_none number es there none =
+    let some : list_any (λ e. eqb e.number number) es ≡ true = sym (any-map entry_number (λ n. eqb n number) es) ∙ there in
+    never (find_some (λ e. eqb e.number number) es some) none
+  where
+    find_some : (p : Entry → Bool) (xs : List Entry) → list_any p xs ≡ true → (e : Entry) × (find p xs ≡ Some e)
+    find_some p [] h = absurd cc
+    find_some p (x ∷ xs) h = by_test (p x) refl h (find_some p xs)
+      where
+        by_test : (b : Bool) → p x ≡ b → (b || list_any p xs) ≡ true → (list_any p xs ≡ true → (e : Entry) × (find p xs ≡ Some e)) → (e : Entry) × (cond b (Some x) (find p xs) ≡ Some e)
+        by_test true is g ih = (x, refl)
+        by_test false is g ih = ih g
+
+    never : {B : Type 0} → (e : Entry) × (find_number number es ≡ Some e) → find_number number es ≡ None → B
+    never found none = let s = found.1 in absurd cc

@@ -7,6 +7,7 @@ use Rattle.std.proofs.lemmas.List.{map-append, append-nil, drop_more, take_more}
 use Rattle.std.proofs.lemmas.List.Elements.{filter-append}
 use Rattle.of_wire.specs.Numbered.{is_used, is_distinct, without}
 use Rattle.of_wire.proofs.NumberedLemmas.{without_unused}
+use Rattle.of_classifier.specs.declared.Row.{Row}
 use Rattle.of_classifier.specs.Rows.{row_number}
 use Rattle.of_table.proofs.PlaceLemmas.{filter-map}
 use Rattle.of_table.specs.Entries.{entry_of, flows_of, row_of, rows_of}
@@ -56,7 +57,7 @@ between false k r e distinct =
     ∙ ap (λ (zs : List Entry). rows_of (zs ++ r)) (sym (append-nil k))
 
 -- the entry that stands next is taken if it goes
-pub looked_more : (cause : Cause) (es : List Entry) (i : ℕ) (e d : Entry) → i < length es → e ≡ get_or es i d → is_distinct row_number (rows_of (looked_to cause i es)) ≡ true →
+looked_more : (cause : Cause) (es : List Entry) (i : ℕ) (e d : Entry) → i < length es → e ≡ get_or es i d → is_distinct row_number (rows_of (looked_to cause i es)) ≡ true →
     cond (stays cause (entry_of e)) (rows_of (looked_to cause i es)) (without row_number e.number (rows_of (looked_to cause i es))) ≡ rows_of (looked_to cause (i + 1) es)
 looked_more cause es i e d lt at distinct =
     let next : drop i es ≡ e ∷ drop (i + 1) es = drop_more es i d lt ∙ ap (λ (x : Entry). x ∷ drop (i + 1) es) (sym at) in
@@ -67,6 +68,10 @@ looked_more cause es i e d lt at distinct =
     let apart : is_distinct row_number (rows_of (kept_of cause (take i es) ++ e ∷ drop (i + 1) es)) ≡ true = rw before at distinct in
     (λ j. cond (stays cause (entry_of e)) (rows_of (before j)) (without row_number e.number (rows_of (before j))))
     ∙ between (stays cause (entry_of e)) (kept_of cause (take i es)) (drop (i + 1) es) e apart ∙ ap rows_of (sym after)
+
+pub taken_more : (cause : Cause) (es : List Entry) (i : ℕ) (e : Entry) (before after : List Row) → i < length es → e ≡ get_or es i e → before ≡ rows_of (looked_to cause i es) → is_distinct row_number before ≡ true →
+    after ≡ cond (stays cause (entry_of e)) before (without row_number e.number before) → after ≡ rows_of (looked_to cause (i + 1) es)
+taken_more cause es i e before after lt at is distinct took = rw is at took ∙ looked_more cause es i e e lt at (rw is at distinct)
 
 -- ---- the same without the numbers
 

@@ -95,10 +95,10 @@ told_more_from cause j (suc k) (t ∷ ts) d lt =
     append_assoc (told_table cause j t) (told_from cause (suc j) (take k ts)) (told_table cause (j + suc k) (get_or ts k d))
     ∙ ap (λ (ns : List Told). told_table cause j t ++ ns) (ap (λ (i : ℕ). told_from cause (suc j) (take k ts) ++ told_table cause i (get_or ts k d)) same ∙ told_more_from cause (suc j) k ts d (omega (arith, lt)))
 
-pub told_more : (cause : Cause) (k : ℕ) (ts : List Numbered) (d : Numbered) (before now now' : List Told) → k < length ts → now ≡ before ++ told_from cause 0 (take k ts) → now' ≡ now ++ told_table cause k (get_or ts k d) → now' ≡ before ++ told_from cause 0 (take (k + 1) ts)
-told_more cause k ts d before now now' lt was is =
+pub told_more : (cause : Cause) (k : ℕ) (ts : List Numbered) (d : Numbered) (before now now' : List Told) → k < length ts → d ≡ get_or ts k d → now ≡ before ++ told_from cause 0 (take k ts) → now' ≡ now ++ told_table cause k d → now' ≡ before ++ told_from cause 0 (take (k + 1) ts)
+told_more cause k ts d before now now' lt at was is =
     let zero_more : k ≡ 0 + k = omega arith in
-    is ∙ ap (λ (ns : List Told). ns ++ told_table cause k (get_or ts k d)) was ∙ append_assoc before (told_from cause 0 (take k ts)) (told_table cause k (get_or ts k d))
+    is ∙ ap (λ (t : Numbered). now ++ told_table cause k t) at ∙ ap (λ (ns : List Told). ns ++ told_table cause k (get_or ts k d)) was ∙ append_assoc before (told_from cause 0 (take k ts)) (told_table cause k (get_or ts k d))
     ∙ ap (λ (ns : List Told). before ++ ns) (ap (λ (i : ℕ). told_from cause 0 (take k ts) ++ told_table cause i (get_or ts k d)) zero_more ∙ rw add-one (told_more_from cause 0 k ts d lt))
 
 -- the copies that one more table wants
@@ -199,11 +199,11 @@ written {X} xs ys len same long =
     let none : drop (length xs) ys ≡ [] = drop_all (length xs) ys (omega arith) in
     ap (λ (zs : List X). take len (xs ++ zs)) none ∙ ap (take len) (append-nil xs) ∙ take_all len xs (omega arith)
 
-pub left_by : (cause at : Cause) (ns xs : List Numbered) (latest later : ℕ) → xs ≡ each_from (kept_table at) 0 ns → at ≡ cause_at latest cause → later ≡ latest_after cause latest →
-    tables_of (record { tables = xs; latest = later }) ≡ left_in cause (tables_of (record { tables = ns; latest = latest }))
-left_by cause at ns xs latest later is when then =
-    let kept : xs ≡ each_from (kept_table (cause_at latest cause)) 0 ns = is ∙ ap (λ (c : Cause). each_from (kept_table c) 0 ns) when in
-    (λ i. record { tables = map table_of (kept i); latest = then i }) ∙ tables_kept cause (record { tables = ns; latest = latest })
+pub kept_by : (cause at : Cause) (later : ℕ) (old new : NumberedTables) → new ≡ record { tables = each_from (kept_table at) 0 old.tables; latest = later } → at ≡ cause_at old.latest cause → later ≡ latest_after cause old.latest → new ≡ all_kept cause old
+kept_by cause at later old new is when then = is ∙ (λ i. record { tables = each_from (kept_table (when i)) 0 old.tables; latest = then i })
+
+pub left_by : (cause at : Cause) (later : ℕ) (old new : NumberedTables) → new ≡ record { tables = each_from (kept_table at) 0 old.tables; latest = later } → at ≡ cause_at old.latest cause → later ≡ latest_after cause old.latest → tables_of new ≡ left_in cause (tables_of old)
+left_by cause at later old new is when then = ap tables_of (kept_by cause at later old new is when then) ∙ tables_kept cause old
 
 -- a command is no moment
 pub command_at : (cause : Cause) (latest : ℕ) → ((w : Which) × (cause ≡ Delete w)) ⊎ ((group : Option ℕ) × (cause ≡ Group group)) → (cause ≡ cause_at latest cause) × (latest ≡ latest_after cause latest)

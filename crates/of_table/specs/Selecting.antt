@@ -14,6 +14,8 @@ use Rattle.of_table.specs.declared.selection.Cause.TheVariants as causes
 use Rattle.of_table.specs.declared.selection.RemovedReason.{RemovedReason}
 use Rattle.of_table.specs.declared.selection.RemovedReason.TheVariants.{IdleTimeout, HardTimeout, Delete, GroupDelete}
 use Rattle.of_table.specs.declared.selection.Removed.{Removed}
+use Rattle.of_table.specs.declared.selection.Target.{Target}
+use Rattle.of_table.specs.declared.selection.Target.TheVariants.{Port, Group as ToGroup}
 use Rattle.of_table.specs.declared.entry.Entry.{Entry}
 use Rattle.of_table.specs.Table.{FlowEntry, unless_reset}
 use Rattle.of_table.specs.Entries.{entry_of, on_entry}
@@ -69,6 +71,11 @@ is_to group (SetField field value) = false
 -- some action of the entry sends to this group; where none is named, to any
 abbrev pub names_group : Option ℕ → FlowEntry → Bool
 names_group group e = list_any (has_action (is_to group)) e.flow.instructions
+
+-- what an action may send to
+abbrev pub leads_to : Target → Action → Bool
+leads_to (Port port) = is_output_to port
+leads_to (ToGroup group) = is_to group
 
 -- no group is asked for, or some action sends to it
 abbrev pub passes_group : Which → FlowEntry → Bool

@@ -10,6 +10,7 @@ ghost use Rattle.of_actions.specs.FlowCheck.{all_go_with};
 
 use crate::copies::Copies;
 use crate::flow_table::FlowTable;
+use crate::modifying::make_copies;
 use crate::selection::{Cause, Removed, Which};
 use of_classifier::Lookup;
 use std::alloc::AllocError;
@@ -42,7 +43,7 @@ fn copies_for_one<L: Lookup>(
     ensures { OnOk result (copies.new ≡ record copies.old { count = copies.old.count + wanted_in which.now number table.now }) }
 {
     if is_in(which, number) {
-        table.make_copies(which, copies)
+        make_copies(table.entries(), which, copies)
     } else {
         Ok(())
     }

@@ -5,7 +5,7 @@ ghost use Rattle.std.specs.List.{list_any};
 ghost use Rattle.of_wire.specs.Numbered.{is_used, is_distinct, renewed};
 ghost use Rattle.of_classifier.specs.Rows.{row_number};
 ghost use Rattle.of_oxm.specs.Relations.{overlaps_match};
-ghost use Rattle.of_table.specs.Table.{is_same, is_overlapped as overlapped, with_flow, kept_flow as kept, unless_reset as zero_or, risen as with_more, counted_at};
+ghost use Rattle.of_table.specs.Table.{is_same, is_overlapped as overlapped, with_flow, unless_reset as zero_or, risen as with_more, counted_at};
 ghost use Rattle.of_table.specs.Entries.{entry_of, flows_of, rows_of, numbers_of, place_of, is_there, IsNumberFor, added_entries};
 ghost use Rattle.of_table.specs.Sound.{key_of, are_unlike};
 ghost use Rattle.of_table.specs.Deadlines.{all_stay};
@@ -15,47 +15,6 @@ use crate::entry::Entry;
 use crate::flow::{Flow, FlowFlags};
 use crate::selection::Cause;
 use of_oxm::overlaps;
-
-/// The place of the first entry of the flow's match and priority.
-pub(crate) fn same_place(entries: &[Entry], flow: &Flow) -> Option<usize>
-    ensures { result ≡ position (λ e. is_same flow.now (entry_of e)) entries.now }
-{
-    entries
-        .iter()
-        .position(|entry| is_same_flow(&entry.flow, flow))
-}
-
-// Whether the two are of one match and priority.
-fn is_same_flow(old: &Flow, new: &Flow) -> bool
-    ensures { result ≡ is_same new.now (record { flow = old.now; packets = 0; bytes = 0; created = 0; last = None }) }
-{
-    old.priority == new.priority && old.fields.equals(&new.fields)
-}
-
-/// The place of the entry of that number.
-pub(crate) fn place_in(entries: &[Entry], number: usize) -> usize
-    requires { IsTrue (is_there number entries.now) }
-    ensures place { result ≡ place_of number entries.now }
-    ensures within { result < length entries.now }
-{
-    match number_place(entries, number) {
-        Some(place) => place,
-        None => unreachable!(),
-    }
-}
-
-fn number_place(entries: &[Entry], number: usize) -> Option<usize>
-    ensures { result ≡ position (λ e. e.number == number) entries.now }
-{
-    entries.iter().position(|entry| entry.number == number)
-}
-
-/// Whether an entry of that number is there.
-pub(crate) fn has_number(entries: &[Entry], number: usize) -> bool
-    ensures { result ≡ list_any (λ e. e.number == number) entries.now }
-{
-    entries.iter().any(|entry| entry.number == number)
-}
 
 /// Whether the flow asks to be checked, and an entry of its priority overlaps it.
 pub(crate) fn is_overlapped(entries: &[Entry], flow: &Flow) -> bool
@@ -78,32 +37,23 @@ fn is_rival(old: &Flow, new: &Flow) -> bool
     old.priority == new.priority && overlaps(&old.fields, &new.fields)
 }
 
-/// The entry of a flow that is added now.
+/// The entry of a flow that is added now. It keeps no flag that is for the adding alone.
 pub(crate) fn new_entry(number: usize, flow: Flow, now: u64) -> Entry
     ensures number { result.number ≡ number }
     ensures entry { entry_of result ≡ with_flow now flow None }
 {
+    let flags = FlowFlags {
+        check_overlap: false,
+        reset_counts: false,
+        ..flow.flags
+    };
     Entry {
         number,
-        flow: kept_flow(flow),
+        flow: Flow { flags, ..flow },
         packets: 0,
         bytes: 0,
         created: now,
         last: None,
-    }
-}
-
-// The flow without the flags that are for the adding alone.
-fn kept_flow(flow: Flow) -> Flow
-    ensures { result ≡ kept flow }
-{
-    Flow {
-        flags: FlowFlags {
-            check_overlap: false,
-            reset_counts: false,
-            ..flow.flags
-        },
-        ..flow
     }
 }
 
@@ -156,30 +106,16 @@ pub(crate) fn push_reserved(entries: &mut Vec<Entry>, entry: Entry)
     }
 }
 
-/// The entry of that number, where it is there, counts a packet of so many bytes, now.
+/// The entry at that place counts a packet of so many bytes, now.
 ///
 /// Before the moment that is answered its time is not over.
-pub(crate) fn count_at(entries: &mut Vec<Entry>, number: usize, bytes: usize, now: u64) -> u64
+pub(crate) fn count_at(entries: &mut Vec<Entry>, place: usize, bytes: usize, now: u64) -> u64
+    requires { place < length entries.old.items }
     ensures due { (at : ℕ) → at < result → all_stay (Cause.Moment at) entries.old.items ≡ true → all_stay (Cause.Moment at) entries.new.items ≡ true }
-    ensures flows { flows_of entries.new.items ≡ counted_at now (place_of number entries.old.items) bytes (flows_of entries.old.items) }
+    ensures flows { flows_of entries.new.items ≡ counted_at now place bytes (flows_of entries.old.items) }
     ensures numbers { numbers_of entries.new.items ≡ numbers_of entries.old.items }
     ensures rows { rows_of entries.new.items ≡ rows_of entries.old.items }
 {
-    if has_number(entries, number) {
-        count_there(entries, number, bytes, now)
-    } else {
-        u64::MAX
-    }
-}
-
-fn count_there(entries: &mut Vec<Entry>, number: usize, bytes: usize, now: u64) -> u64
-    requires { IsTrue (is_there number entries.old.items) }
-    ensures due { (at : ℕ) → at < result → all_stay (Cause.Moment at) entries.old.items ≡ true → all_stay (Cause.Moment at) entries.new.items ≡ true }
-    ensures flows { flows_of entries.new.items ≡ counted_at now (place_of number entries.old.items) bytes (flows_of entries.old.items) }
-    ensures numbers { numbers_of entries.new.items ≡ numbers_of entries.old.items }
-    ensures rows { rows_of entries.new.items ≡ rows_of entries.old.items }
-{
-    let place = place_in(entries, number);
     let entry = &mut entries[place];
     let flags = entry.flow.flags;
     entry.packets = risen(flags.no_packet_counts, entry.packets, 1);

@@ -3,7 +3,7 @@
 use crate::flow::Flow;
 
 /// A flow entry, with the number by which its table names it (OpenFlow 1.3.5, 5.2).
-#[derive(Debug, Drop)]
+#[derive(Drop)]
 pub struct Entry {
     pub number: usize,
     pub flow: Flow,

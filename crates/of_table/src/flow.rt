@@ -4,7 +4,7 @@ use of_actions::InstructionList;
 use of_oxm::Match;
 
 /// The flags of a flow (OpenFlow 1.3.5, 7.3.4.1).
-#[derive(Clone, Copy, Debug, PartialEq, Eq)]
+#[derive(Clone, Copy)]
 pub struct FlowFlags {
     /// OFPFF_SEND_FLOW_REM: a notice is wanted when the entry goes.
     pub send_removed: bool,
@@ -19,7 +19,7 @@ pub struct FlowFlags {
 }
 
 /// A flow entry's fixed parts (OpenFlow 1.3.5, 5.2).
-#[derive(Debug, Drop)]
+#[derive(Drop)]
 pub struct Flow {
     pub fields: Match,
     pub priority: u16,

@@ -1,6 +1,6 @@
 //! Flow tables.
 
-ghost use Rattle.std.specs.Prelude.{◌≡◌, ◌++◌, ◌+◌, ◌-◌, ◌≤◌, ℕ, Some, false, true, IsTrue, IfOk, IfSome, OnOk, OnErr, map, position};
+ghost use Rattle.std.specs.Prelude.{◌≡◌, ◌==◌, ◌++◌, ◌+◌, ◌-◌, ◌≤◌, ℕ, Some, false, true, IsTrue, IfOk, IfSome, OnOk, OnErr, map, position};
 ghost use Rattle.std.specs.List.{list_any};
 ghost use Rattle.std.specs.Option.{option_map, option_copied};
 ghost use Rattle.of_headers.specs.FieldMap.{value};
@@ -16,12 +16,11 @@ ghost use Rattle.of_actions.specs.FlowCheck.{all_go_with};
 
 use crate::copies::Copies;
 use crate::deadlines::{earliest, flow_deadline};
-use crate::entries::{
-    count_at, is_overlapped, move_last, new_entry, place_in, push_reserved, same_place,
-};
+use crate::entries::{count_at, is_overlapped, move_last, new_entry, push_reserved};
 use crate::entry::Entry;
 use crate::flow::Flow;
-use crate::modifying::{make_copies, modify_all};
+use crate::modifying::modify_all;
+use crate::places::{note_places, place_of as place_in};
 use crate::removing::{keep_staying, list_gone, take_gone};
 use crate::selection::{Cause, Removed, Which};
 use crate::table_fault::TableFault;
@@ -40,6 +39,8 @@ const MOST_ENTRIES: usize = 4096;
 pub struct FlowTable<L: Lookup> {
     lookup: L,
     entries: Vec<Entry>,
+    /// By the numbers of the entries, where they stood when that was noted last.
+    places: Vec<usize>,
     /// Before this moment no entry's time is over.
     due: u64,
     lookups: u64,
@@ -66,6 +67,7 @@ impl<L: Lookup> FlowTable<L> {
         Ok(FlowTable {
             lookup: L::empty(alloc)?,
             entries: Vec::new(alloc),
+            places: Vec::new(alloc),
             due: u64::MAX,
             lookups: 0,
             matched: 0,
@@ -86,7 +88,7 @@ impl<L: Lookup> FlowTable<L> {
         if is_overlapped(&self.entries, &flow) {
             return Err(TableFault::Overlap);
         }
-        match same_place(&self.entries, &flow) {
+        match self.same_place(&flow) {
             Some(place) => {
                 self.replace(place, flow, now);
                 return Ok(());
@@ -112,7 +114,27 @@ impl<L: Lookup> FlowTable<L> {
         let due = self.due.min(flow_deadline(&flow, now));
         let number = move_last(&mut self.entries, place, flow, now);
         self.lookup.renew(number);
+        note_places(&mut self.places, &self.entries, place);
         self.due = due;
+    }
+
+    // The place of the entry of the flow's match and priority.
+    fn same_place(&self, flow: &Flow) -> Option<usize>
+        ensures { result ≡ position (λ e. is_same flow.now (entry_of e)) self.now.entries }
+    {
+        self.known();
+        match self.lookup.same(&flow.fields, flow.priority) {
+            Some(number) => self.place(number),
+            None => None,
+        }
+    }
+
+    // The place of the entry of that number.
+    fn place(&self, number: usize) -> Option<usize>
+        ensures { result ≡ position (λ e. e.number == number) self.now.entries }
+    {
+        self.known();
+        place_in(&self.entries, &self.places, number)
     }
 
     // A new entry.
@@ -125,16 +147,11 @@ impl<L: Lookup> FlowTable<L> {
         let fields = flow.fields.copy()?;
         let due = self.due.min(flow_deadline(&flow, now));
         let number = self.lookup.add(fields, flow.priority)?;
+        let place = self.entries.len();
         push_reserved(&mut self.entries, new_entry(number, flow, now));
+        note_places(&mut self.places, &self.entries, place);
         self.due = due;
         Ok(())
-    }
-
-    /// Makes a copy of instructions for each entry that a MODIFY command is for.
-    pub fn make_copies(&self, which: &Which, copies: &mut Copies<'_>) -> Result<(), AllocError>
-        ensures { OnOk result (copies.new ≡ record copies.old { count = copies.old.count + wanted which.now self.now.entries }) }
-    {
-        make_copies(&self.entries, which, copies)
     }
 
     /// Gives each entry that a MODIFY command is for such a copy, and counters of 0 where they are to be reset (OpenFlow 1.3.5, 6.4).
@@ -185,6 +202,7 @@ impl<L: Lookup> FlowTable<L> {
         }
         take_gone(&mut self.lookup, &self.entries, cause);
         keep_staying(&mut self.entries, cause);
+        note_places(&mut self.places, &self.entries, 0);
         self.due = earliest(&self.entries);
     }
 
@@ -222,9 +240,15 @@ impl<L: Lookup> FlowTable<L> {
         ensures table { table_of self.new ≡ matched_at now (place_of number self.old.entries) bytes (table_of self.old) }
         ensures numbers { numbers_of self.new.entries ≡ numbers_of self.old.entries }
     {
-        let due = count_at(&mut self.entries, number, bytes, now);
-        self.due = self.due.min(due);
+        let place = self.place(number);
         self.matched = self.matched.wrapping_add(1);
+        match place {
+            Some(place) => {
+                let due = count_at(&mut self.entries, place, bytes, now);
+                self.due = self.due.min(due);
+            }
+            None => return,
+        }
     }
 
     /// The flow of the entry of that number.
@@ -232,15 +256,20 @@ impl<L: Lookup> FlowTable<L> {
         requires { IsTrue (is_there number self.now.entries) }
         ensures { flow_at (place_of number self.now.entries) (flows_of self.now.entries) ≡ Some result.now }
     {
-        let place = place_in(&self.entries, number);
-        &self.entries[place].flow
+        match self.entry(number) {
+            Some(entry) => &entry.flow,
+            None => unreachable!(),
+        }
     }
 
     /// The entry of that number, if it is there.
     pub fn entry(&self, number: usize) -> Option<&Entry>
         ensures { option_copied result ≡ find_number number self.now.entries }
     {
-        self.entries.iter().find(|entry| entry.number == number)
+        match self.place(number) {
+            Some(place) => Some(&self.entries[place]),
+            None => None,
+        }
     }
 
     /// The entries, oldest first.

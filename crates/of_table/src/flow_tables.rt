@@ -7,11 +7,11 @@ ghost use Rattle.of_wire.specs.Numbered.{is_distinct};
 ghost use Rattle.of_table.specs.Table.{winner_place, flow_at};
 ghost use Rattle.of_table.specs.Selecting.{notices_of, all_told};
 ghost use Rattle.of_table.specs.Entries.{no_entries, flows_of, place_of, is_there, find_number, entry_number};
-ghost use Rattle.of_table.specs.Tables.{no_tables, AddsFlow, numbered_at, table_at, tables_of, all_numbers, tables_fault, added_to, modified_in, left_in, notices_in, looked_in, matched_in, all_modified, all_kept, told_from, told_in};
+ghost use Rattle.of_table.specs.Tables.{no_tables, AddsFlow, numbered_at, table_at, tables_of, all_numbers, tables_fault, added_to, modified_in, left_in, notices_in, looked_in, matched_in, all_modified, all_kept, each_from, kept_table, told_from, told_in};
 ghost use Rattle.of_table.specs.Faults.{fault_in};
 ghost use Rattle.of_table.specs.Sound.{AreForAll, AreSound};
 ghost use Rattle.of_actions.specs.FlowCheck.{all_go_with};
-ghost use Rattle.of_actions.specs.InstructionLists.{are_for, are_kept};
+ghost use Rattle.of_actions.specs.InstructionLists.{are_for};
 
 use crate::copies::Copies;
 use crate::each_table::{copies_for_all, list_all, modify_tables, remove_all};
@@ -86,7 +86,7 @@ impl<L: Lookup> FlowTables<L> {
             return Err(TableFault::BadTable);
         }
         let now = self.latest;
-        known_kept(&flow);
+        let _ = flow.instructions.as_slice();
         self.tables[table as usize].add(flow, now)
     }
 
@@ -141,12 +141,22 @@ impl<L: Lookup> FlowTables<L> {
     {
         match cause {
             Cause::Moment(moment) => {
-                self.latest = self.latest.max(*moment);
-                let now = self.latest;
-                remove_all(&mut self.tables, &Cause::Moment(now));
+                let now = self.latest.max(*moment);
+                self.remove_at(now, &Cause::Moment(now));
             }
-            Cause::Delete(_) | Cause::Group(_) => remove_all(&mut self.tables, cause),
+            Cause::Delete(_) | Cause::Group(_) => {
+                let latest = self.latest;
+                self.remove_at(latest, cause);
+            }
         }
+    }
+
+    // Removes the entries that go; the moment becomes the latest one.
+    fn remove_at(&mut self, latest: u64, cause: &Cause)
+        ensures { self.new ≡ record { tables = each_from (kept_table cause.now) 0 self.old.tables; latest = latest } }
+    {
+        remove_all(&mut self.tables, cause);
+        self.latest = latest;
     }
 
     /// The number of the entry of a table that a packet of this key hits, or `None` where it misses (OpenFlow 1.3.5, 5.3).
@@ -248,13 +258,6 @@ fn empty_tables<L: Lookup>(alloc: Global) -> Result<Vec<FlowTable<L>>, AllocErro
         tables.push(FlowTable::new(alloc)?)?;
     }
     Ok(tables)
-}
-
-// The instructions of a flow are in the order of running.
-fn known_kept(flow: &Flow)
-    ensures { are_kept flow.now.instructions ≡ true }
-{
-    let _ = flow.instructions.as_slice();
 }
 
 fn known_tables<L: Lookup>(tables: &[FlowTable<L>])

@@ -10,6 +10,7 @@ mod flow;
 mod flow_table;
 mod flow_tables;
 mod modifying;
+mod places;
 mod removing;
 mod selection;
 mod table_fault;

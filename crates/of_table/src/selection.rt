@@ -3,14 +3,14 @@
 ghost use Rattle.std.specs.Prelude.{◌≡◌};
 ghost use Rattle.of_table.specs.Entries.{entry_of};
 ghost use Rattle.std.specs.List.{list_any};
-ghost use Rattle.of_table.specs.Selecting.{is_meant as meant, has_cookie as with_cookie, is_output_to as output_to, is_to as to_this, sends_to as sending_to, passes_port as passing_port, has_action as with_action, names_group as naming, passes_group as passing_group, modifies as modified_by_it, selects as selected, is_over as over, timeout_reason as reason_at, reason_of};
+ghost use Rattle.of_table.specs.Selecting.{is_meant as meant, has_cookie as with_cookie, leads_to as leading_to, passes_port as passing_port, has_action as with_action, names_group as naming, passes_group as passing_group, modifies as modified_by_it, selects as selected, is_over as over, timeout_reason as reason_at, reason_of};
 
 use crate::entry::Entry;
 use of_actions::{Action, Instruction};
 use of_oxm::{Match, covers};
 
 /// The entries that a MODIFY or DELETE command is for (OpenFlow 1.3.5, 6.4).
-#[derive(Debug, Drop)]
+#[derive(Drop)]
 pub struct Which {
     /// The number of a table; `None` for all.
     pub table: Option<u8>,
@@ -40,7 +40,7 @@ pub enum RemovedReason {
 }
 
 /// What makes entries go (OpenFlow 1.3.5, 5.5, 6.4 and 6.5).
-#[derive(Debug, Drop)]
+#[derive(Drop)]
 pub enum Cause {
     /// A DELETE command.
     Delete(Which),
@@ -51,7 +51,7 @@ pub enum Cause {
 }
 
 /// An entry that goes, and why.
-#[derive(Debug, Drop)]
+#[derive(Drop)]
 pub struct Removed<'a> {
     pub table: u8,
     pub reason: RemovedReason,
@@ -76,38 +76,48 @@ fn has_cookie(which: &Which, entry: &Entry) -> bool
     entry.flow.cookie & which.cookie_mask == which.cookie & which.cookie_mask
 }
 
-fn is_output_to(action: &Action, port: u32) -> bool
-    ensures { result ≡ output_to port action.now }
+// What an action may send to.
+#[derive(Clone, Copy)]
+enum Target {
+    Port(u32),
+    /// A group; `None` for any.
+    Group(Option<u32>),
+}
+
+fn leads_to(action: &Action, target: Target) -> bool
+    ensures { result ≡ leading_to target action.now }
 {
-    match action {
-        Action::Output { port: to, .. } => *to == port,
+    match (action, target) {
+        (Action::Output { port: to, .. }, Target::Port(port)) => *to == port,
+        (Action::Group(_), Target::Group(None)) => true,
+        (Action::Group(to), Target::Group(Some(group))) => *to == group,
         _ => false,
     }
 }
 
-fn any_output_to(actions: &[Action], port: u32) -> bool
-    ensures { result ≡ list_any (output_to port) actions.now }
+fn any_leads_to(actions: &[Action], target: Target) -> bool
+    ensures { result ≡ list_any (leading_to target) actions.now }
 {
-    actions.iter().any(|action| is_output_to(action, port))
+    actions.iter().any(|action| leads_to(action, target))
 }
 
-fn sends_to(instruction: &Instruction, port: u32) -> bool
-    ensures { result ≡ sending_to port instruction.now }
+fn sends_to(instruction: &Instruction, target: Target) -> bool
+    ensures { result ≡ with_action (leading_to target) instruction.now }
 {
     match instruction {
         Instruction::Apply(actions) | Instruction::Write(actions) => {
-            any_output_to(actions.as_slice(), port)
+            any_leads_to(actions.as_slice(), target)
         }
         _ => false,
     }
 }
 
-fn any_sends_to(instructions: &[Instruction], port: u32) -> bool
-    ensures { result ≡ list_any (sending_to port) instructions.now }
+fn any_sends_to(instructions: &[Instruction], target: Target) -> bool
+    ensures { result ≡ list_any (with_action (leading_to target)) instructions.now }
 {
     instructions
         .iter()
-        .any(|instruction| sends_to(instruction, port))
+        .any(|instruction| sends_to(instruction, target))
 }
 
 fn passes_port(which: &Which, entry: &Entry) -> bool
@@ -115,53 +125,15 @@ fn passes_port(which: &Which, entry: &Entry) -> bool
 {
     match which.out_port {
         None => true,
-        Some(port) => any_sends_to(entry.flow.instructions.as_slice(), port),
+        Some(port) => any_sends_to(entry.flow.instructions.as_slice(), Target::Port(port)),
     }
-}
-
-// Whether it sends to this group; where none is named, to any.
-fn is_to(action: &Action, group: Option<u32>) -> bool
-    ensures { result ≡ to_this group action.now }
-{
-    match action {
-        Action::Group(to) => match group {
-            None => true,
-            Some(group) => *to == group,
-        },
-        _ => false,
-    }
-}
-
-fn any_is_to(actions: &[Action], group: Option<u32>) -> bool
-    ensures { result ≡ list_any (to_this group) actions.now }
-{
-    actions.iter().any(|action| is_to(action, group))
-}
-
-fn sends_to_group(instruction: &Instruction, group: Option<u32>) -> bool
-    ensures { result ≡ with_action (to_this group) instruction.now }
-{
-    match instruction {
-        Instruction::Apply(actions) | Instruction::Write(actions) => {
-            any_is_to(actions.as_slice(), group)
-        }
-        _ => false,
-    }
-}
-
-fn any_sends_to_group(instructions: &[Instruction], group: Option<u32>) -> bool
-    ensures { result ≡ list_any (with_action (to_this group)) instructions.now }
-{
-    instructions
-        .iter()
-        .any(|instruction| sends_to_group(instruction, group))
 }
 
 /// Whether some action of the entry sends to this group; for `None`, to any group (OpenFlow 1.3.5, 6.5).
 pub fn names_group(entry: &Entry, group: Option<u32>) -> bool
     ensures { result ≡ naming group (entry_of entry.now) }
 {
-    any_sends_to_group(entry.flow.instructions.as_slice(), group)
+    any_sends_to(entry.flow.instructions.as_slice(), Target::Group(group))
 }
 
 fn passes_group(which: &Which, entry: &Entry) -> bool

@@ -1,6 +1,5 @@
-use Rattle.std.proofs.Common.{◌≡◌, ◌∙◌, List, get_or, arith, ap}
+use Rattle.std.proofs.Common.{◌≡◌, ◌∙◌, arith, ap}
 use Rattle.std.proofs.lemmas.List.{length-set}
-use Rattle.of_actions.specs.declared.instruction.Instruction.{Instruction}
 use Rattle.of_table.specs.Copies.{Supply}
 use Rattle.of_table.specs.Tables.{modified_numbered}
 use Rattle.of_table.proofs.CopyLemmas.{supply_less, supply_room}
@@ -19,7 +18,7 @@ loop-number-preserved g c =
     let same : c.loop-number.copies.instructions ≡ c.args.copies.now.instructions = ap (λ (s : Supply). s.instructions) c.loop-number.invariant.copies in
     record {
       changed = each_more (modified_numbered c.args.which.now c.args.copies.now.instructions c.args.reset) c.loop-number.number c.loop-number.tables c.args.tables.now c.modify_one.new.table c.index-tables-number.result c.loop-number-test.true c.loop-number.invariant.changed
-          (c.modify_one.ensures.table ∙ ap (λ (is : List Instruction). modified_numbered c.args.which.now is c.args.reset c.loop-number.number (get_or c.loop-number.tables c.loop-number.number c.index-tables-number.result)) same);
+          (rw same at c.modify_one.ensures.table);
       copies = supply_less c.args.copies.now c.loop-number.copies c.modify_one.new.copies _ _ _ c.loop-number.invariant.copies c.modify_one.ensures.copies
           (wanted_then c.args.which.now _ c.loop-number.number c.loop-number.tables c.args.tables.now c.index-tables-number.result c.loop-number-test.true c.loop-number.invariant.changed);
       length = length-set c.loop-number.tables c.loop-number.number c.modify_one.new.table ∙ c.loop-number.invariant.length;

@@ -6,7 +6,7 @@ use Rattle.of_classifier.specs.Rows.{made_row, row_number}
 use Rattle.of_table.specs.declared.entry.Entry.{Entry}
 use Rattle.of_table.specs.Table.{FlowEntry, is_same, kept_flow}
 use Rattle.of_table.specs.Entries.{flows_of, row_of, rows_of, added_entries}
-use Rattle.of_table.proofs.AddLemmas.{added_new, new_number, with_entries}
+use Rattle.of_table.proofs.AddLemmas.{appended, new_number, with_entries}
 use Rattle.of_table.specs.declared.selection.Cause.TheVariants.{Moment}
 use Rattle.of_table.specs.Deadlines.{all_stay}
 use Rattle.of_table.proofs.DeadlineLemmas.{added_none_over}
@@ -18,12 +18,12 @@ returns-clause-ok g c =
     let e = c.new_entry.result in
     let new : list_any (is_same c.args.flow) (flows_of es) ≡ false = rw (← c.self.view_is) at c.requires in
     let unused : is_used row_number e.number (rows_of es) ≡ false = rw (c.new_entry.ensures.number, ← c.self.invariant.0) c.in_ok-number.ensures.unused in
+    let items : c.push_reserved.new.entries.items ≡ added_entries e.number c.args.now c.args.flow es = appended c.args.now c.args.flow es _ _ e new c.new_entry.ensures.entry c.reserve.ensures.items c.push_reserved.ensures.items in
     rw (← c.self.view_is)
     (record {
       number = e.number;
       named = new_number c.args.flow es e.number new unused;
-      table = ap (with_entries c.self.inside.lookups c.self.inside.matched)
-          (c.push_reserved.ensures.items ∙ ap (λ (xs : List Entry). xs ++ e ∷ []) c.reserve.ensures.items ∙ added_new c.args.now c.args.flow es e new c.new_entry.ensures.entry);
+      table = ap (with_entries c.self.inside.lookups c.self.inside.matched) items;
     })
 
 pub invariant_of-self-2 : goal.invariant_of-self-2
@@ -31,7 +31,7 @@ invariant_of-self-2 g c =
     let es = c.self.inside.entries.items in
     let e = c.new_entry.result in
     let new : list_any (is_same c.args.flow) (flows_of es) ≡ false = rw (← c.self.view_is) at c.requires in
-    let items : c.push_reserved.new.entries.items ≡ added_entries e.number c.args.now c.args.flow es = c.push_reserved.ensures.items ∙ ap (λ (xs : List Entry). xs ++ e ∷ []) c.reserve.ensures.items ∙ added_new c.args.now c.args.flow es e new c.new_entry.ensures.entry in
+    let items : c.push_reserved.new.entries.items ≡ added_entries e.number c.args.now c.args.flow es = appended c.args.now c.args.flow es _ _ e new c.new_entry.ensures.entry c.reserve.ensures.items c.push_reserved.ensures.items in
     let flow : e.flow ≡ kept_flow c.args.flow = ap (λ (x : FlowEntry). x.flow) c.new_entry.ensures.entry in
     let row : row_of e ≡ made_row c.in_ok-number.number c.args.flow.priority c.in_ok-fields.fields = (λ j. made_row (c.new_entry.ensures.number j) (flow j).priority (flow j).fields) ∙ ap (made_row c.in_ok-number.number c.args.flow.priority) (sym c.in_ok-fields.ensures) in
     let last : c.push_reserved.new.entries.items ≡ es ++ e ∷ [] = c.push_reserved.ensures.items ∙ ap (λ (xs : List Entry). xs ++ e ∷ []) c.reserve.ensures.items in (

@@ -1,8 +1,9 @@
-use Rattle.std.proofs.Common.{◌≡◌, ◌∙◌, List, arith, ap}
+use Rattle.std.proofs.Common.{◌≡◌, ◌∙◌, ℕ, true, List, length, refl, arith, ap}
 use Rattle.of_actions.specs.declared.instruction.Instruction.{Instruction}
 use Rattle.of_table.specs.Copies.{Supply}
 use Rattle.of_table.specs.Entries.{Numbered}
-use Rattle.of_table.specs.Tables.{NumberedTables, each_from, modified_numbered, tables_of, all_modified}
+use Rattle.of_table.specs.Sound.{are_fit}
+use Rattle.of_table.specs.Tables.{NumberedTables, is_in, each_from, modified_numbered, tables_of, all_modified}
 use Rattle.of_table.proofs.TablesLemmas.{tables_modified, written}
 use Rattle.of_table.proofs.flow_tables.FlowTables.modify.Goals as goal
 
@@ -17,3 +18,22 @@ returns-clause-tables g c =
     let is : new ≡ all_modified c.args.which.now c.args.instructions.now c.args.reset n = λ i. record { tables = tables i; latest = c.self.inside.latest } in
     rw (← c.self.view_is, written c.modify_tables.new.tables c.self.inside.tables.items c.self.inside.tables.len (omega arith) (omega arith))
     (ap tables_of is ∙ tables_modified c.args.which.now c.args.instructions.now c.args.reset n)
+
+pub returns-clause-ok : goal.returns-clause-ok
+returns-clause-ok g c =
+    let ns = c.self.inside.tables.items in
+    let same : c.copies_for_all.new.copies.instructions ≡ c.args.instructions.now = ap (λ (s : Supply). s.instructions) c.in_ok-copies_for_all.ensures ∙ ap (λ (s : Supply). s.instructions) c.of-copies.ensures in
+    let tables : c.modify_tables.new.tables ≡ each_from (modified_numbered c.args.which.now c.args.instructions.now c.args.reset) 0 ns = c.modify_tables.ensures.tables
+    ∙ ap (λ (is : List Instruction). each_from (modified_numbered c.args.which.now is c.args.reset) 0 c.deref_mut.result.now) same
+    ∙ ap (λ (ts : List Numbered). each_from (modified_numbered c.args.which.now c.args.instructions.now c.args.reset) 0 ts) c.deref_mut.ensures.value in
+    rw (← c.self.view_is, written c.modify_tables.new.tables ns c.self.inside.tables.len (omega arith) (omega arith))
+    (λ i. record { tables = tables i; latest = c.self.inside.latest })
+
+pub invariant_of-self : goal.invariant_of-self
+invariant_of-self g c =
+    let same : c.copies_for_all.new.copies.instructions ≡ c.args.instructions.now = ap (λ (s : Supply). s.instructions) c.in_ok-copies_for_all.ensures ∙ ap (λ (s : Supply). s.instructions) c.of-copies.ensures in
+    let fits : (k : ℕ) → is_in c.args.which.now.table k ≡ true → are_fit k c.args.instructions.now ≡ true = (λ k for. rw (c.as_slice.ensures.kept, c.requires.fit k for) refl) in
+    rw (written c.modify_tables.new.tables c.self.inside.tables.items c.self.inside.tables.len (omega arith) (omega arith)) (
+      c.modify_tables.ensures.length ∙ ap length c.deref_mut.ensures.value ∙ c.self.invariant.0,
+      c.modify_tables.ensures.sound (λ k for. rw same (fits k for)) (rw same c.requires.checked) (rw c.deref_mut.ensures.value c.self.invariant.1),
+    )
