@@ -1,3 +1,4 @@
 pub mod Appended
 pub mod NoInstructions
 pub mod PacketFields
+pub mod Lengths

@@ -1,10 +1,11 @@
 -- The bytes of the messages that the switch sends.
-use Rattle.std.specs.Prelude.{ℕ, ◌+◌, ◌==◌, if◌then◌else◌, List, [], ◌∷◌, ◌++◌, length, replicate, None}
+use Rattle.std.specs.Prelude.{◌≡◌, ◌≤◌, ℕ, ◌+◌, ◌==◌, if◌then◌else◌, List, [], ◌∷◌, ◌++◌, length, replicate, None}
 use Rattle.byteorder.specs.Endian.{big_bytes}
 use Rattle.of_wire.specs.declared.code.Code.{Code}
 use Rattle.of_oxm.specs.declared.match_field.MatchField.{MatchField}
 use Rattle.of_oxm.specs.Canonical.{canonical}
 use Rattle.of_layers.specs.declared.field.Field.TheVariants.{InPort, Metadata}
+use Rattle.of_messages.specs.Messages.{version_of, header_length}
 use Rattle.of_messages.specs.declared.message.PacketIn.{PacketIn}
 use Rattle.of_messages.specs.declared.message.PacketInReason.{PacketInReason}
 use Rattle.of_messages.specs.declared.message.PacketInReason.TheVariants.{NoMatch, Action, InvalidTtl}
@@ -19,6 +20,10 @@ header kind size xid = 4 ∷ kind ∷ (big_bytes 2 size ++ big_bytes 4 xid)
 -- a message of that type, with its length
 abbrev pub message : ℕ → ℕ → List ℕ → List ℕ
 message kind xid body = header kind (8 + length body) xid ++ body
+
+-- bytes that are one message: 8 to 65,535 of them, of version 4, and the header says how many (7.1)
+abbrev pub IsMessage : List ℕ → Type 0
+IsMessage bytes = (8 ≤ length bytes) × (length bytes ≤ 65535) × (version_of bytes ≡ 4) × (header_length bytes ≡ length bytes)
 
 -- the HELLO of this switch: one element, the bitmap of versions, in which bit 4 stands (7.5.1)
 abbrev pub hello_bytes : List ℕ

@@ -2,11 +2,13 @@
 #![tactic(auto)]
 
 mod head;
+mod laws;
 mod message;
 mod reading;
 mod writing;
 
 pub use head::check_head;
+pub use laws::header_tells_length;
 pub use message::{
     FlowMod, FlowModCommand, FlowRemoved, FlowRemovedReason, Message, PacketData, PacketIn,
     PacketInReason, PacketOut,

@@ -7,7 +7,8 @@ use lib.Utf8.{encode}
 use Rattle.hex.specs.Hex.{decode_pairs, encode_with}
 use Rattle.of_switch.proofs.OnLiterals.{switch_on_literals}
 use Rattle.of_replay.specs.Lexing.{lines_of}
-use Rattle.of_replay.specs.Play.{played_lines}
+use Rattle.of_replay.specs.Rows.{Rows, rows_of}
+use Rattle.of_replay.specs.Output.{printed}
 
 -- a text of these lines, each ended by LF
 abbrev pub text_of : List (List ℕ) → List ℕ
@@ -15,7 +16,7 @@ text_of lines = flat_map (λ line. line ++ 10 ∷ []) lines
 
 -- a file of these lines is played, no line is bad, and lines are printed
 abbrev pub Prints : List (List ℕ) → List (List ℕ) → Type 0
-Prints events printed = played_lines (lines_of (text_of events)) ≡ record { text = text_of printed; bad = None }
+Prints events lines = ((rows_of (lines_of (text_of events))).bad ≡ None) × (printed (rows_of (lines_of (text_of events))).events ≡ text_of lines)
 
 abbrev pub hello : List (List ℕ)
 hello = codes "connect" ∷ codes "c 0400000800000001" ∷ []
@@ -29,14 +30,14 @@ three_ports = codes "port add 1 0200000000a1 p1 up" ∷ codes "port add 2 020000
 -- the switch sends its HELLO on connecting, and answers nothing to that of the controller
 pub hello_is_answered : Prints hello (answered_hello ∷ [])
 unfolding switch_on_literals is_utf8 chars encode decode_pairs encode_with digits
-hello_is_answered = refl
+hello_is_answered = (refl, refl)
 
 -- a header whose length is below 8 is answered by an error, and the connection ends
 pub bad_length_ends_the_connection : Prints
     (three_ports ++ hello ++ codes "c 0405000700000008" ∷ codes "c 04020008000000ee" ∷ [])
     (answered_hello ∷ codes "a 0401001400000008000100060405000700000008" ∷ codes "closed" ∷ codes "refused 3" ∷ [])
 unfolding switch_on_literals is_utf8 chars encode decode_pairs encode_with digits
-bad_length_ends_the_connection = refl
+bad_length_ends_the_connection = (refl, refl)
 
 abbrev pub frame_in : List ℕ
 frame_in = codes "f 1 02000000000202000000000188b500000000000000000000000000000000000000000000000000000000000000000000000000000000000000000000"
@@ -52,7 +53,7 @@ pub flow_forwards_frame : Prints
     ∷ [])
     (answered_hello ∷ frame_out ∷ [])
 unfolding switch_on_literals is_utf8 chars encode decode_pairs encode_with digits
-flow_forwards_frame = refl
+flow_forwards_frame = (refl, refl)
 
 -- so it does where its message comes in three pieces, and not before the last of them
 pub pieces_do_the_same : Prints
@@ -66,4 +67,4 @@ pub pieces_do_the_same : Prints
     ∷ [])
     (answered_hello ∷ frame_out ∷ [])
 unfolding switch_on_literals is_utf8 chars encode decode_pairs encode_with digits
-pieces_do_the_same = refl
+pieces_do_the_same = (refl, refl)

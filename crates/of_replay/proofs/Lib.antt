@@ -1,6 +1,7 @@
 pub mod TellingLemmas
 pub mod DigitLemmas
 pub mod MemoryLemmas
+pub mod Cutting
 pub mod Lines
-pub mod Replaying
+pub mod WholeRuns
 pub mod Examples

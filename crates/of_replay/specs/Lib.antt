@@ -5,4 +5,5 @@ pub mod Rows
 pub mod Memory
 pub mod Output
 pub mod Play
+pub mod Stepping
 pub mod Ended

@@ -4,9 +4,12 @@
 --   f PORT HEX
 --   t NANOS
 --   port add N HW NAME up|down
-use Rattle.std.specs.Prelude.{ℕ, not, List, codes, Option, Some, None, if◌then◌else◌}
+use Rattle.std.specs.Prelude.{ℕ, ◌+◌, not, List, [], ◌∷◌, ◌++◌, codes, Option, Some, None, if◌then◌else◌}
 use Rattle.std.specs.Option.{option_map}
 use Rattle.std.specs.Str.{bytes_eq}
+use Rattle.of_switch.specs.declared.event.Event.{Event}
+use Rattle.of_switch.specs.declared.event.Event.TheVariants as event
+use Rattle.of_switch.specs.declared.port_change.PortChange.TheVariants.{Add}
 use Rattle.of_replay.specs.declared.rows.NewPort.{NewPort}
 use Rattle.of_replay.specs.declared.rows.Row.{Row}
 use Rattle.of_replay.specs.declared.rows.Row.TheVariants as row
@@ -73,6 +76,33 @@ row_of line =
     if not (is_line line) then None
     else (if is_passed line then Some Passed
     else row_in (first_word line) (after_word line))
+
+-- THE EVENTS OF LINES
+
+-- what happens at a row: an event, or nothing at an empty line and at a comment
+abbrev pub events_in : EventRow → List Event
+events_in Passed = []
+events_in Connect = event.Connect ∷ []
+events_in (Piece bytes) = event.Piece bytes ∷ []
+events_in (Frame port bytes) = event.Frame port bytes ∷ []
+events_in (Moment nanos) = event.Moment nanos ∷ []
+events_in (PortAdd p) = event.Ports (Add p.number p.hw p.name p.up) ∷ []
+
+-- the events of lines up to the first bad one, and the number of that one, counted from 1
+pub record Rows : Type 0 where
+  pub events : List Event
+  pub bad : Option ℕ
+
+-- a line, and then other lines
+abbrev pub row_and : Option EventRow → Rows → Rows
+row_and None others = record { events = []; bad = Some 1 }
+row_and (Some row) others = record { events = events_in row ++ others.events; bad = option_map (λ n. n + 1) others.bad }
+
+abbrev pub rows_of : List (List ℕ) → Rows
+rows_of [] = record { events = []; bad = None }
+rows_of (line ∷ lines) = row_and (row_of line) (rows_of lines)
+
+-- IN CODE
 
 -- what the code keeps of a row, with its buffer
 abbrev pub with_bytes : List ℕ → Row → EventRow

@@ -1,11 +1,12 @@
 //! Event files from a source, played on a new switch, and what it gives to a sink.
-ghost use Rattle.std.specs.Prelude.{◌≡◌, ◌⊎◌, ◌<◌, ◌≤◌, ◌+◌, IfOk, replicate};
+ghost use Rattle.std.specs.Prelude.{◌≡◌, ◌⊎◌, ◌↔◌, ◌<◌, ◌≤◌, ◌+◌, IfOk, replicate};
 ghost use Rattle.of_replay.specs.Play.{Replays};
-ghost use Rattle.of_replay.specs.Ended.{ended_so, status_of};
+ghost use Rattle.of_replay.specs.Ended.{status_of};
+ghost use Rattle.of_replay.specs.Stepping.{ended_so};
 
+use crate::halt::Halt;
 use crate::io::{Sink, Source};
-use crate::play::{Halt, Player};
-use crate::transfer::{Stop, read_all};
+use crate::replaying::Replaying;
 use of_classifier::Lookup;
 use of_switch::Switch;
 use std::alloc::{AllocError, Global};
@@ -48,14 +49,15 @@ pub fn status(ended: &Ended) -> u8
     }
 }
 
-// Why a run of the lines ended, where it would end so if all of them were played.
-fn ended_by(played: Result<(), Halt>, end: Ended) -> Ended
-    ensures { result ≡ ended_so played end }
+// How the run ended that halted so.
+fn ended_by(played: Result<(), Halt>) -> Ended
+    ensures { result ≡ ended_so played }
 {
     match played {
-        Ok(()) => end,
+        Ok(()) => Ended::Done,
         Err(Halt::Bad(number)) => Ended::BadRow(number),
         Err(Halt::Memory) => Ended::NoMemory,
+        Err(Halt::Read) => Ended::ReadFault,
         Err(Halt::Write) => Ended::WriteFault,
     }
 }
@@ -69,6 +71,8 @@ fn zeros(alloc: Global, len: usize) -> Result<Vec<u8>, AllocError>
 }
 
 /// Plays the rows of a source on a new switch without a connection, flows and ports, whose number is 1, and writes what it gives.
+///
+/// Rows are played as they are read. Of the file no more is kept than one read and the line that has begun, up to 1,048,577 bytes.
 pub fn replay<L: Lookup, S: Source, W: Sink>(alloc: Global, reader: &mut S, writer: &mut W) -> Ended
     requires reads { S.reads reader.old ≡ 0 }
     requires failures { W.failures writer.old ≡ 0 }
@@ -77,7 +81,8 @@ pub fn replay<L: Lookup, S: Source, W: Sink>(alloc: Global, reader: &mut S, writ
     ensures reads { S.reads reader.new ≤ 1000000 }
     ensures once { S.failures reader.new ≤ S.failures reader.old + 1 }
     ensures read_fault { result ≡ Ended.ReadFault → (S.failures reader.old < S.failures reader.new) ⊎ ((S.reads reader.new ≡ 1000000) × (S.ends reader.new ≡ S.ends reader.old)) }
-    ensures write_fault { result ≡ Ended.WriteFault → 0 < W.failures writer.new }
+    ensures failed_read { S.failures reader.old < S.failures reader.new → (result ≡ Ended.ReadFault) ⊎ (result ≡ Ended.WriteFault) }
+    ensures write_fault { (result ≡ Ended.WriteFault) ↔ (0 < W.failures writer.new) }
 {
     let Ok(mut buffer) = zeros(alloc, READ_SIZE) else {
         return Ended::NoMemory;
@@ -85,11 +90,6 @@ pub fn replay<L: Lookup, S: Source, W: Sink>(alloc: Global, reader: &mut S, writ
     let Ok(switch) = Switch::<L>::new(alloc, DPID) else {
         return Ended::NoMemory;
     };
-    let mut player = Player::new(alloc, switch);
-    let mut file = Vec::new(alloc);
-    match read_all(reader, &mut buffer, &mut file) {
-        Ok(()) => ended_by(player.play(&file, true, writer), Ended::Done),
-        Err(Stop::Fault) => ended_by(player.play(&file, false, writer), Ended::ReadFault),
-        Err(Stop::Memory) => ended_by(player.play(&file, false, writer), Ended::NoMemory),
-    }
+    let mut replaying = Replaying::new(alloc, switch);
+    ended_by(replaying.play(reader, &mut buffer, writer))
 }

@@ -2,11 +2,14 @@
 #![tactic(auto)]
 
 mod event_file;
+mod halt;
 mod io;
 mod lexing;
 pub mod memory;
+mod open_line;
 mod output;
 mod play;
+mod replaying;
 mod rows;
 pub mod streams;
 mod transfer;

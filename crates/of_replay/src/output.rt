@@ -1,10 +1,19 @@
-//! The lines that are printed.
-ghost use Rattle.std.specs.Prelude.{◌≡◌, ◌++◌, ◌∷◌, [], IfOk, IfErr, OnOk, codes, decimal};
+//! The lines that are printed, and their way to a sink.
+ghost use Rattle.std.specs.Prelude.{◌≡◌, ◌++◌, ◌∷◌, ◌<◌, [], IfOk, IfErr, OnOk, OnErr, codes, decimal};
 ghost use Rattle.hex.specs.Hex.{encode_lower};
+ghost use Rattle.of_replay.specs.Told.{then_bytes};
+ghost use Rattle.of_replay.specs.Transfer.{WroteFront};
 ghost use Rattle.of_replay.specs.Output.{line_of, refused_line, text_of};
 
+use crate::halt::Halt;
+use crate::io::Sink;
+use crate::transfer::write_all;
 use of_switch::{Effect, SwitchError};
 use std::alloc::{AllocError, Global};
+use std::marker::Model;
+
+/// What is printed is written in parts of so many bytes at least.
+const PART: usize = 65_536;
 
 /// Appends bytes as hex digits in lower case.
 fn push_hex(alloc: Global, out: &mut Vec<u8>, bytes: &[u8]) -> Result<(), AllocError>
@@ -45,7 +54,7 @@ fn push_effect(alloc: Global, out: &mut Vec<u8>, effect: &Effect) -> Result<(), 
 }
 
 /// Appends the lines of effects.
-pub fn push_effects(alloc: Global, out: &mut Vec<u8>, effects: &[Effect]) -> Result<(), AllocError>
+fn push_effects(alloc: Global, out: &mut Vec<u8>, effects: &[Effect]) -> Result<(), AllocError>
     ensures { OnOk result (out.new.items ≡ out.old.items ++ text_of effects.now) }
 {
     for effect in effects {
@@ -55,15 +64,82 @@ pub fn push_effects(alloc: Global, out: &mut Vec<u8>, effects: &[Effect]) -> Res
 }
 
 /// Appends the line of a refused call.
-pub fn push_refusal(
-    alloc: Global,
-    out: &mut Vec<u8>,
-    refusal: SwitchError,
-) -> Result<(), AllocError>
+fn push_refusal(alloc: Global, out: &mut Vec<u8>, refusal: SwitchError) -> Result<(), AllocError>
     ensures { OnOk result (out.new.items ≡ out.old.items ++ refused_line refusal) }
 {
     out.extend_from_slice(b"refused ")?;
     push_number(alloc, out, refusal.number())?;
     out.push(b'\n')?;
     Ok(())
+}
+
+/// What is printed and not written yet.
+#[derive(Drop)]
+pub struct Printer {
+    out: Vec<u8>,
+    // what one call gave
+    text: Vec<u8>,
+    alloc: Global,
+}
+
+impl Model for Printer {
+    ghost use Rattle.std.specs.Prelude.{ℕ, List};
+
+    ghost Value = { List ℕ };
+
+    ghost view = { λ p. p.out.items };
+}
+
+impl Printer {
+    pub fn new(alloc: Global) -> Self
+        ensures { result ≡ [] }
+    {
+        Printer {
+            out: Vec::new(alloc),
+            text: Vec::new(alloc),
+            alloc,
+        }
+    }
+
+    /// Prints effects, all of them or nothing.
+    pub fn print_effects(&mut self, effects: &[Effect]) -> Result<(), AllocError>
+        ensures ok { OnOk result (self.new ≡ self.old ++ text_of effects.now) }
+        ensures err { OnErr result (self.new ≡ self.old) }
+    {
+        self.text.clear();
+        push_effects(self.alloc, &mut self.text, effects)?;
+        self.out.extend_from_slice(&self.text)
+    }
+
+    /// Prints that a call was refused, or nothing.
+    pub fn print_refusal(&mut self, refusal: SwitchError) -> Result<(), AllocError>
+        ensures ok { OnOk result (self.new ≡ self.old ++ refused_line refusal) }
+        ensures err { OnErr result (self.new ≡ self.old) }
+    {
+        self.text.clear();
+        push_refusal(self.alloc, &mut self.text, refusal)?;
+        self.out.extend_from_slice(&self.text)
+    }
+
+    /// Whether there is a part that is large enough to be written.
+    pub fn has_part(&self) -> bool {
+        self.out.len() >= PART
+    }
+
+    /// Writes all.
+    pub fn flush<W: Sink>(&mut self, writer: &mut W) -> Result<(), Halt>
+        requires { W.failures writer.old ≡ 0 }
+        ensures before { W.failures writer.old ≡ 0 }
+        ensures all { OnOk result ((W.taken writer.new ≡ then_bytes (W.taken writer.old) self.old) × (self.new ≡ [])) }
+        ensures well { OnOk result (W.failures writer.new ≡ 0) }
+        ensures front { OnErr result (WroteFront (W.taken writer.old) self.old (W.taken writer.new)) }
+        ensures failed { OnErr result (0 < W.failures writer.new) }
+        ensures write { IfErr result (λ halt. halt ≡ Halt.Write) }
+    {
+        if !write_all(writer, &self.out) {
+            return Err(Halt::Write);
+        }
+        self.out.clear();
+        Ok(())
+    }
 }

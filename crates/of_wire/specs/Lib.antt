@@ -3,3 +3,4 @@ pub mod Failures
 pub mod Items
 pub mod Highest
 pub mod Numbered
+pub mod CodeNames

@@ -3,6 +3,7 @@
 
 mod bytes;
 mod code;
+mod code_name;
 
 pub use bytes::Bytes;
 pub use code::{Code, ReadError};

@@ -1,0 +1,65 @@
+//! The line that has begun and not ended.
+ghost use Rattle.std.specs.Prelude.{◌≡◌, ◌≤◌, ◌++◌, [], OnOk, length, take};
+
+use std::alloc::{AllocError, Global};
+use std::marker::Model;
+
+/// So many bytes of a line are kept: one more than the longest line has.
+const MOST_KEPT: usize = 1_048_577;
+
+/// The first bytes of a line, so many at most that a line that is too long is seen to be.
+#[derive(Drop)]
+pub struct OpenLine {
+    bytes: Vec<u8>,
+    ghost short: { length bytes.items ≤ 1048577 },
+}
+
+impl Model for OpenLine {
+    ghost use Rattle.std.specs.Prelude.{ℕ, List};
+
+    ghost Value = { List ℕ };
+
+    ghost view = { λ l. l.bytes.items };
+}
+
+impl OpenLine {
+    pub fn new(alloc: Global) -> Self
+        ensures { result ≡ [] }
+    {
+        OpenLine {
+            bytes: Vec::new(alloc),
+        }
+    }
+
+    pub fn bytes(&self) -> &[u8]
+        ensures { result.now ≡ self.now }
+    {
+        &self.bytes
+    }
+
+    /// Another line begins.
+    pub fn clear(&mut self)
+        ensures { self.new ≡ [] }
+    {
+        self.bytes.clear();
+    }
+
+    /// The line goes on by these bytes.
+    pub fn extend(&mut self, part: &[u8]) -> Result<(), AllocError>
+        ensures { OnOk result (self.new ≡ take 1048577 (self.old ++ part.now)) }
+    {
+        let room = MOST_KEPT - self.bytes.len();
+        self.bytes.extend_from_slice(front_part(part, room))
+    }
+}
+
+// The first bytes, so many at most.
+fn front_part(bytes: &[u8], most: usize) -> &[u8]
+    ensures { result.now ≡ take most bytes.now }
+{
+    if bytes.len() <= most {
+        bytes
+    } else {
+        &bytes[..most]
+    }
+}

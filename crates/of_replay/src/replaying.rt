@@ -1,0 +1,191 @@
+//! Rows as they are read, played on a switch, and what it gives printed.
+ghost use Rattle.std.specs.Prelude.{◌≡◌, ◌+◌, ◌<◌, ◌≤◌, ◌^◌, ◌++◌, ℕ, List, [], Option, IfErr, OnOk, length, take, drop, position, ◌==◌};
+ghost use Rattle.of_switch.specs.State.{start};
+ghost use Rattle.of_replay.specs.Rows.{row_of};
+ghost use Rattle.of_replay.specs.Play.{Replays};
+ghost use Rattle.of_replay.specs.Stepping.{LineTells, LineGoes, Within, PieceGoes, PlaysRead, WritesFail, ReadsFail, ended_so};
+
+use crate::halt::Halt;
+use crate::io::{Reading, Sink, Source};
+use crate::open_line::OpenLine;
+use crate::output::Printer;
+use crate::play::play_row;
+use crate::rows::read_row;
+use of_classifier::Lookup;
+use of_switch::{Switch, SwitchError};
+use std::alloc::{AllocError, Global};
+
+/// A reader is read so many times at most.
+const MOST_READS: u32 = 1_000_000;
+
+/// A run of a file's rows, which are played as they are read: of the file, only the line that has begun is kept.
+#[derive(Drop)]
+pub struct Replaying<L: Lookup> {
+    open: OpenLine,
+    // the number of the open line, from 1
+    number: u64,
+    // the bytes of a row
+    bytes: Vec<u8>,
+    switch: Switch<L>,
+    printer: Printer,
+    alloc: Global,
+}
+
+fn rest_from(bytes: &[u8], at: usize) -> &[u8]
+    requires { at ≤ length bytes.now }
+    ensures { result.now ≡ drop at bytes.now }
+{
+    &bytes[at..]
+}
+
+fn front_of(bytes: &[u8], len: usize) -> &[u8]
+    requires { len ≤ length bytes.now }
+    ensures { result.now ≡ take len bytes.now }
+{
+    &bytes[..len]
+}
+
+fn line_len(bytes: &[u8]) -> Option<usize>
+    ensures { result ≡ position (λ b. b == 10) bytes.now }
+{
+    bytes.iter().position(|b| *b == b'\n')
+}
+
+impl<L: Lookup> Replaying<L> {
+    /// A run on a new switch, at the first line.
+    pub fn new(alloc: Global, switch: Switch<L>) -> Self
+        ensures { (result.open ≡ []) × (result.number ≡ 1) × (result.switch ≡ switch) × (result.printer ≡ []) }
+    {
+        Replaying {
+            open: OpenLine::new(alloc),
+            number: 1,
+            bytes: Vec::new(alloc),
+            switch,
+            printer: Printer::new(alloc),
+            alloc,
+        }
+    }
+
+    // Plays the open line, and prints what it gives.
+    fn tell(&mut self) -> Result<(), Halt>
+        ensures tells { LineTells result self.old.number (row_of self.old.open) self.old.switch self.new.switch self.old.printer self.new.printer }
+        ensures number { self.new.number ≡ self.old.number }
+    {
+        let row = match read_row(self.open.bytes(), &mut self.bytes) {
+            Ok(Some(row)) => row,
+            Ok(None) => return Err(Halt::Bad(self.number)),
+            Err(AllocError) => return Err(Halt::Memory),
+        };
+        let printed = match play_row(self.alloc, &mut self.switch, row, &self.bytes) {
+            Ok(effects) => self.printer.print_effects(&effects),
+            Err(SwitchError::NoMemory) => return Err(Halt::Memory),
+            Err(refusal) => self.printer.print_refusal(refusal),
+        };
+        match printed {
+            Ok(()) => Ok(()),
+            Err(AllocError) => Err(Halt::Memory),
+        }
+    }
+
+    // Plays the open line, and begins another.
+    fn line<W: Sink>(&mut self, writer: &mut W) -> Result<(), Halt>
+        requires few { self.old.number < 2 ^ 63 }
+        requires well { W.failures writer.old ≡ 0 }
+        ensures goes { LineGoes result self.old.number (row_of self.old.open) self.old.switch self.new.switch self.old.printer self.new.printer (W.taken writer.old) (W.taken writer.new) }
+        ensures open { OnOk result (self.new.open ≡ []) }
+        ensures number { OnOk result (self.new.number ≡ self.old.number + 1) }
+        ensures writes { WritesFail result (W.failures writer.new) }
+    {
+        self.tell()?;
+        if self.printer.has_part() {
+            self.printer.flush(writer)?;
+        }
+        self.open.clear();
+        self.number += 1;
+        Ok(())
+    }
+
+    // The open line goes on by these bytes.
+    fn keep(&mut self, part: &[u8]) -> Result<(), Halt>
+        ensures open { OnOk result (self.new.open ≡ take 1048577 (self.old.open ++ part.now)) }
+        ensures memory { IfErr result (λ halt. halt ≡ Halt.Memory) }
+        ensures kept { (self.new.number ≡ self.old.number) × (self.new.switch ≡ self.old.switch) × (self.new.printer ≡ self.old.printer) }
+    {
+        match self.open.extend(part) {
+            Ok(()) => Ok(()),
+            Err(AllocError) => Err(Halt::Memory),
+        }
+    }
+
+    // Bytes come: plays the lines that they end.
+    fn piece<W: Sink>(&mut self, piece: &[u8], writer: &mut W) -> Result<(), Halt>
+        requires few { self.old.number + length piece.now < 2 ^ 63 }
+        requires well { W.failures writer.old ≡ 0 }
+        ensures goes { (bytes : List ℕ) (first : Option (List ℕ)) → Within bytes [] self.old.open self.old.number self.old.switch self.old.printer first (W.taken writer.old)
+            → PieceGoes result (bytes ++ piece.now) self.new.open self.new.number self.new.switch self.new.printer first (W.taken writer.new) }
+        ensures number { OnOk result (self.new.number ≤ self.old.number + length piece.now) }
+        ensures writes { WritesFail result (W.failures writer.new) }
+    {
+        let mut at = 0;
+        loop {
+            let rest = rest_from(piece, at);
+            let Some(len) = line_len(rest) else {
+                return self.keep(rest);
+            };
+            self.keep(front_of(rest, len))?;
+            self.line(writer)?;
+            at += len + 1;
+        }
+    }
+
+    // Plays the lines of a source as they are read. What they print last is still to be written.
+    fn read<S: Source, W: Sink>(
+        &mut self,
+        reader: &mut S,
+        buffer: &mut [u8],
+        writer: &mut W,
+    ) -> Result<(), Halt>
+        requires room { length buffer.old ≡ 65536 }
+        requires fresh { S.reads reader.old ≡ 0 }
+        requires well { W.failures writer.old ≡ 0 }
+        requires start { (self.old.open ≡ []) × (self.old.number ≡ 1) × (self.old.switch ≡ start 1) × (self.old.printer ≡ []) }
+        ensures plays { PlaysRead result (S.answers reader.old) (S.answers reader.new) (S.ends reader.old) (S.ends reader.new) self.new.printer (W.taken writer.old) (W.taken writer.new) }
+        ensures reads { ReadsFail result (S.reads reader.new) (S.ends reader.old) (S.ends reader.new) (S.failures reader.old) (S.failures reader.new) }
+        ensures few { S.reads reader.new ≤ 1000000 }
+        ensures writes { WritesFail result (W.failures writer.new) }
+    {
+        for _ in 0..MOST_READS {
+            match reader.read(buffer) {
+                Reading::Bytes(n) => self.piece(front_of(buffer, n), writer)?,
+                Reading::Nothing => {}
+                Reading::End => return self.line(writer),
+                Reading::Fault => return Err(Halt::Read),
+            }
+        }
+        Err(Halt::Read)
+    }
+
+    /// Plays the lines of a source as they are read, and writes what they print.
+    pub fn play<S: Source, W: Sink>(
+        &mut self,
+        reader: &mut S,
+        buffer: &mut [u8],
+        writer: &mut W,
+    ) -> Result<(), Halt>
+        requires room { length buffer.old ≡ 65536 }
+        requires fresh { S.reads reader.old ≡ 0 }
+        requires well { W.failures writer.old ≡ 0 }
+        requires start { (self.old.open ≡ []) × (self.old.number ≡ 1) × (self.old.switch ≡ start 1) × (self.old.printer ≡ []) }
+        ensures plays { Replays (ended_so result) (S.answers reader.old) (S.answers reader.new) (S.ends reader.old) (S.ends reader.new) (W.taken writer.old) (W.taken writer.new) }
+        ensures reads { ReadsFail result (S.reads reader.new) (S.ends reader.old) (S.ends reader.new) (S.failures reader.old) (S.failures reader.new) }
+        ensures few { S.reads reader.new ≤ 1000000 }
+        ensures writes { WritesFail result (W.failures writer.new) }
+    {
+        let played = self.read(reader, buffer, writer);
+        if let Err(Halt::Write) = played {
+            return played;
+        }
+        self.printer.flush(writer)?;
+        played
+    }
+}
