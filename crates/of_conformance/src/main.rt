@@ -14,7 +14,7 @@ mod stream_tests;
 mod tests;
 
 /// The event files, each beside the text that it is to print.
-const NAMES: [&str; 49] = [
+const NAMES: [&str; 52] = [
     "hello",
     "wrong-version",
     "first-path",
@@ -64,6 +64,9 @@ const NAMES: [&str; 49] = [
     "packet-ins-before-and-after-hello",
     "packet-in-reasons",
     "cleared-set-and-late-miss",
+    "frames-in-and-out",
+    "hard-timeout-told",
+    "packet-out-of-an-absent-buffer",
 ];
 
 /// A read gives so many bytes at most.
