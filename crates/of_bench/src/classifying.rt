@@ -5,7 +5,7 @@ use crate::frames::TAGGED_TCP;
 use of_classifier::Lookup;
 use of_headers::{FieldKey, read};
 use of_mask_groups::MaskGroups;
-use of_oxm::{Match, read_match};
+use of_oxm::{Match, ReadError, read_match};
 use std::alloc::{AllocError, Global};
 use std::io;
 
@@ -41,8 +41,9 @@ pub fn numbered_fields(mask: u8, value: u16) -> [u8; 48] {
 }
 
 /// Such a match.
-pub fn numbered_match(alloc: Global, mask: u8, value: u16) -> Option<Match> {
-    Some(read_match(alloc, &numbered_fields(mask, value)).ok()?.0)
+pub fn numbered_match(alloc: Global, mask: u8, value: u16) -> Result<Match, ReadError> {
+    let (fields, _) = read_match(alloc, &numbered_fields(mask, value))?;
+    Ok(fields)
 }
 
 /// The key of a frame with this METADATA.
@@ -92,7 +93,7 @@ fn entries(alloc: Global, masks: u8, falling: bool) -> Option<MaskGroups> {
             10
         };
         lookup
-            .add(numbered_match(alloc, mask, value)?, priority)
+            .add(numbered_match(alloc, mask, value).ok()?, priority)
             .ok()?;
     }
     Some(lookup)

@@ -3,8 +3,8 @@
 use crate::classifying::{following, key_with, numbered_match};
 use of_classifier::{Lookup, Scan};
 use of_mask_groups::MaskGroups;
-use of_oxm::Match;
-use std::alloc::{AllocError, Global};
+use of_oxm::{Match, ReadError};
+use std::alloc::Global;
 use std::io;
 
 /// So many steps are made on both.
@@ -35,21 +35,12 @@ fn renew_same<L: Lookup>(lookup: &mut L, fields: &Match, priority: u16) -> Optio
 }
 
 // One step, which the number names: what the classifier answers.
-fn step<L: Lookup>(
-    lookup: &mut L,
-    alloc: Global,
-    number: u64,
-) -> Result<Option<usize>, AllocError> {
+fn step<L: Lookup>(lookup: &mut L, alloc: Global, number: u64) -> Result<Option<usize>, ReadError> {
     let value = (number >> 8) % 16;
-    let Some(fields) = numbered_match(alloc, ((number >> 16) % 4) as u8, value as u16) else {
-        return Err(AllocError);
-    };
+    let fields = numbered_match(alloc, ((number >> 16) % 4) as u8, value as u16)?;
     let priority = ((number >> 24) % 4) as u16;
     match number % 4 {
-        0 => match lookup.add(fields, priority) {
-            Ok(added) => Ok(Some(added)),
-            Err(error) => Err(error),
-        },
+        0 => Ok(Some(lookup.add(fields, priority)?)),
         1 => Ok(take_same(lookup, &fields, priority)),
         2 => Ok(renew_same(lookup, &fields, priority)),
         _ => match key_with(value) {
