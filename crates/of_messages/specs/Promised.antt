@@ -1,5 +1,5 @@
 -- What holds of each message that was read, beyond its fields.
-use Rattle.std.specs.Prelude.{◌≡◌, ◌<◌, false, true, List, Option, Some, None, ⊤}
+use Rattle.std.specs.Prelude.{◌≡◌, ◌<◌, ◌≤◌, false, true, length, List, Option, Some, None, ⊤}
 use Rattle.of_actions.specs.InstructionLists.{are_for}
 use Rattle.of_actions.specs.FlowCheck.{all_go_with}
 use Rattle.of_headers.specs.Faults.{frame_fault}
@@ -21,9 +21,10 @@ abbrev pub IsSoundPacket : PacketData → Type 0
 IsSoundPacket (Buffered number) = ⊤
 IsSoundPacket (Frame bytes) = frame_fault bytes ≡ None
 
+-- an ECHO_REQUEST was a message itself, so its data fits one
 abbrev pub IsSoundMessage : Message → Type 0
 IsSoundMessage Hello = ⊤
-IsSoundMessage (EchoRequest bytes) = ⊤
+IsSoundMessage (EchoRequest echoed) = length echoed ≤ 65527
 IsSoundMessage BarrierRequest = ⊤
 IsSoundMessage (IsPacketOut m) = IsSoundPacket m.packet
 IsSoundMessage (IsFlowMod m) = IsSoundFlowMod m

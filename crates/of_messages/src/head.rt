@@ -55,6 +55,7 @@ fn lacks_actions(message: &[u8]) -> bool
 pub fn check_head(message: &[u8]) -> Result<(), Code>
     ensures refusal { MatchResult result (λ _. first_of (head_refusals message.now) ≡ None) (λ code. first_of (head_refusals message.now) ≡ Some code) }
     ensures header { OnOk result (8 ≤ length message.now) }
+    ensures most { OnOk result (length message.now ≤ 65535) }
     ensures flow_mod { OnOk result (type_of message.now ≡ 14 → 56 ≤ length message.now) }
     ensures packet_out { OnOk result (type_of message.now ≡ 13 → 24 + actions_length message.now ≤ length message.now) }
     ensures served { OnOk result (is_served (type_of message.now) ≡ true) }

@@ -4,6 +4,7 @@
 mod head;
 mod laws;
 mod message;
+mod message_bytes;
 mod reading;
 mod writing;
 
@@ -13,6 +14,7 @@ pub use message::{
     FlowMod, FlowModCommand, FlowRemoved, FlowRemovedReason, Message, PacketData, PacketIn,
     PacketInReason, PacketOut,
 };
+pub use message_bytes::MessageBytes;
 pub use reading::read_message;
 pub use writing::{
     write_barrier_reply, write_echo_reply, write_error, write_flow_removed, write_hello,

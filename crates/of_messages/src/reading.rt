@@ -161,6 +161,7 @@ fn read_packet_out(alloc: Global, message: &[u8]) -> Result<PacketOut, ReadError
 // A message whose head is not refused.
 fn read_body(alloc: Global, message: &[u8]) -> Result<Message, ReadError>
     requires size { 8 ≤ length message.now }
+    requires most { length message.now ≤ 65535 }
     requires flow_mod { type_of message.now ≡ 14 → 48 ≤ length message.now }
     requires packet_out { type_of message.now ≡ 13 → 24 + actions_length message.now ≤ length message.now }
     requires served { is_served (type_of message.now) ≡ true }

@@ -5,6 +5,7 @@ ghost use Rattle.of_messages.specs.Written.{header, hello_bytes, error_bytes, ec
 ghost use Rattle.of_oxm.specs.Canonical.{canonical};
 
 use crate::message::{FlowRemoved, FlowRemovedReason, PacketIn, PacketInReason};
+use crate::message_bytes::MessageBytes;
 use of_oxm::{Match, write_match};
 use of_wire::{Bytes, Code};
 use std::alloc::{AllocError, Global};
@@ -20,14 +21,24 @@ fn put_header(out: &mut Vec<u8>, kind: u8, length: usize, xid: u32) -> Result<()
 }
 
 /// The HELLO of this switch: version 4, whose bitmap has bit 4 alone (OpenFlow 1.3.5, 7.5.1).
-pub fn write_hello(alloc: Global) -> Result<Bytes, AllocError>
+#[tactic(auto, using(crate::proofs::Lengths::hello_is_message))]
+pub fn write_hello(alloc: Global) -> Result<MessageBytes, AllocError>
     ensures { IfOk result (λ bytes. bytes ≡ hello_bytes) }
 {
-    Bytes::from_slice(alloc, &[4, 0, 0, 16, 0, 0, 0, 0, 0, 1, 0, 8, 0, 0, 0, 16])
+    let bytes =
+        Bytes::from_slice(alloc, &[4, 0, 0, 16, 0, 0, 0, 0, 0, 1, 0, 8, 0, 0, 0, 16])?;
+    Ok(MessageBytes::new(bytes))
 }
 
-/// An ERROR with its data (OpenFlow 1.3.5, 7.4.4).
-pub fn write_error(alloc: Global, xid: u32, code: Code, body: &[u8]) -> Result<Bytes, AllocError>
+/// An ERROR with its data, 65,523 bytes at most (OpenFlow 1.3.5, 7.4.4).
+#[tactic(auto, using(crate::proofs::Lengths::error_is_message))]
+pub fn write_error(
+    alloc: Global,
+    xid: u32,
+    code: Code,
+    body: &[u8],
+) -> Result<MessageBytes, AllocError>
+    requires { length body.now ≤ 65523 }
     ensures { IfOk result (λ bytes. bytes ≡ error_bytes xid code body.now) }
 {
     let kind = code.kind.to_be_bytes();
@@ -36,26 +47,29 @@ pub fn write_error(alloc: Global, xid: u32, code: Code, body: &[u8]) -> Result<B
     put_header(&mut out, 1, 12 + body.len(), xid)?;
     out.extend_from_slice(&[kind[0], kind[1], number[0], number[1]])?;
     out.extend_from_slice(body)?;
-    Ok(Bytes::new(out))
+    Ok(MessageBytes::new(Bytes::new(out)))
 }
 
-/// The ECHO_REPLY that gives a request's data back (OpenFlow 1.3.5, 7.5.3).
-pub fn write_echo_reply(alloc: Global, xid: u32, body: &[u8]) -> Result<Bytes, AllocError>
+/// The ECHO_REPLY that gives a request's data back, 65,527 bytes at most (OpenFlow 1.3.5, 7.5.3).
+#[tactic(auto, using(crate::proofs::Lengths::echo_reply_is_message))]
+pub fn write_echo_reply(alloc: Global, xid: u32, body: &[u8]) -> Result<MessageBytes, AllocError>
+    requires { length body.now ≤ 65527 }
     ensures { IfOk result (λ bytes. bytes ≡ echo_reply_bytes xid body.now) }
 {
     let mut out = Vec::new(alloc);
     put_header(&mut out, 3, 8 + body.len(), xid)?;
     out.extend_from_slice(body)?;
-    Ok(Bytes::new(out))
+    Ok(MessageBytes::new(Bytes::new(out)))
 }
 
 /// A BARRIER_REPLY (OpenFlow 1.3.5, 7.3.7).
-pub fn write_barrier_reply(alloc: Global, xid: u32) -> Result<Bytes, AllocError>
+#[tactic(auto, using(crate::proofs::Lengths::barrier_reply_is_message))]
+pub fn write_barrier_reply(alloc: Global, xid: u32) -> Result<MessageBytes, AllocError>
     ensures { IfOk result (λ bytes. bytes ≡ barrier_reply_bytes xid) }
 {
     let mut out = Vec::new(alloc);
     put_header(&mut out, 21, 8, xid)?;
-    Ok(Bytes::new(out))
+    Ok(MessageBytes::new(Bytes::new(out)))
 }
 
 fn number_of(reason: FlowRemovedReason) -> u8
@@ -103,13 +117,13 @@ fn put_flow_removed(out: &mut Vec<u8>, removed: &FlowRemoved) -> Result<(), Allo
 }
 
 /// The FLOW_REMOVED of an entry with this match (OpenFlow 1.3.5, 7.4.2).
-#[tactic(auto, using(crate::proofs::Appended::length_front))]
+#[tactic(auto, using(crate::proofs::Appended::length_front, crate::proofs::Lengths::flow_removed_is_message))]
 pub fn write_flow_removed(
     alloc: Global,
     xid: u32,
     removed: &FlowRemoved,
     fields: &Match,
-) -> Result<Bytes, AllocError>
+) -> Result<MessageBytes, AllocError>
     ensures { IfOk result (λ bytes. bytes ≡ flow_removed_bytes xid removed.now fields.now) }
 {
     let spelling = write_match(alloc, fields)?;
@@ -117,7 +131,7 @@ pub fn write_flow_removed(
     put_header(&mut out, 11, 48 + spelling.len(), xid)?;
     put_flow_removed(&mut out, removed)?;
     out.extend_from_slice(&spelling)?;
-    Ok(Bytes::new(out))
+    Ok(MessageBytes::new(Bytes::new(out)))
 }
 
 fn number_of_reason(reason: PacketInReason) -> u8
@@ -173,7 +187,7 @@ pub fn write_packet_in(
     xid: u32,
     packet: &PacketIn,
     frame: &[u8],
-) -> Result<Bytes, AllocError>
+) -> Result<MessageBytes, AllocError>
     requires { length frame.now ≤ 65485 }
     ensures { IfOk result (λ bytes. bytes ≡ packet_in_bytes xid packet.now frame.now) }
 {
@@ -184,5 +198,5 @@ pub fn write_packet_in(
     put_packet_fields(&mut out, packet.in_port, packet.metadata)?;
     out.extend_from_slice(&[0, 0])?;
     out.extend_from_slice(frame)?;
-    Ok(Bytes::new(out))
+    Ok(MessageBytes::new(Bytes::new(out)))
 }

@@ -99,6 +99,13 @@ none_low (e ∷ es) = (omega arith, none_low es)
 pub written_fits : (m : List MatchField) → IsRising m → written_len m < 2 ^ 16
 written_fits m up = omega (arith, length-spellings m, count m 0 up (none_low m) (omega arith))
 
+pub canonical_short : (m : List MatchField) → IsRising m → length (canonical m) ≤ 1128
+unfolding canonical
+canonical_short m up =
+    let len = written_len m in
+    let few : len ≤ 1120 = omega (arith, length-spellings m, count m 0 up (none_low m) (omega arith)) in
+    simp (length-append, length-replicate) (omega (arith, few))
+
 pub canonical_spells : (m : List MatchField) → IsMatch m → SpellsMatch (canonical m) m
 unfolding canonical
 canonical_spells m h =

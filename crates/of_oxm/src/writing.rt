@@ -1,6 +1,6 @@
 //! Matches as bytes.
 
-ghost use Rattle.std.specs.Prelude.{◌≡◌, ◌≤◌, ◌<◌, ◌^◌, ◌++◌, OnOk, IfOk};
+ghost use Rattle.std.specs.Prelude.{◌≡◌, ◌≤◌, ◌<◌, ◌^◌, ◌++◌, length, OnOk, IfOk};
 ghost use Rattle.std.specs.List.{AllByRecursion};
 ghost use Rattle.byteorder.specs.Endian.{big_bytes};
 ghost use Rattle.of_oxm.specs.MatchFieldWire.{IsSpelt, spelling};
@@ -58,6 +58,7 @@ fn put_fields(out: &mut Vec<u8>, fields: &[MatchField]) -> Result<(), AllocError
 pub fn write_match(alloc: Global, m: &Match) -> Result<Vec<u8>, AllocError>
     ensures canonical { IfOk result (λ v. v.items ≡ canonical m.now) }
     ensures spells { IfOk result (λ v. SpellsMatch v.items m.now) }
+    ensures short { IfOk result (λ v. length v.items ≤ 1128) }
 {
     let mut fields = Vec::new(alloc);
     put_fields(&mut fields, &m.fields)?;

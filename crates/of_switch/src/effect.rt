@@ -1,3 +1,4 @@
+use of_messages::MessageBytes;
 use of_wire::Bytes;
 use smallvec::SmallVec;
 
@@ -8,7 +9,7 @@ pub type Effects = SmallVec<Effect, 2>;
 #[derive(Debug, Default, Drop)]
 pub enum Effect {
     /// A message to the controller.
-    Answer(Bytes),
+    Answer(MessageBytes),
     /// A frame out of a port.
     Sent { port: u32, frame: Bytes },
     /// The end of the connection.

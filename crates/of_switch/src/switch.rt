@@ -15,9 +15,9 @@ use crate::event::{Event, Report};
 use crate::port_change::PortChange;
 use crate::switch_error::SwitchError;
 use of_classifier::Lookup;
-use of_messages::{write_error, write_hello};
+use of_messages::{MessageBytes, write_error, write_hello};
 use of_session::{Next, Phase, Session};
-use of_wire::{Bytes, Code};
+use of_wire::Code;
 use std::alloc::{AllocError, Global};
 use std::marker::Model;
 
@@ -269,7 +269,7 @@ fn tell(called: Result<Effects, SwitchError>, reports: &mut Vec<Report>) -> Resu
 }
 
 // An error, and the end of the connection.
-fn closing(alloc: Global, error: Bytes) -> Result<Effects, AllocError>
+fn closing(alloc: Global, error: MessageBytes) -> Result<Effects, AllocError>
     ensures { IfOk result (λ effects. effects.items ≡ Effect.Answer error ∷ Effect.Closed ∷ []) }
 {
     let mut effects = Effects::new(alloc);
@@ -280,7 +280,8 @@ fn closing(alloc: Global, error: Bytes) -> Result<Effects, AllocError>
 
 // The first bytes, so many at most.
 fn front_part(bytes: &[u8], most: usize) -> &[u8]
-    ensures { result.now ≡ take most bytes.now }
+    ensures front { result.now ≡ take most bytes.now }
+    ensures short { length result.now ≤ most }
 {
     if bytes.len() <= most {
         bytes

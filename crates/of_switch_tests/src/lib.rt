@@ -4,6 +4,10 @@
 #![tactic(auto)]
 
 #[cfg(test)]
+mod again;
+#[cfg(test)]
+mod rows;
+#[cfg(test)]
 mod session;
 #[cfg(test)]
 mod switch;

@@ -1,10 +1,11 @@
-use Rattle.std.proofs.Common.{ap, sym, subst, refl, ◌∙◌, ◌+◌, ◌-◌, ℕ, List, [], ◌∷◌, ◌++◌, length, arith}
+use Rattle.std.proofs.Common.{ap, sym, subst, refl, ◌∙◌, ◌+◌, ◌-◌, ℕ, List, [], ◌∷◌, ◌++◌, ◌≤◌, length, arith}
 use Rattle.std.specs.List.{AllByRecursion}
 use Rattle.of_oxm.specs.declared.match_field.MatchField.{MatchField}
 use Rattle.of_oxm.specs.MatchFieldWire.{IsSpelt}
 use Rattle.of_oxm.specs.MatchGrammar.{spellings, padded, SpellsMatch}
 use Rattle.of_oxm.specs.NormalForm.{IsMatch}
-use Rattle.of_oxm.proofs.Written.{all_spelt, written_fits, is_canonical, canonical_spells}
+use Rattle.of_oxm.specs.Canonical.{canonical}
+use Rattle.of_oxm.proofs.Written.{all_spelt, written_fits, is_canonical, canonical_short, canonical_spells}
 use Rattle.of_oxm.proofs.writing.write_match.Goals as goal
 
 pub put_fields-requires : goal.put_fields-requires
@@ -31,3 +32,8 @@ pub returns-clause-spells : goal.returns-clause-spells
 returns-clause-spells c =
     let match : IsMatch c.args.m.now = subst IsMatch c.m.view_is c.m.invariant in
     subst (λ (x : List ℕ). SpellsMatch x c.args.m.now) (sym (returns-clause-canonical c)) (canonical_spells c.args.m.now match)
+
+pub returns-clause-short : goal.returns-clause-short
+returns-clause-short c =
+    let short = canonical_short c.m.inside.fields.items c.m.invariant.rising in
+    subst (λ (x : List ℕ). length x ≤ 1128) (sym (returns-clause-canonical c ∙ ap canonical (sym c.m.view_is))) short
