@@ -25,8 +25,7 @@ fn put_header(out: &mut Vec<u8>, kind: u8, length: usize, xid: u32) -> Result<()
 pub fn write_hello(alloc: Global) -> Result<MessageBytes, AllocError>
     ensures { IfOk result (λ bytes. bytes ≡ hello_bytes) }
 {
-    let bytes =
-        Bytes::from_slice(alloc, &[4, 0, 0, 16, 0, 0, 0, 0, 0, 1, 0, 8, 0, 0, 0, 16])?;
+    let bytes = Bytes::from_slice(alloc, &[4, 0, 0, 16, 0, 0, 0, 0, 0, 1, 0, 8, 0, 0, 0, 16])?;
     Ok(MessageBytes::new(bytes))
 }
 

@@ -10,10 +10,10 @@ new-requires-2 c =
     let fields = canonical (packet_fields c.args.packet.now.in_port c.args.packet.now.metadata) in
     let size : c.packet_fields_size.result ≡ length fields = c.packet_fields_size.ensures.size in
     let whole : c.new.result ≡ packet_in_bytes c.args.xid c.args.packet.now c.args.frame.now =
-        c.new.ensures
-        ∙ packet_in_is c.args.xid _ _ c.args.packet.now fields c.args.frame.now _ c.extend_from_slice-2.new.self.items
-        c.in_ok-out.ensures.items c.in_ok-put_header.ensures c.in_ok-put_packet_in.ensures c.in_ok-put_packet_fields.ensures c.in_ok-extend_from_slice.ensures.items c.in_ok-extend_from_slice-2.ensures.items
-        (omega (arith, c.requires)) (omega (arith, size)) in
+    c.new.ensures
+    ∙ packet_in_is c.args.xid _ _ c.args.packet.now fields c.args.frame.now _ c.extend_from_slice-2.new.self.items
+    c.in_ok-out.ensures.items c.in_ok-put_header.ensures c.in_ok-put_packet_in.ensures c.in_ok-put_packet_fields.ensures c.in_ok-extend_from_slice.ensures.items c.in_ok-extend_from_slice-2.ensures.items
+    (omega (arith, c.requires)) (omega (arith, size)) in
     subst IsMessage (sym whole) (packet_in_is_message c.args.xid c.args.packet.now c.args.frame.now (omega (arith, size, c.packet_fields_size.ensures.most)) c.requires)
 
 pub returns : goal.returns
