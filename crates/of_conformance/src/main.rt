@@ -1,6 +1,8 @@
-//! Replays the event files of data/ by the public `replay`, and says whether each prints what the standard wants.
+//! Replays the event files of data/ by the public `replay`, and says whether each prints what the standard wants: by the
+//! classifier of the running switch, and by the plain one that walks a list.
 #![tactic(auto)]
 
+use of_classifier::{Lookup, Scan};
 use of_mask_groups::MaskGroups;
 use of_replay::memory::{MemorySink, MemorySource};
 use of_replay::{Ended, replay};
@@ -72,25 +74,36 @@ const NAMES: [&str; 52] = [
 /// A read gives so many bytes at most.
 const PIECE: usize = 1000;
 
+const AS_EXPECTED: &str = "as expected";
+
 fn main(rt: HostRuntime) -> io::Result<()> {
     for name in NAMES {
         let events = fs::read_to_string(&rt, &format!(in rt.alloc(); "{name}.events")?)?;
         let expected = fs::read_to_string(&rt, &format!(in rt.alloc(); "{name}.expected")?)?;
         println!(rt;
             "{name}: {}",
-            verdict(&rt, events.as_bytes(), expected.as_bytes())
+            verdicts(&rt, events.as_bytes(), expected.as_bytes())
         )?;
     }
     Ok(())
 }
 
-fn verdict(rt: &HostRuntime, events: &[u8], expected: &[u8]) -> &'static str {
+fn verdicts(rt: &HostRuntime, events: &[u8], expected: &[u8]) -> &'static str {
+    let by_masks = verdict::<MaskGroups>(rt, events, expected);
+    if by_masks == AS_EXPECTED {
+        verdict::<Scan>(rt, events, expected)
+    } else {
+        by_masks
+    }
+}
+
+fn verdict<L: Lookup>(rt: &HostRuntime, events: &[u8], expected: &[u8]) -> &'static str {
     let Ok(mut source) = MemorySource::new(rt.alloc(), events, PIECE, 0) else {
         return "no memory";
     };
     let mut sink = MemorySink::new(rt.alloc(), PIECE, 0);
-    match replay::<MaskGroups, _, _>(rt.alloc(), &mut source, &mut sink) {
-        Ended::Done if sink.bytes() == expected => "as expected",
+    match replay::<L, _, _>(rt.alloc(), &mut source, &mut sink) {
+        Ended::Done if sink.bytes() == expected => AS_EXPECTED,
         Ended::Done => "other output",
         Ended::BadRow(_) => "bad row",
         Ended::ReadFault => "read fault",

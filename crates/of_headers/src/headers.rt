@@ -13,13 +13,16 @@ use crate::key::FieldKey;
 use crate::layout::{Layout, layout_in};
 use crate::reading::key_in;
 use of_layers::{Field, Place};
+use thiserror::Error;
 
 /// Why bytes are no frame that the switch takes.
-#[derive(Clone, Copy, Debug, PartialEq, Eq)]
+#[derive(Clone, Copy, Debug, PartialEq, Eq, Error)]
 pub enum FrameFault {
     /// Fewer than the 14 bytes of two addresses and a type.
+    #[error("a frame has 14 bytes at least")]
     Short,
     /// More than 9,216 bytes.
+    #[error("a frame has 9,216 bytes at most")]
     Long,
 }
 

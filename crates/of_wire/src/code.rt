@@ -4,9 +4,11 @@ ghost use Rattle.std.specs.Prelude.{◌≡◌};
 ghost use Rattle.of_wire.specs.declared.code.ReadError.TheVariants.{Memory};
 
 use std::alloc::{AllocError, AllocFailed};
+use thiserror::Error;
 
 /// An OpenFlow error, as an ERROR message carries it (OpenFlow 1.3.5, 7.4.4).
-#[derive(Clone, Copy, Debug, PartialEq, Eq)]
+#[derive(Clone, Copy, Debug, PartialEq, Eq, Error)]
+#[error("type {kind} code {code}")]
 pub struct Code {
     /// The type of the error, as 4 for OFPET_BAD_MATCH.
     pub kind: u16,
@@ -15,11 +17,13 @@ pub struct Code {
 }
 
 /// Why a reader gave no value.
-#[derive(Debug, Drop)]
+#[derive(Debug, Drop, Error)]
 pub enum ReadError {
     /// Memory ran out.
+    #[error("no memory")]
     Memory,
     /// The bytes spell no value.
+    #[error("refused: {0}")]
     Refused(Code),
 }
 
