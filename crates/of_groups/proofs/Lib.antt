@@ -5,3 +5,5 @@ pub mod PutLemmas
 pub mod Soundness
 pub mod Finding
 pub mod BucketLemmas
+pub mod LiveLemmas
+pub mod CountLemmas

@@ -7,9 +7,11 @@ mod chains;
 mod changing;
 mod checking;
 mod chosen;
+mod counting;
 mod group;
 mod group_fault;
 mod groups;
+mod liveness;
 mod lookup;
 mod naming;
 
@@ -19,4 +21,5 @@ pub use chosen::Chosen;
 pub use group::{Group, GroupKind};
 pub use group_fault::GroupFault;
 pub use groups::Groups;
+pub use liveness::LivePorts;
 pub use naming::{names, sends_to};
