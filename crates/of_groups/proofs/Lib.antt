@@ -7,3 +7,5 @@ pub mod Finding
 pub mod BucketLemmas
 pub mod LiveLemmas
 pub mod CountLemmas
+pub mod ChainLaws
+pub mod LiveLaws
