@@ -1,0 +1,11 @@
+pub mod NameLemmas
+pub mod ChainLemmas
+pub mod RoundLemmas
+pub mod PutLemmas
+pub mod Soundness
+pub mod Finding
+pub mod BucketLemmas
+pub mod LiveLemmas
+pub mod CountLemmas
+pub mod ChainLaws
+pub mod LiveLaws

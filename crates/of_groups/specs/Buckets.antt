@@ -1,0 +1,61 @@
+-- Buckets of a group (OpenFlow 1.3.5, 5.6, 5.6.1 and 5.8).
+use Rattle.std.specs.Prelude.{ℕ, zero, suc, ◌+◌, ◌%◌, ◌^◌, ◌==◌, nat_le, nat_lt, Bool, true, false, not, ◌&&◌, ◌||◌, List, [], ◌∷◌, length, map}
+use Rattle.std.specs.List.{list_any, list_all}
+use Rattle.of_actions.specs.declared.action.Action.{Action}
+use Rattle.of_actions.specs.declared.action.Action.TheVariants.{Output, PushVlan, PopVlan, Group, SetNwTtl, DecNwTtl, SetField}
+use Rattle.of_actions.specs.Served.{are_served}
+use Rattle.of_actions.specs.PortNumbers.{is_number}
+use Rattle.of_groups.specs.declared.bucket.Bucket.{Bucket}
+
+-- at most 16 of them, each with actions that may stand in a group
+abbrev pub is_fit : Bucket → Bool
+is_fit b = are_served false b.actions
+
+abbrev pub are_fit : List Bucket → Bool
+are_fit buckets = nat_le (length buckets) 16 && list_all is_fit buckets
+
+-- ---- counting (5.8): counters wrap
+
+abbrev pub fresh : Bucket → Bucket
+fresh b = record b { packets = 0; bytes = 0 }
+
+-- one packet of so many bytes more
+abbrev pub used : ℕ → Bucket → Bucket
+used bytes b = record b { packets = (b.packets + 1) % 2 ^ 64; bytes = (b.bytes + bytes) % 2 ^ 64 }
+
+-- at the bucket of a place
+abbrev pub used_at : ℕ → ℕ → List Bucket → List Bucket
+used_at place bytes [] = []
+used_at zero bytes (b ∷ buckets) = used bytes b ∷ buckets
+used_at (suc place) bytes (b ∷ buckets) = b ∷ used_at place bytes buckets
+
+-- ---- the groups that buckets name
+
+-- an action that gives the packet to a group of such a number
+abbrev pub sends : (ℕ → Bool) → Action → Bool
+sends is_so (Output port max_len) = false
+sends is_so (PushVlan type) = false
+sends is_so PopVlan = false
+sends is_so (Group group) = is_so group
+sends is_so (SetNwTtl ttl) = false
+sends is_so DecNwTtl = false
+sends is_so (SetField field value) = false
+
+-- some action of some bucket does
+abbrev pub any_sends : (ℕ → Bool) → List Bucket → Bool
+any_sends is_so buckets = list_any (λ b. list_any (sends is_so) b.actions) buckets
+
+-- OFPP_ANY and OFPG_ANY: a bucket watches no port, or no group
+abbrev pub none_watched : ℕ
+none_watched = 0xffffffff
+
+-- the bucket watches a group of such a number
+abbrev pub watches : (ℕ → Bool) → Bucket → Bool
+watches is_so b = not (b.watch_group == none_watched) && is_so b.watch_group
+
+-- what a bucket of FAST-FAILOVER watches can be: a port of the switch, a group, or both, and nothing else
+abbrev pub is_badly_watched : Bucket → Bool
+is_badly_watched b =
+    (not (b.watch_port == none_watched) && not (is_number b.watch_port))
+    || (not (b.watch_group == none_watched) && nat_lt 0xffffff00 b.watch_group)
+    || ((b.watch_port == none_watched) && (b.watch_group == none_watched))

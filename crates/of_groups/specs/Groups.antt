@@ -1,0 +1,73 @@
+-- The groups of a switch, by rising number (OpenFlow 1.3.5, 5.6, 5.8 and 6.5).
+use Rattle.std.specs.Prelude.{ℕ, ◌+◌, ◌%◌, ◌^◌, ◌==◌, nat_lt, Bool, false, ◌&&◌, ◌||◌, List, [], ◌∷◌, ◌++◌, map, filter, find, Option, Some, None, if◌then◌else◌}
+use Rattle.std.specs.List.{list_any}
+use Rattle.std.specs.Option.{option_map_or}
+use Rattle.of_wire.specs.Numbered.{is_used, without}
+use Rattle.of_groups.specs.declared.bucket.Bucket.{Bucket}
+use Rattle.of_groups.specs.declared.group.Group.{Group}
+use Rattle.of_groups.specs.declared.group.GroupKind.{GroupKind}
+use Rattle.of_groups.specs.declared.group.GroupKind.TheVariants.{All, Indirect, FastFailover}
+use Rattle.of_groups.specs.Buckets.{fresh, used_at, any_sends, watches}
+
+abbrev pub number_of : Group → ℕ
+number_of g = g.id
+
+abbrev pub find_group : ℕ → List Group → Option Group
+find_group n groups = find (λ g. g.id == n) groups
+
+abbrev pub is_there : ℕ → List Group → Bool
+is_there n groups = is_used number_of n groups
+
+-- ---- names (6.5): a group names those to which its buckets' actions send; one of FAST-FAILOVER names those that its buckets watch too
+
+abbrev pub any_watches : (ℕ → Bool) → GroupKind → List Bucket → Bool
+any_watches is_so All buckets = false
+any_watches is_so Indirect buckets = false
+any_watches is_so FastFailover buckets = list_any (watches is_so) buckets
+
+-- some group that it names has such a number
+abbrev pub any_named : (ℕ → Bool) → Group → Bool
+any_named is_so g = any_sends is_so g.buckets || any_watches is_so g.kind g.buckets
+
+abbrev pub names : ℕ → Group → Bool
+names n g = any_named (λ m. m == n) g
+
+-- by an action: what the number of references counts (7.3.5.6)
+abbrev pub sends_to : ℕ → Group → Bool
+sends_to n g = any_sends (λ m. m == n) g.buckets
+
+-- ---- changes (6.5)
+
+-- a group as a GROUP_MOD gives it: nothing is counted so far
+abbrev pub new_group : ℕ → GroupKind → List Bucket → ℕ → Group
+new_group id kind buckets created = record { id = id; kind = kind; buckets = map fresh buckets; packets = 0; bytes = 0; created = created }
+
+-- it takes the place of the group of its number, or stands between those of lower and those of higher numbers
+abbrev pub with_group : Group → List Group → List Group
+with_group g groups = filter (λ h. nat_lt h.id g.id) groups ++ g ∷ filter (λ h. nat_lt g.id h.id) groups
+
+-- the moment at which the group of that number was added
+abbrev pub created_at : ℕ → List Group → ℕ
+created_at n groups = option_map_or (λ g. g.created) (find_group n groups) 0
+
+-- a group that is modified was still added when it was added
+abbrev pub modified_group : ℕ → GroupKind → List Bucket → List Group → Group
+modified_group id kind buckets groups = new_group id kind buckets (created_at id groups)
+
+-- what a DELETE leaves: of one group, or of all
+abbrev pub left : Option ℕ → List Group → List Group
+left None groups = []
+left (Some n) groups = without number_of n groups
+
+-- ---- counting (5.8)
+
+-- the group of a number is changed
+abbrev pub at_group : ℕ → (Group → Group) → List Group → List Group
+at_group n change groups = map (λ g. if g.id == n then change g else g) groups
+
+-- a packet of so many bytes more; counters wrap
+abbrev pub counted : ℕ → ℕ → List Group → List Group
+counted n bytes groups = at_group n (λ g. record g { packets = (g.packets + 1) % 2 ^ 64; bytes = (g.bytes + bytes) % 2 ^ 64 }) groups
+
+abbrev pub bucket_counted : ℕ → ℕ → ℕ → List Group → List Group
+bucket_counted n place bytes groups = at_group n (λ g. record g { buckets = used_at place bytes g.buckets }) groups

@@ -1,0 +1,29 @@
+//! Groups.
+
+use crate::buckets::Buckets;
+
+/// The kind of a group (OpenFlow 1.3.5, 5.6.1).
+#[derive(Clone, Copy, Debug, PartialEq, Eq)]
+pub enum GroupKind {
+    /// OFPGT_ALL: each bucket runs.
+    All,
+    /// OFPGT_INDIRECT: its one bucket runs.
+    Indirect,
+    /// OFPGT_FF: the first bucket runs that is live.
+    FastFailover,
+}
+
+/// A group (OpenFlow 1.3.5, 5.6).
+#[derive(Drop)]
+pub struct Group {
+    /// Its number.
+    pub id: u32,
+    pub kind: GroupKind,
+    pub buckets: Buckets,
+    /// How many packets were given to it (OpenFlow 1.3.5, 5.8). It wraps.
+    pub packets: u64,
+    /// How many bytes they had. It wraps.
+    pub bytes: u64,
+    /// The moment at which it was added, in nanoseconds.
+    pub created: u64,
+}
