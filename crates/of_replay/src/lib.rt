@@ -16,3 +16,5 @@ mod transfer;
 
 pub use event_file::{Ended, replay, status};
 pub use io::{Reading, Sink, Source, Writing};
+pub use output::push_effects;
+pub use transfer::write_all;

@@ -53,8 +53,8 @@ fn push_effect(alloc: Global, out: &mut Vec<u8>, effect: &Effect) -> Result<(), 
     Ok(())
 }
 
-/// Appends the lines of effects.
-fn push_effects(alloc: Global, out: &mut Vec<u8>, effects: &[Effect]) -> Result<(), AllocError>
+/// Appends the lines of effects, as an event file's output has them: `a HEX`, `s PORT HEX`, `closed`.
+pub fn push_effects(alloc: Global, out: &mut Vec<u8>, effects: &[Effect]) -> Result<(), AllocError>
     ensures { OnOk result (out.new.items ≡ out.old.items ++ text_of effects.now) }
 {
     for effect in effects {

@@ -1,5 +1,7 @@
 pub mod PlaceNumbers
 pub mod Worlds
+pub mod Looking
+pub mod Prefixes
 pub mod Tallying
 pub mod Forwarding
 pub mod Draining

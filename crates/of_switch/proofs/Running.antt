@@ -9,7 +9,7 @@ use Rattle.of_switch.specs.declared.event.Report.{Report as Reported}
 use Rattle.std.specs.Prelude.{OnErr}
 use Rattle.of_switch.specs.State.{State}
 use Rattle.of_switch.specs.Steps.{Outcome, gives, next_of}
-use Rattle.of_switch.specs.Runs.{behind, drain, drained, Report, Gives, report_of, reports_of, Happened, happened, Run, run, IsInterrupted, StopsWithin, RunsAll}
+use Rattle.of_switch.specs.Runs.{behind, drained, Report, Gives, report_of, reports_of, Happened, happened, Run, run, IsInterrupted, StopsWithin, RunsAll}
 use Rattle.of_switch.specs.Stepping.{Happens, Drains}
 use Rattle.of_switch.proofs.Draining.{Left, left_all}
 use Rattle.of_switch.proofs.Joining.{drain_same}

@@ -64,12 +64,12 @@ renumbered_world n ports distinct = record {
 }
 
 -- an entry that is there has a flow
-flow_some : (k : ℕ) (flows : List FlowEntry) → k < length flows → flow_at k flows ≡ None → ⊥
+pub flow_some : (k : ℕ) (flows : List FlowEntry) → k < length flows → flow_at k flows ≡ None → ⊥
 flow_some k [] lt e = absurd (omega (arith, lt))
 flow_some zero (f ∷ flows) lt e = absurd cc
 flow_some (suc k) (f ∷ flows) lt e = flow_some k flows (omega (arith, lt)) e
 
-flow_none : (k : ℕ) (flows : List FlowEntry) → length flows ≤ k → flow_at k flows ≡ None
+pub flow_none : (k : ℕ) (flows : List FlowEntry) → length flows ≤ k → flow_at k flows ≡ None
 flow_none k [] le = slice_none k
   where
     slice_none : (k : ℕ) → flow_at k [] ≡ None
@@ -88,7 +88,7 @@ sound_by es fields n (Some k) distinct e h none =
     flow_some k (flows_of es) (omega (arith, lt, length-map es entry_of, length-map es entry_number)) (ap (λ (x : ℕ). flow_at x (flows_of es)) (sym at) ∙ none)
 
 -- a flow at a place has what each has
-flow_fit : (k place : ℕ) (flows : List FlowEntry) (f : Flow) → list_all (is_fit k) flows ≡ true → flow_at place flows ≡ Some f → are_fit k f.instructions ≡ true
+pub flow_fit : (k place : ℕ) (flows : List FlowEntry) (f : Flow) → list_all (is_fit k) flows ≡ true → flow_at place flows ≡ Some f → are_fit k f.instructions ≡ true
 flow_fit k place [] f h e = absurd (no_flow place e)
   where
     no_flow : (k : ℕ) → flow_at k [] ≡ Some f → ⊥
@@ -99,7 +99,7 @@ flow_fit k zero (x ∷ flows) f h e =
     rw (← same) (grind arith)
 flow_fit k (suc place) (x ∷ flows) f h e = flow_fit k place flows f (grind arith) e
 
-both : (a b : Bool) → (a && b) ≡ true → (a ≡ true) × (b ≡ true)
+pub both : (a b : Bool) → (a && b) ≡ true → (a ≡ true) × (b ≡ true)
 both true b h = (refl, h)
 both false b h = absurd cc
 

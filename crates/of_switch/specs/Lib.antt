@@ -2,6 +2,7 @@ pub mod Ports
 pub mod Told
 pub mod Plane
 pub mod Numbers
+pub mod DryRun
 pub mod Plans
 pub mod State
 pub mod Commands

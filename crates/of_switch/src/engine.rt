@@ -1,14 +1,20 @@
 //! What messages, frames and moments do, whatever the connection.
-ghost use Rattle.std.specs.Prelude.{◌≡◌, ◌<◌, ◌∷◌, [], true, false, IfOk, OnOk, OnErr, length};
+ghost use Rattle.std.specs.Prelude.{◌≡◌, ◌<◌, ◌∷◌, ◌++◌, [], true, false, IfOk, OnOk, OnErr, length};
 ghost use Rattle.of_wire.specs.Refusals.{first_of};
 ghost use Rattle.of_switch.specs.State.{new_core};
 ghost use Rattle.of_switch.specs.Ports.{has_port, no_counters as zero_counters};
-ghost use Rattle.of_table.specs.Tables.{modified_in, left_in, notices_in};
+ghost use Rattle.of_headers.specs.FieldMap.{value};
+ghost use Rattle.std.specs.Prelude.{slice_get};
+ghost use Rattle.std.specs.Option.{option_map};
+ghost use Rattle.of_table.specs.Entries.{entry_of};
+ghost use Rattle.of_table.specs.Tables.{modified_in, left_in, notices_in, table_at};
 ghost use Rattle.of_actions.specs.FlowCheck.{all_go_with};
 ghost use Rattle.of_actions.specs.InstructionLists.{are_for};
 ghost use Rattle.of_messages.specs.Promised.{IsSoundFlowMod, IsSoundMessage, IsSoundPacket};
 ghost use Rattle.of_switch.specs.Commands.{names_a_group as names_some_group, packet_out_refusals, flow_mod_refusals, has_flag as with_flag, notice_effects, which_of};
-ghost use Rattle.of_switch.specs.Plane.{framed};
+ghost use Rattle.of_machine.specs.Sound.{IsSound};
+ghost use Rattle.of_switch.specs.Plane.{framed, winner_in, world_of};
+ghost use Rattle.of_switch.specs.DryRun.{GainsPrefix, steps_in};
 ghost use Rattle.of_switch.specs.Handling.{Handles};
 ghost use Rattle.of_switch.specs.Steps.{core_port_changed, does, done, flow_modded, forwarded, packet_outed, state_refusals, with_tables, moment_done};
 
@@ -17,12 +23,13 @@ use crate::effect::{Effect, Effects};
 use crate::plane::{Plane, contains, put_port};
 use crate::port_change::PortChange;
 use of_classifier::Lookup;
-use of_machine::{Port, PortCounters};
+use of_headers::FieldKey;
+use of_machine::{Port, PortCounters, StepLog};
 use of_messages::{
     FlowMod, FlowModCommand, Message, PacketData, PacketOut, write_barrier_reply, write_echo_reply,
 };
 use of_session::Phase;
-use of_table::{Cause, TableFault};
+use of_table::{Cause, Entry, TableFault};
 use of_wire::Code;
 use std::alloc::{AllocError, Global};
 use std::marker::Model;
@@ -129,6 +136,43 @@ impl<L: Lookup> Engine<L> {
     {
         let plan = self.plane.plan_frame(self.alloc, phase, number, bytes)?;
         Ok(self.plane.carry_out(plan))
+    }
+
+    /// What a frame that comes in by a port would give, and its steps, while the connection stands there. Nothing changes.
+    pub fn dry_run<S: StepLog>(
+        &self,
+        phase: Phase,
+        number: u32,
+        bytes: &[u8],
+        log: &mut S,
+    ) -> Result<Effects, AllocError>
+        ensures effects { IfOk result (λ effects. effects.items ≡ (framed phase number bytes.now self.now.forwarding).effects) }
+        ensures steps { OnOk result (S.KEEPS ≡ true → S.list log.new ≡ S.list log.old ++ steps_in number bytes.now self.now.forwarding) }
+        ensures err { OnErr result (S.KEEPS ≡ true → GainsPrefix (steps_in number bytes.now self.now.forwarding) (S.list log.old) (S.list log.new)) }
+    {
+        self.plane.dry_run(self.alloc, phase, number, bytes, log)
+    }
+
+    /// The tables keep what the machine is promised.
+    pub fn known_world(&self)
+        ensures { IsSound (world_of self.now.forwarding) }
+    {
+        self.plane.known_world();
+    }
+
+    /// The place by age of the entry of a table that wins for these fields.
+    pub fn winner(&self, table: u8, key: &FieldKey) -> Option<usize>
+        ensures { result ≡ winner_in self.now.forwarding table (value key.now) }
+    {
+        self.plane.winner(table, key)
+    }
+
+    /// The entry of a table at a place by age, from 0.
+    pub fn entry(&self, table: u8, place: usize) -> Option<&Entry>
+        requires { table < 16 }
+        ensures { option_map (λ e. entry_of e.now) result ≡ slice_get (table_at table self.now.forwarding.tables).flows place }
+    {
+        self.plane.entry(table, place)
     }
 
     /// Does a message of that transaction id, unless it is refused.

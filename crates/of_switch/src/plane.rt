@@ -47,7 +47,7 @@ pub enum PortCount {
 }
 
 /// How many flow tables there are.
-const TABLES: usize = 16;
+pub const TABLES: usize = 16;
 
 /// The flow tables and the ports.
 #[derive(Drop)]
@@ -144,8 +144,8 @@ pub fn put_port(ports: &mut Vec<Port>, port: Port) -> Result<(), AllocError>
     Ok(())
 }
 
-// The port of that number.
-fn find_port(ports: &[Port], number: u32) -> Option<Port>
+/// The port of that number.
+pub fn find_port(ports: &[Port], number: u32) -> Option<Port>
     ensures { result ≡ port_at ports.now number }
 {
     ports.iter().copied().find(|port| port.number == number)

@@ -1,9 +1,16 @@
 //! The switch.
-ghost use Rattle.std.specs.Prelude.{◌≡◌, ◌≤◌, ◌<◌, ◌∷◌, ◌++◌, ◌+◌, [], IfOk, IfNone, OnOk, OnErr, None, length, take, vec_len, vec_capacity};
+ghost use Rattle.std.specs.Prelude.{◌≡◌, ◌≤◌, ◌<◌, ◌∷◌, ◌++◌, ◌+◌, [], true, IfOk, IfErr, IfNone, OnOk, OnErr, None, length, take, vec_len, vec_capacity};
 ghost use Rattle.std.specs.Option.{option_map};
 ghost use Rattle.of_messages.specs.Written.{error_bytes};
 ghost use Rattle.of_session.specs.Session.{IsSound, IsWithin};
 ghost use Rattle.of_switch.specs.State.{start};
+ghost use Rattle.of_switch.specs.DryRun.{GainsPrefix, steps_in};
+ghost use Rattle.of_headers.specs.FieldMap.{value};
+ghost use Rattle.std.specs.Prelude.{slice_get};
+ghost use Rattle.of_machine.specs.Sound.{IsSound as IsSoundWorld};
+ghost use Rattle.of_switch.specs.Plane.{winner_in, world_of};
+ghost use Rattle.of_table.specs.Entries.{entry_of};
+ghost use Rattle.of_table.specs.Tables.{table_at};
 ghost use Rattle.of_switch.specs.Steps.{came, connected, does, failed_of, fed, frame_in, moment_in, gives, next_of, port_changed, refused as refused_by};
 ghost use Rattle.of_switch.specs.Calls.{Call, connect_refusal, feed_refusal, port_refusal};
 ghost use Rattle.of_switch.specs.Runs.{RunsAll, StopsWithin, reports_of};
@@ -15,8 +22,11 @@ use crate::event::{Event, Report};
 use crate::port_change::PortChange;
 use crate::switch_error::SwitchError;
 use of_classifier::Lookup;
+use of_headers::FieldKey;
+use of_machine::StepLog;
 use of_messages::{MessageBytes, write_error, write_hello};
 use of_session::{Next, Phase, Session};
+use of_table::Entry;
 use of_wire::Code;
 use std::alloc::{AllocError, Global};
 use std::marker::Model;
@@ -148,6 +158,47 @@ impl<L: Lookup> Switch<L> {
         ensures { Call None (λ effects new. frame_in port frame.now self.old ≡ gives effects.items new) self.old result self.new }
     {
         Ok(self.engine.frame(self.session.phase(), port, frame)?)
+    }
+
+    /// The effects that `frame` would give next, and the steps of the frame's run, which are put into the log (OpenFlow 1.3.5, 5.1).
+    ///
+    /// Nothing changes: no counter, no moment. In the steps an entry is named by its place in its table by age, from 0. A frame
+    /// at a port that is not there or whose link is down, or one that is too short or too long, takes no steps. Where memory
+    /// runs out, the log has the first steps, or all.
+    pub fn dry_run<S: StepLog>(
+        &self,
+        port: u32,
+        frame: &[u8],
+        log: &mut S,
+    ) -> Result<Effects, SwitchError>
+        ensures effects { IfOk result (λ effects. effects.items ≡ (frame_in port frame.now self.now).effects) }
+        ensures steps { OnOk result (S.KEEPS ≡ true → S.list log.new ≡ S.list log.old ++ steps_in port frame.now self.now.core.forwarding) }
+        ensures err { IfErr result (λ e. (e ≡ SwitchError.NoMemory) × (S.KEEPS ≡ true → GainsPrefix (steps_in port frame.now self.now.core.forwarding) (S.list log.old) (S.list log.new))) }
+    {
+        Ok(self.engine.dry_run(self.session.phase(), port, frame, log)?)
+    }
+
+    /// At all times the entries of the tables are as the machine wants them: their instructions may stand in their tables, and each
+    /// winner is there (OpenFlow 1.3.5, 5.9).
+    pub fn known_world(&self)
+        ensures { IsSoundWorld (world_of self.now.core.forwarding) }
+    {
+        self.engine.known_world();
+    }
+
+    /// The entry of a table that a packet of these fields would hit, by its place by age, from 0 (OpenFlow 1.3.5, 5.3). Nothing changes.
+    pub fn winner(&self, table: u8, key: &FieldKey) -> Option<usize>
+        ensures { result ≡ winner_in self.now.core.forwarding table (value key.now) }
+    {
+        self.engine.winner(table, key)
+    }
+
+    /// The entry of a table at a place by age, from 0 (OpenFlow 1.3.5, 5.2). None where there are no more than so many.
+    pub fn entry(&self, table: u8, place: usize) -> Option<&Entry>
+        requires { table < 16 }
+        ensures { option_map (λ e. entry_of e.now) result ≡ slice_get (table_at table self.now.core.forwarding.tables).flows place }
+    {
+        self.engine.entry(table, place)
     }
 
     /// It is so many nanoseconds, or the latest moment if that is later: entries whose time is over go (OpenFlow 1.3.5, 5.5).

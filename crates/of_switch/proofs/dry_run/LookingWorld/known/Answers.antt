@@ -1,0 +1,5 @@
+use Rattle.of_switch.proofs.Looking.{sound_by_places}
+use Rattle.of_switch.proofs.dry_run.LookingWorld.known.Goals as goal
+
+pub returns : goal.returns
+returns g c = sound_by_places c.args.self.now.plane.now.tables c.args.self.now.plane.now.ports.items c.known.ensures.sound

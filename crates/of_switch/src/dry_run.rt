@@ -1,0 +1,170 @@
+//! What a frame would do, found by looking alone.
+ghost use Rattle.std.specs.Prelude.{◌≡◌, ◌<◌, ◌≤◌, ◌++◌, ◌∷◌, [], true, IfOk, OnOk, OnErr, length, slice_get};
+ghost use Rattle.std.specs.Option.{option_copied, option_map};
+ghost use Rattle.of_headers.specs.FieldMap.{value};
+ghost use Rattle.of_table.specs.Entries.{entry_of, place_of as place_of_number};
+ghost use Rattle.of_table.specs.Tables.{table_at, tables_of};
+ghost use Rattle.of_switch.specs.Numbers.{Contents, contents, forwarding_of};
+ghost use Rattle.of_switch.specs.Plane.{framed, winner_in, world_of};
+ghost use Rattle.of_switch.specs.DryRun.{GainsPrefix, received_steps, steps_in};
+ghost use Rattle.of_machine.specs.Sound.{IsSound};
+ghost use Rattle.of_machine.specs.Rows.{Lookup as LookUp, entering};
+ghost use Rattle.of_machine.specs.Runs.{run_of};
+ghost use Rattle.of_switch.specs.Told.{effects_of};
+
+use crate::effect::Effects;
+use crate::plane::{Plane, TABLES, find_port};
+use crate::told::effects_from;
+use of_actions::Action;
+use of_classifier::Lookup;
+use of_headers::{FieldKey, check_length};
+use of_machine::{Chosen, Packet, PacketFrame, Port, StepLog, World, run};
+use of_session::Phase;
+use of_table::{Entries, Entry, Flow};
+use std::alloc::{AllocError, Global};
+
+/// The tables and the ports, only lent: entries are found by `peek`, and named by their places by age.
+#[derive(Drop)]
+struct Looking<'a, L: Lookup> {
+    plane: &'a Plane<L>,
+}
+
+// The place of the entry of that number, from 0; how many there are where none has it.
+fn place_of(entries: Entries<'_>, number: usize) -> usize
+    requires { length entries ≤ 4096 }
+    ensures { result ≡ place_of_number number entries.entry }
+{
+    let mut left = entries;
+    let mut place = 0;
+    while let Some(entry) = left.next() {
+        if entry.number == number {
+            return place;
+        }
+        place += 1;
+    }
+    place
+}
+
+// The entry at a place, from 0.
+fn entry_at<'a>(entries: Entries<'a>, place: usize) -> Option<&'a Entry>
+    ensures { option_copied result ≡ slice_get entries.entry place }
+{
+    let mut left = entries;
+    let mut ahead = place;
+    while ahead > 0 {
+        left.next()?;
+        ahead -= 1;
+    }
+    left.next()
+}
+
+impl<L: Lookup> World for Looking<'_, L> {
+    ghost view = { λ w. world_of (forwarding_of w.plane.now.tables w.plane.now.ports.items) };
+
+    ghost Content = { Contents };
+
+    ghost content = { λ w. contents w.plane.now.tables w.plane.now.ports.items };
+
+    fn find(&mut self, table: u8, key: &FieldKey) -> Option<usize> {
+        self.plane.tables.known();
+        if (table as usize) < TABLES {
+            let number = self.plane.tables.peek(table, key)?;
+            Some(place_of(self.plane.tables.entries(table), number))
+        } else {
+            None
+        }
+    }
+
+    fn flow(&self, table: u8, place: usize) -> &Flow {
+        self.plane.tables.known();
+        match entry_at(self.plane.tables.entries(table), place) {
+            Some(entry) => &entry.flow,
+            None => unreachable!(),
+        }
+    }
+
+    fn chosen(&self, group: u32) -> Option<Chosen> {
+        self.plane.chosen(group)
+    }
+
+    fn bucket(&self, group: u32, place: u8) -> &[Action] {
+        self.plane.bucket(group, place)
+    }
+
+    fn ports(&self) -> &[Port] {
+        self.plane.ports.as_slice()
+    }
+
+    fn known(&self) {
+        self.plane.tables.known();
+    }
+}
+
+impl<L: Lookup> Plane<L> {
+    /// The tables keep what the machine is promised.
+    pub fn known_world(&self)
+        ensures { IsSound (world_of (forwarding_of self.now.tables self.now.ports.items)) }
+    {
+        Looking { plane: self }.known();
+    }
+
+    /// The place by age of the entry of a table that wins for these fields (OpenFlow 1.3.5, 5.3).
+    pub fn winner(&self, table: u8, key: &FieldKey) -> Option<usize>
+        ensures { result ≡ winner_in (forwarding_of self.now.tables self.now.ports.items) table (value key.now) }
+    {
+        let mut world = Looking { plane: self };
+        world.find(table, key)
+    }
+
+    /// The entry of a table at a place by age, from 0.
+    pub fn entry(&self, table: u8, place: usize) -> Option<&Entry>
+        requires { table < 16 }
+        ensures { option_map (λ e. entry_of e.now) result ≡ slice_get (table_at table (tables_of self.now.tables)).flows place }
+    {
+        entry_at(self.tables.entries(table), place)
+    }
+
+    /// What a frame that comes in by a port would give, and its steps (OpenFlow 1.3.5, 5.1), where the connection stands there.
+    pub fn dry_run<S: StepLog>(
+        &self,
+        alloc: Global,
+        phase: Phase,
+        number: u32,
+        bytes: &[u8],
+        log: &mut S,
+    ) -> Result<Effects, AllocError>
+        ensures effects { IfOk result (λ effects. effects.items ≡ (framed phase number bytes.now (forwarding_of self.now.tables self.now.ports.items)).effects) }
+        ensures steps { OnOk result (S.KEEPS ≡ true → S.list log.new ≡ S.list log.old ++ steps_in number bytes.now (forwarding_of self.now.tables self.now.ports.items)) }
+        ensures err { OnErr result (S.KEEPS ≡ true → GainsPrefix (steps_in number bytes.now (forwarding_of self.now.tables self.now.ports.items)) (S.list log.old) (S.list log.new)) }
+    {
+        let Some(port) = find_port(&self.ports, number) else {
+            return Ok(Effects::new(alloc));
+        };
+        if !port.is_link_up || check_length(bytes).is_err() {
+            return Ok(Effects::new(alloc));
+        }
+        self.dry_run_received(alloc, phase, number, bytes, log)
+    }
+
+    // A frame that is received.
+    fn dry_run_received<S: StepLog>(
+        &self,
+        alloc: Global,
+        phase: Phase,
+        number: u32,
+        bytes: &[u8],
+        log: &mut S,
+    ) -> Result<Effects, AllocError>
+        requires long { 14 ≤ length bytes.now }
+        requires most { length bytes.now ≤ 9216 }
+        ensures effects { IfOk result (λ effects. effects.items ≡ effects_of phase (run_of (world_of (forwarding_of self.now.tables self.now.ports.items)) (entering bytes.now number) (LookUp 0 ∷ [])).items) }
+        ensures steps { OnOk result (S.KEEPS ≡ true → S.list log.new ≡ S.list log.old ++ received_steps number bytes.now (forwarding_of self.now.tables self.now.ports.items)) }
+        ensures err { OnErr result (S.KEEPS ≡ true → GainsPrefix (received_steps number bytes.now (forwarding_of self.now.tables self.now.ports.items)) (S.list log.old) (S.list log.new)) }
+    {
+        let mut world = Looking { plane: self };
+        world.known();
+        let packet = Packet::new(PacketFrame::new(bytes), number);
+        let outcome = run(alloc, &mut world, packet, log)?;
+        effects_from(alloc, phase, outcome.items)
+    }
+}

@@ -1,0 +1,3 @@
+pub mod SpeltLemmas
+pub mod WhyLemmas
+pub mod PrintingLemmas

@@ -1,0 +1,25 @@
+use Rattle.std.proofs.Common.{◌∙◌, sym, ap, List}
+use Rattle.std.specs.Option.{option_copied}
+use Rattle.of_headers.specs.FieldMap.{value}
+use Rattle.of_oxm.specs.declared.match_field.MatchField.{MatchField}
+use Rattle.of_table.specs.Tables.{table_at}
+use Rattle.of_table.specs.Entries.{entry_of}
+use Rattle.of_trace.proofs.WhyLemmas.{difference, has_difference, no_difference}
+use Rattle.of_trace.proofs.explaining.why.Goals as goal
+
+pub returns-in-Some : goal.returns-in-Some
+returns-in-Some g c =
+    let map = value c.args.key.now in
+    has_difference (table_at c.args.table c.args.switch.now.core.forwarding.tables).flows map c.args.place (entry_of c.in_ok-entry.entry.now) c.in-Some.field.now c.get.result
+    (sym c.in_ok-entry.ensures)
+    (sym (c.in-Some.ensures ∙ ap (λ (m : List MatchField). difference m map) c.fields.ensures))
+    c.get.ensures
+
+pub why_matching-requires-clause-there : goal.why_matching-requires-clause-there
+why_matching-requires-clause-there g c = sym c.in_ok-entry.ensures
+
+pub why_matching-requires-clause-matches : goal.why_matching-requires-clause-matches
+why_matching-requires-clause-matches g c =
+    let map = value c.args.key.now in
+    no_difference c.in_ok-entry.entry.now.flow.fields map
+    (sym (ap (λ (m : List MatchField). difference m map) c.fields.ensures) ∙ (sym c.first_difference.ensures ∙ ap (option_copied {T = MatchField}) c.in-None.is))

@@ -1,0 +1,34 @@
+use Rattle.std.proofs.Common.{◌≡◌, ◌∙◌, sym, Some}
+use Rattle.of_headers.specs.FieldMap.{value}
+use Rattle.of_table.specs.Table.{winner_place}
+use Rattle.of_table.specs.Tables.{table_at}
+use Rattle.of_table.specs.Entries.{entry_of}
+use Rattle.of_trace.proofs.WhyLemmas.{some_wins, winner_is_best, by_priority, by_age}
+use Rattle.of_trace.proofs.explaining.why_matching.Goals as goal
+
+pub returns-in_err-winner : goal.returns-in_err-winner
+returns-in_err-winner g c =
+    let flows = (table_at c.args.table c.args.switch.now.core.forwarding.tables).flows in
+    let map = value c.args.key.now in
+    absurd (some_wins flows map (sym c.winner.ensures ∙ c.in_err-winner.was) c.args.place (entry_of c.args.entry.now) c.requires.there c.requires.matches)
+
+pub returns-in_err-better : goal.returns-in_err-better
+returns-in_err-better g c =
+    let flows = (table_at c.args.table c.args.switch.now.core.forwarding.tables).flows in
+    let map = value c.args.key.now in
+    let wins : winner_place map flows ≡ Some c.in_ok-winner.winner = sym c.winner.ensures ∙ c.in_ok-winner.was in
+    let there = (winner_is_best flows map c.in_ok-winner.winner wins).there in
+    let bad = c.in_err-better.ensures ∙ there in
+    absurd cc
+
+pub returns-then-entry-better : goal.returns-then-entry-better
+returns-then-entry-better g c =
+    let flows = (table_at c.args.table c.args.switch.now.core.forwarding.tables).flows in
+    let map = value c.args.key.now in
+    by_priority flows map c.args.place c.in_ok-winner.winner (entry_of c.args.entry.now) (entry_of c.in_ok-better.better.now) c.requires.there c.requires.matches (sym c.winner.ensures ∙ c.in_ok-winner.was) (sym c.in_ok-better.ensures) c.if-entry-better.true
+
+pub returns-else-entry-better : goal.returns-else-entry-better
+returns-else-entry-better g c =
+    let flows = (table_at c.args.table c.args.switch.now.core.forwarding.tables).flows in
+    let map = value c.args.key.now in
+    by_age flows map c.args.place c.in_ok-winner.winner (entry_of c.args.entry.now) (entry_of c.in_ok-better.better.now) c.requires.there c.requires.matches (sym c.winner.ensures ∙ c.in_ok-winner.was) (sym c.in_ok-better.ensures) c.if-entry-better.false c.if-winner-place.false

@@ -1,0 +1,4 @@
+pub mod Spelt
+pub mod Text
+pub mod Why
+pub mod Writing

@@ -1,0 +1,52 @@
+-- WHY AN ENTRY OF A TABLE WON OR DID NOT, for a packet of these fields (OpenFlow 1.3.5, 5.3).
+use Rattle.std.specs.Prelude.{◌≡◌, ℕ, ◌<◌, true, false, List, Option, Some, None, slice_get}
+use Rattle.of_layers.specs.declared.field.Field.{Field}
+use Rattle.of_oxm.specs.declared.match_field.MatchField.{MatchField}
+use Rattle.of_oxm.specs.Relations.{agrees, matches_map}
+use Rattle.of_table.specs.Table.{FlowEntry, winner_place}
+use Rattle.of_trace.specs.declared.reason.Reason.{Reason}
+use Rattle.of_trace.specs.declared.reason.Reason.TheVariants.{Won, Differs, LowerPriority, Younger}
+
+-- a field of the entry's match does not agree with the packet, and each field before it does
+pub record HasDifference (flows : List FlowEntry) (map : Field → Option ℕ) (place : ℕ) (e : MatchField) (found : Option ℕ) : Type 0 where
+  pub entry : FlowEntry
+  pub there : slice_get flows place ≡ Some entry
+  pub stand : ℕ
+  pub stands : slice_get entry.flow.fields stand ≡ Some e
+  pub found_is : found ≡ map e.field
+  pub differs : agrees e found ≡ false
+  pub first : (k : ℕ) (x : MatchField) → k < stand → slice_get entry.flow.fields k ≡ Some x → agrees x (map x.field) ≡ true
+
+-- the entry matches
+pub record DoesMatch (flows : List FlowEntry) (map : Field → Option ℕ) (place : ℕ) : Type 0 where
+  pub entry : FlowEntry
+  pub there : slice_get flows place ≡ Some entry
+  pub matches : matches_map entry.flow.fields map ≡ true
+
+-- the entry matches, and another one wins
+pub record IsBeaten (flows : List FlowEntry) (map : Field → Option ℕ) (place winner : ℕ) : Type 0 where
+  pub entry : FlowEntry
+  pub there : slice_get flows place ≡ Some entry
+  pub matches : matches_map entry.flow.fields map ≡ true
+  pub better : FlowEntry
+  pub better_there : slice_get flows winner ≡ Some better
+  pub wins : winner_place map flows ≡ Some winner
+
+-- which has a higher priority
+pub record HasLowerPriority (flows : List FlowEntry) (map : Field → Option ℕ) (place winner : ℕ) : Type 0 where
+  pub beaten : IsBeaten flows map place winner
+  pub lower : beaten.entry.flow.priority < beaten.better.flow.priority
+
+-- or has the same priority and is older
+pub record IsYounger (flows : List FlowEntry) (map : Field → Option ℕ) (place winner : ℕ) : Type 0 where
+  pub beaten : IsBeaten flows map place winner
+  pub same : beaten.entry.flow.priority ≡ beaten.better.flow.priority
+  pub older : winner < place
+
+-- what is said of the entry at a place; nothing where there is none
+abbrev pub Explains : List FlowEntry → (Field → Option ℕ) → ℕ → Option Reason → Type 0
+Explains flows map place None = slice_get flows place ≡ None
+Explains flows map place (Some Won) = winner_place map flows ≡ Some place
+Explains flows map place (Some (Differs field found)) = HasDifference flows map place field found
+Explains flows map place (Some (LowerPriority winner)) = HasLowerPriority flows map place winner
+Explains flows map place (Some (Younger winner)) = IsYounger flows map place winner

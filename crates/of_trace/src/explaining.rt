@@ -1,0 +1,76 @@
+//! Why an entry won or did not.
+ghost use Rattle.std.specs.Prelude.{◌≡◌, ◌<◌, Some, true, not, find, slice_get};
+ghost use Rattle.std.specs.Option.{option_copied};
+ghost use Rattle.of_headers.specs.FieldMap.{value};
+ghost use Rattle.of_oxm.specs.Relations.{agrees as agrees_with, matches_map};
+ghost use Rattle.of_table.specs.Entries.{entry_of};
+ghost use Rattle.of_table.specs.Tables.{table_at};
+ghost use Rattle.of_trace.specs.Why.{Explains};
+
+use crate::reason::Reason;
+use of_classifier::Lookup;
+use of_headers::FieldKey;
+use of_oxm::MatchField;
+use of_switch::Switch;
+use of_table::Entry;
+
+// Whether the field of a match agrees with a value, or with its absence.
+fn agrees(e: &MatchField, found: Option<u128>) -> bool
+    ensures { result ≡ agrees_with e.now found }
+{
+    match found {
+        None => false,
+        Some(found) => found & e.mask.unwrap_or(e.field.row().ones) == e.value,
+    }
+}
+
+// The first field that does not agree.
+fn first_difference<'a>(fields: &'a [MatchField], key: &FieldKey) -> Option<&'a MatchField>
+    ensures { option_copied result ≡ find (λ e. not (agrees_with e (value key.now e.field))) fields.now }
+{
+    fields.iter().find(|e| !agrees(e, key.get(e.field)))
+}
+
+// Why an entry that matches won or did not.
+fn why_matching<L: Lookup>(
+    switch: &Switch<L>,
+    table: u8,
+    key: &FieldKey,
+    place: usize,
+    entry: &Entry,
+) -> Option<Reason>
+    requires table { table < 16 }
+    requires there { slice_get (table_at table switch.now.core.forwarding.tables).flows place ≡ Some (entry_of entry.now) }
+    requires matches { matches_map entry.now.flow.fields (value key.now) ≡ true }
+    ensures { Explains (table_at table switch.now.core.forwarding.tables).flows (value key.now) place result }
+{
+    let winner = switch.winner(table, key)?;
+    if winner == place {
+        return Some(Reason::Won);
+    }
+    let better = switch.entry(table, winner)?;
+    if entry.flow.priority < better.flow.priority {
+        Some(Reason::LowerPriority(winner))
+    } else {
+        Some(Reason::Younger(winner))
+    }
+}
+
+/// Why the entry of a table at a place by age, from 0, won or did not, for a packet of these fields (OpenFlow 1.3.5, 5.3). None
+/// where there is no such entry.
+///
+/// A field that is named stands in the entry's match and does not agree with the packet's, and each field before it does. An entry
+/// of which no field is named matches; where it did not win, the entry that is named did.
+pub fn why<L: Lookup>(switch: &Switch<L>, table: u8, key: &FieldKey, place: usize) -> Option<Reason>
+    requires { table < 16 }
+    ensures { Explains (table_at table switch.now.core.forwarding.tables).flows (value key.now) place result }
+{
+    let entry = switch.entry(table, place)?;
+    match first_difference(entry.flow.fields.fields(), key) {
+        Some(field) => Some(Reason::Differs {
+            field: *field,
+            found: key.get(field.field),
+        }),
+        None => why_matching(switch, table, key, place, entry),
+    }
+}

@@ -1,0 +1,16 @@
+//! The tracer: why a frame went where it went.
+#![tactic(auto)]
+
+mod explaining;
+mod printing;
+mod reason;
+mod traces;
+mod tracing;
+mod writing;
+
+pub use explaining::why;
+pub use printing::print;
+pub use reason::Reason;
+pub use traces::Trace;
+pub use tracing::trace;
+pub use writing::write_trace;

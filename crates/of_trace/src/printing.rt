@@ -1,0 +1,74 @@
+//! Traces as text.
+ghost use Rattle.std.specs.Prelude.{◌≡◌, ◌++◌, ◌∷◌, [], IfOk, OnOk, IsTrue, codes, decimal};
+ghost use Rattle.of_text.specs.Lines.{joined};
+ghost use Rattle.of_trace.specs.Spelt.{is_spelt, are_spelt};
+ghost use Rattle.of_trace.specs.Text.{step_line, steps_text, trace_text};
+
+use crate::traces::Trace;
+use of_actions::Action;
+use of_machine::Step;
+use of_replay::push_effects;
+use of_text::{Row, push_number, push_row};
+use std::alloc::{AllocError, Global};
+
+// Appends the line of a look-up: the table, what was found, and what stands behind that.
+fn push_lookup(out: &mut Vec<u8>, table: u8) -> Result<(), AllocError>
+    ensures { OnOk result (out.new.items ≡ out.old.items ++ joined (codes "lookup" ∷ decimal table ∷ [])) }
+{
+    out.extend_from_slice(b"lookup")?;
+    push_number(out, u64::from(table))
+}
+
+// Appends the line of a step, without its end.
+fn push_step(out: &mut Vec<u8>, step: Step) -> Result<(), AllocError>
+    requires { IsTrue (is_spelt step) }
+    ensures { OnOk result (out.new.items ≡ out.old.items ++ step_line step) }
+{
+    match step {
+        Step::Miss(table) => {
+            push_lookup(out, table)?;
+            out.extend_from_slice(b" miss")
+        }
+        Step::Entry { table, number } => {
+            push_lookup(out, table)?;
+            out.extend_from_slice(b" entry")?;
+            push_number(out, number as u64)
+        }
+        Step::Apply => push_row(out, Row::Apply),
+        Step::Clear => push_row(out, Row::Clear),
+        Step::Write => push_row(out, Row::Write),
+        Step::Metadata { value, mask } => push_row(out, Row::Metadata { value, mask }),
+        Step::Goto(table) => push_row(out, Row::Goto(table)),
+        Step::Set => out.extend_from_slice(b"set"),
+        Step::Act(action) => push_row(out, Row::Do(action)),
+        Step::TtlExpired => {
+            push_row(out, Row::Do(Action::DecNwTtl))?;
+            out.extend_from_slice(b" expired")
+        }
+        Step::End => out.extend_from_slice(b"end"),
+    }
+}
+
+// Appends the lines of steps.
+fn push_steps(out: &mut Vec<u8>, steps: &[Step]) -> Result<(), AllocError>
+    requires { IsTrue (are_spelt steps.now) }
+    ensures { OnOk result (out.new.items ≡ out.old.items ++ steps_text steps.now) }
+{
+    for step in steps {
+        push_step(out, *step)?;
+        out.push(b'\n')?;
+    }
+    Ok(())
+}
+
+/// The text of a trace: a line for each step, `lookup T miss`, `lookup T entry K` (the entry's place by age, from 0), `set`
+/// (the action set is taken out), `dec_nw_ttl expired`, `end`, or an instruction or an action as flow text writes it; and then
+/// the effects as the output of an event file, `s PORT HEX` and `a HEX`. Each line ends by LF.
+pub fn print(alloc: Global, trace: &Trace) -> Result<Vec<u8>, AllocError>
+    ensures { IfOk result (λ text. text.items ≡ trace_text trace.now.steps.items trace.now.effects.items) }
+{
+    let mut out = Vec::new(alloc);
+    push_steps(&mut out, &trace.steps)?;
+    push_effects(alloc, &mut out, &trace.effects)?;
+    Ok(out)
+}
