@@ -5,7 +5,11 @@ use Rattle.of_wire.specs.declared.code.Code.{Code}
 use Rattle.of_oxm.specs.declared.match_field.MatchField.{MatchField}
 use Rattle.of_oxm.specs.Canonical.{canonical}
 use Rattle.of_layers.specs.declared.field.Field.TheVariants.{InPort, Metadata}
+use Rattle.of_actions.specs.CanonicalInstructions.{canonical_instructions}
 use Rattle.of_messages.specs.Messages.{version_of, header_length}
+use Rattle.of_messages.specs.declared.message.FlowMod.{FlowMod}
+use Rattle.of_messages.specs.declared.message.FlowModCommand.{FlowModCommand}
+use Rattle.of_messages.specs.declared.message.FlowModCommand.TheVariants.{Add, Modify, ModifyStrict, Delete, DeleteStrict}
 use Rattle.of_messages.specs.declared.message.PacketIn.{PacketIn}
 use Rattle.of_messages.specs.declared.message.PacketInReason.{PacketInReason}
 use Rattle.of_messages.specs.declared.message.PacketInReason.TheVariants.{NoMatch, Action, InvalidTtl}
@@ -88,3 +92,30 @@ packet_in_front p size =
 
 abbrev pub packet_in_bytes : ℕ → PacketIn → List ℕ → List ℕ
 packet_in_bytes xid p frame = message 10 xid (packet_in_front p (length frame) ++ (canonical (packet_fields p.in_port p.metadata) ++ (replicate 2 0 ++ frame)))
+
+-- FLOW_MOD (7.3.4.1), as a controller sends it
+
+abbrev pub command_number : FlowModCommand → ℕ
+command_number Add = 0
+command_number Modify = 1
+command_number ModifyStrict = 2
+command_number Delete = 3
+command_number DeleteStrict = 4
+
+-- what stands in front of the match, with two bytes of padding
+unfoldable pub flow_mod_front : FlowMod → List ℕ
+flow_mod_front m =
+    big_bytes 8 m.cookie
+    ++ (big_bytes 8 m.cookie_mask
+    ++ ((m.table ∷ command_number m.command ∷ [])
+    ++ (big_bytes 2 m.idle_timeout
+    ++ (big_bytes 2 m.hard_timeout
+    ++ (big_bytes 2 m.priority
+    ++ (big_bytes 4 m.buffer
+    ++ (big_bytes 4 m.out_port
+    ++ (big_bytes 4 m.out_group
+    ++ (big_bytes 2 m.flags
+    ++ replicate 2 0)))))))))
+
+abbrev pub flow_mod_bytes : ℕ → FlowMod → List ℕ
+flow_mod_bytes xid m = message 14 xid (flow_mod_front m ++ (canonical m.fields ++ canonical_instructions m.instructions))

@@ -1,6 +1,7 @@
 //! OpenFlow messages: their values, and the bytes that spell them.
 #![tactic(auto)]
 
+mod flow_mod_writing;
 mod head;
 mod laws;
 mod message;
@@ -8,6 +9,7 @@ mod message_bytes;
 mod reading;
 mod writing;
 
+pub use flow_mod_writing::write_flow_mod;
 pub use head::check_head;
 pub use laws::header_tells_length;
 pub use message::{

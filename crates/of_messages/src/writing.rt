@@ -11,7 +11,12 @@ use of_wire::{Bytes, Code};
 use std::alloc::{AllocError, Global};
 
 // A header: version 4, type, length and transaction id.
-fn put_header(out: &mut Vec<u8>, kind: u8, length: usize, xid: u32) -> Result<(), AllocError>
+pub(crate) fn put_header(
+    out: &mut Vec<u8>,
+    kind: u8,
+    length: usize,
+    xid: u32,
+) -> Result<(), AllocError>
     ensures { OnOk result (out.new.items ≡ out.old.items ++ header kind length xid) }
 {
     let high = (length / 256 % 256) as u8;
@@ -82,19 +87,19 @@ fn number_of(reason: FlowRemovedReason) -> u8
     }
 }
 
-fn put_u16(out: &mut Vec<u8>, number: u16) -> Result<(), AllocError>
+pub(crate) fn put_u16(out: &mut Vec<u8>, number: u16) -> Result<(), AllocError>
     ensures { OnOk result (out.new.items ≡ out.old.items ++ big_bytes 2 number) }
 {
     out.extend_from_slice(&number.to_be_bytes())
 }
 
-fn put_u32(out: &mut Vec<u8>, number: u32) -> Result<(), AllocError>
+pub(crate) fn put_u32(out: &mut Vec<u8>, number: u32) -> Result<(), AllocError>
     ensures { OnOk result (out.new.items ≡ out.old.items ++ big_bytes 4 number) }
 {
     out.extend_from_slice(&number.to_be_bytes())
 }
 
-fn put_u64(out: &mut Vec<u8>, number: u64) -> Result<(), AllocError>
+pub(crate) fn put_u64(out: &mut Vec<u8>, number: u64) -> Result<(), AllocError>
     ensures { OnOk result (out.new.items ≡ out.old.items ++ big_bytes 8 number) }
 {
     out.extend_from_slice(&number.to_be_bytes())

@@ -39,6 +39,14 @@ fn same_fields(xs: &[MatchField], ys: &[MatchField]) -> bool
 }
 
 impl Match {
+    /// The match of these fields: a normal form, and what they need stands among them.
+    pub fn new(fields: Vec<MatchField>) -> Match
+        requires { IsMatch fields.items }
+        ensures { result ≡ fields.items }
+    {
+        Match { fields }
+    }
+
     /// The match of a frame that came by this port, as a PACKET_IN carries it (OpenFlow 1.3.5, 7.4.1).
     pub fn of_in_port(alloc: Global, port: u32) -> Result<Match, AllocError>
         ensures { IfOk result (λ m. m ≡ in_port_match port) }

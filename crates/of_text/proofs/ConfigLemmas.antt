@@ -66,7 +66,7 @@ some_for (suc n) t u l h fs = by_test (λ i. some_for n (suc t) u (omega (arith,
         filter-append (is_for u) (flows_for t fs) (all_flows (tables_from n (suc t) fs))
         ∙ rw (for_other t u apart fs) (others apart)
 
-same_tables : (n t : ℕ) (fs gs : List Flow) → ((u : ℕ) → t ≤ u → u < t + n → flows_for u gs ≡ flows_for u fs) → tables_from n t gs ≡ tables_from n t fs
+pub same_tables : (n t : ℕ) (fs gs : List Flow) → ((u : ℕ) → t ≤ u → u < t + n → flows_for u gs ≡ flows_for u fs) → tables_from n t gs ≡ tables_from n t fs
 same_tables zero t fs gs h = refl
 same_tables (suc n) t fs gs h =
     let one = h t (omega arith) (omega arith) in

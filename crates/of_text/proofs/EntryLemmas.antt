@@ -6,7 +6,7 @@ use Rattle.std.specs.Option.{unwrap_or}
 use Rattle.std.proofs.Math.Nat.{mod-eq_of_lt}
 use Rattle.std.proofs.lemmas.Nat.{and_mask}
 use Rattle.std.proofs.lemmas.Bool.{and_parts, and_from, not-false, ne_eqb, ltb-false, leb-true, lt-ltb, le-leb, eqb-true}
-use Rattle.std.proofs.lemmas.List.{take_all}
+use Rattle.std.proofs.lemmas.List.{take_all, length-append}
 use Rattle.of_wire.specs.declared.code.Code.{Code}
 use Rattle.of_wire.specs.Refusals.{first_of, refusal}
 use Rattle.of_wire.proofs.FirstLemmas.{none_applies}
@@ -32,7 +32,7 @@ use Rattle.of_text.specs.Order.{start, following, standing}
 use Rattle.of_text.specs.Reading.{◌>>=◌}
 use Rattle.of_text.specs.Flows.{Step, Apply, Clear, Write, Metadata, Goto, Flow, step_rows}
 use Rattle.of_text.specs.Refusals.{field_refusals, action_refusals, list_refusals, step_refusals, goto_refusals, goes_with, match_refusals, steps_refusals, flow_refusals, table_refusals, or_else}
-use Rattle.of_text.specs.Kept.{instruction_of, IsEntry}
+use Rattle.of_text.specs.Kept.{instruction_of, IsEntry, StandsBehind, AllStandBehind}
 use Rattle.of_text.specs.First.{flows_for}
 use Rattle.of_text.specs.Configs.{IsConfig}
 use Rattle.of_text.proofs.RefusalLemmas.{first_append}
@@ -40,6 +40,7 @@ use Rattle.of_text.proofs.TextLemmas.{all_front, all_back, standing_both, some_f
 use Rattle.of_text.proofs.KeptLemmas.{actions_stand}
 use Rattle.of_text.proofs.ConfigLemmas.{Stand, in_table, AllFor, all_for, IsWhole, each_whole, kept_whole}
 use Rattle.of_text.proofs.FillLemmas.{table_at}
+use Rattle.std.proofs.lemmas.Bool.Decides.{nat_tests}
 
 -- ---- where none is refused
 
@@ -239,3 +240,36 @@ pub config_entries : (tables : List (List Flow)) → IsConfig tables → (table 
 config_entries tables c table lt =
     let whole = kept_whole table c.flows (each_whole start c.flows c.rows.fits c.rows.order) in
     rw (c.filled, table_at c.flows table lt) (table_entries table [] (flows_for table c.flows) (all_for table c.flows) whole (in_table table [] c.flows c.stand))
+
+-- ---- beside the others of its table
+
+fewer : (n : ℕ) → nat_le 4096 n ≡ false → n < 4096
+fewer n h = grind (arith, nat_tests)
+
+flow_stands : (before : List Flow) (f : Flow) → first_of (flow_refusals f ++ table_refusals before f) ≡ None → StandsBehind before f
+unfolding flow_refusals table_refusals
+flow_stands before f h =
+    let parts = none_both (flow_refusals f) (table_refusals before f) h in
+    let behind : List (Bool × Code) = match_refusals f.fields ++ steps_refusals f.head.table f.fields f.steps in
+    let flags : Bool × Code = (not (eqb (bit_and f.head.flags 25) f.head.flags), refusal 5 7) in
+    let own = none_next flags behind (none_next (nat_lt 15 f.head.table, refusal 5 2) (flags ∷ behind) parts.0).1 in
+    let beside = none_applies (table_refusals before f) parts.1 in
+    record { flags = eqb-true _ _ (not-false _ own.0); no_group = beside.0; unlike = beside.1.0; room = fewer (length before) beside.1.1.0 }
+
+all_stand_behind : (before fs : List Flow) → Stand before fs → AllStandBehind before fs
+unfolding Stand
+all_stand_behind before [] h = tt
+all_stand_behind before (f ∷ fs) h = (flow_stands before f h.0, all_stand_behind (before ++ f ∷ []) fs h.1)
+
+pub config_stands : (tables : List (List Flow)) → IsConfig tables → (table : ℕ) → table < 16 → AllStandBehind [] (slice_index_or tables table [])
+config_stands tables c table lt = rw (c.filled, table_at c.flows table lt) (all_stand_behind [] (flows_for table c.flows) (in_table table [] c.flows c.stand))
+
+stand_few : (before fs : List Flow) → length before ≤ 4096 → AllStandBehind before fs → length before + length fs ≤ 4096
+stand_few before [] l h = omega (arith, l)
+stand_few before (f ∷ fs) l h =
+    let more = length-append before (f ∷ []) in
+    let others = stand_few (before ++ f ∷ []) fs (omega (arith, more, h.0.room)) h.1 in
+    omega (arith, more, others)
+
+pub config_few : (tables : List (List Flow)) → IsConfig tables → (table : ℕ) → table < 16 → length (slice_index_or tables table []) ≤ 4096
+config_few tables c table lt = let few = stand_few [] (slice_index_or tables table []) (omega arith) (config_stands tables c table lt) in omega (arith, few)

@@ -1,7 +1,7 @@
 //! Configurations.
-ghost use Rattle.std.specs.Prelude.{◌≡◌, ◌<◌, ℕ, [], length, slice_index_or, IfOk, OnOk};
+ghost use Rattle.std.specs.Prelude.{◌≡◌, ◌<◌, ◌≤◌, ℕ, [], length, slice_index_or, IfOk, OnOk};
 ghost use Rattle.std.specs.List.{AllByRecursion};
-ghost use Rattle.of_text.specs.Kept.{IsEntry};
+ghost use Rattle.of_text.specs.Kept.{IsEntry, AllStandBehind};
 ghost use Rattle.of_text.specs.Configs.{IsConfig, tables_of, with_flow, view_tables};
 ghost use Rattle.of_text.specs.Views.{view, view_flows};
 
@@ -43,9 +43,13 @@ impl Config {
 
     /// Its flows are those of a text of which none is refused. Each may stand in its table: its match is one,
     /// and its instructions are those that an entry of the table may have (OpenFlow 1.3.5, 5.2, 5.9 and 7.2.3).
+    /// In a table there are at most 4,096 of them, no two of one priority and match.
     pub fn known(&self)
         ensures config { IsConfig self.now }
         ensures entries { (table : ℕ) → table < 16 → AllByRecursion (IsEntry table) (slice_index_or self.now table []) }
+        ensures stand { (table : ℕ) → table < 16 → AllStandBehind [] (slice_index_or self.now table []) }
+        ensures few { (table : ℕ) → table < 16 → length (slice_index_or self.now table []) ≤ 4096 }
+        ensures sixteen { length self.now ≡ 16 }
     {
         let _tables = &self.tables;
     }
