@@ -17,7 +17,7 @@ fresh_all (b ∷ buckets) = ap (λ (x : Bool). is_fit b && x) (fresh_all buckets
 pub fresh_fit : (buckets : List Bucket) → are_fit (map fresh buckets) ≡ are_fit buckets
 fresh_fit buckets = rw (fresh_length buckets, fresh_all buckets) refl
 
-used_length : (place bytes : ℕ) (buckets : List Bucket) → length (used_at place bytes buckets) ≡ length buckets
+pub used_length : (place bytes : ℕ) (buckets : List Bucket) → length (used_at place bytes buckets) ≡ length buckets
 used_length place bytes [] = refl
 used_length zero bytes (b ∷ buckets) = refl
 used_length (suc place) bytes (b ∷ buckets) = ap suc (used_length place bytes buckets)

@@ -30,7 +30,7 @@ any_there p n (g ∷ groups) there h = by_test (eqb g.id n) refl (λ t. any_ther
 
 -- ---- leading
 
-on_found : (p : Group → Bool) (o : Option Group) → option_map_or p o false ≡ true → option_map_or (λ (g : Group). true) o false ≡ true
+pub on_found : (p : Group → Bool) (o : Option Group) → option_map_or p o false ≡ true → option_map_or (λ (g : Group). true) o false ≡ true
 on_found p None h = h
 on_found p (Some g) h = refl
 
@@ -58,17 +58,17 @@ chain_leads groups n (m ∷ behind) h =
     found_more (any_named (leads groups (length behind))) (names m) (find_group n groups) (λ g named. named_at (leads groups (length behind)) m g named next) both.0
 
 -- what leads further leads as far as three
-leads_three : (groups : List Group) (k n : ℕ) → leads groups (suc (suc (suc k))) n ≡ true → leads groups 3 n ≡ true
+pub leads_three : (groups : List Group) (k n : ℕ) → leads groups (suc (suc (suc k))) n ≡ true → leads groups 3 n ≡ true
 leads_three groups zero n h = h
 leads_three groups (suc k) n h = leads_three groups k n (leads_less groups (suc (suc (suc k))) n h)
 
-long_leads : (groups : List Group) (n : ℕ) (behind : List ℕ) → is_chain groups n behind ≡ true → 3 ≤ length behind → leads groups 3 n ≡ true
+pub long_leads : (groups : List Group) (n : ℕ) (behind : List ℕ) → is_chain groups n behind ≡ true → 3 ≤ length behind → leads groups 3 n ≡ true
 long_leads groups n [] h le = absurd (omega arith)
 long_leads groups n (a ∷ []) h le = absurd (omega arith)
 long_leads groups n (a ∷ (b ∷ [])) h le = absurd (omega arith)
 long_leads groups n (a ∷ (b ∷ (c ∷ behind))) h le = leads_three groups (length behind) n (chain_leads groups n (a ∷ (b ∷ (c ∷ behind))) h)
 
-leads_there : (groups : List Group) (k n : ℕ) → leads groups k n ≡ true → is_there n groups ≡ true
+pub leads_there : (groups : List Group) (k n : ℕ) → leads groups k n ≡ true → is_there n groups ≡ true
 unfolding leads
 leads_there groups zero n h = h
 leads_there groups (suc k) n h = leads_there groups k n (leads_less groups k n h)

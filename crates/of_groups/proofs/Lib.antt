@@ -5,3 +5,7 @@ pub mod PutLemmas
 pub mod Soundness
 pub mod Finding
 pub mod BucketLemmas
+pub mod LiveLemmas
+pub mod CountLemmas
+pub mod ChainLaws
+pub mod LiveLaws

@@ -1,17 +1,22 @@
 //! The groups of a switch.
-ghost use Rattle.std.specs.Prelude.{◌≡◌, [], OnOk, OnErr};
+ghost use Rattle.std.specs.Prelude.{◌≡◌, [], count_by, OnOk, OnErr};
 ghost use Rattle.std.specs.Option.{option_copied};
 ghost use Rattle.std.specs.Result.{result_err};
-ghost use Rattle.of_groups.specs.Groups.{new_group, modified_group, with_group, left, find_group as group_of_number};
+ghost use Rattle.of_groups.specs.Groups.{new_group, modified_group, with_group, left, counted, bucket_counted, find_group as group_of_number, sends_to as is_sending};
 ghost use Rattle.of_groups.specs.Faults.{fault_in, add_fault, modify_fault, delete_fault};
 ghost use Rattle.of_groups.specs.Sound.{AreSound};
+ghost use Rattle.of_groups.specs.Liveness.{chosen};
 
 use crate::buckets::Buckets;
 use crate::changing::{insert_group, is_named, make_group, moment_of, remove_group, replace_group};
 use crate::checking::{check_add, check_modify};
+use crate::chosen::Chosen;
+use crate::counting::{count_group, count_use_of};
 use crate::group::{Group, GroupKind};
 use crate::group_fault::GroupFault;
+use crate::liveness::{LivePorts, choose};
 use crate::lookup::find_group;
+use crate::naming::sends_to;
 use std::alloc::Global;
 use std::marker::Model;
 
@@ -27,6 +32,7 @@ impl Model for Groups {
     ghost use Rattle.std.specs.Prelude.{List};
     ghost use Rattle.of_groups.specs.declared.group.Group.{Group};
     ghost use Rattle.of_groups.specs.Sound.{AreSound};
+    ghost use Rattle.of_groups.specs.Liveness.{chosen};
 
     ghost Value = { List Group };
 
@@ -114,5 +120,38 @@ impl Groups {
         ensures { option_copied result ≡ group_of_number id self.now }
     {
         find_group(&self.groups, id)
+    }
+
+    /// The places of the buckets that run for a packet, where the group of that number is there (OpenFlow 1.3.5, 5.6.1).
+    ///
+    /// Of ALL each runs, of INDIRECT its one, of FAST-FAILOVER the first that is live, or none. It wants no memory.
+    pub fn buckets_for<P: LivePorts>(&self, id: u32, ports: &P) -> Option<Chosen>
+        ensures { result ≡ chosen self.now (P.live ports.now) id }
+    {
+        choose(&self.groups, ports, id)
+    }
+
+    /// Counts a packet of so many bytes for the group of that number (OpenFlow 1.3.5, 5.8); where there is none, nothing changes. Counters wrap.
+    pub fn count(&mut self, id: u32, bytes: usize)
+        ensures { self.new ≡ counted id bytes self.old }
+    {
+        count_group(&mut self.groups, id, bytes);
+    }
+
+    /// Counts a packet of so many bytes for the bucket at that place of the group of that number; where there is none, nothing changes. Counters wrap.
+    pub fn count_bucket(&mut self, id: u32, place: u8, bytes: usize)
+        ensures { self.new ≡ bucket_counted id place bytes self.old }
+    {
+        count_use_of(&mut self.groups, id, place, bytes);
+    }
+
+    /// How many groups have an action that gives packets to the group of that number (OpenFlow 1.3.5, 7.3.5.6).
+    pub fn references(&self, id: u32) -> usize
+        ensures { result ≡ count_by (is_sending id) self.now }
+    {
+        self.groups
+            .iter()
+            .filter(|group| sends_to(group, id))
+            .count()
     }
 }
