@@ -11,3 +11,4 @@ pub mod InTurn
 pub mod Running
 pub mod OnLiterals
 pub mod Examples
+pub mod LoadLemmas

@@ -11,3 +11,4 @@ pub mod Handling
 pub mod Calls
 pub mod Runs
 pub mod Stepping
+pub mod Loading

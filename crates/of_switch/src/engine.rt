@@ -16,10 +16,12 @@ ghost use Rattle.of_machine.specs.Sound.{IsSound};
 ghost use Rattle.of_switch.specs.Plane.{framed, winner_in, world_of};
 ghost use Rattle.of_switch.specs.DryRun.{GainsPrefix, steps_in};
 ghost use Rattle.of_switch.specs.Handling.{Handles};
+ghost use Rattle.of_switch.specs.Loading.{loaded_tables};
 ghost use Rattle.of_switch.specs.Steps.{core_port_changed, does, done, flow_modded, forwarded, packet_outed, state_refusals, with_tables, moment_done};
 
 use crate::commands::{flow_from, has_flag, has_group, names_a_group, which_from};
 use crate::effect::{Effect, Effects};
+use crate::loading::load_tables;
 use crate::plane::{Plane, contains, put_port};
 use crate::port_change::PortChange;
 use of_classifier::Lookup;
@@ -30,6 +32,7 @@ use of_messages::{
 };
 use of_session::Phase;
 use of_table::{Cause, Entry, TableFault};
+use of_text::Config;
 use of_wire::Code;
 use std::alloc::{AllocError, Global};
 use std::marker::Model;
@@ -276,6 +279,15 @@ impl<L: Lookup> Engine<L> {
             .plane
             .plan_removal(self.alloc, Phase::Open, cause, now)?;
         Ok(self.plane.carry_out(plan))
+    }
+
+    /// The flows of a configuration take the place of those in the flow tables.
+    pub fn load(&mut self, config: &Config) -> Result<(), AllocError>
+        ensures ok { OnOk result (self.new ≡ with_tables (loaded_tables self.old.forwarding.tables.latest config.now) self.old) }
+        ensures err { OnErr result (self.new ≡ self.old) }
+    {
+        self.plane.tables = load_tables(self.alloc, self.plane.tables.latest(), config)?;
+        Ok(())
     }
 
     /// It is so many nanoseconds, while the connection stands there.

@@ -7,6 +7,7 @@ mod effect;
 mod engine;
 mod event;
 mod laws;
+mod loading;
 mod plan;
 mod plane;
 mod port_change;

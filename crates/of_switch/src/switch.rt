@@ -13,6 +13,7 @@ ghost use Rattle.of_table.specs.Entries.{entry_of};
 ghost use Rattle.of_table.specs.Tables.{table_at};
 ghost use Rattle.of_switch.specs.Steps.{came, connected, does, failed_of, fed, frame_in, moment_in, gives, next_of, port_changed, refused as refused_by};
 ghost use Rattle.of_switch.specs.Calls.{Call, connect_refusal, feed_refusal, port_refusal};
+ghost use Rattle.of_switch.specs.Loading.{loaded};
 ghost use Rattle.of_switch.specs.Runs.{RunsAll, StopsWithin, reports_of};
 ghost use Rattle.of_switch.specs.Stepping.{Drains, Happens, Tells};
 
@@ -27,6 +28,7 @@ use of_machine::StepLog;
 use of_messages::{MessageBytes, write_error, write_hello};
 use of_session::{Next, Phase, Session};
 use of_table::Entry;
+use of_text::Config;
 use of_wire::Code;
 use std::alloc::{AllocError, Global};
 use std::marker::Model;
@@ -227,6 +229,15 @@ impl<L: Lookup> Switch<L> {
             return Err(SwitchError::TooManyPorts);
         }
         Ok(self.engine.change_port(change)?)
+    }
+
+    /// The flows of a configuration take the place of those in the flow tables, without notices.
+    ///
+    /// They are added at the latest moment, and their counters and those of the tables are 0. All else stays.
+    pub fn load(&mut self, config: &Config) -> Result<(), SwitchError>
+        ensures { Call None (λ _ new. new ≡ loaded config.now self.old) self.old result self.new }
+    {
+        Ok(self.engine.load(config)?)
     }
 
     /// Events in any order, whose reports are appended: one an event.

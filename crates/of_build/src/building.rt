@@ -1,0 +1,146 @@
+//! Event files that build a configuration.
+ghost use Rattle.std.specs.Prelude.{◌≡◌, ◌<◌, ◌+◌, ◌^◌, ◌++◌, List, IfErr, IfOk, MatchResult, OnOk, length};
+ghost use Rattle.std.specs.List.{AllByRecursion};
+ghost use Rattle.hex.specs.Hex.{encode_lower};
+ghost use Rattle.of_text.specs.Kept.{IsEntry};
+ghost use Rattle.of_text.specs.Views.{view, view_flows};
+ghost use Rattle.of_text.specs.Configs.{SpellConfig, all_flows};
+ghost use Rattle.of_text.specs.First.{FailsFirst};
+ghost use Rattle.of_text.specs.Flows.{Flow};
+ghost use Rattle.of_text.specs.Lines.{lines_of};
+ghost use Rattle.of_messages.specs.Written.{flow_mod_bytes};
+ghost use Rattle.of_build.specs.Building.{BuildsOf, add_lines, add_of as add_is, build_text, piece_line};
+
+use of_messages::{FlowMod, FlowModCommand, write_flow_mod};
+use of_text::{Config, FlowText, TextFault, assemble};
+use std::alloc::{AllocError, Global};
+
+/// How many flow tables there are.
+const TABLES: u8 = 16;
+
+/// OFPP_ANY, OFPG_ANY and OFP_NO_BUFFER.
+const ANY: u32 = 0xffff_ffff;
+
+/// A HELLO of version 4 without elements (OpenFlow 1.3.5, 7.5.1).
+const HELLO: [u8; 8] = [4, 0, 0, 8, 0, 0, 0, 0];
+
+// Appends bytes as hex digits in lower case.
+fn push_hex(alloc: Global, out: &mut Vec<u8>, bytes: &[u8]) -> Result<(), AllocError>
+    ensures { OnOk result (out.new.items ≡ out.old.items ++ encode_lower bytes.now) }
+{
+    let text = hex::encode(alloc, bytes)?;
+    out.extend_from_slice(text.as_bytes())
+}
+
+// Appends the row of a piece of the controller's bytes.
+fn push_piece(alloc: Global, out: &mut Vec<u8>, bytes: &[u8]) -> Result<(), AllocError>
+    ensures { OnOk result (out.new.items ≡ out.old.items ++ piece_line bytes.now) }
+{
+    out.extend_from_slice(b"c ")?;
+    push_hex(alloc, out, bytes)?;
+    out.push(b'\n')?;
+    Ok(())
+}
+
+// The FLOW_MOD that adds a flow of that table.
+fn add_of(table: u8, flow: &FlowText) -> Result<FlowMod, AllocError>
+    requires { IsEntry table (view flow.now) }
+    ensures { IfOk result (λ m. m ≡ add_is (view flow.now)) }
+{
+    let _ = table;
+    Ok(FlowMod {
+        cookie: flow.head.cookie,
+        cookie_mask: 0,
+        table: flow.head.table,
+        command: FlowModCommand::Add,
+        idle_timeout: flow.head.idle,
+        hard_timeout: flow.head.hard,
+        priority: flow.head.priority,
+        buffer: ANY,
+        out_port: ANY,
+        out_group: ANY,
+        flags: flow.head.flags,
+        fields: flow.to_match()?,
+        instructions: flow.to_instructions()?,
+    })
+}
+
+// Appends the row that adds a flow of that table.
+fn push_flow(
+    alloc: Global,
+    out: &mut Vec<u8>,
+    xid: u32,
+    table: u8,
+    flow: &FlowText,
+) -> Result<(), AllocError>
+    requires { IsEntry table (view flow.now) }
+    ensures { OnOk result (out.new.items ≡ out.old.items ++ piece_line (flow_mod_bytes xid (add_is (view flow.now)))) }
+{
+    let flow_mod = add_of(table, flow)?;
+    let bytes = write_flow_mod(alloc, xid, &flow_mod)?;
+    push_piece(alloc, out, bytes.as_slice())
+}
+
+// Appends a row for each flow of a table, with transaction ids from this one on, and answers the next.
+fn push_flows(
+    alloc: Global,
+    out: &mut Vec<u8>,
+    xid: u32,
+    table: u8,
+    flows: &[FlowText],
+) -> Result<u32, AllocError>
+    requires entries { AllByRecursion (IsEntry table) (view_flows flows.now) }
+    requires few { xid + length flows.now < 2 ^ 32 }
+    ensures rows { OnOk result (out.new.items ≡ out.old.items ++ add_lines xid (view_flows flows.now)) }
+    ensures next { IfOk result (λ next. next ≡ xid + length flows.now) }
+{
+    let mut next = xid;
+    for flow in flows {
+        push_flow(alloc, out, next, table, flow)?;
+        next += 1;
+    }
+    Ok(next)
+}
+
+// Appends a row for each flow.
+fn push_tables(alloc: Global, out: &mut Vec<u8>, config: &Config) -> Result<(), AllocError>
+    ensures { OnOk result (out.new.items ≡ out.old.items ++ add_lines 1 (all_flows config.now)) }
+{
+    config.known();
+    let mut xid = 1;
+    for table in 0..TABLES {
+        xid = push_flows(alloc, out, xid, table, config.flows(table))?;
+    }
+    Ok(())
+}
+
+/// The event file that builds a configuration on a new switch.
+#[tactic(auto, unfolding(crate::specs::Building::build_text))]
+pub fn build(alloc: Global, config: &Config) -> Result<Vec<u8>, AllocError>
+    ensures { IfOk result (λ text. text.items ≡ build_text config.now) }
+{
+    let mut out = Vec::new(alloc);
+    out.extend_from_slice(b"connect\n")?;
+    push_piece(alloc, &mut out, &HELLO)?;
+    push_tables(alloc, &mut out, config)?;
+    Ok(out)
+}
+
+/// The event file that builds the configuration of a flow text, or the fault of the text.
+pub fn build_of(alloc: Global, text: &[u8]) -> Result<Vec<u8>, TextFault>
+    // What is built is that of the configuration that the text spells.
+    ensures built { IfOk result (λ file. BuildsOf text.now file.items) }
+    // What the text spells is built, unless memory runs out.
+    ensures only { (tables : List (List Flow)) → SpellConfig (lines_of text.now) tables → MatchResult result (λ file. file.items ≡ build_text tables) (λ e. e ≡ TextFault.NoMemory) }
+    // Which line is at fault.
+    ensures failed { IfErr result (FailsFirst (lines_of text.now)) }
+{
+    let config = match assemble(alloc, text) {
+        Ok(config) => config,
+        Err(fault) => return Err(fault),
+    };
+    match build(alloc, &config) {
+        Ok(file) => Ok(file),
+        Err(_) => Err(TextFault::NoMemory),
+    }
+}

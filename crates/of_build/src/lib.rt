@@ -1,0 +1,6 @@
+//! Flow text as event files: what a controller sends to build the flow tables of a configuration on a new switch.
+#![tactic(auto)]
+
+mod building;
+
+pub use building::{build, build_of};
