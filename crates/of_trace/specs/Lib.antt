@@ -2,3 +2,4 @@ pub mod Spelt
 pub mod Text
 pub mod Why
 pub mod Writing
+pub mod Notes

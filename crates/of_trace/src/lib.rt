@@ -2,6 +2,7 @@
 #![tactic(auto)]
 
 mod explaining;
+mod noting;
 mod printing;
 mod reason;
 mod traces;
@@ -9,6 +10,7 @@ mod tracing;
 mod writing;
 
 pub use explaining::why;
+pub use noting::explain;
 pub use printing::print;
 pub use reason::Reason;
 pub use traces::Trace;

@@ -19,8 +19,8 @@ fn push_lookup(out: &mut Vec<u8>, table: u8) -> Result<(), AllocError>
     push_number(out, u64::from(table))
 }
 
-// Appends the line of a step, without its end.
-fn push_step(out: &mut Vec<u8>, step: Step) -> Result<(), AllocError>
+/// Appends the line of a step, without its end.
+pub fn push_step(out: &mut Vec<u8>, step: Step) -> Result<(), AllocError>
     requires { IsTrue (is_spelt step) }
     ensures { OnOk result (out.new.items ≡ out.old.items ++ step_line step) }
 {
