@@ -1,12 +1,10 @@
 -- The longest chain that begins at a group.
-use Rattle.std.proofs.Common.{◌≡◌, ℕ, zero, suc, ◌+◌, ◌≤◌, ◌<◌, min, Bool, true, false, cond, List, [], ◌∷◌, length, Option, Some, None, refl, sym, ap, ◌∙◌, arith}
-use Rattle.std.specs.Prelude.{◌&&◌, ◌||◌, ◌↔◌}
-use Rattle.std.specs.List.{list_any}
+use Rattle.std.proofs.Common.{◌≡◌, ℕ, zero, suc, ◌≤◌, ◌<◌, min, Bool, true, false, cond, List, [], ◌∷◌, length, Option, Some, None, refl, ap, arith}
 use Rattle.std.specs.Option.{option_map_or}
 use Rattle.of_groups.specs.declared.group.Group.{Group}
 use Rattle.of_groups.specs.Groups.{find_group, is_there, any_named, names}
 use Rattle.of_groups.specs.Chains.{names_next, is_chain, AreShort, leads, chain, is_long}
-use Rattle.of_groups.proofs.NameLemmas.{named_at, named_number, any_passing}
+use Rattle.of_groups.proofs.NameLemmas.{named_number, any_passing}
 use Rattle.of_groups.proofs.ChainLemmas.{there_found, on_found, chain_leads, leads_three, long_leads, leads_there, any_there}
 
 -- a chain with so many groups behind its first

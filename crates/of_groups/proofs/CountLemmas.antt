@@ -1,6 +1,6 @@
 -- Groups whose counters change.
 use Rattle.std.proofs.Common.{◌≡◌, ℕ, zero, suc, ◌<◌, ◌≤◌, Bool, true, false, not, cond, eqb, ltb, List, [], ◌∷◌, length, get_or, set, Option, Some, None, refl, sym, ap, ◌∙◌, arith}
-use Rattle.std.specs.Prelude.{◌&&◌, ◌||◌, map, find, position}
+use Rattle.std.specs.Prelude.{◌||◌, map, position}
 use Rattle.std.specs.List.{list_any, list_all, position_or_len}
 use Rattle.std.specs.Option.{option_map, option_map_or, is_some}
 use Rattle.std.proofs.lemmas.Bool.Decides.{nat_tests, eqb_tells}
@@ -10,13 +10,12 @@ use Rattle.of_groups.specs.declared.bucket.Bucket.{Bucket}
 use Rattle.of_groups.specs.declared.group.Group.{Group}
 use Rattle.of_groups.specs.declared.group.GroupKind.{GroupKind}
 use Rattle.of_groups.specs.declared.group.GroupKind.TheVariants.{All, Indirect, FastFailover}
-use Rattle.of_groups.specs.Buckets.{used, used_at, any_sends, watches, sends, is_badly_watched, are_fit}
+use Rattle.of_groups.specs.Buckets.{used, used_at, any_sends, watches, sends, is_badly_watched}
 use Rattle.of_groups.specs.Groups.{number_of, find_group, is_there, any_watches, any_named, names, at_group}
-use Rattle.of_groups.specs.Chains.{names_next, is_chain, AreShort}
+use Rattle.of_groups.specs.Chains.{names_next, is_chain}
 use Rattle.of_groups.specs.Faults.{is_absent, is_bad_watch, is_not_one}
-use Rattle.of_groups.specs.Sound.{is_fit_group, is_whole, AreSound}
+use Rattle.of_groups.specs.Sound.{is_fit_group, AreSound}
 use Rattle.of_groups.proofs.BucketLemmas.{used_fit, used_length}
-use Rattle.of_groups.proofs.ChainLemmas.{there_found}
 use Rattle.of_groups.proofs.Finding.{place_later, any_position}
 use Rattle.of_groups.proofs.PutLemmas.{none_as_low}
 
@@ -46,7 +45,7 @@ changed_at n change (g ∷ groups) d r there = by_test (eqb g.id n) refl there (
         ap (λ (i : ℕ). set (g ∷ groups) i (change (get_or (g ∷ groups) i d))) (place_later (λ (h : Group). eqb h.id n) g groups e)
         ∙ ap (λ (gs : List Group). g ∷ gs) (again t)
 
-place_is : (b : Bool) (i j : ℕ) → cond b (Some i) None ≡ Some j → (b ≡ true) × (i ≡ j)
+pub place_is : (b : Bool) (i j : ℕ) → cond b (Some i) None ≡ Some j → (b ≡ true) × (i ≡ j)
 place_is true i j e = (refl, cc)
 place_is false i j e = absurd (cc)
 

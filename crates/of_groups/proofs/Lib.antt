@@ -9,3 +9,4 @@ pub mod LiveLemmas
 pub mod CountLemmas
 pub mod ChainLaws
 pub mod LiveLaws
+pub mod WorldLemmas

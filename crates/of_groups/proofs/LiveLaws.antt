@@ -1,5 +1,5 @@
 -- Liveness by kind: so many groups of a chain are enough.
-use Rattle.std.proofs.Common.{◌≡◌, ℕ, zero, suc, ◌≤◌, Bool, true, false, not, eqb, List, [], ◌∷◌, length, Option, Some, None, refl, sym, ap, ◌∙◌, arith}
+use Rattle.std.proofs.Common.{◌≡◌, ℕ, zero, suc, Bool, true, false, not, eqb, List, [], ◌∷◌, Option, Some, None, refl, sym, ap, ◌∙◌, arith}
 use Rattle.std.specs.Prelude.{◌&&◌, ◌||◌}
 use Rattle.std.specs.List.{list_any}
 use Rattle.std.specs.Option.{option_map_or}
@@ -8,7 +8,7 @@ use Rattle.of_groups.specs.declared.group.Group.{Group}
 use Rattle.of_groups.specs.declared.group.GroupKind.{GroupKind}
 use Rattle.of_groups.specs.declared.group.GroupKind.TheVariants.{All, Indirect, FastFailover}
 use Rattle.of_groups.specs.Buckets.{none_watched, watches, any_sends}
-use Rattle.of_groups.specs.Groups.{find_group, is_there, any_watches, any_named}
+use Rattle.of_groups.specs.Groups.{find_group, any_watches, any_named}
 use Rattle.of_groups.specs.Chains.{AreShort, leads}
 use Rattle.of_groups.specs.Liveness.{is_live_bucket, is_live_kind, is_live_within, is_live_group}
 use Rattle.of_groups.proofs.ChainLemmas.{there_found}

@@ -1,5 +1,5 @@
 -- What a group names, by tests of numbers.
-use Rattle.std.proofs.Common.{◌≡◌, ℕ, Bool, true, false, not, eqb, List, [], ◌∷◌, refl, sym, ap, subst, arith}
+use Rattle.std.proofs.Common.{◌≡◌, ℕ, Bool, true, false, not, eqb, List, [], ◌∷◌, refl, arith}
 use Rattle.std.specs.Prelude.{◌&&◌, ◌||◌}
 use Rattle.std.specs.List.{list_any, list_all}
 use Rattle.std.proofs.lemmas.Bool.Decides.{nat_tests, eqb_tells}
@@ -124,7 +124,7 @@ any_watched_number p FastFailover buckets h =
     let b = any_passing (watches p) buckets h in
     (b.0.watch_group, b.2 (watches (λ n. eqb n b.0.watch_group)) (watched_number p b.0 b.1), and_second (not (eqb b.0.watch_group none_watched)) (p b.0.watch_group) b.1)
 
-or_first : (a b : Bool) → a ≡ true → (a || b) ≡ true
+pub or_first : (a b : Bool) → a ≡ true → (a || b) ≡ true
 or_first true b h = refl
 or_first false b h = absurd (cc)
 

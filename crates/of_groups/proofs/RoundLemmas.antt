@@ -1,13 +1,13 @@
 -- Rounds: from what is known of k groups behind one to what is known of one more.
-use Rattle.std.proofs.Common.{◌≡◌, ℕ, zero, suc, Bool, true, false, cond, eqb, ltb, List, [], ◌∷◌, length, get_or, Option, Some, None, refl, sym, ap, subst, ◌∙◌, arith}
-use Rattle.std.specs.Prelude.{◌||◌, map, find, position}
+use Rattle.std.proofs.Common.{◌≡◌, ℕ, suc, Bool, true, false, cond, eqb, ltb, List, [], ◌∷◌, length, get_or, Some, None, refl, sym, ap, ◌∙◌, arith}
+use Rattle.std.specs.Prelude.{◌||◌, map, position}
 use Rattle.std.specs.List.{list_any, position_or_len}
 use Rattle.std.specs.Option.{option_map_or}
 use Rattle.std.proofs.lemmas.Bool.Decides.{nat_tests, eqb_tells}
 use Rattle.std.proofs.Math.Path.{fun_ext}
 use Rattle.of_groups.specs.declared.group.Group.{Group}
 use Rattle.of_groups.specs.declared.chains.Round.{Round}
-use Rattle.of_groups.specs.Groups.{find_group, is_there, with_group, any_named}
+use Rattle.of_groups.specs.Groups.{find_group, with_group, any_named}
 use Rattle.of_groups.specs.Chains.{leads, is_long}
 use Rattle.of_groups.specs.Rounds.{mark_at, known_of, IsRound}
 use Rattle.of_groups.proofs.ChainLemmas.{there_found}

@@ -1,6 +1,6 @@
 -- What holds of groups at all times is kept.
-use Rattle.std.proofs.Common.{◌≡◌, ℕ, suc, zero, ◌≤◌, ◌<◌, Bool, true, false, not, cond, eqb, ltb, List, [], ◌∷◌, ◌++◌, length, Option, Some, None, refl, sym, ap, ◌∙◌, arith}
-use Rattle.std.specs.Prelude.{◌&&◌, ◌||◌, ◌+◌, nat_le, insert, Result, Ok, Err, OnOk, OnErr}
+use Rattle.std.proofs.Common.{◌≡◌, ℕ, ◌≤◌, ◌<◌, Bool, true, false, not, cond, eqb, ltb, List, [], ◌∷◌, length, Option, Some, None, refl, sym, ap, ◌∙◌, arith}
+use Rattle.std.specs.Prelude.{◌&&◌, ◌||◌, ◌+◌, nat_le, Result, Ok, Err, OnOk, OnErr}
 use Rattle.std.proofs.lemmas.List.{length-set}
 use Rattle.std.proofs.lemmas.List.Edits.{length-insert}
 use Rattle.of_actions.specs.Rising.{is_rising}
@@ -8,15 +8,13 @@ use Rattle.std.specs.List.{list_any, list_all}
 use Rattle.std.specs.Option.{option_map_or}
 use Rattle.std.proofs.lemmas.Bool.Decides.{nat_tests, eqb_tells}
 use Rattle.of_action_set.proofs.Ranked.{below, rising_put, all_put, rising-filter, all-filter, length-filter_le}
-use Rattle.of_wire.specs.Numbered.{is_used, without}
-use Rattle.of_groups.specs.declared.bucket.Bucket.{Bucket}
+use Rattle.of_wire.specs.Numbered.{without}
 use Rattle.of_groups.specs.declared.group.Group.{Group}
-use Rattle.of_groups.specs.declared.group.GroupKind.{GroupKind}
 use Rattle.of_groups.specs.declared.group_fault.GroupFault.{GroupFault}
 use Rattle.of_groups.specs.declared.group_fault.GroupFault.TheVariants.{BadWatch, NotOneBucket, Exists, Full, Unknown, AbsentGroup, AbsentWatch, LongChain}
-use Rattle.of_groups.specs.Buckets.{fresh, is_fit, are_fit, any_sends}
-use Rattle.of_groups.specs.Groups.{number_of, find_group, is_there, any_watches, any_named, names, new_group, with_group, left}
-use Rattle.of_groups.specs.Chains.{names_next, is_chain, AreShort, is_long}
+use Rattle.of_groups.specs.Buckets.{are_fit, any_sends}
+use Rattle.of_groups.specs.Groups.{number_of, find_group, is_there, any_watches, any_named, names, with_group}
+use Rattle.of_groups.specs.Chains.{names_next, is_chain, is_long}
 use Rattle.of_groups.specs.Faults.{is_absent, is_bad_watch, is_not_one, naming_fault, add_fault, modify_fault}
 use Rattle.of_groups.specs.Rounds.{absent_with}
 use Rattle.std.proofs.Math.Path.{fun_ext}

@@ -1,8 +1,9 @@
 -- The groups of a switch, by rising number (OpenFlow 1.3.5, 5.6, 5.8 and 6.5).
-use Rattle.std.specs.Prelude.{ℕ, ◌+◌, ◌%◌, ◌^◌, ◌==◌, nat_lt, Bool, false, ◌&&◌, ◌||◌, List, [], ◌∷◌, ◌++◌, map, filter, find, Option, Some, None, if◌then◌else◌}
+use Rattle.std.specs.Prelude.{ℕ, ◌+◌, ◌%◌, ◌^◌, ◌==◌, nat_lt, Bool, false, ◌||◌, List, [], ◌∷◌, ◌++◌, map, filter, find, slice_get, Option, Some, None, if◌then◌else◌}
 use Rattle.std.specs.List.{list_any}
-use Rattle.std.specs.Option.{option_map_or}
+use Rattle.std.specs.Option.{option_map, option_map_or}
 use Rattle.of_wire.specs.Numbered.{is_used, without}
+use Rattle.of_actions.specs.declared.action.Action.{Action}
 use Rattle.of_groups.specs.declared.bucket.Bucket.{Bucket}
 use Rattle.of_groups.specs.declared.group.Group.{Group}
 use Rattle.of_groups.specs.declared.group.GroupKind.{GroupKind}
@@ -17,6 +18,10 @@ find_group n groups = find (λ g. g.id == n) groups
 
 abbrev pub is_there : ℕ → List Group → Bool
 is_there n groups = is_used number_of n groups
+
+-- the actions of the bucket of a group at a place
+abbrev pub bucket_at : List Group → ℕ → ℕ → Option (List Action)
+bucket_at groups n place = option_map_or (λ g. option_map (λ b. b.actions) (slice_get g.buckets place)) (find_group n groups) None
 
 -- ---- names (6.5): a group names those to which its buckets' actions send; one of FAST-FAILOVER names those that its buckets watch too
 

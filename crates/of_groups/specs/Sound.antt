@@ -1,5 +1,5 @@
 -- What holds of the groups of a switch at all times (OpenFlow 1.3.5, 5.6 and 6.5).
-use Rattle.std.specs.Prelude.{◌≡◌, ◌≤◌, ℕ, Bool, true, not, ◌&&◌, List, length, IsTrue}
+use Rattle.std.specs.Prelude.{◌≤◌, Bool, not, ◌&&◌, List, length, IsTrue}
 use Rattle.std.specs.List.{list_all}
 use Rattle.of_actions.specs.Rising.{is_rising}
 use Rattle.of_groups.specs.declared.group.Group.{Group}

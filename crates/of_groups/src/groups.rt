@@ -1,12 +1,13 @@
 //! The groups of a switch.
-ghost use Rattle.std.specs.Prelude.{◌≡◌, [], count_by, OnOk, OnErr};
-ghost use Rattle.std.specs.Option.{option_copied};
+ghost use Rattle.std.specs.Prelude.{◌≡◌, ◌≢◌, ◌<◌, [], Some, None, length, slice_get, count_by, OnOk, OnErr};
+ghost use Rattle.std.specs.Option.{option_copied, option_map};
 ghost use Rattle.std.specs.Result.{result_err};
-ghost use Rattle.of_groups.specs.Groups.{new_group, modified_group, with_group, left, counted, bucket_counted, find_group as group_of_number, sends_to as is_sending};
+ghost use Rattle.of_groups.specs.Groups.{new_group, modified_group, with_group, left, counted, bucket_counted, bucket_at, find_group as group_of_number, sends_to as is_sending};
 ghost use Rattle.of_groups.specs.Faults.{fault_in, add_fault, modify_fault, delete_fault};
 ghost use Rattle.of_groups.specs.Sound.{AreSound};
 ghost use Rattle.of_groups.specs.Liveness.{chosen};
 
+use crate::bucket::Bucket;
 use crate::buckets::Buckets;
 use crate::changing::{insert_group, is_named, make_group, moment_of, remove_group, replace_group};
 use crate::checking::{check_add, check_modify};
@@ -17,6 +18,7 @@ use crate::group_fault::GroupFault;
 use crate::liveness::{LivePorts, choose};
 use crate::lookup::find_group;
 use crate::naming::sends_to;
+use of_actions::Action;
 use std::alloc::Global;
 use std::marker::Model;
 
@@ -131,6 +133,17 @@ impl Groups {
         choose(&self.groups, ports, id)
     }
 
+    /// The actions of the bucket of the group of that number, by its place, from 0.
+    pub fn bucket(&self, id: u32, place: u8) -> &[Action]
+        requires { bucket_at self.now id place ≢ None }
+        ensures { bucket_at self.now id place ≡ Some result.now }
+    {
+        match find_group(&self.groups, id) {
+            Some(group) => actions_at(group.buckets.as_slice(), place as usize),
+            None => unreachable!(),
+        }
+    }
+
     /// Counts a packet of so many bytes for the group of that number (OpenFlow 1.3.5, 5.8); where there is none, nothing changes. Counters wrap.
     pub fn count(&mut self, id: u32, bytes: usize)
         ensures { self.new ≡ counted id bytes self.old }
@@ -154,4 +167,11 @@ impl Groups {
             .filter(|group| sends_to(group, id))
             .count()
     }
+}
+
+fn actions_at(buckets: &[Bucket], place: usize) -> &[Action]
+    requires { place < length buckets.now }
+    ensures { option_map (λ b. b.actions) (slice_get buckets.now place) ≡ Some result.now }
+{
+    buckets[place].actions.as_slice()
 }

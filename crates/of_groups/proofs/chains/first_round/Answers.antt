@@ -1,4 +1,4 @@
-use Rattle.std.proofs.Common.{◌≡◌, ◌∙◌, true, take, refl, ap, length, ◌≤◌}
+use Rattle.std.proofs.Common.{◌∙◌, true, refl, ap, length, ◌≤◌}
 use Rattle.std.specs.Prelude.{map}
 use Rattle.std.proofs.lemmas.List.{take_all}
 use Rattle.of_groups.specs.declared.group.Group.{Group}

@@ -1,12 +1,5 @@
-use Rattle.std.proofs.Common.{◌≡◌, ◌∙◌, ap, true, false, Bool}
-use Rattle.std.specs.Prelude.{◌||◌}
-use Rattle.std.specs.List.{list_any}
-use Rattle.of_groups.specs.declared.group.Group.{Group}
-use Rattle.of_groups.specs.declared.chains.Round.{Round}
-use Rattle.of_groups.specs.Chains.{is_long}
-use Rattle.of_groups.specs.Groups.{with_group}
-use Rattle.of_groups.specs.Rounds.{IsRound, known_of}
-use Rattle.of_groups.proofs.RoundLemmas.{long_known, long_own, long_other}
+use Rattle.std.proofs.Common.{◌∙◌}
+use Rattle.of_groups.proofs.RoundLemmas.{long_own, long_other}
 use Rattle.of_groups.proofs.chains.makes_long.Goals as goal
 
 pub returns-then-three_behind : goal.returns-then-three_behind

@@ -1,5 +1,4 @@
-use Rattle.std.proofs.Common.{◌≡◌, ◌∙◌, true, false, sym, ap, Option, List, Bool}
-use Rattle.of_groups.specs.declared.bucket.Bucket.{Bucket}
+use Rattle.std.proofs.Common.{◌∙◌, sym, ap}
 use Rattle.of_groups.specs.Buckets.{any_sends}
 use Rattle.of_groups.specs.Groups.{any_watches}
 use Rattle.of_groups.specs.Rounds.{absent_with}

@@ -13,5 +13,4 @@ is_live_within-returns-in-None g t c =
 pub is_live_within-returns-in-Some : goal.is_live_within-returns-in-Some
 is_live_within-returns-in-Some g t c =
     let some : 0 < c.args.levels = omega (arith, c.if-levels-eq0.false) in
-    c.is_live_group.ensures
-    ∙ sym (within_there c.args.groups.now (g.P.LivePorts.live c.args.ports.now) c.args.levels c.args.id c.in-Some.group.now some (sym c.find_group.ensures ∙ ap option_copied c.in-Some.is))
+    rw (within_there c.args.groups.now (g.P.LivePorts.live c.args.ports.now) c.args.levels c.args.id c.in-Some.group.now some (sym c.find_group.ensures ∙ ap option_copied c.in-Some.is)) c.is_live_group.ensures

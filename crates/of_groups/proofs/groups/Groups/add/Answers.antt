@@ -1,8 +1,7 @@
 use Rattle.std.proofs.Common.{◌∙◌, sym, ap}
-use Rattle.std.specs.Prelude.{OnOk, OnErr}
 use Rattle.std.proofs.lemmas.Result.{err_from_is_err_and}
 use Rattle.of_groups.specs.Faults.{add_fault}
-use Rattle.of_groups.proofs.Soundness.{same_add, sound_added, may_add}
+use Rattle.of_groups.proofs.Soundness.{same_add, sound_added}
 use Rattle.of_groups.proofs.groups.Groups.add.Goals as goal
 use Rattle.of_groups.proofs.groups.Groups.add.Goals.{in-Ok, in-Err}
 

@@ -1,6 +1,6 @@
-use Rattle.std.proofs.Common.{◌≡◌, ◌∙◌, sym, ap}
+use Rattle.std.proofs.Common.{◌∙◌, sym, ap}
 use Rattle.std.proofs.lemmas.Result.{err_from_is_err_and}
-use Rattle.of_groups.specs.Groups.{new_group, modified_group, created_at}
+use Rattle.of_groups.specs.Groups.{new_group, created_at}
 use Rattle.of_groups.specs.Faults.{modify_fault}
 use Rattle.of_groups.proofs.Soundness.{same_modify, same_with, sound_modified}
 use Rattle.of_groups.proofs.groups.Groups.modify.Goals as goal
