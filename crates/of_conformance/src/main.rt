@@ -93,6 +93,7 @@ fn verdict(rt: &HostRuntime, events: &[u8], expected: &[u8]) -> &'static str {
         Ended::Done if sink.bytes() == expected => "as expected",
         Ended::Done => "other output",
         Ended::BadRow(_) => "bad row",
+        Ended::Text(_) => "a fault of a text",
         Ended::ReadFault => "read fault",
         Ended::WriteFault => "write fault",
         Ended::NoMemory => "no memory",
