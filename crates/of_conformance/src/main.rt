@@ -106,6 +106,7 @@ fn verdict<L: Lookup>(rt: &HostRuntime, events: &[u8], expected: &[u8]) -> &'sta
         Ended::Done if sink.bytes() == expected => AS_EXPECTED,
         Ended::Done => "other output",
         Ended::BadRow(_) => "bad row",
+        Ended::Text(_) => "a fault of a text",
         Ended::ReadFault => "read fault",
         Ended::WriteFault => "write fault",
         Ended::NoMemory => "no memory",

@@ -5,3 +5,4 @@ pub mod Cutting
 pub mod Lines
 pub mod WholeRuns
 pub mod Examples
+pub mod FileLemmas

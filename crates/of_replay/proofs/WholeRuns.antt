@@ -39,11 +39,11 @@ piece_reads Read rows out first taken reads ends ends' failures failures' h e = 
 piece_reads Write rows out first taken reads ends ends' failures failures' h e = omega (arith, e)
 
 -- an answer more
-told_more : (answers now next : Option (List Answer)) (more : List Answer) (one : Answer) → now ≡ then_answers answers more → next ≡ then_answer now one → next ≡ then_answers answers (more ++ one ∷ [])
+pub told_more : (answers now next : Option (List Answer)) (more : List Answer) (one : Answer) → now ≡ then_answers answers more → next ≡ then_answer now one → next ≡ then_answers answers (more ++ one ∷ [])
 told_more answers now next more one is e = e ∙ (ap (λ (t : Option (List Answer)). then_answer t one) is ∙ answers-more answers more one)
 
 -- a read that gave no bytes
-given_same : (more : List Answer) (one : Answer) → bytes_of one ≡ [] → given (more ++ one ∷ []) ≡ given more
+pub given_same : (more : List Answer) (one : Answer) → bytes_of one ≡ [] → given (more ++ one ∷ []) ≡ given more
 given_same more one e = given-more more one ∙ (ap (λ (x : List ℕ). given more ++ x) e ∙ append-nil (given more))
 
 pub read_idle : (answers now next : Option (List Answer)) (one : Answer) (kept : List ℕ) (n : ℕ) (s : State) (out : List ℕ) (first taken : Option (List ℕ)) → ReadSoFar answers now kept n s out first taken
@@ -63,10 +63,10 @@ read_piece answers now next piece kept kept' n n' s s' out out' first taken take
   within = subst (λ (x : List ℕ). Within x [] kept' n' s' out' first taken') (sym (given-more r.more (Gave piece))) goes;
 }
 
-not_ended : (ends ends' : ℕ) → ends' ≡ ends → nat_lt ends ends' ≡ false
+pub not_ended : (ends ends' : ℕ) → ends' ≡ ends → nat_lt ends ends' ≡ false
 not_ended ends ends' e = grind (arith, nat_tests, e)
 
-is_ended : (ends ends' : ℕ) → ends' ≡ ends + 1 → nat_lt ends ends' ≡ true
+pub is_ended : (ends ends' : ℕ) → ends' ≡ ends + 1 → nat_lt ends ends' ≡ true
 is_ended ends ends' e = grind (arith, nat_tests, e)
 
 plays_halt : (h : Halt) (ended : Bool) (rows : Rows) (out : List ℕ) (first taken : Option (List ℕ)) → Halts h rows out first taken → Plays (Err h) ended rows out first taken

@@ -7,3 +7,4 @@ pub mod Output
 pub mod Play
 pub mod Stepping
 pub mod Ended
+pub mod Assembling

@@ -2,7 +2,7 @@
 use Rattle.std.specs.Prelude.{◌≡◌, ℕ, Bool, true, false, nat_lt, List, [], ◌∷◌, ◌++◌, Option, Some, None, if◌then◌else◌}
 use Rattle.of_switch.specs.declared.event.Event.{Event}
 use Rattle.of_replay.specs.declared.event_file.Ended.{Ended}
-use Rattle.of_replay.specs.declared.event_file.Ended.TheVariants.{Done, BadRow, ReadFault, WriteFault, NoMemory}
+use Rattle.of_replay.specs.declared.event_file.Ended.TheVariants.{Done, BadRow, Text, ReadFault, WriteFault, NoMemory}
 use Rattle.of_replay.specs.Told.{Answer, then_bytes, given}
 use Rattle.of_replay.specs.Transfer.{then_answers, WroteFront}
 use Rattle.of_replay.specs.Lexing.{whole_lines, last_from}
@@ -32,6 +32,7 @@ pub record WroteFirst (events : List Event) (old new : Option (List ℕ)) : Type
 abbrev pub Ends : Ended → Bool → Rows → Option (List ℕ) → Option (List ℕ) → Type 0
 Ends Done ended rows old new = (ended ≡ true) × (rows.bad ≡ None) × Wrote rows.events old new
 Ends (BadRow n) ended rows old new = (rows.bad ≡ Some n) × Wrote rows.events old new
+Ends (Text f) ended rows old new = ⊥
 Ends ReadFault ended rows old new = (ended ≡ false) × (rows.bad ≡ None) × Wrote rows.events old new
 Ends WriteFault ended rows old new = WroteFront old (printed rows.events) new
 Ends NoMemory ended rows old new = WroteFirst rows.events old new

@@ -9,11 +9,12 @@ use crate::io::{Sink, Source};
 use crate::replaying::Replaying;
 use of_classifier::Lookup;
 use of_switch::Switch;
+use of_text::TextFault;
 use std::alloc::{AllocError, Global};
 use thiserror::Error;
 
 /// A read asks for so many bytes.
-const READ_SIZE: usize = 65_536;
+pub const READ_SIZE: usize = 65_536;
 
 /// The number of the switch that rows are played on (OpenFlow 1.3.5, 7.3.1).
 const DPID: u64 = 1;
@@ -27,6 +28,9 @@ pub enum Ended {
     /// The line of this number, from 1, is a bad row; what the rows before it print was written.
     #[error("line {0}: bad row")]
     BadRow(u64),
+    /// A flow text is no configuration; nothing was written.
+    #[error("{0}")]
+    Text(TextFault),
     /// A read failed, or a million reads found no end; what the whole lines that were read print was written.
     #[error("read fault")]
     ReadFault,
@@ -44,13 +48,13 @@ pub fn status(ended: &Ended) -> u8
 {
     match ended {
         Ended::Done => 0,
-        Ended::BadRow(_) => 2,
+        Ended::BadRow(_) | Ended::Text(_) => 2,
         Ended::ReadFault | Ended::WriteFault | Ended::NoMemory => 3,
     }
 }
 
-// How the run ended that halted so.
-fn ended_by(played: Result<(), Halt>) -> Ended
+/// How the run ended that halted so.
+pub fn ended_by(played: Result<(), Halt>) -> Ended
     ensures { result ≡ ended_so played }
 {
     match played {
@@ -62,7 +66,8 @@ fn ended_by(played: Result<(), Halt>) -> Ended
     }
 }
 
-fn zeros(alloc: Global, len: usize) -> Result<Vec<u8>, AllocError>
+/// So many zeros.
+pub fn zeros(alloc: Global, len: usize) -> Result<Vec<u8>, AllocError>
     ensures { IfOk result (λ bytes. bytes.items ≡ replicate len 0) }
 {
     let mut bytes = Vec::new(alloc);

@@ -2,6 +2,7 @@
 #![tactic(auto)]
 
 mod event_file;
+mod flow_text;
 mod halt;
 mod io;
 mod lexing;
@@ -13,8 +14,10 @@ mod replaying;
 mod rows;
 pub mod streams;
 mod transfer;
+mod whole_file;
 
 pub use event_file::{Ended, replay, status};
+pub use flow_text::asm;
 pub use io::{Reading, Sink, Source, Writing};
 pub use output::push_effects;
 pub use transfer::write_all;
