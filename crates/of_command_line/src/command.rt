@@ -4,8 +4,9 @@ use clap::{Arg, Command};
 use std::alloc::{AllocError, Global};
 
 const STATUSES: &str =
-    "Exit status: 0 done; 1 bad arguments; 2 a bad row in FILE (`line N: bad row` on standard error, after the \
-effects of the rows before it); 3 `read fault`, `write fault` or `no memory`.";
+    "Exit status: 0 done; 1 bad arguments; 2 a bad FILE (on standard error `line N: bad row`, of `replay` after the \
+effects of the rows before it, and of flow text `line N: syntax` or `line N: type T code C`, of which nothing is \
+written); 3 `read fault`, `write fault` or `no memory`.";
 
 const EVENT_FILES: &str = "An event file has one event a line, and words are separated by one space:
 
@@ -22,6 +23,18 @@ there, 7 too many ports, 8 bad port number.
 
   ofswitch replay examples/first-path.events";
 
+const FLOW_TEXT: &str = "Flow text has one flow in some lines, and words are separated by one space:
+
+  flow 0 10 0x0000000000000000 0 0 0    table, priority, cookie, idle and hard timeout, flags
+  match in_port 0x00000001              a field, its value and, where there is one, a mask
+  apply                                 an instruction (apply, clear, write, metadata V M, goto T)
+  output 2 0                            an action of it: port and max_len
+  # ...                                 a comment
+
+The event file connects a controller, which says HELLO and adds each flow by a FLOW_MOD, by table, then by age.
+
+  ofswitch asm examples/router.flows > router.events";
+
 const VERSION: &str = "0.1.0";
 
 /// The command line of the program.
@@ -33,11 +46,19 @@ pub fn command<'a>(alloc: Global) -> Result<Command<'a>, AllocError> {
         .about("Runs an event file on a new switch and prints what it gives")
         .after_help(EVENT_FILES)
         .arg(file)?;
+    let text = Arg::new(alloc, "FILE")
+        .required(true)
+        .help("The flow text to read; - is standard input");
+    let asm = Command::new(alloc, "asm")
+        .about("Prints an event file that builds the flow tables of a flow text")
+        .after_help(FLOW_TEXT)
+        .arg(text)?;
     Command::new(alloc, "ofswitch")
         .version(VERSION)
         .about("An OpenFlow 1.3.5 switch whose behaviour is proved")
         .after_help(STATUSES)
         .subcommand_required(true)
         .arg_required_else_help(true)
-        .subcommand(replay)
+        .subcommand(replay)?
+        .subcommand(asm)
 }

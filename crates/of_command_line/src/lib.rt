@@ -16,6 +16,8 @@ use std::alloc::{AllocError, Global};
 pub enum Request {
     /// To run an event file on a new switch and print what it gives; `-` is standard input.
     Replay { file: String },
+    /// To print an event file that builds the flow tables of a flow text; `-` is standard input.
+    Assemble { file: String },
 }
 
 /// Why the words are no request.
@@ -46,13 +48,16 @@ pub fn read_request(alloc: Global, words: &[String]) -> Result<Request, NoReques
 }
 
 fn request_of(alloc: Global, matches: &ArgMatches<'_>) -> Result<Request, NoRequest> {
-    let file = match matches.subcommand() {
-        Some((_, matches)) => matches.get_str("FILE").unwrap_or("-"),
-        None => "-",
+    let (name, file) = match matches.subcommand() {
+        Some((name, matches)) => (name, matches.get_str("FILE").unwrap_or("-")),
+        None => ("replay", "-"),
     };
-    Ok(Request::Replay {
-        file: file.to_string(alloc)?,
-    })
+    let file = file.to_string(alloc)?;
+    if name == "asm" {
+        Ok(Request::Assemble { file })
+    } else {
+        Ok(Request::Replay { file })
+    }
 }
 
 fn refusal_of(alloc: Global, error: &Error) -> Result<NoRequest, AllocError> {

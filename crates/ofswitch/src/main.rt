@@ -4,7 +4,8 @@
 use of_command_line::{NoRequest, Request, read_request};
 use of_mask_groups::MaskGroups;
 use of_replay::streams::{ReaderSource, WriterSink};
-use of_replay::{Ended, replay, status};
+use of_replay::{Ended, asm, replay, status};
+use of_text::TextFault;
 use std::fs::File;
 use std::io::{self, Read};
 use std::process::ExitCode;
@@ -26,7 +27,7 @@ fn main(rt: HostRuntime) -> ExitCode {
         return end(&rt, &Ended::NoMemory);
     };
     match read_request(rt.alloc(), &words) {
-        Ok(Request::Replay { file }) => replay_file(&rt, &file),
+        Ok(request) => carry_out(&rt, &request),
         Err(why) => tell(&rt, &why),
     }
 }
@@ -47,12 +48,15 @@ fn tell(rt: &HostRuntime, why: &NoRequest) -> ExitCode {
 }
 
 // A file that does not open is a read fault, unless memory ran out.
-fn replay_file(rt: &HostRuntime, path: &str) -> ExitCode {
+fn carry_out(rt: &HostRuntime, request: &Request) -> ExitCode {
+    let path = match request {
+        Request::Replay { file } | Request::Assemble { file } => file.as_str(),
+    };
     if path == "-" {
-        return end(rt, &replay_reader(rt, rt.stdin()));
+        return end(rt, &run(rt, request, rt.stdin()));
     }
     match File::open(rt, path) {
-        Ok(file) => end(rt, &replay_reader(rt, file)),
+        Ok(file) => end(rt, &run(rt, request, file)),
         Err(error) if error.kind() == io::ErrorKind::OutOfMemory => end(rt, &Ended::NoMemory),
         Err(error) => {
             let code = end(rt, &Ended::ReadFault);
@@ -62,10 +66,15 @@ fn replay_file(rt: &HostRuntime, path: &str) -> ExitCode {
     }
 }
 
-fn replay_reader<R: Read + Drop>(rt: &HostRuntime, reader: R) -> Ended {
+fn run<R: Read + Drop>(rt: &HostRuntime, request: &Request, reader: R) -> Ended {
     let mut reader = ReaderSource::new(reader);
     let mut writer = WriterSink::new(rt.stdout());
-    replay::<MaskGroups, _, _>(rt.alloc(), &mut reader, &mut writer)
+    match request {
+        Request::Replay { .. } => {
+            replay::<MaskGroups, _, _>(rt.alloc(), &mut reader, &mut writer)
+        }
+        Request::Assemble { .. } => asm(rt.alloc(), &mut reader, &mut writer),
+    }
 }
 
 // Why the run ended, on standard error where it is a fault, and the status.
@@ -73,5 +82,23 @@ fn end(rt: &HostRuntime, ended: &Ended) -> ExitCode {
     if *ended != Ended::Done {
         let _ = eprintln!(rt; "{ended}");
     }
+    if let Ended::Text(fault) = ended {
+        explain(rt, fault);
+    }
     ExitCode::from(status(ended))
+}
+
+// What a fault of a flow text is in words, in a line of its own.
+fn explain(rt: &HostRuntime, fault: &TextFault) {
+    match fault {
+        TextFault::Syntax(_) => {
+            let _ = eprintln!(rt; "this line is no line of flow text, or may not stand here");
+        }
+        TextFault::Refused { code, .. } => {
+            if let Some(name) = code.name() {
+                let _ = eprintln!(rt; "{name}");
+            }
+        }
+        TextFault::NoMemory => {}
+    }
 }
