@@ -1,0 +1,117 @@
+use of_classifier::Scan;
+use of_headers::read;
+use of_replay::Ended;
+use of_replay::memory::MemorySink;
+use of_switch::{PortChange, Switch};
+use of_trace::{Reason, explain, print, trace, why, write_trace};
+use std::alloc::Global;
+use std::test::Fail;
+
+/// A FLOW_MOD that adds a flow to table 0: of priority 10, for IN_PORT 1, with APPLY of OUTPUT 2.
+const TO_PORT_2: [u8; 88] = [
+    4, 14, 0, 88, 0, 0, 0, 2, 0, 0, 0, 0, 0, 0, 0, 0, 0, 0, 0, 0, 0, 0, 0, 0, 0, 0, 0, 0, 0, 0, 0,
+    10, 255, 255, 255, 255, 255, 255, 255, 255, 255, 255, 255, 255, 0, 0, 0, 0, 0, 1, 0, 12, 128,
+    0, 0, 4, 0, 0, 0, 1, 0, 0, 0, 0, 0, 4, 0, 24, 0, 0, 0, 0, 0, 0, 0, 16, 0, 0, 0, 2, 0, 0, 0, 0,
+    0, 0, 0, 0,
+];
+
+/// A frame of 60 bytes: addresses, the type 0x88b5, and zeros.
+const FRAME: [u8; 60] = [
+    2, 0, 0, 0, 0, 2, 2, 0, 0, 0, 0, 1, 0x88, 0xb5, 0, 0, 0, 0, 0, 0, 0, 0, 0, 0, 0, 0, 0, 0, 0, 0,
+    0, 0, 0, 0, 0, 0, 0, 0, 0, 0, 0, 0, 0, 0, 0, 0, 0, 0, 0, 0, 0, 0, 0, 0, 0, 0, 0, 0, 0, 0,
+];
+
+const TRACED: &[u8] = b"lookup 0 entry 0
+apply
+output 2 0
+set
+end
+s 2 02000000000202000000000188b500000000000000000000000000000000000000000000000000000000000000000000000000000000000000000000
+";
+
+/// The same with notes.
+const EXPLAINED: &[u8] = b"lookup 0 entry 0
+    flow 0 10 0x0000000000000000 0 0 0
+    match in_port 0x00000001
+apply
+output 2 0
+set
+end
+s 2 02000000000202000000000188b500000000000000000000000000000000000000000000000000000000000000000000000000000000000000000000
+";
+
+fn added(number: u32) -> PortChange {
+    PortChange::Add {
+        number,
+        hw: [2, 0, 0, 0, 0, 1],
+        name: [0; 16],
+        up: true,
+    }
+}
+
+// A switch of two ports, and a controller that said HELLO.
+fn opened(alloc: Global) -> Result<Switch<Scan>, Fail> {
+    let mut switch = Switch::<Scan>::new(alloc, 1)?;
+    switch.port_change(added(1))?;
+    switch.port_change(added(2))?;
+    switch.connected()?;
+    switch.feed(&[4, 0, 0, 8, 0, 0, 0, 1])?;
+    switch.next()?;
+    Ok(switch)
+}
+
+#[test]
+fn miss(rt: HostRuntime) -> Result<(), Fail> {
+    let switch = opened(rt.alloc())?;
+    let traced = trace(rt.alloc(), &switch, 1, &FRAME)?;
+    let text = print(rt.alloc(), &traced)?;
+    assert_eq!(rt; text.as_slice(), b"lookup 0 miss\nend\n".as_slice());
+    Ok(())
+}
+
+// The same text twice, since nothing changes, and then the frame leaves as the trace says.
+#[test]
+fn hit(rt: HostRuntime) -> Result<(), Fail> {
+    let mut switch = opened(rt.alloc())?;
+    switch.feed(&TO_PORT_2)?;
+    switch.next()?;
+    let first = trace(rt.alloc(), &switch, 1, &FRAME)?;
+    assert_eq!(rt; print(rt.alloc(), &first)?.as_slice(), TRACED);
+    let again = trace(rt.alloc(), &switch, 1, &FRAME)?;
+    assert_eq!(rt; print(rt.alloc(), &again)?.as_slice(), TRACED);
+    let effects = switch.frame(1, &FRAME)?;
+    assert_eq!(rt; effects.len(), 1);
+    Ok(())
+}
+
+#[test]
+fn with_notes_and_to_a_sink(rt: HostRuntime) -> Result<(), Fail> {
+    let mut switch = opened(rt.alloc())?;
+    switch.feed(&TO_PORT_2)?;
+    switch.next()?;
+    let traced = trace(rt.alloc(), &switch, 1, &FRAME)?;
+    let text = explain(rt.alloc(), &switch, &traced)?;
+    assert_eq!(rt; text.as_slice(), EXPLAINED);
+    let mut sink = MemorySink::new(rt.alloc(), 100, 0);
+    assert_eq!(rt;
+        write_trace(rt.alloc(), &switch, 1, &FRAME, &mut sink),
+        Ended::Done
+    );
+    assert_eq!(rt; sink.bytes(), TRACED);
+    Ok(())
+}
+
+// By port 1 the entry wins, and by port 2 its field IN_PORT differs.
+#[test]
+fn reasons(rt: HostRuntime) -> Result<(), Fail> {
+    let mut switch = opened(rt.alloc())?;
+    switch.feed(&TO_PORT_2)?;
+    switch.next()?;
+    let by_1 = read(&FRAME, 1, 0).ok().ok_or("a frame")?.key();
+    assert_eq!(rt; why(&switch, 0, &by_1, 0), Some(Reason::Won));
+    assert_eq!(rt; why(&switch, 0, &by_1, 1), None);
+    let by_2 = read(&FRAME, 2, 0).ok().ok_or("a frame")?.key();
+    let reason = why(&switch, 0, &by_2, 0);
+    assert!(rt; matches!(reason, Some(Reason::Differs { found: Some(2), .. })));
+    Ok(())
+}
