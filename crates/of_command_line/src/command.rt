@@ -35,6 +35,18 @@ The event file connects a controller, which says HELLO and adds each flow by a F
 
   ofswitch asm examples/router.flows > router.events";
 
+const TRACES: &str =
+    "The switch has ports 1 to 64, whose links are up, and the flows of the text. One line a step:
+
+  lookup 0 entry 2                      a table, and the entry that won, by age from 0 (or miss)
+  apply, write, clear, metadata, goto   an instruction
+  output 2 0                            an action; dec_nw_ttl expired
+  set                                   the action set is run
+  end                                   the packet's way ends
+  s 2 HEX                               and then what leaves
+
+  ofswitch trace --flows examples/router.flows --port 1 0200000000a10200000000010800450000140000000040fd64e30a0000010a010109";
+
 const VERSION: &str = "0.1.0";
 
 /// The command line of the program.
@@ -53,6 +65,22 @@ pub fn command<'a>(alloc: Global) -> Result<Command<'a>, AllocError> {
         .about("Prints an event file that builds the flow tables of a flow text")
         .after_help(FLOW_TEXT)
         .arg(text)?;
+    let flows = Arg::new(alloc, "FILE").long("flows").required(true).help(
+        "The flow text with the switch's flows; - is standard input",
+    );
+    let port = Arg::new(alloc, "N")
+        .long("port")
+        .required(true)
+        .help("The port by which the frame comes in, 1 to 64");
+    let frame = Arg::new(alloc, "HEX")
+        .required(true)
+        .help("The frame, two hexadecimal digits a byte");
+    let trace = Command::new(alloc, "trace")
+        .about("Prints, step by step, what a frame does on a switch with the flows of a flow text")
+        .after_help(TRACES)
+        .arg(flows)?
+        .arg(port)?
+        .arg(frame)?;
     Command::new(alloc, "ofswitch")
         .version(VERSION)
         .about("An OpenFlow 1.3.5 switch whose behaviour is proved")
@@ -60,5 +88,6 @@ pub fn command<'a>(alloc: Global) -> Result<Command<'a>, AllocError> {
         .subcommand_required(true)
         .arg_required_else_help(true)
         .subcommand(replay)?
-        .subcommand(asm)
+        .subcommand(asm)?
+        .subcommand(trace)
 }

@@ -11,13 +11,27 @@ use clap::error::{Error, ErrorKind};
 use command::command;
 use std::alloc::{AllocError, Global};
 
+/// A switch on which frames are traced has the ports 1 to this one.
+const LAST_PORT: u32 = 64;
+
 /// What the user asks for.
 #[derive(Debug, PartialEq, Eq, Drop)]
 pub enum Request {
     /// To run an event file on a new switch and print what it gives; `-` is standard input.
-    Replay { file: String },
+    Replay {
+        file: String,
+    },
     /// To print an event file that builds the flow tables of a flow text; `-` is standard input.
-    Assemble { file: String },
+    Assemble {
+        file: String,
+    },
+    /// To print the trace of a frame that comes in by a port of a switch with the flows of a flow text; `-` is standard input.
+    Trace {
+        file: String,
+        /// 1 to 64.
+        port: u32,
+        frame: Vec<u8>,
+    },
 }
 
 /// Why the words are no request.
@@ -48,16 +62,43 @@ pub fn read_request(alloc: Global, words: &[String]) -> Result<Request, NoReques
 }
 
 fn request_of(alloc: Global, matches: &ArgMatches<'_>) -> Result<Request, NoRequest> {
-    let (name, file) = match matches.subcommand() {
-        Some((name, matches)) => (name, matches.get_str("FILE").unwrap_or("-")),
-        None => ("replay", "-"),
+    let Some((name, matches)) = matches.subcommand() else {
+        return Ok(Request::Replay {
+            file: "-".to_string(alloc)?,
+        });
     };
-    let file = file.to_string(alloc)?;
-    if name == "asm" {
-        Ok(Request::Assemble { file })
-    } else {
-        Ok(Request::Replay { file })
+    let file = matches.get_str("FILE").unwrap_or("-").to_string(alloc)?;
+    match name {
+        "asm" => Ok(Request::Assemble { file }),
+        "trace" => Ok(Request::Trace {
+            file,
+            port: port_of(alloc, matches.get_str("N").unwrap_or(""))?,
+            frame: frame_of(alloc, matches.get_str("HEX").unwrap_or(""))?,
+        }),
+        _ => Ok(Request::Replay { file }),
     }
+}
+
+// The number of a port that frames are traced from.
+fn port_of(alloc: Global, word: &str) -> Result<u32, NoRequest> {
+    match u32::from_str_radix(word, 10) {
+        Ok(port) if port >= 1 && port <= LAST_PORT => Ok(port),
+        _ => Err(refused(alloc, "bad port: it is a number from 1 to 64\n")?),
+    }
+}
+
+fn frame_of(alloc: Global, word: &str) -> Result<Vec<u8>, NoRequest> {
+    match hex::decode(alloc, word) {
+        Ok(frame) => Ok(frame),
+        Err(_) => Err(refused(
+            alloc,
+            "bad hex: a frame is hexadecimal digits, two a byte\n",
+        )?),
+    }
+}
+
+fn refused(alloc: Global, why: &str) -> Result<NoRequest, AllocError> {
+    Ok(NoRequest::Refused(why.to_string(alloc)?))
 }
 
 fn refusal_of(alloc: Global, error: &Error) -> Result<NoRequest, AllocError> {

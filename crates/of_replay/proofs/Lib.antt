@@ -6,3 +6,4 @@ pub mod Lines
 pub mod WholeRuns
 pub mod Examples
 pub mod FileLemmas
+pub mod ConfigLemmas

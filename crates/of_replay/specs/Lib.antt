@@ -8,3 +8,4 @@ pub mod Play
 pub mod Stepping
 pub mod Ended
 pub mod Assembling
+pub mod ConfigFiles

@@ -1,6 +1,7 @@
 //! Event files: rows from a source, and what a switch gives for them to a sink.
 #![tactic(auto)]
 
+mod config_file;
 mod event_file;
 mod flow_text;
 mod halt;
@@ -16,6 +17,7 @@ pub mod streams;
 mod transfer;
 mod whole_file;
 
+pub use config_file::read_config;
 pub use event_file::{Ended, replay, status};
 pub use flow_text::asm;
 pub use io::{Reading, Sink, Source, Writing};

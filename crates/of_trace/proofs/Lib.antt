@@ -1,3 +1,4 @@
 pub mod SpeltLemmas
 pub mod WhyLemmas
 pub mod PrintingLemmas
+pub mod FileLemmas

@@ -3,3 +3,4 @@ pub mod Text
 pub mod Why
 pub mod Writing
 pub mod Notes
+pub mod Files

@@ -7,6 +7,7 @@ mod printing;
 mod reason;
 mod traces;
 mod tracing;
+mod tracing_file;
 mod writing;
 
 pub use explaining::why;
@@ -15,4 +16,5 @@ pub use printing::print;
 pub use reason::Reason;
 pub use traces::Trace;
 pub use tracing::trace;
+pub use tracing_file::trace_file;
 pub use writing::write_trace;

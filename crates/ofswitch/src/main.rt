@@ -6,6 +6,7 @@ use of_mask_groups::MaskGroups;
 use of_replay::streams::{ReaderSource, WriterSink};
 use of_replay::{Ended, asm, replay, status};
 use of_text::TextFault;
+use of_trace::trace_file;
 use std::fs::File;
 use std::io::{self, Read};
 use std::process::ExitCode;
@@ -50,7 +51,9 @@ fn tell(rt: &HostRuntime, why: &NoRequest) -> ExitCode {
 // A file that does not open is a read fault, unless memory ran out.
 fn carry_out(rt: &HostRuntime, request: &Request) -> ExitCode {
     let path = match request {
-        Request::Replay { file } | Request::Assemble { file } => file.as_str(),
+        Request::Replay { file } | Request::Assemble { file } | Request::Trace { file, .. } => {
+            file.as_str()
+        }
     };
     if path == "-" {
         return end(rt, &run(rt, request, rt.stdin()));
@@ -74,6 +77,9 @@ fn run<R: Read + Drop>(rt: &HostRuntime, request: &Request, reader: R) -> Ended 
             replay::<MaskGroups, _, _>(rt.alloc(), &mut reader, &mut writer)
         }
         Request::Assemble { .. } => asm(rt.alloc(), &mut reader, &mut writer),
+        Request::Trace { port, frame, .. } => {
+            trace_file::<MaskGroups, _, _>(rt.alloc(), &mut reader, *port, frame, &mut writer)
+        }
     }
 }
 

@@ -1,0 +1,52 @@
+-- A flow text that is read whole, for its configuration.
+use Rattle.std.specs.Prelude.{◌≡◌, ℕ, Bool, true, false, nat_lt, List, Option, None, Some, Result, Ok, Err}
+use Rattle.of_text.specs.Flows.{Flow}
+use Rattle.of_text.specs.Lines.{lines_of}
+use Rattle.of_text.specs.Configs.{SpellConfig}
+use Rattle.of_replay.specs.declared.event_file.Ended.{Ended}
+use Rattle.of_replay.specs.declared.event_file.Ended.TheVariants.{Done, BadRow, Text, ReadFault, WriteFault, NoMemory}
+use Rattle.of_replay.specs.Told.{Answer, given}
+use Rattle.of_replay.specs.Transfer.{then_answers}
+use Rattle.of_replay.specs.Assembling.{bad_line, HasFault}
+
+-- the file's lines spell these tables, and each is one that a file may have
+pub record Spells (file : List ℕ) (tables : List (List Flow)) : Type 0 where
+  pub readable : bad_line file ≡ None
+  pub spelt : SpellConfig (lines_of file) tables
+
+-- why a file has no configuration
+abbrev pub LacksConfig : Ended → List ℕ → Type 0
+LacksConfig Done file = ⊥
+LacksConfig (BadRow n) file = bad_line file ≡ Some n
+LacksConfig (Text f) file = (bad_line file ≡ None) × HasFault file f
+LacksConfig ReadFault file = ⊥
+LacksConfig WriteFault file = ⊥
+LacksConfig NoMemory file = Unit {0}
+
+abbrev pub IsConfigOf : Result (List (List Flow)) Ended → List ℕ → Type 0
+IsConfigOf (Ok tables) file = Spells file tables
+IsConfigOf (Err e) file = LacksConfig e file
+
+-- how a run ends that wants a configuration and has none, by the bytes that were read
+abbrev pub EndsWithout : Ended → Bool → List ℕ → Type 0
+EndsWithout Done ended file = ⊥
+EndsWithout (BadRow n) ended file = (ended ≡ true) × (bad_line file ≡ Some n)
+EndsWithout (Text f) ended file = (ended ≡ true) × (bad_line file ≡ None) × HasFault file f
+EndsWithout ReadFault ended file = ended ≡ false
+EndsWithout WriteFault ended file = ⊥
+EndsWithout NoMemory ended file = Unit {0}
+
+abbrev pub IsRead : Result (List (List Flow)) Ended → Bool → List ℕ → Type 0
+IsRead (Ok tables) ended file = (ended ≡ true) × Spells file tables
+IsRead (Err e) ended file = EndsWithout e ended file
+
+-- from what a source answered
+pub record Configures (result : Result (List (List Flow)) Ended) (answers answers' : Option (List Answer)) (ends ends' : ℕ) : Type 0 where
+  pub more : List Answer
+  pub answers_are : answers' ≡ then_answers answers more
+  pub is : IsRead result (nat_lt ends ends') (given more)
+
+-- a configuration that was read ends nothing
+abbrev pub ended_as : Result (List (List Flow)) Ended → Ended
+ended_as (Ok tables) = Done
+ended_as (Err e) = e

@@ -1,0 +1,44 @@
+//! Flow text from a source, as a configuration.
+ghost use Rattle.std.specs.Prelude.{◌≡◌, ◌≤◌};
+ghost use Rattle.of_replay.specs.Assembling.{Faults};
+ghost use Rattle.of_replay.specs.ConfigFiles.{Configures, IsConfigOf, ended_as};
+
+use crate::event_file::{Ended, READ_SIZE, ended_by, zeros};
+use crate::io::Source;
+use crate::whole_file::{bad_line, read_file};
+use of_text::{Config, TextFault, assemble};
+use std::alloc::Global;
+
+// The configuration of a flow text.
+fn configured(alloc: Global, file: &[u8]) -> Result<Config, Ended>
+    ensures { IsConfigOf result file.now }
+{
+    if let Some(number) = bad_line(file) {
+        return Err(Ended::BadRow(number));
+    }
+    match assemble(alloc, file) {
+        Ok(config) => Ok(config),
+        Err(TextFault::NoMemory) => Err(Ended::NoMemory),
+        Err(TextFault::Syntax(line)) => Err(Ended::Text(TextFault::Syntax(line))),
+        Err(TextFault::Refused { line, code }) => {
+            Err(Ended::Text(TextFault::Refused { line, code }))
+        }
+    }
+}
+
+/// Reads a flow text (docs/FLOWTEXT.md) whole, and answers its configuration; or how a run ends that wants one.
+pub fn read_config<S: Source>(alloc: Global, reader: &mut S) -> Result<Config, Ended>
+    requires { S.reads reader.old ≡ 0 }
+    ensures config { Configures result (S.answers reader.old) (S.answers reader.new) (S.ends reader.old) (S.ends reader.new) }
+    ensures faults { Faults (ended_as result) (S.reads reader.new) (S.ends reader.old) (S.ends reader.new) (S.failures reader.old) (S.failures reader.new) 0 }
+    ensures reads { S.reads reader.new ≤ 1000000 }
+{
+    let Ok(mut buffer) = zeros(alloc, READ_SIZE) else {
+        return Err(Ended::NoMemory);
+    };
+    let mut file = Vec::new(alloc);
+    match read_file(reader, &mut buffer, &mut file) {
+        Err(halt) => Err(ended_by(Err(halt))),
+        Ok(()) => configured(alloc, &file),
+    }
+}

@@ -1,0 +1,49 @@
+-- THE TRACE OF A FLOW TEXT: that of a frame on a new switch with ports 1 to 64, whose links are up, and with the text's flows.
+use Rattle.std.specs.Prelude.{◌≡◌, ◌↔◌, ℕ, zero, suc, ◌<◌, Bool, true, false, nat_lt, List, [], ◌∷◌, ◌++◌, replicate, Option, Some, None}
+use Rattle.of_text.specs.Flows.{Flow}
+use Rattle.of_switch.specs.declared.event.Event.{Event}
+use Rattle.of_switch.specs.declared.event.Event.TheVariants.{Ports}
+use Rattle.of_switch.specs.declared.port_change.PortChange.TheVariants.{Add}
+use Rattle.of_switch.specs.State.{State, start}
+use Rattle.of_switch.specs.Runs.{run}
+use Rattle.of_switch.specs.Steps.{frame_in}
+use Rattle.of_switch.specs.DryRun.{steps_in}
+use Rattle.of_switch.specs.Loading.{loaded}
+use Rattle.of_replay.specs.Told.{Answer, then_bytes, given}
+use Rattle.of_replay.specs.Transfer.{then_answers, WroteFront}
+use Rattle.of_replay.specs.Assembling.{bad_line, HasFault}
+use Rattle.of_replay.specs.ConfigFiles.{Spells}
+use Rattle.of_replay.specs.declared.event_file.Ended.{Ended}
+use Rattle.of_replay.specs.declared.event_file.Ended.TheVariants.{Done, BadRow, Text, ReadFault, WriteFault, NoMemory}
+use Rattle.of_trace.specs.Text.{trace_text}
+
+-- a port is added, whose link is up
+abbrev pub port_up : ℕ → Event
+port_up number = Ports (Add number (2 ∷ 0 ∷ 0 ∷ 0 ∷ 0 ∷ number ∷ []) (replicate 16 0) true)
+
+-- ports from 1 on, so many
+abbrev pub ports_up : ℕ → List Event
+ports_up zero = []
+ports_up (suc n) = ports_up n ++ port_up (suc n) ∷ []
+
+abbrev pub traced_switch : List (List Flow) → State
+traced_switch tables = loaded tables (run (ports_up 64) (start 1)).state
+
+-- the text of the trace
+abbrev pub trace_of : ℕ → List ℕ → List (List Flow) → List ℕ
+trace_of port frame tables = let s = traced_switch tables in trace_text (steps_in port frame s.core.forwarding) (frame_in port frame s).effects
+
+-- how such a run ends, by the bytes that were read: the trace was written, a prefix of it, or nothing
+abbrev pub EndsTracing : ℕ → List ℕ → Ended → Bool → List ℕ → Option (List ℕ) → Option (List ℕ) → Type 0
+EndsTracing port frame Done ended file old new = (tables : List (List Flow)) × (ended ≡ true) × Spells file tables × (new ≡ then_bytes old (trace_of port frame tables))
+EndsTracing port frame (BadRow n) ended file old new = (ended ≡ true) × (bad_line file ≡ Some n) × (new ≡ old)
+EndsTracing port frame (Text f) ended file old new = (ended ≡ true) × (bad_line file ≡ None) × HasFault file f × (new ≡ old)
+EndsTracing port frame ReadFault ended file old new = (ended ≡ false) × (new ≡ old)
+EndsTracing port frame WriteFault ended file old new = (tables : List (List Flow)) × (ended ≡ true) × Spells file tables × WroteFront old (trace_of port frame tables) new
+EndsTracing port frame NoMemory ended file old new = new ≡ old
+
+-- from what a source answered to what a sink took
+pub record TracesFile (port : ℕ) (frame : List ℕ) (result : Ended) (answers answers' : Option (List Answer)) (ends ends' : ℕ) (taken taken' : Option (List ℕ)) : Type 0 where
+  pub more : List Answer
+  pub answers_are : answers' ≡ then_answers answers more
+  pub ends_so : EndsTracing port frame result (nat_lt ends ends') (given more) taken taken'
