@@ -281,7 +281,7 @@ module _ (w : TheWorld) where
 
     -- ---- a frame, and the actions of a PACKET_OUT
 
-    pub frame_low : (p : Packet) → IsFrame p.frame → length p.frame ≤ 9216 → IsLow w 13320 (task p (Lookup 0 ∷ []))
+    pub frame_low : (p : Packet) → IsFrame p.frame → length p.frame ≤ 9216 → IsLow w 13328 (task p (Lookup 0 ∷ []))
     frame_low p frame le = record { frame = frame; room = omega (arith, le) }
 
     output_more : (port later : ℕ) (c : Bool) → (port == table) ≡ c → cond c (max (table_pushes 0) later) later ≤ 1 + max (table_pushes 0) later
@@ -301,5 +301,5 @@ module _ (w : TheWorld) where
     acts_more [] s = omega arith
     acts_more (a ∷ l) s = let x = act_more a (work_pushes w s (acts l)) in let ih = acts_more l s in omega (arith, x, ih)
 
-    pub actions_low : (p : Packet) (l : List Action) → IsFrame p.frame → length l ≤ 64 → length p.frame ≤ 9216 → IsLow w 13576 (task p (acts l))
+    pub actions_low : (p : Packet) (l : List Action) → IsFrame p.frame → length l ≤ 64 → length p.frame ≤ 9216 → IsLow w 13584 (task p (acts l))
     actions_low p l frame few le = let x = acts_more l p.action_set in record { frame = frame; room = omega (arith, x, few, le) }

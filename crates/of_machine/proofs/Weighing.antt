@@ -87,7 +87,7 @@ copies_more (suc m) zero le = absurd (omega arith)
 copies_more (suc m) (suc n) le = let ih = copies_more m n (omega arith) in omega arith
 
 -- the steps of a frame
-pub frame_steps : lookup_steps longest 0 ≡ 525952
+pub frame_steps : lookup_steps longest 0 ≡ 143271552
 unfolding copy_steps action_steps table_steps set_steps lookup_steps
 frame_steps = refl
 

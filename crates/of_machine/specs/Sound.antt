@@ -8,9 +8,9 @@ use Rattle.of_actions.specs.InstructionLists.{are_kept, are_for}
 use Rattle.of_table.specs.declared.flow.Flow.{Flow}
 use Rattle.of_machine.specs.TheWorld.{TheWorld}
 
--- the longest chain of groups that a world may have: a bucket names no group
+-- the longest chain of groups that a world may have
 abbrev pub longest : ℕ
-longest = 1
+longest = 3
 
 -- the chains of the group that an action names, if it names one, have fewer groups than that
 abbrev pub IsBelow : TheWorld → ℕ → Action → Type 0

@@ -13,13 +13,13 @@ ghost use Rattle.of_actions.specs.declared.action.Action.{Action};
 
 /// Every run ends: after as many steps as its work weighs no packet is left, and then nothing changes.
 ///
-/// A line is a step, so a frame takes at most `lookup_steps longest 0` of them, which are 525,952, and a PACKET_OUT as many for each of its 64 actions, one for each action, and its end.
+/// A line is a step, so a frame takes at most `lookup_steps longest 0` of them, which are 143,271,552, and a PACKET_OUT as many for each of its 64 actions, one for each action, and its end.
 pub fn every_run_ends()
     ensures ends { (w : TheWorld) (p : Packet) (work : List Work) → IsSound w → IsFit (task p work) → (run_of w p work).tasks ≡ [] }
     ensures settled { (w : TheWorld) (k n : ℕ) (m : Machine) → (after w n m).tasks ≡ [] → after w (k + n) m ≡ after w n m }
     ensures lines { (w : TheWorld) (p : Packet) (work : List Work) (k : ℕ) → IsSound w → IsFit (task p work) → length (after w k (starting p work)).lines ≤ task_weight w (task p work) }
     ensures frame { (w : TheWorld) (p : Packet) (k : ℕ) → IsSound w → p.action_set ≡ [] → length (after w k (starting p (Lookup 0 ∷ []))).lines ≤ lookup_steps longest 0 }
-    ensures number { lookup_steps longest 0 ≡ 525952 }
+    ensures number { lookup_steps longest 0 ≡ 143271552 }
     ensures actions { (w : TheWorld) (p : Packet) (l : List Action) (k : ℕ) → IsSound w → p.action_set ≡ [] → IsTrue (are_served true l) → length (after w k (starting p (acts l))).lines ≤ 64 * lookup_steps longest 0 + 65 }
 {}
 

@@ -1,7 +1,6 @@
 //! The instruction machine: what a packet meets on its way through flow tables and groups (OpenFlow 1.3.5, 5.1).
 #![tactic(auto)]
 
-mod chosen;
 mod data;
 mod emit;
 mod laws;
@@ -12,9 +11,9 @@ mod runs;
 mod tables;
 mod world;
 
-pub use chosen::Chosen;
 pub use data::{Count, Counts, Item, Items, Outcome, Packet, PacketInReason, Step};
 pub use laws::{every_run_ends, frames_stay_short, numbers_are_names, packets_take_turns};
+pub use of_groups::Chosen;
 pub use packet_frame::PacketFrame;
 pub use port::{Port, PortCounters};
 pub use runs::{run, run_actions};

@@ -16,6 +16,9 @@ use of_actions::Action;
 use of_rewrite::Ttl;
 use std::alloc::AllocError;
 
+/// How many groups a chain of groups has at most.
+pub(crate) const LONGEST_CHAIN: u8 = 3;
+
 /// Whether a packet's work goes on.
 #[derive(Clone, Copy)]
 pub(crate) enum Going {

@@ -1,5 +1,5 @@
 //! Runs of frames, and of packets that bring their actions along.
-ghost use Rattle.std.specs.Prelude.{◌≡◌, ◌≤◌, ◌∷◌, ◌++◌, [], List, true, IsTrue, IfOk, OnOk, OnErr, length};
+ghost use Rattle.std.specs.Prelude.{◌≡◌, ◌≤◌, ◌+◌, ◌∷◌, ◌++◌, [], List, true, IsTrue, IfOk, OnOk, OnErr, length};
 ghost use Rattle.std.specs.List.{list_all};
 ghost use Rattle.of_actions.specs.Served.{is_served, are_served};
 ghost use Rattle.of_machine.specs.Growth.{AllShort};
@@ -9,13 +9,13 @@ ghost use Rattle.of_machine.specs.Outside.{is_to_tables};
 ghost use Rattle.of_machine.specs.Sound.{IsSound};
 
 use crate::data::{Outcome, Packet, Step};
-use crate::machine::{Going, act, frame_is_known};
+use crate::machine::{Going, LONGEST_CHAIN, act, frame_is_known};
 use crate::tables::pipeline;
 use crate::world::{StepLog, World};
 use of_actions::{Action, PORT_TABLE};
 use std::alloc::{AllocError, Global};
 
-/// Runs a packet from table 0 to its end (OpenFlow 1.3.5, 5.1).
+/// Runs a packet from table 0 to its end (OpenFlow 1.3.5, 5.1), in at most 143,271,552 steps.
 ///
 /// Where memory is wanted, the log has the first steps, and tables, groups and ports are as before.
 pub fn run<W: World, S: StepLog>(
@@ -31,7 +31,8 @@ pub fn run<W: World, S: StepLog>(
     ensures items { IfOk result (λ outcome. outcome.items.items ≡ (run_of (W.view world.old) packet.entry (LookupWork 0 ∷ [])).items) }
     ensures counts { IfOk result (λ outcome. outcome.counts.items ≡ (run_of (W.view world.old) packet.entry (LookupWork 0 ∷ [])).counts) }
     ensures lines { OnOk result (S.KEEPS ≡ true → S.list log.new ≡ S.list log.old ++ (run_of (W.view world.old) packet.entry (LookupWork 0 ∷ [])).lines) }
-    ensures grown { IfOk result (λ outcome. length packet.entry.frame ≤ 9216 → AllShort 13320 outcome.items.items) }
+    ensures grown { IfOk result (λ outcome. length packet.entry.frame ≤ 9216 → AllShort 13328 outcome.items.items) }
+    ensures bound { S.KEEPS ≡ true → length (S.list log.new) ≤ length (S.list log.old) + 143271552 }
     ensures err { OnErr result (IsFront (W.view world.old) S.KEEPS packet.entry (LookupWork 0 ∷ []) (S.list log.old) (S.list log.new)) }
 {
     world.known();
@@ -43,6 +44,7 @@ pub fn run<W: World, S: StepLog>(
 }
 
 /// Runs the actions of a PACKET_OUT (OpenFlow 1.3.5, 7.3.7). An OUTPUT to TABLE makes a copy that begins at table 0.
+/// It takes at most 9,169,379,393 steps, which are more than 32 bits count.
 ///
 /// Where memory is wanted, the log has the first steps, and tables, groups and ports are as before.
 pub fn run_actions<W: World, S: StepLog>(
@@ -60,7 +62,8 @@ pub fn run_actions<W: World, S: StepLog>(
     ensures items { IfOk result (λ outcome. outcome.items.items ≡ (run_of (W.view world.old) packet.entry (acts actions.now)).items) }
     ensures counts { IfOk result (λ outcome. outcome.counts.items ≡ (run_of (W.view world.old) packet.entry (acts actions.now)).counts) }
     ensures lines { OnOk result (S.KEEPS ≡ true → S.list log.new ≡ S.list log.old ++ (run_of (W.view world.old) packet.entry (acts actions.now)).lines) }
-    ensures grown { IfOk result (λ outcome. length packet.entry.frame ≤ 9216 → AllShort 13576 outcome.items.items) }
+    ensures grown { IfOk result (λ outcome. length packet.entry.frame ≤ 9216 → AllShort 13584 outcome.items.items) }
+    ensures bound { S.KEEPS ≡ true → length (S.list log.new) ≤ length (S.list log.old) + 9169379393 }
     ensures err { OnErr result (IsFront (W.view world.old) S.KEEPS packet.entry (acts actions.now) (S.list log.old) (S.list log.new)) }
 {
     world.known();
@@ -115,7 +118,7 @@ fn act_outside<W: World, S: StepLog>(
         to_tables(world, action, packet, outcome, log)?;
         Ok(Going::Continues)
     } else {
-        act(&*world, 1, action, packet, outcome, log)
+        act(&*world, LONGEST_CHAIN, action, packet, outcome, log)
     }
 }
 

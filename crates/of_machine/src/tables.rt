@@ -8,7 +8,7 @@ ghost use Rattle.of_machine.specs.Runs.{Ends, Follows, Fails, IsUp, IsLater, nex
 ghost use Rattle.of_machine.specs.Sound.{IsSound};
 
 use crate::data::{Count, Outcome, Packet, Step};
-use crate::machine::{Going, act_all, run_set};
+use crate::machine::{Going, LONGEST_CHAIN, act_all, run_set};
 use crate::world::{StepLog, World};
 use of_actions::Instruction;
 use of_table::Flow;
@@ -56,7 +56,14 @@ fn instruct<W: World, S: StepLog>(
     match instruction {
         Instruction::Apply(actions) => {
             log.step(Step::Apply)?;
-            match act_all(world, 1, actions.as_slice(), packet, outcome, log)? {
+            match act_all(
+                world,
+                LONGEST_CHAIN,
+                actions.as_slice(),
+                packet,
+                outcome,
+                log,
+            )? {
                 Going::Continues => Ok(Next::Continues),
                 Going::Ended => Ok(Next::Ended),
             }
@@ -170,7 +177,7 @@ pub(crate) fn pipeline<W: World, S: StepLog>(
     loop {
         match look_up(world, table, packet, outcome, log)? {
             Then::Lookup(next) => table = next,
-            Then::Set => return run_set(&*world, 1, packet, outcome, log),
+            Then::Set => return run_set(&*world, LONGEST_CHAIN, packet, outcome, log),
             Then::Ended => {
                 log.step(Step::End)?;
                 return Ok(());

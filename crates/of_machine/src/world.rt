@@ -5,10 +5,10 @@ ghost use Rattle.of_machine.specs.TheWorld.{TheWorld};
 ghost use Rattle.of_machine.specs.Sound.{IsSound};
 ghost use Rattle.of_machine.specs.declared.data.Step.{Step};
 
-use crate::chosen::Chosen;
 use crate::data::Step;
 use crate::port::Port;
 use of_actions::Action;
+use of_groups::Chosen;
 use of_headers::FieldKey;
 use of_table::Flow;
 use std::alloc::{AllocError, Global};

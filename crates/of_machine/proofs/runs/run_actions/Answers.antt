@@ -5,7 +5,7 @@ use Rattle.of_machine.specs.Rows.{acts}
 use Rattle.of_machine.proofs.Promises.{all_served, list_few}
 use Rattle.of_machine.proofs.Reaching.{begins, begun, stays, whole_run, whole_front}
 use Rattle.of_machine.proofs.Moving.{ends, left_nil}
-use Rattle.of_machine.proofs.Whole.{is_run, items_of, counts_of, lines_of, actions_fit, run_unfolds}
+use Rattle.of_machine.proofs.Whole.{is_run, items_of, counts_of, lines_of, actions_fit, run_unfolds, actions_front, actions_run}
 use Rattle.of_machine.proofs.Growing.{all_are_short, actions_low}
 use Rattle.of_machine.proofs.runs.run_actions.Goals as goal
 
@@ -44,3 +44,17 @@ returns-clause-lines g c =
 pub returns-clause-grown : goal.returns-clause-grown
 returns-clause-grown g c =
     λ le. rw (returns-clause-items g c, run_unfolds (g.W.World.view c.args.world.now) c.args.packet (acts c.args.actions.now)) (all_are_short (g.W.World.view c.args.world.now) c.known.ensures _ _ c.args.packet (acts c.args.actions.now) (actions_fit (g.W.World.view c.args.world.now) c.known.ensures c.args.packet c.args.actions.now c.requires.empty) (actions_low (g.W.World.view c.args.world.now) c.known.ensures c.args.packet c.args.actions.now c.frame_is_known.ensures (list_few c.args.actions.now c.requires.served) le))
+
+pub returns-in_err-act_all_outside-clause-bound : goal.returns-in_err-act_all_outside-clause-bound
+returns-in_err-act_all_outside-clause-bound g c =
+    actions_front (g.W.World.view c.args.world.now) c.known.ensures g.S.StepLog.KEEPS c.args.packet c.args.actions.now (g.S.StepLog.list c.args.log.now) (g.S.StepLog.list c.act_all_outside.new.log) c.requires.empty (list_few c.args.actions.now c.requires.served)
+    (whole_front (g.W.World.view c.args.world.now) g.S.StepLog.KEEPS c.args.packet (acts c.args.actions.now) (g.S.StepLog.list c.args.log.now) (g.S.StepLog.list c.act_all_outside.new.log) (c.in_err-act_all_outside.ensures.err [] [] (begins c.args.packet (acts c.args.actions.now) (g.S.StepLog.list c.args.log.now)) (rw (append-nil (acts c.args.actions.now), c.new-outcome.ensures.items, c.new-outcome.ensures.counts) (begun (g.W.World.view c.args.world.now) g.S.StepLog.KEEPS c.args.packet (acts c.args.actions.now) (g.S.StepLog.list c.args.log.now)))))
+
+pub returns-in_err-step-clause-bound : goal.returns-in_err-step-clause-bound
+returns-in_err-step-clause-bound g c =
+    actions_front (g.W.World.view c.args.world.now) c.known.ensures g.S.StepLog.KEEPS c.args.packet c.args.actions.now (g.S.StepLog.list c.args.log.now) (g.S.StepLog.list c.step.new.self) c.requires.empty (list_few c.args.actions.now c.requires.served)
+    (whole_front (g.W.World.view c.args.world.now) g.S.StepLog.KEEPS c.args.packet (acts c.args.actions.now) (g.S.StepLog.list c.args.log.now) (g.S.StepLog.list c.step.new.self) (stays (g.W.World.view c.args.world.now) g.S.StepLog.KEEPS _ (g.S.StepLog.list c.step.new.self) c.in_err-step.ensures.err (begins c.args.packet (acts c.args.actions.now) (g.S.StepLog.list c.args.log.now)) (c.in_ok-act_all_outside.ensures.ok [] [] (begins c.args.packet (acts c.args.actions.now) (g.S.StepLog.list c.args.log.now)) (rw (append-nil (acts c.args.actions.now), c.new-outcome.ensures.items, c.new-outcome.ensures.counts) (begun (g.W.World.view c.args.world.now) g.S.StepLog.KEEPS c.args.packet (acts c.args.actions.now) (g.S.StepLog.list c.args.log.now))))))
+
+pub returns-clause-bound : goal.returns-clause-bound
+returns-clause-bound g c =
+    actions_run (g.W.World.view c.args.world.now) c.known.ensures g.S.StepLog.KEEPS c.args.packet c.args.actions.now c.act_all_outside.new.outcome (g.S.StepLog.list c.args.log.now) (g.S.StepLog.list c.step.new.self) c.requires.empty (list_few c.args.actions.now c.requires.served) (returns-clause-ok g c)
