@@ -170,10 +170,10 @@ filled_one now k ts flows old new lt is f e =
     let tables_are : old.tables ≡ filled now k ts = ap (λ (t : Tables). t.tables) is in
     let one : set (filled now k ts) k (loaded_table now (get_or ts k [])) ≡ filled now (k + 1) ts = rw add-one (filled_more now k ts lt) in
     let same : set old.tables k (loaded_table old.latest flows) ≡ filled now (k + 1) ts =
-        ap (λ (us : List Table). set us k (loaded_table old.latest flows)) tables_are
-        ∙ (ap (λ (n : ℕ). set (filled now k ts) k (loaded_table n flows)) moment
-        ∙ (ap (λ (fs : List TextFlow). set (filled now k ts) k (loaded_table now fs)) f
-        ∙ one)) in
+    ap (λ (us : List Table). set us k (loaded_table old.latest flows)) tables_are
+    ∙ (ap (λ (n : ℕ). set (filled now k ts) k (loaded_table n flows)) moment
+    ∙ (ap (λ (fs : List TextFlow). set (filled now k ts) k (loaded_table now fs)) f
+    ∙ one)) in
     e ∙ (λ i. record { tables = same i; latest = moment i })
 
 pub filled_done : (now k : ℕ) (ts : List (List TextFlow)) (new : Tables) → length ts ≤ k → FilledTo now k ts new → new ≡ loaded_tables now ts
