@@ -1,5 +1,5 @@
 -- A flow text that is read whole, for its configuration.
-use Rattle.std.proofs.Common.{◌≡◌, ℕ, Bool, true, List, Option, Some, None, Result, Ok, Err, refl, sym, subst}
+use Rattle.std.proofs.Common.{◌≡◌, ℕ, Bool, true, List, [], Option, Some, None, Result, Ok, Err, refl, sym, subst}
 use Rattle.std.specs.Prelude.{nat_lt}
 use Rattle.of_text.specs.Flows.{Flow}
 use Rattle.of_replay.specs.declared.halt.Halt.{Halt}

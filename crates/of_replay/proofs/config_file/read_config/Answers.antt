@@ -20,12 +20,12 @@ returns-in-Err-clause-faults g c =
     rw c.ended_by.ensures (faults_unread c.in-Err.halt (g.S.Source.answers c.args.reader.now) (g.S.Source.answers r.new.reader) _ (g.S.Source.reads r.new.reader) (g.S.Source.ends c.args.reader.now) (g.S.Source.ends r.new.reader)
     (g.S.Source.failures c.args.reader.now) (g.S.Source.failures r.new.reader) 0 c.in-Err.ensures.gave c.in-Err.ensures.reads refl)
 
-pub returns-in-Ok-clause-config : goal.returns-in-Ok-clause-config
-returns-in-Ok-clause-config g c =
+pub returns-clause-config : goal.returns-clause-config
+returns-clause-config g c =
     let r = c.read_file in
-    config_read c.configured.result (g.S.Source.answers c.args.reader.now) (g.S.Source.answers r.new.reader) (g.S.Source.ends c.args.reader.now) (g.S.Source.ends r.new.reader) r.new.file.items c.in-Ok.ensures.gave (rw c.deref.ensures.value at c.configured.ensures)
+    config_read c.configured.result (g.S.Source.answers c.args.reader.now) (g.S.Source.answers r.new.reader) (g.S.Source.ends c.args.reader.now) (g.S.Source.ends r.new.reader) r.new.file.items c.in-Ok-read_file.ensures.gave (rw c.deref.ensures.value at c.configured.ensures)
 
-pub returns-in-Ok-clause-faults : goal.returns-in-Ok-clause-faults
-returns-in-Ok-clause-faults g c =
+pub returns-clause-faults : goal.returns-clause-faults
+returns-clause-faults g c =
     let r = c.read_file in
-    config_faults c.configured.result r.new.file.items (g.S.Source.reads r.new.reader) (g.S.Source.ends c.args.reader.now) (g.S.Source.ends r.new.reader) (g.S.Source.failures c.args.reader.now) (g.S.Source.failures r.new.reader) (rw c.deref.ensures.value at c.configured.ensures) c.in-Ok.ensures.reads
+    config_faults c.configured.result r.new.file.items (g.S.Source.reads r.new.reader) (g.S.Source.ends c.args.reader.now) (g.S.Source.ends r.new.reader) (g.S.Source.failures c.args.reader.now) (g.S.Source.failures r.new.reader) (rw c.deref.ensures.value at c.configured.ensures) c.in-Ok-read_file.ensures.reads
