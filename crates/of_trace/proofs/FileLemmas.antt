@@ -6,23 +6,9 @@ use Rattle.of_replay.specs.declared.event_file.Ended.{Ended}
 use Rattle.of_replay.specs.declared.event_file.Ended.TheVariants.{Done, BadRow, Text, NoMemory, ReadFault, WriteFault}
 use Rattle.of_replay.specs.Told.{Answer, given}
 use Rattle.of_replay.specs.Assembling.{Faults}
-use Rattle.of_replay.specs.ConfigFiles.{EndsWithout, Spells, Configures}
+use Rattle.of_replay.specs.ConfigFiles.{Spells, Configures}
 use Rattle.of_trace.specs.Files.{trace_of, EndsTracing, TracesFile}
 use Rattle.of_trace.specs.Writing.{WritesText}
-
-unread_ends : (port : ℕ) (frame : List ℕ) (e : Ended) (ended : Bool) (file : List ℕ) (taken : Option (List ℕ)) → EndsWithout e ended file → EndsTracing port frame e ended file taken taken
-unread_ends port frame Done ended file taken h = absurd h
-unread_ends port frame (BadRow n) ended file taken h = (h.0, h.1, refl)
-unread_ends port frame (Text f) ended file taken h = (h.0, h.1, h.2, refl)
-unread_ends port frame ReadFault ended file taken h = (h, refl)
-unread_ends port frame WriteFault ended file taken h = absurd h
-unread_ends port frame NoMemory ended file taken h = refl
-
-pub untraced : (port : ℕ) (frame : List ℕ) (e : Ended) (answers answers' : Option (List Answer)) (ends ends' : ℕ) (taken : Option (List ℕ)) → Configures (Err e) answers answers' ends ends' → TracesFile port frame e answers answers' ends ends' taken taken
-untraced port frame e answers answers' ends ends' taken r = record { more = r.more; answers_are = r.answers_are; ends_so = unread_ends port frame e (nat_lt ends ends') (given r.more) taken r.is }
-
-pub unmade : (port : ℕ) (frame : List ℕ) (tables : List (List Flow)) (answers answers' : Option (List Answer)) (ends ends' : ℕ) (taken : Option (List ℕ)) → Configures (Ok tables) answers answers' ends ends' → TracesFile port frame NoMemory answers answers' ends ends' taken taken
-unmade port frame tables answers answers' ends ends' taken r = record { more = r.more; answers_are = r.answers_are; ends_so = refl }
 
 written_ends : (port : ℕ) (frame : List ℕ) (tables : List (List Flow)) (result : Ended) (ended : Bool) (file : List ℕ) (taken taken' : Option (List ℕ)) → ended ≡ true → Spells file tables → WritesText (trace_of port frame tables) result taken taken' → EndsTracing port frame result ended file taken taken'
 written_ends port frame tables Done ended file taken taken' t s w = (tables, t, s, w)
@@ -53,8 +39,3 @@ write_faults text WriteFault taken taken' reads ends ends' failures failures' wr
 write_faults text NoMemory taken taken' reads ends ends' failures failures' writes f w iff =
     let d = f.done refl in
     record { done = λ e. cc; once = f.once; read_fault = λ e. cc; failed_read = λ lt. absurd (omega (arith, lt, d.0)); write_fault = iff }
-
-pub unmade_faults : (reads ends ends' failures failures' : ℕ) → Faults Done reads ends ends' failures failures' 0 → Faults NoMemory reads ends ends' failures failures' 0
-unmade_faults reads ends ends' failures failures' f =
-    let d = f.done refl in
-    record { done = λ e. cc; once = f.once; read_fault = λ e. cc; failed_read = λ lt. absurd (omega (arith, lt, d.0)); write_fault = (λ e. cc, λ lt. absurd (omega (arith, lt))) }
