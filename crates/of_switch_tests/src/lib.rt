@@ -4,10 +4,6 @@
 #![tactic(auto)]
 
 #[cfg(test)]
-mod again;
-#[cfg(test)]
-mod rows;
-#[cfg(test)]
 mod session;
 #[cfg(test)]
 mod switch;
