@@ -1,6 +1,6 @@
 //! The words of the command line.
 
-use clap::{Arg, Command};
+use clap::{Arg, ArgAction, Command};
 use std::alloc::{AllocError, Global};
 
 const STATUSES: &str =
@@ -45,6 +45,8 @@ const TRACES: &str =
   end                                   the packet's way ends
   s 2 HEX                               and then what leaves
 
+With --explain a look-up is followed by the entry that won, in the words of flow text.
+
   ofswitch trace --flows examples/router.flows --port 1 0200000000a10200000000010800450000140000000040fd64e30a0000010a010109";
 
 const VERSION: &str = "0.1.0";
@@ -75,12 +77,17 @@ pub fn command<'a>(alloc: Global) -> Result<Command<'a>, AllocError> {
     let frame = Arg::new(alloc, "HEX")
         .required(true)
         .help("The frame, two hexadecimal digits a byte");
+    let explain = Arg::new(alloc, "explain")
+        .long("explain")
+        .action(ArgAction::SetTrue)
+        .help("Adds notes: the entry that won, as flow text writes it");
     let trace = Command::new(alloc, "trace")
         .about("Prints, step by step, what a frame does on a switch with the flows of a flow text")
         .after_help(TRACES)
         .arg(flows)?
         .arg(port)?
-        .arg(frame)?;
+        .arg(frame)?
+        .arg(explain)?;
     Command::new(alloc, "ofswitch")
         .version(VERSION)
         .about("An OpenFlow 1.3.5 switch whose behaviour is proved")

@@ -31,6 +31,8 @@ pub enum Request {
         /// 1 to 64.
         port: u32,
         frame: Vec<u8>,
+        /// Whether its lines have notes.
+        explain: bool,
     },
 }
 
@@ -74,6 +76,7 @@ fn request_of(alloc: Global, matches: &ArgMatches<'_>) -> Result<Request, NoRequ
             file,
             port: port_of(alloc, matches.get_str("N").unwrap_or(""))?,
             frame: frame_of(alloc, matches.get_str("HEX").unwrap_or(""))?,
+            explain: matches.get_flag("explain"),
         }),
         _ => Ok(Request::Replay { file }),
     }

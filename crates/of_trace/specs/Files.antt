@@ -15,7 +15,8 @@ use Rattle.of_replay.specs.Assembling.{bad_line, HasFault}
 use Rattle.of_replay.specs.ConfigFiles.{Spells}
 use Rattle.of_replay.specs.declared.event_file.Ended.{Ended}
 use Rattle.of_replay.specs.declared.event_file.Ended.TheVariants.{Done, BadRow, Text, ReadFault, WriteFault, NoMemory}
-use Rattle.of_trace.specs.Text.{trace_text}
+use Rattle.of_trace.specs.declared.form.Form.{Form}
+use Rattle.of_trace.specs.Notes.{said}
 
 -- a port is added, whose link is up
 abbrev pub port_up : ℕ → Event
@@ -29,21 +30,21 @@ ports_up (suc n) = ports_up n ++ port_up (suc n) ∷ []
 abbrev pub traced_switch : List (List Flow) → State
 traced_switch tables = loaded tables (run (ports_up 64) (start 1)).state
 
--- the text of the trace
-abbrev pub trace_of : ℕ → List ℕ → List (List Flow) → List ℕ
-trace_of port frame tables = let s = traced_switch tables in trace_text (steps_in port frame s.core.forwarding) (frame_in port frame s).effects
+-- the text of the trace, in one of its forms
+abbrev pub trace_of : Form → ℕ → List ℕ → List (List Flow) → List ℕ
+trace_of form port frame tables = let s = traced_switch tables in said form s.core.forwarding (steps_in port frame s.core.forwarding) (frame_in port frame s).effects
 
 -- how such a run ends, by the bytes that were read: the trace was written, a prefix of it, or nothing
-abbrev pub EndsTracing : ℕ → List ℕ → Ended → Bool → List ℕ → Option (List ℕ) → Option (List ℕ) → Type 0
-EndsTracing port frame Done ended file old new = (tables : List (List Flow)) × (ended ≡ true) × Spells file tables × (new ≡ then_bytes old (trace_of port frame tables))
-EndsTracing port frame (BadRow n) ended file old new = (ended ≡ true) × (bad_line file ≡ Some n) × (new ≡ old)
-EndsTracing port frame (Text f) ended file old new = (ended ≡ true) × (bad_line file ≡ None) × HasFault file f × (new ≡ old)
-EndsTracing port frame ReadFault ended file old new = (ended ≡ false) × (new ≡ old)
-EndsTracing port frame WriteFault ended file old new = (tables : List (List Flow)) × (ended ≡ true) × Spells file tables × WroteFront old (trace_of port frame tables) new
-EndsTracing port frame NoMemory ended file old new = new ≡ old
+abbrev pub EndsTracing : Form → ℕ → List ℕ → Ended → Bool → List ℕ → Option (List ℕ) → Option (List ℕ) → Type 0
+EndsTracing form port frame Done ended file old new = (tables : List (List Flow)) × (ended ≡ true) × Spells file tables × (new ≡ then_bytes old (trace_of form port frame tables))
+EndsTracing form port frame (BadRow n) ended file old new = (ended ≡ true) × (bad_line file ≡ Some n) × (new ≡ old)
+EndsTracing form port frame (Text f) ended file old new = (ended ≡ true) × (bad_line file ≡ None) × HasFault file f × (new ≡ old)
+EndsTracing form port frame ReadFault ended file old new = (ended ≡ false) × (new ≡ old)
+EndsTracing form port frame WriteFault ended file old new = (tables : List (List Flow)) × (ended ≡ true) × Spells file tables × WroteFront old (trace_of form port frame tables) new
+EndsTracing form port frame NoMemory ended file old new = new ≡ old
 
 -- from what a source answered to what a sink took
-pub record TracesFile (port : ℕ) (frame : List ℕ) (result : Ended) (answers answers' : Option (List Answer)) (ends ends' : ℕ) (taken taken' : Option (List ℕ)) : Type 0 where
+pub record TracesFile (form : Form) (port : ℕ) (frame : List ℕ) (result : Ended) (answers answers' : Option (List Answer)) (ends ends' : ℕ) (taken taken' : Option (List ℕ)) : Type 0 where
   pub more : List Answer
   pub answers_are : answers' ≡ then_answers answers more
-  pub ends_so : EndsTracing port frame result (nat_lt ends ends') (given more) taken taken'
+  pub ends_so : EndsTracing form port frame result (nat_lt ends ends') (given more) taken taken'

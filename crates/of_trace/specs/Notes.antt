@@ -13,7 +13,9 @@ use Rattle.of_text.specs.declared.row.Row.TheVariants as rows
 use Rattle.of_switch.specs.declared.effect.Effect.{Effect}
 use Rattle.of_switch.specs.Plane.{Forwarding, flow_in}
 use Rattle.of_replay.specs.Output.{text_of}
-use Rattle.of_trace.specs.Text.{step_line}
+use Rattle.of_trace.specs.declared.form.Form.{Form}
+use Rattle.of_trace.specs.declared.form.Form.TheVariants.{Plain, Explained}
+use Rattle.of_trace.specs.Text.{step_line, trace_text}
 
 abbrev pub note : List ℕ → List ℕ
 note line = codes "    " ++ ended line
@@ -58,3 +60,8 @@ explained_steps f steps = flat_map (λ s. ended (step_line s) ++ notes f s) step
 
 abbrev pub explained : Forwarding → List Step → List Effect → List ℕ
 explained f steps effects = explained_steps f steps ++ text_of effects
+
+-- THE TEXT OF A TRACE in one of the two forms
+abbrev pub said : Form → Forwarding → List Step → List Effect → List ℕ
+said Plain f steps effects = trace_text steps effects
+said Explained f steps effects = explained f steps effects

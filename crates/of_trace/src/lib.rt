@@ -2,6 +2,7 @@
 #![tactic(auto)]
 
 mod explaining;
+mod form;
 mod noting;
 mod printing;
 mod reason;
@@ -11,6 +12,7 @@ mod tracing_file;
 mod writing;
 
 pub use explaining::why;
+pub use form::Form;
 pub use noting::explain;
 pub use printing::print;
 pub use reason::Reason;

@@ -3,6 +3,7 @@ ghost use Rattle.std.specs.Prelude.{◌≡◌, ◌≤◌, IfOk};
 ghost use Rattle.of_replay.specs.Assembling.{Faults};
 ghost use Rattle.of_trace.specs.Files.{TracesFile, port_up as port_event, ports_up as port_events, traced_switch};
 
+use crate::form::Form;
 use crate::writing::write_trace;
 use of_classifier::Lookup;
 use of_replay::{Ended, Sink, Source, read_config};
@@ -50,7 +51,7 @@ fn switch_with<L: Lookup>(alloc: Global, config: &Config) -> Result<Switch<L>, S
     Ok(switch)
 }
 
-/// Reads a flow text (docs/FLOWTEXT.md) and writes the trace of a frame that comes in by a port, on a new switch with ports 1 to
+/// Reads a flow text (docs/FLOWTEXT.md) and writes the trace of a frame that comes in by a port, in one of its forms, on a new switch with ports 1 to
 /// 64, whose links are up, and with the text's flows.
 ///
 /// The file is read whole, and nothing is written of one that is no configuration.
@@ -59,11 +60,12 @@ pub fn trace_file<L: Lookup, S: Source, W: Sink>(
     reader: &mut S,
     port: u32,
     frame: &[u8],
+    form: Form,
     writer: &mut W,
 ) -> Ended
     requires reads { S.reads reader.old ≡ 0 }
     requires failures { W.failures writer.old ≡ 0 }
-    ensures output { TracesFile port frame.now result (S.answers reader.old) (S.answers reader.new) (S.ends reader.old) (S.ends reader.new) (W.taken writer.old) (W.taken writer.new) }
+    ensures output { TracesFile form port frame.now result (S.answers reader.old) (S.answers reader.new) (S.ends reader.old) (S.ends reader.new) (W.taken writer.old) (W.taken writer.new) }
     ensures faults { Faults result (S.reads reader.new) (S.ends reader.old) (S.ends reader.new) (S.failures reader.old) (S.failures reader.new) (W.failures writer.new) }
     ensures reads { S.reads reader.new ≤ 1000000 }
 {
@@ -72,7 +74,7 @@ pub fn trace_file<L: Lookup, S: Source, W: Sink>(
         Err(ended) => return ended,
     };
     match switch_with::<L>(alloc, &config) {
-        Ok(switch) => write_trace(alloc, &switch, port, frame, writer),
+        Ok(switch) => write_trace(alloc, &switch, port, frame, form, writer),
         Err(_) => Ended::NoMemory,
     }
 }

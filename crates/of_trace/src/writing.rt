@@ -2,9 +2,11 @@
 ghost use Rattle.std.specs.Prelude.{◌≡◌, ◌↔◌, ◌<◌};
 ghost use Rattle.of_switch.specs.DryRun.{steps_in};
 ghost use Rattle.of_switch.specs.Steps.{frame_in};
-ghost use Rattle.of_trace.specs.Text.{trace_text};
+ghost use Rattle.of_trace.specs.Notes.{said};
 ghost use Rattle.of_trace.specs.Writing.{WritesText};
 
+use crate::form::Form;
+use crate::noting::explain;
 use crate::printing::print;
 use crate::tracing::trace;
 use of_classifier::Lookup;
@@ -12,7 +14,7 @@ use of_replay::{Ended, Sink, write_all};
 use of_switch::Switch;
 use std::alloc::Global;
 
-/// Writes the text of the trace of a frame that comes in by a port. Nothing changes.
+/// Writes the text of the trace of a frame that comes in by a port, in one of its forms. Nothing changes.
 ///
 /// It ends as `Done`; as `WriteFault`, where a write failed and a prefix of the text was written; or as `NoMemory`, where nothing was.
 pub fn write_trace<L: Lookup, W: Sink>(
@@ -20,16 +22,21 @@ pub fn write_trace<L: Lookup, W: Sink>(
     switch: &Switch<L>,
     port: u32,
     frame: &[u8],
+    form: Form,
     writer: &mut W,
 ) -> Ended
     requires { W.failures writer.old ≡ 0 }
-    ensures output { WritesText (trace_text (steps_in port frame.now switch.now.core.forwarding) (frame_in port frame.now switch.now).effects) result (W.taken writer.old) (W.taken writer.new) }
+    ensures output { WritesText (said form switch.now.core.forwarding (steps_in port frame.now switch.now.core.forwarding) (frame_in port frame.now switch.now).effects) result (W.taken writer.old) (W.taken writer.new) }
     ensures write_fault { (result ≡ Ended.WriteFault) ↔ (0 < W.failures writer.new) }
 {
     let Ok(traced) = trace(alloc, switch, port, frame) else {
         return Ended::NoMemory;
     };
-    let Ok(text) = print(alloc, &traced) else {
+    let said = match form {
+        Form::Plain => print(alloc, &traced),
+        Form::Explained => explain(alloc, switch, &traced),
+    };
+    let Ok(text) = said else {
         return Ended::NoMemory;
     };
     if write_all(writer, &text) {

@@ -3,7 +3,7 @@ use of_headers::read;
 use of_replay::Ended;
 use of_replay::memory::MemorySink;
 use of_switch::{PortChange, Switch};
-use of_trace::{Reason, explain, print, trace, why, write_trace};
+use of_trace::{Form, Reason, explain, print, trace, why, write_trace};
 use std::alloc::Global;
 use std::test::Fail;
 
@@ -94,7 +94,7 @@ fn with_notes_and_to_a_sink(rt: HostRuntime) -> Result<(), Fail> {
     assert_eq!(rt; text.as_slice(), EXPLAINED);
     let mut sink = MemorySink::new(rt.alloc(), 100, 0);
     assert_eq!(rt;
-        write_trace(rt.alloc(), &switch, 1, &FRAME, &mut sink),
+        write_trace(rt.alloc(), &switch, 1, &FRAME, Form::Plain, &mut sink),
         Ended::Done
     );
     assert_eq!(rt; sink.bytes(), TRACED);

@@ -6,7 +6,7 @@ use of_mask_groups::MaskGroups;
 use of_replay::streams::{ReaderSource, WriterSink};
 use of_replay::{Ended, asm, replay, status};
 use of_text::TextFault;
-use of_trace::trace_file;
+use of_trace::{Form, trace_file};
 use std::fs::File;
 use std::io::{self, Read};
 use std::process::ExitCode;
@@ -77,8 +77,18 @@ fn run<R: Read + Drop>(rt: &HostRuntime, request: &Request, reader: R) -> Ended 
             replay::<MaskGroups, _, _>(rt.alloc(), &mut reader, &mut writer)
         }
         Request::Assemble { .. } => asm(rt.alloc(), &mut reader, &mut writer),
-        Request::Trace { port, frame, .. } => {
-            trace_file::<MaskGroups, _, _>(rt.alloc(), &mut reader, *port, frame, &mut writer)
+        Request::Trace {
+            port,
+            frame,
+            explain,
+            ..
+        } => {
+            let form = if *explain {
+                Form::Explained
+            } else {
+                Form::Plain
+            };
+            trace_file::<MaskGroups, _, _>(rt.alloc(), &mut reader, *port, frame, form, &mut writer)
         }
     }
 }

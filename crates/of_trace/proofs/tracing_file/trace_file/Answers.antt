@@ -3,7 +3,7 @@ use Rattle.of_trace.proofs.tracing_file.trace_file.Goals as goal
 
 pub returns-in-Ok-switch_with-clause-output : goal.returns-in-Ok-switch_with-clause-output
 returns-in-Ok-switch_with-clause-output g c =
-    written c.args.port c.args.frame.now c.in-Ok.config c.write_trace.result (g.S.Source.answers c.args.reader.now) (g.S.Source.answers c.read_config.new.reader) (g.S.Source.ends c.args.reader.now) (g.S.Source.ends c.read_config.new.reader)
+    written c.args.form c.args.port c.args.frame.now c.in-Ok.config c.write_trace.result (g.S.Source.answers c.args.reader.now) (g.S.Source.answers c.read_config.new.reader) (g.S.Source.ends c.args.reader.now) (g.S.Source.ends c.read_config.new.reader)
     (g.W.Sink.taken c.args.writer.now) (g.W.Sink.taken c.write_trace.new.writer) c.in-Ok.ensures.config (rw c.in-Ok-switch_with.ensures at c.write_trace.ensures.output)
 
 pub returns-in-Ok-switch_with-clause-faults : goal.returns-in-Ok-switch_with-clause-faults
