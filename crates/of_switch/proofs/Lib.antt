@@ -1,4 +1,5 @@
 pub mod PlaceNumbers
+pub mod GroupWorlds
 pub mod Worlds
 pub mod Looking
 pub mod Prefixes

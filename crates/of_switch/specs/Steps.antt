@@ -36,7 +36,7 @@ does effects k = record { effects = effects; core = k }
 abbrev pub with_tables : Tables → Core → Core
 with_tables ts k = record k { forwarding = record k.forwarding { tables = ts } }
 
--- what goes by the tables and the ports
+-- what goes by the tables, the groups and the ports
 abbrev pub forwarded : Forwarded → Core → Done
 forwarded f k = does f.effects (record k { forwarding = f.forwarding })
 
@@ -45,8 +45,8 @@ abbrev pub state_refusals : Message → Core → List (Bool × Code)
 state_refusals Hello k = []
 state_refusals (EchoRequest echoed) k = []
 state_refusals BarrierRequest k = []
-state_refusals (IsPacketOut m) k = packet_out_refusals m
-state_refusals (IsFlowMod m) k = flow_mod_refusals m k.forwarding.tables
+state_refusals (IsPacketOut m) k = packet_out_refusals m k.forwarding.groups
+state_refusals (IsFlowMod m) k = flow_mod_refusals m k.forwarding.tables k.forwarding.groups
 
 -- a FLOW_MOD does its command, with a notice of each entry that went
 abbrev pub flow_modded : FlowMod → Core → Done
