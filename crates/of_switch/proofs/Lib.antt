@@ -8,6 +8,7 @@ pub mod Forwarding
 pub mod Draining
 pub mod Joining
 pub mod Handling
+pub mod GroupHandling
 pub mod InTurn
 pub mod Running
 pub mod OnLiterals

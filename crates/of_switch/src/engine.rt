@@ -15,9 +15,12 @@ ghost use Rattle.of_switch.specs.Commands.{are_astray as some_astray, packet_out
 ghost use Rattle.of_machine.specs.Sound.{IsSound};
 ghost use Rattle.of_switch.specs.Plane.{framed, winner_in, world_of};
 ghost use Rattle.of_switch.specs.DryRun.{GainsPrefix, steps_in};
+ghost use Rattle.of_groups.specs.Groups.{modified_group, new_group};
+ghost use Rattle.of_groups.specs.Faults.{add_fault, delete_fault, modify_fault};
+ghost use Rattle.of_switch.specs.GroupMods.{refused_for};
 ghost use Rattle.of_switch.specs.Handling.{Handles};
 ghost use Rattle.of_switch.specs.Loading.{loaded_tables};
-ghost use Rattle.of_switch.specs.Steps.{core_port_changed, does, done, flow_modded, forwarded, packet_outed, state_refusals, with_tables, moment_done};
+ghost use Rattle.of_switch.specs.Steps.{core_port_changed, does, done, flow_modded, forwarded, group_added, group_modified, groups_deleted, packet_outed, state_refusals, with_tables, moment_done};
 
 use crate::commands::{any_astray, are_astray, flow_from, has_flag, which_from};
 use crate::effect::{Effect, Effects};
@@ -26,6 +29,7 @@ use crate::plane::{Plane, contains, put_port};
 use crate::port_change::PortChange;
 use of_actions::InstructionList;
 use of_classifier::Lookup;
+use of_groups::{Buckets, GroupFault, GroupKind};
 use of_headers::FieldKey;
 use of_machine::{Port, PortCounters, StepLog};
 use of_messages::{
@@ -67,6 +71,20 @@ impl From<AllocError> for Fault {
 
     fn from(_error: AllocError) -> Fault {
         Fault::Memory
+    }
+}
+
+impl From<GroupFault> for Fault {
+    ghost use Rattle.std.specs.Prelude.{◌≡◌};
+    ghost use Rattle.of_switch.specs.Handling.{fault_of};
+
+    ghost from_gives = { λ fault e. e ≡ fault_of fault };
+
+    fn from(fault: GroupFault) -> Fault {
+        match fault.code() {
+            Some(code) => Fault::Refused(code),
+            None => Fault::Memory,
+        }
     }
 }
 
@@ -286,6 +304,34 @@ impl<L: Lookup> Engine<L> {
         let plan = self
             .plane
             .plan_removal(self.alloc, Phase::Open, cause, now)?;
+        Ok(self.plane.carry_out(plan))
+    }
+
+    // Adds a group at the latest moment.
+    fn add_group(&mut self, id: u32, kind: GroupKind, buckets: Buckets) -> Result<Effects, Fault>
+        ensures { Handles (first_of (refused_for (add_fault (new_group id kind buckets self.old.forwarding.tables.latest) self.old.forwarding.groups))) (group_added id kind buckets self.old) self.old result self.new }
+    {
+        let now = self.plane.tables.latest();
+        self.plane.groups.add(id, kind, buckets, now)?;
+        Ok(Effects::new(self.alloc))
+    }
+
+    fn modify_group(&mut self, id: u32, kind: GroupKind, buckets: Buckets) -> Result<Effects, Fault>
+        ensures { Handles (first_of (refused_for (modify_fault (modified_group id kind buckets self.old.forwarding.groups) self.old.forwarding.groups))) (group_modified id kind buckets self.old) self.old result self.new }
+    {
+        self.plane.groups.modify(id, kind, buckets)?;
+        Ok(Effects::new(self.alloc))
+    }
+
+    // Deletes a group or all, and the entries that name them: what needs memory comes first.
+    fn delete_groups(&mut self, which: Option<u32>) -> Result<Effects, Fault>
+        ensures { Handles (first_of (refused_for (delete_fault which self.old.forwarding.groups))) (groups_deleted which self.old) self.old result self.new }
+    {
+        let now = self.plane.tables.latest();
+        let plan = self
+            .plane
+            .plan_removal(self.alloc, Phase::Open, Cause::Group(which), now)?;
+        self.plane.groups.delete(which)?;
         Ok(self.plane.carry_out(plan))
     }
 

@@ -2,7 +2,6 @@
 ghost use Rattle.std.specs.Prelude.{◌≡◌, ◌≤◌, IfOk, OnOk, OnErr, length};
 ghost use Rattle.of_machine.specs.Ports.{port_at};
 ghost use Rattle.of_table.specs.Tables.{all_numbers, tables_of, looked_in, matched_in};
-ghost use Rattle.of_groups.specs.Groups.{bucket_counted, counted as group_counted};
 ghost use Rattle.of_groups.specs.Sound.{AreSound};
 ghost use Rattle.of_switch.specs.Ports.{all_counted, counted, has_port, is_live_port, plus, tally, with_port};
 ghost use Rattle.std.specs.Prelude.{nat_lt};
@@ -304,7 +303,8 @@ impl<L: Lookup> Plane<L> {
         cause: Cause,
         now: u64,
     ) -> Result<Plan, AllocError>
-        ensures { IfOk result (λ plan. planned plan self.now.tables self.now.groups self.now.ports.items ≡ forwards (told phase (notice_effects now (notices_in cause (tables_of self.now.tables)))) (record (forwarding_of self.now.tables self.now.groups self.now.ports.items) { tables = left_in cause (tables_of self.now.tables) })) }
+        ensures change { IfOk result (λ plan. plan.change ≡ Change.Removal cause) }
+        ensures plan { IfOk result (λ plan. planned plan self.now.tables self.now.groups self.now.ports.items ≡ forwards (told phase (notice_effects now (notices_in cause (tables_of self.now.tables)))) (record (forwarding_of self.now.tables self.now.groups self.now.ports.items) { tables = left_in cause (tables_of self.now.tables) })) }
     {
         let effects = if is_told(phase) {
             notices(alloc, &self.tables.listed(&cause)?, now)?
