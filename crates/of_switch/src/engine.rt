@@ -175,7 +175,7 @@ impl<L: Lookup> Engine<L> {
         self.plane.dry_run(self.alloc, phase, number, bytes, log)
     }
 
-    /// The tables keep what the machine is promised.
+    /// The tables and the groups keep what the machine is promised.
     pub fn known_world(&self)
         ensures { IsSound (world_of self.now.forwarding) }
     {
