@@ -11,18 +11,18 @@ ghost use Rattle.of_table.specs.Tables.{modified_in, left_in, notices_in, table_
 ghost use Rattle.of_actions.specs.FlowCheck.{all_go_with};
 ghost use Rattle.of_actions.specs.InstructionLists.{are_for};
 ghost use Rattle.of_messages.specs.Promised.{IsSoundFlowMod, IsSoundMessage, IsSoundPacket};
-ghost use Rattle.of_switch.specs.Commands.{are_astray as some_astray, packet_out_refusals, flow_mod_refusals, has_flag as with_flag, notice_effects, which_of};
+ghost use Rattle.of_switch.specs.Commands.{names_absent_group as naming_absent_group, packet_out_refusals, flow_mod_refusals, has_flag as with_flag, notice_effects, which_of};
 ghost use Rattle.of_machine.specs.Sound.{IsSound};
 ghost use Rattle.of_switch.specs.Plane.{framed, winner_in, world_of};
 ghost use Rattle.of_switch.specs.DryRun.{GainsPrefix, steps_in};
 ghost use Rattle.of_groups.specs.Groups.{modified_group, new_group};
 ghost use Rattle.of_groups.specs.Faults.{add_fault, delete_fault, modify_fault};
-ghost use Rattle.of_switch.specs.GroupMods.{refused_for};
+ghost use Rattle.of_switch.specs.GroupMods.{group_mod_fault, refused_for};
 ghost use Rattle.of_switch.specs.Handling.{Handles};
 ghost use Rattle.of_switch.specs.Loading.{loaded_tables};
-ghost use Rattle.of_switch.specs.Steps.{core_port_changed, does, done, flow_modded, forwarded, group_added, group_modified, groups_deleted, packet_outed, state_refusals, with_tables, moment_done};
+ghost use Rattle.of_switch.specs.Steps.{core_port_changed, does, done, flow_modded, forwarded, group_added, group_modded, group_modified, groups_deleted, packet_outed, state_refusals, with_tables, moment_done};
 
-use crate::commands::{any_astray, are_astray, flow_from, has_flag, which_from};
+use crate::commands::{any_to_absent_group, flow_from, has_flag, names_absent_group, which_from};
 use crate::effect::{Effect, Effects};
 use crate::loading::load_tables;
 use crate::plane::{Plane, contains, put_port};
@@ -33,7 +33,8 @@ use of_groups::{Buckets, GroupFault, GroupKind};
 use of_headers::FieldKey;
 use of_machine::{Port, PortCounters, StepLog};
 use of_messages::{
-    FlowMod, FlowModCommand, Message, PacketData, PacketOut, write_barrier_reply, write_echo_reply,
+    FlowMod, FlowModCommand, GroupMod, Message, NewGroup, PacketData, PacketOut,
+    write_barrier_reply, write_echo_reply,
 };
 use of_session::Phase;
 use of_table::{Cause, Entry, TableFault};
@@ -46,6 +47,9 @@ use std::marker::Model;
 const NO_BUFFER: u32 = 0xffff_ffff;
 
 const BUFFER_UNKNOWN: Code = Code { kind: 1, code: 8 };
+
+/// The type of a message that is not served.
+const BAD_TYPE: Code = Code { kind: 1, code: 1 };
 
 const BAD_OUT_GROUP: Code = Code { kind: 2, code: 9 };
 
@@ -214,6 +218,8 @@ impl<L: Lookup> Engine<L> {
             }
             Message::PacketOut(packet_out) => self.packet_out(packet_out),
             Message::FlowMod(flow_mod) => self.flow_mod(flow_mod),
+            Message::GroupMod(group_mod) => self.group_mod(group_mod),
+            Message::PortMod(_) => Err(Fault::Refused(BAD_TYPE)),
         }
     }
 
@@ -225,7 +231,7 @@ impl<L: Lookup> Engine<L> {
             return Err(Fault::Refused(BUFFER_UNKNOWN));
         };
         let actions = packet_out.actions.as_slice();
-        if any_astray(actions, &self.plane.groups) {
+        if any_to_absent_group(actions, &self.plane.groups) {
             return Err(Fault::Refused(BAD_OUT_GROUP));
         }
         let plan = self
@@ -239,7 +245,7 @@ impl<L: Lookup> Engine<L> {
         ensures { Handles (first_of (flow_mod_refusals flow_mod self.old.forwarding.tables self.old.forwarding.groups)) (flow_modded flow_mod self.old) self.old result self.new }
     {
         if !flow_mod.command.is_delete() {
-            if self.is_astray(&flow_mod.instructions) {
+            if self.names_absent_group(&flow_mod.instructions) {
                 return Err(Fault::Refused(BAD_OUT_GROUP));
             }
             if flow_mod.buffer != NO_BUFFER {
@@ -259,16 +265,16 @@ impl<L: Lookup> Engine<L> {
     }
 
     // Whether some action of the instructions gives the packet to a group that is not there.
-    fn is_astray(&self, instructions: &InstructionList) -> bool
-        ensures { result ≡ some_astray self.now.forwarding.groups instructions.now }
+    fn names_absent_group(&self, instructions: &InstructionList) -> bool
+        ensures { result ≡ naming_absent_group self.now.forwarding.groups instructions.now }
     {
-        are_astray(instructions.as_slice(), &self.plane.groups)
+        names_absent_group(instructions.as_slice(), &self.plane.groups)
     }
 
     fn add_flow(&mut self, flow_mod: FlowMod) -> Result<Effects, Fault>
         requires add { flow_mod.command ≡ FlowModCommand.Add }
         requires buffer { flow_mod.buffer ≡ 0xffffffff }
-        requires group { some_astray self.old.forwarding.groups flow_mod.instructions ≡ false }
+        requires group { naming_absent_group self.old.forwarding.groups flow_mod.instructions ≡ false }
         requires fit { are_for flow_mod.table flow_mod.instructions ≡ true }
         requires checked { all_go_with flow_mod.fields flow_mod.instructions ≡ true }
         ensures { Handles (first_of (flow_mod_refusals flow_mod self.old.forwarding.tables self.old.forwarding.groups)) (flow_modded flow_mod self.old) self.old result self.new }
@@ -305,6 +311,18 @@ impl<L: Lookup> Engine<L> {
             .plane
             .plan_removal(self.alloc, Phase::Open, cause, now)?;
         Ok(self.plane.carry_out(plan))
+    }
+
+    fn group_mod(&mut self, group_mod: GroupMod) -> Result<Effects, Fault>
+        ensures { Handles (first_of (refused_for (group_mod_fault group_mod self.old.forwarding.tables.latest self.old.forwarding.groups))) (group_modded group_mod self.old) self.old result self.new }
+    {
+        match group_mod {
+            GroupMod::Add(NewGroup { id, kind, buckets }) => self.add_group(id, kind, buckets),
+            GroupMod::Modify(NewGroup { id, kind, buckets }) => {
+                self.modify_group(id, kind, buckets)
+            }
+            GroupMod::Delete(which) => self.delete_groups(which),
+        }
     }
 
     // Adds a group at the latest moment.
