@@ -1,20 +1,28 @@
 -- What each event does to the abstract switch.
-use Rattle.std.specs.Prelude.{◌≡◌, ℕ, max, Bool, List, [], ◌∷◌, take, Option, Some, None}
+use Rattle.std.specs.Prelude.{◌≡◌, ℕ, max, Bool, true, List, [], ◌∷◌, take, Option, Some, None}
 use Rattle.of_wire.specs.declared.code.Code.{Code}
 use Rattle.of_wire.specs.Refusals.{refusal, first_of}
 use Rattle.of_messages.specs.declared.message.Message.{Message}
-use Rattle.of_messages.specs.declared.message.Message.TheVariants.{Hello, EchoRequest, BarrierRequest, FlowMod as IsFlowMod, PacketOut as IsPacketOut}
+use Rattle.of_messages.specs.declared.message.Message.TheVariants.{Hello, EchoRequest, BarrierRequest, FlowMod as IsFlowMod, PacketOut as IsPacketOut, GroupMod as IsGroupMod, PortMod as IsPortMod}
 use Rattle.of_messages.specs.declared.message.PacketOut.{PacketOut}
 use Rattle.of_messages.specs.declared.message.FlowMod.{FlowMod}
+use Rattle.of_messages.specs.declared.group_mod.GroupMod.{GroupMod}
+use Rattle.of_messages.specs.declared.group_mod.GroupMod.TheVariants as group_mod
 use Rattle.of_messages.specs.Written.{hello_bytes, error_bytes, echo_reply_bytes, barrier_reply_bytes}
 use Rattle.of_session.specs.declared.session.Next.{Next}
 use Rattle.of_session.specs.declared.session.Next.TheVariants.{Nothing, BadStream, NotHello, Opened, Read, Refused}
 use Rattle.of_session.specs.Session.{Connection, greeting, fed as fed_connection, entered, next_of as next_in}
 use Rattle.of_session.specs.declared.session.Phase.{Phase}
 use Rattle.of_session.specs.declared.session.Phase.TheVariants.{Open}
-use Rattle.of_table.specs.Tables.{Tables, expired, expiry_notices}
+use Rattle.of_table.specs.declared.selection.Cause.TheVariants.{Group}
+use Rattle.of_table.specs.Tables.{Tables, expired, expiry_notices, left_in, notices_in}
+use Rattle.of_groups.specs.declared.bucket.Bucket.{Bucket}
+use Rattle.of_groups.specs.declared.group.Group.{Group as AGroup}
+use Rattle.of_groups.specs.declared.group.GroupKind.{GroupKind}
+use Rattle.of_groups.specs.Groups.{left, modified_group, new_group, with_group}
 use Rattle.of_machine.specs.Rows.{acts, entering}
 use Rattle.of_switch.specs.Commands.{flow_mod_refusals, commanded, command_notices, notice_effects, packet_out_refusals, frame_of}
+use Rattle.of_switch.specs.GroupMods.{group_mod_fault, refused_for}
 use Rattle.of_switch.specs.Told.{told}
 use Rattle.of_switch.specs.declared.effect.Effect.{Effect}
 use Rattle.of_switch.specs.declared.effect.Effect.TheVariants.{Answer, Closed}
@@ -36,7 +44,10 @@ does effects k = record { effects = effects; core = k }
 abbrev pub with_tables : Tables → Core → Core
 with_tables ts k = record k { forwarding = record k.forwarding { tables = ts } }
 
--- what goes by the tables and the ports
+abbrev pub with_groups : List AGroup → Core → Core
+with_groups groups k = record k { forwarding = record k.forwarding { groups = groups } }
+
+-- what goes by the tables, the groups and the ports
 abbrev pub forwarded : Forwarded → Core → Done
 forwarded f k = does f.effects (record k { forwarding = f.forwarding })
 
@@ -45,12 +56,33 @@ abbrev pub state_refusals : Message → Core → List (Bool × Code)
 state_refusals Hello k = []
 state_refusals (EchoRequest echoed) k = []
 state_refusals BarrierRequest k = []
-state_refusals (IsPacketOut m) k = packet_out_refusals m
-state_refusals (IsFlowMod m) k = flow_mod_refusals m k.forwarding.tables
+state_refusals (IsPacketOut m) k = packet_out_refusals m k.forwarding.groups
+state_refusals (IsFlowMod m) k = flow_mod_refusals m k.forwarding.tables k.forwarding.groups
+state_refusals (IsGroupMod m) k = refused_for (group_mod_fault m k.forwarding.tables.latest k.forwarding.groups)
+-- it is of a type that is not served so far
+state_refusals (IsPortMod m) k = (true, refusal 1 1) ∷ []
 
 -- a FLOW_MOD does its command, with a notice of each entry that went
 abbrev pub flow_modded : FlowMod → Core → Done
 flow_modded m k = does (told Open (notice_effects k.forwarding.tables.latest (command_notices m k.forwarding.tables))) (with_tables (commanded m k.forwarding.tables) k)
+
+-- a GROUP_MOD adds a group, which was added at the latest moment, or gives one another kind and other buckets
+abbrev pub group_added : ℕ → GroupKind → List Bucket → Core → Done
+group_added id kind buckets k = does [] (with_groups (with_group (new_group id kind buckets k.forwarding.tables.latest) k.forwarding.groups) k)
+
+abbrev pub group_modified : ℕ → GroupKind → List Bucket → Core → Done
+group_modified id kind buckets k = does [] (with_groups (with_group (modified_group id kind buckets k.forwarding.groups) k.forwarding.groups) k)
+
+-- or deletes one or all, and the entries that name them, with a notice of each of these (6.5)
+abbrev pub groups_deleted : Option ℕ → Core → Done
+groups_deleted which k =
+    does (told Open (notice_effects k.forwarding.tables.latest (notices_in (Group which) k.forwarding.tables)))
+    (with_groups (left which k.forwarding.groups) (with_tables (left_in (Group which) k.forwarding.tables) k))
+
+abbrev pub group_modded : GroupMod → Core → Done
+group_modded (group_mod.Add g) k = group_added g.id g.kind g.buckets k
+group_modded (group_mod.Modify g) k = group_modified g.id g.kind g.buckets k
+group_modded (group_mod.Delete which) k = groups_deleted which k
 
 -- a packet of the controller does its actions; it came in by no look-up
 abbrev pub packet_outed : PacketOut → Core → Done
@@ -63,6 +95,8 @@ done xid (EchoRequest echoed) k = does (Answer (echo_reply_bytes xid echoed) ∷
 done xid BarrierRequest k = does (Answer (barrier_reply_bytes xid) ∷ []) k
 done xid (IsPacketOut m) k = packet_outed m k
 done xid (IsFlowMod m) k = flow_modded m k
+done xid (IsGroupMod m) k = group_modded m k
+done xid (IsPortMod m) k = does [] k
 
 -- a refused message is answered by an ERROR with its first bytes (7.4.4), and does nothing else
 abbrev pub refused : ℕ → Code → List ℕ → Core → Done

@@ -11,24 +11,30 @@ ghost use Rattle.of_table.specs.Tables.{modified_in, left_in, notices_in, table_
 ghost use Rattle.of_actions.specs.FlowCheck.{all_go_with};
 ghost use Rattle.of_actions.specs.InstructionLists.{are_for};
 ghost use Rattle.of_messages.specs.Promised.{IsSoundFlowMod, IsSoundMessage, IsSoundPacket};
-ghost use Rattle.of_switch.specs.Commands.{names_a_group as names_some_group, packet_out_refusals, flow_mod_refusals, has_flag as with_flag, notice_effects, which_of};
+ghost use Rattle.of_switch.specs.Commands.{names_absent_group as naming_absent_group, packet_out_refusals, flow_mod_refusals, has_flag as with_flag, notice_effects, which_of};
 ghost use Rattle.of_machine.specs.Sound.{IsSound};
 ghost use Rattle.of_switch.specs.Plane.{framed, winner_in, world_of};
 ghost use Rattle.of_switch.specs.DryRun.{GainsPrefix, steps_in};
+ghost use Rattle.of_groups.specs.Groups.{modified_group, new_group};
+ghost use Rattle.of_groups.specs.Faults.{add_fault, delete_fault, modify_fault};
+ghost use Rattle.of_switch.specs.GroupMods.{group_mod_fault, refused_for};
 ghost use Rattle.of_switch.specs.Handling.{Handles};
 ghost use Rattle.of_switch.specs.Loading.{loaded_tables};
-ghost use Rattle.of_switch.specs.Steps.{core_port_changed, does, done, flow_modded, forwarded, packet_outed, state_refusals, with_tables, moment_done};
+ghost use Rattle.of_switch.specs.Steps.{core_port_changed, does, done, flow_modded, forwarded, group_added, group_modded, group_modified, groups_deleted, packet_outed, state_refusals, with_tables, moment_done};
 
-use crate::commands::{flow_from, has_flag, has_group, names_a_group, which_from};
+use crate::commands::{any_to_absent_group, flow_from, has_flag, names_absent_group, which_from};
 use crate::effect::{Effect, Effects};
 use crate::loading::load_tables;
 use crate::plane::{Plane, contains, put_port};
 use crate::port_change::PortChange;
+use of_actions::InstructionList;
 use of_classifier::Lookup;
+use of_groups::{Buckets, GroupFault, GroupKind};
 use of_headers::FieldKey;
 use of_machine::{Port, PortCounters, StepLog};
 use of_messages::{
-    FlowMod, FlowModCommand, Message, PacketData, PacketOut, write_barrier_reply, write_echo_reply,
+    FlowMod, FlowModCommand, GroupMod, Message, NewGroup, PacketData, PacketOut,
+    write_barrier_reply, write_echo_reply,
 };
 use of_session::Phase;
 use of_table::{Cause, Entry, TableFault};
@@ -41,6 +47,9 @@ use std::marker::Model;
 const NO_BUFFER: u32 = 0xffff_ffff;
 
 const BUFFER_UNKNOWN: Code = Code { kind: 1, code: 8 };
+
+/// The type of a message that is not served.
+const BAD_TYPE: Code = Code { kind: 1, code: 1 };
 
 const BAD_OUT_GROUP: Code = Code { kind: 2, code: 9 };
 
@@ -69,7 +78,21 @@ impl From<AllocError> for Fault {
     }
 }
 
-/// The core of a switch: its flow tables and ports.
+impl From<GroupFault> for Fault {
+    ghost use Rattle.std.specs.Prelude.{◌≡◌};
+    ghost use Rattle.of_switch.specs.Handling.{fault_of};
+
+    ghost from_gives = { λ fault e. e ≡ fault_of fault };
+
+    fn from(fault: GroupFault) -> Fault {
+        match fault.code() {
+            Some(code) => Fault::Refused(code),
+            None => Fault::Memory,
+        }
+    }
+}
+
+/// The core of a switch: its flow tables, groups and ports.
 #[derive(Drop)]
 pub struct Engine<L: Lookup> {
     dpid: u64,
@@ -83,7 +106,7 @@ impl<L: Lookup> Model for Engine<L> {
 
     ghost Value = { Core };
 
-    ghost view = { λ e. record { dpid = e.dpid; forwarding = forwarding_of e.plane.tables e.plane.ports.items } };
+    ghost view = { λ e. record { dpid = e.dpid; forwarding = forwarding_of e.plane.tables e.plane.groups e.plane.ports.items } };
 }
 
 impl<L: Lookup> Engine<L> {
@@ -156,7 +179,7 @@ impl<L: Lookup> Engine<L> {
         self.plane.dry_run(self.alloc, phase, number, bytes, log)
     }
 
-    /// The tables keep what the machine is promised.
+    /// The tables and the groups keep what the machine is promised.
     pub fn known_world(&self)
         ensures { IsSound (world_of self.now.forwarding) }
     {
@@ -195,18 +218,20 @@ impl<L: Lookup> Engine<L> {
             }
             Message::PacketOut(packet_out) => self.packet_out(packet_out),
             Message::FlowMod(flow_mod) => self.flow_mod(flow_mod),
+            Message::GroupMod(group_mod) => self.group_mod(group_mod),
+            Message::PortMod(_) => Err(Fault::Refused(BAD_TYPE)),
         }
     }
 
     fn packet_out(&mut self, packet_out: PacketOut) -> Result<Effects, Fault>
         requires { IsSoundPacket packet_out.packet }
-        ensures { Handles (first_of (packet_out_refusals packet_out)) (packet_outed packet_out self.old) self.old result self.new }
+        ensures { Handles (first_of (packet_out_refusals packet_out self.old.forwarding.groups)) (packet_outed packet_out self.old) self.old result self.new }
     {
         let PacketData::Frame(frame) = &packet_out.packet else {
             return Err(Fault::Refused(BUFFER_UNKNOWN));
         };
         let actions = packet_out.actions.as_slice();
-        if has_group(actions) {
+        if any_to_absent_group(actions, &self.plane.groups) {
             return Err(Fault::Refused(BAD_OUT_GROUP));
         }
         let plan = self
@@ -217,10 +242,10 @@ impl<L: Lookup> Engine<L> {
 
     fn flow_mod(&mut self, flow_mod: FlowMod) -> Result<Effects, Fault>
         requires { IsSoundFlowMod flow_mod }
-        ensures { Handles (first_of (flow_mod_refusals flow_mod self.old.forwarding.tables)) (flow_modded flow_mod self.old) self.old result self.new }
+        ensures { Handles (first_of (flow_mod_refusals flow_mod self.old.forwarding.tables self.old.forwarding.groups)) (flow_modded flow_mod self.old) self.old result self.new }
     {
         if !flow_mod.command.is_delete() {
-            if names_a_group(flow_mod.instructions.as_slice()) {
+            if self.names_absent_group(&flow_mod.instructions) {
                 return Err(Fault::Refused(BAD_OUT_GROUP));
             }
             if flow_mod.buffer != NO_BUFFER {
@@ -239,13 +264,20 @@ impl<L: Lookup> Engine<L> {
         }
     }
 
+    // Whether some action of the instructions gives the packet to a group that is not there.
+    fn names_absent_group(&self, instructions: &InstructionList) -> bool
+        ensures { result ≡ naming_absent_group self.now.forwarding.groups instructions.now }
+    {
+        names_absent_group(instructions.as_slice(), &self.plane.groups)
+    }
+
     fn add_flow(&mut self, flow_mod: FlowMod) -> Result<Effects, Fault>
         requires add { flow_mod.command ≡ FlowModCommand.Add }
         requires buffer { flow_mod.buffer ≡ 0xffffffff }
-        requires group { names_some_group flow_mod.instructions ≡ false }
+        requires group { naming_absent_group self.old.forwarding.groups flow_mod.instructions ≡ false }
         requires fit { are_for flow_mod.table flow_mod.instructions ≡ true }
         requires checked { all_go_with flow_mod.fields flow_mod.instructions ≡ true }
-        ensures { Handles (first_of (flow_mod_refusals flow_mod self.old.forwarding.tables)) (flow_modded flow_mod self.old) self.old result self.new }
+        ensures { Handles (first_of (flow_mod_refusals flow_mod self.old.forwarding.tables self.old.forwarding.groups)) (flow_modded flow_mod self.old) self.old result self.new }
     {
         match self.plane.tables.add(flow_mod.table, flow_from(flow_mod)) {
             Ok(()) => Ok(Effects::new(self.alloc)),
@@ -278,6 +310,46 @@ impl<L: Lookup> Engine<L> {
         let plan = self
             .plane
             .plan_removal(self.alloc, Phase::Open, cause, now)?;
+        Ok(self.plane.carry_out(plan))
+    }
+
+    fn group_mod(&mut self, group_mod: GroupMod) -> Result<Effects, Fault>
+        ensures { Handles (first_of (refused_for (group_mod_fault group_mod self.old.forwarding.tables.latest self.old.forwarding.groups))) (group_modded group_mod self.old) self.old result self.new }
+    {
+        match group_mod {
+            GroupMod::Add(NewGroup { id, kind, buckets }) => self.add_group(id, kind, buckets),
+            GroupMod::Modify(NewGroup { id, kind, buckets }) => {
+                self.modify_group(id, kind, buckets)
+            }
+            GroupMod::Delete(which) => self.delete_groups(which),
+        }
+    }
+
+    // Adds a group at the latest moment.
+    fn add_group(&mut self, id: u32, kind: GroupKind, buckets: Buckets) -> Result<Effects, Fault>
+        ensures { Handles (first_of (refused_for (add_fault (new_group id kind buckets self.old.forwarding.tables.latest) self.old.forwarding.groups))) (group_added id kind buckets self.old) self.old result self.new }
+    {
+        let now = self.plane.tables.latest();
+        self.plane.groups.add(id, kind, buckets, now)?;
+        Ok(Effects::new(self.alloc))
+    }
+
+    fn modify_group(&mut self, id: u32, kind: GroupKind, buckets: Buckets) -> Result<Effects, Fault>
+        ensures { Handles (first_of (refused_for (modify_fault (modified_group id kind buckets self.old.forwarding.groups) self.old.forwarding.groups))) (group_modified id kind buckets self.old) self.old result self.new }
+    {
+        self.plane.groups.modify(id, kind, buckets)?;
+        Ok(Effects::new(self.alloc))
+    }
+
+    // Deletes a group or all, and the entries that name them: what needs memory comes first.
+    fn delete_groups(&mut self, which: Option<u32>) -> Result<Effects, Fault>
+        ensures { Handles (first_of (refused_for (delete_fault which self.old.forwarding.groups))) (groups_deleted which self.old) self.old result self.new }
+    {
+        let now = self.plane.tables.latest();
+        let plan = self
+            .plane
+            .plan_removal(self.alloc, Phase::Open, Cause::Group(which), now)?;
+        self.plane.groups.delete(which)?;
         Ok(self.plane.carry_out(plan))
     }
 
