@@ -1,4 +1,5 @@
 pub mod PlaceNumbers
+pub mod GroupWorlds
 pub mod Worlds
 pub mod Looking
 pub mod Prefixes
@@ -7,6 +8,7 @@ pub mod Forwarding
 pub mod Draining
 pub mod Joining
 pub mod Handling
+pub mod GroupHandling
 pub mod InTurn
 pub mod Running
 pub mod OnLiterals

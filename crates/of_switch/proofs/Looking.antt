@@ -14,43 +14,49 @@ use Rattle.of_table.specs.Tables.{NumberedTables, tables_of, table_at}
 use Rattle.of_table.specs.Entries.{Numbered, no_entries, entry_of, flows_of, place_of}
 use Rattle.of_table.proofs.WinnerLemmas.{winner_within}
 use Rattle.of_actions.specs.InstructionLists.{are_kept, are_for}
+use Rattle.of_groups.specs.declared.group.Group.{Group}
+use Rattle.of_groups.specs.Sound.{AreSound as AreSoundGroups}
+use Rattle.of_groups.proofs.ChainLaws.{chain_at_most}
+use Rattle.of_groups.proofs.WorldLemmas.{groups_serve}
 use Rattle.of_machine.specs.declared.port.Port.{Port}
 use Rattle.of_machine.specs.Sound.{IsSound}
+use Rattle.of_switch.specs.Ports.{is_live_port}
 use Rattle.of_switch.specs.Plane.{world_of, winner_in, flow_in}
 use Rattle.of_switch.specs.Numbers.{forwarding_of, entries_at}
+use Rattle.of_switch.proofs.GroupWorlds.{are_buckets}
 use Rattle.of_switch.proofs.Worlds.{AreFit, table_is, flow_some, flow_none, flow_fit, both}
 
-module _ (n : NumberedTables) (ports : List Port) where
+module _ (n : NumberedTables) (groups : List Group) (ports : List Port) where
   -- the winner and the flow of a place, by the entries
-  pub winner_is : (t : ℕ) (fields : Field → Option ℕ) → winner_in (forwarding_of n ports) t fields ≡ winner_place fields (flows_of (entries_at n t))
+  pub winner_is : (t : ℕ) (fields : Field → Option ℕ) → winner_in (forwarding_of n groups ports) t fields ≡ winner_place fields (flows_of (entries_at n t))
   winner_is t fields = ap (λ (x : Table). winner_place fields x.flows) (table_is n t)
 
-  pub flow_is : (t place : ℕ) → flow_in (forwarding_of n ports) t place ≡ flow_at place (flows_of (entries_at n t))
+  pub flow_is : (t place : ℕ) → flow_in (forwarding_of n groups ports) t place ≡ flow_at place (flows_of (entries_at n t))
   flow_is t place = ap (λ (x : Table). flow_at place x.flows) (table_is n t)
 
-  there : (t : ℕ) (fields : Field → Option ℕ) (place : ℕ) → winner_in (forwarding_of n ports) t fields ≡ Some place → flow_in (forwarding_of n ports) t place ≢ None
+  there : (t : ℕ) (fields : Field → Option ℕ) (place : ℕ) → winner_in (forwarding_of n groups ports) t fields ≡ Some place → flow_in (forwarding_of n groups ports) t place ≢ None
   there t fields place h none =
       let es = entries_at n t in
       let within = winner_within fields es place (sym (winner_is t fields) ∙ h) in
       flow_some place (flows_of es) (omega (arith, within, length-map es entry_of)) (sym (flow_is t place) ∙ none)
 
-  fit_here : AreFit n → (t place : ℕ) (f : Flow) → flow_in (forwarding_of n ports) t place ≡ Some f → (are_kept f.instructions ≡ true) × (are_for t f.instructions ≡ true)
+  fit_here : AreFit n → (t place : ℕ) (f : Flow) → flow_in (forwarding_of n groups ports) t place ≡ Some f → (are_kept f.instructions ≡ true) × (are_for t f.instructions ≡ true)
   fit_here fit t place f e = both (are_kept f.instructions) (are_for t f.instructions) (flow_fit t place (table_at t (tables_of n)).flows f (fit t).fit e)
 
   -- what the world by places promises
-  pub sound_by_places : AreFit n → IsSound (world_of (forwarding_of n ports))
-  sound_by_places fit = record {
+  pub sound_by_places : AreFit n → AreSoundGroups groups → IsSound (world_of (forwarding_of n groups ports))
+  sound_by_places fit sound = record {
     found = λ t fields place h. there t fields place h;
     kept = λ t place f e. (fit_here fit t place f e).0;
     onward = λ t place f e. (fit_here fit t place f e).1;
-    short = λ g. omega arith;
-    chained = λ g places e. absurd cc;
-    few = λ g places e. absurd cc;
-    buckets = λ g places e. absurd cc;
+    short = λ g. chain_at_most groups g sound.short;
+    chained = λ g places e. (groups_serve groups (is_live_port ports) g places sound e).chained;
+    few = λ g places e. (groups_serve groups (is_live_port ports) g places sound e).few;
+    buckets = λ g places e. are_buckets (world_of (forwarding_of n groups ports)) groups (λ g. refl) (λ g place. refl) g places (groups_serve groups (is_live_port ports) g places sound e).buckets;
   }
 
   -- a flow that is there stands in one of the sixteen tables
-  pub is_table_by_place : (t place : ℕ) → length n.tables ≡ 16 → flow_in (forwarding_of n ports) t place ≢ None → t < 16
+  pub is_table_by_place : (t place : ℕ) → length n.tables ≡ 16 → flow_in (forwarding_of n groups ports) t place ≢ None → t < 16
   is_table_by_place t place sixteen h = elim (cases_lt t 16) [
     | inl lt ↦ lt
     | inr le ↦ absurd (h (flow_is t place ∙ past (ap (λ (x : Numbered). x.entries) (get_or_past n.tables t no_entries (omega (arith, le, sixteen))))))
@@ -60,7 +66,7 @@ module _ (n : NumberedTables) (ports : List Port) where
       past e = ap (λ (es : List Entry). flow_at place (flows_of es)) e ∙ flow_none place [] (omega arith)
 
   -- beyond them no entry wins
-  pub no_winner_by_place : (t : ℕ) (fields : Field → Option ℕ) → length n.tables ≤ t → winner_in (forwarding_of n ports) t fields ≡ None
+  pub no_winner_by_place : (t : ℕ) (fields : Field → Option ℕ) → length n.tables ≤ t → winner_in (forwarding_of n groups ports) t fields ≡ None
   no_winner_by_place t fields le =
       winner_is t fields ∙ (ap (λ (x : Numbered). winner_place fields (flows_of x.entries)) (get_or_past n.tables t no_entries le))
 

@@ -15,6 +15,10 @@ use Rattle.of_table.specs.Tables.{NumberedTables, numbered_at, tables_of, table_
 use Rattle.of_table.specs.Entries.{Numbered, no_entries, entry_of, flows_of, numbers_of, entry_number, place_of, is_there, table_of}
 use Rattle.of_table.proofs.PlaceLemmas.{any-place}
 use Rattle.of_table.proofs.WinnerLemmas.{winner_within}
+use Rattle.of_groups.specs.declared.group.Group.{Group}
+use Rattle.of_groups.specs.Sound.{AreSound as AreSoundGroups}
+use Rattle.of_groups.proofs.ChainLaws.{chain_at_most}
+use Rattle.of_groups.proofs.WorldLemmas.{groups_serve}
 use Rattle.of_machine.specs.declared.port.Port.{Port}
 use Rattle.of_table.specs.declared.flow.Flow.{Flow}
 use Rattle.of_table.specs.Sound.{AreSound, are_fit, is_fit}
@@ -22,8 +26,10 @@ use Rattle.of_actions.specs.InstructionLists.{are_kept, are_for}
 use Rattle.std.specs.List.{list_all}
 use Rattle.of_machine.specs.Sound.{IsSound}
 use Rattle.of_machine.specs.Renumbering.{IsRenumbered}
+use Rattle.of_switch.specs.Ports.{is_live_port}
 use Rattle.of_switch.specs.Plane.{world_of}
 use Rattle.of_switch.specs.Numbers.{forwarding_of, entries_at, number_at, numbered_winner, numbered_flow, numbered_world, place_in}
+use Rattle.of_switch.proofs.GroupWorlds.{are_buckets}
 use Rattle.of_switch.proofs.PlaceNumbers.{itself, number_at_place, place_of_number}
 
 -- the number that a look-up answered is that of the winner's place
@@ -53,8 +59,8 @@ pub table_is : (n : NumberedTables) (t : ℕ) → table_at t (tables_of n) ≡ t
 table_is n t = get_or-map table_of n.tables t no_entries
 
 -- the two worlds are one but for the numbers
-pub renumbered_world : (n : NumberedTables) (ports : List Port) → AreDistinct n → IsRenumbered (place_in n) (numbered_world n ports) (world_of (forwarding_of n ports))
-renumbered_world n ports distinct = record {
+pub renumbered_world : (n : NumberedTables) (groups : List Group) (ports : List Port) → AreDistinct n → IsRenumbered (place_in n) (numbered_world n groups ports) (world_of (forwarding_of n groups ports))
+renumbered_world n groups ports distinct = record {
   ports = refl;
   winner = λ t fields. ap (λ (x : Table). winner_place fields x.flows) (table_is n t) ∙ same_place (entries_at n t) fields (winner_place fields (flows_of (entries_at n t))) (distinct t) refl;
   flow = λ t number fields h. ap (λ (x : Table). flow_at (place_in n t number) x.flows) (table_is n t);
@@ -112,15 +118,15 @@ fit_here n t number f fit e =
     let flows : list_all (is_fit t) (flows_of (entries_at n t)) ≡ true = rw (table_is n t) at (fit t).fit in
     both (are_kept f.instructions) (are_for t f.instructions) (flow_fit t (place_of number (entries_at n t)) (flows_of (entries_at n t)) f flows e)
 
--- what a world promises: each winner is the number of an entry, its instructions may stand there, and there are no groups
-pub sound_world : (n : NumberedTables) (ports : List Port) → AreDistinct n → AreFit n → IsSound (numbered_world n ports)
-sound_world n ports distinct fit = record {
+-- what a world promises: each winner is the number of an entry, its instructions may stand there, and the groups serve
+pub sound_world : (n : NumberedTables) (groups : List Group) (ports : List Port) → AreDistinct n → AreFit n → AreSoundGroups groups → IsSound (numbered_world n groups ports)
+sound_world n groups ports distinct fit sound = record {
   kept = λ t number f e. (fit_here n t number f fit e).0;
   onward = λ t number f e. (fit_here n t number f fit e).1;
-  short = λ g. omega arith;
-  chained = λ g places e. absurd cc;
-  few = λ g places e. absurd cc;
-  buckets = λ g places e. absurd cc;
+  short = λ g. chain_at_most groups g sound.short;
+  chained = λ g places e. (groups_serve groups (is_live_port ports) g places sound e).chained;
+  few = λ g places e. (groups_serve groups (is_live_port ports) g places sound e).few;
+  buckets = λ g places e. are_buckets (numbered_world n groups ports) groups (λ g. refl) (λ g place. refl) g places (groups_serve groups (is_live_port ports) g places sound e).buckets;
   found = λ t fields number h none. sound_by (entries_at n t) fields number (winner_place fields (flows_of (entries_at n t))) (distinct t) refl h none;
 }
 

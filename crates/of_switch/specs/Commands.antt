@@ -19,8 +19,11 @@ use Rattle.of_table.specs.declared.selection.RemovedReason.{RemovedReason}
 use Rattle.of_table.specs.declared.selection.RemovedReason.TheVariants as reason
 use Rattle.of_table.specs.Table.{is_overlapped, is_full}
 use Rattle.of_table.specs.Selecting.{Notice, has_action}
+use Rattle.of_actions.specs.declared.action.Action.{Action}
 use Rattle.of_actions.specs.declared.instruction.Instruction.{Instruction}
-use Rattle.of_action_set.specs.Sets.{is_group}
+use Rattle.of_groups.specs.declared.group.Group.{Group}
+use Rattle.of_groups.specs.Buckets.{sends}
+use Rattle.of_groups.specs.Faults.{is_absent}
 use Rattle.of_messages.specs.declared.message.PacketOut.{PacketOut}
 use Rattle.of_messages.specs.declared.message.PacketData.{PacketData}
 use Rattle.of_messages.specs.declared.message.PacketData.TheVariants.{Buffered, Frame}
@@ -75,14 +78,18 @@ which_of m = record {
 
 -- ---- what is refused, in order
 
--- some action gives the packet to a group
-abbrev pub names_a_group : List Instruction → Bool
-names_a_group instructions = list_any (has_action is_group) instructions
+-- an action gives the packet to a group that is not there
+abbrev pub is_astray : List Group → Action → Bool
+is_astray groups = sends (is_absent groups)
 
--- there are no groups so far, so each that is named is absent (7.4.4: 2/9); no packet is buffered, so each buffer but none (all ones) is unknown (1/8); DELETE does not look at them; of an ADD: the table is not there (5/2), an entry overlaps the flow (5/3), the table is full (5/1)
-abbrev pub flow_mod_refusals : FlowMod → Tables → List (Bool × Code)
-flow_mod_refusals m ts =
-    (not (is_delete m.command) && names_a_group m.instructions, refusal 2 9)
+-- some action of the instructions does
+abbrev pub are_astray : List Group → List Instruction → Bool
+are_astray groups instructions = list_any (has_action (is_astray groups)) instructions
+
+-- an action names a group that is not there (7.4.4: 2/9); no packet is buffered, so each buffer but none (all ones) is unknown (1/8); DELETE does not look at them; of an ADD: the table is not there (5/2), an entry overlaps the flow (5/3), the table is full (5/1)
+abbrev pub flow_mod_refusals : FlowMod → Tables → List Group → List (Bool × Code)
+flow_mod_refusals m ts groups =
+    (not (is_delete m.command) && are_astray groups m.instructions, refusal 2 9)
     ∷ (not (is_delete m.command) && not (m.buffer == 0xffffffff), refusal 1 8)
     ∷ (is_add m.command && nat_le 16 m.table, refusal 5 2)
     ∷ (is_add m.command && is_overlapped (flow_of m) (table_at m.table ts).flows, refusal 5 3)
@@ -146,9 +153,9 @@ abbrev pub frame_of : PacketData → List ℕ
 frame_of (Buffered number) = []
 frame_of (Frame bytes) = bytes
 
--- each buffer is unknown (1/8), and each group absent (2/9)
-abbrev pub packet_out_refusals : PacketOut → List (Bool × Code)
-packet_out_refusals m =
+-- each buffer is unknown (1/8); an action names a group that is not there (2/9)
+abbrev pub packet_out_refusals : PacketOut → List Group → List (Bool × Code)
+packet_out_refusals m groups =
     (is_buffered m.packet, refusal 1 8)
-    ∷ (list_any is_group m.actions, refusal 2 9)
+    ∷ (list_any (is_astray groups) m.actions, refusal 2 9)
     ∷ []

@@ -2,11 +2,18 @@
 use Rattle.std.specs.Prelude.{◌≡◌, Option, Some, None, Result, Ok, Err}
 use Rattle.smallvec.specs.SmallVec.{SmallVec}
 use Rattle.of_wire.specs.declared.code.Code.{Code}
+use Rattle.std.specs.Option.{option_map_or}
+use Rattle.of_groups.specs.declared.group_fault.GroupFault.{GroupFault}
+use Rattle.of_groups.specs.Faults.{code_of}
 use Rattle.of_switch.specs.declared.effect.Effect.{Effect}
 use Rattle.of_switch.specs.declared.engine.Fault.{Fault}
 use Rattle.of_switch.specs.declared.engine.Fault.TheVariants.{Memory, Refused}
 use Rattle.of_switch.specs.State.{Core}
 use Rattle.of_switch.specs.Steps.{Done, does}
+
+-- a change of groups that is refused, or for which there was no memory
+abbrev pub fault_of : GroupFault → Fault
+fault_of fault = option_map_or Refused (code_of fault) Memory
 
 -- the message is done where nothing refuses it; else it is refused so, and nothing else; or memory is wanted, and nothing else
 abbrev pub Handles : Option Code → Done → Core → Result (SmallVec Effect) Fault → Core → Type 0

@@ -6,6 +6,7 @@ pub mod DryRun
 pub mod Plans
 pub mod State
 pub mod Commands
+pub mod GroupMods
 pub mod Steps
 pub mod Handling
 pub mod Calls

@@ -1,5 +1,5 @@
 -- The tables as the code keeps them: their classifiers give entries numbers, which need not be their places by age.
-use Rattle.std.specs.Prelude.{ℕ, List, map, slice_index, [], Option, Some, None}
+use Rattle.std.specs.Prelude.{ℕ, List, map, slice_index, Option}
 use Rattle.std.specs.Option.{option_map}
 use Rattle.of_layers.specs.declared.field.Field.{Field}
 use Rattle.of_table.specs.declared.flow.Flow.{Flow}
@@ -7,23 +7,29 @@ use Rattle.of_table.specs.declared.entry.Entry.{Entry}
 use Rattle.of_table.specs.Table.{winner_place, flow_at}
 use Rattle.of_table.specs.Entries.{flows_of, numbers_of, place_of}
 use Rattle.of_table.specs.Tables.{NumberedTables, numbered_at, tables_of}
+use Rattle.of_groups.specs.declared.group.Group.{Group}
+use Rattle.of_groups.specs.Groups.{bucket_at}
+use Rattle.of_groups.specs.Chains.{chain}
+use Rattle.of_groups.specs.Liveness.{chosen}
 use Rattle.of_machine.specs.declared.port.Port.{Port}
 use Rattle.of_machine.specs.declared.data.Count.{Count}
 use Rattle.of_machine.specs.TheWorld.{TheWorld}
 use Rattle.of_machine.specs.Renumbering.{renumbered_count}
+use Rattle.of_switch.specs.Ports.{is_live_port}
 use Rattle.of_switch.specs.Plane.{Forwarding}
 
 -- without the numbers
-abbrev pub forwarding_of : NumberedTables → List Port → Forwarding
-forwarding_of n ports = record { tables = tables_of n; ports = ports }
+abbrev pub forwarding_of : NumberedTables → List Group → List Port → Forwarding
+forwarding_of n groups ports = record { tables = tables_of n; groups = groups; ports = ports }
 
 -- with them
 pub record Contents : Type 0 where
   pub tables : NumberedTables
+  pub groups : List Group
   pub ports : List Port
 
-abbrev pub contents : NumberedTables → List Port → Contents
-contents n ports = record { tables = n; ports = ports }
+abbrev pub contents : NumberedTables → List Group → List Port → Contents
+contents n groups ports = record { tables = n; groups = groups; ports = ports }
 
 -- the entries of a table
 abbrev pub entries_at : NumberedTables → ℕ → List Entry
@@ -40,8 +46,8 @@ abbrev pub numbered_flow : NumberedTables → ℕ → ℕ → Option Flow
 numbered_flow n t number = flow_at (place_of number (entries_at n t)) (flows_of (entries_at n t))
 
 -- what the machine sees of it
-abbrev pub numbered_world : NumberedTables → List Port → TheWorld
-numbered_world n ports = record { winner = numbered_winner n; flow = numbered_flow n; chosen = λ group. None; bucket = λ group place. Some []; ports = ports; chain = λ group. 0 }
+abbrev pub numbered_world : NumberedTables → List Group → List Port → TheWorld
+numbered_world n groups ports = record { winner = numbered_winner n; flow = numbered_flow n; chosen = chosen groups (is_live_port ports); bucket = bucket_at groups; ports = ports; chain = chain groups }
 
 -- the place of a number in a table
 abbrev pub place_in : NumberedTables → ℕ → ℕ → ℕ

@@ -1,4 +1,4 @@
--- Frames through the flow tables and out of the ports (OpenFlow 1.3.5, 5.1 and 7.2.1).
+-- Frames through the flow tables and the groups, and out of the ports (OpenFlow 1.3.5, 5.1, 5.6 and 7.2.1).
 use Rattle.std.specs.Prelude.{ℕ, List, [], ◌∷◌, length, Option, Some, None, if◌then◌else◌}
 use Rattle.of_layers.specs.declared.field.Field.{Field}
 use Rattle.of_headers.specs.declared.headers.FrameFault.{FrameFault}
@@ -6,9 +6,13 @@ use Rattle.of_headers.specs.Faults.{frame_fault}
 use Rattle.of_table.specs.Table.{flow_at, winner_place}
 use Rattle.of_table.specs.Tables.{Tables, no_tables, tables_of, table_at, looked_in, matched_in}
 use Rattle.of_table.specs.declared.flow.Flow.{Flow}
+use Rattle.of_groups.specs.declared.group.Group.{Group}
+use Rattle.of_groups.specs.Groups.{bucket_at, counted, bucket_counted}
+use Rattle.of_groups.specs.Chains.{chain}
+use Rattle.of_groups.specs.Liveness.{chosen}
 use Rattle.of_machine.specs.declared.port.Port.{Port}
 use Rattle.of_machine.specs.declared.data.Count.{Count}
-use Rattle.of_machine.specs.declared.data.Count.TheVariants.{Lookup, Matched, TxDropped, Group, Bucket}
+use Rattle.of_machine.specs.declared.data.Count.TheVariants.{Lookup, Matched, TxDropped, Group as GroupUse, Bucket}
 use Rattle.of_machine.specs.declared.data.Packet.{Packet}
 use Rattle.of_machine.specs.Ports.{port_at}
 use Rattle.of_machine.specs.TheWorld.{TheWorld}
@@ -16,20 +20,21 @@ use Rattle.of_machine.specs.Rows.{Work, Lookup as LookUp, entering}
 use Rattle.of_machine.specs.Runs.{Machine, run_of}
 use Rattle.of_switch.specs.declared.plane.PortCount.{PortCount}
 use Rattle.of_switch.specs.declared.plane.PortCount.TheVariants.{Received, ReceiveDropped, ReceiveError, Sent as SentBytes, SendDropped}
-use Rattle.of_switch.specs.Ports.{all_counted}
+use Rattle.of_switch.specs.Ports.{all_counted, is_live_port}
 use Rattle.of_session.specs.declared.session.Phase.{Phase}
 use Rattle.of_switch.specs.declared.effect.Effect.{Effect}
 use Rattle.of_switch.specs.declared.effect.Effect.TheVariants.{Answer, Sent, Closed}
 use Rattle.of_switch.specs.Told.{effects_of}
 
--- the flow tables, and the ports in the order in which they were added
+-- the flow tables; the groups, by rising number; and the ports, by rising number
 pub record Forwarding : Type 0 where
   pub tables : Tables
+  pub groups : List Group
   pub ports : List Port
 
--- no flow, no port
+-- no flow, no group, no port
 abbrev pub idle : Forwarding
-idle = record { tables = tables_of no_tables; ports = [] }
+idle = record { tables = tables_of no_tables; groups = []; ports = [] }
 
 -- a port counts this
 abbrev pub count_port : ℕ → PortCount → Forwarding → Forwarding
@@ -43,9 +48,8 @@ winner_in f t fields = winner_place fields (table_at t f.tables).flows
 abbrev pub flow_in : Forwarding → ℕ → ℕ → Option Flow
 flow_in f t place = flow_at place (table_at t f.tables).flows
 
--- there are no groups so far: none is chosen, and so no bucket is asked for
 abbrev pub world_of : Forwarding → TheWorld
-world_of f = record { winner = winner_in f; flow = flow_in f; chosen = λ group. None; bucket = λ group place. Some []; ports = f.ports; chain = λ group. 0 }
+world_of f = record { winner = winner_in f; flow = flow_in f; chosen = chosen f.groups (is_live_port f.ports); bucket = bucket_at f.groups; ports = f.ports; chain = chain f.groups }
 
 -- WHAT A RUN LEAVES
 
@@ -54,8 +58,8 @@ abbrev pub tallied : Count → Forwarding → Forwarding
 tallied (Lookup t) f = record f { tables = looked_in t f.tables }
 tallied (Matched t place bytes) f = record f { tables = matched_in t place bytes f.tables }
 tallied (TxDropped port) f = count_port port SendDropped f
-tallied (Group group bytes) f = f
-tallied (Bucket group place bytes) f = f
+tallied (GroupUse group bytes) f = record f { groups = counted group bytes f.groups }
+tallied (Bucket group place bytes) f = record f { groups = bucket_counted group place bytes f.groups }
 
 abbrev pub all_tallied : List Count → Forwarding → Forwarding
 all_tallied [] f = f
@@ -73,7 +77,7 @@ all_sent (e ∷ es) f = all_sent es (sent e f)
 
 -- A PACKET
 
--- what is sent, and the tables and ports after it
+-- what is sent, and the tables, groups and ports after it
 pub record Forwarded : Type 0 where
   pub effects : List Effect
   pub forwarding : Forwarding

@@ -1,6 +1,7 @@
 -- What plans do when they are carried out.
 use Rattle.std.specs.Prelude.{List, Option, Some, None}
 use Rattle.of_table.specs.Tables.{NumberedTables, left_in}
+use Rattle.of_groups.specs.declared.group.Group.{Group}
 use Rattle.of_machine.specs.declared.port.Port.{Port}
 use Rattle.of_switch.specs.declared.effect.Effect.{Effect}
 use Rattle.of_switch.specs.declared.plan.Plan.{Plan}
@@ -20,5 +21,5 @@ changed Nothing effects n f = f
 changed (Counts reception counts) effects n f = all_sent effects (all_tallied (all_placed n counts.items) (with_reception reception f))
 changed (Removal cause) effects n f = record f { tables = left_in cause f.tables }
 
-abbrev pub planned : Plan → NumberedTables → List Port → Forwarded
-planned plan n ports = forwards plan.effects.items (changed plan.change plan.effects.items n (forwarding_of n ports))
+abbrev pub planned : Plan → NumberedTables → List Group → List Port → Forwarded
+planned plan n groups ports = forwards plan.effects.items (changed plan.change plan.effects.items n (forwarding_of n groups ports))

@@ -1,6 +1,8 @@
 -- The ports of a switch, and what they count (OpenFlow 1.3.5, 4.1, 5.8 and 7.3.5.6).
-use Rattle.std.specs.Prelude.{ℕ, ◌+◌, ◌%◌, ◌^◌, ◌==◌, ◌&&◌, nat_le, nat_lt, Bool, List, map, insert, if◌then◌else◌}
+use Rattle.std.specs.Prelude.{ℕ, ◌+◌, ◌%◌, ◌^◌, ◌==◌, ◌&&◌, nat_le, nat_lt, Bool, false, List, map, insert, if◌then◌else◌}
 use Rattle.std.specs.List.{list_any, position_or_len}
+use Rattle.std.specs.Option.{option_map_or}
+use Rattle.of_machine.specs.Ports.{port_at}
 use Rattle.of_machine.specs.declared.port.Port.{Port}
 use Rattle.of_machine.specs.declared.port.PortCounters.{PortCounters}
 use Rattle.of_switch.specs.declared.plane.PortCount.{PortCount}
@@ -26,6 +28,10 @@ all_counted number what ports = map (counted number what) ports
 
 abbrev pub has_port : ℕ → List Port → Bool
 has_port number ports = list_any (λ p. p.number == number) ports
+
+-- a port is live where it is there and its link is up (5.6.1)
+abbrev pub is_live_port : List Port → ℕ → Bool
+is_live_port ports number = option_map_or (λ p. p.is_link_up) (port_at ports number) false
 
 -- a port's number is 1 to OFPP_MAX
 abbrev pub is_number : ℕ → Bool

@@ -13,10 +13,10 @@ pub record State : Type 0 where
   pub connection : Connection
   pub core : Core
 
--- without flows and ports
+-- without flows, groups and ports
 abbrev pub new_core : ℕ → Core
 new_core dpid = record { dpid = dpid; forwarding = idle }
 
--- a new switch: no connection, no flow, no port
+-- a new switch: no connection, no flow, no group, no port
 abbrev pub start : ℕ → State
 start dpid = record { connection = alone; core = new_core dpid }

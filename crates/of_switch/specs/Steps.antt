@@ -12,7 +12,12 @@ use Rattle.of_session.specs.declared.session.Next.TheVariants.{Nothing, BadStrea
 use Rattle.of_session.specs.Session.{Connection, greeting, fed as fed_connection, entered, next_of as next_in}
 use Rattle.of_session.specs.declared.session.Phase.{Phase}
 use Rattle.of_session.specs.declared.session.Phase.TheVariants.{Open}
-use Rattle.of_table.specs.Tables.{Tables, expired, expiry_notices}
+use Rattle.of_table.specs.declared.selection.Cause.TheVariants.{Group}
+use Rattle.of_table.specs.Tables.{Tables, expired, expiry_notices, left_in, notices_in}
+use Rattle.of_groups.specs.declared.bucket.Bucket.{Bucket}
+use Rattle.of_groups.specs.declared.group.Group.{Group as AGroup}
+use Rattle.of_groups.specs.declared.group.GroupKind.{GroupKind}
+use Rattle.of_groups.specs.Groups.{left, modified_group, new_group, with_group}
 use Rattle.of_machine.specs.Rows.{acts, entering}
 use Rattle.of_switch.specs.Commands.{flow_mod_refusals, commanded, command_notices, notice_effects, packet_out_refusals, frame_of}
 use Rattle.of_switch.specs.Told.{told}
@@ -36,7 +41,10 @@ does effects k = record { effects = effects; core = k }
 abbrev pub with_tables : Tables → Core → Core
 with_tables ts k = record k { forwarding = record k.forwarding { tables = ts } }
 
--- what goes by the tables and the ports
+abbrev pub with_groups : List AGroup → Core → Core
+with_groups groups k = record k { forwarding = record k.forwarding { groups = groups } }
+
+-- what goes by the tables, the groups and the ports
 abbrev pub forwarded : Forwarded → Core → Done
 forwarded f k = does f.effects (record k { forwarding = f.forwarding })
 
@@ -45,12 +53,25 @@ abbrev pub state_refusals : Message → Core → List (Bool × Code)
 state_refusals Hello k = []
 state_refusals (EchoRequest echoed) k = []
 state_refusals BarrierRequest k = []
-state_refusals (IsPacketOut m) k = packet_out_refusals m
-state_refusals (IsFlowMod m) k = flow_mod_refusals m k.forwarding.tables
+state_refusals (IsPacketOut m) k = packet_out_refusals m k.forwarding.groups
+state_refusals (IsFlowMod m) k = flow_mod_refusals m k.forwarding.tables k.forwarding.groups
 
 -- a FLOW_MOD does its command, with a notice of each entry that went
 abbrev pub flow_modded : FlowMod → Core → Done
 flow_modded m k = does (told Open (notice_effects k.forwarding.tables.latest (command_notices m k.forwarding.tables))) (with_tables (commanded m k.forwarding.tables) k)
+
+-- a GROUP_MOD adds a group, which was added at the latest moment, or gives one another kind and other buckets
+abbrev pub group_added : ℕ → GroupKind → List Bucket → Core → Done
+group_added id kind buckets k = does [] (with_groups (with_group (new_group id kind buckets k.forwarding.tables.latest) k.forwarding.groups) k)
+
+abbrev pub group_modified : ℕ → GroupKind → List Bucket → Core → Done
+group_modified id kind buckets k = does [] (with_groups (with_group (modified_group id kind buckets k.forwarding.groups) k.forwarding.groups) k)
+
+-- or deletes one or all, and the entries that name them, with a notice of each of these (6.5)
+abbrev pub groups_deleted : Option ℕ → Core → Done
+groups_deleted which k =
+    does (told Open (notice_effects k.forwarding.tables.latest (notices_in (Group which) k.forwarding.tables)))
+    (with_groups (left which k.forwarding.groups) (with_tables (left_in (Group which) k.forwarding.tables) k))
 
 -- a packet of the controller does its actions; it came in by no look-up
 abbrev pub packet_outed : PacketOut → Core → Done

@@ -2,13 +2,13 @@
 
 ghost use Rattle.std.specs.Prelude.{◌≡◌, OnOk, IfOk};
 ghost use Rattle.of_table.specs.Selecting.{notice_of, notices_of};
-ghost use Rattle.of_switch.specs.Commands.{flags_of, flow_of, has_flag as with_flag, is_strict as strict, notice_effect, notice_effects, out_of, removed_of, unless_any as none_for, which_of, wire_reason, names_a_group as some_group_named};
+ghost use Rattle.of_switch.specs.Commands.{flags_of, flow_of, has_flag as with_flag, is_strict as strict, notice_effect, notice_effects, out_of, removed_of, unless_any as none_for, which_of, wire_reason, are_astray as some_astray, is_astray as leads_astray};
 ghost use Rattle.std.specs.List.{list_any};
-ghost use Rattle.of_action_set.specs.Sets.{is_group as is_to_group};
 ghost use Rattle.of_table.specs.Selecting.{has_action};
 
 use crate::effect::{Effect, Effects};
 use of_actions::{Action, Instruction};
+use of_groups::Groups;
 use of_messages::{FlowMod, FlowModCommand, FlowRemoved, FlowRemovedReason, write_flow_removed};
 use of_table::{Flow, FlowFlags, Removed, RemovedReason, Which};
 use std::alloc::{AllocError, Global};
@@ -39,35 +39,40 @@ fn flags_from(flags: u16) -> FlowFlags
     }
 }
 
-fn is_group(action: Action) -> bool
-    ensures { result ≡ is_to_group action }
+fn is_astray(action: Action, groups: &Groups) -> bool
+    ensures { result ≡ leads_astray groups.now action }
 {
-    matches!(action, Action::Group(_))
-}
-
-/// Whether some action gives the packet to a group.
-pub fn has_group(actions: &[Action]) -> bool
-    ensures { result ≡ list_any is_to_group actions.now }
-{
-    actions.iter().any(|action| is_group(*action))
-}
-
-fn instruction_has_group(instruction: &Instruction) -> bool
-    ensures { result ≡ has_action is_to_group instruction.now }
-{
-    match instruction {
-        Instruction::Apply(actions) | Instruction::Write(actions) => has_group(actions.as_slice()),
+    match action {
+        Action::Group(group) => groups.group(group).is_none(),
         _ => false,
     }
 }
 
-/// Whether some action of the instructions gives the packet to a group.
-pub fn names_a_group(instructions: &[Instruction]) -> bool
-    ensures { result ≡ some_group_named instructions.now }
+/// Whether some action gives the packet to a group that is not there.
+pub fn any_astray(actions: &[Action], groups: &Groups) -> bool
+    ensures { result ≡ list_any (leads_astray groups.now) actions.now }
+{
+    actions.iter().any(|action| is_astray(*action, groups))
+}
+
+fn instruction_is_astray(instruction: &Instruction, groups: &Groups) -> bool
+    ensures { result ≡ has_action (leads_astray groups.now) instruction.now }
+{
+    match instruction {
+        Instruction::Apply(actions) | Instruction::Write(actions) => {
+            any_astray(actions.as_slice(), groups)
+        }
+        _ => false,
+    }
+}
+
+/// Whether some action of the instructions gives the packet to a group that is not there.
+pub fn are_astray(instructions: &[Instruction], groups: &Groups) -> bool
+    ensures { result ≡ some_astray groups.now instructions.now }
 {
     instructions
         .iter()
-        .any(|instruction| instruction_has_group(instruction))
+        .any(|instruction| instruction_is_astray(instruction, groups))
 }
 
 /// The flow that a FLOW_MOD adds.

@@ -11,20 +11,25 @@ ghost use Rattle.of_table.specs.Tables.{modified_in, left_in, notices_in, table_
 ghost use Rattle.of_actions.specs.FlowCheck.{all_go_with};
 ghost use Rattle.of_actions.specs.InstructionLists.{are_for};
 ghost use Rattle.of_messages.specs.Promised.{IsSoundFlowMod, IsSoundMessage, IsSoundPacket};
-ghost use Rattle.of_switch.specs.Commands.{names_a_group as names_some_group, packet_out_refusals, flow_mod_refusals, has_flag as with_flag, notice_effects, which_of};
+ghost use Rattle.of_switch.specs.Commands.{are_astray as some_astray, packet_out_refusals, flow_mod_refusals, has_flag as with_flag, notice_effects, which_of};
 ghost use Rattle.of_machine.specs.Sound.{IsSound};
 ghost use Rattle.of_switch.specs.Plane.{framed, winner_in, world_of};
 ghost use Rattle.of_switch.specs.DryRun.{GainsPrefix, steps_in};
+ghost use Rattle.of_groups.specs.Groups.{modified_group, new_group};
+ghost use Rattle.of_groups.specs.Faults.{add_fault, delete_fault, modify_fault};
+ghost use Rattle.of_switch.specs.GroupMods.{refused_for};
 ghost use Rattle.of_switch.specs.Handling.{Handles};
 ghost use Rattle.of_switch.specs.Loading.{loaded_tables};
-ghost use Rattle.of_switch.specs.Steps.{core_port_changed, does, done, flow_modded, forwarded, packet_outed, state_refusals, with_tables, moment_done};
+ghost use Rattle.of_switch.specs.Steps.{core_port_changed, does, done, flow_modded, forwarded, group_added, group_modified, groups_deleted, packet_outed, state_refusals, with_tables, moment_done};
 
-use crate::commands::{flow_from, has_flag, has_group, names_a_group, which_from};
+use crate::commands::{any_astray, are_astray, flow_from, has_flag, which_from};
 use crate::effect::{Effect, Effects};
 use crate::loading::load_tables;
 use crate::plane::{Plane, contains, put_port};
 use crate::port_change::PortChange;
+use of_actions::InstructionList;
 use of_classifier::Lookup;
+use of_groups::{Buckets, GroupFault, GroupKind};
 use of_headers::FieldKey;
 use of_machine::{Port, PortCounters, StepLog};
 use of_messages::{
@@ -69,7 +74,21 @@ impl From<AllocError> for Fault {
     }
 }
 
-/// The core of a switch: its flow tables and ports.
+impl From<GroupFault> for Fault {
+    ghost use Rattle.std.specs.Prelude.{◌≡◌};
+    ghost use Rattle.of_switch.specs.Handling.{fault_of};
+
+    ghost from_gives = { λ fault e. e ≡ fault_of fault };
+
+    fn from(fault: GroupFault) -> Fault {
+        match fault.code() {
+            Some(code) => Fault::Refused(code),
+            None => Fault::Memory,
+        }
+    }
+}
+
+/// The core of a switch: its flow tables, groups and ports.
 #[derive(Drop)]
 pub struct Engine<L: Lookup> {
     dpid: u64,
@@ -83,7 +102,7 @@ impl<L: Lookup> Model for Engine<L> {
 
     ghost Value = { Core };
 
-    ghost view = { λ e. record { dpid = e.dpid; forwarding = forwarding_of e.plane.tables e.plane.ports.items } };
+    ghost view = { λ e. record { dpid = e.dpid; forwarding = forwarding_of e.plane.tables e.plane.groups e.plane.ports.items } };
 }
 
 impl<L: Lookup> Engine<L> {
@@ -200,13 +219,13 @@ impl<L: Lookup> Engine<L> {
 
     fn packet_out(&mut self, packet_out: PacketOut) -> Result<Effects, Fault>
         requires { IsSoundPacket packet_out.packet }
-        ensures { Handles (first_of (packet_out_refusals packet_out)) (packet_outed packet_out self.old) self.old result self.new }
+        ensures { Handles (first_of (packet_out_refusals packet_out self.old.forwarding.groups)) (packet_outed packet_out self.old) self.old result self.new }
     {
         let PacketData::Frame(frame) = &packet_out.packet else {
             return Err(Fault::Refused(BUFFER_UNKNOWN));
         };
         let actions = packet_out.actions.as_slice();
-        if has_group(actions) {
+        if any_astray(actions, &self.plane.groups) {
             return Err(Fault::Refused(BAD_OUT_GROUP));
         }
         let plan = self
@@ -217,10 +236,10 @@ impl<L: Lookup> Engine<L> {
 
     fn flow_mod(&mut self, flow_mod: FlowMod) -> Result<Effects, Fault>
         requires { IsSoundFlowMod flow_mod }
-        ensures { Handles (first_of (flow_mod_refusals flow_mod self.old.forwarding.tables)) (flow_modded flow_mod self.old) self.old result self.new }
+        ensures { Handles (first_of (flow_mod_refusals flow_mod self.old.forwarding.tables self.old.forwarding.groups)) (flow_modded flow_mod self.old) self.old result self.new }
     {
         if !flow_mod.command.is_delete() {
-            if names_a_group(flow_mod.instructions.as_slice()) {
+            if self.is_astray(&flow_mod.instructions) {
                 return Err(Fault::Refused(BAD_OUT_GROUP));
             }
             if flow_mod.buffer != NO_BUFFER {
@@ -239,13 +258,20 @@ impl<L: Lookup> Engine<L> {
         }
     }
 
+    // Whether some action of the instructions gives the packet to a group that is not there.
+    fn is_astray(&self, instructions: &InstructionList) -> bool
+        ensures { result ≡ some_astray self.now.forwarding.groups instructions.now }
+    {
+        are_astray(instructions.as_slice(), &self.plane.groups)
+    }
+
     fn add_flow(&mut self, flow_mod: FlowMod) -> Result<Effects, Fault>
         requires add { flow_mod.command ≡ FlowModCommand.Add }
         requires buffer { flow_mod.buffer ≡ 0xffffffff }
-        requires group { names_some_group flow_mod.instructions ≡ false }
+        requires group { some_astray self.old.forwarding.groups flow_mod.instructions ≡ false }
         requires fit { are_for flow_mod.table flow_mod.instructions ≡ true }
         requires checked { all_go_with flow_mod.fields flow_mod.instructions ≡ true }
-        ensures { Handles (first_of (flow_mod_refusals flow_mod self.old.forwarding.tables)) (flow_modded flow_mod self.old) self.old result self.new }
+        ensures { Handles (first_of (flow_mod_refusals flow_mod self.old.forwarding.tables self.old.forwarding.groups)) (flow_modded flow_mod self.old) self.old result self.new }
     {
         match self.plane.tables.add(flow_mod.table, flow_from(flow_mod)) {
             Ok(()) => Ok(Effects::new(self.alloc)),
@@ -278,6 +304,34 @@ impl<L: Lookup> Engine<L> {
         let plan = self
             .plane
             .plan_removal(self.alloc, Phase::Open, cause, now)?;
+        Ok(self.plane.carry_out(plan))
+    }
+
+    // Adds a group at the latest moment.
+    fn add_group(&mut self, id: u32, kind: GroupKind, buckets: Buckets) -> Result<Effects, Fault>
+        ensures { Handles (first_of (refused_for (add_fault (new_group id kind buckets self.old.forwarding.tables.latest) self.old.forwarding.groups))) (group_added id kind buckets self.old) self.old result self.new }
+    {
+        let now = self.plane.tables.latest();
+        self.plane.groups.add(id, kind, buckets, now)?;
+        Ok(Effects::new(self.alloc))
+    }
+
+    fn modify_group(&mut self, id: u32, kind: GroupKind, buckets: Buckets) -> Result<Effects, Fault>
+        ensures { Handles (first_of (refused_for (modify_fault (modified_group id kind buckets self.old.forwarding.groups) self.old.forwarding.groups))) (group_modified id kind buckets self.old) self.old result self.new }
+    {
+        self.plane.groups.modify(id, kind, buckets)?;
+        Ok(Effects::new(self.alloc))
+    }
+
+    // Deletes a group or all, and the entries that name them: what needs memory comes first.
+    fn delete_groups(&mut self, which: Option<u32>) -> Result<Effects, Fault>
+        ensures { Handles (first_of (refused_for (delete_fault which self.old.forwarding.groups))) (groups_deleted which self.old) self.old result self.new }
+    {
+        let now = self.plane.tables.latest();
+        let plan = self
+            .plane
+            .plan_removal(self.alloc, Phase::Open, Cause::Group(which), now)?;
+        self.plane.groups.delete(which)?;
         Ok(self.plane.carry_out(plan))
     }
 

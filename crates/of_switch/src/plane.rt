@@ -1,8 +1,9 @@
-//! What forwards frames: the flow tables and the ports.
+//! What forwards frames: the flow tables, the groups and the ports.
 ghost use Rattle.std.specs.Prelude.{◌≡◌, ◌≤◌, IfOk, OnOk, OnErr, length};
 ghost use Rattle.of_machine.specs.Ports.{port_at};
 ghost use Rattle.of_table.specs.Tables.{all_numbers, tables_of, looked_in, matched_in};
-ghost use Rattle.of_switch.specs.Ports.{all_counted, counted, has_port, plus, tally, with_port};
+ghost use Rattle.of_groups.specs.Sound.{AreSound};
+ghost use Rattle.of_switch.specs.Ports.{all_counted, counted, has_port, is_live_port, plus, tally, with_port};
 ghost use Rattle.std.specs.Prelude.{nat_lt};
 ghost use Rattle.std.specs.List.{position_or_len};
 ghost use Rattle.std.specs.Prelude.{IsTrue, true, [], ◌∷◌};
@@ -22,10 +23,10 @@ use crate::plan::{Change, Plan, Reception};
 use crate::told::{effects_from, is_told};
 use of_actions::Action;
 use of_classifier::Lookup;
+use of_groups::{Chosen, Groups, LivePorts};
 use of_headers::{FieldKey, check_length};
 use of_machine::{
-    Chosen, Count, Counts, NoLog, Outcome, Packet, PacketFrame, Port, PortCounters, World, run,
-    run_actions,
+    Count, Counts, NoLog, Outcome, Packet, PacketFrame, Port, PortCounters, World, run, run_actions,
 };
 use of_session::Phase;
 use of_table::{Cause, Flow, FlowTables};
@@ -49,10 +50,11 @@ pub enum PortCount {
 /// How many flow tables there are.
 pub const TABLES: usize = 16;
 
-/// The flow tables and the ports.
+/// The flow tables, the groups and the ports.
 #[derive(Drop)]
 pub struct Plane<L: Lookup> {
     pub tables: FlowTables<L>,
+    pub groups: Groups,
     pub ports: Vec<Port>,
 }
 
@@ -151,12 +153,36 @@ pub fn find_port(ports: &[Port], number: u32) -> Option<Port>
     ports.iter().copied().find(|port| port.number == number)
 }
 
+/// The ports, as groups see them.
+#[derive(Drop)]
+struct SeenPorts<'a> {
+    ports: &'a [Port],
+}
+
+impl LivePorts for SeenPorts<'_> {
+    ghost live = { λ p. is_live_port p.ports.now };
+
+    fn is_live(&self, port: u32) -> bool {
+        match find_port(self.ports, port) {
+            Some(port) => port.is_link_up,
+            None => false,
+        }
+    }
+}
+
+/// What holds of the groups at all times.
+pub fn known_groups(groups: &Groups)
+    ensures { AreSound groups.now }
+{
+    groups.groups();
+}
+
 impl<L: Lookup> World for Plane<L> {
-    ghost view = { λ p. numbered_world p.tables p.ports.items };
+    ghost view = { λ p. numbered_world p.tables p.groups p.ports.items };
 
     ghost Content = { Contents };
 
-    ghost content = { λ p. contents p.tables p.ports.items };
+    ghost content = { λ p. contents p.tables p.groups p.ports.items };
 
     fn find(&mut self, table: u8, key: &FieldKey) -> Option<usize> {
         self.tables.known();
@@ -172,13 +198,13 @@ impl<L: Lookup> World for Plane<L> {
         self.tables.flow(table, number)
     }
 
-    // There are no groups so far.
-    fn chosen(&self, _group: u32) -> Option<Chosen> {
-        None
+    fn chosen(&self, group: u32) -> Option<Chosen> {
+        let ports = SeenPorts { ports: &self.ports };
+        self.groups.buckets_for(group, &ports)
     }
 
-    fn bucket(&self, _group: u32, _place: u8) -> &[Action] {
-        &[]
+    fn bucket(&self, group: u32, place: u8) -> &[Action] {
+        self.groups.bucket(group, place)
     }
 
     fn ports(&self) -> &[Port] {
@@ -187,16 +213,18 @@ impl<L: Lookup> World for Plane<L> {
 
     fn known(&self) {
         self.tables.known();
+        known_groups(&self.groups);
     }
 }
 
 impl<L: Lookup> Plane<L> {
-    /// Without flows and ports.
+    /// Without flows, groups and ports.
     pub fn new(alloc: Global) -> Result<Self, AllocError>
-        ensures { IfOk result (λ p. forwarding_of p.tables p.ports.items ≡ idle) }
+        ensures { IfOk result (λ p. forwarding_of p.tables p.groups p.ports.items ≡ idle) }
     {
         Ok(Plane {
             tables: FlowTables::new(alloc)?,
+            groups: Groups::new(alloc),
             ports: Vec::new(alloc),
         })
     }
@@ -209,8 +237,8 @@ impl<L: Lookup> Plane<L> {
         number: u32,
         bytes: &[u8],
     ) -> Result<Plan, AllocError>
-        ensures kept { contents self.new.tables self.new.ports.items ≡ contents self.old.tables self.old.ports.items }
-        ensures plan { IfOk result (λ plan. framed phase number bytes.now (forwarding_of self.old.tables self.old.ports.items) ≡ planned plan self.old.tables self.old.ports.items) }
+        ensures kept { contents self.new.tables self.new.groups self.new.ports.items ≡ contents self.old.tables self.old.groups self.old.ports.items }
+        ensures plan { IfOk result (λ plan. framed phase number bytes.now (forwarding_of self.old.tables self.old.groups self.old.ports.items) ≡ planned plan self.old.tables self.old.groups self.old.ports.items) }
     {
         let Some(port) = find_port(&self.ports, number) else {
             return Ok(no_change(alloc));
@@ -234,8 +262,8 @@ impl<L: Lookup> Plane<L> {
     ) -> Result<Plan, AllocError>
         requires long { 14 ≤ length bytes.now }
         requires most { length bytes.now ≤ 9216 }
-        ensures kept { contents self.new.tables self.new.ports.items ≡ contents self.old.tables self.old.ports.items }
-        ensures plan { IfOk result (λ plan. received phase number bytes.now (forwarding_of self.old.tables self.old.ports.items) ≡ planned plan self.old.tables self.old.ports.items) }
+        ensures kept { contents self.new.tables self.new.groups self.new.ports.items ≡ contents self.old.tables self.old.groups self.old.ports.items }
+        ensures plan { IfOk result (λ plan. received phase number bytes.now (forwarding_of self.old.tables self.old.groups self.old.ports.items) ≡ planned plan self.old.tables self.old.groups self.old.ports.items) }
     {
         self.tables.known();
         let packet = Packet::new(PacketFrame::new(bytes), number);
@@ -258,8 +286,8 @@ impl<L: Lookup> Plane<L> {
         requires long { 14 ≤ length bytes.now }
         requires most { length bytes.now ≤ 9216 }
         requires served { IsTrue (are_served true actions.now) }
-        ensures kept { contents self.new.tables self.new.ports.items ≡ contents self.old.tables self.old.ports.items }
-        ensures plan { IfOk result (λ plan. through Phase.Open (entering bytes.now in_port) (acts actions.now) (forwarding_of self.old.tables self.old.ports.items) ≡ planned plan self.old.tables self.old.ports.items) }
+        ensures kept { contents self.new.tables self.new.groups self.new.ports.items ≡ contents self.old.tables self.old.groups self.old.ports.items }
+        ensures plan { IfOk result (λ plan. through Phase.Open (entering bytes.now in_port) (acts actions.now) (forwarding_of self.old.tables self.old.groups self.old.ports.items) ≡ planned plan self.old.tables self.old.groups self.old.ports.items) }
     {
         self.tables.known();
         let packet = Packet::new(PacketFrame::new(bytes), in_port);
@@ -275,7 +303,8 @@ impl<L: Lookup> Plane<L> {
         cause: Cause,
         now: u64,
     ) -> Result<Plan, AllocError>
-        ensures { IfOk result (λ plan. planned plan self.now.tables self.now.ports.items ≡ forwards (told phase (notice_effects now (notices_in cause (tables_of self.now.tables)))) (record (forwarding_of self.now.tables self.now.ports.items) { tables = left_in cause (tables_of self.now.tables) })) }
+        ensures change { IfOk result (λ plan. plan.change ≡ Change.Removal cause) }
+        ensures plan { IfOk result (λ plan. planned plan self.now.tables self.now.groups self.now.ports.items ≡ forwards (told phase (notice_effects now (notices_in cause (tables_of self.now.tables)))) (record (forwarding_of self.now.tables self.now.groups self.now.ports.items) { tables = left_in cause (tables_of self.now.tables) })) }
     {
         let effects = if is_told(phase) {
             notices(alloc, &self.tables.listed(&cause)?, now)?
@@ -291,7 +320,7 @@ impl<L: Lookup> Plane<L> {
     /// Does what was planned, and answers what it gives.
     pub fn carry_out(&mut self, plan: Plan) -> Effects
         ensures effects { result.items ≡ plan.effects.items }
-        ensures forwarding { forwarding_of self.new.tables self.new.ports.items ≡ (planned plan self.old.tables self.old.ports.items).forwarding }
+        ensures forwarding { forwarding_of self.new.tables self.new.groups self.new.ports.items ≡ (planned plan self.old.tables self.old.groups self.old.ports.items).forwarding }
     {
         let Plan { effects, change } = plan;
         match &change {
@@ -304,7 +333,7 @@ impl<L: Lookup> Plane<L> {
 
     // Counts the reception of a frame, and what a packet's run counted and sent.
     fn count(&mut self, reception: Option<Reception>, counts: &[Count], effects: &[Effect])
-        ensures { forwarding_of self.new.tables self.new.ports.items ≡ all_sent effects.now (all_tallied (all_placed self.old.tables counts.now) (with_reception reception (forwarding_of self.old.tables self.old.ports.items))) }
+        ensures { forwarding_of self.new.tables self.new.groups self.new.ports.items ≡ all_sent effects.now (all_tallied (all_placed self.old.tables counts.now) (with_reception reception (forwarding_of self.old.tables self.old.groups self.old.ports.items))) }
     {
         if let Some(Reception { port, what }) = reception {
             count_at(&mut self.ports, port, what);
@@ -315,7 +344,7 @@ impl<L: Lookup> Plane<L> {
 
     // Counts what a run counted.
     fn tally_all(&mut self, counts: &[Count])
-        ensures { forwarding_of self.new.tables self.new.ports.items ≡ all_tallied (all_placed self.old.tables counts.now) (forwarding_of self.old.tables self.old.ports.items) }
+        ensures { forwarding_of self.new.tables self.new.groups self.new.ports.items ≡ all_tallied (all_placed self.old.tables counts.now) (forwarding_of self.old.tables self.old.groups self.old.ports.items) }
     {
         for count in counts {
             self.tally(count);
@@ -323,7 +352,7 @@ impl<L: Lookup> Plane<L> {
     }
 
     fn tally(&mut self, count: &Count)
-        ensures forwarding { forwarding_of self.new.tables self.new.ports.items ≡ tallied (placed self.old.tables count.now) (forwarding_of self.old.tables self.old.ports.items) }
+        ensures forwarding { forwarding_of self.new.tables self.new.groups self.new.ports.items ≡ tallied (placed self.old.tables count.now) (forwarding_of self.old.tables self.old.groups self.old.ports.items) }
         ensures numbers { all_numbers self.new.tables ≡ all_numbers self.old.tables }
     {
         match *count {
@@ -334,12 +363,17 @@ impl<L: Lookup> Plane<L> {
                 bytes,
             } => self.matched(table, number, bytes),
             Count::TxDropped(port) => count_at(&mut self.ports, port, PortCount::SendDropped),
-            Count::Group { .. } | Count::Bucket { .. } => {}
+            Count::Group { group, bytes } => self.groups.count(group, bytes),
+            Count::Bucket {
+                group,
+                place,
+                bytes,
+            } => self.groups.count_bucket(group, place, bytes),
         }
     }
 
     fn looked(&mut self, table: u8)
-        ensures forwarding { forwarding_of self.new.tables self.new.ports.items ≡ record (forwarding_of self.old.tables self.old.ports.items) { tables = looked_in table (tables_of self.old.tables) } }
+        ensures forwarding { forwarding_of self.new.tables self.new.groups self.new.ports.items ≡ record (forwarding_of self.old.tables self.old.groups self.old.ports.items) { tables = looked_in table (tables_of self.old.tables) } }
         ensures numbers { all_numbers self.new.tables ≡ all_numbers self.old.tables }
     {
         self.tables.known();
@@ -349,7 +383,7 @@ impl<L: Lookup> Plane<L> {
     }
 
     fn matched(&mut self, table: u8, number: usize, bytes: usize)
-        ensures forwarding { forwarding_of self.new.tables self.new.ports.items ≡ record (forwarding_of self.old.tables self.old.ports.items) { tables = matched_in table (place_in self.old.tables table number) bytes (tables_of self.old.tables) } }
+        ensures forwarding { forwarding_of self.new.tables self.new.groups self.new.ports.items ≡ record (forwarding_of self.old.tables self.old.groups self.old.ports.items) { tables = matched_in table (place_in self.old.tables table number) bytes (tables_of self.old.tables) } }
         ensures numbers { all_numbers self.new.tables ≡ all_numbers self.old.tables }
     {
         self.tables.known();
@@ -360,7 +394,7 @@ impl<L: Lookup> Plane<L> {
 
     // Counts what is sent.
     fn count_sent(&mut self, effects: &[Effect])
-        ensures { forwarding_of self.new.tables self.new.ports.items ≡ all_sent effects.now (forwarding_of self.old.tables self.old.ports.items) }
+        ensures { forwarding_of self.new.tables self.new.groups self.new.ports.items ≡ all_sent effects.now (forwarding_of self.old.tables self.old.groups self.old.ports.items) }
     {
         for effect in effects {
             self.count_effect(effect);
@@ -368,7 +402,7 @@ impl<L: Lookup> Plane<L> {
     }
 
     fn count_effect(&mut self, effect: &Effect)
-        ensures { forwarding_of self.new.tables self.new.ports.items ≡ sent effect.now (forwarding_of self.old.tables self.old.ports.items) }
+        ensures { forwarding_of self.new.tables self.new.groups self.new.ports.items ≡ sent effect.now (forwarding_of self.old.tables self.old.groups self.old.ports.items) }
     {
         match effect {
             Effect::Sent { port, frame } => {

@@ -63,7 +63,7 @@ impl<L: Lookup> Model for Switch<L> {
 }
 
 impl<L: Lookup> Switch<L> {
-    /// A switch of that number (OpenFlow 1.3.5, 7.3.1), without a connection, flows and ports.
+    /// A switch of that number (OpenFlow 1.3.5, 7.3.1), without a connection, flows, groups and ports.
     pub fn new(alloc: Global, dpid: u64) -> Result<Self, AllocError>
         ensures { IfOk result (λ s. s ≡ start dpid) }
     {

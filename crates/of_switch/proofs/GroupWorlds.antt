@@ -1,0 +1,55 @@
+-- The groups as the machine sees them.
+use Rattle.std.proofs.Common.{◌≡◌, ℕ, ◌<◌, Bool, true, false, eqb, List, [], ◌∷◌, Option, Some, None, Bor, refl, ◌∙◌}
+use Rattle.std.specs.List.{list_any}
+use Rattle.std.specs.Prelude.{not}
+use Rattle.std.specs.Option.{option_copied, is_some}
+use Rattle.std.proofs.lemmas.Bool.{eq-eqb}
+use Rattle.of_actions.specs.declared.action.Action.{Action}
+use Rattle.of_actions.specs.declared.action.Action.TheVariants.{Output, PushVlan, PopVlan, Group as ToGroup, SetNwTtl, DecNwTtl, SetField}
+use Rattle.of_groups.specs.declared.group.Group.{Group}
+use Rattle.of_groups.specs.Buckets.{sends}
+use Rattle.of_groups.specs.Groups.{bucket_at, find_group}
+use Rattle.of_groups.specs.Chains.{chain}
+use Rattle.of_groups.specs.Faults.{is_absent}
+use Rattle.of_groups.proofs.ChainLemmas.{there_found}
+use Rattle.of_groups.proofs.NameLemmas.{or_first, or_true}
+use Rattle.of_groups.proofs.WorldLemmas.{IsServed, AllServed}
+use Rattle.of_machine.specs.TheWorld.{TheWorld}
+use Rattle.of_machine.specs.Sound.{IsBelow, AllBelow, IsBucket, AllBuckets}
+
+-- a group that is not found is not there
+pub none_absent : (n : ℕ) (groups : List Group) (found : Option (Bor Group)) (none : Bool) → is_some found ≡ not none → option_copied found ≡ find_group n groups → none ≡ is_absent groups n
+none_absent n groups None true told e = rw (there_found n groups, ← e) refl
+none_absent n groups None false told e = absurd cc
+none_absent n groups (Some g) true told e = absurd cc
+none_absent n groups (Some g) false told e = rw (there_found n groups, ← e) refl
+
+module _ (w : TheWorld) (groups : List Group) (chains : (g : ℕ) → w.chain g ≡ chain groups g) (buckets : (g place : ℕ) → w.bucket g place ≡ bucket_at groups g place) where
+  below_one : (n : ℕ) (a : Action) → ((m : ℕ) → sends (λ k. eqb k m) a ≡ true → chain groups m < chain groups n) → IsBelow w (w.chain n) a
+  below_one n (Output port max_len) h = tt
+  below_one n (PushVlan type) h = tt
+  below_one n PopVlan h = tt
+  below_one n (ToGroup g) h = rw (chains g, chains n) (h g (eq-eqb g g refl))
+  below_one n (SetNwTtl ttl) h = tt
+  below_one n DecNwTtl h = tt
+  below_one n (SetField field value) h = tt
+
+  all_below : (n : ℕ) (actions : List Action) → ((m : ℕ) → list_any (sends (λ k. eqb k m)) actions ≡ true → chain groups m < chain groups n) → AllBelow w (w.chain n) actions
+  all_below n [] h = tt
+  all_below n (a ∷ rest) h = (
+    below_one n a (λ m s. h m (or_first (sends (λ k. eqb k m) a) (list_any (sends (λ k. eqb k m)) rest) s)),
+    all_below n rest (λ m s. h m (or_true (sends (λ k. eqb k m) a) (list_any (sends (λ k. eqb k m)) rest) s)),
+  )
+
+  is_bucket : (n place : ℕ) → IsServed groups n place → IsBucket w n place
+  is_bucket n place s = record {
+    actions = s.actions;
+    there = buckets n place ∙ s.there;
+    served = s.served;
+    below = all_below n s.actions s.below;
+  }
+
+  -- what groups serve is what a world promises
+  pub are_buckets : (n : ℕ) (places : List ℕ) → AllServed groups n places → AllBuckets w n places
+  are_buckets n [] s = tt
+  are_buckets n (place ∷ rest) s = (is_bucket n place s.0, are_buckets n rest s.1)
