@@ -3,7 +3,7 @@ use Rattle.std.proofs.Common.{◌≡◌, ℕ, ◌≤◌, List, length, sym, ap, 
 use Rattle.std.proofs.lemmas.List.Elements.{All-weaker}
 use Rattle.of_table.specs.Tables.{NumberedTables}
 use Rattle.of_groups.specs.declared.group.Group.{Group}
-use Rattle.of_machine.specs.declared.port.Port.{Port}
+use Rattle.of_ports.specs.declared.port.Port.{Port}
 use Rattle.of_machine.specs.declared.data.Item.{Item}
 use Rattle.of_machine.specs.declared.data.Count.{Count}
 use Rattle.of_machine.specs.declared.data.Packet.{Packet}

@@ -5,7 +5,8 @@ use Rattle.of_switch.specs.declared.switch_error.SwitchError.{SwitchError}
 use Rattle.of_switch.specs.declared.switch_error.SwitchError.TheVariants.{NoMemory, NotConnected, Connected, PortExists, TooManyPorts, BadPortNumber}
 use Rattle.of_switch.specs.declared.port_change.PortChange.{PortChange}
 use Rattle.of_switch.specs.declared.port_change.PortChange.TheVariants.{Add}
-use Rattle.of_switch.specs.Ports.{has_port, is_number}
+use Rattle.of_actions.specs.PortNumbers.{is_number}
+use Rattle.of_ports.specs.Ports.{has_port}
 use Rattle.of_switch.specs.State.{State}
 
 -- the numbers of the refusals; 2 is no longer used

@@ -1,4 +1,3 @@
-pub mod Ports
 pub mod Told
 pub mod Plane
 pub mod Numbers

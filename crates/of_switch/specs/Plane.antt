@@ -10,17 +10,16 @@ use Rattle.of_groups.specs.declared.group.Group.{Group}
 use Rattle.of_groups.specs.Groups.{bucket_at, counted, bucket_counted}
 use Rattle.of_groups.specs.Chains.{chain}
 use Rattle.of_groups.specs.Liveness.{chosen}
-use Rattle.of_machine.specs.declared.port.Port.{Port}
+use Rattle.of_ports.specs.declared.port.Port.{Port}
 use Rattle.of_machine.specs.declared.data.Count.{Count}
 use Rattle.of_machine.specs.declared.data.Count.TheVariants.{Lookup, Matched, TxDropped, Group as GroupUse, Bucket}
 use Rattle.of_machine.specs.declared.data.Packet.{Packet}
-use Rattle.of_machine.specs.Ports.{port_at}
 use Rattle.of_machine.specs.TheWorld.{TheWorld}
 use Rattle.of_machine.specs.Rows.{Work, Lookup as LookUp, entering}
 use Rattle.of_machine.specs.Runs.{Machine, run_of}
-use Rattle.of_switch.specs.declared.plane.PortCount.{PortCount}
-use Rattle.of_switch.specs.declared.plane.PortCount.TheVariants.{Received, ReceiveDropped, ReceiveError, Sent as SentBytes, SendDropped}
-use Rattle.of_switch.specs.Ports.{all_counted, is_live_port}
+use Rattle.of_ports.specs.declared.counters.PortCount.{PortCount}
+use Rattle.of_ports.specs.declared.counters.PortCount.TheVariants.{Received, ReceiveDropped, ReceiveError, Sent as SentBytes, SendDropped}
+use Rattle.of_ports.specs.Ports.{all_counted, is_live_at, may_receive, port_at}
 use Rattle.of_session.specs.declared.session.Phase.{Phase}
 use Rattle.of_switch.specs.declared.effect.Effect.{Effect}
 use Rattle.of_switch.specs.declared.effect.Effect.TheVariants.{Answer, Sent, Closed}
@@ -49,7 +48,7 @@ abbrev pub flow_in : Forwarding → ℕ → ℕ → Option Flow
 flow_in f t place = flow_at place (table_at t f.tables).flows
 
 abbrev pub world_of : Forwarding → TheWorld
-world_of f = record { winner = winner_in f; flow = flow_in f; chosen = chosen f.groups (is_live_port f.ports); bucket = bucket_at f.groups; ports = f.ports; chain = chain f.groups }
+world_of f = record { winner = winner_in f; flow = flow_in f; chosen = chosen f.groups (is_live_at f.ports); bucket = bucket_at f.groups; ports = f.ports; chain = chain f.groups }
 
 -- WHAT A RUN LEAVES
 
@@ -104,10 +103,10 @@ abbrev pub taken_in : Phase → ℕ → List ℕ → Forwarding → Option Frame
 taken_in phase number bytes f (Some fault) = forwards [] (count_port number ReceiveError f)
 taken_in phase number bytes f None = received phase number bytes f
 
--- at a port that is not there nothing happens; at one whose link is down the frame is dropped
+-- at a port that is not there nothing happens; at one that may not receive the frame is dropped
 abbrev pub arriving : Phase → ℕ → List ℕ → Forwarding → Option Port → Forwarded
 arriving phase number bytes f None = forwards [] f
-arriving phase number bytes f (Some p) = if p.is_link_up then taken_in phase number bytes f (frame_fault bytes) else forwards [] (count_port number ReceiveDropped f)
+arriving phase number bytes f (Some p) = if may_receive p then taken_in phase number bytes f (frame_fault bytes) else forwards [] (count_port number ReceiveDropped f)
 
 abbrev pub framed : Phase → ℕ → List ℕ → Forwarding → Forwarded
 framed phase number bytes f = arriving phase number bytes f (port_at f.ports number)

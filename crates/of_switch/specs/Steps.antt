@@ -25,7 +25,8 @@ use Rattle.of_switch.specs.declared.effect.Effect.{Effect}
 use Rattle.of_switch.specs.declared.effect.Effect.TheVariants.{Answer, Closed}
 use Rattle.of_switch.specs.declared.port_change.PortChange.{PortChange}
 use Rattle.of_switch.specs.declared.port_change.PortChange.TheVariants.{Add}
-use Rattle.of_switch.specs.Ports.{new_port, with_port}
+use Rattle.of_ports.specs.declared.port.Port.{Port}
+use Rattle.of_ports.specs.Ports.{new_port, with_port}
 use Rattle.of_switch.specs.Plane.{Forwarded, framed, through}
 use Rattle.of_switch.specs.State.{Core, State}
 
@@ -40,6 +41,9 @@ does effects k = record { effects = effects; core = k }
 
 abbrev pub with_tables : Tables → Core → Core
 with_tables ts k = record k { forwarding = record k.forwarding { tables = ts } }
+
+abbrev pub with_ports : List Port → Core → Core
+with_ports ports k = record k { forwarding = record k.forwarding { ports = ports } }
 
 abbrev pub with_groups : List AGroup → Core → Core
 with_groups groups k = record k { forwarding = record k.forwarding { groups = groups } }
@@ -177,7 +181,7 @@ moment_in now s = beside s.connection (moment_done s.connection.phase now s.core
 -- A PORT
 
 abbrev pub core_port_changed : PortChange → Core → Core
-core_port_changed (Add number hw name up) k = record k { forwarding = record k.forwarding { ports = with_port (new_port number hw name up) k.forwarding.ports } }
+core_port_changed (Add number hw name up) k = with_ports (with_port (new_port number hw name up k.forwarding.tables.latest) k.forwarding.ports) k
 
 abbrev pub port_changed : PortChange → State → State
 port_changed change s = record s { core = core_port_changed change s.core }

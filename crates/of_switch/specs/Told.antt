@@ -29,13 +29,13 @@ packet_in_reason reason.InvalidTtl = wire.InvalidTtl
 -- a message that the switch begins has the transaction id 0
 abbrev pub effect_of : Item → Effect
 effect_of (item.Sent port frame) = Sent port frame
-effect_of (item.PacketIn reason table cookie ingress metadata frame) =
-    Answer (packet_in_bytes 0 (record { reason = packet_in_reason reason; table = table; cookie = cookie; in_port = ingress; metadata = metadata }) frame)
+effect_of (item.PacketIn p) =
+    Answer (packet_in_bytes 0 (record { reason = packet_in_reason p.reason; table = p.table; cookie = p.cookie; in_port = p.ingress; metadata = p.metadata }) p.frame)
 
 -- a frame always leaves
 abbrev pub is_given : Phase → Item → Bool
 is_given phase (item.Sent port frame) = true
-is_given phase (item.PacketIn reason table cookie ingress metadata frame) = is_told phase
+is_given phase (item.PacketIn p) = is_told phase
 
 abbrev pub effects_of : Phase → List Item → List Effect
 effects_of phase items = map effect_of (filter (is_given phase) items)

@@ -2,7 +2,7 @@
 ghost use Rattle.std.specs.Prelude.{◌≡◌, ◌<◌, ◌∷◌, ◌++◌, [], true, false, IfOk, OnOk, OnErr, length};
 ghost use Rattle.of_wire.specs.Refusals.{first_of};
 ghost use Rattle.of_switch.specs.State.{new_core};
-ghost use Rattle.of_switch.specs.Ports.{has_port, no_counters as zero_counters};
+ghost use Rattle.of_ports.specs.Ports.{has_port, new_port, with_port};
 ghost use Rattle.of_headers.specs.FieldMap.{value};
 ghost use Rattle.std.specs.Prelude.{slice_get};
 ghost use Rattle.std.specs.Option.{option_map};
@@ -20,21 +20,21 @@ ghost use Rattle.of_groups.specs.Faults.{add_fault, delete_fault, modify_fault};
 ghost use Rattle.of_switch.specs.GroupMods.{refused_for};
 ghost use Rattle.of_switch.specs.Handling.{Handles};
 ghost use Rattle.of_switch.specs.Loading.{loaded_tables};
-ghost use Rattle.of_switch.specs.Steps.{core_port_changed, does, done, flow_modded, forwarded, group_added, group_modified, groups_deleted, packet_outed, state_refusals, with_tables, moment_done};
+ghost use Rattle.of_switch.specs.Steps.{does, done, flow_modded, forwarded, group_added, group_modified, groups_deleted, packet_outed, state_refusals, with_ports, with_tables, moment_done};
 
 use crate::commands::{any_astray, are_astray, flow_from, has_flag, which_from};
 use crate::effect::{Effect, Effects};
 use crate::loading::load_tables;
-use crate::plane::{Plane, contains, put_port};
-use crate::port_change::PortChange;
+use crate::plane::Plane;
 use of_actions::InstructionList;
 use of_classifier::Lookup;
 use of_groups::{Buckets, GroupFault, GroupKind};
 use of_headers::FieldKey;
-use of_machine::{Port, PortCounters, StepLog};
+use of_machine::StepLog;
 use of_messages::{
     FlowMod, FlowModCommand, Message, PacketData, PacketOut, write_barrier_reply, write_echo_reply,
 };
+use of_ports::Port;
 use of_session::Phase;
 use of_table::{Cause, Entry, TableFault};
 use of_text::Config;
@@ -102,7 +102,7 @@ impl<L: Lookup> Model for Engine<L> {
 
     ghost Value = { Core };
 
-    ghost view = { λ e. record { dpid = e.dpid; forwarding = forwarding_of e.plane.tables e.plane.groups e.plane.ports.items } };
+    ghost view = { λ e. record { dpid = e.dpid; forwarding = forwarding_of e.plane.tables e.plane.groups e.plane.ports } };
 }
 
 impl<L: Lookup> Engine<L> {
@@ -119,7 +119,7 @@ impl<L: Lookup> Engine<L> {
     pub fn has_port(&self, number: u32) -> bool
         ensures { result ≡ has_port number self.now.forwarding.ports }
     {
-        contains(&self.plane.ports, number)
+        self.plane.ports.contains(number)
     }
 
     pub fn count_ports(&self) -> usize
@@ -128,27 +128,22 @@ impl<L: Lookup> Engine<L> {
         self.plane.ports.len()
     }
 
-    pub fn change_port(&mut self, change: PortChange) -> Result<(), AllocError>
-        ensures ok { OnOk result (self.new ≡ core_port_changed change self.old) }
+    /// A port is added, at the latest moment.
+    pub fn add_port(
+        &mut self,
+        number: u32,
+        hw: [u8; 6],
+        name: [u8; 16],
+        is_up: bool,
+    ) -> Result<(), AllocError>
+        requires new { has_port number self.old.forwarding.ports ≡ false }
+        requires room { length self.old.forwarding.ports < 64 }
+        ensures ok { OnOk result (self.new ≡ with_ports (with_port (new_port number hw name is_up self.old.forwarding.tables.latest) self.old.forwarding.ports) self.old) }
         ensures err { OnErr result (self.new ≡ self.old) }
     {
-        match change {
-            PortChange::Add {
-                number,
-                hw,
-                name,
-                up,
-            } => {
-                let port = Port {
-                    number,
-                    hw,
-                    name,
-                    is_link_up: up,
-                    counters: no_counters(),
-                };
-                put_port(&mut self.plane.ports, port)
-            }
-        }
+        let created = self.plane.tables.latest();
+        let port = Port::new(number, hw, name, is_up, created);
+        self.plane.ports.add(port)
     }
 
     /// A frame comes in by a port, while the connection stands there.
@@ -354,20 +349,6 @@ impl<L: Lookup> Engine<L> {
             .plane
             .plan_removal(self.alloc, phase, Cause::Moment(nanos), now)?;
         Ok(self.plane.carry_out(plan))
-    }
-}
-
-fn no_counters() -> PortCounters
-    ensures { result ≡ zero_counters }
-{
-    PortCounters {
-        rx_packets: 0,
-        tx_packets: 0,
-        rx_bytes: 0,
-        tx_bytes: 0,
-        rx_dropped: 0,
-        tx_dropped: 0,
-        rx_errors: 0,
     }
 }
 

@@ -22,19 +22,18 @@ use crate::engine::{Engine, Fault, one};
 use crate::event::{Event, Report};
 use crate::port_change::PortChange;
 use crate::switch_error::SwitchError;
+use of_actions::is_number;
 use of_classifier::Lookup;
 use of_headers::FieldKey;
 use of_machine::StepLog;
 use of_messages::{MessageBytes, write_error, write_hello};
+use of_ports::MOST_PORTS;
 use of_session::{Next, Phase, Session};
 use of_table::Entry;
 use of_text::Config;
 use of_wire::Code;
 use std::alloc::{AllocError, Global};
 use std::marker::Model;
-
-/// How many ports a switch has at most.
-const MOST_PORTS: usize = 64;
 
 /// How many bytes of a message an ERROR gives back at most (OpenFlow 1.3.5, 7.4.4).
 const ERROR_DATA: usize = 64;
@@ -218,8 +217,13 @@ impl<L: Lookup> Switch<L> {
     pub fn port_change(&mut self, change: PortChange) -> Result<(), SwitchError>
         ensures { Call (port_refusal change self.old) (λ _ new. new ≡ port_changed change self.old) self.old result self.new }
     {
-        let PortChange::Add { number, .. } = change;
-        if number == 0 || number > 0xffff_ff00 {
+        let PortChange::Add {
+            number,
+            hw,
+            name,
+            up,
+        } = change;
+        if !is_number(number) {
             return Err(SwitchError::BadPortNumber);
         }
         if self.engine.has_port(number) {
@@ -228,7 +232,7 @@ impl<L: Lookup> Switch<L> {
         if self.engine.count_ports() >= MOST_PORTS {
             return Err(SwitchError::TooManyPorts);
         }
-        Ok(self.engine.change_port(change)?)
+        Ok(self.engine.add_port(number, hw, name, up)?)
     }
 
     /// The flows of a configuration take the place of those in the flow tables, without notices.

@@ -32,7 +32,7 @@ fn is_given(phase: Phase, item: &Item) -> bool
 {
     match item {
         Item::Sent { .. } => true,
-        Item::PacketIn { .. } => is_told(phase),
+        Item::PacketIn(_) => is_told(phase),
     }
 }
 
@@ -42,22 +42,15 @@ fn effect_from(alloc: Global, item: Item) -> Result<Effect, AllocError>
 {
     match item {
         Item::Sent { port, frame } => Ok(Effect::Sent { port, frame }),
-        Item::PacketIn {
-            reason,
-            table,
-            cookie,
-            ingress,
-            metadata,
-            frame,
-        } => {
-            let packet = PacketIn {
-                reason: reason_from(reason),
-                table,
-                cookie,
-                in_port: ingress,
-                metadata,
+        Item::PacketIn(packet) => {
+            let told = PacketIn {
+                reason: reason_from(packet.reason),
+                table: packet.table,
+                cookie: packet.cookie,
+                in_port: packet.ingress,
+                metadata: packet.metadata,
             };
-            Ok(Effect::Answer(write_packet_in(alloc, 0, &packet, frame.as_slice())?))
+            Ok(Effect::Answer(write_packet_in(alloc, 0, &told, packet.frame.as_slice())?))
         }
     }
 }
