@@ -84,19 +84,19 @@ pub record Forwarded : Type 0 where
 abbrev pub forwards : List Effect → Forwarding → Forwarded
 forwards effects f = record { effects = effects; forwarding = f }
 
--- what a run emitted is sent where the connection stands there, and what it counted is counted
-abbrev pub applied : Phase → Machine → Forwarding → Forwarded
-applied phase m f = let effects = effects_of phase m.items in forwards effects (all_sent effects (all_tallied m.counts f))
+-- what a run emitted is sent where the connection stands there and the ports are so, and what it counted is counted
+abbrev pub applied : Phase → List Port → Machine → Forwarding → Forwarded
+applied phase ports m f = let effects = effects_of phase ports m.items in forwards effects (all_sent effects (all_tallied m.counts f))
 
 -- a packet does its work
 abbrev pub through : Phase → Packet → List Work → Forwarding → Forwarded
-through phase p work f = applied phase (run_of (world_of f) p work) f
+through phase p work f = applied phase f.ports (run_of (world_of f) p work) f
 
 -- A FRAME
 
 -- a frame is received, and looked up in the first table
 abbrev pub received : Phase → ℕ → List ℕ → Forwarding → Forwarded
-received phase number bytes f = applied phase (run_of (world_of f) (entering bytes number) (LookUp 0 ∷ [])) (count_port number (Received (length bytes)) f)
+received phase number bytes f = applied phase f.ports (run_of (world_of f) (entering bytes number) (LookUp 0 ∷ [])) (count_port number (Received (length bytes)) f)
 
 -- too short or too long a frame is an error of its port
 abbrev pub taken_in : Phase → ℕ → List ℕ → Forwarding → Option FrameFault → Forwarded

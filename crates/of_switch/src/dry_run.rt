@@ -161,7 +161,7 @@ impl<L: Lookup> Plane<L> {
     ) -> Result<Effects, AllocError>
         requires long { 14 ≤ length bytes.now }
         requires most { length bytes.now ≤ 9216 }
-        ensures effects { IfOk result (λ effects. effects.items ≡ effects_of phase (run_of (world_of (forwarding_of self.now.tables self.now.groups self.now.ports)) (entering bytes.now number) (LookUp 0 ∷ [])).items) }
+        ensures effects { IfOk result (λ effects. effects.items ≡ effects_of phase self.now.ports (run_of (world_of (forwarding_of self.now.tables self.now.groups self.now.ports)) (entering bytes.now number) (LookUp 0 ∷ [])).items) }
         ensures steps { OnOk result (S.KEEPS ≡ true → S.list log.new ≡ S.list log.old ++ received_steps number bytes.now (forwarding_of self.now.tables self.now.groups self.now.ports)) }
         ensures err { OnErr result (S.KEEPS ≡ true → GainsPrefix (received_steps number bytes.now (forwarding_of self.now.tables self.now.groups self.now.ports)) (S.list log.old) (S.list log.new)) }
     {
@@ -169,6 +169,6 @@ impl<L: Lookup> Plane<L> {
         world.known();
         let packet = Packet::new(PacketFrame::new(bytes), number);
         let outcome = run(alloc, &mut world, packet, log)?;
-        effects_from(alloc, phase, outcome.items)
+        effects_from(alloc, phase, &self.ports, outcome.items)
     }
 }

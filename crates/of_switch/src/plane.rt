@@ -140,7 +140,7 @@ impl<L: Lookup> Plane<L> {
             port: number,
             what: PortCount::Received(bytes.len()),
         };
-        plan_of(alloc, phase, Some(reception), outcome)
+        plan_of(alloc, phase, &self.ports, Some(reception), outcome)
     }
 
     /// What a packet of the controller will do by its actions (OpenFlow 1.3.5, 7.3.6).
@@ -160,7 +160,7 @@ impl<L: Lookup> Plane<L> {
         self.tables.known();
         let packet = Packet::new(PacketFrame::new(bytes), in_port);
         let outcome = run_actions(alloc, self, packet, actions, &mut NoLog)?;
-        plan_of(alloc, Phase::Open, None, outcome)
+        plan_of(alloc, Phase::Open, &self.ports, None, outcome)
     }
 
     /// The removal of entries, with a notice of each whose flags ask for one, where the connection stands there: they went now.
@@ -308,15 +308,16 @@ fn reception_alone(alloc: Global, port: u32, what: PortCount) -> Plan
 fn plan_of(
     alloc: Global,
     phase: Phase,
+    ports: &Ports,
     reception: Option<Reception>,
     outcome: Outcome,
 ) -> Result<Plan, AllocError>
     requires { AllShort 65485 outcome.items.items }
-    ensures { IfOk result (λ plan. (n : NumberedTables) (f : Forwarding) → (plan.effects.items ≡ effects_of phase outcome.items.items) × (changed plan.change plan.effects.items n f ≡ all_sent plan.effects.items (all_tallied (all_placed n outcome.counts.items) (with_reception reception f)))) }
+    ensures { IfOk result (λ plan. (n : NumberedTables) (f : Forwarding) → (plan.effects.items ≡ effects_of phase ports.now outcome.items.items) × (changed plan.change plan.effects.items n f ≡ all_sent plan.effects.items (all_tallied (all_placed n outcome.counts.items) (with_reception reception f)))) }
 {
     let Outcome { items, counts } = outcome;
     Ok(Plan {
-        effects: effects_from(alloc, phase, items)?,
+        effects: effects_from(alloc, phase, ports, items)?,
         change: Change::Counts { reception, counts },
     })
 }
