@@ -1,3 +1,4 @@
+pub mod BucketLemmas
 pub mod Appended
 pub mod NoInstructions
 pub mod PacketFields

@@ -1,3 +1,6 @@
+pub mod Buckets
+pub mod GroupMods
+pub mod PortMods
 pub mod Messages
 pub mod Written
 pub mod Promised

@@ -13,7 +13,11 @@ use Rattle.of_actions.specs.FlowCheck.{all_go_with}
 use Rattle.of_actions.specs.PortNumbers.{is_number, controller}
 use Rattle.of_headers.specs.Faults.{frame_fault}
 use Rattle.of_messages.specs.declared.message.Message.{Message}
-use Rattle.of_messages.specs.declared.message.Message.TheVariants.{Hello, EchoRequest, BarrierRequest, FlowMod as IsFlowMod, PacketOut as IsPacketOut}
+use Rattle.of_messages.specs.declared.message.Message.TheVariants.{Hello, EchoRequest, BarrierRequest, FlowMod as IsFlowMod, PacketOut as IsPacketOut, GroupMod as IsGroupMod, PortMod as IsPortMod}
+use Rattle.of_messages.specs.declared.group_mod.GroupMod.{GroupMod}
+use Rattle.of_messages.specs.declared.port_mod.PortMod.{PortMod}
+use Rattle.of_messages.specs.GroupMods.{group_mod_of}
+use Rattle.of_messages.specs.PortMods.{port_mod_of}
 use Rattle.of_messages.specs.declared.message.PacketOut.{PacketOut}
 use Rattle.of_messages.specs.declared.message.PacketData.{PacketData}
 use Rattle.of_messages.specs.declared.message.PacketData.TheVariants.{Buffered, Frame}
@@ -48,12 +52,18 @@ packet_out = 13
 abbrev pub flow_mod : ℕ
 flow_mod = 14
 
+abbrev pub group_mod : ℕ
+group_mod = 15
+
+abbrev pub port_mod : ℕ
+port_mod = 16
+
 abbrev pub barrier_request : ℕ
 barrier_request = 20
 
 -- the types that are served
 abbrev pub is_served : ℕ → Bool
-is_served type = type == hello || type == echo_request || type == packet_out || type == flow_mod || type == barrier_request
+is_served type = type == hello || type == echo_request || type == packet_out || type == flow_mod || type == group_mod || type == port_mod || type == barrier_request
 
 -- how many bytes the actions of a PACKET_OUT have
 abbrev pub actions_length : List ℕ → ℕ
@@ -67,6 +77,8 @@ head_refusals m =
     ∷ (not (is_served (type_of m)), refusal 1 1)
     ∷ (type_of m == barrier_request && not (length m == 8), refusal 1 6)
     ∷ (type_of m == flow_mod && nat_lt (length m) 56, refusal 1 6)
+    ∷ (type_of m == group_mod && nat_lt (length m) 16, refusal 1 6)
+    ∷ (type_of m == port_mod && not (length m == 40), refusal 1 6)
     ∷ (type_of m == packet_out && (nat_lt (length m) 24 || nat_lt (length m) (24 + actions_length m)), refusal 1 6)
     ∷ []
 
@@ -199,13 +211,23 @@ abbrev pub as_packet_out : Result PacketOut Code → Result Message Code
 as_packet_out (Ok v) = Ok (IsPacketOut v)
 as_packet_out (Err code) = Err code
 
+abbrev pub as_group_mod : Result GroupMod Code → Result Message Code
+as_group_mod (Ok v) = Ok (IsGroupMod v)
+as_group_mod (Err code) = Err code
+
+abbrev pub as_port_mod : Result PortMod Code → Result Message Code
+as_port_mod (Ok v) = Ok (IsPortMod v)
+as_port_mod (Err code) = Err code
+
 abbrev pub body_of : List ℕ → Result Message Code
 body_of m =
     if type_of m == hello then Ok Hello
     else (if type_of m == echo_request then Ok (EchoRequest (drop 8 m))
     else (if type_of m == barrier_request then Ok BarrierRequest
     else (if type_of m == packet_out then as_packet_out (packet_out_of m)
-    else as_flow_mod (flow_mod_of m))))
+    else (if type_of m == group_mod then as_group_mod (group_mod_of m)
+    else (if type_of m == port_mod then as_port_mod (port_mod_of m)
+    else as_flow_mod (flow_mod_of m))))))
 
 abbrev pub message_by : List ℕ → Option Code → Result Message Code
 message_by m (Some code) = Err code

@@ -4,7 +4,7 @@ use Rattle.of_actions.specs.InstructionLists.{are_for}
 use Rattle.of_actions.specs.FlowCheck.{all_go_with}
 use Rattle.of_headers.specs.Faults.{frame_fault}
 use Rattle.of_messages.specs.declared.message.Message.{Message}
-use Rattle.of_messages.specs.declared.message.Message.TheVariants.{Hello, EchoRequest, BarrierRequest, FlowMod as IsFlowMod, PacketOut as IsPacketOut}
+use Rattle.of_messages.specs.declared.message.Message.TheVariants.{Hello, EchoRequest, BarrierRequest, FlowMod as IsFlowMod, PacketOut as IsPacketOut, GroupMod as IsGroupMod, PortMod as IsPortMod}
 use Rattle.of_messages.specs.declared.message.FlowMod.{FlowMod}
 use Rattle.of_messages.specs.declared.message.PacketData.{PacketData}
 use Rattle.of_messages.specs.declared.message.PacketData.TheVariants.{Buffered, Frame}
@@ -28,3 +28,5 @@ IsSoundMessage (EchoRequest echoed) = length echoed ≤ 65527
 IsSoundMessage BarrierRequest = ⊤
 IsSoundMessage (IsPacketOut m) = IsSoundPacket m.packet
 IsSoundMessage (IsFlowMod m) = IsSoundFlowMod m
+IsSoundMessage (IsGroupMod m) = ⊤
+IsSoundMessage (IsPortMod m) = ⊤

@@ -14,6 +14,10 @@ pub const PACKET_OUT: u8 = 13;
 
 pub const FLOW_MOD: u8 = 14;
 
+pub const GROUP_MOD: u8 = 15;
+
+pub const PORT_MOD: u8 = 16;
+
 pub const BARRIER_REQUEST: u8 = 20;
 
 const BAD_VERSION: Code = Code { kind: 1, code: 0 };
@@ -27,7 +31,7 @@ fn is_served_type(kind: u8) -> bool
 {
     matches!(
         kind,
-        HELLO | ECHO_REQUEST | PACKET_OUT | FLOW_MOD | BARRIER_REQUEST
+        HELLO | ECHO_REQUEST | PACKET_OUT | FLOW_MOD | GROUP_MOD | PORT_MOD | BARRIER_REQUEST
     )
 }
 
@@ -57,6 +61,8 @@ pub fn check_head(message: &[u8]) -> Result<(), Code>
     ensures header { OnOk result (8 ≤ length message.now) }
     ensures most { OnOk result (length message.now ≤ 65535) }
     ensures flow_mod { OnOk result (type_of message.now ≡ 14 → 56 ≤ length message.now) }
+    ensures group_mod { OnOk result (type_of message.now ≡ 15 → 16 ≤ length message.now) }
+    ensures port_mod { OnOk result (type_of message.now ≡ 16 → 40 ≤ length message.now) }
     ensures packet_out { OnOk result (type_of message.now ≡ 13 → 24 + actions_length message.now ≤ length message.now) }
     ensures served { OnOk result (is_served (type_of message.now) ≡ true) }
 {
@@ -74,6 +80,12 @@ pub fn check_head(message: &[u8]) -> Result<(), Code>
         return Err(BAD_LEN);
     }
     if kind == FLOW_MOD && message.len() < 56 {
+        return Err(BAD_LEN);
+    }
+    if kind == GROUP_MOD && message.len() < 16 {
+        return Err(BAD_LEN);
+    }
+    if kind == PORT_MOD && message.len() != 40 {
         return Err(BAD_LEN);
     }
     if kind == PACKET_OUT && lacks_actions(message) {

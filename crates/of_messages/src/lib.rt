@@ -1,15 +1,19 @@
 //! OpenFlow messages: their values, and the bytes that spell them.
 #![tactic(auto)]
 
+mod bucket_reading;
 mod flow_mod_writing;
+mod group_mod;
 mod head;
 mod laws;
 mod message;
 mod message_bytes;
+mod port_mod;
 mod reading;
 mod writing;
 
 pub use flow_mod_writing::write_flow_mod;
+pub use group_mod::{GroupMod, NewGroup};
 pub use head::check_head;
 pub use laws::header_tells_length;
 pub use message::{
@@ -17,6 +21,7 @@ pub use message::{
     PacketInReason, PacketOut,
 };
 pub use message_bytes::MessageBytes;
+pub use port_mod::{PortDescription, PortMod, PortStatusReason};
 pub use reading::read_message;
 pub use writing::{
     write_barrier_reply, write_echo_reply, write_error, write_flow_removed, write_hello,

@@ -2,6 +2,8 @@
 ghost use Rattle.std.specs.Prelude.{◌≡◌};
 ghost use Rattle.of_messages.specs.Messages.{command_of, is_delete};
 
+use crate::group_mod::GroupMod;
+use crate::port_mod::PortMod;
 use of_actions::{ActionList, InstructionList};
 use of_oxm::Match;
 use of_wire::Bytes;
@@ -132,7 +134,7 @@ pub struct FlowRemoved {
 }
 
 /// A message that the switch reads.
-#[derive(Debug, Drop)]
+#[derive(Drop)]
 pub enum Message {
     /// HELLO (OpenFlow 1.3.5, 7.5.1).
     Hello,
@@ -144,4 +146,8 @@ pub enum Message {
     PacketOut(PacketOut),
     /// FLOW_MOD (7.3.4.1).
     FlowMod(FlowMod),
+    /// GROUP_MOD (7.3.4.2).
+    GroupMod(GroupMod),
+    /// PORT_MOD (7.3.4.3).
+    PortMod(PortMod),
 }

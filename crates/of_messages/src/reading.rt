@@ -6,10 +6,13 @@ ghost use Rattle.of_messages.specs.Messages.{message_of, body_of, type_of, is_se
 ghost use Rattle.of_messages.specs.Promised.{IsSoundFlowMod, IsSoundPacket, IsSoundMessage};
 ghost use Rattle.of_actions.specs.InstructionLists.{are_for};
 
+use crate::group_mod::read_group_mod;
 use crate::head::{
-    BARRIER_REQUEST, ECHO_REQUEST, HELLO, PACKET_OUT, actions_length_in, check_head,
+    BARRIER_REQUEST, ECHO_REQUEST, GROUP_MOD, HELLO, PACKET_OUT, PORT_MOD, actions_length_in,
+    check_head,
 };
 use crate::message::{FlowMod, FlowModCommand, Message, PacketData, PacketOut};
+use crate::port_mod::read_port_mod;
 use byteorder::{BigEndian, ByteOrder};
 use of_actions::{
     InstructionList, PORT_CONTROLLER, check_flow, is_number, read_actions, read_instructions,
@@ -40,7 +43,8 @@ const ALL_TABLES: u8 = 255;
 // The flags that are known, each a bit.
 const ALL_FLAGS: u16 = 31;
 
-fn rest_from(bytes: &[u8], at: usize) -> &[u8]
+/// The bytes from that place on.
+pub fn rest_from(bytes: &[u8], at: usize) -> &[u8]
     requires { at ≤ length bytes.now }
     ensures rest { result.now ≡ drop at bytes.now }
     ensures size { length result.now + at ≡ length bytes.now }
@@ -164,6 +168,8 @@ fn read_body(alloc: Global, message: &[u8]) -> Result<Message, ReadError>
     requires most { length message.now ≤ 65535 }
     requires flow_mod { type_of message.now ≡ 14 → 48 ≤ length message.now }
     requires packet_out { type_of message.now ≡ 13 → 24 + actions_length message.now ≤ length message.now }
+    requires group_mod { type_of message.now ≡ 15 → 16 ≤ length message.now }
+    requires port_mod { type_of message.now ≡ 16 → 40 ≤ length message.now }
     requires served { is_served (type_of message.now) ≡ true }
     ensures reads { Reads result (body_of message.now) }
     ensures sound { IfOk result IsSoundMessage }
@@ -173,6 +179,11 @@ fn read_body(alloc: Global, message: &[u8]) -> Result<Message, ReadError>
         ECHO_REQUEST => Ok(Message::EchoRequest(Bytes::from_slice(alloc, rest_from(message, 8))?)),
         BARRIER_REQUEST => Ok(Message::BarrierRequest),
         PACKET_OUT => Ok(Message::PacketOut(read_packet_out(alloc, message)?)),
+        GROUP_MOD => Ok(Message::GroupMod(read_group_mod(alloc, message)?)),
+        PORT_MOD => match read_port_mod(message) {
+            Ok(port_mod) => Ok(Message::PortMod(port_mod)),
+            Err(code) => Err(ReadError::Refused(code)),
+        },
         _ => Ok(Message::FlowMod(read_flow_mod(alloc, message)?)),
     }
 }
@@ -184,7 +195,10 @@ fn read_body(alloc: Global, message: &[u8]) -> Result<Message, ReadError>
 /// match, and, for ADD and the MODIFY commands, its instructions with their actions, and a field that is set without its
 /// prerequisites in the match (2/10). A DELETE command has no instructions: what stands behind its match is not looked
 /// at. Of a PACKET_OUT: an ingress port that is neither 1 to OFPP_MAX nor OFPP_CONTROLLER (1/11), its actions, and,
-/// where it names no buffer, a frame below 14 or above 9,216 bytes (1/12).
+/// where it names no buffer, a frame below 14 or above 9,216 bytes (1/12). Of a GROUP_MOD: a command above 2 (6/11); a number
+/// above OFPG_MAX (6/1; a DELETE may name OFPG_ALL, and nothing else of it is looked at); a type that is not ALL, INDIRECT or
+/// FAST-FAILOVER (6/10); bucket by bucket, the 17th (6/4), a length below 16, not a multiple of 8 or past the end (6/12), and
+/// its actions. Of a PORT_MOD: a mask with a bit outside of PORT_DOWN, NO_RECV, NO_FWD and NO_PACKET_IN (7/2).
 #[tactic(auto, unfolding(crate::specs::Messages::message_of))]
 pub fn read_message(alloc: Global, message: &[u8]) -> Result<Message, ReadError>
     ensures reads { Reads result (message_of message.now) }

@@ -22,7 +22,7 @@ pub enum Phase {
 }
 
 /// What comes next of a connection.
-#[derive(Debug, Drop)]
+#[derive(Drop)]
 pub enum Next {
     /// Neither a whole message nor a malformed header is there.
     Nothing,

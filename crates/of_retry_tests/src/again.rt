@@ -1,0 +1,113 @@
+use crate::rows::ROWS;
+use of_classifier::Scan;
+use of_switch::{Effect, Event, PortChange, Report, Switch};
+use of_test_rows::{bytes_of, number_of, sides};
+use of_wire::Bytes;
+use std::alloc::{AllocError, Global};
+use std::test::Fail;
+
+fn port_added(number: u32) -> Event {
+    Event::Ports(PortChange::Add {
+        number,
+        hw: [2, 0, 0, 0, 0, 1],
+        name: [0; 16],
+        up: true,
+    })
+}
+
+// The event of a row.
+fn event_of(alloc: Global, kind: &str, words: &str) -> Result<Event, Fail> {
+    if kind == "t" {
+        return Ok(Event::Moment(number_of(words)? as u64));
+    }
+    if kind == "c" {
+        return Ok(Event::Piece(Bytes::new(bytes_of(alloc, words)?)));
+    }
+    let (port, frame) = words.split_once(' ').ok_or("a port and a frame")?;
+    Ok(Event::Frame {
+        port: u32::try_from(number_of(port)?).map_err(|_| "a port")?,
+        frame: Bytes::new(bytes_of(alloc, frame)?),
+    })
+}
+
+fn events_of(alloc: Global, text: &str) -> Result<Vec<Event>, Fail> {
+    let mut events = Vec::new(alloc);
+    for number in [1, 2, 3] {
+        events.push(port_added(number))?;
+    }
+    events.push(Event::Connect)?;
+    for line in text.lines() {
+        if let Some((kind, words)) = sides(line)? {
+            events.push(event_of(alloc, kind, words)?)?;
+        }
+    }
+    Ok(events)
+}
+
+// Plays an event, and once more where there was no memory: of a piece that was broken off, what is left.
+fn play(
+    alloc: Global,
+    switch: &mut Switch<Scan>,
+    event: Event,
+    reports: &mut Vec<Report>,
+) -> Result<(), Fail> {
+    let before = reports.len();
+    let mut one = [event];
+    if switch.run(&one, reports).is_ok() {
+        return Ok(());
+    }
+    if reports.len() > before {
+        one = [Event::Piece(Bytes::new(Vec::new(alloc)))];
+    }
+    Ok(switch.run(&one, reports)?)
+}
+
+fn push_effect(out: &mut Vec<u8>, effect: &Effect) -> Result<(), AllocError> {
+    match effect {
+        Effect::Answer(bytes) => out.extend_from_slice(bytes.as_slice()),
+        Effect::Sent { port, frame } => {
+            out.extend_from_slice(&port.to_be_bytes())?;
+            out.extend_from_slice(frame.as_slice())
+        }
+        Effect::Closed => Ok(out.push(0)?),
+    }
+}
+
+fn push_effects(out: &mut Vec<u8>, effects: &[Effect]) -> Result<(), AllocError> {
+    for effect in effects {
+        push_effect(out, effect)?;
+    }
+    Ok(())
+}
+
+// All that was given, one byte behind the other.
+fn given(alloc: Global, reports: &[Report]) -> Result<Vec<u8>, AllocError> {
+    let mut out = Vec::new(alloc);
+    for report in reports {
+        if let Report::Gives(effects) = report {
+            push_effects(&mut out, effects)?;
+        }
+    }
+    Ok(out)
+}
+
+// Under `tools/fail-alloc --again` each allocation is refused in turn: what was refused is done again, and nothing is lost.
+#[test]
+fn events_again(rt: HostRuntime) -> Result<(), Fail> {
+    let events = events_of(rt.alloc(), ROWS)?;
+    let mut switch = Switch::<Scan>::new(rt.alloc(), 1)?;
+    let mut reports = Vec::new(rt.alloc());
+    for event in events {
+        play(rt.alloc(), &mut switch, event, &mut reports)?;
+    }
+    let events = events_of(rt.alloc(), ROWS)?;
+    let mut undisturbed = Switch::<Scan>::new(rt.alloc(), 1)?;
+    let mut wanted = Vec::new(rt.alloc());
+    undisturbed.run(&events, &mut wanted)?;
+    let wanted = given(rt.alloc(), &wanted)?;
+    // HELLO 16, BARRIER_REPLY 8, frames 22 and 26, PACKET_IN 60, ECHO_REPLY 10, ERROR 20, three frames 60, FLOW_REMOVED 64, a frame 22;
+    // two frames of the tie 44, FLOW_REMOVED 64; two frames behind misses 44; a frame of 60 bytes 64, PACKET_IN 102
+    assert_eq!(rt; wanted.len(), 626);
+    assert_eq!(rt; given(rt.alloc(), &reports)?.as_slice(), wanted.as_slice());
+    Ok(())
+}
