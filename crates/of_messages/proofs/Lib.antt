@@ -1,4 +1,5 @@
 pub mod BucketLemmas
+pub mod PortLemmas
 pub mod Appended
 pub mod NoInstructions
 pub mod PacketFields

@@ -11,6 +11,9 @@ use Rattle.of_messages.specs.declared.message.FlowMod.{FlowMod}
 use Rattle.of_messages.specs.declared.message.FlowModCommand.{FlowModCommand}
 use Rattle.of_messages.specs.declared.message.FlowModCommand.TheVariants.{Add, Modify, ModifyStrict, Delete, DeleteStrict}
 use Rattle.of_messages.specs.declared.message.PacketIn.{PacketIn}
+use Rattle.of_messages.specs.declared.port_mod.PortDescription.{PortDescription}
+use Rattle.of_messages.specs.declared.port_mod.PortStatusReason.{PortStatusReason}
+use Rattle.of_messages.specs.declared.port_mod.PortStatusReason.TheVariants as status
 use Rattle.of_messages.specs.declared.message.PacketInReason.{PacketInReason}
 use Rattle.of_messages.specs.declared.message.PacketInReason.TheVariants.{NoMatch, Action, InvalidTtl}
 use Rattle.of_messages.specs.declared.message.FlowRemoved.{FlowRemoved}
@@ -119,3 +122,25 @@ flow_mod_front m =
 
 abbrev pub flow_mod_bytes : ℕ → FlowMod → List ℕ
 flow_mod_bytes xid m = message 14 xid (flow_mod_front m ++ (canonical m.fields ++ canonical_instructions m.instructions))
+
+-- PORT_STATUS (7.4.3)
+
+abbrev pub status_number : PortStatusReason → ℕ
+status_number status.Add = 0
+status_number status.Delete = 1
+status_number status.Modify = 2
+
+-- a port's number, hardware address and name
+unfoldable pub port_names : PortDescription → List ℕ
+port_names p = big_bytes 4 p.number ++ (replicate 4 0 ++ (p.hw ++ (replicate 2 0 ++ p.name)))
+
+-- its configuration and state, without features and speeds
+unfoldable pub port_bits : PortDescription → List ℕ
+port_bits p = big_bytes 4 p.config ++ (big_bytes 4 p.state ++ replicate 24 0)
+
+-- the 64 bytes of a port (7.2.1)
+abbrev pub port_bytes : PortDescription → List ℕ
+port_bytes p = port_names p ++ port_bits p
+
+abbrev pub port_status_bytes : ℕ → PortStatusReason → PortDescription → List ℕ
+port_status_bytes xid reason p = message 12 xid ((status_number reason ∷ replicate 7 0) ++ port_bytes p)

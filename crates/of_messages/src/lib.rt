@@ -9,6 +9,7 @@ mod laws;
 mod message;
 mod message_bytes;
 mod port_mod;
+mod port_status;
 mod reading;
 mod writing;
 
@@ -22,6 +23,7 @@ pub use message::{
 };
 pub use message_bytes::MessageBytes;
 pub use port_mod::{PortDescription, PortMod, PortStatusReason};
+pub use port_status::write_port_status;
 pub use reading::read_message;
 pub use writing::{
     write_barrier_reply, write_echo_reply, write_error, write_flow_removed, write_hello,
