@@ -2,7 +2,8 @@
 ghost use Rattle.std.specs.Prelude.{◌≡◌, ◌<◌, ◌∷◌, ◌++◌, [], true, false, IfOk, OnOk, OnErr, length};
 ghost use Rattle.of_wire.specs.Refusals.{first_of};
 ghost use Rattle.of_switch.specs.State.{new_core};
-ghost use Rattle.of_ports.specs.Ports.{has_port, new_port, with_port};
+ghost use Rattle.of_ports.specs.Ports.{has_port, new_port, port_at};
+ghost use Rattle.of_switch.specs.PortMods.{port_mod_refusals};
 ghost use Rattle.of_headers.specs.FieldMap.{value};
 ghost use Rattle.std.specs.Prelude.{slice_get};
 ghost use Rattle.std.specs.Option.{option_map};
@@ -20,19 +21,21 @@ ghost use Rattle.of_groups.specs.Faults.{add_fault, delete_fault, modify_fault};
 ghost use Rattle.of_switch.specs.GroupMods.{refused_for};
 ghost use Rattle.of_switch.specs.Handling.{Handles};
 ghost use Rattle.of_switch.specs.Loading.{loaded_tables};
-ghost use Rattle.of_switch.specs.Steps.{does, done, flow_modded, forwarded, group_added, group_modified, groups_deleted, packet_outed, state_refusals, with_ports, with_tables, moment_done};
+ghost use Rattle.of_switch.specs.Steps.{does, done, flow_modded, forwarded, group_added, group_modified, groups_deleted, linked_at, packet_outed, port_added, port_modded, removed_at, state_refusals, with_tables, moment_done};
 
 use crate::commands::{any_astray, are_astray, flow_from, has_flag, which_from};
 use crate::effect::{Effect, Effects};
 use crate::loading::load_tables;
 use crate::plane::Plane;
+use crate::port_status::{write_change, write_status};
 use of_actions::InstructionList;
 use of_classifier::Lookup;
 use of_groups::{Buckets, GroupFault, GroupKind};
 use of_headers::FieldKey;
 use of_machine::StepLog;
 use of_messages::{
-    FlowMod, FlowModCommand, Message, PacketData, PacketOut, write_barrier_reply, write_echo_reply,
+    FlowMod, FlowModCommand, Message, PacketData, PacketOut, PortMod, PortStatusReason,
+    write_barrier_reply, write_echo_reply,
 };
 use of_ports::Port;
 use of_session::Phase;
@@ -54,6 +57,13 @@ const BAD_TABLE: Code = Code { kind: 5, code: 2 };
 const OVERLAP: Code = Code { kind: 5, code: 3 };
 
 const TABLE_FULL: Code = Code { kind: 5, code: 1 };
+
+/// The type of a message that is not served.
+const BAD_TYPE: Code = Code { kind: 1, code: 1 };
+
+const BAD_PORT: Code = Code { kind: 7, code: 0 };
+
+const BAD_HW_ADDR: Code = Code { kind: 7, code: 1 };
 
 /// Why a message was not done.
 #[derive(Clone, Copy, Debug, PartialEq, Eq)]
@@ -128,22 +138,60 @@ impl<L: Lookup> Engine<L> {
         self.plane.ports.len()
     }
 
-    /// A port is added, at the latest moment.
+    /// A port is added at the latest moment, while the connection stands there.
     pub fn add_port(
         &mut self,
+        phase: Phase,
         number: u32,
         hw: [u8; 6],
         name: [u8; 16],
         is_up: bool,
-    ) -> Result<(), AllocError>
+    ) -> Result<Effects, AllocError>
         requires new { has_port number self.old.forwarding.ports ≡ false }
         requires room { length self.old.forwarding.ports < 64 }
-        ensures ok { OnOk result (self.new ≡ with_ports (with_port (new_port number hw name is_up self.old.forwarding.tables.latest) self.old.forwarding.ports) self.old) }
+        ensures ok { IfOk result (λ effects. port_added phase (new_port number hw name is_up self.old.forwarding.tables.latest) self.old ≡ does effects.items self.new) }
         ensures err { OnErr result (self.new ≡ self.old) }
     {
         let created = self.plane.tables.latest();
         let port = Port::new(number, hw, name, is_up, created);
-        self.plane.ports.add(port)
+        let effects = write_status(self.alloc, phase, PortStatusReason::Add, &port)?;
+        self.plane.ports.add(port)?;
+        Ok(effects)
+    }
+
+    /// A port is gone, while the connection stands there.
+    pub fn remove_port(&mut self, phase: Phase, number: u32) -> Result<Effects, AllocError>
+        ensures ok { IfOk result (λ effects. removed_at phase number self.old (port_at self.old.forwarding.ports number) ≡ does effects.items self.new) }
+        ensures err { OnErr result (self.new ≡ self.old) }
+    {
+        let Some(port) = self.plane.ports.port(number) else {
+            return Ok(Effects::new(self.alloc));
+        };
+        let effects = write_status(self.alloc, phase, PortStatusReason::Delete, port)?;
+        self.plane.ports.remove(number);
+        Ok(effects)
+    }
+
+    /// A port's link is up from now on, or down, while the connection stands there.
+    pub fn set_link(
+        &mut self,
+        phase: Phase,
+        number: u32,
+        is_link_up: bool,
+    ) -> Result<Effects, AllocError>
+        ensures ok { IfOk result (λ effects. linked_at phase number is_link_up self.old (port_at self.old.forwarding.ports number) ≡ does effects.items self.new) }
+        ensures err { OnErr result (self.new ≡ self.old) }
+    {
+        let Some(port) = self.plane.ports.port(number) else {
+            return Ok(Effects::new(self.alloc));
+        };
+        let linked = Port {
+            is_link_up,
+            ..*port
+        };
+        let effects = write_change(self.alloc, phase, port, &linked)?;
+        self.plane.ports.set_link(number, is_link_up);
+        Ok(effects)
     }
 
     /// A frame comes in by a port, while the connection stands there.
@@ -209,6 +257,8 @@ impl<L: Lookup> Engine<L> {
             }
             Message::PacketOut(packet_out) => self.packet_out(packet_out),
             Message::FlowMod(flow_mod) => self.flow_mod(flow_mod),
+            Message::GroupMod(_) => Err(Fault::Refused(BAD_TYPE)),
+            Message::PortMod(port_mod) => self.port_mod(port_mod),
         }
     }
 
@@ -300,6 +350,22 @@ impl<L: Lookup> Engine<L> {
             .plane
             .plan_removal(self.alloc, Phase::Open, cause, now)?;
         Ok(self.plane.carry_out(plan))
+    }
+
+    fn port_mod(&mut self, port_mod: PortMod) -> Result<Effects, Fault>
+        ensures { Handles (first_of (port_mod_refusals port_mod self.old.forwarding.ports)) (port_modded port_mod self.old) self.old result self.new }
+    {
+        let Some(port) = self.plane.ports.port(port_mod.port) else {
+            return Err(Fault::Refused(BAD_PORT));
+        };
+        if port.hw != port_mod.hw {
+            return Err(Fault::Refused(BAD_HW_ADDR));
+        }
+        let config = port.config.with(port_mod.config, port_mod.mask);
+        let modified = Port { config, ..*port };
+        let effects = write_change(self.alloc, Phase::Open, port, &modified)?;
+        self.plane.ports.configure(port_mod.port, config);
+        Ok(effects)
     }
 
     // Adds a group at the latest moment.
