@@ -16,7 +16,7 @@ mod stream_tests;
 mod tests;
 
 /// The event files, each beside the text that it is to print.
-const NAMES: [&str; 52] = [
+const NAMES: [&str; 56] = [
     "hello",
     "wrong-version",
     "first-path",
@@ -69,6 +69,10 @@ const NAMES: [&str; 52] = [
     "frames-in-and-out",
     "hard-timeout-told",
     "packet-out-of-an-absent-buffer",
+    "group-deleted-with-its-flow",
+    "group-chains",
+    "group-of-all",
+    "failover-to-the-live-port",
 ];
 
 /// A read gives so many bytes at most.

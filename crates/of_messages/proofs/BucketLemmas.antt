@@ -1,7 +1,6 @@
 -- Walks over buckets.
-use Rattle.std.proofs.Common.{◌≡◌, ◌<◌, ℕ, true, false, List, [], ◌∷◌, length, Some, None, Result, Ok, Err, arith}
+use Rattle.std.proofs.Common.{◌≡◌, ◌<◌, ℕ, List, [], length, Some, None, Ok, Err, arith}
 use Rattle.std.proofs.lemmas.Bool.{ltb-false}
-use Rattle.of_wire.specs.declared.code.Code.{Code}
 use Rattle.of_wire.specs.declared.code.ReadError.{ReadError}
 use Rattle.of_wire.specs.declared.code.ReadError.TheVariants as errors
 use Rattle.of_wire.specs.Failures.{Fails}

@@ -4,3 +4,4 @@ pub mod Appended
 pub mod NoInstructions
 pub mod PacketFields
 pub mod Lengths
+pub mod BucketsWritten

@@ -4,7 +4,7 @@ use Rattle.std.specs.Prelude.{replicate}
 use Rattle.std.proofs.lemmas.List.{length-append}
 use Rattle.of_messages.specs.declared.port_mod.PortDescription.{PortDescription}
 use Rattle.of_messages.specs.declared.port_mod.PortStatusReason.{PortStatusReason}
-use Rattle.of_messages.specs.Written.{header, message, port_names, port_bits, port_bytes, port_status_bytes, status_number, IsMessage}
+use Rattle.of_messages.specs.Written.{header, port_names, port_bits, port_bytes, port_status_bytes, status_number, IsMessage}
 use Rattle.of_messages.proofs.Lengths.{is_message}
 
 pub length_bits : (p : PortDescription) → length (port_bits p) ≡ 32

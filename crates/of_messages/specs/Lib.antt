@@ -4,3 +4,4 @@ pub mod PortMods
 pub mod Messages
 pub mod Written
 pub mod Promised
+pub mod CanonicalGroups

@@ -1,5 +1,5 @@
 -- PORT_MOD (OpenFlow 1.3.5, 7.3.4.3): the port with its hardware address, and the bits of its configuration under a mask.
-use Rattle.std.specs.Prelude.{ℕ, ◌==◌, bit_and, Bool, not, List, [], ◌∷◌, drop, slice_index, Result, Ok, Err, if◌then◌else◌}
+use Rattle.std.specs.Prelude.{ℕ, ◌==◌, bit_and, List, [], ◌∷◌, drop, slice_index, Result, Ok, Err, if◌then◌else◌}
 use Rattle.byteorder.specs.Endian.{big_number}
 use Rattle.of_wire.specs.declared.code.Code.{Code}
 use Rattle.of_wire.specs.Refusals.{refusal}

@@ -1,5 +1,5 @@
 -- What holds of each message that was read, beyond its fields.
-use Rattle.std.specs.Prelude.{◌≡◌, ◌<◌, ◌≤◌, false, true, length, List, Option, Some, None, ⊤}
+use Rattle.std.specs.Prelude.{◌≡◌, ◌<◌, ◌≤◌, false, true, length, None, ⊤}
 use Rattle.of_actions.specs.InstructionLists.{are_for}
 use Rattle.of_actions.specs.FlowCheck.{all_go_with}
 use Rattle.of_headers.specs.Faults.{frame_fault}

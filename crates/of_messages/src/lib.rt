@@ -4,6 +4,7 @@
 mod bucket_reading;
 mod flow_mod_writing;
 mod group_mod;
+mod group_mod_writing;
 mod head;
 mod laws;
 mod message;
@@ -15,6 +16,7 @@ mod writing;
 
 pub use flow_mod_writing::write_flow_mod;
 pub use group_mod::{GroupMod, NewGroup};
+pub use group_mod_writing::write_group_mod;
 pub use head::check_head;
 pub use laws::header_tells_length;
 pub use message::{

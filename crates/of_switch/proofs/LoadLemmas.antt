@@ -1,17 +1,15 @@
 -- Tables that are loaded, flow by flow and table by table.
-use Rattle.std.proofs.Common.{◌≡◌, ℕ, zero, suc, ◌+◌, ◌-◌, ◌<◌, ◌≤◌, Bool, true, false, List, [], ◌∷◌, ◌++◌, length, take, drop, get_or, set, Some, None, refl, sym, ◌∙◌, ap, subst, append_assoc, add-one, drop-cons, arith}
+use Rattle.std.proofs.Common.{◌≡◌, ℕ, zero, suc, ◌+◌, ◌<◌, ◌≤◌, false, List, [], ◌∷◌, ◌++◌, length, drop, get_or, set, None, refl, sym, ◌∙◌, ap, subst, append_assoc, add-one, drop-cons, arith}
 use Rattle.std.specs.Prelude.{map, max, nat_le, replicate, slice_index_or}
 use Rattle.std.proofs.lemmas.Bool.Decides.{nat_tests}
 use Rattle.std.specs.List.{AllByRecursion, list_any}
-use Rattle.std.specs.Option.{option_map}
 use Rattle.std.proofs.lemmas.List.{append-nil, map-append, length-map}
 use Rattle.of_text.specs.declared.flow.FlowText.{FlowText}
 use Rattle.of_text.specs.Flows.{Flow as TextFlow}
 use Rattle.of_text.specs.Refusals.{is_same as is_same_text}
 use Rattle.of_text.specs.Kept.{IsEntry, AllStandBehind}
 use Rattle.of_text.specs.Views.{view, view_flows}
-use Rattle.of_table.specs.declared.flow.Flow.{Flow}
-use Rattle.of_table.specs.Table.{FlowEntry, Table, empty_table, is_same, with_flow, added}
+use Rattle.of_table.specs.Table.{FlowEntry, Table, empty_table, is_same, added}
 use Rattle.of_table.specs.Tables.{Tables, NumberedTables, no_tables, tables_of, table_at, with_table, added_to, tables_fault, left_in}
 use Rattle.of_table.specs.Entries.{table_of}
 use Rattle.of_table.specs.declared.selection.Cause.TheVariants.{Moment}

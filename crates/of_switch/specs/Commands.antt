@@ -79,17 +79,17 @@ which_of m = record {
 -- ---- what is refused, in order
 
 -- an action gives the packet to a group that is not there
-abbrev pub is_astray : List Group → Action → Bool
-is_astray groups = sends (is_absent groups)
+abbrev pub is_to_absent_group : List Group → Action → Bool
+is_to_absent_group groups = sends (is_absent groups)
 
 -- some action of the instructions does
-abbrev pub are_astray : List Group → List Instruction → Bool
-are_astray groups instructions = list_any (has_action (is_astray groups)) instructions
+abbrev pub names_absent_group : List Group → List Instruction → Bool
+names_absent_group groups instructions = list_any (has_action (is_to_absent_group groups)) instructions
 
 -- an action names a group that is not there (7.4.4: 2/9); no packet is buffered, so each buffer but none (all ones) is unknown (1/8); DELETE does not look at them; of an ADD: the table is not there (5/2), an entry overlaps the flow (5/3), the table is full (5/1)
 abbrev pub flow_mod_refusals : FlowMod → Tables → List Group → List (Bool × Code)
 flow_mod_refusals m ts groups =
-    (not (is_delete m.command) && are_astray groups m.instructions, refusal 2 9)
+    (not (is_delete m.command) && names_absent_group groups m.instructions, refusal 2 9)
     ∷ (not (is_delete m.command) && not (m.buffer == 0xffffffff), refusal 1 8)
     ∷ (is_add m.command && nat_le 16 m.table, refusal 5 2)
     ∷ (is_add m.command && is_overlapped (flow_of m) (table_at m.table ts).flows, refusal 5 3)
@@ -157,5 +157,5 @@ frame_of (Frame bytes) = bytes
 abbrev pub packet_out_refusals : PacketOut → List Group → List (Bool × Code)
 packet_out_refusals m groups =
     (is_buffered m.packet, refusal 1 8)
-    ∷ (list_any (is_astray groups) m.actions, refusal 2 9)
+    ∷ (list_any (is_to_absent_group groups) m.actions, refusal 2 9)
     ∷ []

@@ -3,7 +3,6 @@ use Rattle.std.specs.Prelude.{ℕ, List, map, None}
 use Rattle.of_text.specs.Flows.{Flow as TextFlow}
 use Rattle.of_text.specs.Kept.{instructions_of}
 use Rattle.of_table.specs.declared.flow.Flow.{Flow}
-use Rattle.of_table.specs.declared.flow.FlowFlags.{FlowFlags}
 use Rattle.of_table.specs.Table.{FlowEntry, Table, kept_flags, with_flow}
 use Rattle.of_table.specs.Tables.{Tables}
 use Rattle.of_switch.specs.Commands.{flags_of}

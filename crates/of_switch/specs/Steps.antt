@@ -1,5 +1,5 @@
 -- What each event does to the abstract switch.
-use Rattle.std.specs.Prelude.{◌≡◌, ℕ, max, Bool, true, List, [], ◌∷◌, take, Option, Some, None}
+use Rattle.std.specs.Prelude.{◌≡◌, ℕ, max, Bool, List, [], ◌∷◌, take, Option, Some, None}
 use Rattle.of_wire.specs.declared.code.Code.{Code}
 use Rattle.of_wire.specs.Refusals.{refusal, first_of}
 use Rattle.of_messages.specs.declared.message.Message.{Message}
@@ -8,6 +8,8 @@ use Rattle.of_messages.specs.declared.message.PacketOut.{PacketOut}
 use Rattle.of_messages.specs.declared.port_mod.PortMod.{PortMod}
 use Rattle.of_messages.specs.declared.port_mod.PortStatusReason.TheVariants as port
 use Rattle.of_messages.specs.declared.message.FlowMod.{FlowMod}
+use Rattle.of_messages.specs.declared.group_mod.GroupMod.{GroupMod}
+use Rattle.of_messages.specs.declared.group_mod.GroupMod.TheVariants as group_mod
 use Rattle.of_messages.specs.Written.{hello_bytes, error_bytes, echo_reply_bytes, barrier_reply_bytes}
 use Rattle.of_session.specs.declared.session.Next.{Next}
 use Rattle.of_session.specs.declared.session.Next.TheVariants.{Nothing, BadStream, NotHello, Opened, Read, Refused}
@@ -22,6 +24,7 @@ use Rattle.of_groups.specs.declared.group.GroupKind.{GroupKind}
 use Rattle.of_groups.specs.Groups.{left, modified_group, new_group, with_group}
 use Rattle.of_machine.specs.Rows.{acts, entering}
 use Rattle.of_switch.specs.Commands.{flow_mod_refusals, commanded, command_notices, notice_effects, packet_out_refusals, frame_of}
+use Rattle.of_switch.specs.GroupMods.{group_mod_fault, refused_for}
 use Rattle.of_switch.specs.Told.{told}
 use Rattle.of_switch.specs.declared.effect.Effect.{Effect}
 use Rattle.of_switch.specs.declared.effect.Effect.TheVariants.{Answer, Closed}
@@ -62,10 +65,9 @@ state_refusals Hello k = []
 state_refusals (EchoRequest echoed) k = []
 state_refusals BarrierRequest k = []
 state_refusals (IsPacketOut m) k = packet_out_refusals m k.forwarding.groups
--- it is of a type that is not served so far
-state_refusals (IsGroupMod m) k = (true, refusal 1 1) ∷ []
 state_refusals (IsPortMod m) k = port_mod_refusals m k.forwarding.ports
 state_refusals (IsFlowMod m) k = flow_mod_refusals m k.forwarding.tables k.forwarding.groups
+state_refusals (IsGroupMod m) k = refused_for (group_mod_fault m k.forwarding.tables.latest k.forwarding.groups)
 
 -- a FLOW_MOD does its command, with a notice of each entry that went
 abbrev pub flow_modded : FlowMod → Core → Done
@@ -83,6 +85,11 @@ abbrev pub groups_deleted : Option ℕ → Core → Done
 groups_deleted which k =
     does (told Open (notice_effects k.forwarding.tables.latest (notices_in (Group which) k.forwarding.tables)))
     (with_groups (left which k.forwarding.groups) (with_tables (left_in (Group which) k.forwarding.tables) k))
+
+abbrev pub group_modded : GroupMod → Core → Done
+group_modded (group_mod.Add g) k = group_added g.id g.kind g.buckets k
+group_modded (group_mod.Modify g) k = group_modified g.id g.kind g.buckets k
+group_modded (group_mod.Delete which) k = groups_deleted which k
 
 -- a packet of the controller does its actions; it came in by no look-up
 abbrev pub packet_outed : PacketOut → Core → Done
@@ -102,9 +109,9 @@ done xid Hello k = does [] k
 done xid (EchoRequest echoed) k = does (Answer (echo_reply_bytes xid echoed) ∷ []) k
 done xid BarrierRequest k = does (Answer (barrier_reply_bytes xid) ∷ []) k
 done xid (IsPacketOut m) k = packet_outed m k
-done xid (IsGroupMod m) k = does [] k
 done xid (IsPortMod m) k = port_modded m k
 done xid (IsFlowMod m) k = flow_modded m k
+done xid (IsGroupMod m) k = group_modded m k
 
 -- a refused message is answered by an ERROR with its first bytes (7.4.4), and does nothing else
 abbrev pub refused : ℕ → Code → List ℕ → Core → Done

@@ -2,7 +2,7 @@
 
 ghost use Rattle.std.specs.Prelude.{◌≡◌, OnOk, IfOk};
 ghost use Rattle.of_table.specs.Selecting.{notice_of, notices_of};
-ghost use Rattle.of_switch.specs.Commands.{flags_of, flow_of, has_flag as with_flag, is_strict as strict, notice_effect, notice_effects, out_of, removed_of, unless_any as none_for, which_of, wire_reason, are_astray as some_astray, is_astray as leads_astray};
+ghost use Rattle.of_switch.specs.Commands.{flags_of, flow_of, has_flag as with_flag, is_strict as strict, notice_effect, notice_effects, out_of, removed_of, unless_any as none_for, which_of, wire_reason, is_to_absent_group as to_absent_group, names_absent_group as naming_absent_group};
 ghost use Rattle.std.specs.List.{list_any};
 ghost use Rattle.of_table.specs.Selecting.{has_action};
 
@@ -39,8 +39,8 @@ fn flags_from(flags: u16) -> FlowFlags
     }
 }
 
-fn is_astray(action: Action, groups: &Groups) -> bool
-    ensures { result ≡ leads_astray groups.now action }
+fn is_to_absent_group(action: Action, groups: &Groups) -> bool
+    ensures { result ≡ to_absent_group groups.now action }
 {
     match action {
         Action::Group(group) => groups.group(group).is_none(),
@@ -49,30 +49,30 @@ fn is_astray(action: Action, groups: &Groups) -> bool
 }
 
 /// Whether some action gives the packet to a group that is not there.
-pub fn any_astray(actions: &[Action], groups: &Groups) -> bool
-    ensures { result ≡ list_any (leads_astray groups.now) actions.now }
+pub fn any_to_absent_group(actions: &[Action], groups: &Groups) -> bool
+    ensures { result ≡ list_any (to_absent_group groups.now) actions.now }
 {
-    actions.iter().any(|action| is_astray(*action, groups))
+    actions
+        .iter()
+        .any(|action| is_to_absent_group(*action, groups))
 }
 
-fn instruction_is_astray(instruction: &Instruction, groups: &Groups) -> bool
-    ensures { result ≡ has_action (leads_astray groups.now) instruction.now }
+fn instruction_names_absent_group(instruction: &Instruction, groups: &Groups) -> bool
+    ensures { result ≡ has_action (to_absent_group groups.now) instruction.now }
 {
     match instruction {
         Instruction::Apply(actions) | Instruction::Write(actions) => {
-            any_astray(actions.as_slice(), groups)
+            any_to_absent_group(actions.as_slice(), groups)
         }
         _ => false,
     }
 }
 
 /// Whether some action of the instructions gives the packet to a group that is not there.
-pub fn are_astray(instructions: &[Instruction], groups: &Groups) -> bool
-    ensures { result ≡ some_astray groups.now instructions.now }
+pub fn names_absent_group(instructions: &[Instruction], groups: &Groups) -> bool
+    ensures { result ≡ naming_absent_group groups.now instructions.now }
 {
-    instructions
-        .iter()
-        .any(|instruction| instruction_is_astray(instruction, groups))
+    instructions.iter().any(|instruction| instruction_names_absent_group(instruction, groups))
 }
 
 /// The flow that a FLOW_MOD adds.

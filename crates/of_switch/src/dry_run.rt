@@ -105,7 +105,7 @@ impl<L: Lookup> World for Looking<'_, L> {
 }
 
 impl<L: Lookup> Plane<L> {
-    /// The tables keep what the machine is promised.
+    /// The tables and the groups keep what the machine is promised.
     pub fn known_world(&self)
         ensures { IsSound (world_of (forwarding_of self.now.tables self.now.groups self.now.ports)) }
     {

@@ -12,18 +12,18 @@ ghost use Rattle.of_table.specs.Tables.{modified_in, left_in, notices_in, table_
 ghost use Rattle.of_actions.specs.FlowCheck.{all_go_with};
 ghost use Rattle.of_actions.specs.InstructionLists.{are_for};
 ghost use Rattle.of_messages.specs.Promised.{IsSoundFlowMod, IsSoundMessage, IsSoundPacket};
-ghost use Rattle.of_switch.specs.Commands.{are_astray as some_astray, packet_out_refusals, flow_mod_refusals, has_flag as with_flag, notice_effects, which_of};
+ghost use Rattle.of_switch.specs.Commands.{names_absent_group as naming_absent_group, packet_out_refusals, flow_mod_refusals, has_flag as with_flag, notice_effects, which_of};
 ghost use Rattle.of_machine.specs.Sound.{IsSound};
 ghost use Rattle.of_switch.specs.Plane.{framed, winner_in, world_of};
 ghost use Rattle.of_switch.specs.DryRun.{GainsPrefix, steps_in};
 ghost use Rattle.of_groups.specs.Groups.{modified_group, new_group};
 ghost use Rattle.of_groups.specs.Faults.{add_fault, delete_fault, modify_fault};
-ghost use Rattle.of_switch.specs.GroupMods.{refused_for};
+ghost use Rattle.of_switch.specs.GroupMods.{group_mod_fault, refused_for};
 ghost use Rattle.of_switch.specs.Handling.{Handles};
 ghost use Rattle.of_switch.specs.Loading.{loaded_tables};
-ghost use Rattle.of_switch.specs.Steps.{does, done, flow_modded, forwarded, group_added, group_modified, groups_deleted, linked_at, packet_outed, port_added, port_modded, removed_at, state_refusals, with_tables, moment_done};
+ghost use Rattle.of_switch.specs.Steps.{does, done, flow_modded, forwarded, group_added, group_modded, group_modified, groups_deleted, linked_at, packet_outed, port_added, port_modded, removed_at, state_refusals, with_tables, moment_done};
 
-use crate::commands::{any_astray, are_astray, flow_from, has_flag, which_from};
+use crate::commands::{any_to_absent_group, flow_from, has_flag, names_absent_group, which_from};
 use crate::effect::{Effect, Effects};
 use crate::loading::load_tables;
 use crate::plane::Plane;
@@ -34,7 +34,8 @@ use of_groups::{Buckets, GroupFault, GroupKind};
 use of_headers::FieldKey;
 use of_machine::StepLog;
 use of_messages::{
-    FlowMod, FlowModCommand, Message, PacketData, PacketOut, PortMod, PortStatusReason,
+    FlowMod, FlowModCommand, GroupMod, Message, NewGroup, PacketData, PacketOut, PortMod,
+    PortStatusReason,
     write_barrier_reply, write_echo_reply,
 };
 use of_ports::Port;
@@ -57,9 +58,6 @@ const BAD_TABLE: Code = Code { kind: 5, code: 2 };
 const OVERLAP: Code = Code { kind: 5, code: 3 };
 
 const TABLE_FULL: Code = Code { kind: 5, code: 1 };
-
-/// The type of a message that is not served.
-const BAD_TYPE: Code = Code { kind: 1, code: 1 };
 
 const BAD_PORT: Code = Code { kind: 7, code: 0 };
 
@@ -218,7 +216,7 @@ impl<L: Lookup> Engine<L> {
         self.plane.dry_run(self.alloc, phase, number, bytes, log)
     }
 
-    /// The tables keep what the machine is promised.
+    /// The tables and the groups keep what the machine is promised.
     pub fn known_world(&self)
         ensures { IsSound (world_of self.now.forwarding) }
     {
@@ -257,7 +255,7 @@ impl<L: Lookup> Engine<L> {
             }
             Message::PacketOut(packet_out) => self.packet_out(packet_out),
             Message::FlowMod(flow_mod) => self.flow_mod(flow_mod),
-            Message::GroupMod(_) => Err(Fault::Refused(BAD_TYPE)),
+            Message::GroupMod(group_mod) => self.group_mod(group_mod),
             Message::PortMod(port_mod) => self.port_mod(port_mod),
         }
     }
@@ -270,7 +268,7 @@ impl<L: Lookup> Engine<L> {
             return Err(Fault::Refused(BUFFER_UNKNOWN));
         };
         let actions = packet_out.actions.as_slice();
-        if any_astray(actions, &self.plane.groups) {
+        if any_to_absent_group(actions, &self.plane.groups) {
             return Err(Fault::Refused(BAD_OUT_GROUP));
         }
         let plan = self
@@ -284,7 +282,7 @@ impl<L: Lookup> Engine<L> {
         ensures { Handles (first_of (flow_mod_refusals flow_mod self.old.forwarding.tables self.old.forwarding.groups)) (flow_modded flow_mod self.old) self.old result self.new }
     {
         if !flow_mod.command.is_delete() {
-            if self.is_astray(&flow_mod.instructions) {
+            if self.names_absent_group(&flow_mod.instructions) {
                 return Err(Fault::Refused(BAD_OUT_GROUP));
             }
             if flow_mod.buffer != NO_BUFFER {
@@ -304,16 +302,16 @@ impl<L: Lookup> Engine<L> {
     }
 
     // Whether some action of the instructions gives the packet to a group that is not there.
-    fn is_astray(&self, instructions: &InstructionList) -> bool
-        ensures { result ≡ some_astray self.now.forwarding.groups instructions.now }
+    fn names_absent_group(&self, instructions: &InstructionList) -> bool
+        ensures { result ≡ naming_absent_group self.now.forwarding.groups instructions.now }
     {
-        are_astray(instructions.as_slice(), &self.plane.groups)
+        names_absent_group(instructions.as_slice(), &self.plane.groups)
     }
 
     fn add_flow(&mut self, flow_mod: FlowMod) -> Result<Effects, Fault>
         requires add { flow_mod.command ≡ FlowModCommand.Add }
         requires buffer { flow_mod.buffer ≡ 0xffffffff }
-        requires group { some_astray self.old.forwarding.groups flow_mod.instructions ≡ false }
+        requires group { naming_absent_group self.old.forwarding.groups flow_mod.instructions ≡ false }
         requires fit { are_for flow_mod.table flow_mod.instructions ≡ true }
         requires checked { all_go_with flow_mod.fields flow_mod.instructions ≡ true }
         ensures { Handles (first_of (flow_mod_refusals flow_mod self.old.forwarding.tables self.old.forwarding.groups)) (flow_modded flow_mod self.old) self.old result self.new }
@@ -366,6 +364,18 @@ impl<L: Lookup> Engine<L> {
         let effects = write_change(self.alloc, Phase::Open, port, &modified)?;
         self.plane.ports.configure(port_mod.port, config);
         Ok(effects)
+    }
+
+    fn group_mod(&mut self, group_mod: GroupMod) -> Result<Effects, Fault>
+        ensures { Handles (first_of (refused_for (group_mod_fault group_mod self.old.forwarding.tables.latest self.old.forwarding.groups))) (group_modded group_mod self.old) self.old result self.new }
+    {
+        match group_mod {
+            GroupMod::Add(NewGroup { id, kind, buckets }) => self.add_group(id, kind, buckets),
+            GroupMod::Modify(NewGroup { id, kind, buckets }) => {
+                self.modify_group(id, kind, buckets)
+            }
+            GroupMod::Delete(which) => self.delete_groups(which),
+        }
     }
 
     // Adds a group at the latest moment.

@@ -180,8 +180,8 @@ impl<L: Lookup> Switch<L> {
         Ok(self.engine.dry_run(self.session.phase(), port, frame, log)?)
     }
 
-    /// At all times the entries of the tables are as the machine wants them: their instructions may stand in their tables, and each
-    /// winner is there (OpenFlow 1.3.5, 5.9).
+    /// At all times the tables and the groups are as the machine wants them: the instructions of entries may stand in their tables,
+    /// each winner is there, and no chain of groups has more than three (OpenFlow 1.3.5, 5.6 and 5.9).
     pub fn known_world(&self)
         ensures { IsSoundWorld (world_of self.now.core.forwarding) }
     {

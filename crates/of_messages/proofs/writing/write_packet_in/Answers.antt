@@ -1,4 +1,4 @@
-use Rattle.std.proofs.Common.{◌≡◌, ◌+◌, ◌∙◌, length, arith, sym, ap, subst}
+use Rattle.std.proofs.Common.{◌≡◌, ◌∙◌, length, arith, sym, subst}
 use Rattle.of_oxm.specs.Canonical.{canonical}
 use Rattle.of_messages.specs.Written.{packet_fields, packet_in_bytes, IsMessage}
 use Rattle.of_messages.proofs.Appended.{packet_in_is}

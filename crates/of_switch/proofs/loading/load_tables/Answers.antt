@@ -1,4 +1,4 @@
-use Rattle.std.proofs.Common.{◌<◌, ◌≤◌, length, arith, sym, subst}
+use Rattle.std.proofs.Common.{◌<◌, length, arith}
 use Rattle.of_table.specs.Tables.{tables_of}
 use Rattle.of_switch.proofs.LoadLemmas.{filled_begun, filled_empty, filled_one, filled_done}
 use Rattle.of_switch.proofs.loading.load_tables.Goals as goal

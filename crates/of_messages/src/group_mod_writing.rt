@@ -1,0 +1,76 @@
+//! The bytes of a GROUP_MOD that adds a group, as a controller sends it.
+ghost use Rattle.std.specs.Prelude.{◌≡◌, ◌≤◌, ◌++◌, IsTrue, length, OnOk, IfOk};
+ghost use Rattle.of_groups.specs.Buckets.{are_fit};
+ghost use Rattle.of_messages.specs.CanonicalGroups.{canonical_bucket, canonical_buckets, group_add_bytes, group_add_front, kind_number};
+
+use crate::group_mod::NewGroup;
+use crate::writing::{put_header, put_u16, put_u32};
+use of_actions::write_actions;
+use of_groups::{Bucket, Buckets, GroupKind};
+use of_wire::Bytes;
+use std::alloc::{AllocError, Global};
+
+fn number_of(kind: GroupKind) -> u8
+    ensures { result ≡ kind_number kind }
+{
+    match kind {
+        GroupKind::All => 0,
+        GroupKind::Indirect => 2,
+        GroupKind::FastFailover => 3,
+    }
+}
+
+fn put_bucket(out: &mut Vec<u8>, alloc: Global, bucket: &Bucket) -> Result<(), AllocError>
+    ensures { OnOk result (out.new.items ≡ out.old.items ++ canonical_bucket bucket.now) }
+{
+    let actions = write_actions(alloc, &bucket.actions)?;
+    put_u16(out, (16 + actions.len()) as u16)?;
+    put_u16(out, bucket.weight)?;
+    put_u32(out, bucket.watch_port)?;
+    put_u32(out, bucket.watch_group)?;
+    out.extend_from_slice(&[0; 4])?;
+    out.extend_from_slice(&actions)
+}
+
+fn put_buckets(out: &mut Vec<u8>, alloc: Global, buckets: &[Bucket]) -> Result<(), AllocError>
+    ensures { OnOk result (out.new.items ≡ out.old.items ++ canonical_buckets buckets.now) }
+{
+    for bucket in buckets {
+        put_bucket(out, alloc, bucket)?;
+    }
+    Ok(())
+}
+
+// The bytes of buckets, 24,832 at most.
+#[tactic(auto, using(crate::proofs::BucketsWritten::buckets_short))]
+fn write_buckets(alloc: Global, buckets: &Buckets) -> Result<Vec<u8>, AllocError>
+    ensures canonical { IfOk result (λ v. v.items ≡ canonical_buckets buckets.now) }
+    ensures short { IfOk result (λ v. length v.items ≤ 24832) }
+    ensures fit { IsTrue (are_fit buckets.now) }
+{
+    let mut out = Vec::new(alloc);
+    put_buckets(&mut out, alloc, buckets.as_slice())?;
+    Ok(out)
+}
+
+// What stands in front of the buckets, 8 bytes.
+fn put_front(out: &mut Vec<u8>, group: &NewGroup) -> Result<(), AllocError>
+    ensures { OnOk result (out.new.items ≡ out.old.items ++ group_add_front group.now) }
+{
+    out.extend_from_slice(&[0, 0])?;
+    out.extend_from_slice(&[number_of(group.kind), 0])?;
+    put_u32(out, group.id)
+}
+
+/// The GROUP_MOD that adds a group (OpenFlow 1.3.5, 7.3.4.2), its buckets in the one spelling that is written. What is
+/// counted in them is not part of it.
+pub fn write_group_mod(alloc: Global, xid: u32, group: &NewGroup) -> Result<Bytes, AllocError>
+    ensures { IfOk result (λ bytes. bytes ≡ group_add_bytes xid group.now) }
+{
+    let buckets = write_buckets(alloc, &group.buckets)?;
+    let mut out = Vec::new(alloc);
+    put_header(&mut out, 15, 16 + buckets.len(), xid)?;
+    put_front(&mut out, group)?;
+    out.extend_from_slice(&buckets)?;
+    Ok(Bytes::new(out))
+}
