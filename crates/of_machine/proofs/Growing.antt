@@ -19,11 +19,11 @@ use Rattle.of_actions.specs.Rising.{is_rising}
 use Rattle.of_actions.specs.Served.{is_served}
 use Rattle.of_action_set.specs.Sets.{rank, with_actions, in_order}
 use Rattle.of_table.specs.declared.flow.Flow.{Flow}
-use Rattle.of_machine.specs.declared.port.Port.{Port}
+use Rattle.of_ports.specs.declared.port.Port.{Port}
 use Rattle.of_machine.specs.declared.data.Packet.{Packet}
 use Rattle.of_machine.specs.declared.data.Item.{Item}
 use Rattle.of_machine.specs.declared.data.Item.TheVariants.{Sent}
-use Rattle.of_machine.specs.Ports.{port_at, other_ports}
+use Rattle.of_ports.specs.Ports.{may_send, port_at, other_ports}
 use Rattle.of_machine.specs.TheWorld.{TheWorld}
 use Rattle.of_machine.specs.Sound.{longest, IsSound, IsBelow, AllBelow, IsBucket, AllBuckets}
 use Rattle.of_machine.specs.Rows.{Work, Lookup, Do, RunSet, Act, Task, task, row, acts, works, key_of, lookup_row, entry_row, at_entry, output_row, rewritten, aged_row, group_row, copies, with_metadata, set_out, Emitted, emission, to_port}
@@ -60,7 +60,7 @@ module _ (most : ℕ) (p : Packet) (low : length p.frame ≤ most) where
 
   port_short : (q : Option Port) → Shorts most (to_port q p).items
   port_short None = tt
-  port_short (Some q) = either_short q.is_link_up _ _ (low, tt) tt
+  port_short (Some q) = either_short (may_send q) _ _ (low, tt) tt
 
   emission_short : (ports : List Port) (port : ℕ) → Shorts most (emission ports p port).items
   emission_short ports port =

@@ -13,13 +13,13 @@ use Rattle.of_actions.specs.declared.instruction.Instruction.TheVariants.{Apply,
 use Rattle.of_actions.specs.PortNumbers.{in_port, table, flood, all, controller}
 use Rattle.of_action_set.specs.Sets.{with_actions, in_order}
 use Rattle.of_table.specs.declared.flow.Flow.{Flow}
-use Rattle.of_machine.specs.declared.port.Port.{Port}
+use Rattle.of_ports.specs.declared.port.Port.{Port}
 use Rattle.of_machine.specs.declared.data.Packet.{Packet}
 use Rattle.of_machine.specs.declared.data.Count.{Count}
 use Rattle.of_machine.specs.declared.data.Count.TheVariants.{Group, Bucket}
 use Rattle.of_machine.specs.declared.data.Step.{Step}
 use Rattle.of_machine.specs.declared.data.Step.TheVariants.{Act as DidAct}
-use Rattle.of_machine.specs.Ports.{port_at}
+use Rattle.of_ports.specs.Ports.{may_send, port_at}
 use Rattle.of_machine.specs.TheWorld.{TheWorld}
 use Rattle.of_machine.specs.Rows.{Work, Act, Do, Lookup, RunSet, lookup_row, entry_row, act_row, output_row, table_row, aged_row, group_row, copies, bucket_copy, emission, to_port, emits, Emitted, key_of, Task, task, Row, row}
 use Rattle.of_machine.specs.Weights.{act_weight, acts_weight, work_weight, task_weight}
@@ -42,7 +42,7 @@ module _ (number : ℕ → ℕ → ℕ) (w v : TheWorld) (h : IsRenumbered numbe
 
   port_counts : (port : Option Port) (p : Packet) → same_counts (to_port port p)
   port_counts None p = refl
-  port_counts (Some q) p = sent_or_not q.is_link_up _ _ refl refl
+  port_counts (Some q) p = sent_or_not (may_send q) _ _ refl refl
 
   emission_counts : (ports : List Port) (p : Packet) (n : ℕ) → same_counts (emission ports p n)
   emission_counts ports p n =

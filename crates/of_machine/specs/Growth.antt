@@ -54,7 +54,7 @@ AllLow w most (t ∷ rest) = IsLow w most t × AllLow w most rest
 
 abbrev pub frame_of : Item → List ℕ
 frame_of (Sent port frame) = frame
-frame_of (PacketIn reason t cookie ingress metadata frame) = frame
+frame_of (PacketIn p) = p.frame
 
 -- each frame that is emitted has at most so many bytes
 abbrev pub AllShort : ℕ → List Item → Type 0

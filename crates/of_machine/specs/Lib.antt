@@ -1,4 +1,3 @@
-pub mod Ports
 pub mod TheWorld
 pub mod Sound
 pub mod Rows

@@ -14,17 +14,18 @@ use Rattle.of_actions.specs.declared.instruction.Instruction.{Instruction}
 use Rattle.of_actions.specs.declared.instruction.Instruction.TheVariants.{Apply, Clear, Write, Metadata, Goto}
 use Rattle.of_action_set.specs.Sets.{with_actions, in_order}
 use Rattle.of_table.specs.declared.flow.Flow.{Flow}
-use Rattle.of_machine.specs.declared.port.Port.{Port}
+use Rattle.of_ports.specs.declared.port.Port.{Port}
 use Rattle.of_machine.specs.declared.data.Packet.{Packet}
 use Rattle.of_machine.specs.declared.data.PacketInReason.{PacketInReason}
 use Rattle.of_machine.specs.declared.data.PacketInReason.TheVariants.{NoMatch, Action as ByAction, InvalidTtl}
 use Rattle.of_machine.specs.declared.data.Item.{Item}
+use Rattle.of_machine.specs.declared.data.ToController.{ToController}
 use Rattle.of_machine.specs.declared.data.Item.TheVariants.{Sent, PacketIn}
 use Rattle.of_machine.specs.declared.data.Count.{Count}
 use Rattle.of_machine.specs.declared.data.Count.TheVariants.{Lookup as CountLookup, Matched, TxDropped, Group as CountGroup, Bucket}
 use Rattle.of_machine.specs.declared.data.Step.{Step}
 use Rattle.of_machine.specs.declared.data.Step.TheVariants.{Miss, Entry, Apply as DidApply, Clear as DidClear, Write as DidWrite, Metadata as DidMetadata, Goto as DidGoto, Set as DidSet, Act as DidAct, TtlExpired, End}
-use Rattle.of_machine.specs.Ports.{may_send, port_at, other_ports}
+use Rattle.of_ports.specs.Ports.{may_send, port_at, other_ports}
 use Rattle.of_machine.specs.TheWorld.{TheWorld}
 
 -- a kind of work
@@ -81,7 +82,7 @@ nothing = record { items = []; counts = [] }
 
 -- to the controller, with the entry and the table that the packet has (7.4.1)
 abbrev pub packet_in : PacketInReason → Packet → Emitted
-packet_in reason p = record { items = PacketIn reason p.table p.cookie p.ingress p.metadata p.frame ∷ []; counts = [] }
+packet_in reason p = record { items = PacketIn (record { reason = reason; table = p.table; cookie = p.cookie; ingress = p.ingress; metadata = p.metadata; frame = p.frame }) ∷ []; counts = [] }
 
 -- an output by the entry for table misses tells that none else was found
 abbrev pub output_reason : Packet → PacketInReason

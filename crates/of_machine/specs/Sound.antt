@@ -4,7 +4,9 @@ use Rattle.of_layers.specs.declared.field.Field.{Field}
 use Rattle.of_actions.specs.declared.action.Action.{Action}
 use Rattle.of_actions.specs.declared.action.Action.TheVariants.{Output, PushVlan, PopVlan, Group, SetNwTtl, DecNwTtl, SetField}
 use Rattle.of_actions.specs.Served.{are_served}
+use Rattle.of_actions.specs.Rising.{is_rising}
 use Rattle.of_actions.specs.InstructionLists.{are_kept, are_for}
+use Rattle.of_ports.specs.Ports.{number_of}
 use Rattle.of_table.specs.declared.flow.Flow.{Flow}
 use Rattle.of_machine.specs.TheWorld.{TheWorld}
 
@@ -44,6 +46,8 @@ pub record IsSound (w : TheWorld) : Type 0 where
   pub kept : (t n : ℕ) (f : Flow) → w.flow t n ≡ Some f → IsTrue (are_kept f.instructions)
   -- and go on to later tables only
   pub onward : (t n : ℕ) (f : Flow) → w.flow t n ≡ Some f → IsTrue (are_for t f.instructions)
+  -- the ports stand by rising number: in this order FLOOD sends
+  pub rising : IsTrue (is_rising number_of w.ports)
   -- chains of groups
   pub short : (g : ℕ) → w.chain g ≤ longest
   pub chained : (g : ℕ) (places : List ℕ) → w.chosen g ≡ Some places → 0 < w.chain g

@@ -3,7 +3,7 @@ use Rattle.std.specs.Prelude.{ℕ, List, Option}
 use Rattle.of_layers.specs.declared.field.Field.{Field}
 use Rattle.of_actions.specs.declared.action.Action.{Action}
 use Rattle.of_table.specs.declared.flow.Flow.{Flow}
-use Rattle.of_machine.specs.declared.port.Port.{Port}
+use Rattle.of_ports.specs.declared.port.Port.{Port}
 
 pub record TheWorld : Type 0 where
   -- the number of the entry of a table that wins for a field map (5.3)

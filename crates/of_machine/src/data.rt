@@ -44,19 +44,23 @@ pub enum PacketInReason {
 #[derive(Debug, Drop)]
 pub enum Item {
     /// A frame out of a port.
-    Sent {
-        port: u32,
-        frame: Bytes,
-    },
-    /// A packet to the controller (OpenFlow 1.3.5, 7.4.1).
-    PacketIn {
-        reason: PacketInReason,
-        table: u8,
-        cookie: u64,
-        ingress: u32,
-        metadata: u64,
-        frame: Bytes,
-    },
+    Sent { port: u32, frame: Bytes },
+    /// A packet to the controller.
+    PacketIn(ToController),
+}
+
+/// A packet to the controller (OpenFlow 1.3.5, 7.4.1).
+#[derive(Debug, Drop)]
+pub struct ToController {
+    pub reason: PacketInReason,
+    /// The table of the last look-up that found an entry.
+    pub table: u8,
+    /// The cookie of the entry whose instructions were followed, and all ones where there was none.
+    pub cookie: u64,
+    /// The number of the port by which the packet came in.
+    pub ingress: u32,
+    pub metadata: u64,
+    pub frame: Bytes,
 }
 
 /// What is counted (OpenFlow 1.3.5, 5.8).

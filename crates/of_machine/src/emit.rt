@@ -2,13 +2,13 @@
 ghost use Rattle.std.specs.Prelude.{◌≡◌, IfOk, OnOk};
 ghost use Rattle.std.specs.Option.{option_copied};
 ghost use Rattle.of_machine.specs.Rows.{emission, to_port, packet_in, flooded, output_reason};
-ghost use Rattle.of_machine.specs.Ports.{port_at};
+ghost use Rattle.of_ports.specs.Ports.{port_at};
 ghost use Rattle.of_machine.specs.Gained.{Gains};
 
-use crate::data::{Count, Item, Outcome, Packet, PacketInReason};
+use crate::data::{Count, Item, Outcome, Packet, PacketInReason, ToController};
 use crate::packet_frame::PacketFrame;
-use crate::port::Port;
 use of_actions::{PORT_ALL, PORT_CONTROLLER, PORT_FLOOD, PORT_IN_PORT};
+use of_ports::Port;
 use of_wire::Bytes;
 use std::alloc::{AllocError, Global};
 
@@ -55,14 +55,14 @@ pub(crate) fn to_controller(
     ensures { OnOk result (Gains outcome.old (packet_in reason packet.now) outcome.new) }
 {
     let frame = bytes_of(*outcome.items.allocator(), &packet.frame)?;
-    outcome.items.push(Item::PacketIn {
+    outcome.items.push(Item::PacketIn(ToController {
         reason,
         table: packet.table,
         cookie: packet.cookie,
         ingress: packet.ingress,
         metadata: packet.metadata,
         frame,
-    })?;
+    }))?;
     Ok(())
 }
 

@@ -6,16 +6,14 @@ mod emit;
 mod laws;
 mod machine;
 mod packet_frame;
-mod port;
 mod runs;
 mod tables;
 mod world;
 
-pub use data::{Count, Counts, Item, Items, Outcome, Packet, PacketInReason, Step};
+pub use data::{Count, Counts, Item, Items, Outcome, Packet, PacketInReason, Step, ToController};
 pub use laws::{every_run_ends, frames_stay_short, numbers_are_names, packets_take_turns};
 pub use of_groups::Chosen;
 pub use packet_frame::PacketFrame;
-pub use port::{Port, PortCounters};
 pub use runs::{run, run_actions};
 pub use tables::is_miss;
 pub use world::{NoLog, StepLog, Steps, World};

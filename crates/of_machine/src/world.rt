@@ -6,10 +6,10 @@ ghost use Rattle.of_machine.specs.Sound.{IsSound};
 ghost use Rattle.of_machine.specs.declared.data.Step.{Step};
 
 use crate::data::Step;
-use crate::port::Port;
 use of_actions::Action;
 use of_groups::Chosen;
 use of_headers::FieldKey;
+use of_ports::Port;
 use of_table::Flow;
 use std::alloc::{AllocError, Global};
 
@@ -47,7 +47,7 @@ pub trait World {
     fn ports(&self) -> &[Port]
         ensures { result.now ≡ (view self.now).ports };
 
-    /// What each world promises: winners are numbers of entries, instructions are as an entry keeps them, and chains of groups are short.
+    /// What each world promises: winners are numbers of entries, instructions are as an entry keeps them, chains of groups are short, and ports stand by rising number.
     fn known(&self)
         ensures { IsSound (view self.now) };
 }

@@ -15,7 +15,7 @@ use Rattle.of_replay.specs.declared.halt.Halt.TheVariants.{Bad, Memory, Read, Wr
 use Rattle.of_replay.specs.Told.{then_bytes}
 use Rattle.of_replay.specs.Transfer.{WroteFront}
 use Rattle.of_replay.specs.Lexing.{whole_from, whole_lines, last_from, is_line}
-use Rattle.of_replay.specs.Rows.{EventRow, Passed, Connect, Piece, Frame, Moment, PortAdd, Rows, row_of, row_and, rows_of, events_in}
+use Rattle.of_replay.specs.Rows.{EventRow, Passed, Connect, Piece, Frame, Moment, Ports, Rows, row_of, row_and, rows_of, events_in}
 use Rattle.of_replay.specs.Output.{report_text, printed_from, printed}
 use Rattle.of_replay.specs.Play.{open_line, lines_read}
 use Rattle.of_replay.specs.Stepping.{row_happened, LineTells, LineGoes, Prints, PrintsFirst, Going, Within, Halts, PieceGoes, WritesFail}
@@ -31,7 +31,7 @@ row_text Connect s = sym (append-nil _)
 row_text (Piece bytes) s = sym (append-nil _)
 row_text (Frame port bytes) s = sym (append-nil _)
 row_text (Moment nanos) s = sym (append-nil _)
-row_text (PortAdd p) s = sym (append-nil _)
+row_text (Ports change) s = sym (append-nil _)
 
 row_state : (row : EventRow) (s : State) → (row_happened s row).state ≡ (run (events_in row) s).state
 row_state Passed s = refl
@@ -39,7 +39,7 @@ row_state Connect s = refl
 row_state (Piece bytes) s = refl
 row_state (Frame port bytes) s = refl
 row_state (Moment nanos) s = refl
-row_state (PortAdd p) s = refl
+row_state (Ports change) s = refl
 
 -- nothing was written yet
 pub line_kept : (row : Option EventRow) (n : ℕ) (s held : State) (out out' : List ℕ) (taken : Option (List ℕ)) → LineTells (Ok tt) n row s held out out' → LineGoes (Ok tt) n row s held out out' taken taken

@@ -4,13 +4,15 @@
 --   f PORT HEX
 --   t NANOS
 --   port add N HW NAME up|down
+--   port remove N
+--   port link N up|down
 use Rattle.std.specs.Prelude.{ℕ, ◌+◌, not, List, [], ◌∷◌, ◌++◌, codes, Option, Some, None, if◌then◌else◌}
 use Rattle.std.specs.Option.{option_map}
 use Rattle.std.specs.Str.{bytes_eq}
 use Rattle.of_switch.specs.declared.event.Event.{Event}
 use Rattle.of_switch.specs.declared.event.Event.TheVariants as event
-use Rattle.of_switch.specs.declared.port_change.PortChange.TheVariants.{Add}
-use Rattle.of_replay.specs.declared.rows.NewPort.{NewPort}
+use Rattle.of_switch.specs.declared.port_change.PortChange.{PortChange}
+use Rattle.of_switch.specs.declared.port_change.PortChange.TheVariants.{Add, Remove, Link}
 use Rattle.of_replay.specs.declared.rows.Row.{Row}
 use Rattle.of_replay.specs.declared.rows.Row.TheVariants as row
 use Rattle.of_replay.specs.Lexing.{is_line, is_passed, first_word, after_word, number_of, moment_of, bytes_of, hw_of, name_of, state_of}
@@ -22,7 +24,7 @@ pub data EventRow : Type 0 where
   Piece : (bytes : List ℕ) → EventRow
   Frame : (port : ℕ) (bytes : List ℕ) → EventRow
   Moment : (nanos : ℕ) → EventRow
-  PortAdd : (port : NewPort) → EventRow
+  Ports : (change : PortChange) → EventRow
 
 -- the second step, if the first gave a value
 infixl 10 ◌>>=◌
@@ -43,7 +45,7 @@ frame_row words = do
   Some (Frame port bytes)
 
 -- behind `port add`
-abbrev pub added_port : List ℕ → Option NewPort
+abbrev pub added_port : List ℕ → Option PortChange
 added_port words = do
   number ← number_of (first_word words)
   more ← after_word words
@@ -52,10 +54,35 @@ added_port words = do
   name ← name_of (first_word last)
   word ← after_word last
   up ← state_of word
-  Some (record { number = number; hw = hw; name = name; up = up })
+  Some (Add number hw name up)
 
-abbrev pub port_of : List ℕ → Option NewPort
-port_of words = if bytes_eq (first_word words) (codes "add") then after_word words >>= added_port else None
+-- behind `port remove`
+abbrev pub removed_port : List ℕ → Option PortChange
+removed_port word = do
+  number ← number_of word
+  Some (Remove number)
+
+-- behind `port link`
+abbrev pub linked_port : List ℕ → Option PortChange
+linked_port words = do
+  number ← number_of (first_word words)
+  word ← after_word words
+  up ← state_of word
+  Some (Link number up)
+
+-- a change of that name, and its other words
+abbrev pub change_of : List ℕ → List ℕ → Option PortChange
+change_of name words =
+    if bytes_eq name (codes "add") then added_port words
+    else (if bytes_eq name (codes "remove") then removed_port words
+    else (if bytes_eq name (codes "link") then linked_port words
+    else None))
+
+-- behind `port`
+abbrev pub port_of : List ℕ → Option PortChange
+port_of words = do
+  more ← after_word words
+  change_of (first_word words) more
 
 -- a row of that name, and its other words
 abbrev pub named_row : List ℕ → List ℕ → Option EventRow
@@ -63,7 +90,7 @@ named_row name words =
     if bytes_eq name (codes "c") then piece_row words
     else (if bytes_eq name (codes "f") then frame_row words
     else (if bytes_eq name (codes "t") then option_map Moment (moment_of words)
-    else (if bytes_eq name (codes "port") then option_map PortAdd (port_of words)
+    else (if bytes_eq name (codes "port") then option_map Ports (port_of words)
     else None)))
 
 abbrev pub row_in : List ℕ → Option (List ℕ) → Option EventRow
@@ -86,7 +113,7 @@ events_in Connect = event.Connect ∷ []
 events_in (Piece bytes) = event.Piece bytes ∷ []
 events_in (Frame port bytes) = event.Frame port bytes ∷ []
 events_in (Moment nanos) = event.Moment nanos ∷ []
-events_in (PortAdd p) = event.Ports (Add p.number p.hw p.name p.up) ∷ []
+events_in (Ports change) = event.Ports change ∷ []
 
 -- the events of lines up to the first bad one, and the number of that one, counted from 1
 pub record Rows : Type 0 where
@@ -111,4 +138,4 @@ with_bytes bytes row.Connect = Connect
 with_bytes bytes row.Piece = Piece bytes
 with_bytes bytes (row.Frame port) = Frame port bytes
 with_bytes bytes (row.Moment nanos) = Moment nanos
-with_bytes bytes (row.PortAdd port) = PortAdd port
+with_bytes bytes (row.Ports change) = Ports change

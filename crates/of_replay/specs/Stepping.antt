@@ -4,7 +4,6 @@ use Rattle.smallvec.specs.SmallVec.{SmallVec}
 use Rattle.of_switch.specs.declared.effect.Effect.{Effect}
 use Rattle.of_switch.specs.declared.switch_error.SwitchError.{SwitchError}
 use Rattle.of_switch.specs.declared.switch_error.SwitchError.TheVariants as error
-use Rattle.of_switch.specs.declared.port_change.PortChange.TheVariants.{Add}
 use Rattle.of_switch.specs.declared.event.Event.{Event}
 use Rattle.of_switch.specs.declared.event.Event.TheVariants as event
 use Rattle.of_switch.specs.State.{State, start}
@@ -16,7 +15,7 @@ use Rattle.of_replay.specs.declared.event_file.Ended.TheVariants.{Done, BadRow, 
 use Rattle.of_replay.specs.Told.{Answer, then_bytes, given}
 use Rattle.of_replay.specs.Transfer.{then_answers, WroteFront}
 use Rattle.of_replay.specs.Lexing.{whole_lines, whole_from, last_from}
-use Rattle.of_replay.specs.Rows.{EventRow, Passed, Connect, Piece, Frame, Moment, PortAdd, Rows, rows_of, events_in}
+use Rattle.of_replay.specs.Rows.{EventRow, Passed, Connect, Piece, Frame, Moment, Ports, Rows, rows_of, events_in}
 use Rattle.of_replay.specs.Output.{report_text, printed_from, printed}
 use Rattle.of_replay.specs.Play.{lines_read}
 
@@ -29,7 +28,7 @@ row_happened s Connect = happened event.Connect s
 row_happened s (Piece bytes) = happened (event.Piece bytes) s
 row_happened s (Frame port bytes) = happened (event.Frame port bytes) s
 row_happened s (Moment nanos) = happened (event.Moment nanos) s
-row_happened s (PortAdd p) = happened (event.Ports (Add p.number p.hw p.name p.up)) s
+row_happened s (Ports change) = happened (event.Ports change) s
 
 -- a call's report
 abbrev pub IsReport : Result (SmallVec Effect) SwitchError → Report → Type 0

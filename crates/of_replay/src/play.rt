@@ -6,9 +6,9 @@ ghost use Rattle.of_switch.specs.declared.switch_error.SwitchError.TheVariants.{
 ghost use Rattle.of_replay.specs.Rows.{with_bytes};
 ghost use Rattle.of_replay.specs.Stepping.{RowGives, row_happened};
 
-use crate::rows::{NewPort, Row};
+use crate::rows::Row;
 use of_classifier::Lookup;
-use of_switch::{Effects, Event, PortChange, Switch, SwitchError};
+use of_switch::{Effects, Event, Switch, SwitchError};
 use std::alloc::{AllocError, Global};
 
 /// What a row gives.
@@ -26,23 +26,7 @@ pub fn play_row<L: Lookup>(
         Row::Piece => play_piece(alloc, switch, bytes),
         Row::Frame { port } => switch.frame(port, bytes),
         Row::Moment { nanos } => switch.moment(nanos),
-        Row::PortAdd(port) => {
-            let NewPort {
-                number,
-                hw,
-                name,
-                up,
-            } = port;
-            match switch.port_change(PortChange::Add {
-                number,
-                hw,
-                name,
-                up,
-            }) {
-                Ok(()) => Ok(Effects::new(alloc)),
-                Err(refusal) => Err(refusal),
-            }
-        }
+        Row::Ports(change) => switch.port_change(change),
     }
 }
 

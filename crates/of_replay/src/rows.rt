@@ -1,25 +1,14 @@
 //! The rows of event files.
 ghost use Rattle.std.specs.Prelude.{◌≡◌, IfOk};
 ghost use Rattle.std.specs.Option.{option_map};
-ghost use Rattle.of_replay.specs.Rows.{row_of, with_bytes, piece_row, frame_row, port_of, added_port, named_row};
+ghost use Rattle.of_replay.specs.Rows.{row_of, with_bytes, piece_row, frame_row, port_of, change_of, added_port, removed_port, linked_port, named_row};
 
 use crate::lexing::{
     cut_word, is, is_passed_over, is_readable, read_bytes, read_hw, read_moment, read_name,
     read_number, read_state,
 };
+use of_switch::PortChange;
 use std::alloc::AllocError;
-
-/// A port as a row gives it.
-#[derive(Clone, Copy, Debug, PartialEq, Eq)]
-pub struct NewPort {
-    pub number: u32,
-    /// The hardware address.
-    pub hw: [u8; 6],
-    /// The name, padded with zeros.
-    pub name: [u8; 16],
-    /// Whether its link is up.
-    pub up: bool,
-}
 
 /// A row of an event file. The bytes of a piece or a frame stand in the buffer that it was read with.
 #[derive(Clone, Copy, Debug, PartialEq, Eq)]
@@ -34,8 +23,8 @@ pub enum Row {
     Frame { port: u32 },
     /// It is so many nanoseconds.
     Moment { nanos: u64 },
-    /// A port is added.
-    PortAdd(NewPort),
+    /// The ports change.
+    Ports(PortChange),
 }
 
 // `c HEX`, from its second word on.
@@ -68,7 +57,7 @@ fn read_frame(words: &[u8], bytes: &mut Vec<u8>) -> Result<Option<Row>, AllocErr
 }
 
 // `port add N HW NAME up|down`, from its third word on.
-fn read_port_add(words: &[u8]) -> Option<NewPort>
+fn read_port_add(words: &[u8]) -> Option<PortChange>
     ensures { result ≡ added_port words.now }
 {
     let (number, rest) = cut_word(words);
@@ -78,7 +67,7 @@ fn read_port_add(words: &[u8]) -> Option<NewPort>
     let (name, rest) = cut_word(rest?);
     let name = read_name(name)?;
     let up = read_state(rest?)?;
-    Some(NewPort {
+    Some(PortChange::Add {
         number,
         hw,
         name,
@@ -86,15 +75,46 @@ fn read_port_add(words: &[u8]) -> Option<NewPort>
     })
 }
 
+// `port remove N`, from its third word on.
+fn read_port_remove(word: &[u8]) -> Option<PortChange>
+    ensures { result ≡ removed_port word.now }
+{
+    let number = read_number(word)?;
+    Some(PortChange::Remove { number })
+}
+
+// `port link N up|down`, from its third word on.
+fn read_port_link(words: &[u8]) -> Option<PortChange>
+    ensures { result ≡ linked_port words.now }
+{
+    let (number, rest) = cut_word(words);
+    let number = read_number(number)?;
+    let up = read_state(rest?)?;
+    Some(PortChange::Link { number, up })
+}
+
+// `port ..`, from its third word on.
+fn read_change(change: &[u8], words: &[u8]) -> Option<PortChange>
+    ensures { result ≡ change_of change.now words.now }
+{
+    if is(change, b"add") {
+        return read_port_add(words);
+    }
+    if is(change, b"remove") {
+        return read_port_remove(words);
+    }
+    if is(change, b"link") {
+        return read_port_link(words);
+    }
+    None
+}
+
 // `port ..`, from its second word on.
-fn read_port(words: &[u8]) -> Option<NewPort>
+fn read_port(words: &[u8]) -> Option<PortChange>
     ensures { result ≡ port_of words.now }
 {
     let (change, rest) = cut_word(words);
-    if !is(change, b"add") {
-        return None;
-    }
-    read_port_add(rest?)
+    read_change(change, rest?)
 }
 
 // A row of more words than one.
@@ -111,7 +131,7 @@ fn read_named(name: &[u8], words: &[u8], bytes: &mut Vec<u8>) -> Result<Option<R
         return Ok(read_moment(words).map(|nanos| Row::Moment { nanos }));
     }
     if is(name, b"port") {
-        return Ok(read_port(words).map(Row::PortAdd));
+        return Ok(read_port(words).map(Row::Ports));
     }
     Ok(None)
 }

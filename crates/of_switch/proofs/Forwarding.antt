@@ -3,7 +3,7 @@ use Rattle.std.proofs.Common.{◌≡◌, ℕ, ◌≤◌, List, length, sym, ap, 
 use Rattle.std.proofs.lemmas.List.Elements.{All-weaker}
 use Rattle.of_table.specs.Tables.{NumberedTables}
 use Rattle.of_groups.specs.declared.group.Group.{Group}
-use Rattle.of_machine.specs.declared.port.Port.{Port}
+use Rattle.of_ports.specs.declared.port.Port.{Port}
 use Rattle.of_machine.specs.declared.data.Item.{Item}
 use Rattle.of_machine.specs.declared.data.Count.{Count}
 use Rattle.of_machine.specs.declared.data.Packet.{Packet}
@@ -20,31 +20,32 @@ use Rattle.of_switch.specs.Numbers.{forwarding_of, numbered_world, place_in, all
 use Rattle.of_switch.proofs.Worlds.{AreDistinct, renumbered_world}
 
 -- what is done by places, of a run by numbers
-by_places : (phase : Phase) (p : Packet) (work : List Work) (t : NumberedTables) (groups : List Group) (ports : List Port) (f : Forwarding) → AreDistinct t
-    → applied phase (run_of (world_of (forwarding_of t groups ports)) p work) f ≡ applied phase (renumbered (place_in t) (run_of (numbered_world t groups ports) p work)) f
-by_places phase p work t groups ports f distinct =
-    ap (λ (m : Machine). applied phase m f)
+by_places : (phase : Phase) (seen : List Port) (p : Packet) (work : List Work) (t : NumberedTables) (groups : List Group) (ports : List Port) (f : Forwarding) → AreDistinct t
+    → applied phase seen (run_of (world_of (forwarding_of t groups ports)) p work) f ≡ applied phase seen (renumbered (place_in t) (run_of (numbered_world t groups ports) p work)) f
+by_places phase seen p work t groups ports f distinct =
+    ap (λ (m : Machine). applied phase seen m f)
     (run_is_renumbered (place_in t) (numbered_world t groups ports) (world_of (forwarding_of t groups ports)) (renumbered_world t groups ports distinct) p work)
 
 -- what a run by numbers gives and counts, as a plan
-pub way_is : (phase : Phase) (p packet : Packet) (work : List Work) (t : NumberedTables) (groups : List Group) (ports : List Port) (items : List Item) (counts : List Count) (effects : List Effect) (before after : Forwarding)
+pub way_is : (phase : Phase) (p packet : Packet) (work : List Work) (t : NumberedTables) (groups : List Group) (ports : List Port) (items : List Item) (counts : List Count) (effects : List Effect) (seen : List Port) (before after : Forwarding)
     → AreDistinct t
     → packet ≡ p
     → items ≡ (run_of (numbered_world t groups ports) packet work).items
     → counts ≡ (run_of (numbered_world t groups ports) packet work).counts
-    → effects ≡ effects_of phase items
+    → seen ≡ ports
+    → effects ≡ effects_of phase seen items
     → after ≡ all_sent effects (all_tallied (all_placed t counts) before)
-    → applied phase (run_of (world_of (forwarding_of t groups ports)) p work) before ≡ forwards effects after
-way_is phase p packet work t groups ports items counts effects before after distinct enters is_items is_counts told ends =
+    → applied phase ports (run_of (world_of (forwarding_of t groups ports)) p work) before ≡ forwards effects after
+way_is phase p packet work t groups ports items counts effects seen before after distinct enters is_items is_counts same told ends =
     let m = run_of (numbered_world t groups ports) p work in
     let the_items : items ≡ m.items = is_items ∙ ap (λ (q : Packet). (run_of (numbered_world t groups ports) q work).items) enters in
     let the_counts : counts ≡ m.counts = is_counts ∙ ap (λ (q : Packet). (run_of (numbered_world t groups ports) q work).counts) enters in
-    let the_effects : effects ≡ effects_of phase m.items = told ∙ ap (effects_of phase) the_items in
-    let ended : after ≡ all_sent (effects_of phase m.items) (all_tallied (all_placed t m.counts) before) =
+    let the_effects : effects ≡ effects_of phase ports m.items = told ∙ ap (effects_of phase seen) the_items ∙ ap (λ (ps : List Port). effects_of phase ps m.items) same in
+    let ended : after ≡ all_sent (effects_of phase ports m.items) (all_tallied (all_placed t m.counts) before) =
     ends ∙ ap (λ (es : List Effect). all_sent es (all_tallied (all_placed t counts) before)) the_effects
-    ∙ ap (λ (cs : List Count). all_sent (effects_of phase m.items) (all_tallied (all_placed t cs) before)) the_counts in
-    by_places phase p work t groups ports before distinct
-    ∙ (ap (λ (g : Forwarding). forwards (effects_of phase m.items) g) (sym ended)
+    ∙ ap (λ (cs : List Count). all_sent (effects_of phase ports m.items) (all_tallied (all_placed t cs) before)) the_counts in
+    by_places phase ports p work t groups ports before distinct
+    ∙ (ap (λ (g : Forwarding). forwards (effects_of phase ports m.items) g) (sym ended)
     ∙ ap (λ (es : List Effect). forwards es after) (sym the_effects))
 
 -- frames that fit fewer bytes fit more

@@ -9,6 +9,7 @@ pub mod Draining
 pub mod Joining
 pub mod Handling
 pub mod GroupHandling
+pub mod PortHandling
 pub mod InTurn
 pub mod Running
 pub mod OnLiterals

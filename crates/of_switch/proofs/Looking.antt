@@ -18,9 +18,10 @@ use Rattle.of_groups.specs.declared.group.Group.{Group}
 use Rattle.of_groups.specs.Sound.{AreSound as AreSoundGroups}
 use Rattle.of_groups.proofs.ChainLaws.{chain_at_most}
 use Rattle.of_groups.proofs.WorldLemmas.{groups_serve}
-use Rattle.of_machine.specs.declared.port.Port.{Port}
+use Rattle.of_ports.specs.declared.port.Port.{Port}
 use Rattle.of_machine.specs.Sound.{IsSound}
-use Rattle.of_switch.specs.Ports.{is_live_port}
+use Rattle.of_ports.specs.Ports.{is_live_at, number_of}
+use Rattle.of_actions.specs.Rising.{is_rising}
 use Rattle.of_switch.specs.Plane.{world_of, winner_in, flow_in}
 use Rattle.of_switch.specs.Numbers.{forwarding_of, entries_at}
 use Rattle.of_switch.proofs.GroupWorlds.{are_buckets}
@@ -44,15 +45,16 @@ module _ (n : NumberedTables) (groups : List Group) (ports : List Port) where
   fit_here fit t place f e = both (are_kept f.instructions) (are_for t f.instructions) (flow_fit t place (table_at t (tables_of n)).flows f (fit t).fit e)
 
   -- what the world by places promises
-  pub sound_by_places : AreFit n → AreSoundGroups groups → IsSound (world_of (forwarding_of n groups ports))
-  sound_by_places fit sound = record {
+  pub sound_by_places : AreFit n → AreSoundGroups groups → is_rising number_of ports ≡ true → IsSound (world_of (forwarding_of n groups ports))
+  sound_by_places fit sound rising = record {
+    rising = rising;
     found = λ t fields place h. there t fields place h;
     kept = λ t place f e. (fit_here fit t place f e).0;
     onward = λ t place f e. (fit_here fit t place f e).1;
     short = λ g. chain_at_most groups g sound.short;
-    chained = λ g places e. (groups_serve groups (is_live_port ports) g places sound e).chained;
-    few = λ g places e. (groups_serve groups (is_live_port ports) g places sound e).few;
-    buckets = λ g places e. are_buckets (world_of (forwarding_of n groups ports)) groups (λ g. refl) (λ g place. refl) g places (groups_serve groups (is_live_port ports) g places sound e).buckets;
+    chained = λ g places e. (groups_serve groups (is_live_at ports) g places sound e).chained;
+    few = λ g places e. (groups_serve groups (is_live_at ports) g places sound e).few;
+    buckets = λ g places e. are_buckets (world_of (forwarding_of n groups ports)) groups (λ g. refl) (λ g place. refl) g places (groups_serve groups (is_live_at ports) g places sound e).buckets;
   }
 
   -- a flow that is there stands in one of the sixteen tables

@@ -19,14 +19,15 @@ use Rattle.of_groups.specs.declared.group.Group.{Group}
 use Rattle.of_groups.specs.Sound.{AreSound as AreSoundGroups}
 use Rattle.of_groups.proofs.ChainLaws.{chain_at_most}
 use Rattle.of_groups.proofs.WorldLemmas.{groups_serve}
-use Rattle.of_machine.specs.declared.port.Port.{Port}
+use Rattle.of_ports.specs.declared.port.Port.{Port}
 use Rattle.of_table.specs.declared.flow.Flow.{Flow}
 use Rattle.of_table.specs.Sound.{AreSound, are_fit, is_fit}
 use Rattle.of_actions.specs.InstructionLists.{are_kept, are_for}
 use Rattle.std.specs.List.{list_all}
 use Rattle.of_machine.specs.Sound.{IsSound}
 use Rattle.of_machine.specs.Renumbering.{IsRenumbered}
-use Rattle.of_switch.specs.Ports.{is_live_port}
+use Rattle.of_ports.specs.Ports.{is_live_at, number_of}
+use Rattle.of_actions.specs.Rising.{is_rising}
 use Rattle.of_switch.specs.Plane.{world_of}
 use Rattle.of_switch.specs.Numbers.{forwarding_of, entries_at, number_at, numbered_winner, numbered_flow, numbered_world, place_in}
 use Rattle.of_switch.proofs.GroupWorlds.{are_buckets}
@@ -119,14 +120,15 @@ fit_here n t number f fit e =
     both (are_kept f.instructions) (are_for t f.instructions) (flow_fit t (place_of number (entries_at n t)) (flows_of (entries_at n t)) f flows e)
 
 -- what a world promises: each winner is the number of an entry, its instructions may stand there, and the groups serve
-pub sound_world : (n : NumberedTables) (groups : List Group) (ports : List Port) → AreDistinct n → AreFit n → AreSoundGroups groups → IsSound (numbered_world n groups ports)
-sound_world n groups ports distinct fit sound = record {
+pub sound_world : (n : NumberedTables) (groups : List Group) (ports : List Port) → AreDistinct n → AreFit n → AreSoundGroups groups → is_rising number_of ports ≡ true → IsSound (numbered_world n groups ports)
+sound_world n groups ports distinct fit sound rising = record {
+  rising = rising;
   kept = λ t number f e. (fit_here n t number f fit e).0;
   onward = λ t number f e. (fit_here n t number f fit e).1;
   short = λ g. chain_at_most groups g sound.short;
-  chained = λ g places e. (groups_serve groups (is_live_port ports) g places sound e).chained;
-  few = λ g places e. (groups_serve groups (is_live_port ports) g places sound e).few;
-  buckets = λ g places e. are_buckets (numbered_world n groups ports) groups (λ g. refl) (λ g place. refl) g places (groups_serve groups (is_live_port ports) g places sound e).buckets;
+  chained = λ g places e. (groups_serve groups (is_live_at ports) g places sound e).chained;
+  few = λ g places e. (groups_serve groups (is_live_at ports) g places sound e).few;
+  buckets = λ g places e. are_buckets (numbered_world n groups ports) groups (λ g. refl) (λ g place. refl) g places (groups_serve groups (is_live_at ports) g places sound e).buckets;
   found = λ t fields number h none. sound_by (entries_at n t) fields number (winner_place fields (flows_of (entries_at n t))) (distinct t) refl h none;
 }
 

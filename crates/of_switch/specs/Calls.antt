@@ -2,10 +2,11 @@
 use Rattle.std.specs.Prelude.{◌≡◌, ℕ, nat_le, Bool, not, List, [], ◌∷◌, length, Option, Some, None, Result, Ok, Err, if◌then◌else◌}
 use Rattle.of_session.specs.Session.{is_disconnected}
 use Rattle.of_switch.specs.declared.switch_error.SwitchError.{SwitchError}
-use Rattle.of_switch.specs.declared.switch_error.SwitchError.TheVariants.{NoMemory, NotConnected, Connected, PortExists, TooManyPorts, BadPortNumber}
+use Rattle.of_switch.specs.declared.switch_error.SwitchError.TheVariants.{NoMemory, NotConnected, Connected, PortExists, NoSuchPort, TooManyPorts, BadPortNumber}
 use Rattle.of_switch.specs.declared.port_change.PortChange.{PortChange}
-use Rattle.of_switch.specs.declared.port_change.PortChange.TheVariants.{Add}
-use Rattle.of_switch.specs.Ports.{has_port, is_number}
+use Rattle.of_switch.specs.declared.port_change.PortChange.TheVariants.{Add, Remove, Link}
+use Rattle.of_actions.specs.PortNumbers.{is_number}
+use Rattle.of_ports.specs.Ports.{has_port}
 use Rattle.of_switch.specs.State.{State}
 
 -- the numbers of the refusals; 2 is no longer used
@@ -14,6 +15,7 @@ number_of NoMemory = 1
 number_of NotConnected = 3
 number_of Connected = 4
 number_of PortExists = 5
+number_of NoSuchPort = 6
 number_of TooManyPorts = 7
 number_of BadPortNumber = 8
 
@@ -34,10 +36,21 @@ connect_refusal s = first_refusal ((not (is_disconnected s.connection.phase), Co
 abbrev pub feed_refusal : State → Option SwitchError
 feed_refusal s = first_refusal ((is_disconnected s.connection.phase, NotConnected) ∷ [])
 
--- the number is looked at first; there are 64 ports at most
-abbrev pub port_refusal : PortChange → State → Option SwitchError
-port_refusal (Add number hw name up) s =
+-- the number is looked at first; a port that is added is not there, and there are 64 ports at most; one that goes or whose link changes is there
+abbrev pub absent_refusal : ℕ → State → Option SwitchError
+absent_refusal number s =
+    first_refusal ((not (is_number number), BadPortNumber)
+    ∷ (not (has_port number s.core.forwarding.ports), NoSuchPort)
+    ∷ [])
+
+abbrev pub new_refusal : ℕ → State → Option SwitchError
+new_refusal number s =
     first_refusal ((not (is_number number), BadPortNumber)
     ∷ (has_port number s.core.forwarding.ports, PortExists)
     ∷ (nat_le 64 (length s.core.forwarding.ports), TooManyPorts)
     ∷ [])
+
+abbrev pub port_refusal : PortChange → State → Option SwitchError
+port_refusal (Add number hw name up) s = new_refusal number s
+port_refusal (Remove number) s = absent_refusal number s
+port_refusal (Link number up) s = absent_refusal number s

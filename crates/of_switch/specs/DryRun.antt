@@ -3,8 +3,8 @@ use Rattle.std.specs.Prelude.{◌≡◌, ℕ, List, [], ◌∷◌, ◌++◌, Opt
 use Rattle.of_headers.specs.declared.headers.FrameFault.{FrameFault}
 use Rattle.of_headers.specs.Faults.{frame_fault}
 use Rattle.of_machine.specs.declared.data.Step.{Step}
-use Rattle.of_machine.specs.declared.port.Port.{Port}
-use Rattle.of_machine.specs.Ports.{port_at}
+use Rattle.of_ports.specs.declared.port.Port.{Port}
+use Rattle.of_ports.specs.Ports.{may_receive, port_at}
 use Rattle.of_machine.specs.Rows.{Lookup as LookUp, entering}
 use Rattle.of_machine.specs.Runs.{run_of}
 use Rattle.of_switch.specs.Plane.{Forwarding, world_of}
@@ -18,10 +18,10 @@ abbrev pub taken_in_steps : ℕ → List ℕ → Forwarding → Option FrameFaul
 taken_in_steps number bytes f (Some fault) = []
 taken_in_steps number bytes f None = received_steps number bytes f
 
--- nor does one at a port that is not there or whose link is down
+-- nor does one at a port that is not there or may not receive
 abbrev pub arriving_steps : ℕ → List ℕ → Forwarding → Option Port → List Step
 arriving_steps number bytes f None = []
-arriving_steps number bytes f (Some p) = if p.is_link_up then taken_in_steps number bytes f (frame_fault bytes) else []
+arriving_steps number bytes f (Some p) = if may_receive p then taken_in_steps number bytes f (frame_fault bytes) else []
 
 -- THE STEPS of a frame that comes in by a port
 abbrev pub steps_in : ℕ → List ℕ → Forwarding → List Step

@@ -1,4 +1,3 @@
-pub mod Ports
 pub mod Told
 pub mod Plane
 pub mod Numbers
@@ -6,6 +5,8 @@ pub mod DryRun
 pub mod Plans
 pub mod State
 pub mod Commands
+pub mod PortStatus
+pub mod PortMods
 pub mod GroupMods
 pub mod Steps
 pub mod Handling

@@ -11,11 +11,11 @@ use Rattle.of_groups.specs.declared.group.Group.{Group}
 use Rattle.of_groups.specs.Groups.{bucket_at}
 use Rattle.of_groups.specs.Chains.{chain}
 use Rattle.of_groups.specs.Liveness.{chosen}
-use Rattle.of_machine.specs.declared.port.Port.{Port}
+use Rattle.of_ports.specs.declared.port.Port.{Port}
 use Rattle.of_machine.specs.declared.data.Count.{Count}
 use Rattle.of_machine.specs.TheWorld.{TheWorld}
 use Rattle.of_machine.specs.Renumbering.{renumbered_count}
-use Rattle.of_switch.specs.Ports.{is_live_port}
+use Rattle.of_ports.specs.Ports.{is_live_at}
 use Rattle.of_switch.specs.Plane.{Forwarding}
 
 -- without the numbers
@@ -47,7 +47,7 @@ numbered_flow n t number = flow_at (place_of number (entries_at n t)) (flows_of 
 
 -- what the machine sees of it
 abbrev pub numbered_world : NumberedTables → List Group → List Port → TheWorld
-numbered_world n groups ports = record { winner = numbered_winner n; flow = numbered_flow n; chosen = chosen groups (is_live_port ports); bucket = bucket_at groups; ports = ports; chain = chain groups }
+numbered_world n groups ports = record { winner = numbered_winner n; flow = numbered_flow n; chosen = chosen groups (is_live_at ports); bucket = bucket_at groups; ports = ports; chain = chain groups }
 
 -- the place of a number in a table
 abbrev pub place_in : NumberedTables → ℕ → ℕ → ℕ

@@ -10,17 +10,16 @@ use Rattle.of_groups.specs.declared.group.Group.{Group}
 use Rattle.of_groups.specs.Groups.{bucket_at, counted, bucket_counted}
 use Rattle.of_groups.specs.Chains.{chain}
 use Rattle.of_groups.specs.Liveness.{chosen}
-use Rattle.of_machine.specs.declared.port.Port.{Port}
+use Rattle.of_ports.specs.declared.port.Port.{Port}
 use Rattle.of_machine.specs.declared.data.Count.{Count}
 use Rattle.of_machine.specs.declared.data.Count.TheVariants.{Lookup, Matched, TxDropped, Group as GroupUse, Bucket}
 use Rattle.of_machine.specs.declared.data.Packet.{Packet}
-use Rattle.of_machine.specs.Ports.{port_at}
 use Rattle.of_machine.specs.TheWorld.{TheWorld}
 use Rattle.of_machine.specs.Rows.{Work, Lookup as LookUp, entering}
 use Rattle.of_machine.specs.Runs.{Machine, run_of}
-use Rattle.of_switch.specs.declared.plane.PortCount.{PortCount}
-use Rattle.of_switch.specs.declared.plane.PortCount.TheVariants.{Received, ReceiveDropped, ReceiveError, Sent as SentBytes, SendDropped}
-use Rattle.of_switch.specs.Ports.{all_counted, is_live_port}
+use Rattle.of_ports.specs.declared.counters.PortCount.{PortCount}
+use Rattle.of_ports.specs.declared.counters.PortCount.TheVariants.{Received, ReceiveDropped, ReceiveError, Sent as SentBytes, SendDropped}
+use Rattle.of_ports.specs.Ports.{all_counted, is_live_at, may_receive, port_at}
 use Rattle.of_session.specs.declared.session.Phase.{Phase}
 use Rattle.of_switch.specs.declared.effect.Effect.{Effect}
 use Rattle.of_switch.specs.declared.effect.Effect.TheVariants.{Answer, Sent, Closed}
@@ -49,7 +48,7 @@ abbrev pub flow_in : Forwarding → ℕ → ℕ → Option Flow
 flow_in f t place = flow_at place (table_at t f.tables).flows
 
 abbrev pub world_of : Forwarding → TheWorld
-world_of f = record { winner = winner_in f; flow = flow_in f; chosen = chosen f.groups (is_live_port f.ports); bucket = bucket_at f.groups; ports = f.ports; chain = chain f.groups }
+world_of f = record { winner = winner_in f; flow = flow_in f; chosen = chosen f.groups (is_live_at f.ports); bucket = bucket_at f.groups; ports = f.ports; chain = chain f.groups }
 
 -- WHAT A RUN LEAVES
 
@@ -85,29 +84,29 @@ pub record Forwarded : Type 0 where
 abbrev pub forwards : List Effect → Forwarding → Forwarded
 forwards effects f = record { effects = effects; forwarding = f }
 
--- what a run emitted is sent where the connection stands there, and what it counted is counted
-abbrev pub applied : Phase → Machine → Forwarding → Forwarded
-applied phase m f = let effects = effects_of phase m.items in forwards effects (all_sent effects (all_tallied m.counts f))
+-- what a run emitted is sent where the connection stands there and the ports are so, and what it counted is counted
+abbrev pub applied : Phase → List Port → Machine → Forwarding → Forwarded
+applied phase ports m f = let effects = effects_of phase ports m.items in forwards effects (all_sent effects (all_tallied m.counts f))
 
 -- a packet does its work
 abbrev pub through : Phase → Packet → List Work → Forwarding → Forwarded
-through phase p work f = applied phase (run_of (world_of f) p work) f
+through phase p work f = applied phase f.ports (run_of (world_of f) p work) f
 
 -- A FRAME
 
 -- a frame is received, and looked up in the first table
 abbrev pub received : Phase → ℕ → List ℕ → Forwarding → Forwarded
-received phase number bytes f = applied phase (run_of (world_of f) (entering bytes number) (LookUp 0 ∷ [])) (count_port number (Received (length bytes)) f)
+received phase number bytes f = applied phase f.ports (run_of (world_of f) (entering bytes number) (LookUp 0 ∷ [])) (count_port number (Received (length bytes)) f)
 
 -- too short or too long a frame is an error of its port
 abbrev pub taken_in : Phase → ℕ → List ℕ → Forwarding → Option FrameFault → Forwarded
 taken_in phase number bytes f (Some fault) = forwards [] (count_port number ReceiveError f)
 taken_in phase number bytes f None = received phase number bytes f
 
--- at a port that is not there nothing happens; at one whose link is down the frame is dropped
+-- at a port that is not there nothing happens; at one that may not receive the frame is dropped
 abbrev pub arriving : Phase → ℕ → List ℕ → Forwarding → Option Port → Forwarded
 arriving phase number bytes f None = forwards [] f
-arriving phase number bytes f (Some p) = if p.is_link_up then taken_in phase number bytes f (frame_fault bytes) else forwards [] (count_port number ReceiveDropped f)
+arriving phase number bytes f (Some p) = if may_receive p then taken_in phase number bytes f (frame_fault bytes) else forwards [] (count_port number ReceiveDropped f)
 
 abbrev pub framed : Phase → ℕ → List ℕ → Forwarding → Forwarded
 framed phase number bytes f = arriving phase number bytes f (port_at f.ports number)

@@ -2,7 +2,7 @@
 use Rattle.std.specs.Prelude.{List, Option, Some, None}
 use Rattle.of_table.specs.Tables.{NumberedTables, left_in}
 use Rattle.of_groups.specs.declared.group.Group.{Group}
-use Rattle.of_machine.specs.declared.port.Port.{Port}
+use Rattle.of_ports.specs.declared.port.Port.{Port}
 use Rattle.of_switch.specs.declared.effect.Effect.{Effect}
 use Rattle.of_switch.specs.declared.plan.Plan.{Plan}
 use Rattle.of_switch.specs.declared.plan.Change.{Change}

@@ -83,7 +83,7 @@ happened Connect s = unless (connect_refusal s) s (connected s)
 happened (Piece bytes) s = unless (feed_refusal s) s (piece_in bytes s)
 happened (Frame port bytes) s = unless None s (frame_in port bytes s)
 happened (Moment nanos) s = unless None s (moment_in nanos s)
-happened (Ports change) s = unless (port_refusal change s) s (gives [] (port_changed change s))
+happened (Ports change) s = unless (port_refusal change s) s (port_changed change s)
 
 -- the reports of events in any order and number, and the switch after them
 pub record Run : Type 0 where

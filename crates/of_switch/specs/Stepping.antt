@@ -5,7 +5,7 @@ use Rattle.smallvec.specs.SmallVec.{SmallVec}
 use Rattle.of_switch.specs.declared.effect.Effect.{Effect}
 use Rattle.of_switch.specs.declared.event.Event.{Event}
 use Rattle.of_switch.specs.declared.switch_error.SwitchError.{SwitchError}
-use Rattle.of_switch.specs.declared.switch_error.SwitchError.TheVariants.{NoMemory, NotConnected, Connected, PortExists, TooManyPorts, BadPortNumber}
+use Rattle.of_switch.specs.declared.switch_error.SwitchError.TheVariants.{NoMemory, NotConnected, Connected, PortExists, NoSuchPort, TooManyPorts, BadPortNumber}
 use Rattle.of_switch.specs.State.{State}
 use Rattle.of_switch.specs.Runs.{Report, Gives, IsRefused, happened, drained, behind, effects_in, IsInterrupted}
 
@@ -19,6 +19,8 @@ TellsRefusal Connected old (Ok u) new = new ≡ old ++ IsRefused Connected ∷ [
 TellsRefusal Connected old (Err x) new = ⊥
 TellsRefusal PortExists old (Ok u) new = new ≡ old ++ IsRefused PortExists ∷ []
 TellsRefusal PortExists old (Err x) new = ⊥
+TellsRefusal NoSuchPort old (Ok u) new = new ≡ old ++ IsRefused NoSuchPort ∷ []
+TellsRefusal NoSuchPort old (Err x) new = ⊥
 TellsRefusal TooManyPorts old (Ok u) new = new ≡ old ++ IsRefused TooManyPorts ∷ []
 TellsRefusal TooManyPorts old (Err x) new = ⊥
 TellsRefusal BadPortNumber old (Ok u) new = new ≡ old ++ IsRefused BadPortNumber ∷ []

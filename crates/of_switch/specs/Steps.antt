@@ -1,10 +1,12 @@
 -- What each event does to the abstract switch.
-use Rattle.std.specs.Prelude.{◌≡◌, ℕ, max, Bool, true, List, [], ◌∷◌, take, Option, Some, None}
+use Rattle.std.specs.Prelude.{◌≡◌, ℕ, max, Bool, List, [], ◌∷◌, take, Option, Some, None}
 use Rattle.of_wire.specs.declared.code.Code.{Code}
 use Rattle.of_wire.specs.Refusals.{refusal, first_of}
 use Rattle.of_messages.specs.declared.message.Message.{Message}
 use Rattle.of_messages.specs.declared.message.Message.TheVariants.{Hello, EchoRequest, BarrierRequest, FlowMod as IsFlowMod, PacketOut as IsPacketOut, GroupMod as IsGroupMod, PortMod as IsPortMod}
 use Rattle.of_messages.specs.declared.message.PacketOut.{PacketOut}
+use Rattle.of_messages.specs.declared.port_mod.PortMod.{PortMod}
+use Rattle.of_messages.specs.declared.port_mod.PortStatusReason.TheVariants as port
 use Rattle.of_messages.specs.declared.message.FlowMod.{FlowMod}
 use Rattle.of_messages.specs.declared.group_mod.GroupMod.{GroupMod}
 use Rattle.of_messages.specs.declared.group_mod.GroupMod.TheVariants as group_mod
@@ -27,8 +29,11 @@ use Rattle.of_switch.specs.Told.{told}
 use Rattle.of_switch.specs.declared.effect.Effect.{Effect}
 use Rattle.of_switch.specs.declared.effect.Effect.TheVariants.{Answer, Closed}
 use Rattle.of_switch.specs.declared.port_change.PortChange.{PortChange}
-use Rattle.of_switch.specs.declared.port_change.PortChange.TheVariants.{Add}
-use Rattle.of_switch.specs.Ports.{new_port, with_port}
+use Rattle.of_switch.specs.declared.port_change.PortChange.TheVariants.{Add, Remove, Link}
+use Rattle.of_ports.specs.declared.port.Port.{Port}
+use Rattle.of_ports.specs.Ports.{new_port, port_at, with_port, without_port, at_port, linked, with_config}
+use Rattle.of_switch.specs.PortStatus.{status, change_status}
+use Rattle.of_switch.specs.PortMods.{port_mod_refusals, modified_port}
 use Rattle.of_switch.specs.Plane.{Forwarded, framed, through}
 use Rattle.of_switch.specs.State.{Core, State}
 
@@ -44,6 +49,9 @@ does effects k = record { effects = effects; core = k }
 abbrev pub with_tables : Tables → Core → Core
 with_tables ts k = record k { forwarding = record k.forwarding { tables = ts } }
 
+abbrev pub with_ports : List Port → Core → Core
+with_ports ports k = record k { forwarding = record k.forwarding { ports = ports } }
+
 abbrev pub with_groups : List AGroup → Core → Core
 with_groups groups k = record k { forwarding = record k.forwarding { groups = groups } }
 
@@ -57,10 +65,9 @@ state_refusals Hello k = []
 state_refusals (EchoRequest echoed) k = []
 state_refusals BarrierRequest k = []
 state_refusals (IsPacketOut m) k = packet_out_refusals m k.forwarding.groups
+state_refusals (IsPortMod m) k = port_mod_refusals m k.forwarding.ports
 state_refusals (IsFlowMod m) k = flow_mod_refusals m k.forwarding.tables k.forwarding.groups
 state_refusals (IsGroupMod m) k = refused_for (group_mod_fault m k.forwarding.tables.latest k.forwarding.groups)
--- it is of a type that is not served so far
-state_refusals (IsPortMod m) k = (true, refusal 1 1) ∷ []
 
 -- a FLOW_MOD does its command, with a notice of each entry that went
 abbrev pub flow_modded : FlowMod → Core → Done
@@ -88,15 +95,23 @@ group_modded (group_mod.Delete which) k = groups_deleted which k
 abbrev pub packet_outed : PacketOut → Core → Done
 packet_outed m k = forwarded (through Open (entering (frame_of m.packet) m.in_port) (acts m.actions) k.forwarding) k
 
+-- a port gets its new configuration, and that is told where it shows
+abbrev pub port_modded_at : PortMod → Core → Option Port → Done
+port_modded_at m k None = does [] k
+port_modded_at m k (Some p) = does (told Open (change_status p (modified_port m p))) (with_ports (at_port m.port (with_config (modified_port m p).config) k.forwarding.ports) k)
+
+abbrev pub port_modded : PortMod → Core → Done
+port_modded m k = port_modded_at m k (port_at k.forwarding.ports m.port)
+
 -- what is done where nothing is refused
 abbrev pub done : ℕ → Message → Core → Done
 done xid Hello k = does [] k
 done xid (EchoRequest echoed) k = does (Answer (echo_reply_bytes xid echoed) ∷ []) k
 done xid BarrierRequest k = does (Answer (barrier_reply_bytes xid) ∷ []) k
 done xid (IsPacketOut m) k = packet_outed m k
+done xid (IsPortMod m) k = port_modded m k
 done xid (IsFlowMod m) k = flow_modded m k
 done xid (IsGroupMod m) k = group_modded m k
-done xid (IsPortMod m) k = does [] k
 
 -- a refused message is answered by an ERROR with its first bytes (7.4.4), and does nothing else
 abbrev pub refused : ℕ → Code → List ℕ → Core → Done
@@ -187,10 +202,25 @@ moment_done phase now k =
 abbrev pub moment_in : ℕ → State → Outcome
 moment_in now s = beside s.connection (moment_done s.connection.phase now s.core)
 
--- A PORT
+-- A PORT (7.2.1): it comes, goes, or its link changes, which is told where it shows; no flow and no group changes
 
-abbrev pub core_port_changed : PortChange → Core → Core
-core_port_changed (Add number hw name up) k = record k { forwarding = record k.forwarding { ports = with_port (new_port number hw name up) k.forwarding.ports } }
+-- a port is added at the latest moment
+abbrev pub port_added : Phase → Port → Core → Done
+port_added phase p k = does (told phase (status port.Add p ∷ [])) (with_ports (with_port p k.forwarding.ports) k)
 
-abbrev pub port_changed : PortChange → State → State
-port_changed change s = record s { core = core_port_changed change s.core }
+-- a port that goes is told as it was
+abbrev pub removed_at : Phase → ℕ → Core → Option Port → Done
+removed_at phase n k None = does [] k
+removed_at phase n k (Some p) = does (told phase (status port.Delete p ∷ [])) (with_ports (without_port n k.forwarding.ports) k)
+
+abbrev pub linked_at : Phase → ℕ → Bool → Core → Option Port → Done
+linked_at phase n up k None = does [] k
+linked_at phase n up k (Some p) = does (told phase (change_status p (linked up p))) (with_ports (at_port n (linked up) k.forwarding.ports) k)
+
+abbrev pub port_done : Phase → PortChange → Core → Done
+port_done phase (Add number hw name up) k = port_added phase (new_port number hw name up k.forwarding.tables.latest) k
+port_done phase (Remove n) k = removed_at phase n k (port_at k.forwarding.ports n)
+port_done phase (Link n up) k = linked_at phase n up k (port_at k.forwarding.ports n)
+
+abbrev pub port_changed : PortChange → State → Outcome
+port_changed change s = beside s.connection (port_done s.connection.phase change s.core)

@@ -1,12 +1,16 @@
 -- What a switch sends of what a packet's run emitted: frames out of ports, and PACKET_INs to the controller (OpenFlow 1.3.5, 7.4.1).
-use Rattle.std.specs.Prelude.{Bool, true, false, List, [], map, filter, if◌then◌else◌}
+use Rattle.std.specs.Prelude.{Bool, true, false, not, ◌&&◌, List, [], map, filter, if◌then◌else◌}
+use Rattle.std.specs.Option.{option_map_or}
 use Rattle.of_messages.specs.declared.message.PacketInReason.{PacketInReason}
 use Rattle.of_messages.specs.declared.message.PacketInReason.TheVariants as wire
 use Rattle.of_messages.specs.Written.{packet_in_bytes}
 use Rattle.of_machine.specs.declared.data.PacketInReason.{PacketInReason as Reason}
 use Rattle.of_machine.specs.declared.data.PacketInReason.TheVariants as reason
+use Rattle.of_machine.specs.declared.data.ToController.{ToController}
 use Rattle.of_machine.specs.declared.data.Item.{Item}
 use Rattle.of_machine.specs.declared.data.Item.TheVariants as item
+use Rattle.of_ports.specs.declared.port.Port.{Port}
+use Rattle.of_ports.specs.Ports.{port_at}
 use Rattle.of_session.specs.declared.session.Phase.{Phase}
 use Rattle.of_session.specs.declared.session.Phase.TheVariants.{Disconnected, Greeting, Open}
 use Rattle.of_switch.specs.declared.effect.Effect.{Effect}
@@ -29,13 +33,22 @@ packet_in_reason reason.InvalidTtl = wire.InvalidTtl
 -- a message that the switch begins has the transaction id 0
 abbrev pub effect_of : Item → Effect
 effect_of (item.Sent port frame) = Sent port frame
-effect_of (item.PacketIn reason table cookie ingress metadata frame) =
-    Answer (packet_in_bytes 0 (record { reason = packet_in_reason reason; table = table; cookie = cookie; in_port = ingress; metadata = metadata }) frame)
+effect_of (item.PacketIn p) =
+    Answer (packet_in_bytes 0 (record { reason = packet_in_reason p.reason; table = p.table; cookie = p.cookie; in_port = p.ingress; metadata = p.metadata }) p.frame)
+
+abbrev pub is_no_match : Reason → Bool
+is_no_match reason.NoMatch = true
+is_no_match reason.Action = false
+is_no_match reason.InvalidTtl = false
+
+-- OFPPC_NO_PACKET_IN of the ingress port, where it is there, silences what the entry for table misses sends, and that alone (7.2.1)
+abbrev pub is_silenced : List Port → ToController → Bool
+is_silenced ports p = is_no_match p.reason && option_map_or (λ q. q.config.no_packet_in) (port_at ports p.ingress) false
 
 -- a frame always leaves
-abbrev pub is_given : Phase → Item → Bool
-is_given phase (item.Sent port frame) = true
-is_given phase (item.PacketIn reason table cookie ingress metadata frame) = is_told phase
+abbrev pub is_given : Phase → List Port → Item → Bool
+is_given phase ports (item.Sent port frame) = true
+is_given phase ports (item.PacketIn p) = is_told phase && not (is_silenced ports p)
 
-abbrev pub effects_of : Phase → List Item → List Effect
-effects_of phase items = map effect_of (filter (is_given phase) items)
+abbrev pub effects_of : Phase → List Port → List Item → List Effect
+effects_of phase ports items = map effect_of (filter (is_given phase ports) items)

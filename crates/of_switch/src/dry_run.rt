@@ -13,13 +13,14 @@ ghost use Rattle.of_machine.specs.Runs.{run_of};
 ghost use Rattle.of_switch.specs.Told.{effects_of};
 
 use crate::effect::Effects;
-use crate::plane::{Plane, TABLES, find_port, known_groups};
+use crate::plane::{Plane, TABLES, known_groups};
 use crate::told::effects_from;
 use of_actions::Action;
 use of_classifier::Lookup;
 use of_groups::Chosen;
 use of_headers::{FieldKey, check_length};
-use of_machine::{Packet, PacketFrame, Port, StepLog, World, run};
+use of_machine::{Packet, PacketFrame, StepLog, World, run};
+use of_ports::Port;
 use of_session::Phase;
 use of_table::{Entries, Entry, Flow};
 use std::alloc::{AllocError, Global};
@@ -60,11 +61,11 @@ fn entry_at<'a>(entries: Entries<'a>, place: usize) -> Option<&'a Entry>
 }
 
 impl<L: Lookup> World for Looking<'_, L> {
-    ghost view = { λ w. world_of (forwarding_of w.plane.now.tables w.plane.now.groups w.plane.now.ports.items) };
+    ghost view = { λ w. world_of (forwarding_of w.plane.now.tables w.plane.now.groups w.plane.now.ports) };
 
     ghost Content = { Contents };
 
-    ghost content = { λ w. contents w.plane.now.tables w.plane.now.groups w.plane.now.ports.items };
+    ghost content = { λ w. contents w.plane.now.tables w.plane.now.groups w.plane.now.ports };
 
     fn find(&mut self, table: u8, key: &FieldKey) -> Option<usize> {
         self.plane.tables.known();
@@ -99,20 +100,21 @@ impl<L: Lookup> World for Looking<'_, L> {
     fn known(&self) {
         self.plane.tables.known();
         known_groups(&self.plane.groups);
+        self.plane.ports.as_slice();
     }
 }
 
 impl<L: Lookup> Plane<L> {
     /// The tables and the groups keep what the machine is promised.
     pub fn known_world(&self)
-        ensures { IsSound (world_of (forwarding_of self.now.tables self.now.groups self.now.ports.items)) }
+        ensures { IsSound (world_of (forwarding_of self.now.tables self.now.groups self.now.ports)) }
     {
         Looking { plane: self }.known();
     }
 
     /// The place by age of the entry of a table that wins for these fields (OpenFlow 1.3.5, 5.3).
     pub fn winner(&self, table: u8, key: &FieldKey) -> Option<usize>
-        ensures { result ≡ winner_in (forwarding_of self.now.tables self.now.groups self.now.ports.items) table (value key.now) }
+        ensures { result ≡ winner_in (forwarding_of self.now.tables self.now.groups self.now.ports) table (value key.now) }
     {
         let mut world = Looking { plane: self };
         world.find(table, key)
@@ -135,14 +137,14 @@ impl<L: Lookup> Plane<L> {
         bytes: &[u8],
         log: &mut S,
     ) -> Result<Effects, AllocError>
-        ensures effects { IfOk result (λ effects. effects.items ≡ (framed phase number bytes.now (forwarding_of self.now.tables self.now.groups self.now.ports.items)).effects) }
-        ensures steps { OnOk result (S.KEEPS ≡ true → S.list log.new ≡ S.list log.old ++ steps_in number bytes.now (forwarding_of self.now.tables self.now.groups self.now.ports.items)) }
-        ensures err { OnErr result (S.KEEPS ≡ true → GainsPrefix (steps_in number bytes.now (forwarding_of self.now.tables self.now.groups self.now.ports.items)) (S.list log.old) (S.list log.new)) }
+        ensures effects { IfOk result (λ effects. effects.items ≡ (framed phase number bytes.now (forwarding_of self.now.tables self.now.groups self.now.ports)).effects) }
+        ensures steps { OnOk result (S.KEEPS ≡ true → S.list log.new ≡ S.list log.old ++ steps_in number bytes.now (forwarding_of self.now.tables self.now.groups self.now.ports)) }
+        ensures err { OnErr result (S.KEEPS ≡ true → GainsPrefix (steps_in number bytes.now (forwarding_of self.now.tables self.now.groups self.now.ports)) (S.list log.old) (S.list log.new)) }
     {
-        let Some(port) = find_port(&self.ports, number) else {
+        let Some(port) = self.ports.port(number) else {
             return Ok(Effects::new(alloc));
         };
-        if !port.is_link_up || check_length(bytes).is_err() {
+        if !port.may_receive() || check_length(bytes).is_err() {
             return Ok(Effects::new(alloc));
         }
         self.dry_run_received(alloc, phase, number, bytes, log)
@@ -159,14 +161,14 @@ impl<L: Lookup> Plane<L> {
     ) -> Result<Effects, AllocError>
         requires long { 14 ≤ length bytes.now }
         requires most { length bytes.now ≤ 9216 }
-        ensures effects { IfOk result (λ effects. effects.items ≡ effects_of phase (run_of (world_of (forwarding_of self.now.tables self.now.groups self.now.ports.items)) (entering bytes.now number) (LookUp 0 ∷ [])).items) }
-        ensures steps { OnOk result (S.KEEPS ≡ true → S.list log.new ≡ S.list log.old ++ received_steps number bytes.now (forwarding_of self.now.tables self.now.groups self.now.ports.items)) }
-        ensures err { OnErr result (S.KEEPS ≡ true → GainsPrefix (received_steps number bytes.now (forwarding_of self.now.tables self.now.groups self.now.ports.items)) (S.list log.old) (S.list log.new)) }
+        ensures effects { IfOk result (λ effects. effects.items ≡ effects_of phase self.now.ports (run_of (world_of (forwarding_of self.now.tables self.now.groups self.now.ports)) (entering bytes.now number) (LookUp 0 ∷ [])).items) }
+        ensures steps { OnOk result (S.KEEPS ≡ true → S.list log.new ≡ S.list log.old ++ received_steps number bytes.now (forwarding_of self.now.tables self.now.groups self.now.ports)) }
+        ensures err { OnErr result (S.KEEPS ≡ true → GainsPrefix (received_steps number bytes.now (forwarding_of self.now.tables self.now.groups self.now.ports)) (S.list log.old) (S.list log.new)) }
     {
         let mut world = Looking { plane: self };
         world.known();
         let packet = Packet::new(PacketFrame::new(bytes), number);
         let outcome = run(alloc, &mut world, packet, log)?;
-        effects_from(alloc, phase, outcome.items)
+        effects_from(alloc, phase, &self.ports, outcome.items)
     }
 }

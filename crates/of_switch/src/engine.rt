@@ -2,7 +2,8 @@
 ghost use Rattle.std.specs.Prelude.{◌≡◌, ◌<◌, ◌∷◌, ◌++◌, [], true, false, IfOk, OnOk, OnErr, length};
 ghost use Rattle.of_wire.specs.Refusals.{first_of};
 ghost use Rattle.of_switch.specs.State.{new_core};
-ghost use Rattle.of_switch.specs.Ports.{has_port, no_counters as zero_counters};
+ghost use Rattle.of_ports.specs.Ports.{has_port, new_port, port_at};
+ghost use Rattle.of_switch.specs.PortMods.{port_mod_refusals};
 ghost use Rattle.of_headers.specs.FieldMap.{value};
 ghost use Rattle.std.specs.Prelude.{slice_get};
 ghost use Rattle.std.specs.Option.{option_map};
@@ -20,22 +21,24 @@ ghost use Rattle.of_groups.specs.Faults.{add_fault, delete_fault, modify_fault};
 ghost use Rattle.of_switch.specs.GroupMods.{group_mod_fault, refused_for};
 ghost use Rattle.of_switch.specs.Handling.{Handles};
 ghost use Rattle.of_switch.specs.Loading.{loaded_tables};
-ghost use Rattle.of_switch.specs.Steps.{core_port_changed, does, done, flow_modded, forwarded, group_added, group_modded, group_modified, groups_deleted, packet_outed, state_refusals, with_tables, moment_done};
+ghost use Rattle.of_switch.specs.Steps.{does, done, flow_modded, forwarded, group_added, group_modded, group_modified, groups_deleted, linked_at, packet_outed, port_added, port_modded, removed_at, state_refusals, with_tables, moment_done};
 
 use crate::commands::{any_to_absent_group, flow_from, has_flag, names_absent_group, which_from};
 use crate::effect::{Effect, Effects};
 use crate::loading::load_tables;
-use crate::plane::{Plane, contains, put_port};
-use crate::port_change::PortChange;
+use crate::plane::Plane;
+use crate::port_status::{write_change, write_status};
 use of_actions::InstructionList;
 use of_classifier::Lookup;
 use of_groups::{Buckets, GroupFault, GroupKind};
 use of_headers::FieldKey;
-use of_machine::{Port, PortCounters, StepLog};
+use of_machine::StepLog;
 use of_messages::{
-    FlowMod, FlowModCommand, GroupMod, Message, NewGroup, PacketData, PacketOut,
+    FlowMod, FlowModCommand, GroupMod, Message, NewGroup, PacketData, PacketOut, PortMod,
+    PortStatusReason,
     write_barrier_reply, write_echo_reply,
 };
+use of_ports::Port;
 use of_session::Phase;
 use of_table::{Cause, Entry, TableFault};
 use of_text::Config;
@@ -48,9 +51,6 @@ const NO_BUFFER: u32 = 0xffff_ffff;
 
 const BUFFER_UNKNOWN: Code = Code { kind: 1, code: 8 };
 
-/// The type of a message that is not served.
-const BAD_TYPE: Code = Code { kind: 1, code: 1 };
-
 const BAD_OUT_GROUP: Code = Code { kind: 2, code: 9 };
 
 const BAD_TABLE: Code = Code { kind: 5, code: 2 };
@@ -58,6 +58,10 @@ const BAD_TABLE: Code = Code { kind: 5, code: 2 };
 const OVERLAP: Code = Code { kind: 5, code: 3 };
 
 const TABLE_FULL: Code = Code { kind: 5, code: 1 };
+
+const BAD_PORT: Code = Code { kind: 7, code: 0 };
+
+const BAD_HW_ADDR: Code = Code { kind: 7, code: 1 };
 
 /// Why a message was not done.
 #[derive(Clone, Copy, Debug, PartialEq, Eq)]
@@ -106,7 +110,7 @@ impl<L: Lookup> Model for Engine<L> {
 
     ghost Value = { Core };
 
-    ghost view = { λ e. record { dpid = e.dpid; forwarding = forwarding_of e.plane.tables e.plane.groups e.plane.ports.items } };
+    ghost view = { λ e. record { dpid = e.dpid; forwarding = forwarding_of e.plane.tables e.plane.groups e.plane.ports } };
 }
 
 impl<L: Lookup> Engine<L> {
@@ -123,7 +127,7 @@ impl<L: Lookup> Engine<L> {
     pub fn has_port(&self, number: u32) -> bool
         ensures { result ≡ has_port number self.now.forwarding.ports }
     {
-        contains(&self.plane.ports, number)
+        self.plane.ports.contains(number)
     }
 
     pub fn count_ports(&self) -> usize
@@ -132,27 +136,60 @@ impl<L: Lookup> Engine<L> {
         self.plane.ports.len()
     }
 
-    pub fn change_port(&mut self, change: PortChange) -> Result<(), AllocError>
-        ensures ok { OnOk result (self.new ≡ core_port_changed change self.old) }
+    /// A port is added at the latest moment, while the connection stands there.
+    pub fn add_port(
+        &mut self,
+        phase: Phase,
+        number: u32,
+        hw: [u8; 6],
+        name: [u8; 16],
+        is_up: bool,
+    ) -> Result<Effects, AllocError>
+        requires new { has_port number self.old.forwarding.ports ≡ false }
+        requires room { length self.old.forwarding.ports < 64 }
+        ensures ok { IfOk result (λ effects. port_added phase (new_port number hw name is_up self.old.forwarding.tables.latest) self.old ≡ does effects.items self.new) }
         ensures err { OnErr result (self.new ≡ self.old) }
     {
-        match change {
-            PortChange::Add {
-                number,
-                hw,
-                name,
-                up,
-            } => {
-                let port = Port {
-                    number,
-                    hw,
-                    name,
-                    is_link_up: up,
-                    counters: no_counters(),
-                };
-                put_port(&mut self.plane.ports, port)
-            }
-        }
+        let created = self.plane.tables.latest();
+        let port = Port::new(number, hw, name, is_up, created);
+        let effects = write_status(self.alloc, phase, PortStatusReason::Add, &port)?;
+        self.plane.ports.add(port)?;
+        Ok(effects)
+    }
+
+    /// A port is gone, while the connection stands there.
+    pub fn remove_port(&mut self, phase: Phase, number: u32) -> Result<Effects, AllocError>
+        ensures ok { IfOk result (λ effects. removed_at phase number self.old (port_at self.old.forwarding.ports number) ≡ does effects.items self.new) }
+        ensures err { OnErr result (self.new ≡ self.old) }
+    {
+        let Some(port) = self.plane.ports.port(number) else {
+            return Ok(Effects::new(self.alloc));
+        };
+        let effects = write_status(self.alloc, phase, PortStatusReason::Delete, port)?;
+        self.plane.ports.remove(number);
+        Ok(effects)
+    }
+
+    /// A port's link is up from now on, or down, while the connection stands there.
+    pub fn set_link(
+        &mut self,
+        phase: Phase,
+        number: u32,
+        is_link_up: bool,
+    ) -> Result<Effects, AllocError>
+        ensures ok { IfOk result (λ effects. linked_at phase number is_link_up self.old (port_at self.old.forwarding.ports number) ≡ does effects.items self.new) }
+        ensures err { OnErr result (self.new ≡ self.old) }
+    {
+        let Some(port) = self.plane.ports.port(number) else {
+            return Ok(Effects::new(self.alloc));
+        };
+        let linked = Port {
+            is_link_up,
+            ..*port
+        };
+        let effects = write_change(self.alloc, phase, port, &linked)?;
+        self.plane.ports.set_link(number, is_link_up);
+        Ok(effects)
     }
 
     /// A frame comes in by a port, while the connection stands there.
@@ -219,7 +256,7 @@ impl<L: Lookup> Engine<L> {
             Message::PacketOut(packet_out) => self.packet_out(packet_out),
             Message::FlowMod(flow_mod) => self.flow_mod(flow_mod),
             Message::GroupMod(group_mod) => self.group_mod(group_mod),
-            Message::PortMod(_) => Err(Fault::Refused(BAD_TYPE)),
+            Message::PortMod(port_mod) => self.port_mod(port_mod),
         }
     }
 
@@ -313,6 +350,22 @@ impl<L: Lookup> Engine<L> {
         Ok(self.plane.carry_out(plan))
     }
 
+    fn port_mod(&mut self, port_mod: PortMod) -> Result<Effects, Fault>
+        ensures { Handles (first_of (port_mod_refusals port_mod self.old.forwarding.ports)) (port_modded port_mod self.old) self.old result self.new }
+    {
+        let Some(port) = self.plane.ports.port(port_mod.port) else {
+            return Err(Fault::Refused(BAD_PORT));
+        };
+        if port.hw != port_mod.hw {
+            return Err(Fault::Refused(BAD_HW_ADDR));
+        }
+        let config = port.config.with(port_mod.config, port_mod.mask);
+        let modified = Port { config, ..*port };
+        let effects = write_change(self.alloc, Phase::Open, port, &modified)?;
+        self.plane.ports.configure(port_mod.port, config);
+        Ok(effects)
+    }
+
     fn group_mod(&mut self, group_mod: GroupMod) -> Result<Effects, Fault>
         ensures { Handles (first_of (refused_for (group_mod_fault group_mod self.old.forwarding.tables.latest self.old.forwarding.groups))) (group_modded group_mod self.old) self.old result self.new }
     {
@@ -372,20 +425,6 @@ impl<L: Lookup> Engine<L> {
             .plane
             .plan_removal(self.alloc, phase, Cause::Moment(nanos), now)?;
         Ok(self.plane.carry_out(plan))
-    }
-}
-
-fn no_counters() -> PortCounters
-    ensures { result ≡ zero_counters }
-{
-    PortCounters {
-        rx_packets: 0,
-        tx_packets: 0,
-        rx_bytes: 0,
-        tx_bytes: 0,
-        rx_dropped: 0,
-        tx_dropped: 0,
-        rx_errors: 0,
     }
 }
 

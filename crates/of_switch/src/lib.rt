@@ -11,6 +11,7 @@ mod loading;
 mod plan;
 mod plane;
 mod port_change;
+mod port_status;
 mod switch;
 mod switch_error;
 mod told;

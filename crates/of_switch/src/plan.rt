@@ -1,6 +1,6 @@
 use crate::effect::Effects;
-use crate::plane::PortCount;
 use of_machine::Counts;
+use of_ports::PortCount;
 use of_table::Cause;
 
 /// What an event will do: what it gives, ready to be sent, and what it changes. Doing it needs no memory.

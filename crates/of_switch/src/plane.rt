@@ -1,11 +1,7 @@
 //! What forwards frames: the flow tables, the groups and the ports.
 ghost use Rattle.std.specs.Prelude.{◌≡◌, ◌≤◌, IfOk, OnOk, OnErr, length};
-ghost use Rattle.of_machine.specs.Ports.{port_at};
 ghost use Rattle.of_table.specs.Tables.{all_numbers, tables_of, looked_in, matched_in};
 ghost use Rattle.of_groups.specs.Sound.{AreSound};
-ghost use Rattle.of_switch.specs.Ports.{all_counted, counted, has_port, is_live_port, plus, tally, with_port};
-ghost use Rattle.std.specs.Prelude.{nat_lt};
-ghost use Rattle.std.specs.List.{position_or_len};
 ghost use Rattle.std.specs.Prelude.{IsTrue, true, [], ◌∷◌};
 ghost use Rattle.of_actions.specs.Served.{are_served};
 ghost use Rattle.of_machine.specs.Growth.{AllShort};
@@ -23,29 +19,13 @@ use crate::plan::{Change, Plan, Reception};
 use crate::told::{effects_from, is_told};
 use of_actions::Action;
 use of_classifier::Lookup;
-use of_groups::{Chosen, Groups, LivePorts};
+use of_groups::{Chosen, Groups};
 use of_headers::{FieldKey, check_length};
-use of_machine::{
-    Count, Counts, NoLog, Outcome, Packet, PacketFrame, Port, PortCounters, World, run, run_actions,
-};
+use of_machine::{Count, Counts, NoLog, Outcome, Packet, PacketFrame, World, run, run_actions};
+use of_ports::{Port, PortCount, Ports};
 use of_session::Phase;
 use of_table::{Cause, Flow, FlowTables};
 use std::alloc::{AllocError, Global};
-
-/// What a port counts (OpenFlow 1.3.5, 5.8).
-#[derive(Clone, Copy, Debug, PartialEq, Eq)]
-pub enum PortCount {
-    /// A frame of so many bytes came in.
-    Received(usize),
-    /// A frame came in while the link was down.
-    ReceiveDropped,
-    /// Too short or too long a frame came in.
-    ReceiveError,
-    /// A frame of so many bytes went out.
-    Sent(usize),
-    /// A frame could not go out.
-    SendDropped,
-}
 
 /// How many flow tables there are.
 pub const TABLES: usize = 16;
@@ -55,119 +35,7 @@ pub const TABLES: usize = 16;
 pub struct Plane<L: Lookup> {
     pub tables: FlowTables<L>,
     pub groups: Groups,
-    pub ports: Vec<Port>,
-}
-
-// The counter after so many more.
-fn plus_bytes(counter: u64, more: usize) -> u64
-    ensures { result ≡ plus counter more }
-{
-    counter.wrapping_add(more as u64)
-}
-
-fn tallied_counters(what: PortCount, counters: PortCounters) -> PortCounters
-    ensures { result ≡ tally what counters }
-{
-    match what {
-        PortCount::Received(bytes) => PortCounters {
-            rx_packets: counters.rx_packets.wrapping_add(1),
-            rx_bytes: plus_bytes(counters.rx_bytes, bytes),
-            ..counters
-        },
-        PortCount::ReceiveDropped => PortCounters {
-            rx_dropped: counters.rx_dropped.wrapping_add(1),
-            ..counters
-        },
-        PortCount::ReceiveError => PortCounters {
-            rx_errors: counters.rx_errors.wrapping_add(1),
-            ..counters
-        },
-        PortCount::Sent(bytes) => PortCounters {
-            tx_packets: counters.tx_packets.wrapping_add(1),
-            tx_bytes: plus_bytes(counters.tx_bytes, bytes),
-            ..counters
-        },
-        PortCount::SendDropped => PortCounters {
-            tx_dropped: counters.tx_dropped.wrapping_add(1),
-            ..counters
-        },
-    }
-}
-
-fn counted_port(port: Port, number: u32, what: PortCount) -> Port
-    ensures { result ≡ counted number what port }
-{
-    if port.number == number {
-        Port {
-            counters: tallied_counters(what, port.counters),
-            ..port
-        }
-    } else {
-        port
-    }
-}
-
-/// The port of that number counts this.
-pub fn count_at(ports: &mut [Port], number: u32, what: PortCount)
-    ensures { ports.new ≡ all_counted number what ports.old }
-{
-    for port in ports.iter_mut() {
-        *port = counted_port(*port, number, what);
-    }
-}
-
-/// Whether there is a port of that number.
-pub fn contains(ports: &[Port], number: u32) -> bool
-    ensures { result ≡ has_port number ports.now }
-{
-    ports.iter().any(|port| port.number == number)
-}
-
-// The place of the first port of a higher number, or the end.
-fn place_above(ports: &[Port], number: u32) -> usize
-    ensures place { result ≡ position_or_len (λ q. nat_lt number q.number) ports.now }
-    ensures bound { result ≤ length ports.now }
-{
-    for (place, port) in ports.iter().enumerate() {
-        if number < port.number {
-            return place;
-        }
-    }
-    ports.len()
-}
-
-/// Puts a port among the others, by rising number.
-pub fn put_port(ports: &mut Vec<Port>, port: Port) -> Result<(), AllocError>
-    ensures ok { OnOk result (ports.new.items ≡ with_port port ports.old.items) }
-    ensures err { OnErr result (ports.new.items ≡ ports.old.items) }
-{
-    let place = place_above(ports, port.number);
-    ports.insert(place, port)?;
-    Ok(())
-}
-
-/// The port of that number.
-pub fn find_port(ports: &[Port], number: u32) -> Option<Port>
-    ensures { result ≡ port_at ports.now number }
-{
-    ports.iter().copied().find(|port| port.number == number)
-}
-
-/// The ports, as groups see them.
-#[derive(Drop)]
-struct SeenPorts<'a> {
-    ports: &'a [Port],
-}
-
-impl LivePorts for SeenPorts<'_> {
-    ghost live = { λ p. is_live_port p.ports.now };
-
-    fn is_live(&self, port: u32) -> bool {
-        match find_port(self.ports, port) {
-            Some(port) => port.is_link_up,
-            None => false,
-        }
-    }
+    pub ports: Ports,
 }
 
 /// What holds of the groups at all times.
@@ -178,11 +46,11 @@ pub fn known_groups(groups: &Groups)
 }
 
 impl<L: Lookup> World for Plane<L> {
-    ghost view = { λ p. numbered_world p.tables p.groups p.ports.items };
+    ghost view = { λ p. numbered_world p.tables p.groups p.ports };
 
     ghost Content = { Contents };
 
-    ghost content = { λ p. contents p.tables p.groups p.ports.items };
+    ghost content = { λ p. contents p.tables p.groups p.ports };
 
     fn find(&mut self, table: u8, key: &FieldKey) -> Option<usize> {
         self.tables.known();
@@ -199,8 +67,7 @@ impl<L: Lookup> World for Plane<L> {
     }
 
     fn chosen(&self, group: u32) -> Option<Chosen> {
-        let ports = SeenPorts { ports: &self.ports };
-        self.groups.buckets_for(group, &ports)
+        self.groups.buckets_for(group, &self.ports)
     }
 
     fn bucket(&self, group: u32, place: u8) -> &[Action] {
@@ -214,18 +81,19 @@ impl<L: Lookup> World for Plane<L> {
     fn known(&self) {
         self.tables.known();
         known_groups(&self.groups);
+        self.ports.as_slice();
     }
 }
 
 impl<L: Lookup> Plane<L> {
     /// Without flows, groups and ports.
     pub fn new(alloc: Global) -> Result<Self, AllocError>
-        ensures { IfOk result (λ p. forwarding_of p.tables p.groups p.ports.items ≡ idle) }
+        ensures { IfOk result (λ p. forwarding_of p.tables p.groups p.ports ≡ idle) }
     {
         Ok(Plane {
             tables: FlowTables::new(alloc)?,
             groups: Groups::new(alloc),
-            ports: Vec::new(alloc),
+            ports: Ports::new(alloc),
         })
     }
 
@@ -237,13 +105,13 @@ impl<L: Lookup> Plane<L> {
         number: u32,
         bytes: &[u8],
     ) -> Result<Plan, AllocError>
-        ensures kept { contents self.new.tables self.new.groups self.new.ports.items ≡ contents self.old.tables self.old.groups self.old.ports.items }
-        ensures plan { IfOk result (λ plan. framed phase number bytes.now (forwarding_of self.old.tables self.old.groups self.old.ports.items) ≡ planned plan self.old.tables self.old.groups self.old.ports.items) }
+        ensures kept { contents self.new.tables self.new.groups self.new.ports ≡ contents self.old.tables self.old.groups self.old.ports }
+        ensures plan { IfOk result (λ plan. framed phase number bytes.now (forwarding_of self.old.tables self.old.groups self.old.ports) ≡ planned plan self.old.tables self.old.groups self.old.ports) }
     {
-        let Some(port) = find_port(&self.ports, number) else {
+        let Some(port) = self.ports.port(number) else {
             return Ok(no_change(alloc));
         };
-        if !port.is_link_up {
+        if !port.may_receive() {
             return Ok(reception_alone(alloc, number, PortCount::ReceiveDropped));
         }
         if check_length(bytes).is_err() {
@@ -262,8 +130,8 @@ impl<L: Lookup> Plane<L> {
     ) -> Result<Plan, AllocError>
         requires long { 14 ≤ length bytes.now }
         requires most { length bytes.now ≤ 9216 }
-        ensures kept { contents self.new.tables self.new.groups self.new.ports.items ≡ contents self.old.tables self.old.groups self.old.ports.items }
-        ensures plan { IfOk result (λ plan. received phase number bytes.now (forwarding_of self.old.tables self.old.groups self.old.ports.items) ≡ planned plan self.old.tables self.old.groups self.old.ports.items) }
+        ensures kept { contents self.new.tables self.new.groups self.new.ports ≡ contents self.old.tables self.old.groups self.old.ports }
+        ensures plan { IfOk result (λ plan. received phase number bytes.now (forwarding_of self.old.tables self.old.groups self.old.ports) ≡ planned plan self.old.tables self.old.groups self.old.ports) }
     {
         self.tables.known();
         let packet = Packet::new(PacketFrame::new(bytes), number);
@@ -272,7 +140,7 @@ impl<L: Lookup> Plane<L> {
             port: number,
             what: PortCount::Received(bytes.len()),
         };
-        plan_of(alloc, phase, Some(reception), outcome)
+        plan_of(alloc, phase, &self.ports, Some(reception), outcome)
     }
 
     /// What a packet of the controller will do by its actions (OpenFlow 1.3.5, 7.3.6).
@@ -286,13 +154,13 @@ impl<L: Lookup> Plane<L> {
         requires long { 14 ≤ length bytes.now }
         requires most { length bytes.now ≤ 9216 }
         requires served { IsTrue (are_served true actions.now) }
-        ensures kept { contents self.new.tables self.new.groups self.new.ports.items ≡ contents self.old.tables self.old.groups self.old.ports.items }
-        ensures plan { IfOk result (λ plan. through Phase.Open (entering bytes.now in_port) (acts actions.now) (forwarding_of self.old.tables self.old.groups self.old.ports.items) ≡ planned plan self.old.tables self.old.groups self.old.ports.items) }
+        ensures kept { contents self.new.tables self.new.groups self.new.ports ≡ contents self.old.tables self.old.groups self.old.ports }
+        ensures plan { IfOk result (λ plan. through Phase.Open (entering bytes.now in_port) (acts actions.now) (forwarding_of self.old.tables self.old.groups self.old.ports) ≡ planned plan self.old.tables self.old.groups self.old.ports) }
     {
         self.tables.known();
         let packet = Packet::new(PacketFrame::new(bytes), in_port);
         let outcome = run_actions(alloc, self, packet, actions, &mut NoLog)?;
-        plan_of(alloc, Phase::Open, None, outcome)
+        plan_of(alloc, Phase::Open, &self.ports, None, outcome)
     }
 
     /// The removal of entries, with a notice of each whose flags ask for one, where the connection stands there: they went now.
@@ -304,7 +172,7 @@ impl<L: Lookup> Plane<L> {
         now: u64,
     ) -> Result<Plan, AllocError>
         ensures change { IfOk result (λ plan. plan.change ≡ Change.Removal cause) }
-        ensures plan { IfOk result (λ plan. planned plan self.now.tables self.now.groups self.now.ports.items ≡ forwards (told phase (notice_effects now (notices_in cause (tables_of self.now.tables)))) (record (forwarding_of self.now.tables self.now.groups self.now.ports.items) { tables = left_in cause (tables_of self.now.tables) })) }
+        ensures plan { IfOk result (λ plan. planned plan self.now.tables self.now.groups self.now.ports ≡ forwards (told phase (notice_effects now (notices_in cause (tables_of self.now.tables)))) (record (forwarding_of self.now.tables self.now.groups self.now.ports) { tables = left_in cause (tables_of self.now.tables) })) }
     {
         let effects = if is_told(phase) {
             notices(alloc, &self.tables.listed(&cause)?, now)?
@@ -320,7 +188,7 @@ impl<L: Lookup> Plane<L> {
     /// Does what was planned, and answers what it gives.
     pub fn carry_out(&mut self, plan: Plan) -> Effects
         ensures effects { result.items ≡ plan.effects.items }
-        ensures forwarding { forwarding_of self.new.tables self.new.groups self.new.ports.items ≡ (planned plan self.old.tables self.old.groups self.old.ports.items).forwarding }
+        ensures forwarding { forwarding_of self.new.tables self.new.groups self.new.ports ≡ (planned plan self.old.tables self.old.groups self.old.ports).forwarding }
     {
         let Plan { effects, change } = plan;
         match &change {
@@ -333,10 +201,10 @@ impl<L: Lookup> Plane<L> {
 
     // Counts the reception of a frame, and what a packet's run counted and sent.
     fn count(&mut self, reception: Option<Reception>, counts: &[Count], effects: &[Effect])
-        ensures { forwarding_of self.new.tables self.new.groups self.new.ports.items ≡ all_sent effects.now (all_tallied (all_placed self.old.tables counts.now) (with_reception reception (forwarding_of self.old.tables self.old.groups self.old.ports.items))) }
+        ensures { forwarding_of self.new.tables self.new.groups self.new.ports ≡ all_sent effects.now (all_tallied (all_placed self.old.tables counts.now) (with_reception reception (forwarding_of self.old.tables self.old.groups self.old.ports))) }
     {
         if let Some(Reception { port, what }) = reception {
-            count_at(&mut self.ports, port, what);
+            self.ports.count(port, what);
         }
         self.tally_all(counts);
         self.count_sent(effects);
@@ -344,7 +212,7 @@ impl<L: Lookup> Plane<L> {
 
     // Counts what a run counted.
     fn tally_all(&mut self, counts: &[Count])
-        ensures { forwarding_of self.new.tables self.new.groups self.new.ports.items ≡ all_tallied (all_placed self.old.tables counts.now) (forwarding_of self.old.tables self.old.groups self.old.ports.items) }
+        ensures { forwarding_of self.new.tables self.new.groups self.new.ports ≡ all_tallied (all_placed self.old.tables counts.now) (forwarding_of self.old.tables self.old.groups self.old.ports) }
     {
         for count in counts {
             self.tally(count);
@@ -352,7 +220,7 @@ impl<L: Lookup> Plane<L> {
     }
 
     fn tally(&mut self, count: &Count)
-        ensures forwarding { forwarding_of self.new.tables self.new.groups self.new.ports.items ≡ tallied (placed self.old.tables count.now) (forwarding_of self.old.tables self.old.groups self.old.ports.items) }
+        ensures forwarding { forwarding_of self.new.tables self.new.groups self.new.ports ≡ tallied (placed self.old.tables count.now) (forwarding_of self.old.tables self.old.groups self.old.ports) }
         ensures numbers { all_numbers self.new.tables ≡ all_numbers self.old.tables }
     {
         match *count {
@@ -362,7 +230,7 @@ impl<L: Lookup> Plane<L> {
                 number,
                 bytes,
             } => self.matched(table, number, bytes),
-            Count::TxDropped(port) => count_at(&mut self.ports, port, PortCount::SendDropped),
+            Count::TxDropped(port) => self.ports.count(port, PortCount::SendDropped),
             Count::Group { group, bytes } => self.groups.count(group, bytes),
             Count::Bucket {
                 group,
@@ -373,7 +241,7 @@ impl<L: Lookup> Plane<L> {
     }
 
     fn looked(&mut self, table: u8)
-        ensures forwarding { forwarding_of self.new.tables self.new.groups self.new.ports.items ≡ record (forwarding_of self.old.tables self.old.groups self.old.ports.items) { tables = looked_in table (tables_of self.old.tables) } }
+        ensures forwarding { forwarding_of self.new.tables self.new.groups self.new.ports ≡ record (forwarding_of self.old.tables self.old.groups self.old.ports) { tables = looked_in table (tables_of self.old.tables) } }
         ensures numbers { all_numbers self.new.tables ≡ all_numbers self.old.tables }
     {
         self.tables.known();
@@ -383,7 +251,7 @@ impl<L: Lookup> Plane<L> {
     }
 
     fn matched(&mut self, table: u8, number: usize, bytes: usize)
-        ensures forwarding { forwarding_of self.new.tables self.new.groups self.new.ports.items ≡ record (forwarding_of self.old.tables self.old.groups self.old.ports.items) { tables = matched_in table (place_in self.old.tables table number) bytes (tables_of self.old.tables) } }
+        ensures forwarding { forwarding_of self.new.tables self.new.groups self.new.ports ≡ record (forwarding_of self.old.tables self.old.groups self.old.ports) { tables = matched_in table (place_in self.old.tables table number) bytes (tables_of self.old.tables) } }
         ensures numbers { all_numbers self.new.tables ≡ all_numbers self.old.tables }
     {
         self.tables.known();
@@ -394,7 +262,7 @@ impl<L: Lookup> Plane<L> {
 
     // Counts what is sent.
     fn count_sent(&mut self, effects: &[Effect])
-        ensures { forwarding_of self.new.tables self.new.groups self.new.ports.items ≡ all_sent effects.now (forwarding_of self.old.tables self.old.groups self.old.ports.items) }
+        ensures { forwarding_of self.new.tables self.new.groups self.new.ports ≡ all_sent effects.now (forwarding_of self.old.tables self.old.groups self.old.ports) }
     {
         for effect in effects {
             self.count_effect(effect);
@@ -402,11 +270,11 @@ impl<L: Lookup> Plane<L> {
     }
 
     fn count_effect(&mut self, effect: &Effect)
-        ensures { forwarding_of self.new.tables self.new.groups self.new.ports.items ≡ sent effect.now (forwarding_of self.old.tables self.old.groups self.old.ports.items) }
+        ensures { forwarding_of self.new.tables self.new.groups self.new.ports ≡ sent effect.now (forwarding_of self.old.tables self.old.groups self.old.ports) }
     {
         match effect {
             Effect::Sent { port, frame } => {
-                count_at(&mut self.ports, *port, PortCount::Sent(frame.len()));
+                self.ports.count(*port, PortCount::Sent(frame.len()));
             }
             Effect::Answer(_) | Effect::Closed => {}
         }
@@ -440,15 +308,16 @@ fn reception_alone(alloc: Global, port: u32, what: PortCount) -> Plan
 fn plan_of(
     alloc: Global,
     phase: Phase,
+    ports: &Ports,
     reception: Option<Reception>,
     outcome: Outcome,
 ) -> Result<Plan, AllocError>
     requires { AllShort 65485 outcome.items.items }
-    ensures { IfOk result (λ plan. (n : NumberedTables) (f : Forwarding) → (plan.effects.items ≡ effects_of phase outcome.items.items) × (changed plan.change plan.effects.items n f ≡ all_sent plan.effects.items (all_tallied (all_placed n outcome.counts.items) (with_reception reception f)))) }
+    ensures { IfOk result (λ plan. (n : NumberedTables) (f : Forwarding) → (plan.effects.items ≡ effects_of phase ports.now outcome.items.items) × (changed plan.change plan.effects.items n f ≡ all_sent plan.effects.items (all_tallied (all_placed n outcome.counts.items) (with_reception reception f)))) }
 {
     let Outcome { items, counts } = outcome;
     Ok(Plan {
-        effects: effects_from(alloc, phase, items)?,
+        effects: effects_from(alloc, phase, ports, items)?,
         change: Change::Counts { reception, counts },
     })
 }

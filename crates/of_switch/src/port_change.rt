@@ -12,4 +12,13 @@ pub enum PortChange {
         /// Whether its link is up.
         up: bool,
     },
+    /// A port is gone.
+    Remove {
+        number: u32,
+    },
+    /// A port's link is up from now on, or down.
+    Link {
+        number: u32,
+        up: bool,
+    },
 }

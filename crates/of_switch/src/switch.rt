@@ -1,6 +1,7 @@
 //! The switch.
 ghost use Rattle.std.specs.Prelude.{◌≡◌, ◌≤◌, ◌<◌, ◌∷◌, ◌++◌, ◌+◌, [], true, IfOk, IfErr, IfNone, OnOk, OnErr, None, length, take, vec_len, vec_capacity};
 ghost use Rattle.std.specs.Option.{option_map};
+ghost use Rattle.std.specs.Result.{result_err};
 ghost use Rattle.of_messages.specs.Written.{error_bytes};
 ghost use Rattle.of_session.specs.Session.{IsSound, IsWithin};
 ghost use Rattle.of_switch.specs.State.{start};
@@ -12,7 +13,7 @@ ghost use Rattle.of_switch.specs.Plane.{winner_in, world_of};
 ghost use Rattle.of_table.specs.Entries.{entry_of};
 ghost use Rattle.of_table.specs.Tables.{table_at};
 ghost use Rattle.of_switch.specs.Steps.{came, connected, does, failed_of, fed, frame_in, moment_in, gives, next_of, port_changed, refused as refused_by};
-ghost use Rattle.of_switch.specs.Calls.{Call, connect_refusal, feed_refusal, port_refusal};
+ghost use Rattle.of_switch.specs.Calls.{Call, absent_refusal, connect_refusal, feed_refusal, new_refusal, port_refusal};
 ghost use Rattle.of_switch.specs.Loading.{loaded};
 ghost use Rattle.of_switch.specs.Runs.{RunsAll, StopsWithin, reports_of};
 ghost use Rattle.of_switch.specs.Stepping.{Drains, Happens, Tells};
@@ -22,19 +23,18 @@ use crate::engine::{Engine, Fault, one};
 use crate::event::{Event, Report};
 use crate::port_change::PortChange;
 use crate::switch_error::SwitchError;
+use of_actions::is_number;
 use of_classifier::Lookup;
 use of_headers::FieldKey;
 use of_machine::StepLog;
 use of_messages::{MessageBytes, write_error, write_hello};
+use of_ports::MOST_PORTS;
 use of_session::{Next, Phase, Session};
 use of_table::Entry;
 use of_text::Config;
 use of_wire::Code;
 use std::alloc::{AllocError, Global};
 use std::marker::Model;
-
-/// How many ports a switch has at most.
-const MOST_PORTS: usize = 64;
 
 /// How many bytes of a message an ERROR gives back at most (OpenFlow 1.3.5, 7.4.4).
 const ERROR_DATA: usize = 64;
@@ -212,14 +212,40 @@ impl<L: Lookup> Switch<L> {
         Ok(self.engine.moment(self.session.phase(), nanos)?)
     }
 
-    /// A port is added.
+    /// The ports change (OpenFlow 1.3.5, 7.2.1). No flow and no group does.
     ///
-    /// Refused, in this order: `BadPortNumber`; `PortExists`; `TooManyPorts`.
-    pub fn port_change(&mut self, change: PortChange) -> Result<(), SwitchError>
-        ensures { Call (port_refusal change self.old) (λ _ new. new ≡ port_changed change self.old) self.old result self.new }
+    /// An open connection gets a PORT_STATUS, unless nothing changes that it shows.
+    /// Refused, in this order: `BadPortNumber`; of `Add`: `PortExists`; `TooManyPorts`; of the others: `NoSuchPort`.
+    pub fn port_change(&mut self, change: PortChange) -> Result<Effects, SwitchError>
+        ensures { Call (port_refusal change self.old) (λ effects new. port_changed change self.old ≡ gives effects.items new) self.old result self.new }
     {
-        let PortChange::Add { number, .. } = change;
-        if number == 0 || number > 0xffff_ff00 {
+        let phase = self.session.phase();
+        match change {
+            PortChange::Add {
+                number,
+                hw,
+                name,
+                up,
+            } => {
+                self.check_new_port(number)?;
+                Ok(self.engine.add_port(phase, number, hw, name, up)?)
+            }
+            PortChange::Remove { number } => {
+                self.check_port(number)?;
+                Ok(self.engine.remove_port(phase, number)?)
+            }
+            PortChange::Link { number, up } => {
+                self.check_port(number)?;
+                Ok(self.engine.set_link(phase, number, up)?)
+            }
+        }
+    }
+
+    // Whether a port of that number can be added.
+    fn check_new_port(&self, number: u32) -> Result<(), SwitchError>
+        ensures { result_err result ≡ new_refusal number self.now }
+    {
+        if !is_number(number) {
             return Err(SwitchError::BadPortNumber);
         }
         if self.engine.has_port(number) {
@@ -228,7 +254,20 @@ impl<L: Lookup> Switch<L> {
         if self.engine.count_ports() >= MOST_PORTS {
             return Err(SwitchError::TooManyPorts);
         }
-        Ok(self.engine.change_port(change)?)
+        Ok(())
+    }
+
+    // Whether there is a port of that number.
+    fn check_port(&self, number: u32) -> Result<(), SwitchError>
+        ensures { result_err result ≡ absent_refusal number self.now }
+    {
+        if !is_number(number) {
+            return Err(SwitchError::BadPortNumber);
+        }
+        if !self.engine.has_port(number) {
+            return Err(SwitchError::NoSuchPort);
+        }
+        Ok(())
     }
 
     /// The flows of a configuration take the place of those in the flow tables, without notices.
@@ -265,15 +304,8 @@ impl<L: Lookup> Switch<L> {
             Event::Piece(bytes) => self.piece(bytes.as_slice(), reports),
             Event::Frame { port, frame } => tell(self.frame(*port, frame.as_slice()), reports),
             Event::Moment(nanos) => tell(self.moment(*nanos), reports),
-            Event::Ports(change) => tell(self.port_event(*change), reports),
+            Event::Ports(change) => tell(self.port_change(*change), reports),
         }
-    }
-
-    fn port_event(&mut self, change: PortChange) -> Result<Effects, SwitchError>
-        ensures { Call (port_refusal change self.old) (λ effects new. gives [] (port_changed change self.old) ≡ gives effects.items new) self.old result self.new }
-    {
-        self.port_change(change)?;
-        Ok(Effects::new(self.alloc))
     }
 
     // Bytes of the controller come, and each whole message is handled.

@@ -21,6 +21,9 @@ pub enum SwitchError {
     /// A port of that number is there.
     #[error("a port of that number is there already")]
     PortExists = 5,
+    /// There is no port of that number.
+    #[error("there is no port of that number")]
+    NoSuchPort = 6,
     /// There are 64 ports.
     #[error("there are 64 ports already")]
     TooManyPorts = 7,

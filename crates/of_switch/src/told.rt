@@ -1,11 +1,14 @@
 //! What is sent of what a packet's run emitted.
-ghost use Rattle.std.specs.Prelude.{◌≡◌, ◌≤◌, IfOk, length};
+ghost use Rattle.std.specs.Prelude.{◌≡◌, ◌≤◌, IfOk, length, false};
+ghost use Rattle.std.specs.Option.{option_map_or};
+ghost use Rattle.of_ports.specs.Ports.{port_at};
 ghost use Rattle.of_machine.specs.Growth.{AllShort, frame_of};
-ghost use Rattle.of_switch.specs.Told.{effect_of, effects_of, is_given as is_given_to, is_told as is_told_at, packet_in_reason};
+ghost use Rattle.of_switch.specs.Told.{effect_of, effects_of, is_given as is_given_to, is_silenced as is_silenced_by, is_told as is_told_at, packet_in_reason};
 
 use crate::effect::{Effect, Effects};
-use of_machine::{Item, Items, PacketInReason};
+use of_machine::{Item, Items, PacketInReason, ToController};
 use of_messages::{PacketIn, write_packet_in};
+use of_ports::Ports;
 use of_session::Phase;
 use std::alloc::{AllocError, Global};
 
@@ -26,13 +29,29 @@ pub fn is_told(phase: Phase) -> bool
     phase == Phase::Open
 }
 
+// Whether its ingress port silences it.
+fn is_silenced(ports: &Ports, packet: &ToController) -> bool
+    ensures { result ≡ is_silenced_by ports.now packet.now }
+{
+    packet.reason == PacketInReason::NoMatch && tells_no_packet_in(ports, packet.ingress)
+}
+
+fn tells_no_packet_in(ports: &Ports, number: u32) -> bool
+    ensures { result ≡ option_map_or (λ q. q.config.no_packet_in) (port_at ports.now number) false }
+{
+    match ports.port(number) {
+        Some(port) => port.config.no_packet_in,
+        None => false,
+    }
+}
+
 // Whether it is sent.
-fn is_given(phase: Phase, item: &Item) -> bool
-    ensures { result ≡ is_given_to phase item.now }
+fn is_given(phase: Phase, ports: &Ports, item: &Item) -> bool
+    ensures { result ≡ is_given_to phase ports.now item.now }
 {
     match item {
         Item::Sent { .. } => true,
-        Item::PacketIn { .. } => is_told(phase),
+        Item::PacketIn(packet) => is_told(phase) && !is_silenced(ports, packet),
     }
 }
 
@@ -42,34 +61,32 @@ fn effect_from(alloc: Global, item: Item) -> Result<Effect, AllocError>
 {
     match item {
         Item::Sent { port, frame } => Ok(Effect::Sent { port, frame }),
-        Item::PacketIn {
-            reason,
-            table,
-            cookie,
-            ingress,
-            metadata,
-            frame,
-        } => {
-            let packet = PacketIn {
-                reason: reason_from(reason),
-                table,
-                cookie,
-                in_port: ingress,
-                metadata,
+        Item::PacketIn(packet) => {
+            let told = PacketIn {
+                reason: reason_from(packet.reason),
+                table: packet.table,
+                cookie: packet.cookie,
+                in_port: packet.ingress,
+                metadata: packet.metadata,
             };
-            Ok(Effect::Answer(write_packet_in(alloc, 0, &packet, frame.as_slice())?))
+            Ok(Effect::Answer(write_packet_in(alloc, 0, &told, packet.frame.as_slice())?))
         }
     }
 }
 
-/// What a switch whose connection stands there sends of what was emitted, in order.
-pub fn effects_from(alloc: Global, phase: Phase, items: Items) -> Result<Effects, AllocError>
+/// What a switch whose connection stands there and whose ports are so sends of what was emitted, in order.
+pub fn effects_from(
+    alloc: Global,
+    phase: Phase,
+    ports: &Ports,
+    items: Items,
+) -> Result<Effects, AllocError>
     requires { AllShort 65485 items.items }
-    ensures { IfOk result (λ effects. effects.items ≡ effects_of phase items.items) }
+    ensures { IfOk result (λ effects. effects.items ≡ effects_of phase ports.now items.items) }
 {
     let mut effects = Effects::new(alloc);
     for item in items {
-        if is_given(phase, &item) {
+        if is_given(phase, ports, &item) {
             effects.push(effect_from(alloc, item)?)?;
         }
     }

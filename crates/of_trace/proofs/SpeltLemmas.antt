@@ -18,10 +18,10 @@ use Rattle.of_actions.specs.Served.{is_served}
 use Rattle.of_actions.specs.InstructionLists.{is_served_body}
 use Rattle.of_action_set.specs.Sets.{in_order}
 use Rattle.of_table.specs.declared.flow.Flow.{Flow}
-use Rattle.of_machine.specs.declared.port.Port.{Port}
+use Rattle.of_ports.specs.declared.port.Port.{Port}
 use Rattle.of_machine.specs.declared.data.Packet.{Packet}
 use Rattle.of_machine.specs.declared.data.Step.{Step}
-use Rattle.of_machine.specs.Ports.{port_at}
+use Rattle.of_ports.specs.Ports.{port_at}
 use Rattle.of_machine.specs.TheWorld.{TheWorld}
 use Rattle.of_machine.specs.Sound.{IsSound}
 use Rattle.of_machine.specs.Rows.{Work, Lookup, Do, RunSet, Act, Task, task, Row, row, acts, works, key_of, lookup_row, entry_row, output_row, group_row, aged_row, copies, entering}

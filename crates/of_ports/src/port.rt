@@ -1,0 +1,75 @@
+//! Ports (OpenFlow 1.3.5, 7.2.1).
+ghost use Rattle.std.specs.Prelude.{◌≡◌};
+ghost use Rattle.of_ports.specs.Ports.{is_live as lives, may_receive, may_send, new_port, state_bits};
+
+use crate::config::PortConfig;
+use crate::counters::PortCounters;
+
+/// OFPPS_LINK_DOWN.
+const LINK_DOWN: u32 = 1;
+
+/// OFPPS_LIVE.
+const LIVE: u32 = 4;
+
+/// A port of the switch.
+#[derive(Clone, Copy, Debug, PartialEq, Eq)]
+pub struct Port {
+    /// 1 to 0xffffff00.
+    pub number: u32,
+    /// Its hardware address.
+    pub hw: [u8; 6],
+    /// Its name, filled up by zeros.
+    pub name: [u8; 16],
+    pub config: PortConfig,
+    pub is_link_up: bool,
+    /// The moment at which it was added, in nanoseconds.
+    pub created: u64,
+    pub counters: PortCounters,
+}
+
+impl Port {
+    /// A port that is added at that moment in nanoseconds: no bit of its configuration is set, and nothing is counted.
+    pub fn new(number: u32, hw: [u8; 6], name: [u8; 16], is_link_up: bool, created: u64) -> Port
+        ensures { result ≡ new_port number hw name is_link_up created }
+    {
+        Port {
+            number,
+            hw,
+            name,
+            config: PortConfig::default(),
+            is_link_up,
+            created,
+            counters: PortCounters::new(),
+        }
+    }
+
+    /// Whether it is neither down nor without a link.
+    pub fn is_live(&self) -> bool
+        ensures { result ≡ lives self.now }
+    {
+        self.is_link_up && !self.config.is_down
+    }
+
+    /// Whether packets may be sent out of the port.
+    pub fn may_send(&self) -> bool
+        ensures { result ≡ may_send self.now }
+    {
+        self.is_live() && !self.config.no_forward
+    }
+
+    /// Whether frames that come in by the port are taken in.
+    pub fn may_receive(&self) -> bool
+        ensures { result ≡ may_receive self.now }
+    {
+        self.is_live() && !self.config.no_receive
+    }
+
+    /// The word of bits that tells its state.
+    pub fn state_bits(&self) -> u32
+        ensures { result ≡ state_bits self.now }
+    {
+        let link = if self.is_link_up { 0 } else { LINK_DOWN };
+        let live = if self.is_live() { LIVE } else { 0 };
+        link + live
+    }
+}

@@ -1,0 +1,22 @@
+-- What a PORT_MOD is refused for by the ports that are there (OpenFlow 1.3.5, 7.3.4.3 and 7.4.4).
+use Rattle.std.specs.Prelude.{Bool, false, not, List, [], ◌∷◌}
+use Rattle.std.specs.Option.{is_some, option_map_or}
+use Rattle.std.specs.Str.{bytes_eq}
+use Rattle.of_wire.specs.declared.code.Code.{Code}
+use Rattle.of_wire.specs.Refusals.{refusal}
+use Rattle.of_messages.specs.declared.port_mod.PortMod.{PortMod}
+use Rattle.of_ports.specs.declared.port.Port.{Port}
+use Rattle.of_ports.specs.Config.{configured}
+use Rattle.of_ports.specs.Ports.{port_at, with_config}
+
+-- the port is there, with another address
+abbrev pub has_other_address : PortMod → List Port → Bool
+has_other_address m ports = option_map_or (λ p. not (bytes_eq p.hw m.hw)) (port_at ports m.port) false
+
+-- there is no such port (7/0); it has another address (7/1)
+abbrev pub port_mod_refusals : PortMod → List Port → List (Bool × Code)
+port_mod_refusals m ports = (not (is_some (port_at ports m.port)), refusal 7 0) ∷ (has_other_address m ports, refusal 7 1) ∷ []
+
+-- the bits of the configuration under the mask are those of the message, and the others stay
+abbrev pub modified_port : PortMod → Port → Port
+modified_port m p = with_config (configured m.config m.mask p.config) p
