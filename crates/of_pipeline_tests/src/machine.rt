@@ -1,15 +1,18 @@
 ghost use Rattle.std.specs.Prelude.{◌≡◌, ◌==◌, ◌≤◌, ◌<◌, ◌^◌, ◌∷◌, [], Some, None, length, IsTrue, IfOk, if◌then◌else◌};
 ghost use Rattle.of_actions.specs.declared.action.Action.TheVariants.{Output};
 ghost use Rattle.of_actions.specs.InstructionLists.{are_for};
+ghost use Rattle.of_actions.specs.Rising.{is_rising};
+ghost use Rattle.of_ports.specs.Ports.{number_of};
 
 use of_actions::{Action, ActionList, Instruction, InstructionList, PORT_CONTROLLER, PORT_TABLE};
 use of_headers::FieldKey;
 use of_layers::Field;
 use of_machine::{
-    Chosen, Count, Item, NoLog, Outcome, Packet, PacketFrame, PacketInReason, Port, PortCounters,
-    Step, Steps, World, run, run_actions,
+    Chosen, Count, Item, NoLog, Outcome, Packet, PacketFrame, PacketInReason, Step, Steps, World,
+    run, run_actions,
 };
 use of_oxm::read_match;
+use of_ports::Port;
 use of_table::{Flow, FlowFlags};
 use std::alloc::Global;
 use std::process::Abort;
@@ -35,6 +38,7 @@ struct OneEntry {
     flow: Flow,
     ports: [Port; 3],
     ghost onward: { IsTrue (are_for 0 flow.instructions) },
+    ghost rising: { IsTrue (is_rising number_of ports) },
 }
 
 impl World for OneEntry {
@@ -76,23 +80,10 @@ impl World for OneEntry {
     }
 }
 
-fn port(number: u32) -> Port {
-    let counters = PortCounters {
-        rx_packets: 0,
-        tx_packets: 0,
-        rx_bytes: 0,
-        tx_bytes: 0,
-        rx_dropped: 0,
-        tx_dropped: 0,
-        rx_errors: 0,
-    };
-    Port {
-        number,
-        hw: [2, 0, 0, 0, 0, 1],
-        name: [0; 16],
-        is_link_up: true,
-        counters,
-    }
+fn port(number: u32) -> Port
+    ensures { result.number ≡ number }
+{
+    Port::new(number, [2, 0, 0, 0, 0, 1], [0; 16], true, 0)
 }
 
 const NO_FLAGS: FlowFlags = FlowFlags {
@@ -156,21 +147,12 @@ fn was_sent(rt: &impl Abort, outcome: &Outcome, place: usize, port: u32, bytes: 
 // Asserts that a packet went to the controller, for that reason and by that entry.
 fn was_told(rt: &impl Abort, outcome: &Outcome, place: usize, why: PacketInReason) {
     match outcome.items.get(place) {
-        Some(
-            Item::PacketIn {
-                reason,
-                table,
-                cookie,
-                ingress,
-                metadata,
-                ..
-            },
-        ) => {
-            assert_eq!(rt; *reason, why);
-            assert_eq!(rt; *table, 0);
-            assert_eq!(rt; *cookie, 7);
-            assert_eq!(rt; *ingress, 1);
-            assert_eq!(rt; *metadata, 0);
+        Some(Item::PacketIn(told)) => {
+            assert_eq!(rt; told.reason, why);
+            assert_eq!(rt; told.table, 0);
+            assert_eq!(rt; told.cookie, 7);
+            assert_eq!(rt; told.ingress, 1);
+            assert_eq!(rt; told.metadata, 0);
         }
         _ => assert!(rt; false),
     }

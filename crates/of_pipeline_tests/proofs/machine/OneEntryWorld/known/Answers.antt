@@ -35,6 +35,7 @@ returns c = record {
   found = λ t m n e. found c.args.self.now.flow n (t == 0) e;
   kept = λ t n f e. kept c.args.self.now.flow f (t == 0) c.as_slice-instructions.ensures.kept e;
   onward = λ t n f e. onward c.args.self.now.flow f t (t == 0) refl c.args.self.now.onward e;
+  rising = c.args.self.now.rising;
   short = λ g. omega arith;
   chained = λ g places e. omega arith;
   few = λ g places e. rw (← two_places places e) (omega arith);
