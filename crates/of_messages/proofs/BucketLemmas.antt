@@ -1,5 +1,5 @@
 -- Walks over buckets.
-use Rattle.std.proofs.Common.{◌≡◌, ◌<◌, ℕ, List, [], length, Some, None, Ok, Err, arith}
+use Rattle.std.proofs.Common.{◌≡◌, ◌<◌, ℕ, false, ltb, List, [], length, Some, None, Ok, Err, arith}
 use Rattle.std.proofs.lemmas.Bool.{ltb-false}
 use Rattle.of_wire.specs.declared.code.ReadError.{ReadError}
 use Rattle.of_wire.specs.declared.code.ReadError.TheVariants as errors
@@ -14,7 +14,7 @@ use Rattle.of_messages.specs.Buckets.{buckets, bucket_refusals, len_at}
 pub buckets_take : TakesBytes buckets
 unfolding bucket_refusals
 buckets_take seen bytes some none =
-    let low = first_false _ _ (first_false _ _ (none_applies (bucket_refusals seen bytes) none).1.1.0) in
+    let low : ltb (len_at bytes) 16 ≡ false = first_false _ _ (first_false _ _ (none_applies (bucket_refusals seen bytes) none).1.1.0) in
     omega (arith, ltb-false (len_at bytes) 16 low)
 
 -- ---- the two ways out of a loop over items

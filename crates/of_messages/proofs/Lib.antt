@@ -5,3 +5,5 @@ pub mod NoInstructions
 pub mod PacketFields
 pub mod Lengths
 pub mod BucketsWritten
+pub mod BucketsAgain
+pub mod GroupAgain

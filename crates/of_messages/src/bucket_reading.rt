@@ -52,7 +52,7 @@ fn read_bucket(alloc: Global, rest: &[u8], seen: &[Bucket]) -> Result<(Bucket, u
 }
 
 /// All of the bytes as buckets, which are refused one by one.
-pub fn read_buckets(alloc: Global, bytes: &[u8]) -> Result<Buckets, ReadError>
+pub(crate) fn read_buckets(alloc: Global, bytes: &[u8]) -> Result<Buckets, ReadError>
     ensures { Reads result (buckets_said bytes.now) }
 {
     let mut buckets = Buckets::new(alloc);

@@ -1,7 +1,11 @@
 //! The bytes of a GROUP_MOD that adds a group, as a controller sends it.
-ghost use Rattle.std.specs.Prelude.{◌≡◌, ◌≤◌, ◌++◌, IsTrue, length, OnOk, IfOk};
+ghost use Rattle.std.specs.Prelude.{◌≡◌, ◌≤◌, ◌++◌, true, IsTrue, length, Ok, OnOk, IfOk};
+ghost use Rattle.std.specs.List.{list_all};
 ghost use Rattle.of_groups.specs.Buckets.{are_fit};
-ghost use Rattle.of_messages.specs.CanonicalGroups.{canonical_bucket, canonical_buckets, group_add_bytes, group_add_front, kind_number};
+ghost use Rattle.of_messages.specs.CanonicalGroups.{as_written, canonical_bucket, canonical_buckets, group_add_bytes, group_add_front, has_numbers, kind_number};
+ghost use Rattle.of_messages.specs.Messages.{message_of};
+ghost use Rattle.of_messages.specs.declared.message.Message.TheVariants.{GroupMod as IsGroupMod};
+ghost use Rattle.of_messages.specs.declared.group_mod.GroupMod.TheVariants.{Add};
 
 use crate::group_mod::NewGroup;
 use crate::writing::{put_header, put_u16, put_u32};
@@ -20,8 +24,10 @@ fn number_of(kind: GroupKind) -> u8
     }
 }
 
+#[tactic(auto, unfolding(crate::specs::CanonicalGroups::has_numbers))]
 fn put_bucket(out: &mut Vec<u8>, alloc: Global, bucket: &Bucket) -> Result<(), AllocError>
-    ensures { OnOk result (out.new.items ≡ out.old.items ++ canonical_bucket bucket.now) }
+    ensures text { OnOk result (out.new.items ≡ out.old.items ++ canonical_bucket bucket.now) }
+    ensures numbers { OnOk result (has_numbers bucket.now ≡ true) }
 {
     let actions = write_actions(alloc, &bucket.actions)?;
     put_u16(out, (16 + actions.len()) as u16)?;
@@ -33,7 +39,8 @@ fn put_bucket(out: &mut Vec<u8>, alloc: Global, bucket: &Bucket) -> Result<(), A
 }
 
 fn put_buckets(out: &mut Vec<u8>, alloc: Global, buckets: &[Bucket]) -> Result<(), AllocError>
-    ensures { OnOk result (out.new.items ≡ out.old.items ++ canonical_buckets buckets.now) }
+    ensures text { OnOk result (out.new.items ≡ out.old.items ++ canonical_buckets buckets.now) }
+    ensures numbers { OnOk result (list_all has_numbers buckets.now ≡ true) }
 {
     for bucket in buckets {
         put_bucket(out, alloc, bucket)?;
@@ -46,6 +53,7 @@ fn put_buckets(out: &mut Vec<u8>, alloc: Global, buckets: &[Bucket]) -> Result<(
 fn write_buckets(alloc: Global, buckets: &Buckets) -> Result<Vec<u8>, AllocError>
     ensures canonical { IfOk result (λ v. v.items ≡ canonical_buckets buckets.now) }
     ensures short { IfOk result (λ v. length v.items ≤ 24832) }
+    ensures numbers { OnOk result (list_all has_numbers buckets.now ≡ true) }
     ensures fit { IsTrue (are_fit buckets.now) }
 {
     let mut out = Vec::new(alloc);
@@ -65,7 +73,9 @@ fn put_front(out: &mut Vec<u8>, group: &NewGroup) -> Result<(), AllocError>
 /// The GROUP_MOD that adds a group (OpenFlow 1.3.5, 7.3.4.2), its buckets in the one spelling that is written. What is
 /// counted in them is not part of it.
 pub fn write_group_mod(alloc: Global, xid: u32, group: &NewGroup) -> Result<Bytes, AllocError>
-    ensures { IfOk result (λ bytes. bytes ≡ group_add_bytes xid group.now) }
+    ensures canonical { IfOk result (λ bytes. bytes ≡ group_add_bytes xid group.now) }
+    // It is read again, if a group may have its number.
+    ensures read_again { group.now.id ≤ 0xffffff00 → IfOk result (λ bytes. message_of bytes ≡ Ok (IsGroupMod (Add (as_written group.now)))) }
 {
     let buckets = write_buckets(alloc, &group.buckets)?;
     let mut out = Vec::new(alloc);

@@ -54,8 +54,8 @@ fn lacks_actions(message: &[u8]) -> bool
 /// Refuses a message by its version, type and length alone, in that order (OpenFlow 1.3.5, 7.1 and 7.4.4).
 ///
 /// A message is refused with the first that applies: it is not as long as its header says (1/6); it is of another version,
-/// and no HELLO (1/0); its type is not served (1/1); its length is not that of its type (1/6); the actions of a PACKET_OUT
-/// are part of its length.
+/// and no HELLO (1/0); its type is not served (1/1); its length is not that of its type (1/6): a BARRIER_REQUEST has 8 bytes,
+/// a FLOW_MOD 56 at least, a GROUP_MOD 16 at least, a PORT_MOD 40, and a PACKET_OUT 24 at least and those of its actions.
 pub fn check_head(message: &[u8]) -> Result<(), Code>
     ensures refusal { MatchResult result (λ _. first_of (head_refusals message.now) ≡ None) (λ code. first_of (head_refusals message.now) ≡ Some code) }
     ensures header { OnOk result (8 ≤ length message.now) }

@@ -43,8 +43,8 @@ const ALL_TABLES: u8 = 255;
 // The flags that are known, each a bit.
 const ALL_FLAGS: u16 = 31;
 
-/// The bytes from that place on.
-pub fn rest_from(bytes: &[u8], at: usize) -> &[u8]
+// The bytes from that place on.
+pub(crate) fn rest_from(bytes: &[u8], at: usize) -> &[u8]
     requires { at ≤ length bytes.now }
     ensures rest { result.now ≡ drop at bytes.now }
     ensures size { length result.now + at ≡ length bytes.now }
