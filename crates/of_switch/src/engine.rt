@@ -35,8 +35,7 @@ use of_headers::FieldKey;
 use of_machine::StepLog;
 use of_messages::{
     FlowMod, FlowModCommand, GroupMod, Message, NewGroup, PacketData, PacketOut, PortMod,
-    PortStatusReason,
-    write_barrier_reply, write_echo_reply,
+    PortStatusReason, write_barrier_reply, write_echo_reply,
 };
 use of_ports::Port;
 use of_session::Phase;
