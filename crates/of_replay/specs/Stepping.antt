@@ -1,5 +1,6 @@
 -- Steps of a run, for contracts inside this crate.
-use Rattle.std.specs.Prelude.{◌≡◌, ◌⊎◌, ℕ, ◌+◌, ◌<◌, ◌≤◌, nat_lt, Bool, true, false, List, [], ◌++◌, length, take, Option, Some, None, Result, Ok, Err}
+use Rattle.std.specs.Prelude.{◌≡◌, ◌≢◌, ◌⊎◌, ℕ, ◌+◌, ◌<◌, ◌≤◌, nat_lt, Bool, true, false, List, [], ◌++◌, length, take, Option, Some, None, Result, Ok, Err}
+use Rattle.std.specs.declared.alloc.AllocError.{AllocError}
 use Rattle.smallvec.specs.SmallVec.{SmallVec}
 use Rattle.of_switch.specs.declared.effect.Effect.{Effect}
 use Rattle.of_switch.specs.declared.switch_error.SwitchError.{SwitchError}
@@ -16,7 +17,7 @@ use Rattle.of_replay.specs.Told.{Answer, then_bytes, given}
 use Rattle.of_replay.specs.Transfer.{then_answers, WroteFront}
 use Rattle.of_replay.specs.Lexing.{whole_lines, whole_from, last_from}
 use Rattle.of_replay.specs.Rows.{EventRow, Passed, Connect, Piece, Frame, Moment, Ports, Rows, rows_of, events_in}
-use Rattle.of_replay.specs.Output.{report_text, printed_from, printed}
+use Rattle.of_replay.specs.Output.{text_of, refused_line, report_text, printed_from, printed}
 use Rattle.of_replay.specs.Play.{lines_read}
 
 -- A ROW
@@ -40,6 +41,20 @@ IsReport (Err e) (IsRefused refusal) = e ≡ refusal
 -- what a row's call answers: its report, unless memory ran out
 abbrev pub RowGives : Result (SmallVec Effect) SwitchError → Happened → State → Type 0
 RowGives result h new = (result ≡ Err error.NoMemory) ⊎ (IsReport result h.report × (new ≡ h.state))
+
+-- it is printed, or memory ran out
+abbrev pub OrMemory : Result (Unit {0}) AllocError → Result (Unit {0}) Halt → Type 0
+OrMemory (Ok u) result = result ≡ Ok tt
+OrMemory (Err e) result = result ≡ Err halt.Memory
+
+-- the report of a call is printed, or memory ran out
+abbrev pub PrintsReport : Result (SmallVec Effect) SwitchError → Result (Unit {0}) Halt → List ℕ → List ℕ → Type 0
+PrintsReport (Ok es) (Ok u) out out' = out' ≡ out ++ text_of es.items
+PrintsReport (Err e) (Ok u) out out' = (e ≢ error.NoMemory) × (out' ≡ out ++ refused_line e)
+PrintsReport called (Err halt.Memory) out out' = out' ≡ out
+PrintsReport called (Err (halt.Bad m)) out out' = ⊥
+PrintsReport called (Err halt.Read) out out' = ⊥
+PrintsReport called (Err halt.Write) out out' = ⊥
 
 -- A LINE
 

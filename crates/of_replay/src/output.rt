@@ -4,11 +4,12 @@ ghost use Rattle.hex.specs.Hex.{encode_lower};
 ghost use Rattle.of_replay.specs.Told.{then_bytes};
 ghost use Rattle.of_replay.specs.Transfer.{WroteFront};
 ghost use Rattle.of_replay.specs.Output.{line_of, refused_line, text_of};
+ghost use Rattle.of_replay.specs.Stepping.{OrMemory, PrintsReport};
 
 use crate::halt::Halt;
 use crate::io::Sink;
 use crate::transfer::write_all;
-use of_switch::{Effect, SwitchError};
+use of_switch::{Effect, Effects, SwitchError};
 use std::alloc::{AllocError, Global};
 use std::marker::Model;
 
@@ -90,6 +91,15 @@ impl Model for Printer {
     ghost view = { λ p. p.out.items };
 }
 
+fn or_memory(printed: Result<(), AllocError>) -> Result<(), Halt>
+    ensures { OrMemory printed result }
+{
+    match printed {
+        Ok(()) => Ok(()),
+        Err(AllocError) => Err(Halt::Memory),
+    }
+}
+
 impl Printer {
     pub fn new(alloc: Global) -> Self
         ensures { result ≡ [] }
@@ -119,6 +129,17 @@ impl Printer {
         self.text.clear();
         push_refusal(self.alloc, &mut self.text, refusal)?;
         self.out.extend_from_slice(&self.text)
+    }
+
+    /// Prints the report of a call; where memory ran out, nothing.
+    pub fn print_report(&mut self, called: Result<Effects, SwitchError>) -> Result<(), Halt>
+        ensures { PrintsReport called result self.old self.new }
+    {
+        match called {
+            Ok(effects) => or_memory(self.print_effects(&effects)),
+            Err(SwitchError::NoMemory) => Err(Halt::Memory),
+            Err(refusal) => or_memory(self.print_refusal(refusal)),
+        }
     }
 
     /// Whether there is a part that is large enough to be written.

@@ -12,7 +12,7 @@ use crate::output::Printer;
 use crate::play::play_row;
 use crate::rows::read_row;
 use of_classifier::Lookup;
-use of_switch::{Switch, SwitchError};
+use of_switch::Switch;
 use std::alloc::{AllocError, Global};
 
 /// A reader is read so many times at most.
@@ -76,15 +76,8 @@ impl<L: Lookup> Replaying<L> {
             Ok(None) => return Err(Halt::Bad(self.number)),
             Err(AllocError) => return Err(Halt::Memory),
         };
-        let printed = match play_row(self.alloc, &mut self.switch, row, &self.bytes) {
-            Ok(effects) => self.printer.print_effects(&effects),
-            Err(SwitchError::NoMemory) => return Err(Halt::Memory),
-            Err(refusal) => self.printer.print_refusal(refusal),
-        };
-        match printed {
-            Ok(()) => Ok(()),
-            Err(AllocError) => Err(Halt::Memory),
-        }
+        let called = play_row(self.alloc, &mut self.switch, row, &self.bytes);
+        self.printer.print_report(called)
     }
 
     // Plays the open line, and begins another.
