@@ -11,7 +11,7 @@ use std::test::Fail;
 mod rows;
 
 /// The type and code of a refusal.
-fn code_of<T: Drop>(read: Result<T, ReadError>) -> Option<Code> {
+pub(crate) fn code_of<T: Drop>(read: Result<T, ReadError>) -> Option<Code> {
     match read {
         Err(ReadError::Refused(code)) => Some(code),
         _ => None,
@@ -19,7 +19,7 @@ fn code_of<T: Drop>(read: Result<T, ReadError>) -> Option<Code> {
 }
 
 /// The type and code that a row names.
-fn wanted_code(side: &str) -> Result<Option<Code>, Fail> {
+pub(crate) fn wanted_code(side: &str) -> Result<Option<Code>, Fail> {
     let (kind, code) = side.split_once(' ').ok_or("a type and a code")?;
     let kind = u16::try_from(number_of(kind)?).ok().ok_or("a type")?;
     let code = u16::try_from(number_of(code)?).ok().ok_or("a code")?;

@@ -8,4 +8,6 @@ mod action_set;
 #[cfg(test)]
 mod actions;
 #[cfg(test)]
+mod groups_and_ports;
+#[cfg(test)]
 mod messages;
