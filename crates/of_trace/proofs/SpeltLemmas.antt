@@ -21,7 +21,7 @@ use Rattle.of_table.specs.declared.flow.Flow.{Flow}
 use Rattle.of_ports.specs.declared.port.Port.{Port}
 use Rattle.of_machine.specs.declared.data.Packet.{Packet}
 use Rattle.of_machine.specs.declared.data.Step.{Step}
-use Rattle.of_ports.specs.Ports.{port_at}
+use Rattle.of_ports.specs.Ports.{may_receive, port_at}
 use Rattle.of_machine.specs.TheWorld.{TheWorld}
 use Rattle.of_machine.specs.Sound.{IsSound}
 use Rattle.of_machine.specs.Rows.{Work, Lookup, Do, RunSet, Act, Task, task, Row, row, acts, works, key_of, lookup_row, entry_row, output_row, group_row, aged_row, copies, entering}
@@ -172,7 +172,7 @@ module _ (f : Forwarding) (sound : IsSound (world_of f)) (number : ℕ) (bytes :
 
   arriving_spelt : (port : Option Port) → IsTrue (are_spelt (arriving_steps number bytes f port))
   arriving_spelt None = refl
-  arriving_spelt (Some p) = up_spelt p.is_link_up
+  arriving_spelt (Some p) = up_spelt (may_receive p)
 
   -- the steps of a frame
   pub steps_spelt : IsTrue (are_spelt (steps_in number bytes f))
