@@ -6,6 +6,9 @@ use std::time::Instant;
 /// So many calls are made between two looks at the clock.
 const CALLS: u64 = 1000;
 
+/// So many where a call takes long.
+const SLOW_CALLS: u64 = 10;
+
 /// How long one thing is run.
 const SECONDS: u64 = 2;
 
@@ -15,9 +18,9 @@ pub trait Timed {
     fn call(&mut self, turn: u64) -> u64;
 }
 
-fn call_often(timed: &mut impl Timed, first: u64) -> u64 {
+fn call_often(timed: &mut impl Timed, first: u64, calls: u64) -> u64 {
     let mut sum = 0u64;
-    for i in 0..CALLS {
+    for i in 0..calls {
         sum = sum
             .wrapping_mul(31)
             .wrapping_add(timed.call(first.wrapping_add(i)));
@@ -27,14 +30,24 @@ fn call_often(timed: &mut impl Timed, first: u64) -> u64 {
 
 /// Runs it for some seconds, and prints the nanoseconds of a call and a checksum of the answers.
 pub fn time(rt: &HostRuntime, name: &str, timed: &mut impl Timed) -> io::Result<()> {
+    time_by(rt, name, timed, CALLS)
+}
+
+/// The same of what takes long.
+pub fn time_slow(rt: &HostRuntime, name: &str, timed: &mut impl Timed) -> io::Result<()> {
+    time_by(rt, name, timed, SLOW_CALLS)
+}
+
+// With so many calls between two looks at the clock.
+fn time_by(rt: &HostRuntime, name: &str, timed: &mut impl Timed, each: u64) -> io::Result<()> {
     let mut calls = 0u64;
     let mut checksum = 0u64;
     let start = Instant::now(rt)?;
     for _ in 0..100_000_000 {
         checksum = checksum
             .wrapping_mul(31)
-            .wrapping_add(call_often(timed, calls));
-        calls = calls.wrapping_add(CALLS);
+            .wrapping_add(call_often(timed, calls, each));
+        calls = calls.wrapping_add(each);
         if start.elapsed(rt)?.as_secs() >= SECONDS {
             break;
         }

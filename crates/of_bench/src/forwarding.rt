@@ -36,7 +36,12 @@ fn sent(effects: &[Effect]) -> u64 {
     }
 }
 
-fn time_forward(rt: &HostRuntime, name: &str, made: Option<Switch<MaskGroups>>) -> io::Result<()> {
+/// Times a frame that comes in by port 1 and leaves.
+pub fn time_forward(
+    rt: &HostRuntime,
+    name: &str,
+    made: Option<Switch<MaskGroups>>,
+) -> io::Result<()> {
     let Some(switch) = made else {
         return println!(rt; "{name}: no memory");
     };
@@ -47,8 +52,8 @@ fn time_forward(rt: &HostRuntime, name: &str, made: Option<Switch<MaskGroups>>) 
     time(rt, name, &mut timed)
 }
 
-// Eight flows in table 0, for the TCP ports 73 to 80; None where memory runs out.
-fn eight_flows(alloc: Global) -> Option<Switch<MaskGroups>> {
+/// Eight flows in table 0, for the TCP ports 73 to 80; `None` where memory runs out.
+pub fn eight_flows(alloc: Global) -> Option<Switch<MaskGroups>> {
     let mut switch = open_switch(alloc)?;
     for port in 73..81 {
         let flow = add(alloc, 0, &flows::web_match(port), &flows::OUTPUT).ok()?;

@@ -8,10 +8,13 @@ mod comparing;
 mod flows;
 mod forwarding;
 mod frames;
+mod grouping;
 mod headers;
 mod matching;
 mod rewriting;
 mod switching;
+mod texts;
+mod tracing;
 
 use std::{env, io};
 
@@ -39,6 +42,12 @@ fn run(rt: &HostRuntime, name: &str) -> io::Result<()> {
         "frame" => forwarding::time_frame(rt),
         "frame_full" => forwarding::time_frame_full(rt),
         "pipeline" => forwarding::time_pipeline(rt),
+        "flood" => grouping::time_flood(rt),
+        "group_mod" => grouping::time_group_mod(rt),
+        "group_chain" => grouping::time_group_chain(rt),
+        "trace" => tracing::time_trace(rt),
+        "assemble" => texts::time_assemble(rt),
+        "disassemble" => texts::time_disassemble(rt),
         _ => println!(rt; "of_bench: no such name; bench/README.md lists them"),
     }
 }

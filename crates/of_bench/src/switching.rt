@@ -32,7 +32,8 @@ fn add(table: u8, number: u16, seconds: u16) -> [u8; 64] {
     message
 }
 
-fn port(number: u32) -> PortChange {
+/// A port that is added, whose link is up.
+pub fn port(number: u32) -> PortChange {
     PortChange::Add {
         number,
         hw: [2, 0, 0, 0, 0, 1],

@@ -1,0 +1,50 @@
+//! Traces.
+
+use crate::clock::{Timed, time};
+use crate::forwarding::eight_flows;
+use crate::frames::TCP;
+use of_mask_groups::MaskGroups;
+use of_switch::Switch;
+use of_trace::{print, trace};
+use std::alloc::Global;
+use std::io;
+
+#[derive(Drop)]
+struct Traced {
+    alloc: Global,
+    switch: Switch<MaskGroups>,
+    is_printed: bool,
+}
+
+impl Timed for Traced {
+    fn call(&mut self, turn: u64) -> u64 {
+        let Ok(traced) = trace(self.alloc, &self.switch, 1, &TCP) else {
+            return turn;
+        };
+        if !self.is_printed {
+            return traced.steps.len() as u64;
+        }
+        match print(self.alloc, &traced) {
+            Ok(text) => text.len() as u64,
+            Err(_) => turn,
+        }
+    }
+}
+
+fn time_traced(rt: &HostRuntime, name: &str, is_printed: bool) -> io::Result<()> {
+    let Some(switch) = eight_flows(rt.alloc()) else {
+        return println!(rt; "{name}: no memory");
+    };
+    let mut timed = Traced {
+        alloc: rt.alloc(),
+        switch,
+        is_printed,
+    };
+    time(rt, name, &mut timed)
+}
+
+/// The trace of the frame of `frame`, without its text and with it.
+pub fn time_trace(rt: &HostRuntime) -> io::Result<()> {
+    time_traced(rt, "trace", false)?;
+    time_traced(rt, "trace, printed", true)
+}
