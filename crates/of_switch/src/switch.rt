@@ -165,7 +165,7 @@ impl<L: Lookup> Switch<L> {
     /// The effects that `frame` would give next, and the steps of the frame's run, which are put into the log (OpenFlow 1.3.5, 5.1).
     ///
     /// Nothing changes: no counter, no moment. In the steps an entry is named by its place in its table by age, from 0. A frame
-    /// at a port that is not there or whose link is down, or one that is too short or too long, takes no steps. Where memory
+    /// at a port that is not there or may not receive, or one that is too short or too long, takes no steps. Where memory
     /// runs out, the log has the first steps, or all.
     pub fn dry_run<S: StepLog>(
         &self,
@@ -339,6 +339,7 @@ impl<L: Lookup> Switch<L> {
                         return Err(AllocError);
                     }
                 }
+                // `next` refuses nothing, so memory ran out.
                 Err(_) => {
                     reports.push_reserved(Report::Gives(effects));
                     return Err(AllocError);
