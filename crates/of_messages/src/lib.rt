@@ -2,6 +2,7 @@
 #![tactic(auto)]
 
 mod bucket_reading;
+mod control;
 mod flow_mod_writing;
 mod group_mod;
 mod group_mod_writing;
@@ -14,6 +15,7 @@ mod port_status;
 mod reading;
 mod writing;
 
+pub use control::{AsyncMasks, Role, RoleMasks, SwitchConfig};
 pub use flow_mod_writing::write_flow_mod;
 pub use group_mod::{GroupMod, NewGroup};
 pub use group_mod_writing::write_group_mod;

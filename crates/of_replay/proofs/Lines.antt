@@ -15,7 +15,7 @@ use Rattle.of_replay.specs.declared.halt.Halt.TheVariants.{Bad, Memory, Read, Wr
 use Rattle.of_replay.specs.Told.{then_bytes}
 use Rattle.of_replay.specs.Transfer.{WroteFront}
 use Rattle.of_replay.specs.Lexing.{whole_from, whole_lines, last_from, is_line}
-use Rattle.of_replay.specs.Rows.{EventRow, Passed, Connect, Piece, Frame, Moment, Ports, Rows, row_of, row_and, rows_of, events_in}
+use Rattle.of_replay.specs.Rows.{EventRow, Passed, Connect, Lost, Piece, Frame, Moment, Ports, Rows, row_of, row_and, rows_of, events_in}
 use Rattle.of_replay.specs.Output.{report_text, printed_from, printed}
 use Rattle.of_replay.specs.Play.{open_line, lines_read}
 use Rattle.of_replay.specs.Stepping.{row_happened, LineTells, LineGoes, Prints, PrintsFirst, Going, Within, Halts, PieceGoes, WritesFail}
@@ -28,6 +28,7 @@ use Rattle.of_replay.proofs.Cutting.{kept_more, Parts, parts, first_end, whole_j
 row_text : (row : EventRow) (s : State) → report_text (row_happened s row).report ≡ printed_from s (events_in row)
 row_text Passed s = refl
 row_text Connect s = sym (append-nil _)
+row_text Lost s = refl
 row_text (Piece bytes) s = sym (append-nil _)
 row_text (Frame port bytes) s = sym (append-nil _)
 row_text (Moment nanos) s = sym (append-nil _)
@@ -36,6 +37,7 @@ row_text (Ports change) s = sym (append-nil _)
 row_state : (row : EventRow) (s : State) → (row_happened s row).state ≡ (run (events_in row) s).state
 row_state Passed s = refl
 row_state Connect s = refl
+row_state Lost s = refl
 row_state (Piece bytes) s = refl
 row_state (Frame port bytes) s = refl
 row_state (Moment nanos) s = refl

@@ -1,5 +1,6 @@
 -- The rows of event files: words parted by one space, as
 --   connect
+--   lost
 --   c HEX
 --   f PORT HEX
 --   t NANOS
@@ -21,6 +22,7 @@ use Rattle.of_replay.specs.Lexing.{is_line, is_passed, first_word, after_word, n
 pub data EventRow : Type 0 where
   Passed : EventRow
   Connect : EventRow
+  Lost : EventRow
   Piece : (bytes : List ℕ) → EventRow
   Frame : (port : ℕ) (bytes : List ℕ) → EventRow
   Moment : (nanos : ℕ) → EventRow
@@ -94,7 +96,10 @@ named_row name words =
     else None)))
 
 abbrev pub row_in : List ℕ → Option (List ℕ) → Option EventRow
-row_in name None = if bytes_eq name (codes "connect") then Some Connect else None
+row_in name None =
+    if bytes_eq name (codes "connect") then Some Connect
+    else (if bytes_eq name (codes "lost") then Some Lost
+    else None)
 row_in name (Some words) = named_row name words
 
 -- THE ROW OF A LINE; None for a bad row
@@ -110,6 +115,7 @@ row_of line =
 abbrev pub events_in : EventRow → List Event
 events_in Passed = []
 events_in Connect = event.Connect ∷ []
+events_in Lost = event.Lost ∷ []
 events_in (Piece bytes) = event.Piece bytes ∷ []
 events_in (Frame port bytes) = event.Frame port bytes ∷ []
 events_in (Moment nanos) = event.Moment nanos ∷ []
@@ -135,6 +141,7 @@ rows_of (line ∷ lines) = row_and (row_of line) (rows_of lines)
 abbrev pub with_bytes : List ℕ → Row → EventRow
 with_bytes bytes row.Passed = Passed
 with_bytes bytes row.Connect = Connect
+with_bytes bytes row.Lost = Lost
 with_bytes bytes row.Piece = Piece bytes
 with_bytes bytes (row.Frame port) = Frame port bytes
 with_bytes bytes (row.Moment nanos) = Moment nanos

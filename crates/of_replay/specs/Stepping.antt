@@ -16,7 +16,7 @@ use Rattle.of_replay.specs.declared.event_file.Ended.TheVariants.{Done, BadRow, 
 use Rattle.of_replay.specs.Told.{Answer, then_bytes, given}
 use Rattle.of_replay.specs.Transfer.{then_answers, WroteFront}
 use Rattle.of_replay.specs.Lexing.{whole_lines, whole_from, last_from}
-use Rattle.of_replay.specs.Rows.{EventRow, Passed, Connect, Piece, Frame, Moment, Ports, Rows, rows_of, events_in}
+use Rattle.of_replay.specs.Rows.{EventRow, Passed, Connect, Lost, Piece, Frame, Moment, Ports, Rows, rows_of, events_in}
 use Rattle.of_replay.specs.Output.{text_of, refused_line, report_text, printed_from, printed}
 use Rattle.of_replay.specs.Play.{lines_read}
 
@@ -26,6 +26,7 @@ use Rattle.of_replay.specs.Play.{lines_read}
 abbrev pub row_happened : State → EventRow → Happened
 row_happened s Passed = record { report = Gives []; state = s }
 row_happened s Connect = happened event.Connect s
+row_happened s Lost = happened event.Lost s
 row_happened s (Piece bytes) = happened (event.Piece bytes) s
 row_happened s (Frame port bytes) = happened (event.Frame port bytes) s
 row_happened s (Moment nanos) = happened (event.Moment nanos) s

@@ -23,6 +23,10 @@ pub fn play_row<L: Lookup>(
     match row {
         Row::Passed => Ok(Effects::new(alloc)),
         Row::Connect => switch.connected(),
+        Row::Lost => {
+            switch.lost();
+            Ok(Effects::new(alloc))
+        }
         Row::Piece => play_piece(alloc, switch, bytes),
         Row::Frame { port } => switch.frame(port, bytes),
         Row::Moment { nanos } => switch.moment(nanos),

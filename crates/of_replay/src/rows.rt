@@ -17,6 +17,8 @@ pub enum Row {
     Passed,
     /// A controller connects.
     Connect,
+    /// The connection is lost.
+    Lost,
     /// Bytes of the controller.
     Piece,
     /// A frame comes in by a port.
@@ -149,6 +151,7 @@ pub fn read_row(line: &[u8], bytes: &mut Vec<u8>) -> Result<Option<Row>, AllocEr
     let (name, rest) = cut_word(line);
     match rest {
         None if is(name, b"connect") => Ok(Some(Row::Connect)),
+        None if is(name, b"lost") => Ok(Some(Row::Lost)),
         None => Ok(None),
         Some(words) => read_named(name, words, bytes),
     }

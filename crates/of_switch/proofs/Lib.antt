@@ -3,6 +3,7 @@ pub mod GroupWorlds
 pub mod Worlds
 pub mod Looking
 pub mod Prefixes
+pub mod Hearing
 pub mod Tallying
 pub mod Forwarding
 pub mod Draining

@@ -14,7 +14,7 @@ use Rattle.of_switch.specs.Plane.{Forwarding, tallied, all_tallied, sent, all_se
 use Rattle.std.specs.Prelude.{filter}
 use Rattle.std.proofs.lemmas.List.{map-append}
 use Rattle.std.proofs.lemmas.List.Elements.{filter-append}
-use Rattle.of_session.specs.declared.session.Phase.{Phase}
+use Rattle.of_switch.specs.declared.control.Heard.{Heard}
 use Rattle.of_ports.specs.declared.port.Port.{Port}
 use Rattle.of_switch.specs.Told.{effect_of, effects_of, is_given}
 use Rattle.of_switch.specs.Numbers.{entries_at, placed, all_placed}
@@ -46,5 +46,5 @@ sent_more effects i d x f f' whole lt is so step =
     rw (add-one i, step) (ap (λ (es : List Effect). all_sent es f) (sym here) ∙ so)
 
 -- one effect more
-pub effects_more : (phase : Phase) (ports : List Port) (items : List Item) (i : Item) → effects_of phase ports (items ++ i ∷ []) ≡ effects_of phase ports items ++ effects_of phase ports (i ∷ [])
-effects_more phase ports items i = rw (filter-append (is_given phase ports) items (i ∷ [])) (map-append effect_of (filter (is_given phase ports) items) (filter (is_given phase ports) (i ∷ [])))
+pub effects_more : (heard : Heard) (ports : List Port) (items : List Item) (i : Item) → effects_of heard ports (items ++ i ∷ []) ≡ effects_of heard ports items ++ effects_of heard ports (i ∷ [])
+effects_more heard ports items i = rw (filter-append (is_given heard ports) items (i ∷ [])) (map-append effect_of (filter (is_given heard ports) items) (filter (is_given heard ports) (i ∷ [])))

@@ -1,5 +1,5 @@
 -- What a FLOW_MOD does to the flow tables (OpenFlow 1.3.5, 6.4 and 7.3.4.1), and the notices of entries that went (7.4.2).
-use Rattle.std.specs.Prelude.{ℕ, ◌-◌, ◌/◌, ◌%◌, ◌^◌, ◌==◌, ◌&&◌, nat_le, bit_and, Bool, true, false, not, List, [], ◌∷◌, map, Option, Some, None, if◌then◌else◌}
+use Rattle.std.specs.Prelude.{ℕ, ◌-◌, ◌/◌, ◌%◌, ◌^◌, ◌==◌, ◌&&◌, nat_le, bit_and, Bool, true, false, not, List, [], ◌∷◌, map, filter, Option, Some, None, if◌then◌else◌}
 use Rattle.std.specs.List.{list_any}
 use Rattle.of_wire.specs.declared.code.Code.{Code}
 use Rattle.of_wire.specs.Refusals.{refusal}
@@ -28,6 +28,8 @@ use Rattle.of_messages.specs.declared.message.PacketOut.{PacketOut}
 use Rattle.of_messages.specs.declared.message.PacketData.{PacketData}
 use Rattle.of_messages.specs.declared.message.PacketData.TheVariants.{Buffered, Frame}
 use Rattle.of_table.specs.Tables.{Tables, table_at, added_to, modified_in, left_in, notices_in}
+use Rattle.of_switch.specs.declared.control.Heard.{Heard}
+use Rattle.of_switch.specs.Control.{lets_pass}
 use Rattle.of_switch.specs.declared.effect.Effect.{Effect}
 use Rattle.of_switch.specs.declared.effect.Effect.TheVariants.{Answer}
 
@@ -140,8 +142,18 @@ removed_of now n = record {
 abbrev pub notice_effect : ℕ → Notice → Effect
 notice_effect now n = Answer (flow_removed_bytes 0 (removed_of now n) n.entry.flow.fields)
 
-abbrev pub notice_effects : ℕ → List Notice → List Effect
-notice_effects now ns = map (notice_effect now) ns
+abbrev pub removed_bit : RemovedReason → ℕ
+removed_bit reason.IdleTimeout = 1
+removed_bit reason.HardTimeout = 2
+removed_bit reason.Delete = 4
+removed_bit reason.GroupDelete = 8
+
+abbrev pub is_notice_heard : Heard → Notice → Bool
+is_notice_heard heard n = lets_pass heard.flow_removed (removed_bit n.reason)
+
+-- of those that the controller is told of
+abbrev pub notice_effects : Heard → ℕ → List Notice → List Effect
+notice_effects heard now ns = map (notice_effect now) (filter (is_notice_heard heard) ns)
 
 -- ---- PACKET_OUT (7.3.6)
 

@@ -1,3 +1,4 @@
+pub mod Control
 pub mod Told
 pub mod Plane
 pub mod Numbers

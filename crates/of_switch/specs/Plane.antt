@@ -20,7 +20,7 @@ use Rattle.of_machine.specs.Runs.{Machine, run_of}
 use Rattle.of_ports.specs.declared.counters.PortCount.{PortCount}
 use Rattle.of_ports.specs.declared.counters.PortCount.TheVariants.{Received, ReceiveDropped, ReceiveError, Sent as SentBytes, SendDropped}
 use Rattle.of_ports.specs.Ports.{all_counted, is_live_at, may_receive, port_at}
-use Rattle.of_session.specs.declared.session.Phase.{Phase}
+use Rattle.of_switch.specs.declared.control.Heard.{Heard}
 use Rattle.of_switch.specs.declared.effect.Effect.{Effect}
 use Rattle.of_switch.specs.declared.effect.Effect.TheVariants.{Answer, Sent, Closed}
 use Rattle.of_switch.specs.Told.{effects_of}
@@ -84,29 +84,29 @@ pub record Forwarded : Type 0 where
 abbrev pub forwards : List Effect → Forwarding → Forwarded
 forwards effects f = record { effects = effects; forwarding = f }
 
--- what a run emitted is sent where the connection stands there and the ports are so, and what it counted is counted
-abbrev pub applied : Phase → List Port → Machine → Forwarding → Forwarded
-applied phase ports m f = let effects = effects_of phase ports m.items in forwards effects (all_sent effects (all_tallied m.counts f))
+-- what a run emitted is sent where the controller is told this and the ports are so, and what it counted is counted
+abbrev pub applied : Heard → List Port → Machine → Forwarding → Forwarded
+applied heard ports m f = let effects = effects_of heard ports m.items in forwards effects (all_sent effects (all_tallied m.counts f))
 
 -- a packet does its work
-abbrev pub through : Phase → Packet → List Work → Forwarding → Forwarded
-through phase p work f = applied phase f.ports (run_of (world_of f) p work) f
+abbrev pub through : Heard → Packet → List Work → Forwarding → Forwarded
+through heard p work f = applied heard f.ports (run_of (world_of f) p work) f
 
 -- A FRAME
 
 -- a frame is received, and looked up in the first table
-abbrev pub received : Phase → ℕ → List ℕ → Forwarding → Forwarded
-received phase number bytes f = applied phase f.ports (run_of (world_of f) (entering bytes number) (LookUp 0 ∷ [])) (count_port number (Received (length bytes)) f)
+abbrev pub received : Heard → ℕ → List ℕ → Forwarding → Forwarded
+received heard number bytes f = applied heard f.ports (run_of (world_of f) (entering bytes number) (LookUp 0 ∷ [])) (count_port number (Received (length bytes)) f)
 
 -- too short or too long a frame is an error of its port
-abbrev pub taken_in : Phase → ℕ → List ℕ → Forwarding → Option FrameFault → Forwarded
-taken_in phase number bytes f (Some fault) = forwards [] (count_port number ReceiveError f)
-taken_in phase number bytes f None = received phase number bytes f
+abbrev pub taken_in : Heard → ℕ → List ℕ → Forwarding → Option FrameFault → Forwarded
+taken_in heard number bytes f (Some fault) = forwards [] (count_port number ReceiveError f)
+taken_in heard number bytes f None = received heard number bytes f
 
 -- at a port that is not there nothing happens; at one that may not receive the frame is dropped
-abbrev pub arriving : Phase → ℕ → List ℕ → Forwarding → Option Port → Forwarded
-arriving phase number bytes f None = forwards [] f
-arriving phase number bytes f (Some p) = if may_receive p then taken_in phase number bytes f (frame_fault bytes) else forwards [] (count_port number ReceiveDropped f)
+abbrev pub arriving : Heard → ℕ → List ℕ → Forwarding → Option Port → Forwarded
+arriving heard number bytes f None = forwards [] f
+arriving heard number bytes f (Some p) = if may_receive p then taken_in heard number bytes f (frame_fault bytes) else forwards [] (count_port number ReceiveDropped f)
 
-abbrev pub framed : Phase → ℕ → List ℕ → Forwarding → Forwarded
-framed phase number bytes f = arriving phase number bytes f (port_at f.ports number)
+abbrev pub framed : Heard → ℕ → List ℕ → Forwarding → Forwarded
+framed heard number bytes f = arriving heard number bytes f (port_at f.ports number)

@@ -1,12 +1,14 @@
 -- What the controller is told of ports (OpenFlow 1.3.5, 7.2.1 and 7.4.3).
-use Rattle.std.specs.Prelude.{◌==◌, Bool, ◌&&◌, List, [], ◌∷◌, if◌then◌else◌}
+use Rattle.std.specs.Prelude.{ℕ, ◌==◌, Bool, ◌&&◌, List, [], ◌∷◌, if◌then◌else◌}
 use Rattle.of_messages.specs.declared.port_mod.PortDescription.{PortDescription}
 use Rattle.of_messages.specs.declared.port_mod.PortStatusReason.{PortStatusReason}
-use Rattle.of_messages.specs.declared.port_mod.PortStatusReason.TheVariants.{Modify}
+use Rattle.of_messages.specs.declared.port_mod.PortStatusReason.TheVariants.{Add, Delete, Modify}
 use Rattle.of_messages.specs.Written.{port_status_bytes}
 use Rattle.of_ports.specs.declared.port.Port.{Port}
 use Rattle.of_ports.specs.Config.{config_bits}
 use Rattle.of_ports.specs.Ports.{state_bits}
+use Rattle.of_switch.specs.declared.control.Heard.{Heard}
+use Rattle.of_switch.specs.Told.{told}
 use Rattle.of_switch.specs.declared.effect.Effect.{Effect}
 use Rattle.of_switch.specs.declared.effect.Effect.TheVariants.{Answer}
 
@@ -22,6 +24,15 @@ status reason p = Answer (port_status_bytes 0 reason (shown p))
 abbrev pub is_shown_alike : Port → Port → Bool
 is_shown_alike old new = (config_bits old.config == config_bits new.config) && (state_bits old == state_bits new)
 
+abbrev pub status_bit : PortStatusReason → ℕ
+status_bit Add = 1
+status_bit Delete = 2
+status_bit Modify = 4
+
+-- where the controller is told of that
+abbrev pub status_told : Heard → PortStatusReason → Port → List Effect
+status_told heard reason p = told heard.port_status (status_bit reason) (status reason p ∷ [])
+
 -- a change is told where the 64 bytes change
-abbrev pub change_status : Port → Port → List Effect
-change_status old new = if is_shown_alike old new then [] else status Modify new ∷ []
+abbrev pub change_told : Heard → Port → Port → List Effect
+change_told heard old new = if is_shown_alike old new then [] else status_told heard Modify new

@@ -5,11 +5,11 @@ use Rattle.of_session.specs.Session.{is_disconnected}
 use Rattle.of_switch.specs.declared.switch_error.SwitchError.{SwitchError}
 use Rattle.of_switch.specs.declared.effect.Effect.{Effect}
 use Rattle.of_switch.specs.declared.event.Event.{Event}
-use Rattle.of_switch.specs.declared.event.Event.TheVariants.{Connect, Piece, Frame, Moment, Ports}
+use Rattle.of_switch.specs.declared.event.Event.TheVariants.{Connect, Lost, Piece, Frame, Moment, Ports}
 use Rattle.of_switch.specs.declared.event.Report.{Report as Reported}
 use Rattle.of_switch.specs.declared.event.Report.TheVariants as reported
 use Rattle.of_switch.specs.State.{State}
-use Rattle.of_switch.specs.Steps.{Outcome, gives, connected, fed, next_of, frame_in, moment_in, port_changed}
+use Rattle.of_switch.specs.Steps.{Outcome, gives, connected, lost, fed, next_of, frame_in, moment_in, port_changed}
 use Rattle.of_switch.specs.Calls.{connect_refusal, feed_refusal, port_refusal}
 
 -- effects before those of an outcome
@@ -80,6 +80,7 @@ unless None s o = record { report = Gives o.effects; state = o.state }
 
 abbrev pub happened : Event → State → Happened
 happened Connect s = unless (connect_refusal s) s (connected s)
+happened Lost s = unless None s (gives [] (lost s))
 happened (Piece bytes) s = unless (feed_refusal s) s (piece_in bytes s)
 happened (Frame port bytes) s = unless None s (frame_in port bytes s)
 happened (Moment nanos) s = unless None s (moment_in nanos s)

@@ -1,12 +1,16 @@
 -- The abstract switch.
 use Rattle.std.specs.Prelude.{ℕ}
 use Rattle.of_session.specs.Session.{Connection, alone}
+use Rattle.of_switch.specs.declared.control.Control.{Control}
+use Rattle.of_switch.specs.Control.{new_control}
 use Rattle.of_switch.specs.Plane.{Forwarding, idle}
 
 -- what messages, frames and moments act on: they neither read nor write the connection
 pub record Core : Type 0 where
   -- the switch's own number (OpenFlow 1.3.5, 7.3.1)
   pub dpid : ℕ
+  -- what the controller has set
+  pub control : Control
   pub forwarding : Forwarding
 
 pub record State : Type 0 where
@@ -15,7 +19,7 @@ pub record State : Type 0 where
 
 -- without flows, groups and ports
 abbrev pub new_core : ℕ → Core
-new_core dpid = record { dpid = dpid; forwarding = idle }
+new_core dpid = record { dpid = dpid; control = new_control; forwarding = idle }
 
 -- a new switch: no connection, no flow, no group, no port
 abbrev pub start : ℕ → State

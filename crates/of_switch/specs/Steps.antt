@@ -1,5 +1,5 @@
 -- What each event does to the abstract switch.
-use Rattle.std.specs.Prelude.{◌≡◌, ℕ, max, Bool, List, [], ◌∷◌, take, Option, Some, None}
+use Rattle.std.specs.Prelude.{◌≡◌, ℕ, max, Bool, List, [], ◌∷◌, take, Option, Some, None, if◌then◌else◌}
 use Rattle.of_wire.specs.declared.code.Code.{Code}
 use Rattle.of_wire.specs.Refusals.{refusal, first_of}
 use Rattle.of_messages.specs.declared.message.Message.{Message}
@@ -13,9 +13,7 @@ use Rattle.of_messages.specs.declared.group_mod.GroupMod.TheVariants as group_mo
 use Rattle.of_messages.specs.Written.{hello_bytes, error_bytes, echo_reply_bytes, barrier_reply_bytes}
 use Rattle.of_session.specs.declared.session.Next.{Next}
 use Rattle.of_session.specs.declared.session.Next.TheVariants.{Nothing, BadStream, NotHello, Opened, Read, Refused}
-use Rattle.of_session.specs.Session.{Connection, greeting, fed as fed_connection, entered, next_of as next_in}
-use Rattle.of_session.specs.declared.session.Phase.{Phase}
-use Rattle.of_session.specs.declared.session.Phase.TheVariants.{Open}
+use Rattle.of_session.specs.Session.{Connection, alone, is_disconnected, greeting, fed as fed_connection, entered, next_of as next_in}
 use Rattle.of_table.specs.declared.selection.Cause.TheVariants.{Group}
 use Rattle.of_table.specs.Tables.{Tables, expired, expiry_notices, left_in, notices_in}
 use Rattle.of_groups.specs.declared.bucket.Bucket.{Bucket}
@@ -25,14 +23,15 @@ use Rattle.of_groups.specs.Groups.{left, modified_group, new_group, with_group}
 use Rattle.of_machine.specs.Rows.{acts, entering}
 use Rattle.of_switch.specs.Commands.{flow_mod_refusals, commanded, command_notices, notice_effects, packet_out_refusals, frame_of}
 use Rattle.of_switch.specs.GroupMods.{group_mod_fault, refused_for}
-use Rattle.of_switch.specs.Told.{told}
+use Rattle.of_switch.specs.declared.control.Heard.{Heard}
+use Rattle.of_switch.specs.Control.{heard_by, heard_in, released}
 use Rattle.of_switch.specs.declared.effect.Effect.{Effect}
 use Rattle.of_switch.specs.declared.effect.Effect.TheVariants.{Answer, Closed}
 use Rattle.of_switch.specs.declared.port_change.PortChange.{PortChange}
 use Rattle.of_switch.specs.declared.port_change.PortChange.TheVariants.{Add, Remove, Link}
 use Rattle.of_ports.specs.declared.port.Port.{Port}
 use Rattle.of_ports.specs.Ports.{new_port, port_at, with_port, without_port, at_port, linked, with_config}
-use Rattle.of_switch.specs.PortStatus.{status, change_status}
+use Rattle.of_switch.specs.PortStatus.{status_told, change_told}
 use Rattle.of_switch.specs.PortMods.{port_mod_refusals, modified_port}
 use Rattle.of_switch.specs.Plane.{Forwarded, framed, through}
 use Rattle.of_switch.specs.State.{Core, State}
@@ -71,7 +70,7 @@ state_refusals (IsGroupMod m) k = refused_for (group_mod_fault m k.forwarding.ta
 
 -- a FLOW_MOD does its command, with a notice of each entry that went
 abbrev pub flow_modded : FlowMod → Core → Done
-flow_modded m k = does (told Open (notice_effects k.forwarding.tables.latest (command_notices m k.forwarding.tables))) (with_tables (commanded m k.forwarding.tables) k)
+flow_modded m k = does (notice_effects (heard_by k.control) k.forwarding.tables.latest (command_notices m k.forwarding.tables)) (with_tables (commanded m k.forwarding.tables) k)
 
 -- a GROUP_MOD adds a group, which was added at the latest moment, or gives one another kind and other buckets
 abbrev pub group_added : ℕ → GroupKind → List Bucket → Core → Done
@@ -83,7 +82,7 @@ group_modified id kind buckets k = does [] (with_groups (with_group (modified_gr
 -- or deletes one or all, and the entries that name them, with a notice of each of these (6.5)
 abbrev pub groups_deleted : Option ℕ → Core → Done
 groups_deleted which k =
-    does (told Open (notice_effects k.forwarding.tables.latest (notices_in (Group which) k.forwarding.tables)))
+    does (notice_effects (heard_by k.control) k.forwarding.tables.latest (notices_in (Group which) k.forwarding.tables))
     (with_groups (left which k.forwarding.groups) (with_tables (left_in (Group which) k.forwarding.tables) k))
 
 abbrev pub group_modded : GroupMod → Core → Done
@@ -93,12 +92,12 @@ group_modded (group_mod.Delete which) k = groups_deleted which k
 
 -- a packet of the controller does its actions; it came in by no look-up
 abbrev pub packet_outed : PacketOut → Core → Done
-packet_outed m k = forwarded (through Open (entering (frame_of m.packet) m.in_port) (acts m.actions) k.forwarding) k
+packet_outed m k = forwarded (through (heard_by k.control) (entering (frame_of m.packet) m.in_port) (acts m.actions) k.forwarding) k
 
 -- a port gets its new configuration, and that is told where it shows
 abbrev pub port_modded_at : PortMod → Core → Option Port → Done
 port_modded_at m k None = does [] k
-port_modded_at m k (Some p) = does (told Open (change_status p (modified_port m p))) (with_ports (at_port m.port (with_config (modified_port m p).config) k.forwarding.ports) k)
+port_modded_at m k (Some p) = does (change_told (heard_by k.control) p (modified_port m p)) (with_ports (at_port m.port (with_config (modified_port m p).config) k.forwarding.ports) k)
 
 abbrev pub port_modded : PortMod → Core → Done
 port_modded m k = port_modded_at m k (port_at k.forwarding.ports m.port)
@@ -143,6 +142,14 @@ beside c d = gives d.effects (record { connection = c; core = d.core })
 abbrev pub connected : State → Outcome
 connected s = gives (Answer hello_bytes ∷ []) (record s { connection = greeting })
 
+-- what a controller set for itself goes with its connection
+abbrev pub without_connection : Core → Core
+without_connection k = record k { control = released k.control }
+
+-- the connection is gone, and what came and was not handled; without one nothing happens
+abbrev pub lost : State → State
+lost s = if is_disconnected s.connection.phase then s else record { connection = alone; core = without_connection s.core }
+
 -- bytes of the controller come
 abbrev pub fed : List ℕ → State → State
 fed piece s = record s { connection = fed_connection piece s.connection }
@@ -155,7 +162,7 @@ failed_of size c = take 64 (take size c.pending)
 
 -- an error without the message, and the end of the connection
 abbrev pub closing : List ℕ → Core → Done
-closing error k = does (Answer error ∷ Closed ∷ []) k
+closing error k = does (Answer error ∷ Closed ∷ []) (without_connection k)
 
 -- a malformed header is BAD_REQUEST, BAD_LEN (7.4.4: 1/6) with its 8 bytes; a first message that is not accepted is
 -- HELLO_FAILED, INCOMPATIBLE (0/0) without data
@@ -187,40 +194,45 @@ IsRefusedWith (Opened n) k xid size code = ⊥
 IsRefusedWith (Refused x n c) k xid size code = (x ≡ xid) × (n ≡ size) × (c ≡ code)
 IsRefusedWith (Read x n m) k xid size code = (x ≡ xid) × (n ≡ size) × (first_of (state_refusals m k) ≡ Some code)
 
+-- WHAT THE CONTROLLER IS TOLD UNASKED
+
+abbrev pub heard_of : State → Heard
+heard_of s = heard_in s.connection.phase s.core.control
+
 -- A FRAME
 
 abbrev pub frame_in : ℕ → List ℕ → State → Outcome
-frame_in port bytes s = beside s.connection (forwarded (framed s.connection.phase port bytes s.core.forwarding) s.core)
+frame_in port bytes s = beside s.connection (forwarded (framed (heard_of s) port bytes s.core.forwarding) s.core)
 
 -- A MOMENT: entries whose time is over go (5.5), with a notice of each whose flags ask for one
 
-abbrev pub moment_done : Phase → ℕ → Core → Done
-moment_done phase now k =
+abbrev pub moment_done : Heard → ℕ → Core → Done
+moment_done heard now k =
     let ts = k.forwarding.tables in
-    does (told phase (notice_effects (max ts.latest now) (expiry_notices now ts))) (with_tables (expired now ts) k)
+    does (notice_effects heard (max ts.latest now) (expiry_notices now ts)) (with_tables (expired now ts) k)
 
 abbrev pub moment_in : ℕ → State → Outcome
-moment_in now s = beside s.connection (moment_done s.connection.phase now s.core)
+moment_in now s = beside s.connection (moment_done (heard_of s) now s.core)
 
 -- A PORT (7.2.1): it comes, goes, or its link changes, which is told where it shows; no flow and no group changes
 
 -- a port is added at the latest moment
-abbrev pub port_added : Phase → Port → Core → Done
-port_added phase p k = does (told phase (status port.Add p ∷ [])) (with_ports (with_port p k.forwarding.ports) k)
+abbrev pub port_added : Heard → Port → Core → Done
+port_added heard p k = does (status_told heard port.Add p) (with_ports (with_port p k.forwarding.ports) k)
 
 -- a port that goes is told as it was
-abbrev pub removed_at : Phase → ℕ → Core → Option Port → Done
-removed_at phase n k None = does [] k
-removed_at phase n k (Some p) = does (told phase (status port.Delete p ∷ [])) (with_ports (without_port n k.forwarding.ports) k)
+abbrev pub removed_at : Heard → ℕ → Core → Option Port → Done
+removed_at heard n k None = does [] k
+removed_at heard n k (Some p) = does (status_told heard port.Delete p) (with_ports (without_port n k.forwarding.ports) k)
 
-abbrev pub linked_at : Phase → ℕ → Bool → Core → Option Port → Done
-linked_at phase n up k None = does [] k
-linked_at phase n up k (Some p) = does (told phase (change_status p (linked up p))) (with_ports (at_port n (linked up) k.forwarding.ports) k)
+abbrev pub linked_at : Heard → ℕ → Bool → Core → Option Port → Done
+linked_at heard n up k None = does [] k
+linked_at heard n up k (Some p) = does (change_told heard p (linked up p)) (with_ports (at_port n (linked up) k.forwarding.ports) k)
 
-abbrev pub port_done : Phase → PortChange → Core → Done
-port_done phase (Add number hw name up) k = port_added phase (new_port number hw name up k.forwarding.tables.latest) k
-port_done phase (Remove n) k = removed_at phase n k (port_at k.forwarding.ports n)
-port_done phase (Link n up) k = linked_at phase n up k (port_at k.forwarding.ports n)
+abbrev pub port_done : Heard → PortChange → Core → Done
+port_done heard (Add number hw name up) k = port_added heard (new_port number hw name up k.forwarding.tables.latest) k
+port_done heard (Remove n) k = removed_at heard n k (port_at k.forwarding.ports n)
+port_done heard (Link n up) k = linked_at heard n up k (port_at k.forwarding.ports n)
 
 abbrev pub port_changed : PortChange → State → Outcome
-port_changed change s = beside s.connection (port_done s.connection.phase change s.core)
+port_changed change s = beside s.connection (port_done (heard_of s) change s.core)

@@ -1,5 +1,5 @@
 -- What a switch sends of what a packet's run emitted: frames out of ports, and PACKET_INs to the controller (OpenFlow 1.3.5, 7.4.1).
-use Rattle.std.specs.Prelude.{Bool, true, false, not, ◌&&◌, List, [], map, filter, if◌then◌else◌}
+use Rattle.std.specs.Prelude.{ℕ, Bool, true, false, not, ◌&&◌, List, [], map, filter, if◌then◌else◌}
 use Rattle.std.specs.Option.{option_map_or}
 use Rattle.of_messages.specs.declared.message.PacketInReason.{PacketInReason}
 use Rattle.of_messages.specs.declared.message.PacketInReason.TheVariants as wire
@@ -11,19 +11,20 @@ use Rattle.of_machine.specs.declared.data.Item.{Item}
 use Rattle.of_machine.specs.declared.data.Item.TheVariants as item
 use Rattle.of_ports.specs.declared.port.Port.{Port}
 use Rattle.of_ports.specs.Ports.{port_at}
-use Rattle.of_session.specs.declared.session.Phase.{Phase}
-use Rattle.of_session.specs.declared.session.Phase.TheVariants.{Disconnected, Greeting, Open}
+use Rattle.of_switch.specs.declared.control.Heard.{Heard}
+use Rattle.of_switch.specs.Control.{lets_pass}
 use Rattle.of_switch.specs.declared.effect.Effect.{Effect}
 use Rattle.of_switch.specs.declared.effect.Effect.TheVariants.{Answer, Sent}
 
--- WHAT IS TOLD UNASKED, PACKET_INs and FLOW_REMOVEDs alike: a controller is told once its HELLO was accepted
-abbrev pub is_told : Phase → Bool
-is_told Disconnected = false
-is_told Greeting = false
-is_told Open = true
+-- WHAT IS TOLD UNASKED goes by the reason: each is a bit of the mask of its message (7.3.10)
 
-abbrev pub told : Phase → List Effect → List Effect
-told phase effects = if is_told phase then effects else []
+abbrev pub told : ℕ → ℕ → List Effect → List Effect
+told mask reason effects = if lets_pass mask reason then effects else []
+
+abbrev pub packet_in_bit : Reason → ℕ
+packet_in_bit reason.NoMatch = 1
+packet_in_bit reason.Action = 2
+packet_in_bit reason.InvalidTtl = 4
 
 abbrev pub packet_in_reason : Reason → PacketInReason
 packet_in_reason reason.NoMatch = wire.NoMatch
@@ -46,9 +47,9 @@ abbrev pub is_silenced : List Port → ToController → Bool
 is_silenced ports p = is_no_match p.reason && option_map_or (λ q. q.config.no_packet_in) (port_at ports p.ingress) false
 
 -- a frame always leaves
-abbrev pub is_given : Phase → List Port → Item → Bool
-is_given phase ports (item.Sent port frame) = true
-is_given phase ports (item.PacketIn p) = is_told phase && not (is_silenced ports p)
+abbrev pub is_given : Heard → List Port → Item → Bool
+is_given heard ports (item.Sent port frame) = true
+is_given heard ports (item.PacketIn p) = lets_pass heard.packet_in (packet_in_bit p.reason) && not (is_silenced ports p)
 
-abbrev pub effects_of : Phase → List Port → List Item → List Effect
-effects_of phase ports items = map effect_of (filter (is_given phase ports) items)
+abbrev pub effects_of : Heard → List Port → List Item → List Effect
+effects_of heard ports items = map effect_of (filter (is_given heard ports) items)

@@ -2,10 +2,11 @@
 
 ghost use Rattle.std.specs.Prelude.{◌≡◌, OnOk, IfOk};
 ghost use Rattle.of_table.specs.Selecting.{notice_of, notices_of};
-ghost use Rattle.of_switch.specs.Commands.{flags_of, flow_of, has_flag as with_flag, is_strict as strict, notice_effect, notice_effects, out_of, removed_of, unless_any as none_for, which_of, wire_reason, is_to_absent_group as to_absent_group, names_absent_group as naming_absent_group};
+ghost use Rattle.of_switch.specs.Commands.{flags_of, flow_of, has_flag as with_flag, is_strict as strict, notice_effect, notice_effects, out_of, removed_bit, removed_of, unless_any as none_for, which_of, wire_reason, is_to_absent_group as to_absent_group, names_absent_group as naming_absent_group};
 ghost use Rattle.std.specs.List.{list_any};
 ghost use Rattle.of_table.specs.Selecting.{has_action};
 
+use crate::control::{Heard, lets_through};
 use crate::effect::{Effect, Effects};
 use of_actions::{Action, Instruction};
 use of_groups::Groups;
@@ -169,13 +170,31 @@ fn notice(alloc: Global, removed: &Removed<'_>, now: u64) -> Result<Effect, Allo
     Ok(Effect::Answer(write_flow_removed(alloc, 0, &told, &removed.entry.flow.fields)?))
 }
 
-/// The FLOW_REMOVED messages of entries that went, in their order.
-pub fn notices(alloc: Global, removed: &[Removed<'_>], now: u64) -> Result<Effects, AllocError>
-    ensures { IfOk result (λ effects. effects.items ≡ notice_effects now (notices_of removed.now)) }
+fn reason_bit(reason: RemovedReason) -> u32
+    ensures { result ≡ removed_bit reason }
+{
+    match reason {
+        RemovedReason::IdleTimeout => 1,
+        RemovedReason::HardTimeout => 2,
+        RemovedReason::Delete => 4,
+        RemovedReason::GroupDelete => 8,
+    }
+}
+
+/// The FLOW_REMOVED messages of entries that went, in their order: those of which the controller is told.
+pub fn notices(
+    alloc: Global,
+    heard: Heard,
+    removed: &[Removed<'_>],
+    now: u64,
+) -> Result<Effects, AllocError>
+    ensures { IfOk result (λ effects. effects.items ≡ notice_effects heard now (notices_of removed.now)) }
 {
     let mut effects = Effects::new(alloc);
     for one in removed {
-        effects.push(notice(alloc, one, now)?)?;
+        if lets_through(heard.flow_removed, reason_bit(one.reason)) {
+            effects.push(notice(alloc, one, now)?)?;
+        }
     }
     Ok(effects)
 }

@@ -12,6 +12,7 @@ ghost use Rattle.of_machine.specs.Rows.{Lookup as LookUp, entering};
 ghost use Rattle.of_machine.specs.Runs.{run_of};
 ghost use Rattle.of_switch.specs.Told.{effects_of};
 
+use crate::control::Heard;
 use crate::effect::Effects;
 use crate::plane::{Plane, TABLES, known_groups};
 use crate::told::effects_from;
@@ -21,7 +22,6 @@ use of_groups::Chosen;
 use of_headers::{FieldKey, check_length};
 use of_machine::{Packet, PacketFrame, StepLog, World, run};
 use of_ports::Port;
-use of_session::Phase;
 use of_table::{Entries, Entry, Flow};
 use std::alloc::{AllocError, Global};
 
@@ -128,16 +128,16 @@ impl<L: Lookup> Plane<L> {
         entry_at(self.tables.entries(table), place)
     }
 
-    /// What a frame that comes in by a port would give, and its steps (OpenFlow 1.3.5, 5.1), where the connection stands there.
+    /// What a frame that comes in by a port would give, and its steps (OpenFlow 1.3.5, 5.1), where the controller is told this.
     pub fn dry_run<S: StepLog>(
         &self,
         alloc: Global,
-        phase: Phase,
+        heard: Heard,
         number: u32,
         bytes: &[u8],
         log: &mut S,
     ) -> Result<Effects, AllocError>
-        ensures effects { IfOk result (λ effects. effects.items ≡ (framed phase number bytes.now (forwarding_of self.now.tables self.now.groups self.now.ports)).effects) }
+        ensures effects { IfOk result (λ effects. effects.items ≡ (framed heard number bytes.now (forwarding_of self.now.tables self.now.groups self.now.ports)).effects) }
         ensures steps { OnOk result (S.KEEPS ≡ true → S.list log.new ≡ S.list log.old ++ steps_in number bytes.now (forwarding_of self.now.tables self.now.groups self.now.ports)) }
         ensures err { OnErr result (S.KEEPS ≡ true → GainsPrefix (steps_in number bytes.now (forwarding_of self.now.tables self.now.groups self.now.ports)) (S.list log.old) (S.list log.new)) }
     {
@@ -147,21 +147,21 @@ impl<L: Lookup> Plane<L> {
         if !port.may_receive() || check_length(bytes).is_err() {
             return Ok(Effects::new(alloc));
         }
-        self.dry_run_received(alloc, phase, number, bytes, log)
+        self.dry_run_received(alloc, heard, number, bytes, log)
     }
 
     // A frame that is received.
     fn dry_run_received<S: StepLog>(
         &self,
         alloc: Global,
-        phase: Phase,
+        heard: Heard,
         number: u32,
         bytes: &[u8],
         log: &mut S,
     ) -> Result<Effects, AllocError>
         requires long { 14 ≤ length bytes.now }
         requires most { length bytes.now ≤ 9216 }
-        ensures effects { IfOk result (λ effects. effects.items ≡ effects_of phase self.now.ports (run_of (world_of (forwarding_of self.now.tables self.now.groups self.now.ports)) (entering bytes.now number) (LookUp 0 ∷ [])).items) }
+        ensures effects { IfOk result (λ effects. effects.items ≡ effects_of heard self.now.ports (run_of (world_of (forwarding_of self.now.tables self.now.groups self.now.ports)) (entering bytes.now number) (LookUp 0 ∷ [])).items) }
         ensures steps { OnOk result (S.KEEPS ≡ true → S.list log.new ≡ S.list log.old ++ received_steps number bytes.now (forwarding_of self.now.tables self.now.groups self.now.ports)) }
         ensures err { OnErr result (S.KEEPS ≡ true → GainsPrefix (received_steps number bytes.now (forwarding_of self.now.tables self.now.groups self.now.ports)) (S.list log.old) (S.list log.new)) }
     {
@@ -169,6 +169,6 @@ impl<L: Lookup> Plane<L> {
         world.known();
         let packet = Packet::new(PacketFrame::new(bytes), number);
         let outcome = run(alloc, &mut world, packet, log)?;
-        effects_from(alloc, phase, &self.ports, outcome.items)
+        effects_from(alloc, heard, &self.ports, outcome.items)
     }
 }

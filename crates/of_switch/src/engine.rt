@@ -19,11 +19,13 @@ ghost use Rattle.of_switch.specs.DryRun.{GainsPrefix, steps_in};
 ghost use Rattle.of_groups.specs.Groups.{modified_group, new_group};
 ghost use Rattle.of_groups.specs.Faults.{add_fault, delete_fault, modify_fault};
 ghost use Rattle.of_switch.specs.GroupMods.{group_mod_fault, refused_for};
+ghost use Rattle.of_switch.specs.Control.{heard_by, heard_in};
 ghost use Rattle.of_switch.specs.Handling.{Handles};
 ghost use Rattle.of_switch.specs.Loading.{loaded_tables};
-ghost use Rattle.of_switch.specs.Steps.{does, done, flow_modded, forwarded, group_added, group_modded, group_modified, groups_deleted, linked_at, packet_outed, port_added, port_modded, removed_at, state_refusals, with_tables, moment_done};
+ghost use Rattle.of_switch.specs.Steps.{does, done, flow_modded, forwarded, group_added, group_modded, group_modified, groups_deleted, linked_at, packet_outed, port_added, port_modded, removed_at, state_refusals, with_tables, without_connection, moment_done};
 
 use crate::commands::{any_to_absent_group, flow_from, has_flag, names_absent_group, which_from};
+use crate::control::{Control, Heard};
 use crate::effect::{Effect, Effects};
 use crate::loading::load_tables;
 use crate::plane::Plane;
@@ -99,6 +101,7 @@ impl From<GroupFault> for Fault {
 #[derive(Drop)]
 pub struct Engine<L: Lookup> {
     dpid: u64,
+    control: Control,
     plane: Plane<L>,
     alloc: Global,
 }
@@ -109,7 +112,7 @@ impl<L: Lookup> Model for Engine<L> {
 
     ghost Value = { Core };
 
-    ghost view = { λ e. record { dpid = e.dpid; forwarding = forwarding_of e.plane.tables e.plane.groups e.plane.ports } };
+    ghost view = { λ e. record { dpid = e.dpid; control = e.control; forwarding = forwarding_of e.plane.tables e.plane.groups e.plane.ports } };
 }
 
 impl<L: Lookup> Engine<L> {
@@ -118,9 +121,24 @@ impl<L: Lookup> Engine<L> {
     {
         Ok(Engine {
             dpid,
+            control: Control::new(),
             plane: Plane::new(alloc)?,
             alloc,
         })
+    }
+
+    /// What the controller is told unasked, where its connection stands there.
+    pub fn heard(&self, phase: Phase) -> Heard
+        ensures { result ≡ heard_in phase self.now.control }
+    {
+        self.control.heard(phase)
+    }
+
+    /// The connection is gone, and what the controller set for itself.
+    pub fn release(&mut self)
+        ensures { self.new ≡ without_connection self.old }
+    {
+        self.control = self.control.released();
     }
 
     pub fn has_port(&self, number: u32) -> bool
@@ -135,10 +153,10 @@ impl<L: Lookup> Engine<L> {
         self.plane.ports.len()
     }
 
-    /// A port is added at the latest moment, while the connection stands there.
+    /// A port is added at the latest moment, while the controller is told this.
     pub fn add_port(
         &mut self,
-        phase: Phase,
+        heard: Heard,
         number: u32,
         hw: [u8; 6],
         name: [u8; 16],
@@ -146,37 +164,37 @@ impl<L: Lookup> Engine<L> {
     ) -> Result<Effects, AllocError>
         requires new { has_port number self.old.forwarding.ports ≡ false }
         requires room { length self.old.forwarding.ports < 64 }
-        ensures ok { IfOk result (λ effects. port_added phase (new_port number hw name is_up self.old.forwarding.tables.latest) self.old ≡ does effects.items self.new) }
+        ensures ok { IfOk result (λ effects. port_added heard (new_port number hw name is_up self.old.forwarding.tables.latest) self.old ≡ does effects.items self.new) }
         ensures err { OnErr result (self.new ≡ self.old) }
     {
         let created = self.plane.tables.latest();
         let port = Port::new(number, hw, name, is_up, created);
-        let effects = write_status(self.alloc, phase, PortStatusReason::Add, &port)?;
+        let effects = write_status(self.alloc, heard, PortStatusReason::Add, &port)?;
         self.plane.ports.add(port)?;
         Ok(effects)
     }
 
-    /// A port is gone, while the connection stands there.
-    pub fn remove_port(&mut self, phase: Phase, number: u32) -> Result<Effects, AllocError>
-        ensures ok { IfOk result (λ effects. removed_at phase number self.old (port_at self.old.forwarding.ports number) ≡ does effects.items self.new) }
+    /// A port is gone, while the controller is told this.
+    pub fn remove_port(&mut self, heard: Heard, number: u32) -> Result<Effects, AllocError>
+        ensures ok { IfOk result (λ effects. removed_at heard number self.old (port_at self.old.forwarding.ports number) ≡ does effects.items self.new) }
         ensures err { OnErr result (self.new ≡ self.old) }
     {
         let Some(port) = self.plane.ports.port(number) else {
             return Ok(Effects::new(self.alloc));
         };
-        let effects = write_status(self.alloc, phase, PortStatusReason::Delete, port)?;
+        let effects = write_status(self.alloc, heard, PortStatusReason::Delete, port)?;
         self.plane.ports.remove(number);
         Ok(effects)
     }
 
-    /// A port's link is up from now on, or down, while the connection stands there.
+    /// A port's link is up from now on, or down, while the controller is told this.
     pub fn set_link(
         &mut self,
-        phase: Phase,
+        heard: Heard,
         number: u32,
         is_link_up: bool,
     ) -> Result<Effects, AllocError>
-        ensures ok { IfOk result (λ effects. linked_at phase number is_link_up self.old (port_at self.old.forwarding.ports number) ≡ does effects.items self.new) }
+        ensures ok { IfOk result (λ effects. linked_at heard number is_link_up self.old (port_at self.old.forwarding.ports number) ≡ does effects.items self.new) }
         ensures err { OnErr result (self.new ≡ self.old) }
     {
         let Some(port) = self.plane.ports.port(number) else {
@@ -186,33 +204,33 @@ impl<L: Lookup> Engine<L> {
             is_link_up,
             ..*port
         };
-        let effects = write_change(self.alloc, phase, port, &linked)?;
+        let effects = write_change(self.alloc, heard, port, &linked)?;
         self.plane.ports.set_link(number, is_link_up);
         Ok(effects)
     }
 
-    /// A frame comes in by a port, while the connection stands there.
-    pub fn frame(&mut self, phase: Phase, number: u32, bytes: &[u8]) -> Result<Effects, AllocError>
-        ensures ok { IfOk result (λ effects. forwarded (framed phase number bytes.now self.old.forwarding) self.old ≡ does effects.items self.new) }
+    /// A frame comes in by a port, while the controller is told this.
+    pub fn frame(&mut self, heard: Heard, number: u32, bytes: &[u8]) -> Result<Effects, AllocError>
+        ensures ok { IfOk result (λ effects. forwarded (framed heard number bytes.now self.old.forwarding) self.old ≡ does effects.items self.new) }
         ensures err { OnErr result (self.new ≡ self.old) }
     {
-        let plan = self.plane.plan_frame(self.alloc, phase, number, bytes)?;
+        let plan = self.plane.plan_frame(self.alloc, heard, number, bytes)?;
         Ok(self.plane.carry_out(plan))
     }
 
-    /// What a frame that comes in by a port would give, and its steps, while the connection stands there. Nothing changes.
+    /// What a frame that comes in by a port would give, and its steps, while the controller is told this. Nothing changes.
     pub fn dry_run<S: StepLog>(
         &self,
-        phase: Phase,
+        heard: Heard,
         number: u32,
         bytes: &[u8],
         log: &mut S,
     ) -> Result<Effects, AllocError>
-        ensures effects { IfOk result (λ effects. effects.items ≡ (framed phase number bytes.now self.now.forwarding).effects) }
+        ensures effects { IfOk result (λ effects. effects.items ≡ (framed heard number bytes.now self.now.forwarding).effects) }
         ensures steps { OnOk result (S.KEEPS ≡ true → S.list log.new ≡ S.list log.old ++ steps_in number bytes.now self.now.forwarding) }
         ensures err { OnErr result (S.KEEPS ≡ true → GainsPrefix (steps_in number bytes.now self.now.forwarding) (S.list log.old) (S.list log.new)) }
     {
-        self.plane.dry_run(self.alloc, phase, number, bytes, log)
+        self.plane.dry_run(self.alloc, heard, number, bytes, log)
     }
 
     /// The tables and the groups keep what the machine is promised.
@@ -270,9 +288,13 @@ impl<L: Lookup> Engine<L> {
         if any_to_absent_group(actions, &self.plane.groups) {
             return Err(Fault::Refused(BAD_OUT_GROUP));
         }
-        let plan = self
-            .plane
-            .plan_packet_out(self.alloc, packet_out.in_port, frame.as_slice(), actions)?;
+        let plan = self.plane.plan_packet_out(
+            self.alloc,
+            self.control.heard_open(),
+            packet_out.in_port,
+            frame.as_slice(),
+            actions,
+        )?;
         Ok(self.plane.carry_out(plan))
     }
 
@@ -338,14 +360,14 @@ impl<L: Lookup> Engine<L> {
     }
 
     fn delete_flows(&mut self, flow_mod: FlowMod) -> Result<Effects, AllocError>
-        ensures ok { IfOk result (λ effects. does (notice_effects self.old.forwarding.tables.latest (notices_in (Cause.Delete (which_of flow_mod)) self.old.forwarding.tables)) (with_tables (left_in (Cause.Delete (which_of flow_mod)) self.old.forwarding.tables) self.old) ≡ does effects.items self.new) }
+        ensures ok { IfOk result (λ effects. does (notice_effects (heard_by self.old.control) self.old.forwarding.tables.latest (notices_in (Cause.Delete (which_of flow_mod)) self.old.forwarding.tables)) (with_tables (left_in (Cause.Delete (which_of flow_mod)) self.old.forwarding.tables) self.old) ≡ does effects.items self.new) }
         ensures err { OnErr result (self.new ≡ self.old) }
     {
         let now = self.plane.tables.latest();
         let cause = Cause::Delete(which_from(flow_mod));
         let plan = self
             .plane
-            .plan_removal(self.alloc, Phase::Open, cause, now)?;
+            .plan_removal(self.alloc, self.control.heard_open(), cause, now)?;
         Ok(self.plane.carry_out(plan))
     }
 
@@ -360,7 +382,7 @@ impl<L: Lookup> Engine<L> {
         }
         let config = port.config.with(port_mod.config, port_mod.mask);
         let modified = Port { config, ..*port };
-        let effects = write_change(self.alloc, Phase::Open, port, &modified)?;
+        let effects = write_change(self.alloc, self.control.heard_open(), port, &modified)?;
         self.plane.ports.configure(port_mod.port, config);
         Ok(effects)
     }
@@ -398,9 +420,12 @@ impl<L: Lookup> Engine<L> {
         ensures { Handles (first_of (refused_for (delete_fault which self.old.forwarding.groups))) (groups_deleted which self.old) self.old result self.new }
     {
         let now = self.plane.tables.latest();
-        let plan = self
-            .plane
-            .plan_removal(self.alloc, Phase::Open, Cause::Group(which), now)?;
+        let plan = self.plane.plan_removal(
+            self.alloc,
+            self.control.heard_open(),
+            Cause::Group(which),
+            now,
+        )?;
         self.plane.groups.delete(which)?;
         Ok(self.plane.carry_out(plan))
     }
@@ -414,15 +439,15 @@ impl<L: Lookup> Engine<L> {
         Ok(())
     }
 
-    /// It is so many nanoseconds, while the connection stands there.
-    pub fn moment(&mut self, phase: Phase, nanos: u64) -> Result<Effects, AllocError>
-        ensures ok { IfOk result (λ effects. moment_done phase nanos self.old ≡ does effects.items self.new) }
+    /// It is so many nanoseconds, while the controller is told this.
+    pub fn moment(&mut self, heard: Heard, nanos: u64) -> Result<Effects, AllocError>
+        ensures ok { IfOk result (λ effects. moment_done heard nanos self.old ≡ does effects.items self.new) }
         ensures err { OnErr result (self.new ≡ self.old) }
     {
         let now = self.plane.tables.latest().max(nanos);
         let plan = self
             .plane
-            .plan_removal(self.alloc, phase, Cause::Moment(nanos), now)?;
+            .plan_removal(self.alloc, heard, Cause::Moment(nanos), now)?;
         Ok(self.plane.carry_out(plan))
     }
 }

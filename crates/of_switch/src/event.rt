@@ -8,6 +8,8 @@ use of_wire::Bytes;
 pub enum Event {
     /// A controller connects.
     Connect,
+    /// The connection is lost, or closed by the controller.
+    Lost,
     /// Bytes of the controller come, cut anywhere.
     Piece(Bytes),
     /// A frame comes in by a port.

@@ -2,6 +2,7 @@
 #![tactic(auto)]
 
 mod commands;
+mod control;
 mod dry_run;
 mod effect;
 mod engine;

@@ -8,22 +8,22 @@ ghost use Rattle.of_machine.specs.Growth.{AllShort};
 ghost use Rattle.of_machine.specs.Rows.{acts, entering};
 ghost use Rattle.of_table.specs.Tables.{NumberedTables, left_in, notices_in};
 ghost use Rattle.of_switch.specs.Commands.{notice_effects};
-ghost use Rattle.of_switch.specs.Told.{effects_of, told};
+ghost use Rattle.of_switch.specs.Told.{effects_of};
 ghost use Rattle.of_switch.specs.Plans.{changed, planned, with_reception};
 ghost use Rattle.of_switch.specs.Plane.{Forwarding, all_sent, all_tallied, count_port, forwards, framed, idle, received, sent, tallied, through};
 ghost use Rattle.of_switch.specs.Numbers.{Contents, all_placed, contents, forwarding_of, numbered_world, place_in, placed};
 
 use crate::commands::notices;
+use crate::control::Heard;
 use crate::effect::{Effect, Effects};
 use crate::plan::{Change, Plan, Reception};
-use crate::told::{effects_from, is_told};
+use crate::told::effects_from;
 use of_actions::Action;
 use of_classifier::Lookup;
 use of_groups::{Chosen, Groups};
 use of_headers::{FieldKey, check_length};
 use of_machine::{Count, Counts, NoLog, Outcome, Packet, PacketFrame, World, run, run_actions};
 use of_ports::{Port, PortCount, Ports};
-use of_session::Phase;
 use of_table::{Cause, Flow, FlowTables};
 use std::alloc::{AllocError, Global};
 
@@ -97,16 +97,16 @@ impl<L: Lookup> Plane<L> {
         })
     }
 
-    /// What a frame that comes in by a port will do (OpenFlow 1.3.5, 5.1), where the connection stands there.
+    /// What a frame that comes in by a port will do (OpenFlow 1.3.5, 5.1), where the controller is told this.
     pub fn plan_frame(
         &mut self,
         alloc: Global,
-        phase: Phase,
+        heard: Heard,
         number: u32,
         bytes: &[u8],
     ) -> Result<Plan, AllocError>
         ensures kept { contents self.new.tables self.new.groups self.new.ports ≡ contents self.old.tables self.old.groups self.old.ports }
-        ensures plan { IfOk result (λ plan. framed phase number bytes.now (forwarding_of self.old.tables self.old.groups self.old.ports) ≡ planned plan self.old.tables self.old.groups self.old.ports) }
+        ensures plan { IfOk result (λ plan. framed heard number bytes.now (forwarding_of self.old.tables self.old.groups self.old.ports) ≡ planned plan self.old.tables self.old.groups self.old.ports) }
     {
         let Some(port) = self.ports.port(number) else {
             return Ok(no_change(alloc));
@@ -117,21 +117,21 @@ impl<L: Lookup> Plane<L> {
         if check_length(bytes).is_err() {
             return Ok(reception_alone(alloc, number, PortCount::ReceiveError));
         }
-        self.plan_received(alloc, phase, number, bytes)
+        self.plan_received(alloc, heard, number, bytes)
     }
 
     // What a frame will do that is received.
     fn plan_received(
         &mut self,
         alloc: Global,
-        phase: Phase,
+        heard: Heard,
         number: u32,
         bytes: &[u8],
     ) -> Result<Plan, AllocError>
         requires long { 14 ≤ length bytes.now }
         requires most { length bytes.now ≤ 9216 }
         ensures kept { contents self.new.tables self.new.groups self.new.ports ≡ contents self.old.tables self.old.groups self.old.ports }
-        ensures plan { IfOk result (λ plan. received phase number bytes.now (forwarding_of self.old.tables self.old.groups self.old.ports) ≡ planned plan self.old.tables self.old.groups self.old.ports) }
+        ensures plan { IfOk result (λ plan. received heard number bytes.now (forwarding_of self.old.tables self.old.groups self.old.ports) ≡ planned plan self.old.tables self.old.groups self.old.ports) }
     {
         self.tables.known();
         let packet = Packet::new(PacketFrame::new(bytes), number);
@@ -140,13 +140,14 @@ impl<L: Lookup> Plane<L> {
             port: number,
             what: PortCount::Received(bytes.len()),
         };
-        plan_of(alloc, phase, &self.ports, Some(reception), outcome)
+        plan_of(alloc, heard, &self.ports, Some(reception), outcome)
     }
 
     /// What a packet of the controller will do by its actions (OpenFlow 1.3.5, 7.3.6).
     pub fn plan_packet_out(
         &mut self,
         alloc: Global,
+        heard: Heard,
         in_port: u32,
         bytes: &[u8],
         actions: &[Action],
@@ -155,34 +156,45 @@ impl<L: Lookup> Plane<L> {
         requires most { length bytes.now ≤ 9216 }
         requires served { IsTrue (are_served true actions.now) }
         ensures kept { contents self.new.tables self.new.groups self.new.ports ≡ contents self.old.tables self.old.groups self.old.ports }
-        ensures plan { IfOk result (λ plan. through Phase.Open (entering bytes.now in_port) (acts actions.now) (forwarding_of self.old.tables self.old.groups self.old.ports) ≡ planned plan self.old.tables self.old.groups self.old.ports) }
+        ensures plan { IfOk result (λ plan. through heard (entering bytes.now in_port) (acts actions.now) (forwarding_of self.old.tables self.old.groups self.old.ports) ≡ planned plan self.old.tables self.old.groups self.old.ports) }
     {
         self.tables.known();
         let packet = Packet::new(PacketFrame::new(bytes), in_port);
         let outcome = run_actions(alloc, self, packet, actions, &mut NoLog)?;
-        plan_of(alloc, Phase::Open, &self.ports, None, outcome)
+        plan_of(alloc, heard, &self.ports, None, outcome)
     }
 
-    /// The removal of entries, with a notice of each whose flags ask for one, where the connection stands there: they went now.
+    /// The removal of entries, with the notices of those of which the controller is told: they went now.
     pub fn plan_removal(
         &self,
         alloc: Global,
-        phase: Phase,
+        heard: Heard,
         cause: Cause,
         now: u64,
     ) -> Result<Plan, AllocError>
         ensures change { IfOk result (λ plan. plan.change ≡ Change.Removal cause) }
-        ensures plan { IfOk result (λ plan. planned plan self.now.tables self.now.groups self.now.ports ≡ forwards (told phase (notice_effects now (notices_in cause (tables_of self.now.tables)))) (record (forwarding_of self.now.tables self.now.groups self.now.ports) { tables = left_in cause (tables_of self.now.tables) })) }
+        ensures plan { IfOk result (λ plan. planned plan self.now.tables self.now.groups self.now.ports ≡ forwards (notice_effects heard now (notices_in cause (tables_of self.now.tables))) (record (forwarding_of self.now.tables self.now.groups self.now.ports) { tables = left_in cause (tables_of self.now.tables) })) }
     {
-        let effects = if is_told(phase) {
-            notices(alloc, &self.tables.listed(&cause)?, now)?
-        } else {
-            Effects::new(alloc)
-        };
         Ok(Plan {
-            effects,
+            effects: self.removal_notices(alloc, heard, &cause, now)?,
             change: Change::Removal(cause),
         })
+    }
+
+    // No entry is looked for where the controller is told of none.
+    fn removal_notices(
+        &self,
+        alloc: Global,
+        heard: Heard,
+        cause: &Cause,
+        now: u64,
+    ) -> Result<Effects, AllocError>
+        ensures { IfOk result (λ effects. effects.items ≡ notice_effects heard now (notices_in cause.now (tables_of self.now.tables))) }
+    {
+        if heard.flow_removed == 0 {
+            return Ok(Effects::new(alloc));
+        }
+        notices(alloc, heard, &self.tables.listed(cause)?, now)
     }
 
     /// Does what was planned, and answers what it gives.
@@ -307,17 +319,17 @@ fn reception_alone(alloc: Global, port: u32, what: PortCount) -> Plan
 // What a run gives and counts, as a plan.
 fn plan_of(
     alloc: Global,
-    phase: Phase,
+    heard: Heard,
     ports: &Ports,
     reception: Option<Reception>,
     outcome: Outcome,
 ) -> Result<Plan, AllocError>
     requires { AllShort 65485 outcome.items.items }
-    ensures { IfOk result (λ plan. (n : NumberedTables) (f : Forwarding) → (plan.effects.items ≡ effects_of phase ports.now outcome.items.items) × (changed plan.change plan.effects.items n f ≡ all_sent plan.effects.items (all_tallied (all_placed n outcome.counts.items) (with_reception reception f)))) }
+    ensures { IfOk result (λ plan. (n : NumberedTables) (f : Forwarding) → (plan.effects.items ≡ effects_of heard ports.now outcome.items.items) × (changed plan.change plan.effects.items n f ≡ all_sent plan.effects.items (all_tallied (all_placed n outcome.counts.items) (with_reception reception f)))) }
 {
     let Outcome { items, counts } = outcome;
     Ok(Plan {
-        effects: effects_from(alloc, phase, ports, items)?,
+        effects: effects_from(alloc, heard, ports, items)?,
         change: Change::Counts { reception, counts },
     })
 }

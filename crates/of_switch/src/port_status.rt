@@ -1,13 +1,11 @@
 //! What the controller is told of ports (OpenFlow 1.3.5, 7.4.3).
 ghost use Rattle.std.specs.Prelude.{◌≡◌, ◌∷◌, [], IfOk};
-ghost use Rattle.of_switch.specs.PortStatus.{change_status, is_shown_alike as shows_alike, shown, status};
-ghost use Rattle.of_switch.specs.Told.{told};
+ghost use Rattle.of_switch.specs.PortStatus.{change_told, is_shown_alike as shows_alike, shown, status_bit, status_told};
 
+use crate::control::{Heard, lets_through};
 use crate::effect::{Effect, Effects};
-use crate::told::is_told;
 use of_messages::{PortDescription, PortStatusReason, write_port_status};
 use of_ports::Port;
-use of_session::Phase;
 use std::alloc::{AllocError, Global};
 
 fn description_of(port: &Port) -> PortDescription
@@ -22,17 +20,27 @@ fn description_of(port: &Port) -> PortDescription
     }
 }
 
-/// The PORT_STATUS of a port, where a controller whose connection stands there is told.
+fn reason_bit(reason: PortStatusReason) -> u32
+    ensures { result ≡ status_bit reason }
+{
+    match reason {
+        PortStatusReason::Add => 1,
+        PortStatusReason::Delete => 2,
+        PortStatusReason::Modify => 4,
+    }
+}
+
+/// The PORT_STATUS of a port, where the controller is told of that.
 pub fn write_status(
     alloc: Global,
-    phase: Phase,
+    heard: Heard,
     reason: PortStatusReason,
     port: &Port,
 ) -> Result<Effects, AllocError>
-    ensures { IfOk result (λ effects. effects.items ≡ told phase (status reason port.now ∷ [])) }
+    ensures { IfOk result (λ effects. effects.items ≡ status_told heard reason port.now) }
 {
     let mut effects = Effects::new(alloc);
-    if is_told(phase) {
+    if lets_through(heard.port_status, reason_bit(reason)) {
         let message = write_port_status(alloc, 0, reason, &description_of(port))?;
         effects.push(Effect::Answer(message))?;
     }
@@ -45,18 +53,18 @@ fn is_shown_alike(old: &Port, new: &Port) -> bool
     old.config.bits() == new.config.bits() && old.state_bits() == new.state_bits()
 }
 
-/// The PORT_STATUS of a port that becomes another one, where a controller whose connection stands there is told.
+/// The PORT_STATUS of a port that becomes another one, where the controller is told of that.
 /// There is none where nothing changes that it shows.
 pub fn write_change(
     alloc: Global,
-    phase: Phase,
+    heard: Heard,
     old: &Port,
     new: &Port,
 ) -> Result<Effects, AllocError>
-    ensures { IfOk result (λ effects. effects.items ≡ told phase (change_status old.now new.now)) }
+    ensures { IfOk result (λ effects. effects.items ≡ change_told heard old.now new.now) }
 {
     if is_shown_alike(old, new) {
         return Ok(Effects::new(alloc));
     }
-    write_status(alloc, phase, PortStatusReason::Modify, new)
+    write_status(alloc, heard, PortStatusReason::Modify, new)
 }

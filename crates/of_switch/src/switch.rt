@@ -12,12 +12,13 @@ ghost use Rattle.of_machine.specs.Sound.{IsSound as IsSoundWorld};
 ghost use Rattle.of_switch.specs.Plane.{winner_in, world_of};
 ghost use Rattle.of_table.specs.Entries.{entry_of};
 ghost use Rattle.of_table.specs.Tables.{table_at};
-ghost use Rattle.of_switch.specs.Steps.{came, connected, does, failed_of, fed, frame_in, moment_in, gives, next_of, port_changed, refused as refused_by};
+ghost use Rattle.of_switch.specs.Steps.{came, closing as closing_with, connected, does, failed_of, fed, frame_in, heard_of, lost as lost_from, moment_in, gives, next_of, port_changed, refused as refused_by};
 ghost use Rattle.of_switch.specs.Calls.{Call, absent_refusal, connect_refusal, feed_refusal, new_refusal, port_refusal};
 ghost use Rattle.of_switch.specs.Loading.{loaded};
 ghost use Rattle.of_switch.specs.Runs.{RunsAll, StopsWithin, reports_of};
 ghost use Rattle.of_switch.specs.Stepping.{Drains, Happens, Tells};
 
+use crate::control::Heard;
 use crate::effect::{Effect, Effects};
 use crate::engine::{Engine, Fault, one};
 use crate::event::{Event, Report};
@@ -88,6 +89,19 @@ impl<L: Lookup> Switch<L> {
         Ok(effects)
     }
 
+    /// The connection is lost, or closed by the controller (OpenFlow 1.3.5, 6.3.2). Without a connection nothing happens.
+    ///
+    /// Flows, groups and ports stay, and so do the configuration and the last election; the role and the masks of what is told
+    /// unasked are those of the start again, and bytes that came and were not handled are forgotten.
+    pub fn lost(&mut self)
+        ensures { self.new ≡ lost_from self.old }
+    {
+        if self.session.phase() != Phase::Disconnected {
+            self.session.close();
+            self.engine.release();
+        }
+    }
+
     /// Bytes of the controller come, cut anywhere. They are handled by `next`.
     ///
     /// Refused: `NotConnected`.
@@ -127,11 +141,11 @@ impl<L: Lookup> Switch<L> {
             Next::Nothing => Ok(None),
             Next::BadStream { xid } => {
                 let error = write_error(self.alloc, xid, BAD_LEN, self.session.first(8))?;
-                Ok(Some(closing(self.alloc, error)?))
+                Ok(Some(self.close_with(error)?))
             }
             Next::NotHello { xid } => {
                 let error = write_error(self.alloc, xid, HELLO_INCOMPATIBLE, &[])?;
-                Ok(Some(closing(self.alloc, error)?))
+                Ok(Some(self.close_with(error)?))
             }
             Next::Opened { .. } => Ok(Some(Effects::new(self.alloc))),
             Next::Refused { xid, size, code } => Ok(Some(self.refused(xid, size, code)?)),
@@ -141,6 +155,24 @@ impl<L: Lookup> Switch<L> {
                 Err(Fault::Memory) => Err(AllocError),
             },
         }
+    }
+
+    // Gives an error and the end of the connection.
+    fn close_with(&mut self, error: MessageBytes) -> Result<Effects, AllocError>
+        ensures ok { IfOk result (λ effects. closing_with error self.old.core ≡ does effects.items self.new.core) }
+        ensures connection { self.new.connection ≡ self.old.connection }
+        ensures err { OnErr result (self.new.core ≡ self.old.core) }
+    {
+        let effects = closing(self.alloc, error)?;
+        self.engine.release();
+        Ok(effects)
+    }
+
+    // What the controller is told unasked.
+    fn heard(&self) -> Heard
+        ensures { result ≡ heard_of self.now }
+    {
+        self.engine.heard(self.session.phase())
     }
 
     // The ERROR that answers the message that comes next, with its first bytes.
@@ -159,7 +191,8 @@ impl<L: Lookup> Switch<L> {
     pub fn frame(&mut self, port: u32, frame: &[u8]) -> Result<Effects, SwitchError>
         ensures { Call None (λ effects new. frame_in port frame.now self.old ≡ gives effects.items new) self.old result self.new }
     {
-        Ok(self.engine.frame(self.session.phase(), port, frame)?)
+        let heard = self.heard();
+        Ok(self.engine.frame(heard, port, frame)?)
     }
 
     /// The effects that `frame` would give next, and the steps of the frame's run, which are put into the log (OpenFlow 1.3.5, 5.1).
@@ -177,7 +210,7 @@ impl<L: Lookup> Switch<L> {
         ensures steps { OnOk result (S.KEEPS ≡ true → S.list log.new ≡ S.list log.old ++ steps_in port frame.now self.now.core.forwarding) }
         ensures err { IfErr result (λ e. (e ≡ SwitchError.NoMemory) × (S.KEEPS ≡ true → GainsPrefix (steps_in port frame.now self.now.core.forwarding) (S.list log.old) (S.list log.new))) }
     {
-        Ok(self.engine.dry_run(self.session.phase(), port, frame, log)?)
+        Ok(self.engine.dry_run(self.heard(), port, frame, log)?)
     }
 
     /// At all times the tables and the groups are as the machine wants them: the instructions of entries may stand in their tables,
@@ -209,7 +242,8 @@ impl<L: Lookup> Switch<L> {
     pub fn moment(&mut self, nanos: u64) -> Result<Effects, SwitchError>
         ensures { Call None (λ effects new. moment_in nanos self.old ≡ gives effects.items new) self.old result self.new }
     {
-        Ok(self.engine.moment(self.session.phase(), nanos)?)
+        let heard = self.heard();
+        Ok(self.engine.moment(heard, nanos)?)
     }
 
     /// The ports change (OpenFlow 1.3.5, 7.2.1). No flow and no group does.
@@ -219,7 +253,7 @@ impl<L: Lookup> Switch<L> {
     pub fn port_change(&mut self, change: PortChange) -> Result<Effects, SwitchError>
         ensures { Call (port_refusal change self.old) (λ effects new. port_changed change self.old ≡ gives effects.items new) self.old result self.new }
     {
-        let phase = self.session.phase();
+        let heard = self.heard();
         match change {
             PortChange::Add {
                 number,
@@ -228,15 +262,15 @@ impl<L: Lookup> Switch<L> {
                 up,
             } => {
                 self.check_new_port(number)?;
-                Ok(self.engine.add_port(phase, number, hw, name, up)?)
+                Ok(self.engine.add_port(heard, number, hw, name, up)?)
             }
             PortChange::Remove { number } => {
                 self.check_port(number)?;
-                Ok(self.engine.remove_port(phase, number)?)
+                Ok(self.engine.remove_port(heard, number)?)
             }
             PortChange::Link { number, up } => {
                 self.check_port(number)?;
-                Ok(self.engine.set_link(phase, number, up)?)
+                Ok(self.engine.set_link(heard, number, up)?)
             }
         }
     }
@@ -301,6 +335,11 @@ impl<L: Lookup> Switch<L> {
     {
         match event {
             Event::Connect => tell(self.connected(), reports),
+            Event::Lost => {
+                self.lost();
+                reports.push_reserved(Report::Gives(Effects::new(self.alloc)));
+                Ok(())
+            }
             Event::Piece(bytes) => self.piece(bytes.as_slice(), reports),
             Event::Frame { port, frame } => tell(self.frame(*port, frame.as_slice()), reports),
             Event::Moment(nanos) => tell(self.moment(*nanos), reports),

@@ -3,13 +3,13 @@ ghost use Rattle.std.specs.Prelude.{◌≡◌, ◌≤◌, IfOk, length, false};
 ghost use Rattle.std.specs.Option.{option_map_or};
 ghost use Rattle.of_ports.specs.Ports.{port_at};
 ghost use Rattle.of_machine.specs.Growth.{AllShort, frame_of};
-ghost use Rattle.of_switch.specs.Told.{effect_of, effects_of, is_given as is_given_to, is_silenced as is_silenced_by, is_told as is_told_at, packet_in_reason};
+ghost use Rattle.of_switch.specs.Told.{effect_of, effects_of, is_given as is_given_to, is_silenced as is_silenced_by, packet_in_bit, packet_in_reason};
 
+use crate::control::{Heard, lets_through};
 use crate::effect::{Effect, Effects};
 use of_machine::{Item, Items, PacketInReason, ToController};
 use of_messages::{PacketIn, write_packet_in};
 use of_ports::Ports;
-use of_session::Phase;
 use std::alloc::{AllocError, Global};
 
 fn reason_from(reason: PacketInReason) -> of_messages::PacketInReason
@@ -22,11 +22,14 @@ fn reason_from(reason: PacketInReason) -> of_messages::PacketInReason
     }
 }
 
-/// Whether a controller whose connection stands there is told what it did not ask for: once its HELLO was accepted.
-pub fn is_told(phase: Phase) -> bool
-    ensures { result ≡ is_told_at phase }
+fn reason_bit(reason: PacketInReason) -> u32
+    ensures { result ≡ packet_in_bit reason }
 {
-    phase == Phase::Open
+    match reason {
+        PacketInReason::NoMatch => 1,
+        PacketInReason::Action => 2,
+        PacketInReason::InvalidTtl => 4,
+    }
 }
 
 // Whether its ingress port silences it.
@@ -46,12 +49,14 @@ fn tells_no_packet_in(ports: &Ports, number: u32) -> bool
 }
 
 // Whether it is sent.
-fn is_given(phase: Phase, ports: &Ports, item: &Item) -> bool
-    ensures { result ≡ is_given_to phase ports.now item.now }
+fn is_given(heard: Heard, ports: &Ports, item: &Item) -> bool
+    ensures { result ≡ is_given_to heard ports.now item.now }
 {
     match item {
         Item::Sent { .. } => true,
-        Item::PacketIn(packet) => is_told(phase) && !is_silenced(ports, packet),
+        Item::PacketIn(packet) => {
+            lets_through(heard.packet_in, reason_bit(packet.reason)) && !is_silenced(ports, packet)
+        }
     }
 }
 
@@ -74,19 +79,19 @@ fn effect_from(alloc: Global, item: Item) -> Result<Effect, AllocError>
     }
 }
 
-/// What a switch whose connection stands there and whose ports are so sends of what was emitted, in order.
+/// What a switch whose controller is told this and whose ports are so sends of what was emitted, in order.
 pub fn effects_from(
     alloc: Global,
-    phase: Phase,
+    heard: Heard,
     ports: &Ports,
     items: Items,
 ) -> Result<Effects, AllocError>
     requires { AllShort 65485 items.items }
-    ensures { IfOk result (λ effects. effects.items ≡ effects_of phase ports.now items.items) }
+    ensures { IfOk result (λ effects. effects.items ≡ effects_of heard ports.now items.items) }
 {
     let mut effects = Effects::new(alloc);
     for item in items {
-        if is_given(phase, ports, &item) {
+        if is_given(heard, ports, &item) {
             effects.push(effect_from(alloc, item)?)?;
         }
     }

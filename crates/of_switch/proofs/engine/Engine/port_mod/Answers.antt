@@ -18,4 +18,4 @@ pub returns : goal.returns
 returns g c =
     let found : port_at c.self.inside.plane.ports c.args.port_mod.port ≡ Some c.in-Some.port.now = sym c.port.ensures ∙ ap option_copied c.in-Some.is in
     let same : not (bytes_eq c.in-Some.port.now.hw c.args.port_mod.hw) ≡ false = sym c.ne.ensures ∙ c.if-ne.false in
-    rw (← c.self.view_is) (not_refused c.args.port_mod c.self.inside.plane.ports c.in-Some.port.now found same, rw (found, c.in_ok-effects.ensures, c.configure.ensures, c.with-config.ensures) refl)
+    rw (← c.self.view_is) (not_refused c.args.port_mod c.self.inside.plane.ports c.in-Some.port.now found same, rw (found, c.in_ok-effects.ensures, c.heard_open.ensures, c.configure.ensures, c.with-config.ensures) refl)

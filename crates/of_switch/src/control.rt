@@ -1,0 +1,112 @@
+//! What a controller has set, and what it is told unasked.
+ghost use Rattle.std.specs.Prelude.{◌≡◌};
+ghost use Rattle.of_switch.specs.Control.{first_masks, heard_by, heard_in, lets_pass, new_control, released};
+
+use of_messages::{AsyncMasks, Role, RoleMasks, SwitchConfig};
+use of_session::Phase;
+
+/// What a controller has set of a switch.
+#[derive(Clone, Copy, Debug, PartialEq, Eq)]
+pub struct Control {
+    /// Its role (OpenFlow 1.3.5, 7.3.9).
+    pub role: Role,
+    /// The last election by which a controller became master or slave.
+    pub generation: Option<u64>,
+    /// Which messages it is told that it does not ask for (7.3.10).
+    pub masks: AsyncMasks,
+    /// The configuration of the switch (7.3.2).
+    pub config: SwitchConfig,
+}
+
+/// The reasons for which a controller is told something that it did not ask for, as bits.
+#[derive(Clone, Copy, Debug, PartialEq, Eq)]
+pub struct Heard {
+    pub packet_in: u32,
+    pub port_status: u32,
+    pub flow_removed: u32,
+}
+
+fn masks_at_first() -> AsyncMasks
+    ensures { result ≡ first_masks }
+{
+    AsyncMasks {
+        packet_in: RoleMasks {
+            master: 7,
+            slave: 0,
+        },
+        port_status: RoleMasks {
+            master: 7,
+            slave: 7,
+        },
+        flow_removed: RoleMasks {
+            master: 15,
+            slave: 0,
+        },
+    }
+}
+
+impl Control {
+    /// What is set before any controller sets something.
+    pub fn new() -> Control
+        ensures { result ≡ new_control }
+    {
+        Control {
+            role: Role::Equal,
+            generation: None,
+            masks: masks_at_first(),
+            config: SwitchConfig { miss_send_len: 128 },
+        }
+    }
+
+    /// Without what goes with the connection.
+    pub fn released(self) -> Control
+        ensures { result ≡ released self }
+    {
+        Control {
+            role: Role::Equal,
+            masks: masks_at_first(),
+            ..self
+        }
+    }
+
+    /// What the controller of an open connection is told.
+    pub fn heard_open(&self) -> Heard
+        ensures { result ≡ heard_by self.now }
+    {
+        let masks = &self.masks;
+        match self.role {
+            Role::Equal | Role::Master => Heard {
+                packet_in: masks.packet_in.master,
+                port_status: masks.port_status.master,
+                flow_removed: masks.flow_removed.master,
+            },
+            Role::Slave => Heard {
+                packet_in: masks.packet_in.slave,
+                port_status: masks.port_status.slave,
+                flow_removed: masks.flow_removed.slave,
+            },
+        }
+    }
+
+    /// What the controller is told, where its connection stands there.
+    pub fn heard(&self, phase: Phase) -> Heard
+        ensures { result ≡ heard_in phase self.now }
+    {
+        if phase == Phase::Open {
+            self.heard_open()
+        } else {
+            Heard {
+                packet_in: 0,
+                port_status: 0,
+                flow_removed: 0,
+            }
+        }
+    }
+}
+
+/// Whether a mask lets one of these reasons pass.
+pub fn lets_through(mask: u32, reasons: u32) -> bool
+    ensures { result ≡ lets_pass mask reasons }
+{
+    mask & reasons != 0
+}
