@@ -2,7 +2,6 @@
 #![tactic(auto)]
 
 mod bucket_reading;
-mod control;
 mod flow_mod_writing;
 mod group_mod;
 mod group_mod_writing;
@@ -15,7 +14,6 @@ mod port_status;
 mod reading;
 mod writing;
 
-pub use control::{AsyncMasks, Role, RoleMasks, SwitchConfig};
 pub use flow_mod_writing::write_flow_mod;
 pub use group_mod::{GroupMod, NewGroup};
 pub use group_mod_writing::write_group_mod;

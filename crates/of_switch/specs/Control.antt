@@ -1,8 +1,8 @@
 -- What a controller has set of a switch, and what it is told that it did not ask for (OpenFlow 1.3.5, 7.3.2, 7.3.9 and 7.3.10).
 use Rattle.std.specs.Prelude.{ℕ, ◌==◌, ◌≡◌, Bool, not, bit_and, None}
-use Rattle.of_messages.specs.declared.control.Role.{Role}
-use Rattle.of_messages.specs.declared.control.Role.TheVariants.{Equal, Master, Slave}
-use Rattle.of_messages.specs.declared.control.AsyncMasks.{AsyncMasks}
+use Rattle.of_messages.specs.declared.role.Role.{Role}
+use Rattle.of_messages.specs.declared.role.Role.TheVariants.{Equal, Master, Slave}
+use Rattle.of_messages.specs.declared.async_masks.AsyncMasks.{AsyncMasks}
 use Rattle.of_session.specs.declared.session.Phase.{Phase}
 use Rattle.of_session.specs.declared.session.Phase.TheVariants.{Disconnected, Greeting, Open}
 use Rattle.of_switch.specs.declared.control.Control.{Control}
