@@ -12,7 +12,8 @@ use Rattle.of_messages.specs.declared.message.Message.TheVariants.{GroupMod as I
 use Rattle.of_messages.specs.declared.group_mod.GroupMod.TheVariants.{Add}
 use Rattle.of_messages.specs.declared.group_mod.NewGroup.{NewGroup}
 use Rattle.of_messages.specs.GroupMods.{command_of, command_in, group_mod_of, group_of, kind_of, number_in}
-use Rattle.of_messages.specs.Messages.{version_of, type_of, header_length, head_refusals, message_of}
+use Rattle.of_messages.specs.Heads.{version_of, type_of, header_length, head_refusals, size_of}
+use Rattle.of_messages.specs.Messages.{body_of, message_from, message_of}
 use Rattle.of_messages.specs.CanonicalGroups.{canonical_buckets, kind_number, group_add_front, group_add_bytes, as_written, has_numbers}
 use Rattle.of_messages.proofs.BucketsWritten.{buckets_short}
 use Rattle.of_messages.proofs.BucketsAgain.{buckets_again}
@@ -47,6 +48,7 @@ says xid g number short =
     }
 
 head_passes : (g : NewGroup) (m : List ℕ) → Says g m → first_of (head_refusals m) ≡ None
+unfolding size_of
 head_passes g m h =
     let long = h.long in
     let eight : ltb (length m) 8 ≡ false = le-ltb _ _ (omega arith) in
@@ -70,7 +72,7 @@ unfolding command_of
 mod_again g m h group = rw (h.command, group) refl
 
 body_again : (g : NewGroup) (m : List ℕ) → Says g m → first_of (head_refusals m) ≡ None → group_mod_of m ≡ Ok (Add (as_written g)) → message_of m ≡ Ok (IsGroupMod (Add (as_written g)))
-unfolding message_of
+unfolding message_from body_of
 body_again g m h head body = rw (head, h.type, body) refl
 
 pub group_add_again : (xid : ℕ) (g : NewGroup) → g.id ≤ 0xffffff00 → list_all has_numbers g.buckets ≡ true → are_fit g.buckets ≡ true → message_of (group_add_bytes xid g) ≡ Ok (IsGroupMod (Add (as_written g)))

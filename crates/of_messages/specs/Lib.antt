@@ -1,6 +1,12 @@
 pub mod Buckets
 pub mod GroupMods
 pub mod PortMods
+pub mod Heads
+pub mod Hellos
+pub mod Roles
+pub mod Configs
+pub mod AsyncConfigs
+pub mod Multiparts
 pub mod Messages
 pub mod Written
 pub mod Promised

@@ -1,5 +1,5 @@
 -- What the bytes of a message say (OpenFlow 1.3.5, 7.1 and 7.3), or the first refusal in the written order (7.4.4).
-use Rattle.std.specs.Prelude.{ℕ, ◌+◌, ◌==◌, nat_lt, Bool, true, false, not, ◌&&◌, ◌||◌, List, [], ◌∷◌, length, take, drop, slice_index, Option, Some, None, is_none, Result, Ok, Err, if◌then◌else◌}
+use Rattle.std.specs.Prelude.{ℕ, ◌==◌, nat_lt, Bool, true, false, not, ◌&&◌, ◌||◌, List, [], ◌∷◌, ◌++◌, take, drop, slice_index, Option, Some, None, is_none, Result, Ok, Err, if◌then◌else◌}
 use Rattle.byteorder.specs.Endian.{big_number}
 use Rattle.of_wire.specs.declared.code.Code.{Code}
 use Rattle.of_wire.specs.Refusals.{refusal, first_of}
@@ -13,74 +13,29 @@ use Rattle.of_actions.specs.FlowCheck.{all_go_with}
 use Rattle.of_actions.specs.PortNumbers.{is_number, controller}
 use Rattle.of_headers.specs.Faults.{frame_fault}
 use Rattle.of_messages.specs.declared.message.Message.{Message}
-use Rattle.of_messages.specs.declared.message.Message.TheVariants.{Hello, EchoRequest, BarrierRequest, FlowMod as IsFlowMod, PacketOut as IsPacketOut, GroupMod as IsGroupMod, PortMod as IsPortMod}
+use Rattle.of_messages.specs.declared.message.Message.TheVariants.{Hello, Error, EchoRequest, EchoReply, FeaturesRequest, GetConfigRequest, SetConfig, PacketOut as IsPacketOut, FlowMod as IsFlowMod, GroupMod as IsGroupMod, PortMod as IsPortMod, TableMod as IsTableMod, Multipart, BarrierRequest, RoleRequest as IsRoleRequest, GetAsyncRequest, SetAsync}
+use Rattle.of_messages.specs.declared.config.SwitchConfig.{SwitchConfig}
+use Rattle.of_messages.specs.declared.config.TableMod.{TableMod}
 use Rattle.of_messages.specs.declared.group_mod.GroupMod.{GroupMod}
+use Rattle.of_messages.specs.declared.multipart.MultipartRequest.{MultipartRequest}
 use Rattle.of_messages.specs.declared.port_mod.PortMod.{PortMod}
+use Rattle.of_messages.specs.declared.role.Role.{Role}
+use Rattle.of_messages.specs.declared.role.Role.TheVariants as role
+use Rattle.of_messages.specs.declared.role.RoleRequest.{RoleRequest}
+use Rattle.of_messages.specs.Heads.{hello, error, echo_request, echo_reply, features_request, get_config_request, set_config, packet_out, flow_mod, group_mod, port_mod, table_mod, multipart_request, barrier_request, role_request, get_async_request, set_async, actions_length, head_refusals, role_refusals}
+pub use Rattle.of_messages.specs.Heads.{version_of, type_of, header_length, xid_of}
+use Rattle.of_messages.specs.AsyncConfigs.{async_masks_of}
+use Rattle.of_messages.specs.Configs.{set_config_of, table_mod_of}
 use Rattle.of_messages.specs.GroupMods.{group_mod_of}
+use Rattle.of_messages.specs.Multiparts.{multipart_of}
 use Rattle.of_messages.specs.PortMods.{port_mod_of}
+use Rattle.of_messages.specs.Roles.{role_request_of}
 use Rattle.of_messages.specs.declared.message.PacketOut.{PacketOut}
 use Rattle.of_messages.specs.declared.message.PacketData.{PacketData}
 use Rattle.of_messages.specs.declared.message.PacketData.TheVariants.{Buffered, Frame}
 use Rattle.of_messages.specs.declared.message.FlowMod.{FlowMod}
 use Rattle.of_messages.specs.declared.message.FlowModCommand.{FlowModCommand}
 use Rattle.of_messages.specs.declared.message.FlowModCommand.TheVariants.{Add, Modify, ModifyStrict, Delete, DeleteStrict}
-
--- THE HEADER
-
-abbrev pub version_of : List ℕ → ℕ
-version_of m = slice_index m 0
-
-abbrev pub type_of : List ℕ → ℕ
-type_of m = slice_index m 1
-
-abbrev pub header_length : List ℕ → ℕ
-header_length m = big_number 2 (drop 2 m)
-
--- the transaction id
-abbrev pub xid_of : List ℕ → ℕ
-xid_of m = big_number 4 (drop 4 m)
-
-abbrev pub hello : ℕ
-hello = 0
-
-abbrev pub echo_request : ℕ
-echo_request = 2
-
-abbrev pub packet_out : ℕ
-packet_out = 13
-
-abbrev pub flow_mod : ℕ
-flow_mod = 14
-
-abbrev pub group_mod : ℕ
-group_mod = 15
-
-abbrev pub port_mod : ℕ
-port_mod = 16
-
-abbrev pub barrier_request : ℕ
-barrier_request = 20
-
--- the types that are served
-abbrev pub is_served : ℕ → Bool
-is_served type = type == hello || type == echo_request || type == packet_out || type == flow_mod || type == group_mod || type == port_mod || type == barrier_request
-
--- how many bytes the actions of a PACKET_OUT have
-abbrev pub actions_length : List ℕ → ℕ
-actions_length m = big_number 2 (drop 16 m)
-
--- of the length, the version (a HELLO may have any), the type, and the length of the type; a PACKET_OUT has its actions
-abbrev pub head_refusals : List ℕ → List (Bool × Code)
-head_refusals m =
-    (nat_lt (length m) 8 || not (header_length m == length m), refusal 1 6)
-    ∷ (not (type_of m == hello) && not (version_of m == 4), refusal 1 0)
-    ∷ (not (is_served (type_of m)), refusal 1 1)
-    ∷ (type_of m == barrier_request && not (length m == 8), refusal 1 6)
-    ∷ (type_of m == flow_mod && nat_lt (length m) 56, refusal 1 6)
-    ∷ (type_of m == group_mod && nat_lt (length m) 16, refusal 1 6)
-    ∷ (type_of m == port_mod && not (length m == 40), refusal 1 6)
-    ∷ (type_of m == packet_out && (nat_lt (length m) 24 || nat_lt (length m) (24 + actions_length m)), refusal 1 6)
-    ∷ []
 
 -- FLOW_MOD (7.3.4.1)
 
@@ -219,19 +174,52 @@ abbrev pub as_port_mod : Result PortMod Code → Result Message Code
 as_port_mod (Ok v) = Ok (IsPortMod v)
 as_port_mod (Err code) = Err code
 
-abbrev pub body_of : List ℕ → Result Message Code
+abbrev pub as_table_mod : Result TableMod Code → Result Message Code
+as_table_mod (Ok v) = Ok (IsTableMod v)
+as_table_mod (Err code) = Err code
+
+abbrev pub as_set_config : Result SwitchConfig Code → Result Message Code
+as_set_config (Ok v) = Ok (SetConfig v)
+as_set_config (Err code) = Err code
+
+abbrev pub as_role_request : Result RoleRequest Code → Result Message Code
+as_role_request (Ok v) = Ok (IsRoleRequest v)
+as_role_request (Err code) = Err code
+
+abbrev pub as_multipart : Result MultipartRequest Code → Result Message Code
+as_multipart (Ok v) = Ok (Multipart v)
+as_multipart (Err code) = Err code
+
+-- by its type; another type is always refused, so the last line never applies
+unfoldable pub body_of : List ℕ → Result Message Code
 body_of m =
     if type_of m == hello then Ok Hello
-    else (if type_of m == echo_request then Ok (EchoRequest (drop 8 m))
-    else (if type_of m == barrier_request then Ok BarrierRequest
-    else (if type_of m == packet_out then as_packet_out (packet_out_of m)
-    else (if type_of m == group_mod then as_group_mod (group_mod_of m)
-    else (if type_of m == port_mod then as_port_mod (port_mod_of m)
-    else as_flow_mod (flow_mod_of m))))))
+    else if type_of m == error then Ok Error
+    else if type_of m == echo_request then Ok (EchoRequest (drop 8 m))
+    else if type_of m == echo_reply then Ok EchoReply
+    else if type_of m == features_request then Ok FeaturesRequest
+    else if type_of m == get_config_request then Ok GetConfigRequest
+    else if type_of m == set_config then as_set_config (set_config_of m)
+    else if type_of m == packet_out then as_packet_out (packet_out_of m)
+    else if type_of m == flow_mod then as_flow_mod (flow_mod_of m)
+    else if type_of m == group_mod then as_group_mod (group_mod_of m)
+    else if type_of m == port_mod then as_port_mod (port_mod_of m)
+    else if type_of m == table_mod then as_table_mod (table_mod_of m)
+    else if type_of m == multipart_request then as_multipart (multipart_of m)
+    else if type_of m == barrier_request then Ok BarrierRequest
+    else if type_of m == role_request then as_role_request (role_request_of m)
+    else if type_of m == get_async_request then Ok GetAsyncRequest
+    else if type_of m == set_async then Ok (SetAsync (async_masks_of m))
+    else Err (refusal 1 1)
 
 abbrev pub message_by : List ℕ → Option Code → Result Message Code
 message_by m (Some code) = Err code
 message_by m None = body_of m
 
-unfoldable pub message_of : List ℕ → Result Message Code
-message_of m = message_by m (first_of (head_refusals m))
+-- what a message says that comes from a controller of that role
+unfoldable pub message_from : Role → List ℕ → Result Message Code
+message_from role m = message_by m (first_of (head_refusals m ++ role_refusals role m))
+
+-- what it says by itself: a controller whose role is equal may send each
+abbrev pub message_of : List ℕ → Result Message Code
+message_of m = message_from role.Equal m

@@ -1,12 +1,17 @@
 -- The bytes of the messages that the switch sends.
-use Rattle.std.specs.Prelude.{◌≡◌, ◌≤◌, ℕ, ◌+◌, ◌==◌, if◌then◌else◌, List, [], ◌∷◌, ◌++◌, length, replicate, None}
+use Rattle.std.specs.Prelude.{◌≡◌, ◌≤◌, ℕ, ◌+◌, ◌==◌, if◌then◌else◌, List, [], ◌∷◌, ◌++◌, length, replicate, Option, None}
 use Rattle.byteorder.specs.Endian.{big_bytes}
 use Rattle.of_wire.specs.declared.code.Code.{Code}
 use Rattle.of_oxm.specs.declared.match_field.MatchField.{MatchField}
 use Rattle.of_oxm.specs.Canonical.{canonical}
 use Rattle.of_layers.specs.declared.field.Field.TheVariants.{InPort, Metadata}
 use Rattle.of_actions.specs.CanonicalInstructions.{canonical_instructions}
-use Rattle.of_messages.specs.Messages.{version_of, header_length}
+use Rattle.of_messages.specs.Heads.{version_of, header_length}
+use Rattle.of_messages.specs.Roles.{role_number, generation_number}
+use Rattle.of_messages.specs.declared.async_masks.AsyncMasks.{AsyncMasks}
+use Rattle.of_messages.specs.declared.async_masks.RoleMasks.{RoleMasks}
+use Rattle.of_messages.specs.declared.config.SwitchConfig.{SwitchConfig}
+use Rattle.of_messages.specs.declared.role.Role.{Role}
 use Rattle.of_messages.specs.declared.message.FlowMod.{FlowMod}
 use Rattle.of_messages.specs.declared.message.FlowModCommand.{FlowModCommand}
 use Rattle.of_messages.specs.declared.message.FlowModCommand.TheVariants.{Add, Modify, ModifyStrict, Delete, DeleteStrict}
@@ -47,6 +52,28 @@ echo_reply_bytes xid «data» = message 3 xid «data»
 -- 7.3.7
 abbrev pub barrier_reply_bytes : ℕ → List ℕ
 barrier_reply_bytes xid = message 21 xid []
+
+-- the datapath id; no buffers, 16 tables, no auxiliary connection, and the capabilities OFPC_FLOW_STATS, TABLE_STATS, PORT_STATS and GROUP_STATS (7.3.1)
+unfoldable pub features_body : ℕ → List ℕ
+features_body dpid = big_bytes 8 dpid ++ (big_bytes 4 0 ++ ((16 ∷ 0 ∷ 0 ∷ 0 ∷ []) ++ (big_bytes 4 15 ++ big_bytes 4 0)))
+
+abbrev pub features_reply_bytes : ℕ → ℕ → List ℕ
+features_reply_bytes xid dpid = message 6 xid (features_body dpid)
+
+-- no flags (7.3.2)
+abbrev pub config_reply_bytes : ℕ → SwitchConfig → List ℕ
+config_reply_bytes xid config = message 8 xid (big_bytes 2 0 ++ big_bytes 2 config.miss_send_len)
+
+-- 7.3.9
+abbrev pub role_reply_bytes : ℕ → Role → Option ℕ → List ℕ
+role_reply_bytes xid role generation = message 25 xid (big_bytes 4 (role_number role) ++ (replicate 4 0 ++ big_bytes 8 (generation_number generation)))
+
+-- while it is master or equal, and while it is a slave (7.3.10)
+abbrev pub role_masks_bytes : RoleMasks → List ℕ
+role_masks_bytes masks = big_bytes 4 masks.master ++ big_bytes 4 masks.slave
+
+abbrev pub async_reply_bytes : ℕ → AsyncMasks → List ℕ
+async_reply_bytes xid masks = message 27 xid (role_masks_bytes masks.packet_in ++ (role_masks_bytes masks.port_status ++ role_masks_bytes masks.flow_removed))
 
 -- FLOW_REMOVED (7.4.2)
 

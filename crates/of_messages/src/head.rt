@@ -1,14 +1,27 @@
-//! What a header alone can be refused for.
-ghost use Rattle.std.specs.Prelude.{◌≡◌, ◌≤◌, ◌<◌, ◌+◌, ◌||◌, nat_lt, length, OnOk, MatchResult, None, Some, true};
+//! What a message can be refused for before its body is looked at.
+ghost use Rattle.std.specs.Prelude.{◌≡◌, ◌≤◌, ◌<◌, ◌+◌, ◌++◌, length, IfSome, OnOk, MatchResult, None, Some};
 ghost use Rattle.of_wire.specs.Refusals.{first_of};
-ghost use Rattle.of_messages.specs.Messages.{head_refusals, type_of, is_served, actions_length};
+ghost use Rattle.of_messages.specs.Heads.{HasHead, actions_length, head_refusals, is_bad_size, is_change as changes, role_refusals, size_of};
 
+use crate::role::Role;
 use byteorder::{BigEndian, ByteOrder};
 use of_wire::Code;
 
 pub const HELLO: u8 = 0;
 
+pub const ERROR: u8 = 1;
+
 pub const ECHO_REQUEST: u8 = 2;
+
+pub const ECHO_REPLY: u8 = 3;
+
+const EXPERIMENTER: u8 = 4;
+
+pub const FEATURES_REQUEST: u8 = 5;
+
+pub const GET_CONFIG_REQUEST: u8 = 7;
+
+pub const SET_CONFIG: u8 = 9;
 
 pub const PACKET_OUT: u8 = 13;
 
@@ -18,21 +31,72 @@ pub const GROUP_MOD: u8 = 15;
 
 pub const PORT_MOD: u8 = 16;
 
+pub const TABLE_MOD: u8 = 17;
+
+pub const MULTIPART_REQUEST: u8 = 18;
+
 pub const BARRIER_REQUEST: u8 = 20;
+
+pub const ROLE_REQUEST: u8 = 24;
+
+pub const GET_ASYNC_REQUEST: u8 = 26;
+
+pub const SET_ASYNC: u8 = 28;
 
 const BAD_VERSION: Code = Code { kind: 1, code: 0 };
 
-const BAD_TYPE: Code = Code { kind: 1, code: 1 };
+pub const BAD_TYPE: Code = Code { kind: 1, code: 1 };
 
-const BAD_LEN: Code = Code { kind: 1, code: 6 };
+const BAD_EXPERIMENTER: Code = Code { kind: 1, code: 3 };
 
-fn is_served_type(kind: u8) -> bool
-    ensures { result ≡ is_served kind }
+pub const BAD_LEN: Code = Code { kind: 1, code: 6 };
+
+const IS_SLAVE: Code = Code { kind: 1, code: 10 };
+
+/// How many bytes a message of a type has, with its header.
+#[derive(Clone, Copy)]
+pub(crate) enum Size {
+    Exact(usize),
+    Least(usize),
+}
+
+impl Size {
+    /// Whether no such message has so many bytes.
+    pub(crate) fn is_bad(self, size: usize) -> bool
+        ensures { result ≡ is_bad_size (Some self) size }
+    {
+        match self {
+            Size::Exact(exact) => size != exact,
+            Size::Least(least) => size < least,
+        }
+    }
+}
+
+// The size of the messages of a type that is served.
+#[tactic(auto, unfolding(crate::specs::Heads::size_of))]
+fn size_of_type(kind: u8) -> Option<Size>
+    ensures { result ≡ size_of kind }
 {
-    matches!(
-        kind,
-        HELLO | ECHO_REQUEST | PACKET_OUT | FLOW_MOD | GROUP_MOD | PORT_MOD | BARRIER_REQUEST
-    )
+    match kind {
+        HELLO => Some(Size::Least(8)),
+        ERROR => Some(Size::Least(12)),
+        ECHO_REQUEST => Some(Size::Least(8)),
+        ECHO_REPLY => Some(Size::Least(8)),
+        FEATURES_REQUEST => Some(Size::Exact(8)),
+        GET_CONFIG_REQUEST => Some(Size::Exact(8)),
+        SET_CONFIG => Some(Size::Exact(12)),
+        PACKET_OUT => Some(Size::Least(24)),
+        FLOW_MOD => Some(Size::Least(56)),
+        GROUP_MOD => Some(Size::Least(16)),
+        PORT_MOD => Some(Size::Exact(40)),
+        TABLE_MOD => Some(Size::Exact(16)),
+        MULTIPART_REQUEST => Some(Size::Least(16)),
+        BARRIER_REQUEST => Some(Size::Exact(8)),
+        ROLE_REQUEST => Some(Size::Exact(24)),
+        GET_ASYNC_REQUEST => Some(Size::Exact(8)),
+        SET_ASYNC => Some(Size::Exact(32)),
+        _ => None,
+    }
 }
 
 /// How many bytes the actions of a PACKET_OUT have.
@@ -44,27 +108,16 @@ pub(crate) fn actions_length_in(message: &[u8]) -> usize
     BigEndian::read_u16(&message[16..]) as usize
 }
 
-// Whether a PACKET_OUT is shorter than its fixed part and its actions.
-fn lacks_actions(message: &[u8]) -> bool
-    ensures { result ≡ (nat_lt (length message.now) 24 || nat_lt (length message.now) (24 + actions_length message.now)) }
-{
-    message.len() < 24 || message.len() < 24 + actions_length_in(message)
-}
-
 /// Refuses a message by its version, type and length alone, in that order (OpenFlow 1.3.5, 7.1 and 7.4.4).
 ///
 /// A message is refused with the first that applies: it is not as long as its header says (1/6); it is of another version,
-/// and no HELLO (1/0); its type is not served (1/1); its length is not that of its type (1/6): a BARRIER_REQUEST has 8 bytes,
-/// a FLOW_MOD 56 at least, a GROUP_MOD 16 at least, a PORT_MOD 40, and a PACKET_OUT 24 at least and those of its actions.
+/// and no HELLO (1/0); it is an EXPERIMENTER (1/3); its type is not served, or one that only a switch sends (1/1); its length
+/// is not that of its type (1/6). Just so many bytes have SET_CONFIG, 12, TABLE_MOD, 16, ROLE_REQUEST, 24, SET_ASYNC, 32,
+/// PORT_MOD, 40, and the messages without a body, 8. So many at least have ERROR, 12, GROUP_MOD and MULTIPART_REQUEST, 16,
+/// FLOW_MOD, 56, and PACKET_OUT, 24 and those of its actions.
 pub fn check_head(message: &[u8]) -> Result<(), Code>
     ensures refusal { MatchResult result (λ _. first_of (head_refusals message.now) ≡ None) (λ code. first_of (head_refusals message.now) ≡ Some code) }
-    ensures header { OnOk result (8 ≤ length message.now) }
-    ensures most { OnOk result (length message.now ≤ 65535) }
-    ensures flow_mod { OnOk result (type_of message.now ≡ 14 → 56 ≤ length message.now) }
-    ensures group_mod { OnOk result (type_of message.now ≡ 15 → 16 ≤ length message.now) }
-    ensures port_mod { OnOk result (type_of message.now ≡ 16 → 40 ≤ length message.now) }
-    ensures packet_out { OnOk result (type_of message.now ≡ 13 → 24 + actions_length message.now ≤ length message.now) }
-    ensures served { OnOk result (is_served (type_of message.now) ≡ true) }
+    ensures head { OnOk result (HasHead message.now) }
 {
     if message.len() < 8 || BigEndian::read_u16(&message[2..]) as usize != message.len() {
         return Err(BAD_LEN);
@@ -73,23 +126,41 @@ pub fn check_head(message: &[u8]) -> Result<(), Code>
     if kind != HELLO && message[0] != 4 {
         return Err(BAD_VERSION);
     }
-    if !is_served_type(kind) {
+    if kind == EXPERIMENTER {
+        return Err(BAD_EXPERIMENTER);
+    }
+    let Some(size) = size_of_type(kind) else {
         return Err(BAD_TYPE);
-    }
-    if kind == BARRIER_REQUEST && message.len() != 8 {
+    };
+    if size.is_bad(message.len()) {
         return Err(BAD_LEN);
     }
-    if kind == FLOW_MOD && message.len() < 56 {
+    if kind == PACKET_OUT && message.len() < 24 + actions_length_in(message) {
         return Err(BAD_LEN);
     }
-    if kind == GROUP_MOD && message.len() < 16 {
-        return Err(BAD_LEN);
-    }
-    if kind == PORT_MOD && message.len() != 40 {
-        return Err(BAD_LEN);
-    }
-    if kind == PACKET_OUT && lacks_actions(message) {
-        return Err(BAD_LEN);
+    Ok(())
+}
+
+// Whether a message of that type would change the switch or send a packet.
+fn is_change(kind: u8) -> bool
+    ensures { result ≡ changes kind }
+{
+    matches!(
+        kind,
+        PACKET_OUT | FLOW_MOD | GROUP_MOD | PORT_MOD | TABLE_MOD
+    )
+}
+
+/// Refuses a message by its head, and then by the role of the controller that sends it.
+pub(crate) fn check_sender(role: Role, message: &[u8]) -> Result<(), Code>
+    ensures refusal { MatchResult result
+        (λ _. first_of (head_refusals message.now ++ role_refusals role message.now) ≡ None)
+        (λ code. first_of (head_refusals message.now ++ role_refusals role message.now) ≡ Some code) }
+    ensures head { OnOk result (HasHead message.now) }
+{
+    check_head(message)?;
+    if role == Role::Slave && is_change(message[1]) {
+        return Err(IS_SLAVE);
     }
     Ok(())
 }

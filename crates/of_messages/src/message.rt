@@ -2,8 +2,12 @@
 ghost use Rattle.std.specs.Prelude.{◌≡◌};
 ghost use Rattle.of_messages.specs.Messages.{command_of, is_delete};
 
+use crate::async_masks::AsyncMasks;
+use crate::config::{SwitchConfig, TableMod};
 use crate::group_mod::GroupMod;
+use crate::multipart::MultipartRequest;
 use crate::port_mod::PortMod;
+use crate::role::RoleRequest;
 use of_actions::{ActionList, InstructionList};
 use of_oxm::Match;
 use of_wire::Bytes;
@@ -138,10 +142,18 @@ pub struct FlowRemoved {
 pub enum Message {
     /// HELLO (OpenFlow 1.3.5, 7.5.1).
     Hello,
+    /// ERROR (7.4.4).
+    Error,
     /// ECHO_REQUEST with its data (7.5.2).
     EchoRequest(Bytes),
-    /// BARRIER_REQUEST (7.3.7).
-    BarrierRequest,
+    /// ECHO_REPLY (7.5.3).
+    EchoReply,
+    /// FEATURES_REQUEST (7.3.1).
+    FeaturesRequest,
+    /// GET_CONFIG_REQUEST (7.3.2).
+    GetConfigRequest,
+    /// SET_CONFIG (7.3.2).
+    SetConfig(SwitchConfig),
     /// PACKET_OUT (7.3.6).
     PacketOut(PacketOut),
     /// FLOW_MOD (7.3.4.1).
@@ -150,4 +162,16 @@ pub enum Message {
     GroupMod(GroupMod),
     /// PORT_MOD (7.3.4.3).
     PortMod(PortMod),
+    /// TABLE_MOD (7.3.3).
+    TableMod(TableMod),
+    /// MULTIPART_REQUEST (7.3.5).
+    Multipart(MultipartRequest),
+    /// BARRIER_REQUEST (7.3.7).
+    BarrierRequest,
+    /// ROLE_REQUEST (7.3.9).
+    RoleRequest(RoleRequest),
+    /// GET_ASYNC_REQUEST (7.3.10).
+    GetAsyncRequest,
+    /// SET_ASYNC (7.3.10).
+    SetAsync(AsyncMasks),
 }

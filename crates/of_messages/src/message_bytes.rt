@@ -24,7 +24,8 @@ impl Model for MessageBytes {
 }
 
 impl MessageBytes {
-    pub(crate) fn new(bytes: Bytes) -> MessageBytes
+    /// The message that the bytes are, a header and what it counts.
+    pub fn new(bytes: Bytes) -> MessageBytes
         requires { IsMessage bytes }
         ensures { result ≡ bytes }
     {

@@ -1,10 +1,11 @@
 //! PORT_MOD, and ports as PORT_STATUS tells them (OpenFlow 1.3.5, 7.2.1, 7.3.4.3 and 7.4.3).
-ghost use Rattle.std.specs.Prelude.{◌≡◌, ◌≤◌, length, MatchResult, Ok, Err};
+ghost use Rattle.std.specs.Prelude.{◌≡◌, ◌≤◌, length};
+ghost use Rattle.of_wire.specs.Failures.{Reads};
 ghost use Rattle.of_messages.specs.PortMods.{hw_in, port_mod_of};
 
 use crate::reading::rest_from;
 use byteorder::{BigEndian, ByteOrder};
-use of_wire::Code;
+use of_wire::{Code, ReadError};
 
 const BAD_CONFIG: Code = Code { kind: 7, code: 2 };
 
@@ -60,13 +61,13 @@ fn read_hw(message: &[u8]) -> [u8; 6]
     ]
 }
 
-pub(crate) fn read_port_mod(message: &[u8]) -> Result<PortMod, Code>
+pub(crate) fn read_port_mod(message: &[u8]) -> Result<PortMod, ReadError>
     requires { 40 ≤ length message.now }
-    ensures { MatchResult result (λ m. port_mod_of message.now ≡ Ok m) (λ code. port_mod_of message.now ≡ Err code) }
+    ensures { Reads result (port_mod_of message.now) }
 {
     let mask = BigEndian::read_u32(rest_from(message, 28));
     if mask & KNOWN_BITS != mask {
-        return Err(BAD_CONFIG);
+        return Err(ReadError::Refused(BAD_CONFIG));
     }
     Ok(PortMod {
         port: BigEndian::read_u32(rest_from(message, 8)),

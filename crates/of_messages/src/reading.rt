@@ -2,17 +2,23 @@
 ghost use Rattle.std.specs.Prelude.{◌≡◌, ◌≤◌, ◌<◌, ◌+◌, length, drop, Some, None, true, false, slice_index, IfOk, MatchResult};
 ghost use Rattle.of_wire.specs.Refusals.{first_of};
 ghost use Rattle.of_wire.specs.Failures.{Reads};
-ghost use Rattle.of_messages.specs.Messages.{message_of, body_of, type_of, is_served, command_of, flow_mod_of, flow_mod_refusals, instructions_for, is_delete, actions_length, is_ingress as may_be_ingress, packet_in_data, packet_out_of};
+ghost use Rattle.of_messages.specs.Heads.{HasHead, actions_length};
+ghost use Rattle.of_messages.specs.Messages.{message_from, message_of, body_of, command_of, flow_mod_of, flow_mod_refusals, instructions_for, is_delete, is_ingress as may_be_ingress, packet_in_data, packet_out_of};
 ghost use Rattle.of_messages.specs.Promised.{IsSoundFlowMod, IsSoundPacket, IsSoundMessage};
 ghost use Rattle.of_actions.specs.InstructionLists.{are_for};
 
+use crate::async_masks::read_async_masks;
+use crate::config::{read_set_config, read_table_mod};
 use crate::group_mod::read_group_mod;
 use crate::head::{
-    BARRIER_REQUEST, ECHO_REQUEST, GROUP_MOD, HELLO, PACKET_OUT, PORT_MOD, actions_length_in,
-    check_head,
+    BAD_TYPE, BARRIER_REQUEST, ECHO_REPLY, ECHO_REQUEST, ERROR, FEATURES_REQUEST, FLOW_MOD,
+    GET_ASYNC_REQUEST, GET_CONFIG_REQUEST, GROUP_MOD, HELLO, MULTIPART_REQUEST, PACKET_OUT,
+    PORT_MOD, ROLE_REQUEST, SET_ASYNC, SET_CONFIG, TABLE_MOD, actions_length_in, check_sender,
 };
 use crate::message::{FlowMod, FlowModCommand, Message, PacketData, PacketOut};
+use crate::multipart::read_multipart;
 use crate::port_mod::read_port_mod;
+use crate::role::{Role, read_role_request};
 use byteorder::{BigEndian, ByteOrder};
 use of_actions::{
     InstructionList, PORT_CONTROLLER, check_flow, is_number, read_actions, read_instructions,
@@ -163,49 +169,66 @@ fn read_packet_out(alloc: Global, message: &[u8]) -> Result<PacketOut, ReadError
 }
 
 // A message whose head is not refused.
+#[tactic(auto, unfolding(crate::specs::Messages::body_of, crate::specs::Heads::size_of))]
 fn read_body(alloc: Global, message: &[u8]) -> Result<Message, ReadError>
-    requires size { 8 ≤ length message.now }
-    requires most { length message.now ≤ 65535 }
-    requires flow_mod { type_of message.now ≡ 14 → 48 ≤ length message.now }
-    requires packet_out { type_of message.now ≡ 13 → 24 + actions_length message.now ≤ length message.now }
-    requires group_mod { type_of message.now ≡ 15 → 16 ≤ length message.now }
-    requires port_mod { type_of message.now ≡ 16 → 40 ≤ length message.now }
-    requires served { is_served (type_of message.now) ≡ true }
+    requires { HasHead message.now }
     ensures reads { Reads result (body_of message.now) }
     ensures sound { IfOk result IsSoundMessage }
 {
-    match message[1] {
-        HELLO => Ok(Message::Hello),
-        ECHO_REQUEST => Ok(Message::EchoRequest(Bytes::from_slice(alloc, rest_from(message, 8))?)),
-        BARRIER_REQUEST => Ok(Message::BarrierRequest),
-        PACKET_OUT => Ok(Message::PacketOut(read_packet_out(alloc, message)?)),
-        GROUP_MOD => Ok(Message::GroupMod(read_group_mod(alloc, message)?)),
-        PORT_MOD => match read_port_mod(message) {
-            Ok(port_mod) => Ok(Message::PortMod(port_mod)),
-            Err(code) => Err(ReadError::Refused(code)),
-        },
-        _ => Ok(Message::FlowMod(read_flow_mod(alloc, message)?)),
-    }
+    Ok(match message[1] {
+        HELLO => Message::Hello,
+        ERROR => Message::Error,
+        ECHO_REQUEST => Message::EchoRequest(Bytes::from_slice(alloc, rest_from(message, 8))?),
+        ECHO_REPLY => Message::EchoReply,
+        FEATURES_REQUEST => Message::FeaturesRequest,
+        GET_CONFIG_REQUEST => Message::GetConfigRequest,
+        SET_CONFIG => Message::SetConfig(read_set_config(message)?),
+        PACKET_OUT => Message::PacketOut(read_packet_out(alloc, message)?),
+        FLOW_MOD => Message::FlowMod(read_flow_mod(alloc, message)?),
+        GROUP_MOD => Message::GroupMod(read_group_mod(alloc, message)?),
+        PORT_MOD => Message::PortMod(read_port_mod(message)?),
+        TABLE_MOD => Message::TableMod(read_table_mod(message)?),
+        MULTIPART_REQUEST => Message::Multipart(read_multipart(alloc, message)?),
+        BARRIER_REQUEST => Message::BarrierRequest,
+        ROLE_REQUEST => Message::RoleRequest(read_role_request(message)?),
+        GET_ASYNC_REQUEST => Message::GetAsyncRequest,
+        SET_ASYNC => Message::SetAsync(read_async_masks(message)),
+        _ => return Err(ReadError::Refused(BAD_TYPE)),
+    })
 }
 
-/// The message that the bytes spell, all of them.
+/// The message that the bytes spell, all of them, and that a controller of that role may send.
 ///
-/// Other bytes are refused with one code, by the first that applies: what `check_head` looks at; of a FLOW_MOD, a command
-/// above 4 (5/6), a table above 15 (5/2; but a DELETE command may name 255, all tables) and flags above 31 (5/7), its
-/// match, and, for ADD and the MODIFY commands, its instructions with their actions, and a field that is set without its
-/// prerequisites in the match (2/10). A DELETE command has no instructions: what stands behind its match is not looked
-/// at. Of a PACKET_OUT: an ingress port that is neither 1 to OFPP_MAX nor OFPP_CONTROLLER (1/11), its actions, and,
+/// Other bytes are refused with one code, by the first that applies: what `check_head` looks at; a PACKET_OUT, FLOW_MOD,
+/// GROUP_MOD, PORT_MOD or TABLE_MOD of a slave (1/10); and then by the message.
+///
+/// Of a FLOW_MOD: a command above 4 (5/6), a table above 15 (5/2; but a DELETE command may name 255, all tables) and flags
+/// above 31 (5/7), its match, and, for ADD and the MODIFY commands, its instructions with their actions, and a field that is
+/// set without its prerequisites in the match (2/10). A DELETE command has no instructions: what stands behind its match is
+/// not looked at. Of a PACKET_OUT: an ingress port that is neither 1 to OFPP_MAX nor OFPP_CONTROLLER (1/11), its actions, and,
 /// where it names no buffer, a frame below 14 or above 9,216 bytes (1/12). Of a GROUP_MOD: a command above 2 (6/11); a number
 /// above OFPG_MAX (6/1; a DELETE may name OFPG_ALL, and nothing else of it is looked at); a type that is not ALL, INDIRECT or
 /// FAST-FAILOVER (6/10); bucket by bucket, the 17th (6/4), a length below 16, not a multiple of 8 or past the end (6/12), and
-/// its actions. Of a PORT_MOD: a mask with a bit outside of PORT_DOWN, NO_RECV, NO_FWD and NO_PACKET_IN (7/2).
-#[tactic(auto, unfolding(crate::specs::Messages::message_of))]
+/// its actions. Of a PORT_MOD: a mask with a bit outside of PORT_DOWN, NO_RECV, NO_FWD and NO_PACKET_IN (7/2). Of a TABLE_MOD:
+/// a table that is neither 0 to 15 nor 255 (8/0). Of a SET_CONFIG: flags other than 0 (10/0). Of a ROLE_REQUEST: a role above
+/// 3 (11/2). Of a MULTIPART_REQUEST: a type that is not served (1/2), the flag for more parts (1/13), a length that is not
+/// that of its type (1/6; 24 for PORT_STATS and GROUP, 56 at least for FLOW and AGGREGATE, and 16 for the others), a table
+/// that is neither 0 to 15 nor 255 (1/9), and its match, behind which nothing is looked at.
+#[tactic(auto, unfolding(crate::specs::Messages::message_from))]
+pub fn read_message_as(alloc: Global, role: Role, message: &[u8]) -> Result<Message, ReadError>
+    ensures reads { Reads result (message_from role message.now) }
+    ensures sound { IfOk result IsSoundMessage }
+{
+    match check_sender(role, message) {
+        Ok(()) => read_body(alloc, message),
+        Err(code) => Err(ReadError::Refused(code)),
+    }
+}
+
+/// The message that the bytes spell, all of them, whoever sends it: `read_message_as` of a controller whose role is equal.
 pub fn read_message(alloc: Global, message: &[u8]) -> Result<Message, ReadError>
     ensures reads { Reads result (message_of message.now) }
     ensures sound { IfOk result IsSoundMessage }
 {
-    match check_head(message) {
-        Ok(()) => read_body(alloc, message),
-        Err(code) => Err(ReadError::Refused(code)),
-    }
+    read_message_as(alloc, Role::Equal, message)
 }

@@ -1,0 +1,75 @@
+//! Which messages of the switch a controller is sent (OpenFlow 1.3.5, 7.3.10).
+ghost use Rattle.std.specs.Prelude.{◌≡◌, ◌≤◌, ◌++◌, length, IfOk, OnOk};
+ghost use Rattle.of_messages.specs.AsyncConfigs.{async_masks_of, role_masks_at};
+ghost use Rattle.of_messages.specs.Written.{async_reply_bytes, role_masks_bytes};
+
+use crate::message_bytes::MessageBytes;
+use crate::reading::rest_from;
+use crate::writing::{put_header, put_u32};
+use byteorder::{BigEndian, ByteOrder};
+use of_wire::Bytes;
+use std::alloc::{AllocError, Global};
+
+/// The size of a GET_ASYNC_REPLY.
+const SIZE: usize = 32;
+
+/// The reasons for which a kind of message is sent, each a bit.
+#[derive(Clone, Copy, Debug, PartialEq, Eq)]
+pub struct RoleMasks {
+    /// To a controller that is master or equal.
+    pub master: u32,
+    /// To a slave.
+    pub slave: u32,
+}
+
+/// The reasons for which a controller is sent what it did not ask for.
+#[derive(Clone, Copy, Debug, PartialEq, Eq)]
+pub struct AsyncMasks {
+    pub packet_in: RoleMasks,
+    pub port_status: RoleMasks,
+    pub flow_removed: RoleMasks,
+}
+
+fn read_role_masks(bytes: &[u8]) -> RoleMasks
+    requires { 8 ≤ length bytes.now }
+    ensures { result ≡ role_masks_at bytes.now }
+{
+    RoleMasks {
+        master: BigEndian::read_u32(bytes),
+        slave: BigEndian::read_u32(rest_from(bytes, 4)),
+    }
+}
+
+pub(crate) fn read_async_masks(message: &[u8]) -> AsyncMasks
+    requires { 32 ≤ length message.now }
+    ensures { result ≡ async_masks_of message.now }
+{
+    AsyncMasks {
+        packet_in: read_role_masks(rest_from(message, 8)),
+        port_status: read_role_masks(rest_from(message, 16)),
+        flow_removed: read_role_masks(rest_from(message, 24)),
+    }
+}
+
+fn put_role_masks(out: &mut Vec<u8>, masks: RoleMasks) -> Result<(), AllocError>
+    ensures { OnOk result (out.new.items ≡ out.old.items ++ role_masks_bytes masks) }
+{
+    put_u32(out, masks.master)?;
+    put_u32(out, masks.slave)
+}
+
+/// A GET_ASYNC_REPLY (OpenFlow 1.3.5, 7.3.10).
+pub fn write_async_reply(
+    alloc: Global,
+    xid: u32,
+    masks: AsyncMasks,
+) -> Result<MessageBytes, AllocError>
+    ensures { IfOk result (λ bytes. bytes ≡ async_reply_bytes xid masks) }
+{
+    let mut out = Vec::with_capacity(alloc, SIZE)?;
+    put_header(&mut out, 27, SIZE, xid)?;
+    put_role_masks(&mut out, masks.packet_in)?;
+    put_role_masks(&mut out, masks.port_status)?;
+    put_role_masks(&mut out, masks.flow_removed)?;
+    Ok(MessageBytes::new(Bytes::new(out)))
+}
