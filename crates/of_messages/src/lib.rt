@@ -16,7 +16,7 @@ mod writing;
 
 pub use flow_mod_writing::write_flow_mod;
 pub use group_mod::{GroupMod, NewGroup};
-pub use group_mod_writing::write_group_mod;
+pub use group_mod_writing::{write_buckets, write_group_mod};
 pub use head::check_head;
 pub use laws::header_tells_length;
 pub use message::{
@@ -25,7 +25,7 @@ pub use message::{
 };
 pub use message_bytes::MessageBytes;
 pub use port_mod::{PortDescription, PortMod, PortStatusReason};
-pub use port_status::write_port_status;
+pub use port_status::{put_port, write_port_status};
 pub use reading::read_message;
 pub use writing::{
     write_barrier_reply, write_echo_reply, write_error, write_flow_removed, write_hello,

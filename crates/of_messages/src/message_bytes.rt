@@ -24,7 +24,8 @@ impl Model for MessageBytes {
 }
 
 impl MessageBytes {
-    pub(crate) fn new(bytes: Bytes) -> MessageBytes
+    /// The message that these bytes are.
+    pub fn new(bytes: Bytes) -> MessageBytes
         requires { IsMessage bytes }
         ensures { result ≡ bytes }
     {
