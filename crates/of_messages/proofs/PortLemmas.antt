@@ -11,6 +11,9 @@ pub length_bits : (p : PortDescription) → length (port_bits p) ≡ 32
 unfolding port_bits
 length_bits p = refl
 
+pub length_port : (p : PortDescription) → length (port_names p) ≡ 32 → length (port_bytes p) ≡ 64
+length_port p names = omega (arith, names, length_bits p, length-append (port_names p) (port_bits p))
+
 pub length_body : (reason : PortStatusReason) (p : PortDescription) → length (port_names p) ≡ 32 → length ((status_number reason ∷ replicate 7 0) ++ port_bytes p) ≡ 72
 length_body reason p names = omega (arith, names, length_bits p, length-append (port_names p) (port_bits p))
 

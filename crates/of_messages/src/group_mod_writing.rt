@@ -48,9 +48,10 @@ fn put_buckets(out: &mut Vec<u8>, alloc: Global, buckets: &[Bucket]) -> Result<(
     Ok(())
 }
 
-// The bytes of buckets, 24,832 at most.
+/// The bytes of buckets (OpenFlow 1.3.5, 7.3.4.2), in the one spelling that is written: 24,832 at most. What is counted in
+/// them is not part of it.
 #[tactic(auto, using(crate::proofs::BucketsWritten::buckets_short))]
-fn write_buckets(alloc: Global, buckets: &Buckets) -> Result<Vec<u8>, AllocError>
+pub fn write_buckets(alloc: Global, buckets: &Buckets) -> Result<Vec<u8>, AllocError>
     ensures canonical { IfOk result (λ v. v.items ≡ canonical_buckets buckets.now) }
     ensures short { IfOk result (λ v. length v.items ≤ 24832) }
     ensures numbers { OnOk result (list_all has_numbers buckets.now ≡ true) }

@@ -25,7 +25,7 @@ pub use config::{SwitchConfig, TableMod, write_config_reply};
 pub use features::write_features_reply;
 pub use flow_mod_writing::write_flow_mod;
 pub use group_mod::{GroupMod, NewGroup};
-pub use group_mod_writing::write_group_mod;
+pub use group_mod_writing::{write_buckets, write_group_mod};
 pub use head::check_head;
 pub use hello::agreed_version;
 pub use laws::header_tells_length;
@@ -36,7 +36,7 @@ pub use message::{
 pub use message_bytes::MessageBytes;
 pub use multipart::{FlowStatsRequest, MultipartRequest};
 pub use port_mod::{PortDescription, PortMod, PortStatusReason};
-pub use port_status::write_port_status;
+pub use port_status::{put_port, write_port_status};
 pub use reading::{read_message, read_message_as};
 pub use role::{Role, RoleRequest, write_role_reply};
 pub use writing::{

@@ -24,7 +24,7 @@ impl Model for MessageBytes {
 }
 
 impl MessageBytes {
-    /// The message that the bytes are, a header and what it counts.
+    /// The message that these bytes are.
     pub fn new(bytes: Bytes) -> MessageBytes
         requires { IsMessage bytes }
         ensures { result ≡ bytes }

@@ -1,6 +1,6 @@
 //! PORT_STATUS, as the switch sends it (OpenFlow 1.3.5, 7.4.3).
 ghost use Rattle.std.specs.Prelude.{◌≡◌, ◌++◌, length, OnOk, IfOk};
-ghost use Rattle.of_messages.specs.Written.{port_bits, port_names, port_status_bytes, status_number};
+ghost use Rattle.of_messages.specs.Written.{port_bits, port_bytes, port_names, port_status_bytes, status_number};
 
 use crate::message_bytes::MessageBytes;
 use crate::port_mod::{PortDescription, PortStatusReason};
@@ -41,6 +41,16 @@ fn put_bits(out: &mut Vec<u8>, port: &PortDescription) -> Result<(), AllocError>
     put_u32(out, port.config)?;
     put_u32(out, port.state)?;
     out.extend_from_slice(&[0; 24])
+}
+
+/// Puts the 64 bytes of a port last (OpenFlow 1.3.5, 7.2.1).
+#[tactic(auto, using(crate::proofs::PortLemmas::length_port))]
+pub fn put_port(out: &mut Vec<u8>, port: &PortDescription) -> Result<(), AllocError>
+    ensures text { OnOk result (out.new.items ≡ out.old.items ++ port_bytes port.now) }
+    ensures size { OnOk result (length (port_bytes port.now) ≡ 64) }
+{
+    put_names(out, port)?;
+    put_bits(out, port)
 }
 
 /// The PORT_STATUS of a port (OpenFlow 1.3.5, 7.4.3).

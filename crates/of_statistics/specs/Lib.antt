@@ -1,0 +1,6 @@
+pub mod Replies
+pub mod Durations
+pub mod Descriptions
+pub mod Flows
+pub mod Ports
+pub mod Groups

