@@ -3,7 +3,9 @@ use Rattle.std.proofs.Common.{◌≡◌, ℕ, ◌≤◌, Bool, true, false, cond
 use Rattle.std.proofs.lemmas.List.{take-append-drop, take-append-le, length-take}
 use Rattle.of_wire.specs.declared.code.Code.{Code}
 use Rattle.of_messages.specs.declared.message.Message.{Message}
-use Rattle.of_messages.specs.Messages.{xid_of, message_of}
+use Rattle.of_messages.specs.declared.role.Role.{Role}
+use Rattle.of_messages.specs.Heads.{xid_of}
+use Rattle.of_messages.specs.Messages.{message_from}
 use Rattle.of_session.specs.declared.session.Phase.{Phase}
 use Rattle.of_session.specs.declared.session.Phase.TheVariants.{Disconnected, Greeting, Open}
 use Rattle.of_session.specs.declared.session.Next.{Next}
@@ -30,24 +32,24 @@ read_by : (m bytes : List ℕ) (r : Result Message Code) → 8 ≤ length m → 
 read_by m bytes (Ok message) low high = (low, high)
 read_by m bytes (Err code) low high = (low, high)
 
-judged_sized : (phase : Phase) (m bytes : List ℕ) → 8 ≤ length m → length m ≤ length bytes → IsSizedIn (judged phase m) bytes
-judged_sized Disconnected m bytes low high = greeted_by m bytes (is_first_hello m) low high
-judged_sized Greeting m bytes low high = greeted_by m bytes (is_first_hello m) low high
-judged_sized Open m bytes low high = read_by m bytes (message_of m) low high
+judged_sized : (role : Role) (phase : Phase) (m bytes : List ℕ) → 8 ≤ length m → length m ≤ length bytes → IsSizedIn (judged role phase m) bytes
+judged_sized role Disconnected m bytes low high = greeted_by m bytes (is_first_hello m) low high
+judged_sized role Greeting m bytes low high = greeted_by m bytes (is_first_hello m) low high
+judged_sized role Open m bytes low high = read_by m bytes (message_from role m) low high
 
-by_front : (c : Connection) (f : First) → Looks c.pending f → IsSizedIn (next_by c f) c.pending
-by_front c Partial look = tt
-by_front c Bad look = look.0
-by_front c (Whole m rest) look =
+by_front : (role : Role) (c : Connection) (f : First) → Looks c.pending f → IsSizedIn (next_by role c f) c.pending
+by_front role c Partial look = tt
+by_front role c Bad look = look.0
+by_front role c (Whole m rest) look =
     let size : length m ≡ length_of c.pending = rw look.2 (omega (arith, length-take (length_of c.pending) c.pending, look.1)) in
-    judged_sized c.phase m c.pending (omega (arith, size, look.0)) (omega (arith, size, look.1))
+    judged_sized role c.phase m c.pending (omega (arith, size, look.0)) (omega (arith, size, look.1))
 
-by_phase : (c : Connection) (t : Bool) → IsSizedIn (cond t Nothing (next_by c (front_of c.pending))) c.pending
-by_phase c true = tt
-by_phase c false = by_front c (front_of c.pending) (looks c.pending)
+by_phase : (role : Role) (c : Connection) (t : Bool) → IsSizedIn (cond t Nothing (next_by role c (front_of c.pending))) c.pending
+by_phase role c true = tt
+by_phase role c false = by_front role c (front_of c.pending) (looks c.pending)
 
-pub next_sized : (c : Connection) → IsSizedIn (next_of c) c.pending
-next_sized c = by_phase c (is_disconnected c.phase)
+pub next_sized : (role : Role) (c : Connection) → IsSizedIn (next_of role c) c.pending
+next_sized role c = by_phase role c (is_disconnected c.phase)
 
 -- something comes next
 abbrev pub IsSomething : Next → Type 0
@@ -58,22 +60,22 @@ IsSomething (Opened size) = Unit {0}
 IsSomething (Read xid size message) = Unit {0}
 IsSomething (Refused xid size code) = Unit {0}
 
-front_more : (c : Connection) (q : List ℕ) (f : First) → Looks c.pending f → IsSomething (next_by c f) → next_by (fed q c) (front_of (c.pending ++ q)) ≡ next_by c f
-front_more c q Partial look some = absurd some
-front_more c q Bad look some =
+front_more : (role : Role) (c : Connection) (q : List ℕ) (f : First) → Looks c.pending f → IsSomething (next_by role c f) → next_by role (fed q c) (front_of (c.pending ++ q)) ≡ next_by role c f
+front_more role c q Partial look some = absurd some
+front_more role c q Bad look some =
     let bad : front_of (c.pending ++ q) ≡ Bad = malformed_front (c.pending ++ q) (record { header = omega (arith, length-append c.pending q, look.0); short = rw (length_of-append c.pending q look.0) look.1 }) in
     let front : take 8 (c.pending ++ q) ≡ take 8 c.pending = take-append-le 8 c.pending q look.0 in
-    ap (next_by (fed q c)) bad ∙ ap (λ (h : List ℕ). BadStream (xid_of h)) front
-front_more c q (Whole m rest) look some =
+    ap (next_by role (fed q c)) bad ∙ ap (λ (h : List ℕ). BadStream (xid_of h)) front
+front_more role c q (Whole m rest) look some =
     let is : IsMessage m = rw look.2 (front_message c.pending look.0 look.1) in
     let joined : m ++ rest ≡ c.pending = rw (look.2, look.3) (take-append-drop (length_of c.pending) c.pending) in
     let all : c.pending ++ q ≡ m ++ (rest ++ q) = ap (λ (x : List ℕ). x ++ q) (sym joined) ∙ append_assoc m rest q in
-    ap (λ (f : First). next_by (fed q c) f) (ap front_of all ∙ message_front m (rest ++ q) is)
+    ap (λ (f : First). next_by role (fed q c) f) (ap front_of all ∙ message_front m (rest ++ q) is)
 
-more_by : (c : Connection) (q : List ℕ) (t : Bool) → IsSomething (cond t Nothing (next_by c (front_of c.pending))) → cond t Nothing (next_by (fed q c) (front_of (c.pending ++ q))) ≡ cond t Nothing (next_by c (front_of c.pending))
-more_by c q true some = absurd some
-more_by c q false some = front_more c q (front_of c.pending) (looks c.pending) some
+more_by : (role : Role) (c : Connection) (q : List ℕ) (t : Bool) → IsSomething (cond t Nothing (next_by role c (front_of c.pending))) → cond t Nothing (next_by role (fed q c) (front_of (c.pending ++ q))) ≡ cond t Nothing (next_by role c (front_of c.pending))
+more_by role c q true some = absurd some
+more_by role c q false some = front_more role c q (front_of c.pending) (looks c.pending) some
 
 -- more bytes change nothing of what comes next
-pub next_more : (c : Connection) (q : List ℕ) → IsSomething (next_of c) → next_of (fed q c) ≡ next_of c
-next_more c q some = more_by c q (is_disconnected c.phase) some
+pub next_more : (role : Role) (c : Connection) (q : List ℕ) → IsSomething (next_of role c) → next_of role (fed q c) ≡ next_of role c
+next_more role c q some = more_by role c q (is_disconnected c.phase) some

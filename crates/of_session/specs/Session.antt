@@ -1,8 +1,11 @@
 -- A controller's connection (OpenFlow 1.3.5, 6.3.1): where it stands, and what comes next.
-use Rattle.std.specs.Prelude.{◌≡◌, ℕ, ◌==◌, ◌&&◌, Bool, true, false, ◌≤◌, List, [], ◌++◌, length, take, drop, slice_index, Result, Ok, Err, if◌then◌else◌}
+use Rattle.std.specs.Prelude.{◌≡◌, ℕ, ◌==◌, ◌&&◌, Bool, true, false, ◌≤◌, List, [], ◌++◌, length, take, drop, Result, Ok, Err, if◌then◌else◌}
 use Rattle.of_wire.specs.declared.code.Code.{Code}
 use Rattle.of_messages.specs.declared.message.Message.{Message}
-use Rattle.of_messages.specs.Messages.{xid_of, message_of}
+use Rattle.of_messages.specs.declared.role.Role.{Role}
+use Rattle.of_messages.specs.Heads.{hello, type_of, xid_of}
+use Rattle.of_messages.specs.Hellos.{version_by}
+use Rattle.of_messages.specs.Messages.{message_from}
 use Rattle.of_messages.specs.Promised.{IsSoundMessage}
 use Rattle.of_session.specs.declared.session.Phase.{Phase}
 use Rattle.of_session.specs.declared.session.Phase.TheVariants.{Disconnected, Greeting, Open}
@@ -31,9 +34,9 @@ greeting = record { phase = Greeting; pending = [] }
 abbrev pub fed : List ℕ → Connection → Connection
 fed piece c = record c { pending = c.pending ++ piece }
 
--- for now a first message is accepted that is a HELLO of version 4 with no elements
+-- a first message is accepted that is a HELLO by which version 4 is agreed to
 abbrev pub is_first_hello : List ℕ → Bool
-is_first_hello m = slice_index m 0 == 4 && slice_index m 1 == 0 && length m == 8
+is_first_hello m = type_of m == hello && version_by m == 4
 
 abbrev pub greeted : List ℕ → Next
 greeted m = if is_first_hello m then Opened (length m) else NotHello (xid_of m)
@@ -43,19 +46,19 @@ abbrev pub read_as : List ℕ → Result Message Code → Next
 read_as m (Ok message) = Read (xid_of m) (length m) message
 read_as m (Err code) = Refused (xid_of m) (length m) code
 
-abbrev pub judged : Phase → List ℕ → Next
-judged Disconnected m = greeted m
-judged Greeting m = greeted m
-judged Open m = read_as m (message_of m)
+abbrev pub judged : Role → Phase → List ℕ → Next
+judged role Disconnected m = greeted m
+judged role Greeting m = greeted m
+judged role Open m = read_as m (message_from role m)
 
-abbrev pub next_by : Connection → First → Next
-next_by c Partial = Nothing
-next_by c Bad = BadStream (xid_of (take 8 c.pending))
-next_by c (Whole m rest) = judged c.phase m
+abbrev pub next_by : Role → Connection → First → Next
+next_by role c Partial = Nothing
+next_by role c Bad = BadStream (xid_of (take 8 c.pending))
+next_by role c (Whole m rest) = judged role c.phase m
 
--- WHAT COMES NEXT: the first whole message, or a malformed header, or neither; without a connection nothing does
-abbrev pub next_of : Connection → Next
-next_of c = if is_disconnected c.phase then Nothing else next_by c (front_of c.pending)
+-- WHAT COMES NEXT of a controller of that role: the first whole message, or a malformed header, or neither; without a connection nothing does
+abbrev pub next_of : Role → Connection → Next
+next_of role c = if is_disconnected c.phase then Nothing else next_by role c (front_of c.pending)
 
 -- without its first message
 abbrev pub taken : ℕ → Connection → Connection

@@ -1,14 +1,18 @@
 //! A controller's connection: its stream, and which messages of it are handled.
 ghost use Rattle.std.specs.Prelude.{◌≡◌, ◌++◌, ◌≤◌, length, take, [], OnOk, OnErr, IfOk};
-ghost use Rattle.of_messages.specs.Messages.{xid_of};
+ghost use Rattle.of_messages.specs.Heads.{xid_of};
+ghost use Rattle.of_messages.specs.declared.role.Role.{Role as ARole};
 ghost use Rattle.of_session.specs.Session.{next_of, fed, is_first_hello, judged, greeted as greeting_of, entered, IsWithin, IsSound, IsSized};
 
 use crate::stream::{Front, HEADER, Stream};
 use byteorder::{BigEndian, ByteOrder};
-use of_messages::{Message, read_message};
+use of_messages::{Message, Role, agreed_version, read_message_as};
 use of_wire::{Code, ReadError};
 use std::alloc::{AllocError, Global};
 use std::marker::Model;
+
+/// The type of a HELLO (OpenFlow 1.3.5, 7.5.1).
+const HELLO: u8 = 0;
 
 /// Where a connection stands (OpenFlow 1.3.5, 6.3.1).
 #[derive(Clone, Copy, Debug, PartialEq, Eq)]
@@ -30,7 +34,7 @@ pub enum Next {
     BadStream {
         xid: u32,
     },
-    /// A first message that is no HELLO of version 4: the connection is to be closed.
+    /// A first message that is no HELLO by which version 4 is agreed to: the connection is to be closed.
     NotHello {
         xid: u32,
     },
@@ -113,9 +117,9 @@ impl Session {
         self.stream.feed(piece)
     }
 
-    /// What comes next. It is the same until it is `taken`.
-    pub fn next(&self) -> Result<Next, AllocError>
-        ensures next { IfOk result (λ next. next ≡ next_of self.now) }
+    /// What comes next of a controller of that role. It is the same until it is `taken`.
+    pub fn next(&self, role: Role) -> Result<Next, AllocError>
+        ensures next { IfOk result (λ next. next ≡ next_of role self.now) }
         ensures there { IfOk result (λ next. IsWithin next self.now) }
         ensures sound { IfOk result IsSound }
     {
@@ -127,7 +131,7 @@ impl Session {
             Front::Malformed => Ok(Next::BadStream {
                 xid: xid_at(self.stream.first(HEADER)),
             }),
-            Front::Message(size) => judge(self.alloc, self.phase, self.stream.first(size)),
+            Front::Message(size) => judge(self.alloc, role, self.phase, self.stream.first(size)),
         }
     }
 
@@ -141,7 +145,7 @@ impl Session {
 
     /// What `next` gives was handled: a message is taken, a HELLO opens the connection, and a fault ends it.
     pub fn taken(&mut self)
-        ensures { self.new ≡ entered (next_of self.old) self.old }
+        ensures { (role : ARole) → self.new ≡ entered (next_of role self.old) self.old }
     {
         if self.phase == Phase::Disconnected {
             return;
@@ -177,18 +181,18 @@ fn xid_at(message: &[u8]) -> u32
     BigEndian::read_u32(rest)
 }
 
-// Whether a first message is the HELLO that is accepted: of version 4, with no elements.
+// Whether a first message is a HELLO by which version 4 is agreed to.
 fn is_accepted(message: &[u8]) -> bool
     requires { 8 ≤ length message.now }
     ensures { result ≡ is_first_hello message.now }
 {
-    message[0] == 4 && message[1] == 0 && message.len() == 8
+    message[1] == HELLO && agreed_version(message) == 4
 }
 
 // What a whole message is to a connection that stands there.
-fn judge(alloc: Global, phase: Phase, message: &[u8]) -> Result<Next, AllocError>
+fn judge(alloc: Global, role: Role, phase: Phase, message: &[u8]) -> Result<Next, AllocError>
     requires { 8 ≤ length message.now }
-    ensures next { IfOk result (λ next. next ≡ judged phase message.now) }
+    ensures next { IfOk result (λ next. next ≡ judged role phase message.now) }
     ensures size { IfOk result (λ next. IsSized next (length message.now)) }
     ensures sound { IfOk result IsSound }
 {
@@ -197,7 +201,7 @@ fn judge(alloc: Global, phase: Phase, message: &[u8]) -> Result<Next, AllocError
         return Ok(greet(message));
     }
     let xid = xid_at(message);
-    match read_message(alloc, message) {
+    match read_message_as(alloc, role, message) {
         Ok(message) => Ok(Next::Read { xid, size, message }),
         Err(ReadError::Memory) => Err(AllocError),
         Err(ReadError::Refused(code)) => Ok(Next::Refused { xid, size, code }),

@@ -4,11 +4,10 @@ use Rattle.std.proofs.lemmas.List.{append-nil}
 use Rattle.std.proofs.lemmas.Option.{same_Some}
 use Rattle.of_session.specs.declared.session.Next.{Next}
 use Rattle.of_session.specs.declared.session.Next.TheVariants.{Nothing, BadStream, NotHello, Opened, Read, Refused}
-use Rattle.of_session.specs.Session.{next_of as next_in}
 use Rattle.of_session.proofs.Nexts.{IsSizedIn, next_sized}
 use Rattle.of_switch.specs.declared.effect.Effect.{Effect}
 use Rattle.of_switch.specs.State.{State}
-use Rattle.of_switch.specs.Steps.{Outcome, gives, next_by, next_of}
+use Rattle.of_switch.specs.Steps.{Outcome, gives, coming, next_by, next_of}
 use Rattle.of_switch.specs.Runs.{behind, then_more, drain, drained}
 
 -- as many bytes as an outcome leaves
@@ -36,7 +35,7 @@ shorter_by (Read xid size m) s o sized h = taken_short size s o _ (same_Some _ _
 
 -- a message takes some bytes
 pub next_shorter : (s : State) (o : Outcome) → next_of s ≡ Some o → length o.state.connection.pending < length s.connection.pending
-next_shorter s o h = shorter_by (next_in s.connection) s o (next_sized s.connection) h
+next_shorter s o h = shorter_by (coming s) s o (next_sized s.core.control.role s.connection) h
 
 -- what is left is drained with enough turns, after these effects
 pub record Left (first s : State) (effects : List Effect) : Type 0 where

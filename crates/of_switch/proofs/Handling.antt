@@ -6,11 +6,11 @@ use Rattle.of_messages.specs.declared.message.Message.{Message}
 use Rattle.of_messages.specs.Written.{error_bytes}
 use Rattle.of_session.specs.declared.session.Next.{Next}
 use Rattle.of_session.specs.declared.session.Next.TheVariants.{Nothing, BadStream, NotHello, Opened, Read, Refused}
-use Rattle.of_session.specs.Session.{taken, next_of as next_in}
+use Rattle.of_session.specs.Session.{taken}
 use Rattle.of_switch.specs.declared.effect.Effect.{Effect}
 use Rattle.of_switch.specs.declared.effect.Effect.TheVariants.{Answer}
 use Rattle.of_switch.specs.State.{Core, State}
-use Rattle.of_switch.specs.Steps.{does, done, state_refusals, refused, unless_refused, handled, gives, failed_of, next_by, IsRefusedWith}
+use Rattle.of_switch.specs.Steps.{does, done, state_refusals, refused, unless_refused, handled, gives, failed_of, coming, next_by, IsRefusedWith}
 
 handled_by : (xid : ℕ) (m : Message) (failed : List ℕ) (k : Core) (o : Option Code) → first_of (state_refusals m k) ≡ o → handled xid m failed k ≡ unless_refused o xid failed k (done xid m k)
 unfolding handled
@@ -34,8 +34,8 @@ refused_by (Opened n) s xid size code h = absurd h
 refused_by (Refused x n c) s xid size code h = rw (h.0, h.1, h.2) refl
 refused_by (Read x n m) s xid size code h = rw (h.0, h.1, handled_refused xid m (failed_of size s.connection) s.core code h.2) refl
 
-pub refused_alone : (s : State) (xid size : ℕ) (code : Code) → IsRefusedWith (next_in s.connection) s.core xid size code → Answers (next_in s.connection) s xid size code
-refused_alone s xid size code h = refused_by (next_in s.connection) s xid size code h
+pub refused_alone : (s : State) (xid size : ℕ) (code : Code) → IsRefusedWith (coming s) s.core xid size code → Answers (coming s) s xid size code
+refused_alone s xid size code h = refused_by (coming s) s xid size code h
 
 -- an ERROR was made of the refusal
 pub handled_answered : (xid : ℕ) (m : Message) (failed : List ℕ) (k k' : Core) (code : Code) (effects : List Effect) → (first_of (state_refusals m k) ≡ Some code) × (k' ≡ k)

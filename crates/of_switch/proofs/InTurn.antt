@@ -6,15 +6,17 @@ use Rattle.of_session.specs.declared.session.Phase.TheVariants.{Disconnected, Gr
 use Rattle.of_session.specs.declared.session.Next.{Next}
 use Rattle.of_session.specs.declared.session.Next.TheVariants.{Nothing, BadStream, NotHello, Opened, Read, Refused}
 use Rattle.of_session.specs.Stream.{First, Whole, Bad, Partial, front_of, IsMessage, IsMalformed, IsPartial, concat, AreMessages, Splits}
-use Rattle.of_session.specs.Session.{is_disconnected, is_first_hello, read_as, judged, next_by as next_at, next_of as next_in, IsSized}
+use Rattle.of_session.specs.Session.{is_disconnected, is_first_hello, read_as, judged, next_by as next_at, IsSized}
 use Rattle.of_session.proofs.Fronts.{message_front, malformed_front, partial_front}
 use Rattle.of_messages.specs.declared.message.Message.{Message}
-use Rattle.of_messages.specs.Messages.{xid_of, message_of}
+use Rattle.of_messages.specs.declared.role.Role.{Role}
+use Rattle.of_messages.specs.Heads.{xid_of}
+use Rattle.of_messages.specs.Messages.{message_from}
 use Rattle.of_wire.specs.declared.code.Code.{Code}
 use Rattle.std.specs.Prelude.{Result, Ok, Err, unwrap_or}
 use Rattle.of_switch.specs.declared.effect.Effect.{Effect}
 use Rattle.of_switch.specs.State.{State}
-use Rattle.of_switch.specs.Steps.{Outcome, gives, fed, next_by, next_of}
+use Rattle.of_switch.specs.Steps.{Outcome, gives, fed, coming, next_by, next_of}
 use Rattle.of_switch.specs.Runs.{behind, drained, piece_in, come, holding, handled_alone, handled_in_turn}
 use Rattle.of_switch.proofs.Joining.{come_open, come_gone, step_more, drained_more, drained_none, drained_gone}
 
@@ -26,10 +28,10 @@ read_size : (m : List ℕ) (r : Result Message Code) → IsSized (read_as m r) (
 read_size m (Ok message) = refl
 read_size m (Err code) = refl
 
-judged_size : (phase : Phase) (m : List ℕ) → IsSized (judged phase m) (length m)
-judged_size Disconnected m = greeted_size m (is_first_hello m)
-judged_size Greeting m = greeted_size m (is_first_hello m)
-judged_size Open m = read_size m (message_of m)
+judged_size : (role : Role) (phase : Phase) (m : List ℕ) → IsSized (judged role phase m) (length m)
+judged_size role Disconnected m = greeted_size m (is_first_hello m)
+judged_size role Greeting m = greeted_size m (is_first_hello m)
+judged_size role Open m = read_size m (message_from role m)
 
 -- the outcome of a message that came alone, which leaves nothing
 abbrev Alone : Next → State → Type 0
@@ -47,13 +49,13 @@ alone_by (Read xid size message) m s h = (_, refl, nothing_more size m h)
 alone_by (Refused xid size code) m s h = (_, refl, nothing_more size m h)
 
 -- what comes next of bytes that a connection has alone
-next_held : (f : First) (bytes : List ℕ) (s : State) → is_disconnected s.connection.phase ≡ false → front_of bytes ≡ f → next_in (holding bytes s).connection ≡ next_at (holding bytes s).connection f
-next_held f bytes s open_ e = rw open_ (ap (next_at (holding bytes s).connection) e)
+next_held : (f : First) (bytes : List ℕ) (s : State) → is_disconnected s.connection.phase ≡ false → front_of bytes ≡ f → coming (holding bytes s) ≡ next_at s.core.control.role (holding bytes s).connection f
+next_held f bytes s open_ e = rw open_ (ap (next_at s.core.control.role (holding bytes s).connection) e)
 
-alone_message : (m : List ℕ) (s : State) → IsMessage m → is_disconnected s.connection.phase ≡ false → Alone (next_in (holding m s).connection) (holding m s)
+alone_message : (m : List ℕ) (s : State) → IsMessage m → is_disconnected s.connection.phase ≡ false → Alone (coming (holding m s)) (holding m s)
 alone_message m s is open_ =
     let front : front_of m ≡ Whole m [] = ap front_of (sym (append-nil m)) ∙ message_front m [] is in
-    subst (λ (n : Next). Alone n (holding m s)) (sym (next_held (Whole m []) m s open_ front)) (alone_by (judged s.connection.phase m) m s (judged_size s.connection.phase m))
+    subst (λ (n : Next). Alone n (holding m s)) (sym (next_held (Whole m []) m s open_ front)) (alone_by (judged s.core.control.role s.connection.phase m) m s (judged_size s.core.control.role s.connection.phase m))
 
 -- what is left is handled where its header is malformed, or waits
 abbrev Ends : List ℕ → State → Type 0
@@ -69,10 +71,10 @@ ends_none rest s e = drained_none (holding rest s) e ∙ rw e refl
 
 rest_ends : (rest : List ℕ) (s : State) → IsMalformed rest ⊎ IsPartial rest → is_disconnected s.connection.phase ≡ false → Ends rest s
 rest_ends rest s (inl bad) open_ =
-    let next : next_in (holding rest s).connection ≡ BadStream (xid_of (take 8 rest)) = next_held Bad rest s open_ (malformed_front rest bad) in
+    let next : coming (holding rest s) ≡ BadStream (xid_of (take 8 rest)) = next_held Bad rest s open_ (malformed_front rest bad) in
     ends_some rest s _ (ap (λ (n : Next). next_by n (holding rest s)) next) refl
 rest_ends rest s (inr part) open_ =
-    let next : next_in (holding rest s).connection ≡ Nothing = next_held Partial rest s open_ (partial_front rest part) in
+    let next : coming (holding rest s) ≡ Nothing = next_held Partial rest s open_ (partial_front rest part) in
     ends_none rest s (ap (λ (n : Next). next_by n (holding rest s)) next)
 
 -- the messages and the rest, one after the other

@@ -8,11 +8,11 @@ use Rattle.of_session.specs.declared.session.Phase.{Phase}
 use Rattle.of_session.specs.declared.session.Phase.TheVariants.{Open}
 use Rattle.of_session.specs.declared.session.Next.{Next}
 use Rattle.of_session.specs.declared.session.Next.TheVariants.{Nothing, BadStream, NotHello, Opened, Read, Refused}
-use Rattle.of_session.specs.Session.{Connection, is_disconnected, entered, next_of as next_in}
+use Rattle.of_session.specs.Session.{Connection, is_disconnected, entered}
 use Rattle.of_session.proofs.Nexts.{IsSizedIn, next_sized, IsSomething, next_more}
 use Rattle.of_switch.specs.declared.effect.Effect.{Effect}
 use Rattle.of_switch.specs.State.{State}
-use Rattle.of_switch.specs.Steps.{Outcome, Done, does, beside, gives, fed, handled, refused, failed_of, closing, next_by, next_of}
+use Rattle.of_switch.specs.Steps.{Outcome, Done, does, beside, gives, fed, handled, refused, failed_of, closing, coming, next_by, next_of}
 use Rattle.of_switch.specs.Runs.{behind, then_more, drain, drained, piece_in, come}
 use Rattle.of_switch.proofs.Draining.{next_shorter}
 
@@ -74,9 +74,9 @@ something (Refused xid size code) s o h = tt
 -- one message does the same whatever follows it
 pub step_more : (s : State) (q : List ℕ) (o : Outcome) → is_disconnected s.connection.phase ≡ false → next_of s ≡ Some o → next_of (fed q s) ≡ Some (gives o.effects (come q o.state))
 step_more s q o open_ h =
-    let some = something (next_in s.connection) s o h in
-    ap (λ (n : Next). next_by n (fed q s)) (next_more s.connection q some)
-    ∙ more_by (next_in s.connection) s q o open_ (next_sized s.connection) h
+    let some = something (coming s) s o h in
+    ap (λ (n : Next). next_by n (fed q s)) (next_more s.core.control.role s.connection q some)
+    ∙ more_by (coming s) s q o open_ (next_sized s.core.control.role s.connection) h
 
 -- without a connection nothing comes next
 gone_by : (s : State) (t : Bool) → is_disconnected s.connection.phase ≡ t → t ≡ true → next_of s ≡ None

@@ -9,6 +9,8 @@ pub mod Commands
 pub mod PortStatus
 pub mod PortMods
 pub mod GroupMods
+pub mod Roles
+pub mod Statistics
 pub mod Steps
 pub mod Handling
 pub mod Calls

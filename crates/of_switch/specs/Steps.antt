@@ -1,16 +1,20 @@
 -- What each event does to the abstract switch.
-use Rattle.std.specs.Prelude.{◌≡◌, ℕ, max, Bool, List, [], ◌∷◌, take, Option, Some, None, if◌then◌else◌}
+use Rattle.std.specs.Prelude.{◌≡◌, ℕ, max, Bool, List, [], ◌∷◌, map, take, Option, Some, None, if◌then◌else◌}
 use Rattle.of_wire.specs.declared.code.Code.{Code}
 use Rattle.of_wire.specs.Refusals.{refusal, first_of}
 use Rattle.of_messages.specs.declared.message.Message.{Message}
-use Rattle.of_messages.specs.declared.message.Message.TheVariants.{Hello, EchoRequest, BarrierRequest, FlowMod as IsFlowMod, PacketOut as IsPacketOut, GroupMod as IsGroupMod, PortMod as IsPortMod}
+use Rattle.of_messages.specs.declared.message.Message.TheVariants.{Hello, Error, EchoRequest, EchoReply, FeaturesRequest, GetConfigRequest, SetConfig, BarrierRequest, FlowMod as IsFlowMod, PacketOut as IsPacketOut, GroupMod as IsGroupMod, PortMod as IsPortMod, TableMod as IsTableMod, Multipart, RoleRequest as IsRoleRequest, GetAsyncRequest, SetAsync}
 use Rattle.of_messages.specs.declared.message.PacketOut.{PacketOut}
 use Rattle.of_messages.specs.declared.port_mod.PortMod.{PortMod}
 use Rattle.of_messages.specs.declared.port_mod.PortStatusReason.TheVariants as port
 use Rattle.of_messages.specs.declared.message.FlowMod.{FlowMod}
 use Rattle.of_messages.specs.declared.group_mod.GroupMod.{GroupMod}
 use Rattle.of_messages.specs.declared.group_mod.GroupMod.TheVariants as group_mod
-use Rattle.of_messages.specs.Written.{hello_bytes, error_bytes, echo_reply_bytes, barrier_reply_bytes}
+use Rattle.of_messages.specs.declared.role.RoleRequest.{RoleRequest}
+use Rattle.of_messages.specs.declared.multipart.MultipartRequest.{MultipartRequest}
+use Rattle.of_messages.specs.declared.async_masks.AsyncMasks.{AsyncMasks}
+use Rattle.of_messages.specs.declared.config.SwitchConfig.{SwitchConfig}
+use Rattle.of_messages.specs.Written.{hello_bytes, error_bytes, echo_reply_bytes, barrier_reply_bytes, features_reply_bytes, config_reply_bytes, role_reply_bytes, async_reply_bytes}
 use Rattle.of_session.specs.declared.session.Next.{Next}
 use Rattle.of_session.specs.declared.session.Next.TheVariants.{Nothing, BadStream, NotHello, Opened, Read, Refused}
 use Rattle.of_session.specs.Session.{Connection, alone, is_disconnected, greeting, fed as fed_connection, entered, next_of as next_in}
@@ -33,6 +37,8 @@ use Rattle.of_ports.specs.declared.port.Port.{Port}
 use Rattle.of_ports.specs.Ports.{new_port, port_at, with_port, without_port, at_port, linked, with_config}
 use Rattle.of_switch.specs.PortStatus.{status_told, change_told}
 use Rattle.of_switch.specs.PortMods.{port_mod_refusals, modified_port}
+use Rattle.of_switch.specs.Roles.{election_refusals, with_role}
+use Rattle.of_switch.specs.Statistics.{multipart_refusals, multipart_bytes}
 use Rattle.of_switch.specs.Plane.{Forwarded, framed, through}
 use Rattle.of_switch.specs.State.{Core, State}
 
@@ -61,8 +67,18 @@ forwarded f k = does f.effects (record k { forwarding = f.forwarding })
 -- what a message is refused for that was read, in the written order
 abbrev pub state_refusals : Message → Core → List (Bool × Code)
 state_refusals Hello k = []
+state_refusals Error k = []
 state_refusals (EchoRequest echoed) k = []
+state_refusals EchoReply k = []
+state_refusals FeaturesRequest k = []
+state_refusals GetConfigRequest k = []
+state_refusals (SetConfig config) k = []
 state_refusals BarrierRequest k = []
+state_refusals (IsTableMod m) k = []
+state_refusals (Multipart request) k = multipart_refusals request k.forwarding.ports
+state_refusals (IsRoleRequest request) k = election_refusals request k.control
+state_refusals GetAsyncRequest k = []
+state_refusals (SetAsync masks) k = []
 state_refusals (IsPacketOut m) k = packet_out_refusals m k.forwarding.groups
 state_refusals (IsPortMod m) k = port_mod_refusals m k.forwarding.ports
 state_refusals (IsFlowMod m) k = flow_mod_refusals m k.forwarding.tables k.forwarding.groups
@@ -102,11 +118,37 @@ port_modded_at m k (Some p) = does (change_told (heard_by k.control) p (modified
 abbrev pub port_modded : PortMod → Core → Done
 port_modded m k = port_modded_at m k (port_at k.forwarding.ports m.port)
 
--- what is done where nothing is refused
+-- what a controller sets: the configuration (7.3.2), its role, which it is told (7.3.9), and which messages it is told unasked (7.3.10)
+abbrev pub configured : SwitchConfig → Core → Done
+configured config k = does [] (record k { control = record k.control { config = config } })
+
+abbrev pub role_asked : ℕ → RoleRequest → Core → Done
+role_asked xid request k =
+    let c = with_role request k.control in
+    does (Answer (role_reply_bytes xid c.role c.generation) ∷ []) (record k { control = c })
+
+-- a multipart request is replied to (7.3.5)
+abbrev pub replied : ℕ → MultipartRequest → Core → Done
+replied xid request k = does (map Answer (multipart_bytes xid request k.forwarding)) k
+
+abbrev pub masked : AsyncMasks → Core → Done
+masked masks k = does [] (record k { control = record k.control { masks = masks } })
+
+-- what is done where nothing is refused: a later HELLO, an ERROR, an ECHO_REPLY and a TABLE_MOD do nothing
 abbrev pub done : ℕ → Message → Core → Done
 done xid Hello k = does [] k
+done xid Error k = does [] k
 done xid (EchoRequest echoed) k = does (Answer (echo_reply_bytes xid echoed) ∷ []) k
+done xid EchoReply k = does [] k
+done xid FeaturesRequest k = does (Answer (features_reply_bytes xid k.dpid) ∷ []) k
+done xid GetConfigRequest k = does (Answer (config_reply_bytes xid k.control.config) ∷ []) k
+done xid (SetConfig config) k = configured config k
 done xid BarrierRequest k = does (Answer (barrier_reply_bytes xid) ∷ []) k
+done xid (IsTableMod m) k = does [] k
+done xid (Multipart request) k = replied xid request k
+done xid (IsRoleRequest request) k = role_asked xid request k
+done xid GetAsyncRequest k = does (Answer (async_reply_bytes xid k.control.masks) ∷ []) k
+done xid (SetAsync masks) k = masked masks k
 done xid (IsPacketOut m) k = packet_outed m k
 done xid (IsPortMod m) k = port_modded m k
 done xid (IsFlowMod m) k = flow_modded m k
@@ -181,9 +223,13 @@ then_beside c (Some d) = Some (beside c d)
 abbrev pub next_by : Next → State → Option Outcome
 next_by next s = then_beside (entered next s.connection) (came next s.connection s.core)
 
+-- what comes next of the controller, whose role decides which messages it may send
+abbrev pub coming : State → Next
+coming s = next_in s.core.control.role s.connection
+
 -- the first whole message is handled, or the malformed header; or there is neither
 abbrev pub next_of : State → Option Outcome
-next_of s = next_by (next_in s.connection) s
+next_of s = next_by (coming s) s
 
 -- what comes next is a message of that transaction id and size that is refused with this code: for its bytes, or for the state
 abbrev pub IsRefusedWith : Next → Core → ℕ → ℕ → Code → Type 0

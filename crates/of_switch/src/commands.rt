@@ -15,10 +15,10 @@ use of_table::{Flow, FlowFlags, Removed, RemovedReason, Which};
 use std::alloc::{AllocError, Global};
 
 /// OFPTT_ALL: all tables.
-const ALL_TABLES: u8 = 255;
+pub const ALL_TABLES: u8 = 255;
 
 /// OFPP_ANY and OFPG_ANY: no port and no group is asked for.
-const ANY: u32 = 0xffff_ffff;
+pub const ANY: u32 = 0xffff_ffff;
 
 const NANOS: u64 = 1_000_000_000;
 

@@ -1,8 +1,9 @@
 //! What a controller has set, and what it is told unasked.
 ghost use Rattle.std.specs.Prelude.{◌≡◌};
+ghost use Rattle.of_switch.specs.Roles.{has_stale_election as is_from_stale, is_stale as is_stale_after, with_role};
 ghost use Rattle.of_switch.specs.Control.{first_masks, heard_by, heard_in, lets_pass, new_control, released};
 
-use of_messages::{AsyncMasks, Role, RoleMasks, SwitchConfig};
+use of_messages::{AsyncMasks, Role, RoleMasks, RoleRequest, SwitchConfig};
 use of_session::Phase;
 
 /// What a controller has set of a switch.
@@ -100,6 +101,53 @@ impl Control {
                 port_status: 0,
                 flow_removed: 0,
             }
+        }
+    }
+}
+
+// Whether an election comes before the last one: their distance as a signed number is below 0.
+fn is_stale(generation: u64, last: Option<u64>) -> bool
+    ensures { result ≡ is_stale_after generation last }
+{
+    match last {
+        Some(last) => generation.wrapping_sub(last) >= 1 << 63,
+        None => false,
+    }
+}
+
+impl Control {
+    /// Whether the election by which a role is asked for comes before the last one.
+    pub fn has_stale_election(&self, request: RoleRequest) -> bool
+        ensures { result ≡ is_from_stale request self.now }
+    {
+        match request {
+            RoleRequest::NoChange | RoleRequest::Equal => false,
+            RoleRequest::Master { generation } | RoleRequest::Slave { generation } => {
+                is_stale(generation, self.generation)
+            }
+        }
+    }
+
+    /// With the role that is asked for.
+    pub fn with_role(self, request: RoleRequest) -> Control
+        ensures { result ≡ with_role request self }
+    {
+        match request {
+            RoleRequest::NoChange => self,
+            RoleRequest::Equal => Control {
+                role: Role::Equal,
+                ..self
+            },
+            RoleRequest::Master { generation } => Control {
+                role: Role::Master,
+                generation: Some(generation),
+                ..self
+            },
+            RoleRequest::Slave { generation } => Control {
+                role: Role::Slave,
+                generation: Some(generation),
+                ..self
+            },
         }
     }
 }

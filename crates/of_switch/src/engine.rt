@@ -1,5 +1,5 @@
 //! What messages, frames and moments do, whatever the connection.
-ghost use Rattle.std.specs.Prelude.{◌≡◌, ◌<◌, ◌∷◌, ◌++◌, [], true, false, IfOk, OnOk, OnErr, length};
+ghost use Rattle.std.specs.Prelude.{◌≡◌, ◌<◌, ◌∷◌, ◌++◌, [], true, false, IfOk, OnOk, OnErr, length, map};
 ghost use Rattle.of_wire.specs.Refusals.{first_of};
 ghost use Rattle.of_switch.specs.State.{new_core};
 ghost use Rattle.of_ports.specs.Ports.{has_port, new_port, port_at};
@@ -20,9 +20,11 @@ ghost use Rattle.of_groups.specs.Groups.{modified_group, new_group};
 ghost use Rattle.of_groups.specs.Faults.{add_fault, delete_fault, modify_fault};
 ghost use Rattle.of_switch.specs.GroupMods.{group_mod_fault, refused_for};
 ghost use Rattle.of_switch.specs.Control.{heard_by, heard_in};
+ghost use Rattle.of_switch.specs.Roles.{election_refusals};
+ghost use Rattle.of_switch.specs.Statistics.{multipart_bytes, multipart_refusals};
 ghost use Rattle.of_switch.specs.Handling.{Handles};
 ghost use Rattle.of_switch.specs.Loading.{loaded_tables};
-ghost use Rattle.of_switch.specs.Steps.{does, done, flow_modded, forwarded, group_added, group_modded, group_modified, groups_deleted, linked_at, packet_outed, port_added, port_modded, removed_at, state_refusals, with_tables, without_connection, moment_done};
+ghost use Rattle.of_switch.specs.Steps.{does, done, flow_modded, forwarded, group_added, group_modded, group_modified, groups_deleted, linked_at, packet_outed, port_added, port_modded, removed_at, replied, role_asked, state_refusals, with_tables, without_connection, moment_done};
 
 use crate::commands::{any_to_absent_group, flow_from, has_flag, names_absent_group, which_from};
 use crate::control::{Control, Heard};
@@ -30,17 +32,24 @@ use crate::effect::{Effect, Effects};
 use crate::loading::load_tables;
 use crate::plane::Plane;
 use crate::port_status::{write_change, write_status};
+use crate::statistics::{answers, asked_by, asks_absent_port};
 use of_actions::InstructionList;
 use of_classifier::Lookup;
 use of_groups::{Buckets, GroupFault, GroupKind};
 use of_headers::FieldKey;
 use of_machine::StepLog;
 use of_messages::{
-    FlowMod, FlowModCommand, GroupMod, Message, NewGroup, PacketData, PacketOut, PortMod,
-    PortStatusReason, write_barrier_reply, write_echo_reply,
+    FlowMod, FlowModCommand, GroupMod, Message, MessageBytes, MultipartRequest, NewGroup,
+    PacketData, PacketOut, PortMod, PortStatusReason, Role, RoleRequest, write_async_reply,
+    write_barrier_reply, write_config_reply, write_echo_reply, write_features_reply,
+    write_role_reply,
 };
 use of_ports::Port;
 use of_session::Phase;
+use of_statistics::{
+    aggregate_reply, description_reply, flow_replies, group_description_replies,
+    group_features_reply, group_replies, port_description_reply, port_stats_reply, table_reply,
+};
 use of_table::{Cause, Entry, TableFault};
 use of_text::Config;
 use of_wire::Code;
@@ -63,6 +72,10 @@ const TABLE_FULL: Code = Code { kind: 5, code: 1 };
 const BAD_PORT: Code = Code { kind: 7, code: 0 };
 
 const BAD_HW_ADDR: Code = Code { kind: 7, code: 1 };
+
+const BAD_REQUESTED_PORT: Code = Code { kind: 1, code: 11 };
+
+const STALE: Code = Code { kind: 11, code: 0 };
 
 /// Why a message was not done.
 #[derive(Clone, Copy, Debug, PartialEq, Eq)]
@@ -132,6 +145,13 @@ impl<L: Lookup> Engine<L> {
         ensures { result ≡ heard_in phase self.now.control }
     {
         self.control.heard(phase)
+    }
+
+    /// The role of the controller.
+    pub fn role(&self) -> Role
+        ensures { result ≡ self.now.control.role }
+    {
+        self.control.role
     }
 
     /// The connection is gone, and what the controller set for itself.
@@ -261,19 +281,102 @@ impl<L: Lookup> Engine<L> {
         ensures { Handles (first_of (state_refusals message self.old)) (done xid message self.old) self.old result self.new }
     {
         match message {
-            Message::Hello => Ok(Effects::new(self.alloc)),
-            Message::EchoRequest(echoed) => {
-                let reply = write_echo_reply(self.alloc, xid, echoed.as_slice())?;
-                Ok(one(self.alloc, Effect::Answer(reply))?)
+            Message::Hello | Message::Error | Message::EchoReply | Message::TableMod(_) => {
+                Ok(Effects::new(self.alloc))
             }
-            Message::BarrierRequest => {
-                let reply = write_barrier_reply(self.alloc, xid)?;
-                Ok(one(self.alloc, Effect::Answer(reply))?)
+            Message::EchoRequest(echoed) => {
+                Ok(self.answer(write_echo_reply(self.alloc, xid, echoed.as_slice())?)?)
+            }
+            Message::BarrierRequest => Ok(self.answer(write_barrier_reply(self.alloc, xid)?)?),
+            Message::FeaturesRequest => {
+                Ok(self.answer(write_features_reply(self.alloc, xid, self.dpid)?)?)
+            }
+            Message::GetConfigRequest => {
+                Ok(self.answer(write_config_reply(self.alloc, xid, self.control.config)?)?)
+            }
+            Message::SetConfig(config) => {
+                self.control.config = config;
+                Ok(Effects::new(self.alloc))
+            }
+            Message::RoleRequest(request) => self.take_role(xid, request),
+            Message::GetAsyncRequest => {
+                Ok(self.answer(write_async_reply(self.alloc, xid, self.control.masks)?)?)
+            }
+            Message::SetAsync(masks) => {
+                self.control.masks = masks;
+                Ok(Effects::new(self.alloc))
             }
             Message::PacketOut(packet_out) => self.packet_out(packet_out),
             Message::FlowMod(flow_mod) => self.flow_mod(flow_mod),
             Message::GroupMod(group_mod) => self.group_mod(group_mod),
             Message::PortMod(port_mod) => self.port_mod(port_mod),
+            Message::Multipart(request) => self.multipart(xid, request),
+        }
+    }
+
+    // A message to the controller.
+    fn answer(&self, message: MessageBytes) -> Result<Effects, AllocError>
+        ensures { IfOk result (λ effects. effects.items ≡ Effect.Answer message ∷ []) }
+    {
+        one(self.alloc, Effect::Answer(message))
+    }
+
+    // The controller takes the role that it asks for, and is told the one that it has.
+    fn take_role(&mut self, xid: u32, request: RoleRequest) -> Result<Effects, Fault>
+        ensures { Handles (first_of (election_refusals request self.old.control)) (role_asked xid request self.old) self.old result self.new }
+    {
+        if self.control.has_stale_election(request) {
+            return Err(Fault::Refused(STALE));
+        }
+        let control = self.control.with_role(request);
+        let reply = write_role_reply(self.alloc, xid, control.role, control.generation)?;
+        let effects = self.answer(reply)?;
+        self.control = control;
+        Ok(effects)
+    }
+
+    fn multipart(&self, xid: u32, request: MultipartRequest) -> Result<Effects, Fault>
+        ensures { Handles (first_of (multipart_refusals request self.now.forwarding.ports)) (replied xid request self.now) self.now result self.now }
+    {
+        if asks_absent_port(&request, &self.plane.ports) {
+            return Err(Fault::Refused(BAD_REQUESTED_PORT));
+        }
+        Ok(self.replies(xid, request)?)
+    }
+
+    // The replies to a request that is not refused.
+    fn replies(&self, xid: u32, request: MultipartRequest) -> Result<Effects, AllocError>
+        ensures { IfOk result (λ effects. effects.items ≡ map Effect.Answer (multipart_bytes xid request self.now.forwarding)) }
+    {
+        let Plane {
+            tables,
+            groups,
+            ports,
+        } = &self.plane;
+        let alloc = self.alloc;
+        match request {
+            MultipartRequest::Description => self.answer(description_reply(alloc, xid)?),
+            MultipartRequest::Flow(request) => {
+                answers(alloc, flow_replies(alloc, xid, tables, &asked_by(request))?)
+            }
+            MultipartRequest::Aggregate(request) => {
+                self.answer(aggregate_reply(alloc, xid, tables, &asked_by(request))?)
+            }
+            MultipartRequest::Table => self.answer(table_reply(alloc, xid, tables)?),
+            MultipartRequest::PortStats(which) => {
+                let now = tables.latest();
+                self.answer(port_stats_reply(alloc, xid, ports, which, now)?)
+            }
+            MultipartRequest::Group(which) => {
+                answers(alloc, group_replies(alloc, xid, groups, tables, which)?)
+            }
+            MultipartRequest::GroupDescription => {
+                answers(alloc, group_description_replies(alloc, xid, groups)?)
+            }
+            MultipartRequest::GroupFeatures => self.answer(group_features_reply(alloc, xid)?),
+            MultipartRequest::PortDescription => {
+                self.answer(port_description_reply(alloc, xid, ports)?)
+            }
         }
     }
 

@@ -2,11 +2,11 @@
 ghost use Rattle.std.specs.Prelude.{◌≡◌, ◌++◌, ◌∷◌, [], ℕ, List, Some, None, false};
 ghost use Rattle.of_wire.specs.declared.code.Code.{Code as ErrorCode};
 ghost use Rattle.of_messages.specs.Written.{error_bytes};
-ghost use Rattle.of_session.specs.Session.{is_disconnected, taken, next_of as next_in};
+ghost use Rattle.of_session.specs.Session.{is_disconnected, taken};
 ghost use Rattle.of_session.specs.Stream.{Splits};
 ghost use Rattle.of_switch.specs.declared.effect.Effect.TheVariants.{Answer};
 ghost use Rattle.of_switch.specs.State.{State};
-ghost use Rattle.of_switch.specs.Steps.{IsRefusedWith, failed_of, gives, next_of};
+ghost use Rattle.of_switch.specs.Steps.{IsRefusedWith, coming, failed_of, gives, next_of};
 ghost use Rattle.of_switch.specs.Runs.{behind, come, drained, handled_in_turn, piece_in};
 
 /// Bytes that come in two pieces do what they do in one.
@@ -26,5 +26,5 @@ pub fn piece_handles_its_messages()
 
 /// A message that is refused is answered by an ERROR of its code with its first 64 bytes, and changes nothing else.
 pub fn refusal_changes_nothing()
-    ensures { (s : State) (xid size : ℕ) (code : ErrorCode) → IsRefusedWith (next_in s.connection) s.core xid size code → next_of s ≡ Some (gives (Answer (error_bytes xid code (failed_of size s.connection)) ∷ []) (record s { connection = taken size s.connection })) }
+    ensures { (s : State) (xid size : ℕ) (code : ErrorCode) → IsRefusedWith (coming s) s.core xid size code → next_of s ≡ Some (gives (Answer (error_bytes xid code (failed_of size s.connection)) ∷ []) (record s { connection = taken size s.connection })) }
 {}

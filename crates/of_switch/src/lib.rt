@@ -13,6 +13,7 @@ mod plan;
 mod plane;
 mod port_change;
 mod port_status;
+mod statistics;
 mod switch;
 mod switch_error;
 mod told;

@@ -120,7 +120,7 @@ impl<L: Lookup> Switch<L> {
             (next_of self.old ≡ option_map (λ effects. gives effects.items new) found)
             × IfNone found (new ≡ self.old)) self.old result self.new }
     {
-        let next = self.session.next()?;
+        let next = self.session.next(self.engine.role())?;
         let Some(effects) = self.answer(next)? else {
             return Ok(None);
         };

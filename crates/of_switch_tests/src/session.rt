@@ -1,4 +1,4 @@
-use of_messages::Message;
+use of_messages::{Message, Role};
 use of_session::{Front, Next, Phase, Session, Stream, splits_once};
 use std::test::Fail;
 
@@ -27,21 +27,21 @@ fn greeting_and_echo(rt: HostRuntime) -> Result<(), Fail> {
     let mut session = Session::new(rt.alloc());
     session.connect();
     session.feed(&[4, 0, 0, 8, 0, 0, 0, 1, 4, 2, 0, 9, 0, 0, 0, 2, 0xab])?;
-    let next = session.next()?;
+    let next = session.next(Role::Equal)?;
     assert!(rt; matches!(next, Next::Opened { size: 8 }));
     session.taken();
     assert_eq!(rt; session.phase(), Phase::Open);
-    if let Next::Read { xid, size, message } = session.next()? {
+    if let Next::Read { xid, size, message } = session.next(Role::Equal)? {
         assert_eq!(rt; xid, 2);
         assert_eq!(rt;
             session.first(size),
             [4u8, 2, 0, 9, 0, 0, 0, 2, 0xab].as_slice()
         );
         assert!(rt; matches!(message, Message::EchoRequest(_)));
-        assert!(rt; matches!(session.next()?, Next::Read { xid: 2, .. }));
+        assert!(rt; matches!(session.next(Role::Equal)?, Next::Read { xid: 2, .. }));
         session.taken();
     }
-    assert!(rt; matches!(session.next()?, Next::Nothing));
+    assert!(rt; matches!(session.next(Role::Equal)?, Next::Nothing));
     session.close();
     assert_eq!(rt; session.phase(), Phase::Disconnected);
     Ok(())

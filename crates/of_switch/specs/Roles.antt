@@ -1,0 +1,31 @@
+-- What a ROLE_REQUEST does (OpenFlow 1.3.5, 6.3.4 and 7.3.9).
+use Rattle.std.specs.Prelude.{ℕ, ◌+◌, ◌-◌, ◌%◌, ◌^◌, nat_le, Bool, false, List, [], ◌∷◌, Option, Some, None}
+use Rattle.of_wire.specs.declared.code.Code.{Code}
+use Rattle.of_wire.specs.Refusals.{refusal}
+use Rattle.of_messages.specs.declared.role.Role.TheVariants as role
+use Rattle.of_messages.specs.declared.role.RoleRequest.{RoleRequest}
+use Rattle.of_messages.specs.declared.role.RoleRequest.TheVariants.{NoChange, Equal, Master, Slave}
+use Rattle.of_switch.specs.declared.control.Control.{Control}
+
+-- an election is stale where its distance from the last one, as a signed number of 64 bits, is below 0; elections wrap
+abbrev pub is_stale : ℕ → Option ℕ → Bool
+is_stale generation None = false
+is_stale generation (Some last) = nat_le (2 ^ 63) ((generation + (2 ^ 64 - last)) % 2 ^ 64)
+
+-- the election that a controller comes from which wants to be master or slave
+abbrev pub has_stale_election : RoleRequest → Control → Bool
+has_stale_election NoChange c = false
+has_stale_election Equal c = false
+has_stale_election (Master generation) c = is_stale generation c.generation
+has_stale_election (Slave generation) c = is_stale generation c.generation
+
+-- OFPRRFC_STALE (11/0)
+abbrev pub election_refusals : RoleRequest → Control → List (Bool × Code)
+election_refusals request c = (has_stale_election request c, refusal 11 0) ∷ []
+
+-- a role is taken, with the election of a master or a slave
+abbrev pub with_role : RoleRequest → Control → Control
+with_role NoChange c = c
+with_role Equal c = record c { role = role.Equal }
+with_role (Master generation) c = record c { role = role.Master; generation = Some generation }
+with_role (Slave generation) c = record c { role = role.Slave; generation = Some generation }
