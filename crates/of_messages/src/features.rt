@@ -27,6 +27,7 @@ fn put_features(out: &mut Vec<u8>, dpid: u64) -> Result<(), AllocError>
 }
 
 /// The FEATURES_REPLY of the switch with that datapath id: 16 tables, and no buffers (OpenFlow 1.3.5, 7.3.1).
+#[tactic(auto, using(crate::proofs::Lengths::features_reply_is))]
 pub fn write_features_reply(alloc: Global, xid: u32, dpid: u64) -> Result<MessageBytes, AllocError>
     ensures { IfOk result (λ bytes. bytes ≡ features_reply_bytes xid dpid) }
 {

@@ -1,6 +1,6 @@
 //! The version that a HELLO agrees to (OpenFlow 1.3.5, 6.3.1 and 7.5.1).
-ghost use Rattle.std.specs.Prelude.{◌≡◌, ◌≤◌, ◌<◌, ◌==◌, false, find, length, option_copied, take};
-ghost use Rattle.of_messages.specs.Hellos.{behind_element, element_length, elements_of, has_version_4, is_bitmap, no_element, version_by};
+ghost use Rattle.std.specs.Prelude.{◌≡◌, ◌≤◌, ◌<◌, IfSome, false, find, length, option_copied, take};
+ghost use Rattle.of_messages.specs.Hellos.{behind_element, element_length, elements_of, has_version_4, is_bitmap, no_element, offers_version_4, version_by};
 
 use crate::reading::rest_from;
 use byteorder::{BigEndian, ByteOrder};
@@ -57,7 +57,8 @@ fn holds_bitmap(element: &[u8]) -> bool
 
 // The first bitmap of versions among the elements.
 fn bitmap_in(body: &[u8]) -> Option<&[u8]>
-    ensures { option_copied result ≡ find is_bitmap (elements_of body.now) }
+    ensures first { option_copied result ≡ find is_bitmap (elements_of body.now) }
+    ensures long { IfSome result (λ element. 8 ≤ length element.now) }
 {
     let mut rest = body;
     while !lacks_element(rest) {
@@ -78,17 +79,27 @@ fn has_version(element: &[u8]) -> bool
     BigEndian::read_u32(rest_from(element, 4)) / 16 % 2 == 1
 }
 
+// Whether that bitmap is there and offers version 4.
+fn offers_version(body: &[u8]) -> bool
+    ensures { result ≡ offers_version_4 (find is_bitmap (elements_of body.now)) }
+{
+    match bitmap_in(body) {
+        Some(element) => has_version(element),
+        None => false,
+    }
+}
+
 /// The version that a HELLO and this switch agree to: 4, where the first bitmap of versions among its elements has bit 4, and
 /// else the lower of 4 and its header's version. Elements of other types are passed over, and reading stops, without a fault,
 /// where no element begins.
+#[tactic(auto, unfolding(crate::specs::Hellos::version_by))]
 pub fn agreed_version(message: &[u8]) -> u8
     requires { 8 ≤ length message.now }
     ensures { result ≡ version_by message.now }
 {
-    if let Some(element) = bitmap_in(rest_from(message, 8)) {
-        if has_version(element) {
-            return VERSION;
-        }
+    if offers_version(rest_from(message, 8)) {
+        VERSION
+    } else {
+        message[0].min(VERSION)
     }
-    message[0].min(VERSION)
 }
