@@ -4,7 +4,7 @@ ghost use Rattle.of_switch.specs.Statistics.{asked, asks_absent_port as asks_for
 ghost use Rattle.of_switch.specs.Commands.{unless_any as none_for};
 ghost use Rattle.of_switch.specs.declared.effect.Effect.TheVariants.{Answer};
 
-use crate::commands::{ANY, ALL_TABLES};
+use crate::commands::{ALL_TABLES, ANY};
 use crate::effect::{Effect, Effects};
 use of_messages::{FlowStatsRequest, MessageBytes, MultipartRequest};
 use of_ports::Ports;

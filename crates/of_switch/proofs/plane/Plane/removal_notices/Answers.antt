@@ -1,4 +1,3 @@
-
 use Rattle.of_table.specs.Tables.{notices_in, tables_of}
 use Rattle.of_switch.proofs.Hearing.{none_heard}
 use Rattle.of_switch.proofs.plane.Plane.removal_notices.Goals as goal
