@@ -16,7 +16,7 @@ mod stream_tests;
 mod tests;
 
 /// The event files, each beside the text that it is to print.
-const NAMES: [&str; 56] = [
+const NAMES: [&str; 79] = [
     "hello",
     "wrong-version",
     "first-path",
@@ -73,6 +73,29 @@ const NAMES: [&str; 56] = [
     "group-chains",
     "group-of-all",
     "failover-to-the-live-port",
+    "group-features",
+    "group-references",
+    "stale-election",
+    "slave",
+    "hello-of-version-six",
+    "hello-of-version-one-with-bitmap",
+    "port-statistics",
+    "match-fields-in-another-order",
+    "zero-mask",
+    "flow-statistics",
+    "features",
+    "random-1",
+    "random-2",
+    "random-3",
+    "random-4",
+    "random-5",
+    "random-6",
+    "random-7",
+    "random-8",
+    "random-9",
+    "random-10",
+    "random-11",
+    "random-12",
 ];
 
 /// A read gives so many bytes at most.
