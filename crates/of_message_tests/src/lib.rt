@@ -8,6 +8,8 @@ mod action_set;
 #[cfg(test)]
 mod actions;
 #[cfg(test)]
+mod channel;
+#[cfg(test)]
 mod groups_and_ports;
 #[cfg(test)]
 mod messages;

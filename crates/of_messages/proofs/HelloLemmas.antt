@@ -3,7 +3,7 @@ use Rattle.std.proofs.Common.{◌≡◌, ◌≤◌, ◌<◌, ◌+◌, ◌*◌, �
 use Rattle.std.specs.Prelude.{find}
 use Rattle.std.proofs.lemmas.Bool.Decides.{nat_tests}
 use Rattle.std.proofs.lemmas.List.{length-drop}
-use Rattle.of_messages.specs.Hellos.{behind_element, element_length, elements_among, elements_of, is_bitmap, no_element}
+use Rattle.of_messages.specs.Hellos.{AreElements, behind_element, element_length, elements_among, elements_of, is_bitmap, no_element}
 
 -- an element takes some bytes
 pub takes_some : (rest : List ℕ) → no_element rest ≡ false → length (behind_element rest) < length rest
@@ -31,6 +31,22 @@ enough (suc n) (suc m) rest h k = by_test (no_element rest) refl (λ e. let less
         → cond b [] (element rest ∷ elements_among n (behind_element rest)) ≡ cond b [] (element rest ∷ elements_among m (behind_element rest))
     by_test true e again = refl
     by_test false e again = ap (λ (es : List (List ℕ)). element rest ∷ es) (again e)
+
+-- so many turns are enough for all elements
+pub all_elements : (n : ℕ) (rest : List ℕ) → length rest ≤ n → AreElements rest (elements_among n rest)
+unfolding element
+all_elements zero [] h = refl
+all_elements zero (b ∷ bs) h = absurd (omega arith)
+all_elements (suc n) rest h = by_test (no_element rest) refl (λ e. let less = takes_some rest e in all_elements n (behind_element rest) (omega arith))
+  where
+    by_test : (b : Bool) → no_element rest ≡ b → (no_element rest ≡ false → AreElements (behind_element rest) (elements_among n (behind_element rest)))
+        → AreElements rest (cond b [] (element rest ∷ elements_among n (behind_element rest)))
+    by_test true e others = e
+    by_test false e others = (e, refl, others e)
+
+pub are_elements : (body : List ℕ) → AreElements body (elements_of body)
+unfolding elements_of
+are_elements body = all_elements (length body) body (omega arith)
 
 -- the first bitmap of the whole is that of what is left
 pub record Left (body rest : List ℕ) : Type 0 where

@@ -1,5 +1,5 @@
 -- The version that a HELLO agrees to with this switch, which speaks version 4 alone (OpenFlow 1.3.5, 6.3.1 and 7.5.1).
-use Rattle.std.specs.Prelude.{ℕ, zero, suc, ◌+◌, ◌*◌, ◌/◌, ◌%◌, ◌==◌, nat_lt, nat_le, Bool, false, ◌&&◌, ◌||◌, List, [], ◌∷◌, length, take, drop, slice_index, find, Option, Some, None, if◌then◌else◌}
+use Rattle.std.specs.Prelude.{◌≡◌, ℕ, zero, suc, ◌+◌, ◌*◌, ◌/◌, ◌%◌, ◌==◌, nat_lt, nat_le, Bool, true, false, ◌&&◌, ◌||◌, List, [], ◌∷◌, length, take, drop, slice_index, find, Option, Some, None, if◌then◌else◌}
 use Rattle.byteorder.specs.Endian.{big_number}
 
 -- ELEMENTS: a type and the length of the element whole, and zeros to a multiple of 8
@@ -25,6 +25,11 @@ elements_among (suc most) rest = if no_element rest then [] else take (element_l
 
 unfoldable pub elements_of : List ℕ → List (List ℕ)
 elements_of body = elements_among (length body) body
+
+-- what that means, without a bound: bytes begin with these elements, one behind the other, and no further element begins behind them
+abbrev pub AreElements : List ℕ → List (List ℕ) → Type 0
+AreElements rest [] = no_element rest ≡ true
+AreElements rest (e ∷ es) = (no_element rest ≡ false) × (e ≡ take (element_length rest) rest) × AreElements (behind_element rest) es
 
 -- OFPHET_VERSIONBITMAP, and long enough for a bitmap
 abbrev pub is_bitmap : List ℕ → Bool

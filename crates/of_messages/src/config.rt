@@ -15,7 +15,7 @@ const BAD_FLAGS: Code = Code { kind: 10, code: 0 };
 
 const BAD_TABLE: Code = Code { kind: 8, code: 0 };
 
-/// OFPTT_MAX is not served: a table is one of 16.
+/// How many tables there are.
 const TABLES: u8 = 16;
 
 /// OFPTT_ALL: each table.

@@ -28,7 +28,7 @@ pub use group_mod::{GroupMod, NewGroup};
 pub use group_mod_writing::{write_buckets, write_group_mod};
 pub use head::check_head;
 pub use hello::agreed_version;
-pub use laws::header_tells_length;
+pub use laws::{elements_are_whole, header_tells_length};
 pub use message::{
     FlowMod, FlowModCommand, FlowRemoved, FlowRemovedReason, Message, PacketData, PacketIn,
     PacketInReason, PacketOut,
