@@ -1,0 +1,93 @@
+-- Rows that are cut into replies.
+use Rattle.std.proofs.Common.{◌≡◌, ◌≤◌, ◌<◌, ℕ, ◌+◌, Bool, true, false, cond, List, [], ◌∷◌, ◌++◌, length, drop, refl, sym, ap, subst, ◌∙◌, arith}
+use Rattle.std.specs.Prelude.{nat_le}
+use Rattle.std.specs.List.{concat, AllByRecursion as ByRecursion}
+use Rattle.std.proofs.lemmas.List.{append_assoc, append-nil, length-append}
+use Rattle.std.proofs.lemmas.List.Folds.{concat-append}
+use Rattle.std.proofs.lemmas.List.Elements.{recursion_from_All}
+use Rattle.std.proofs.lemmas.Bool.Decides.{nat_tests}
+use Rattle.of_statistics.specs.Replies.{Draft, IsFull, AreReplies, AreShort, reply, more, most, blank, filled, with_row, with_rows, closed, replies, rows_in}
+
+-- one row after the other
+pub rows_more : (d : Draft) (xs ys : List (List ℕ)) → with_rows d (xs ++ ys) ≡ with_rows (with_rows d xs) ys
+unfolding with_rows
+rows_more d [] ys = refl
+rows_more d (x ∷ xs) ys = rows_more (with_row d x) xs ys
+
+pub one_row : (d : Draft) (x : List ℕ) → with_rows d (x ∷ []) ≡ with_row d x
+unfolding with_rows
+one_row d x = refl
+
+-- ---- joined
+
+joined-append : (ms ns : List (List ℕ)) → rows_in (ms ++ ns) ≡ rows_in ms ++ rows_in ns
+joined-append [] ns = refl
+joined-append (m ∷ ms) ns = ap (λ (t : List ℕ). drop 16 m ++ t) (joined-append ms ns) ∙ sym (append_assoc (drop 16 m) (rows_in ms) (rows_in ns))
+
+joined-closed : (d : Draft) → rows_in (closed d) ≡ rows_in d.full ++ d.rows
+unfolding reply
+joined-closed d = joined-append d.full (reply d.xid d.kind 0 d.rows ∷ []) ∙ ap (λ (t : List ℕ). rows_in d.full ++ t) (append-nil d.rows)
+
+joined_row : (d : Draft) (x : List ℕ) → rows_in (closed (with_row d x)) ≡ rows_in (closed d) ++ x
+unfolding reply
+joined_row d x = by_test (nat_le (length d.rows + length x) most)
+  where
+    by_test : (b : Bool) → rows_in (closed (cond b (record d { rows = d.rows ++ x }) (record d { full = d.full ++ filled d ∷ []; rows = x }))) ≡ rows_in (closed d) ++ x
+    by_test true = joined-closed (record d { rows = d.rows ++ x }) ∙ sym (append_assoc (rows_in d.full) d.rows x) ∙ ap (λ (t : List ℕ). t ++ x) (sym (joined-closed d))
+    by_test false =
+        joined-closed (record d { full = d.full ++ filled d ∷ []; rows = x })
+        ∙ ap (λ (t : List ℕ). t ++ x) (joined-append d.full (filled d ∷ []) ∙ ap (λ (t : List ℕ). rows_in d.full ++ t) (append-nil d.rows) ∙ sym (joined-closed d))
+
+joined_rows : (d : Draft) (rows : List (List ℕ)) → rows_in (closed (with_rows d rows)) ≡ rows_in (closed d) ++ concat rows
+unfolding with_rows
+joined_rows d [] = sym (append-nil (rows_in (closed d)))
+joined_rows d (x ∷ rows) = joined_rows (with_row d x) rows ∙ ap (λ (t : List ℕ). t ++ concat rows) (joined_row d x) ∙ append_assoc (rows_in (closed d)) x (concat rows)
+
+pub joined : (xid kind : ℕ) (rows : List (List ℕ)) → rows_in (replies xid kind rows) ≡ concat rows
+unfolding reply
+joined xid kind rows = joined_rows (blank xid kind) rows
+
+-- ---- cut
+
+-- the replies behind those that are full, where the open one has the rows in front
+abbrev Behind : Draft → List (List ℕ) → List (List ℕ) → List (List ℕ) → Type 0
+Behind d front rows all = (ms : List (List ℕ)) × (all ≡ d.full ++ ms) × AreReplies d.xid d.kind (front ++ rows) ms
+
+-- it holds of these rows, whatever is in front
+abbrev HoldsOf : List (List ℕ) → Type 0
+HoldsOf rows = (d : Draft) (front : List (List ℕ)) → d.rows ≡ concat front → length (concat front) ≤ most → Behind d front rows (closed (with_rows d rows))
+
+one_more : (xid kind : ℕ) (front : List (List ℕ)) (x : List ℕ) (rows : List (List ℕ)) (m : List ℕ) (ms : List (List ℕ)) → IsFull xid kind front x m → AreReplies xid kind (x ∷ rows) ms → AreReplies xid kind (front ++ x ∷ rows) (m ∷ ms)
+one_more xid kind front x rows m [] full behind = absurd behind
+one_more xid kind front x rows m (n ∷ ms) full behind = (front, x, rows, refl, full, behind)
+
+joins : (d : Draft) (front : List (List ℕ)) (x : List ℕ) (rows : List (List ℕ)) → HoldsOf rows → d.rows ≡ concat front → length d.rows + length x ≤ most → Behind d front (x ∷ rows) (closed (with_rows (record d { rows = d.rows ++ x }) rows))
+joins d front x rows holds is fits =
+    let whole : d.rows ++ x ≡ concat (front ++ x ∷ []) = ap (λ (t : List ℕ). t ++ x) is ∙ sym (concat-append front (x ∷ []) ∙ ap (λ (t : List ℕ). concat front ++ t) (append-nil x)) in
+    let le : length (concat (front ++ x ∷ [])) ≤ most = omega (arith, fits, ap length whole, length-append d.rows x) in
+    let then = holds (record d { rows = d.rows ++ x }) (front ++ x ∷ []) whole le in
+    (then.0, then.1, subst (λ (rs : List (List ℕ)). AreReplies d.xid d.kind rs then.0) (append_assoc front (x ∷ []) rows) then.2)
+
+begins : (d : Draft) (front : List (List ℕ)) (x : List ℕ) (rows : List (List ℕ)) → HoldsOf rows → d.rows ≡ concat front → length (concat front) ≤ most → most < length d.rows + length x → length x ≤ most
+    → Behind d front (x ∷ rows) (closed (with_rows (record d { full = d.full ++ filled d ∷ []; rows = x }) rows))
+begins d front x rows holds is le over short =
+    let then = holds (record d { full = d.full ++ filled d ∷ []; rows = x }) (x ∷ []) (sym (append-nil x)) (omega (arith, short, ap length (append-nil x))) in
+    let full : IsFull d.xid d.kind front x (filled d) = record { holds = ap (reply d.xid d.kind more) is; fits = le; full = omega (arith, over, ap length is) } in
+    (filled d ∷ then.0, then.1 ∙ append_assoc d.full (filled d ∷ []) then.0, one_more d.xid d.kind front x rows (filled d) then.0 full then.2)
+
+by_test : (d : Draft) (front : List (List ℕ)) (x : List ℕ) (rows : List (List ℕ)) → HoldsOf rows → d.rows ≡ concat front → length (concat front) ≤ most → length x ≤ most
+    → (b : Bool) → nat_le (length d.rows + length x) most ≡ b → Behind d front (x ∷ rows) (closed (with_rows (cond b (record d { rows = d.rows ++ x }) (record d { full = d.full ++ filled d ∷ []; rows = x })) rows))
+by_test d front x rows holds is le short true e = joins d front x rows holds is (grind (arith, nat_tests, e))
+by_test d front x rows holds is le short false e = begins d front x rows holds is le (grind (arith, nat_tests, e)) short
+
+behind : (rows : List (List ℕ)) → ByRecursion (λ row. length row ≤ most) rows → HoldsOf rows
+unfolding with_rows
+behind [] short d front is le =
+    let whole : d.rows ≡ concat (front ++ []) = is ∙ ap concat (sym (append-nil front)) in
+    (reply d.xid d.kind 0 d.rows ∷ [], refl, (ap (reply d.xid d.kind 0) whole, omega (arith, le, ap length is, ap length whole)))
+behind (x ∷ rows) short d front is le = by_test d front x rows (behind rows short.1) is le short.0 (nat_le (length d.rows + length x) most) refl
+
+pub cut : (xid kind : ℕ) (rows : List (List ℕ)) → AreShort rows → AreReplies xid kind rows (replies xid kind rows)
+cut xid kind rows short =
+    let all = behind rows (recursion_from_All (λ row. length row ≤ most) rows short) (blank xid kind) [] refl (omega arith) in
+    subst (λ (ms : List (List ℕ)). AreReplies xid kind rows ms) (sym all.1) all.2
