@@ -1,6 +1,6 @@
 -- Rows that are cut into replies.
 use Rattle.std.proofs.Common.{◌≡◌, ◌≤◌, ◌<◌, ℕ, ◌+◌, Bool, true, false, cond, List, [], ◌∷◌, ◌++◌, length, drop, refl, sym, ap, subst, ◌∙◌, arith}
-use Rattle.std.specs.Prelude.{nat_le}
+use Rattle.std.specs.Prelude.{nat_le, Result, Ok, Err, OnOk}
 use Rattle.std.specs.List.{concat, AllByRecursion as ByRecursion}
 use Rattle.std.proofs.lemmas.List.{append_assoc, append-nil, length-append}
 use Rattle.std.proofs.lemmas.List.Folds.{concat-append}
@@ -17,6 +17,15 @@ rows_more d (x ∷ xs) ys = rows_more (with_row d x) xs ys
 pub one_row : (d : Draft) (x : List ℕ) → with_rows d (x ∷ []) ≡ with_row d x
 unfolding with_rows
 one_row d x = refl
+
+-- a row was put, or none
+pub row_put : {A E : Type 0} (r : Result A E) (before after : Draft) (row : List ℕ) (rows : List (List ℕ)) → rows ≡ row ∷ [] → OnOk r (after ≡ with_row before row) → OnOk r (after ≡ with_rows before rows)
+row_put (Err e) before after row rows is put = tt
+row_put (Ok x) before after row rows is put = put ∙ sym (one_row before row) ∙ ap (with_rows before) (sym is)
+
+pub none_put : (d : Draft) (rows : List (List ℕ)) → rows ≡ [] → d ≡ with_rows d rows
+unfolding with_rows
+none_put d rows is = let none : with_rows d [] ≡ d = refl in sym (ap (with_rows d) is ∙ none)
 
 -- ---- joined
 

@@ -1,2 +1,5 @@
 pub mod Cutting
 pub mod Sealing
+pub mod Parts
+pub mod FlowRows
+pub mod Walks

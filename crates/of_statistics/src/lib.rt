@@ -8,6 +8,7 @@ mod laws;
 mod ports;
 mod replies;
 mod tables;
+mod writing;
 
 pub use description::description_reply;
 pub use flows::{aggregate_reply, flow_replies};
