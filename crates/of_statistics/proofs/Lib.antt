@@ -1,5 +1,6 @@
 pub mod Cutting
 pub mod Sealing
 pub mod Parts
+pub mod Sizes
 pub mod FlowRows
 pub mod Walks

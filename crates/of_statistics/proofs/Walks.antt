@@ -2,14 +2,20 @@
 use Rattle.std.proofs.Common.{◌≡◌, ◌<◌, ℕ, zero, suc, ◌+◌, Bool, true, false, cond, List, [], ◌∷◌, ◌++◌, length, take, get_or, refl, ap, sym, ◌∙◌, append_assoc, add-one, arith}
 use Rattle.std.specs.Prelude.{map, filter}
 use Rattle.std.proofs.lemmas.List.{append-nil, map-append}
+use Rattle.std.proofs.Math.ListN.{get_or-map}
 use Rattle.of_table.specs.Table.{FlowEntry, Table, empty_table}
 use Rattle.of_table.specs.declared.selection.Which.{Which}
 use Rattle.of_table.specs.declared.entry.Entry.{Entry}
-use Rattle.of_table.specs.Entries.{entry_of, flows_of}
+use Rattle.of_table.specs.Entries.{entry_of, flows_of, no_entries, table_of}
+use Rattle.of_table.specs.Tables.{NumberedTables, numbered_at, table_at, tables_of}
 use Rattle.of_table.specs.Selecting.{selects}
 use Rattle.of_statistics.specs.Replies.{Draft, with_rows}
 use Rattle.of_statistics.specs.Flows.{from_tables, flow_row, rows_of_one, rows_of_entries}
 use Rattle.of_statistics.proofs.Cutting.{rows_more}
+
+-- a table without the numbers of its entries
+pub table_at_is : (k : ℕ) (n : NumberedTables) → table_at k (tables_of n) ≡ table_of (numbered_at k n)
+table_at_is k n = get_or-map table_of n.tables k no_entries
 
 -- ---- one table more
 
@@ -36,6 +42,11 @@ rows_of_more row f k ts start before after lt was is =
     let next = map row (f k (get_or ts k empty_table)) in
     is ∙ ap (λ (d : Draft). with_rows d next) was ∙ sym (rows_more start these next)
     ∙ ap (with_rows start) (sym (ap (map row) (from_more f k ts empty_table lt) ∙ map-append row (from_tables f 0 (take k ts)) (f k (get_or ts k empty_table))))
+
+pub bytes_of_more : (f : ℕ → Table → List ℕ) (k : ℕ) (ts : List Table) (head before after : List ℕ) → k < length ts → before ≡ head ++ from_tables f 0 (take k ts) → after ≡ before ++ f k (get_or ts k empty_table) → after ≡ head ++ from_tables f 0 (take (k + 1) ts)
+bytes_of_more f k ts head before after lt was is =
+    let next = f k (get_or ts k empty_table) in
+    is ∙ ap (λ (t : List ℕ). t ++ next) was ∙ append_assoc head (from_tables f 0 (take k ts)) next ∙ ap (λ (t : List ℕ). head ++ t) (sym (from_more f k ts empty_table lt))
 
 -- ---- rows of one entry more
 
