@@ -1,8 +1,8 @@
 -- Rows that are cut into replies.
-use Rattle.std.proofs.Common.{◌≡◌, ◌≤◌, ◌<◌, ℕ, ◌+◌, Bool, true, false, cond, List, [], ◌∷◌, ◌++◌, length, drop, refl, sym, ap, subst, ◌∙◌, arith}
+use Rattle.std.proofs.Common.{◌≡◌, ◌≤◌, ◌<◌, ℕ, ◌+◌, Bool, true, false, cond, List, [], ◌∷◌, ◌++◌, length, drop, take, map, get_or, refl, sym, ap, subst, ◌∙◌, arith}
 use Rattle.std.specs.Prelude.{nat_le, Result, Ok, Err, OnOk}
 use Rattle.std.specs.List.{concat, AllByRecursion as ByRecursion}
-use Rattle.std.proofs.lemmas.List.{append_assoc, append-nil, length-append}
+use Rattle.std.proofs.lemmas.List.{append_assoc, append-nil, map-append, take_more, length-append}
 use Rattle.std.proofs.lemmas.List.Folds.{concat-append}
 use Rattle.std.proofs.lemmas.List.Elements.{recursion_from_All}
 use Rattle.std.proofs.lemmas.Bool.Decides.{nat_tests}
@@ -26,6 +26,18 @@ row_put (Ok x) before after row rows is put = put ∙ sym (one_row before row) �
 pub none_put : (d : Draft) (rows : List (List ℕ)) → rows ≡ [] → d ≡ with_rows d rows
 unfolding with_rows
 none_put d rows is = let none : with_rows d [] ≡ d = refl in sym (ap (with_rows d) is ∙ none)
+
+-- a row more of a list
+pub row_more : {X : Type 0} (row : X → List ℕ) (xs : List X) (i : ℕ) (x d : X) (start before after : Draft) → i < length xs → x ≡ get_or xs i d → before ≡ with_rows start (map row (take i xs)) → after ≡ with_row before (row x)
+    → after ≡ with_rows start (map row (take (i + 1) xs))
+row_more row xs i x d start before after lt at was is =
+    let these = map row (take i xs) in
+    let next : map row (take (i + 1) xs) ≡ these ++ row (get_or xs i d) ∷ [] = ap (map row) (take_more xs i d lt) ∙ map-append row (take i xs) (get_or xs i d ∷ []) in
+    is ∙ ap (with_row before) (ap row at) ∙ sym (one_row before (row (get_or xs i d))) ∙ ap (λ (t : Draft). with_rows t (row (get_or xs i d) ∷ [])) was ∙ sym (rows_more start these (row (get_or xs i d) ∷ [])) ∙ ap (with_rows start) (sym next)
+
+pub no_rows : (d : Draft) → d ≡ with_rows d []
+unfolding with_rows
+no_rows d = refl
 
 -- ---- joined
 

@@ -4,3 +4,5 @@ pub mod Parts
 pub mod Sizes
 pub mod FlowRows
 pub mod Walks
+pub mod Counts
+pub mod GroupRows

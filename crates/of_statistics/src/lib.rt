@@ -6,6 +6,7 @@ mod flows;
 mod groups;
 mod laws;
 mod ports;
+mod references;
 mod replies;
 mod tables;
 mod writing;
