@@ -69,6 +69,13 @@ flow_row now l =
 abbrev pub flow_rows : Which → Tables → List (List ℕ)
 flow_rows w ts = map (flow_row ts.latest) (listed w ts)
 
+-- those of one entry of a table, and of several
+abbrev pub rows_of_one : ℕ → Which → ℕ → FlowEntry → List (List ℕ)
+rows_of_one now w k e = if selects w e then flow_row now (record { table = k; entry = e }) ∷ [] else []
+
+abbrev pub rows_of_entries : ℕ → Which → ℕ → List FlowEntry → List (List ℕ)
+rows_of_entries now w k flows = map (flow_row now) (map (λ e. record { table = k; entry = e }) (filter (selects w) flows))
+
 abbrev pub flow_bytes : ℕ → Which → Tables → List (List ℕ)
 flow_bytes xid w ts = replies xid 1 (flow_rows w ts)
 

@@ -12,6 +12,7 @@ use Rattle.of_table.specs.Tables.{Tables}
 use Rattle.of_table.specs.Selecting.{names_group}
 use Rattle.of_statistics.specs.Replies.{reply, replies}
 use Rattle.of_statistics.specs.Durations.{duration}
+use Rattle.of_statistics.specs.Flows.{from_tables}
 
 -- a group by its number, where it is there, or all of them
 abbrev pub asked_groups : Option ℕ → List Group → List Group
@@ -21,7 +22,7 @@ asked_groups (Some n) groups = option_to_list (find_group n groups)
 -- ---- GROUP
 
 abbrev pub all_entries : Tables → List FlowEntry
-all_entries ts = flat_map (λ t. t.flows) ts.tables
+all_entries ts = from_tables (λ k t. t.flows) 0 ts.tables
 
 -- THE NUMBER OF REFERENCES: how many entries have an action that sends to the group, and how many groups have one in a bucket
 abbrev pub references : ℕ → List Group → Tables → ℕ
@@ -45,8 +46,12 @@ group_front count g =
 unfoldable pub group_row : ℕ → ℕ → Group → List ℕ
 group_row now count g = group_front count g ++ (duration now g.created ++ flat_map bucket_row g.buckets)
 
+-- a group among these, and with these tables
+abbrev pub row_among : List Group → Tables → Group → List ℕ
+row_among groups ts g = group_row ts.latest (references g.id groups ts) g
+
 abbrev pub group_rows : Option ℕ → List Group → Tables → List (List ℕ)
-group_rows which groups ts = map (λ g. group_row ts.latest (references g.id groups ts) g) (asked_groups which groups)
+group_rows which groups ts = map (row_among groups ts) (asked_groups which groups)
 
 abbrev pub group_bytes : ℕ → Option ℕ → List Group → Tables → List (List ℕ)
 group_bytes xid which groups ts = replies xid 6 (group_rows which groups ts)

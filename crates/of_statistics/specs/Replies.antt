@@ -2,10 +2,14 @@
 use Rattle.std.specs.Prelude.{◌≡◌, ◌<◌, ◌≤◌, ℕ, ◌+◌, nat_le, List, [], ◌∷◌, ◌++◌, length, drop, replicate, if◌then◌else◌}
 use Rattle.std.specs.List.{All, concat, flat_map}
 use Rattle.byteorder.specs.Endian.{big_bytes}
-use Rattle.of_messages.specs.Written.{message}
+use Rattle.of_messages.specs.Written.{header, message}
+
+-- the 16 bytes in front of the body: of the message, and what is replied to, flags, padding
+unfoldable pub head_bytes : ℕ → ℕ → ℕ → ℕ → List ℕ
+head_bytes size xid kind flags = header 19 size xid ++ (big_bytes 2 kind ++ (big_bytes 2 flags ++ replicate 4 0))
 
 -- what is replied to, flags, padding, and the body
-abbrev pub reply : ℕ → ℕ → ℕ → List ℕ → List ℕ
+unfoldable pub reply : ℕ → ℕ → ℕ → List ℕ → List ℕ
 reply xid kind flags body = message 19 xid (big_bytes 2 kind ++ (big_bytes 2 flags ++ (replicate 4 0 ++ body)))
 
 -- OFPMPF_REPLY_MORE: more replies follow

@@ -1,12 +1,129 @@
 //! FLOW and AGGREGATE (OpenFlow 1.3.5, 7.3.5.2 and 7.3.5.3).
-ghost use Rattle.std.specs.Prelude.{◌≡◌, IfOk};
-ghost use Rattle.of_table.specs.Tables.{tables_of};
-ghost use Rattle.of_statistics.specs.Flows.{aggregate_bytes, flow_bytes};
+ghost use Rattle.std.specs.Prelude.{◌≡◌, ◌<◌, ◌≤◌, ◌++◌, length, map, OnOk, IfOk};
+ghost use Rattle.of_table.specs.Entries.{entry_of, flows_of};
+ghost use Rattle.of_table.specs.Tables.{table_at, tables_of};
+ghost use Rattle.of_statistics.specs.Replies.{with_rows};
+ghost use Rattle.of_statistics.specs.Flows.{aggregate_bytes, flow_bytes, flow_counts, flow_row as row_of, flow_times, flags_number, listed_in, rows_of_entries, rows_of_one};
 
+use crate::replies::Replies;
+use crate::tables::{TABLES, is_in};
+use crate::writing::{put_duration, put_u16, put_u64};
+use of_actions::write_instructions;
 use of_classifier::Lookup;
 use of_messages::MessageBytes;
-use of_table::{FlowTables, Which};
+use of_oxm::write_match;
+use of_table::{Entries, Entry, FlowFlags, FlowTables, Which, selects};
 use std::alloc::{AllocError, Global};
+
+/// OFPMP_FLOW.
+const FLOW: u16 = 1;
+
+fn flags_of(flags: FlowFlags) -> u16
+    ensures { result ≡ flags_number flags }
+{
+    let removed = if flags.send_removed { 1 } else { 0 };
+    let packets = if flags.no_packet_counts { 8 } else { 0 };
+    let bytes = if flags.no_byte_counts { 16 } else { 0 };
+    removed + packets + bytes
+}
+
+// How long the entry is there, its priority, timeouts and flags, 20 bytes.
+fn put_times(out: &mut Vec<u8>, now: u64, entry: &Entry) -> Result<(), AllocError>
+    ensures { OnOk result (out.new.items ≡ out.old.items ++ flow_times now (entry_of entry.now)) }
+{
+    put_duration(out, now, entry.created)?;
+    put_u16(out, entry.flow.priority)?;
+    put_u16(out, entry.flow.idle_timeout)?;
+    put_u16(out, entry.flow.hard_timeout)?;
+    put_u16(out, flags_of(entry.flow.flags))?;
+    out.extend_from_slice(&[0; 4])
+}
+
+// Its cookie and counters, 24 bytes.
+fn put_counts(out: &mut Vec<u8>, entry: &Entry) -> Result<(), AllocError>
+    ensures { OnOk result (out.new.items ≡ out.old.items ++ flow_counts (entry_of entry.now)) }
+{
+    put_u64(out, entry.flow.cookie)?;
+    put_u64(out, entry.packets)?;
+    put_u64(out, entry.bytes)
+}
+
+// The row of an entry: 48 bytes, its match and its instructions.
+fn flow_row(alloc: Global, now: u64, table: u8, entry: &Entry) -> Result<Vec<u8>, AllocError>
+    ensures row { IfOk result (λ v. v.items ≡ row_of now (record { table = table; entry = entry_of entry.now })) }
+    ensures short { IfOk result (λ v. length v.items ≤ 65519) }
+{
+    let fields = write_match(alloc, &entry.flow.fields)?;
+    let instructions = write_instructions(alloc, &entry.flow.instructions)?;
+    let size = 48 + fields.len() + instructions.len();
+    let mut row = Vec::with_capacity(alloc, size)?;
+    put_u16(&mut row, size as u16)?;
+    row.extend_from_slice(&[table, 0])?;
+    put_times(&mut row, now, entry)?;
+    put_counts(&mut row, entry)?;
+    row.extend_from_slice(&fields)?;
+    row.extend_from_slice(&instructions)?;
+    Ok(row)
+}
+
+// The row of an entry, if it is asked for.
+fn put_entry(
+    out: &mut Replies,
+    alloc: Global,
+    now: u64,
+    table: u8,
+    entry: &Entry,
+    which: &Which,
+) -> Result<(), AllocError>
+    ensures { OnOk result (out.new ≡ with_rows out.old (rows_of_one now which.now table (entry_of entry.now))) }
+{
+    if selects(which, entry) {
+        out.push(&flow_row(alloc, now, table, entry)?)
+    } else {
+        Ok(())
+    }
+}
+
+fn put_entries(
+    out: &mut Replies,
+    alloc: Global,
+    now: u64,
+    table: u8,
+    entries: Entries<'_>,
+    which: &Which,
+) -> Result<(), AllocError>
+    ensures { OnOk result (out.new ≡ with_rows out.old (rows_of_entries now which.now table (flows_of entries.entry))) }
+{
+    for entry in entries {
+        put_entry(out, alloc, now, table, entry, which)?;
+    }
+    Ok(())
+}
+
+// The rows of a table, if it is asked for.
+fn put_table<L: Lookup>(
+    out: &mut Replies,
+    alloc: Global,
+    tables: &FlowTables<L>,
+    table: u8,
+    which: &Which,
+) -> Result<(), AllocError>
+    requires { table < 16 }
+    ensures { OnOk result (out.new ≡ with_rows out.old (map (row_of tables.now.latest) (listed_in which.now table (table_at table (tables_of tables.now))))) }
+{
+    if is_in(which, table) {
+        put_entries(
+            out,
+            alloc,
+            tables.latest(),
+            table,
+            tables.entries(table),
+            which,
+        )
+    } else {
+        Ok(())
+    }
+}
 
 /// The statistics of each entry that a DELETE of these would be for, by table and then by age (OpenFlow 1.3.5, 7.3.5.2).
 pub fn flow_replies<L: Lookup>(
@@ -17,7 +134,12 @@ pub fn flow_replies<L: Lookup>(
 ) -> Result<Vec<MessageBytes>, AllocError>
     ensures { IfOk result (λ r. r.items ≡ flow_bytes xid which.now (tables_of tables.now)) }
 {
-    Err(AllocError)
+    tables.known();
+    let mut out = Replies::new(alloc, xid, FLOW)?;
+    for table in 0..TABLES {
+        put_table(&mut out, alloc, tables, table, which)?;
+    }
+    out.close()
 }
 
 /// How many entries they are, and their packets and bytes in all (OpenFlow 1.3.5, 7.3.5.3). The sums wrap.

@@ -4,11 +4,16 @@
 mod description;
 mod flows;
 mod groups;
+mod laws;
 mod ports;
+mod references;
+mod replies;
 mod tables;
+mod writing;
 
 pub use description::description_reply;
 pub use flows::{aggregate_reply, flow_replies};
 pub use groups::{group_description_replies, group_features_reply, group_replies};
+pub use laws::pieces_are_whole;
 pub use ports::{port_description_reply, port_stats_reply};
 pub use tables::table_reply;

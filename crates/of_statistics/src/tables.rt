@@ -1,12 +1,53 @@
 //! TABLE (OpenFlow 1.3.5, 7.3.5.4).
-ghost use Rattle.std.specs.Prelude.{◌≡◌, IfOk};
-ghost use Rattle.of_table.specs.Tables.{tables_of};
-ghost use Rattle.of_statistics.specs.Flows.{table_bytes};
+ghost use Rattle.std.specs.Prelude.{◌≡◌, ◌<◌, ◌++◌, length, OnOk, IfOk};
+ghost use Rattle.of_table.specs.Tables.{is_in as is_within, table_at, tables_of};
+ghost use Rattle.of_statistics.specs.Flows.{table_bytes, table_row};
 
+use crate::replies::{begun, sealed};
+use crate::writing::{put_u32, put_u64};
 use of_classifier::Lookup;
 use of_messages::MessageBytes;
-use of_table::FlowTables;
+use of_table::{Entries, FlowTables, Which};
 use std::alloc::{AllocError, Global};
+
+/// How many tables there are.
+pub(crate) const TABLES: u8 = 16;
+
+/// Whether a table is asked for.
+pub(crate) fn is_in(which: &Which, table: u8) -> bool
+    ensures { result ≡ is_within which.now.table table }
+{
+    match which.table {
+        None => true,
+        Some(number) => number == table,
+    }
+}
+
+/// OFPMP_TABLE.
+const TABLE: u16 = 3;
+
+// How many entries a table has.
+fn count_of(entries: Entries<'_>) -> usize
+    ensures { result ≡ length entries.entry }
+{
+    entries.count()
+}
+
+// How many entries a table has, and its counters, 24 bytes.
+fn put_table<L: Lookup>(
+    out: &mut Vec<u8>,
+    tables: &FlowTables<L>,
+    table: u8,
+) -> Result<(), AllocError>
+    requires { table < 16 }
+    ensures { OnOk result (out.new.items ≡ out.old.items ++ table_row table (table_at table (tables_of tables.now))) }
+{
+    tables.known();
+    out.extend_from_slice(&[table, 0, 0, 0])?;
+    put_u32(out, count_of(tables.entries(table)) as u32)?;
+    put_u64(out, tables.lookups(table))?;
+    put_u64(out, tables.matched(table))
+}
 
 /// How many entries each table has, and its counters (OpenFlow 1.3.5, 7.3.5.4).
 pub fn table_reply<L: Lookup>(
@@ -16,5 +57,10 @@ pub fn table_reply<L: Lookup>(
 ) -> Result<MessageBytes, AllocError>
     ensures { IfOk result (λ r. r ≡ table_bytes xid (tables_of tables.now)) }
 {
-    Err(AllocError)
+    tables.known();
+    let mut out = begun(alloc)?;
+    for table in 0..TABLES {
+        put_table(&mut out, tables, table)?;
+    }
+    Ok(sealed(out, xid, TABLE, 0))
 }

@@ -1,0 +1,30 @@
+-- How many entries there are of a kind.
+use Rattle.std.proofs.Common.{◌≡◌, ◌<◌, ℕ, ◌+◌, Bool, true, false, cond, List, [], ◌∷◌, length, take, get_or, refl, ap, sym, ◌∙◌, arith}
+use Rattle.std.specs.Prelude.{filter}
+use Rattle.std.specs.List.{count_by, sum_by}
+use Rattle.std.proofs.lemmas.List.Sums.{length-filter, sum_by-append}
+use Rattle.of_table.specs.declared.entry.Entry.{Entry}
+use Rattle.of_table.specs.Table.{FlowEntry, Table, empty_table}
+use Rattle.of_table.specs.Entries.{entry_of, flows_of}
+use Rattle.of_statistics.specs.Flows.{from_tables}
+use Rattle.of_statistics.proofs.Walks.{from_more}
+
+same_length : (p : FlowEntry → Bool) (es : List Entry) → length (filter (λ e. p (entry_of e)) es) ≡ length (filter p (flows_of es))
+same_length p [] = refl
+same_length p (e ∷ es) = by_test (p (entry_of e)) (same_length p es)
+  where
+    by_test : (b : Bool) → length (filter (λ e. p (entry_of e)) es) ≡ length (filter p (flows_of es))
+        → length (cond b (e ∷ filter (λ e. p (entry_of e)) es) (filter (λ e. p (entry_of e)) es)) ≡ length (cond b (entry_of e ∷ filter p (flows_of es)) (filter p (flows_of es)))
+    by_test true h = omega (arith, h)
+    by_test false h = h
+
+pub count_of_filtered : (p : FlowEntry → Bool) (es : List Entry) → length (filter (λ e. p (entry_of e)) es) ≡ count_by p (flows_of es)
+count_of_filtered p es = same_length p es ∙ length-filter p (flows_of es)
+
+-- those of one table more
+pub count_more : (p : FlowEntry → Bool) (k : ℕ) (ts : List Table) (n : ℕ) → k < length ts → n ≡ count_by p (get_or ts k empty_table).flows → count_by p (from_tables (λ k t. t.flows) 0 (take k ts)) + n ≡ count_by p (from_tables (λ k t. t.flows) 0 (take (k + 1) ts))
+count_more p k ts n lt is =
+    let f = λ (e : FlowEntry). cond (p e) 1 0 in
+    let these = from_tables (λ k t. t.flows) 0 (take k ts) in
+    let flows = (get_or ts k empty_table).flows in
+    ap (λ (m : ℕ). sum_by f these + m) is ∙ sym (ap (sum_by f) (from_more (λ k t. t.flows) k ts empty_table lt) ∙ sum_by-append f these flows)

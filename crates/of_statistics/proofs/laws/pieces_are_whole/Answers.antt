@@ -1,0 +1,8 @@
+use Rattle.of_statistics.proofs.Cutting.{cut, joined}
+use Rattle.of_statistics.proofs.laws.pieces_are_whole.Goals as goal
+
+pub returns-clause-cut : goal.returns-clause-cut
+returns-clause-cut c = cut
+
+pub returns-clause-joined : goal.returns-clause-joined
+returns-clause-joined c = joined

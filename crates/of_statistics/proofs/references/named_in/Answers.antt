@@ -1,0 +1,25 @@
+use Rattle.std.proofs.Common.{◌≡◌, ◌<◌, ◌+◌, length, ap, ◌∙◌, sym, arith}
+use Rattle.std.specs.Prelude.{Some}
+use Rattle.std.specs.List.{count_by}
+use Rattle.std.proofs.lemmas.List.{length-map}
+use Rattle.std.proofs.lemmas.List.Sums.{count_by-le-length}
+use Rattle.of_table.specs.Table.{Table}
+use Rattle.of_table.specs.Entries.{table_of}
+use Rattle.of_table.specs.Selecting.{names_group}
+use Rattle.of_table.specs.Tables.{table_at, tables_of}
+use Rattle.of_statistics.proofs.Counts.{count_more}
+use Rattle.of_statistics.proofs.Walks.{table_at_is}
+use Rattle.of_statistics.proofs.references.named_in.Goals as goal
+
+pub loop-table-preserved : goal.loop-table-preserved
+loop-table-preserved g c =
+    let k = c.loop-table.table in
+    let p = names_group (Some c.args.group) in
+    let ts = (tables_of c.args.tables.now).tables in
+    let there : k < length ts = omega (arith, c.known.ensures.sixteen, length-map c.args.tables.now.tables table_of) in
+    let flows = (table_at k (tables_of c.args.tables.now)).flows in
+    let counted : c.named_by-count.result ≡ count_by p flows = (rw c.entries.ensures at c.named_by-count.ensures) ∙ sym (ap (λ (t : Table). count_by p t.flows) (table_at_is k c.args.tables.now)) in
+    record {
+      count = ap (λ n. n + c.named_by-count.result) c.loop-table.invariant.count ∙ count_more p k ts c.named_by-count.result there counted;
+      few = omega (arith, c.loop-table.invariant.few, counted, count_by-le-length p flows, (c.known.ensures.sound k).few);
+    }
