@@ -6,3 +6,4 @@ pub mod FlowRows
 pub mod Walks
 pub mod Counts
 pub mod GroupRows
+pub mod Sums

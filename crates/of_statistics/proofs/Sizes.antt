@@ -9,7 +9,8 @@ use Rattle.of_ports.specs.declared.port.Port.{Port}
 use Rattle.of_ports.specs.Ports.{port_at}
 use Rattle.of_statistics.specs.Durations.{duration}
 use Rattle.of_statistics.specs.Descriptions.{padded, description}
-use Rattle.of_statistics.specs.Flows.{from_tables, table_row}
+use Rattle.of_statistics.specs.declared.aggregate.Totals.{Totals}
+use Rattle.of_statistics.specs.Flows.{aggregate, from_tables, table_row}
 use Rattle.of_statistics.specs.Groups.{group_features}
 use Rattle.of_statistics.specs.Ports.{asked_ports, port_counts, port_row}
 
@@ -67,3 +68,7 @@ length_table k t = refl
 pub length_tables : (k : ℕ) (ts : List Table) → length (from_tables table_row k ts) ≡ 24 * length ts
 length_tables k [] = refl
 length_tables k (t ∷ ts) = omega (arith, length_table k t, length_tables (suc k) ts, length-append (table_row k t) (from_tables table_row (suc k) ts))
+
+pub length_aggregate : (t : Totals) → length (aggregate t) ≡ 24
+unfolding aggregate
+length_aggregate t = refl

@@ -1,7 +1,7 @@
 -- Walks over tables and their entries.
 use Rattle.std.proofs.Common.{◌≡◌, ◌<◌, ℕ, zero, suc, ◌+◌, Bool, true, false, cond, List, [], ◌∷◌, ◌++◌, length, take, get_or, refl, ap, sym, ◌∙◌, append_assoc, add-one, arith}
 use Rattle.std.specs.Prelude.{map, filter}
-use Rattle.std.proofs.lemmas.List.{append-nil, map-append}
+use Rattle.std.proofs.lemmas.List.{append-nil, length-map, map-append}
 use Rattle.std.proofs.Math.ListN.{get_or-map}
 use Rattle.of_table.specs.Table.{FlowEntry, Table, empty_table}
 use Rattle.of_table.specs.declared.selection.Which.{Which}
@@ -16,6 +16,10 @@ use Rattle.of_statistics.proofs.Cutting.{rows_more}
 -- a table without the numbers of its entries
 pub table_at_is : (k : ℕ) (n : NumberedTables) → table_at k (tables_of n) ≡ table_of (numbered_at k n)
 table_at_is k n = get_or-map table_of n.tables k no_entries
+
+-- it has as many entries
+pub entries_count : (k : ℕ) (n : NumberedTables) → length (numbered_at k n).entries ≡ length (table_at k (tables_of n)).flows
+entries_count k n = sym (ap (λ (t : Table). length t.flows) (table_at_is k n) ∙ length-map (numbered_at k n).entries entry_of)
 
 -- ---- one table more
 

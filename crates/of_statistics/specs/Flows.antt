@@ -9,6 +9,7 @@ use Rattle.of_table.specs.declared.selection.Which.{Which}
 use Rattle.of_table.specs.Table.{FlowEntry, Table}
 use Rattle.of_table.specs.Tables.{Tables, is_in}
 use Rattle.of_table.specs.Selecting.{selects}
+use Rattle.of_statistics.specs.declared.aggregate.Totals.{Totals}
 use Rattle.of_statistics.specs.Replies.{reply, replies}
 use Rattle.of_statistics.specs.Durations.{duration}
 
@@ -79,20 +80,21 @@ rows_of_entries now w k flows = map (flow_row now) (map (λ e. record { table = 
 abbrev pub flow_bytes : ℕ → Which → Tables → List (List ℕ)
 flow_bytes xid w ts = replies xid 1 (flow_rows w ts)
 
--- ---- AGGREGATE: the sums wrap
+-- ---- AGGREGATE
 
-abbrev pub packets_of : List Listed → ℕ
-packets_of ls = sum_by (λ l. l.entry.packets) ls % 2 ^ 64
+abbrev pub asked : Which → Tables → List FlowEntry
+asked w ts = map (λ l. l.entry) (listed w ts)
 
-abbrev pub bytes_of : List Listed → ℕ
-bytes_of ls = sum_by (λ l. l.entry.bytes) ls % 2 ^ 64
+-- what entries have counted in all, which wraps, and how many they are
+abbrev pub totals : List FlowEntry → Totals
+totals es = record { packets = sum_by (λ e. e.packets) es % 2 ^ 64; bytes = sum_by (λ e. e.bytes) es % 2 ^ 64; flows = length es }
 
--- how many packets and bytes, how many entries, padding
-abbrev pub aggregate : List Listed → List ℕ
-aggregate ls = big_bytes 8 (packets_of ls) ++ (big_bytes 8 (bytes_of ls) ++ (big_bytes 4 (length ls) ++ replicate 4 0))
+-- packets, bytes, entries, padding
+unfoldable pub aggregate : Totals → List ℕ
+aggregate t = big_bytes 8 t.packets ++ (big_bytes 8 t.bytes ++ (big_bytes 4 t.flows ++ replicate 4 0))
 
 abbrev pub aggregate_bytes : ℕ → Which → Tables → List ℕ
-aggregate_bytes xid w ts = reply xid 2 0 (aggregate (listed w ts))
+aggregate_bytes xid w ts = reply xid 2 0 (aggregate (totals (asked w ts)))
 
 -- ---- TABLE
 

@@ -1,9 +1,9 @@
-//! FLOW and AGGREGATE (OpenFlow 1.3.5, 7.3.5.2 and 7.3.5.3).
+//! FLOW (OpenFlow 1.3.5, 7.3.5.2).
 ghost use Rattle.std.specs.Prelude.{◌≡◌, ◌<◌, ◌≤◌, ◌++◌, length, map, OnOk, IfOk};
 ghost use Rattle.of_table.specs.Entries.{entry_of, flows_of};
 ghost use Rattle.of_table.specs.Tables.{table_at, tables_of};
 ghost use Rattle.of_statistics.specs.Replies.{with_rows};
-ghost use Rattle.of_statistics.specs.Flows.{aggregate_bytes, flow_bytes, flow_counts, flow_row as row_of, flow_times, flags_number, listed_in, rows_of_entries, rows_of_one};
+ghost use Rattle.of_statistics.specs.Flows.{flow_bytes, flow_counts, flow_row as row_of, flow_times, flags_number, listed_in, rows_of_entries, rows_of_one};
 
 use crate::replies::Replies;
 use crate::tables::{TABLES, is_in};
@@ -140,16 +140,4 @@ pub fn flow_replies<L: Lookup>(
         put_table(&mut out, alloc, tables, table, which)?;
     }
     out.close()
-}
-
-/// How many entries they are, and their packets and bytes in all (OpenFlow 1.3.5, 7.3.5.3). The sums wrap.
-pub fn aggregate_reply<L: Lookup>(
-    alloc: Global,
-    xid: u32,
-    tables: &FlowTables<L>,
-    which: &Which,
-) -> Result<MessageBytes, AllocError>
-    ensures { IfOk result (λ r. r ≡ aggregate_bytes xid which.now (tables_of tables.now)) }
-{
-    Err(AllocError)
 }

@@ -1,6 +1,7 @@
 //! Replies to requests for statistics and descriptions: MULTIPART_REPLY (OpenFlow 1.3.5, 7.3.5).
 #![tactic(auto)]
 
+mod aggregate;
 mod description;
 mod flows;
 mod groups;
@@ -11,8 +12,9 @@ mod replies;
 mod tables;
 mod writing;
 
+pub use aggregate::aggregate_reply;
 pub use description::description_reply;
-pub use flows::{aggregate_reply, flow_replies};
+pub use flows::flow_replies;
 pub use groups::{group_description_replies, group_features_reply, group_replies};
 pub use laws::pieces_are_whole;
 pub use ports::{port_description_reply, port_stats_reply};
