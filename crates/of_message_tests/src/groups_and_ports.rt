@@ -116,7 +116,6 @@ fn port_mod(rt: HostRuntime) -> Result<(), Fail> {
         hw: [2, 0, 0, 0, 0, 0xa2],
         config: 1,
         mask: 0x65,
-        advertise: 0x200f,
     };
     assert_eq!(rt; read, Some(wanted));
     Ok(())

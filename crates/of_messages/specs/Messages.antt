@@ -114,7 +114,7 @@ flow_mod_by m None None = Err (refusal 5 6)
 abbrev pub flow_mod_of : List ℕ → Result FlowMod Code
 flow_mod_of m = flow_mod_by m (first_of (flow_mod_refusals m)) (command_of (slice_index m 25))
 
--- PACKET_OUT (7.3.6)
+-- PACKET_OUT (7.3.7)
 
 -- a packet comes by a port, or is of the controller
 abbrev pub is_ingress : ℕ → Bool

@@ -22,7 +22,6 @@ port_mod_with m = record {
   hw = hw_in m;
   config = big_number 4 (drop 24 m);
   mask = mask_in m;
-  advertise = big_number 4 (drop 32 m);
 }
 
 -- OFPPMFC_BAD_CONFIG of a mask with another bit

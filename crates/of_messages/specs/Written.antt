@@ -49,7 +49,7 @@ error_bytes xid code «data» = message 1 xid (big_bytes 2 code.kind ++ (big_byt
 abbrev pub echo_reply_bytes : ℕ → List ℕ → List ℕ
 echo_reply_bytes xid «data» = message 3 xid «data»
 
--- 7.3.7
+-- 7.3.8
 abbrev pub barrier_reply_bytes : ℕ → List ℕ
 barrier_reply_bytes xid = message 21 xid []
 

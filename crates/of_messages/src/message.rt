@@ -70,7 +70,7 @@ pub struct FlowMod {
     pub instructions: InstructionList,
 }
 
-/// The packet that a PACKET_OUT sends (OpenFlow 1.3.5, 7.3.6).
+/// The packet that a PACKET_OUT sends (OpenFlow 1.3.5, 7.3.7).
 #[derive(Debug, Drop)]
 pub enum PacketData {
     /// The buffered packet of this number.
@@ -79,7 +79,7 @@ pub enum PacketData {
     Frame(Bytes),
 }
 
-/// A PACKET_OUT (OpenFlow 1.3.5, 7.3.6).
+/// A PACKET_OUT (OpenFlow 1.3.5, 7.3.7).
 #[derive(Debug, Drop)]
 pub struct PacketOut {
     /// The port by which the packet is said to have come in: that of a port of the switch, or OFPP_CONTROLLER.
@@ -154,7 +154,7 @@ pub enum Message {
     GetConfigRequest,
     /// SET_CONFIG (7.3.2).
     SetConfig(SwitchConfig),
-    /// PACKET_OUT (7.3.6).
+    /// PACKET_OUT (7.3.7).
     PacketOut(PacketOut),
     /// FLOW_MOD (7.3.4.1).
     FlowMod(FlowMod),
@@ -166,7 +166,7 @@ pub enum Message {
     TableMod(TableMod),
     /// MULTIPART_REQUEST (7.3.5).
     Multipart(MultipartRequest),
-    /// BARRIER_REQUEST (7.3.7).
+    /// BARRIER_REQUEST (7.3.8).
     BarrierRequest,
     /// ROLE_REQUEST (7.3.9).
     RoleRequest(RoleRequest),

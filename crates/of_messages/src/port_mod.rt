@@ -12,7 +12,7 @@ const BAD_CONFIG: Code = Code { kind: 7, code: 2 };
 /// OFPPC_PORT_DOWN, OFPPC_NO_RECV, OFPPC_NO_FWD and OFPPC_NO_PACKET_IN, 1, 4, 32 and 64.
 const KNOWN_BITS: u32 = 101;
 
-/// A PORT_MOD (OpenFlow 1.3.5, 7.3.4.3).
+/// A PORT_MOD (OpenFlow 1.3.5, 7.3.4.3). The features that a port is to advertise are not looked at: ports have none.
 #[derive(Clone, Copy, Debug, PartialEq, Eq)]
 pub struct PortMod {
     pub port: u32,
@@ -22,8 +22,6 @@ pub struct PortMod {
     pub config: u32,
     /// The bits of the configuration that are to change: of OFPPC_PORT_DOWN, NO_RECV, NO_FWD and NO_PACKET_IN.
     pub mask: u32,
-    /// The features that the port is to advertise; 0 for no change.
-    pub advertise: u32,
 }
 
 /// A port as messages describe it, without features and speeds (OpenFlow 1.3.5, 7.2.1).
@@ -74,6 +72,5 @@ pub(crate) fn read_port_mod(message: &[u8]) -> Result<PortMod, ReadError>
         hw: read_hw(message),
         config: BigEndian::read_u32(rest_from(message, 24)),
         mask,
-        advertise: BigEndian::read_u32(rest_from(message, 32)),
     })
 }

@@ -66,7 +66,7 @@ pub fn write_echo_reply(alloc: Global, xid: u32, body: &[u8]) -> Result<MessageB
     Ok(MessageBytes::new(Bytes::new(out)))
 }
 
-/// A BARRIER_REPLY (OpenFlow 1.3.5, 7.3.7).
+/// A BARRIER_REPLY (OpenFlow 1.3.5, 7.3.8).
 #[tactic(auto, using(crate::proofs::Lengths::barrier_reply_is_message))]
 pub fn write_barrier_reply(alloc: Global, xid: u32) -> Result<MessageBytes, AllocError>
     ensures { IfOk result (λ bytes. bytes ≡ barrier_reply_bytes xid) }

@@ -155,7 +155,7 @@ is_notice_heard heard n = lets_pass heard.flow_removed (removed_bit n.reason)
 abbrev pub notice_effects : Heard → ℕ → List Notice → List Effect
 notice_effects heard now ns = map (notice_effect now) (filter (is_notice_heard heard) ns)
 
--- ---- PACKET_OUT (7.3.6)
+-- ---- PACKET_OUT (7.3.7)
 
 abbrev pub is_buffered : PacketData → Bool
 is_buffered (Buffered number) = true

@@ -143,7 +143,7 @@ impl<L: Lookup> Plane<L> {
         plan_of(alloc, heard, &self.ports, Some(reception), outcome)
     }
 
-    /// What a packet of the controller will do by its actions (OpenFlow 1.3.5, 7.3.6).
+    /// What a packet of the controller will do by its actions (OpenFlow 1.3.5, 7.3.7).
     pub fn plan_packet_out(
         &mut self,
         alloc: Global,
