@@ -28,7 +28,7 @@ use Rattle.of_actions.specs.FlowCheck.{all_go_with}
 use Rattle.of_text.specs.declared.row.Row.{Row}
 use Rattle.of_text.specs.declared.row.Row.TheVariants as rows
 use Rattle.of_text.specs.Rows.{Fits, ActionFits, FieldFits, IsMask}
-use Rattle.of_text.specs.Order.{start, following, standing}
+use Rattle.of_text.specs.Order.{start, flow_next, flow_standing}
 use Rattle.of_text.specs.Reading.{◌>>=◌}
 use Rattle.of_text.specs.Flows.{Step, Apply, Clear, Write, Metadata, Goto, Flow, step_rows}
 use Rattle.of_text.specs.Refusals.{field_refusals, action_refusals, list_refusals, step_refusals, goto_refusals, goes_with, match_refusals, steps_refusals, flow_refusals, table_refusals, or_else}
@@ -93,12 +93,12 @@ some_bind : (t : Bool) (n : ℕ) (k : ℕ → Option ℕ) → IsSome (cond t (So
 some_bind true n k h = (refl, h)
 some_bind false n k h = absurd cc
 
-fields_rise : (p : ℕ) (m : List MatchField) (rest : List Row) → IsSome (standing p (map rows.Match m ++ rest)) → AllByRecursion (λ e. p ≤ number_of e.field) m × IsRising m
-unfolding following
+fields_rise : (p : ℕ) (m : List MatchField) (rest : List Row) → IsSome (flow_standing p (map rows.Match m ++ rest)) → AllByRecursion (λ e. p ≤ number_of e.field) m × IsRising m
+unfolding flow_next
 fields_rise p [] rest h = (tt, tt)
 fields_rise p (e ∷ es) rest h =
     let n = number_of e.field in
-    let parts = some_bind (nat_le p n) (n + 1) (λ q. standing q (map rows.Match es ++ rest)) h in
+    let parts = some_bind (nat_le p n) (n + 1) (λ q. flow_standing q (map rows.Match es ++ rest)) h in
     let others = fields_rise (n + 1) es rest parts.1 in
     let low : p ≤ n = leb-true p n parts.0 in
     ((low, lower p n low es others.0), (above n es others.0, others.1))
@@ -113,19 +113,19 @@ fields_rise p (e ∷ es) rest h =
 
 -- ---- instructions
 
-step_after : (p : ℕ) (s : Step) (rest : List Row) → IsSome (standing p (step_rows s ++ rest)) → (p ≤ 40 + run_place (instruction_of s)) × IsSome (standing (41 + run_place (instruction_of s)) rest)
-unfolding following
+step_after : (p : ℕ) (s : Step) (rest : List Row) → IsSome (flow_standing p (step_rows s ++ rest)) → (p ≤ 40 + run_place (instruction_of s)) × IsSome (flow_standing (41 + run_place (instruction_of s)) rest)
+unfolding flow_next
 step_after p (Apply xs) rest h =
-    let parts = some_bind (nat_le p 40) 41 (λ q. standing q (map rows.Do xs ++ rest)) h in
+    let parts = some_bind (nat_le p 40) 41 (λ q. flow_standing q (map rows.Do xs ++ rest)) h in
     (leb-true p 40 parts.0, subst IsSome (actions_stand 41 xs rest refl) parts.1)
-step_after p Clear rest h = let parts = some_bind (nat_le p 41) 42 (λ q. standing q rest) h in (leb-true p 41 parts.0, parts.1)
+step_after p Clear rest h = let parts = some_bind (nat_le p 41) 42 (λ q. flow_standing q rest) h in (leb-true p 41 parts.0, parts.1)
 step_after p (Write xs) rest h =
-    let parts = some_bind (nat_le p 42) 43 (λ q. standing q (map rows.Do xs ++ rest)) h in
+    let parts = some_bind (nat_le p 42) 43 (λ q. flow_standing q (map rows.Do xs ++ rest)) h in
     (leb-true p 42 parts.0, subst IsSome (actions_stand 43 xs rest refl) parts.1)
-step_after p (Metadata v m) rest h = let parts = some_bind (nat_le p 43) 44 (λ q. standing q rest) h in (leb-true p 43 parts.0, parts.1)
-step_after p (Goto t) rest h = let parts = some_bind (nat_le p 44) 45 (λ q. standing q rest) h in (leb-true p 44 parts.0, parts.1)
+step_after p (Metadata v m) rest h = let parts = some_bind (nat_le p 43) 44 (λ q. flow_standing q rest) h in (leb-true p 43 parts.0, parts.1)
+step_after p (Goto t) rest h = let parts = some_bind (nat_le p 44) 45 (λ q. flow_standing q rest) h in (leb-true p 44 parts.0, parts.1)
 
-steps_rise : (p : ℕ) (ss : List Step) → IsSome (standing p (flat_map step_rows ss)) → AllByRecursion (λ i. p ≤ 40 + run_place i) (map instruction_of ss) × (is_rising run_place (map instruction_of ss) ≡ true)
+steps_rise : (p : ℕ) (ss : List Step) → IsSome (flow_standing p (flat_map step_rows ss)) → AllByRecursion (λ i. p ≤ 40 + run_place i) (map instruction_of ss) × (is_rising run_place (map instruction_of ss) ≡ true)
 steps_rise p [] h = (tt, refl)
 steps_rise p (s ∷ ss) h =
     let n = run_place (instruction_of s) in
@@ -194,7 +194,7 @@ goes_same m (Goto t ∷ ss) = ap (λ (b : Bool). true && b) (goes_same m ss)
 
 -- ---- flows
 
-match_is : (m : List MatchField) (rest : List Row) → AllByRecursion Fits (map rows.Match m) → IsSome (standing 0 (map rows.Match m ++ rest)) → first_of (match_refusals m) ≡ None → IsMatch m
+match_is : (m : List MatchField) (rest : List Row) → AllByRecursion Fits (map rows.Match m) → IsSome (flow_standing 0 (map rows.Match m ++ rest)) → first_of (match_refusals m) ≡ None → IsMatch m
 unfolding match_refusals
 match_is m rest k o h =
     let parts = none_both (flat_map field_refusals m) _ h in
@@ -204,10 +204,10 @@ match_is m rest k o h =
       met = not-false (all_met m) (none_next _ [] parts.1).0;
     }
 
-behind_fields : (m : List MatchField) (ss : List Step) → IsSome (standing 0 (map rows.Match m ++ flat_map step_rows ss)) → is_rising run_place (map instruction_of ss) ≡ true
+behind_fields : (m : List MatchField) (ss : List Step) → IsSome (flow_standing 0 (map rows.Match m ++ flat_map step_rows ss)) → is_rising run_place (map instruction_of ss) ≡ true
 behind_fields m ss o =
     let both = standing_both 0 (map rows.Match m) (flat_map step_rows ss) in
-    let next = some_front (standing 0 (map rows.Match m)) (λ q. standing q (flat_map step_rows ss)) (subst IsSome both o) in
+    let next = some_front (flow_standing 0 (map rows.Match m)) (λ q. flow_standing q (flat_map step_rows ss)) (subst IsSome both o) in
     (steps_rise next.0 ss (rw next.1 at (subst IsSome both o))).1
 
 flow_entry : (f : Flow) → IsWhole f → first_of (flow_refusals f) ≡ None → IsEntry f.head.table f
