@@ -1,5 +1,5 @@
 -- What is kept of groups while they are judged. No public clause cites this module.
-use Rattle.std.specs.Prelude.{ℕ, ◌+◌, ◌∷◌, ◌++◌, nat_le, nat_lt, Bool, List, [], Option}
+use Rattle.std.specs.Prelude.{ℕ, ◌+◌, ◌∷◌, nat_le, nat_lt, Bool, List, [], Option}
 use Rattle.of_wire.specs.declared.code.Code.{Code}
 use Rattle.of_wire.specs.Refusals.{first_of, refusal}
 use Rattle.of_groups.specs.declared.group.Group.{Group}

@@ -21,12 +21,18 @@ use of_groups::{
 use of_oxm::Code;
 use std::alloc::{AllocError, Global};
 
+fn bucket_refusal(bucket: &BucketText) -> Option<Code>
+    ensures { result ≡ first_of (list_refusals (view_bucket bucket.now).actions) }
+{
+    list_refusal(&bucket.actions)
+}
+
 #[tactic(auto, using(crate::proofs::RefusalLemmas::first_append, crate::proofs::RefusalLemmas::flat_next))]
 fn each_refusal(buckets: &[BucketText]) -> Option<Code>
     ensures { result ≡ first_of (flat_map (λ b. list_refusals (view_bucket b).actions) buckets.now) }
 {
     for bucket in buckets {
-        if let Some(code) = list_refusal(&bucket.actions) {
+        if let Some(code) = bucket_refusal(bucket) {
             return Some(code);
         }
     }
