@@ -1,13 +1,17 @@
--- EVENT FILES THAT BUILD A CONFIGURATION on a new switch: a controller connects, says HELLO and adds each flow by a FLOW_MOD.
-use Rattle.std.specs.Prelude.{◌≡◌, ℕ, ◌+◌, List, [], ◌∷◌, ◌++◌, codes}
+-- EVENT FILES THAT BUILD A CONFIGURATION on a new switch: a controller connects, says HELLO, and adds each group by a GROUP_MOD and each flow by a FLOW_MOD.
+use Rattle.std.specs.Prelude.{◌≡◌, ℕ, ◌+◌, ◌==◌, Bool, List, [], ◌∷◌, ◌++◌, codes, filter, length, if◌then◌else◌}
 use Rattle.hex.specs.Hex.{encode_lower}
 use Rattle.of_messages.specs.declared.message.FlowMod.{FlowMod}
 use Rattle.of_messages.specs.declared.message.FlowModCommand.TheVariants.{Add}
+use Rattle.of_messages.specs.declared.group_mod.NewGroup.{NewGroup}
 use Rattle.of_messages.specs.Written.{flow_mod_bytes}
+use Rattle.of_messages.specs.CanonicalGroups.{group_add_bytes}
+use Rattle.of_groups.specs.Chains.{chain}
+use Rattle.of_text.specs.Groups.{TextGroup, buckets_of, groups_at}
 use Rattle.of_text.specs.Flows.{Flow}
 use Rattle.of_text.specs.Kept.{instructions_of}
 use Rattle.of_text.specs.Lines.{lines_of}
-use Rattle.of_text.specs.Configs.{SpellConfig, all_flows}
+use Rattle.of_text.specs.Configs.{Configuration, SpellConfig, all_flows}
 
 -- the FLOW_MOD that adds a flow (OpenFlow 1.3.5, 7.3.4.1): no buffer, any port and any group (all ones), masks of 0
 abbrev pub add_of : Flow → FlowMod
@@ -36,16 +40,41 @@ abbrev pub add_lines : ℕ → List Flow → List ℕ
 add_lines xid [] = []
 add_lines xid (f ∷ fs) = piece_line (flow_mod_bytes xid (add_of f)) ++ add_lines (xid + 1) fs
 
+-- the group that a GROUP_MOD adds (7.3.4.2)
+abbrev pub new_of : TextGroup → NewGroup
+new_of g = record { id = g.head.id; kind = g.head.kind; buckets = buckets_of g }
+
+-- a row for each group, with transaction ids from this one on
+abbrev pub group_lines : ℕ → List TextGroup → List ℕ
+group_lines xid [] = []
+group_lines xid (g ∷ gs) = piece_line (group_add_bytes xid (new_of g)) ++ group_lines (xid + 1) gs
+
+-- the group alone, if it is wanted
+abbrev pub those : Bool → TextGroup → List TextGroup
+those wanted g = if wanted then g ∷ [] else []
+
+-- those that begin a longest chain of this length, where all are there, in their order
+abbrev pub of_length : List TextGroup → ℕ → List TextGroup → List TextGroup
+of_length all n groups = filter (λ g. chain (groups_at 0 all) g.head.id == n) groups
+
+-- GROUPS IN TURN: by rising length of the longest chain that begins there, so that each stands behind those that it names (6.5); then by number
+abbrev pub in_turn : List TextGroup → List TextGroup
+in_turn groups = of_length groups 1 groups ++ (of_length groups 2 groups ++ of_length groups 3 groups)
+
 -- a HELLO of version 4 without elements (7.5.1)
 abbrev pub hello : List ℕ
 hello = 4 ∷ 0 ∷ 0 ∷ 8 ∷ 0 ∷ 0 ∷ 0 ∷ 0 ∷ []
 
--- THE FILE of a configuration: its flows by table, and in a table the oldest first
-unfoldable pub build_text : List (List Flow) → List ℕ
-build_text tables = codes "connect\n" ++ (piece_line hello ++ add_lines 1 (all_flows tables))
+-- THE FILE of a configuration: its groups in turn, then its flows by table, and in a table the oldest first
+unfoldable pub build_text : Configuration → List ℕ
+build_text c =
+    codes "connect\n"
+    ++ (piece_line hello
+    ++ (group_lines 1 (in_turn c.groups)
+    ++ add_lines (1 + length (in_turn c.groups)) (all_flows c.tables)))
 
 -- THE FILE OF A TEXT: that of the configuration that the text spells
 pub record BuildsOf (text file : List ℕ) : Type 0 where
-  pub tables : List (List Flow)
-  pub spelt : SpellConfig (lines_of text) tables
-  pub is : file ≡ build_text tables
+  pub config : Configuration
+  pub spelt : SpellConfig (lines_of text) config
+  pub is : file ≡ build_text config

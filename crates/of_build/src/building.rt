@@ -1,18 +1,22 @@
 //! Event files that build a configuration.
-ghost use Rattle.std.specs.Prelude.{◌≡◌, ◌<◌, ◌+◌, ◌^◌, ◌++◌, List, IfErr, IfOk, MatchResult, OnOk, length};
-ghost use Rattle.std.specs.List.{AllByRecursion};
+ghost use Rattle.std.specs.Prelude.{◌≡◌, ◌<◌, ◌≤◌, ◌+◌, ◌^◌, ◌++◌, true, IfErr, IfOk, MatchResult, OnOk, length, map};
+ghost use Rattle.std.specs.List.{AllByRecursion, list_all};
 ghost use Rattle.hex.specs.Hex.{encode_lower};
+ghost use Rattle.of_groups.specs.Buckets.{are_fit};
+ghost use Rattle.of_groups.specs.Chains.{chain};
+ghost use Rattle.of_groups.specs.Sound.{is_fit_group};
+ghost use Rattle.of_text.specs.Groups.{buckets_of, groups_at};
 ghost use Rattle.of_text.specs.Kept.{IsEntry};
-ghost use Rattle.of_text.specs.Views.{view, view_flows};
-ghost use Rattle.of_text.specs.Configs.{SpellConfig, all_flows};
+ghost use Rattle.of_text.specs.Views.{view, view_flows, view_group, view_groups};
+ghost use Rattle.of_text.specs.Configs.{Configuration, SpellConfig, all_flows};
 ghost use Rattle.of_text.specs.First.{FailsFirst};
-ghost use Rattle.of_text.specs.Flows.{Flow};
 ghost use Rattle.of_text.specs.Lines.{lines_of};
 ghost use Rattle.of_messages.specs.Written.{flow_mod_bytes};
-ghost use Rattle.of_build.specs.Building.{BuildsOf, add_lines, add_of as add_is, build_text, piece_line};
+ghost use Rattle.of_build.specs.Building.{BuildsOf, add_lines, add_of as add_is, build_text, group_lines, in_turn, of_length, piece_line, those};
 
-use of_messages::{FlowMod, FlowModCommand, write_flow_mod};
-use of_text::{Config, FlowText, TextFault, assemble};
+use of_groups::chain_lengths;
+use of_messages::{FlowMod, FlowModCommand, NewGroup, write_flow_mod, write_group_mod};
+use of_text::{Config, FlowText, GroupText, TextFault, assemble};
 use std::alloc::{AllocError, Global};
 
 /// How many flow tables there are.
@@ -102,12 +106,85 @@ fn push_flows(
     Ok(next)
 }
 
-// Appends a row for each flow.
-fn push_tables(alloc: Global, out: &mut Vec<u8>, config: &Config) -> Result<(), AllocError>
-    ensures { OnOk result (out.new.items ≡ out.old.items ++ add_lines 1 (all_flows config.now)) }
+// Appends the row that adds a group, if it is wanted, and answers the next transaction id.
+fn push_group(
+    alloc: Global,
+    out: &mut Vec<u8>,
+    xid: u32,
+    wanted: bool,
+    group: &GroupText,
+) -> Result<u32, AllocError>
+    requires fit { are_fit (buckets_of (view_group group.now)) ≡ true }
+    requires few { xid + 1 < 2 ^ 32 }
+    ensures rows { OnOk result (out.new.items ≡ out.old.items ++ group_lines xid (those wanted (view_group group.now))) }
+    ensures next { IfOk result (λ next. next ≡ xid + length (those wanted (view_group group.now))) }
+{
+    if !wanted {
+        return Ok(xid);
+    }
+    let new_group = NewGroup {
+        id: group.head.id,
+        kind: group.head.kind,
+        buckets: group.to_buckets()?,
+    };
+    let bytes = write_group_mod(alloc, xid, &new_group)?;
+    push_piece(alloc, out, bytes.as_slice())?;
+    Ok(xid + 1)
+}
+
+// Appends a row for each group that begins a chain of this length, with transaction ids from this one on, and answers the next.
+fn push_groups(
+    alloc: Global,
+    out: &mut Vec<u8>,
+    xid: u32,
+    wanted: u8,
+    groups: &[GroupText],
+    lengths: &[u8],
+) -> Result<u32, AllocError>
+    requires fit { list_all is_fit_group (groups_at 0 (view_groups groups.now)) ≡ true }
+    requires lengths { lengths.now ≡ map (λ g. chain (groups_at 0 (view_groups groups.now)) g.id) (groups_at 0 (view_groups groups.now)) }
+    requires few { xid + length groups.now < 2 ^ 32 }
+    ensures rows { OnOk result (out.new.items ≡ out.old.items ++ group_lines xid (of_length (view_groups groups.now) wanted (view_groups groups.now))) }
+    ensures next { IfOk result (λ next. next ≡ xid + length (of_length (view_groups groups.now) wanted (view_groups groups.now))) }
+    ensures most { IfOk result (λ next. next ≤ xid + length groups.now) }
+{
+    let mut next = xid;
+    let mut place = 0;
+    for group in groups {
+        next = push_group(alloc, out, next, lengths[place] == wanted, group)?;
+        place += 1;
+    }
+    Ok(next)
+}
+
+// Appends a row for each group, in turn, and answers the next transaction id.
+fn push_all_groups(alloc: Global, out: &mut Vec<u8>, config: &Config) -> Result<u32, AllocError>
+    ensures rows { OnOk result (out.new.items ≡ out.old.items ++ group_lines 1 (in_turn config.now.groups)) }
+    ensures next { IfOk result (λ next. next ≡ 1 + length (in_turn config.now.groups)) }
+    ensures most { IfOk result (λ next. next ≤ 769) }
 {
     config.known();
-    let mut xid = 1;
+    let made = config.to_groups(0)?;
+    let lengths = chain_lengths(alloc, made.groups())?;
+    let groups = config.groups();
+    let second = push_groups(alloc, out, 1, 1, groups, &lengths)?;
+    let third = push_groups(alloc, out, second, 2, groups, &lengths)?;
+    let next = push_groups(alloc, out, third, 3, groups, &lengths)?;
+    Ok(next)
+}
+
+// Appends a row for each flow, with transaction ids from this one on.
+fn push_tables(
+    alloc: Global,
+    out: &mut Vec<u8>,
+    first: u32,
+    config: &Config,
+) -> Result<(), AllocError>
+    requires { first ≤ 769 }
+    ensures { OnOk result (out.new.items ≡ out.old.items ++ add_lines first (all_flows config.now.tables)) }
+{
+    config.known();
+    let mut xid = first;
     for table in 0..TABLES {
         xid = push_flows(alloc, out, xid, table, config.flows(table))?;
     }
@@ -122,7 +199,8 @@ pub fn build(alloc: Global, config: &Config) -> Result<Vec<u8>, AllocError>
     let mut out = Vec::new(alloc);
     out.extend_from_slice(b"connect\n")?;
     push_piece(alloc, &mut out, &HELLO)?;
-    push_tables(alloc, &mut out, config)?;
+    let first = push_all_groups(alloc, &mut out, config)?;
+    push_tables(alloc, &mut out, first, config)?;
     Ok(out)
 }
 
@@ -131,7 +209,7 @@ pub fn build_of(alloc: Global, text: &[u8]) -> Result<Vec<u8>, TextFault>
     // What is built is that of the configuration that the text spells.
     ensures built { IfOk result (λ file. BuildsOf text.now file.items) }
     // What the text spells is built, unless memory runs out.
-    ensures only { (tables : List (List Flow)) → SpellConfig (lines_of text.now) tables → MatchResult result (λ file. file.items ≡ build_text tables) (λ e. e ≡ TextFault.NoMemory) }
+    ensures only { (config : Configuration) → SpellConfig (lines_of text.now) config → MatchResult result (λ file. file.items ≡ build_text config) (λ e. e ≡ TextFault.NoMemory) }
     // Which line is at fault.
     ensures failed { IfErr result (FailsFirst (lines_of text.now)) }
 {

@@ -1,6 +1,7 @@
 pub mod NameLemmas
 pub mod ChainLemmas
 pub mod RoundLemmas
+pub mod MarkLemmas
 pub mod PutLemmas
 pub mod Soundness
 pub mod Finding

@@ -17,7 +17,7 @@ use Rattle.of_groups.proofs.PutLemmas.{find_with, any_with}
 shifted_bool : (n m : ℕ) (x : Bool) → cond (ltb (suc n) (suc m)) x false ≡ cond (ltb n m) x false
 shifted_bool n m x = let same : ltb (suc n) (suc m) ≡ ltb n m = grind (arith, nat_tests) in rw same refl
 
-mark_is : (f : Group → Bool) (groups : List Group) (n : ℕ) → mark_at groups (map f groups) n ≡ option_map_or f (find_group n groups) false
+pub mark_is : (f : Group → Bool) (groups : List Group) (n : ℕ) → mark_at groups (map f groups) n ≡ option_map_or f (find_group n groups) false
 mark_is f [] n = refl
 mark_is f (g ∷ groups) n = by_test (eqb g.id n) (mark_is f groups n)
   where

@@ -1,5 +1,5 @@
 -- What is known of chains after so many rounds. No public clause cites this module.
-use Rattle.std.specs.Prelude.{◌≡◌, ℕ, ◌==◌, ◌&&◌, not, Bool, false, List, [], ◌∷◌, if◌then◌else◌}
+use Rattle.std.specs.Prelude.{◌≡◌, ℕ, ◌==◌, ◌&&◌, not, Bool, false, List, [], ◌∷◌, map, if◌then◌else◌}
 use Rattle.of_groups.specs.declared.group.Group.{Group}
 use Rattle.of_groups.specs.declared.chains.Round.{Round}
 use Rattle.of_groups.specs.Groups.{with_group, is_there}
@@ -23,3 +23,11 @@ pub record IsRound (gs : List Group) (g : Group) (k : ℕ) (r : Round) : Type 0 
   pub groups : r.groups.now ≡ gs
   pub new : r.new.now ≡ g
   pub known : known_of r ≡ leads (with_group g gs) k
+
+-- of each group whether so many more stand behind it
+abbrev pub marks_of : List Group → ℕ → List Bool
+marks_of groups k = map (λ g. leads groups k g.id) groups
+
+-- the length of the longest chain, by how far chains lead
+abbrev pub length_from : Bool → Bool → Bool → Bool → ℕ
+length_from there one two three = if three then 4 else if two then 3 else if one then 2 else if there then 1 else 0

@@ -44,7 +44,7 @@ fn mark_at_place(marks: &[bool], place: usize) -> bool
 }
 
 // The mark that stands at the place of the group of that number.
-fn mark_of(groups: &[Group], marks: &[bool], number: u32) -> bool
+pub(crate) fn mark_of(groups: &[Group], marks: &[bool], number: u32) -> bool
     ensures { result ≡ mark_at groups.now marks.now number }
 {
     match place_of(groups, number) {

@@ -44,7 +44,8 @@ fn any_badly_watched(buckets: &[Bucket]) -> bool
     buckets.iter().any(|bucket| is_badly_watched(bucket))
 }
 
-fn has_bad_watch(kind: GroupKind, buckets: &[Bucket]) -> bool
+/// Whether the kind is FAST-FAILOVER, and a bucket watches what cannot be a port or a group, or nothing.
+pub fn has_bad_watch(kind: GroupKind, buckets: &[Bucket]) -> bool
     ensures { result ≡ is_bad_watch kind buckets.now }
 {
     match kind {
@@ -53,7 +54,8 @@ fn has_bad_watch(kind: GroupKind, buckets: &[Bucket]) -> bool
     }
 }
 
-fn lacks_one_bucket(kind: GroupKind, buckets: &[Bucket]) -> bool
+/// Whether the kind is INDIRECT, and there is no bucket, or more than one.
+pub fn lacks_one_bucket(kind: GroupKind, buckets: &[Bucket]) -> bool
     ensures { result ≡ is_not_one kind buckets.now }
 {
     match kind {

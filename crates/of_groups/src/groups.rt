@@ -53,6 +53,14 @@ impl Groups {
         }
     }
 
+    /// Groups that stand beside each other as those of a switch do.
+    pub fn of(groups: Vec<Group>) -> Groups
+        requires { AreSound groups.items }
+        ensures { result ≡ groups.items }
+    {
+        Groups { groups }
+    }
+
     /// Adds a group, at that moment in nanoseconds (OpenFlow 1.3.5, 6.5). Its counters begin at 0.
     ///
     /// A call that fails changes nothing.

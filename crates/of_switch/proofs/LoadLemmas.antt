@@ -7,6 +7,7 @@ use Rattle.std.proofs.lemmas.List.{append-nil, map-append, length-map}
 use Rattle.of_text.specs.declared.flow.FlowText.{FlowText}
 use Rattle.of_text.specs.Flows.{Flow as TextFlow}
 use Rattle.of_text.specs.Refusals.{is_same as is_same_text}
+use Rattle.of_text.specs.Groups.{TextGroup}
 use Rattle.of_text.specs.Kept.{IsEntry, AllStandBehind}
 use Rattle.of_text.specs.Views.{view, view_flows}
 use Rattle.of_table.specs.Table.{FlowEntry, Table, empty_table, is_same, added}
@@ -70,14 +71,16 @@ pub record Loading (table : ℕ) (all : List TextFlow) (left : List FlowText) (o
   pub before : List TextFlow
   pub whole : all ≡ before ++ view_flows left
   pub entries : AllByRecursion (IsEntry table) (view_flows left)
-  pub stand : AllStandBehind before (view_flows left)
+  pub groups : List TextGroup
+  pub stand : AllStandBehind groups before (view_flows left)
   pub is : new ≡ with_table table (loaded_table old.latest before) old
 
-pub loading_start : (table : ℕ) (flows : List FlowText) (old : Tables) → table < length old.tables → AllByRecursion (IsEntry table) (view_flows flows) → AllStandBehind [] (view_flows flows) → table_at table old ≡ empty_table → Loading table (view_flows flows) flows old old
-loading_start table flows old lt entries stand empty = record {
+pub loading_start : (table : ℕ) (groups : List TextGroup) (flows : List FlowText) (old : Tables) → table < length old.tables → AllByRecursion (IsEntry table) (view_flows flows) → AllStandBehind groups [] (view_flows flows) → table_at table old ≡ empty_table → Loading table (view_flows flows) flows old old
+loading_start table groups flows old lt entries stand empty = record {
   before = [];
   whole = refl;
   entries = entries;
+  groups = groups;
   stand = stand;
   is = sym (λ i. record { tables = set_same old.tables table (loaded_table old.latest []) empty_table lt empty i; latest = old.latest });
 }
@@ -89,7 +92,7 @@ pub loading_next : (table : ℕ) (all : List TextFlow) (left rest : List FlowTex
     → IsEntry table (view x) × (list_any (is_same (flow_in (view x))) (table_at table new).flows ≡ false) × (length (table_at table new).flows < 4096)
 loading_next table all left rest x old new lt l e =
     let entries : AllByRecursion (IsEntry table) (view_flows (x ∷ rest)) = subst (λ (fs : List FlowText). AllByRecursion (IsEntry table) (view_flows fs)) e l.entries in
-    let stand : AllStandBehind l.before (view_flows (x ∷ rest)) = subst (λ (fs : List FlowText). AllStandBehind l.before (view_flows fs)) e l.stand in
+    let stand : AllStandBehind l.groups l.before (view_flows (x ∷ rest)) = subst (λ (fs : List FlowText). AllStandBehind l.groups l.before (view_flows fs)) e l.stand in
     let at = there table old.latest l.before old new lt l.is in (
       entries.0,
       ap (λ (t : Table). list_any (is_same (flow_in (view x))) t.flows) at ∙ (same_any old.latest (view x) l.before ∙ stand.0.unlike),
@@ -100,7 +103,7 @@ pub loading_more : (table : ℕ) (all : List TextFlow) (left rest : List FlowTex
     → new ≡ added_to table (flow_in (view x)) now → Loading table all rest old new
 loading_more table all left rest x old now new lt l e is =
     let entries : AllByRecursion (IsEntry table) (view_flows (x ∷ rest)) = subst (λ (fs : List FlowText). AllByRecursion (IsEntry table) (view_flows fs)) e l.entries in
-    let stand : AllStandBehind l.before (view_flows (x ∷ rest)) = subst (λ (fs : List FlowText). AllStandBehind l.before (view_flows fs)) e l.stand in
+    let stand : AllStandBehind l.groups l.before (view_flows (x ∷ rest)) = subst (λ (fs : List FlowText). AllStandBehind l.groups l.before (view_flows fs)) e l.stand in
     let at = there table old.latest l.before old now lt l.is in
     let moment : now.latest ≡ old.latest = ap (λ (t : Tables). t.latest) l.is in
     let last = added_last old.latest (view x) l.before stand.0.unlike in
@@ -111,6 +114,7 @@ loading_more table all left rest x old now new lt l e is =
       before = l.before ++ view x ∷ [];
       whole = l.whole ∙ (ap (λ (fs : List FlowText). l.before ++ view_flows fs) e ∙ sym (append_assoc l.before (view x ∷ []) (view_flows rest)));
       entries = entries.1;
+      groups = l.groups;
       stand = stand.1;
       is = is ∙ (λ i. record {
         tables = (ap (λ (t : Table). set now.tables table t) table_is

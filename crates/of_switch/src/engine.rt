@@ -23,7 +23,7 @@ ghost use Rattle.of_switch.specs.Control.{heard_by, heard_in};
 ghost use Rattle.of_switch.specs.Roles.{election_refusals};
 ghost use Rattle.of_switch.specs.Statistics.{multipart_bytes, multipart_refusals};
 ghost use Rattle.of_switch.specs.Handling.{Handles};
-ghost use Rattle.of_switch.specs.Loading.{loaded_tables};
+ghost use Rattle.of_switch.specs.Loading.{loaded_core};
 ghost use Rattle.of_switch.specs.Steps.{does, done, flow_modded, forwarded, group_added, group_modded, group_modified, groups_deleted, linked_at, packet_outed, port_added, port_modded, removed_at, replied, role_asked, state_refusals, with_tables, without_connection, moment_done};
 
 use crate::commands::{any_to_absent_group, flow_from, has_flag, names_absent_group, which_from};
@@ -533,12 +533,15 @@ impl<L: Lookup> Engine<L> {
         Ok(self.plane.carry_out(plan))
     }
 
-    /// The flows of a configuration take the place of those in the flow tables.
+    /// The groups and flows of a configuration take the place of those that are there.
     pub fn load(&mut self, config: &Config) -> Result<(), AllocError>
-        ensures ok { OnOk result (self.new ≡ with_tables (loaded_tables self.old.forwarding.tables.latest config.now) self.old) }
+        ensures ok { OnOk result (self.new ≡ loaded_core config.now self.old) }
         ensures err { OnErr result (self.new ≡ self.old) }
     {
-        self.plane.tables = load_tables(self.alloc, self.plane.tables.latest(), config)?;
+        let now = self.plane.tables.latest();
+        let tables = load_tables(self.alloc, now, config)?;
+        self.plane.groups = config.to_groups(now)?;
+        self.plane.tables = tables;
         Ok(())
     }
 

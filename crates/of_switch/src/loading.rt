@@ -1,10 +1,11 @@
 //! Flow tables from configurations.
-ghost use Rattle.std.specs.Prelude.{◌≡◌, ◌<◌, [], false, IsTrue, IfOk, OnOk, length};
+ghost use Rattle.std.specs.Prelude.{◌≡◌, ◌<◌, [], List, false, IsTrue, IfOk, OnOk, length};
 ghost use Rattle.std.specs.List.{AllByRecursion, list_any};
 ghost use Rattle.of_oxm.specs.NormalForm.{IsMatch};
 ghost use Rattle.of_actions.specs.InstructionLists.{are_kept};
 ghost use Rattle.of_table.specs.Table.{empty_table, is_same, kept_flags};
 ghost use Rattle.of_table.specs.Tables.{added_to, no_tables, table_at, tables_of, with_table};
+ghost use Rattle.of_text.specs.Groups.{TextGroup};
 ghost use Rattle.of_text.specs.Kept.{AllStandBehind, IsEntry, instructions_of};
 ghost use Rattle.of_text.specs.Views.{view, view_flows};
 ghost use Rattle.of_switch.specs.Commands.{flags_of};
@@ -76,7 +77,7 @@ fn load_table<L: Lookup>(
 ) -> Result<(), AllocError>
     requires table { table < 16 }
     requires entries { AllByRecursion (IsEntry table) (view_flows flows.now) }
-    requires stand { AllStandBehind [] (view_flows flows.now) }
+    requires stand { (groups : List TextGroup) × AllStandBehind groups [] (view_flows flows.now) }
     requires empty { table_at table (tables_of tables.old) ≡ empty_table }
     ensures { OnOk result (tables_of tables.new ≡ with_table table (loaded_table tables.old.latest (view_flows flows.now)) (tables_of tables.old)) }
 {
@@ -102,7 +103,7 @@ pub fn load_tables<L: Lookup>(
     latest: u64,
     config: &Config,
 ) -> Result<FlowTables<L>, AllocError>
-    ensures { IfOk result (λ t. tables_of t ≡ loaded_tables latest config.now) }
+    ensures { IfOk result (λ t. tables_of t ≡ loaded_tables latest config.now.tables) }
 {
     config.known();
     let mut tables = tables_at(alloc, latest)?;

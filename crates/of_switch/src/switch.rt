@@ -304,7 +304,7 @@ impl<L: Lookup> Switch<L> {
         Ok(())
     }
 
-    /// The flows of a configuration take the place of those in the flow tables, without notices.
+    /// The groups and flows of a configuration take the place of those that are there, without notices.
     ///
     /// They are added at the latest moment, and their counters and those of the tables are 0. All else stays.
     pub fn load(&mut self, config: &Config) -> Result<(), SwitchError>

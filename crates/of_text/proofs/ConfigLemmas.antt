@@ -2,22 +2,29 @@
 use Rattle.std.proofs.Common.{◌≡◌, ℕ, suc, zero, ◌+◌, ◌<◌, ◌≤◌, eqb, Bool, true, false, cond, List, [], ◌∷◌, ◌++◌, length, Option, Some, None, refl, sym, ◌∙◌, ap, append_assoc, arith}
 use Rattle.std.specs.Prelude.{map, filter, IsSome}
 use Rattle.std.specs.List.{AllByRecursion, flat_map}
-use Rattle.std.specs.Option.{option_map_or}
+use Rattle.std.specs.Option.{option_map, option_map_or}
 use Rattle.std.proofs.lemmas.Bool.{eq-eqb, ne_eqb, eqb-true}
 use Rattle.std.proofs.lemmas.List.{append-nil}
 use Rattle.std.proofs.lemmas.List.Elements.{filter-append}
+use Rattle.of_wire.specs.declared.code.Code.{Code}
 use Rattle.of_wire.specs.Refusals.{first_of}
 use Rattle.of_text.specs.declared.row.Row.{Row}
 use Rattle.of_text.specs.declared.row.Row.TheVariants as rows
 use Rattle.of_text.specs.Lines.{lines_of}
 use Rattle.of_text.specs.Rows.{Fits}
-use Rattle.of_text.specs.Order.{start, following, standing}
-use Rattle.of_text.specs.Flows.{Flow, flow_rows, rows_of, step_rows}
-use Rattle.of_text.specs.Refusals.{flow_refusals, table_refusals}
+use Rattle.of_text.specs.declared.order.Place.{Place}
+use Rattle.of_text.specs.declared.order.Place.TheVariants.{Start, InGroup, InBucket, InFlow}
+use Rattle.of_text.specs.declared.row.FlowHead.{FlowHead}
+use Rattle.of_text.specs.Groups.{TextGroup, rows_of_groups}
+use Rattle.of_text.specs.Reading.{◌>>=◌}
+use Rattle.of_text.specs.Order.{start, following, standing, flow_next, flow_standing}
+use Rattle.of_text.specs.Flows.{Flow, flow_rows, rows_of, step_rows, text_rows}
+use Rattle.of_text.specs.Refusals.{all_there, flow_refusals, table_refusals}
 use Rattle.of_text.specs.Texts.{AreRows}
-use Rattle.of_text.specs.First.{flows_for, refusals_behind, refused_from, first_refusal}
-use Rattle.of_text.specs.Configs.{tables_from, tables_of, IsConfig, SpellConfig, all_flows, config_text}
-use Rattle.of_text.proofs.TextLemmas.{all_front, all_back, all_both, standing_both, some_front, one_list}
+use Rattle.of_text.specs.First.{flows_for, refusals_behind, refused_from, refused_group, first_refusal}
+use Rattle.of_text.specs.Configs.{Configuration, tables_from, tables_of, IsConfig, SpellConfig, all_flows, config_text}
+use Rattle.of_text.proofs.TextLemmas.{all_front, all_back, all_both, standing_both, flow_both, some_front, one_list}
+use Rattle.of_text.proofs.GatherLemmas.{all_in_flow}
 use Rattle.of_text.proofs.WriteLemmas.{text_spells}
 
 -- ---- the flows of a table
@@ -79,26 +86,26 @@ tables_again fs = same_tables 16 0 fs (all_flows (tables_from 16 0 fs)) (λ u l 
 
 -- ---- none of a table is refused
 
-unfoldable pub Stand : List Flow → List Flow → Type 0
-Stand before [] = Unit {0}
-Stand before (f ∷ fs) = (first_of (flow_refusals f ++ table_refusals before f) ≡ None) × Stand (before ++ f ∷ []) fs
+unfoldable pub Stand : List TextGroup → List Flow → List Flow → Type 0
+Stand gs before [] = Unit {0}
+Stand gs before (f ∷ fs) = (first_of (flow_refusals f ++ table_refusals gs before f) ≡ None) × Stand gs (before ++ f ∷ []) fs
 
-both_none : {A B : Type 0} (g : A → B) (o : Option A) (d : Option B) → option_map_or (λ a. Some (g a)) o d ≡ None → (o ≡ None) × (d ≡ None)
+pub both_none : {A B : Type 0} (g : A → B) (o : Option A) (d : Option B) → option_map_or (λ a. Some (g a)) o d ≡ None → (o ≡ None) × (d ≡ None)
 both_none g None d h = (refl, h)
 both_none g (Some a) d h = absurd cc
 
-pub in_table : (t : ℕ) (before fs : List Flow) → refused_from before fs ≡ None → Stand (flows_for t before) (flows_for t fs)
+pub in_table : (gs : List TextGroup) (t : ℕ) (before fs : List Flow) → refused_from gs before fs ≡ None → Stand gs (flows_for t before) (flows_for t fs)
 unfolding Stand
-in_table t before [] h = tt
-in_table t before (f ∷ fs) h =
-    let parts = both_none (λ code. (length before, code)) (first_of (refusals_behind before f)) (refused_from (before ++ f ∷ []) fs) h in
-    by_test parts.0 (in_table t (before ++ f ∷ []) fs parts.1) (is_for t f) refl
+in_table gs t before [] h = tt
+in_table gs t before (f ∷ fs) h =
+    let parts = both_none (λ code. (length gs + length before, code)) (first_of (refusals_behind gs before f)) (refused_from gs (before ++ f ∷ []) fs) h in
+    by_test parts.0 (in_table gs t (before ++ f ∷ []) fs parts.1) (is_for t f) refl
   where
-    by_test : first_of (refusals_behind before f) ≡ None → Stand (flows_for t (before ++ f ∷ [])) (flows_for t fs) → (b : Bool) → is_for t f ≡ b → Stand (flows_for t before) (cond (is_for t f) (f ∷ flows_for t fs) (flows_for t fs))
+    by_test : first_of (refusals_behind gs before f) ≡ None → Stand gs (flows_for t (before ++ f ∷ [])) (flows_for t fs) → (b : Bool) → is_for t f ≡ b → Stand gs (flows_for t before) (cond (is_for t f) (f ∷ flows_for t fs) (flows_for t fs))
     by_test one others true e =
         let is : f.head.table ≡ t = eqb-true f.head.table t e in
         let more : flows_for t (before ++ f ∷ []) ≡ flows_for t before ++ f ∷ [] = filter-append (is_for t) before (f ∷ []) ∙ rw e refl in
-        rw e (ap (λ (u : ℕ). first_of (flow_refusals f ++ table_refusals (flows_for u before) f)) (sym is) ∙ one, rw more at others)
+        rw e (ap (λ (u : ℕ). first_of (flow_refusals f ++ table_refusals gs (flows_for u before) f)) (sym is) ∙ one, rw more at others)
     by_test one others false e =
         let same : flows_for t (before ++ f ∷ []) ≡ flows_for t before = filter-append (is_for t) before (f ∷ []) ∙ rw e (append-nil (flows_for t before)) in
         rw e (rw same at others)
@@ -114,23 +121,37 @@ all_for t (f ∷ fs) = by_test (all_for t fs) (is_for t f) refl
     by_test others true e = rw e (eqb-true f.head.table t e, others)
     by_test others false e = rw e others
 
-stands_on : (t : ℕ) (before fs rest : List Flow) → AllFor t fs → Stand (flows_for t before) fs → refused_from before (fs ++ rest) ≡ refused_from (before ++ fs) rest
+pub stands_on : (gs : List TextGroup) (t : ℕ) (before fs rest : List Flow) → AllFor t fs → Stand gs (flows_for t before) fs → refused_from gs before (fs ++ rest) ≡ refused_from gs (before ++ fs) rest
 unfolding Stand
-stands_on t before [] rest a h = rw (append-nil before) refl
-stands_on t before (f ∷ fs) rest a h =
+stands_on gs t before [] rest a h = rw (append-nil before) refl
+stands_on gs t before (f ∷ fs) rest a h =
     let is : f.head.table ≡ t = a.0 in
     let mine : is_for t f ≡ true = eq-eqb f.head.table t is in
     let more : flows_for t (before ++ f ∷ []) ≡ flows_for t before ++ f ∷ [] = filter-append (is_for t) before (f ∷ []) ∙ rw mine refl in
-    let none : first_of (refusals_behind before f) ≡ None = ap (λ (u : ℕ). first_of (flow_refusals f ++ table_refusals (flows_for u before) f)) is ∙ h.0 in
-    let others = stands_on t (before ++ f ∷ []) fs rest a.1 (rw more h.1) in
-    rw none (others ∙ ap (λ (x : List Flow). refused_from x rest) (append_assoc before (f ∷ []) fs))
+    let none : first_of (refusals_behind gs before f) ≡ None = ap (λ (u : ℕ). first_of (flow_refusals f ++ table_refusals gs (flows_for u before) f)) is ∙ h.0 in
+    let others = stands_on gs t (before ++ f ∷ []) fs rest a.1 (rw more h.1) in
+    rw none (others ∙ ap (λ (x : List Flow). refused_from gs x rest) (append_assoc before (f ∷ []) fs))
 
-all_stand : (n t : ℕ) (before fs : List Flow) → ((u : ℕ) → t ≤ u → flows_for u before ≡ []) → first_refusal fs ≡ None → refused_from before (all_flows (tables_from n t fs)) ≡ None
-all_stand zero t before fs e h = refl
-all_stand (suc n) t before fs e h =
-    let here : Stand (flows_for t before) (flows_for t fs) = rw (e t (omega arith)) (in_table t [] fs h) in
-    stands_on t before (flows_for t fs) (all_flows (tables_from n (suc t) fs)) (all_for t fs) here
-    ∙ all_stand n (suc t) (before ++ flows_for t fs) fs (λ u l. filter-append (is_for u) before (flows_for t fs) ∙ rw (e u (omega (arith, l)), for_other t u (λ i. omega (arith, i, l)) fs) refl) h
+all_stand : (gs : List TextGroup) (n t : ℕ) (before fs : List Flow) → ((u : ℕ) → t ≤ u → flows_for u before ≡ []) → refused_from gs [] fs ≡ None → refused_from gs before (all_flows (tables_from n t fs)) ≡ None
+all_stand gs zero t before fs e h = refl
+all_stand gs (suc n) t before fs e h =
+    let here : Stand gs (flows_for t before) (flows_for t fs) = rw (e t (omega arith)) (in_table gs t [] fs h) in
+    stands_on gs t before (flows_for t fs) (all_flows (tables_from n (suc t) fs)) (all_for t fs) here
+    ∙ all_stand gs n (suc t) (before ++ flows_for t fs) fs (λ u l. filter-append (is_for u) before (flows_for t fs) ∙ rw (e u (omega (arith, l)), for_other t u (λ i. omega (arith, i, l)) fs) refl) h
+
+-- no group is refused, and no flow
+pub none_refused : (a b : Option (ℕ × Code)) → option_map_or Some a b ≡ None → (a ≡ None) × (b ≡ None)
+none_refused None b h = (refl, h)
+none_refused (Some x) b h = absurd cc
+
+pub groups_stand : (gs : List TextGroup) (fs : List Flow) → first_refusal gs fs ≡ None → refused_group (all_there gs) 0 gs ≡ None
+groups_stand gs fs h = (none_refused (refused_group (all_there gs) 0 gs) (refused_from gs [] fs) h).0
+
+pub flows_stand : (gs : List TextGroup) (fs : List Flow) → first_refusal gs fs ≡ None → refused_from gs [] fs ≡ None
+flows_stand gs fs h = (none_refused (refused_group (all_there gs) 0 gs) (refused_from gs [] fs) h).1
+
+pub both_stand : (gs : List TextGroup) (fs : List Flow) → refused_group (all_there gs) 0 gs ≡ None → refused_from gs [] fs ≡ None → first_refusal gs fs ≡ None
+both_stand gs fs a b = ap (λ (o : Option (ℕ × Code)). option_map_or Some o (refused_from gs [] fs)) a ∙ b
 
 -- ---- they stand in order
 
@@ -139,14 +160,14 @@ body f = map rows.Match f.fields ++ flat_map step_rows f.steps
 
 pub record IsWhole (f : Flow) : Type 0 where
   pub fits : AllByRecursion Fits (flow_rows f)
-  pub order : IsSome (standing 0 (body f))
+  pub order : IsSome (flow_standing 0 (body f))
 
-pub each_whole : (p : ℕ) (fs : List Flow) → AllByRecursion Fits (rows_of fs) → IsSome (standing p (rows_of fs)) → AllByRecursion IsWhole fs
-unfolding following
+pub each_whole : (p : ℕ) (fs : List Flow) → AllByRecursion Fits (rows_of fs) → IsSome (flow_standing p (rows_of fs)) → AllByRecursion IsWhole fs
+unfolding flow_next
 each_whole p [] f o = tt
 each_whole p (x ∷ xs) f o =
-    let next = some_front (standing 0 (body x)) (λ q. standing q (rows_of xs)) (rw (standing_both 0 (body x) (rows_of xs)) at o) in
-    (record { fits = all_front Fits (flow_rows x) (rows_of xs) f; order = rw next.1 refl }, each_whole next.0 xs (all_back Fits (flow_rows x) (rows_of xs) f) (rw (standing_both 0 (body x) (rows_of xs), next.1) at o))
+    let next = some_front (flow_standing 0 (body x)) (λ q. flow_standing q (rows_of xs)) (rw (flow_both 0 (body x) (rows_of xs)) at o) in
+    (record { fits = all_front Fits (flow_rows x) (rows_of xs) f; order = rw next.1 refl }, each_whole next.0 xs (all_back Fits (flow_rows x) (rows_of xs) f) (rw (flow_both 0 (body x) (rows_of xs), next.1) at o))
 
 whole_fits : (fs : List Flow) → AllByRecursion IsWhole fs → AllByRecursion Fits (rows_of fs)
 whole_fits [] h = tt
@@ -156,12 +177,12 @@ is_some : (o : Option ℕ) → IsSome o → (q : ℕ) × (o ≡ Some q)
 is_some None h = absurd cc
 is_some (Some q) h = (q, refl)
 
-whole_stands : (p : ℕ) (fs : List Flow) → AllByRecursion IsWhole fs → IsSome (standing p (rows_of fs))
-unfolding following
+whole_stands : (p : ℕ) (fs : List Flow) → AllByRecursion IsWhole fs → IsSome (flow_standing p (rows_of fs))
+unfolding flow_next
 whole_stands p [] h = refl
 whole_stands p (x ∷ xs) h =
-    let next = is_some (standing 0 (body x)) h.0.order in
-    rw (standing_both 0 (body x) (rows_of xs), next.1) (whole_stands next.0 xs h.1)
+    let next = is_some (flow_standing 0 (body x)) h.0.order in
+    rw (flow_both 0 (body x) (rows_of xs), next.1) (whole_stands next.0 xs h.1)
 
 pub kept_whole : (t : ℕ) (fs : List Flow) → AllByRecursion IsWhole fs → AllByRecursion IsWhole (flows_for t fs)
 kept_whole t [] h = tt
@@ -175,29 +196,89 @@ tables_whole : (n t : ℕ) (fs : List Flow) → AllByRecursion IsWhole fs → Al
 tables_whole zero t fs h = tt
 tables_whole (suc n) t fs h = all_both IsWhole (flows_for t fs) (all_flows (tables_from n (suc t) fs)) (kept_whole t fs h) (tables_whole n (suc t) fs h)
 
-pub rows_again : (fs : List Flow) → AreRows (rows_of fs) → AreRows (rows_of (all_flows (tables_of fs)))
+-- behind groups
+
+flow_begins : (place : Place) (h : FlowHead) → following place (rows.Flow h) ≡ Some (InFlow 0)
+unfolding following flow_next
+flow_begins Start h = refl
+flow_begins (InGroup n) h = refl
+flow_begins (InBucket n) h = refl
+flow_begins (InFlow n) h = refl
+
+mapped_some : {A B : Type 0} (f : A → B) (o : Option A) → IsSome o → IsSome (option_map f o)
+mapped_some f None h = absurd cc
+mapped_some f (Some a) h = refl
+
+some_mapped : {A B : Type 0} (f : A → B) (o : Option A) → IsSome (option_map f o) → IsSome o
+some_mapped f None h = absurd cc
+some_mapped f (Some a) h = refl
+
+pub flows_whole : (place : Place) (fs : List Flow) → AllByRecursion Fits (rows_of fs) → IsSome (standing place (rows_of fs)) → AllByRecursion IsWhole fs
+unfolding flow_next
+flows_whole place [] f o = tt
+flows_whole place (x ∷ xs) f o =
+    let inner : IsSome (standing (InFlow 0) (body x ++ rows_of xs)) = rw (flow_begins place x.head) at o in
+    each_whole 0 (x ∷ xs) f (some_mapped InFlow (flow_standing 0 (body x ++ rows_of xs)) (rw (all_in_flow 0 (body x ++ rows_of xs)) at inner))
+
+pub whole_placed : (place : Place) (fs : List Flow) → AllByRecursion IsWhole fs → IsSome (standing place (rows_of fs))
+unfolding flow_next
+whole_placed place [] h = refl
+whole_placed place (x ∷ xs) h = rw (flow_begins place x.head, all_in_flow 0 (body x ++ rows_of xs)) (mapped_some InFlow (flow_standing 0 (body x ++ rows_of xs)) (whole_stands 0 (x ∷ xs) h))
+
+-- groups that stand in order, with flows behind them
+pub record Parts (gs : List TextGroup) (fs : List Flow) : Type 0 where
+  pub fits : AllByRecursion Fits (rows_of_groups gs)
+  pub place : Place
+  pub order : standing start (rows_of_groups gs) ≡ Some place
+  pub whole : AllByRecursion IsWhole fs
+
+pub parts_of : (gs : List TextGroup) (fs : List Flow) → AreRows (text_rows gs fs) → Parts gs fs
+parts_of gs fs h =
+    let both : IsSome (standing start (rows_of_groups gs) >>= λ q. standing q (rows_of fs)) = rw (standing_both start (rows_of_groups gs) (rows_of fs)) at h.order in
+    let next = some_front (standing start (rows_of_groups gs)) (λ q. standing q (rows_of fs)) both in
+    record {
+      fits = all_front Fits (rows_of_groups gs) (rows_of fs) h.fits;
+      place = next.0;
+      order = next.1;
+      whole = flows_whole next.0 fs (all_back Fits (rows_of_groups gs) (rows_of fs) h.fits) (rw next.1 at both);
+    }
+
+pub rows_from : (gs : List TextGroup) (fs : List Flow) → Parts gs fs → AreRows (text_rows gs fs)
+rows_from gs fs p = record {
+  fits = all_both Fits (rows_of_groups gs) (rows_of fs) p.fits (whole_fits fs p.whole);
+  order = rw (standing_both start (rows_of_groups gs) (rows_of fs), p.order) (whole_placed p.place fs p.whole);
+}
+
+pub rows_again : (gs : List TextGroup) (fs : List Flow) → AreRows (text_rows gs fs) → AreRows (text_rows gs (all_flows (tables_of fs)))
 unfolding tables_of
-rows_again fs h =
-    let whole = tables_whole 16 0 fs (each_whole start fs h.fits h.order) in
-    record { fits = whole_fits (all_flows (tables_from 16 0 fs)) whole; order = whole_stands start (all_flows (tables_from 16 0 fs)) whole }
+rows_again gs fs h =
+    let p = parts_of gs fs h in
+    rows_from gs (all_flows (tables_from 16 0 fs)) (record { fits = p.fits; place = p.place; order = p.order; whole = tables_whole 16 0 fs p.whole })
 
 -- ---- configurations
 
-pub canonical_spells : (tables : List (List Flow)) → IsConfig tables → SpellConfig (lines_of (config_text tables)) tables
+pub canonical_spells : (c : Configuration) → IsConfig c → SpellConfig (lines_of (config_text c)) c
 unfolding tables_of
-canonical_spells tables c =
-    rw c.filled (record {
-      flows = all_flows (tables_of c.flows);
-      spelt = text_spells (all_flows (tables_of c.flows)) (rows_again c.flows c.rows);
-      stand = all_stand 16 0 [] c.flows (λ u l. refl) c.stand;
-      filled = sym (tables_again c.flows);
+canonical_spells c k =
+    rw k.filled (record {
+      flows = all_flows (tables_of k.flows);
+      spelt = text_spells c.groups (all_flows (tables_of k.flows)) (rows_again c.groups k.flows k.rows);
+      stand = both_stand c.groups (all_flows (tables_of k.flows)) (groups_stand c.groups k.flows k.stand) (all_stand c.groups 16 0 [] k.flows (λ u l. refl) (flows_stand c.groups k.flows k.stand));
+      filled = sym (tables_again k.flows);
     })
 
-pub spelt_config : (lines : List (List ℕ)) (tables : List (List Flow)) → SpellConfig lines tables → IsConfig tables
-spelt_config lines tables s = record { flows = s.flows; rows = s.spelt.allowed; stand = s.stand; filled = s.filled }
+pub spelt_config : (lines : List (List ℕ)) (c : Configuration) → SpellConfig lines c → IsConfig c
+spelt_config lines c s = record { flows = s.flows; rows = s.spelt.allowed; stand = s.stand; filled = s.filled }
 
-pub one_config : (lines : List (List ℕ)) (a b : List (List Flow)) → SpellConfig lines a → SpellConfig lines b → a ≡ b
-one_config lines a b s t = s.filled ∙ (ap tables_of (one_list lines s.flows t.flows s.spelt t.spelt) ∙ sym t.filled)
+same_config : (a b : Configuration) → a.groups ≡ b.groups → a.tables ≡ b.tables → a ≡ b
+same_config a b g t = ap (λ (x : List TextGroup). record { groups = x; tables = a.tables }) g ∙ ap (λ (x : List (List Flow)). record { groups = b.groups; tables = x }) t
 
-pub config_fits : (tables : List (List Flow)) → IsConfig tables → AllByRecursion Fits (rows_of (all_flows tables))
-config_fits tables c = rw c.filled (rows_again c.flows c.rows).fits
+pub one_config : (lines : List (List ℕ)) (a b : Configuration) → SpellConfig lines a → SpellConfig lines b → a ≡ b
+one_config lines a b s t =
+    let one = one_list lines a.groups b.groups s.flows t.flows s.spelt t.spelt in
+    same_config a b one.0 (s.filled ∙ (ap tables_of one.1 ∙ sym t.filled))
+
+pub config_fits : (c : Configuration) → IsConfig c → AllByRecursion Fits (rows_of_groups c.groups) × AllByRecursion Fits (rows_of (all_flows c.tables))
+config_fits c k =
+    let p = parts_of c.groups (all_flows (tables_of k.flows)) (rows_again c.groups k.flows k.rows) in
+    (p.fits, rw k.filled (whole_fits (all_flows (tables_of k.flows)) p.whole))

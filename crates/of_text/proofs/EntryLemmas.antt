@@ -28,37 +28,38 @@ use Rattle.of_actions.specs.FlowCheck.{all_go_with}
 use Rattle.of_text.specs.declared.row.Row.{Row}
 use Rattle.of_text.specs.declared.row.Row.TheVariants as rows
 use Rattle.of_text.specs.Rows.{Fits, ActionFits, FieldFits, IsMask}
-use Rattle.of_text.specs.Order.{start, following, standing}
+use Rattle.of_text.specs.Order.{flow_next, flow_standing}
 use Rattle.of_text.specs.Reading.{◌>>=◌}
+use Rattle.of_text.specs.Groups.{TextGroup}
 use Rattle.of_text.specs.Flows.{Step, Apply, Clear, Write, Metadata, Goto, Flow, step_rows}
 use Rattle.of_text.specs.Refusals.{field_refusals, action_refusals, list_refusals, step_refusals, goto_refusals, goes_with, match_refusals, steps_refusals, flow_refusals, table_refusals, or_else}
 use Rattle.of_text.specs.Kept.{instruction_of, IsEntry, StandsBehind, AllStandBehind}
 use Rattle.of_text.specs.First.{flows_for}
-use Rattle.of_text.specs.Configs.{IsConfig}
+use Rattle.of_text.specs.Configs.{Configuration, IsConfig}
 use Rattle.of_text.proofs.RefusalLemmas.{first_append}
-use Rattle.of_text.proofs.TextLemmas.{all_front, all_back, standing_both, some_front}
+use Rattle.of_text.proofs.TextLemmas.{all_front, all_back, flow_both, some_front}
 use Rattle.of_text.proofs.KeptLemmas.{actions_stand}
-use Rattle.of_text.proofs.ConfigLemmas.{Stand, in_table, AllFor, all_for, IsWhole, each_whole, kept_whole}
+use Rattle.of_text.proofs.ConfigLemmas.{Stand, in_table, AllFor, all_for, IsWhole, kept_whole, parts_of, flows_stand}
 use Rattle.of_text.proofs.FillLemmas.{table_at}
 use Rattle.std.proofs.lemmas.Bool.Decides.{nat_tests}
 
 -- ---- where none is refused
 
-none_next : (r : Bool × Code) (rs : List (Bool × Code)) → first_of (r ∷ rs) ≡ None → (r.0 ≡ false) × (first_of rs ≡ None)
+pub none_next : (r : Bool × Code) (rs : List (Bool × Code)) → first_of (r ∷ rs) ≡ None → (r.0 ≡ false) × (first_of rs ≡ None)
 none_next r rs h = by_test r.0 h
   where
     by_test : (t : Bool) → cond t (Some r.1) (first_of rs) ≡ None → (t ≡ false) × (first_of rs ≡ None)
     by_test true e = absurd cc
     by_test false e = (refl, e)
 
-none_both : (xs ys : List (Bool × Code)) → first_of (xs ++ ys) ≡ None → (first_of xs ≡ None) × (first_of ys ≡ None)
+pub none_both : (xs ys : List (Bool × Code)) → first_of (xs ++ ys) ≡ None → (first_of xs ≡ None) × (first_of ys ≡ None)
 none_both xs ys h = by_first (first_of xs) (sym (first_append xs ys) ∙ h)
   where
     by_first : (o : Option Code) → or_else o (first_of ys) ≡ None → (o ≡ None) × (first_of ys ≡ None)
     by_first None e = (refl, e)
     by_first (Some code) e = absurd cc
 
-none_each : {X : Type 0} (f : X → List (Bool × Code)) (xs : List X) → first_of (flat_map f xs) ≡ None → AllByRecursion (λ x. first_of (f x) ≡ None) xs
+pub none_each : {X : Type 0} (f : X → List (Bool × Code)) (xs : List X) → first_of (flat_map f xs) ≡ None → AllByRecursion (λ x. first_of (f x) ≡ None) xs
 none_each f [] h = tt
 none_each f (x ∷ xs) h = let parts = none_both (f x) (flat_map f xs) h in (parts.0, none_each f xs parts.1)
 
@@ -93,12 +94,12 @@ some_bind : (t : Bool) (n : ℕ) (k : ℕ → Option ℕ) → IsSome (cond t (So
 some_bind true n k h = (refl, h)
 some_bind false n k h = absurd cc
 
-fields_rise : (p : ℕ) (m : List MatchField) (rest : List Row) → IsSome (standing p (map rows.Match m ++ rest)) → AllByRecursion (λ e. p ≤ number_of e.field) m × IsRising m
-unfolding following
+fields_rise : (p : ℕ) (m : List MatchField) (rest : List Row) → IsSome (flow_standing p (map rows.Match m ++ rest)) → AllByRecursion (λ e. p ≤ number_of e.field) m × IsRising m
+unfolding flow_next
 fields_rise p [] rest h = (tt, tt)
 fields_rise p (e ∷ es) rest h =
     let n = number_of e.field in
-    let parts = some_bind (nat_le p n) (n + 1) (λ q. standing q (map rows.Match es ++ rest)) h in
+    let parts = some_bind (nat_le p n) (n + 1) (λ q. flow_standing q (map rows.Match es ++ rest)) h in
     let others = fields_rise (n + 1) es rest parts.1 in
     let low : p ≤ n = leb-true p n parts.0 in
     ((low, lower p n low es others.0), (above n es others.0, others.1))
@@ -113,19 +114,19 @@ fields_rise p (e ∷ es) rest h =
 
 -- ---- instructions
 
-step_after : (p : ℕ) (s : Step) (rest : List Row) → IsSome (standing p (step_rows s ++ rest)) → (p ≤ 40 + run_place (instruction_of s)) × IsSome (standing (41 + run_place (instruction_of s)) rest)
-unfolding following
+step_after : (p : ℕ) (s : Step) (rest : List Row) → IsSome (flow_standing p (step_rows s ++ rest)) → (p ≤ 40 + run_place (instruction_of s)) × IsSome (flow_standing (41 + run_place (instruction_of s)) rest)
+unfolding flow_next
 step_after p (Apply xs) rest h =
-    let parts = some_bind (nat_le p 40) 41 (λ q. standing q (map rows.Do xs ++ rest)) h in
+    let parts = some_bind (nat_le p 40) 41 (λ q. flow_standing q (map rows.Do xs ++ rest)) h in
     (leb-true p 40 parts.0, subst IsSome (actions_stand 41 xs rest refl) parts.1)
-step_after p Clear rest h = let parts = some_bind (nat_le p 41) 42 (λ q. standing q rest) h in (leb-true p 41 parts.0, parts.1)
+step_after p Clear rest h = let parts = some_bind (nat_le p 41) 42 (λ q. flow_standing q rest) h in (leb-true p 41 parts.0, parts.1)
 step_after p (Write xs) rest h =
-    let parts = some_bind (nat_le p 42) 43 (λ q. standing q (map rows.Do xs ++ rest)) h in
+    let parts = some_bind (nat_le p 42) 43 (λ q. flow_standing q (map rows.Do xs ++ rest)) h in
     (leb-true p 42 parts.0, subst IsSome (actions_stand 43 xs rest refl) parts.1)
-step_after p (Metadata v m) rest h = let parts = some_bind (nat_le p 43) 44 (λ q. standing q rest) h in (leb-true p 43 parts.0, parts.1)
-step_after p (Goto t) rest h = let parts = some_bind (nat_le p 44) 45 (λ q. standing q rest) h in (leb-true p 44 parts.0, parts.1)
+step_after p (Metadata v m) rest h = let parts = some_bind (nat_le p 43) 44 (λ q. flow_standing q rest) h in (leb-true p 43 parts.0, parts.1)
+step_after p (Goto t) rest h = let parts = some_bind (nat_le p 44) 45 (λ q. flow_standing q rest) h in (leb-true p 44 parts.0, parts.1)
 
-steps_rise : (p : ℕ) (ss : List Step) → IsSome (standing p (flat_map step_rows ss)) → AllByRecursion (λ i. p ≤ 40 + run_place i) (map instruction_of ss) × (is_rising run_place (map instruction_of ss) ≡ true)
+steps_rise : (p : ℕ) (ss : List Step) → IsSome (flow_standing p (flat_map step_rows ss)) → AllByRecursion (λ i. p ≤ 40 + run_place i) (map instruction_of ss) × (is_rising run_place (map instruction_of ss) ≡ true)
 steps_rise p [] h = (tt, refl)
 steps_rise p (s ∷ ss) h =
     let n = run_place (instruction_of s) in
@@ -158,7 +159,7 @@ each_served : (xs : List Action) → AllByRecursion Fits (map rows.Do xs) → Al
 each_served [] k h = refl
 each_served (a ∷ xs) k h = and_from _ _ (action_served a k.0 h.0) (each_served xs k.1 h.1)
 
-list_served : (xs : List Action) → AllByRecursion Fits (map rows.Do xs) → first_of (list_refusals xs) ≡ None → are_served false xs ≡ true
+pub list_served : (xs : List Action) → AllByRecursion Fits (map rows.Do xs) → first_of (list_refusals xs) ≡ None → are_served false xs ≡ true
 unfolding list_refusals
 list_served xs k h =
     let parts = none_both (flat_map action_refusals (take 64 xs)) _ h in
@@ -194,7 +195,7 @@ goes_same m (Goto t ∷ ss) = ap (λ (b : Bool). true && b) (goes_same m ss)
 
 -- ---- flows
 
-match_is : (m : List MatchField) (rest : List Row) → AllByRecursion Fits (map rows.Match m) → IsSome (standing 0 (map rows.Match m ++ rest)) → first_of (match_refusals m) ≡ None → IsMatch m
+match_is : (m : List MatchField) (rest : List Row) → AllByRecursion Fits (map rows.Match m) → IsSome (flow_standing 0 (map rows.Match m ++ rest)) → first_of (match_refusals m) ≡ None → IsMatch m
 unfolding match_refusals
 match_is m rest k o h =
     let parts = none_both (flat_map field_refusals m) _ h in
@@ -204,10 +205,10 @@ match_is m rest k o h =
       met = not-false (all_met m) (none_next _ [] parts.1).0;
     }
 
-behind_fields : (m : List MatchField) (ss : List Step) → IsSome (standing 0 (map rows.Match m ++ flat_map step_rows ss)) → is_rising run_place (map instruction_of ss) ≡ true
+behind_fields : (m : List MatchField) (ss : List Step) → IsSome (flow_standing 0 (map rows.Match m ++ flat_map step_rows ss)) → is_rising run_place (map instruction_of ss) ≡ true
 behind_fields m ss o =
-    let both = standing_both 0 (map rows.Match m) (flat_map step_rows ss) in
-    let next = some_front (standing 0 (map rows.Match m)) (λ q. standing q (flat_map step_rows ss)) (subst IsSome both o) in
+    let both = flow_both 0 (map rows.Match m) (flat_map step_rows ss) in
+    let next = some_front (flow_standing 0 (map rows.Match m)) (λ q. flow_standing q (flat_map step_rows ss)) (subst IsSome both o) in
     (steps_rise next.0 ss (rw next.1 at (subst IsSome both o))).1
 
 flow_entry : (f : Flow) → IsWhole f → first_of (flow_refusals f) ≡ None → IsEntry f.head.table f
@@ -230,46 +231,46 @@ flow_entry f w h =
       checked = goes_same f.fields f.steps ∙ not-false _ (none_next (not (list_all (goes_with f.fields) f.steps), refusal 2 10) [] lists.1).0;
     }
 
-table_entries : (table : ℕ) (before fs : List Flow) → AllFor table fs → AllByRecursion IsWhole fs → Stand before fs → AllByRecursion (IsEntry table) fs
+table_entries : (gs : List TextGroup) (table : ℕ) (before fs : List Flow) → AllFor table fs → AllByRecursion IsWhole fs → Stand gs before fs → AllByRecursion (IsEntry table) fs
 unfolding Stand
-table_entries table before [] a w h = tt
-table_entries table before (f ∷ fs) a w h =
-    (subst (λ (t : ℕ). IsEntry t f) a.0 (flow_entry f w.0 (none_both (flow_refusals f) (table_refusals before f) h.0).0), table_entries table (before ++ f ∷ []) fs a.1 w.1 h.1)
+table_entries gs table before [] a w h = tt
+table_entries gs table before (f ∷ fs) a w h =
+    (subst (λ (t : ℕ). IsEntry t f) a.0 (flow_entry f w.0 (none_both (flow_refusals f) (table_refusals gs before f) h.0).0), table_entries gs table (before ++ f ∷ []) fs a.1 w.1 h.1)
 
-pub config_entries : (tables : List (List Flow)) → IsConfig tables → (table : ℕ) → table < 16 → AllByRecursion (IsEntry table) (slice_index_or tables table [])
-config_entries tables c table lt =
-    let whole = kept_whole table c.flows (each_whole start c.flows c.rows.fits c.rows.order) in
-    rw (c.filled, table_at c.flows table lt) (table_entries table [] (flows_for table c.flows) (all_for table c.flows) whole (in_table table [] c.flows c.stand))
+pub config_entries : (c : Configuration) → IsConfig c → (table : ℕ) → table < 16 → AllByRecursion (IsEntry table) (slice_index_or c.tables table [])
+config_entries c k table lt =
+    let whole = kept_whole table k.flows (parts_of c.groups k.flows k.rows).whole in
+    rw (k.filled, table_at k.flows table lt) (table_entries c.groups table [] (flows_for table k.flows) (all_for table k.flows) whole (in_table c.groups table [] k.flows (flows_stand c.groups k.flows k.stand)))
 
 -- ---- beside the others of its table
 
 fewer : (n : ℕ) → nat_le 4096 n ≡ false → n < 4096
 fewer n h = grind (arith, nat_tests)
 
-flow_stands : (before : List Flow) (f : Flow) → first_of (flow_refusals f ++ table_refusals before f) ≡ None → StandsBehind before f
+flow_stands : (gs : List TextGroup) (before : List Flow) (f : Flow) → first_of (flow_refusals f ++ table_refusals gs before f) ≡ None → StandsBehind gs before f
 unfolding flow_refusals table_refusals
-flow_stands before f h =
-    let parts = none_both (flow_refusals f) (table_refusals before f) h in
+flow_stands gs before f h =
+    let parts = none_both (flow_refusals f) (table_refusals gs before f) h in
     let behind : List (Bool × Code) = match_refusals f.fields ++ steps_refusals f.head.table f.fields f.steps in
     let flags : Bool × Code = (not (eqb (bit_and f.head.flags 25) f.head.flags), refusal 5 7) in
     let own = none_next flags behind (none_next (nat_lt 15 f.head.table, refusal 5 2) (flags ∷ behind) parts.0).1 in
-    let beside = none_applies (table_refusals before f) parts.1 in
-    record { flags = eqb-true _ _ (not-false _ own.0); no_group = beside.0; unlike = beside.1.0; room = fewer (length before) beside.1.1.0 }
+    let beside = none_applies (table_refusals gs before f) parts.1 in
+    record { flags = eqb-true _ _ (not-false _ own.0); groups_there = beside.0; unlike = beside.1.0; room = fewer (length before) beside.1.1.0 }
 
-all_stand_behind : (before fs : List Flow) → Stand before fs → AllStandBehind before fs
+all_stand_behind : (gs : List TextGroup) (before fs : List Flow) → Stand gs before fs → AllStandBehind gs before fs
 unfolding Stand
-all_stand_behind before [] h = tt
-all_stand_behind before (f ∷ fs) h = (flow_stands before f h.0, all_stand_behind (before ++ f ∷ []) fs h.1)
+all_stand_behind gs before [] h = tt
+all_stand_behind gs before (f ∷ fs) h = (flow_stands gs before f h.0, all_stand_behind gs (before ++ f ∷ []) fs h.1)
 
-pub config_stands : (tables : List (List Flow)) → IsConfig tables → (table : ℕ) → table < 16 → AllStandBehind [] (slice_index_or tables table [])
-config_stands tables c table lt = rw (c.filled, table_at c.flows table lt) (all_stand_behind [] (flows_for table c.flows) (in_table table [] c.flows c.stand))
+pub config_stands : (c : Configuration) → IsConfig c → (table : ℕ) → table < 16 → AllStandBehind c.groups [] (slice_index_or c.tables table [])
+config_stands c k table lt = rw (k.filled, table_at k.flows table lt) (all_stand_behind c.groups [] (flows_for table k.flows) (in_table c.groups table [] k.flows (flows_stand c.groups k.flows k.stand)))
 
-stand_few : (before fs : List Flow) → length before ≤ 4096 → AllStandBehind before fs → length before + length fs ≤ 4096
-stand_few before [] l h = omega (arith, l)
-stand_few before (f ∷ fs) l h =
+stand_few : (gs : List TextGroup) (before fs : List Flow) → length before ≤ 4096 → AllStandBehind gs before fs → length before + length fs ≤ 4096
+stand_few gs before [] l h = omega (arith, l)
+stand_few gs before (f ∷ fs) l h =
     let more = length-append before (f ∷ []) in
-    let others = stand_few (before ++ f ∷ []) fs (omega (arith, more, h.0.room)) h.1 in
+    let others = stand_few gs (before ++ f ∷ []) fs (omega (arith, more, h.0.room)) h.1 in
     omega (arith, more, others)
 
-pub config_few : (tables : List (List Flow)) → IsConfig tables → (table : ℕ) → table < 16 → length (slice_index_or tables table []) ≤ 4096
-config_few tables c table lt = let few = stand_few [] (slice_index_or tables table []) (omega arith) (config_stands tables c table lt) in omega (arith, few)
+pub config_few : (c : Configuration) → IsConfig c → (table : ℕ) → table < 16 → length (slice_index_or c.tables table []) ≤ 4096
+config_few c k table lt = let few = stand_few c.groups [] (slice_index_or c.tables table []) (omega arith) (config_stands c k table lt) in omega (arith, few)

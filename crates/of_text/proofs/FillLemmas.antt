@@ -8,11 +8,13 @@ use Rattle.std.proofs.lemmas.List.Elements.{filter-append}
 use Rattle.of_wire.specs.declared.code.Code.{Code}
 use Rattle.of_wire.specs.Refusals.{first_of}
 use Rattle.of_text.specs.declared.flow.FlowText.{FlowText}
+use Rattle.of_text.specs.declared.group.GroupText.{GroupText}
+use Rattle.of_text.specs.Groups.{TextGroup}
 use Rattle.of_text.specs.Flows.{Flow}
 use Rattle.of_text.specs.Refusals.{flow_refusals, table_refusals}
 use Rattle.of_text.specs.Views.{view, view_flows}
-use Rattle.of_text.specs.First.{flows_for, refusals_behind, refused_from, first_refusal}
-use Rattle.of_text.specs.Configs.{tables_from, tables_of, IsConfig, with_flow, view_table, view_tables}
+use Rattle.of_text.specs.First.{flows_for, refusals_behind, refused_from}
+use Rattle.of_text.specs.Configs.{tables_from, tables_of, IsConfig, with_flow, view_table, view_tables, view_config}
 
 -- ---- one flow more
 
@@ -63,71 +65,71 @@ unfolding tables_of
 sixteen fs = length_tables 16 0 fs
 
 -- what is refused behind the flows in tables
-pub refusal_same : (before : List Flow) (f : Flow) → first_of (flow_refusals f ++ table_refusals (slice_index_or (tables_of before) f.head.table []) f) ≡ first_of (refusals_behind before f)
+pub refusal_same : (gs : List TextGroup) (before : List Flow) (f : Flow) → first_of (flow_refusals f ++ table_refusals gs (slice_index_or (tables_of before) f.head.table []) f) ≡ first_of (refusals_behind gs before f)
 unfolding flow_refusals
-refusal_same before f = by_test (nat_lt 15 f.head.table) refl
+refusal_same gs before f = by_test (nat_lt 15 f.head.table) refl
   where
-    by_test : (b : Bool) → nat_lt 15 f.head.table ≡ b → first_of (flow_refusals f ++ table_refusals (slice_index_or (tables_of before) f.head.table []) f) ≡ first_of (refusals_behind before f)
+    by_test : (b : Bool) → nat_lt 15 f.head.table ≡ b → first_of (flow_refusals f ++ table_refusals gs (slice_index_or (tables_of before) f.head.table []) f) ≡ first_of (refusals_behind gs before f)
     by_test true e = rw e refl
     by_test false e =
         let small = ltb-false 15 f.head.table e in
-        ap (λ (x : List Flow). first_of (flow_refusals f ++ table_refusals x f)) (table_at before f.head.table (omega (arith, small)))
+        ap (λ (x : List Flow). first_of (flow_refusals f ++ table_refusals gs x f)) (table_at before f.head.table (omega (arith, small)))
 
 -- ---- the flows that are left, from the last on
 
-pub record Filling (all : List Flow) (left : List FlowText) (tables : List (Vec FlowText)) : Type 0 where
+pub record Filling (gs : List TextGroup) (all : List Flow) (left : List FlowText) (tables : List (Vec FlowText)) : Type 0 where
   pub before : List Flow
   pub whole : all ≡ before ++ view_flows (reverse left)
   pub place : length all ≡ length before + length left
   pub filled : view_tables tables ≡ tables_of before
-  pub so_far : first_refusal all ≡ refused_from before (view_flows (reverse left))
+  pub so_far : refused_from gs [] all ≡ refused_from gs before (view_flows (reverse left))
 
-pub filling_sixteen : (all : List Flow) (left : List FlowText) (tables : List (Vec FlowText)) → Filling all left tables → length tables ≡ 16
-filling_sixteen all left tables g = let a = length-map tables (λ (t : Vec FlowText). view_flows t.items) in let b = ap length g.filled in let c = sixteen g.before in omega (arith, a, b, c)
+pub filling_sixteen : (gs : List TextGroup) (all : List Flow) (left : List FlowText) (tables : List (Vec FlowText)) → Filling gs all left tables → length tables ≡ 16
+filling_sixteen gs all left tables g = let a = length-map tables (λ (t : Vec FlowText). view_flows t.items) in let b = ap length g.filled in let c = sixteen g.before in omega (arith, a, b, c)
 
-pub filling_start : (flows left : List FlowText) (tables : List (Vec FlowText)) → view_tables tables ≡ tables_of [] → left ≡ reverse flows → Filling (view_flows flows) left tables
-filling_start flows left tables t l = record {
+pub filling_start : (gs : List TextGroup) (flows left : List FlowText) (tables : List (Vec FlowText)) → view_tables tables ≡ tables_of [] → left ≡ reverse flows → Filling gs (view_flows flows) left tables
+filling_start gs flows left tables t l = record {
   before = [];
   whole = ap view_flows (sym (ap reverse l ∙ reverse-reverse flows));
   place = omega (arith, length-map flows view, length-reverse flows, ap length l);
   filled = t;
-  so_far = ap (λ (x : List FlowText). first_refusal (view_flows x)) (sym (ap reverse l ∙ reverse-reverse flows));
+  so_far = ap (λ (x : List FlowText). refused_from gs [] (view_flows x)) (sym (ap reverse l ∙ reverse-reverse flows));
 }
 
 next_left : (left : List FlowText) (x : FlowText) → view_flows (reverse (left ++ x ∷ [])) ≡ view x ∷ view_flows (reverse left)
 next_left left x = ap view_flows (reverse-append left (x ∷ []))
 
 -- what is refused of the next
-refusal_is : (all : List Flow) (left : List FlowText) (tables : List (Vec FlowText)) (g : Filling all left tables) (x : FlowText) → first_of (flow_refusals (view x) ++ table_refusals (slice_index_or (view_tables tables) (view x).head.table []) (view x)) ≡ first_of (refusals_behind g.before (view x))
-refusal_is all left tables g x = ap (λ (ts : List (List Flow)). first_of (flow_refusals (view x) ++ table_refusals (slice_index_or ts (view x).head.table []) (view x))) g.filled ∙ refusal_same g.before (view x)
+refusal_is : (gs : List TextGroup) (all : List Flow) (left : List FlowText) (tables : List (Vec FlowText)) (g : Filling gs all left tables) (x : FlowText) → first_of (flow_refusals (view x) ++ table_refusals gs (slice_index_or (view_tables tables) (view x).head.table []) (view x)) ≡ first_of (refusals_behind gs g.before (view x))
+refusal_is gs all left tables g x = ap (λ (ts : List (List Flow)). first_of (flow_refusals (view x) ++ table_refusals gs (slice_index_or ts (view x).head.table []) (view x))) g.filled ∙ refusal_same gs g.before (view x)
 
-pub filling_more : (all : List Flow) (old left : List FlowText) (tables more : List (Vec FlowText)) (x : FlowText) → Filling all old tables → old ≡ left ++ x ∷ []
-    → first_of (flow_refusals (view x) ++ table_refusals (slice_index_or (view_tables tables) (view x).head.table []) (view x)) ≡ None
-    → (view x).head.table < 16 → view_tables more ≡ with_flow (view x) (view_tables tables) → Filling all left more
-filling_more all old left tables more x g e n small put =
-    let none : first_of (refusals_behind g.before (view x)) ≡ None = sym (refusal_is all old tables g x) ∙ n in
+pub filling_more : (gs : List TextGroup) (all : List Flow) (old left : List FlowText) (tables more : List (Vec FlowText)) (x : FlowText) → Filling gs all old tables → old ≡ left ++ x ∷ []
+    → first_of (flow_refusals (view x) ++ table_refusals gs (slice_index_or (view_tables tables) (view x).head.table []) (view x)) ≡ None
+    → (view x).head.table < 16 → view_tables more ≡ with_flow (view x) (view_tables tables) → Filling gs all left more
+filling_more gs all old left tables more x g e n small put =
+    let none : first_of (refusals_behind gs g.before (view x)) ≡ None = sym (refusal_is gs all old tables g x) ∙ n in
     let next : view_flows (reverse old) ≡ view x ∷ view_flows (reverse left) = ap (λ (l : List FlowText). view_flows (reverse l)) e ∙ next_left left x in
     record {
       before = g.before ++ view x ∷ [];
       whole = g.whole ∙ (ap (λ (l : List Flow). g.before ++ l) next ∙ sym (append_assoc g.before (view x ∷ []) (view_flows (reverse left))));
       place = omega (arith, g.place, ap length e, length-append left (x ∷ []), length-append g.before (view x ∷ []));
       filled = put ∙ (ap (with_flow (view x)) g.filled ∙ sym (tables_more g.before (view x) small));
-      so_far = g.so_far ∙ (ap (refused_from g.before) next ∙ rw none refl);
+      so_far = g.so_far ∙ (ap (refused_from gs g.before) next ∙ rw none refl);
     }
 
-pub filling_stops : (all : List Flow) (old left : List FlowText) (tables : List (Vec FlowText)) (x : FlowText) (code : Code) (place : ℕ) → Filling all old tables → old ≡ left ++ x ∷ []
-    → first_of (flow_refusals (view x) ++ table_refusals (slice_index_or (view_tables tables) (view x).head.table []) (view x)) ≡ Some code
-    → place ≡ length all - 1 - length left → first_refusal all ≡ Some (place, code)
-filling_stops all old left tables x code place g e r p =
-    let one : first_of (refusals_behind g.before (view x)) ≡ Some code = sym (refusal_is all old tables g x) ∙ r in
+pub filling_stops : (gs : List TextGroup) (all : List Flow) (old left : List FlowText) (tables : List (Vec FlowText)) (x : FlowText) (code : Code) (place : ℕ) → Filling gs all old tables → old ≡ left ++ x ∷ []
+    → first_of (flow_refusals (view x) ++ table_refusals gs (slice_index_or (view_tables tables) (view x).head.table []) (view x)) ≡ Some code
+    → place ≡ length gs + (length all - 1 - length left) → refused_from gs [] all ≡ Some (place, code)
+filling_stops gs all old left tables x code place g e r p =
+    let one : first_of (refusals_behind gs g.before (view x)) ≡ Some code = sym (refusal_is gs all old tables g x) ∙ r in
     let next : view_flows (reverse old) ≡ view x ∷ view_flows (reverse left) = ap (λ (l : List FlowText). view_flows (reverse l)) e ∙ next_left left x in
-    let there : length g.before ≡ place = omega (arith, p, g.place, ap length e, length-append left (x ∷ [])) in
-    g.so_far ∙ (ap (refused_from g.before) next ∙ rw (one, there) refl)
+    let there : length gs + length g.before ≡ place = omega (arith, p, g.place, ap length e, length-append left (x ∷ [])) in
+    g.so_far ∙ (ap (refused_from gs g.before) next ∙ rw (one, there) refl)
 
-pub filling_done : (all : List Flow) (left : List FlowText) (tables : List (Vec FlowText)) → Filling all left tables → left ≡ [] → (view_tables tables ≡ tables_of all) × (first_refusal all ≡ None)
-filling_done all left tables g e =
+pub filling_done : (gs : List TextGroup) (all : List Flow) (left : List FlowText) (tables : List (Vec FlowText)) → Filling gs all left tables → left ≡ [] → (view_tables tables ≡ tables_of all) × (refused_from gs [] all ≡ None)
+filling_done gs all left tables g e =
     let whole : all ≡ g.before = g.whole ∙ (ap (λ (l : List FlowText). g.before ++ view_flows (reverse l)) e ∙ append-nil g.before) in
-    (g.filled ∙ ap tables_of (sym whole), g.so_far ∙ ap (λ (l : List FlowText). refused_from g.before (view_flows (reverse l))) e)
+    (g.filled ∙ ap tables_of (sym whole), g.so_far ∙ ap (λ (l : List FlowText). refused_from gs g.before (view_flows (reverse l))) e)
 
 -- ---- as tables lie in memory
 
@@ -141,8 +143,8 @@ put_there tables old new d x lt is put =
 pub lent_table : (tables : List (Vec FlowText)) (t : ℕ) (table d : Vec FlowText) → t < length tables → table ≡ get_or tables t d → view_table table ≡ slice_index_or (view_tables tables) t []
 lent_table tables t table d lt is = ap view_table is ∙ sym (get_or-map view_table tables t d [] lt)
 
-pub config_sixteen : (tables : List (Vec FlowText)) → IsConfig (view_tables tables) → length tables ≡ 16
-config_sixteen tables c = let a = length-map tables view_table in let b = ap length c.filled in let d = sixteen c.flows in omega (arith, a, b, d)
+pub config_sixteen : (groups : Vec GroupText) (tables : Vec (Vec FlowText)) → IsConfig (view_config groups tables) → length tables.items ≡ 16
+config_sixteen groups tables c = let a = length-map tables.items view_table in let b = ap length c.filled in let d = sixteen c.flows in omega (arith, a, b, d)
 
 pub none_left : (v : Vec FlowText) → (0 < vec_len v → ⊥) → v.items ≡ []
 none_left v h = by_items v.items (λ p. h (omega (arith, p, v.ok)))

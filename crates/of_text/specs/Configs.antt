@@ -1,11 +1,13 @@
--- CONFIGURATIONS: the flows of sixteen tables, each table's oldest first (OpenFlow 1.3.5, 5.1 and 5.2).
+-- CONFIGURATIONS: groups by rising number, and the flows of sixteen tables, each table's oldest first (OpenFlow 1.3.5, 5.1, 5.2 and 5.6).
 use Rattle.std.specs.Prelude.{◌≡◌, ℕ, suc, zero, ◌++◌, List, [], ◌∷◌, None, map, slice_set, slice_index_or}
 use Rattle.std.specs.List.{flat_map}
 use Rattle.std.specs.Global.{Vec}
 use Rattle.of_text.specs.declared.flow.FlowText.{FlowText}
-use Rattle.of_text.specs.Flows.{Flow, rows_of}
-use Rattle.of_text.specs.Texts.{SpellFlows, AreRows, text_of}
-use Rattle.of_text.specs.Views.{view_flows}
+use Rattle.of_text.specs.declared.group.GroupText.{GroupText}
+use Rattle.of_text.specs.Groups.{TextGroup}
+use Rattle.of_text.specs.Flows.{Flow, text_rows}
+use Rattle.of_text.specs.Texts.{SpellItems, AreRows, text_of}
+use Rattle.of_text.specs.Views.{view_flows, view_groups}
 use Rattle.of_text.specs.First.{flows_for, first_refusal}
 
 -- so many tables, from this one on, each with the flows that are for it, in their order
@@ -20,27 +22,31 @@ tables_of flows = tables_from 16 0 flows
 abbrev pub with_flow : Flow → List (List Flow) → List (List Flow)
 with_flow f tables = slice_set tables f.head.table (slice_index_or tables f.head.table [] ++ f ∷ [])
 
--- A CONFIGURATION: tables that are filled by flows of which none is refused, and which stand in order
-pub record IsConfig (tables : List (List Flow)) : Type 0 where
-  pub flows : List Flow
-  pub rows : AreRows (rows_of flows)
-  pub stand : first_refusal flows ≡ None
-  pub filled : tables ≡ tables_of flows
+pub record Configuration : Type 0 where
+  pub groups : List TextGroup
+  pub tables : List (List Flow)
 
--- THE LINES SPELL THE CONFIGURATION: they spell flows, none of which is refused, and each is in its table, behind those that stand before it
-pub record SpellConfig (lines : List (List ℕ)) (tables : List (List Flow)) : Type 0 where
+-- A CONFIGURATION: groups, and tables that are filled by flows, of which none is refused, and which stand in order
+pub record IsConfig (c : Configuration) : Type 0 where
   pub flows : List Flow
-  pub spelt : SpellFlows lines flows
-  pub stand : first_refusal flows ≡ None
-  pub filled : tables ≡ tables_of flows
+  pub rows : AreRows (text_rows c.groups flows)
+  pub stand : first_refusal c.groups flows ≡ None
+  pub filled : c.tables ≡ tables_of flows
+
+-- THE LINES SPELL THE CONFIGURATION: they spell its groups and flows, none of which is refused, and each flow is in its table, behind those that stand before it
+pub record SpellConfig (lines : List (List ℕ)) (c : Configuration) : Type 0 where
+  pub flows : List Flow
+  pub spelt : SpellItems lines c.groups flows
+  pub stand : first_refusal c.groups flows ≡ None
+  pub filled : c.tables ≡ tables_of flows
 
 -- the flows, table by table
 abbrev pub all_flows : List (List Flow) → List Flow
 all_flows tables = flat_map (λ flows. flows) tables
 
--- THE CANONICAL TEXT: the flows by table, and in a table the oldest first
-abbrev pub config_text : List (List Flow) → List ℕ
-config_text tables = text_of (all_flows tables)
+-- THE CANONICAL TEXT: the groups by rising number, then the flows by table, and in a table the oldest first
+abbrev pub config_text : Configuration → List ℕ
+config_text c = text_of c.groups (all_flows c.tables)
 
 -- ---- as they lie in memory
 
@@ -49,3 +55,6 @@ view_table flows = view_flows flows.items
 
 abbrev pub view_tables : List (Vec FlowText) → List (List Flow)
 view_tables tables = map view_table tables
+
+abbrev pub view_config : Vec GroupText → Vec (Vec FlowText) → Configuration
+view_config groups tables = record { groups = view_groups groups.items; tables = view_tables tables.items }

@@ -1,55 +1,65 @@
 //! Configurations.
 ghost use Rattle.std.specs.Prelude.{◌≡◌, ◌<◌, ◌≤◌, ℕ, [], length, slice_index_or, IfOk, OnOk};
 ghost use Rattle.std.specs.List.{AllByRecursion};
-ghost use Rattle.of_text.specs.Kept.{IsEntry, AllStandBehind};
+ghost use Rattle.of_text.specs.Kept.{AreKeptGroups, IsEntry, AllStandBehind};
 ghost use Rattle.of_text.specs.Configs.{IsConfig, tables_of, with_flow, view_tables};
-ghost use Rattle.of_text.specs.Views.{view, view_flows};
+ghost use Rattle.of_text.specs.Views.{view, view_flows, view_groups};
 
 use crate::flow::FlowText;
+use crate::group::GroupText;
 use std::alloc::{AllocError, Global};
 use std::marker::Model;
 
 /// How many tables a switch has.
 const TABLES: usize = 16;
 
-/// The flows of sixteen tables, each table's oldest first (OpenFlow 1.3.5, 5.1 and 5.2).
+/// Groups by rising number, and the flows of sixteen tables, each table's oldest first (OpenFlow 1.3.5, 5.1, 5.2 and 5.6).
 ///
-/// They are flows that some text spells, and none of them is refused.
+/// They are groups and flows that some text spells, and none of them is refused.
 #[derive(Debug, Drop)]
 pub struct Config {
+    pub(crate) groups: Vec<GroupText>,
     pub(crate) tables: Vec<Vec<FlowText>>,
 }
 
 impl Model for Config {
-    ghost use Rattle.std.specs.Prelude.{List};
-    ghost use Rattle.of_text.specs.Flows.{Flow};
-    ghost use Rattle.of_text.specs.Configs.{IsConfig, view_tables};
+    ghost use Rattle.of_text.specs.Configs.{Configuration, IsConfig, view_config};
 
-    ghost Value = { List (List Flow) };
+    ghost Value = { Configuration };
 
-    ghost view = { λ c. view_tables c.tables.items };
+    ghost view = { λ c. view_config c.groups c.tables };
 
-    ghost invariant = { λ c. IsConfig (view_tables c.tables.items) };
+    ghost invariant = { λ c. IsConfig (view_config c.groups c.tables) };
 }
 
 impl Config {
+    /// The groups, by rising number.
+    pub fn groups(&self) -> &[GroupText]
+        ensures { view_groups result.now ≡ self.now.groups }
+    {
+        self.groups.as_slice()
+    }
+
     /// The flows of a table, oldest first.
     pub fn flows(&self, table: u8) -> &[FlowText]
         requires { table < 16 }
-        ensures { view_flows result.now ≡ slice_index_or self.now table [] }
+        ensures { view_flows result.now ≡ slice_index_or self.now.tables table [] }
     {
         self.tables[usize::from(table)].as_slice()
     }
 
-    /// Its flows are those of a text of which none is refused. Each may stand in its table: its match is one,
-    /// and its instructions are those that an entry of the table may have (OpenFlow 1.3.5, 5.2, 5.9 and 7.2.3).
+    /// Its groups and flows are those of a text of which none is refused. A switch may have the groups: they stand by
+    /// rising number, up to OFPG_MAX and at most 256, each names groups that are there, and no chain has more than
+    /// three (OpenFlow 1.3.5, 5.6 and 6.5). Each flow may stand in its table: its match is one,
+    /// and its instructions are those that an entry of the table may have (5.2, 5.9 and 7.2.3).
     /// In a table there are at most 4,096 of them, no two of one priority and match.
     pub fn known(&self)
         ensures config { IsConfig self.now }
-        ensures entries { (table : ℕ) → table < 16 → AllByRecursion (IsEntry table) (slice_index_or self.now table []) }
-        ensures stand { (table : ℕ) → table < 16 → AllStandBehind [] (slice_index_or self.now table []) }
-        ensures few { (table : ℕ) → table < 16 → length (slice_index_or self.now table []) ≤ 4096 }
-        ensures sixteen { length self.now ≡ 16 }
+        ensures groups { AreKeptGroups self.now.groups }
+        ensures entries { (table : ℕ) → table < 16 → AllByRecursion (IsEntry table) (slice_index_or self.now.tables table []) }
+        ensures stand { (table : ℕ) → table < 16 → AllStandBehind self.now.groups [] (slice_index_or self.now.tables table []) }
+        ensures few { (table : ℕ) → table < 16 → length (slice_index_or self.now.tables table []) ≤ 4096 }
+        ensures sixteen { length self.now.tables ≡ 16 }
     {
         let _tables = &self.tables;
     }

@@ -1,17 +1,19 @@
 //! Configurations to text.
 ghost use Rattle.std.specs.Prelude.{◌≡◌, ◌++◌, ℕ, List, IfOk, OnOk, MatchResult};
 ghost use Rattle.std.specs.List.{AllByRecursion};
-ghost use Rattle.of_text.specs.Flows.{Flow, rows_of, flow_rows};
+ghost use Rattle.of_text.specs.Groups.{group_rows, rows_of_groups};
+ghost use Rattle.of_text.specs.Flows.{rows_of, flow_rows};
 ghost use Rattle.of_text.specs.Lines.{lines_of};
 ghost use Rattle.of_text.specs.Rows.{Fits};
-ghost use Rattle.of_text.specs.Texts.{lines_text, text_of};
-ghost use Rattle.of_text.specs.Views.{view, view_flows};
-ghost use Rattle.of_text.specs.Configs.{IsConfig, SpellConfig, all_flows, config_text, view_tables};
+ghost use Rattle.of_text.specs.Texts.{lines_text};
+ghost use Rattle.of_text.specs.Views.{view, view_flows, view_group, view_groups};
+ghost use Rattle.of_text.specs.Configs.{Configuration, IsConfig, SpellConfig, all_flows, config_text, view_tables};
 ghost use Rattle.of_text.specs.declared.assembling.TextFault.TheVariants.{NoMemory};
 
 use crate::assembling::{TextFault, assemble};
 use crate::config::Config;
 use crate::flow::{FlowText, push_flow};
+use crate::group::{GroupText, push_group};
 use crate::row::Row;
 use crate::text::push_lines;
 use std::alloc::{AllocError, Global};
@@ -29,7 +31,7 @@ fn write_flow(out: &mut Vec<u8>, rows: &mut Vec<Row>, flow: &FlowText) -> Result
 // Appends the lines of flows.
 fn write_flows(out: &mut Vec<u8>, flows: &[FlowText]) -> Result<(), AllocError>
     requires { AllByRecursion Fits (rows_of (view_flows flows.now)) }
-    ensures { OnOk result (out.new.items ≡ out.old.items ++ text_of (view_flows flows.now)) }
+    ensures { OnOk result (out.new.items ≡ out.old.items ++ lines_text (rows_of (view_flows flows.now))) }
 {
     let mut rows = Vec::new(*out.allocator());
     for flow in flows {
@@ -38,10 +40,32 @@ fn write_flows(out: &mut Vec<u8>, flows: &[FlowText]) -> Result<(), AllocError>
     Ok(())
 }
 
+// Appends the lines of a group. The rows are used again.
+fn write_group(out: &mut Vec<u8>, rows: &mut Vec<Row>, group: &GroupText) -> Result<(), AllocError>
+    requires { AllByRecursion Fits (group_rows (view_group group.now)) }
+    ensures { OnOk result (out.new.items ≡ out.old.items ++ lines_text (group_rows (view_group group.now))) }
+{
+    rows.clear();
+    push_group(rows, group)?;
+    push_lines(out, rows)
+}
+
+// Appends the lines of groups.
+fn write_groups(out: &mut Vec<u8>, groups: &[GroupText]) -> Result<(), AllocError>
+    requires { AllByRecursion Fits (rows_of_groups (view_groups groups.now)) }
+    ensures { OnOk result (out.new.items ≡ out.old.items ++ lines_text (rows_of_groups (view_groups groups.now))) }
+{
+    let mut rows = Vec::new(*out.allocator());
+    for group in groups {
+        write_group(out, &mut rows, group)?;
+    }
+    Ok(())
+}
+
 // Appends the lines of tables.
 fn write_tables(out: &mut Vec<u8>, tables: &[Vec<FlowText>]) -> Result<(), AllocError>
     requires { AllByRecursion Fits (rows_of (all_flows (view_tables tables.now))) }
-    ensures { OnOk result (out.new.items ≡ out.old.items ++ config_text (view_tables tables.now)) }
+    ensures { OnOk result (out.new.items ≡ out.old.items ++ lines_text (rows_of (all_flows (view_tables tables.now)))) }
 {
     for table in tables {
         write_flows(out, table)?;
@@ -49,11 +73,12 @@ fn write_tables(out: &mut Vec<u8>, tables: &[Vec<FlowText>]) -> Result<(), Alloc
     Ok(())
 }
 
-/// The canonical text of a configuration: its flows by table, and in a table the oldest first.
+/// The canonical text of a configuration: its groups by rising number, then its flows by table, and in a table the oldest first.
 pub fn disassemble(alloc: Global, config: &Config) -> Result<Vec<u8>, AllocError>
     ensures { IfOk result (λ text. text.items ≡ config_text config.now) }
 {
     let mut out = Vec::new(alloc);
+    write_groups(&mut out, &config.groups)?;
     write_tables(&mut out, &config.tables)?;
     Ok(out)
 }
@@ -71,6 +96,6 @@ pub fn assemble_again(alloc: Global, config: &Config) -> Result<Config, TextFaul
 
 /// The canonical text of a configuration spells it, and no text spells two.
 pub fn texts_are_of_configs()
-    ensures canonical { (tables : List (List Flow)) → IsConfig tables → SpellConfig (lines_of (config_text tables)) tables }
-    ensures one { (lines : List (List ℕ)) (a b : List (List Flow)) → SpellConfig lines a → SpellConfig lines b → a ≡ b }
+    ensures canonical { (c : Configuration) → IsConfig c → SpellConfig (lines_of (config_text c)) c }
+    ensures one { (lines : List (List ℕ)) (a b : Configuration) → SpellConfig lines a → SpellConfig lines b → a ≡ b }
 {}

@@ -28,7 +28,7 @@ fn action_list(actions: Vec<Action>) -> ActionList
     }
 }
 
-fn list_of(actions: &Vec<Action>) -> Result<ActionList, AllocError>
+pub(crate) fn list_of(actions: &Vec<Action>) -> Result<ActionList, AllocError>
     requires { are_served false actions.now.items ≡ true }
     ensures { IfOk result (λ list. list ≡ actions.now.items) }
 {

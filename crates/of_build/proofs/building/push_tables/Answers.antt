@@ -18,9 +18,9 @@ pub loop-table-preserved : goal.loop-table-preserved
 loop-table-preserved c =
     let l = c.loop-table in
     let small : l.table < 16 = omega arith in
-    let within : l.table < length c.args.config.now = omega (arith, c.known.ensures.sixteen, small) in
+    let within : l.table < length c.args.config.now.tables = omega (arith, c.known.ensures.sixteen, small) in
     let many : length c.flows.result.now ≤ 4096 = omega (arith, length-map c.flows.result.now view, ap length c.flows.ensures, c.known.ensures.few l.table small) in
     record {
       few = omega (arith, l.invariant.few, many, c.in_ok-xid.ensures.next);
-      rows = table_next c.args.config.now l.table l.xid _ (length c.flows.result.now) (view_flows c.flows.result.now) _ _ _ within c.flows.ensures (length-map c.flows.result.now view) c.in_ok-xid.ensures.next c.in_ok-xid.ensures.rows l.invariant.rows;
+      rows = table_next c.args.config.now.tables l.table l.xid _ (length c.flows.result.now) (view_flows c.flows.result.now) _ _ _ within c.flows.ensures (length-map c.flows.result.now view) c.in_ok-xid.ensures.next c.in_ok-xid.ensures.rows l.invariant.rows;
     }

@@ -5,6 +5,6 @@ use Rattle.of_build.proofs.building.push_tables.Given as goal
 
 abbrev pub invariant-loop-table : goal.invariant-loop-table
 invariant-loop-table l = record {
-  few : l.xid ≤ 1 + 4096 * l.table;
-  rows : l.out.items ++ add_lines l.xid (all_flows (drop l.table l.config)) ≡ l.fn.out.items ++ add_lines 1 (all_flows l.config);
+  few : l.xid ≤ 769 + 4096 * l.table;
+  rows : l.out.items ++ add_lines l.xid (all_flows (drop l.table l.config.tables)) ≡ l.fn.out.items ++ add_lines l.first (all_flows l.config.tables);
 }

@@ -6,7 +6,7 @@ use Rattle.of_switch.proofs.LoadLemmas.{loading_start, loading_next, loading_mor
 use Rattle.of_switch.proofs.loading.load_table.Goals as goal
 
 pub loop-flow-init : goal.loop-flow-init
-loop-flow-init g c = loading_start c.args.table c.args.flows.now (tables_of c.args.tables.now) (sixteen_tables c.args.tables.now c.args.table c.known.ensures.sixteen c.requires.table) c.requires.entries c.requires.stand c.requires.empty
+loop-flow-init g c = loading_start c.args.table c.requires.stand.0 c.args.flows.now (tables_of c.args.tables.now) (sixteen_tables c.args.tables.now c.args.table c.known.ensures.sixteen c.requires.table) c.requires.entries c.requires.stand.1 c.requires.empty
 
 pub load_flow-requires : goal.load_flow-requires
 load_flow-requires g c =

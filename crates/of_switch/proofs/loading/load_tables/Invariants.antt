@@ -3,4 +3,4 @@ use Rattle.of_switch.proofs.LoadLemmas.{FilledTo}
 use Rattle.of_switch.proofs.loading.load_tables.Given as goal
 
 abbrev pub invariant-loop-table : goal.invariant-loop-table
-invariant-loop-table g l = FilledTo l.latest l.table l.config (tables_of l.tables)
+invariant-loop-table g l = FilledTo l.latest l.table l.config.tables (tables_of l.tables)

@@ -1,6 +1,7 @@
 use Rattle.std.proofs.Common.{length, ap, ◌∙◌}
 use Rattle.of_text.proofs.EntryLemmas.{config_entries, config_stands, config_few}
 use Rattle.of_text.proofs.FillLemmas.{sixteen}
+use Rattle.of_text.proofs.GroupLemmas.{config_groups}
 use Rattle.of_text.proofs.config.Config.known.Goals as goal
 
 pub returns-clause-entries : goal.returns-clause-entries
@@ -14,3 +15,6 @@ returns-clause-sixteen c = rw (← c.self.view_is) (ap length c.self.invariant.f
 
 pub returns-clause-few : goal.returns-clause-few
 returns-clause-few c = rw (← c.self.view_is) (config_few _ c.self.invariant)
+
+pub returns-clause-groups : goal.returns-clause-groups
+returns-clause-groups c = rw (← c.self.view_is) (config_groups _ c.self.invariant)

@@ -1,0 +1,8 @@
+use Rattle.std.proofs.Common.{◌≡◌, take}
+use Rattle.std.specs.Prelude.{map}
+use Rattle.of_groups.specs.declared.group.Group.{Group}
+use Rattle.of_groups.proofs.MarkLemmas.{length_at}
+use Rattle.of_groups.proofs.listed.chain_lengths.Given as goal
+
+abbrev pub invariant-loop-group : goal.invariant-loop-group
+invariant-loop-group l = l.lengths.items ≡ map (λ (g : Group). length_at l.groups l.there.items l.one.items l.two.items l.three.items g.id) (take l.group-index l.groups)

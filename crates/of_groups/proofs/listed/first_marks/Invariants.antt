@@ -1,0 +1,8 @@
+use Rattle.std.proofs.Common.{◌≡◌, take}
+use Rattle.std.specs.Prelude.{map}
+use Rattle.of_groups.specs.declared.group.Group.{Group}
+use Rattle.of_groups.specs.Groups.{is_there}
+use Rattle.of_groups.proofs.listed.first_marks.Given as goal
+
+abbrev pub invariant-loop-group : goal.invariant-loop-group
+invariant-loop-group l = l.marks.items ≡ map (λ (g : Group). is_there g.id l.groups) (take l.group-index l.groups)

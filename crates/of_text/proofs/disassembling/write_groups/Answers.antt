@@ -1,0 +1,12 @@
+use Rattle.std.proofs.Common.{arith}
+use Rattle.of_text.proofs.WriteLemmas.{group_fits, group_written}
+use Rattle.of_text.proofs.disassembling.write_groups.Goals as goal
+
+pub write_group-requires : goal.write_group-requires
+write_group-requires c = (group_fits c.args.groups.now c.loop-group.group-index c.group-item.result (omega arith) c.group-item.is c.loop-group.invariant.fits).0
+
+pub loop-group-preserved : goal.loop-group-preserved
+loop-group-preserved c = record {
+  fits = (group_fits c.args.groups.now c.loop-group.group-index c.group-item.result (omega arith) c.group-item.is c.loop-group.invariant.fits).1;
+  text = group_written c.args.groups.now c.loop-group.group-index c.group-item.result _ _ _ (omega arith) c.group-item.is c.in_ok-write_group.ensures c.loop-group.invariant.text;
+}

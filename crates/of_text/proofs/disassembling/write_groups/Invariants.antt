@@ -1,0 +1,13 @@
+use Rattle.std.proofs.Common.{◌≡◌, ◌++◌, drop}
+use Rattle.std.specs.List.{AllByRecursion}
+use Rattle.of_text.specs.Rows.{Fits}
+use Rattle.of_text.specs.Groups.{rows_of_groups}
+use Rattle.of_text.specs.Views.{view_groups}
+use Rattle.of_text.proofs.WriteLemmas.{groups_text}
+use Rattle.of_text.proofs.disassembling.write_groups.Given as goal
+
+abbrev pub invariant-loop-group : goal.invariant-loop-group
+invariant-loop-group l = record {
+  fits : AllByRecursion Fits (rows_of_groups (view_groups (drop l.group-index l.groups)));
+  text : l.out.items ++ groups_text (view_groups (drop l.group-index l.groups)) ≡ l.fn.out.items ++ groups_text (view_groups l.groups);
+}

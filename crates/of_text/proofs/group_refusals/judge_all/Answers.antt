@@ -1,0 +1,20 @@
+use Rattle.std.proofs.Common.{◌∙◌, ap, arith}
+use Rattle.of_text.specs.Refusals.{counted_as, group_refusals}
+use Rattle.of_text.specs.Views.{view_group}
+use Rattle.of_wire.specs.Refusals.{first_of}
+use Rattle.of_text.proofs.JudgeLemmas.{there_next, codes_next}
+use Rattle.of_text.proofs.WriteLemmas.{group_fits}
+use Rattle.of_text.proofs.group_refusals.judge_all.Goals as goal
+
+pub judge-requires : goal.judge-requires
+judge-requires c = (group_fits c.args.groups.now c.loop-group.group-index c.group-item.result (omega arith) c.group-item.is c.loop-group.invariant.fits).0
+
+pub loop-group-preserved : goal.loop-group-preserved
+loop-group-preserved c =
+    let count = c.len.ensures ∙ c.loop-group.invariant.count in
+    record {
+      fits = (group_fits c.args.groups.now c.loop-group.group-index c.group-item.result (omega arith) c.group-item.is c.loop-group.invariant.fits).1;
+      count = omega (arith, c.in_ok-push.ensures.len, c.loop-group.invariant.count);
+      there = there_next c.args.groups.now c.loop-group.group-index c.group-item.result c.in_ok-counted.counted _ _ _ (omega arith) c.group-item.is (c.in_ok-counted.ensures.there ∙ ap (λ n. counted_as n (view_group c.group-item.result)) count) c.in_ok-push.ensures.items c.loop-group.invariant.there;
+      codes = codes_next c.args.groups.now c.loop-group.group-index c.group-item.result c.in_ok-counted.code _ _ _ (omega arith) c.group-item.is (c.in_ok-counted.ensures.code ∙ ap (λ n. first_of (group_refusals n (view_group c.group-item.result))) count) c.in_ok-push-2.ensures.items c.loop-group.invariant.codes;
+    }

@@ -1,0 +1,175 @@
+//! What of a group is refused.
+ghost use Rattle.std.specs.Prelude.{◌≡◌, ◌++◌, ◌∷◌, [], ℕ, List, true, false, length, nat_le, nat_lt, not, map, take, IfOk, slice_index_or};
+ghost use Rattle.std.specs.List.{AllByRecursion, flat_map};
+ghost use Rattle.of_wire.specs.declared.code.Code.{Code as ACode};
+ghost use Rattle.of_wire.specs.Refusals.{first_of, refusal as as_refusal};
+ghost use Rattle.of_groups.specs.Buckets.{any_sends};
+ghost use Rattle.of_groups.specs.Groups.{any_watches};
+ghost use Rattle.of_groups.specs.Faults.{is_absent, is_bad_watch, is_not_one};
+ghost use Rattle.of_text.specs.Groups.{TextGroup, bucket_rows, group_rows, rows_of_groups};
+ghost use Rattle.of_text.specs.Rows.{Fits};
+ghost use Rattle.of_text.specs.Refusals.{all_there, buckets_refusals as refusals_of_buckets, counted_as, group_refusals, list_refusals, naming_refusals};
+ghost use Rattle.of_text.specs.First.{refused_group};
+ghost use Rattle.of_text.specs.Judging.{codes_from, kept_refusals, told_refusals};
+ghost use Rattle.of_text.specs.Views.{view_bucket, view_group, view_groups};
+
+use crate::group::{BucketText, GroupText};
+use crate::refusals::{applied, first, list_refusal, refusal};
+use of_groups::{
+    Buckets, Group, chain_lengths, has_bad_watch, lacks_one_bucket, sends_to_absent, watches_absent,
+};
+use of_oxm::Code;
+use std::alloc::{AllocError, Global};
+
+fn bucket_refusal(bucket: &BucketText) -> Option<Code>
+    ensures { result ≡ first_of (list_refusals (view_bucket bucket.now).actions) }
+{
+    list_refusal(&bucket.actions)
+}
+
+#[tactic(auto, using(crate::proofs::RefusalLemmas::first_append, crate::proofs::RefusalLemmas::flat_next))]
+fn each_refusal(buckets: &[BucketText]) -> Option<Code>
+    ensures { result ≡ first_of (flat_map (λ b. list_refusals (view_bucket b).actions) buckets.now) }
+{
+    for bucket in buckets {
+        if let Some(code) = bucket_refusal(bucket) {
+            return Some(code);
+        }
+    }
+    None
+}
+
+#[tactic(auto, using(std::proofs::lemmas::List::take_all))]
+fn first_buckets(buckets: &[BucketText]) -> &[BucketText]
+    ensures { result.now ≡ take 16 buckets.now }
+{
+    if buckets.len() < 16 {
+        return buckets;
+    }
+    let (first, _) = buckets.split_at(16);
+    first
+}
+
+fn buckets_refusal(buckets: &[BucketText]) -> Option<Code>
+    ensures { result ≡ first_of (refusals_of_buckets (map view_bucket buckets.now)) }
+{
+    let each = each_refusal(first_buckets(buckets));
+    let many = applied(16 < buckets.len(), refusal(6, 4));
+    first(each, many)
+}
+
+// What the message that would add the group is refused for.
+fn told_refusal(group: &GroupText) -> Option<Code>
+    ensures { result ≡ first_of (told_refusals (view_group group.now)) }
+{
+    if 0xffff_ff00 < group.head.id {
+        return Some(refusal(6, 1));
+    }
+    buckets_refusal(&group.buckets)
+}
+
+// What a group is refused for behind so many others, apart from what it names.
+fn kept_refusal(place: usize, group: &Group) -> Option<Code>
+    ensures { result ≡ first_of (kept_refusals place group.now) }
+{
+    let buckets = group.buckets.as_slice();
+    if has_bad_watch(group.kind, buckets) {
+        Some(refusal(6, 13))
+    } else if lacks_one_bucket(group.kind, buckets) {
+        Some(refusal(6, 1))
+    } else if 256 <= place {
+        Some(refusal(6, 3))
+    } else {
+        None
+    }
+}
+
+// The group without buckets.
+fn bare(alloc: Global, group: &GroupText) -> Group
+    ensures { result ≡ record { id = group.now.head.id; kind = group.now.head.kind; buckets = []; packets = 0; bytes = 0; created = 0 } }
+{
+    Group {
+        id: group.head.id,
+        kind: group.head.kind,
+        buckets: Buckets::new(alloc),
+        packets: 0,
+        bytes: 0,
+        created: 0,
+    }
+}
+
+// As the group counts for the others, and what it is refused for alone.
+fn judge(
+    alloc: Global,
+    place: usize,
+    group: &GroupText,
+) -> Result<(Group, Option<Code>), AllocError>
+    requires { AllByRecursion Fits (group_rows (view_group group.now)) }
+    ensures there { IfOk result (λ r. r.0 ≡ counted_as place (view_group group.now)) }
+    ensures code { IfOk result (λ r. r.1 ≡ first_of (group_refusals place (view_group group.now))) }
+{
+    if let Some(code) = told_refusal(group) {
+        return Ok((bare(alloc, group), Some(code)));
+    }
+    let made = group.to_group(0)?;
+    if let Some(code) = kept_refusal(place, &made) {
+        return Ok((bare(alloc, group), Some(code)));
+    }
+    Ok((made, None))
+}
+
+// Groups as they count for each other, and what each is refused for alone.
+#[derive(Drop)]
+struct Judged {
+    there: Vec<Group>,
+    codes: Vec<Option<Code>>,
+}
+
+fn judge_all(alloc: Global, groups: &[GroupText]) -> Result<Judged, AllocError>
+    requires { AllByRecursion Fits (rows_of_groups (view_groups groups.now)) }
+    ensures there { IfOk result (λ j. j.there.items ≡ all_there (view_groups groups.now)) }
+    ensures codes { IfOk result (λ j. j.codes.items ≡ codes_from 0 (view_groups groups.now)) }
+{
+    let mut there = Vec::new(alloc);
+    let mut codes = Vec::new(alloc);
+    for group in groups {
+        let (counted, code) = judge(alloc, there.len(), group)?;
+        there.push(counted)?;
+        codes.push(code)?;
+    }
+    Ok(Judged { there, codes })
+}
+
+// What a group is refused for that names others, of which these are there, and that begins a chain of this length.
+fn naming_refusal(there: &[Group], group: &Group, length: u8) -> Option<Code>
+    ensures { result ≡ first_of ((any_sends (is_absent there.now) group.now.buckets, as_refusal 2 9) ∷ (any_watches (is_absent there.now) group.now.kind group.now.buckets, as_refusal 6 13) ∷ (nat_lt 3 length, as_refusal 6 7) ∷ []) }
+{
+    if sends_to_absent(there, group) {
+        Some(refusal(2, 9))
+    } else if watches_absent(there, group) {
+        Some(refusal(6, 13))
+    } else if 3 < length {
+        Some(refusal(6, 7))
+    } else {
+        None
+    }
+}
+
+/// The first group that is refused, by its place, and its first refusal.
+pub fn refused_among(
+    alloc: Global,
+    groups: &[GroupText],
+) -> Result<Option<(usize, Code)>, AllocError>
+    requires { AllByRecursion Fits (rows_of_groups (view_groups groups.now)) }
+    ensures { IfOk result (λ r. r ≡ refused_group (all_there (view_groups groups.now)) 0 (view_groups groups.now)) }
+{
+    let judged = judge_all(alloc, groups)?;
+    let lengths = chain_lengths(alloc, &judged.there)?;
+    for place in 0..groups.len() {
+        let named = naming_refusal(&judged.there, &judged.there[place], lengths[place]);
+        if let Some(code) = first(judged.codes[place], named) {
+            return Ok(Some((place, code)));
+        }
+    }
+    Ok(None)
+}
