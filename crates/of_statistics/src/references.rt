@@ -37,7 +37,8 @@ fn named_in<L: Lookup>(tables: &FlowTables<L>, group: u32) -> usize
 pub(crate) fn references<L: Lookup>(tables: &FlowTables<L>, groups: &Groups, group: u32) -> u32
     ensures { result ≡ references_to group groups.now (tables_of tables.now) }
 {
-    let all = groups.groups().len();
+    // They are at most 256.
+    let _groups = groups.groups();
     let count = named_in(tables, group) + groups.references(group);
     count as u32
 }
