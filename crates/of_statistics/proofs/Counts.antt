@@ -6,8 +6,9 @@ use Rattle.std.proofs.lemmas.List.Sums.{length-filter, sum_by-append}
 use Rattle.of_table.specs.declared.entry.Entry.{Entry}
 use Rattle.of_table.specs.Table.{FlowEntry, Table, empty_table}
 use Rattle.of_table.specs.Entries.{entry_of, flows_of}
+use Rattle.of_table.specs.Tables.{NumberedTables, numbered_at, table_at, tables_of}
 use Rattle.of_statistics.specs.Flows.{from_tables}
-use Rattle.of_statistics.proofs.Walks.{from_more}
+use Rattle.of_statistics.proofs.Walks.{entries_count, from_more, table_at_is}
 
 same_length : (p : FlowEntry → Bool) (es : List Entry) → length (filter (λ e. p (entry_of e)) es) ≡ length (filter p (flows_of es))
 same_length p [] = refl
@@ -21,10 +22,18 @@ same_length p (e ∷ es) = by_test (p (entry_of e)) (same_length p es)
 pub count_of_filtered : (p : FlowEntry → Bool) (es : List Entry) → length (filter (λ e. p (entry_of e)) es) ≡ count_by p (flows_of es)
 count_of_filtered p es = same_length p es ∙ length-filter p (flows_of es)
 
+-- those of a table
+pub count_in : (p : FlowEntry → Bool) (k : ℕ) (n : NumberedTables) (entries : List Entry) (count : ℕ) → entries ≡ (numbered_at k n).entries → count ≡ count_by p (flows_of entries) → count ≡ count_by p (table_at k (tables_of n)).flows
+count_in p k n entries count same is = is ∙ ap (λ (es : List Entry). count_by p (flows_of es)) same ∙ sym (ap (λ (t : Table). count_by p t.flows) (table_at_is k n))
+
+pub length_in : (k : ℕ) (n : NumberedTables) (entries : List Entry) (count : ℕ) → entries ≡ (numbered_at k n).entries → count ≡ length entries → count ≡ length (table_at k (tables_of n)).flows
+length_in k n entries count same is = is ∙ ap (λ (es : List Entry). length es) same ∙ entries_count k n
+
 -- those of one table more
-pub count_more : (p : FlowEntry → Bool) (k : ℕ) (ts : List Table) (n : ℕ) → k < length ts → n ≡ count_by p (get_or ts k empty_table).flows → count_by p (from_tables (λ k t. t.flows) 0 (take k ts)) + n ≡ count_by p (from_tables (λ k t. t.flows) 0 (take (k + 1) ts))
-count_more p k ts n lt is =
+pub count_more : (p : FlowEntry → Bool) (k : ℕ) (ts : List Table) (m n : ℕ) → k < length ts → m ≡ count_by p (from_tables (λ k t. t.flows) 0 (take k ts)) → n ≡ count_by p (get_or ts k empty_table).flows
+    → m + n ≡ count_by p (from_tables (λ k t. t.flows) 0 (take (k + 1) ts))
+count_more p k ts m n lt was is =
     let f = λ (e : FlowEntry). cond (p e) 1 0 in
     let these = from_tables (λ k t. t.flows) 0 (take k ts) in
     let flows = (get_or ts k empty_table).flows in
-    ap (λ (m : ℕ). sum_by f these + m) is ∙ sym (ap (sum_by f) (from_more (λ k t. t.flows) k ts empty_table lt) ∙ sum_by-append f these flows)
+    ap (λ (i : ℕ). i + n) was ∙ ap (λ (i : ℕ). sum_by f these + i) is ∙ sym (ap (sum_by f) (from_more (λ k t. t.flows) k ts empty_table lt) ∙ sum_by-append f these flows)

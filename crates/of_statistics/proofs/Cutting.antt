@@ -4,9 +4,9 @@ use Rattle.std.specs.Prelude.{nat_le, Result, Ok, Err, OnOk}
 use Rattle.std.specs.List.{concat, AllByRecursion as ByRecursion}
 use Rattle.std.proofs.lemmas.List.{append_assoc, append-nil, map-append, take_more, length-append}
 use Rattle.std.proofs.lemmas.List.Folds.{concat-append}
-use Rattle.std.proofs.lemmas.List.Elements.{recursion_from_All}
+use Rattle.std.proofs.lemmas.List.Elements.{recursion_from_All, All-from_recursion}
 use Rattle.std.proofs.lemmas.Bool.Decides.{nat_tests}
-use Rattle.of_statistics.specs.Replies.{Draft, IsFull, AreReplies, AreShort, reply, more, most, blank, filled, with_row, with_rows, closed, replies, rows_in}
+use Rattle.of_statistics.specs.Replies.{Draft, IsFull, AreReplies, AreWithin, reply, more, most, blank, filled, with_row, with_rows, closed, replies, rows_in}
 
 -- one row after the other
 pub rows_more : (d : Draft) (xs ys : List (List ℕ)) → with_rows d (xs ++ ys) ≡ with_rows (with_rows d xs) ys
@@ -76,39 +76,64 @@ Behind d front rows all = (ms : List (List ℕ)) × (all ≡ d.full ++ ms) × Ar
 
 -- it holds of these rows, whatever is in front
 abbrev HoldsOf : List (List ℕ) → Type 0
-HoldsOf rows = (d : Draft) (front : List (List ℕ)) → d.rows ≡ concat front → length (concat front) ≤ most → Behind d front rows (closed (with_rows d rows))
+HoldsOf rows = (d : Draft) (front : List (List ℕ)) → d.rows ≡ concat front → Behind d front rows (closed (with_rows d rows))
 
 one_more : (xid kind : ℕ) (front : List (List ℕ)) (x : List ℕ) (rows : List (List ℕ)) (m : List ℕ) (ms : List (List ℕ)) → IsFull xid kind front x m → AreReplies xid kind (x ∷ rows) ms → AreReplies xid kind (front ++ x ∷ rows) (m ∷ ms)
 one_more xid kind front x rows m [] full behind = absurd behind
 one_more xid kind front x rows m (n ∷ ms) full behind = (front, x, rows, refl, full, behind)
 
-joins : (d : Draft) (front : List (List ℕ)) (x : List ℕ) (rows : List (List ℕ)) → HoldsOf rows → d.rows ≡ concat front → length d.rows + length x ≤ most → Behind d front (x ∷ rows) (closed (with_rows (record d { rows = d.rows ++ x }) rows))
-joins d front x rows holds is fits =
+joins : (d : Draft) (front : List (List ℕ)) (x : List ℕ) (rows : List (List ℕ)) → HoldsOf rows → d.rows ≡ concat front → Behind d front (x ∷ rows) (closed (with_rows (record d { rows = d.rows ++ x }) rows))
+joins d front x rows holds is =
     let whole : d.rows ++ x ≡ concat (front ++ x ∷ []) = ap (λ (t : List ℕ). t ++ x) is ∙ sym (concat-append front (x ∷ []) ∙ ap (λ (t : List ℕ). concat front ++ t) (append-nil x)) in
-    let le : length (concat (front ++ x ∷ [])) ≤ most = omega (arith, fits, ap length whole, length-append d.rows x) in
-    let then = holds (record d { rows = d.rows ++ x }) (front ++ x ∷ []) whole le in
+    let then = holds (record d { rows = d.rows ++ x }) (front ++ x ∷ []) whole in
     (then.0, then.1, subst (λ (rs : List (List ℕ)). AreReplies d.xid d.kind rs then.0) (append_assoc front (x ∷ []) rows) then.2)
 
-begins : (d : Draft) (front : List (List ℕ)) (x : List ℕ) (rows : List (List ℕ)) → HoldsOf rows → d.rows ≡ concat front → length (concat front) ≤ most → most < length d.rows + length x → length x ≤ most
+begins : (d : Draft) (front : List (List ℕ)) (x : List ℕ) (rows : List (List ℕ)) → HoldsOf rows → d.rows ≡ concat front → most < length d.rows + length x
     → Behind d front (x ∷ rows) (closed (with_rows (record d { full = d.full ++ filled d ∷ []; rows = x }) rows))
-begins d front x rows holds is le over short =
-    let then = holds (record d { full = d.full ++ filled d ∷ []; rows = x }) (x ∷ []) (sym (append-nil x)) (omega (arith, short, ap length (append-nil x))) in
-    let full : IsFull d.xid d.kind front x (filled d) = record { holds = ap (reply d.xid d.kind more) is; fits = le; full = omega (arith, over, ap length is) } in
+begins d front x rows holds is over =
+    let then = holds (record d { full = d.full ++ filled d ∷ []; rows = x }) (x ∷ []) (sym (append-nil x)) in
+    let full : IsFull d.xid d.kind front x (filled d) = record { holds = ap (reply d.xid d.kind more) is; full = omega (arith, over, ap length is) } in
     (filled d ∷ then.0, then.1 ∙ append_assoc d.full (filled d ∷ []) then.0, one_more d.xid d.kind front x rows (filled d) then.0 full then.2)
 
-by_test : (d : Draft) (front : List (List ℕ)) (x : List ℕ) (rows : List (List ℕ)) → HoldsOf rows → d.rows ≡ concat front → length (concat front) ≤ most → length x ≤ most
+by_test : (d : Draft) (front : List (List ℕ)) (x : List ℕ) (rows : List (List ℕ)) → HoldsOf rows → d.rows ≡ concat front
     → (b : Bool) → nat_le (length d.rows + length x) most ≡ b → Behind d front (x ∷ rows) (closed (with_rows (cond b (record d { rows = d.rows ++ x }) (record d { full = d.full ++ filled d ∷ []; rows = x })) rows))
-by_test d front x rows holds is le short true e = joins d front x rows holds is (grind (arith, nat_tests, e))
-by_test d front x rows holds is le short false e = begins d front x rows holds is le (grind (arith, nat_tests, e)) short
+by_test d front x rows holds is true e = joins d front x rows holds is
+by_test d front x rows holds is false e = begins d front x rows holds is (grind (arith, nat_tests, e))
 
-behind : (rows : List (List ℕ)) → ByRecursion (λ row. length row ≤ most) rows → HoldsOf rows
+behind : (rows : List (List ℕ)) → HoldsOf rows
 unfolding with_rows
-behind [] short d front is le =
+behind [] d front is =
     let whole : d.rows ≡ concat (front ++ []) = is ∙ ap concat (sym (append-nil front)) in
-    (reply d.xid d.kind 0 d.rows ∷ [], refl, (ap (reply d.xid d.kind 0) whole, omega (arith, le, ap length is, ap length whole)))
-behind (x ∷ rows) short d front is le = by_test d front x rows (behind rows short.1) is le short.0 (nat_le (length d.rows + length x) most) refl
+    (reply d.xid d.kind 0 d.rows ∷ [], refl, ap (reply d.xid d.kind 0) whole)
+behind (x ∷ rows) d front is = by_test d front x rows (behind rows) is (nat_le (length d.rows + length x) most) refl
 
-pub cut : (xid kind : ℕ) (rows : List (List ℕ)) → AreShort rows → AreReplies xid kind rows (replies xid kind rows)
-cut xid kind rows short =
-    let all = behind rows (recursion_from_All (λ row. length row ≤ most) rows short) (blank xid kind) [] refl (omega arith) in
+pub cut : (xid kind : ℕ) (rows : List (List ℕ)) → AreReplies xid kind rows (replies xid kind rows)
+cut xid kind rows =
+    let all = behind rows (blank xid kind) [] refl in
     subst (λ (ms : List (List ℕ)). AreReplies xid kind rows ms) (sym all.1) all.2
+
+-- ---- each fits
+
+abbrev Within : ℕ → List (List ℕ) → Type 0
+Within size = ByRecursion (λ bytes. length bytes ≤ size)
+
+reply_fits : (xid kind flags : ℕ) (body : List ℕ) → length body ≤ most → length (reply xid kind flags body) ≤ 65535
+unfolding reply
+reply_fits xid kind flags body le = omega (arith, le)
+
+one_fits_more : (ms : List (List ℕ)) (m : List ℕ) → Within 65535 ms → length m ≤ 65535 → Within 65535 (ms ++ m ∷ [])
+one_fits_more [] m all le = (le, tt)
+one_fits_more (n ∷ ms) m all le = (all.0, one_fits_more ms m all.1 le)
+
+all_fit : (rows : List (List ℕ)) (d : Draft) → Within most rows → Within 65535 d.full → length d.rows ≤ most → Within 65535 (closed (with_rows d rows))
+unfolding with_rows
+all_fit [] d short full le = one_fits_more d.full _ full (reply_fits d.xid d.kind 0 d.rows le)
+all_fit (x ∷ rows) d short full le = fit_by (nat_le (length d.rows + length x) most) refl (λ (e : Draft). all_fit rows e short.1)
+  where
+    fit_by : (b : Bool) → nat_le (length d.rows + length x) most ≡ b → ((e : Draft) → Within 65535 e.full → length e.rows ≤ most → Within 65535 (closed (with_rows e rows)))
+        → Within 65535 (closed (with_rows (cond b (record d { rows = d.rows ++ x }) (record d { full = d.full ++ filled d ∷ []; rows = x })) rows))
+    fit_by true e others = let sum : length d.rows + length x ≤ most = grind (arith, nat_tests, e) in others (record d { rows = d.rows ++ x }) full (omega (arith, sum, length-append d.rows x))
+    fit_by false e others = others (record d { full = d.full ++ filled d ∷ []; rows = x }) (one_fits_more d.full (filled d) full (reply_fits d.xid d.kind more d.rows le)) short.0
+
+pub fit : (xid kind : ℕ) (rows : List (List ℕ)) → AreWithin most rows → AreWithin 65535 (replies xid kind rows)
+fit xid kind rows short = All-from_recursion (λ bytes. length bytes ≤ 65535) (replies xid kind rows) (all_fit rows (blank xid kind) (recursion_from_All (λ bytes. length bytes ≤ most) rows short) tt (omega arith))

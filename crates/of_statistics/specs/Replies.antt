@@ -57,13 +57,12 @@ replies xid kind rows = closed (with_rows (blank xid kind) rows)
 -- a reply that holds the rows in front, and could not hold the next one too
 pub record IsFull (xid kind : ℕ) (front : List (List ℕ)) (next reply_bytes : List ℕ) : Type 0 where
   pub holds : reply_bytes ≡ reply xid kind more (concat front)
-  pub fits : length (concat front) ≤ most
   pub full : most < length (concat front) + length next
 
 -- the last reply holds the rest, and each before it as many rows as it can
 abbrev pub AreReplies : ℕ → ℕ → List (List ℕ) → List (List ℕ) → Type 0
 AreReplies xid kind rows [] = ⊥
-AreReplies xid kind rows (m ∷ []) = (m ≡ reply xid kind 0 (concat rows)) × (length (concat rows) ≤ most)
+AreReplies xid kind rows (m ∷ []) = m ≡ reply xid kind 0 (concat rows)
 AreReplies xid kind rows (m ∷ n ∷ ms) =
     (front : List (List ℕ)) × (next : List ℕ) × (behind : List (List ℕ)) × (rows ≡ front ++ next ∷ behind) × IsFull xid kind front next m × AreReplies xid kind (next ∷ behind) (n ∷ ms)
 
@@ -71,6 +70,6 @@ AreReplies xid kind rows (m ∷ n ∷ ms) =
 abbrev pub rows_in : List (List ℕ) → List ℕ
 rows_in messages = flat_map (λ m. drop 16 m) messages
 
--- no row is longer than a reply
-abbrev pub AreShort : List (List ℕ) → Type 0
-AreShort rows = All (λ row. length row ≤ most) rows
+-- each has at most so many bytes
+abbrev pub AreWithin : ℕ → List (List ℕ) → Type 0
+AreWithin size = All (λ bytes. length bytes ≤ size)

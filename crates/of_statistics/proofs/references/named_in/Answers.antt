@@ -1,14 +1,12 @@
-use Rattle.std.proofs.Common.{◌≡◌, ◌<◌, ◌+◌, length, ap, ◌∙◌, sym, arith}
+use Rattle.std.proofs.Common.{◌≡◌, ◌<◌, length, arith}
 use Rattle.std.specs.Prelude.{Some}
 use Rattle.std.specs.List.{count_by}
 use Rattle.std.proofs.lemmas.List.{length-map}
 use Rattle.std.proofs.lemmas.List.Sums.{count_by-le-length}
-use Rattle.of_table.specs.Table.{Table}
 use Rattle.of_table.specs.Entries.{table_of}
 use Rattle.of_table.specs.Selecting.{names_group}
 use Rattle.of_table.specs.Tables.{table_at, tables_of}
-use Rattle.of_statistics.proofs.Counts.{count_more}
-use Rattle.of_statistics.proofs.Walks.{table_at_is}
+use Rattle.of_statistics.proofs.Counts.{count_in, count_more}
 use Rattle.of_statistics.proofs.references.named_in.Goals as goal
 
 pub loop-table-preserved : goal.loop-table-preserved
@@ -18,8 +16,8 @@ loop-table-preserved g c =
     let ts = (tables_of c.args.tables.now).tables in
     let there : k < length ts = omega (arith, c.known.ensures.sixteen, length-map c.args.tables.now.tables table_of) in
     let flows = (table_at k (tables_of c.args.tables.now)).flows in
-    let counted : c.named_by-count.result ≡ count_by p flows = (rw c.entries.ensures at c.named_by-count.ensures) ∙ sym (ap (λ (t : Table). count_by p t.flows) (table_at_is k c.args.tables.now)) in
+    let counted : c.named_by-count.result ≡ count_by p flows = count_in p k c.args.tables.now c.entries.result c.named_by-count.result c.entries.ensures c.named_by-count.ensures in
     record {
-      count = ap (λ n. n + c.named_by-count.result) c.loop-table.invariant.count ∙ count_more p k ts c.named_by-count.result there counted;
+      count = count_more p k ts c.loop-table.count c.named_by-count.result there c.loop-table.invariant.count counted;
       few = omega (arith, c.loop-table.invariant.few, counted, count_by-le-length p flows, (c.known.ensures.sound k).few);
     }
