@@ -17,5 +17,5 @@ pub use description::description_reply;
 pub use flows::flow_replies;
 pub use groups::{group_description_replies, group_features_reply, group_replies};
 pub use laws::pieces_are_whole;
-pub use ports::{port_description_reply, port_stats_reply};
+pub use ports::{description_of, port_description_reply, port_stats_reply};
 pub use tables::table_reply;

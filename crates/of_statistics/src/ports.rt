@@ -86,7 +86,8 @@ pub fn port_stats_reply(
     Ok(sealed(out, xid, PORT_STATS, 0))
 }
 
-fn description_of(port: &Port) -> PortDescription
+/// A port as messages describe it (OpenFlow 1.3.5, 7.2.1).
+pub fn description_of(port: &Port) -> PortDescription
     ensures { result ≡ described port.now }
 {
     PortDescription {

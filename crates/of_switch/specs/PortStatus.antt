@@ -1,24 +1,20 @@
 -- What the controller is told of ports (OpenFlow 1.3.5, 7.2.1 and 7.4.3).
 use Rattle.std.specs.Prelude.{ℕ, ◌==◌, Bool, ◌&&◌, List, [], ◌∷◌, if◌then◌else◌}
-use Rattle.of_messages.specs.declared.port_mod.PortDescription.{PortDescription}
 use Rattle.of_messages.specs.declared.port_mod.PortStatusReason.{PortStatusReason}
 use Rattle.of_messages.specs.declared.port_mod.PortStatusReason.TheVariants.{Add, Delete, Modify}
 use Rattle.of_messages.specs.Written.{port_status_bytes}
 use Rattle.of_ports.specs.declared.port.Port.{Port}
 use Rattle.of_ports.specs.Config.{config_bits}
 use Rattle.of_ports.specs.Ports.{state_bits}
+use Rattle.of_statistics.specs.Ports.{described}
 use Rattle.of_switch.specs.declared.control.Heard.{Heard}
 use Rattle.of_switch.specs.Told.{told}
 use Rattle.of_switch.specs.declared.effect.Effect.{Effect}
 use Rattle.of_switch.specs.declared.effect.Effect.TheVariants.{Answer}
 
--- what the 64 bytes of a port show of it
-abbrev pub shown : Port → PortDescription
-shown p = record { number = p.number; hw = p.hw; name = p.name; config = config_bits p.config; state = state_bits p }
-
 -- a message that the switch begins has the transaction id 0
 abbrev pub status : PortStatusReason → Port → Effect
-status reason p = Answer (port_status_bytes 0 reason (shown p))
+status reason p = Answer (port_status_bytes 0 reason (described p))
 
 -- a port keeps its number, its address and its name; so of a change its configuration and its state are shown, or nothing
 abbrev pub is_shown_alike : Port → Port → Bool

@@ -1,24 +1,13 @@
 //! What the controller is told of ports (OpenFlow 1.3.5, 7.4.3).
 ghost use Rattle.std.specs.Prelude.{◌≡◌, ◌∷◌, [], IfOk};
-ghost use Rattle.of_switch.specs.PortStatus.{change_told, is_shown_alike as shows_alike, shown, status_bit, status_told};
+ghost use Rattle.of_switch.specs.PortStatus.{change_told, is_shown_alike as shows_alike, status_bit, status_told};
 
 use crate::control::{Heard, lets_through};
 use crate::effect::{Effect, Effects};
-use of_messages::{PortDescription, PortStatusReason, write_port_status};
+use of_messages::{PortStatusReason, write_port_status};
 use of_ports::Port;
+use of_statistics::description_of;
 use std::alloc::{AllocError, Global};
-
-fn description_of(port: &Port) -> PortDescription
-    ensures { result ≡ shown port.now }
-{
-    PortDescription {
-        number: port.number,
-        hw: port.hw,
-        name: port.name,
-        config: port.config.bits(),
-        state: port.state_bits(),
-    }
-}
 
 fn reason_bit(reason: PortStatusReason) -> u32
     ensures { result ≡ status_bit reason }
