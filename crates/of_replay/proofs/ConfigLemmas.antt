@@ -1,7 +1,7 @@
 -- A flow text that is read whole, for its configuration.
 use Rattle.std.proofs.Common.{◌≡◌, ℕ, Bool, true, List, [], Option, Some, None, Result, Ok, Err, refl, sym, subst}
 use Rattle.std.specs.Prelude.{nat_lt}
-use Rattle.of_text.specs.Flows.{Flow}
+use Rattle.of_text.specs.Configs.{Configuration}
 use Rattle.of_replay.specs.declared.halt.Halt.{Halt}
 use Rattle.of_replay.specs.declared.halt.Halt.TheVariants.{Bad, Memory, Read, Write}
 use Rattle.of_replay.specs.declared.event_file.Ended.{Ended}
@@ -30,8 +30,8 @@ without ReadFault ended file t b = absurd b
 without WriteFault ended file t b = absurd b
 without NoMemory ended file t b = tt
 
-pub config_read : (result : Result (List (List Flow)) Ended) (answers answers' : Option (List Answer)) (ends ends' : ℕ) (file : List ℕ) → ReadsFile (Ok tt) answers answers' ends ends' file → IsConfigOf result file → Configures result answers answers' ends ends'
-config_read (Ok tables) answers answers' ends ends' file r b = record { more = r.more; answers_are = r.answers_are; is = (r.is.0, subst (IsConfigOf (Ok tables)) r.is.1 b) }
+pub config_read : (result : Result Configuration Ended) (answers answers' : Option (List Answer)) (ends ends' : ℕ) (file : List ℕ) → ReadsFile (Ok tt) answers answers' ends ends' file → IsConfigOf result file → Configures result answers answers' ends ends'
+config_read (Ok config) answers answers' ends ends' file r b = record { more = r.more; answers_are = r.answers_are; is = (r.is.0, subst (IsConfigOf (Ok config)) r.is.1 b) }
 config_read (Err e) answers answers' ends ends' file r b = record { more = r.more; answers_are = r.answers_are; is = without e (nat_lt ends ends') (given r.more) r.is.0 (subst (IsConfigOf (Err e)) r.is.1 b) }
 
 -- a file without a configuration is one of which nothing is built
@@ -43,6 +43,6 @@ faults_without ReadFault file reads ends ends' failures failures' b h = absurd b
 faults_without WriteFault file reads ends ends' failures failures' b h = absurd b
 faults_without NoMemory file reads ends ends' failures failures' b h = faults_unbuilt NoMemory file reads ends ends' failures failures' 0 tt h refl
 
-pub config_faults : (result : Result (List (List Flow)) Ended) (file : List ℕ) (reads ends ends' failures failures' : ℕ) → IsConfigOf result file → ReadsFail (Ok tt) reads ends ends' failures failures' → Faults (ended_as result) reads ends ends' failures failures' 0
-config_faults (Ok tables) file reads ends ends' failures failures' b h = faults_done reads ends ends' failures failures' 0 h refl
+pub config_faults : (result : Result Configuration Ended) (file : List ℕ) (reads ends ends' failures failures' : ℕ) → IsConfigOf result file → ReadsFail (Ok tt) reads ends ends' failures failures' → Faults (ended_as result) reads ends ends' failures failures' 0
+config_faults (Ok config) file reads ends ends' failures failures' b h = faults_done reads ends ends' failures failures' 0 h refl
 config_faults (Err e) file reads ends ends' failures failures' b h = faults_without e file reads ends ends' failures failures' b h

@@ -1,18 +1,17 @@
 -- A flow text that is read whole, for its configuration.
 use Rattle.std.specs.Prelude.{◌≡◌, ℕ, Bool, true, false, nat_lt, List, Option, None, Some, Result, Ok, Err}
-use Rattle.of_text.specs.Flows.{Flow}
 use Rattle.of_text.specs.Lines.{lines_of}
-use Rattle.of_text.specs.Configs.{SpellConfig}
+use Rattle.of_text.specs.Configs.{Configuration, SpellConfig}
 use Rattle.of_replay.specs.declared.event_file.Ended.{Ended}
 use Rattle.of_replay.specs.declared.event_file.Ended.TheVariants.{Done, BadRow, Text, ReadFault, WriteFault, NoMemory}
 use Rattle.of_replay.specs.Told.{Answer, given}
 use Rattle.of_replay.specs.Transfer.{then_answers}
 use Rattle.of_replay.specs.Assembling.{bad_line, HasFault}
 
--- the file's lines spell these tables, and each is one that a file may have
-pub record Spells (file : List ℕ) (tables : List (List Flow)) : Type 0 where
+-- the file's lines spell this configuration, and each is one that a file may have
+pub record Spells (file : List ℕ) (config : Configuration) : Type 0 where
   pub readable : bad_line file ≡ None
-  pub spelt : SpellConfig (lines_of file) tables
+  pub spelt : SpellConfig (lines_of file) config
 
 -- why a file has no configuration
 abbrev pub LacksConfig : Ended → List ℕ → Type 0
@@ -23,8 +22,8 @@ LacksConfig ReadFault file = ⊥
 LacksConfig WriteFault file = ⊥
 LacksConfig NoMemory file = Unit {0}
 
-abbrev pub IsConfigOf : Result (List (List Flow)) Ended → List ℕ → Type 0
-IsConfigOf (Ok tables) file = Spells file tables
+abbrev pub IsConfigOf : Result Configuration Ended → List ℕ → Type 0
+IsConfigOf (Ok config) file = Spells file config
 IsConfigOf (Err e) file = LacksConfig e file
 
 -- how a run ends that wants a configuration and has none, by the bytes that were read
@@ -36,17 +35,17 @@ EndsWithout ReadFault ended file = ended ≡ false
 EndsWithout WriteFault ended file = ⊥
 EndsWithout NoMemory ended file = Unit {0}
 
-abbrev pub IsRead : Result (List (List Flow)) Ended → Bool → List ℕ → Type 0
-IsRead (Ok tables) ended file = (ended ≡ true) × Spells file tables
+abbrev pub IsRead : Result Configuration Ended → Bool → List ℕ → Type 0
+IsRead (Ok config) ended file = (ended ≡ true) × Spells file config
 IsRead (Err e) ended file = EndsWithout e ended file
 
 -- from what a source answered
-pub record Configures (result : Result (List (List Flow)) Ended) (answers answers' : Option (List Answer)) (ends ends' : ℕ) : Type 0 where
+pub record Configures (result : Result Configuration Ended) (answers answers' : Option (List Answer)) (ends ends' : ℕ) : Type 0 where
   pub more : List Answer
   pub answers_are : answers' ≡ then_answers answers more
   pub is : IsRead result (nat_lt ends ends') (given more)
 
 -- a configuration that was read ends nothing
-abbrev pub ended_as : Result (List (List Flow)) Ended → Ended
-ended_as (Ok tables) = Done
+abbrev pub ended_as : Result Configuration Ended → Ended
+ended_as (Ok config) = Done
 ended_as (Err e) = e

@@ -50,7 +50,8 @@ fn write_built<W: Sink>(text: Result<Vec<u8>, Ended>, writer: &mut W) -> Ended
 }
 
 /// Reads a flow text (docs/FLOWTEXT.md) and writes an event file that builds its configuration on a new switch: a
-/// controller connects, says HELLO, and adds each flow by a FLOW_MOD, by table, then by age.
+/// controller connects, says HELLO, adds each group by a GROUP_MOD, by rising length of its chains, then by number, and
+/// each flow by a FLOW_MOD, by table, then by age.
 ///
 /// The file is read whole, and nothing is written of one that is no configuration.
 pub fn asm<S: Source, W: Sink>(alloc: Global, reader: &mut S, writer: &mut W) -> Ended

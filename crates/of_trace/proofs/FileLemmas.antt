@@ -1,7 +1,7 @@
 -- A frame that is traced on the flows of a flow text.
 use Rattle.std.proofs.Common.{◌≡◌, ℕ, ◌+◌, ◌<◌, ◌≤◌, Bool, true, List, Option, Some, None, Result, Ok, Err, refl, sym, ap, subst, arith}
 use Rattle.std.specs.Prelude.{nat_lt, ◌⊎◌, ◌↔◌}
-use Rattle.of_text.specs.Flows.{Flow}
+use Rattle.of_text.specs.Configs.{Configuration}
 use Rattle.of_replay.specs.declared.event_file.Ended.{Ended}
 use Rattle.of_replay.specs.declared.event_file.Ended.TheVariants.{Done, BadRow, Text, NoMemory, ReadFault, WriteFault}
 use Rattle.of_replay.specs.Told.{Answer, given}
@@ -11,16 +11,16 @@ use Rattle.of_trace.specs.declared.form.Form.{Form}
 use Rattle.of_trace.specs.Files.{trace_of, EndsTracing, TracesFile}
 use Rattle.of_trace.specs.Writing.{WritesText}
 
-written_ends : (form : Form) (port : ℕ) (frame : List ℕ) (tables : List (List Flow)) (result : Ended) (ended : Bool) (file : List ℕ) (taken taken' : Option (List ℕ)) → ended ≡ true → Spells file tables → WritesText (trace_of form port frame tables) result taken taken' → EndsTracing form port frame result ended file taken taken'
-written_ends form port frame tables Done ended file taken taken' t s w = (tables, t, s, w)
-written_ends form port frame tables (BadRow n) ended file taken taken' t s w = absurd w
-written_ends form port frame tables (Text f) ended file taken taken' t s w = absurd w
-written_ends form port frame tables ReadFault ended file taken taken' t s w = absurd w
-written_ends form port frame tables WriteFault ended file taken taken' t s w = (tables, t, s, w)
-written_ends form port frame tables NoMemory ended file taken taken' t s w = w
+written_ends : (form : Form) (port : ℕ) (frame : List ℕ) (config : Configuration) (result : Ended) (ended : Bool) (file : List ℕ) (taken taken' : Option (List ℕ)) → ended ≡ true → Spells file config → WritesText (trace_of form port frame config) result taken taken' → EndsTracing form port frame result ended file taken taken'
+written_ends form port frame config Done ended file taken taken' t s w = (config, t, s, w)
+written_ends form port frame config (BadRow n) ended file taken taken' t s w = absurd w
+written_ends form port frame config (Text f) ended file taken taken' t s w = absurd w
+written_ends form port frame config ReadFault ended file taken taken' t s w = absurd w
+written_ends form port frame config WriteFault ended file taken taken' t s w = (config, t, s, w)
+written_ends form port frame config NoMemory ended file taken taken' t s w = w
 
-pub written : (form : Form) (port : ℕ) (frame : List ℕ) (tables : List (List Flow)) (result : Ended) (answers answers' : Option (List Answer)) (ends ends' : ℕ) (taken taken' : Option (List ℕ)) → Configures (Ok tables) answers answers' ends ends' → WritesText (trace_of form port frame tables) result taken taken' → TracesFile form port frame result answers answers' ends ends' taken taken'
-written form port frame tables result answers answers' ends ends' taken taken' r w = record { more = r.more; answers_are = r.answers_are; ends_so = written_ends form port frame tables result (nat_lt ends ends') (given r.more) taken taken' r.is.0 r.is.1 w }
+pub written : (form : Form) (port : ℕ) (frame : List ℕ) (config : Configuration) (result : Ended) (answers answers' : Option (List Answer)) (ends ends' : ℕ) (taken taken' : Option (List ℕ)) → Configures (Ok config) answers answers' ends ends' → WritesText (trace_of form port frame config) result taken taken' → TracesFile form port frame result answers answers' ends ends' taken taken'
+written form port frame config result answers answers' ends ends' taken taken' r w = record { more = r.more; answers_are = r.answers_are; ends_so = written_ends form port frame config result (nat_lt ends ends') (given r.more) taken taken' r.is.0 r.is.1 w }
 
 -- ---- faults of files: the text was read whole, and what is written fails by itself
 

@@ -1,6 +1,6 @@
--- THE TRACE OF A FLOW TEXT: that of a frame on a new switch with ports 1 to 64, whose links are up, and with the text's flows.
+-- THE TRACE OF A FLOW TEXT: that of a frame on a new switch with ports 1 to 64, whose links are up, and with the groups and flows of the text.
 use Rattle.std.specs.Prelude.{◌≡◌, ◌↔◌, ℕ, zero, suc, ◌<◌, Bool, true, false, nat_lt, List, [], ◌∷◌, ◌++◌, replicate, Option, Some, None}
-use Rattle.of_text.specs.Flows.{Flow}
+use Rattle.of_text.specs.Configs.{Configuration}
 use Rattle.of_switch.specs.declared.event.Event.{Event}
 use Rattle.of_switch.specs.declared.event.Event.TheVariants.{Ports}
 use Rattle.of_switch.specs.declared.port_change.PortChange.TheVariants.{Add}
@@ -27,20 +27,20 @@ abbrev pub ports_up : ℕ → List Event
 ports_up zero = []
 ports_up (suc n) = ports_up n ++ port_up (suc n) ∷ []
 
-abbrev pub traced_switch : List (List Flow) → State
-traced_switch tables = loaded tables (run (ports_up 64) (start 1)).state
+abbrev pub traced_switch : Configuration → State
+traced_switch config = loaded config (run (ports_up 64) (start 1)).state
 
 -- the text of the trace, in one of its forms
-abbrev pub trace_of : Form → ℕ → List ℕ → List (List Flow) → List ℕ
-trace_of form port frame tables = let s = traced_switch tables in said form s.core.forwarding (steps_in port frame s.core.forwarding) (frame_in port frame s).effects
+abbrev pub trace_of : Form → ℕ → List ℕ → Configuration → List ℕ
+trace_of form port frame config = let s = traced_switch config in said form s.core.forwarding (steps_in port frame s.core.forwarding) (frame_in port frame s).effects
 
 -- how such a run ends, by the bytes that were read: the trace was written, a prefix of it, or nothing
 abbrev pub EndsTracing : Form → ℕ → List ℕ → Ended → Bool → List ℕ → Option (List ℕ) → Option (List ℕ) → Type 0
-EndsTracing form port frame Done ended file old new = (tables : List (List Flow)) × (ended ≡ true) × Spells file tables × (new ≡ then_bytes old (trace_of form port frame tables))
+EndsTracing form port frame Done ended file old new = (config : Configuration) × (ended ≡ true) × Spells file config × (new ≡ then_bytes old (trace_of form port frame config))
 EndsTracing form port frame (BadRow n) ended file old new = (ended ≡ true) × (bad_line file ≡ Some n) × (new ≡ old)
 EndsTracing form port frame (Text f) ended file old new = (ended ≡ true) × (bad_line file ≡ None) × HasFault file f × (new ≡ old)
 EndsTracing form port frame ReadFault ended file old new = (ended ≡ false) × (new ≡ old)
-EndsTracing form port frame WriteFault ended file old new = (tables : List (List Flow)) × (ended ≡ true) × Spells file tables × WroteFront old (trace_of form port frame tables) new
+EndsTracing form port frame WriteFault ended file old new = (config : Configuration) × (ended ≡ true) × Spells file config × WroteFront old (trace_of form port frame config) new
 EndsTracing form port frame NoMemory ended file old new = new ≡ old
 
 -- from what a source answered to what a sink took

@@ -52,7 +52,7 @@ fn switch_with<L: Lookup>(alloc: Global, config: &Config) -> Result<Switch<L>, S
 }
 
 /// Reads a flow text (docs/FLOWTEXT.md) and writes the trace of a frame that comes in by a port, in one of its forms, on a new switch with ports 1 to
-/// 64, whose links are up, and with the text's flows.
+/// 64, whose links are up, and with the groups and flows of the text.
 ///
 /// The file is read whole, and nothing is written of one that is no configuration.
 pub fn trace_file<L: Lookup, S: Source, W: Sink>(
