@@ -2,6 +2,7 @@
 #![tactic(auto)]
 
 mod acting;
+mod asking;
 mod classifying;
 mod clock;
 mod comparing;
@@ -35,6 +36,10 @@ fn run(rt: &HostRuntime, name: &str) -> io::Result<()> {
         "classify" => classifying::time_classify(rt),
         "compare" => comparing::compare(rt),
         "flow_mod" => switching::time_flow_mod(rt),
+        "barrier" => asking::time_barrier(rt),
+        "features" => asking::time_features(rt),
+        "flow_stats" => asking::time_flow_stats(rt),
+        "flow_mod_stream" => asking::time_flow_mod_stream(rt),
         "moment" => switching::time_moment(rt),
         "set" => rewriting::time_set(rt),
         "push_pop" => rewriting::time_push_pop(rt),

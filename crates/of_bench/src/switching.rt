@@ -19,8 +19,8 @@ const ADD: [u8; 64] = [
     0, 1, 0, 12, 0x80, 0, 0, 4, 0, 0, 0, 0, 0, 0, 0, 0, // match
 ];
 
-// ADD into a table, of IN_PORT 3 and up, with a hard timeout of so many seconds.
-fn add(table: u8, number: u16, seconds: u16) -> [u8; 64] {
+/// ADD into a table, of IN_PORT 3 and up, with a hard timeout of so many seconds.
+pub fn add(table: u8, number: u16, seconds: u16) -> [u8; 64] {
     let mut message = ADD;
     message[24] = table;
     let bytes = seconds.to_be_bytes();
@@ -65,8 +65,8 @@ pub fn open_switch(alloc: Global) -> Option<Switch<MaskGroups>> {
     Some(switch)
 }
 
-// A switch with so many flows in each of so many tables, with this hard timeout; None where memory runs out.
-fn switch_with(
+/// A switch with so many flows in each of so many tables, with this hard timeout; `None` where memory runs out.
+pub fn switch_with(
     rt: &HostRuntime,
     tables: u8,
     flows: u16,

@@ -1,0 +1,89 @@
+//! Requests of a controller on a switch, from bytes to bytes.
+
+use crate::clock::{Timed, time};
+use crate::switching::{add, open_switch, piece, switch_with};
+use of_mask_groups::MaskGroups;
+use of_switch::Switch;
+use std::alloc::{AllocError, Global};
+use std::io;
+
+const BARRIER: [u8; 8] = [4, 20, 0, 8, 0, 0, 0, 3];
+
+const FEATURES: [u8; 8] = [4, 5, 0, 8, 0, 0, 0, 4];
+
+/// FLOW statistics of all entries of all tables.
+const FLOWS: [u8; 56] = [
+    4, 18, 0, 56, 0, 0, 0, 5, // header
+    0, 1, 0, 0, 0, 0, 0, 0, // FLOW, flags, padding
+    0xff, 0, 0, 0, 0xff, 0xff, 0xff, 0xff, // table, padding, out port
+    0xff, 0xff, 0xff, 0xff, 0, 0, 0, 0, // out group, padding
+    0, 0, 0, 0, 0, 0, 0, 0, // cookie
+    0, 0, 0, 0, 0, 0, 0, 0, // its mask
+    0, 1, 0, 4, 0, 0, 0, 0, // match
+];
+
+/// How many FLOW_MODs a stream has.
+const STREAM: u16 = 10_000;
+
+#[derive(Drop)]
+struct Asking {
+    switch: Switch<MaskGroups>,
+    request: Vec<u8>,
+}
+
+impl Timed for Asking {
+    fn call(&mut self, _turn: u64) -> u64 {
+        piece(&mut self.switch, &self.request).unwrap_or(0)
+    }
+}
+
+fn time_asking(
+    rt: &HostRuntime,
+    name: &str,
+    switch: Option<Switch<MaskGroups>>,
+    request: Result<Vec<u8>, AllocError>,
+) -> io::Result<()> {
+    match (switch, request) {
+        (Some(switch), Ok(request)) => time(rt, name, &mut Asking { switch, request }),
+        _ => println!(rt; "{name}: no memory"),
+    }
+}
+
+fn bytes_of(alloc: Global, bytes: &[u8]) -> Result<Vec<u8>, AllocError> {
+    let mut copy = Vec::with_capacity(alloc, bytes.len())?;
+    copy.extend_from_slice(bytes)?;
+    Ok(copy)
+}
+
+/// A BARRIER_REQUEST and its reply.
+pub fn time_barrier(rt: &HostRuntime) -> io::Result<()> {
+    let request = bytes_of(rt.alloc(), &BARRIER);
+    time_asking(rt, "barrier", open_switch(rt.alloc()), request)
+}
+
+/// A FEATURES_REQUEST and its reply.
+pub fn time_features(rt: &HostRuntime) -> io::Result<()> {
+    let request = bytes_of(rt.alloc(), &FEATURES);
+    time_asking(rt, "features", open_switch(rt.alloc()), request)
+}
+
+/// FLOW statistics of 4,096 entries.
+pub fn time_flow_stats(rt: &HostRuntime) -> io::Result<()> {
+    let request = bytes_of(rt.alloc(), &FLOWS);
+    time_asking(rt, "flow_stats", switch_with(rt, 1, 4096, 0), request)
+}
+
+// ADDs into 16 tables in turn.
+fn stream(alloc: Global) -> Result<Vec<u8>, AllocError> {
+    let mut bytes = Vec::new(alloc);
+    for number in 0..STREAM {
+        bytes.extend_from_slice(&add((number % 16) as u8, number / 16, 0))?;
+    }
+    Ok(bytes)
+}
+
+/// 10,000 ADDs in one piece, of which each replaces an entry but in the first turn.
+pub fn time_flow_mod_stream(rt: &HostRuntime) -> io::Result<()> {
+    let request = stream(rt.alloc());
+    time_asking(rt, "flow_mod_stream", open_switch(rt.alloc()), request)
+}
