@@ -2,3 +2,4 @@ pub mod Told
 pub mod Turns
 pub mod Serves
 pub mod Gathering
+pub mod FileRows

@@ -1,11 +1,13 @@
 //! A switch that serves controllers: turns of accepting, reading and writing.
 #![tactic(auto)]
 
+mod event_rows;
 mod gathering;
 mod peers;
 mod rows;
 mod serving;
 mod turns;
 
+pub use event_rows::read_rows;
 pub use peers::{Accepted, Clock, Peers};
 pub use serving::serve;
