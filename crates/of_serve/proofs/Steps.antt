@@ -14,7 +14,7 @@ use Rattle.of_replay.specs.declared.halt.Halt.TheVariants.{Bad, Memory, Read as 
 use Rattle.of_replay.specs.Told.{Answer, then_bytes}
 use Rattle.of_replay.specs.Transfer.{WroteFront}
 use Rattle.of_serve.specs.declared.peers.Accepted.TheVariants as accepted
-use Rattle.of_serve.specs.Told.{Came, Accept, Read, then_told, then_onto}
+use Rattle.of_serve.specs.Told.{Came, accept_came, Answered, then_told, then_onto}
 use Rattle.of_serve.specs.Turns.{Gathered, gather, gathered, empty_handed, given, due, left, heard, events_of, Stand, standing, Turn, IsTurn, Accepts, Reads, came_in, time_in, then_in, Turns, stand, came, times, took, sent}
 use Rattle.of_serve.specs.Turns.Turns.{None as NoTurns, Then}
 use Rattle.of_serve.specs.Serves.{Tells, tells, Serves}
@@ -85,7 +85,7 @@ inputs_accept (Ok u) g0 g g' rows came came' times took took' wrote same empty s
 }
 inputs_accept (Err (Bad n)) g0 g g' rows came came' times took took' wrote same empty stands o = o
 inputs_accept (Err Memory) g0 g g' rows came came' times took took' wrote same empty stands o = record {
-  last = Accept accepted.Open ∷ [];
+  last = accept_came accepted.Open ∷ [];
   time = [];
   one = omega arith;
   came_is = o;
@@ -265,7 +265,7 @@ serves_until Memory n turns s g g' rest rest' old now new f lt go = record {
 serves_until ReadHalt n turns s g g' rest rest' old now new f lt go = record {
   ts = f.ts;
   are = f.are;
-  ends = (omega (arith, lt, f.count_is), told_more old.came now.came new.came (came f.ts) (Accept accepted.Fault ∷ []) f.came_is go.came_is, go.times_are ∙ f.times_are, go.took_is ∙ f.took_is, go.wrote_is ∙ f.wrote_is);
+  ends = (omega (arith, lt, f.count_is), told_more old.came now.came new.came (came f.ts) (accept_came accepted.Fault ∷ []) f.came_is go.came_is, go.times_are ∙ f.times_are, go.took_is ∙ f.took_is, go.wrote_is ∙ f.wrote_is);
 }
 serves_until Write n turns s g g' rest rest' old now new f lt go =
     let x = stand s f.ts in

@@ -9,23 +9,23 @@ use Rattle.of_replay.specs.Told.{Answer, then_bytes}
 use Rattle.of_replay.specs.Transfer.{WroteFront}
 use Rattle.of_serve.specs.declared.peers.Accepted.{Accepted}
 use Rattle.of_serve.specs.declared.peers.Accepted.TheVariants as accepted
-use Rattle.of_serve.specs.Told.{Came, Accept, Read, then_told, then_begun, then_onto}
+use Rattle.of_serve.specs.Told.{Came, accept_came, Answered, then_told, then_begun, then_onto}
 use Rattle.of_serve.specs.Turns.{Gathered, gathered, empty_handed, heard, opened, left, events_of, Reads, Stand, Turn, IsTurn, given, after, Input, IsInput, rows_after, came_in, time_in, then_in, Turns, AreTurns, count, stand, came, times, took, sent}
 use Rattle.of_serve.specs.Serves.{Tells}
 
 -- one read was made
 abbrev pub IsOneRead : (came came' : Option (List Came)) → Type 0
-IsOneRead came came' = (answer : Answer) × (came' ≡ then_told came (Read answer ∷ []))
+IsOneRead came came' = (answer : Answer) × (came' ≡ then_told came (Answered answer ∷ []))
 
 -- and what it gave was handled
 abbrev pub Hears : Gathered → Gathered → (came came' : Option (List Came)) → Type 0
-Hears g g' came came' = (answer : Answer) × (came' ≡ then_told came (Read answer ∷ [])) × (g' ≡ gathered (heard answer) g)
+Hears g g' came came' = (answer : Answer) × (came' ≡ then_told came (Answered answer ∷ [])) × (g' ≡ gathered (heard answer) g)
 
 -- a turn with a connection: the clock told the time, one read was made, and the events of both were handled
 pub record TellsReads (g g' : Gathered) (rows rest : List Event) (came came' : Option (List Came)) (times times' : Option (List ℕ)) : Type 0 where
   pub now : ℕ
   pub answer : Answer
-  pub came_is : came' ≡ then_told came (Read answer ∷ [])
+  pub came_is : came' ≡ then_told came (Answered answer ∷ [])
   pub times_are : times' ≡ then_told times (now ∷ [])
   pub handled : g' ≡ gathered (events_of (Reads now answer) rows) g
   pub rest_is : rest ≡ left now rows
@@ -40,10 +40,10 @@ pub record ReadsOnce (came came' : Option (List Came)) (times times' : Option (L
 
 -- an accept was made, and what it gave was handled
 abbrev pub Opens : Result (Unit {0}) Halt → Gathered → Gathered → (came came' : Option (List Came)) → (took took' : Option (List (List ℕ))) → Type 0
-Opens (Ok u) g g' came came' took took' = (a : Accepted) × (came' ≡ then_told came (Accept a ∷ [])) × (took' ≡ then_begun took a) × (g' ≡ gathered (opened a) g)
+Opens (Ok u) g g' came came' took took' = (a : Accepted) × (came' ≡ then_told came (accept_came a ∷ [])) × (took' ≡ then_begun took a) × (g' ≡ gathered (opened a) g)
 Opens (Err (Bad n)) g g' came came' took took' = ⊥
-Opens (Err Memory) g g' came came' took took' = came' ≡ then_told came (Accept accepted.Open ∷ [])
-Opens (Err ReadHalt) g g' came came' took took' = (came' ≡ then_told came (Accept accepted.Fault ∷ [])) × (took' ≡ took)
+Opens (Err Memory) g g' came came' took took' = came' ≡ then_told came (accept_came accepted.Open ∷ [])
+Opens (Err ReadHalt) g g' came came' took took' = (came' ≡ then_told came (accept_came accepted.Fault ∷ [])) × (took' ≡ took)
 Opens (Err Write) g g' came came' took took' = ⊥
 
 abbrev pub OrMemory : Result (Unit {0}) AllocError → Result (Unit {0}) Halt → Type 0
@@ -81,7 +81,7 @@ pub record Lacks (old new : Tells) : Type 0 where
 
 -- an accept failed
 pub record Refuses (old new : Tells) : Type 0 where
-  pub came_is : new.came ≡ then_told old.came (Accept accepted.Fault ∷ [])
+  pub came_is : new.came ≡ then_told old.came (accept_came accepted.Fault ∷ [])
   pub times_are : new.times ≡ old.times
   pub took_is : new.took ≡ old.took
   pub wrote_is : new.wrote ≡ old.wrote

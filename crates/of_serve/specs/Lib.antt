@@ -3,3 +3,4 @@ pub mod Turns
 pub mod Serves
 pub mod Gathering
 pub mod FileRows
+pub mod Memory

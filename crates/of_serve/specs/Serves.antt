@@ -5,7 +5,7 @@ use Rattle.of_replay.specs.declared.event_file.Ended.TheVariants.{Done, BadRow, 
 use Rattle.of_replay.specs.Told.{then_bytes}
 use Rattle.of_replay.specs.Transfer.{WroteFront}
 use Rattle.of_serve.specs.declared.peers.Accepted.TheVariants as accepted
-use Rattle.of_serve.specs.Told.{Came, Accept, then_told}
+use Rattle.of_serve.specs.Told.{Came, accept_came, then_told}
 use Rattle.of_serve.specs.Turns.{Stand, Turns, AreTurns, count, came, times, took, sent}
 
 -- what peers, clock and output told at one time
@@ -35,7 +35,7 @@ EndsSo Done turns s ts old new =
 EndsSo (BadRow n) turns s ts old new = ⊥
 EndsSo (Text fault) turns s ts old new = ⊥
 EndsSo ReadFault turns s ts old new =
-    (count ts < turns) × (new.came ≡ then_told old.came (came ts ++ Accept accepted.Fault ∷ [])) × (new.times ≡ then_told old.times (times ts))
+    (count ts < turns) × (new.came ≡ then_told old.came (came ts ++ accept_came accepted.Fault ∷ [])) × (new.times ≡ then_told old.times (times ts))
     × (new.took ≡ took old.took ts) × (new.wrote ≡ then_bytes old.wrote (sent s ts))
 EndsSo WriteFault turns s ts old new =
     (count ts ≤ turns) × (new.came ≡ then_told old.came (came ts)) × (new.times ≡ then_told old.times (times ts))

@@ -1,14 +1,20 @@
 -- What peers and a clock answered, where they tell it.
 use Rattle.std.specs.Prelude.{ℕ, List, [], ◌∷◌, ◌++◌, Option}
 use Rattle.std.specs.Option.{option_map}
-use Rattle.of_replay.specs.Told.{Answer}
+use Rattle.of_replay.specs.Told.{Answer, Idle, Failed}
 use Rattle.of_serve.specs.declared.peers.Accepted.{Accepted}
 use Rattle.of_serve.specs.declared.peers.Accepted.TheVariants as accepted
 
--- what an accept answered, or a read of the connection that stands
+-- what an accept answered, or a read of the connection that stands: a connection is opened, or the answer of a read, or
+-- of an accept that found nobody or failed
 pub data Came : Type 0 where
-  Accept : (accepted : Accepted) → Came
-  Read : (answer : Answer) → Came
+  Opened : Came
+  Answered : (answer : Answer) → Came
+
+abbrev pub accept_came : Accepted → Came
+accept_came accepted.Open = Opened
+accept_came accepted.Nothing = Answered Idle
+accept_came accepted.Fault = Answered Failed
 
 -- what was told, and then this
 abbrev pub then_told : {A : Type 0} → Option (List A) → List A → Option (List A)

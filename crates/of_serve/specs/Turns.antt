@@ -12,7 +12,7 @@ use Rattle.of_replay.specs.Output.{line_of}
 use Rattle.of_replay.specs.Told.{Answer, Gave, Idle, Ended, Failed}
 use Rattle.of_serve.specs.declared.peers.Accepted.{Accepted}
 use Rattle.of_serve.specs.declared.peers.Accepted.TheVariants as accepted
-use Rattle.of_serve.specs.Told.{Came, Accept, Read, then_begun, then_onto}
+use Rattle.of_serve.specs.Told.{Came, accept_came, Answered, then_begun, then_onto}
 
 -- ROWS OF THE FILE THAT ARE DUE: those before the first `t` row that the clock has not reached
 
@@ -170,8 +170,8 @@ AreTurns s (Then ts t) = AreTurns s ts × IsTurn t (stand s ts)
 
 -- what peers answered in them
 abbrev pub came_in : Input → List Came
-came_in (Accepts accepted) = Accept accepted ∷ []
-came_in (Reads now answer) = Read answer ∷ []
+came_in (Accepts accepted) = accept_came accepted ∷ []
+came_in (Reads now answer) = Answered answer ∷ []
 
 abbrev pub came : Turns → List Came
 came None = []

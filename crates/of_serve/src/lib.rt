@@ -3,6 +3,7 @@
 
 mod event_rows;
 mod gathering;
+pub mod memory;
 mod peers;
 mod rows;
 mod serving;

@@ -1,7 +1,7 @@
 //! Who connects to a switch, and what time it is.
 ghost use Rattle.std.specs.Prelude.{◌≡◌, ◌+◌, ◌<◌, ◌≤◌, ◌^◌, ◌∷◌, ℕ, List, [], Option, length, take};
 ghost use Rattle.of_replay.specs.Told.{answer_of, write_count, write_faults, IsReading, IsWriting};
-ghost use Rattle.of_serve.specs.Told.{Came, Accept, Read, then_told, accept_faults, then_begun, then_onto};
+ghost use Rattle.of_serve.specs.Told.{Came, accept_came, Answered, then_told, accept_faults, then_begun, then_onto};
 
 use of_replay::{Reading, Writing};
 
@@ -36,7 +36,7 @@ pub trait Peers {
     /// Looks whether a peer connects. The connection before it is given up.
     fn accept(&mut self) -> Accepted
         requires few { accepts self.old < 2 ^ 63 }
-        ensures came { came self.new ≡ then_told (came self.old) (Accept result ∷ []) }
+        ensures came { came self.new ≡ then_told (came self.old) (accept_came result ∷ []) }
         ensures took { took self.new ≡ then_begun (took self.old) result }
         ensures accepts { accepts self.new ≡ accepts self.old + 1 }
         ensures failures { accept_failures self.new ≡ accept_failures self.old + accept_faults result }
@@ -47,7 +47,7 @@ pub trait Peers {
         requires room { 0 < length buffer.old }
         requires few { reads self.old < 2 ^ 63 }
         ensures fits { IsReading result (length buffer.new) }
-        ensures came { came self.new ≡ then_told (came self.old) (Read (answer_of result buffer.new) ∷ []) }
+        ensures came { came self.new ≡ then_told (came self.old) (Answered (answer_of result buffer.new) ∷ []) }
         ensures took { took self.new ≡ took self.old }
         ensures reads { reads self.new ≡ reads self.old + 1 }
         ensures same { (accepts self.new ≡ accepts self.old) × (accept_failures self.new ≡ accept_failures self.old) × (write_failures self.new ≡ write_failures self.old) };
