@@ -49,6 +49,22 @@ With --explain a look-up is followed by the entry that won, in the words of flow
 
   ofswitch trace --flows examples/router.flows --port 1 0200000000a10200000000010800450000140000000040fd64e30a0000010a010109";
 
+const SERVING: &str =
+    "A controller connects by TCP (`--listen`), or the switch dials it (`--connect`) and dials again whenever the connection
+is lost. One controller is served at a time; another one waits. The switch keeps its flows between connections, but only
+while one stands does time pass in it.
+
+  ofswitch serve                                     wait at 127.0.0.1:6653
+  ofswitch serve --connect 10.0.0.1:6653             dial a controller that listens
+  ofswitch serve --events ports.events               with ports and frames
+
+The event file has the rows of `replay`, apart from `connect`, `lost` and `c`: here they are bad rows. It is read whole
+before anybody connects. A row happens as soon as a controller is connected and as many nanoseconds have passed since the
+start as each `t` row before it says. Frames that leave are printed (`s PORT HEX`), and on standard error a line stands for
+each connection and its end.
+
+A turn is an accept, or one read of at most 65,536 bytes that waits 10 ms at most.";
+
 const VERSION: &str = "0.1.0";
 
 /// The command line of the program.
@@ -88,6 +104,7 @@ pub fn command<'a>(alloc: Global) -> Result<Command<'a>, AllocError> {
         .arg(port)?
         .arg(frame)?
         .arg(explain)?;
+    let serve = serve_command(alloc)?;
     Command::new(alloc, "ofswitch")
         .version(VERSION)
         .about("An OpenFlow 1.3.5 switch whose behaviour is proved")
@@ -96,5 +113,42 @@ pub fn command<'a>(alloc: Global) -> Result<Command<'a>, AllocError> {
         .arg_required_else_help(true)
         .subcommand(replay)?
         .subcommand(asm)?
-        .subcommand(trace)
+        .subcommand(trace)?
+        .subcommand(serve)
+}
+
+// The subcommand that serves controllers.
+fn serve_command<'a>(alloc: Global) -> Result<Command<'a>, AllocError> {
+    let listen = Arg::new(alloc, "listen")
+        .long("listen")
+        .value_name("ADDR")
+        .help("Where to wait for a controller, as 127.0.0.1:6653 (the default) or [::]:6653");
+    let connect = Arg::new(alloc, "connect")
+        .long("connect")
+        .value_name("ADDR")
+        .conflicts_with("listen")?
+        .help("The controller to dial, as 10.0.0.1:6653");
+    let events = Arg::new(alloc, "FILE")
+        .long("events")
+        .help("An event file with ports and frames");
+    let turns = Arg::new(alloc, "turns")
+        .long("turns")
+        .value_name("N")
+        .help("Ends after so many turns (by default 1000000)");
+    let dpid = Arg::new(alloc, "dpid").long("dpid").value_name("N").help(
+        "The switch's own number, decimal or 0x and hexadecimal digits (by default 1)",
+    );
+    let quiet = Arg::new(alloc, "quiet")
+        .long("quiet")
+        .action(ArgAction::SetTrue)
+        .help("Says nothing of connections on standard error");
+    Command::new(alloc, "serve")
+        .about("Serves OpenFlow 1.3 controllers over TCP")
+        .after_help(SERVING)
+        .arg(listen)?
+        .arg(connect)?
+        .arg(events)?
+        .arg(turns)?
+        .arg(dpid)?
+        .arg(quiet)
 }

@@ -10,9 +10,18 @@ use clap::ArgMatches;
 use clap::error::{Error, ErrorKind};
 use command::command;
 use std::alloc::{AllocError, Global};
+use std::net::SocketAddr;
+use std::str::FromStr;
 
 /// A switch on which frames are traced has the ports 1 to this one.
 const LAST_PORT: u32 = 64;
+
+/// Where controllers find a switch (OpenFlow 1.3.5, 6.3.1).
+const DEFAULT_ADDRESS: &str = "127.0.0.1:6653";
+
+const DEFAULT_TURNS: u32 = 1_000_000;
+
+const DEFAULT_DPID: u64 = 1;
 
 /// What the user asks for.
 #[derive(Debug, PartialEq, Eq, Drop)]
@@ -34,6 +43,30 @@ pub enum Request {
         /// Whether its lines have notes.
         explain: bool,
     },
+    /// To serve controllers.
+    Serve(Serve),
+}
+
+/// How controllers are served.
+#[derive(Debug, PartialEq, Eq, Drop)]
+pub struct Serve {
+    pub meeting: Meeting,
+    /// An event file with ports and frames; `-` is standard input.
+    pub events: Option<String>,
+    pub turns: u32,
+    /// The switch's own number.
+    pub dpid: u64,
+    /// Whether nothing is said of connections.
+    pub quiet: bool,
+}
+
+/// How a switch and its controller come together.
+#[derive(Clone, Copy, Debug, PartialEq, Eq)]
+pub enum Meeting {
+    /// The controller connects to this address.
+    Listen(SocketAddr),
+    /// The switch connects to this address.
+    Dial(SocketAddr),
 }
 
 /// Why the words are no request.
@@ -69,6 +102,9 @@ fn request_of(alloc: Global, matches: &ArgMatches<'_>) -> Result<Request, NoRequ
             file: "-".to_string(alloc)?,
         });
     };
+    if name == "serve" {
+        return Ok(Request::Serve(serve_of(alloc, matches)?));
+    }
     let file = matches.get_str("FILE").unwrap_or("-").to_string(alloc)?;
     match name {
         "asm" => Ok(Request::Assemble { file }),
@@ -97,6 +133,62 @@ fn frame_of(alloc: Global, word: &str) -> Result<Vec<u8>, NoRequest> {
             alloc,
             "bad hex: a frame is hexadecimal digits, two a byte\n",
         )?),
+    }
+}
+
+fn serve_of(alloc: Global, matches: &ArgMatches<'_>) -> Result<Serve, NoRequest> {
+    let meeting = match matches.get_str("connect") {
+        Some(word) => Meeting::Dial(address_of(alloc, word)?),
+        None => Meeting::Listen(address_of(
+            alloc,
+            matches.get_str("listen").unwrap_or(DEFAULT_ADDRESS),
+        )?),
+    };
+    let events = match matches.get_str("FILE") {
+        Some(file) => Some(file.to_string(alloc)?),
+        None => None,
+    };
+    Ok(Serve {
+        meeting,
+        events,
+        turns: turns_of(alloc, matches.get_str("turns"))?,
+        dpid: dpid_of(alloc, matches.get_str("dpid"))?,
+        quiet: matches.get_flag("quiet"),
+    })
+}
+
+fn address_of(alloc: Global, word: &str) -> Result<SocketAddr, NoRequest> {
+    match SocketAddr::from_str(word) {
+        Ok(address) => Ok(address),
+        Err(_) => Err(refused(
+            alloc,
+            "bad address\nan address is an IP address and a port, as 127.0.0.1:6653 or [::1]:6653\n",
+        )?),
+    }
+}
+
+fn turns_of(alloc: Global, word: Option<&str>) -> Result<u32, NoRequest> {
+    let Some(word) = word else {
+        return Ok(DEFAULT_TURNS);
+    };
+    match u32::from_str_radix(word, 10) {
+        Ok(turns) => Ok(turns),
+        Err(_) => Err(refused(alloc, "bad turns: it is a number of 32 bits\n")?),
+    }
+}
+
+// Decimal, or hexadecimal behind 0x.
+fn dpid_of(alloc: Global, word: Option<&str>) -> Result<u64, NoRequest> {
+    let Some(word) = word else {
+        return Ok(DEFAULT_DPID);
+    };
+    let number = match word.strip_prefix("0x") {
+        Some(digits) => u64::from_str_radix(digits, 16),
+        None => u64::from_str_radix(word, 10),
+    };
+    match number {
+        Ok(dpid) => Ok(dpid),
+        Err(_) => Err(refused(alloc, "bad dpid: it is a number of 64 bits\n")?),
     }
 }
 

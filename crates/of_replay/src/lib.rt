@@ -18,8 +18,12 @@ mod transfer;
 mod whole_file;
 
 pub use config_file::read_config;
-pub use event_file::{Ended, replay, status};
+pub use event_file::{Ended, READ_SIZE, ended_by, replay, status, zeros};
 pub use flow_text::asm;
+pub use halt::Halt;
 pub use io::{Reading, Sink, Source, Writing};
 pub use output::push_effects;
+pub use play::play_row;
+pub use rows::{Row, read_row};
 pub use transfer::write_all;
+pub use whole_file::read_file;

@@ -1,12 +1,17 @@
 //! `ofswitch`: an OpenFlow 1.3 switch on the command line.
 #![tactic(auto)]
 
-use of_command_line::{NoRequest, Request, read_request};
+mod serving;
+mod sockets;
+
+use of_command_line::{NoRequest, Request, Serve, read_request};
 use of_mask_groups::MaskGroups;
 use of_replay::streams::{ReaderSource, WriterSink};
 use of_replay::{Ended, asm, replay, status};
+use of_serve::read_rows;
 use of_text::TextFault;
 use of_trace::{Form, trace_file};
+use serving::serve_rows;
 use std::fs::File;
 use std::io::{self, Read};
 use std::process::ExitCode;
@@ -48,25 +53,51 @@ fn tell(rt: &HostRuntime, why: &NoRequest) -> ExitCode {
     }
 }
 
-// A file that does not open is a read fault, unless memory ran out.
 fn carry_out(rt: &HostRuntime, request: &Request) -> ExitCode {
-    let path = match request {
+    match request {
         Request::Replay { file } | Request::Assemble { file } | Request::Trace { file, .. } => {
-            file.as_str()
+            run_file(rt, request, file.as_str())
         }
-    };
+        Request::Serve(asked) => serve_file(rt, asked),
+    }
+}
+
+fn run_file(rt: &HostRuntime, request: &Request, path: &str) -> ExitCode {
     if path == "-" {
         return end(rt, &run(rt, request, rt.stdin()));
     }
     match File::open(rt, path) {
         Ok(file) => end(rt, &run(rt, request, file)),
-        Err(error) if error.kind() == io::ErrorKind::OutOfMemory => end(rt, &Ended::NoMemory),
-        Err(error) => {
-            let code = end(rt, &Ended::ReadFault);
-            let _ = eprintln!(rt; "cannot open {path}: {error}");
-            code
-        }
+        Err(error) => end_unopened(rt, path, &error),
     }
+}
+
+// The event file is read before anybody can connect.
+fn serve_file(rt: &HostRuntime, asked: &Serve) -> ExitCode {
+    let rows = match &asked.events {
+        None => Ok(Vec::new(rt.alloc())),
+        Some(path) if path.as_str() == "-" => {
+            read_rows(rt.alloc(), &mut ReaderSource::new(rt.stdin()))
+        }
+        Some(path) => match File::open(rt, path.as_str()) {
+            Ok(file) => read_rows(rt.alloc(), &mut ReaderSource::new(file)),
+            Err(error) => return end_unopened(rt, path.as_str(), &error),
+        },
+    };
+    match rows {
+        Ok(rows) => end(rt, &serve_rows(rt, asked, rows)),
+        Err(ended) => end(rt, &ended),
+    }
+}
+
+// A file that does not open is a read fault, unless memory ran out.
+fn end_unopened(rt: &HostRuntime, path: &str, error: &io::Error) -> ExitCode {
+    if error.kind() == io::ErrorKind::OutOfMemory {
+        return end(rt, &Ended::NoMemory);
+    }
+    let code = end(rt, &Ended::ReadFault);
+    let _ = eprintln!(rt; "cannot open {path}: {error}");
+    code
 }
 
 fn run<R: Read + Drop>(rt: &HostRuntime, request: &Request, reader: R) -> Ended {
@@ -90,6 +121,7 @@ fn run<R: Read + Drop>(rt: &HostRuntime, request: &Request, reader: R) -> Ended 
             };
             trace_file::<MaskGroups, _, _>(rt.alloc(), &mut reader, *port, frame, form, &mut writer)
         }
+        Request::Serve(_) => Ended::Done,
     }
 }
 

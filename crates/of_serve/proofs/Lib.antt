@@ -1,0 +1,4 @@
+pub mod TurnLemmas
+pub mod Steps
+pub mod FileLemmas
+pub mod MemoryLemmas

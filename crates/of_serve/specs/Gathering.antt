@@ -1,0 +1,170 @@
+-- Parts of a turn, for contracts inside this crate.
+use Rattle.std.specs.Prelude.{◌≡◌, ◌≤◌, ◌<◌, ◌+◌, ℕ, Bool, true, false, List, [], ◌∷◌, ◌++◌, length, Option, Result, Ok, Err}
+use Rattle.std.specs.declared.alloc.AllocError.{AllocError}
+use Rattle.of_switch.specs.declared.event.Event.{Event}
+use Rattle.of_switch.specs.State.{State}
+use Rattle.of_replay.specs.declared.halt.Halt.{Halt}
+use Rattle.of_replay.specs.declared.halt.Halt.TheVariants.{Bad, Memory, Read as ReadHalt, Write}
+use Rattle.of_replay.specs.Told.{Answer, then_bytes}
+use Rattle.of_replay.specs.Transfer.{WroteFront}
+use Rattle.of_serve.specs.declared.peers.Accepted.{Accepted}
+use Rattle.of_serve.specs.declared.peers.Accepted.TheVariants as accepted
+use Rattle.of_serve.specs.Told.{Came, accept_came, Answered, then_told, then_begun, then_onto}
+use Rattle.of_serve.specs.Turns.{Gathered, gathered, empty_handed, heard, opened, left, events_of, Reads, Stand, Turn, IsTurn, given, after, Input, IsInput, rows_after, came_in, time_in, then_in, Turns, AreTurns, count, stand, came, times, took, sent}
+use Rattle.of_serve.specs.Serves.{Tells}
+
+-- one read was made
+abbrev pub IsOneRead : (came came' : Option (List Came)) → Type 0
+IsOneRead came came' = (answer : Answer) × (came' ≡ then_told came (Answered answer ∷ []))
+
+-- and what it gave was handled
+abbrev pub Hears : Gathered → Gathered → (came came' : Option (List Came)) → Type 0
+Hears g g' came came' = (answer : Answer) × (came' ≡ then_told came (Answered answer ∷ [])) × (g' ≡ gathered (heard answer) g)
+
+-- a turn with a connection: the clock told the time, one read was made, and the events of both were handled
+pub record TellsReads (g g' : Gathered) (rows rest : List Event) (came came' : Option (List Came)) (times times' : Option (List ℕ)) : Type 0 where
+  pub now : ℕ
+  pub answer : Answer
+  pub came_is : came' ≡ then_told came (Answered answer ∷ [])
+  pub times_are : times' ≡ then_told times (now ∷ [])
+  pub handled : g' ≡ gathered (events_of (Reads now answer) rows) g
+  pub rest_is : rest ≡ left now rows
+
+-- of such a turn, one read at most
+pub record ReadsOnce (came came' : Option (List Came)) (times times' : Option (List ℕ)) : Type 0 where
+  pub last : List Came
+  pub time : List ℕ
+  pub one : length last ≤ 1
+  pub came_is : came' ≡ then_told came last
+  pub times_are : times' ≡ then_told times time
+
+-- an accept was made, and what it gave was handled
+abbrev pub Opens : Result (Unit {0}) Halt → Gathered → Gathered → (came came' : Option (List Came)) → (took took' : Option (List (List ℕ))) → Type 0
+Opens (Ok u) g g' came came' took took' = (a : Accepted) × (came' ≡ then_told came (accept_came a ∷ [])) × (took' ≡ then_begun took a) × (g' ≡ gathered (opened a) g)
+Opens (Err (Bad n)) g g' came came' took took' = ⊥
+Opens (Err Memory) g g' came came' took took' = came' ≡ then_told came (accept_came accepted.Open ∷ [])
+Opens (Err ReadHalt) g g' came came' took took' = (came' ≡ then_told came (accept_came accepted.Fault ∷ [])) × (took' ≡ took)
+Opens (Err Write) g g' came came' took took' = ⊥
+
+abbrev pub OrMemory : Result (Unit {0}) AllocError → Result (Unit {0}) Halt → Type 0
+OrMemory (Ok u) result = result ≡ Ok tt
+OrMemory (Err e) result = result ≡ Err Memory
+
+-- bytes were taken by the connection, all of them where no write failed
+abbrev pub Takes : Bool → List ℕ → (took took' : Option (List (List ℕ))) → Type 0
+Takes true bytes took took' = took' ≡ then_onto took bytes
+Takes false bytes took took' = (front : List ℕ) × (rest : List ℕ) × (front ++ rest ≡ bytes) × (took' ≡ then_onto took front)
+
+abbrev pub failed_writes : Bool → ℕ
+failed_writes true = 0
+failed_writes false = 1
+
+-- the accept or the read of a turn was made, and what it gave was handled
+pub record Learns (s : Stand) (g : Gathered) (rest : List Event) (old new : Tells) : Type 0 where
+  pub input : Input
+  pub is_input : IsInput input s.state
+  pub handled : g ≡ given input s
+  pub rest_is : rest ≡ rows_after input s.rows
+  pub came_is : new.came ≡ then_told old.came (came_in input)
+  pub times_are : new.times ≡ then_told old.times (time_in input)
+  pub took_is : new.took ≡ then_in old.took input
+  pub wrote_is : new.wrote ≡ old.wrote
+
+-- memory ran out in a turn
+pub record Lacks (old new : Tells) : Type 0 where
+  pub last : List Came
+  pub time : List ℕ
+  pub one : length last ≤ 1
+  pub came_is : new.came ≡ then_told old.came last
+  pub times_are : new.times ≡ then_told old.times time
+  pub wrote_is : new.wrote ≡ old.wrote
+
+-- an accept failed
+pub record Refuses (old new : Tells) : Type 0 where
+  pub came_is : new.came ≡ then_told old.came (accept_came accepted.Fault ∷ [])
+  pub times_are : new.times ≡ old.times
+  pub took_is : new.took ≡ old.took
+  pub wrote_is : new.wrote ≡ old.wrote
+
+abbrev pub Inputs : Result (Unit {0}) Halt → Stand → Gathered → List Event → Tells → Tells → Type 0
+Inputs (Ok u) s g rest old new = Learns s g rest old new
+Inputs (Err (Bad n)) s g rest old new = ⊥
+Inputs (Err Memory) s g rest old new = Lacks old new
+Inputs (Err ReadHalt) s g rest old new = Refuses old new
+Inputs (Err Write) s g rest old new = ⊥
+
+-- how many accepts and reads there were
+abbrev pub Counts : Result (Unit {0}) Halt → (old new : ℕ) → Type 0
+Counts (Ok u) old new = new ≡ old + 1
+Counts (Err (Bad n)) old new = ⊥
+Counts (Err Memory) old new = (old ≤ new) × (new ≤ old + 1)
+Counts (Err ReadHalt) old new = new ≡ old + 1
+Counts (Err Write) old new = new ≡ old + 1
+
+-- an accept failed exactly where serving halts for it
+abbrev pub Fails : Result (Unit {0}) Halt → (old new : ℕ) → Type 0
+Fails (Ok u) old new = new ≡ old
+Fails (Err (Bad n)) old new = ⊥
+Fails (Err Memory) old new = new ≡ old
+Fails (Err ReadHalt) old new = new ≡ old + 1
+Fails (Err Write) old new = new ≡ old
+
+-- a write to the output failed exactly where it halts for that
+abbrev pub WriteFails : Result (Unit {0}) Halt → ℕ → Type 0
+WriteFails (Ok u) failures = failures ≡ 0
+WriteFails (Err (Bad n)) failures = ⊥
+WriteFails (Err Memory) failures = failures ≡ 0
+WriteFails (Err ReadHalt) failures = failures ≡ 0
+WriteFails (Err Write) failures = 0 < failures
+
+-- the answers of a turn were written, and its lines are still to be written
+pub record Answers (s : Stand) (g : Gathered) (rest : List Event) (old new : Tells) : Type 0 where
+  pub turn : Turn
+  pub is_turn : IsTurn turn s
+  pub state_is : g.state ≡ (after turn s).state
+  pub rest_is : rest ≡ rows_after turn.input s.rows
+  pub lines_are : g.lines ≡ (given turn.input s).lines
+  pub came_is : new.came ≡ then_told old.came (came_in turn.input)
+  pub times_are : new.times ≡ then_told old.times (time_in turn.input)
+  pub took_is : new.took ≡ then_onto (then_in old.took turn.input) turn.taken
+  pub wrote_is : new.wrote ≡ old.wrote
+
+-- a turn, of which all was written
+pub record GoesOn (s : Stand) (g : Gathered) (rest : List Event) (old new : Tells) : Type 0 where
+  pub turn : Turn
+  pub is_turn : IsTurn turn s
+  pub handed : g ≡ empty_handed (after turn s).state
+  pub rest_is : rest ≡ rows_after turn.input s.rows
+  pub came_is : new.came ≡ then_told old.came (came_in turn.input)
+  pub times_are : new.times ≡ then_told old.times (time_in turn.input)
+  pub took_is : new.took ≡ then_onto (then_in old.took turn.input) turn.taken
+  pub wrote_is : new.wrote ≡ then_bytes old.wrote (given turn.input s).lines
+
+-- a turn, of whose lines a write failed
+pub record Stops (s : Stand) (old new : Tells) : Type 0 where
+  pub turn : Turn
+  pub is_turn : IsTurn turn s
+  pub came_is : new.came ≡ then_told old.came (came_in turn.input)
+  pub times_are : new.times ≡ then_told old.times (time_in turn.input)
+  pub took_is : new.took ≡ then_onto (then_in old.took turn.input) turn.taken
+  pub wrote_is : WroteFront old.wrote (given turn.input s).lines new.wrote
+
+-- A TURN: all is written, or serving halts
+abbrev pub Goes : Result (Unit {0}) Halt → Stand → Gathered → List Event → Tells → Tells → Type 0
+Goes (Ok u) s g rest old new = GoesOn s g rest old new
+Goes (Err (Bad n)) s g rest old new = ⊥
+Goes (Err Memory) s g rest old new = Lacks old new
+Goes (Err ReadHalt) s g rest old new = Refuses old new
+Goes (Err Write) s g rest old new = Stops s old new
+
+-- so many turns went by
+pub record SoFar (n : ℕ) (s : Stand) (g : Gathered) (rest : List Event) (old new : Tells) : Type 0 where
+  pub ts : Turns
+  pub are : AreTurns s ts
+  pub count_is : count ts ≡ n
+  pub handed : g ≡ empty_handed (stand s ts).state
+  pub rest_is : rest ≡ (stand s ts).rows
+  pub came_is : new.came ≡ then_told old.came (came ts)
+  pub times_are : new.times ≡ then_told old.times (times ts)
+  pub took_is : new.took ≡ took old.took ts
+  pub wrote_is : new.wrote ≡ then_bytes old.wrote (sent s ts)

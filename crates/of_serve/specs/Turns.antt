@@ -1,0 +1,201 @@
+-- Turns of a switch that serves a controller (OpenFlow 1.3.5, 6.3).
+use Rattle.std.specs.Prelude.{◌≡◌, ℕ, ◌+◌, nat_lt, Bool, true, false, List, [], ◌∷◌, ◌++◌, Option, if◌then◌else◌}
+use Rattle.std.specs.List.{flat_map}
+use Rattle.of_session.specs.Session.{is_disconnected}
+use Rattle.of_switch.specs.declared.effect.Effect.{Effect}
+use Rattle.of_switch.specs.declared.effect.Effect.TheVariants.{Answer as Answers, Sent, Closed}
+use Rattle.of_switch.specs.declared.event.Event.{Event}
+use Rattle.of_switch.specs.declared.event.Event.TheVariants.{Connect, Lost, Piece, Frame, Moment, Ports}
+use Rattle.of_switch.specs.State.{State}
+use Rattle.of_switch.specs.Runs.{Report, Gives, IsRefused, Happened, happened}
+use Rattle.of_replay.specs.Output.{line_of}
+use Rattle.of_replay.specs.Told.{Answer, Gave, Idle, Ended, Failed}
+use Rattle.of_serve.specs.declared.peers.Accepted.{Accepted}
+use Rattle.of_serve.specs.declared.peers.Accepted.TheVariants as accepted
+use Rattle.of_serve.specs.Told.{Came, accept_came, Answered, then_begun, then_onto}
+
+-- ROWS OF THE FILE THAT ARE DUE: those before the first `t` row that the clock has not reached
+
+-- the clock has not reached this `t` row
+abbrev pub waits : ℕ → Event → Bool
+waits now (Moment nanos) = nat_lt now nanos
+waits now Connect = false
+waits now Lost = false
+waits now (Piece bytes) = false
+waits now (Frame port bytes) = false
+waits now (Ports change) = false
+
+-- a `t` row itself does nothing: it is the clock that tells moments
+abbrev pub acts : Event → List Event
+acts (Moment nanos) = []
+acts Connect = Connect ∷ []
+acts Lost = Lost ∷ []
+acts (Piece bytes) = Piece bytes ∷ []
+acts (Frame port bytes) = Frame port bytes ∷ []
+acts (Ports change) = Ports change ∷ []
+
+abbrev pub due : ℕ → List Event → List Event
+due now [] = []
+due now (row ∷ rows) = if waits now row then [] else acts row ++ due now rows
+
+-- and those that are still to come
+abbrev pub left : ℕ → List Event → List Event
+left now [] = []
+left now (row ∷ rows) = if waits now row then row ∷ rows else left now rows
+
+-- THE EVENTS OF A TURN
+
+-- what a turn learns: without a connection what an accept answers; with one the time, and then what a read answers
+pub data Input : Type 0 where
+  Accepts : (accepted : Accepted) → Input
+  Reads : (now : ℕ) → (answer : Answer) → Input
+
+abbrev pub opened : Accepted → List Event
+opened accepted.Open = Connect ∷ []
+opened accepted.Nothing = []
+opened accepted.Fault = []
+
+-- the end of a stream is the loss of its connection, and so is a read that fails
+abbrev pub heard : Answer → List Event
+heard (Gave bytes) = Piece bytes ∷ []
+heard Idle = []
+heard Ended = Lost ∷ []
+heard Failed = Lost ∷ []
+
+abbrev pub events_of : Input → List Event → List Event
+events_of (Accepts accepted) rows = opened accepted
+events_of (Reads now answer) rows = Moment now ∷ (due now rows ++ heard answer)
+
+abbrev pub rows_after : Input → List Event → List Event
+rows_after (Accepts accepted) rows = rows
+rows_after (Reads now answer) rows = left now rows
+
+-- a write that failed is the loss of the connection
+abbrev pub broken : Bool → List Event
+broken true = Lost ∷ []
+broken false = []
+
+-- WHAT THEY GIVE
+
+abbrev pub effects_of : Report → List Effect
+effects_of (Gives effects) = effects
+effects_of (IsRefused refusal) = []
+
+-- the bytes for the connection
+abbrev pub answer_in : Effect → List ℕ
+answer_in (Answers bytes) = bytes
+answer_in (Sent port frame) = []
+answer_in Closed = []
+
+-- and the line for the output
+abbrev pub line_in : Effect → List ℕ
+line_in (Answers bytes) = []
+line_in (Sent port frame) = line_of (Sent port frame)
+line_in Closed = []
+
+-- the switch, and what is still to be written
+pub record Gathered : Type 0 where
+  pub state : State
+  pub answers : List ℕ
+  pub lines : List ℕ
+
+abbrev pub empty_handed : State → Gathered
+empty_handed s = record { state = s; answers = []; lines = [] }
+
+abbrev pub gather : Happened → Gathered → Gathered
+gather h g = record {
+  state = h.state;
+  answers = g.answers ++ flat_map answer_in (effects_of h.report);
+  lines = g.lines ++ flat_map line_in (effects_of h.report);
+}
+
+-- events, one after the other, as the abstract switch does them
+abbrev pub gathered : List Event → Gathered → Gathered
+gathered [] g = g
+gathered (e ∷ es) g = gathered es (gather (happened e g.state) g)
+
+-- A TURN
+
+-- the switch, and the rows of the file that are still to come
+pub record Stand : Type 0 where
+  pub state : State
+  pub rows : List Event
+
+abbrev pub standing : State → List Event → Stand
+standing state rows = record { state = state; rows = rows }
+
+-- what a turn learns, what the connection took in it, and whether a write failed
+pub record Turn : Type 0 where
+  pub input : Input
+  pub taken : List ℕ
+  pub broke : Bool
+
+abbrev pub given : Input → Stand → Gathered
+given input s = gathered (events_of input s.rows) (empty_handed s.state)
+
+abbrev pub after : Turn → Stand → Stand
+after t s = record { state = (gathered (broken t.broke) (given t.input s)).state; rows = rows_after t.input s.rows }
+
+-- a turn without a connection accepts, and one with a connection reads
+abbrev pub IsInput : Input → State → Type 0
+IsInput (Accepts accepted) s = is_disconnected s.connection.phase ≡ true
+IsInput (Reads now answer) s = is_disconnected s.connection.phase ≡ false
+
+-- all answers were taken, or a write failed and some of the first bytes were
+abbrev pub IsTaken : Bool → List ℕ → List ℕ → Type 0
+IsTaken false taken answers = taken ≡ answers
+IsTaken true taken answers = (rest : List ℕ) × (taken ++ rest ≡ answers)
+
+pub record IsTurn (t : Turn) (s : Stand) : Type 0 where
+  pub input : IsInput t.input s.state
+  pub taken : IsTaken t.broke t.taken (given t.input s).answers
+
+-- TURNS, one after the other
+
+pub data Turns : Type 0 where
+  None : Turns
+  Then : (first : Turns) → (last : Turn) → Turns
+
+abbrev pub count : Turns → ℕ
+count None = 0
+count (Then ts t) = count ts + 1
+
+abbrev pub stand : Stand → Turns → Stand
+stand s None = s
+stand s (Then ts t) = after t (stand s ts)
+
+abbrev pub AreTurns : Stand → Turns → Type 0
+AreTurns s None = Unit {0}
+AreTurns s (Then ts t) = AreTurns s ts × IsTurn t (stand s ts)
+
+-- what peers answered in them
+abbrev pub came_in : Input → List Came
+came_in (Accepts accepted) = accept_came accepted ∷ []
+came_in (Reads now answer) = Answered answer ∷ []
+
+abbrev pub came : Turns → List Came
+came None = []
+came (Then ts t) = came ts ++ came_in t.input
+
+-- what the clock told
+abbrev pub time_in : Input → List ℕ
+time_in (Accepts accepted) = []
+time_in (Reads now answer) = now ∷ []
+
+abbrev pub times : Turns → List ℕ
+times None = []
+times (Then ts t) = times ts ++ time_in t.input
+
+-- what connections took
+abbrev pub then_in : Option (List (List ℕ)) → Input → Option (List (List ℕ))
+then_in known (Accepts accepted) = then_begun known accepted
+then_in known (Reads now answer) = known
+
+abbrev pub took : Option (List (List ℕ)) → Turns → Option (List (List ℕ))
+took known None = known
+took known (Then ts t) = then_onto (then_in (took known ts) t.input) t.taken
+
+-- the lines of the frames that the switch sent
+abbrev pub sent : Stand → Turns → List ℕ
+sent s None = []
+sent s (Then ts t) = sent s ts ++ (given t.input (stand s ts)).lines

@@ -1,0 +1,186 @@
+//! A switch, and what it gives until that is written.
+ghost use Rattle.std.specs.Prelude.{◌≡◌, ◌≤◌, ◌++◌, ◌∷◌, [], length, take, drop, OnOk, IfOk, not};
+ghost use Rattle.std.specs.List.{flat_map};
+ghost use Rattle.of_session.specs.Session.{is_disconnected};
+ghost use Rattle.of_switch.specs.declared.event.Event.TheVariants.{Lost as Loss};
+ghost use Rattle.of_replay.specs.Rows.{with_bytes};
+ghost use Rattle.of_replay.specs.Stepping.{row_happened};
+ghost use Rattle.of_serve.specs.Turns.{acts, answer_in, due as rows_due, empty_handed, gather, gathered, left, line_in, waits as has_to_wait};
+
+use crate::rows::Rows;
+use of_classifier::Lookup;
+use of_replay::{Row, play_row, push_effects};
+use of_switch::{Effect, Event, Switch, SwitchError};
+use std::alloc::{AllocError, Global};
+use std::marker::Model;
+
+/// A switch, with the bytes for its controller and the lines of sent frames that are still to be written.
+#[derive(Drop)]
+pub struct Gathering<L: Lookup> {
+    switch: Switch<L>,
+    answers: Vec<u8>,
+    lines: Vec<u8>,
+    alloc: Global,
+}
+
+impl<L: Lookup> Model for Gathering<L> {
+    ghost use Rattle.of_serve.specs.Turns.{Gathered};
+
+    ghost Value = { Gathered };
+
+    ghost view = { λ g. record { state = g.switch; answers = g.answers.items; lines = g.lines.items } };
+}
+
+// Appends a message to the controller.
+fn push_answer(out: &mut Vec<u8>, effect: &Effect) -> Result<(), AllocError>
+    ensures { OnOk result (out.new.items ≡ out.old.items ++ answer_in effect.now) }
+{
+    match effect {
+        Effect::Answer(bytes) => out.extend_from_slice(bytes.as_slice()),
+        Effect::Sent { .. } | Effect::Closed => Ok(()),
+    }
+}
+
+// Appends the messages to the controller.
+fn push_answers(out: &mut Vec<u8>, effects: &[Effect]) -> Result<(), AllocError>
+    ensures { OnOk result (out.new.items ≡ out.old.items ++ flat_map answer_in effects.now) }
+{
+    for effect in effects {
+        push_answer(out, effect)?;
+    }
+    Ok(())
+}
+
+// Appends the line of a frame that is sent.
+fn push_line(alloc: Global, out: &mut Vec<u8>, effect: &Effect) -> Result<(), AllocError>
+    ensures { OnOk result (out.new.items ≡ out.old.items ++ line_in effect.now) }
+{
+    match effect {
+        Effect::Sent { .. } => push_effects(alloc, out, std::slice::from_ref(effect)),
+        Effect::Answer(_) | Effect::Closed => Ok(()),
+    }
+}
+
+// Appends the lines of the frames that are sent.
+fn push_lines(alloc: Global, out: &mut Vec<u8>, effects: &[Effect]) -> Result<(), AllocError>
+    ensures { OnOk result (out.new.items ≡ out.old.items ++ flat_map line_in effects.now) }
+{
+    for effect in effects {
+        push_line(alloc, out, effect)?;
+    }
+    Ok(())
+}
+
+// Whether this is a `t` row that the clock has not reached.
+fn waits(row: &Event, now: u64) -> bool
+    ensures { result ≡ has_to_wait now row.now }
+{
+    match row {
+        Event::Moment(nanos) => now < *nanos,
+        _ => false,
+    }
+}
+
+impl<L: Lookup> Gathering<L> {
+    pub fn new(alloc: Global, switch: Switch<L>) -> Self
+        ensures { result ≡ empty_handed switch }
+    {
+        Gathering {
+            switch,
+            answers: Vec::new(alloc),
+            lines: Vec::new(alloc),
+            alloc,
+        }
+    }
+
+    /// The bytes for the controller.
+    pub fn answers(&self) -> &[u8]
+        ensures { result.now ≡ self.now.answers }
+    {
+        &self.answers
+    }
+
+    /// The lines of sent frames.
+    pub fn lines(&self) -> &[u8]
+        ensures { result.now ≡ self.now.lines }
+    {
+        &self.lines
+    }
+
+    /// All of it was written.
+    pub fn clear(&mut self)
+        ensures { self.new ≡ empty_handed self.old.state }
+    {
+        self.answers.clear();
+        self.lines.clear();
+    }
+
+    /// Whether a connection stands.
+    pub fn is_connected(&mut self) -> Result<bool, AllocError>
+        ensures test { IfOk result (λ connected. connected ≡ not (is_disconnected self.old.state.connection.phase)) }
+        ensures same { self.new ≡ self.old }
+    {
+        match self.switch.feed(&[]) {
+            Ok(()) => Ok(true),
+            Err(SwitchError::NoMemory) => Err(AllocError),
+            Err(_) => Ok(false),
+        }
+    }
+
+    // What effects give for the connection and for the output.
+    fn push(&mut self, effects: &[Effect]) -> Result<(), AllocError>
+        ensures answers { OnOk result (self.new.answers ≡ self.old.answers ++ flat_map answer_in effects.now) }
+        ensures lines { OnOk result (self.new.lines ≡ self.old.lines ++ flat_map line_in effects.now) }
+        ensures state { self.new.state ≡ self.old.state }
+    {
+        push_answers(&mut self.answers, effects)?;
+        push_lines(self.alloc, &mut self.lines, effects)
+    }
+
+    /// A row happens.
+    pub fn play(&mut self, row: Row, bytes: &[u8]) -> Result<(), AllocError>
+        ensures { OnOk result (self.new ≡ gather (row_happened self.old.state (with_bytes bytes.now row)) self.old) }
+    {
+        match play_row(self.alloc, &mut self.switch, row, bytes) {
+            Ok(effects) => self.push(&effects),
+            Err(SwitchError::NoMemory) => Err(AllocError),
+            Err(_) => Ok(()),
+        }
+    }
+
+    /// The connection is lost.
+    pub fn lose(&mut self)
+        ensures { self.new ≡ gathered (Loss ∷ []) self.old }
+    {
+        self.switch.lost();
+    }
+
+    // A row of the file that is due happens.
+    fn act(&mut self, row: &Event) -> Result<(), AllocError>
+        ensures { OnOk result (self.new ≡ gathered (acts row.now) self.old) }
+    {
+        match row {
+            Event::Connect => self.play(Row::Connect, &[]),
+            Event::Lost => self.play(Row::Lost, &[]),
+            Event::Piece(bytes) => self.play(Row::Piece, bytes.as_slice()),
+            Event::Frame { port, frame } => self.play(Row::Frame { port: *port }, frame.as_slice()),
+            Event::Moment(_) => Ok(()),
+            Event::Ports(change) => self.play(Row::Ports(*change), &[]),
+        }
+    }
+
+    /// The rows of the file that are due happen, and the others are still to come.
+    pub fn due(&mut self, now: u64, rows: &mut Rows) -> Result<(), AllocError>
+        ensures rest { OnOk result (rows.new ≡ left now rows.old) }
+        ensures gathered { OnOk result (self.new ≡ gathered (rows_due now rows.old) self.old) }
+    {
+        while let Some(row) = rows.first() {
+            if waits(row, now) {
+                break;
+            }
+            self.act(row)?;
+            rows.pass();
+        }
+        Ok(())
+    }
+}

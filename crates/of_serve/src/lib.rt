@@ -1,0 +1,14 @@
+//! A switch that serves controllers: turns of accepting, reading and writing.
+#![tactic(auto)]
+
+mod event_rows;
+mod gathering;
+pub mod memory;
+mod peers;
+mod rows;
+mod serving;
+mod turns;
+
+pub use event_rows::read_rows;
+pub use peers::{Accepted, Clock, Peers};
+pub use serving::serve;

@@ -1,0 +1,241 @@
+//! Controllers over TCP, and the machine's clock.
+ghost use Rattle.std.specs.Prelude.{◌≡◌, ◌≢◌, ◌≤◌, None as NotTold, IfOk};
+
+use of_command_line::Meeting;
+use of_replay::{Reading, Writing};
+use of_serve::{Accepted, Clock, Peers};
+use std::io::{self, ErrorKind, Read, Write};
+use std::net::{SocketAddr, TcpListener, TcpStream};
+use std::thread;
+use std::time::{Duration, Instant};
+
+/// A read waits so many milliseconds, so that flows expire and frames of the event file come in time.
+const READ_WAIT: u64 = 10;
+
+/// A call of a controller waits so many milliseconds for its answer.
+const DIAL_WAIT: u64 = 5_000;
+
+/// The first pause between two calls, in milliseconds, which doubles up to the longest.
+const FIRST_PAUSE: u64 = 100;
+
+const LONGEST_PAUSE: u64 = 5_000;
+
+/// How controllers and the switch find each other.
+#[derive(Drop)]
+enum Door {
+    Listening(TcpListener),
+    Dialing {
+        address: SocketAddr,
+        // in milliseconds
+        pause: u64,
+    },
+}
+
+impl Door {
+    // A controller that came, or None where nobody did.
+    fn meet(&mut self, rt: &HostRuntime) -> io::Result<Option<(TcpStream, SocketAddr)>> {
+        match self {
+            Door::Listening(listener) => match listener.accept() {
+                Ok(met) => Ok(Some(met)),
+                Err(error) if is_passing(&error) => Ok(None),
+                Err(error) if error.kind() == ErrorKind::ConnectionAborted => Ok(None),
+                Err(error) => Err(error),
+            },
+            Door::Dialing { address, pause } => {
+                match TcpStream::connect_timeout(rt, address, Duration::from_millis(DIAL_WAIT)) {
+                    Ok(stream) => {
+                        *pause = FIRST_PAUSE;
+                        Ok(Some((stream, *address)))
+                    }
+                    Err(_) => {
+                        thread::sleep(rt, Duration::from_millis(*pause));
+                        *pause = longer(*pause);
+                        Ok(None)
+                    }
+                }
+            }
+        }
+    }
+}
+
+/// Controllers that connect by TCP, or one that is dialed. What they sent and took is not told.
+#[derive(Drop)]
+pub struct Sockets<'r> {
+    rt: &'r HostRuntime,
+    door: Door,
+    stream: Option<TcpStream>,
+    // whether the end of the connection was said
+    ended: bool,
+    quiet: bool,
+    accepts: u64,
+    reads: u64,
+    accept_failures: u64,
+    write_failures: u64,
+    ghost few: { accept_failures ≤ accepts },
+}
+
+// Nothing came, and that is no fault.
+fn is_passing(error: &io::Error) -> bool {
+    matches!(
+        error.kind(),
+        ErrorKind::Interrupted | ErrorKind::WouldBlock | ErrorKind::TimedOut
+    )
+}
+
+// Answers go out at once, and a read does not wait for long.
+fn prepare(stream: &TcpStream) -> io::Result<()> {
+    stream.set_nodelay(true)?;
+    stream.set_read_timeout(Some(Duration::from_millis(READ_WAIT)))
+}
+
+fn longer(pause: u64) -> u64 {
+    pause.saturating_mul(2).min(LONGEST_PAUSE)
+}
+
+impl<'r> Sockets<'r> {
+    /// Begins to listen, where controllers connect to the switch.
+    pub fn new(rt: &'r HostRuntime, meeting: Meeting, quiet: bool) -> io::Result<Self>
+        ensures { IfOk result (λ s. (s.accepts ≡ 0) × (s.reads ≡ 0) × (s.accept_failures ≡ 0) × (s.write_failures ≡ 0)) }
+    {
+        let door = match meeting {
+            Meeting::Listen(address) => Door::Listening(TcpListener::bind(rt, address)?),
+            Meeting::Dial(address) => Door::Dialing {
+                address,
+                pause: FIRST_PAUSE,
+            },
+        };
+        Ok(Sockets {
+            rt,
+            door,
+            stream: None,
+            ended: true,
+            quiet,
+            accepts: 0,
+            reads: 0,
+            accept_failures: 0,
+            write_failures: 0,
+        })
+    }
+}
+
+impl Sockets<'_> {
+    // Says on standard error what became of the connection, once.
+    fn say_end(&mut self, why: &str)
+        ensures { (self.new.accepts ≡ self.old.accepts) × (self.new.reads ≡ self.old.reads) × (self.new.accept_failures ≡ self.old.accept_failures) × (self.new.write_failures ≡ self.old.write_failures) }
+    {
+        if !self.quiet && !self.ended {
+            let _ = eprintln!(self.rt; "connection ended: {why}");
+        }
+        self.ended = true;
+    }
+
+    // The connection that begins, if somebody came.
+    fn begin(&mut self, met: Option<(TcpStream, SocketAddr)>) -> Accepted
+        ensures met { result ≢ Accepted.Fault }
+        ensures same { (self.new.accepts ≡ self.old.accepts) × (self.new.reads ≡ self.old.reads) × (self.new.accept_failures ≡ self.old.accept_failures) × (self.new.write_failures ≡ self.old.write_failures) }
+    {
+        let Some((stream, address)) = met else {
+            return Accepted::Nothing;
+        };
+        if prepare(&stream).is_err() {
+            return Accepted::Nothing;
+        }
+        self.stream = Some(stream);
+        self.ended = false;
+        if !self.quiet {
+            let _ = eprintln!(self.rt; "connection with {address}");
+        }
+        Accepted::Open
+    }
+}
+
+impl Peers for Sockets<'_> {
+    ghost came = { λ _. NotTold };
+
+    ghost took = { λ _. NotTold };
+
+    ghost accepts = { λ s. s.accepts };
+
+    ghost reads = { λ s. s.reads };
+
+    ghost accept_failures = { λ s. s.accept_failures };
+
+    ghost write_failures = { λ s. s.write_failures };
+
+    fn accept(&mut self) -> Accepted {
+        self.accepts += 1;
+        self.say_end("closed by the switch");
+        self.stream = None;
+        match self.door.meet(self.rt) {
+            Ok(met) => self.begin(met),
+            Err(error) => {
+                self.accept_failures += 1;
+                let _ = eprintln!(self.rt; "cannot accept: {error}");
+                Accepted::Fault
+            }
+        }
+    }
+
+    fn read(&mut self, buffer: &mut [u8]) -> Reading {
+        self.reads += 1;
+        let Some(stream) = &mut self.stream else {
+            return Reading::End;
+        };
+        match stream.read(buffer) {
+            Ok(0) => {
+                self.say_end("by the controller");
+                Reading::End
+            }
+            Ok(n) => Reading::Bytes(n),
+            Err(error) if is_passing(&error) => Reading::Nothing,
+            Err(_) => {
+                self.say_end("a read failed");
+                Reading::Fault
+            }
+        }
+    }
+
+    fn write(&mut self, bytes: &[u8]) -> Writing {
+        if let Some(stream) = &mut self.stream {
+            match stream.write(bytes) {
+                Ok(n) if n > 0 => return Writing::Wrote(n),
+                _ => self.say_end("a write failed"),
+            }
+        }
+        self.write_failures += 1;
+        Writing::Fault
+    }
+}
+
+/// The machine's clock, from its making on. What it told is not kept.
+#[derive(Drop)]
+pub struct MachineClock<'r> {
+    rt: &'r HostRuntime,
+    start: Option<Instant>,
+    // what it told last
+    last: u64,
+}
+
+impl<'r> MachineClock<'r> {
+    pub fn new(rt: &'r HostRuntime) -> Self {
+        MachineClock {
+            rt,
+            start: Instant::now(rt).ok(),
+            last: 0,
+        }
+    }
+}
+
+impl Clock for MachineClock<'_> {
+    ghost times = { λ _. NotTold };
+
+    // Where the machine's clock fails, it is as late as it was.
+    fn now(&mut self) -> u64 {
+        if let Some(start) = &self.start {
+            if let Ok(passed) = start.elapsed(self.rt) {
+                self.last = u64::try_from(passed.as_nanos()).unwrap_or(self.last);
+            }
+        }
+        self.last
+    }
+}
