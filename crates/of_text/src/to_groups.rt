@@ -10,11 +10,7 @@ use crate::group::GroupText;
 use of_groups::{Group, Groups};
 use std::alloc::{AllocError, Global};
 
-fn groups_from(
-    alloc: Global,
-    groups: &[GroupText],
-    created: u64,
-) -> Result<Vec<Group>, AllocError>
+fn groups_from(alloc: Global, groups: &[GroupText], created: u64) -> Result<Vec<Group>, AllocError>
     requires { list_all is_fit_group (groups_at created (view_groups groups.now)) ≡ true }
     ensures { IfOk result (λ made. made.items ≡ groups_at created (view_groups groups.now)) }
 {
