@@ -11,7 +11,8 @@ written); 3 `read fault`, `write fault` or `no memory`.";
 const EVENT_FILES: &str = "An event file has one event a line, and words are separated by one space:
 
   port add 1 0200000000a1 p1 up     a port: number, hardware address, name, up or down
-  connect                           a controller connects
+  port link 1 down                  the link of port 1 goes down (or up); `port remove 1`: the port is gone
+  connect                           a controller connects; `lost`: the connection is gone
   c 0400000800000001                bytes of the controller, in hex (- for none)
   f 1 020000000002...               a frame comes in by port 1, in hex
   t 9000000000                      it is 9 seconds after the start, in nanoseconds
@@ -19,24 +20,26 @@ const EVENT_FILES: &str = "An event file has one event a line, and words are sep
 
 Printed are the messages to the controller (`a HEX`), the frames that leave (`s PORT HEX`), `closed` where the switch
 ends the connection, and `refused N` where an event has no place: 3 no connection, 4 connected already, 5 the port is
-there, 7 too many ports, 8 bad port number.
+there, 6 it is not, 7 too many ports, 8 bad port number.
 
   ofswitch replay examples/first-path.events";
 
-const FLOW_TEXT: &str = "Flow text has one flow in some lines, and words are separated by one space:
+const FLOW_TEXT: &str = "Flow text has groups and then flows, each in some lines, and words are separated by one space:
 
+  group 1 ff                            number, and all, indirect or ff
+  bucket 0 2 4294967295                 weight, and the port and the group that it watches; its actions follow
   flow 0 10 0x0000000000000000 0 0 0    table, priority, cookie, idle and hard timeout, flags
   match in_port 0x00000001              a field, its value and, where there is one, a mask
   apply                                 an instruction (apply, clear, write, metadata V M, goto T)
   output 2 0                            an action of it: port and max_len
   # ...                                 a comment
 
-The event file connects a controller, which says HELLO and adds each flow by a FLOW_MOD, by table, then by age.
+The event file connects a controller, which says HELLO and adds each group by a GROUP_MOD, and each flow by a FLOW_MOD.
 
   ofswitch asm examples/router.flows > router.events";
 
 const TRACES: &str =
-    "The switch has ports 1 to 64, whose links are up, and the flows of the text. One line a step:
+    "The switch has ports 1 to 64, whose links are up, and the groups and flows of the text. One line a step:
 
   lookup 0 entry 2                      a table, and the entry that won, by age from 0 (or miss)
   apply, write, clear, metadata, goto   an instruction
@@ -80,7 +83,7 @@ pub fn command<'a>(alloc: Global) -> Result<Command<'a>, AllocError> {
         .required(true)
         .help("The flow text to read; - is standard input");
     let asm = Command::new(alloc, "asm")
-        .about("Prints an event file that builds the flow tables of a flow text")
+        .about("Prints an event file that builds the groups and flow tables of a flow text")
         .after_help(FLOW_TEXT)
         .arg(text)?;
     let flows = Arg::new(alloc, "FILE").long("flows").required(true).help(
