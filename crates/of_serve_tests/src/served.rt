@@ -52,18 +52,21 @@ fn asking(alloc: Global) -> Result<Vec<Line>, Fail> {
     Ok(script)
 }
 
-// Serves for three turns.
-fn served(alloc: Global, peers: &mut MemoryPeers) -> Ended {
+// Serves that controller for three turns, whose writes take a byte each.
+fn served(alloc: Global, fails_at: u64, write_fails_at: u64) -> Result<(Ended, MemoryPeers), Fail> {
+    let mut peers = MemoryPeers::new(alloc, asking(alloc)?, 1, fails_at, write_fails_at);
     let mut clock = MemoryClock::new(Vec::new(alloc));
     let mut out = MemorySink::new(alloc, 7, 0);
-    serve::<Scan, _, _, _>(alloc, 1, peers, &mut clock, Vec::new(alloc), 3, &mut out)
+    let rows = Vec::new(alloc);
+    let ended = serve::<Scan, _, _, _>(alloc, 1, &mut peers, &mut clock, rows, 3, &mut out);
+    Ok((ended, peers))
 }
 
 #[test]
 fn barrier(rt: HostRuntime) -> Result<(), Fail> {
     let alloc = rt.alloc();
-    let mut peers = MemoryPeers::new(alloc, asking(alloc)?, 1, 0, 0);
-    assert_eq!(rt; served(alloc, &mut peers), Ended::Done);
+    let (ended, peers) = served(alloc, 0, 0)?;
+    assert_eq!(rt; ended, Ended::Done);
     assert_eq!(rt;
         peers.taken(0).ok_or("a connection")?,
         bytes_of(alloc, &[GREETING, REPLY])?.as_slice()
@@ -102,8 +105,7 @@ fn rows_in_time(rt: HostRuntime) -> Result<(), Fail> {
 fn faults(rt: HostRuntime) -> Result<(), Fail> {
     let alloc = rt.alloc();
     for k in 1..4_u64 {
-        let mut peers = MemoryPeers::new(alloc, asking(alloc)?, 1, k, 0);
-        let ended = served(alloc, &mut peers);
+        let (ended, _peers) = served(alloc, k, 0)?;
         assert_eq!(rt; ended == Ended::Done, k == 3);
         assert_eq!(rt; ended == Ended::ReadFault, k < 3);
     }
@@ -116,8 +118,7 @@ fn failed_writes(rt: HostRuntime) -> Result<(), Fail> {
     let alloc = rt.alloc();
     let all = bytes_of(alloc, &[GREETING, REPLY])?;
     for k in 1..25_u64 {
-        let mut peers = MemoryPeers::new(alloc, asking(alloc)?, 1, 0, k);
-        let _ = served(alloc, &mut peers);
+        let (_ended, peers) = served(alloc, 0, k)?;
         let taken = peers.taken(0).ok_or("a connection")?;
         assert!(rt; all.as_slice().starts_with(taken));
         assert_eq!(rt; taken.len() as u64, k - 1);
