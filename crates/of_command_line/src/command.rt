@@ -24,7 +24,8 @@ there, 6 it is not, 7 too many ports, 8 bad port number.
 
   ofswitch replay examples/first-path.events";
 
-const FLOW_TEXT: &str = "Flow text has groups and then flows, each in some lines, and words are separated by one space:
+const FLOW_TEXT: &str =
+    "Flow text has groups and then flows, each in some lines, and words are separated by one space:
 
   group 1 ff                            number, and all, indirect or ff
   bucket 0 2 4294967295                 weight, and the port and the group that it watches; its actions follow
