@@ -372,10 +372,10 @@ impl<L: Lookup> Switch<L> {
                 }
                 Ok(Some(more)) => {
                     let mut more = more;
-                    if let Err(AllocError) = effects.append(&mut more) {
+                    if let Err(error) = effects.append(&mut more) {
                         reports.push_reserved(Report::Gives(effects));
                         reports.push_reserved(Report::Gives(more));
-                        return Err(AllocError);
+                        return Err(error);
                     }
                 }
                 // `next` refuses nothing, so memory ran out.

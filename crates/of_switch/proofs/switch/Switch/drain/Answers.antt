@@ -20,7 +20,7 @@ returns-in-Err-append g c =
     let kept = c.in-Err-append.ensures.err in
     let first = rw (l.invariant.kept, kept.0) at c.push_reserved-in-Err-append.ensures.items in
     let second = rw kept.1 at c.push_reserved-in-Err-append-2.ensures.items in
-    drains_two c.args.self.now c.next.new.self l.effects.items c.in-Ok-Some.more.items c.in-Err-append.field-0 (reports_of c.args.reports.now.items) _ _
+    drains_two c.args.self.now c.next.new.self l.effects.items c.in-Ok-Some.more.items c.in-Err-append.error (reports_of c.args.reports.now.items) _ _
     (left_more c.args.self.now l.self l.effects.items (gives c.in-Ok-Some.more.items c.next.new.self) some.0 l.invariant.left)
     (reports_more c.args.reports.now.items _ (reported.Gives l.effects) first) (reports_more _ _ (reported.Gives c.in-Ok-Some.more) second)
 
