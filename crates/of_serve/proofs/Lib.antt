@@ -2,3 +2,4 @@ pub mod TurnLemmas
 pub mod Steps
 pub mod FileLemmas
 pub mod MemoryLemmas
+pub mod ConnectionLemmas

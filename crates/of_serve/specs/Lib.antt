@@ -4,3 +4,4 @@ pub mod Serves
 pub mod Gathering
 pub mod FileRows
 pub mod Memory
+pub mod Connections

@@ -3,6 +3,7 @@
 
 mod event_rows;
 mod gathering;
+mod laws;
 pub mod memory;
 mod peers;
 mod rows;
@@ -10,5 +11,6 @@ mod serving;
 mod turns;
 
 pub use event_rows::read_rows;
+pub use laws::connections_take_fronts;
 pub use peers::{Accepted, Clock, Peers};
 pub use serving::serve;

@@ -1,0 +1,117 @@
+-- What connections take: all that they are answered, or first bytes of that.
+use Rattle.std.proofs.Common.{◌≡◌, ℕ, Bool, true, false, List, [], ◌∷◌, ◌++◌, Option, Some, None, refl, sym, ◌∙◌, ap, append_assoc}
+use Rattle.std.proofs.lemmas.List.{append-nil}
+use Rattle.std.specs.Prelude.{◌||◌, map, if◌then◌else◌}
+use Rattle.of_session.specs.Session.{is_disconnected, alone}
+use Rattle.of_switch.specs.declared.event.Event.TheVariants.{Lost}
+use Rattle.of_switch.specs.Steps.{without_connection}
+use Rattle.of_switch.specs.State.{State}
+use Rattle.of_switch.specs.Steps.{lost}
+use Rattle.of_serve.specs.declared.peers.Accepted.TheVariants as accepted
+use Rattle.of_serve.specs.Told.{onto, then_onto}
+use Rattle.of_serve.specs.Turns.{Gathered, gathered, broken, Input, Accepts, Reads, IsInput, IsTaken, Stand, Turn, IsTurn, given, after, AreTurns, Turns, stand, then_in, took}
+use Rattle.of_serve.specs.Turns.Turns.{None as NoTurns, Then}
+use Rattle.of_serve.specs.Connections.{Connection, begun, answered, connections, TookFront, AllTookFronts}
+
+-- a loss leaves no connection
+loses_by : (s : State) (b : Bool) → is_disconnected s.connection.phase ≡ b → is_disconnected (if b then s else (record { connection = alone; core = without_connection s.core })).connection.phase ≡ true
+loses_by s true e = e
+loses_by s false e = refl
+
+lost_leaves : (g : Gathered) → is_disconnected (gathered (Lost ∷ []) g).state.connection.phase ≡ true
+lost_leaves g = loses_by g.state (is_disconnected g.state.connection.phase) refl
+
+none_taken : (broke : Bool) (taken : List ℕ) → IsTaken broke taken [] → taken ≡ []
+none_taken false taken h = h
+none_taken true [] h = refl
+none_taken true (x ∷ taken) h = let e : x ∷ (taken ++ h.0) ≡ [] = h.1 in cc
+
+-- what was taken before, and then more: where a write failed before, there is nothing more
+joined : (b c : Bool) (t u a d : List ℕ) → (b ≡ true → d ≡ []) → IsTaken b t a → IsTaken c u d → IsTaken (b || c) (t ++ u) (a ++ d)
+joined false false t u a d no h k = ap (λ (x : List ℕ). x ++ u) h ∙ ap (λ (x : List ℕ). a ++ x) k
+joined false true t u a d no h k = (k.0, append_assoc t u k.0 ∙ (ap (λ (x : List ℕ). x ++ (u ++ k.0)) h ∙ ap (λ (x : List ℕ). a ++ x) k.1))
+joined true c t u a [] no h k =
+    let none : u ≡ [] = none_taken c u k in
+    (h.0, rw (none, append-nil t, append-nil a) h.1)
+joined true c t u a (x ∷ d) no h k = let e : x ∷ d ≡ [] = no refl in cc
+
+newest_broke : List Connection → Bool
+newest_broke [] = false
+newest_broke (c ∷ cs) = c.broke
+
+-- a connection to which a write failed stands no longer
+record Known (cs : List Connection) (s : State) : Type 0 where
+  fronts : AllTookFronts cs
+  gone : newest_broke cs ≡ true → is_disconnected s.connection.phase ≡ true
+
+fronts_of : (b : Bool) (ds : List ℕ) (t : Turn) (cs : List Connection) → AllTookFronts cs → (newest_broke cs ≡ true → ds ≡ []) → IsTaken t.broke t.taken ds → AllTookFronts (answered ds t cs)
+fronts_of b ds t [] all no h = tt
+fronts_of b ds t (c ∷ cs) all no h = (joined c.broke t.broke c.taken t.taken c.answered ds no all.0 h, all.1)
+
+gone_of : (ds : List ℕ) (t : Turn) (cs : List Connection) (g : Gathered) → (newest_broke cs ≡ true → is_disconnected g.state.connection.phase ≡ true)
+    → newest_broke (answered ds t cs) ≡ true → is_disconnected (gathered (broken t.broke) g).state.connection.phase ≡ true
+gone_of ds t cs g no h = by_broke t.broke cs h no
+  where
+  by_broke : (b : Bool) (cs : List Connection) → newest_broke (answered ds (record { input = t.input; taken = t.taken; broke = b }) cs) ≡ true → (newest_broke cs ≡ true → is_disconnected g.state.connection.phase ≡ true) → is_disconnected (gathered (broken b) g).state.connection.phase ≡ true
+  by_broke true cs h no = lost_leaves g
+  by_broke false [] h no = cc
+  by_broke false (c ∷ cs) h no = no (or_false c.broke h)
+  or_false : (b : Bool) → (b || false) ≡ true → b ≡ true
+  or_false true h = refl
+  or_false false h = h
+
+-- where a write failed before a turn, the turn has no answers, unless it begins a connection
+no_answers : (input : Input) (s : Stand) (cs : List Connection) → IsInput input s.state → (newest_broke cs ≡ true → is_disconnected s.state.connection.phase ≡ true)
+    → newest_broke (begun input cs) ≡ true → (given input s).answers ≡ []
+no_answers (Accepts accepted.Open) s cs is gone h = cc
+no_answers (Accepts accepted.Nothing) s cs is gone h = refl
+no_answers (Accepts accepted.Fault) s cs is gone h = refl
+no_answers (Reads now answer) s cs is gone h = let e : is_disconnected s.state.connection.phase ≡ true = gone h in cc
+
+still_gone : (input : Input) (s : Stand) (cs : List Connection) → IsInput input s.state → (newest_broke cs ≡ true → is_disconnected s.state.connection.phase ≡ true)
+    → newest_broke (begun input cs) ≡ true → is_disconnected (given input s).state.connection.phase ≡ true
+still_gone (Accepts accepted.Open) s cs is gone h = cc
+still_gone (Accepts accepted.Nothing) s cs is gone h = gone h
+still_gone (Accepts accepted.Fault) s cs is gone h = gone h
+still_gone (Reads now answer) s cs is gone h = let e : is_disconnected s.state.connection.phase ≡ true = gone h in cc
+
+begun_fronts : (input : Input) (cs : List Connection) → AllTookFronts cs → AllTookFronts (begun input cs)
+begun_fronts (Accepts accepted.Open) cs all = (refl, all)
+begun_fronts (Accepts accepted.Nothing) cs all = all
+begun_fronts (Accepts accepted.Fault) cs all = all
+begun_fronts (Reads now answer) cs all = all
+
+known_after : (t : Turn) (s : Stand) (cs : List Connection) → IsTurn t s → Known cs s.state → Known (answered (given t.input s).answers t (begun t.input cs)) (after t s).state
+known_after t s cs is k = record {
+  fronts = fronts_of t.broke (given t.input s).answers t (begun t.input cs) (begun_fronts t.input cs k.fronts) (no_answers t.input s cs is.input k.gone) is.taken;
+  gone = gone_of (given t.input s).answers t (begun t.input cs) (given t.input s) (still_gone t.input s cs is.input k.gone);
+}
+
+known : (s : Stand) (ts : Turns) → AreTurns s ts → Known (connections s ts) (stand s ts).state
+known s NoTurns are = record { fronts = tt; gone = λ h. cc }
+known s (Then ts t) are = known_after t (stand s ts) (connections s ts) are.1 (known s ts are.0)
+
+pub fronts : (s : Stand) (ts : Turns) → AreTurns s ts → AllTookFronts (connections s ts)
+fronts s ts are = (known s ts are).fronts
+
+-- WHAT PEERS TELL OF IT
+
+taken_of : List Connection → List (List ℕ)
+taken_of cs = map (λ c. c.taken) cs
+
+begun_taken : (input : Input) (cs : List Connection) → then_in (Some (taken_of cs)) input ≡ Some (taken_of (begun input cs))
+begun_taken (Accepts accepted.Open) cs = refl
+begun_taken (Accepts accepted.Nothing) cs = refl
+begun_taken (Accepts accepted.Fault) cs = refl
+begun_taken (Reads now answer) cs = refl
+
+answered_taken : (ds : List ℕ) (t : Turn) (cs : List Connection) → onto t.taken (taken_of cs) ≡ taken_of (answered ds t cs)
+answered_taken ds t [] = refl
+answered_taken ds t (c ∷ cs) = refl
+
+pub taken : (s : Stand) (ts : Turns) → took (Some []) ts ≡ Some (map (λ c. c.taken) (connections s ts))
+taken s NoTurns = refl
+taken s (Then ts t) =
+    ap (λ (known : Option (List (List ℕ))). then_onto (then_in known t.input) t.taken) (taken s ts)
+    ∙ (ap (λ (known : Option (List (List ℕ))). then_onto known t.taken) (begun_taken t.input (connections s ts))
+    ∙ ap Some (answered_taken (given t.input (stand s ts)).answers t (begun t.input (connections s ts))))

@@ -1,0 +1,37 @@
+-- WHAT EACH CONNECTION WAS ANSWERED, AND WHAT IT TOOK OF THAT (OpenFlow 1.3.5, 6.3).
+use Rattle.std.specs.Prelude.{ℕ, Bool, false, ◌||◌, List, [], ◌∷◌, ◌++◌}
+use Rattle.std.specs.List.{AllByRecursion}
+use Rattle.of_serve.specs.declared.peers.Accepted.TheVariants as accepted
+use Rattle.of_serve.specs.Turns.{Input, Accepts, Reads, Stand, Turn, IsTaken, given, Turns, None, Then, stand}
+
+pub record Connection : Type 0 where
+  -- the bytes of all messages that the switch gave it, in order
+  pub answered : List ℕ
+  -- those that its writes took
+  pub taken : List ℕ
+  -- whether a write to it failed
+  pub broke : Bool
+
+-- an accept that answered Open begins one
+abbrev pub begun : Input → List Connection → List Connection
+begun (Accepts accepted.Open) cs = record { answered = []; taken = []; broke = false } ∷ cs
+begun (Accepts accepted.Nothing) cs = cs
+begun (Accepts accepted.Fault) cs = cs
+begun (Reads now answer) cs = cs
+
+-- the newest one gets the answers of a turn
+abbrev pub answered : List ℕ → Turn → List Connection → List Connection
+answered answers t [] = []
+answered answers t (c ∷ cs) = record { answered = c.answered ++ answers; taken = c.taken ++ t.taken; broke = c.broke || t.broke } ∷ cs
+
+-- the connections of turns, the newest first
+abbrev pub connections : Stand → Turns → List Connection
+connections s None = []
+connections s (Then ts t) = answered (given t.input (stand s ts)).answers t (begun t.input (connections s ts))
+
+-- all answers were taken, or a write failed and first bytes of them were
+abbrev pub TookFront : Connection → Type 0
+TookFront c = IsTaken c.broke c.taken c.answered
+
+abbrev pub AllTookFronts : List Connection → Type 0
+AllTookFronts cs = AllByRecursion TookFront cs
