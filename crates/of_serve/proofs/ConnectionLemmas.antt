@@ -28,14 +28,14 @@ none_taken true (x ∷ taken) h = let e : x ∷ (taken ++ h.0) ≡ [] = h.1 in c
 
 -- what was taken before, and then more: where a write failed before, there is nothing more
 joined : (b c : Bool) (t u a d : List ℕ) → (b ≡ true → d ≡ []) → IsTaken b t a → IsTaken c u d → IsTaken (b || c) (t ++ u) (a ++ d)
-joined false false t u a d no h k = ap (λ (x : List ℕ). x ++ u) h ∙ ap (λ (x : List ℕ). a ++ x) k
-joined false true t u a d no h k = (k.0, append_assoc t u k.0 ∙ (ap (λ (x : List ℕ). x ++ (u ++ k.0)) h ∙ ap (λ (x : List ℕ). a ++ x) k.1))
-joined true c t u a [] no h k =
+joined false false t u a d nothing h k = ap (λ (x : List ℕ). x ++ u) h ∙ ap (λ (x : List ℕ). a ++ x) k
+joined false true t u a d nothing h k = (k.0, append_assoc t u k.0 ∙ (ap (λ (x : List ℕ). x ++ (u ++ k.0)) h ∙ ap (λ (x : List ℕ). a ++ x) k.1))
+joined true c t u a [] nothing h k =
     let none : u ≡ [] = none_taken c u k in
     (h.0, rw (none, append-nil t, append-nil a) h.1)
-joined true c t u a (x ∷ d) no h k = let e : x ∷ d ≡ [] = no refl in cc
+joined true c t u a (x ∷ d) nothing h k = let e : x ∷ d ≡ [] = nothing refl in cc
 
-newest_broke : List Connection → Bool
+abbrev newest_broke : List Connection → Bool
 newest_broke [] = false
 newest_broke (c ∷ cs) = c.broke
 
@@ -45,35 +45,36 @@ record Known (cs : List Connection) (s : State) : Type 0 where
   gone : newest_broke cs ≡ true → is_disconnected s.connection.phase ≡ true
 
 fronts_of : (b : Bool) (ds : List ℕ) (t : Turn) (cs : List Connection) → AllTookFronts cs → (newest_broke cs ≡ true → ds ≡ []) → IsTaken t.broke t.taken ds → AllTookFronts (answered ds t cs)
-fronts_of b ds t [] all no h = tt
-fronts_of b ds t (c ∷ cs) all no h = (joined c.broke t.broke c.taken t.taken c.answered ds no all.0 h, all.1)
+fronts_of b ds t [] all nothing h = tt
+fronts_of b ds t (c ∷ cs) all nothing h = (joined c.broke t.broke c.taken t.taken c.answered ds nothing all.0 h, all.1)
+
+or_false : (b : Bool) → (b || false) ≡ true → b ≡ true
+or_false true h = refl
+or_false false h = h
 
 gone_of : (ds : List ℕ) (t : Turn) (cs : List Connection) (g : Gathered) → (newest_broke cs ≡ true → is_disconnected g.state.connection.phase ≡ true)
     → newest_broke (answered ds t cs) ≡ true → is_disconnected (gathered (broken t.broke) g).state.connection.phase ≡ true
-gone_of ds t cs g no h = by_broke t.broke cs h no
+gone_of ds t cs g nothing h = by_broke t.broke cs h nothing
   where
-  by_broke : (b : Bool) (cs : List Connection) → newest_broke (answered ds (record { input = t.input; taken = t.taken; broke = b }) cs) ≡ true → (newest_broke cs ≡ true → is_disconnected g.state.connection.phase ≡ true) → is_disconnected (gathered (broken b) g).state.connection.phase ≡ true
-  by_broke true cs h no = lost_leaves g
-  by_broke false [] h no = cc
-  by_broke false (c ∷ cs) h no = no (or_false c.broke h)
-  or_false : (b : Bool) → (b || false) ≡ true → b ≡ true
-  or_false true h = refl
-  or_false false h = h
+    by_broke : (b : Bool) (cs : List Connection) → newest_broke (answered ds (record { input = t.input; taken = t.taken; broke = b }) cs) ≡ true → (newest_broke cs ≡ true → is_disconnected g.state.connection.phase ≡ true) → is_disconnected (gathered (broken b) g).state.connection.phase ≡ true
+    by_broke true cs h nothing = lost_leaves g
+    by_broke false [] h nothing = absurd (let e : false ≡ true = h in cc)
+    by_broke false (c ∷ cs) h nothing = nothing (or_false c.broke h)
 
 -- where a write failed before a turn, the turn has no answers, unless it begins a connection
 no_answers : (input : Input) (s : Stand) (cs : List Connection) → IsInput input s.state → (newest_broke cs ≡ true → is_disconnected s.state.connection.phase ≡ true)
     → newest_broke (begun input cs) ≡ true → (given input s).answers ≡ []
-no_answers (Accepts accepted.Open) s cs is gone h = cc
+no_answers (Accepts accepted.Open) s cs is gone h = absurd (let e : false ≡ true = h in cc)
 no_answers (Accepts accepted.Nothing) s cs is gone h = refl
 no_answers (Accepts accepted.Fault) s cs is gone h = refl
-no_answers (Reads now answer) s cs is gone h = let e : is_disconnected s.state.connection.phase ≡ true = gone h in cc
+no_answers (Reads now answer) s cs is gone h = let e : is_disconnected s.state.connection.phase ≡ true = gone h in absurd cc
 
 still_gone : (input : Input) (s : Stand) (cs : List Connection) → IsInput input s.state → (newest_broke cs ≡ true → is_disconnected s.state.connection.phase ≡ true)
     → newest_broke (begun input cs) ≡ true → is_disconnected (given input s).state.connection.phase ≡ true
-still_gone (Accepts accepted.Open) s cs is gone h = cc
+still_gone (Accepts accepted.Open) s cs is gone h = absurd (let e : false ≡ true = h in cc)
 still_gone (Accepts accepted.Nothing) s cs is gone h = gone h
 still_gone (Accepts accepted.Fault) s cs is gone h = gone h
-still_gone (Reads now answer) s cs is gone h = let e : is_disconnected s.state.connection.phase ≡ true = gone h in cc
+still_gone (Reads now answer) s cs is gone h = let e : is_disconnected s.state.connection.phase ≡ true = gone h in absurd cc
 
 begun_fronts : (input : Input) (cs : List Connection) → AllTookFronts cs → AllTookFronts (begun input cs)
 begun_fronts (Accepts accepted.Open) cs all = (refl, all)
@@ -88,7 +89,7 @@ known_after t s cs is k = record {
 }
 
 known : (s : Stand) (ts : Turns) → AreTurns s ts → Known (connections s ts) (stand s ts).state
-known s NoTurns are = record { fronts = tt; gone = λ h. cc }
+known s NoTurns are = record { fronts = tt; gone = λ h. absurd (let e : false ≡ true = h in cc) }
 known s (Then ts t) are = known_after t (stand s ts) (connections s ts) are.1 (known s ts are.0)
 
 pub fronts : (s : Stand) (ts : Turns) → AreTurns s ts → AllTookFronts (connections s ts)
@@ -96,7 +97,7 @@ fronts s ts are = (known s ts are).fronts
 
 -- WHAT PEERS TELL OF IT
 
-taken_of : List Connection → List (List ℕ)
+abbrev taken_of : List Connection → List (List ℕ)
 taken_of cs = map (λ c. c.taken) cs
 
 begun_taken : (input : Input) (cs : List Connection) → then_in (Some (taken_of cs)) input ≡ Some (taken_of (begun input cs))
