@@ -1,0 +1,23 @@
+-- What a hint says of the bytes of a line. What it says of words is in its text alone.
+use Rattle.std.specs.Prelude.{◌≡◌, ◌<◌, ◌==◌, ℕ, true, List, length}
+use Rattle.std.specs.List.{list_any}
+use Rattle.std.specs.Str.{IsUtf8}
+use Rattle.of_hints.specs.declared.layout.LayoutFault.{LayoutFault}
+use Rattle.of_hints.specs.declared.layout.LayoutFault.TheVariants.{TooLong, NotText, CarriageReturn, Tab, Space}
+use Rattle.of_hints.specs.declared.hint.Hint.{Hint}
+use Rattle.of_hints.specs.declared.hint.Hint.TheVariants as hints
+
+abbrev pub IsFault : LayoutFault → List ℕ → Type 0
+IsFault TooLong line = 1048576 < length line
+IsFault NotText line = ¬ (IsUtf8 line)
+IsFault CarriageReturn line = list_any (λ b. b == 13) line ≡ true
+IsFault Tab line = list_any (λ b. b == 9) line ≡ true
+IsFault Space line = Unit {0}
+
+abbrev pub IsSo : Hint → List ℕ → Type 0
+IsSo (hints.Layout fault) line = IsFault fault line
+IsSo hints.UnknownRow line = Unit {0}
+IsSo hints.UnknownLine line = Unit {0}
+IsSo (hints.Words fault) line = Unit {0}
+IsSo hints.Controller line = Unit {0}
+IsSo (hints.Order order) line = Unit {0}

@@ -1,0 +1,185 @@
+//! The rows of event files and the lines of flow texts, each by the words that it has.
+
+/// What a word has to be.
+#[derive(Clone, Copy, Debug, PartialEq, Eq)]
+pub enum Word {
+    /// A decimal number up to this one.
+    Decimal(u64),
+    /// `0x` and two digits for each of so many bytes.
+    Hex(usize),
+    /// Bytes, two digits each, or `-`.
+    Bytes,
+    /// 12 hexadecimal digits.
+    Hardware,
+    PortName,
+    /// `up` or `down`.
+    State,
+    /// `all`, `indirect` or `ff`.
+    GroupKind,
+    /// A match field, by its name.
+    Field,
+    /// A value of the field before it.
+    Value,
+    /// A mask of that field, which may be left out.
+    Mask,
+}
+
+/// A row or a line: how it begins, its other words, and all as people write it.
+#[derive(Clone, Copy, Debug)]
+pub struct Form {
+    pub name: &'static [u8],
+    pub words: &'static [Word],
+    pub usage: &'static str,
+}
+
+const BYTE: Word = Word::Decimal(0xff);
+
+const HALF: Word = Word::Decimal(0xffff);
+
+const NUMBER: Word = Word::Decimal(0xffff_ffff);
+
+pub const EVENT_ROWS: [Form; 8] = [
+    Form {
+        name: b"connect",
+        words: &[],
+        usage: "connect",
+    },
+    Form {
+        name: b"lost",
+        words: &[],
+        usage: "lost",
+    },
+    Form {
+        name: b"c",
+        words: &[Word::Bytes],
+        usage: "c HEX",
+    },
+    Form {
+        name: b"f",
+        words: &[NUMBER, Word::Bytes],
+        usage: "f PORT HEX",
+    },
+    Form {
+        name: b"t",
+        words: &[Word::Decimal(u64::MAX)],
+        usage: "t NANOSECONDS",
+    },
+    Form {
+        name: b"port add",
+        words: &[NUMBER, Word::Hardware, Word::PortName, Word::State],
+        usage: "port add N ADDRESS NAME up|down",
+    },
+    Form {
+        name: b"port remove",
+        words: &[NUMBER],
+        usage: "port remove N",
+    },
+    Form {
+        name: b"port link",
+        words: &[NUMBER, Word::State],
+        usage: "port link N up|down",
+    },
+];
+
+pub const FLOW_LINES: [Form; 16] = [
+    Form {
+        name: b"group",
+        words: &[NUMBER, Word::GroupKind],
+        usage: "group N all|indirect|ff",
+    },
+    Form {
+        name: b"bucket",
+        words: &[HALF, NUMBER, NUMBER],
+        usage: "bucket WEIGHT PORT GROUP",
+    },
+    Form {
+        name: b"flow",
+        words: &[BYTE, HALF, Word::Hex(8), HALF, HALF, HALF],
+        usage: "flow TABLE PRIORITY COOKIE IDLE HARD FLAGS",
+    },
+    Form {
+        name: b"match",
+        words: &[Word::Field, Word::Value, Word::Mask],
+        usage: "match NAME VALUE, or match NAME VALUE MASK",
+    },
+    Form {
+        name: b"apply",
+        words: &[],
+        usage: "apply",
+    },
+    Form {
+        name: b"clear",
+        words: &[],
+        usage: "clear",
+    },
+    Form {
+        name: b"write",
+        words: &[],
+        usage: "write",
+    },
+    Form {
+        name: b"metadata",
+        words: &[Word::Hex(8), Word::Hex(8)],
+        usage: "metadata VALUE MASK",
+    },
+    Form {
+        name: b"goto",
+        words: &[BYTE],
+        usage: "goto TABLE",
+    },
+    Form {
+        name: b"output",
+        words: &[NUMBER, HALF],
+        usage: "output PORT MAX",
+    },
+    Form {
+        name: b"push_vlan",
+        words: &[Word::Hex(2)],
+        usage: "push_vlan TYPE",
+    },
+    Form {
+        name: b"pop_vlan",
+        words: &[],
+        usage: "pop_vlan",
+    },
+    Form {
+        name: b"to_group",
+        words: &[NUMBER],
+        usage: "to_group N",
+    },
+    Form {
+        name: b"set_nw_ttl",
+        words: &[BYTE],
+        usage: "set_nw_ttl N",
+    },
+    Form {
+        name: b"dec_nw_ttl",
+        words: &[],
+        usage: "dec_nw_ttl",
+    },
+    Form {
+        name: b"set",
+        words: &[Word::Field, Word::Value],
+        usage: "set NAME VALUE",
+    },
+];
+
+// The words behind a name, where a line begins with it.
+fn behind<'a>(line: &'a [u8], name: &[u8]) -> Option<Option<&'a [u8]>> {
+    let rest = line.strip_prefix(name)?;
+    match rest.split_first() {
+        None => Some(None),
+        Some((b' ', words)) => Some(Some(words)),
+        Some(_) => None,
+    }
+}
+
+/// The form that a line begins like, and its other words.
+pub fn form_of<'a>(line: &'a [u8], forms: &[Form]) -> Option<(Form, Option<&'a [u8]>)> {
+    for form in forms {
+        if let Some(words) = behind(line, form.name) {
+            return Some((*form, words));
+        }
+    }
+    None
+}

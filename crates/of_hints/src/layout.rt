@@ -1,0 +1,50 @@
+//! What is wrong with a line before its words are looked at.
+ghost use Rattle.of_hints.specs.Layout.{IsFault};
+ghost use Rattle.std.specs.Prelude.{IfSome};
+
+use thiserror::Error;
+
+/// How many bytes a line has at most.
+const LONGEST: usize = 1_048_576;
+
+/// What is wrong with the bytes of a line.
+#[derive(Clone, Copy, Debug, PartialEq, Eq, Error)]
+pub enum LayoutFault {
+    #[error("a line has 1,048,576 bytes at most")]
+    TooLong,
+    #[error("the line is not UTF-8 text")]
+    NotText,
+    #[error("a CR stands in the line, as at the line ends of Windows: convert them (dos2unix)")]
+    CarriageReturn,
+    #[error("a tab stands in the line: words are parted by one space")]
+    Tab,
+    #[error("a space too many: words are parted by one space, and none stands at the ends of a line")]
+    Space,
+}
+
+// Whether a space stands at an end, or behind another one.
+fn has_space_too_many(line: &[u8]) -> bool {
+    line.split(|byte| *byte == b' ').any(|word| word.is_empty())
+}
+
+/// What is wrong with the bytes of a line, and with the spaces between its words.
+pub fn layout_fault(line: &[u8]) -> Option<LayoutFault>
+    ensures { IfSome result (λ fault. IsFault fault line.now) }
+{
+    if line.len() > LONGEST {
+        return Some(LayoutFault::TooLong);
+    }
+    if std::str::from_utf8(line).is_err() {
+        return Some(LayoutFault::NotText);
+    }
+    if line.contains(&b'\r') {
+        return Some(LayoutFault::CarriageReturn);
+    }
+    if line.contains(&b'\t') {
+        return Some(LayoutFault::Tab);
+    }
+    if has_space_too_many(line) {
+        return Some(LayoutFault::Space);
+    }
+    None
+}

@@ -1,0 +1,9 @@
+//! What is wrong with a line of an event file or of a flow text, in words, for the person who wrote it.
+#![tactic(auto)]
+
+mod forms;
+mod hint;
+mod layout;
+mod words;
+
+pub use hint::{Hint, event_row_hint, flow_line_hint};

@@ -1,0 +1,171 @@
+//! What is wrong with the words of a line.
+
+use crate::forms::{Form, Word};
+use of_layers::Field;
+use thiserror::Error;
+
+/// What is wrong with the words of a line. Words count from 1.
+#[derive(Clone, Copy, Debug, PartialEq, Eq, Error)]
+pub enum WordFault {
+    #[error("a word is missing, or one is too many: write {0}")]
+    Form(&'static str),
+    #[error("word {0}: a decimal number, without a sign and without leading zeros")]
+    Decimal(usize),
+    #[error("word {place}: the number is {most} at most")]
+    Most { place: usize, most: u64 },
+    #[error("word {0}: an odd number of hexadecimal digits; a byte has two")]
+    OddDigits(usize),
+    #[error("word {0}: bytes are hexadecimal digits, without 0x and without separators, or - for none")]
+    Bytes(usize),
+    #[error("word {0}: a hardware address is 12 hexadecimal digits, without colons")]
+    Hardware(usize),
+    #[error("word {0}: a port's name has 1 to 15 bytes, of a to z and 0 to 9")]
+    PortName(usize),
+    #[error("word {0}: up or down")]
+    State(usize),
+    #[error("word {0}: all, indirect or ff")]
+    GroupKind(usize),
+    #[error("word {place}: 0x and {digits} lower case hexadecimal digits")]
+    Hex { place: usize, digits: usize },
+    #[error("word {0}: unknown field; fields are in_port, metadata, eth_dst, eth_src, eth_type, vlan_vid, vlan_pcp, ip_dscp, ip_ecn, ip_proto, ipv4_src, ipv4_dst, tcp_src, tcp_dst, udp_src, udp_dst, icmpv4_type, icmpv4_code, arp_op, arp_spa, arp_tpa, arp_sha, arp_tha, ipv6_src, ipv6_dst, ipv6_flabel, icmpv6_type, icmpv6_code")]
+    Field(usize),
+}
+
+fn name(_field: Field) -> &'static [u8] {
+    b"in_port"
+}
+
+fn is(word: &[u8], wanted: &[u8]) -> bool {
+    word == wanted
+}
+
+// Whether it is a decimal number without leading zeros.
+fn is_decimal(word: &[u8]) -> bool {
+    !word.is_empty()
+        && word.iter().all(|byte| byte.is_ascii_digit())
+        && (word.len() == 1 || word.first() != Some(&b'0'))
+}
+
+// The value of digits, or None where it is above 64 bits.
+fn value_of(digits: &[u8]) -> Option<u64> {
+    let mut value = 0_u64;
+    for digit in digits {
+        value = value
+            .checked_mul(10)?
+            .checked_add(u64::from(digit.wrapping_sub(b'0')))?;
+    }
+    Some(value)
+}
+
+fn decimal_fault(word: &[u8], place: usize, most: u64) -> Option<WordFault> {
+    if !is_decimal(word) {
+        return Some(WordFault::Decimal(place));
+    }
+    match value_of(word) {
+        Some(value) if value <= most => None,
+        _ => Some(WordFault::Most { place, most }),
+    }
+}
+
+fn bytes_fault(word: &[u8], place: usize) -> Option<WordFault> {
+    if is(word, b"-") {
+        return None;
+    }
+    if !word.iter().all(|byte| byte.is_ascii_hexdigit()) {
+        return Some(WordFault::Bytes(place));
+    }
+    if word.len() % 2 == 1 {
+        return Some(WordFault::OddDigits(place));
+    }
+    None
+}
+
+fn is_lower_hex(byte: u8) -> bool {
+    byte.is_ascii_digit() || (b'a'..=b'f').contains(&byte)
+}
+
+fn hex_fault(word: &[u8], place: usize, bytes: usize) -> Option<WordFault> {
+    let digits = bytes.saturating_mul(2);
+    match word.strip_prefix(b"0x") {
+        Some(rest) if rest.len() == digits && rest.iter().all(|byte| is_lower_hex(*byte)) => None,
+        _ => Some(WordFault::Hex { place, digits }),
+    }
+}
+
+fn is_port_name(word: &[u8]) -> bool {
+    !word.is_empty()
+        && word.len() <= 15
+        && word
+            .iter()
+            .all(|byte| byte.is_ascii_lowercase() || byte.is_ascii_digit())
+}
+
+fn field_named(word: &[u8]) -> Option<Field> {
+    Field::ALL
+        .iter()
+        .copied()
+        .find(|field| name(*field) == word)
+}
+
+// The fault where the test fails.
+fn unless(good: bool, fault: WordFault) -> Option<WordFault> {
+    if good { None } else { Some(fault) }
+}
+
+// What is wrong with a word, behind the name of this field.
+fn word_fault(kind: Word, word: &[u8], place: usize, field: Option<Field>) -> Option<WordFault> {
+    match kind {
+        Word::Decimal(most) => decimal_fault(word, place, most),
+        Word::Hex(bytes) => hex_fault(word, place, bytes),
+        Word::Bytes => bytes_fault(word, place),
+        Word::Hardware => unless(
+            word.len() == 12 && word.iter().all(|byte| byte.is_ascii_hexdigit()),
+            WordFault::Hardware(place),
+        ),
+        Word::PortName => unless(is_port_name(word), WordFault::PortName(place)),
+        Word::State => unless(
+            is(word, b"up") || is(word, b"down"),
+            WordFault::State(place),
+        ),
+        Word::GroupKind => unless(
+            is(word, b"all") || is(word, b"indirect") || is(word, b"ff"),
+            WordFault::GroupKind(place),
+        ),
+        Word::Field => unless(field_named(word).is_some(), WordFault::Field(place)),
+        Word::Value | Word::Mask => hex_fault(word, place, field?.row().bytes),
+    }
+}
+
+// How many words there are.
+fn count(words: Option<&[u8]>) -> usize {
+    match words {
+        None => 0,
+        Some(words) => words.split(|byte| *byte == b' ').count(),
+    }
+}
+
+/// What is wrong with the words behind the name of a form, if anything is.
+pub fn words_fault(form: &Form, words: Option<&[u8]>) -> Option<WordFault> {
+    let found = count(words);
+    let least = form
+        .words
+        .iter()
+        .filter(|word| **word != Word::Mask)
+        .count();
+    if found < least || found > form.words.len() {
+        return Some(WordFault::Form(form.usage));
+    }
+    // the words of the name come first
+    let mut place = count(Some(form.name));
+    let mut field = None;
+    for (kind, word) in form.words.iter().zip(words?.split(|byte| *byte == b' ')) {
+        place = place.saturating_add(1);
+        if let Some(fault) = word_fault(*kind, word, place, field) {
+            return Some(fault);
+        }
+        if *kind == Word::Field {
+            field = field_named(word);
+        }
+    }
+    None
+}
