@@ -175,6 +175,7 @@ impl<L: Lookup> FlowTable<L> {
         ensures sound { (k : ℕ) → are_fit k copies.old.instructions ≡ true → all_go_with which.now.fields copies.old.instructions ≡ true → AreSound k (flows_of self.old.entries) → AreSound k (flows_of self.new.entries) }
     {
         settle(&mut self.entries, &mut self.replaced);
+        note_places(&mut self.places, &self.entries, 0);
         modify_all(&mut self.entries, which, copies, reset);
     }
 
