@@ -16,6 +16,9 @@ use crate::flow::{Flow, FlowFlags};
 use crate::selection::Cause;
 use of_oxm::overlaps;
 
+/// So many replaced entries stay in any case.
+const FEW: usize = 16;
+
 /// Whether the flow asks to be checked, and an entry of its priority overlaps it.
 pub(crate) fn is_overlapped(entries: &[Entry], flow: &Flow) -> bool
     ensures { result ≡ overlapped flow.now (flows_of entries.now) }
@@ -93,7 +96,7 @@ pub(crate) fn put_last(
     ensures entries { drop replaced.new entries.new.items ≡ added_entries result now flow (drop replaced.old entries.old.items) }
     ensures within { replaced.new ≤ length entries.new.items }
 {
-    if *replaced > entries.len() / 4 {
+    if *replaced > FEW && *replaced > entries.len() / 4 {
         settle(entries, replaced);
     } else {
         let _ = entries.reserve(1);
