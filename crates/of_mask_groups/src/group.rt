@@ -47,13 +47,13 @@ impl Group {
     }
 
     /// The numbers of the entries that ask for this key. It counts as one probe.
-    pub(crate) fn probe<'a>(&'a self, key: &FieldKey, probes: &mut usize) -> &'a [usize]
+    pub(crate) fn probe<'a>(&'a self, key: &MaskedKey, probes: &mut usize) -> &'a [usize]
         requires { probes.old + 1 < 2 ^ 64 }
-        ensures numbers { result.now ≡ cell_at self.now.cells key.now }
+        ensures numbers { result.now ≡ cell_at self.now.cells key.now.fields }
         ensures counted { probes.new ≡ probes.old + 1 }
     {
         *probes += 1;
-        match self.cells.get(&MaskedKey { fields: *key }) {
+        match self.cells.get(key) {
             Some(cell) => cell.as_slice(),
             None => &[],
         }

@@ -12,6 +12,7 @@ use crate::entry::Entry;
 use crate::found::{Found, best_among};
 use crate::group::Group;
 use crate::groups::{put_back, take_group};
+use crate::masked::MaskedKey;
 use crate::rank::Rank;
 use crate::renumbering::{next_age, set_age};
 use crate::same::same_in;
@@ -58,7 +59,9 @@ impl MaskGroups {
             if is_above(best, group.best) {
                 return (number_of(best), probes);
             }
-            let masked = group.mask.masked(key);
+            let masked = MaskedKey {
+                fields: group.mask.masked(key),
+            };
             let numbers = group.probe(&masked, &mut probes);
             best = best_among(&self.entries, numbers, best);
         }

@@ -1,14 +1,11 @@
 //! Keys under the mask of a group.
 ghost use Rattle.std.specs.Prelude.{◌≡◌, ◌%◌, ◌/◌, ◌^◌};
 ghost use Rattle.std.specs.Hash as fed;
-ghost use Rattle.of_mask_groups.specs.Digest.{chain_of, digest_of};
+ghost use Rattle.of_mask_groups.specs.Digest.{side_by_side, sum_of, place_word_of, target_word_of, source_word_of, internet_word_of, port_word_of, octet_word_of, low_source_word_of, high_source_word_of, low_target_word_of, high_target_word_of, digest_of};
 ghost use Rattle.of_mask_groups.specs.SameKey.{masked_alike};
 
 use of_headers::FieldKey;
 use std::hash::{Hash, Hasher};
-
-/// An odd number whose bits look random.
-const MULTIPLIER: u64 = 0x9e37_79b9_7f4a_7c15;
 
 /// A key under the mask of a group, as the group's map hashes it.
 #[derive(Clone, Copy, PartialEq, Eq)]
@@ -27,13 +24,25 @@ impl Hash for MaskedKey {
     }
 }
 
+// Numbers side by side in one: each place is so many times the next one.
 #[inline]
-#[tactic(auto, unfolding(crate::specs::Digest::chain_of))]
-fn chain(numbers: &[u64]) -> u64
-    ensures { result ≡ chain_of numbers.now }
+#[tactic(auto, unfolding(crate::specs::Digest::side_by_side))]
+fn beside(place: u64, numbers: &[u64]) -> u64
+    ensures { result ≡ side_by_side place numbers.now }
 {
     numbers.iter().fold(0, |sum: u64, number| {
-        sum.wrapping_mul(MULTIPLIER).wrapping_add(*number)
+        sum.wrapping_mul(place).wrapping_add(*number)
+    })
+}
+
+// A sum of products, none of which waits for another.
+#[inline]
+#[tactic(auto, unfolding(crate::specs::Digest::sum_of))]
+fn sum(products: &[(u64, u64)]) -> u64
+    ensures { result ≡ sum_of products.now }
+{
+    products.iter().fold(0, |sum: u64, product| {
+        sum.wrapping_add(product.0.wrapping_mul(product.1))
     })
 }
 
@@ -49,49 +58,132 @@ fn high(number: u128) -> u64
     (number / 0x1_0000_0000_0000_0000) as u64
 }
 
-// Four chains side by side, and one over them.
+// The key's words, each times an odd number whose bits look random. Fields of which a frame has one at most may share a word.
 #[inline]
 fn digest(key: &FieldKey) -> u64
     ensures { result ≡ digest_of key.now }
 {
-    let ethernet = chain(&[
-        u64::from(key.present),
-        u64::from(key.in_port),
-        key.metadata,
-        key.eth_dst,
-        key.eth_src,
-        u64::from(key.eth_type),
-        u64::from(key.vlan_vid),
-        u64::from(key.vlan_pcp),
-    ]);
-    let internet = chain(&[
-        u64::from(key.ip_dscp),
-        u64::from(key.ip_ecn),
-        u64::from(key.ip_proto),
-        u64::from(key.ipv4_src),
-        u64::from(key.ipv4_dst),
-        u64::from(key.tcp_src),
-        u64::from(key.tcp_dst),
-        u64::from(key.udp_src),
-    ]);
-    let messages = chain(&[
-        u64::from(key.udp_dst),
-        u64::from(key.icmpv4_type),
-        u64::from(key.icmpv4_code),
-        u64::from(key.arp_op),
-        u64::from(key.arp_spa),
-        u64::from(key.arp_tpa),
-        key.arp_sha,
-        key.arp_tha,
-    ]);
-    let version_6 = chain(&[
-        low(key.ipv6_src),
-        high(key.ipv6_src),
-        low(key.ipv6_dst),
-        high(key.ipv6_dst),
-        u64::from(key.ipv6_flabel),
-        u64::from(key.icmpv6_type),
-        u64::from(key.icmpv6_code),
-    ]);
-    chain(&[ethernet, internet, messages, version_6])
+    sum(&[
+        (place_word(key), 0x9e37_79b9_7f4a_7c15),
+        (key.metadata, 0xbf58_476d_1ce4_e5b9),
+        (target_word(key), 0x94d0_49bb_1331_11eb),
+        (source_word(key), 0xff51_afd7_ed55_8ccd),
+        (internet_word(key), 0xc4ce_b9fe_1a85_ec53),
+        (port_word(key), 0x87c3_7b91_1142_53d5),
+        (octet_word(key), 0x4cf5_ad43_2745_937f),
+        (low_source_word(key), 0xc2b2_ae3d_27d4_eb4f),
+        (high_source_word(key), 0x1656_67b1_9e37_79f9),
+        (low_target_word(key), 0x27d4_eb2f_1656_67c5),
+        (high_target_word(key), 0xd6e8_feb8_6659_fd93),
+    ])
+}
+
+#[inline]
+#[tactic(auto, unfolding(crate::specs::Digest::place_word_of))]
+fn place_word(key: &FieldKey) -> u64
+    ensures { result ≡ place_word_of key.now }
+{
+    beside(
+        0x1_0000_0000,
+        &[u64::from(key.in_port), u64::from(key.present)],
+    )
+}
+
+#[inline]
+#[tactic(auto, unfolding(crate::specs::Digest::target_word_of))]
+fn target_word(key: &FieldKey) -> u64
+    ensures { result ≡ target_word_of key.now }
+{
+    beside(0x1_0000, &[key.eth_dst, u64::from(key.eth_type)])
+}
+
+#[inline]
+#[tactic(auto, unfolding(crate::specs::Digest::source_word_of))]
+fn source_word(key: &FieldKey) -> u64
+    ensures { result ≡ source_word_of key.now }
+{
+    beside(0x1_0000, &[key.eth_src, u64::from(key.vlan_vid)])
+}
+
+#[inline]
+#[tactic(auto, unfolding(crate::specs::Digest::internet_word_of))]
+fn internet_word(key: &FieldKey) -> u64
+    ensures { result ≡ internet_word_of key.now }
+{
+    beside(
+        0x1_0000_0000,
+        &[u64::from(key.ipv4_src), u64::from(key.ipv4_dst)],
+    )
+    .wrapping_add(u64::from(key.ipv6_flabel))
+}
+
+#[inline]
+#[tactic(auto, unfolding(crate::specs::Digest::port_word_of))]
+fn port_word(key: &FieldKey) -> u64
+    ensures { result ≡ port_word_of key.now }
+{
+    beside(
+        0x1_0000,
+        &[
+            u64::from(key.tcp_src),
+            u64::from(key.tcp_dst),
+            u64::from(key.udp_src),
+            u64::from(key.udp_dst),
+        ],
+    )
+}
+
+#[inline]
+#[tactic(auto, unfolding(crate::specs::Digest::octet_word_of))]
+fn octet_word(key: &FieldKey) -> u64
+    ensures { result ≡ octet_word_of key.now }
+{
+    beside(
+        0x100,
+        &[
+            u64::from(key.icmpv4_type),
+            u64::from(key.icmpv4_code),
+            u64::from(key.icmpv6_type),
+            u64::from(key.icmpv6_code),
+            u64::from(key.vlan_pcp),
+            u64::from(key.ip_proto),
+            u64::from(key.ip_dscp),
+            u64::from(key.ip_ecn),
+        ],
+    )
+}
+
+#[inline]
+#[tactic(auto, unfolding(crate::specs::Digest::low_source_word_of))]
+fn low_source_word(key: &FieldKey) -> u64
+    ensures { result ≡ low_source_word_of key.now }
+{
+    low(key.ipv6_src).wrapping_add(beside(
+        0x1_0000_0000,
+        &[u64::from(key.arp_spa), u64::from(key.arp_tpa)],
+    ))
+}
+
+#[inline]
+#[tactic(auto, unfolding(crate::specs::Digest::high_source_word_of))]
+fn high_source_word(key: &FieldKey) -> u64
+    ensures { result ≡ high_source_word_of key.now }
+{
+    high(key.ipv6_src).wrapping_add(beside(0x1_0000, &[key.arp_sha, u64::from(key.arp_op)]))
+}
+
+#[inline]
+#[tactic(auto, unfolding(crate::specs::Digest::low_target_word_of))]
+fn low_target_word(key: &FieldKey) -> u64
+    ensures { result ≡ low_target_word_of key.now }
+{
+    low(key.ipv6_dst).wrapping_add(key.arp_tha)
+}
+
+#[inline]
+#[tactic(auto, unfolding(crate::specs::Digest::high_target_word_of))]
+fn high_target_word(key: &FieldKey) -> u64
+    ensures { result ≡ high_target_word_of key.now }
+{
+    high(key.ipv6_dst)
 }

@@ -1,4 +1,5 @@
 pub mod PlaceLemmas
+pub mod Replaced
 pub mod NumberLemmas
 pub mod AddLemmas
 pub mod CountLemmas

@@ -1,6 +1,6 @@
 //! Lists of entries.
 
-ghost use Rattle.std.specs.Prelude.{◌≡◌, ◌==◌, ◌&&◌, ◌<◌, ◌≤◌, ◌+◌, ◌++◌, ◌∷◌, [], ℕ, Some, None, true, IsTrue, map, position, length, vec_len, vec_capacity};
+ghost use Rattle.std.specs.Prelude.{◌≡◌, ◌==◌, ◌&&◌, ◌<◌, ◌≤◌, ◌+◌, ◌++◌, ◌∷◌, [], ℕ, drop, Some, None, true, IsTrue, map, position, length, vec_len, vec_capacity};
 ghost use Rattle.std.specs.List.{list_any};
 ghost use Rattle.of_wire.specs.Numbered.{is_used, is_distinct, renewed};
 ghost use Rattle.of_classifier.specs.Rows.{row_number};
@@ -16,6 +16,9 @@ use crate::flow::{Flow, FlowFlags};
 use crate::selection::Cause;
 use of_oxm::overlaps;
 
+/// So many replaced entries stay in any case.
+const FEW: usize = 16;
+
 /// Whether the flow asks to be checked, and an entry of its priority overlaps it.
 pub(crate) fn is_overlapped(entries: &[Entry], flow: &Flow) -> bool
     ensures { result ≡ overlapped flow.now (flows_of entries.now) }
@@ -27,14 +30,9 @@ pub(crate) fn is_overlapped(entries: &[Entry], flow: &Flow) -> bool
 fn has_rival(entries: &[Entry], flow: &Flow) -> bool
     ensures { result ≡ list_any (λ e. e.flow.priority == flow.now.priority && overlaps_match e.flow.fields flow.now.fields) entries.now }
 {
-    entries.iter().any(|entry| is_rival(&entry.flow, flow))
-}
-
-// Whether the two are of one priority and overlap.
-fn is_rival(old: &Flow, new: &Flow) -> bool
-    ensures { result ≡ (old.now.priority == new.now.priority && overlaps_match old.now.fields new.now.fields) }
-{
-    old.priority == new.priority && overlaps(&old.fields, &new.fields)
+    entries.iter().any(|entry| {
+        entry.flow.priority == flow.priority && overlaps(&entry.flow.fields, &flow.fields)
+    })
 }
 
 /// The entry of a flow that is added now. It keeps no flag that is for the adding alone.
@@ -65,9 +63,9 @@ pub(crate) fn unless_reset(reset: bool, counter: u64) -> u64
 }
 
 // The entry with another flow of its match and priority, which is added now.
-fn replaced_entry(entry: Entry, flow: Flow, now: u64) -> Entry
-    ensures number { result.number ≡ entry.number }
-    ensures entry { entry_of result ≡ with_flow now flow (Some (entry_of entry)) }
+fn replaced_entry(entry: &Entry, flow: Flow, now: u64) -> Entry
+    ensures number { result.number ≡ entry.now.number }
+    ensures entry { entry_of result ≡ with_flow now flow (Some (entry_of entry.now)) }
 {
     let reset = flow.flags.reset_counts;
     Entry {
@@ -78,7 +76,76 @@ fn replaced_entry(entry: Entry, flow: Flow, now: u64) -> Entry
 }
 
 /// The entry at that place gets the flow and comes last. Its number.
-pub(crate) fn move_last(entries: &mut Vec<Entry>, place: usize, flow: Flow, now: u64) -> usize
+///
+/// `replaced` entries stand before the others, which were replaced. The oldest entry becomes one of them, so
+/// that no other is moved; where another gets the flow, those behind it move up.
+pub(crate) fn put_last(
+    entries: &mut Vec<Entry>,
+    replaced: &mut usize,
+    place: usize,
+    flow: Flow,
+    now: u64,
+) -> usize
+    requires within { replaced.old ≤ length entries.old.items }
+    requires same { position (λ e. is_same flow (entry_of e)) (drop replaced.old entries.old.items) ≡ Some place }
+    requires unlike { are_unlike (map key_of (flows_of (drop replaced.old entries.old.items))) ≡ true }
+    requires distinct { IsTrue (is_distinct row_number (rows_of (drop replaced.old entries.old.items))) }
+    ensures used { IsTrue (is_used row_number result (rows_of (drop replaced.old entries.old.items))) }
+    ensures rows { rows_of (drop replaced.new entries.new.items) ≡ renewed row_number result (rows_of (drop replaced.old entries.old.items)) }
+    ensures named { IsNumberFor flow (drop replaced.old entries.old.items) result }
+    ensures entries { drop replaced.new entries.new.items ≡ added_entries result now flow (drop replaced.old entries.old.items) }
+    ensures within { replaced.new ≤ length entries.new.items }
+{
+    if *replaced > FEW && *replaced > entries.len() / 4 {
+        settle(entries, replaced);
+    } else {
+        let _ = entries.reserve(1);
+    }
+    if place == 0 && entries.len() < entries.capacity() {
+        let number = push_again(entries, *replaced, flow, now);
+        *replaced += 1;
+        number
+    } else {
+        settle(entries, replaced);
+        move_last(entries, place, flow, now)
+    }
+}
+
+/// Lets the replaced entries go.
+pub(crate) fn settle(entries: &mut Vec<Entry>, replaced: &mut usize)
+    requires { replaced.old ≤ length entries.old.items }
+    ensures entries { entries.new.items ≡ drop replaced.old entries.old.items }
+    ensures replaced { replaced.new ≡ 0 }
+{
+    if *replaced > 0 {
+        let left = entries.len() - *replaced;
+        entries.rotate_left(*replaced);
+        entries.truncate(left);
+        *replaced = 0;
+    }
+}
+
+// The oldest of the others gets the flow and comes last, where there is room. Its number.
+fn push_again(entries: &mut Vec<Entry>, replaced: usize, flow: Flow, now: u64) -> usize
+    requires within { replaced < length entries.old.items }
+    requires room { vec_len entries.old < vec_capacity entries.old }
+    requires same { position (λ e. is_same flow (entry_of e)) (drop replaced entries.old.items) ≡ Some 0 }
+    requires unlike { are_unlike (map key_of (flows_of (drop replaced entries.old.items))) ≡ true }
+    requires distinct { IsTrue (is_distinct row_number (rows_of (drop replaced entries.old.items))) }
+    ensures used { IsTrue (is_used row_number result (rows_of (drop replaced entries.old.items))) }
+    ensures rows { rows_of (drop (replaced + 1) entries.new.items) ≡ renewed row_number result (rows_of (drop replaced entries.old.items)) }
+    ensures named { IsNumberFor flow (drop replaced entries.old.items) result }
+    ensures entries { drop (replaced + 1) entries.new.items ≡ added_entries result now flow (drop replaced entries.old.items) }
+    ensures within { replaced + 1 ≤ length entries.new.items }
+{
+    let again = replaced_entry(&entries[replaced], flow, now);
+    let number = again.number;
+    push_reserved(entries, again);
+    number
+}
+
+// The entry at that place gets the flow and comes last; those behind it move up. Its number.
+fn move_last(entries: &mut Vec<Entry>, place: usize, flow: Flow, now: u64) -> usize
     requires same { position (λ e. is_same flow (entry_of e)) entries.old.items ≡ Some place }
     requires unlike { are_unlike (map key_of (flows_of entries.old.items)) ≡ true }
     requires distinct { IsTrue (is_distinct row_number (rows_of entries.old.items)) }
@@ -87,7 +154,8 @@ pub(crate) fn move_last(entries: &mut Vec<Entry>, place: usize, flow: Flow, now:
     ensures named { IsNumberFor flow entries.old.items result }
     ensures entries { entries.new.items ≡ added_entries result now flow entries.old.items }
 {
-    let entry = replaced_entry(entries.remove(place), flow, now);
+    let old = entries.remove(place);
+    let entry = replaced_entry(&old, flow, now);
     let number = entry.number;
     push_reserved(entries, entry);
     number
@@ -106,17 +174,24 @@ pub(crate) fn push_reserved(entries: &mut Vec<Entry>, entry: Entry)
     }
 }
 
-/// The entry at that place counts a packet of so many bytes, now.
+/// The entry at that place behind the replaced ones counts a packet of so many bytes, now.
 ///
 /// Before the moment that is answered its time is not over.
-pub(crate) fn count_at(entries: &mut Vec<Entry>, place: usize, bytes: usize, now: u64) -> u64
-    requires { place < length entries.old.items }
-    ensures due { (at : ℕ) → at < result → all_stay (Cause.Moment at) entries.old.items ≡ true → all_stay (Cause.Moment at) entries.new.items ≡ true }
-    ensures flows { flows_of entries.new.items ≡ counted_at now place bytes (flows_of entries.old.items) }
-    ensures numbers { numbers_of entries.new.items ≡ numbers_of entries.old.items }
-    ensures rows { rows_of entries.new.items ≡ rows_of entries.old.items }
+pub(crate) fn count_at(
+    entries: &mut Vec<Entry>,
+    replaced: usize,
+    place: usize,
+    bytes: usize,
+    now: u64,
+) -> u64
+    requires { replaced + place < length entries.old.items }
+    ensures due { (at : ℕ) → at < result → all_stay (Cause.Moment at) (drop replaced entries.old.items) ≡ true → all_stay (Cause.Moment at) (drop replaced entries.new.items) ≡ true }
+    ensures flows { flows_of (drop replaced entries.new.items) ≡ counted_at now place bytes (flows_of (drop replaced entries.old.items)) }
+    ensures numbers { numbers_of (drop replaced entries.new.items) ≡ numbers_of (drop replaced entries.old.items) }
+    ensures rows { rows_of (drop replaced entries.new.items) ≡ rows_of (drop replaced entries.old.items) }
+    ensures length { length entries.new.items ≡ length entries.old.items }
 {
-    let entry = &mut entries[place];
+    let entry = &mut entries[replaced + place];
     let flags = entry.flow.flags;
     entry.packets = risen(flags.no_packet_counts, entry.packets, 1);
     entry.bytes = risen(flags.no_byte_counts, entry.bytes, bytes as u64);

@@ -16,7 +16,7 @@ ghost use Rattle.of_actions.specs.FlowCheck.{all_go_with};
 
 use crate::copies::Copies;
 use crate::deadlines::{earliest, flow_deadline};
-use crate::entries::{count_at, is_overlapped, move_last, new_entry, push_reserved};
+use crate::entries::{count_at, is_overlapped, new_entry, push_reserved, put_last, settle};
 use crate::entry::Entry;
 use crate::flow::Flow;
 use crate::modifying::modify_all;
@@ -38,7 +38,9 @@ const MOST_ENTRIES: usize = 4096;
 #[derive(Drop)]
 pub struct FlowTable<L: Lookup> {
     lookup: L,
+    /// Its entries behind some that were replaced.
     entries: Vec<Entry>,
+    replaced: usize,
     /// By the numbers of the entries, where they stood when that was noted last.
     places: Vec<usize>,
     /// Before this moment no entry's time is over.
@@ -48,15 +50,15 @@ pub struct FlowTable<L: Lookup> {
 }
 
 impl<L: Lookup> Model for FlowTable<L> {
-    ghost use Rattle.std.specs.Prelude.{◌≡◌};
+    ghost use Rattle.std.specs.Prelude.{◌≡◌, ◌≤◌, drop, length};
     ghost use Rattle.of_table.specs.Entries.{Numbered, rows_of};
     ghost use Rattle.of_table.specs.Deadlines.{NoneOver};
 
     ghost Value = { Numbered };
 
-    ghost view = { λ t. record { lookups = t.lookups; matched = t.matched; entries = t.entries.items } };
+    ghost view = { λ t. record { lookups = t.lookups; matched = t.matched; entries = drop t.replaced t.entries.items } };
 
-    ghost invariant = { λ t. (L.content t.lookup ≡ rows_of t.entries.items) × NoneOver t.due t.entries.items };
+    ghost invariant = { λ t. (L.content t.lookup ≡ rows_of (drop t.replaced t.entries.items)) × NoneOver t.due (drop t.replaced t.entries.items) × (t.replaced ≤ length t.entries.items) };
 }
 
 impl<L: Lookup> FlowTable<L> {
@@ -67,6 +69,7 @@ impl<L: Lookup> FlowTable<L> {
         Ok(FlowTable {
             lookup: L::empty(alloc)?,
             entries: Vec::new(alloc),
+            replaced: 0,
             places: Vec::new(alloc),
             due: u64::MAX,
             lookups: 0,
@@ -85,7 +88,7 @@ impl<L: Lookup> FlowTable<L> {
         ensures ok { OnOk result (AddsEntry now flow self.old self.new) }
         ensures err { OnErr result (self.new ≡ self.old) }
     {
-        if is_overlapped(&self.entries, &flow) {
+        if is_overlapped(self.entries(), &flow) {
             return Err(TableFault::Overlap);
         }
         match self.same_place(&flow) {
@@ -95,7 +98,7 @@ impl<L: Lookup> FlowTable<L> {
             }
             None => {}
         }
-        if self.entries.len() >= MOST_ENTRIES {
+        if self.entries().len() >= MOST_ENTRIES {
             return Err(TableFault::Full);
         }
         match self.append(flow, now) {
@@ -112,9 +115,17 @@ impl<L: Lookup> FlowTable<L> {
     {
         self.lookup.known();
         let due = self.due.min(flow_deadline(&flow, now));
-        let number = move_last(&mut self.entries, place, flow, now);
+        let before = self.replaced;
+        let number = put_last(&mut self.entries, &mut self.replaced, place, flow, now);
         self.lookup.renew(number);
-        note_places(&mut self.places, &self.entries, place);
+        let from = if self.replaced > before {
+            self.entries.len().saturating_sub(1)
+        } else if before == 0 {
+            place
+        } else {
+            0
+        };
+        note_places(&mut self.places, &self.entries, from);
         self.due = due;
     }
 
@@ -134,7 +145,7 @@ impl<L: Lookup> FlowTable<L> {
         ensures { result ≡ position (λ e. e.number == number) self.now.entries }
     {
         self.known();
-        place_in(&self.entries, &self.places, number)
+        place_in(self.entries(), self.replaced, &self.places, number)
     }
 
     // A new entry.
@@ -163,6 +174,8 @@ impl<L: Lookup> FlowTable<L> {
         ensures copies { copies.new ≡ record copies.old { count = copies.old.count - wanted which.now self.old.entries } }
         ensures sound { (k : ℕ) → are_fit k copies.old.instructions ≡ true → all_go_with which.now.fields copies.old.instructions ≡ true → AreSound k (flows_of self.old.entries) → AreSound k (flows_of self.new.entries) }
     {
+        settle(&mut self.entries, &mut self.replaced);
+        note_places(&mut self.places, &self.entries, 0);
         modify_all(&mut self.entries, which, copies, reset);
     }
 
@@ -180,7 +193,7 @@ impl<L: Lookup> FlowTable<L> {
         if self.is_early(cause) {
             return Ok(());
         }
-        list_gone(&self.entries, table, cause, removed)
+        list_gone(self.entries(), table, cause, removed)
     }
 
     // Whether it is a moment at which no entry's time is over yet.
@@ -200,6 +213,7 @@ impl<L: Lookup> FlowTable<L> {
         if self.is_early(cause) {
             return;
         }
+        settle(&mut self.entries, &mut self.replaced);
         take_gone(&mut self.lookup, &self.entries, cause);
         keep_staying(&mut self.entries, cause);
         note_places(&mut self.places, &self.entries, 0);
@@ -244,7 +258,7 @@ impl<L: Lookup> FlowTable<L> {
         self.matched = self.matched.wrapping_add(1);
         match place {
             Some(place) => {
-                let due = count_at(&mut self.entries, place, bytes, now);
+                let due = count_at(&mut self.entries, self.replaced, place, bytes, now);
                 self.due = self.due.min(due);
             }
             None => return,
@@ -267,7 +281,7 @@ impl<L: Lookup> FlowTable<L> {
         ensures { option_copied result ≡ find_number number self.now.entries }
     {
         match self.place(number) {
-            Some(place) => Some(&self.entries[place]),
+            Some(place) => Some(&self.entries()[place]),
             None => None,
         }
     }
@@ -276,7 +290,7 @@ impl<L: Lookup> FlowTable<L> {
     pub fn entries(&self) -> &[Entry]
         ensures { result.now ≡ self.now.entries }
     {
-        self.entries.as_slice()
+        &self.entries[self.replaced..]
     }
 
     /// How many packets were looked up. It wraps.

@@ -8,23 +8,24 @@ use crate::entry::Entry;
 
 /// The place of the entry of that number, if it is there.
 ///
-/// `places` tells by the number where an entry stood when that was last noted; one that moved since then is looked for.
-pub(crate) fn place_of(entries: &[Entry], places: &[usize], number: usize) -> Option<usize>
+/// `places` tells by the number where an entry stood when that was last noted, behind so many others; one
+/// that moved since then is looked for.
+pub(crate) fn place_of(
+    entries: &[Entry],
+    behind: usize,
+    places: &[usize],
+    number: usize,
+) -> Option<usize>
     requires { IsTrue (is_distinct entry_number entries.now) }
     ensures { result ≡ position (λ e. e.number == number) entries.now }
 {
-    if number < places.len() && stands_at(entries, places[number], number) {
-        Some(places[number])
-    } else {
-        entries.iter().position(|entry| entry.number == number)
+    if number < places.len() {
+        let place = places[number].wrapping_sub(behind);
+        if place < entries.len() && entries[place].number == number {
+            return Some(place);
+        }
     }
-}
-
-fn stands_at(entries: &[Entry], place: usize, number: usize) -> bool
-    requires { IsTrue (is_distinct entry_number entries.now) }
-    ensures { result ≡ true → position (λ e. e.number == number) entries.now ≡ Some place }
-{
-    place < entries.len() && entries[place].number == number
+    entries.iter().position(|entry| entry.number == number)
 }
 
 /// Notes where the entries from that place on stand. One for which there is no memory has to be looked for.

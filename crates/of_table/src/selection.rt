@@ -3,7 +3,7 @@
 ghost use Rattle.std.specs.Prelude.{◌≡◌};
 ghost use Rattle.of_table.specs.Entries.{entry_of};
 ghost use Rattle.std.specs.List.{list_any};
-ghost use Rattle.of_table.specs.Selecting.{is_meant as meant, has_cookie as with_cookie, leads_to as leading_to, passes_port as passing_port, has_action as with_action, names_group as naming, passes_group as passing_group, modifies as modified_by_it, selects as selected, is_over as over, timeout_reason as reason_at, reason_of};
+ghost use Rattle.of_table.specs.Selecting.{has_cookie as with_cookie, leads_to as leading_to, passes_port as passing_port, has_action as with_action, names_group as naming, passes_group as passing_group, modifies as modified_by_it, selects as selected, is_over as over, timeout_reason as reason_at, reason_of};
 
 use crate::entry::Entry;
 use of_actions::{Action, Instruction};
@@ -56,18 +56,6 @@ pub struct Removed<'a> {
     pub table: u8,
     pub reason: RemovedReason,
     pub entry: &'a Entry,
-}
-
-// Whether the match, and the priority of a strict command, are for the entry.
-fn is_meant(which: &Which, entry: &Entry) -> bool
-    ensures { result ≡ meant which.now (entry_of entry.now) }
-{
-    match which.priority {
-        None => covers(&which.fields, &entry.flow.fields),
-        Some(priority) => {
-            entry.flow.priority == priority && entry.flow.fields.equals(&which.fields)
-        }
-    }
 }
 
 fn has_cookie(which: &Which, entry: &Entry) -> bool
@@ -149,7 +137,13 @@ fn passes_group(which: &Which, entry: &Entry) -> bool
 pub(crate) fn modifies(which: &Which, entry: &Entry) -> bool
     ensures { result ≡ modified_by_it which.now (entry_of entry.now) }
 {
-    is_meant(which, entry) && has_cookie(which, entry)
+    let meant = match which.priority {
+        None => covers(&which.fields, &entry.flow.fields),
+        Some(priority) => {
+            entry.flow.priority == priority && entry.flow.fields.equals(&which.fields)
+        }
+    };
+    meant && has_cookie(which, entry)
 }
 
 /// Whether a DELETE, or a request for statistics, is for the entry: its match, or match and priority of a strict one, its cookie, and what its actions send to (OpenFlow 1.3.5, 6.4).

@@ -1,21 +1,35 @@
-use Rattle.std.proofs.Common.{ap}
+use Rattle.std.proofs.Common.{◌≡◌, ◌<◌, ◌-◌, ◌∙◌, length, drop, arith, ap}
 use Rattle.std.proofs.Math.Seq.{map-set_same}
+use Rattle.std.proofs.lemmas.List.{drop-set-add, length-drop}
 use Rattle.of_table.proofs.CountLemmas.{counted-set}
 use Rattle.of_table.proofs.DeadlineLemmas.{set_stay}
+use Rattle.of_table.proofs.Replaced.{at_behind}
+use Rattle.of_table.specs.declared.selection.Cause.TheVariants.{Moment}
 use Rattle.of_table.specs.Table.{counted}
-use Rattle.of_table.specs.Entries.{entry_of, row_of, entry_number}
+use Rattle.of_table.specs.Deadlines.{all_stay}
+use Rattle.of_table.specs.Entries.{entry_of, flows_of, rows_of, numbers_of, row_of, entry_number}
 use Rattle.of_table.specs.declared.entry.Entry.{Entry}
 use Rattle.of_table.proofs.entries.count_at.Goals as goal
 
 pub returns-clause-flows : goal.returns-clause-flows
 returns-clause-flows c =
-    rw (c.risen-entry.ensures, c.risen-entry-2.ensures) (counted-set c.args.now c.args.bytes c.args.entries.now.items c.args.place _ c.index_mut-entry.result.now c.requires (ap (λ (e : Entry). counted c.args.now c.args.bytes (entry_of e)) c.index_mut-entry.ensures.value))
+    let xs = c.args.entries.now.items in
+    let r = c.args.replaced in
+    let long : length (drop r xs) ≡ length xs - r = length-drop r xs in
+    let within : c.args.place < length (drop r xs) = omega (arith, long, c.requires) in
+    let there = at_behind xs r c.args.place c.index_mut-entry.result.now c.index_mut-entry.ensures.value in
+    rw (c.risen-entry.ensures, c.risen-entry-2.ensures)
+    (ap flows_of (drop-set-add r xs c.args.place _) ∙ counted-set c.args.now c.args.bytes (drop r xs) c.args.place _ c.index_mut-entry.result.now within (ap (λ (e : Entry). counted c.args.now c.args.bytes (entry_of e)) there))
 
 pub returns-clause-numbers : goal.returns-clause-numbers
-returns-clause-numbers c = map-set_same entry_number c.args.entries.now.items c.args.place _ c.index_mut-entry.result.now (ap entry_number c.index_mut-entry.ensures.value)
+returns-clause-numbers c =
+    let there = at_behind c.args.entries.now.items c.args.replaced c.args.place c.index_mut-entry.result.now c.index_mut-entry.ensures.value in
+    ap numbers_of (drop-set-add c.args.replaced c.args.entries.now.items c.args.place _) ∙ map-set_same entry_number (drop c.args.replaced c.args.entries.now.items) c.args.place _ c.index_mut-entry.result.now (ap entry_number there)
 
 pub returns-clause-rows : goal.returns-clause-rows
-returns-clause-rows c = map-set_same row_of c.args.entries.now.items c.args.place _ c.index_mut-entry.result.now (ap row_of c.index_mut-entry.ensures.value)
+returns-clause-rows c =
+    let there = at_behind c.args.entries.now.items c.args.replaced c.args.place c.index_mut-entry.result.now c.index_mut-entry.ensures.value in
+    ap rows_of (drop-set-add c.args.replaced c.args.entries.now.items c.args.place _) ∙ map-set_same row_of (drop c.args.replaced c.args.entries.now.items) c.args.place _ c.index_mut-entry.result.now (ap row_of there)
 
 pub returns-clause-due : goal.returns-clause-due
-returns-clause-due c = λ at lt was. set_stay at c.args.entries.now.items c.args.place _ was (c.entry_deadline.ensures at lt)
+returns-clause-due c = λ at lt was. ap (all_stay (Moment at)) (drop-set-add c.args.replaced c.args.entries.now.items c.args.place _) ∙ set_stay at (drop c.args.replaced c.args.entries.now.items) c.args.place _ was (c.entry_deadline.ensures at lt)

@@ -12,22 +12,22 @@ pub returns-clause-used : goal.returns-clause-used
 returns-clause-used c =
     let es = c.args.entries.now.items in
     let s = position_some (λ x. is_same c.args.flow (entry_of x)) es c.args.place c.requires.same in
-    rw c.replaced_entry-entry.ensures.number (used_again es c.args.place c.remove.result s.1 c.remove.ensures.value)
+    rw c.replaced_entry-entry.ensures.number (used_again es c.args.place c.remove-old.result s.1 c.remove-old.ensures.value)
 
 pub returns-clause-rows : goal.returns-clause-rows
 returns-clause-rows c =
     let es = c.args.entries.now.items in
-    let e = c.remove.result in
+    let e = c.remove-old.result in
     let f = c.replaced_entry-entry.result in
     let s = position_some (λ x. is_same c.args.flow (entry_of x)) es c.args.place c.requires.same in
-    let same = row_again c.args.flow es c.args.place e f c.requires.same c.remove.ensures.value c.replaced_entry-entry.ensures.number (flow_is c.args.now c.args.flow f (entry_of e) c.replaced_entry-entry.ensures.entry) in
-    rw (c.push_reserved.ensures.items, c.remove.ensures.items) (rows_again es c.args.place e f c.requires.distinct s.1 c.remove.ensures.value same ∙ ap (λ (n : ℕ). renewed row_number n (rows_of es)) (sym c.replaced_entry-entry.ensures.number))
+    let same = row_again c.args.flow es c.args.place e f c.requires.same c.remove-old.ensures.value c.replaced_entry-entry.ensures.number (flow_is c.args.now c.args.flow f (entry_of e) c.replaced_entry-entry.ensures.entry) in
+    rw (c.push_reserved.ensures.items, c.remove-old.ensures.items) (rows_again es c.args.place e f c.requires.distinct s.1 c.remove-old.ensures.value same ∙ ap (λ (n : ℕ). renewed row_number n (rows_of es)) (sym c.replaced_entry-entry.ensures.number))
 
 pub returns-clause-named : goal.returns-clause-named
-returns-clause-named c = same_number c.args.flow c.args.entries.now.items c.args.place c.remove.result c.replaced_entry-entry.result.number c.requires.same c.remove.ensures.value c.replaced_entry-entry.ensures.number
+returns-clause-named c = same_number c.args.flow c.args.entries.now.items c.args.place c.remove-old.result c.replaced_entry-entry.result.number c.requires.same c.remove-old.ensures.value c.replaced_entry-entry.ensures.number
 
 pub returns-clause-entries : goal.returns-clause-entries
 returns-clause-entries c =
     let es = c.args.entries.now.items in
-    rw (c.push_reserved.ensures.items, c.remove.ensures.items)
-    (added_again c.args.now c.args.flow es c.args.place c.remove.result c.replaced_entry-entry.result c.requires.same c.remove.ensures.value (others_left c.args.flow es c.args.place c.requires.unlike c.requires.same) c.replaced_entry-entry.ensures.entry)
+    rw (c.push_reserved.ensures.items, c.remove-old.ensures.items)
+    (added_again c.args.now c.args.flow es c.args.place c.remove-old.result c.replaced_entry-entry.result c.requires.same c.remove-old.ensures.value (others_left c.args.flow es c.args.place c.requires.unlike c.requires.same) c.replaced_entry-entry.ensures.entry)

@@ -20,8 +20,8 @@ loop-group-preserved c =
     let s = c.self.inside.entries in
     let gs = c.deref-group-items.result.now in
     let a : AreGrouped s gs = subst (λ (xs : List Group). AreGrouped s xs) (sym c.deref-group-items.ensures.value) c.self.invariant.1 in
-    one_more_group s gs (value c.args.key.now) c.loop-group.group-index c.group-item.result c.loop-group.best c.best_among-best.result c.loop-group.probes c.probe-numbers.new.probes c.masked-masked.result a c.loop-group-test.true c.group-item.is
-    (sym c.is_above.ensures ∙ c.if-is_above.false) c.masked-masked.ensures
+    one_more_group s gs (value c.args.key.now) c.loop-group.group-index c.group-item.result c.loop-group.best c.best_among-best.result c.loop-group.probes c.probe-numbers.new.probes c.masked.result a c.loop-group-test.true c.group-item.is
+    (sym c.is_above.ensures ∙ c.if-is_above.false) c.masked.ensures
     (subst (λ (ns : List ℕ). IsBestOf s c.loop-group.best ns c.best_among-best.result) c.probe-numbers.ensures.numbers c.best_among-best.ensures)
     c.probe-numbers.ensures.counted c.loop-group.invariant
 

@@ -1,4 +1,4 @@
-use Rattle.std.proofs.Common.{◌≡◌, ℕ, List, sym, ap, ◌∙◌, ◌%◌, ◌^◌, ◌+◌}
+use Rattle.std.proofs.Common.{drop, ◌≡◌, ℕ, List, sym, ap, ◌∙◌, ◌%◌, ◌^◌, ◌+◌}
 use Rattle.of_table.specs.Table.{FlowEntry, counted_at}
 use Rattle.of_table.specs.Entries.{flows_of, place_of}
 use Rattle.of_table.proofs.NumberLemmas.{number_some, number_none}
@@ -7,13 +7,13 @@ use Rattle.of_table.proofs.flow_table.FlowTable.count.Goals as goal
 
 pub returns-in-None-clause-table : goal.returns-in-None-clause-table
 returns-in-None-clause-table g c =
-    let es = c.self.inside.entries.items in
+    let es = drop c.self.inside.replaced c.self.inside.entries.items in
     let same : flows_of es ≡ counted_at c.args.now (place_of c.args.number es) c.args.bytes (flows_of es) = counted_none c.args.now c.args.number c.args.bytes es (number_none c.args.number es (rw (← c.self.view_is) at (sym c.in-None.ensures))) in
     rw (← c.self.view_is) (ap (λ (flows : List FlowEntry). record { lookups = c.self.inside.lookups; matched = (c.self.inside.matched + 1) % 2 ^ 64; flows = flows }) same)
 
 pub returns-clause-table : goal.returns-clause-table
 returns-clause-table g c =
-    let es = c.self.inside.entries.items in
+    let es = drop c.self.inside.replaced c.self.inside.entries.items in
     let s = number_some c.args.number es c.in-Some.place (rw (← c.self.view_is) at (sym c.in-Some.ensures)) in
-    let counts : flows_of c.count_at-due.new.entries.items ≡ counted_at c.args.now (place_of c.args.number es) c.args.bytes (flows_of es) = c.count_at-due.ensures.flows ∙ ap (λ (k : ℕ). counted_at c.args.now k c.args.bytes (flows_of es)) s.0 in
+    let counts : flows_of (drop c.self.inside.replaced c.count_at-due.new.entries.items) ≡ counted_at c.args.now (place_of c.args.number es) c.args.bytes (flows_of es) = c.count_at-due.ensures.flows ∙ ap (λ (k : ℕ). counted_at c.args.now k c.args.bytes (flows_of es)) s.0 in
     rw (← c.self.view_is) (ap (λ (flows : List FlowEntry). record { lookups = c.self.inside.lookups; matched = (c.self.inside.matched + 1) % 2 ^ 64; flows = flows }) counts)
