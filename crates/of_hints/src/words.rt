@@ -2,6 +2,7 @@
 
 use crate::forms::{Form, Word};
 use of_layers::Field;
+use of_text::name;
 use thiserror::Error;
 
 /// What is wrong with the words of a line. Words count from 1.
@@ -29,10 +30,6 @@ pub enum WordFault {
     Hex { place: usize, digits: usize },
     #[error("word {0}: unknown field; fields are in_port, metadata, eth_dst, eth_src, eth_type, vlan_vid, vlan_pcp, ip_dscp, ip_ecn, ip_proto, ipv4_src, ipv4_dst, tcp_src, tcp_dst, udp_src, udp_dst, icmpv4_type, icmpv4_code, arp_op, arp_spa, arp_tpa, arp_sha, arp_tha, ipv6_src, ipv6_dst, ipv6_flabel, icmpv6_type, icmpv6_code")]
     Field(usize),
-}
-
-fn name(_field: Field) -> &'static [u8] {
-    b"in_port"
 }
 
 fn is(word: &[u8], wanted: &[u8]) -> bool {

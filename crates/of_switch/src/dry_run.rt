@@ -2,7 +2,7 @@
 ghost use Rattle.std.specs.Prelude.{◌≡◌, ◌<◌, ◌≤◌, ◌++◌, ◌∷◌, [], true, IfOk, OnOk, OnErr, length, slice_get};
 ghost use Rattle.std.specs.Option.{option_copied, option_map};
 ghost use Rattle.of_headers.specs.FieldMap.{value};
-ghost use Rattle.of_table.specs.Entries.{entry_of, place_of as place_of_number};
+ghost use Rattle.of_table.specs.Entries.{entry_of, flows_of, place_of as place_of_number};
 ghost use Rattle.of_table.specs.Tables.{table_at, tables_of};
 ghost use Rattle.of_switch.specs.Numbers.{Contents, contents, forwarding_of};
 ghost use Rattle.of_switch.specs.Plane.{framed, winner_in, world_of};
@@ -126,6 +126,23 @@ impl<L: Lookup> Plane<L> {
         ensures { option_map (λ e. entry_of e.now) result ≡ slice_get (table_at table (tables_of self.now.tables)).flows place }
     {
         entry_at(self.tables.entries(table), place)
+    }
+
+    /// The entries of a table, oldest first.
+    pub fn entries(&self, table: u8) -> Entries<'_>
+        requires { table < 16 }
+        ensures flows { flows_of result ≡ (table_at table (tables_of self.now.tables)).flows }
+        ensures few { length result ≤ 4096 }
+    {
+        self.tables.known();
+        self.tables.entries(table)
+    }
+
+    /// The places of the buckets of a group that run; None where there is no such group (OpenFlow 1.3.5, 5.6.1).
+    pub fn buckets_for(&self, group: u32) -> Option<Chosen>
+        ensures { result ≡ (world_of (forwarding_of self.now.tables self.now.groups self.now.ports)).chosen group }
+    {
+        self.groups.buckets_for(group, &self.ports)
     }
 
     /// What a frame that comes in by a port would give, and its steps (OpenFlow 1.3.5, 5.1), where the controller is told this.

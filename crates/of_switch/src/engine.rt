@@ -1,5 +1,5 @@
 //! What messages, frames and moments do, whatever the connection.
-ghost use Rattle.std.specs.Prelude.{◌≡◌, ◌<◌, ◌∷◌, ◌++◌, [], true, false, IfOk, OnOk, OnErr, length, map};
+ghost use Rattle.std.specs.Prelude.{◌≡◌, ◌<◌, ◌≤◌, ◌∷◌, ◌++◌, [], true, false, IfOk, OnOk, OnErr, length, map};
 ghost use Rattle.of_wire.specs.Refusals.{first_of};
 ghost use Rattle.of_switch.specs.State.{new_core};
 ghost use Rattle.of_ports.specs.Ports.{has_port, new_port, port_at};
@@ -7,7 +7,7 @@ ghost use Rattle.of_switch.specs.PortMods.{port_mod_refusals};
 ghost use Rattle.of_headers.specs.FieldMap.{value};
 ghost use Rattle.std.specs.Prelude.{slice_get};
 ghost use Rattle.std.specs.Option.{option_map};
-ghost use Rattle.of_table.specs.Entries.{entry_of};
+ghost use Rattle.of_table.specs.Entries.{entry_of, flows_of};
 ghost use Rattle.of_table.specs.Tables.{modified_in, left_in, notices_in, table_at};
 ghost use Rattle.of_actions.specs.FlowCheck.{all_go_with};
 ghost use Rattle.of_actions.specs.InstructionLists.{are_for};
@@ -35,7 +35,7 @@ use crate::port_status::{write_change, write_status};
 use crate::statistics::{answers, asked_by, asks_absent_port};
 use of_actions::InstructionList;
 use of_classifier::Lookup;
-use of_groups::{Buckets, GroupFault, GroupKind};
+use of_groups::{Buckets, Chosen, GroupFault, GroupKind};
 use of_headers::FieldKey;
 use of_machine::StepLog;
 use of_messages::{
@@ -50,7 +50,7 @@ use of_statistics::{
     aggregate_reply, description_reply, flow_replies, group_description_replies,
     group_features_reply, group_replies, port_description_reply, port_stats_reply, table_reply,
 };
-use of_table::{Cause, Entry, TableFault};
+use of_table::{Cause, Entries, Entry, TableFault};
 use of_text::Config;
 use of_wire::Code;
 use std::alloc::{AllocError, Global};
@@ -273,6 +273,29 @@ impl<L: Lookup> Engine<L> {
         ensures { option_map (λ e. entry_of e.now) result ≡ slice_get (table_at table self.now.forwarding.tables).flows place }
     {
         self.plane.entry(table, place)
+    }
+
+    /// The entries of a table, oldest first.
+    pub fn entries(&self, table: u8) -> Entries<'_>
+        requires { table < 16 }
+        ensures flows { flows_of result ≡ (table_at table self.now.forwarding.tables).flows }
+        ensures few { length result ≤ 4096 }
+    {
+        self.plane.entries(table)
+    }
+
+    /// The places of the buckets of a group that run; None where there is no such group.
+    pub fn buckets_for(&self, group: u32) -> Option<Chosen>
+        ensures { result ≡ (world_of self.now.forwarding).chosen group }
+    {
+        self.plane.buckets_for(group)
+    }
+
+    /// The ports, by rising number.
+    pub fn ports(&self) -> &[Port]
+        ensures { result.now ≡ self.now.forwarding.ports }
+    {
+        self.plane.ports.as_slice()
     }
 
     /// Does a message of that transaction id, unless it is refused.

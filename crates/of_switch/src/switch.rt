@@ -10,7 +10,7 @@ ghost use Rattle.of_headers.specs.FieldMap.{value};
 ghost use Rattle.std.specs.Prelude.{slice_get};
 ghost use Rattle.of_machine.specs.Sound.{IsSound as IsSoundWorld};
 ghost use Rattle.of_switch.specs.Plane.{winner_in, world_of};
-ghost use Rattle.of_table.specs.Entries.{entry_of};
+ghost use Rattle.of_table.specs.Entries.{entry_of, flows_of};
 ghost use Rattle.of_table.specs.Tables.{table_at};
 ghost use Rattle.of_switch.specs.Steps.{came, closing as closing_with, connected, does, failed_of, fed, frame_in, heard_of, lost as lost_from, moment_in, gives, next_of, port_changed, refused as refused_by};
 ghost use Rattle.of_switch.specs.Calls.{Call, absent_refusal, connect_refusal, feed_refusal, new_refusal, port_refusal};
@@ -26,12 +26,13 @@ use crate::port_change::PortChange;
 use crate::switch_error::SwitchError;
 use of_actions::is_number;
 use of_classifier::Lookup;
+use of_groups::Chosen;
 use of_headers::FieldKey;
 use of_machine::StepLog;
 use of_messages::{MessageBytes, write_error, write_hello};
-use of_ports::MOST_PORTS;
+use of_ports::{MOST_PORTS, Port};
 use of_session::{Next, Phase, Session};
-use of_table::Entry;
+use of_table::{Entries, Entry};
 use of_text::Config;
 use of_wire::Code;
 use std::alloc::{AllocError, Global};
@@ -234,6 +235,30 @@ impl<L: Lookup> Switch<L> {
         ensures { option_map (λ e. entry_of e.now) result ≡ slice_get (table_at table self.now.core.forwarding.tables).flows place }
     {
         self.engine.entry(table, place)
+    }
+
+    /// The entries of a table, oldest first (OpenFlow 1.3.5, 5.2).
+    pub fn entries(&self, table: u8) -> Entries<'_>
+        requires { table < 16 }
+        ensures flows { flows_of result ≡ (table_at table self.now.core.forwarding.tables).flows }
+        ensures few { length result ≤ 4096 }
+    {
+        self.engine.entries(table)
+    }
+
+    /// The places of the buckets of a group that run, as its ports and groups are now; None where there is no such group
+    /// (OpenFlow 1.3.5, 5.6.1).
+    pub fn buckets_for(&self, group: u32) -> Option<Chosen>
+        ensures { result ≡ (world_of self.now.core.forwarding).chosen group }
+    {
+        self.engine.buckets_for(group)
+    }
+
+    /// The ports, by rising number (OpenFlow 1.3.5, 7.2.1).
+    pub fn ports(&self) -> &[Port]
+        ensures { result.now ≡ self.now.core.forwarding.ports }
+    {
+        self.engine.ports()
     }
 
     /// It is so many nanoseconds, or the latest moment if that is later: entries whose time is over go (OpenFlow 1.3.5, 5.5).

@@ -32,7 +32,7 @@ traced_switch config = loaded config (run (ports_up 64) (start 1)).state
 
 -- the text of the trace, in one of its forms
 abbrev pub trace_of : Form → ℕ → List ℕ → Configuration → List ℕ
-trace_of form port frame config = let s = traced_switch config in said form s.core.forwarding (steps_in port frame s.core.forwarding) (frame_in port frame s).effects
+trace_of form port frame config = let s = traced_switch config in said form s.core.forwarding port frame (steps_in port frame s.core.forwarding) (frame_in port frame s).effects
 
 -- how such a run ends, by the bytes that were read: the trace was written, a prefix of it, or nothing
 abbrev pub EndsTracing : Form → ℕ → List ℕ → Ended → Bool → List ℕ → Option (List ℕ) → Option (List ℕ) → Type 0

@@ -1,24 +1,56 @@
 -- A TRACE FOR PEOPLE: below a line stand notes, each behind four spaces. Without them it is the text of the trace.
-use Rattle.std.specs.Prelude.{ℕ, ◌+◌, Bool, nat_lt, List, [], ◌++◌, Option, Some, None, codes, if◌then◌else◌}
-use Rattle.std.specs.List.{flat_map}
+use Rattle.std.specs.Prelude.{ℕ, ◌+◌, ◌==◌, ◌&&◌, ◌||◌, Bool, true, false, nat_lt, bit_and, List, [], ◌∷◌, ◌++◌, Option, Some, None, codes, decimal, suc, if◌then◌else◌}
+use Rattle.std.specs.List.{flat_map, list_any}
+use Rattle.of_layers.specs.declared.field.Field.{Field}
+use Rattle.of_layers.specs.declared.field.TheConstants.Field as constants
+use Rattle.of_layers.specs.Fields.{number_of, ones_of}
+use Rattle.of_headers.specs.declared.headers.FrameFault.{FrameFault}
+use Rattle.of_headers.specs.Faults.{frame_fault}
+use Rattle.of_actions.specs.PortNumbers.{in_port, table as to_tables, flood, all, controller}
+use Rattle.of_actions.specs.declared.action.Action.{Action}
+use Rattle.of_actions.specs.declared.action.Action.TheVariants.{Output, PushVlan, PopVlan, Group, SetNwTtl, DecNwTtl, SetField}
+use Rattle.of_ports.specs.declared.port.Port.{Port}
+use Rattle.of_ports.specs.Ports.{is_live, may_send, port_at}
 use Rattle.of_table.specs.declared.flow.Flow.{Flow}
 use Rattle.of_table.specs.declared.flow.FlowFlags.{FlowFlags}
+use Rattle.of_table.specs.Table.{FlowEntry}
+use Rattle.of_table.specs.Tables.{table_at}
 use Rattle.of_machine.specs.declared.data.Step.{Step}
 use Rattle.of_machine.specs.declared.data.Step.TheVariants.{Miss, Entry, Apply, Clear, Write, Metadata, Goto, Set, Act, TtlExpired, End}
 use Rattle.of_oxm.specs.declared.match_field.MatchField.{MatchField}
 use Rattle.of_text.specs.Lines.{ended}
 use Rattle.of_text.specs.declared.row.FlowHead.{FlowHead}
-use Rattle.of_text.specs.Rows.{spelling}
+use Rattle.of_text.specs.Names.{name_of}
+use Rattle.of_text.specs.Rows.{spelling, value_word}
 use Rattle.of_text.specs.declared.row.Row.TheVariants as rows
 use Rattle.of_switch.specs.declared.effect.Effect.{Effect}
-use Rattle.of_switch.specs.Plane.{Forwarding, flow_in}
+use Rattle.of_switch.specs.Plane.{Forwarding, flow_in, world_of}
 use Rattle.of_replay.specs.Output.{text_of}
+use Rattle.of_trace.specs.declared.form.Asked.{Asked}
+use Rattle.of_trace.specs.declared.form.Asked.TheVariants.{Nothing, All, Priority}
 use Rattle.of_trace.specs.declared.form.Form.{Form}
-use Rattle.of_trace.specs.declared.form.Form.TheVariants.{Plain, Explained}
+use Rattle.of_trace.specs.declared.form.Form.TheVariants.{Plain, Explained, Why}
+use Rattle.of_trace.specs.declared.reason.Reason.{Reason}
+use Rattle.of_trace.specs.declared.reason.Reason.TheVariants.{Won, Differs, LowerPriority, Younger}
+use Rattle.of_trace.specs.declared.sight.Sight.{Sight}
+use Rattle.of_trace.specs.Sights.{key_seen, sight_after, stepped}
 use Rattle.of_trace.specs.Text.{step_line, trace_text}
+use Rattle.of_trace.specs.Why.{reason_in}
 
 abbrev pub note : List ℕ → List ℕ
 note line = codes "    " ++ ended line
+
+-- ---- values
+
+-- a space and a value in the digits of its field's bytes; no value has a bit above the field's width
+abbrev pub digits : Field → ℕ → List ℕ
+digits f v = 32 ∷ value_word f (bit_and v (ones_of f))
+
+abbrev pub value_or_absent : Field → Option ℕ → List ℕ
+value_or_absent f None = codes " absent"
+value_or_absent f (Some v) = digits f v
+
+-- ---- the winning entry's `flow` line and its `match` lines, as flow text writes them
 
 abbrev pub match_notes : List MatchField → List ℕ
 match_notes fields = flat_map (λ e. note (spelling (rows.Match e))) fields
@@ -33,7 +65,6 @@ flags_number f = flag_of f.send_removed 1 + flag_of f.check_overlap 2 + flag_of 
 abbrev pub head_in : ℕ → Flow → FlowHead
 head_in table f = record { table = table; priority = f.priority; cookie = f.cookie; idle = f.idle_timeout; hard = f.hard_timeout; flags = flags_number f.flags }
 
--- the entry's `flow` line and its `match` lines, as flow text writes them
 abbrev pub entry_notes : ℕ → Option Flow → List ℕ
 entry_notes table None = []
 entry_notes table (Some f) = note (spelling (rows.Flow (head_in table f))) ++ match_notes f.fields
@@ -42,26 +73,146 @@ entry_notes table (Some f) = note (spelling (rows.Flow (head_in table f))) ++ ma
 abbrev pub flow_there : Forwarding → ℕ → ℕ → Option Flow
 flow_there f table place = if nat_lt table 16 then flow_in f table place else None
 
-abbrev pub notes : Forwarding → Step → List ℕ
-notes f (Miss table) = note (codes "no entry matches")
-notes f (Entry table place) = entry_notes table (flow_there f table place)
-notes f Apply = []
-notes f Clear = []
-notes f Write = []
-notes f (Metadata value mask) = []
-notes f (Goto table) = []
-notes f Set = []
-notes f (Act action) = []
-notes f TtlExpired = note (codes "its work ends here")
-notes f End = []
+-- ---- what a table sees of a packet: each field that the match of some entry has
 
-abbrev pub explained_steps : Forwarding → List Step → List ℕ
-explained_steps f steps = flat_map (λ s. ended (step_line s) ++ notes f s) steps
+abbrev pub has_field : Field → List MatchField → Bool
+has_field f fields = list_any (λ x. number_of x.field == number_of f) fields
 
-abbrev pub explained : Forwarding → List Step → List Effect → List ℕ
-explained f steps effects = explained_steps f steps ++ text_of effects
+abbrev pub looks_at : List FlowEntry → Field → Bool
+looks_at flows f = list_any (λ e. has_field f e.flow.fields) flows
 
--- THE TEXT OF A TRACE in one of the two forms
-abbrev pub said : Form → Forwarding → List Step → List Effect → List ℕ
-said Plain f steps effects = trace_text steps effects
-said Explained f steps effects = explained f steps effects
+abbrev pub seen_note : List FlowEntry → (Field → Option ℕ) → Field → List ℕ
+seen_note flows map f = if looks_at flows f then note (codes "sees " ++ name_of f ++ value_or_absent f (map f)) else []
+
+abbrev pub seen_notes : List FlowEntry → (Field → Option ℕ) → List ℕ
+seen_notes flows map = flat_map (seen_note flows map) constants.ALL
+
+-- ---- why entries won or did not
+
+abbrev pub mask_digits : Field → Option ℕ → List ℕ
+mask_digits f None = []
+mask_digits f (Some mask) = digits f mask
+
+abbrev pub reason_words : Reason → List ℕ
+reason_words Won = codes "wins"
+reason_words (Differs e found) = name_of e.field ++ codes " is" ++ value_or_absent e.field found ++ codes ", not" ++ digits e.field e.value ++ mask_digits e.field e.mask
+reason_words (LowerPriority winner) = codes "matches, but entry" ++ 32 ∷ decimal winner ++ codes " has a higher priority"
+reason_words (Younger winner) = codes "matches, but entry" ++ 32 ∷ decimal winner ++ codes " is older"
+
+abbrev pub reason_note : FlowEntry → ℕ → Option Reason → List ℕ
+reason_note e place None = []
+reason_note e place (Some r) = note (codes "entry" ++ 32 ∷ decimal place ++ codes " (priority" ++ 32 ∷ decimal e.flow.priority ++ codes "): " ++ reason_words r)
+
+abbrev pub is_asked : Asked → ℕ → FlowEntry → Bool
+is_asked Nothing t e = false
+is_asked All t e = true
+is_asked (Priority table priority) t e = (table == t) && (priority == e.flow.priority)
+
+-- of the entries from a place on
+abbrev pub reasons_from : Asked → ℕ → (Field → Option ℕ) → List FlowEntry → ℕ → List FlowEntry → List ℕ
+reasons_from asked t map flows place [] = []
+reasons_from asked t map flows place (e ∷ rest) = (if is_asked asked t e then reason_note e place (reason_in flows map place) else []) ++ reasons_from asked t map flows (suc place) rest
+
+abbrev pub table_notes : Asked → ℕ → (Field → Option ℕ) → List FlowEntry → List ℕ
+table_notes asked t map flows = seen_notes flows map ++ reasons_from asked t map flows 0 flows
+
+abbrev pub look_notes : Forwarding → Asked → ℕ → (Field → Option ℕ) → List ℕ
+look_notes f asked t map = if nat_lt t 16 then table_notes asked t map (table_at t f.tables).flows else []
+
+-- ---- what an action changed: each field that has another value then, or is there only before or after
+
+abbrev pub same_value : Option ℕ → Option ℕ → Bool
+same_value None None = true
+same_value None (Some b) = false
+same_value (Some a) None = false
+same_value (Some a) (Some b) = a == b
+
+abbrev pub change_note : (Field → Option ℕ) → (Field → Option ℕ) → Field → List ℕ
+change_note old new f = if same_value (old f) (new f) then [] else note (name_of f ++ value_or_absent f (old f) ++ codes " ->" ++ value_or_absent f (new f))
+
+abbrev pub change_notes : (Field → Option ℕ) → (Field → Option ℕ) → List ℕ
+change_notes old new = flat_map (change_note old new) constants.ALL
+
+-- ---- why an output sends nothing
+
+abbrev pub port_words : Port → List ℕ
+port_words q = if is_live q then codes " forwards nothing" else codes " is down"
+
+abbrev pub port_note : ℕ → Option Port → List ℕ
+port_note n None = note (codes "there is no port" ++ 32 ∷ decimal n)
+port_note n (Some q) = if may_send q then [] else note (codes "port" ++ 32 ∷ decimal n ++ port_words q)
+
+abbrev pub is_many : ℕ → Bool
+is_many port = (port == flood) || (port == all) || (port == controller) || (port == to_tables)
+
+abbrev pub output_note : List Port → ℕ → ℕ → List ℕ
+output_note ports ingress port =
+    if port == in_port then port_note ingress (port_at ports ingress)
+    else if is_many port then []
+    else if port == ingress then note (codes "the frame came in by that port")
+    else port_note port (port_at ports port)
+
+-- ---- which buckets of a group run
+
+abbrev pub bucket_notes : List ℕ → List ℕ
+bucket_notes places = flat_map (λ place. note (codes "bucket" ++ 32 ∷ decimal place)) places
+
+abbrev pub group_notes : ℕ → Option (List ℕ) → List ℕ
+group_notes group None = note (codes "there is no group" ++ 32 ∷ decimal group)
+group_notes group (Some []) = note (codes "no bucket runs")
+group_notes group (Some (k ∷ places)) = bucket_notes (k ∷ places)
+
+-- ---- the notes of a step, which this packet takes
+
+abbrev pub changes : Step → Sight → List ℕ
+changes step s = change_notes (key_seen s) (key_seen (sight_after step s))
+
+abbrev pub sending_notes : Forwarding → Sight → Action → List ℕ
+sending_notes f s (Output port max_len) = output_note f.ports s.ingress port
+sending_notes f s (PushVlan type) = []
+sending_notes f s PopVlan = []
+sending_notes f s (Group group) = group_notes group ((world_of f).chosen group)
+sending_notes f s (SetNwTtl ttl) = []
+sending_notes f s DecNwTtl = []
+sending_notes f s (SetField field value) = []
+
+abbrev pub notes : Forwarding → Asked → Sight → Step → List ℕ
+notes f asked s (Miss t) = note (codes "no entry matches in table" ++ 32 ∷ decimal t) ++ look_notes f asked t (key_seen s)
+notes f asked s (Entry t place) = entry_notes t (flow_there f t place) ++ look_notes f asked t (key_seen s)
+notes f asked s Apply = []
+notes f asked s Clear = []
+notes f asked s Write = []
+notes f asked s (Metadata value mask) = changes (Metadata value mask) s
+notes f asked s (Goto t) = []
+notes f asked s Set = []
+notes f asked s (Act action) = sending_notes f s action ++ changes (Act action) s
+notes f asked s TtlExpired = note (codes "its work ends here")
+notes f asked s End = []
+
+-- ---- the text
+
+-- the first packet takes the step
+abbrev pub first_notes : Forwarding → Asked → List Sight → Step → List ℕ
+first_notes f asked [] step = []
+first_notes f asked (s ∷ others) step = notes f asked s step
+
+abbrev pub explained_from : Forwarding → Asked → List Sight → List Step → List ℕ
+explained_from f asked sights [] = []
+explained_from f asked sights (step ∷ steps) = ended (step_line step) ++ first_notes f asked sights step ++ explained_from f asked (stepped (world_of f) step sights) steps
+
+-- a frame that comes in; one that is too short or too long does not
+abbrev pub unless_fault : ℕ → List ℕ → Option FrameFault → List Sight
+unless_fault port frame (Some fault) = []
+unless_fault port frame None = record { frame = frame; ingress = port; metadata = 0 } ∷ []
+
+abbrev pub entered : ℕ → List ℕ → List Sight
+entered port frame = unless_fault port frame (frame_fault frame)
+
+abbrev pub explained : Forwarding → Asked → ℕ → List ℕ → List Step → List Effect → List ℕ
+explained f asked port frame steps effects = explained_from f asked (entered port frame) steps ++ text_of effects
+
+-- THE TEXT OF A TRACE in one of its forms
+abbrev pub said : Form → Forwarding → ℕ → List ℕ → List Step → List Effect → List ℕ
+said Plain f port frame steps effects = trace_text steps effects
+said Explained f port frame steps effects = explained f Nothing port frame steps effects
+said (Why asked) f port frame steps effects = explained f asked port frame steps effects

@@ -1,5 +1,6 @@
 -- WHY AN ENTRY OF A TABLE WON OR DID NOT, for a packet of these fields (OpenFlow 1.3.5, 5.3).
-use Rattle.std.specs.Prelude.{◌≡◌, ℕ, ◌<◌, true, false, List, Option, Some, None, slice_get}
+use Rattle.std.specs.Prelude.{◌≡◌, ℕ, ◌<◌, ◌==◌, nat_lt, true, false, not, find, List, Option, Some, None, slice_get, if◌then◌else◌}
+use Rattle.std.specs.Option.{option_map}
 use Rattle.of_layers.specs.declared.field.Field.{Field}
 use Rattle.of_oxm.specs.declared.match_field.MatchField.{MatchField}
 use Rattle.of_oxm.specs.Relations.{agrees, matches_map}
@@ -50,3 +51,24 @@ Explains flows map place (Some Won) = winner_place map flows ≡ Some place
 Explains flows map place (Some (Differs field found)) = HasDifference flows map place field found
 Explains flows map place (Some (LowerPriority winner)) = HasLowerPriority flows map place winner
 Explains flows map place (Some (Younger winner)) = IsYounger flows map place winner
+
+-- ---- the one reason that there is
+
+-- the first field of a match that does not agree
+abbrev pub first_difference : List MatchField → (Field → Option ℕ) → Option MatchField
+first_difference fields map = find (λ e. not (agrees e (map e.field))) fields
+
+abbrev pub beaten_by : FlowEntry → ℕ → Option FlowEntry → Reason
+beaten_by e winner None = Younger winner
+beaten_by e winner (Some better) = if nat_lt e.flow.priority better.flow.priority then LowerPriority winner else Younger winner
+
+abbrev pub standing : List FlowEntry → ℕ → FlowEntry → Option ℕ → Reason
+standing flows place e None = Won
+standing flows place e (Some winner) = if winner == place then Won else beaten_by e winner (slice_get flows winner)
+
+abbrev pub reason_by : List FlowEntry → (Field → Option ℕ) → ℕ → FlowEntry → Option MatchField → Reason
+reason_by flows map place e (Some x) = Differs x (map x.field)
+reason_by flows map place e None = standing flows place e (winner_place map flows)
+
+abbrev pub reason_in : List FlowEntry → (Field → Option ℕ) → ℕ → Option Reason
+reason_in flows map place = option_map (λ e. reason_by flows map place e (first_difference e.flow.fields map)) (slice_get flows place)

@@ -4,8 +4,9 @@ ghost use Rattle.std.specs.Option.{option_copied};
 ghost use Rattle.of_headers.specs.FieldMap.{value};
 ghost use Rattle.of_oxm.specs.Relations.{agrees as agrees_with, matches_map};
 ghost use Rattle.of_table.specs.Entries.{entry_of};
+ghost use Rattle.of_table.specs.Table.{winner_place};
 ghost use Rattle.of_table.specs.Tables.{table_at};
-ghost use Rattle.of_trace.specs.Why.{Explains};
+ghost use Rattle.of_trace.specs.Why.{Explains, reason_in, standing};
 
 use crate::reason::Reason;
 use of_classifier::Lookup;
@@ -42,7 +43,8 @@ fn why_matching<L: Lookup>(
     requires table { table < 16 }
     requires there { slice_get (table_at table switch.now.core.forwarding.tables).flows place ≡ Some (entry_of entry.now) }
     requires matches { matches_map entry.now.flow.fields (value key.now) ≡ true }
-    ensures { Explains (table_at table switch.now.core.forwarding.tables).flows (value key.now) place result }
+    ensures explains { Explains (table_at table switch.now.core.forwarding.tables).flows (value key.now) place result }
+    ensures is { result ≡ Some (standing (table_at table switch.now.core.forwarding.tables).flows place (entry_of entry.now) (winner_place (value key.now) (table_at table switch.now.core.forwarding.tables).flows)) }
 {
     let winner = switch.winner(table, key)?;
     if winner == place {
@@ -63,7 +65,8 @@ fn why_matching<L: Lookup>(
 /// of which no field is named matches; where it did not win, the entry that is named did.
 pub fn why<L: Lookup>(switch: &Switch<L>, table: u8, key: &FieldKey, place: usize) -> Option<Reason>
     requires { table < 16 }
-    ensures { Explains (table_at table switch.now.core.forwarding.tables).flows (value key.now) place result }
+    ensures explains { Explains (table_at table switch.now.core.forwarding.tables).flows (value key.now) place result }
+    ensures is { result ≡ reason_in (table_at table switch.now.core.forwarding.tables).flows (value key.now) place }
 {
     let entry = switch.entry(table, place)?;
     match first_difference(entry.flow.fields.fields(), key) {

@@ -2,20 +2,29 @@
 #![tactic(auto)]
 
 mod explaining;
+mod fields;
 mod form;
+mod laws;
+mod notes;
 mod noting;
+mod packets;
 mod printing;
 mod reason;
+mod reasons;
+mod sending;
+mod sight;
 mod traces;
 mod tracing;
 mod tracing_file;
 mod writing;
 
 pub use explaining::why;
-pub use form::Form;
+pub use form::{Asked, Form};
+pub use laws::steps_tell_packets;
 pub use noting::explain;
 pub use printing::print;
 pub use reason::Reason;
+pub use sight::Sight;
 pub use traces::Trace;
 pub use tracing::trace;
 pub use tracing_file::trace_file;

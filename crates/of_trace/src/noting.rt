@@ -1,14 +1,27 @@
 //! Traces for people.
-ghost use Rattle.std.specs.Prelude.{◌≡◌, ◌≤◌, ◌++◌, IfOk, OnOk, Some, IsTrue};
+ghost use Rattle.std.specs.Prelude.{◌≡◌, ◌≤◌, ◌<◌, ◌++◌, ◌∷◌, IfOk, OnOk, Some, IsTrue, codes, decimal};
 ghost use Rattle.std.specs.List.{AllByRecursion};
 ghost use Rattle.of_oxm.specs.NormalForm.{IsKept};
 ghost use Rattle.of_text.specs.Rows.{Fits, spelling};
-ghost use Rattle.of_trace.specs.Spelt.{are_spelt};
-ghost use Rattle.of_trace.specs.Notes.{entry_notes, explained, explained_steps, flag_of, flags_number, flow_there, head_in, match_notes, note, notes as notes_of};
+ghost use Rattle.of_headers.specs.FieldMap.{value};
+ghost use Rattle.of_switch.specs.Plane.{world_of};
+ghost use Rattle.of_table.specs.Tables.{table_at};
+ghost use Rattle.of_trace.specs.Spelt.{are_spelt, is_spelt};
+ghost use Rattle.of_trace.specs.Sights.{key_seen, sight_after, stepped};
+ghost use Rattle.of_trace.specs.Notes.{changes, entry_notes, explained, explained_from, first_notes, flag_of, flags_number, flow_there, head_in, look_notes, match_notes, note, notes as notes_of, sending_notes, table_notes};
 
+use crate::fields::{push_changes, push_seen};
+use crate::form::Asked;
+use crate::notes::{begin_note, end_note, push_note, push_number_note};
+use crate::packets::{Packets, enter, put_back};
 use crate::printing::push_step;
+use crate::reasons::push_reasons;
+use crate::sending::{push_group_notes, push_output_note};
+use crate::sight::Sight;
 use crate::traces::Trace;
+use of_actions::Action;
 use of_classifier::Lookup;
+use of_headers::FieldKey;
 use of_machine::Step;
 use of_oxm::MatchField;
 use of_replay::push_effects;
@@ -20,25 +33,14 @@ use std::alloc::{AllocError, Global};
 /// How many flow tables there are.
 const TABLES: u8 = 16;
 
-// Appends a note.
-fn push_note(out: &mut Vec<u8>, line: &[u8]) -> Result<(), AllocError>
-    ensures { OnOk result (out.new.items ≡ out.old.items ++ note line.now) }
-{
-    out.extend_from_slice(b"    ")?;
-    out.extend_from_slice(line)?;
-    out.push(b'\n')?;
-    Ok(())
-}
-
 // Appends a line of flow text as a note.
 fn push_row_note(out: &mut Vec<u8>, row: Row) -> Result<(), AllocError>
     requires { Fits row }
     ensures { OnOk result (out.new.items ≡ out.old.items ++ note (spelling row)) }
 {
-    out.extend_from_slice(b"    ")?;
+    begin_note(out)?;
     push_row(out, row)?;
-    out.push(b'\n')?;
-    Ok(())
+    end_note(out)
 }
 
 // The number of a flag, where it is set.
@@ -110,58 +112,165 @@ fn push_entry_notes<L: Lookup>(
     }
 }
 
-// Appends the notes of a step.
+// Appends what a table sees of a packet, and why its entries won or did not.
+fn push_table_notes<L: Lookup>(
+    out: &mut Vec<u8>,
+    switch: &Switch<L>,
+    asked: Asked,
+    table: u8,
+    key: &FieldKey,
+) -> Result<(), AllocError>
+    requires { table < 16 }
+    ensures { OnOk result (out.new.items ≡ out.old.items ++ table_notes asked table (value key.now) (table_at table switch.now.core.forwarding.tables).flows) }
+{
+    push_seen(out, switch, table, key)?;
+    push_reasons(out, switch, table, key, asked)
+}
+
+// The same for one of the sixteen tables.
+fn push_look_notes<L: Lookup>(
+    out: &mut Vec<u8>,
+    switch: &Switch<L>,
+    asked: Asked,
+    table: u8,
+    sight: &Sight,
+) -> Result<(), AllocError>
+    ensures { OnOk result (out.new.items ≡ out.old.items ++ look_notes switch.now.core.forwarding asked table (key_seen sight.now)) }
+{
+    if table >= TABLES {
+        return Ok(());
+    }
+    push_table_notes(out, switch, asked, table, &sight.key())
+}
+
+// Appends the fields that a step changed.
+fn push_changed(
+    out: &mut Vec<u8>,
+    step: Step,
+    sight: &Sight,
+    after: &Sight,
+) -> Result<(), AllocError>
+    requires { after.now ≡ sight_after step sight.now }
+    ensures { OnOk result (out.new.items ≡ out.old.items ++ changes step sight.now) }
+{
+    push_changes(out, &sight.key(), &after.key())
+}
+
+// Appends where an output or a group sends a packet.
+fn push_sending_notes<L: Lookup>(
+    out: &mut Vec<u8>,
+    switch: &Switch<L>,
+    action: Action,
+    sight: &Sight,
+) -> Result<(), AllocError>
+    ensures { OnOk result (out.new.items ≡ out.old.items ++ sending_notes switch.now.core.forwarding sight.now action) }
+{
+    match action {
+        Action::Output { port, .. } => push_output_note(out, switch.ports(), sight.ingress, port),
+        Action::Group(group) => push_group_notes(out, switch, group),
+        _ => Ok(()),
+    }
+}
+
+// Appends that no entry matches.
+fn push_miss_note(out: &mut Vec<u8>, table: u8) -> Result<(), AllocError>
+    ensures { OnOk result (out.new.items ≡ out.old.items ++ note (codes "no entry matches in table" ++ 32 ∷ decimal table)) }
+{
+    push_number_note(out, b"no entry matches in table", u32::from(table))
+}
+
+// Appends the notes of a step of a packet, which is another one after it.
 fn push_notes<L: Lookup>(
     out: &mut Vec<u8>,
     switch: &Switch<L>,
+    asked: Asked,
+    sight: &Sight,
     step: Step,
+    after: &Sight,
 ) -> Result<(), AllocError>
-    ensures { OnOk result (out.new.items ≡ out.old.items ++ notes_of switch.now.core.forwarding step) }
+    requires { after.now ≡ sight_after step sight.now }
+    ensures { OnOk result (out.new.items ≡ out.old.items ++ notes_of switch.now.core.forwarding asked sight.now step) }
 {
     match step {
-        Step::Miss(_) => push_note(out, b"no entry matches"),
-        Step::Entry { table, number } => push_entry_notes(out, switch, table, number),
+        Step::Miss(table) => {
+            push_miss_note(out, table)?;
+            push_look_notes(out, switch, asked, table, sight)
+        }
+        Step::Entry { table, number } => {
+            push_entry_notes(out, switch, table, number)?;
+            push_look_notes(out, switch, asked, table, sight)
+        }
+        Step::Metadata { .. } => push_changed(out, step, sight, after),
+        Step::Act(action) => {
+            push_sending_notes(out, switch, action, sight)?;
+            push_changed(out, step, sight, after)
+        }
         Step::TtlExpired => push_note(out, b"its work ends here"),
-        Step::Apply
-        | Step::Clear
-        | Step::Write
-        | Step::Metadata { .. }
-        | Step::Goto(_)
-        | Step::Set
-        | Step::Act(_)
-        | Step::End => Ok(()),
+        Step::Apply | Step::Clear | Step::Write | Step::Goto(_) | Step::Set | Step::End => Ok(()),
     }
+}
+
+// Appends the notes of a step, which the first packet takes.
+fn push_step_notes<L: Lookup>(
+    alloc: Global,
+    out: &mut Vec<u8>,
+    switch: &Switch<L>,
+    asked: Asked,
+    packets: &mut Packets,
+    step: Step,
+) -> Result<(), AllocError>
+    requires { IsTrue (is_spelt step) }
+    ensures text { OnOk result (out.new.items ≡ out.old.items ++ first_notes switch.now.core.forwarding asked packets.old.items step) }
+    ensures packets { OnOk result (packets.new.items ≡ stepped (world_of switch.now.core.forwarding) step packets.old.items) }
+{
+    let Some(sight) = packets.pop_front() else {
+        return Ok(());
+    };
+    let after = sight.after(alloc, step)?;
+    push_notes(out, switch, asked, &sight, step, &after)?;
+    put_back(alloc, packets, switch, &sight, step, after)
 }
 
 // Appends the lines of steps, with notes.
 fn push_explained<L: Lookup>(
+    alloc: Global,
     out: &mut Vec<u8>,
     switch: &Switch<L>,
+    asked: Asked,
+    packets: Packets,
     steps: &[Step],
 ) -> Result<(), AllocError>
     requires { IsTrue (are_spelt steps.now) }
-    ensures { OnOk result (out.new.items ≡ out.old.items ++ explained_steps switch.now.core.forwarding steps.now) }
+    ensures { OnOk result (out.new.items ≡ out.old.items ++ explained_from switch.now.core.forwarding asked packets.items steps.now) }
 {
+    let mut packets = packets;
     for step in steps {
         push_step(out, *step)?;
         out.push(b'\n')?;
-        push_notes(out, switch, *step)?;
+        push_step_notes(alloc, out, switch, asked, &mut packets, *step)?;
     }
     Ok(())
 }
 
-/// The text of a trace with notes, each on a line of its own behind four spaces: below a look-up the winning entry's `flow` line and
-/// `match` lines, as flow text writes them, or that no entry matches; below an expired time to live that the packet's work ends.
-/// Without its notes it is the text that `print` gives.
+/// The text of a trace with notes, each on a line of its own behind four spaces. Without them it is the text that `print` gives.
+///
+/// Below a look-up stand the winning entry's `flow` line and `match` lines, as flow text writes them, or that no entry matches;
+/// each field that the match of some entry of the table has, as the packet has it; and why entries won or did not, as far as it
+/// is asked. Below an action stand the fields that it changed, why an output sends nothing, or which buckets of a group run.
+/// `port` and `frame` are those of the trace.
 pub fn explain<L: Lookup>(
     alloc: Global,
     switch: &Switch<L>,
+    asked: Asked,
+    port: u32,
+    frame: &[u8],
     trace: &Trace,
 ) -> Result<Vec<u8>, AllocError>
-    ensures { IfOk result (λ text. text.items ≡ explained switch.now.core.forwarding trace.now.steps.items trace.now.effects.items) }
+    ensures { IfOk result (λ text. text.items ≡ explained switch.now.core.forwarding asked port frame.now trace.now.steps.items trace.now.effects.items) }
 {
     let mut out = Vec::new(alloc);
-    push_explained(&mut out, switch, &trace.steps)?;
+    let packets = enter(alloc, port, frame)?;
+    push_explained(alloc, &mut out, switch, asked, packets, &trace.steps)?;
     push_effects(alloc, &mut out, &trace.effects)?;
     Ok(out)
 }

@@ -5,7 +5,7 @@ ghost use Rattle.of_switch.specs.Steps.{frame_in};
 ghost use Rattle.of_trace.specs.Notes.{said};
 ghost use Rattle.of_trace.specs.Writing.{WritesText};
 
-use crate::form::Form;
+use crate::form::{Asked, Form};
 use crate::noting::explain;
 use crate::printing::print;
 use crate::tracing::trace;
@@ -26,7 +26,7 @@ pub fn write_trace<L: Lookup, W: Sink>(
     writer: &mut W,
 ) -> Ended
     requires { W.failures writer.old ≡ 0 }
-    ensures output { WritesText (said form switch.now.core.forwarding (steps_in port frame.now switch.now.core.forwarding) (frame_in port frame.now switch.now).effects) result (W.taken writer.old) (W.taken writer.new) }
+    ensures output { WritesText (said form switch.now.core.forwarding port frame.now (steps_in port frame.now switch.now.core.forwarding) (frame_in port frame.now switch.now).effects) result (W.taken writer.old) (W.taken writer.new) }
     ensures write_fault { (result ≡ Ended.WriteFault) ↔ (0 < W.failures writer.new) }
 {
     let Ok(traced) = trace(alloc, switch, port, frame) else {
@@ -34,7 +34,8 @@ pub fn write_trace<L: Lookup, W: Sink>(
     };
     let said = match form {
         Form::Plain => print(alloc, &traced),
-        Form::Explained => explain(alloc, switch, &traced),
+        Form::Explained => explain(alloc, switch, Asked::Nothing, port, frame, &traced),
+        Form::Why(asked) => explain(alloc, switch, asked, port, frame, &traced),
     };
     let Ok(text) = said else {
         return Ended::NoMemory;

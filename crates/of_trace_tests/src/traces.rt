@@ -1,9 +1,9 @@
 use of_classifier::Scan;
 use of_headers::read;
-use of_replay::Ended;
 use of_replay::memory::MemorySink;
+use of_replay::{Ended, push_effects};
 use of_switch::{PortChange, Switch};
-use of_trace::{Form, Reason, explain, print, trace, why, write_trace};
+use of_trace::{Asked, Form, Reason, explain, print, trace, why, write_trace};
 use std::alloc::Global;
 use std::test::Fail;
 
@@ -33,11 +33,20 @@ s 2 02000000000202000000000188b5000000000000000000000000000000000000000000000000
 const EXPLAINED: &[u8] = b"lookup 0 entry 0
     flow 0 10 0x0000000000000000 0 0 0
     match in_port 0x00000001
+    sees in_port 0x00000001
 apply
 output 2 0
 set
 end
 s 2 02000000000202000000000188b500000000000000000000000000000000000000000000000000000000000000000000000000000000000000000000
+";
+
+/// By port 2, with the reasons of table 0 and priority 10.
+const REASONED: &[u8] = b"lookup 0 miss
+    no entry matches in table 0
+    sees in_port 0x00000002
+    entry 0 (priority 10): in_port is 0x00000002, not 0x00000001
+end
 ";
 
 fn added(number: u32) -> PortChange {
@@ -90,7 +99,7 @@ fn with_notes_and_to_a_sink(rt: HostRuntime) -> Result<(), Fail> {
     switch.feed(&TO_PORT_2)?;
     switch.next()?;
     let traced = trace(rt.alloc(), &switch, 1, &FRAME)?;
-    let text = explain(rt.alloc(), &switch, &traced)?;
+    let text = explain(rt.alloc(), &switch, Asked::Nothing, 1, &FRAME, &traced)?;
     assert_eq!(rt; text.as_slice(), EXPLAINED);
     let mut sink = MemorySink::new(rt.alloc(), 100, 0);
     assert_eq!(rt;
@@ -113,5 +122,60 @@ fn reasons(rt: HostRuntime) -> Result<(), Fail> {
     let by_2 = read(&FRAME, 2, 0).ok().ok_or("a frame")?.key();
     let reason = why(&switch, 0, &by_2, 0);
     assert!(rt; matches!(reason, Some(Reason::Differs { found: Some(2), .. })));
+    Ok(())
+}
+
+#[test]
+fn reasons_in_words(rt: HostRuntime) -> Result<(), Fail> {
+    let mut switch = opened(rt.alloc())?;
+    switch.feed(&TO_PORT_2)?;
+    switch.next()?;
+    let asked = Asked::Priority {
+        table: 0,
+        priority: 10,
+    };
+    let mut sink = MemorySink::new(rt.alloc(), 100, 0);
+    assert_eq!(rt;
+        write_trace(rt.alloc(), &switch, 2, &FRAME, Form::Why(asked), &mut sink),
+        Ended::Done
+    );
+    assert_eq!(rt; sink.bytes(), REASONED);
+    Ok(())
+}
+
+/// Numbers of 31 bits by a linear congruence (Knuth, The Art of Computer Programming 2, 3.3.4).
+struct Numbers {
+    state: u64,
+}
+
+impl Numbers {
+    fn next(&mut self) -> u64 {
+        self.state = self
+            .state
+            .wrapping_mul(6_364_136_223_846_793_005)
+            .wrapping_add(1_442_695_040_888_963_407);
+        self.state >> 33
+    }
+}
+
+// Frames by any of three ports, of which the third is not there: what a trace says is what the frame does next.
+#[test]
+fn traces_tell_what_frames_do(rt: HostRuntime) -> Result<(), Fail> {
+    let mut switch = opened(rt.alloc())?;
+    switch.feed(&TO_PORT_2)?;
+    switch.next()?;
+    let mut numbers = Numbers { state: 1 };
+    for _ in 0..50 {
+        let port = (numbers.next() % 3) as u32 + 1;
+        let mut frame = FRAME;
+        frame[13] = (numbers.next() % 256) as u8;
+        let told = trace(rt.alloc(), &switch, port, &frame)?;
+        let done = switch.frame(port, &frame)?;
+        let mut told_text = Vec::new(rt.alloc());
+        push_effects(rt.alloc(), &mut told_text, &told.effects)?;
+        let mut done_text = Vec::new(rt.alloc());
+        push_effects(rt.alloc(), &mut done_text, &done)?;
+        assert_eq!(rt; told_text.as_slice(), done_text.as_slice());
+    }
     Ok(())
 }

@@ -1,0 +1,93 @@
+-- WHAT A TRACE TELLS OF ITS PACKETS: the frame and the metadata that each has, step by step (OpenFlow 1.3.5, 5.1).
+use Rattle.std.specs.Prelude.{◌≡◌, ℕ, ◌==◌, List, [], ◌∷◌, ◌++◌, length, map, replicate, Option, Some, None, if◌then◌else◌}
+use Rattle.of_layers.specs.declared.field.Field.{Field}
+use Rattle.of_layers.specs.Reading.{layers_of}
+use Rattle.of_headers.specs.FieldMap.{field_map}
+use Rattle.of_rewrite.specs.Frames.{frame_aged}
+use Rattle.of_actions.specs.PortNumbers.{table}
+use Rattle.of_actions.specs.declared.action.Action.{Action}
+use Rattle.of_actions.specs.declared.action.Action.TheVariants.{Output, PushVlan, PopVlan, Group, SetNwTtl, DecNwTtl, SetField}
+use Rattle.of_machine.specs.declared.data.Packet.{Packet}
+use Rattle.of_machine.specs.declared.data.Step.{Step}
+use Rattle.of_machine.specs.declared.data.Step.TheVariants.{Miss, Entry, Apply, Clear, Write, Metadata, Goto, Set, Act, TtlExpired, End}
+use Rattle.of_machine.specs.TheWorld.{TheWorld}
+use Rattle.of_machine.specs.Rows.{Task, rewritten, with_metadata}
+use Rattle.of_trace.specs.declared.sight.Sight.{Sight}
+
+-- what of a packet changes and is seen by tables
+abbrev pub sight_of : Packet → Sight
+sight_of p = record { frame = p.frame; ingress = p.ingress; metadata = p.metadata }
+
+abbrev pub sights_of : List Task → List Sight
+sights_of tasks = map (λ t. sight_of t.packet) tasks
+
+-- what a look-up sees (5.3)
+abbrev pub key_seen : Sight → Field → Option ℕ
+key_seen s = field_map (layers_of s.frame) s.ingress s.metadata
+
+-- ---- the packet itself after a step
+
+abbrev pub frame_after : Action → List ℕ → List ℕ
+frame_after (Output port max_len) frame = frame
+frame_after (PushVlan type) frame = rewritten (PushVlan type) frame
+frame_after PopVlan frame = rewritten PopVlan frame
+frame_after (Group group) frame = frame
+frame_after (SetNwTtl ttl) frame = rewritten (SetNwTtl ttl) frame
+frame_after DecNwTtl frame = frame_aged frame
+frame_after (SetField field value) frame = rewritten (SetField field value) frame
+
+abbrev pub sight_after : Step → Sight → Sight
+sight_after (Miss t) s = s
+sight_after (Entry t n) s = s
+sight_after Apply s = s
+sight_after Clear s = s
+sight_after Write s = s
+sight_after (Metadata value mask) s = record s { metadata = with_metadata value mask s.metadata }
+sight_after (Goto t) s = s
+sight_after Set s = s
+sight_after (Act action) s = record s { frame = frame_after action s.frame }
+sight_after TtlExpired s = s
+sight_after End s = s
+
+-- ---- the copies that take steps before it: a group makes one for each bucket that runs, and TABLE one without metadata
+
+abbrev pub group_copies : Sight → Option (List ℕ) → List Sight
+group_copies s None = []
+group_copies s (Some places) = replicate (length places) s
+
+abbrev pub output_copies : ℕ → Sight → List Sight
+output_copies port s = if port == table then record s { metadata = 0 } ∷ [] else []
+
+abbrev pub action_copies : TheWorld → Action → Sight → List Sight
+action_copies w (Output port max_len) s = output_copies port s
+action_copies w (PushVlan type) s = []
+action_copies w PopVlan s = []
+action_copies w (Group group) s = group_copies s (w.chosen group)
+action_copies w (SetNwTtl ttl) s = []
+action_copies w DecNwTtl s = []
+action_copies w (SetField field value) s = []
+
+-- ---- all that stand in its place
+
+abbrev pub after_step : TheWorld → Step → Sight → List Sight
+after_step w (Miss t) s = s ∷ []
+after_step w (Entry t n) s = s ∷ []
+after_step w Apply s = s ∷ []
+after_step w Clear s = s ∷ []
+after_step w Write s = s ∷ []
+after_step w (Metadata value mask) s = sight_after (Metadata value mask) s ∷ []
+after_step w (Goto t) s = s ∷ []
+after_step w Set s = s ∷ []
+after_step w (Act action) s = action_copies w action s ++ sight_after (Act action) s ∷ []
+after_step w TtlExpired s = s ∷ []
+after_step w End s = []
+
+-- the first packet takes the step
+abbrev pub stepped : TheWorld → Step → List Sight → List Sight
+stepped w step [] = []
+stepped w step (s ∷ others) = after_step w step s ++ others
+
+-- THE PACKETS AFTER STEPS, of which each is taken by the first packet
+abbrev pub all_stepped : TheWorld → List Step → List Sight → List Sight
+all_stepped w [] sights = sights
+all_stepped w (step ∷ steps) sights = all_stepped w steps (stepped w step sights)

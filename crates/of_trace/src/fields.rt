@@ -1,0 +1,168 @@
+//! Fields of packets in notes.
+ghost use Rattle.std.specs.Prelude.{◌≡◌, ◌++◌, ◌<◌, ◌≤◌, OnOk, bit_and};
+ghost use Rattle.std.specs.List.{flat_map, list_any};
+ghost use Rattle.of_headers.specs.FieldMap.{value};
+ghost use Rattle.of_layers.specs.Fields.{number_of};
+ghost use Rattle.of_table.specs.Entries.{flows_of};
+ghost use Rattle.of_table.specs.Tables.{table_at};
+ghost use Rattle.of_trace.specs.Notes.{change_note, change_notes, digits, has_field, looks_at as is_looked_at, mask_digits, same_value, seen_note, seen_notes, value_or_absent};
+
+use crate::notes::{begin_note, end_note};
+use of_classifier::Lookup;
+use of_headers::{Field, FieldKey};
+use of_oxm::MatchField;
+use of_switch::Switch;
+use of_table::Entries;
+use of_text::{name, push_value};
+use std::alloc::AllocError;
+
+// Whether the match has the field.
+fn has(fields: &[MatchField], field: Field) -> bool
+    ensures { result ≡ has_field field fields.now }
+{
+    fields
+        .iter()
+        .any(|e| e.field.row().number == field.row().number)
+}
+
+// Whether the match of some entry has the field.
+fn looks_at(entries: Entries<'_>, field: Field) -> bool
+    ensures { result ≡ is_looked_at (flows_of entries.entry) field }
+{
+    for entry in entries {
+        if has(entry.flow.fields.fields(), field) {
+            return true;
+        }
+    }
+    false
+}
+
+/// Appends a space and the digits of a value of a field.
+pub fn push_digits(out: &mut Vec<u8>, field: Field, number: u128) -> Result<(), AllocError>
+    ensures { OnOk result (out.new.items ≡ out.old.items ++ digits field number) }
+{
+    push_value(out, field, number & field.row().ones)
+}
+
+/// Appends the value of a field, or that it is absent.
+pub fn push_found(out: &mut Vec<u8>, field: Field, found: Option<u128>) -> Result<(), AllocError>
+    ensures { OnOk result (out.new.items ≡ out.old.items ++ value_or_absent field found) }
+{
+    match found {
+        None => out.extend_from_slice(b" absent"),
+        Some(number) => push_digits(out, field, number),
+    }
+}
+
+/// Appends a mask, if there is one.
+pub fn push_mask(out: &mut Vec<u8>, field: Field, mask: Option<u128>) -> Result<(), AllocError>
+    ensures { OnOk result (out.new.items ≡ out.old.items ++ mask_digits field mask) }
+{
+    match mask {
+        None => Ok(()),
+        Some(mask) => push_digits(out, field, mask),
+    }
+}
+
+// Appends the note of a field that a table sees.
+fn push_seen_field<L: Lookup>(
+    out: &mut Vec<u8>,
+    switch: &Switch<L>,
+    table: u8,
+    key: &FieldKey,
+    field: Field,
+) -> Result<(), AllocError>
+    requires { table < 16 }
+    ensures { OnOk result (out.new.items ≡ out.old.items ++ seen_note (table_at table switch.now.core.forwarding.tables).flows (value key.now) field) }
+{
+    if looks_at(switch.entries(table), field) {
+        begin_note(out)?;
+        out.extend_from_slice(b"sees ")?;
+        out.extend_from_slice(name(field))?;
+        push_found(out, field, key.get(field))?;
+        end_note(out)?;
+    }
+    Ok(())
+}
+
+// Appends those of these fields that a table sees.
+fn push_seen_of<L: Lookup>(
+    out: &mut Vec<u8>,
+    switch: &Switch<L>,
+    table: u8,
+    key: &FieldKey,
+    fields: &[Field],
+) -> Result<(), AllocError>
+    requires { table < 16 }
+    ensures { OnOk result (out.new.items ≡ out.old.items ++ flat_map (seen_note (table_at table switch.now.core.forwarding.tables).flows (value key.now)) fields.now) }
+{
+    for field in fields {
+        push_seen_field(out, switch, table, key, *field)?;
+    }
+    Ok(())
+}
+
+/// Appends the fields that a table sees: those that the match of some entry has.
+pub fn push_seen<L: Lookup>(
+    out: &mut Vec<u8>,
+    switch: &Switch<L>,
+    table: u8,
+    key: &FieldKey,
+) -> Result<(), AllocError>
+    requires { table < 16 }
+    ensures { OnOk result (out.new.items ≡ out.old.items ++ seen_notes (table_at table switch.now.core.forwarding.tables).flows (value key.now)) }
+{
+    push_seen_of(out, switch, table, key, &Field::ALL)
+}
+
+fn is_same(old: Option<u128>, new: Option<u128>) -> bool
+    ensures { result ≡ same_value old new }
+{
+    match (old, new) {
+        (None, None) => true,
+        (Some(old), Some(new)) => old == new,
+        _ => false,
+    }
+}
+
+// Appends the note of a field, if it is another one then.
+fn push_change(
+    out: &mut Vec<u8>,
+    old: &FieldKey,
+    new: &FieldKey,
+    field: Field,
+) -> Result<(), AllocError>
+    ensures { OnOk result (out.new.items ≡ out.old.items ++ change_note (value old.now) (value new.now) field) }
+{
+    if is_same(old.get(field), new.get(field)) {
+        return Ok(());
+    }
+    begin_note(out)?;
+    out.extend_from_slice(name(field))?;
+    push_found(out, field, old.get(field))?;
+    out.extend_from_slice(b" ->")?;
+    push_found(out, field, new.get(field))?;
+    end_note(out)
+}
+
+// Appends those of these fields that are other ones in the second key.
+fn push_changes_of(
+    out: &mut Vec<u8>,
+    old: &FieldKey,
+    new: &FieldKey,
+    fields: &[Field],
+) -> Result<(), AllocError>
+    ensures { OnOk result (out.new.items ≡ out.old.items ++ flat_map (change_note (value old.now) (value new.now)) fields.now) }
+{
+    for field in fields {
+        push_change(out, old, new, *field)?;
+    }
+    Ok(())
+}
+
+/// Appends each field that is another one in the second key.
+pub fn push_changes(out: &mut Vec<u8>, old: &FieldKey, new: &FieldKey) -> Result<(), AllocError>
+    ensures { OnOk result (out.new.items ≡ out.old.items ++ change_notes (value old.now) (value new.now)) }
+{
+    push_changes_of(out, old, new, &Field::ALL)
+}

@@ -1,0 +1,109 @@
+//! The packets of a trace, in the order in which they take steps.
+ghost use Rattle.std.specs.Prelude.{◌≡◌, ◌++◌, ◌∷◌, IfOk, OnOk, replicate};
+ghost use Rattle.of_trace.specs.Notes.{entered};
+ghost use Rattle.of_trace.specs.Sights.{action_copies, after_step, output_copies, sight_after};
+ghost use Rattle.of_switch.specs.Plane.{world_of};
+
+use crate::sight::Sight;
+use of_actions::{Action, PORT_TABLE};
+use of_classifier::Lookup;
+use of_headers::check_length;
+use of_machine::Step;
+use of_rewrite::Frame;
+use of_switch::Switch;
+use std::alloc::{AllocError, Global};
+use std::collections::VecDeque;
+
+/// The packets: the first takes the next step.
+pub type Packets = VecDeque<Sight>;
+
+/// The packet of a frame that comes in by a port; none where the frame is too short or too long.
+pub fn enter(alloc: Global, port: u32, frame: &[u8]) -> Result<Packets, AllocError>
+    ensures { IfOk result (λ packets. packets.items ≡ entered port frame.now) }
+{
+    let mut packets = VecDeque::new(alloc);
+    if check_length(frame).is_ok() {
+        packets.push_front(Sight {
+            frame: Frame::new(frame.to_vec(alloc)?),
+            ingress: port,
+            metadata: 0,
+        })?;
+    }
+    Ok(packets)
+}
+
+// Puts as many copies in front.
+fn put_copies(
+    alloc: Global,
+    packets: &mut Packets,
+    sight: &Sight,
+    count: usize,
+) -> Result<(), AllocError>
+    ensures { OnOk result (packets.new.items ≡ replicate count sight.now ++ packets.old.items) }
+{
+    let mut left = count;
+    while left > 0 {
+        packets.push_front(sight.copy(alloc)?)?;
+        left -= 1;
+    }
+    Ok(())
+}
+
+// Puts the copy in front that goes to the first table.
+fn put_fresh(
+    alloc: Global,
+    packets: &mut Packets,
+    sight: &Sight,
+    port: u32,
+) -> Result<(), AllocError>
+    ensures { OnOk result (packets.new.items ≡ output_copies port sight.now ++ packets.old.items) }
+{
+    if port == PORT_TABLE {
+        let mut fresh = sight.copy(alloc)?;
+        fresh.metadata = 0;
+        packets.push_front(fresh)?;
+    }
+    Ok(())
+}
+
+// Puts the copies in front that an action makes.
+fn put_action_copies<L: Lookup>(
+    alloc: Global,
+    packets: &mut Packets,
+    switch: &Switch<L>,
+    sight: &Sight,
+    action: Action,
+) -> Result<(), AllocError>
+    ensures { OnOk result (packets.new.items ≡ action_copies (world_of switch.now.core.forwarding) action sight.now ++ packets.old.items) }
+{
+    match action {
+        Action::Output { port, .. } => put_fresh(alloc, packets, sight, port),
+        Action::Group(group) => match switch.buckets_for(group) {
+            None => Ok(()),
+            Some(places) => put_copies(alloc, packets, sight, places.as_slice().len()),
+        },
+        _ => Ok(()),
+    }
+}
+
+/// Puts in front what stands in a packet's place once it took a step: `after` is the packet then.
+pub fn put_back<L: Lookup>(
+    alloc: Global,
+    packets: &mut Packets,
+    switch: &Switch<L>,
+    sight: &Sight,
+    step: Step,
+    after: Sight,
+) -> Result<(), AllocError>
+    requires { after ≡ sight_after step sight.now }
+    ensures { OnOk result (packets.new.items ≡ after_step (world_of switch.now.core.forwarding) step sight.now ++ packets.old.items) }
+{
+    if let Step::End = step {
+        return Ok(());
+    }
+    packets.push_front(after)?;
+    if let Step::Act(action) = step {
+        put_action_copies(alloc, packets, switch, sight, action)?;
+    }
+    Ok(())
+}

@@ -1,0 +1,102 @@
+//! Notes on why entries won or did not.
+ghost use Rattle.std.specs.Prelude.{◌≡◌, ◌++◌, ◌∷◌, ◌<◌, OnOk, codes, decimal};
+ghost use Rattle.of_headers.specs.FieldMap.{value};
+ghost use Rattle.of_table.specs.Entries.{entry_of};
+ghost use Rattle.of_table.specs.Tables.{table_at};
+ghost use Rattle.of_trace.specs.Notes.{is_asked, reason_note, reason_words, reasons_from};
+
+use crate::explaining::why;
+use crate::fields::{push_digits, push_found, push_mask};
+use crate::form::Asked;
+use crate::notes::{begin_note, end_note};
+use crate::reason::Reason;
+use of_classifier::Lookup;
+use of_headers::FieldKey;
+use of_switch::Switch;
+use of_table::Entry;
+use of_text::{name, push_number};
+use std::alloc::AllocError;
+
+// Appends that another entry wins, and why.
+fn push_beaten(out: &mut Vec<u8>, winner: usize, by: &[u8]) -> Result<(), AllocError>
+    ensures { OnOk result (out.new.items ≡ out.old.items ++ codes "matches, but entry" ++ 32 ∷ decimal winner ++ by.now) }
+{
+    out.extend_from_slice(b"matches, but entry")?;
+    push_number(out, winner as u64)?;
+    out.extend_from_slice(by)
+}
+
+// Appends a reason in words.
+fn push_reason(out: &mut Vec<u8>, reason: Reason) -> Result<(), AllocError>
+    ensures { OnOk result (out.new.items ≡ out.old.items ++ reason_words reason) }
+{
+    match reason {
+        Reason::Won => out.extend_from_slice(b"wins"),
+        Reason::Differs { field: e, found } => {
+            out.extend_from_slice(name(e.field))?;
+            out.extend_from_slice(b" is")?;
+            push_found(out, e.field, found)?;
+            out.extend_from_slice(b", not")?;
+            push_digits(out, e.field, e.value)?;
+            push_mask(out, e.field, e.mask)
+        }
+        Reason::LowerPriority(winner) => push_beaten(out, winner, b" has a higher priority"),
+        Reason::Younger(winner) => push_beaten(out, winner, b" is older"),
+    }
+}
+
+fn asks(asked: Asked, table: u8, entry: &Entry) -> bool
+    ensures { result ≡ is_asked asked table (entry_of entry.now) }
+{
+    match asked {
+        Asked::Nothing => false,
+        Asked::All => true,
+        Asked::Priority {
+            table: asked,
+            priority,
+        } => asked == table && priority == entry.flow.priority,
+    }
+}
+
+// Appends the note of an entry.
+fn push_reason_note(
+    out: &mut Vec<u8>,
+    entry: &Entry,
+    place: usize,
+    reason: Option<Reason>,
+) -> Result<(), AllocError>
+    ensures { OnOk result (out.new.items ≡ out.old.items ++ reason_note (entry_of entry.now) place reason) }
+{
+    let Some(reason) = reason else {
+        return Ok(());
+    };
+    begin_note(out)?;
+    out.extend_from_slice(b"entry")?;
+    push_number(out, place as u64)?;
+    out.extend_from_slice(b" (priority")?;
+    push_number(out, u64::from(entry.flow.priority))?;
+    out.extend_from_slice(b"): ")?;
+    push_reason(out, reason)?;
+    end_note(out)
+}
+
+/// Appends why each entry that is asked for won or did not.
+pub fn push_reasons<L: Lookup>(
+    out: &mut Vec<u8>,
+    switch: &Switch<L>,
+    table: u8,
+    key: &FieldKey,
+    asked: Asked,
+) -> Result<(), AllocError>
+    requires { table < 16 }
+    ensures { OnOk result (out.new.items ≡ out.old.items ++ reasons_from asked table (value key.now) (table_at table switch.now.core.forwarding.tables).flows 0 (table_at table switch.now.core.forwarding.tables).flows) }
+{
+    let mut place = 0;
+    for entry in switch.entries(table) {
+        if asks(asked, table, entry) {
+            push_reason_note(out, entry, place, why(switch, table, key, place))?;
+        }
+        place += 1;
+    }
+    Ok(())
+}

@@ -1,0 +1,85 @@
+//! What tables see of a packet, step by step.
+ghost use Rattle.std.specs.Prelude.{◌≡◌, IfOk, OnOk, IsTrue, false};
+ghost use Rattle.of_actions.specs.Served.{is_served};
+ghost use Rattle.of_headers.specs.FieldMap.{value, field_map};
+ghost use Rattle.of_layers.specs.Reading.{layers_of};
+ghost use Rattle.of_trace.specs.Sights.{frame_after, key_seen, sight_after};
+ghost use Rattle.of_trace.specs.Spelt.{is_spelt};
+
+use of_actions::Action;
+use of_headers::{FieldKey, read_inside};
+use of_machine::Step;
+use of_rewrite::Frame;
+use std::alloc::{AllocError, Global};
+
+/// What tables see of a packet (OpenFlow 1.3.5, 5.3).
+#[derive(Debug, Drop)]
+pub struct Sight {
+    pub frame: Frame,
+    /// The number of the port by which it came in.
+    pub ingress: u32,
+    pub metadata: u64,
+}
+
+impl Sight {
+    /// The fields that a look-up sees.
+    pub fn key(&self) -> FieldKey
+        ensures { value result ≡ key_seen self.now }
+    {
+        key_of_frame(&self.frame, self.ingress, self.metadata)
+    }
+
+    /// The same again.
+    pub fn copy(&self, alloc: Global) -> Result<Sight, AllocError>
+        ensures { IfOk result (λ s. s ≡ self.now) }
+    {
+        Ok(Sight {
+            frame: Frame::new(self.frame.bytes().to_vec(alloc)?),
+            ingress: self.ingress,
+            metadata: self.metadata,
+        })
+    }
+
+    /// What it is after a step.
+    pub fn after(&self, alloc: Global, step: Step) -> Result<Sight, AllocError>
+        requires { IsTrue (is_spelt step) }
+        ensures { IfOk result (λ s. s ≡ sight_after step self.now) }
+    {
+        let mut after = self.copy(alloc)?;
+        match step {
+            Step::Metadata { value, mask } => {
+                after.metadata = (after.metadata & !mask) | (value & mask);
+            }
+            Step::Act(action) => act_on(&mut after.frame, action)?,
+            _ => {}
+        }
+        Ok(after)
+    }
+}
+
+fn key_of_frame(frame: &Frame, ingress: u32, metadata: u64) -> FieldKey
+    ensures { value result ≡ field_map (layers_of frame.now) ingress metadata }
+{
+    match read_inside(frame.bytes(), ingress, metadata) {
+        Ok(headers) => headers.key(),
+        Err(_) => unreachable!(),
+    }
+}
+
+// The frame that an action leaves.
+fn act_on(frame: &mut Frame, action: Action) -> Result<(), AllocError>
+    requires { IsTrue (is_served false action) }
+    ensures { OnOk result (frame.new ≡ frame_after action frame.old) }
+{
+    match action {
+        Action::PushVlan(tpid) => frame.push_vlan(tpid)?,
+        Action::PopVlan => frame.pop_vlan(),
+        Action::SetNwTtl(ttl) => frame.set_ttl(ttl),
+        Action::SetField { field, value } => frame.set(field, value),
+        Action::DecNwTtl => {
+            frame.dec_ttl();
+        }
+        Action::Output { .. } | Action::Group(_) => {}
+    }
+    Ok(())
+}
