@@ -1,6 +1,7 @@
 //! `ofswitch`: an OpenFlow 1.3 switch on the command line.
 #![tactic(auto)]
 
+mod hinting;
 mod serving;
 mod sockets;
 
@@ -11,6 +12,7 @@ use of_replay::{Ended, asm, replay, status};
 use of_serve::read_rows;
 use of_text::TextFault;
 use of_trace::{Form, trace_file};
+use hinting::say_hint;
 use serving::serve_rows;
 use std::fs::File;
 use std::io::{self, Read};
@@ -67,7 +69,7 @@ fn run_file(rt: &HostRuntime, request: &Request, path: &str) -> ExitCode {
         return end(rt, &run(rt, request, rt.stdin()));
     }
     match File::open(rt, path) {
-        Ok(file) => end(rt, &run(rt, request, file)),
+        Ok(file) => end_file(rt, path, &run(rt, request, file)),
         Err(error) => end_unopened(rt, path, &error),
     }
 }
@@ -86,8 +88,18 @@ fn serve_file(rt: &HostRuntime, asked: &Serve) -> ExitCode {
     };
     match rows {
         Ok(rows) => end(rt, &serve_rows(rt, asked, rows)),
-        Err(ended) => end(rt, &ended),
+        Err(ended) => match &asked.events {
+            Some(path) => end_file(rt, path.as_str(), &ended),
+            None => end(rt, &ended),
+        },
     }
+}
+
+// How a run over a file ended, and what is wrong with the line that it ended at.
+fn end_file(rt: &HostRuntime, path: &str, ended: &Ended) -> ExitCode {
+    let code = end(rt, ended);
+    say_hint(rt, path, ended);
+    code
 }
 
 // A file that does not open is a read fault, unless memory ran out.
@@ -131,22 +143,16 @@ fn end(rt: &HostRuntime, ended: &Ended) -> ExitCode {
         let _ = eprintln!(rt; "{ended}");
     }
     if let Ended::Text(fault) = ended {
-        explain(rt, fault);
+        say_name(rt, fault);
     }
     ExitCode::from(status(ended))
 }
 
-// What a fault of a flow text is in words, in a line of its own.
-fn explain(rt: &HostRuntime, fault: &TextFault) {
-    match fault {
-        TextFault::Syntax(_) => {
-            let _ = eprintln!(rt; "this line is no line of flow text, or may not stand here");
+// The name of the error that a flow text is refused with, in a line of its own.
+fn say_name(rt: &HostRuntime, fault: &TextFault) {
+    if let TextFault::Refused { code, .. } = fault {
+        if let Some(name) = code.name() {
+            let _ = eprintln!(rt; "{name}");
         }
-        TextFault::Refused { code, .. } => {
-            if let Some(name) = code.name() {
-                let _ = eprintln!(rt; "{name}");
-            }
-        }
-        TextFault::NoMemory => {}
     }
 }
