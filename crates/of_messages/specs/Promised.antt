@@ -6,6 +6,8 @@ use Rattle.of_headers.specs.Faults.{frame_fault}
 use Rattle.of_messages.specs.declared.message.Message.{Message}
 use Rattle.of_messages.specs.declared.message.Message.TheVariants.{Hello, Error, EchoRequest, EchoReply, FeaturesRequest, GetConfigRequest, SetConfig, PacketOut as IsPacketOut, FlowMod as IsFlowMod, GroupMod as IsGroupMod, PortMod as IsPortMod, TableMod as IsTableMod, Multipart, BarrierRequest, RoleRequest as IsRoleRequest, GetAsyncRequest, SetAsync}
 use Rattle.of_messages.specs.declared.message.FlowMod.{FlowMod}
+use Rattle.of_messages.specs.declared.group_mod.GroupMod.{GroupMod}
+use Rattle.of_messages.specs.declared.group_mod.GroupMod.TheVariants.{Add, Modify, Delete}
 use Rattle.of_messages.specs.declared.message.PacketData.{PacketData}
 use Rattle.of_messages.specs.declared.message.PacketData.TheVariants.{Buffered, Frame}
 use Rattle.of_messages.specs.Messages.{is_delete}
@@ -22,6 +24,12 @@ abbrev pub IsSoundPacket : PacketData → Type 0
 IsSoundPacket (Buffered number) = ⊤
 IsSoundPacket (Frame bytes) = frame_fault bytes ≡ None
 
+-- a group that is added or modified has a number up to OFPG_MAX
+abbrev pub IsSoundGroupMod : GroupMod → Type 0
+IsSoundGroupMod (Add g) = g.id ≤ 0xffffff00
+IsSoundGroupMod (Modify g) = g.id ≤ 0xffffff00
+IsSoundGroupMod (Delete which) = ⊤
+
 -- an ECHO_REQUEST was a message itself, so its data fits one
 abbrev pub IsSoundMessage : Message → Type 0
 IsSoundMessage Hello = ⊤
@@ -33,7 +41,7 @@ IsSoundMessage GetConfigRequest = ⊤
 IsSoundMessage (SetConfig config) = ⊤
 IsSoundMessage (IsPacketOut m) = IsSoundPacket m.packet
 IsSoundMessage (IsFlowMod m) = IsSoundFlowMod m
-IsSoundMessage (IsGroupMod m) = ⊤
+IsSoundMessage (IsGroupMod m) = IsSoundGroupMod m
 IsSoundMessage (IsPortMod m) = ⊤
 IsSoundMessage (IsTableMod m) = ⊤
 IsSoundMessage (Multipart request) = IsSoundRequest request

@@ -1,7 +1,8 @@
 //! GROUP_MOD (OpenFlow 1.3.5, 7.3.4.2).
-ghost use Rattle.std.specs.Prelude.{◌≡◌, ◌≤◌, length};
+ghost use Rattle.std.specs.Prelude.{◌≡◌, ◌≤◌, IfOk, length};
 ghost use Rattle.of_wire.specs.Failures.{Reads};
 ghost use Rattle.of_messages.specs.GroupMods.{command_of, delete_of, group_mod_of, group_of, kind_of};
+ghost use Rattle.of_messages.specs.Promised.{IsSoundGroupMod};
 
 use crate::bucket_reading::read_buckets;
 use crate::reading::rest_from;
@@ -75,7 +76,8 @@ fn kind_from(number: u8) -> Option<GroupKind>
 // The group that an ADD or a MODIFY asks for.
 fn read_group(alloc: Global, message: &[u8]) -> Result<NewGroup, ReadError>
     requires { 16 ≤ length message.now }
-    ensures { Reads result (group_of message.now) }
+    ensures reads { Reads result (group_of message.now) }
+    ensures number { IfOk result (λ group. group.id ≤ 0xffffff00) }
 {
     let id = BigEndian::read_u32(rest_from(message, 12));
     if id > LAST_GROUP {
@@ -90,7 +92,8 @@ fn read_group(alloc: Global, message: &[u8]) -> Result<NewGroup, ReadError>
 
 // The DELETE of the group of that number, or of all.
 fn delete_from(number: u32) -> Result<GroupMod, ReadError>
-    ensures { Reads result (delete_of number) }
+    ensures reads { Reads result (delete_of number) }
+    ensures sound { IfOk result IsSoundGroupMod }
 {
     if number == ALL_GROUPS {
         Ok(GroupMod::Delete(None))
@@ -103,7 +106,8 @@ fn delete_from(number: u32) -> Result<GroupMod, ReadError>
 
 pub(crate) fn read_group_mod(alloc: Global, message: &[u8]) -> Result<GroupMod, ReadError>
     requires { 16 ≤ length message.now }
-    ensures { Reads result (group_mod_of message.now) }
+    ensures reads { Reads result (group_mod_of message.now) }
+    ensures sound { IfOk result IsSoundGroupMod }
 {
     match command_from(BigEndian::read_u16(rest_from(message, 8))) {
         Some(GroupCommand::Add) => Ok(GroupMod::Add(read_group(alloc, message)?)),

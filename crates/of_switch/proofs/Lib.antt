@@ -16,3 +16,6 @@ pub mod Running
 pub mod OnLiterals
 pub mod Examples
 pub mod LoadLemmas
+pub mod StandingLemmas
+pub mod ConfiguringLemmas
+pub mod StandingSteps

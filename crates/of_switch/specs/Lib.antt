@@ -17,3 +17,5 @@ pub mod Calls
 pub mod Runs
 pub mod Stepping
 pub mod Loading
+pub mod Standing
+pub mod Configuring

@@ -11,7 +11,7 @@ ghost use Rattle.of_table.specs.Entries.{entry_of, flows_of};
 ghost use Rattle.of_table.specs.Tables.{modified_in, left_in, notices_in, table_at};
 ghost use Rattle.of_actions.specs.FlowCheck.{all_go_with};
 ghost use Rattle.of_actions.specs.InstructionLists.{are_for};
-ghost use Rattle.of_messages.specs.Promised.{IsSoundFlowMod, IsSoundMessage, IsSoundPacket};
+ghost use Rattle.of_messages.specs.Promised.{IsSoundFlowMod, IsSoundGroupMod, IsSoundMessage, IsSoundPacket};
 ghost use Rattle.of_switch.specs.Commands.{names_absent_group as naming_absent_group, packet_out_refusals, flow_mod_refusals, has_flag as with_flag, notice_effects, which_of};
 ghost use Rattle.of_machine.specs.Sound.{IsSound};
 ghost use Rattle.of_switch.specs.Plane.{framed, winner_in, world_of};
@@ -23,10 +23,11 @@ ghost use Rattle.of_switch.specs.Control.{heard_by, heard_in};
 ghost use Rattle.of_switch.specs.Roles.{election_refusals};
 ghost use Rattle.of_switch.specs.Statistics.{multipart_bytes, multipart_refusals};
 ghost use Rattle.of_switch.specs.Handling.{Handles};
-ghost use Rattle.of_switch.specs.Loading.{loaded_core};
+ghost use Rattle.of_switch.specs.Loading.{configuration_of, loaded_core};
 ghost use Rattle.of_switch.specs.Steps.{does, done, flow_modded, forwarded, group_added, group_modded, group_modified, groups_deleted, linked_at, packet_outed, port_added, port_modded, removed_at, replied, role_asked, state_refusals, with_tables, without_connection, moment_done};
 
 use crate::commands::{any_to_absent_group, flow_from, has_flag, names_absent_group, which_from};
+use crate::configuring::config_from;
 use crate::control::{Control, Heard};
 use crate::effect::{Effect, Effects};
 use crate::loading::load_tables;
@@ -111,6 +112,8 @@ impl From<GroupFault> for Fault {
 }
 
 /// The core of a switch: its flow tables, groups and ports.
+///
+/// Each group that an entry names is there, and none has a number above OFPG_MAX.
 #[derive(Drop)]
 pub struct Engine<L: Lookup> {
     dpid: u64,
@@ -122,10 +125,13 @@ pub struct Engine<L: Lookup> {
 impl<L: Lookup> Model for Engine<L> {
     ghost use Rattle.of_switch.specs.State.{Core};
     ghost use Rattle.of_switch.specs.Numbers.{forwarding_of};
+    ghost use Rattle.of_switch.specs.Standing.{IsStanding};
 
     ghost Value = { Core };
 
     ghost view = { λ e. record { dpid = e.dpid; control = e.control; forwarding = forwarding_of e.plane.tables e.plane.groups e.plane.ports } };
+
+    ghost invariant = { λ e. IsStanding (forwarding_of e.plane.tables e.plane.groups e.plane.ports) };
 }
 
 impl<L: Lookup> Engine<L> {
@@ -474,6 +480,7 @@ impl<L: Lookup> Engine<L> {
 
     fn modify_flows(&mut self, flow_mod: FlowMod) -> Result<(), AllocError>
         requires table { flow_mod.table < 16 }
+        requires group { naming_absent_group self.old.forwarding.groups flow_mod.instructions ≡ false }
         requires fit { are_for flow_mod.table flow_mod.instructions ≡ true }
         requires checked { all_go_with flow_mod.fields flow_mod.instructions ≡ true }
         ensures ok { OnOk result (self.new ≡ with_tables (modified_in (which_of flow_mod) flow_mod.instructions (with_flag flow_mod.flags 4) self.old.forwarding.tables) self.old) }
@@ -514,6 +521,7 @@ impl<L: Lookup> Engine<L> {
     }
 
     fn group_mod(&mut self, group_mod: GroupMod) -> Result<Effects, Fault>
+        requires { IsSoundGroupMod group_mod }
         ensures { Handles (first_of (refused_for (group_mod_fault group_mod self.old.forwarding.tables.latest self.old.forwarding.groups))) (group_modded group_mod self.old) self.old result self.new }
     {
         match group_mod {
@@ -527,6 +535,7 @@ impl<L: Lookup> Engine<L> {
 
     // Adds a group at the latest moment.
     fn add_group(&mut self, id: u32, kind: GroupKind, buckets: Buckets) -> Result<Effects, Fault>
+        requires { id ≤ 0xffffff00 }
         ensures { Handles (first_of (refused_for (add_fault (new_group id kind buckets self.old.forwarding.tables.latest) self.old.forwarding.groups))) (group_added id kind buckets self.old) self.old result self.new }
     {
         let now = self.plane.tables.latest();
@@ -535,6 +544,7 @@ impl<L: Lookup> Engine<L> {
     }
 
     fn modify_group(&mut self, id: u32, kind: GroupKind, buckets: Buckets) -> Result<Effects, Fault>
+        requires { id ≤ 0xffffff00 }
         ensures { Handles (first_of (refused_for (modify_fault (modified_group id kind buckets self.old.forwarding.groups) self.old.forwarding.groups))) (group_modified id kind buckets self.old) self.old result self.new }
     {
         self.plane.groups.modify(id, kind, buckets)?;
@@ -561,11 +571,24 @@ impl<L: Lookup> Engine<L> {
         ensures ok { OnOk result (self.new ≡ loaded_core config.now self.old) }
         ensures err { OnErr result (self.new ≡ self.old) }
     {
+        config.known();
         let now = self.plane.tables.latest();
         let tables = load_tables(self.alloc, now, config)?;
         self.plane.groups = config.to_groups(now)?;
         self.plane.tables = tables;
         Ok(())
+    }
+
+    /// The groups and flows, without counters and times.
+    pub fn config(&self) -> Result<Config, AllocError>
+        ensures { IfOk result (λ config. config ≡ configuration_of self.now.forwarding) }
+    {
+        let Plane {
+            tables,
+            groups,
+            ports,
+        } = &self.plane;
+        config_from(self.alloc, tables, groups, ports)
     }
 
     /// It is so many nanoseconds, while the controller is told this.

@@ -5,6 +5,8 @@ ghost use Rattle.of_messages.specs.Written.{error_bytes};
 ghost use Rattle.of_session.specs.Session.{is_disconnected, taken};
 ghost use Rattle.of_session.specs.Stream.{Splits};
 ghost use Rattle.of_switch.specs.declared.effect.Effect.TheVariants.{Answer};
+ghost use Rattle.of_text.specs.Configs.{Configuration, IsConfig};
+ghost use Rattle.of_switch.specs.Loading.{config_of, loaded};
 ghost use Rattle.of_switch.specs.State.{State};
 ghost use Rattle.of_switch.specs.Steps.{IsRefusedWith, coming, failed_of, gives, next_of};
 ghost use Rattle.of_switch.specs.Runs.{behind, come, drained, handled_in_turn, piece_in};
@@ -27,4 +29,9 @@ pub fn piece_handles_its_messages()
 /// A message that is refused is answered by an ERROR of its code with its first 64 bytes, and changes nothing else.
 pub fn refusal_changes_nothing()
     ensures { (s : State) (xid size : ℕ) (code : ErrorCode) → IsRefusedWith (coming s) s.core xid size code → next_of s ≡ Some (gives (Answer (error_bytes xid code (failed_of size s.connection)) ∷ []) (record s { connection = taken size s.connection })) }
+{}
+
+/// The configuration of a switch that a configuration was loaded into is that configuration.
+pub fn loaded_is_told()
+    ensures { (c : Configuration) (s : State) → IsConfig c → config_of (loaded c s) ≡ c }
 {}

@@ -2,6 +2,7 @@
 #![tactic(auto)]
 
 mod commands;
+mod configuring;
 mod control;
 mod dry_run;
 mod effect;
@@ -20,7 +21,7 @@ mod told;
 
 pub use effect::{Effect, Effects};
 pub use event::{Event, Report};
-pub use laws::{piece_handles_its_messages, refusal_changes_nothing, two_pieces};
+pub use laws::{loaded_is_told, piece_handles_its_messages, refusal_changes_nothing, two_pieces};
 pub use port_change::PortChange;
 pub use switch::Switch;
 pub use switch_error::SwitchError;

@@ -14,7 +14,7 @@ ghost use Rattle.of_table.specs.Entries.{entry_of, flows_of};
 ghost use Rattle.of_table.specs.Tables.{table_at};
 ghost use Rattle.of_switch.specs.Steps.{came, closing as closing_with, connected, does, failed_of, fed, frame_in, heard_of, lost as lost_from, moment_in, gives, next_of, port_changed, refused as refused_by};
 ghost use Rattle.of_switch.specs.Calls.{Call, absent_refusal, connect_refusal, feed_refusal, new_refusal, port_refusal};
-ghost use Rattle.of_switch.specs.Loading.{loaded};
+ghost use Rattle.of_switch.specs.Loading.{config_of, loaded};
 ghost use Rattle.of_switch.specs.Runs.{RunsAll, StopsWithin, reports_of};
 ghost use Rattle.of_switch.specs.Stepping.{Drains, Happens, Tells};
 
@@ -336,6 +336,13 @@ impl<L: Lookup> Switch<L> {
         ensures { Call None (λ _ new. new ≡ loaded config.now self.old) self.old result self.new }
     {
         Ok(self.engine.load(config)?)
+    }
+
+    /// The groups and flows, without counters and times: as `load` would take them.
+    pub fn config(&self) -> Result<Config, AllocError>
+        ensures { IfOk result (λ config. config ≡ config_of self.now) }
+    {
+        self.engine.config()
     }
 
     /// Events in any order, whose reports are appended: one an event.

@@ -185,7 +185,7 @@ steps_served table (s ∷ ss) k h g =
     let others = steps_served table ss (all_back Fits (step_rows s) (flat_map step_rows ss) k) h.1 g.1 in
     (and_from _ _ one.0 others.0, and_from _ _ one.1 others.1)
 
-goes_same : (m : List MatchField) (ss : List Step) → all_go_with m (map instruction_of ss) ≡ list_all (goes_with m) ss
+pub goes_same : (m : List MatchField) (ss : List Step) → all_go_with m (map instruction_of ss) ≡ list_all (goes_with m) ss
 goes_same m [] = refl
 goes_same m (Apply xs ∷ ss) = ap (λ (b : Bool). goes_with m (Apply xs) && b) (goes_same m ss)
 goes_same m (Clear ∷ ss) = ap (λ (b : Bool). true && b) (goes_same m ss)

@@ -41,3 +41,11 @@ group_at created g = record { id = g.head.id; kind = g.head.kind; buckets = buck
 
 abbrev pub groups_at : ℕ → List TextGroup → List Group
 groups_at created groups = map (group_at created) groups
+
+-- ---- and back: without counters and times
+
+abbrev pub bucket_text : Bucket → TextBucket
+bucket_text b = record { head = record { weight = b.weight; watch_port = b.watch_port; watch_group = b.watch_group }; actions = b.actions }
+
+abbrev pub group_text : Group → TextGroup
+group_text g = record { head = record { id = g.id; kind = g.kind }; buckets = map bucket_text g.buckets }

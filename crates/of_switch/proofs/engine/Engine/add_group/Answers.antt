@@ -1,6 +1,7 @@
 use Rattle.std.proofs.Common.{refl}
 use Rattle.std.proofs.lemmas.Result.{err_from_is_err_and}
 use Rattle.of_switch.specs.Steps.{group_added}
+use Rattle.of_switch.proofs.StandingSteps.{group_put}
 use Rattle.of_switch.proofs.GroupHandling.{fault_or_memory}
 use Rattle.of_switch.proofs.engine.Engine.add_group.Goals as goal
 
@@ -10,3 +11,6 @@ returns-in_err-add g c =
     let fault = rw c.latest-now.ensures at c.in_err-add.ensures.fault in
     let a = c.args in
     rw (← c.self.view_is, p.1, p.2, c.in_err-add.ensures.err) (fault_or_memory (Unit {0}) c.in_err-add.field-0.0 _ (group_added a.id a.kind a.buckets a.self.now) _ _ fault refl)
+
+pub invariant_of-self-2 : goal.invariant_of-self-2
+invariant_of-self-2 g c = group_put _ _ _ _ _ c.requires c.in_ok-add.ensures.ok c.self.invariant
