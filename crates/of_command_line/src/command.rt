@@ -6,7 +6,7 @@ use std::alloc::{AllocError, Global};
 const STATUSES: &str =
     "Exit status: 0 done; 1 bad arguments; 2 a bad FILE (on standard error `line N: bad row`, of `replay` after the \
 effects of the rows before it, and of flow text `line N: syntax` or `line N: type T code C`, of which nothing is \
-written); 3 `read fault`, `write fault` or `no memory`.";
+written; of `dis` nothing is written either); 3 `read fault`, `write fault` or `no memory`.";
 
 const EVENT_FILES: &str = "An event file has one event a line, and words are separated by one space:
 
@@ -38,6 +38,13 @@ const FLOW_TEXT: &str =
 The event file connects a controller, which says HELLO and adds each group by a GROUP_MOD, and each flow by a FLOW_MOD.
 
   ofswitch asm examples/router.flows > router.events";
+
+const DISASSEMBLY: &str =
+    "The rows are played as `replay` plays them, and what they give is not printed. Then come the switch's groups by number
+and its flows by table, the oldest of a table first, in the words of flow text (`ofswitch asm --help`), without counters
+and times. Of a file with a bad row nothing is printed.
+
+  ofswitch asm examples/router.flows | ofswitch dis -";
 
 const TRACES: &str =
     "The switch has ports 1 to 64, whose links are up, and the groups and flows of the text. One line a step:
@@ -87,6 +94,15 @@ pub fn command<'a>(alloc: Global) -> Result<Command<'a>, AllocError> {
         .about("Prints an event file that builds the groups and flow tables of a flow text")
         .after_help(FLOW_TEXT)
         .arg(text)?;
+    let rows = Arg::new(alloc, "FILE")
+        .required(true)
+        .help("The event file to run; - is standard input");
+    let dis = Command::new(alloc, "dis")
+        .about(
+            "Runs an event file on a new switch and prints its groups and flow tables as flow text",
+        )
+        .after_help(DISASSEMBLY)
+        .arg(rows)?;
     let flows = Arg::new(alloc, "FILE").long("flows").required(true).help(
         "The flow text with the switch's flows; - is standard input",
     );
@@ -117,6 +133,7 @@ pub fn command<'a>(alloc: Global) -> Result<Command<'a>, AllocError> {
         .arg_required_else_help(true)
         .subcommand(replay)?
         .subcommand(asm)?
+        .subcommand(dis)?
         .subcommand(trace)?
         .subcommand(serve)
 }

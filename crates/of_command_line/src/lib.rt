@@ -34,6 +34,10 @@ pub enum Request {
     Assemble {
         file: String,
     },
+    /// To run an event file on a new switch and print the groups and flows that it has then, as flow text; `-` is standard input.
+    Disassemble {
+        file: String,
+    },
     /// To print the trace of a frame that comes in by a port of a switch with the flows of a flow text; `-` is standard input.
     Trace {
         file: String,
@@ -108,6 +112,7 @@ fn request_of(alloc: Global, matches: &ArgMatches<'_>) -> Result<Request, NoRequ
     let file = matches.get_str("FILE").unwrap_or("-").to_string(alloc)?;
     match name {
         "asm" => Ok(Request::Assemble { file }),
+        "dis" => Ok(Request::Disassemble { file }),
         "trace" => Ok(Request::Trace {
             file,
             port: port_of(alloc, matches.get_str("N").unwrap_or(""))?,

@@ -104,7 +104,7 @@ asm_unwritten text answers answers' ends ends' file taken taken' r b w = record 
 
 -- ---- faults
 
-by_read : (reads ends ends' failures failures' : ℕ) → ReadsFail (Err Read) reads ends ends' failures failures' → (failures' ≤ failures + 1) × ((failures < failures') ⊎ ((reads ≡ 1000000) × (ends' ≡ ends)))
+pub by_read : (reads ends ends' failures failures' : ℕ) → ReadsFail (Err Read) reads ends ends' failures failures' → (failures' ≤ failures + 1) × ((failures < failures') ⊎ ((reads ≡ 1000000) × (ends' ≡ ends)))
 by_read reads ends ends' failures failures' h = by_case h.1
   where
     by_case : (failures' ≡ failures + 1) ⊎ ((failures' ≡ failures) × (reads ≡ 1000000)) → (failures' ≤ failures + 1) × ((failures < failures') ⊎ ((reads ≡ 1000000) × (ends' ≡ ends)))

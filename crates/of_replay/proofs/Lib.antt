@@ -7,3 +7,4 @@ pub mod WholeRuns
 pub mod Examples
 pub mod FileLemmas
 pub mod ConfigLemmas
+pub mod DisLemmas

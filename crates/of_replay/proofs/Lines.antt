@@ -337,6 +337,16 @@ within_ends bytes kept n s held out out' first taken taken' w goes =
     let lines : lines_read true bytes ≡ w.lines ++ w.line ∷ [] = ap (λ (ls : List (List ℕ)). ls ++ last_from [] bytes ∷ []) (w.whole ∙ append-nil w.lines) ∙ ap (λ (x : List ℕ). w.lines ++ x ∷ []) w.last in
     subst (λ (ls : List (List ℕ)). ((rows_of ls).bad ≡ None) × Prints (rows_of ls).events out' first taken') (sym lines) (going.good, going.prints)
 
+-- and the switch is as its lines left it
+pub within_played : (bytes kept : List ℕ) (n : ℕ) (s held : State) (out out' : List ℕ) (first taken taken' : Option (List ℕ)) → Within bytes [] kept n s out first taken
+    → LineGoes (Ok tt) n (row_of kept) s held out out' taken taken' → ((rows_of (lines_read true bytes)).bad ≡ None) × (held ≡ (run (rows_of (lines_read true bytes)).events (start 1)).state)
+within_played bytes kept n s held out out' first taken taken' w goes =
+    let row : row_of kept ≡ row_of w.line = ap row_of w.kept_is ∙ row_kept w.line in
+    let played : LineGoes (Ok tt) n (row_of w.line) s held out out' taken taken' = subst (λ (r : Option EventRow). LineGoes (Ok tt) n r s held out out' taken taken') row goes in
+    let going : Going (w.lines ++ w.line ∷ []) (n + 1) held out' first taken' = going_by (row_of w.line) w.lines w.line n (n + 1) s held out out' first taken taken' refl w.going played refl in
+    let lines : lines_read true bytes ≡ w.lines ++ w.line ∷ [] = ap (λ (ls : List (List ℕ)). ls ++ last_from [] bytes ∷ []) (w.whole ∙ append-nil w.lines) ∙ ap (λ (x : List ℕ). w.lines ++ x ∷ []) w.last in
+    subst (λ (ls : List (List ℕ)). ((rows_of ls).bad ≡ None) × (held ≡ (run (rows_of ls).events (start 1)).state)) (sym lines) (going.good, going.state)
+
 pub within_end_halts : (h : Halt) (bytes kept : List ℕ) (n : ℕ) (s held : State) (out out' : List ℕ) (first taken taken' : Option (List ℕ)) → Within bytes [] kept n s out first taken
     → LineGoes (Err h) n (row_of kept) s held out out' taken taken' → Halts h (rows_of (lines_read true bytes)) out' first taken'
 within_end_halts h bytes kept n s held out out' first taken taken' w goes =

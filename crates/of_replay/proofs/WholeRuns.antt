@@ -1,7 +1,7 @@
 -- A whole run, from what was read to what was written.
 use Rattle.std.proofs.Common.{◌≡◌, ℕ, ◌+◌, Bool, true, false, List, [], ◌∷◌, ◌++◌, Option, Some, None, Result, Ok, Err, refl, sym, ◌∙◌, ap, subst, append_assoc, arith, inl, inr, ◌<◌, ◌≤◌, take, length}
 use Rattle.std.proofs.lemmas.List.{append-nil, length-take-le}
-use Rattle.std.specs.Prelude.{nat_lt, ◌⊎◌, ◌↔◌}
+use Rattle.std.specs.Prelude.{nat_lt, ◌⊎◌, ◌↔◌, OnOk}
 use Rattle.std.proofs.lemmas.Bool.Decides.{nat_tests}
 use Rattle.of_switch.specs.declared.event.Event.{Event}
 use Rattle.of_switch.specs.State.{State, start}
@@ -14,8 +14,8 @@ use Rattle.of_replay.specs.Transfer.{then_answers, WroteFront}
 use Rattle.of_replay.specs.Rows.{EventRow, Rows, row_of, rows_of}
 use Rattle.of_replay.specs.Output.{printed}
 use Rattle.of_replay.specs.Play.{lines_read, Wrote, Replays, Ends}
-use Rattle.of_replay.specs.Stepping.{LineGoes, Prints, PrintsFirst, Within, Halts, PieceGoes, Plays, PlaysRead, ReadSoFar, WritesFail, ReadsFail, ended_so}
-use Rattle.of_replay.proofs.Lines.{within_start, within_ends, within_end_halts, within_open, prints_front, run_text}
+use Rattle.of_replay.specs.Stepping.{LineGoes, Prints, PrintsFirst, Within, Halts, PieceGoes, Plays, PlayedAll, PlaysRead, ReadSoFar, WritesFail, ReadsFail, ended_so}
+use Rattle.of_replay.proofs.Lines.{within_start, within_ends, within_played, within_end_halts, within_open, prints_front, run_text}
 use Rattle.of_replay.proofs.TellingLemmas.{then-then, then-nil, answers-nil, answers-more, given-more}
 
 -- READING
@@ -103,6 +103,15 @@ pub read_ends : (result : Result (Unit {0}) Halt) (answers now next : Option (Li
 read_ends result answers now next one ends ends' kept n s held out out' first taken taken' r e none ended goes =
     plays_read result answers next ends ends' (r.more ++ one ∷ []) (given r.more) out' first taken' true (told_more answers now next r.more one r.answers_are e) (is_ended ends ends' ended)
     (given_same r.more one none) (ends_by result (given r.more) kept n s held out out' first taken taken' r.within goes)
+
+-- all lines were played
+pub read_played : (result : Result (Unit {0}) Halt) (answers now next : Option (List Answer)) (one : Answer) (kept : List ℕ) (n : ℕ) (s held : State) (out out' : List ℕ) (first taken taken' : Option (List ℕ)) → ReadSoFar answers now kept n s out first taken
+    → next ≡ then_answer now one → bytes_of one ≡ [] → LineGoes result n (row_of kept) s held out out' taken taken' → OnOk result (PlayedAll answers next held)
+read_played (Ok u) answers now next one kept n s held out out' first taken taken' r e none goes =
+    let h = within_played (given r.more) kept n s held out out' first taken taken' r.within goes in
+    let same : given (r.more ++ one ∷ []) ≡ given r.more = given_same r.more one none in
+    record { more = r.more ++ one ∷ []; answers_are = told_more answers now next r.more one r.answers_are e; good = rw same h.0; state = rw same h.1 }
+read_played (Err h) answers now next one kept n s held out out' first taken taken' r e none goes = tt
 
 -- it did not
 pub read_stops : (answers now : Option (List Answer)) (ends ends' : ℕ) (kept : List ℕ) (n : ℕ) (s : State) (out : List ℕ) (first taken : Option (List ℕ)) → ReadSoFar answers now kept n s out first taken

@@ -45,7 +45,7 @@ pub record Configures (result : Result Configuration Ended) (answers answers' : 
   pub answers_are : answers' ≡ then_answers answers more
   pub is : IsRead result (nat_lt ends ends') (given more)
 
--- a configuration that was read ends nothing
-abbrev pub ended_as : Result Configuration Ended → Ended
-ended_as (Ok config) = Done
+-- what was read or played ends nothing
+abbrev pub ended_as : {A : Type 0} → Result A Ended → Ended
+ended_as (Ok a) = Done
 ended_as (Err e) = e

@@ -9,3 +9,4 @@ pub mod Stepping
 pub mod Ended
 pub mod Assembling
 pub mod ConfigFiles
+pub mod Disassembling

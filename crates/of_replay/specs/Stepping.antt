@@ -168,3 +168,10 @@ ended_so (Err (halt.Bad n)) = BadRow n
 ended_so (Err halt.Memory) = NoMemory
 ended_so (Err halt.Read) = ReadFault
 ended_so (Err halt.Write) = WriteFault
+
+-- the source told its end, and all lines were played, none of which is bad
+pub record PlayedAll (answers answers' : Option (List Answer)) (s : State) : Type 0 where
+  pub more : List Answer
+  pub answers_are : answers' ≡ then_answers answers more
+  pub good : (rows_of (lines_read true (given more))).bad ≡ None
+  pub state : s ≡ (run (rows_of (lines_read true (given more))).events (start 1)).state

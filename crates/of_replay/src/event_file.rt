@@ -17,7 +17,7 @@ use thiserror::Error;
 pub const READ_SIZE: usize = 65_536;
 
 /// The number of the switch that rows are played on (OpenFlow 1.3.5, 7.3.1).
-const DPID: u64 = 1;
+pub const DPID: u64 = 1;
 
 /// How a run ended. What it shows is the line that stands on standard error.
 #[derive(Clone, Copy, Debug, PartialEq, Eq, Error)]

@@ -38,8 +38,8 @@ fn write_text<W: Sink>(text: &[u8], writer: &mut W) -> Ended
     }
 }
 
-// Writes what was built, if that was.
-fn write_built<W: Sink>(text: Result<Vec<u8>, Ended>, writer: &mut W) -> Ended
+/// Writes what was built, if that was.
+pub fn write_built<W: Sink>(text: Result<Vec<u8>, Ended>, writer: &mut W) -> Ended
     requires { W.failures writer.old ≡ 0 }
     ensures { Writes result text (W.taken writer.old) (W.taken writer.new) (W.failures writer.new) }
 {

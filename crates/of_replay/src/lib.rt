@@ -2,6 +2,7 @@
 #![tactic(auto)]
 
 mod config_file;
+mod disassembling;
 mod event_file;
 mod flow_text;
 mod halt;
@@ -18,6 +19,7 @@ mod transfer;
 mod whole_file;
 
 pub use config_file::read_config;
+pub use disassembling::dis;
 pub use event_file::{Ended, READ_SIZE, ended_by, replay, status, zeros};
 pub use flow_text::asm;
 pub use halt::Halt;

@@ -3,7 +3,7 @@ ghost use Rattle.std.specs.Prelude.{◌≡◌, ◌+◌, ◌<◌, ◌≤◌, ◌^
 ghost use Rattle.of_switch.specs.State.{start};
 ghost use Rattle.of_replay.specs.Rows.{row_of};
 ghost use Rattle.of_replay.specs.Play.{Replays};
-ghost use Rattle.of_replay.specs.Stepping.{LineTells, LineGoes, Within, PieceGoes, PlaysRead, WritesFail, ReadsFail, ended_so};
+ghost use Rattle.of_replay.specs.Stepping.{LineTells, LineGoes, Within, PieceGoes, PlayedAll, PlaysRead, WritesFail, ReadsFail, ended_so};
 
 use crate::halt::Halt;
 use crate::io::{Reading, Sink, Source};
@@ -64,6 +64,13 @@ impl<L: Lookup> Replaying<L> {
             printer: Printer::new(alloc),
             alloc,
         }
+    }
+
+    /// The switch, after the lines that were played.
+    pub fn into_switch(self) -> Switch<L>
+        ensures { result ≡ self.switch }
+    {
+        self.switch
     }
 
     // Plays the open line, and prints what it gives.
@@ -142,6 +149,7 @@ impl<L: Lookup> Replaying<L> {
         requires fresh { S.reads reader.old ≡ 0 }
         requires well { W.failures writer.old ≡ 0 }
         requires start { (self.old.open ≡ []) × (self.old.number ≡ 1) × (self.old.switch ≡ start 1) × (self.old.printer ≡ []) }
+        ensures played { OnOk result (PlayedAll (S.answers reader.old) (S.answers reader.new) self.new.switch) }
         ensures plays { PlaysRead result (S.answers reader.old) (S.answers reader.new) (S.ends reader.old) (S.ends reader.new) self.new.printer (W.taken writer.old) (W.taken writer.new) }
         ensures reads { ReadsFail result (S.reads reader.new) (S.ends reader.old) (S.ends reader.new) (S.failures reader.old) (S.failures reader.new) }
         ensures few { S.reads reader.new ≤ 1000000 }
@@ -169,6 +177,7 @@ impl<L: Lookup> Replaying<L> {
         requires fresh { S.reads reader.old ≡ 0 }
         requires well { W.failures writer.old ≡ 0 }
         requires start { (self.old.open ≡ []) × (self.old.number ≡ 1) × (self.old.switch ≡ start 1) × (self.old.printer ≡ []) }
+        ensures played { OnOk result (PlayedAll (S.answers reader.old) (S.answers reader.new) self.new.switch) }
         ensures plays { Replays (ended_so result) (S.answers reader.old) (S.answers reader.new) (S.ends reader.old) (S.ends reader.new) (W.taken writer.old) (W.taken writer.new) }
         ensures reads { ReadsFail result (S.reads reader.new) (S.ends reader.old) (S.ends reader.new) (S.failures reader.old) (S.failures reader.new) }
         ensures few { S.reads reader.new ≤ 1000000 }

@@ -8,7 +8,7 @@ mod sockets;
 use of_command_line::{NoRequest, Request, Serve, read_request};
 use of_mask_groups::MaskGroups;
 use of_replay::streams::{ReaderSource, WriterSink};
-use of_replay::{Ended, asm, replay, status};
+use of_replay::{Ended, asm, dis, replay, status};
 use of_serve::read_rows;
 use of_text::TextFault;
 use of_trace::{Form, trace_file};
@@ -57,9 +57,10 @@ fn tell(rt: &HostRuntime, why: &NoRequest) -> ExitCode {
 
 fn carry_out(rt: &HostRuntime, request: &Request) -> ExitCode {
     match request {
-        Request::Replay { file } | Request::Assemble { file } | Request::Trace { file, .. } => {
-            run_file(rt, request, file.as_str())
-        }
+        Request::Replay { file }
+        | Request::Assemble { file }
+        | Request::Disassemble { file }
+        | Request::Trace { file, .. } => run_file(rt, request, file.as_str()),
         Request::Serve(asked) => serve_file(rt, asked),
     }
 }
@@ -120,6 +121,9 @@ fn run<R: Read + Drop>(rt: &HostRuntime, request: &Request, reader: R) -> Ended 
             replay::<MaskGroups, _, _>(rt.alloc(), &mut reader, &mut writer)
         }
         Request::Assemble { .. } => asm(rt.alloc(), &mut reader, &mut writer),
+        Request::Disassemble { .. } => {
+            dis::<MaskGroups, _, _>(rt.alloc(), &mut reader, &mut writer)
+        }
         Request::Trace {
             port,
             frame,

@@ -3,7 +3,7 @@ use Rattle.std.proofs.lemmas.Result.{err_from_is_err_and}
 use Rattle.of_replay.specs.Told.{Gave, Idle, Ended, Failed, then_answer, given}
 use Rattle.of_replay.specs.Rows.{rows_of}
 use Rattle.of_replay.specs.Play.{lines_read}
-use Rattle.of_replay.proofs.WholeRuns.{read_begun, read_idle, read_piece, read_halts, read_ends, read_stops, piece_size, piece_reads}
+use Rattle.of_replay.proofs.WholeRuns.{read_begun, read_idle, read_piece, read_halts, read_ends, read_played, read_stops, piece_size, piece_reads}
 use Rattle.of_replay.proofs.replaying.Replaying.read.Goals as goal
 use Rattle.of_replay.proofs.replaying.Replaying.read.Goals.{in-Bytes+in_ok-piece-in-Bytes, in-Nothing}
 
@@ -42,6 +42,13 @@ returns-in-End-clause-plays g c =
     read_ends c.line.result (g.S.Source.answers c.args.reader.now) (g.S.Source.answers l.reader) (g.S.Source.answers c.read.new.self) Ended (g.S.Source.ends c.args.reader.now) (g.S.Source.ends c.read.new.self)
     l.self.open l.self.number l.self.switch c.line.new.self.switch l.self.printer c.line.new.self.printer (g.W.Sink.taken c.args.writer.now) (g.W.Sink.taken l.writer) (g.W.Sink.taken c.line.new.writer) l.invariant.so_far
     c.in-End.ensures.answers refl (omega (arith, c.in-End.ensures.ends, l.invariant.ends)) c.line.ensures.goes
+
+pub returns-in-End-clause-played : goal.returns-in-End-clause-played
+returns-in-End-clause-played g c =
+    let l = c.loop in
+    read_played c.line.result (g.S.Source.answers c.args.reader.now) (g.S.Source.answers l.reader) (g.S.Source.answers c.read.new.self) Ended
+    l.self.open l.self.number l.self.switch c.line.new.self.switch l.self.printer c.line.new.self.printer (g.W.Sink.taken c.args.writer.now) (g.W.Sink.taken l.writer) (g.W.Sink.taken c.line.new.writer) l.invariant.so_far
+    c.in-End.ensures.answers refl c.line.ensures.goes
 
 pub returns-in-Fault-clause-plays : goal.returns-in-Fault-clause-plays
 returns-in-Fault-clause-plays g c =
