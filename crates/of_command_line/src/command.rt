@@ -49,7 +49,9 @@ const TRACES: &str =
   end                                   the packet's way ends
   s 2 HEX                               and then what leaves
 
-With --explain a look-up is followed by the entry that won, in the words of flow text.
+With --explain notes stand below the lines: below a look-up the entry that won, in the words of flow text, and the fields
+that the table sees; below an action what it changed, why an output sends nothing, and which buckets of a group run. With
+--why all, or --why \"0 100\" for the entries of table 0 that have priority 100, they also say why entries won or did not.
 
   ofswitch trace --flows examples/router.flows --port 1 0200000000a10200000000010800450000140000000040fd64e30a0000010a010109";
 
@@ -100,14 +102,19 @@ pub fn command<'a>(alloc: Global) -> Result<Command<'a>, AllocError> {
     let explain = Arg::new(alloc, "explain")
         .long("explain")
         .action(ArgAction::SetTrue)
-        .help("Adds notes: the entry that won, as flow text writes it");
+        .help("Adds notes: what tables see, and what actions change");
+    let why = Arg::new(alloc, "why")
+        .long("why")
+        .value_name("ENTRIES")
+        .help("Adds to the notes why entries won or did not: all, or those of \"TABLE PRIORITY\"");
     let trace = Command::new(alloc, "trace")
         .about("Prints, step by step, what a frame does on a switch with the flows of a flow text")
         .after_help(TRACES)
         .arg(flows)?
         .arg(port)?
         .arg(frame)?
-        .arg(explain)?;
+        .arg(explain)?
+        .arg(why)?;
     let serve = serve_command(alloc)?;
     Command::new(alloc, "ofswitch")
         .version(VERSION)

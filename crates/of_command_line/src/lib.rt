@@ -16,6 +16,9 @@ use std::str::FromStr;
 /// A switch on which frames are traced has the ports 1 to this one.
 const LAST_PORT: u32 = 64;
 
+/// How many flow tables there are.
+const TABLES: u8 = 16;
+
 /// Where controllers find a switch (OpenFlow 1.3.5, 6.3.1).
 const DEFAULT_ADDRESS: &str = "127.0.0.1:6653";
 
@@ -42,9 +45,20 @@ pub enum Request {
         frame: Vec<u8>,
         /// Whether its lines have notes.
         explain: bool,
+        /// Of which entries it says why they won or did not.
+        why: Option<Asked>,
     },
     /// To serve controllers.
     Serve(Serve),
+}
+
+/// Entries of which a trace says why they won or did not.
+#[derive(Clone, Copy, Debug, PartialEq, Eq)]
+pub enum Asked {
+    /// All of each table that is looked at.
+    All,
+    /// Those of a table, 0 to 15, that have a priority.
+    Priority { table: u8, priority: u16 },
 }
 
 /// How controllers are served.
@@ -113,6 +127,7 @@ fn request_of(alloc: Global, matches: &ArgMatches<'_>) -> Result<Request, NoRequ
             port: port_of(alloc, matches.get_str("N").unwrap_or(""))?,
             frame: frame_of(alloc, matches.get_str("HEX").unwrap_or(""))?,
             explain: matches.get_flag("explain"),
+            why: why_of(alloc, matches.get_str("why"))?,
         }),
         _ => Ok(Request::Replay { file }),
     }
@@ -133,6 +148,33 @@ fn frame_of(alloc: Global, word: &str) -> Result<Vec<u8>, NoRequest> {
             alloc,
             "bad hex: a frame is hexadecimal digits, two a byte\n",
         )?),
+    }
+}
+
+fn why_of(alloc: Global, word: Option<&str>) -> Result<Option<Asked>, NoRequest> {
+    let Some(word) = word else {
+        return Ok(None);
+    };
+    match asked_in(word) {
+        Some(asked) => Ok(Some(asked)),
+        None => Err(refused(
+            alloc,
+            "bad why: it is all, or a table and a priority, as \"0 100\"\n",
+        )?),
+    }
+}
+
+fn asked_in(word: &str) -> Option<Asked> {
+    if word == "all" {
+        return Some(Asked::All);
+    }
+    let (table, priority) = word.split_once(' ')?;
+    let table = u8::from_str_radix(table, 10).ok()?;
+    let priority = u16::from_str_radix(priority, 10).ok()?;
+    if table < TABLES {
+        Some(Asked::Priority { table, priority })
+    } else {
+        None
     }
 }
 

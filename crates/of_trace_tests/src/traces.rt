@@ -144,6 +144,7 @@ fn reasons_in_words(rt: HostRuntime) -> Result<(), Fail> {
 }
 
 /// Numbers of 31 bits by a linear congruence (Knuth, The Art of Computer Programming 2, 3.3.4).
+#[derive(Clone, Copy)]
 struct Numbers {
     state: u64,
 }

@@ -5,7 +5,7 @@ mod hinting;
 mod serving;
 mod sockets;
 
-use of_command_line::{NoRequest, Request, Serve, read_request};
+use of_command_line::{Asked, NoRequest, Request, Serve, read_request};
 use of_mask_groups::MaskGroups;
 use of_replay::streams::{ReaderSource, WriterSink};
 use of_replay::{Ended, asm, replay, status};
@@ -124,16 +124,24 @@ fn run<R: Read + Drop>(rt: &HostRuntime, request: &Request, reader: R) -> Ended 
             port,
             frame,
             explain,
+            why,
             ..
         } => {
-            let form = if *explain {
-                Form::Explained
-            } else {
-                Form::Plain
-            };
+            let form = form_of(*explain, *why);
             trace_file::<MaskGroups, _, _>(rt.alloc(), &mut reader, *port, frame, form, &mut writer)
         }
         Request::Serve(_) => Ended::Done,
+    }
+}
+
+fn form_of(explain: bool, why: Option<Asked>) -> Form {
+    match why {
+        Some(Asked::All) => Form::Why(of_trace::Asked::All),
+        Some(Asked::Priority { table, priority }) => {
+            Form::Why(of_trace::Asked::Priority { table, priority })
+        }
+        None if explain => Form::Explained,
+        None => Form::Plain,
     }
 }
 
