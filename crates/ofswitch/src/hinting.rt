@@ -10,7 +10,9 @@ fn line_of(rt: &HostRuntime, path: &str, number: usize) -> Option<Vec<u8>> {
     let mut file = File::open(rt, path).ok()?;
     let mut bytes = Vec::new(rt.alloc());
     file.read_to_end(&mut bytes).ok()?;
-    let line = bytes.split(|byte| *byte == b'\n').nth(number.checked_sub(1)?)?;
+    let line = bytes
+        .split(|byte| *byte == b'\n')
+        .nth(number.checked_sub(1)?)?;
     Vec::from_slice(rt.alloc(), line).ok()
 }
 

@@ -5,6 +5,7 @@ mod hinting;
 mod serving;
 mod sockets;
 
+use hinting::say_hint;
 use of_command_line::{Asked, NoRequest, Request, Serve, read_request};
 use of_mask_groups::MaskGroups;
 use of_replay::streams::{ReaderSource, WriterSink};
@@ -12,7 +13,6 @@ use of_replay::{Ended, asm, dis, replay, status};
 use of_serve::read_rows;
 use of_text::TextFault;
 use of_trace::{Form, trace_file};
-use hinting::say_hint;
 use serving::serve_rows;
 use std::fs::File;
 use std::io::{self, Read};
