@@ -16,9 +16,9 @@ pub enum LayoutFault {
     NotText,
     #[error("a CR stands in the line, as at the line ends of Windows: convert them (dos2unix)")]
     CarriageReturn,
-    #[error("a tab stands in the line: words are parted by one space")]
+    #[error("a tab stands in the line: words are separated by one space")]
     Tab,
-    #[error("a space too many: words are parted by one space, and none stands at the ends of a line")]
+    #[error("a space too many: words are separated by one space, and none stands at the ends of a line")]
     Space,
 }
 
