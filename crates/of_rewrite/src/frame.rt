@@ -41,6 +41,17 @@ pub struct Frame {
 /// From here on a tag more would make a frame of 2^61 bytes.
 const LONGEST: usize = (1 << 61) - 4;
 
+/// Asks for more memory than an address space has, where a tag more would make a frame of 2^61 bytes: the allocator refuses that.
+fn stay_countable(bytes: &mut Vec<u8>) -> Result<(), AllocError>
+    ensures items { bytes.new.items ≡ bytes.old.items }
+    ensures short { OnOk result (length bytes.new.items + 4 < 2 ^ 61) }
+{
+    if bytes.len() >= LONGEST {
+        bytes.reserve(usize::MAX)?;
+    }
+    Ok(())
+}
+
 impl Model for Frame {
     ghost use Rattle.std.specs.Prelude.{List, ℕ, ◌≤◌, ◌<◌, ◌^◌, length};
 
@@ -91,9 +102,7 @@ impl Frame {
         ensures length { OnOk result (length self.new ≡ length self.old + 4) }
         ensures err { OnErr result (self.new ≡ self.old) }
     {
-        if self.bytes.len() >= LONGEST {
-            return Err(AllocError);
-        }
+        stay_countable(&mut self.bytes)?;
         all_bytes(&self.bytes);
         let control = control_of(&self.bytes);
         let tag = tag_bytes(tpid, control);
@@ -125,6 +134,13 @@ impl Frame {
         ensures checksums { StayRight self.old self.new }
     {
         rewrite::set_field(&mut self.bytes, field, value);
+    }
+
+    /// IPv4's time to live or IPv6's hop limit, if the frame has an IP layer (RFC 791, 3.1; RFC 8200, 3).
+    pub fn ttl(&self) -> Option<u8>
+        ensures { result ≡ ttl_of (layers_of self.now) }
+    {
+        rewrite::ttl_in(&self.bytes)
     }
 
     /// Replaces IPv4's time to live or IPv6's hop limit, and renews the checksum of an IPv4 header. Without an IP layer nothing changes.
