@@ -121,6 +121,14 @@ impl<L: Lookup> Switch<L> {
             (next_of self.old ≡ option_map (λ effects. gives effects.items new) found)
             × IfNone found (new ≡ self.old)) self.old result self.new }
     {
+        Ok(self.handle_next()?)
+    }
+
+    // Handles the first whole message or the malformed header. It refuses nothing: it fails where memory runs out.
+    fn handle_next(&mut self) -> Result<Option<Effects>, AllocError>
+        ensures ok { IfOk result (λ found. (next_of self.old ≡ option_map (λ effects. gives effects.items self.new) found) × IfNone found (self.new ≡ self.old)) }
+        ensures err { OnErr result (self.new ≡ self.old) }
+    {
         let next = self.session.next(self.engine.role())?;
         let Some(effects) = self.answer(next)? else {
             return Ok(None);
@@ -397,7 +405,7 @@ impl<L: Lookup> Switch<L> {
     {
         let mut effects = Effects::new(self.alloc);
         loop {
-            match self.next() {
+            match self.handle_next() {
                 Ok(None) => {
                     reports.push_reserved(Report::Gives(effects));
                     return Ok(());
@@ -410,10 +418,9 @@ impl<L: Lookup> Switch<L> {
                         return Err(error);
                     }
                 }
-                // `next` refuses nothing, so memory ran out.
-                Err(_) => {
+                Err(error) => {
                     reports.push_reserved(Report::Gives(effects));
-                    return Err(AllocError);
+                    return Err(error);
                 }
             }
         }
