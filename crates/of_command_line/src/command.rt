@@ -82,29 +82,56 @@ const VERSION: &str = "0.1.0";
 
 /// The command line of the program.
 pub fn command<'a>(alloc: Global) -> Result<Command<'a>, AllocError> {
+    Command::new(alloc, "ofswitch")
+        .version(VERSION)
+        .about("An OpenFlow 1.3.5 switch whose behaviour is proved")
+        .after_help(STATUSES)
+        .subcommand_required(true)
+        .arg_required_else_help(true)
+        .subcommand(replay_command(alloc)?)?
+        .subcommand(assemble_command(alloc)?)?
+        .subcommand(disassemble_command(alloc)?)?
+        .subcommand(trace_command(alloc)?)?
+        .subcommand(serve_command(alloc)?)
+}
+
+// The subcommand that runs an event file.
+fn replay_command<'a>(alloc: Global) -> Result<Command<'a>, AllocError> {
     let file = Arg::new(alloc, "FILE")
         .required(true)
         .help("The event file to run; - is standard input");
-    let replay = Command::new(alloc, "replay")
+    Command::new(alloc, "replay")
         .about("Runs an event file on a new switch and prints what it gives")
         .after_help(EVENT_FILES)
-        .arg(file)?;
+        .arg(file)
+}
+
+// The subcommand that makes an event file of a flow text.
+fn assemble_command<'a>(alloc: Global) -> Result<Command<'a>, AllocError> {
     let text = Arg::new(alloc, "FILE")
         .required(true)
         .help("The flow text to read; - is standard input");
-    let asm = Command::new(alloc, "asm")
+    Command::new(alloc, "asm")
         .about("Prints an event file that builds the groups and flow tables of a flow text")
         .after_help(FLOW_TEXT)
-        .arg(text)?;
+        .arg(text)
+}
+
+// The subcommand that makes a flow text of an event file.
+fn disassemble_command<'a>(alloc: Global) -> Result<Command<'a>, AllocError> {
     let rows = Arg::new(alloc, "FILE")
         .required(true)
         .help("The event file to run; - is standard input");
-    let dis = Command::new(alloc, "dis")
+    Command::new(alloc, "dis")
         .about(
             "Runs an event file on a new switch and prints its groups and flow tables as flow text",
         )
         .after_help(DISASSEMBLY)
-        .arg(rows)?;
+        .arg(rows)
+}
+
+// The subcommand that traces a frame.
+fn trace_command<'a>(alloc: Global) -> Result<Command<'a>, AllocError> {
     let flows = Arg::new(alloc, "FILE").long("flows").required(true).help(
         "The flow text with the switch's flows; - is standard input",
     );
@@ -123,26 +150,14 @@ pub fn command<'a>(alloc: Global) -> Result<Command<'a>, AllocError> {
         .long("why")
         .value_name("ENTRIES")
         .help("Adds to the notes why entries won or did not: all, or those of \"TABLE PRIORITY\"");
-    let trace = Command::new(alloc, "trace")
+    Command::new(alloc, "trace")
         .about("Prints, step by step, what a frame does on a switch with the flows of a flow text")
         .after_help(TRACES)
         .arg(flows)?
         .arg(port)?
         .arg(frame)?
         .arg(explain)?
-        .arg(why)?;
-    let serve = serve_command(alloc)?;
-    Command::new(alloc, "ofswitch")
-        .version(VERSION)
-        .about("An OpenFlow 1.3.5 switch whose behaviour is proved")
-        .after_help(STATUSES)
-        .subcommand_required(true)
-        .arg_required_else_help(true)
-        .subcommand(replay)?
-        .subcommand(asm)?
-        .subcommand(dis)?
-        .subcommand(trace)?
-        .subcommand(serve)
+        .arg(why)
 }
 
 // The subcommand that serves controllers.
