@@ -10,7 +10,7 @@ use Rattle.std.proofs.lemmas.List.{map-append, take-map, drop-map, length-map}
 use Rattle.std.proofs.lemmas.List.Quantifiers.{position-Some}
 use Rattle.std.proofs.lemmas.List.Folds.{find_at}
 use Rattle.std.proofs.lemmas.Option.{slice_get-get_or}
-use Rattle.of_wire.specs.Numbered.{is_used, is_distinct, renewed}
+use Rattle.of_wire.specs.Numbered.{is_used, is_distinct, without, renewed}
 use Rattle.of_wire.proofs.NumberedLemmas as low
 use Rattle.of_oxm.specs.SameMatch.{is_same_match}
 use Rattle.of_oxm.specs.declared.match_field.MatchField.{MatchField}
@@ -101,6 +101,13 @@ rows_again es k e f distinct lt is same =
     let value : get_or (rows_of es) k (row_of e) ≡ row_of e = get_or-map row_of es k e ∙ ap row_of (sym is) in
     let r = low.renewed_at row_number (rows_of es) k (row_of e) e.number distinct (rw length-map lt) (rw value refl) in
     map-append row_of (remove es k) (f ∷ []) ∙ rw (map-remove row_of es k, same) (rw value at r)
+
+-- without it
+pub rows_gone : (es : List Entry) (k : ℕ) (e : Entry) → is_distinct row_number (rows_of es) ≡ true → k < length es → e ≡ get_or es k e → without row_number e.number (rows_of es) ≡ rows_of (remove es k)
+rows_gone es k e distinct lt is =
+    let value : get_or (rows_of es) k (row_of e) ≡ row_of e = get_or-map row_of es k e ∙ ap row_of (sym is) in
+    let m = (low.moved row_number (rows_of es) k (row_of e) distinct (rw length-map lt)).0 in
+    sym (map-remove row_of es k ∙ (rw value at m))
 
 -- where there is no entry of the flow's match and priority
 pub new_flow : (flow : Flow) (es : List Entry) → position (λ x. is_same flow (entry_of x)) es ≡ None → list_any (is_same flow) (flows_of es) ≡ false

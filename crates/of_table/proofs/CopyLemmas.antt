@@ -46,6 +46,9 @@ supply_less start now next m k n was is sum =
     let after : next.count ≡ now.count - k = ap (λ (s : Supply). s.count) is in
     supply_is next (record start { count = start.count - n }) (ap (λ (s : Supply). s.instructions) is ∙ ap (λ (s : Supply). s.instructions) was) (omega arith)
 
+pub supply_none : (s : Supply) (n : ℕ) → n ≡ 0 → s ≡ record s { count = s.count - n }
+supply_none s n none = supply_is s (record s { count = s.count - n }) refl (omega arith)
+
 -- there are enough for the next
 pub supply_room : (start now : Supply) (m k n all : ℕ) → now ≡ record start { count = start.count - m } → n ≡ m + k → n ≤ all → all ≤ start.count → k ≤ now.count
 supply_room start now m k n all was sum part enough =

@@ -49,6 +49,9 @@ modified_stay at w is reset (e ∷ es) = λ j. same_time at w is reset (entry_of
 pub modified_none_over : (due : ℕ) (w : Which) (is : List Instruction) (reset : Bool) (es : List Entry) → NoneOver due es → NoneOver due (modified_entries w is reset es)
 modified_none_over due w is reset es none at lt = modified_stay at w is reset es ∙ none at lt
 
+pub kept_none_over : (due : ℕ) (cause : Cause) (es zs : List Entry) → zs ≡ kept_of cause es → NoneOver due es → NoneOver due zs
+kept_none_over due cause es zs is none at lt = ap (all_stay (Moment at)) is ∙ all-filter (λ e. stays (Moment at) (entry_of e)) (λ e. stays cause (entry_of e)) es (none at lt)
+
 -- where all stay, nothing goes and nothing is told
 pub all_kept : (cause : Cause) (es : List Entry) → all_stay cause es ≡ true → kept_of cause es ≡ es
 all_kept cause [] h = refl

@@ -12,3 +12,4 @@ pub mod Soundness
 pub mod Unlike
 pub mod CheckLemmas
 pub mod DeadlineLemmas
+pub mod SpanLemmas

@@ -14,7 +14,7 @@ set_same f [] k x d lt is = absurd (omega (arith, lt))
 set_same {X} {Y} f (y ∷ xs) zero x d lt is = ap (λ (z : Y). z ∷ map f xs) is
 set_same {X} {Y} f (y ∷ xs) (suc k) x d lt is = ap (λ (zs : List Y). f y ∷ zs) (set_same f xs k x d (omega (arith, lt)) is)
 
-same_length : (es zs : List Entry) → rows_of es ≡ rows_of zs → length es ≡ length zs
+pub same_length : (es zs : List Entry) → rows_of es ≡ rows_of zs → length es ≡ length zs
 same_length es zs same = sym (length-map es row_of) ∙ ap length same ∙ length-map zs row_of
 
 -- the classifier knows as much of it as before

@@ -12,8 +12,8 @@ use Rattle.of_wire.proofs.NumberedLemmas.{distinct-map, used_at}
 use Rattle.of_classifier.specs.Rows.{row_number, is_same_row, same_of}
 use Rattle.of_classifier.specs.Winner.{number_of}
 use Rattle.of_table.proofs.PlaceLemmas.{any-map, any-place, find-map, find_none, place-map, position_some, position_none, position-first, position-later}
-use Rattle.of_table.specs.Table.{flow_at, is_same}
-use Rattle.of_table.specs.declared.flow.Flow.{Flow}
+use Rattle.of_oxm.specs.declared.match_field.MatchField.{MatchField}
+use Rattle.of_table.specs.Table.{flow_at}
 use Rattle.of_table.specs.Entries.{entry_of, flows_of, row_of, rows_of, entry_number, is_there, place_of, find_number}
 use Rattle.of_table.specs.declared.entry.Entry.{Entry}
 
@@ -108,29 +108,29 @@ number_place es e p h =
     rw within (ap Some (sym (place-number e.number es)))
 
 -- the number that a classifier finds for a match and a priority is that of the entry
-answers : (flow : Flow) (es : List Entry) → number_of (same_of (rows_of es) flow.fields flow.priority) ≡ option_map entry_number (find (λ e. is_same flow (entry_of e)) es)
-answers flow es = ap number_of (find-map row_of (is_same_row flow.fields flow.priority) es) ∙ by_case (find (λ e. is_same flow (entry_of e)) es)
+answers : (fields : List MatchField) (priority : ℕ) (es : List Entry) → number_of (same_of (rows_of es) fields priority) ≡ option_map entry_number (find (λ e. is_same_row fields priority (row_of e)) es)
+answers fields priority es = ap number_of (find-map row_of (is_same_row fields priority) es) ∙ by_case (find (λ e. is_same_row fields priority (row_of e)) es)
   where
     by_case : (o : Option Entry) → number_of (option_map row_of o) ≡ option_map entry_number o
     by_case None = refl
     by_case (Some e) = refl
 
-pub same_some : (flow : Flow) (es : List Entry) (number : ℕ) → is_distinct entry_number es ≡ true → Some number ≡ number_of (same_of (rows_of es) flow.fields flow.priority) → position (λ e. eqb e.number number) es ≡ position (λ e. is_same flow (entry_of e)) es
-same_some flow es number distinct is = by_case (find (λ e. is_same flow (entry_of e)) es) refl (is ∙ answers flow es)
+pub same_some : (fields : List MatchField) (priority : ℕ) (es : List Entry) (number : ℕ) → is_distinct entry_number es ≡ true → Some number ≡ number_of (same_of (rows_of es) fields priority) → position (λ e. eqb e.number number) es ≡ position (λ e. is_same_row fields priority (row_of e)) es
+same_some fields priority es number distinct is = by_case (find (λ e. is_same_row fields priority (row_of e)) es) refl (is ∙ answers fields priority es)
   where
-    by_case : (o : Option Entry) → find (λ e. is_same flow (entry_of e)) es ≡ o → Some number ≡ option_map entry_number o → position (λ e. eqb e.number number) es ≡ position (λ e. is_same flow (entry_of e)) es
+    by_case : (o : Option Entry) → find (λ e. is_same_row fields priority (row_of e)) es ≡ o → Some number ≡ option_map entry_number o → position (λ e. eqb e.number number) es ≡ position (λ e. is_same_row fields priority (row_of e)) es
     by_case None found h = absurd cc
     by_case (Some e) found h =
         let same : e.number ≡ number = cc in
-        let there : position (λ x. eqb x.number number) es ≡ Some (place_of e.number es) = ap (λ (n : ℕ). position (λ x. eqb x.number n) es) (sym same) ∙ number_place es e (λ x. is_same flow (entry_of x)) found in
-        let first : position (λ x. is_same flow (entry_of x)) es ≡ Some (place_of e.number es) = rw found at (found_place (λ x. is_same flow (entry_of x)) es distinct) in
+        let there : position (λ x. eqb x.number number) es ≡ Some (place_of e.number es) = ap (λ (n : ℕ). position (λ x. eqb x.number n) es) (sym same) ∙ number_place es e (λ x. is_same_row fields priority (row_of x)) found in
+        let first : position (λ x. is_same_row fields priority (row_of x)) es ≡ Some (place_of e.number es) = rw found at (found_place (λ x. is_same_row fields priority (row_of x)) es distinct) in
         there ∙ sym first
 
-pub same_none : (flow : Flow) (es : List Entry) → is_distinct entry_number es ≡ true → None ≡ number_of (same_of (rows_of es) flow.fields flow.priority) → position (λ e. is_same flow (entry_of e)) es ≡ None
-same_none flow es distinct is = by_case (find (λ e. is_same flow (entry_of e)) es) refl (is ∙ answers flow es)
+pub same_none : (fields : List MatchField) (priority : ℕ) (es : List Entry) → is_distinct entry_number es ≡ true → None ≡ number_of (same_of (rows_of es) fields priority) → position (λ e. is_same_row fields priority (row_of e)) es ≡ None
+same_none fields priority es distinct is = by_case (find (λ e. is_same_row fields priority (row_of e)) es) refl (is ∙ answers fields priority es)
   where
-    by_case : (o : Option Entry) → find (λ e. is_same flow (entry_of e)) es ≡ o → None ≡ option_map entry_number o → position (λ e. is_same flow (entry_of e)) es ≡ None
-    by_case None found h = rw found at (found_place (λ x. is_same flow (entry_of x)) es distinct)
+    by_case : (o : Option Entry) → find (λ e. is_same_row fields priority (row_of e)) es ≡ o → None ≡ option_map entry_number o → position (λ e. is_same_row fields priority (row_of e)) es ≡ None
+    by_case None found h = rw found at (found_place (λ x. is_same_row fields priority (row_of x)) es distinct)
     by_case (Some e) found h = absurd cc
 
 -- what stands at the place of a number

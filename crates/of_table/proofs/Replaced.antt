@@ -1,7 +1,7 @@
 -- Entries behind some that were replaced.
 use Rattle.std.proofs.Common.{◌≡◌, ℕ, Bool, zero, suc, ◌+◌, ◌-◌, ◌<◌, ◌≤◌, List, [], ◌∷◌, ◌++◌, Some, length, get_or, take, drop, refl, sym, ap, ◌∙◌, arith}
 use Rattle.std.specs.Prelude.{position, remove}
-use Rattle.std.proofs.lemmas.List.{length-drop, length-append, drop-drop, drop-append-le, get_or-drop}
+use Rattle.std.proofs.lemmas.List.{length-drop, length-take-le, length-append, drop-drop, drop-append-le, get_or-drop, drop_at, drop_all, take_all, append-nil}
 use Rattle.of_table.proofs.PlaceLemmas.{position_some}
 
 -- the first entry behind them is there
@@ -41,3 +41,30 @@ one_behind {X} xs ys zs r x le same last = ap (drop r) (last ∙ ap (λ (ws : Li
 
 pub one_longer : {X : Type 0} (xs ys zs : List X) (x : X) → ys ≡ xs → zs ≡ ys ++ x ∷ [] → length zs ≡ length xs + 1
 one_longer {X} xs ys zs x same last = ap length (last ∙ ap (λ (ws : List X). ws ++ x ∷ []) same) ∙ length-append xs (x ∷ [])
+
+-- one that stands behind them goes
+pub one_gone : {X : Type 0} (xs : List X) (r k n : ℕ) → n ≡ r + k → n < length xs → drop r (remove xs n) ≡ remove (drop r xs) k
+one_gone {X} xs zero k n is lt = let same : n ≡ k = omega (arith, is) in ap (remove xs) same
+one_gone [] (suc r) k n is lt = absurd (omega (arith, lt))
+one_gone (x ∷ xs) (suc r) k zero is lt = absurd (omega (arith, is))
+one_gone (x ∷ xs) (suc r) k (suc n) is lt = one_gone xs r k n (omega (arith, is)) (omega (arith, lt))
+
+-- a whole list is written over another
+pub written : {X : Type 0} (xs ys : List X) (len : ℕ) → length xs ≡ len → length ys ≡ len → take len (xs ++ drop (length xs) ys) ≡ xs
+written {X} xs ys len same long =
+    let none : drop (length xs) ys ≡ [] = drop_all (length xs) ys (omega arith) in
+    ap (λ (zs : List X). take len (xs ++ zs)) none ∙ ap (take len) (append-nil xs) ∙ take_all len xs (omega arith)
+
+-- those behind them are written anew
+pub written_behind : {X : Type 0} (xs ys zs : List X) (r len : ℕ) → xs ≡ zs → length zs ≡ len → r ≤ len → length ys ≡ len - r →
+    (drop r (take len ((take r xs ++ (ys ++ drop (length xs - r) (drop r xs))) ++ drop (length (take r xs ++ (ys ++ drop (length xs - r) (drop r xs)))) zs)) ≡ ys)
+    × (r ≤ length (take len ((take r xs ++ (ys ++ drop (length xs - r) (drop r xs))) ++ drop (length (take r xs ++ (ys ++ drop (length xs - r) (drop r xs)))) zs)))
+written_behind {X} xs ys zs r len same long le short =
+    let all : length xs ≡ len = ap length same ∙ long in
+    let rest : drop (length xs - r) (drop r xs) ≡ [] = (let few : length (drop r xs) ≡ length xs - r = length-drop r xs in drop_all (length xs - r) (drop r xs) (omega (arith, few))) in
+    let front : length (take r xs) ≡ r = length-take-le r xs (omega (arith, all, le)) in
+    let new : take r xs ++ (ys ++ drop (length xs - r) (drop r xs)) ≡ take r xs ++ ys = ap (λ (ws : List X). take r xs ++ (ys ++ ws)) rest ∙ ap (λ (ws : List X). take r xs ++ ws) (append-nil ys) in
+    let size : length (take r xs ++ ys) ≡ len = (let sum : length (take r xs ++ ys) ≡ length (take r xs) + length ys = length-append (take r xs) ys in omega (arith, sum, front, short, le)) in
+    let whole : take len ((take r xs ++ (ys ++ drop (length xs - r) (drop r xs))) ++ drop (length (take r xs ++ (ys ++ drop (length xs - r) (drop r xs)))) zs) ≡ take r xs ++ ys =
+    ap (λ (ws : List X). take len (ws ++ drop (length ws) zs)) new ∙ written (take r xs ++ ys) zs len size long in
+    (ap (drop r) whole ∙ drop_at (take r xs) ys r front, (let n = ap (λ (ws : List X). length ws) whole in omega (arith, n, size, le)))

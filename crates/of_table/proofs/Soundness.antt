@@ -133,14 +133,6 @@ step_sound k ns new d lt step s =
     let here : AreSound k (table_of (get_or ns k d)).flows = rw (get_or-map table_of ns k d) at old in
     rw (map-set table_of ns k new) (sound_set 0 k (map table_of ns) (table_of new) (rw (zero_plus k) (step here)) s)
 
--- no two entries of a table are of one priority and match
-pub unlike_there : (k : ℕ) (ns : List Numbered) (old d : Numbered) → k < length ns → old ≡ get_or ns k d → AllSound 0 (map table_of ns) → are_unlike (map key_of (flows_of old.entries)) ≡ true
-unlike_there k ns old d lt is s =
-    let within : k < length (map table_of ns) = rw length-map lt in
-    let there : AreSound k (get_or (map table_of ns) k (table_of d)).flows = rw (zero_plus k) at (sound_at 0 k (map table_of ns) (table_of d) within s) in
-    let here : AreSound k (table_of (get_or ns k d)).flows = rw (get_or-map table_of ns k d) at there in
-    rw is here.unlike
-
 abbrev row_key : Row → Key
 row_key r = record { priority = r.priority; fields = r.fields }
 

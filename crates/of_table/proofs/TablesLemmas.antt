@@ -193,12 +193,6 @@ tables_added (Err e) k flow old new adds = adds
 
 -- ---- as the functions on all tables leave them
 
--- a whole list is written over another
-pub written : {X : Type 0} (xs ys : List X) (len : ℕ) → length xs ≡ len → length ys ≡ len → take len (xs ++ drop (length xs) ys) ≡ xs
-written {X} xs ys len same long =
-    let none : drop (length xs) ys ≡ [] = drop_all (length xs) ys (omega arith) in
-    ap (λ (zs : List X). take len (xs ++ zs)) none ∙ ap (take len) (append-nil xs) ∙ take_all len xs (omega arith)
-
 pub kept_by : (cause at : Cause) (later : ℕ) (old new : NumberedTables) → new ≡ record { tables = each_from (kept_table at) 0 old.tables; latest = later } → at ≡ cause_at old.latest cause → later ≡ latest_after cause old.latest → new ≡ all_kept cause old
 kept_by cause at later old new is when then = is ∙ (λ i. record { tables = each_from (kept_table (when i)) 0 old.tables; latest = then i })
 

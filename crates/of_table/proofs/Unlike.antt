@@ -12,14 +12,18 @@ use Rattle.of_table.specs.declared.flow.Flow.{Flow}
 use Rattle.of_table.specs.declared.entry.Entry.{Entry}
 use Rattle.of_table.specs.declared.table_fault.TableFault.TheVariants.{Overlap, Full}
 use Rattle.of_table.specs.Table.{FlowEntry, is_same, is_full, is_overlapped, add_fault, with_flow, added}
-use Rattle.of_table.specs.Entries.{entry_of, flows_of}
+use Rattle.of_classifier.specs.declared.Row.{Row}
+use Rattle.of_table.specs.declared.selection.Cause.{Cause}
+use Rattle.of_table.specs.Selecting.{stays, kept_of}
+use Rattle.of_table.specs.Entries.{entry_of, flows_of, row_of, rows_of, added_entries}
 use Rattle.of_table.specs.Sound.{Key, key_of, is_same_key, are_unlike}
-use Rattle.of_table.proofs.AddLemmas.{same_is, is_itself}
+use Rattle.of_table.proofs.AddLemmas.{same_is, is_itself, flows_added}
+use Rattle.of_table.proofs.RemoveLemmas.{flows_left}
 use Rattle.of_table.proofs.PlaceLemmas.{any-map, filter_others, position-first, position-later}
 
 -- ---- keys
 
-same_key : (k l : Key) → is_same_key k l ≡ true → l ≡ k
+pub same_key : (k l : Key) → is_same_key k l ≡ true → l ≡ k
 same_key k l h =
     let priority : l.priority ≡ k.priority = grind (arith, nat_tests, h) in
     let test : is_same_match l.fields k.fields ≡ true = grind (arith, nat_tests, h) in
@@ -45,11 +49,11 @@ flow_key flow = record { priority = flow.priority; fields = flow.fields }
 
 -- ---- all that do not pass
 
-none_first : (b c : Bool) → (b || c) ≡ false → b ≡ false
+pub none_first : (b c : Bool) → (b || c) ≡ false → b ≡ false
 none_first true c h = h
 none_first false c h = refl
 
-none_second : (b c : Bool) → (b || c) ≡ false → c ≡ false
+pub none_second : (b c : Bool) → (b || c) ≡ false → c ≡ false
 none_second true c h = absurd cc
 none_second false c h = h
 
@@ -73,7 +77,7 @@ both_from b c f g = rw (f, g) refl
 unlike_by : (e : FlowEntry) (flows : List FlowEntry) → list_any (λ f. is_same_key (key_of e) (key_of f)) flows ≡ false → are_unlike (map key_of flows) ≡ true → are_unlike (map key_of (e ∷ flows)) ≡ true
 unlike_by e flows none h = both_from _ _ (any-map key_of (is_same_key (key_of e)) flows ∙ none) h
 
-unlike_parts : (e : FlowEntry) (flows : List FlowEntry) → are_unlike (map key_of (e ∷ flows)) ≡ true → (list_any (λ f. is_same_key (key_of e) (key_of f)) flows ≡ false) × (are_unlike (map key_of flows) ≡ true)
+pub unlike_parts : (e : FlowEntry) (flows : List FlowEntry) → are_unlike (map key_of (e ∷ flows)) ≡ true → (list_any (λ f. is_same_key (key_of e) (key_of f)) flows ≡ false) × (are_unlike (map key_of flows) ≡ true)
 unlike_parts e flows h =
     let p = both (list_any (is_same_key (key_of e)) (map key_of flows)) (are_unlike (map key_of flows)) h in
     (sym (any-map key_of (is_same_key (key_of e)) flows) ∙ p.0, p.1)
@@ -155,6 +159,24 @@ filter_one_fewer p (x ∷ xs) h = split (p x) h (filter_one_fewer p xs)
     split : (b : Bool) → (b || list_any p xs) ≡ true → (list_any p xs ≡ true → suc (length (filter (λ y. not (p y)) xs)) ≤ length xs) → suc (length (cond (not b) (x ∷ filter (λ y. not (p y)) xs) (filter (λ y. not (p y)) xs))) ≤ suc (length xs)
     split true some ih = let fewer = filter_fewer (λ y. not (p y)) xs in omega (arith, fewer)
     split false some ih = let fewer = ih some in omega (arith, fewer)
+
+-- ---- entries by what the classifier knows of them, and as they come and go
+
+abbrev row_key : Row → Key
+row_key r = record { priority = r.priority; fields = r.fields }
+
+row_keys : (es : List Entry) → map key_of (flows_of es) ≡ map row_key (rows_of es)
+row_keys [] = refl
+row_keys (e ∷ es) = ap (λ (ks : List Key). key_of (entry_of e) ∷ ks) (row_keys es)
+
+pub unlike_rows : (es zs : List Entry) → rows_of zs ≡ rows_of es → are_unlike (map key_of (flows_of es)) ≡ true → are_unlike (map key_of (flows_of zs)) ≡ true
+unlike_rows es zs same h = ap are_unlike (row_keys zs ∙ ap (map row_key) same ∙ sym (row_keys es)) ∙ h
+
+pub unlike_kept : (cause : Cause) (es zs : List Entry) → zs ≡ kept_of cause es → are_unlike (map key_of (flows_of es)) ≡ true → are_unlike (map key_of (flows_of zs)) ≡ true
+unlike_kept cause es zs is h = ap (λ (xs : List Entry). are_unlike (map key_of (flows_of xs))) is ∙ ap (λ (fs : List FlowEntry). are_unlike (map key_of fs)) (flows_left cause es) ∙ unlike_filter (stays cause) (flows_of es) h
+
+pub unlike_with : (number now : ℕ) (flow : Flow) (es zs : List Entry) → zs ≡ added_entries number now flow es → are_unlike (map key_of (flows_of es)) ≡ true → are_unlike (map key_of (flows_of zs)) ≡ true
+unlike_with number now flow es zs is h = ap (λ (xs : List Entry). are_unlike (map key_of (flows_of xs))) is ∙ ap (λ (fs : List FlowEntry). are_unlike (map key_of fs)) (flows_added number now flow es) ∙ unlike_added now flow (flows_of es) h
 
 -- ---- how many there are
 

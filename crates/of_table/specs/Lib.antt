@@ -6,3 +6,4 @@ pub mod Tables
 pub mod Sound
 pub mod Copies
 pub mod Deadlines
+pub mod Spans

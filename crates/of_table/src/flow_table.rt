@@ -1,15 +1,17 @@
 //! Flow tables.
 
-ghost use Rattle.std.specs.Prelude.{◌≡◌, ◌==◌, ◌++◌, ◌+◌, ◌-◌, ◌≤◌, ℕ, Some, false, true, IsTrue, IfOk, IfSome, OnOk, OnErr, map, position};
+ghost use Rattle.std.specs.Prelude.{◌≡◌, ◌==◌, ◌++◌, ◌+◌, ◌-◌, ◌≤◌, ℕ, Some, false, true, IsTrue, IfOk, IfSome, OnOk, OnErr, not, map, position};
 ghost use Rattle.std.specs.List.{list_any};
 ghost use Rattle.std.specs.Option.{option_map, option_copied};
 ghost use Rattle.of_headers.specs.FieldMap.{value};
 ghost use Rattle.of_wire.specs.Numbered.{is_distinct};
-ghost use Rattle.of_table.specs.Table.{is_same, add_fault, winner_place, looked as one_looked_up, matched_at, flow_at};
-ghost use Rattle.of_table.specs.Entries.{Numbered, AddsEntry, no_entries, table_of, entry_of, flows_of, numbers_of, entry_number, place_of, is_there, find_number};
-ghost use Rattle.of_table.specs.Selecting.{modified_entries, kept_of, told, all_told};
-ghost use Rattle.of_table.specs.Copies.{Supply, wanted};
-ghost use Rattle.of_table.specs.Deadlines.{all_stay};
+ghost use Rattle.of_classifier.specs.Rows.{is_same_row};
+ghost use Rattle.of_table.specs.Table.{is_same, add_fault, winner_place, looked as one_looked_up, matched_at};
+ghost use Rattle.of_table.specs.Entries.{Numbered, AddsEntry, no_entries, table_of, entry_of, flows_of, numbers_of, row_of, entry_number, place_of, is_there, find_number};
+ghost use Rattle.of_table.specs.Selecting.{is_meant, stays, modified_entries, kept_of, all_told};
+ghost use Rattle.of_table.specs.Tables.{is_in as is_within, modified_numbered, kept_table, told_table};
+ghost use Rattle.of_table.specs.Copies.{Supply, wanted, wanted_in};
+ghost use Rattle.of_table.specs.Spans.{Outside};
 ghost use Rattle.of_table.specs.Faults.{fault_in};
 ghost use Rattle.of_table.specs.Sound.{AreSound, are_fit, key_of, are_unlike};
 ghost use Rattle.of_actions.specs.FlowCheck.{all_go_with};
@@ -19,13 +21,15 @@ use crate::deadlines::{earliest, flow_deadline};
 use crate::entries::{count_at, is_overlapped, new_entry, push_reserved, put_last, settle};
 use crate::entry::Entry;
 use crate::flow::Flow;
-use crate::modifying::modify_all;
-use crate::places::{note_places, place_of as place_in};
+use crate::modifying::{make_copies, modify_all};
+use crate::places::note_places;
 use crate::removing::{keep_staying, list_gone, take_gone};
-use crate::selection::{Cause, Removed, Which};
+use crate::selection::{Cause, Removed, Which, concerns, is_in, reason};
+use crate::span::Span;
 use crate::table_fault::TableFault;
 use of_classifier::Lookup;
 use of_headers::FieldKey;
+use of_oxm::Match;
 use std::alloc::{AllocError, Global};
 use std::marker::Model;
 
@@ -41,7 +45,7 @@ pub struct FlowTable<L: Lookup> {
     /// Its entries behind some that were replaced.
     entries: Vec<Entry>,
     replaced: usize,
-    /// By the numbers of the entries, where they stood when that was noted last.
+    /// By the numbers of the entries, where they stood when that was noted last, the replaced ones counted.
     places: Vec<usize>,
     /// Before this moment no entry's time is over.
     due: u64,
@@ -50,15 +54,16 @@ pub struct FlowTable<L: Lookup> {
 }
 
 impl<L: Lookup> Model for FlowTable<L> {
-    ghost use Rattle.std.specs.Prelude.{◌≡◌, ◌≤◌, drop, length};
-    ghost use Rattle.of_table.specs.Entries.{Numbered, rows_of};
+    ghost use Rattle.std.specs.Prelude.{◌≡◌, ◌≤◌, true, map, drop, length};
+    ghost use Rattle.of_table.specs.Entries.{Numbered, flows_of, rows_of};
     ghost use Rattle.of_table.specs.Deadlines.{NoneOver};
+    ghost use Rattle.of_table.specs.Sound.{key_of, are_unlike};
 
     ghost Value = { Numbered };
 
     ghost view = { λ t. record { lookups = t.lookups; matched = t.matched; entries = drop t.replaced t.entries.items } };
 
-    ghost invariant = { λ t. (L.content t.lookup ≡ rows_of (drop t.replaced t.entries.items)) × NoneOver t.due (drop t.replaced t.entries.items) × (t.replaced ≤ length t.entries.items) };
+    ghost invariant = { λ t. (L.content t.lookup ≡ rows_of (drop t.replaced t.entries.items)) × NoneOver t.due (drop t.replaced t.entries.items) × (t.replaced ≤ length t.entries.items) × (are_unlike (map key_of (flows_of (drop t.replaced t.entries.items))) ≡ true) };
 }
 
 impl<L: Lookup> FlowTable<L> {
@@ -83,7 +88,6 @@ impl<L: Lookup> FlowTable<L> {
     /// are to be reset, and becomes the youngest; that needs no memory. Else there is a new entry,
     /// with counters of 0.
     pub fn add(&mut self, flow: Flow, now: u64) -> Result<(), TableFault>
-        requires { are_unlike (map key_of (flows_of self.old.entries)) ≡ true }
         ensures fault { fault_in result ≡ add_fault flow (flows_of self.old.entries) }
         ensures ok { OnOk result (AddsEntry now flow self.old self.new) }
         ensures err { OnErr result (self.new ≡ self.old) }
@@ -91,7 +95,7 @@ impl<L: Lookup> FlowTable<L> {
         if is_overlapped(self.entries(), &flow) {
             return Err(TableFault::Overlap);
         }
-        match self.same_place(&flow) {
+        match self.same_place(&flow.fields, flow.priority) {
             Some(place) => {
                 self.replace(place, flow, now);
                 return Ok(());
@@ -109,8 +113,7 @@ impl<L: Lookup> FlowTable<L> {
 
     // The entry at that place gets the flow and becomes the youngest.
     fn replace(&mut self, place: usize, flow: Flow, now: u64)
-        requires same { position (λ e. is_same flow (entry_of e)) self.old.entries ≡ Some place }
-        requires unlike { are_unlike (map key_of (flows_of self.old.entries)) ≡ true }
+        requires { position (λ e. is_same flow (entry_of e)) self.old.entries ≡ Some place }
         ensures { AddsEntry now flow self.old self.new }
     {
         self.lookup.known();
@@ -129,23 +132,32 @@ impl<L: Lookup> FlowTable<L> {
         self.due = due;
     }
 
-    // The place of the entry of the flow's match and priority.
-    fn same_place(&self, flow: &Flow) -> Option<usize>
-        ensures { result ≡ position (λ e. is_same flow.now (entry_of e)) self.now.entries }
+    // The place of the entry of that match and priority.
+    fn same_place(&self, fields: &Match, priority: u16) -> Option<usize>
+        ensures { result ≡ position (λ e. is_same_row fields.now priority (row_of e)) self.now.entries }
     {
         self.known();
-        match self.lookup.same(&flow.fields, flow.priority) {
+        match self.lookup.same(fields, priority) {
             Some(number) => self.place(number),
             None => None,
         }
     }
 
-    // The place of the entry of that number.
+    // The place of the entry of that number, if it is there.
+    //
+    // An entry that moved since its place was noted is looked for.
     fn place(&self, number: usize) -> Option<usize>
         ensures { result ≡ position (λ e. e.number == number) self.now.entries }
     {
         self.known();
-        place_in(self.entries(), self.replaced, &self.places, number)
+        let entries = self.entries();
+        if number < self.places.len() {
+            let place = self.places[number].wrapping_sub(self.replaced);
+            if place < entries.len() && entries[place].number == number {
+                return Some(place);
+            }
+        }
+        entries.iter().position(|entry| entry.number == number)
     }
 
     // A new entry.
@@ -165,18 +177,74 @@ impl<L: Lookup> FlowTable<L> {
         Ok(())
     }
 
+    // Where the entries stand that the command may be for: of a strict one, that of its match and priority.
+    fn span_of(&self, which: &Which) -> Span
+        ensures { Outside (λ e. is_meant which.now (entry_of e)) self.now.entries result.first result.end }
+    {
+        self.known();
+        let count = self.entries().len();
+        match which.priority {
+            None => Span {
+                first: 0,
+                end: count,
+            },
+            Some(priority) => match self.same_place(&which.fields, priority) {
+                Some(place) => Span {
+                    first: place,
+                    end: place + 1,
+                },
+                None => Span { first: 0, end: 0 },
+            },
+        }
+    }
+
+    // Where the entries stand that may go.
+    fn span_going(&self, cause: &Cause) -> Span
+        ensures { Outside (λ e. not (stays cause.now (entry_of e))) self.now.entries result.first result.end }
+    {
+        match cause {
+            Cause::Delete(which) => self.span_of(which),
+            Cause::Moment(now) if *now < self.due => Span { first: 0, end: 0 },
+            Cause::Moment(_) | Cause::Group(_) => Span {
+                first: 0,
+                end: self.entries().len(),
+            },
+        }
+    }
+
+    /// Makes a copy for each entry that a MODIFY command is for.
+    ///
+    /// `table` is the number of this table.
+    pub fn copy_for(
+        &self,
+        table: u8,
+        which: &Which,
+        copies: &mut Copies<'_>,
+    ) -> Result<(), AllocError>
+        ensures { OnOk result (copies.new ≡ record copies.old { count = copies.old.count + wanted_in which.now table self.now }) }
+    {
+        if is_in(which, table) {
+            let span = self.span_of(which);
+            make_copies(&self.entries()[span.first..span.end], which, copies)
+        } else {
+            Ok(())
+        }
+    }
+
     /// Gives each entry that a MODIFY command is for such a copy, and counters of 0 where they are to be reset (OpenFlow 1.3.5, 6.4).
     ///
-    /// All else of an entry stays, and none is added.
-    pub fn modify(&mut self, which: &Which, copies: &mut Copies<'_>, reset: bool)
-        requires { wanted which.now self.old.entries ≤ copies.old.count }
-        ensures entries { self.new ≡ record self.old { entries = modified_entries which.now copies.old.instructions reset self.old.entries } }
-        ensures copies { copies.new ≡ record copies.old { count = copies.old.count - wanted which.now self.old.entries } }
-        ensures sound { (k : ℕ) → are_fit k copies.old.instructions ≡ true → all_go_with which.now.fields copies.old.instructions ≡ true → AreSound k (flows_of self.old.entries) → AreSound k (flows_of self.new.entries) }
+    /// All else of an entry stays, and none is added. `table` is the number of this table.
+    pub fn modify(&mut self, table: u8, which: &Which, copies: &mut Copies<'_>, reset: bool)
+        requires { wanted_in which.now table self.old ≤ copies.old.count }
+        ensures table { self.new ≡ modified_numbered which.now copies.old.instructions reset table self.old }
+        ensures copies { copies.new ≡ record copies.old { count = copies.old.count - wanted_in which.now table self.old } }
+        ensures sound { (is_within which.now.table table ≡ true → are_fit table copies.old.instructions ≡ true) → all_go_with which.now.fields copies.old.instructions ≡ true → AreSound table (table_of self.old).flows → AreSound table (table_of self.new).flows }
     {
-        settle(&mut self.entries, &mut self.replaced);
-        note_places(&mut self.places, &self.entries, 0);
-        modify_all(&mut self.entries, which, copies, reset);
+        if is_in(which, table) {
+            let span = self.span_of(which);
+            let entries = &mut self.entries[self.replaced..];
+            modify_all(entries, span, which, copies, reset);
+        }
     }
 
     /// Puts notices of the entries that go last, of those whose flags ask for one (OpenFlow 1.3.5, 5.5, 6.4 and 6.5).
@@ -188,31 +256,55 @@ impl<L: Lookup> FlowTable<L> {
         cause: &Cause,
         removed: &mut Vec<Removed<'a>>,
     ) -> Result<(), AllocError>
-        ensures { OnOk result (all_told removed.new.items ≡ all_told removed.old.items ++ told cause.now table self.now.entries) }
+        ensures { OnOk result (all_told removed.new.items ≡ all_told removed.old.items ++ told_table cause.now table self.now) }
     {
-        if self.is_early(cause) {
-            return Ok(());
-        }
-        list_gone(self.entries(), table, cause, removed)
-    }
-
-    // Whether it is a moment at which no entry's time is over yet.
-    fn is_early(&self, cause: &Cause) -> bool
-        ensures { result ≡ true → all_stay cause.now self.now.entries ≡ true }
-    {
-        match cause {
-            Cause::Moment(now) => *now < self.due,
-            Cause::Delete(_) | Cause::Group(_) => false,
+        if concerns(cause, table) {
+            let span = self.span_going(cause);
+            let entries = &self.entries()[span.first..span.end];
+            list_gone(entries, table, cause, removed)
+        } else {
+            Ok(())
         }
     }
 
     /// Removes the entries that go (OpenFlow 1.3.5, 5.5, 6.4 and 6.5).
-    pub fn remove(&mut self, cause: &Cause)
-        ensures { self.new ≡ record self.old { entries = kept_of cause.now self.old.entries } }
+    ///
+    /// `table` is the number of this table.
+    pub fn remove(&mut self, table: u8, cause: &Cause)
+        ensures { self.new ≡ kept_table cause.now table self.old }
     {
-        if self.is_early(cause) {
+        if !concerns(cause, table) {
             return;
         }
+        let span = self.span_going(cause);
+        if span.first == span.end {
+            return;
+        }
+        if span.first + 1 == span.end {
+            self.remove_one(span.first, cause);
+        } else {
+            self.remove_all(cause);
+        }
+    }
+
+    // Removes the entry at that place, if it goes; the others stay.
+    fn remove_one(&mut self, place: usize, cause: &Cause)
+        requires { Outside (λ e. not (stays cause.now (entry_of e))) self.old.entries place (place + 1) }
+        ensures { self.new ≡ record self.old { entries = kept_of cause.now self.old.entries } }
+    {
+        self.lookup.known();
+        let at = self.replaced + place;
+        if reason(cause, &self.entries[at]).is_some() {
+            let entry = self.entries.remove(at);
+            self.lookup.take(entry.number);
+            note_places(&mut self.places, &self.entries, at);
+        }
+    }
+
+    // Looks at each entry, and removes those that go.
+    fn remove_all(&mut self, cause: &Cause)
+        ensures { self.new ≡ record self.old { entries = kept_of cause.now self.old.entries } }
+    {
         settle(&mut self.entries, &mut self.replaced);
         take_gone(&mut self.lookup, &self.entries, cause);
         keep_staying(&mut self.entries, cause);
@@ -265,17 +357,6 @@ impl<L: Lookup> FlowTable<L> {
         }
     }
 
-    /// The flow of the entry of that number.
-    pub fn flow(&self, number: usize) -> &Flow
-        requires { IsTrue (is_there number self.now.entries) }
-        ensures { flow_at (place_of number self.now.entries) (flows_of self.now.entries) ≡ Some result.now }
-    {
-        match self.entry(number) {
-            Some(entry) => &entry.flow,
-            None => unreachable!(),
-        }
-    }
-
     /// The entry of that number, if it is there.
     pub fn entry(&self, number: usize) -> Option<&Entry>
         ensures { option_copied result ≡ find_number number self.now.entries }
@@ -307,9 +388,10 @@ impl<L: Lookup> FlowTable<L> {
         self.matched
     }
 
-    /// No two entries have one number.
+    /// No two entries have one number, and no two one priority and match.
     pub fn known(&self)
-        ensures { IsTrue (is_distinct entry_number self.now.entries) }
+        ensures distinct { IsTrue (is_distinct entry_number self.now.entries) }
+        ensures unlike { are_unlike (map key_of (flows_of self.now.entries)) ≡ true }
     {
         self.lookup.known();
     }

@@ -119,17 +119,14 @@ impl<L: Lookup> FlowTables<L> {
         ensures numbers { IfOk result (λ v. all_told v.items ≡ told_in cause.now self.now) }
     {
         match cause {
-            Cause::Moment(moment) => self.list(&Cause::Moment(self.latest.max(*moment))),
-            Cause::Delete(_) | Cause::Group(_) => self.list(cause),
+            Cause::Moment(moment) => {
+                let now = Cause::Moment(self.latest.max(*moment));
+                list_all(*self.tables.allocator(), &self.tables, &now)
+            }
+            Cause::Delete(_) | Cause::Group(_) => {
+                list_all(*self.tables.allocator(), &self.tables, cause)
+            }
         }
-    }
-
-    fn list(&self, cause: &Cause) -> Result<Vec<Removed<'_>>, AllocError>
-        ensures { IfOk result (λ v. all_told v.items ≡ told_from cause.now 0 self.now.tables) }
-    {
-        let mut removed = Vec::new(*self.tables.allocator());
-        list_all(&self.tables, cause, &mut removed)?;
-        Ok(removed)
     }
 
     /// Removes the entries that a command deletes, whose group is deleted or whose time is over; a later moment becomes the latest one (OpenFlow 1.3.5, 5.5, 6.4 and 6.5).
@@ -205,7 +202,10 @@ impl<L: Lookup> FlowTables<L> {
         requires number { IsTrue (is_there number (numbered_at table self.now).entries) }
         ensures { flow_at (place_of number (numbered_at table self.now).entries) (flows_of (numbered_at table self.now).entries) ≡ Some result.now }
     {
-        self.tables[table as usize].flow(number)
+        match self.tables[table as usize].entry(number) {
+            Some(entry) => &entry.flow,
+            None => unreachable!(),
+        }
     }
 
     /// The entry of that number of a table, if it is there.
@@ -221,7 +221,9 @@ impl<L: Lookup> FlowTables<L> {
         requires { table < 16 }
         ensures { result ≡ (numbered_at table self.now).entries }
     {
-        Entries::of(self.tables[table as usize].entries())
+        Entries {
+            left: self.tables[table as usize].entries(),
+        }
     }
 
     /// How many packets were looked up in a table. It wraps.

@@ -13,6 +13,7 @@ mod modifying;
 mod places;
 mod removing;
 mod selection;
+mod span;
 mod table_fault;
 mod walk;
 

@@ -2,7 +2,8 @@
 
 ghost use Rattle.std.specs.Prelude.{◌≡◌, ◌≤◌, ◌+◌, ◌-◌, ℕ, true, OnOk, if◌then◌else◌};
 ghost use Rattle.of_table.specs.Entries.{entry_of, flows_of, row_of, rows_of, on_entry};
-ghost use Rattle.of_table.specs.Selecting.{modified_by, modified_entries};
+ghost use Rattle.of_table.specs.Selecting.{is_meant, modified_by, modified_entries};
+ghost use Rattle.of_table.specs.Spans.{Outside};
 ghost use Rattle.of_table.specs.Copies.{Supply, is_modified, wanted};
 ghost use Rattle.of_table.specs.Sound.{AreSound, are_fit, is_fit, is_checked};
 ghost use Rattle.of_actions.specs.FlowCheck.{all_go_with};
@@ -11,6 +12,7 @@ use crate::copies::Copies;
 use crate::entries::unless_reset;
 use crate::entry::Entry;
 use crate::selection::{Which, modifies};
+use crate::span::Span;
 use std::alloc::AllocError;
 
 /// Makes a copy for each entry that the command is for.
@@ -48,14 +50,23 @@ fn modify_entry(entry: &mut Entry, which: &Which, copies: &mut Copies<'_>, reset
 }
 
 /// Each entry that the command is for gets a copy, and counters of 0 where they are to be reset.
-pub(crate) fn modify_all(entries: &mut [Entry], which: &Which, copies: &mut Copies<'_>, reset: bool)
-    requires { wanted which.now entries.old ≤ copies.old.count }
+///
+/// None outside the span is one that it is for.
+pub(crate) fn modify_all(
+    entries: &mut [Entry],
+    span: Span,
+    which: &Which,
+    copies: &mut Copies<'_>,
+    reset: bool,
+)
+    requires copies { wanted which.now entries.old ≤ copies.old.count }
+    requires span { Outside (λ e. is_meant which.now (entry_of e)) entries.old span.first span.end }
     ensures sound { (k : ℕ) → are_fit k copies.old.instructions ≡ true → all_go_with which.now.fields copies.old.instructions ≡ true → AreSound k (flows_of entries.old) → AreSound k (flows_of entries.new) }
     ensures rows { rows_of entries.new ≡ rows_of entries.old }
     ensures entries { entries.new ≡ modified_entries which.now copies.old.instructions reset entries.old }
     ensures copies { copies.new ≡ record copies.old { count = copies.old.count - wanted which.now entries.old } }
 {
-    for entry in entries.iter_mut() {
-        modify_entry(entry, which, copies, reset);
+    for place in span.first..span.end {
+        modify_entry(&mut entries[place], which, copies, reset);
     }
 }

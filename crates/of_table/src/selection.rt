@@ -3,7 +3,8 @@
 ghost use Rattle.std.specs.Prelude.{◌≡◌};
 ghost use Rattle.of_table.specs.Entries.{entry_of};
 ghost use Rattle.std.specs.List.{list_any};
-ghost use Rattle.of_table.specs.Selecting.{has_cookie as with_cookie, leads_to as leading_to, passes_port as passing_port, has_action as with_action, names_group as naming, passes_group as passing_group, modifies as modified_by_it, selects as selected, is_over as over, timeout_reason as reason_at, reason_of};
+ghost use Rattle.of_table.specs.Tables.{is_in as is_within, concerns as concerning};
+ghost use Rattle.of_table.specs.Selecting.{leads_to as leading_to, passes_port as passing_port, has_action as with_action, names_group as naming, passes_group as passing_group, modifies as modified_by_it, selects as selected, is_over as over, timeout_reason as reason_at, reason_of};
 
 use crate::entry::Entry;
 use of_actions::{Action, Instruction};
@@ -56,12 +57,6 @@ pub struct Removed<'a> {
     pub table: u8,
     pub reason: RemovedReason,
     pub entry: &'a Entry,
-}
-
-fn has_cookie(which: &Which, entry: &Entry) -> bool
-    ensures { result ≡ with_cookie which.now (entry_of entry.now) }
-{
-    entry.flow.cookie & which.cookie_mask == which.cookie & which.cookie_mask
 }
 
 // What an action may send to.
@@ -143,7 +138,7 @@ pub(crate) fn modifies(which: &Which, entry: &Entry) -> bool
             entry.flow.priority == priority && entry.flow.fields.equals(&which.fields)
         }
     };
-    meant && has_cookie(which, entry)
+    meant && entry.flow.cookie & which.cookie_mask == which.cookie & which.cookie_mask
 }
 
 /// Whether a DELETE, or a request for statistics, is for the entry: its match, or match and priority of a strict one, its cookie, and what its actions send to (OpenFlow 1.3.5, 6.4).
@@ -201,5 +196,25 @@ pub(crate) fn reason(cause: &Cause, entry: &Entry) -> Option<RemovedReason>
                 None
             }
         }
+    }
+}
+
+/// Whether the command is for the table of that number.
+pub(crate) fn is_in(which: &Which, table: u8) -> bool
+    ensures { result ≡ is_within which.now.table table }
+{
+    match which.table {
+        None => true,
+        Some(number) => number == table,
+    }
+}
+
+/// Whether something may go from the table of that number.
+pub(crate) fn concerns(cause: &Cause, table: u8) -> bool
+    ensures { result ≡ concerning cause.now table }
+{
+    match cause {
+        Cause::Delete(which) => is_in(which, table),
+        Cause::Group(_) | Cause::Moment(_) => true,
     }
 }

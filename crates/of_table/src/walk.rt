@@ -1,6 +1,5 @@
 //! Walks over the entries of a table.
 
-ghost use Rattle.std.specs.Prelude.{◌≡◌};
 ghost use Rattle.std.specs.Iterator.{YieldsFirstRef, item_count};
 
 use crate::entry::Entry;
@@ -9,7 +8,7 @@ use std::marker::Model;
 /// The entries of a table, oldest first.
 #[derive(Drop)]
 pub struct Entries<'a> {
-    left: &'a [Entry],
+    pub(crate) left: &'a [Entry],
 }
 
 impl<'a> Model for Entries<'a> {
@@ -19,14 +18,6 @@ impl<'a> Model for Entries<'a> {
     ghost Value = { List AnEntry };
 
     ghost view = { λ walk. walk.left.now };
-}
-
-impl<'a> Entries<'a> {
-    pub(crate) fn of(left: &'a [Entry]) -> Self
-        ensures { result ≡ left.now }
-    {
-        Entries { left }
-    }
 }
 
 impl<'a> Iterator for Entries<'a> {

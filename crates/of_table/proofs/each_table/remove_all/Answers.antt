@@ -7,8 +7,8 @@ use Rattle.of_table.proofs.each_table.remove_all.Goals as goal
 
 pub loop-number-preserved : goal.loop-number-preserved
 loop-number-preserved g c = record {
-  tables = each_more (kept_table c.args.cause.now) c.loop-number.number c.loop-number.tables c.args.tables.now c.remove_one.new.table _ c.loop-number-test.true c.loop-number.invariant.tables c.remove_one.ensures;
-  length = length-set c.loop-number.tables c.loop-number.number c.remove_one.new.table ∙ c.loop-number.invariant.length;
+  tables = each_more (kept_table c.args.cause.now) c.loop-number.number c.loop-number.tables c.args.tables.now c.remove.new.self _ c.loop-number-test.true c.loop-number.invariant.tables c.remove.ensures;
+  length = length-set c.loop-number.tables c.loop-number.number c.remove.new.self ∙ c.loop-number.invariant.length;
 }
 
 pub returns-clause-sound : goal.returns-clause-sound

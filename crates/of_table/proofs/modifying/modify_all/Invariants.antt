@@ -7,11 +7,11 @@ use Rattle.of_table.specs.Selecting.{modified_by}
 use Rattle.of_table.specs.Copies.{wanted}
 use Rattle.of_table.proofs.modifying.modify_all.Given as goal
 
-abbrev pub invariant-loop-entry : goal.invariant-loop-entry
-invariant-loop-entry l = record {
+abbrev pub invariant-loop-place : goal.invariant-loop-place
+invariant-loop-place l = record {
   rows : rows_of l.entries ≡ rows_of l.initial.entries;
-  entries : l.entries ≡ changed_to (on_entry (modified_by l.which l.initial.copies.instructions l.reset)) l.entry-index l.initial.entries;
-  copies : l.copies ≡ record l.initial.copies { count = l.initial.copies.count - wanted l.which (take l.entry-index l.initial.entries) };
+  entries : l.entries ≡ changed_to (on_entry (modified_by l.which l.initial.copies.instructions l.reset)) l.place l.initial.entries;
+  copies : l.copies ≡ record l.initial.copies { count = l.initial.copies.count - wanted l.which (take l.place l.initial.entries) };
   length : length l.entries ≡ length l.initial.entries;
   sound : (k : ℕ) → are_fit k l.initial.copies.instructions ≡ true → all_go_with l.which.fields l.initial.copies.instructions ≡ true → AreSound k (flows_of l.initial.entries) → AreSound k (flows_of l.entries);
 }

@@ -10,6 +10,7 @@ use Rattle.of_table.proofs.AddLemmas.{appended, new_number, with_entries}
 use Rattle.of_table.specs.declared.selection.Cause.TheVariants.{Moment}
 use Rattle.of_table.specs.Deadlines.{all_stay}
 use Rattle.of_table.proofs.DeadlineLemmas.{added_none_over}
+use Rattle.of_table.proofs.Unlike.{unlike_with}
 use Rattle.of_table.proofs.flow_table.FlowTable.append.Goals as goal
 
 pub returns-clause-ok : goal.returns-clause-ok
@@ -41,4 +42,5 @@ invariant_of-self-2 g c =
       λ at lt. ap (all_stay (Moment at)) items
           ∙ added_none_over c.self.inside.due c.flow_deadline.result e.number c.args.now c.args.flow es c.self.invariant.1 c.flow_deadline.ensures at (rw c.min-due.ensures at lt),
       omega (arith, long, c.self.invariant.2),
+      unlike_with e.number c.args.now c.args.flow es _ items c.self.invariant.3,
     )

@@ -1,8 +1,9 @@
-use Rattle.std.proofs.Common.{drop, ◌≡◌, ℕ, List, sym, ap, ◌∙◌, ◌%◌, ◌^◌, ◌+◌}
+use Rattle.std.proofs.Common.{drop, ◌≡◌, ℕ, List, sym, ap, ◌∙◌, ◌%◌, ◌^◌, ◌+◌, arith}
 use Rattle.of_table.specs.Table.{FlowEntry, counted_at}
 use Rattle.of_table.specs.Entries.{flows_of, place_of}
 use Rattle.of_table.proofs.NumberLemmas.{number_some, number_none}
 use Rattle.of_table.proofs.CountLemmas.{counted_none}
+use Rattle.of_table.proofs.Unlike.{unlike_rows}
 use Rattle.of_table.proofs.flow_table.FlowTable.count.Goals as goal
 
 pub returns-in-None-clause-table : goal.returns-in-None-clause-table
@@ -17,3 +18,11 @@ returns-clause-table g c =
     let s = number_some c.args.number es c.in-Some.place (rw (← c.self.view_is) at (sym c.in-Some.ensures)) in
     let counts : flows_of (drop c.self.inside.replaced c.count_at-due.new.entries.items) ≡ counted_at c.args.now (place_of c.args.number es) c.args.bytes (flows_of es) = c.count_at-due.ensures.flows ∙ ap (λ (k : ℕ). counted_at c.args.now k c.args.bytes (flows_of es)) s.0 in
     rw (← c.self.view_is) (ap (λ (flows : List FlowEntry). record { lookups = c.self.inside.lookups; matched = (c.self.inside.matched + 1) % 2 ^ 64; flows = flows }) counts)
+
+pub invariant_of-self : goal.invariant_of-self
+invariant_of-self g c = (
+  c.self.invariant.0 ∙ sym c.count_at-due.ensures.rows,
+  λ at lt. c.count_at-due.ensures.due at (omega (arith, lt, c.min-self-inside.ensures)) (c.self.invariant.1 at (omega (arith, lt, c.min-self-inside.ensures))),
+  omega (arith, c.count_at-due.ensures.length, c.self.invariant.2),
+  unlike_rows (drop c.self.inside.replaced c.self.inside.entries.items) (drop c.self.inside.replaced c.count_at-due.new.entries.items) c.count_at-due.ensures.rows c.self.invariant.3,
+)

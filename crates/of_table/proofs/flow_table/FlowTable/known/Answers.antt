@@ -5,8 +5,8 @@ use Rattle.of_table.specs.Entries.{rows_of}
 use Rattle.of_table.proofs.NumberLemmas.{distinct-rows}
 use Rattle.of_table.proofs.flow_table.FlowTable.known.Goals as goal
 
-pub returns : goal.returns
-returns g c =
+pub returns-clause-distinct : goal.returns-clause-distinct
+returns-clause-distinct g c =
     let es = drop c.self.inside.replaced c.self.inside.entries.items in
     let distinct : is_distinct row_number (rows_of es) ≡ true = rw c.self.invariant.0 at c.known.ensures in
     rw (← c.self.view_is) (rw (distinct-rows es) at distinct)

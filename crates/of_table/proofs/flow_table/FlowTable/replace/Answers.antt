@@ -3,6 +3,7 @@ use Rattle.of_table.proofs.AddLemmas.{with_entries}
 use Rattle.of_table.specs.declared.selection.Cause.TheVariants.{Moment}
 use Rattle.of_table.specs.Deadlines.{all_stay}
 use Rattle.of_table.proofs.DeadlineLemmas.{added_none_over}
+use Rattle.of_table.proofs.Unlike.{unlike_with}
 use Rattle.of_table.proofs.flow_table.FlowTable.replace.Goals as goal
 
 pub returns : goal.returns
@@ -20,4 +21,5 @@ invariant_of-self g c = (
   λ at lt. ap (all_stay (Moment at)) c.put_last-number.ensures.entries
       ∙ added_none_over c.self.inside.due c.flow_deadline.result c.put_last-number.result c.args.now c.args.flow (drop c.self.inside.replaced c.self.inside.entries.items) c.self.invariant.1 c.flow_deadline.ensures at (rw c.min-due.ensures at lt),
   c.put_last-number.ensures.within,
+  unlike_with c.put_last-number.result c.args.now c.args.flow (drop c.self.inside.replaced c.self.inside.entries.items) _ c.put_last-number.ensures.entries c.self.invariant.3,
 )

@@ -6,14 +6,9 @@ use Rattle.of_table.specs.Table.{Table, empty_table, add_fault}
 use Rattle.of_table.specs.Entries.{no_entries, table_of}
 use Rattle.of_table.specs.Sound.{are_fit}
 use Rattle.of_table.specs.Tables.{NumberedTables}
-use Rattle.of_table.proofs.Soundness.{tables_sound, unlike_there, ok_added}
+use Rattle.of_table.proofs.Soundness.{tables_sound, ok_added}
 use Rattle.of_table.proofs.TablesLemmas.{adds_set, tables_added, table_is}
 use Rattle.of_table.proofs.flow_tables.FlowTables.add.Goals as goal
-
-pub add-requires : goal.add-requires
-add-requires g c =
-    let within : c.args.table < length c.self.inside.tables.items = omega (arith, c.if-table-ge-TABLES.false, c.self.invariant.0) in
-    unlike_there c.args.table c.self.inside.tables.items c.index_mut.result.now _ within c.index_mut.ensures.value c.self.invariant.1
 
 pub returns-clause-fault : goal.returns-clause-fault
 returns-clause-fault g c =

@@ -4,7 +4,8 @@ use Rattle.of_table.specs.Copies.{Supply}
 use Rattle.of_table.specs.Entries.{Numbered}
 use Rattle.of_table.specs.Sound.{are_fit}
 use Rattle.of_table.specs.Tables.{NumberedTables, is_in, each_from, modified_numbered, tables_of, all_modified}
-use Rattle.of_table.proofs.TablesLemmas.{tables_modified, written}
+use Rattle.of_table.proofs.TablesLemmas.{tables_modified}
+use Rattle.of_table.proofs.Replaced.{written}
 use Rattle.of_table.proofs.flow_tables.FlowTables.modify.Goals as goal
 
 pub returns-clause-tables : goal.returns-clause-tables
