@@ -1,4 +1,5 @@
 pub mod TurnLemmas
+pub mod CutLemmas
 pub mod Steps
 pub mod FileLemmas
 pub mod MemoryLemmas

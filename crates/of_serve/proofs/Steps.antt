@@ -1,11 +1,11 @@
 -- Steps of a turn, and turns one after the other.
-use Rattle.std.proofs.Common.{◌≡◌, ℕ, ◌+◌, ◌≤◌, Bool, true, false, List, [], ◌∷◌, ◌++◌, length, Option, Some, None, Result, Ok, Err, refl, sym, ◌∙◌, ap, subst, append_assoc, arith}
-use Rattle.std.specs.Prelude.{OnOk}
+use Rattle.std.proofs.Common.{◌≡◌, ◌⊎◌, inl, inr, ℕ, ◌+◌, ◌≤◌, Bool, true, false, List, [], ◌∷◌, ◌++◌, Option, Result, Ok, Err, refl, sym, ◌∙◌, ap, subst, append_assoc, arith}
+use Rattle.std.specs.Prelude.{OnOk, OnErr}
 use Rattle.std.proofs.lemmas.List.{append-nil}
 use Rattle.std.specs.declared.alloc.AllocError.{AllocError}
 use Rattle.of_session.specs.Session.{is_disconnected}
 use Rattle.of_switch.specs.declared.event.Event.{Event}
-use Rattle.of_switch.specs.declared.event.Event.TheVariants.{Moment, Lost}
+use Rattle.of_switch.specs.declared.event.Event.TheVariants.{Connect, Moment, Lost}
 use Rattle.of_switch.specs.State.{State}
 use Rattle.of_switch.specs.Runs.{happened}
 use Rattle.of_replay.specs.declared.event_file.Ended.{Ended}
@@ -14,11 +14,12 @@ use Rattle.of_replay.specs.declared.halt.Halt.TheVariants.{Bad, Memory, Read as 
 use Rattle.of_replay.specs.Told.{Answer, then_bytes}
 use Rattle.of_replay.specs.Transfer.{WroteFront}
 use Rattle.of_serve.specs.declared.peers.Accepted.TheVariants as accepted
-use Rattle.of_serve.specs.Told.{Came, accept_came, Answered, then_told, then_onto}
-use Rattle.of_serve.specs.Turns.{Gathered, gather, gathered, empty_handed, given, due, left, heard, events_of, Stand, standing, Turn, IsTurn, Accepts, Reads, came_in, time_in, then_in, Turns, stand, came, times, took, sent}
+use Rattle.of_serve.specs.Told.{Came, accept_came, Answered, then_told, then_begun, then_onto}
+use Rattle.of_serve.specs.Turns.{Gathered, gather, gathered, empty_handed, broken, given, due, left, heard, events_of, Stand, standing, Turn, IsTaken, IsTurn, Accepts, Reads, came_in, time_in, then_in, Time, All, known_came, known_times, then_known, CutTurn, cut_given, Turns, stand, came, times, took, sent}
 use Rattle.of_serve.specs.Turns.Turns.{None as NoTurns, Then}
-use Rattle.of_serve.specs.Serves.{Tells, tells, Serves}
-use Rattle.of_serve.specs.Gathering.{Hears, TellsReads, ReadsOnce, Opens, OrMemory, Learns, Lacks, Refuses, Inputs, Answers, GoesOn, Stops, Goes, Counts, Fails, WriteFails, SoFar}
+use Rattle.of_serve.specs.Serves.{Tells, tells, CutShort, Serves}
+use Rattle.of_serve.specs.Gathering.{CutIn, Hears, TellsReads, CutsReads, Opens, OrMemory, Learns, Cuts, Inputs, IsAnswered, GoesOn, Stops, StopsShort, StopsShorter, Goes, Counts, Fails, WriteFails, SoFar}
+use Rattle.of_serve.proofs.CutLemmas.{cut_now, cut_later}
 use Rattle.of_replay.specs.declared.event_file.Ended.TheVariants.{Done, BadRow, ReadFault, WriteFault, NoMemory}
 use Rattle.of_serve.proofs.TurnLemmas.{told-nil, told-told, gathered_more}
 use Rattle.of_replay.proofs.TellingLemmas.{then-then, then-nil}
@@ -28,154 +29,237 @@ use Rattle.std.specs.Prelude.{not, ◌<◌, ◌↔◌}
 -- A READ
 
 pub read_told : (result : Result (Unit {0}) AllocError) (g g1 g2 g3 : Gathered) (rows rest : List Event) (came came' : Option (List Came)) (times times' : Option (List ℕ)) (now : ℕ)
-    → g1 ≡ gather (happened (Moment now) g.state) g → g2 ≡ gathered (due now rows) g1 → rest ≡ left now rows → times' ≡ then_told times (now ∷ []) → OnOk result (Hears g2 g3 came came')
+    → g1 ≡ gather (happened (Moment now) g.state) g → g2 ≡ gathered (due now rows) g1 → rest ≡ left now rows → times' ≡ then_told times (now ∷ []) → Hears result g2 g3 came came'
     → OnOk result (TellsReads g g3 rows rest came came' times times')
 read_told (Ok u) g g1 g2 g3 rows rest came came' times times' now e1 e2 r t h = record {
   now = now;
-  answer = h.0;
-  came_is = h.1;
+  answer = h.answer;
+  came_is = h.came_is;
   times_are = t;
-  handled = h.2 ∙ (ap (gathered (heard h.0)) (e2 ∙ ap (gathered (due now rows)) e1) ∙ sym (gathered_more (due now rows) (heard h.0) (gather (happened (Moment now) g.state) g)));
+  handled = h.handled ∙ (ap (gathered (heard h.answer)) (e2 ∙ ap (gathered (due now rows)) e1) ∙ sym (gathered_more (due now rows) (heard h.answer) (gather (happened (Moment now) g.state) g)));
   rest_is = r;
 }
 read_told (Err e) g g1 g2 g3 rows rest came came' times times' now e1 e2 r t h = tt
 
-pub not_read : (came : Option (List Came)) (times times' : Option (List ℕ)) (now : ℕ) → times' ≡ then_told times (now ∷ []) → ReadsOnce came came times times'
-not_read came times times' now e = record { last = []; time = now ∷ []; one = omega arith; came_is = sym (told-nil came); times_are = e }
+pub not_read : (g g' : Gathered) (rows : List Event) (came : Option (List Came)) (times times' : Option (List ℕ)) (now : ℕ) → times' ≡ then_told times (now ∷ []) → CutIn (Moment now ∷ due now rows) g g'
+    → CutsReads g g' rows came came times times'
+not_read g g' rows came times times' now e c = record { now = now; times_are = e; cut = inl (refl, c) }
+
+pub read_cuts : (result : Result (Unit {0}) AllocError) (g g1 g2 g3 : Gathered) (rows : List Event) (came came' : Option (List Came)) (times times' : Option (List ℕ)) (now : ℕ)
+    → g1 ≡ gather (happened (Moment now) g.state) g → g2 ≡ gathered (due now rows) g1 → times' ≡ then_told times (now ∷ []) → Hears result g2 g3 came came'
+    → OnErr result (CutsReads g g3 rows came came' times times')
+read_cuts (Ok u) g g1 g2 g3 rows came came' times times' now e1 e2 t h = tt
+read_cuts (Err e) g g1 g2 g3 rows came came' times times' now e1 e2 t h = record {
+  now = now;
+  times_are = t;
+  cut = inr (h.answer, h.came_is, cut_later (Moment now ∷ due now rows) (heard h.answer) g g2 g3 (e2 ∙ ap (gathered (due now rows)) e1) h.cut);
+}
+
+-- AN ACCEPT THAT OPENED
+
+pub opens : (done : Result (Unit {0}) AllocError) (result : Result (Unit {0}) Halt) (g g' : Gathered) (came came' : Option (List Came)) (took took' : Option (List (List ℕ)))
+    → OrMemory done result → came' ≡ then_told came (accept_came accepted.Open ∷ []) → took' ≡ then_begun took accepted.Open → OnOk done (g' ≡ gather (happened Connect g.state) g)
+    → OnErr done ((g'.answers ≡ g.answers) × (g'.lines ≡ g.lines)) → Opens result g g' came came' took took'
+opens (Ok u) result g g' came came' took took' is e k ok err = subst (λ (x : Result (Unit {0}) Halt). Opens x g g' came came' took took') (sym is) (accepted.Open, e, k, ok)
+opens (Err x) result g g' came came' took took' is e k ok err = subst (λ (x : Result (Unit {0}) Halt). Opens x g g' came came' took took') (sym is) (e, k, cut_now Connect [] g g' err)
 
 -- THE INPUT OF A TURN
 
-pub inputs_read : (done : Result (Unit {0}) AllocError) (result : Result (Unit {0}) Halt) (g0 g g' : Gathered) (rows rest : List Event) (came came' : Option (List Came)) (times times' : Option (List ℕ)) (took took' : Option (List (List ℕ))) (wrote : Option (List ℕ))
-    → OrMemory done result → g ≡ g0 → g0 ≡ empty_handed g0.state → is_disconnected g0.state.connection.phase ≡ false
-    → OnOk done (TellsReads g g' rows rest came came' times times') → ReadsOnce came came' times times' → took' ≡ took
+-- memory ran out in a turn with a connection
+read_inputs : (g0 g g' : Gathered) (rows rest : List Event) (came came' : Option (List Came)) (times times' : Option (List ℕ)) (took took' : Option (List (List ℕ))) (wrote : Option (List ℕ)) (now : ℕ)
+    → g ≡ empty_handed g0.state → is_disconnected g0.state.connection.phase ≡ false → times' ≡ then_told times (now ∷ []) → took' ≡ took
+    → ((came' ≡ came) × CutIn (Moment now ∷ due now rows) g g') ⊎ ((answer : Answer) × (came' ≡ then_told came (Answered answer ∷ [])) × CutIn (events_of (Reads now answer) rows) g g')
+    → Inputs (Err Memory) (standing g0.state rows) g' rest (tells came times took wrote) (tells came' times' took' wrote)
+read_inputs g0 g g' rows rest came came' times times' took took' wrote now e stands t k (inl c) = record {
+  known = Time now;
+  is_known = stands;
+  cut = subst (λ (x : Gathered). CutIn (Moment now ∷ due now rows) x g') e c.1;
+  came_is = c.0 ∙ sym (told-nil came);
+  times_are = t;
+  took_is = k;
+  wrote_is = refl;
+}
+read_inputs g0 g g' rows rest came came' times times' took took' wrote now e stands t k (inr c) = record {
+  known = All (Reads now c.0);
+  is_known = stands;
+  cut = subst (λ (x : Gathered). CutIn (events_of (Reads now c.0) rows) x g') e c.2;
+  came_is = c.1;
+  times_are = t;
+  took_is = k;
+  wrote_is = refl;
+}
+
+pub inputs_read : (done : Result (Unit {0}) AllocError) (result : Result (Unit {0}) Halt) (g0 g' : Gathered) (rows rest : List Event) (came came' : Option (List Came)) (times times' : Option (List ℕ)) (took took' : Option (List (List ℕ))) (wrote : Option (List ℕ))
+    → OrMemory done result → g0 ≡ empty_handed g0.state → is_disconnected g0.state.connection.phase ≡ false
+    → OnOk done (TellsReads g0 g' rows rest came came' times times') → OnErr done (CutsReads g0 g' rows came came' times times') → took' ≡ took
     → Inputs result (standing g0.state rows) g' rest (tells came times took wrote) (tells came' times' took' wrote)
-inputs_read (Ok u) result g0 g g' rows rest came came' times times' took took' wrote is same empty stands t r k =
+inputs_read (Ok u) result g0 g' rows rest came came' times times' took took' wrote is empty stands t r k =
     subst (λ (x : Result (Unit {0}) Halt). Inputs x (standing g0.state rows) g' rest (tells came times took wrote) (tells came' times' took' wrote)) (sym is) (record {
       input = Reads t.now t.answer;
       is_input = stands;
-      handled = t.handled ∙ ap (gathered (events_of (Reads t.now t.answer) rows)) (same ∙ empty);
+      handled = t.handled ∙ ap (gathered (events_of (Reads t.now t.answer) rows)) empty;
       rest_is = t.rest_is;
       came_is = t.came_is;
       times_are = t.times_are;
       took_is = k;
       wrote_is = refl;
     })
-inputs_read (Err e) result g0 g g' rows rest came came' times times' took took' wrote is same empty stands t r k =
-    subst (λ (x : Result (Unit {0}) Halt). Inputs x (standing g0.state rows) g' rest (tells came times took wrote) (tells came' times' took' wrote)) (sym is) (record {
-      last = r.last;
-      time = r.time;
-      one = r.one;
-      came_is = r.came_is;
-      times_are = r.times_are;
-      wrote_is = refl;
-    })
+inputs_read (Err e) result g0 g' rows rest came came' times times' took took' wrote is empty stands t r k =
+    subst (λ (x : Result (Unit {0}) Halt). Inputs x (standing g0.state rows) g' rest (tells came times took wrote) (tells came' times' took' wrote)) (sym is)
+    (read_inputs g0 g0 g' rows rest came came' times times' took took' wrote r.now empty stands r.times_are k r.cut)
 
-pub inputs_accept : (result : Result (Unit {0}) Halt) (g0 g g' : Gathered) (rows : List Event) (came came' : Option (List Came)) (times : Option (List ℕ)) (took took' : Option (List (List ℕ))) (wrote : Option (List ℕ))
-    → g ≡ g0 → g0 ≡ empty_handed g0.state → is_disconnected g0.state.connection.phase ≡ true → Opens result g g' came came' took took'
+pub inputs_accept : (result : Result (Unit {0}) Halt) (g0 g' : Gathered) (rows : List Event) (came came' : Option (List Came)) (times : Option (List ℕ)) (took took' : Option (List (List ℕ))) (wrote : Option (List ℕ))
+    → g0 ≡ empty_handed g0.state → is_disconnected g0.state.connection.phase ≡ true → Opens result g0 g' came came' took took'
     → Inputs result (standing g0.state rows) g' rows (tells came times took wrote) (tells came' times took' wrote)
-inputs_accept (Ok u) g0 g g' rows came came' times took took' wrote same empty stands o = record {
+inputs_accept (Ok u) g0 g' rows came came' times took took' wrote empty stands o = record {
   input = Accepts o.0;
   is_input = stands;
-  handled = o.3 ∙ ap (gathered (events_of (Accepts o.0) rows)) (same ∙ empty);
+  handled = o.3 ∙ ap (gathered (events_of (Accepts o.0) rows)) empty;
   rest_is = refl;
   came_is = o.1;
   times_are = sym (told-nil times);
   took_is = o.2;
   wrote_is = refl;
 }
-inputs_accept (Err (Bad n)) g0 g g' rows came came' times took took' wrote same empty stands o = o
-inputs_accept (Err Memory) g0 g g' rows came came' times took took' wrote same empty stands o = record {
-  last = accept_came accepted.Open ∷ [];
-  time = [];
-  one = omega arith;
-  came_is = o;
+inputs_accept (Err (Bad n)) g0 g' rows came came' times took took' wrote empty stands o = o
+inputs_accept (Err Memory) g0 g' rows came came' times took took' wrote empty stands o = record {
+  known = All (Accepts accepted.Open);
+  is_known = stands;
+  cut = subst (λ (x : Gathered). CutIn (events_of (Accepts accepted.Open) rows) x g') empty o.2;
+  came_is = o.0;
   times_are = sym (told-nil times);
+  took_is = o.1;
   wrote_is = refl;
 }
-inputs_accept (Err ReadHalt) g0 g g' rows came came' times took took' wrote same empty stands o = record { came_is = o.0; times_are = refl; took_is = o.1; wrote_is = refl }
-inputs_accept (Err Write) g0 g g' rows came came' times took took' wrote same empty stands o = o
+inputs_accept (Err ReadHalt) g0 g' rows came came' times took took' wrote empty stands o = record { came_is = o.0; times_are = refl; took_is = o.1; wrote_is = refl }
+inputs_accept (Err Write) g0 g' rows came came' times took took' wrote empty stands o = o
 
-pub inputs_none : (t : Tells) → Lacks t t
-inputs_none t = record {
-  last = [];
-  time = [];
-  one = omega arith;
-  came_is = sym (told-nil t.came);
-  times_are = sym (told-nil t.times);
-  wrote_is = refl;
+-- WHAT IT GIVES IS WRITTEN
+
+pub answered_all : (g : Gathered) (took took' : Option (List (List ℕ))) → took' ≡ then_onto took g.answers → IsAnswered g g took took'
+answered_all g took took' k = record { taken = g.answers; broke = false; is_taken = refl; lost_is = refl; took_is = k }
+
+pub answered_lost : (g g' : Gathered) (took took' : Option (List (List ℕ))) → (front : List ℕ) × (others : List ℕ) × (front ++ others ≡ g.answers) × (took' ≡ then_onto took front) → g' ≡ gathered (Lost ∷ []) g → IsAnswered g g' took took'
+answered_lost g g' took took' k lost = record { taken = k.0; broke = true; is_taken = (k.1, k.2); lost_is = lost; took_is = k.3 }
+
+-- the loss of a connection sends no frame
+lost_lines : (broke : Bool) (g : Gathered) → (gathered (broken broke) g).lines ≡ g.lines
+lost_lines true g = append-nil g.lines
+lost_lines false g = refl
+
+same_lines : (g g' : Gathered) (took took' : Option (List (List ℕ))) → IsAnswered g g' took took' → g'.lines ≡ g.lines
+same_lines g g' took took' a = ap (λ (x : Gathered). x.lines) a.lost_is ∙ lost_lines a.broke g
+
+is_turn : (s : Stand) (g g' : Gathered) (rest : List Event) (old now : Tells) (took took' : Option (List (List ℕ))) (l : Learns s g rest old now) (a : IsAnswered g g' took took')
+    → IsTurn (record { input = l.input; taken = a.taken; broke = a.broke }) s
+is_turn s g g' rest old now took took' l a = record {
+  input = l.is_input;
+  taken = subst (λ (x : Gathered). IsTaken a.broke a.taken x.answers) l.handled a.is_taken;
 }
 
--- ITS ANSWERS
-
-pub answers_all : (s : Stand) (g : Gathered) (rest : List Event) (old : Tells) (came came' : Option (List Came)) (times : Option (List ℕ)) (took took' : Option (List (List ℕ))) (wrote : Option (List ℕ))
-    → Learns s g rest old (tells came times took wrote) → came' ≡ came → took' ≡ then_onto took g.answers → Answers s g rest old (tells came' times took' wrote)
-answers_all s g rest old came came' times took took' wrote l e k = record {
-  turn = record { input = l.input; taken = g.answers; broke = false };
-  is_turn = record { input = l.is_input; taken = ap (λ (x : Gathered). x.answers) l.handled };
-  state_is = ap (λ (x : Gathered). x.state) l.handled;
+goes_on : (s : Stand) (g g1 g2 : Gathered) (rest : List Event) (old : Tells) (came came' : Option (List Came)) (times : Option (List ℕ)) (took took' : Option (List (List ℕ))) (wrote wrote' : Option (List ℕ))
+    → Learns s g rest old (tells came times took wrote) → came' ≡ came → IsAnswered g g1 took took' → wrote' ≡ then_bytes wrote g1.lines → g2 ≡ empty_handed g1.state
+    → GoesOn s g2 rest old (tells came' times took' wrote')
+goes_on s g g1 g2 rest old came came' times took took' wrote wrote' l e a w cleared = record {
+  turn = record { input = l.input; taken = a.taken; broke = a.broke };
+  is_turn = is_turn s g g1 rest old (tells came times took wrote) took took' l a;
+  handed = cleared ∙ ap (λ (x : Gathered). empty_handed x.state) (a.lost_is ∙ ap (gathered (broken a.broke)) l.handled);
   rest_is = l.rest_is;
-  lines_are = ap (λ (x : Gathered). x.lines) l.handled;
   came_is = e ∙ l.came_is;
   times_are = l.times_are;
-  took_is = k ∙ ap (λ (x : Option (List (List ℕ))). then_onto x g.answers) l.took_is;
-  wrote_is = l.wrote_is;
-}
-
-pub answers_lost : (s : Stand) (g g' : Gathered) (rest : List Event) (old : Tells) (came came' : Option (List Came)) (times : Option (List ℕ)) (took took' : Option (List (List ℕ))) (wrote : Option (List ℕ))
-    → Learns s g rest old (tells came times took wrote) → came' ≡ came → (front : List ℕ) × (others : List ℕ) × (front ++ others ≡ g.answers) × (took' ≡ then_onto took front) → g' ≡ gathered (Lost ∷ []) g
-    → Answers s g' rest old (tells came' times took' wrote)
-answers_lost s g g' rest old came came' times took took' wrote l e k lost = record {
-  turn = record { input = l.input; taken = k.0; broke = true };
-  is_turn = record { input = l.is_input; taken = (k.1, k.2 ∙ ap (λ (x : Gathered). x.answers) l.handled) };
-  state_is = ap (λ (x : Gathered). x.state) (lost ∙ ap (gathered (Lost ∷ [])) l.handled);
-  rest_is = l.rest_is;
-  lines_are = ap (λ (x : Gathered). x.lines) lost ∙ (append-nil g.lines ∙ ap (λ (x : Gathered). x.lines) l.handled);
-  came_is = e ∙ l.came_is;
-  times_are = l.times_are;
-  took_is = k.3 ∙ ap (λ (x : Option (List (List ℕ))). then_onto x k.0) l.took_is;
-  wrote_is = l.wrote_is;
-}
-
--- A WHOLE TURN
-
-pub goes_on : (s : Stand) (g g' : Gathered) (rest : List Event) (old : Tells) (came : Option (List Came)) (times : Option (List ℕ)) (took : Option (List (List ℕ))) (wrote wrote' : Option (List ℕ))
-    → Answers s g rest old (tells came times took wrote) → g' ≡ empty_handed g.state → wrote' ≡ then_bytes wrote g.lines → GoesOn s g' rest old (tells came times took wrote')
-goes_on s g g' rest old came times took wrote wrote' a cleared e = record {
-  turn = a.turn;
-  is_turn = a.is_turn;
-  handed = cleared ∙ ap empty_handed a.state_is;
-  rest_is = a.rest_is;
-  came_is = a.came_is;
-  times_are = a.times_are;
-  took_is = a.took_is;
-  wrote_is = e ∙ (ap (λ (x : Option (List ℕ)). then_bytes x g.lines) a.wrote_is ∙ ap (then_bytes old.wrote) a.lines_are);
+  took_is = a.took_is ∙ ap (λ (x : Option (List (List ℕ))). then_onto x a.taken) l.took_is;
+  wrote_is = w ∙ (ap (λ (x : Option (List ℕ)). then_bytes x g1.lines) l.wrote_is ∙ ap (then_bytes old.wrote) (same_lines g g1 took took' a ∙ ap (λ (x : Gathered). x.lines) l.handled));
 }
 
 front_same : (old old' : Option (List ℕ)) (text text' : List ℕ) (new : Option (List ℕ)) → old ≡ old' → text ≡ text' → WroteFront old text new → WroteFront old' text' new
 front_same old old' text text' new e t w = (w.0, w.1, w.2 ∙ t, w.3 ∙ ap (λ (x : Option (List ℕ)). then_bytes x w.0) e)
 
-pub stops : (s : Stand) (g : Gathered) (rest : List Event) (old : Tells) (came : Option (List Came)) (times : Option (List ℕ)) (took : Option (List (List ℕ))) (wrote wrote' : Option (List ℕ))
-    → Answers s g rest old (tells came times took wrote) → WroteFront wrote g.lines wrote' → Stops s old (tells came times took wrote')
-stops s g rest old came times took wrote wrote' a w = record {
-  turn = a.turn;
-  is_turn = a.is_turn;
-  came_is = a.came_is;
-  times_are = a.times_are;
-  took_is = a.took_is;
-  wrote_is = front_same wrote old.wrote g.lines _ wrote' a.wrote_is a.lines_are w;
+stops : (s : Stand) (g g1 : Gathered) (rest : List Event) (old : Tells) (came came' : Option (List Came)) (times : Option (List ℕ)) (took took' : Option (List (List ℕ))) (wrote wrote' : Option (List ℕ))
+    → Learns s g rest old (tells came times took wrote) → came' ≡ came → IsAnswered g g1 took took' → WroteFront wrote g1.lines wrote' → Stops s old (tells came' times took' wrote')
+stops s g g1 rest old came came' times took took' wrote wrote' l e a w = record {
+  turn = record { input = l.input; taken = a.taken; broke = a.broke };
+  is_turn = is_turn s g g1 rest old (tells came times took wrote) took took' l a;
+  came_is = e ∙ l.came_is;
+  times_are = l.times_are;
+  took_is = a.took_is ∙ ap (λ (x : Option (List (List ℕ))). then_onto x a.taken) l.took_is;
+  wrote_is = front_same wrote old.wrote g1.lines (given l.input s).lines wrote' l.wrote_is (same_lines g g1 took took' a ∙ ap (λ (x : Gathered). x.lines) l.handled) w;
 }
 
-pub input_halts : (h : Halt) (s : Stand) (g g' : Gathered) (rest rest' : List Event) (old new : Tells) → Inputs (Err h) s g rest old new → Goes (Err h) s g' rest' old new
-input_halts (Bad n) s g g' rest rest' old new i = i
-input_halts Memory s g g' rest rest' old new i = i
-input_halts ReadHalt s g g' rest rest' old new i = i
-input_halts Write s g g' rest rest' old new i = absurd i
+-- A TURN THAT MEMORY CUT SHORT
 
-pub input_writes : (h : Halt) (s : Stand) (g : Gathered) (rest : List Event) (old new : Tells) (failures : ℕ) → Inputs (Err h) s g rest old new → failures ≡ 0 → WriteFails (Err h) failures
-input_writes (Bad n) s g rest old new failures i e = i
-input_writes Memory s g rest old new failures i e = e
-input_writes ReadHalt s g rest old new failures i e = e
-input_writes Write s g rest old new failures i e = absurd i
+cut_turn : (s : Stand) (g g1 : Gathered) (old : Tells) (came came' : Option (List Came)) (times : Option (List ℕ)) (took took' : Option (List (List ℕ))) (wrote wrote' : Option (List ℕ))
+    (c : Cuts s g old (tells came times took wrote)) (a : IsAnswered g g1 took took') → came' ≡ came
+    → CutShort (record { known = c.known; cut = c.cut.cut; taken = a.taken; broke = a.broke }) s NoTurns old (tells came' times took' wrote')
+cut_turn s g g1 old came came' times took took' wrote wrote' c a e = record {
+  is = record {
+    known = c.is_known;
+    events = c.cut.events_are;
+    taken = subst (λ (x : List ℕ). IsTaken a.broke a.taken x) c.cut.answers_are a.is_taken;
+  };
+  came_is = e ∙ c.came_is;
+  times_are = c.times_are;
+  took_is = a.took_is ∙ ap (λ (x : Option (List (List ℕ))). then_onto x a.taken) c.took_is;
+}
+
+stops_short : (s : Stand) (g g1 : Gathered) (old : Tells) (came came' : Option (List Came)) (times : Option (List ℕ)) (took took' : Option (List (List ℕ))) (wrote wrote' : Option (List ℕ))
+    → Cuts s g old (tells came times took wrote) → came' ≡ came → IsAnswered g g1 took took' → wrote' ≡ then_bytes wrote g1.lines → StopsShort s old (tells came' times took' wrote')
+stops_short s g g1 old came came' times took took' wrote wrote' c e a w = (
+  record { known = c.known; cut = c.cut.cut; taken = a.taken; broke = a.broke },
+  cut_turn s g g1 old came came' times took took' wrote wrote' c a e,
+  w ∙ (ap (λ (x : Option (List ℕ)). then_bytes x g1.lines) c.wrote_is ∙ ap (then_bytes old.wrote) (same_lines g g1 took took' a ∙ c.cut.lines_are)),
+)
+
+stops_shorter : (s : Stand) (g g1 : Gathered) (old : Tells) (came came' : Option (List Came)) (times : Option (List ℕ)) (took took' : Option (List (List ℕ))) (wrote wrote' : Option (List ℕ))
+    → Cuts s g old (tells came times took wrote) → came' ≡ came → IsAnswered g g1 took took' → WroteFront wrote g1.lines wrote' → StopsShorter s old (tells came' times took' wrote')
+stops_shorter s g g1 old came came' times took took' wrote wrote' c e a w = (
+  record { known = c.known; cut = c.cut.cut; taken = a.taken; broke = a.broke },
+  cut_turn s g g1 old came came' times took took' wrote wrote' c a e,
+  front_same wrote old.wrote g1.lines (cut_given c.cut.cut s).lines wrote' c.wrote_is (same_lines g g1 took took' a ∙ c.cut.lines_are) w,
+)
+
+-- A WHOLE TURN
+
+abbrev pub NotRead : Result (Unit {0}) Halt → Type 0
+NotRead r = r ≡ Err ReadHalt → ⊥
+
+pub turn_goes : (r : Result (Unit {0}) Halt) (s : Stand) (g g1 g2 : Gathered) (rest : List Event) (old : Tells) (came came' : Option (List Came)) (times : Option (List ℕ)) (took took' : Option (List (List ℕ))) (wrote wrote' : Option (List ℕ))
+    → NotRead r → Inputs r s g rest old (tells came times took wrote) → came' ≡ came → IsAnswered g g1 took took' → wrote' ≡ then_bytes wrote g1.lines → g2 ≡ empty_handed g1.state
+    → Goes r s g2 rest old (tells came' times took' wrote')
+turn_goes (Ok u) s g g1 g2 rest old came came' times took took' wrote wrote' not i e a w cleared = goes_on s g g1 g2 rest old came came' times took took' wrote wrote' i e a w cleared
+turn_goes (Err (Bad n)) s g g1 g2 rest old came came' times took took' wrote wrote' not i e a w cleared = i
+turn_goes (Err Memory) s g g1 g2 rest old came came' times took took' wrote wrote' not i e a w cleared = stops_short s g g1 old came came' times took took' wrote wrote' i e a w
+turn_goes (Err ReadHalt) s g g1 g2 rest old came came' times took took' wrote wrote' not i e a w cleared = absurd (not refl)
+turn_goes (Err Write) s g g1 g2 rest old came came' times took took' wrote wrote' not i e a w cleared = absurd i
+
+pub turn_stops : (r : Result (Unit {0}) Halt) (s : Stand) (g g1 g2 : Gathered) (rest rest' : List Event) (old : Tells) (came came' : Option (List Came)) (times : Option (List ℕ)) (took took' : Option (List (List ℕ))) (wrote wrote' : Option (List ℕ))
+    → NotRead r → Inputs r s g rest old (tells came times took wrote) → came' ≡ came → IsAnswered g g1 took took' → WroteFront wrote g1.lines wrote'
+    → Goes (Err Write) s g2 rest' old (tells came' times took' wrote')
+turn_stops (Ok u) s g g1 g2 rest rest' old came came' times took took' wrote wrote' not i e a w = inl (stops s g g1 rest old came came' times took took' wrote wrote' i e a w)
+turn_stops (Err (Bad n)) s g g1 g2 rest rest' old came came' times took took' wrote wrote' not i e a w = absurd i
+turn_stops (Err Memory) s g g1 g2 rest rest' old came came' times took took' wrote wrote' not i e a w = inr (stops_shorter s g g1 old came came' times took took' wrote wrote' i e a w)
+turn_stops (Err ReadHalt) s g g1 g2 rest rest' old came came' times took took' wrote wrote' not i e a w = absurd (not refl)
+turn_stops (Err Write) s g g1 g2 rest rest' old came came' times took took' wrote wrote' not i e a w = absurd i
+
+pub counts_write : (r : Result (Unit {0}) Halt) (n n' : ℕ) → Counts r n n' → Counts (Err Write) n n'
+counts_write (Ok u) n n' c = (omega (arith, c), omega (arith, c))
+counts_write (Err (Bad k)) n n' c = absurd c
+counts_write (Err Memory) n n' c = c
+counts_write (Err ReadHalt) n n' c = (omega (arith, c), omega (arith, c))
+counts_write (Err Write) n n' c = c
+
+pub fails_write : (r : Result (Unit {0}) Halt) (n n' : ℕ) → NotRead r → Fails r n n' → Fails (Err Write) n n'
+fails_write (Ok u) n n' not f = f
+fails_write (Err (Bad k)) n n' not f = absurd f
+fails_write (Err Memory) n n' not f = f
+fails_write (Err ReadHalt) n n' not f = absurd (not refl)
+fails_write (Err Write) n n' not f = f
+
+pub turn_writes : (r : Result (Unit {0}) Halt) (s : Stand) (g : Gathered) (rest : List Event) (old new : Tells) (failures : ℕ) → Inputs r s g rest old new → failures ≡ 0 → WriteFails r failures
+turn_writes (Ok u) s g rest old new failures i e = e
+turn_writes (Err (Bad n)) s g rest old new failures i e = i
+turn_writes (Err Memory) s g rest old new failures i e = e
+turn_writes (Err ReadHalt) s g rest old new failures i e = e
+turn_writes (Err Write) s g rest old new failures i e = absurd i
 
 pub stands : (b c : Bool) → c ≡ not b → c ≡ true → b ≡ false
 stands true c e t = sym t ∙ e
@@ -245,65 +329,71 @@ serves_all n turns s g rest old new f e = record {
   ends = (f.count_is ∙ e, f.came_is, f.times_are, f.took_is, f.wrote_is);
 }
 
-pub serves_until : (h : Halt) (n turns : ℕ) (s : Stand) (g g' : Gathered) (rest rest' : List Event) (old now new : Tells) → SoFar n s g rest old now → n < turns → Goes (Err h) (standing g.state rest) g' rest' now new → Serves (ended_so (Err h)) turns s old new
-serves_until (Bad k) n turns s g g' rest rest' old now new f lt go = absurd go
-serves_until Memory n turns s g g' rest rest' old now new f lt go = record {
-  ts = f.ts;
-  are = f.are;
-  ends = (
-    omega (arith, lt, f.count_is),
+cut_behind : (n : ℕ) (s : Stand) (g : Gathered) (rest : List Event) (old now new : Tells) (t : CutTurn) (f : SoFar n s g rest old now) → CutShort t (stand s f.ts) NoTurns now new → CutShort t s f.ts old new
+cut_behind n s g rest old now new t f c = record {
+  is = c.is;
+  came_is = told_more old.came now.came new.came (came f.ts) (known_came t.known) f.came_is c.came_is;
+  times_are = told_more old.times now.times new.times (times f.ts) (known_times t.known) f.times_are c.times_are;
+  took_is = c.took_is ∙ ap (λ (x : Option (List (List ℕ))). then_onto (then_known x t.known) t.taken) f.took_is;
+}
+
+until_memory : (n turns : ℕ) (s : Stand) (g : Gathered) (rest : List Event) (old now new : Tells) (f : SoFar n s g rest old now) → n < turns → StopsShort (stand s f.ts) now new → Serves NoMemory turns s old new
+until_memory n turns s g rest old now new f lt go =
+    let lines = (cut_given go.0.cut (stand s f.ts)).lines in
     record {
-      last = go.last;
-      time = go.time;
-      one = go.one;
-      came_is = told_more old.came now.came new.came (came f.ts) go.last f.came_is go.came_is;
-      times_are = told_more old.times now.times new.times (times f.ts) go.time f.times_are go.times_are;
-      wrote_is = go.wrote_is ∙ f.wrote_is;
-    },
+      ts = f.ts;
+      are = f.are;
+      ends = inl (
+        go.0,
+        omega (arith, lt, f.count_is),
+        cut_behind n s g rest old now new go.0 f go.1,
+        go.2 ∙ (ap (λ (x : Option (List ℕ)). then_bytes x lines) f.wrote_is ∙ then-then old.wrote (sent s f.ts) lines),
+      );
+    }
+
+until_write : (n turns : ℕ) (s : Stand) (g : Gathered) (rest : List Event) (old now new : Tells) (f : SoFar n s g rest old now) → n < turns → Stops (stand s f.ts) now new ⊎ StopsShorter (stand s f.ts) now new → Serves WriteFault turns s old new
+until_write n turns s g rest old now new f lt (inl t) = record {
+  ts = Then f.ts t.turn;
+  are = (f.are, t.is_turn);
+  ends = inl (
+    omega (arith, lt, f.count_is),
+    told_more old.came now.came new.came (came f.ts) (came_in t.turn.input) f.came_is t.came_is,
+    told_more old.times now.times new.times (times f.ts) (time_in t.turn.input) f.times_are t.times_are,
+    took_more old.took now.took new.took f.ts t.turn f.took_is t.took_is,
+    front_more old.wrote now.wrote new.wrote (sent s f.ts) (given t.turn.input (stand s f.ts)).lines f.wrote_is t.wrote_is,
   );
 }
+until_write n turns s g rest old now new f lt (inr go) = record {
+  ts = f.ts;
+  are = f.are;
+  ends = inr (
+    go.0,
+    omega (arith, lt, f.count_is),
+    cut_behind n s g rest old now new go.0 f go.1,
+    front_more old.wrote now.wrote new.wrote (sent s f.ts) (cut_given go.0.cut (stand s f.ts)).lines f.wrote_is go.2,
+  );
+}
+
+pub serves_until : (h : Halt) (n turns : ℕ) (s : Stand) (g g' : Gathered) (rest rest' : List Event) (old now new : Tells) → SoFar n s g rest old now → n < turns → Goes (Err h) (standing g.state rest) g' rest' now new → Serves (ended_so (Err h)) turns s old new
+serves_until (Bad k) n turns s g g' rest rest' old now new f lt go = absurd go
+serves_until Memory n turns s g g' rest rest' old now new f lt go =
+    until_memory n turns s g rest old now new f lt (subst (λ (y : Stand). StopsShort y now new) (stands_same s (stand s f.ts) g rest f.handed f.rest_is) go)
 serves_until ReadHalt n turns s g g' rest rest' old now new f lt go = record {
   ts = f.ts;
   are = f.are;
   ends = (omega (arith, lt, f.count_is), told_more old.came now.came new.came (came f.ts) (accept_came accepted.Fault ∷ []) f.came_is go.came_is, go.times_are ∙ f.times_are, go.took_is ∙ f.took_is, go.wrote_is ∙ f.wrote_is);
 }
 serves_until Write n turns s g g' rest rest' old now new f lt go =
-    let x = stand s f.ts in
-    let t : Stops x now new = subst (λ (y : Stand). Stops y now new) (stands_same s x g rest f.handed f.rest_is) go in
-    record {
-      ts = Then f.ts t.turn;
-      are = (f.are, t.is_turn);
-      ends = (
-        omega (arith, lt, f.count_is),
-        told_more old.came now.came new.came (came f.ts) (came_in t.turn.input) f.came_is t.came_is,
-        told_more old.times now.times new.times (times f.ts) (time_in t.turn.input) f.times_are t.times_are,
-        took_more old.took now.took new.took f.ts t.turn f.took_is t.took_is,
-        front_more old.wrote now.wrote new.wrote (sent s f.ts) (given t.turn.input x).lines f.wrote_is t.wrote_is,
-      );
-    }
+    until_write n turns s g rest old now new f lt (subst (λ (y : Stand). Stops y now new ⊎ StopsShorter y now new) (stands_same s (stand s f.ts) g rest f.handed f.rest_is) go)
 
 pub serves_nothing : (turns : ℕ) (s : Stand) (t : Tells) → Serves NoMemory turns s t t
-serves_nothing turns s t = record {
-  ts = NoTurns;
-  are = tt;
-  ends = (
-    omega arith,
-    record {
-      last = [];
-      time = [];
-      one = omega arith;
-      came_is = sym (told-nil t.came);
-      times_are = sym (told-nil t.times);
-      wrote_is = sym (then-nil t.wrote);
-    },
-  );
-}
+serves_nothing turns s t = record { ts = NoTurns; are = tt; ends = inr (refl, refl) }
 
 pub counts_on : (h : Halt) (n n' turns counter : ℕ) → n ≡ counter → counter < turns → Counts (Err h) n n' → n' ≤ turns
 counts_on (Bad k) n n' turns counter e lt c = absurd c
 counts_on Memory n n' turns counter e lt c = omega (arith, e, lt, c.1)
 counts_on ReadHalt n n' turns counter e lt c = omega (arith, e, lt, c)
-counts_on Write n n' turns counter e lt c = omega (arith, e, lt, c)
+counts_on Write n n' turns counter e lt c = omega (arith, e, lt, c.1)
 
 pub fails_from : (h : Halt) (n n' : ℕ) → n ≡ 0 → Fails (Err h) n n' → Fails (Err h) 0 n'
 fails_from h n n' e f = subst (λ (k : ℕ). Fails (Err h) k n') e f

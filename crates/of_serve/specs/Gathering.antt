@@ -1,8 +1,11 @@
 -- Parts of a turn, for contracts inside this crate.
-use Rattle.std.specs.Prelude.{◌≡◌, ◌≤◌, ◌<◌, ◌+◌, ℕ, Bool, true, false, List, [], ◌∷◌, ◌++◌, length, Option, Result, Ok, Err}
+use Rattle.std.specs.Prelude.{◌≡◌, ◌⊎◌, ◌≤◌, ◌<◌, ◌+◌, ℕ, Bool, true, false, List, [], ◌∷◌, ◌++◌, Option, Some, None as Never, Result, Ok, Err, OnOk, OnErr}
+use Rattle.std.specs.List.{flat_map}
 use Rattle.std.specs.declared.alloc.AllocError.{AllocError}
 use Rattle.of_switch.specs.declared.event.Event.{Event}
-use Rattle.of_switch.specs.State.{State}
+use Rattle.of_switch.specs.declared.event.Event.TheVariants.{Moment}
+use Rattle.of_switch.specs.Steps.{Outcome, next_of}
+use Rattle.of_switch.specs.Runs.{unless, drain, drained}
 use Rattle.of_replay.specs.declared.halt.Halt.{Halt}
 use Rattle.of_replay.specs.declared.halt.Halt.TheVariants.{Bad, Memory, Read as ReadHalt, Write}
 use Rattle.of_replay.specs.Told.{Answer, then_bytes}
@@ -10,16 +13,37 @@ use Rattle.of_replay.specs.Transfer.{WroteFront}
 use Rattle.of_serve.specs.declared.peers.Accepted.{Accepted}
 use Rattle.of_serve.specs.declared.peers.Accepted.TheVariants as accepted
 use Rattle.of_serve.specs.Told.{Came, accept_came, Answered, then_told, then_begun, then_onto}
-use Rattle.of_serve.specs.Turns.{Gathered, gathered, empty_handed, heard, opened, left, events_of, Reads, Stand, Turn, IsTurn, given, after, Input, IsInput, rows_after, came_in, time_in, then_in, Turns, AreTurns, count, stand, came, times, took, sent}
-use Rattle.of_serve.specs.Serves.{Tells}
+use Rattle.of_serve.specs.Turns.{Gathered, gather, gathered, answer_in, line_in, empty_handed, broken, heard, opened, due, left, events_of, Reads, Stand, Turn, IsTaken, IsTurn, given, after, Input, IsInput, rows_after, came_in, time_in, then_in, Cut, cut_events, cut_from, Known, IsKnown, known_events, known_came, known_times, then_known, CutTurn, Turns, None, AreTurns, count, stand, came, times, took, sent}
+use Rattle.of_serve.specs.Serves.{Tells, CutShort, cut_sent}
 
--- one read was made
-abbrev pub IsOneRead : (came came' : Option (List Came)) → Type 0
-IsOneRead came came' = (answer : Answer) × (came' ≡ then_told came (Answered answer ∷ []))
+-- memory ran out in these events, behind which this is gathered
+pub record CutIn (events : List Event) (g g' : Gathered) : Type 0 where
+  pub cut : Cut
+  pub events_are : cut_events cut ≡ events
+  pub answers_are : g'.answers ≡ (cut_from cut g).answers
+  pub lines_are : g'.lines ≡ (cut_from cut g).lines
 
--- and what it gave was handled
-abbrev pub Hears : Gathered → Gathered → (came came' : Option (List Came)) → Type 0
-Hears g g' came came' = (answer : Answer) × (came' ≡ then_told came (Answered answer ∷ [])) × (g' ≡ gathered (heard answer) g)
+-- the message that comes next was handled; or there is none
+abbrev pub HandlesNext : Bool → Gathered → Gathered → Type 0
+HandlesNext true g g' = (o : Outcome) × (next_of g.state ≡ Some o) × (g' ≡ gather (unless Never g.state o) g)
+HandlesNext false g g' = (next_of g.state ≡ Never) × (g' ≡ g)
+
+-- all messages were handled
+abbrev pub HandlesAll : Gathered → Gathered → Type 0
+HandlesAll g g' = g' ≡ gather (unless Never g.state (drained g.state)) g
+
+-- so many messages were handled
+pub record HandlesSome (g g' : Gathered) : Type 0 where
+  pub messages : ℕ
+  pub answers_are : g'.answers ≡ g.answers ++ flat_map answer_in (drain messages g.state).effects
+  pub lines_are : g'.lines ≡ g.lines ++ flat_map line_in (drain messages g.state).effects
+
+-- a read was made, and what it gave was handled, or memory ran out in that
+pub record Hears (result : Result (Unit {0}) AllocError) (g g' : Gathered) (came came' : Option (List Came)) : Type 0 where
+  pub answer : Answer
+  pub came_is : came' ≡ then_told came (Answered answer ∷ [])
+  pub handled : OnOk result (g' ≡ gathered (heard answer) g)
+  pub cut : OnErr result (CutIn (heard answer) g g')
 
 -- a turn with a connection: the clock told the time, one read was made, and the events of both were handled
 pub record TellsReads (g g' : Gathered) (rows rest : List Event) (came came' : Option (List Came)) (times times' : Option (List ℕ)) : Type 0 where
@@ -30,19 +54,19 @@ pub record TellsReads (g g' : Gathered) (rows rest : List Event) (came came' : O
   pub handled : g' ≡ gathered (events_of (Reads now answer) rows) g
   pub rest_is : rest ≡ left now rows
 
--- of such a turn, one read at most
-pub record ReadsOnce (came came' : Option (List Came)) (times times' : Option (List ℕ)) : Type 0 where
-  pub last : List Came
-  pub time : List ℕ
-  pub one : length last ≤ 1
-  pub came_is : came' ≡ then_told came last
-  pub times_are : times' ≡ then_told times time
+-- memory ran out in such a turn, before the read or behind it
+pub record CutsReads (g g' : Gathered) (rows : List Event) (came came' : Option (List Came)) (times times' : Option (List ℕ)) : Type 0 where
+  pub now : ℕ
+  pub times_are : times' ≡ then_told times (now ∷ [])
+  pub cut : ((came' ≡ came) × CutIn (Moment now ∷ due now rows) g g')
+      ⊎ ((answer : Answer) × (came' ≡ then_told came (Answered answer ∷ [])) × CutIn (events_of (Reads now answer) rows) g g')
 
 -- an accept was made, and what it gave was handled
 abbrev pub Opens : Result (Unit {0}) Halt → Gathered → Gathered → (came came' : Option (List Came)) → (took took' : Option (List (List ℕ))) → Type 0
 Opens (Ok u) g g' came came' took took' = (a : Accepted) × (came' ≡ then_told came (accept_came a ∷ [])) × (took' ≡ then_begun took a) × (g' ≡ gathered (opened a) g)
 Opens (Err (Bad n)) g g' came came' took took' = ⊥
-Opens (Err Memory) g g' came came' took took' = came' ≡ then_told came (accept_came accepted.Open ∷ [])
+Opens (Err Memory) g g' came came' took took' =
+    (came' ≡ then_told came (accept_came accepted.Open ∷ [])) × (took' ≡ then_begun took accepted.Open) × CutIn (opened accepted.Open) g g'
 Opens (Err ReadHalt) g g' came came' took took' = (came' ≡ then_told came (accept_came accepted.Fault ∷ [])) × (took' ≡ took)
 Opens (Err Write) g g' came came' took took' = ⊥
 
@@ -71,12 +95,13 @@ pub record Learns (s : Stand) (g : Gathered) (rest : List Event) (old new : Tell
   pub wrote_is : new.wrote ≡ old.wrote
 
 -- memory ran out in a turn
-pub record Lacks (old new : Tells) : Type 0 where
-  pub last : List Came
-  pub time : List ℕ
-  pub one : length last ≤ 1
-  pub came_is : new.came ≡ then_told old.came last
-  pub times_are : new.times ≡ then_told old.times time
+pub record Cuts (s : Stand) (g : Gathered) (old new : Tells) : Type 0 where
+  pub known : Known
+  pub is_known : IsKnown known s.state
+  pub cut : CutIn (known_events known s.rows) (empty_handed s.state) g
+  pub came_is : new.came ≡ then_told old.came (known_came known)
+  pub times_are : new.times ≡ then_told old.times (known_times known)
+  pub took_is : new.took ≡ then_known old.took known
   pub wrote_is : new.wrote ≡ old.wrote
 
 -- an accept failed
@@ -89,7 +114,7 @@ pub record Refuses (old new : Tells) : Type 0 where
 abbrev pub Inputs : Result (Unit {0}) Halt → Stand → Gathered → List Event → Tells → Tells → Type 0
 Inputs (Ok u) s g rest old new = Learns s g rest old new
 Inputs (Err (Bad n)) s g rest old new = ⊥
-Inputs (Err Memory) s g rest old new = Lacks old new
+Inputs (Err Memory) s g rest old new = Cuts s g old new
 Inputs (Err ReadHalt) s g rest old new = Refuses old new
 Inputs (Err Write) s g rest old new = ⊥
 
@@ -99,7 +124,7 @@ Counts (Ok u) old new = new ≡ old + 1
 Counts (Err (Bad n)) old new = ⊥
 Counts (Err Memory) old new = (old ≤ new) × (new ≤ old + 1)
 Counts (Err ReadHalt) old new = new ≡ old + 1
-Counts (Err Write) old new = new ≡ old + 1
+Counts (Err Write) old new = (old ≤ new) × (new ≤ old + 1)
 
 -- an accept failed exactly where serving halts for it
 abbrev pub Fails : Result (Unit {0}) Halt → (old new : ℕ) → Type 0
@@ -117,17 +142,13 @@ WriteFails (Err Memory) failures = failures ≡ 0
 WriteFails (Err ReadHalt) failures = failures ≡ 0
 WriteFails (Err Write) failures = 0 < failures
 
--- the answers of a turn were written, and its lines are still to be written
-pub record Answers (s : Stand) (g : Gathered) (rest : List Event) (old new : Tells) : Type 0 where
-  pub turn : Turn
-  pub is_turn : IsTurn turn s
-  pub state_is : g.state ≡ (after turn s).state
-  pub rest_is : rest ≡ rows_after turn.input s.rows
-  pub lines_are : g.lines ≡ (given turn.input s).lines
-  pub came_is : new.came ≡ then_told old.came (came_in turn.input)
-  pub times_are : new.times ≡ then_told old.times (time_in turn.input)
-  pub took_is : new.took ≡ then_onto (then_in old.took turn.input) turn.taken
-  pub wrote_is : new.wrote ≡ old.wrote
+-- the answers were written, all of them or first bytes of them; where a write failed, the connection is lost
+pub record IsAnswered (g g' : Gathered) (took took' : Option (List (List ℕ))) : Type 0 where
+  pub taken : List ℕ
+  pub broke : Bool
+  pub is_taken : IsTaken broke taken g.answers
+  pub lost_is : g' ≡ gathered (broken broke) g
+  pub took_is : took' ≡ then_onto took taken
 
 -- a turn, of which all was written
 pub record GoesOn (s : Stand) (g : Gathered) (rest : List Event) (old new : Tells) : Type 0 where
@@ -149,13 +170,21 @@ pub record Stops (s : Stand) (old new : Tells) : Type 0 where
   pub took_is : new.took ≡ then_onto (then_in old.took turn.input) turn.taken
   pub wrote_is : WroteFront old.wrote (given turn.input s).lines new.wrote
 
+-- a turn that memory cut short, all of whose lines were written
+abbrev pub StopsShort : Stand → Tells → Tells → Type 0
+StopsShort s old new = (t : CutTurn) × CutShort t s None old new × (new.wrote ≡ then_bytes old.wrote (cut_sent t s None))
+
+-- or of whose lines a write failed
+abbrev pub StopsShorter : Stand → Tells → Tells → Type 0
+StopsShorter s old new = (t : CutTurn) × CutShort t s None old new × WroteFront old.wrote (cut_sent t s None) new.wrote
+
 -- A TURN: all is written, or serving halts
 abbrev pub Goes : Result (Unit {0}) Halt → Stand → Gathered → List Event → Tells → Tells → Type 0
 Goes (Ok u) s g rest old new = GoesOn s g rest old new
 Goes (Err (Bad n)) s g rest old new = ⊥
-Goes (Err Memory) s g rest old new = Lacks old new
+Goes (Err Memory) s g rest old new = StopsShort s old new
 Goes (Err ReadHalt) s g rest old new = Refuses old new
-Goes (Err Write) s g rest old new = Stops s old new
+Goes (Err Write) s g rest old new = Stops s old new ⊎ StopsShorter s old new
 
 -- so many turns went by
 pub record SoFar (n : ℕ) (s : Stand) (g : Gathered) (rest : List Event) (old new : Tells) : Type 0 where

@@ -7,7 +7,7 @@ use Rattle.of_switch.specs.declared.effect.Effect.TheVariants.{Answer as Answers
 use Rattle.of_switch.specs.declared.event.Event.{Event}
 use Rattle.of_switch.specs.declared.event.Event.TheVariants.{Connect, Lost, Piece, Frame, Moment, Ports}
 use Rattle.of_switch.specs.State.{State}
-use Rattle.of_switch.specs.Runs.{Report, Gives, IsRefused, Happened, happened}
+use Rattle.of_switch.specs.Runs.{Report, Gives, IsRefused, Happened, happened, come, drain}
 use Rattle.of_replay.specs.Output.{line_of}
 use Rattle.of_replay.specs.Told.{Answer, Gave, Idle, Ended, Failed}
 use Rattle.of_serve.specs.declared.peers.Accepted.{Accepted}
@@ -150,6 +150,67 @@ pub record IsTurn (t : Turn) (s : Stand) : Type 0 where
   pub input : IsInput t.input s.state
   pub taken : IsTaken t.broke t.taken (given t.input s).answers
 
+-- A TURN THAT MEMORY CUT SHORT
+
+-- Memory ran out in one of some events: those before it were done, and of a piece so many messages were handled.
+pub record Cut : Type 0 where
+  pub done : List Event
+  pub event : Event
+  pub messages : ℕ
+  pub others : List Event
+
+-- the events
+abbrev pub cut_events : Cut → List Event
+cut_events c = c.done ++ c.event ∷ c.others
+
+-- what so many messages of an event give: only a piece has any
+abbrev pub part_of : ℕ → Event → State → List Effect
+part_of n Connect s = []
+part_of n Lost s = []
+part_of n (Piece bytes) s = (drain n (come bytes s)).effects
+part_of n (Frame port bytes) s = []
+part_of n (Moment nanos) s = []
+part_of n (Ports change) s = []
+
+abbrev pub with_effects : List Effect → Gathered → Gathered
+with_effects effects g = record {
+  state = g.state;
+  answers = g.answers ++ flat_map answer_in effects;
+  lines = g.lines ++ flat_map line_in effects;
+}
+
+-- what they gave until then
+abbrev pub cut_from : Cut → Gathered → Gathered
+cut_from c g = with_effects (part_of c.messages c.event (gathered c.done g).state) (gathered c.done g)
+
+-- what the turn had learned: all, or the time alone, before it read
+pub data Known : Type 0 where
+  Time : (now : ℕ) → Known
+  All : (input : Input) → Known
+
+abbrev pub IsKnown : Known → State → Type 0
+IsKnown (Time now) s = is_disconnected s.connection.phase ≡ false
+IsKnown (All input) s = IsInput input s
+
+abbrev pub known_events : Known → List Event → List Event
+known_events (Time now) rows = Moment now ∷ due now rows
+known_events (All input) rows = events_of input rows
+
+-- and what the connection took of its answers, and whether a write failed
+pub record CutTurn : Type 0 where
+  pub known : Known
+  pub cut : Cut
+  pub taken : List ℕ
+  pub broke : Bool
+
+abbrev pub cut_given : Cut → Stand → Gathered
+cut_given c s = cut_from c (empty_handed s.state)
+
+pub record IsCutTurn (t : CutTurn) (s : Stand) : Type 0 where
+  pub known : IsKnown t.known s.state
+  pub events : cut_events t.cut ≡ known_events t.known s.rows
+  pub taken : IsTaken t.broke t.taken (cut_given t.cut s).answers
+
 -- TURNS, one after the other
 
 pub data Turns : Type 0 where
@@ -177,6 +238,10 @@ abbrev pub came : Turns → List Came
 came None = []
 came (Then ts t) = came ts ++ came_in t.input
 
+abbrev pub known_came : Known → List Came
+known_came (Time now) = []
+known_came (All input) = came_in input
+
 -- what the clock told
 abbrev pub time_in : Input → List ℕ
 time_in (Accepts accepted) = []
@@ -186,10 +251,18 @@ abbrev pub times : Turns → List ℕ
 times None = []
 times (Then ts t) = times ts ++ time_in t.input
 
+abbrev pub known_times : Known → List ℕ
+known_times (Time now) = now ∷ []
+known_times (All input) = time_in input
+
 -- what connections took
 abbrev pub then_in : Option (List (List ℕ)) → Input → Option (List (List ℕ))
 then_in known (Accepts accepted) = then_begun known accepted
 then_in known (Reads now answer) = known
+
+abbrev pub then_known : Option (List (List ℕ)) → Known → Option (List (List ℕ))
+then_known known (Time now) = known
+then_known known (All input) = then_in known input
 
 abbrev pub took : Option (List (List ℕ)) → Turns → Option (List (List ℕ))
 took known None = known

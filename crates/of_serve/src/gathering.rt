@@ -1,11 +1,13 @@
 //! A switch, and what it gives until that is written.
-ghost use Rattle.std.specs.Prelude.{◌≡◌, ◌≤◌, ◌++◌, ◌∷◌, [], length, take, drop, OnOk, IfOk, not};
+ghost use Rattle.std.specs.Prelude.{◌≡◌, ◌⊎◌, ◌≤◌, ◌++◌, ◌∷◌, [], Err as Failed, length, take, drop, OnOk, OnErr, IfOk, IfErr, not};
 ghost use Rattle.std.specs.List.{flat_map};
 ghost use Rattle.of_session.specs.Session.{is_disconnected};
-ghost use Rattle.of_switch.specs.declared.event.Event.TheVariants.{Lost as Loss};
+ghost use Rattle.of_switch.specs.declared.event.Event.TheVariants.{Lost as Loss, Piece as Heard};
+ghost use Rattle.of_switch.specs.declared.switch_error.SwitchError.TheVariants.{NoMemory};
 ghost use Rattle.of_replay.specs.Rows.{with_bytes};
 ghost use Rattle.of_replay.specs.Stepping.{row_happened};
 ghost use Rattle.of_serve.specs.Turns.{acts, answer_in, due as rows_due, empty_handed, gather, gathered, left, line_in, waits as has_to_wait};
+ghost use Rattle.of_serve.specs.Gathering.{CutIn, HandlesAll, HandlesNext, HandlesSome};
 
 use crate::rows::Rows;
 use of_classifier::Lookup;
@@ -20,6 +22,8 @@ pub struct Gathering<L: Lookup> {
     switch: Switch<L>,
     answers: Vec<u8>,
     lines: Vec<u8>,
+    // the lines of one call
+    text: Vec<u8>,
     alloc: Global,
 }
 
@@ -33,7 +37,8 @@ impl<L: Lookup> Model for Gathering<L> {
 
 // Appends a message to the controller.
 fn push_answer(out: &mut Vec<u8>, effect: &Effect) -> Result<(), AllocError>
-    ensures { OnOk result (out.new.items ≡ out.old.items ++ answer_in effect.now) }
+    ensures ok { OnOk result (out.new.items ≡ out.old.items ++ answer_in effect.now) }
+    ensures err { OnErr result (out.new.items ≡ out.old.items) }
 {
     match effect {
         Effect::Answer(bytes) => out.extend_from_slice(bytes.as_slice()),
@@ -41,12 +46,17 @@ fn push_answer(out: &mut Vec<u8>, effect: &Effect) -> Result<(), AllocError>
     }
 }
 
-// Appends the messages to the controller.
+// Appends the messages to the controller, all of them or nothing.
 fn push_answers(out: &mut Vec<u8>, effects: &[Effect]) -> Result<(), AllocError>
-    ensures { OnOk result (out.new.items ≡ out.old.items ++ flat_map answer_in effects.now) }
+    ensures ok { OnOk result (out.new.items ≡ out.old.items ++ flat_map answer_in effects.now) }
+    ensures err { OnErr result (out.new.items ≡ out.old.items) }
 {
+    let before = out.len();
     for effect in effects {
-        push_answer(out, effect)?;
+        if let Err(error) = push_answer(out, effect) {
+            out.truncate(before);
+            return Err(error);
+        }
     }
     Ok(())
 }
@@ -89,6 +99,7 @@ impl<L: Lookup> Gathering<L> {
             switch,
             answers: Vec::new(alloc),
             lines: Vec::new(alloc),
+            text: Vec::new(alloc),
             alloc,
         }
     }
@@ -116,33 +127,82 @@ impl<L: Lookup> Gathering<L> {
     }
 
     /// Whether a connection stands.
-    pub fn is_connected(&mut self) -> Result<bool, AllocError>
-        ensures test { IfOk result (λ connected. connected ≡ not (is_disconnected self.old.state.connection.phase)) }
-        ensures same { self.new ≡ self.old }
+    pub fn is_connected(&self) -> bool
+        ensures { result ≡ not (is_disconnected self.now.state.connection.phase) }
     {
-        match self.switch.feed(&[]) {
-            Ok(()) => Ok(true),
-            Err(SwitchError::NoMemory) => Err(AllocError),
-            Err(_) => Ok(false),
-        }
+        self.switch.is_connected()
     }
 
-    // What effects give for the connection and for the output.
+    // What effects give for the connection and for the output: all of it, or nothing.
     fn push(&mut self, effects: &[Effect]) -> Result<(), AllocError>
         ensures answers { OnOk result (self.new.answers ≡ self.old.answers ++ flat_map answer_in effects.now) }
         ensures lines { OnOk result (self.new.lines ≡ self.old.lines ++ flat_map line_in effects.now) }
+        ensures err { OnErr result ((self.new.answers ≡ self.old.answers) × (self.new.lines ≡ self.old.lines)) }
         ensures state { self.new.state ≡ self.old.state }
     {
+        self.text.clear();
+        push_lines(self.alloc, &mut self.text, effects)?;
+        self.lines.reserve(self.text.len())?;
         push_answers(&mut self.answers, effects)?;
-        push_lines(self.alloc, &mut self.lines, effects)
+        self.lines.extend_from_slice(&self.text)
     }
 
-    /// A row happens.
+    /// A row happens; where memory runs out, it gives nothing.
     pub fn play(&mut self, row: Row, bytes: &[u8]) -> Result<(), AllocError>
-        ensures { OnOk result (self.new ≡ gather (row_happened self.old.state (with_bytes bytes.now row)) self.old) }
+        ensures ok { OnOk result (self.new ≡ gather (row_happened self.old.state (with_bytes bytes.now row)) self.old) }
+        ensures err { OnErr result ((self.new.answers ≡ self.old.answers) × (self.new.lines ≡ self.old.lines)) }
     {
         match play_row(self.alloc, &mut self.switch, row, bytes) {
             Ok(effects) => self.push(&effects),
+            Err(SwitchError::NoMemory) => Err(AllocError),
+            Err(_) => Ok(()),
+        }
+    }
+
+    // Handles the message that comes next, and answers whether there is one.
+    fn handle_next(&mut self) -> Result<bool, SwitchError>
+        ensures ok { IfOk result (λ found. HandlesNext found self.old self.new) }
+        ensures memory { IfErr result (λ error. error ≡ NoMemory) }
+        ensures err { OnErr result ((self.new.answers ≡ self.old.answers) × (self.new.lines ≡ self.old.lines)) }
+    {
+        match self.switch.next()? {
+            None => Ok(false),
+            Some(effects) => {
+                self.push(&effects)?;
+                Ok(true)
+            }
+        }
+    }
+
+    // Handles all messages that are there, or those before one for which there is no memory.
+    fn handle_all(&mut self) -> Result<(), SwitchError>
+        ensures ok { OnOk result (HandlesAll self.old self.new) }
+        ensures memory { IfErr result (λ error. error ≡ NoMemory) }
+        ensures err { OnErr result (HandlesSome self.old self.new) }
+    {
+        loop {
+            if !self.handle_next()? {
+                return Ok(());
+            }
+        }
+    }
+
+    // Bytes of the controller come, unless they are refused.
+    fn take(&mut self, piece: &[u8]) -> Result<(), SwitchError>
+        ensures heard { (result ≡ Failed NoMemory) ⊎ (self.new ≡ gathered (Heard piece.now ∷ []) self.old) }
+        ensures memory { result ≡ Failed NoMemory → CutIn (Heard piece.now ∷ []) self.old self.new }
+    {
+        self.switch.feed(piece)?;
+        self.handle_all()
+    }
+
+    /// Bytes of the controller come, and each whole message is handled; without a connection they are lost.
+    pub fn hear(&mut self, piece: &[u8]) -> Result<(), AllocError>
+        ensures ok { OnOk result (self.new ≡ gathered (Heard piece.now ∷ []) self.old) }
+        ensures err { OnErr result (CutIn (Heard piece.now ∷ []) self.old self.new) }
+    {
+        match self.take(piece) {
+            Ok(()) => Ok(()),
             Err(SwitchError::NoMemory) => Err(AllocError),
             Err(_) => Ok(()),
         }
@@ -157,12 +217,13 @@ impl<L: Lookup> Gathering<L> {
 
     // A row of the file that is due happens.
     fn act(&mut self, row: &Event) -> Result<(), AllocError>
-        ensures { OnOk result (self.new ≡ gathered (acts row.now) self.old) }
+        ensures ok { OnOk result (self.new ≡ gathered (acts row.now) self.old) }
+        ensures err { OnErr result (CutIn (acts row.now) self.old self.new) }
     {
         match row {
             Event::Connect => self.play(Row::Connect, &[]),
             Event::Lost => self.play(Row::Lost, &[]),
-            Event::Piece(bytes) => self.play(Row::Piece, bytes.as_slice()),
+            Event::Piece(bytes) => self.hear(bytes.as_slice()),
             Event::Frame { port, frame } => self.play(Row::Frame { port: *port }, frame.as_slice()),
             Event::Moment(_) => Ok(()),
             Event::Ports(change) => self.play(Row::Ports(*change), &[]),
@@ -173,6 +234,7 @@ impl<L: Lookup> Gathering<L> {
     pub fn due(&mut self, now: u64, rows: &mut Rows) -> Result<(), AllocError>
         ensures rest { OnOk result (rows.new ≡ left now rows.old) }
         ensures gathered { OnOk result (self.new ≡ gathered (rows_due now rows.old) self.old) }
+        ensures err { OnErr result (CutIn (rows_due now rows.old) self.old self.new) }
     {
         while let Some(row) = rows.first() {
             if waits(row, now) {

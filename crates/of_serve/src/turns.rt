@@ -1,10 +1,9 @@
 //! Turns: an accept or a read, what it gives, and that written.
-ghost use Rattle.std.specs.Prelude.{◌≡◌, ◌≤◌, ◌<◌, ◌^◌, ◌+◌, ◌∷◌, [], length, take, drop, OnOk};
+ghost use Rattle.std.specs.Prelude.{◌≡◌, ◌≤◌, ◌<◌, ◌^◌, ◌+◌, ◌∷◌, [], length, take, drop, OnOk, OnErr};
 ghost use Rattle.std.specs.Prelude.{ℕ, List, Option};
-ghost use Rattle.of_switch.specs.declared.event.Event.{Event};
-ghost use Rattle.of_serve.specs.Turns.{empty_handed, standing, Stand};
-ghost use Rattle.of_serve.specs.Serves.{tells, Tells};
-ghost use Rattle.of_serve.specs.Gathering.{failed_writes, Answers, Counts, Fails, Goes, Hears, Inputs, IsOneRead, Learns, Opens, OrMemory, ReadsOnce, Takes, TellsReads, WriteFails};
+ghost use Rattle.of_serve.specs.Turns.{empty_handed, standing};
+ghost use Rattle.of_serve.specs.Serves.{tells};
+ghost use Rattle.of_serve.specs.Gathering.{failed_writes, Counts, CutsReads, Fails, Goes, Hears, Inputs, IsAnswered, Opens, OrMemory, Takes, TellsReads, WriteFails};
 
 use crate::gathering::Gathering;
 use crate::peers::{Accepted, Clock, Peers};
@@ -53,14 +52,13 @@ pub fn listen<L: Lookup, P: Peers>(
 ) -> Result<(), AllocError>
     requires room { 0 < length buffer.old }
     requires few { P.reads peers.old < 2 ^ 63 }
-    ensures read { IsOneRead (P.came peers.old) (P.came peers.new) }
-    ensures hears { OnOk result (Hears gathering.old gathering.new (P.came peers.old) (P.came peers.new)) }
+    ensures hears { Hears result gathering.old gathering.new (P.came peers.old) (P.came peers.new) }
     ensures took { P.took peers.new ≡ P.took peers.old }
     ensures reads { P.reads peers.new ≡ P.reads peers.old + 1 }
     ensures same { (P.accepts peers.new ≡ P.accepts peers.old) × (P.accept_failures peers.new ≡ P.accept_failures peers.old) × (P.write_failures peers.new ≡ P.write_failures peers.old) }
 {
     match peers.read(buffer) {
-        Reading::Bytes(n) => gathering.play(Row::Piece, front_of(buffer, n)),
+        Reading::Bytes(n) => gathering.hear(front_of(buffer, n)),
         Reading::Nothing => Ok(()),
         Reading::End | Reading::Fault => {
             gathering.lose();
@@ -80,7 +78,7 @@ fn read_turn<L: Lookup, P: Peers, C: Clock>(
     requires room { 0 < length buffer.old }
     requires few { P.accepts peers.old + P.reads peers.old < 2 ^ 63 }
     ensures reads { OnOk result (TellsReads gathering.old gathering.new rows.old rows.new (P.came peers.old) (P.came peers.new) (C.times clock.old) (C.times clock.new)) }
-    ensures lacks { ReadsOnce (P.came peers.old) (P.came peers.new) (C.times clock.old) (C.times clock.new) }
+    ensures cuts { OnErr result (CutsReads gathering.old gathering.new rows.old (P.came peers.old) (P.came peers.new) (C.times clock.old) (C.times clock.new)) }
     ensures took { P.took peers.new ≡ P.took peers.old }
     ensures counts { OnOk result (P.reads peers.new ≡ P.reads peers.old + 1) }
     ensures count { (P.reads peers.old ≤ P.reads peers.new) × (P.reads peers.new ≤ P.reads peers.old + 1) }
@@ -133,18 +131,18 @@ fn input<L: Lookup, P: Peers, C: Clock>(
     ensures failures { Fails result (P.accept_failures peers.old) (P.accept_failures peers.new) }
     ensures same { P.write_failures peers.new ≡ P.write_failures peers.old }
 {
-    match gathering.is_connected() {
-        Ok(true) => or_memory(read_turn(gathering, rows, peers, clock, buffer)),
-        Ok(false) => accept_turn(gathering, peers),
-        Err(AllocError) => Err(Halt::Memory),
+    if gathering.is_connected() {
+        or_memory(read_turn(gathering, rows, peers, clock, buffer))
+    } else {
+        accept_turn(gathering, peers)
     }
 }
 
 // Writes the answers. A write that fails is the loss of the connection.
 fn answer<L: Lookup, P: Peers>(gathering: &mut Gathering<L>, peers: &mut P)
     requires few { P.write_failures peers.old < 2 ^ 63 }
-    ensures answers { (s : Stand) (rest : List Event) (old : Tells) (times : Option (List ℕ)) (wrote : Option (List ℕ)) → Learns s gathering.old rest old (tells (P.came peers.old) times (P.took peers.old) wrote)
-        → Answers s gathering.new rest old (tells (P.came peers.new) times (P.took peers.new) wrote) }
+    ensures answered { IsAnswered gathering.old gathering.new (P.took peers.old) (P.took peers.new) }
+    ensures came { P.came peers.new ≡ P.came peers.old }
     ensures failures { (P.write_failures peers.old ≤ P.write_failures peers.new) × (P.write_failures peers.new ≤ P.write_failures peers.old + 1) }
     ensures same { (P.accepts peers.new ≡ P.accepts peers.old) × (P.reads peers.new ≡ P.reads peers.old) × (P.accept_failures peers.new ≡ P.accept_failures peers.old) }
 {
@@ -153,7 +151,7 @@ fn answer<L: Lookup, P: Peers>(gathering: &mut Gathering<L>, peers: &mut P)
     }
 }
 
-/// A turn: an accept where no connection stands, and else a read; what it gives is written.
+/// A turn: an accept where no connection stands, and else a read; what it gives is written, also where memory runs out.
 pub fn turn<L: Lookup, P: Peers, C: Clock, K: Sink>(
     gathering: &mut Gathering<L>,
     rows: &mut Rows,
@@ -174,11 +172,14 @@ pub fn turn<L: Lookup, P: Peers, C: Clock, K: Sink>(
     ensures write_failures { P.write_failures peers.new ≤ P.write_failures peers.old + 1 }
     ensures writes { WriteFails result (K.failures out.new) }
 {
-    input(gathering, rows, peers, clock, buffer)?;
+    let learned = input(gathering, rows, peers, clock, buffer);
+    if let Err(Halt::Read) = learned {
+        return learned;
+    }
     answer(gathering, peers);
     if !write_all(out, gathering.lines()) {
         return Err(Halt::Write);
     }
     gathering.clear();
-    Ok(())
+    learned
 }

@@ -17,6 +17,8 @@ ghost use Rattle.of_switch.specs.Calls.{Call, absent_refusal, connect_refusal, f
 ghost use Rattle.of_switch.specs.Loading.{config_of, loaded};
 ghost use Rattle.of_switch.specs.Runs.{RunsAll, StopsWithin, reports_of};
 ghost use Rattle.of_switch.specs.Stepping.{Drains, Happens, Tells};
+ghost use Rattle.std.specs.Prelude.{not};
+ghost use Rattle.of_session.specs.Session.{is_disconnected};
 
 use crate::control::Heard;
 use crate::effect::{Effect, Effects};
@@ -101,6 +103,13 @@ impl<L: Lookup> Switch<L> {
             self.session.close();
             self.engine.release();
         }
+    }
+
+    /// Whether a connection stands (OpenFlow 1.3.5, 6.3.1).
+    pub fn is_connected(&self) -> bool
+        ensures { result ≡ not (is_disconnected self.now.connection.phase) }
+    {
+        self.session.phase() != Phase::Disconnected
     }
 
     /// Bytes of the controller come, cut anywhere. They are handled by `next`.

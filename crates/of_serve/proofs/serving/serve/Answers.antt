@@ -1,4 +1,3 @@
-use Rattle.std.proofs.Common.{◌∙◌, sym, ap}
 use Rattle.of_switch.specs.State.{start}
 use Rattle.of_replay.specs.Stepping.{ended_so}
 use Rattle.of_serve.specs.Turns.{standing}

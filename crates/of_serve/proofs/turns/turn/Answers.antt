@@ -1,42 +1,32 @@
-use Rattle.std.proofs.Common.{◌∙◌, sym, ap}
-use Rattle.std.proofs.lemmas.Result.{err_from_is_err_and}
+use Rattle.std.proofs.Common.{rules}
 use Rattle.of_serve.specs.Turns.{standing}
 use Rattle.of_serve.specs.Serves.{tells}
-use Rattle.of_serve.proofs.Steps.{goes_on, stops, input_halts, input_writes}
+use Rattle.of_serve.proofs.Steps.{NotRead, turn_goes, turn_stops, turn_writes}
 use Rattle.of_serve.proofs.turns.turn.Goals as goal
-
-pub returns-in_err-input-clause-goes : goal.returns-in_err-input-clause-goes
-returns-in_err-input-clause-goes g c =
-    let p = err_from_is_err_and c.from_residual.result c.from_residual.ensures.1 in
-    let i = c.input.new in
-    rw (p.1, p.2) (input_halts c.in_err-input.field-0.0 (standing c.args.gathering.now.state c.args.rows.now) i.gathering i.gathering i.rows i.rows
-    (tells (g.P.Peers.came c.args.peers.now) (g.C.Clock.times c.args.clock.now) (g.P.Peers.took c.args.peers.now) (g.K.Sink.taken c.args.out.now))
-    (tells (g.P.Peers.came i.peers) (g.C.Clock.times i.clock) (g.P.Peers.took i.peers) (g.K.Sink.taken c.args.out.now)) (c.in_err-input.ensures.inputs (g.K.Sink.taken c.args.out.now)))
-
-pub returns-in_err-input-clause-writes : goal.returns-in_err-input-clause-writes
-returns-in_err-input-clause-writes g c =
-    let p = err_from_is_err_and c.from_residual.result c.from_residual.ensures.1 in
-    let i = c.input.new in
-    rw (p.1, p.2) (input_writes c.in_err-input.field-0.0 (standing c.args.gathering.now.state c.args.rows.now) i.gathering i.rows
-    (tells (g.P.Peers.came c.args.peers.now) (g.C.Clock.times c.args.clock.now) (g.P.Peers.took c.args.peers.now) (g.K.Sink.taken c.args.out.now))
-    (tells (g.P.Peers.came i.peers) (g.C.Clock.times i.clock) (g.P.Peers.took i.peers) (g.K.Sink.taken c.args.out.now)) (g.K.Sink.failures c.args.out.now) (c.in_err-input.ensures.inputs (g.K.Sink.taken c.args.out.now)) c.requires.well)
-
-pub returns-then-not-write_all-clause-goes : goal.returns-then-not-write_all-clause-goes
-returns-then-not-write_all-clause-goes g c =
-    let i = c.input.new in
-    let a = c.answer.new in
-    let wrote = g.K.Sink.taken c.args.out.now in
-    let s = standing c.args.gathering.now.state c.args.rows.now in
-    let old = tells (g.P.Peers.came c.args.peers.now) (g.C.Clock.times c.args.clock.now) (g.P.Peers.took c.args.peers.now) wrote in
-    stops s a.gathering i.rows old (g.P.Peers.came a.peers) (g.C.Clock.times i.clock) (g.P.Peers.took a.peers) wrote (g.K.Sink.taken c.write_all.new.writer)
-    (c.answer.ensures.answers s i.rows old (g.C.Clock.times i.clock) wrote (c.in_ok-input.ensures.inputs wrote)) (rw c.lines.ensures at c.if-not-write_all.ensures.front)
 
 pub returns-clause-goes : goal.returns-clause-goes
 returns-clause-goes g c =
-    let i = c.input.new in
-    let a = c.answer.new in
-    let wrote = g.K.Sink.taken c.args.out.now in
-    let s = standing c.args.gathering.now.state c.args.rows.now in
-    let old = tells (g.P.Peers.came c.args.peers.now) (g.C.Clock.times c.args.clock.now) (g.P.Peers.took c.args.peers.now) wrote in
-    goes_on s a.gathering c.clear.new.self i.rows old (g.P.Peers.came a.peers) (g.C.Clock.times i.clock) (g.P.Peers.took a.peers) wrote (g.K.Sink.taken c.write_all.new.writer)
-    (c.answer.ensures.answers s i.rows old (g.C.Clock.times i.clock) wrote (c.in_ok-input.ensures.inputs wrote)) c.clear.ensures (rw c.lines.ensures at c.if-not-write_all.ensures.all)
+    let not : NotRead c.input-learned.result = (λ e. search rules) in
+    let i = c.input-learned in
+    let a = c.answer in
+    turn_goes i.result (standing c.args.gathering.now.state c.args.rows.now) i.new.gathering a.new.gathering c.clear.new.self i.new.rows
+    (tells (g.P.Peers.came c.args.peers.now) (g.C.Clock.times c.args.clock.now) (g.P.Peers.took c.args.peers.now) (g.K.Sink.taken c.args.out.now))
+    (g.P.Peers.came i.new.peers) (g.P.Peers.came a.new.peers) (g.C.Clock.times i.new.clock) (g.P.Peers.took i.new.peers) (g.P.Peers.took a.new.peers) (g.K.Sink.taken c.args.out.now) (g.K.Sink.taken c.write_all.new.writer)
+    not (i.ensures.inputs (g.K.Sink.taken c.args.out.now)) a.ensures.came a.ensures.answered (rw c.lines.ensures at c.if-not-write_all.ensures.all) c.clear.ensures
+
+pub returns-then-not-write_all-clause-goes : goal.returns-then-not-write_all-clause-goes
+returns-then-not-write_all-clause-goes g c =
+    let not : NotRead c.input-learned.result = (λ e. search rules) in
+    let i = c.input-learned in
+    let a = c.answer in
+    turn_stops i.result (standing c.args.gathering.now.state c.args.rows.now) i.new.gathering a.new.gathering a.new.gathering i.new.rows i.new.rows
+    (tells (g.P.Peers.came c.args.peers.now) (g.C.Clock.times c.args.clock.now) (g.P.Peers.took c.args.peers.now) (g.K.Sink.taken c.args.out.now))
+    (g.P.Peers.came i.new.peers) (g.P.Peers.came a.new.peers) (g.C.Clock.times i.new.clock) (g.P.Peers.took i.new.peers) (g.P.Peers.took a.new.peers) (g.K.Sink.taken c.args.out.now) (g.K.Sink.taken c.write_all.new.writer)
+    not (i.ensures.inputs (g.K.Sink.taken c.args.out.now)) a.ensures.came a.ensures.answered (rw c.lines.ensures at c.if-not-write_all.ensures.front)
+
+pub returns-clause-writes : goal.returns-clause-writes
+returns-clause-writes g c =
+    let i = c.input-learned in
+    turn_writes i.result (standing c.args.gathering.now.state c.args.rows.now) i.new.gathering i.new.rows
+    (tells (g.P.Peers.came c.args.peers.now) (g.C.Clock.times c.args.clock.now) (g.P.Peers.took c.args.peers.now) (g.K.Sink.taken c.args.out.now))
+    (tells (g.P.Peers.came i.new.peers) (g.C.Clock.times i.new.clock) (g.P.Peers.took i.new.peers) (g.K.Sink.taken c.args.out.now)) _ (i.ensures.inputs (g.K.Sink.taken c.args.out.now)) c.if-not-write_all.ensures.well

@@ -1,0 +1,260 @@
+-- Where memory ran out in a list of events: what those before it gave, and the messages of a piece that were handled.
+use Rattle.std.proofs.Common.{◌≡◌, ◌⊎◌, inl, inr, ℕ, suc, zero, Bool, true, false, if◌then◌else◌, List, [], ◌∷◌, ◌++◌, drop, Option, Some, None, Result, Ok, Err, refl, sym, ◌∙◌, ap, subst, append_assoc}
+use Rattle.std.specs.Prelude.{OnOk, OnErr, IfErr, slice_get}
+use Rattle.std.specs.List.{flat_map}
+use Rattle.std.specs.declared.alloc.AllocError.{AllocError}
+use Rattle.std.proofs.lemmas.List.{append-nil}
+use Rattle.std.proofs.lemmas.Grind.{flat_map-append}
+use Rattle.of_session.specs.Session.{is_disconnected}
+use Rattle.of_switch.specs.declared.effect.Effect.{Effect}
+use Rattle.of_switch.specs.declared.event.Event.{Event}
+use Rattle.of_switch.specs.declared.event.Event.TheVariants.{Connect, Lost, Piece, Frame, Moment, Ports}
+use Rattle.of_switch.specs.declared.switch_error.SwitchError.{SwitchError}
+use Rattle.of_switch.specs.declared.switch_error.SwitchError.TheVariants.{NoMemory, NotConnected}
+use Rattle.of_switch.specs.State.{State}
+use Rattle.of_switch.specs.Steps.{Outcome, gives, fed, next_of}
+use Rattle.of_switch.specs.Calls.{Call, first_refusal}
+use Rattle.of_switch.specs.Runs.{behind, then_more, drain, drained, come, unless}
+use Rattle.of_switch.proofs.Draining.{Left, left_none, left_more, left_all}
+use Rattle.of_serve.specs.Turns.{Gathered, gather, gathered, answer_in, line_in, part_of, with_effects, acts, due, waits}
+use Rattle.of_serve.specs.Gathering.{CutIn, HandlesNext, HandlesAll, HandlesSome}
+use Rattle.of_serve.proofs.TurnLemmas.{gathered_more, due_acts}
+
+-- MESSAGES
+
+drain_none : (s : State) → drain 0 s ≡ gives [] s
+unfolding drain
+drain_none s = refl
+
+more_by : (n : ℕ) (s t : State) (effects : List Effect) (o : Outcome) (first : Option Outcome) → next_of s ≡ first → next_of t ≡ Some o
+    → ((u : State) (es : List Effect) → drain n u ≡ gives es t → drain (suc n) u ≡ gives (es ++ o.effects) o.state)
+    → then_more (drain n) s first ≡ gives effects t → then_more (drain (suc n)) s first ≡ gives (effects ++ o.effects) o.state
+more_by n s t effects o None f h ih e =
+    let same : s ≡ t = ap (λ (x : Outcome). x.state) e in
+    let none : next_of t ≡ None = ap next_of (sym same) ∙ f in
+    absurd cc
+more_by n s t effects o (Some p) f h ih e =
+    let inner = drain n p.state in
+    let at : inner.state ≡ t = ap (λ (x : Outcome). x.state) e in
+    let es : p.effects ++ inner.effects ≡ effects = ap (λ (x : Outcome). x.effects) e in
+    let next : drain (suc n) p.state ≡ gives (inner.effects ++ o.effects) o.state = ih p.state inner.effects (ap (gives inner.effects) at) in
+    ap (behind p.effects) next
+    ∙ ap (λ (xs : List Effect). gives xs o.state) (sym (append_assoc p.effects inner.effects o.effects) ∙ ap (λ (xs : List Effect). xs ++ o.effects) es)
+
+-- one message more
+drain_more : (n : ℕ) (s t : State) (effects : List Effect) (o : Outcome) → next_of t ≡ Some o → drain n s ≡ gives effects t → drain (suc n) s ≡ gives (effects ++ o.effects) o.state
+unfolding drain
+drain_more zero s t effects o h e =
+    let same : s ≡ t = ap (λ (x : Outcome). x.state) e in
+    let none : [] ≡ effects = ap (λ (x : Outcome). x.effects) e in
+    ap (then_more (drain 0) s) (ap next_of same ∙ h)
+    ∙ (ap (λ (es : List Effect). gives es o.state) (append-nil o.effects) ∙ ap (λ (es : List Effect). gives (es ++ o.effects) o.state) none)
+drain_more (suc n) s t effects o h e = more_by n s t effects o (next_of s) refl h (λ u es k. drain_more n u t es o h k) e
+
+abbrev pub holding : State → List ℕ → List ℕ → Gathered
+holding s answers lines = record { state = s; answers = answers; lines = lines }
+
+-- so many messages were handled, with these effects
+pub record HandledSoFar (first g : Gathered) : Type 0 where
+  pub effects : List Effect
+  pub messages : ℕ
+  pub left : Left first.state g.state effects
+  pub drained_is : drain messages first.state ≡ gives effects g.state
+  pub answers_are : g.answers ≡ first.answers ++ flat_map answer_in effects
+  pub lines_are : g.lines ≡ first.lines ++ flat_map line_in effects
+
+pub handled_begun : (g : Gathered) → HandledSoFar g g
+handled_begun g = record {
+  effects = [];
+  messages = 0;
+  left = left_none g.state;
+  drained_is = drain_none g.state;
+  answers_are = sym (append-nil g.answers);
+  lines_are = sym (append-nil g.lines);
+}
+
+text_more : (f : Effect → List ℕ) (old now new : List ℕ) (es fs : List Effect) → now ≡ old ++ flat_map f es → new ≡ now ++ flat_map f fs → new ≡ old ++ flat_map f (es ++ fs)
+text_more f old now new es fs e k =
+    k ∙ (ap (λ (x : List ℕ). x ++ flat_map f fs) e ∙ (append_assoc old (flat_map f es) (flat_map f fs) ∙ ap (λ (x : List ℕ). old ++ x) (sym (flat_map-append f es fs))))
+
+pub handled_more : (first g g' : Gathered) → HandlesNext true g g' → HandledSoFar first g → HandledSoFar first g'
+handled_more first g g' h so =
+    let o = h.0 in
+    let state : g'.state ≡ o.state = ap (λ (x : Gathered). x.state) h.2 in
+    record {
+      effects = so.effects ++ o.effects;
+      messages = suc so.messages;
+      left = subst (λ (x : State). Left first.state x (so.effects ++ o.effects)) (sym state) (left_more first.state g.state so.effects o h.1 so.left);
+      drained_is = drain_more so.messages first.state g.state so.effects o h.1 so.drained_is ∙ ap (gives (so.effects ++ o.effects)) (sym state);
+      answers_are = text_more answer_in first.answers g.answers g'.answers so.effects o.effects so.answers_are (ap (λ (x : Gathered). x.answers) h.2);
+      lines_are = text_more line_in first.lines g.lines g'.lines so.effects o.effects so.lines_are (ap (λ (x : Gathered). x.lines) h.2);
+    }
+
+pub handled_all : (first g g' : Gathered) → HandlesNext false g g' → HandledSoFar first g → HandlesAll first g'
+handled_all first g g' h so =
+    let told : drained first.state ≡ gives so.effects g.state = left_all first.state g.state so.effects h.0 so.left in
+    let is : g ≡ gather (unless None first.state (gives so.effects g.state)) first =
+    ap (λ (x : List ℕ). holding g.state x g.lines) so.answers_are ∙ ap (λ (x : List ℕ). holding g.state (first.answers ++ flat_map answer_in so.effects) x) so.lines_are in
+    h.1 ∙ (is ∙ ap (λ (o : Outcome). gather (unless None first.state o) first) (sym told))
+
+pub handled_some : (first g g' : Gathered) → (g'.answers ≡ g.answers) × (g'.lines ≡ g.lines) → HandledSoFar first g → HandlesSome first g'
+handled_some first g g' same so = record {
+  messages = so.messages;
+  answers_are = same.0 ∙ (so.answers_are ∙ ap (λ (o : Outcome). first.answers ++ flat_map answer_in o.effects) (sym so.drained_is));
+  lines_are = same.1 ∙ (so.lines_are ∙ ap (λ (o : Outcome). first.lines ++ flat_map line_in o.effects) (sym so.drained_is));
+}
+
+pub next_handled : (g g' : Gathered) (s : State) (effects pushed : List Effect) → next_of g.state ≡ Some (gives effects s) → pushed ≡ effects → g'.state ≡ s
+    → g'.answers ≡ g.answers ++ flat_map answer_in pushed → g'.lines ≡ g.lines ++ flat_map line_in pushed → HandlesNext true g g'
+next_handled g g' s effects pushed h e state answers lines = (
+  gives effects s,
+  h,
+  ap (λ (x : State). holding x g'.answers g'.lines) state
+      ∙ (ap (λ (x : List ℕ). holding s x g'.lines) (answers ∙ ap (λ (x : List Effect). g.answers ++ flat_map answer_in x) e)
+      ∙ ap (λ (x : List ℕ). holding s (g.answers ++ flat_map answer_in effects) x) (lines ∙ ap (λ (x : List Effect). g.lines ++ flat_map line_in x) e)),
+)
+
+-- EVENTS
+
+no_part : (e : Event) (s : State) → part_of 0 e s ≡ []
+unfolding drain
+no_part Connect s = refl
+no_part Lost s = refl
+no_part (Piece bytes) s = refl
+no_part (Frame port bytes) s = refl
+no_part (Moment nanos) s = refl
+no_part (Ports change) s = refl
+
+text_same : (f : Effect → List ℕ) (old new : List ℕ) (es : List Effect) → new ≡ old → es ≡ [] → new ≡ old ++ flat_map f es
+text_same f old new es e none = e ∙ (sym (append-nil old) ∙ ap (λ (xs : List Effect). old ++ flat_map f xs) (sym none))
+
+-- in the first of them, of which nothing was done
+pub cut_now : (e : Event) (others : List Event) (g g' : Gathered) → (g'.answers ≡ g.answers) × (g'.lines ≡ g.lines) → CutIn (e ∷ others) g g'
+cut_now e others g g' same = record {
+  cut = record { done = []; event = e; messages = 0; others = others };
+  events_are = refl;
+  answers_are = text_same answer_in g.answers g'.answers (part_of 0 e g.state) same.0 (no_part e g.state);
+  lines_are = text_same line_in g.lines g'.lines (part_of 0 e g.state) same.1 (no_part e g.state);
+}
+
+-- behind events that were done
+pub cut_later : (es fs : List Event) (g h g' : Gathered) → h ≡ gathered es g → CutIn fs h g' → CutIn (es ++ fs) g g'
+cut_later es fs g h g' e c =
+    let same : gathered c.cut.done h ≡ gathered (es ++ c.cut.done) g = ap (gathered c.cut.done) e ∙ sym (gathered_more es c.cut.done g) in
+    let given = ap (λ (x : Gathered). with_effects (part_of c.cut.messages c.cut.event x.state) x) same in
+    record {
+      cut = record { done = es ++ c.cut.done; event = c.cut.event; messages = c.cut.messages; others = c.cut.others };
+      events_are = append_assoc es c.cut.done (c.cut.event ∷ c.cut.others) ∙ ap (λ (x : List Event). es ++ x) c.events_are;
+      answers_are = c.answers_are ∙ ap (λ (x : Gathered). x.answers) given;
+      lines_are = c.lines_are ∙ ap (λ (x : Gathered). x.lines) given;
+    }
+
+-- before others
+pub cut_before : (es fs : List Event) (g g' : Gathered) → CutIn es g g' → CutIn (es ++ fs) g g'
+cut_before es fs g g' c = record {
+  cut = record { done = c.cut.done; event = c.cut.event; messages = c.cut.messages; others = c.cut.others ++ fs };
+  events_are = sym (append_assoc c.cut.done (c.cut.event ∷ c.cut.others) fs) ∙ ap (λ (x : List Event). x ++ fs) c.events_are;
+  answers_are = c.answers_are;
+  lines_are = c.lines_are;
+}
+
+-- A PIECE
+
+come_fed : (piece : List ℕ) (s : State) → is_disconnected s.connection.phase ≡ false → come piece s ≡ fed piece s
+come_fed piece s e = ap (λ (b : Bool). if b then s else fed piece s) e
+
+abbrev pub Lacks : Result (Unit {0}) SwitchError → Type 0
+Lacks result = result ≡ Err NoMemory
+
+abbrev Feeds : Bool → List ℕ → Result (Unit {0}) SwitchError → State → State → Type 0
+Feeds b piece r s t = Call (first_refusal ((b, NotConnected) ∷ [])) (λ (u : Unit {0}) (new : State). new ≡ fed piece s) s r t
+
+fails_by : (b : Bool) (piece : List ℕ) (e : SwitchError) (g g' : Gathered) → is_disconnected g.state.connection.phase ≡ b → Feeds b piece (Err e) g.state g'.state
+    → (g'.answers ≡ g.answers) × (g'.lines ≡ g.lines) → Lacks (Err e) ⊎ (g' ≡ gathered (Piece piece ∷ []) g)
+fails_by false piece e g g' is call same = inl (ap Err call.0)
+fails_by true piece e g g' is call same =
+    let kept : g' ≡ holding g.state (g.answers ++ []) (g.lines ++ []) =
+    ap (λ (x : State). holding x g'.answers g'.lines) call.1
+    ∙ (ap (λ (x : List ℕ). holding g.state x g'.lines) (same.0 ∙ sym (append-nil g.answers))
+    ∙ ap (λ (x : List ℕ). holding g.state (g.answers ++ []) x) (same.1 ∙ sym (append-nil g.lines))) in
+    inr (rw is kept)
+
+pub take_fails : (piece : List ℕ) (e : SwitchError) (g g' : Gathered) → Feeds (is_disconnected g.state.connection.phase) piece (Err e) g.state g'.state
+    → (g'.answers ≡ g.answers) × (g'.lines ≡ g.lines) → Lacks (Err e) ⊎ (g' ≡ gathered (Piece piece ∷ []) g)
+take_fails piece e g g' call same = fails_by (is_disconnected g.state.connection.phase) piece e g g' refl call same
+
+stands_by : (b : Bool) (piece : List ℕ) (s t : State) → Feeds b piece (Ok tt) s t → b ≡ false
+stands_by false piece s t call = refl
+stands_by true piece s t call = let e : Ok tt ≡ Err NotConnected = call.0 in absurd cc
+
+-- bytes that are taken come to a connection
+stands : (piece : List ℕ) (s t : State) → Feeds (is_disconnected s.connection.phase) piece (Ok tt) s t → is_disconnected s.connection.phase ≡ false
+stands piece s t call = stands_by (is_disconnected s.connection.phase) piece s t call
+
+fed_by : (b : Bool) (piece : List ℕ) (s t : State) → b ≡ false → Feeds b piece (Ok tt) s t → t ≡ fed piece s
+fed_by false piece s t e call = call
+fed_by true piece s t e call = absurd (let e' : true ≡ false = e in cc)
+
+all_heard : (piece : List ℕ) (g g1 g' : Gathered) → is_disconnected g.state.connection.phase ≡ false → g1 ≡ holding (fed piece g.state) g.answers g.lines → HandlesAll g1 g' → g' ≡ gathered (Piece piece ∷ []) g
+all_heard piece g g1 g' is e h = rw is (h ∙ ap (λ (x : Gathered). gather (unless None x.state (drained x.state)) x) e)
+
+pub take_goes : (piece : List ℕ) (r : Result (Unit {0}) SwitchError) (g g1 g' : Gathered) → Feeds (is_disconnected g.state.connection.phase) piece (Ok tt) g.state g1.state
+    → (g1.answers ≡ g.answers) × (g1.lines ≡ g.lines) → OnOk r (HandlesAll g1 g') → IfErr r (λ e. e ≡ NoMemory) → Lacks r ⊎ (g' ≡ gathered (Piece piece ∷ []) g)
+take_goes piece (Err e) g g1 g' call same all memory = inl (ap Err memory)
+take_goes piece (Ok u) g g1 g' call same all memory =
+    let is = stands piece g.state g1.state call in
+    let e : g1 ≡ holding (fed piece g.state) g.answers g.lines =
+    ap (λ (x : State). holding x g1.answers g1.lines) (fed_by (is_disconnected g.state.connection.phase) piece g.state g1.state is call)
+    ∙ (ap (λ (x : List ℕ). holding (fed piece g.state) x g1.lines) same.0 ∙ ap (λ (x : List ℕ). holding (fed piece g.state) g.answers x) same.1) in
+    inr (all_heard piece g g1 g' is e all)
+
+some_text : (f : Effect → List ℕ) (n : ℕ) (old now new : List ℕ) (s t : State) → now ≡ old → s ≡ t → new ≡ now ++ flat_map f (drain n s).effects → new ≡ old ++ flat_map f (drain n t).effects
+some_text f n old now new s t e same h = h ∙ (ap (λ (x : List ℕ). x ++ flat_map f (drain n s).effects) e ∙ ap (λ (x : State). old ++ flat_map f (drain n x).effects) same)
+
+pub take_cut : (piece : List ℕ) (r : Result (Unit {0}) SwitchError) (g g1 g' : Gathered) → Feeds (is_disconnected g.state.connection.phase) piece (Ok tt) g.state g1.state
+    → (g1.answers ≡ g.answers) × (g1.lines ≡ g.lines) → OnErr r (HandlesSome g1 g') → Lacks r → CutIn (Piece piece ∷ []) g g'
+take_cut piece (Ok u) g g1 g' call same some e = let e' : Ok u ≡ Err NoMemory = e in absurd cc
+take_cut piece (Err x) g g1 g' call same some e =
+    let is = stands piece g.state g1.state call in
+    let at : g1.state ≡ come piece g.state = fed_by (is_disconnected g.state.connection.phase) piece g.state g1.state is call ∙ sym (come_fed piece g.state is) in
+    record {
+      cut = record { done = []; event = Piece piece; messages = some.messages; others = [] };
+      events_are = refl;
+      answers_are = some_text answer_in some.messages g.answers g1.answers g'.answers g1.state (come piece g.state) same.0 at some.answers_are;
+      lines_are = some_text line_in some.messages g.lines g1.lines g'.lines g1.state (come piece g.state) same.1 at some.lines_are;
+    }
+
+-- ROWS THAT ARE DUE
+
+pub record DueSoFar (now : ℕ) (all rows : List Event) (first g : Gathered) : Type 0 where
+  pub done : List Event
+  pub due_is : due now all ≡ done ++ due now rows
+  pub handled : g ≡ gathered done first
+
+pub due_begun : (now : ℕ) (rows : List Event) (g : Gathered) → DueSoFar now rows rows g g
+due_begun now rows g = record { done = []; due_is = refl; handled = refl }
+
+pub due_more : (now : ℕ) (row : Event) (all rows : List Event) (first g g' : Gathered) → Some row ≡ slice_get rows 0 → waits now row ≡ false → DueSoFar now all rows first g → g' ≡ gathered (acts row) g
+    → DueSoFar now all (drop 1 rows) first g'
+due_more now row all rows first g g' e t so h = record {
+  done = so.done ++ acts row;
+  due_is = so.due_is ∙ (ap (λ (x : List Event). so.done ++ x) (due_acts now row rows e t) ∙ sym (append_assoc so.done (acts row) (due now (drop 1 rows))));
+  handled = h ∙ (ap (gathered (acts row)) so.handled ∙ sym (gathered_more so.done (acts row) first));
+}
+
+pub due_cut : (now : ℕ) (row : Event) (all rows : List Event) (first g g' : Gathered) → Some row ≡ slice_get rows 0 → waits now row ≡ false → DueSoFar now all rows first g → CutIn (acts row) g g'
+    → CutIn (due now all) first g'
+due_cut now row all rows first g g' e t so c =
+    let rest = due now (drop 1 rows) in
+    let is : due now all ≡ so.done ++ (acts row ++ rest) = so.due_is ∙ ap (λ (x : List Event). so.done ++ x) (due_acts now row rows e t) in
+    subst (λ (x : List Event). CutIn x first g') (sym is) (cut_later so.done (acts row ++ rest) first g g' so.handled (cut_before (acts row) rest g g' c))
+
+-- WHERE A CALL FAILED
+
+pub on_err : (r : Result (Unit {0}) AllocError) (A : Type 0) → A → OnErr r A
+on_err (Ok u) A a = tt
+on_err (Err e) A a = a
+
+pub act_cut : (r : Result (Unit {0}) AllocError) (row e : Event) (g g' : Gathered) → row ≡ e → acts e ≡ e ∷ [] → OnErr r ((g'.answers ≡ g.answers) × (g'.lines ≡ g.lines)) → OnErr r (CutIn (acts row) g g')
+act_cut (Ok u) row e g g' is one same = tt
+act_cut (Err x) row e g g' is one same = subst (λ (es : List Event). CutIn es g g') (sym (ap acts is ∙ one)) (cut_now e [] g g' same)

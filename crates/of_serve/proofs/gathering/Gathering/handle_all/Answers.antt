@@ -1,0 +1,11 @@
+use Rattle.of_serve.proofs.CutLemmas.{handled_begun, handled_more, handled_all}
+use Rattle.of_serve.proofs.gathering.Gathering.handle_all.Goals as goal
+
+pub loop-init : goal.loop-init
+loop-init g c = handled_begun c.args.self.now
+
+pub loop-preserved : goal.loop-preserved
+loop-preserved g c = handled_more c.args.self.now c.loop.self c.handle_next.new.self (rw c.if-not-branch.false at c.in_ok-handle_next.ensures.ok) c.loop.invariant
+
+pub returns-then-not-branch-clause-ok : goal.returns-then-not-branch-clause-ok
+returns-then-not-branch-clause-ok g c = handled_all c.args.self.now c.loop.self c.handle_next.new.self (rw c.if-not-branch.true at c.in_ok-handle_next.ensures.ok) c.loop.invariant
