@@ -22,7 +22,7 @@ row_happened s (Moment nanos) = happened (event.Moment nanos) s
 row_happened s (Ports change) = happened (event.Ports change) s
 
 -- what is told of a row: by the switch before it, its line, and the row
-abbrev pub Tale : Type 1
+abbrev pub Tale : Type 0
 Tale = State → List ℕ → EventRow → List ℕ
 
 -- what `replay` prints: the text of the report
