@@ -1,6 +1,5 @@
 -- How `dis` ends.
-use Rattle.std.proofs.Common.{◌≡◌, ℕ, ◌+◌, ◌<◌, true, List, [], Option, Some, None, Result, Ok, Err, refl, sym, ◌∙◌, arith, inl, inr}
-use Rattle.std.specs.Prelude.{nat_lt}
+use Rattle.std.proofs.Common.{◌≡◌, ℕ, ◌+◌, List, [], Option, Result, Ok, Err, refl, sym, arith, inl, inr}
 use Rattle.std.specs.Global.{Vec}
 use Rattle.of_switch.specs.State.{State}
 use Rattle.of_replay.specs.declared.halt.Halt.{Halt}
@@ -8,10 +7,10 @@ use Rattle.of_replay.specs.declared.halt.Halt.TheVariants.{Bad, Memory, Read, Wr
 use Rattle.of_replay.specs.declared.event_file.Ended.{Ended}
 use Rattle.of_replay.specs.declared.event_file.Ended.TheVariants.{Done, BadRow, Text, NoMemory, ReadFault, WriteFault}
 use Rattle.of_replay.specs.Told.{Answer}
-use Rattle.of_replay.specs.Play.{Replays}
+use Rattle.of_replay.specs.Tales.{Tale, Tells}
 use Rattle.of_replay.specs.Stepping.{PlayedAll, ReadsFail, WritesFail, ended_so}
-use Rattle.of_replay.specs.Assembling.{Faults, Writes, WritesText}
-use Rattle.of_replay.specs.Disassembling.{Disassembles, IsPlayed, IsTextOf, Played}
+use Rattle.of_replay.specs.Assembling.{Faults, Writes}
+use Rattle.of_replay.specs.Disassembling.{Disassembles, IsTextOf, Played}
 use Rattle.of_replay.proofs.TellingLemmas.{answers-nil}
 use Rattle.of_replay.proofs.WholeRuns.{is_ended}
 use Rattle.of_replay.proofs.FileLemmas.{by_read, faults_done, faults_unbuilt, faults_unwritten}
@@ -29,11 +28,11 @@ written Memory w e = cc
 written Read w e = cc
 written Write w e = omega (arith, w)
 
-pub played_not : (h : Halt) (answers answers' : Option (List Answer)) (ends ends' : ℕ) (taken taken' : Option (List ℕ)) → Replays (ended_so (Err h)) answers answers' ends ends' taken taken' → WritesFail (Err h) 0 → Played (Err (ended_so (Err h))) answers answers' ends ends'
-played_not (Bad n) answers answers' ends ends' taken taken' r w = record { more = r.more; answers_are = r.answers_are; is = r.ends_so.0 }
-played_not Memory answers answers' ends ends' taken taken' r w = record { more = r.more; answers_are = r.answers_are; is = tt }
-played_not Read answers answers' ends ends' taken taken' r w = record { more = r.more; answers_are = r.answers_are; is = (r.ends_so.0, r.ends_so.1) }
-played_not Write answers answers' ends ends' taken taken' r w = absurd (written Write w refl)
+pub played_not : (tale : Tale) (h : Halt) (answers answers' : Option (List Answer)) (ends ends' : ℕ) (taken taken' : Option (List ℕ)) → Tells tale (ended_so (Err h)) answers answers' ends ends' taken taken' → WritesFail (Err h) 0 → Played (Err (ended_so (Err h))) answers answers' ends ends'
+played_not tale (Bad n) answers answers' ends ends' taken taken' r w = record { more = r.more; answers_are = r.answers_are; is = r.ends_so.0 }
+played_not tale Memory answers answers' ends ends' taken taken' r w = record { more = r.more; answers_are = r.answers_are; is = tt }
+played_not tale Read answers answers' ends ends' taken taken' r w = record { more = r.more; answers_are = r.answers_are; is = (r.ends_so.0, r.ends_so.1) }
+played_not tale Write answers answers' ends ends' taken taken' r w = absurd (written Write w refl)
 
 pub faults_unplayed : (h : Halt) (reads ends ends' failures failures' : ℕ) → ReadsFail (Err h) reads ends ends' failures failures' → WritesFail (Err h) 0 → Faults (ended_so (Err h)) reads ends ends' failures failures' 0
 faults_unplayed (Bad n) reads ends ends' failures failures' h w = record { done = λ e. cc; once = omega (arith, h); read_fault = λ e. cc; failed_read = λ lt. absurd (omega (arith, lt, h)); write_fault = (λ e. cc, λ lt. absurd (omega (arith, lt))) }

@@ -1,24 +1,22 @@
 -- A line's part in a run.
-use Rattle.std.proofs.Common.{◌≡◌, ℕ, ◌+◌, ◌<◌, ◌≤◌, suc, Bool, true, false, length, take, drop, List, [], ◌∷◌, ◌++◌, Option, Some, None, Ok, Err, refl, sym, ◌∙◌, ap, subst, append_assoc, add-one, arith, length-drop, ◌-◌, Result}
+use Rattle.std.proofs.Common.{◌≡◌, ℕ, ◌+◌, ◌≤◌, suc, Bool, true, false, length, take, drop, List, [], ◌∷◌, ◌++◌, Option, Some, None, Ok, Err, refl, sym, ◌∙◌, ap, subst, append_assoc, arith, length-drop, ◌-◌, Result}
 use Rattle.std.proofs.lemmas.List.{append-nil, length-append, take_all, length-take-le, drop-drop}
-use Rattle.std.proofs.lemmas.Grind.{flat_map-append}
-use Rattle.std.specs.Prelude.{position, nat_lt, nat_le, OnOk, OnErr, IfErr}
-use Rattle.std.specs.List.{flat_map}
+use Rattle.std.specs.Prelude.{nat_le, OnOk, IfErr}
 use Rattle.std.specs.Option.{option_map}
-use Rattle.std.specs.Str.{is_utf8}
 use Rattle.std.proofs.lemmas.Bool.Decides.{nat_tests}
 use Rattle.of_switch.specs.declared.event.Event.{Event}
 use Rattle.of_switch.specs.State.{State, start}
-use Rattle.of_switch.specs.Runs.{Run, Report, happened, run}
+use Rattle.of_switch.specs.Runs.{happened, run}
 use Rattle.of_replay.specs.declared.halt.Halt.{Halt}
 use Rattle.of_replay.specs.declared.halt.Halt.TheVariants.{Bad, Memory, Read, Write}
 use Rattle.of_replay.specs.Told.{then_bytes}
 use Rattle.of_replay.specs.Transfer.{WroteFront}
-use Rattle.of_replay.specs.Lexing.{whole_from, whole_lines, last_from, is_line}
+use Rattle.of_replay.specs.Lexing.{whole_from, whole_lines, last_from}
 use Rattle.of_replay.specs.Rows.{EventRow, Passed, Connect, Lost, Piece, Frame, Moment, Ports, Rows, row_of, row_and, rows_of, events_in}
-use Rattle.of_replay.specs.Output.{report_text, printed_from, printed}
-use Rattle.of_replay.specs.Play.{open_line, lines_read}
-use Rattle.of_replay.specs.Stepping.{row_happened, LineTells, LineGoes, Prints, PrintsFirst, Going, Within, Halts, PieceGoes, WritesFail}
+use Rattle.of_replay.specs.Output.{report_text, printed_from}
+use Rattle.of_replay.specs.Play.{lines_read}
+use Rattle.of_replay.specs.Tales.{Tale, plain, row_happened, told, told_and, told_from}
+use Rattle.of_replay.specs.Stepping.{LineTells, LineGoes, Prints, Going, Within, Halts, PieceGoes, WritesFail}
 use Rattle.of_replay.proofs.TellingLemmas.{then-then, then-nil}
 use Rattle.of_replay.proofs.Cutting.{kept_more, Parts, parts, first_end, whole_join, last_join}
 
@@ -44,34 +42,42 @@ row_state (Moment nanos) s = refl
 row_state (Ports change) s = refl
 
 -- nothing was written yet
-pub line_kept : (row : Option EventRow) (n : ℕ) (s held : State) (out out' : List ℕ) (taken : Option (List ℕ)) → LineTells (Ok tt) n row s held out out' → LineGoes (Ok tt) n row s held out out' taken taken
-line_kept (Some row) n s held out out' taken h = ([], sym (then-nil taken), h.0 ∙ ap (λ (x : List ℕ). out ++ x) (row_text row s), h.1 ∙ row_state row s)
-line_kept None n s held out out' taken h = absurd h
+pub line_kept : (tale : Tale) (row : Option EventRow) (n : ℕ) (line : List ℕ) (s held : State) (out out' : List ℕ) (taken : Option (List ℕ)) → LineTells tale (Ok tt) n line row s held out out' → LineGoes tale (Ok tt) n line row s held out out' taken taken
+line_kept tale (Some row) n line s held out out' taken h = ([], sym (then-nil taken), h.0, h.1)
+line_kept tale None n line s held out out' taken h = absurd h
 
 -- all was written
-pub line_flushed : (row : Option EventRow) (n : ℕ) (s held : State) (out full out' : List ℕ) (taken taken' : Option (List ℕ)) → LineTells (Ok tt) n row s held out full → out' ≡ [] → taken' ≡ then_bytes taken full → LineGoes (Ok tt) n row s held out out' taken taken'
-line_flushed (Some row) n s held out full out' taken taken' h o t = (full, t, ap (λ (x : List ℕ). full ++ x) o ∙ (append-nil full ∙ (h.0 ∙ ap (λ (x : List ℕ). out ++ x) (row_text row s))), h.1 ∙ row_state row s)
-line_flushed None n s held out full out' taken taken' h o t = absurd h
+pub line_flushed : (tale : Tale) (row : Option EventRow) (n : ℕ) (line : List ℕ) (s held : State) (out full out' : List ℕ) (taken taken' : Option (List ℕ)) → LineTells tale (Ok tt) n line row s held out full → out' ≡ [] → taken' ≡ then_bytes taken full → LineGoes tale (Ok tt) n line row s held out out' taken taken'
+line_flushed tale (Some row) n line s held out full out' taken taken' h o t = (full, t, ap (λ (x : List ℕ). full ++ x) o ∙ (append-nil full ∙ h.0), h.1)
+line_flushed tale None n line s held out full out' taken taken' h o t = absurd h
 
 -- the write failed
-pub line_unwritten : (row : Option EventRow) (n : ℕ) (s told held : State) (out full out' : List ℕ) (taken taken' : Option (List ℕ)) → LineTells (Ok tt) n row s told out full → WroteFront taken full taken' → LineGoes (Err Write) n row s held out out' taken taken'
-line_unwritten (Some row) n s told held out full out' taken taken' h w = subst (λ (x : List ℕ). WroteFront taken x taken') (h.0 ∙ ap (λ (x : List ℕ). out ++ x) (row_text row s)) w
-line_unwritten None n s told held out full out' taken taken' h w = absurd h
+pub line_unwritten : (tale : Tale) (row : Option EventRow) (n : ℕ) (line : List ℕ) (s told_to held : State) (out full out' : List ℕ) (taken taken' : Option (List ℕ)) → LineTells tale (Ok tt) n line row s told_to out full → WroteFront taken full taken' → LineGoes tale (Err Write) n line row s held out out' taken taken'
+line_unwritten tale (Some row) n line s told_to held out full out' taken taken' h w = subst (λ (x : List ℕ). WroteFront taken x taken') h.0 w
+line_unwritten tale None n line s told_to held out full out' taken taken' h w = absurd h
 
 -- the run halts at it
-pub line_halts : (h : Halt) (row : Option EventRow) (n : ℕ) (s told held : State) (out out' : List ℕ) (taken : Option (List ℕ)) → LineTells (Err h) n row s told out out' → LineGoes (Err h) n row s held out out' taken taken
-line_halts (Bad m) (Some row) n s told held out out' taken h = absurd h
-line_halts (Bad m) None n s told held out out' taken h = (h.0, h.1, refl)
-line_halts Memory row n s told held out out' taken h = (h, refl)
-line_halts Read row n s told held out out' taken h = absurd h
-line_halts Write row n s told held out out' taken h = absurd h
+pub line_halts : (tale : Tale) (h : Halt) (row : Option EventRow) (n : ℕ) (line : List ℕ) (s told_to held : State) (out out' : List ℕ) (taken : Option (List ℕ)) → LineTells tale (Err h) n line row s told_to out out' → LineGoes tale (Err h) n line row s held out out' taken taken
+line_halts tale (Bad m) (Some row) n line s told_to held out out' taken h = absurd h
+line_halts tale (Bad m) None n line s told_to held out out' taken h = (h.0, h.1, refl)
+line_halts tale Memory row n line s told_to held out out' taken h = (h, refl)
+line_halts tale Read row n line s told_to held out out' taken h = absurd h
+line_halts tale Write row n line s told_to held out out' taken h = absurd h
 
 -- before a line is printed no write fails
-pub told_well : (h : Halt) (row : Option EventRow) (n failures : ℕ) (s told : State) (out out' : List ℕ) → LineTells (Err h) n row s told out out' → failures ≡ 0 → WritesFail (Err h) failures
-told_well (Bad m) row n failures s told out out' h e = e
-told_well Memory row n failures s told out out' h e = e
-told_well Read row n failures s told out out' h e = e
-told_well Write row n failures s told out out' h e = absurd h
+pub told_well : (tale : Tale) (h : Halt) (row : Option EventRow) (n failures : ℕ) (line : List ℕ) (s told_to : State) (out out' : List ℕ) → LineTells tale (Err h) n line row s told_to out out' → failures ≡ 0 → WritesFail (Err h) failures
+told_well tale (Bad m) row n failures line s told_to out out' h e = e
+told_well tale Memory row n failures line s told_to out out' h e = e
+told_well tale Read row n failures line s told_to out out' h e = e
+told_well tale Write row n failures line s told_to out out' h e = absurd h
+
+-- a line that is no row may be another one
+bad_goes : (tale : Tale) (r : Result (Unit {0}) Halt) (n : ℕ) (line line' : List ℕ) (s held : State) (out out' : List ℕ) (taken taken' : Option (List ℕ)) → LineGoes tale r n line None s held out out' taken taken' → LineGoes tale r n line' None s held out out' taken taken'
+bad_goes tale (Ok u) n line line' s held out out' taken taken' h = h
+bad_goes tale (Err (Bad m)) n line line' s held out out' taken taken' h = h
+bad_goes tale (Err Memory) n line line' s held out out' taken taken' h = h
+bad_goes tale (Err Read) n line line' s held out out' taken taken' h = h
+bad_goes tale (Err Write) n line line' s held out out' taken taken' h = h
 
 -- ROWS OF MORE LINES
 
@@ -122,27 +128,70 @@ run_text (e ∷ es) fs s =
     ap (λ (x : List ℕ). report_text (happened e s).report ++ x) (run_text es fs (happened e s).state)
     ∙ sym (append_assoc (report_text (happened e s).report) (printed_from (happened e s).state es) (printed_from (run es (happened e s).state).state fs))
 
+-- WHAT IS TOLD, line after line
+
+tale_joined : (tale : Tale) (r : Option EventRow) (line : List ℕ) (lines more : List (List ℕ)) (s : State)
+    → ((t : State) → (rows_of lines).bad ≡ None → told_from tale (lines ++ more) t ≡ told_from tale lines t ++ told_from tale more (run (rows_of lines).events t).state)
+    → (row_and r (rows_of lines)).bad ≡ None
+    → told_and tale s line r (told_from tale (lines ++ more)) ≡ told_and tale s line r (told_from tale lines) ++ told_from tale more (run (row_and r (rows_of lines)).events s).state
+tale_joined tale None line lines more s ih good = cc
+tale_joined tale (Some row) line lines more s ih good =
+    let t = (row_happened s row).state in
+    let es = (rows_of lines).events in
+    let same : (run es t).state ≡ (run (events_in row ++ es) s).state = ap (λ (x : State). (run es x).state) (row_state row s) ∙ sym (run_state (events_in row) es s) in
+    ap (λ (x : List ℕ). tale s line row ++ x) (ih t (was_good (rows_of lines).bad good))
+    ∙ (sym (append_assoc (tale s line row) (told_from tale lines t) (told_from tale more (run es t).state))
+    ∙ ap (λ (x : State). (tale s line row ++ told_from tale lines t) ++ told_from tale more x) same)
+
+-- of lines of which none is bad, and then of others
+pub tale_join : (tale : Tale) (lines more : List (List ℕ)) (s : State) → (rows_of lines).bad ≡ None → told_from tale (lines ++ more) s ≡ told_from tale lines s ++ told_from tale more (run (rows_of lines).events s).state
+tale_join tale [] more s good = refl
+tale_join tale (line ∷ lines) more s good = tale_joined tale (row_of line) line lines more s (λ t. tale_join tale lines more t) good
+
+tale_first : (tale : Tale) (line : List ℕ) (row : EventRow) (more : List (List ℕ)) (s : State) → row_of line ≡ Some row → told_from tale (line ∷ more) s ≡ tale s line row ++ told_from tale more (row_happened s row).state
+tale_first tale line row more s is = ap (λ (r : Option EventRow). told_and tale s line r (told_from tale more)) is
+
+tale_bad : (tale : Tale) (line : List ℕ) (more : List (List ℕ)) (s : State) → row_of line ≡ None → told_from tale (line ∷ more) s ≡ []
+tale_bad tale line more s is = ap (λ (r : Option EventRow). told_and tale s line r (told_from tale more)) is
+
+-- what `replay` prints
+
+plain_and : (r : Option EventRow) (line : List ℕ) (lines : List (List ℕ)) (s : State) → ((t : State) → told_from plain lines t ≡ printed_from t (rows_of lines).events)
+    → told_and plain s line r (told_from plain lines) ≡ printed_from s (row_and r (rows_of lines)).events
+plain_and None line lines s ih = refl
+plain_and (Some row) line lines s ih =
+    let t = (row_happened s row).state in
+    let es = (rows_of lines).events in
+    ap (λ (x : List ℕ). report_text (row_happened s row).report ++ x) (ih t)
+    ∙ (ap (λ (x : List ℕ). x ++ printed_from t es) (row_text row s)
+    ∙ (ap (λ (x : State). printed_from s (events_in row) ++ printed_from x es) (row_state row s)
+    ∙ sym (run_text (events_in row) es s)))
+
+pub plain_is : (lines : List (List ℕ)) (s : State) → told_from plain lines s ≡ printed_from s (rows_of lines).events
+plain_is [] s = refl
+plain_is (line ∷ lines) s = plain_and (row_of line) line lines s (λ t. plain_is lines t)
+
 -- A RUN
 
 -- what was written, and more
-prints_more : (es fs : List Event) (out wrote out' : List ℕ) (first taken taken' : Option (List ℕ)) → Prints es out first taken → taken' ≡ then_bytes taken wrote → wrote ++ out' ≡ out ++ printed_from (run es (start 1)).state fs → Prints (es ++ fs) out' first taken'
-prints_more es fs out wrote out' first taken taken' p t o =
-    let text = printed_from (run es (start 1)).state fs in
-    record {
-      wrote = p.wrote ++ wrote;
-      taken_is = t ∙ (ap (λ (k : Option (List ℕ)). then_bytes k wrote) p.taken_is ∙ then-then first p.wrote wrote);
-      text_is = append_assoc p.wrote wrote out'
-          ∙ (ap (λ (x : List ℕ). p.wrote ++ x) o
-          ∙ (sym (append_assoc p.wrote out text)
-          ∙ (ap (λ (x : List ℕ). x ++ text) p.text_is ∙ sym (run_text es fs (start 1)))));
-    }
+prints_more : (tale : Tale) (lines lines' : List (List ℕ)) (out wrote out' text : List ℕ) (first taken taken' : Option (List ℕ)) → Prints tale lines out first taken → told tale lines' ≡ told tale lines ++ text → taken' ≡ then_bytes taken wrote → wrote ++ out' ≡ out ++ text
+    → Prints tale lines' out' first taken'
+prints_more tale lines lines' out wrote out' text first taken taken' p e t o = record {
+  wrote = p.wrote ++ wrote;
+  taken_is = t ∙ (ap (λ (k : Option (List ℕ)). then_bytes k wrote) p.taken_is ∙ then-then first p.wrote wrote);
+  text_is = append_assoc p.wrote wrote out'
+      ∙ (ap (λ (x : List ℕ). p.wrote ++ x) o
+      ∙ (sym (append_assoc p.wrote out text)
+      ∙ (ap (λ (x : List ℕ). x ++ text) p.text_is ∙ sym e)));
+}
 
-prints_kept : (es : List Event) (out out' : List ℕ) (first taken taken' : Option (List ℕ)) → out' ≡ out → taken' ≡ taken → Prints es out first taken → Prints es out' first taken'
-prints_kept es out out' first taken taken' o t p = record { wrote = p.wrote; taken_is = t ∙ p.taken_is; text_is = ap (λ (x : List ℕ). p.wrote ++ x) o ∙ p.text_is }
+prints_kept : (tale : Tale) (lines lines' : List (List ℕ)) (out out' : List ℕ) (first taken taken' : Option (List ℕ)) → out' ≡ out → taken' ≡ taken → told tale lines' ≡ told tale lines → Prints tale lines out first taken → Prints tale lines' out' first taken'
+prints_kept tale lines lines' out out' first taken taken' o t e p = record { wrote = p.wrote; taken_is = t ∙ p.taken_is; text_is = ap (λ (x : List ℕ). p.wrote ++ x) o ∙ (p.text_is ∙ sym e) }
 
 -- a front of what was to be written
-pub prints_front : (es others : List Event) (out more : List ℕ) (first taken taken' : Option (List ℕ)) → Prints es out first taken → printed (es ++ others) ≡ printed es ++ more → (text : List ℕ) (after : List ℕ) → text ++ after ≡ out ++ more → WroteFront taken text taken' → WroteFront first (printed (es ++ others)) taken'
-prints_front es others out more first taken taken' p e text after is w = (
+pub prints_front : (tale : Tale) (lines lines' : List (List ℕ)) (out more : List ℕ) (first taken taken' : Option (List ℕ)) → Prints tale lines out first taken → told tale lines' ≡ told tale lines ++ more → (text : List ℕ) (after : List ℕ) → text ++ after ≡ out ++ more
+    → WroteFront taken text taken' → WroteFront first (told tale lines') taken'
+prints_front tale lines lines' out more first taken taken' p e text after is w = (
   p.wrote ++ w.0,
   w.1 ++ after,
   append_assoc p.wrote w.0 (w.1 ++ after)
@@ -159,59 +208,62 @@ good_rows lines line row good is =
     ∙ ap (λ (es : List Event). record { events = (rows_of lines).events ++ es; bad = None }) (append-nil (events_in row)))
 
 -- what good lines and others give
-rows_more : (lines more : List (List ℕ)) → (rows_of lines).bad ≡ None → (rows_of (lines ++ more)).events ≡ (rows_of lines).events ++ (rows_of more).events
+pub rows_more : (lines more : List (List ℕ)) → (rows_of lines).bad ≡ None → (rows_of (lines ++ more)).events ≡ (rows_of lines).events ++ (rows_of more).events
 rows_more lines more good = ap (λ (r : Rows). r.events) (rows_join lines more good)
 
-going_by : (r : Option EventRow) (lines : List (List ℕ)) (line : List ℕ) (n n' : ℕ) (s held : State) (out out' : List ℕ) (first taken taken' : Option (List ℕ)) → row_of line ≡ r
-    → Going lines n s out first taken → LineGoes (Ok tt) n r s held out out' taken taken' → n' ≡ n + 1 → Going (lines ++ line ∷ []) n' held out' first taken'
-going_by None lines line n n' s held out out' first taken taken' is going h e = absurd h
-going_by (Some row) lines line n n' s held out out' first taken taken' is going h e =
+going_by : (tale : Tale) (r : Option EventRow) (lines : List (List ℕ)) (line : List ℕ) (n n' : ℕ) (s held : State) (out out' : List ℕ) (first taken taken' : Option (List ℕ)) → row_of line ≡ r
+    → Going tale lines n s out first taken → LineGoes tale (Ok tt) n line r s held out out' taken taken' → n' ≡ n + 1 → Going tale (lines ++ line ∷ []) n' held out' first taken'
+going_by tale None lines line n n' s held out out' first taken taken' is going h e = absurd h
+going_by tale (Some row) lines line n n' s held out out' first taken taken' is going h e =
     let rows = good_rows lines line row going.good is in
     let es = (rows_of lines).events in
-    let text : h.0 ++ out' ≡ out ++ printed_from (run es (start 1)).state (events_in row) = h.2 ∙ ap (λ (x : State). out ++ printed_from x (events_in row)) going.state in
+    let now = (run es (start 1)).state in
+    let text : h.0 ++ out' ≡ out ++ tale now line row = h.2 ∙ ap (λ (x : State). out ++ tale x line row) going.state in
+    let all : told tale (lines ++ line ∷ []) ≡ told tale lines ++ tale now line row =
+    tale_join tale lines (line ∷ []) (start 1) going.good ∙ ap (λ (x : List ℕ). told tale lines ++ x) (tale_first tale line row [] now is ∙ append-nil (tale now line row)) in
     record {
       good = ap (λ (r : Rows). r.bad) rows;
       number = e ∙ (ap (λ (x : ℕ). x + 1) going.number ∙ ap (λ (x : ℕ). x + 1) (sym (length-append lines (line ∷ []))));
-      state = h.3 ∙ (ap (λ (x : State). (run (events_in row) x).state) going.state ∙ (sym (run_state es (events_in row) (start 1)) ∙ ap (λ (r : Rows). (run r.events (start 1)).state) (sym rows)));
-      prints = subst (λ (r : Rows). Prints r.events out' first taken') (sym rows) (prints_more es (events_in row) out h.0 out' first taken taken' going.prints h.1 text);
+      state = h.3 ∙ (row_state row s ∙ (ap (λ (x : State). (run (events_in row) x).state) going.state ∙ (sym (run_state es (events_in row) (start 1)) ∙ ap (λ (r : Rows). (run r.events (start 1)).state) (sym rows))));
+      prints = prints_more tale lines (lines ++ line ∷ []) out h.0 out' (tale now line row) first taken taken' going.prints all h.1 text;
     }
 
-halts_by : (h : Halt) (r : Option EventRow) (lines : List (List ℕ)) (line : List ℕ) (more : List (List ℕ)) (n : ℕ) (s held : State) (out out' : List ℕ) (first taken taken' : Option (List ℕ)) → row_of line ≡ r
-    → Going lines n s out first taken → LineGoes (Err h) n r s held out out' taken taken' → Halts h (rows_of (lines ++ line ∷ more)) out' first taken'
-halts_by (Bad m) (Some row) lines line more n s held out out' first taken taken' is going h = absurd h
-halts_by (Bad m) None lines line more n s held out out' first taken taken' is going h =
+halts_by : (tale : Tale) (h : Halt) (r : Option EventRow) (lines : List (List ℕ)) (line : List ℕ) (more : List (List ℕ)) (n : ℕ) (s held : State) (out out' : List ℕ) (first taken taken' : Option (List ℕ)) → row_of line ≡ r
+    → Going tale lines n s out first taken → LineGoes tale (Err h) n line r s held out out' taken taken' → Halts tale h (lines ++ line ∷ more) out' first taken'
+halts_by tale (Bad m) (Some row) lines line more n s held out out' first taken taken' is going h = absurd h
+halts_by tale (Bad m) None lines line more n s held out out' first taken taken' is going h =
     let rows : rows_of (lines ++ line ∷ more) ≡ record { events = (rows_of lines).events ++ []; bad = Some (length lines + 1) } =
     rows_join lines (line ∷ more) going.good ∙ ap (λ (r : Option EventRow). joined (rows_of lines) (length lines) (row_and r (rows_of more))) is in
-    let events : (rows_of (lines ++ line ∷ more)).events ≡ (rows_of lines).events = ap (λ (r : Rows). r.events) rows ∙ append-nil (rows_of lines).events in (
+    let all : told tale (lines ++ line ∷ more) ≡ told tale lines =
+    tale_join tale lines (line ∷ more) (start 1) going.good ∙ (ap (λ (x : List ℕ). told tale lines ++ x) (tale_bad tale line more (run (rows_of lines).events (start 1)).state is) ∙ append-nil (told tale lines)) in (
       ap (λ (r : Rows). r.bad) rows ∙ ap Some (sym (h.0 ∙ going.number)),
-      subst (λ (es : List Event). Prints es out' first taken') (sym events) (prints_kept (rows_of lines).events out out' first taken taken' h.1 h.2 going.prints),
+      prints_kept tale lines (lines ++ line ∷ more) out out' first taken taken' h.1 h.2 all going.prints,
     )
-halts_by Memory r lines line more n s held out out' first taken taken' is going h = record {
-  front = (rows_of lines).events;
-  others = (rows_of (line ∷ more)).events;
-  events_are = rows_more lines (line ∷ more) going.good;
-  prints = prints_kept (rows_of lines).events out out' first taken taken' h.0 h.1 going.prints;
+halts_by tale Memory r lines line more n s held out out' first taken taken' is going h = record {
+  front = lines;
+  others = line ∷ more;
+  lines_are = refl;
+  good = going.good;
+  prints = prints_kept tale lines lines out out' first taken taken' h.0 h.1 refl going.prints;
 }
-halts_by Read r lines line more n s held out out' first taken taken' is going h = absurd h
-halts_by Write None lines line more n s held out out' first taken taken' is going h = absurd h
-halts_by Write (Some row) lines line more n s held out out' first taken taken' is going h =
-    let es = (rows_of lines).events in
-    let now = (run es (start 1)).state in
-    let later = printed_from (run (events_in row) now).state (rows_of more).events in
-    let text = out ++ printed_from now (events_in row) in
-    let others = (rows_of (line ∷ more)).events in
-    let row_first : others ≡ events_in row ++ (rows_of more).events = ap (λ (r : Option EventRow). (row_and r (rows_of more)).events) is in
-    let all : printed_from now others ≡ printed_from now (events_in row) ++ later = ap (printed_from now) row_first ∙ run_text (events_in row) (rows_of more).events now in
-    let here : WroteFront taken text taken' = subst (λ (x : State). WroteFront taken (out ++ printed_from x (events_in row)) taken') going.state h in
-    subst (λ (x : List Event). WroteFront first (printed x) taken') (sym (rows_more lines (line ∷ more) going.good))
-    (prints_front es others out (printed_from now others) first taken taken' going.prints (run_text es others (start 1)) text later (append_assoc out (printed_from now (events_in row)) later ∙ ap (λ (x : List ℕ). out ++ x) (sym all)) here)
+halts_by tale Read r lines line more n s held out out' first taken taken' is going h = absurd h
+halts_by tale Write None lines line more n s held out out' first taken taken' is going h = absurd h
+halts_by tale Write (Some row) lines line more n s held out out' first taken taken' is going h =
+    let now = (run (rows_of lines).events (start 1)).state in
+    let later = told_from tale more (row_happened now row).state in
+    let text = out ++ tale now line row in
+    let all : told_from tale (line ∷ more) now ≡ tale now line row ++ later = tale_first tale line row more now is in
+    let here : WroteFront taken text taken' = subst (λ (x : State). WroteFront taken (out ++ tale x line row) taken') going.state h in
+    prints_front tale lines (lines ++ line ∷ more) out (told_from tale (line ∷ more) now) first taken taken' going.prints (tale_join tale lines (line ∷ more) (start 1) going.good) text later
+    (append_assoc out (tale now line row) later ∙ ap (λ (x : List ℕ). out ++ x) (sym all)) here
 
 -- memory ran out before a line
-halts_waiting : (lines more : List (List ℕ)) (n : ℕ) (s : State) (out : List ℕ) (first taken : Option (List ℕ)) → Going lines n s out first taken → Halts Memory (rows_of (lines ++ more)) out first taken
-halts_waiting lines more n s out first taken going = record {
-  front = (rows_of lines).events;
-  others = (rows_of more).events;
-  events_are = rows_more lines more going.good;
+halts_waiting : (tale : Tale) (lines more : List (List ℕ)) (n : ℕ) (s : State) (out : List ℕ) (first taken : Option (List ℕ)) → Going tale lines n s out first taken → Halts tale Memory (lines ++ more) out first taken
+halts_waiting tale lines more n s out first taken going = record {
+  front = lines;
+  others = more;
+  lines_are = refl;
+  good = going.good;
   prints = going.prints;
 }
 
@@ -231,11 +283,27 @@ row_kept_by line false e =
 row_kept : (line : List ℕ) → row_of (take 1048577 line) ≡ row_of line
 row_kept line = row_kept_by line (nat_le (length line) 1048576) refl
 
+-- so does what is told of it
+goes_by : (tale : Tale) (r : Result (Unit {0}) Halt) (line kept : List ℕ) (t : Bool) (n : ℕ) (s held : State) (out out' : List ℕ) (taken taken' : Option (List ℕ)) → nat_le (length line) 1048576 ≡ t → kept ≡ take 1048577 line
+    → LineGoes tale r n kept (row_of kept) s held out out' taken taken' → LineGoes tale r n line (row_of line) s held out out' taken taken'
+goes_by tale r line kept true n s held out out' taken taken' e k h =
+    let same : kept ≡ line = k ∙ take_all 1048577 line (grind (arith, nat_tests, e)) in
+    subst (λ (x : List ℕ). LineGoes tale r n x (row_of x) s held out out' taken taken') same h
+goes_by tale r line kept false n s held out out' taken taken' e k h =
+    let bad : row_of line ≡ None = too_long line e in
+    let here : row_of kept ≡ None = ap row_of k ∙ (row_kept line ∙ bad) in
+    let goes : LineGoes tale r n kept None s held out out' taken taken' = subst (λ (x : Option EventRow). LineGoes tale r n kept x s held out out' taken taken') here h in
+    subst (λ (x : Option EventRow). LineGoes tale r n line x s held out out' taken taken') (sym bad) (bad_goes tale r n kept line s held out out' taken taken' goes)
+
+goes_whole : (tale : Tale) (r : Result (Unit {0}) Halt) (line kept : List ℕ) (n : ℕ) (s held : State) (out out' : List ℕ) (taken taken' : Option (List ℕ)) → kept ≡ take 1048577 line
+    → LineGoes tale r n kept (row_of kept) s held out out' taken taken' → LineGoes tale r n line (row_of line) s held out out' taken taken'
+goes_whole tale r line kept n s held out out' taken taken' k h = goes_by tale r line kept (nat_le (length line) 1048576) n s held out out' taken taken' refl k h
+
 -- LINES OF A PIECE
 
 -- nothing was read
-pub within_start : (first : Option (List ℕ)) → Within [] [] [] 1 (start 1) [] first first
-within_start first = record {
+pub within_start : (tale : Tale) (first : Option (List ℕ)) → Within tale [] [] [] 1 (start 1) [] first first
+within_start tale first = record {
   lines = [];
   line = [];
   going = record {
@@ -250,8 +318,8 @@ within_start first = record {
 }
 
 -- more bytes are there
-pub within_more : (bytes piece kept : List ℕ) (n : ℕ) (s : State) (out : List ℕ) (first taken : Option (List ℕ)) → Within bytes [] kept n s out first taken → Within (bytes ++ piece) piece kept n s out first taken
-within_more bytes piece kept n s out first taken w = record {
+pub within_more : (tale : Tale) (bytes piece kept : List ℕ) (n : ℕ) (s : State) (out : List ℕ) (first taken : Option (List ℕ)) → Within tale bytes [] kept n s out first taken → Within tale (bytes ++ piece) piece kept n s out first taken
+within_more tale bytes piece kept n s out first taken w = record {
   lines = w.lines;
   line = w.line;
   going = w.going;
@@ -263,11 +331,11 @@ within_more bytes piece kept n s out first taken w = record {
 }
 
 -- all lines that are whole are behind
-pub within_rest : (bytes rest part kept kept' : List ℕ) (n n' : ℕ) (s s' : State) (out out' : List ℕ) (first taken : Option (List ℕ)) → Within bytes rest kept n s out first taken
-    → None ≡ first_end rest → part ≡ rest → kept' ≡ take 1048577 (kept ++ part) → n' ≡ n → s' ≡ s → out' ≡ out → Within bytes [] kept' n' s' out' first taken
-within_rest bytes rest part kept kept' n n' s s' out out' first taken w none same k e f o =
+pub within_rest : (tale : Tale) (bytes rest part kept kept' : List ℕ) (n n' : ℕ) (s s' : State) (out out' : List ℕ) (first taken : Option (List ℕ)) → Within tale bytes rest kept n s out first taken
+    → None ≡ first_end rest → part ≡ rest → kept' ≡ take 1048577 (kept ++ part) → n' ≡ n → s' ≡ s → out' ≡ out → Within tale bytes [] kept' n' s' out' first taken
+within_rest tale bytes rest part kept kept' n n' s s' out out' first taken w none same k e f o =
     let p : Parts w.line rest None = subst (Parts w.line rest) (sym none) (parts w.line rest) in
-    let going : Going w.lines n' s' out' first taken = rw (e, f, o) w.going in
+    let going : Going tale w.lines n' s' out' first taken = rw (e, f, o) w.going in
     record {
       lines = w.lines;
       line = w.line ++ rest;
@@ -278,22 +346,22 @@ within_rest bytes rest part kept kept' n n' s s' out out' first taken w none sam
     }
 
 -- what was kept of the line that is whole now
-kept_line : (line part kept kept' : List ℕ) → kept ≡ take 1048577 line → kept' ≡ take 1048577 (kept ++ part) → row_of kept' ≡ row_of (line ++ part)
+kept_line : (line part kept kept' : List ℕ) → kept ≡ take 1048577 line → kept' ≡ take 1048577 (kept ++ part) → kept' ≡ take 1048577 (line ++ part)
 kept_line line part kept kept' k e =
-    ap row_of (e ∙ (ap (λ (x : List ℕ). take 1048577 (x ++ part)) k ∙ kept_more 1048577 line part)) ∙ row_kept (line ++ part)
+    e ∙ (ap (λ (x : List ℕ). take 1048577 (x ++ part)) k ∙ kept_more 1048577 line part)
 
 -- a line of the piece was played
-pub within_line : (bytes rest rest' part kept kept' kept'' : List ℕ) (k n n' : ℕ) (s held : State) (out out' : List ℕ) (first taken taken' : Option (List ℕ)) → Within bytes rest kept n s out first taken
-    → Some k ≡ first_end rest → part ≡ take k rest → rest' ≡ drop (suc k) rest → kept' ≡ take 1048577 (kept ++ part) → LineGoes (Ok tt) n (row_of kept') s held out out' taken taken' → kept'' ≡ [] → n' ≡ n + 1
-    → Within bytes rest' kept'' n' held out' first taken'
-within_line bytes rest rest' part kept kept' kept'' k n n' s held out out' first taken taken' w some same left kept_is goes empty e =
+pub within_line : (tale : Tale) (bytes rest rest' part kept kept' kept'' : List ℕ) (k n n' : ℕ) (s held : State) (out out' : List ℕ) (first taken taken' : Option (List ℕ)) → Within tale bytes rest kept n s out first taken
+    → Some k ≡ first_end rest → part ≡ take k rest → rest' ≡ drop (suc k) rest → kept' ≡ take 1048577 (kept ++ part) → LineGoes tale (Ok tt) n kept' (row_of kept') s held out out' taken taken' → kept'' ≡ [] → n' ≡ n + 1
+    → Within tale bytes rest' kept'' n' held out' first taken'
+within_line tale bytes rest rest' part kept kept' kept'' k n n' s held out out' first taken taken' w some same left kept_is goes empty e =
     let p : Parts w.line rest (Some k) = subst (Parts w.line rest) (sym some) (parts w.line rest) in
     let line = w.line ++ part in
-    let played : LineGoes (Ok tt) n (row_of line) s held out out' taken taken' = subst (λ (r : Option EventRow). LineGoes (Ok tt) n r s held out out' taken taken') (kept_line w.line part kept kept' w.kept_is kept_is) goes in
+    let played : LineGoes tale (Ok tt) n line (row_of line) s held out out' taken taken' = goes_whole tale (Ok tt) line kept' n s held out out' taken taken' (kept_line w.line part kept kept' w.kept_is kept_is) goes in
     record {
       lines = w.lines ++ line ∷ [];
       line = [];
-      going = going_by (row_of line) w.lines line n n' s held out out' first taken taken' refl w.going played e;
+      going = going_by tale (row_of line) w.lines line n n' s held out out' first taken taken' refl w.going played e;
       kept_is = empty;
       whole = w.whole
           ∙ (ap (λ (ls : List (List ℕ)). w.lines ++ ls) (p.1 ∙ (ap (λ (x : List ℕ). (w.line ++ x) ∷ whole_from [] (drop (suc k) rest)) (sym same) ∙ ap (λ (x : List ℕ). line ∷ whole_from [] x) (sym left)))
@@ -306,71 +374,68 @@ open_lines : (bytes : List ℕ) → lines_read false bytes ≡ whole_lines bytes
 open_lines bytes = append-nil (whole_lines bytes)
 
 -- the run halts at a line of the piece
-pub within_halts : (h : Halt) (bytes rest part kept kept' : List ℕ) (k n : ℕ) (s held : State) (out out' : List ℕ) (first taken taken' : Option (List ℕ)) → Within bytes rest kept n s out first taken
-    → Some k ≡ first_end rest → part ≡ take k rest → kept' ≡ take 1048577 (kept ++ part) → LineGoes (Err h) n (row_of kept') s held out out' taken taken'
-    → Halts h (rows_of (lines_read false bytes)) out' first taken'
-within_halts h bytes rest part kept kept' k n s held out out' first taken taken' w some same kept_is goes =
+pub within_halts : (tale : Tale) (h : Halt) (bytes rest part kept kept' : List ℕ) (k n : ℕ) (s held : State) (out out' : List ℕ) (first taken taken' : Option (List ℕ)) → Within tale bytes rest kept n s out first taken
+    → Some k ≡ first_end rest → part ≡ take k rest → kept' ≡ take 1048577 (kept ++ part) → LineGoes tale (Err h) n kept' (row_of kept') s held out out' taken taken'
+    → Halts tale h (lines_read false bytes) out' first taken'
+within_halts tale h bytes rest part kept kept' k n s held out out' first taken taken' w some same kept_is goes =
     let p : Parts w.line rest (Some k) = subst (Parts w.line rest) (sym some) (parts w.line rest) in
     let line = w.line ++ part in
     let more = whole_from [] (drop (suc k) rest) in
-    let played : LineGoes (Err h) n (row_of line) s held out out' taken taken' = subst (λ (r : Option EventRow). LineGoes (Err h) n r s held out out' taken taken') (kept_line w.line part kept kept' w.kept_is kept_is) goes in
+    let played : LineGoes tale (Err h) n line (row_of line) s held out out' taken taken' = goes_whole tale (Err h) line kept' n s held out out' taken taken' (kept_line w.line part kept kept' w.kept_is kept_is) goes in
     let lines : lines_read false bytes ≡ w.lines ++ line ∷ more =
     open_lines bytes ∙ (w.whole ∙ ap (λ (ls : List (List ℕ)). w.lines ++ ls) (p.1 ∙ ap (λ (x : List ℕ). (w.line ++ x) ∷ more) (sym same))) in
-    subst (λ (ls : List (List ℕ)). Halts h (rows_of ls) out' first taken') (sym lines) (halts_by h (row_of line) w.lines line more n s held out out' first taken taken' refl w.going played)
+    subst (λ (ls : List (List ℕ)). Halts tale h ls out' first taken') (sym lines) (halts_by tale h (row_of line) w.lines line more n s held out out' first taken taken' refl w.going played)
 
 -- memory ran out before the line was kept
-pub within_waits : (bytes rest kept : List ℕ) (n : ℕ) (s : State) (out out' : List ℕ) (first taken : Option (List ℕ)) → Within bytes rest kept n s out first taken → out' ≡ out
-    → Halts Memory (rows_of (lines_read false bytes)) out' first taken
-within_waits bytes rest kept n s out out' first taken w o =
+pub within_waits : (tale : Tale) (bytes rest kept : List ℕ) (n : ℕ) (s : State) (out out' : List ℕ) (first taken : Option (List ℕ)) → Within tale bytes rest kept n s out first taken → out' ≡ out
+    → Halts tale Memory (lines_read false bytes) out' first taken
+within_waits tale bytes rest kept n s out out' first taken w o =
     let lines : lines_read false bytes ≡ w.lines ++ whole_from w.line rest = open_lines bytes ∙ w.whole in
-    rw o (subst (λ (ls : List (List ℕ)). Halts Memory (rows_of ls) out first taken) (sym lines) (halts_waiting w.lines (whole_from w.line rest) n s out first taken w.going))
+    rw o (subst (λ (ls : List (List ℕ)). Halts tale Memory ls out first taken) (sym lines) (halts_waiting tale w.lines (whole_from w.line rest) n s out first taken w.going))
 
 -- THE END
 
 -- the file ends, and its last line was played
-pub within_ends : (bytes kept : List ℕ) (n : ℕ) (s held : State) (out out' : List ℕ) (first taken taken' : Option (List ℕ)) → Within bytes [] kept n s out first taken
-    → LineGoes (Ok tt) n (row_of kept) s held out out' taken taken' → ((rows_of (lines_read true bytes)).bad ≡ None) × Prints (rows_of (lines_read true bytes)).events out' first taken'
-within_ends bytes kept n s held out out' first taken taken' w goes =
-    let row : row_of kept ≡ row_of w.line = ap row_of w.kept_is ∙ row_kept w.line in
-    let played : LineGoes (Ok tt) n (row_of w.line) s held out out' taken taken' = subst (λ (r : Option EventRow). LineGoes (Ok tt) n r s held out out' taken taken') row goes in
-    let going : Going (w.lines ++ w.line ∷ []) (n + 1) held out' first taken' = going_by (row_of w.line) w.lines w.line n (n + 1) s held out out' first taken taken' refl w.going played refl in
+pub within_ends : (tale : Tale) (bytes kept : List ℕ) (n : ℕ) (s held : State) (out out' : List ℕ) (first taken taken' : Option (List ℕ)) → Within tale bytes [] kept n s out first taken
+    → LineGoes tale (Ok tt) n kept (row_of kept) s held out out' taken taken' → ((rows_of (lines_read true bytes)).bad ≡ None) × Prints tale (lines_read true bytes) out' first taken'
+within_ends tale bytes kept n s held out out' first taken taken' w goes =
+    let played : LineGoes tale (Ok tt) n w.line (row_of w.line) s held out out' taken taken' = goes_whole tale (Ok tt) w.line kept n s held out out' taken taken' w.kept_is goes in
+    let going : Going tale (w.lines ++ w.line ∷ []) (n + 1) held out' first taken' = going_by tale (row_of w.line) w.lines w.line n (n + 1) s held out out' first taken taken' refl w.going played refl in
     let lines : lines_read true bytes ≡ w.lines ++ w.line ∷ [] = ap (λ (ls : List (List ℕ)). ls ++ last_from [] bytes ∷ []) (w.whole ∙ append-nil w.lines) ∙ ap (λ (x : List ℕ). w.lines ++ x ∷ []) w.last in
-    subst (λ (ls : List (List ℕ)). ((rows_of ls).bad ≡ None) × Prints (rows_of ls).events out' first taken') (sym lines) (going.good, going.prints)
+    subst (λ (ls : List (List ℕ)). ((rows_of ls).bad ≡ None) × Prints tale ls out' first taken') (sym lines) (going.good, going.prints)
 
 -- and the switch is as its lines left it
-pub within_played : (bytes kept : List ℕ) (n : ℕ) (s held : State) (out out' : List ℕ) (first taken taken' : Option (List ℕ)) → Within bytes [] kept n s out first taken
-    → LineGoes (Ok tt) n (row_of kept) s held out out' taken taken' → ((rows_of (lines_read true bytes)).bad ≡ None) × (held ≡ (run (rows_of (lines_read true bytes)).events (start 1)).state)
-within_played bytes kept n s held out out' first taken taken' w goes =
-    let row : row_of kept ≡ row_of w.line = ap row_of w.kept_is ∙ row_kept w.line in
-    let played : LineGoes (Ok tt) n (row_of w.line) s held out out' taken taken' = subst (λ (r : Option EventRow). LineGoes (Ok tt) n r s held out out' taken taken') row goes in
-    let going : Going (w.lines ++ w.line ∷ []) (n + 1) held out' first taken' = going_by (row_of w.line) w.lines w.line n (n + 1) s held out out' first taken taken' refl w.going played refl in
+pub within_played : (tale : Tale) (bytes kept : List ℕ) (n : ℕ) (s held : State) (out out' : List ℕ) (first taken taken' : Option (List ℕ)) → Within tale bytes [] kept n s out first taken
+    → LineGoes tale (Ok tt) n kept (row_of kept) s held out out' taken taken' → ((rows_of (lines_read true bytes)).bad ≡ None) × (held ≡ (run (rows_of (lines_read true bytes)).events (start 1)).state)
+within_played tale bytes kept n s held out out' first taken taken' w goes =
+    let played : LineGoes tale (Ok tt) n w.line (row_of w.line) s held out out' taken taken' = goes_whole tale (Ok tt) w.line kept n s held out out' taken taken' w.kept_is goes in
+    let going : Going tale (w.lines ++ w.line ∷ []) (n + 1) held out' first taken' = going_by tale (row_of w.line) w.lines w.line n (n + 1) s held out out' first taken taken' refl w.going played refl in
     let lines : lines_read true bytes ≡ w.lines ++ w.line ∷ [] = ap (λ (ls : List (List ℕ)). ls ++ last_from [] bytes ∷ []) (w.whole ∙ append-nil w.lines) ∙ ap (λ (x : List ℕ). w.lines ++ x ∷ []) w.last in
     subst (λ (ls : List (List ℕ)). ((rows_of ls).bad ≡ None) × (held ≡ (run (rows_of ls).events (start 1)).state)) (sym lines) (going.good, going.state)
 
-pub within_end_halts : (h : Halt) (bytes kept : List ℕ) (n : ℕ) (s held : State) (out out' : List ℕ) (first taken taken' : Option (List ℕ)) → Within bytes [] kept n s out first taken
-    → LineGoes (Err h) n (row_of kept) s held out out' taken taken' → Halts h (rows_of (lines_read true bytes)) out' first taken'
-within_end_halts h bytes kept n s held out out' first taken taken' w goes =
-    let row : row_of kept ≡ row_of w.line = ap row_of w.kept_is ∙ row_kept w.line in
-    let played : LineGoes (Err h) n (row_of w.line) s held out out' taken taken' = subst (λ (r : Option EventRow). LineGoes (Err h) n r s held out out' taken taken') row goes in
+pub within_end_halts : (tale : Tale) (h : Halt) (bytes kept : List ℕ) (n : ℕ) (s held : State) (out out' : List ℕ) (first taken taken' : Option (List ℕ)) → Within tale bytes [] kept n s out first taken
+    → LineGoes tale (Err h) n kept (row_of kept) s held out out' taken taken' → Halts tale h (lines_read true bytes) out' first taken'
+within_end_halts tale h bytes kept n s held out out' first taken taken' w goes =
+    let played : LineGoes tale (Err h) n w.line (row_of w.line) s held out out' taken taken' = goes_whole tale (Err h) w.line kept n s held out out' taken taken' w.kept_is goes in
     let lines : lines_read true bytes ≡ w.lines ++ w.line ∷ [] = ap (λ (ls : List (List ℕ)). ls ++ last_from [] bytes ∷ []) (w.whole ∙ append-nil w.lines) ∙ ap (λ (x : List ℕ). w.lines ++ x ∷ []) w.last in
-    subst (λ (ls : List (List ℕ)). Halts h (rows_of ls) out' first taken') (sym lines) (halts_by h (row_of w.line) w.lines w.line [] n s held out out' first taken taken' refl w.going played)
+    subst (λ (ls : List (List ℕ)). Halts tale h ls out' first taken') (sym lines) (halts_by tale h (row_of w.line) w.lines w.line [] n s held out out' first taken taken' refl w.going played)
 
 -- the source tells no end: the line that has begun is none
-pub within_open : (bytes kept : List ℕ) (n : ℕ) (s : State) (out : List ℕ) (first taken : Option (List ℕ)) → Within bytes [] kept n s out first taken
-    → ((rows_of (lines_read false bytes)).bad ≡ None) × Prints (rows_of (lines_read false bytes)).events out first taken
-within_open bytes kept n s out first taken w =
+pub within_open : (tale : Tale) (bytes kept : List ℕ) (n : ℕ) (s : State) (out : List ℕ) (first taken : Option (List ℕ)) → Within tale bytes [] kept n s out first taken
+    → ((rows_of (lines_read false bytes)).bad ≡ None) × Prints tale (lines_read false bytes) out first taken
+within_open tale bytes kept n s out first taken w =
     let lines : lines_read false bytes ≡ w.lines = open_lines bytes ∙ (w.whole ∙ append-nil w.lines) in
-    subst (λ (ls : List (List ℕ)). ((rows_of ls).bad ≡ None) × Prints (rows_of ls).events out first taken) (sym lines) (w.going.good, w.going.prints)
+    subst (λ (ls : List (List ℕ)). ((rows_of ls).bad ≡ None) × Prints tale ls out first taken) (sym lines) (w.going.good, w.going.prints)
 
 -- STEPS OF A PIECE
 
 -- no line ends in what is left
-pub piece_over : (r : Result (Unit {0}) Halt) (bytes rest part kept kept' : List ℕ) (n n' : ℕ) (s s' : State) (out out' : List ℕ) (first taken : Option (List ℕ)) → Within bytes rest kept n s out first taken
-    → None ≡ first_end part → part ≡ rest → OnOk r (kept' ≡ take 1048577 (kept ++ part)) → IfErr r (λ halt. halt ≡ Memory) → (n' ≡ n) × (s' ≡ s) × (out' ≡ out) → PieceGoes r bytes kept' n' s' out' first taken
-piece_over (Ok u) bytes rest part kept kept' n n' s s' out out' first taken w none same ok err e =
-    within_rest bytes rest part kept kept' n n' s s' out out' first taken w (none ∙ ap first_end same) same ok e.0 e.1 e.2
-piece_over (Err h) bytes rest part kept kept' n n' s s' out out' first taken w none same ok err e =
-    subst (λ (x : Halt). Halts x (rows_of (lines_read false bytes)) out' first taken) (sym err) (within_waits bytes rest kept n s out out' first taken w e.2)
+pub piece_over : (tale : Tale) (r : Result (Unit {0}) Halt) (bytes rest part kept kept' : List ℕ) (n n' : ℕ) (s s' : State) (out out' : List ℕ) (first taken : Option (List ℕ)) → Within tale bytes rest kept n s out first taken
+    → None ≡ first_end part → part ≡ rest → OnOk r (kept' ≡ take 1048577 (kept ++ part)) → IfErr r (λ halt. halt ≡ Memory) → (n' ≡ n) × (s' ≡ s) × (out' ≡ out) → PieceGoes tale r bytes kept' n' s' out' first taken
+piece_over tale (Ok u) bytes rest part kept kept' n n' s s' out out' first taken w none same ok err e =
+    within_rest tale bytes rest part kept kept' n n' s s' out out' first taken w (none ∙ ap first_end same) same ok e.0 e.1 e.2
+piece_over tale (Err h) bytes rest part kept kept' n n' s s' out out' first taken w none same ok err e =
+    subst (λ (x : Halt). Halts tale x (lines_read false bytes) out' first taken) (sym err) (within_waits tale bytes rest kept n s out out' first taken w e.2)
 
 pub piece_place : (piece rest : List ℕ) (at k : ℕ) → at ≤ length piece → rest ≡ drop at piece → Some k ≡ first_end rest → at + (k + 1) ≤ length piece
 piece_place piece rest at k le is some =
@@ -378,17 +443,17 @@ piece_place piece rest at k le is some =
     let size : length rest ≡ length piece - at = ap length is ∙ length-drop at piece in
     omega (arith, p.0, size, le)
 
-pub piece_line : (bytes piece rest part kept kept' kept'' : List ℕ) (at k n n' n'' : ℕ) (s s' held : State) (out out' out'' : List ℕ) (first taken taken' : Option (List ℕ)) → Within bytes (drop at piece) kept n s out first taken
+pub piece_line : (tale : Tale) (bytes piece rest part kept kept' kept'' : List ℕ) (at k n n' n'' : ℕ) (s s' held : State) (out out' out'' : List ℕ) (first taken taken' : Option (List ℕ)) → Within tale bytes (drop at piece) kept n s out first taken
     → rest ≡ drop at piece → Some k ≡ first_end rest → part ≡ take k rest → kept' ≡ take 1048577 (kept ++ part) → (n' ≡ n) × (s' ≡ s) × (out' ≡ out)
-    → LineGoes (Ok tt) n' (row_of kept') s' held out' out'' taken taken' → kept'' ≡ [] → n'' ≡ n' + 1 → Within bytes (drop (at + (k + 1)) piece) kept'' n'' held out'' first taken'
-piece_line bytes piece rest part kept kept' kept'' at k n n' n'' s s' held out out' out'' first taken taken' w is some same kept_is e goes empty number =
-    let here : Within bytes (drop at piece) kept n' s' out' first taken = rw (e.0, e.1, e.2) w in
+    → LineGoes tale (Ok tt) n' kept' (row_of kept') s' held out' out'' taken taken' → kept'' ≡ [] → n'' ≡ n' + 1 → Within tale bytes (drop (at + (k + 1)) piece) kept'' n'' held out'' first taken'
+piece_line tale bytes piece rest part kept kept' kept'' at k n n' n'' s s' held out out' out'' first taken taken' w is some same kept_is e goes empty number =
+    let here : Within tale bytes (drop at piece) kept n' s' out' first taken = rw (e.0, e.1, e.2) w in
     let left : drop (at + (k + 1)) piece ≡ drop (suc k) (drop at piece) = sym (drop-drop (suc k) at piece ∙ ap (λ (m : ℕ). drop m piece) (omega arith)) in
-    within_line bytes (drop at piece) (drop (at + (k + 1)) piece) part kept kept' kept'' k n' n'' s' held out' out'' first taken taken' here (some ∙ ap first_end is) (same ∙ ap (take k) is) left kept_is goes empty number
+    within_line tale bytes (drop at piece) (drop (at + (k + 1)) piece) part kept kept' kept'' k n' n'' s' held out' out'' first taken taken' here (some ∙ ap first_end is) (same ∙ ap (take k) is) left kept_is goes empty number
 
-pub piece_halts : (h : Halt) (bytes piece rest part kept kept' : List ℕ) (at k n n' : ℕ) (s s' held : State) (out out' out'' : List ℕ) (first taken taken' : Option (List ℕ)) → Within bytes (drop at piece) kept n s out first taken
+pub piece_halts : (tale : Tale) (h : Halt) (bytes piece rest part kept kept' : List ℕ) (at k n n' : ℕ) (s s' held : State) (out out' out'' : List ℕ) (first taken taken' : Option (List ℕ)) → Within tale bytes (drop at piece) kept n s out first taken
     → rest ≡ drop at piece → Some k ≡ first_end rest → part ≡ take k rest → kept' ≡ take 1048577 (kept ++ part) → (n' ≡ n) × (s' ≡ s) × (out' ≡ out)
-    → LineGoes (Err h) n' (row_of kept') s' held out' out'' taken taken' → Halts h (rows_of (lines_read false bytes)) out'' first taken'
-piece_halts h bytes piece rest part kept kept' at k n n' s s' held out out' out'' first taken taken' w is some same kept_is e goes =
-    let here : Within bytes (drop at piece) kept n' s' out' first taken = rw (e.0, e.1, e.2) w in
-    within_halts h bytes (drop at piece) part kept kept' k n' s' held out' out'' first taken taken' here (some ∙ ap first_end is) (same ∙ ap (take k) is) kept_is goes
+    → LineGoes tale (Err h) n' kept' (row_of kept') s' held out' out'' taken taken' → Halts tale h (lines_read false bytes) out'' first taken'
+piece_halts tale h bytes piece rest part kept kept' at k n n' s s' held out out' out'' first taken taken' w is some same kept_is e goes =
+    let here : Within tale bytes (drop at piece) kept n' s' out' first taken = rw (e.0, e.1, e.2) w in
+    within_halts tale h bytes (drop at piece) part kept kept' k n' s' held out' out'' first taken taken' here (some ∙ ap first_end is) (same ∙ ap (take k) is) kept_is goes

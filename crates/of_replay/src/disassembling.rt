@@ -7,6 +7,7 @@ ghost use Rattle.of_replay.specs.Disassembling.{Disassembles, IsTextOf, Played};
 use crate::event_file::{DPID, Ended, READ_SIZE, ended_by, zeros};
 use crate::flow_text::write_built;
 use crate::io::{Sink, Source, Writing};
+use crate::plain::Plain;
 use crate::replaying::Replaying;
 use of_classifier::Lookup;
 use of_switch::Switch;
@@ -41,7 +42,7 @@ fn played<L: Lookup, S: Source>(alloc: Global, reader: &mut S) -> Result<Switch<
         return Err(Ended::NoMemory);
     };
     let mut replaying = Replaying::new(alloc, switch);
-    match replaying.play(reader, &mut buffer, &mut Nowhere) {
+    match replaying.play(&Plain, reader, &mut buffer, &mut Nowhere) {
         Ok(()) => Ok(replaying.into_switch()),
         Err(halt) => Err(ended_by(Err(halt))),
     }

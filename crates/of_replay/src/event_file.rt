@@ -1,12 +1,15 @@
 //! Event files from a source, played on a new switch, and what it gives to a sink.
 ghost use Rattle.std.specs.Prelude.{◌≡◌, ◌⊎◌, ◌↔◌, ◌<◌, ◌≤◌, ◌+◌, IfOk, replicate};
 ghost use Rattle.of_replay.specs.Play.{Replays};
+ghost use Rattle.of_replay.specs.Tales.{Tells};
 ghost use Rattle.of_replay.specs.Ended.{status_of};
 ghost use Rattle.of_replay.specs.Stepping.{ended_so};
 
 use crate::halt::Halt;
 use crate::io::{Sink, Source};
+use crate::plain::Plain;
 use crate::replaying::Replaying;
+use crate::telling::Teller;
 use of_classifier::Lookup;
 use of_switch::Switch;
 use of_text::TextFault;
@@ -75,13 +78,18 @@ pub fn zeros(alloc: Global, len: usize) -> Result<Vec<u8>, AllocError>
     Ok(bytes)
 }
 
-/// Plays the rows of a source on a new switch without a connection, flows and ports, whose number is 1, and writes what it gives.
+/// Plays the rows of a source on a new switch without a connection, flows and ports, whose number is 1, and writes what is told of them.
 ///
 /// Rows are played as they are read. Of the file no more is kept than one read and the line that has begun, up to 1,048,577 bytes.
-pub fn replay<L: Lookup, S: Source, W: Sink>(alloc: Global, reader: &mut S, writer: &mut W) -> Ended
+pub fn tell_file<L: Lookup, T: Teller<L>, S: Source, W: Sink>(
+    alloc: Global,
+    teller: &T,
+    reader: &mut S,
+    writer: &mut W,
+) -> Ended
     requires reads { S.reads reader.old ≡ 0 }
     requires failures { W.failures writer.old ≡ 0 }
-    ensures output { Replays result (S.answers reader.old) (S.answers reader.new) (S.ends reader.old) (S.ends reader.new) (W.taken writer.old) (W.taken writer.new) }
+    ensures output { Tells T.tale result (S.answers reader.old) (S.answers reader.new) (S.ends reader.old) (S.ends reader.new) (W.taken writer.old) (W.taken writer.new) }
     ensures done { result ≡ Ended.Done → (S.failures reader.new ≡ S.failures reader.old) × (S.ends reader.new ≡ S.ends reader.old + 1) × (W.failures writer.new ≡ 0) }
     ensures reads { S.reads reader.new ≤ 1000000 }
     ensures once { S.failures reader.new ≤ S.failures reader.old + 1 }
@@ -96,5 +104,22 @@ pub fn replay<L: Lookup, S: Source, W: Sink>(alloc: Global, reader: &mut S, writ
         return Ended::NoMemory;
     };
     let mut replaying = Replaying::new(alloc, switch);
-    ended_by(replaying.play(reader, &mut buffer, writer))
+    ended_by(replaying.play(teller, reader, &mut buffer, writer))
+}
+
+/// Plays the rows of a source on a new switch without a connection, flows and ports, whose number is 1, and writes what it gives.
+///
+/// Rows are played as they are read. Of the file no more is kept than one read and the line that has begun, up to 1,048,577 bytes.
+pub fn replay<L: Lookup, S: Source, W: Sink>(alloc: Global, reader: &mut S, writer: &mut W) -> Ended
+    requires reads { S.reads reader.old ≡ 0 }
+    requires failures { W.failures writer.old ≡ 0 }
+    ensures output { Replays result (S.answers reader.old) (S.answers reader.new) (S.ends reader.old) (S.ends reader.new) (W.taken writer.old) (W.taken writer.new) }
+    ensures done { result ≡ Ended.Done → (S.failures reader.new ≡ S.failures reader.old) × (S.ends reader.new ≡ S.ends reader.old + 1) × (W.failures writer.new ≡ 0) }
+    ensures reads { S.reads reader.new ≤ 1000000 }
+    ensures once { S.failures reader.new ≤ S.failures reader.old + 1 }
+    ensures read_fault { result ≡ Ended.ReadFault → (S.failures reader.old < S.failures reader.new) ⊎ ((S.reads reader.new ≡ 1000000) × (S.ends reader.new ≡ S.ends reader.old)) }
+    ensures failed_read { S.failures reader.old < S.failures reader.new → (result ≡ Ended.ReadFault) ⊎ (result ≡ Ended.WriteFault) }
+    ensures write_fault { (result ≡ Ended.WriteFault) ↔ (0 < W.failures writer.new) }
+{
+    tell_file::<L, _, _, _>(alloc, &Plain, reader, writer)
 }

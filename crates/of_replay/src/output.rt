@@ -4,7 +4,7 @@ ghost use Rattle.hex.specs.Hex.{encode_lower};
 ghost use Rattle.of_replay.specs.Told.{then_bytes};
 ghost use Rattle.of_replay.specs.Transfer.{WroteFront};
 ghost use Rattle.of_replay.specs.Output.{line_of, refused_line, text_of};
-ghost use Rattle.of_replay.specs.Stepping.{OrMemory, PrintsReport};
+ghost use Rattle.of_replay.specs.Stepping.{PrintsReport};
 
 use crate::halt::Halt;
 use crate::io::Sink;
@@ -74,13 +74,25 @@ fn push_refusal(alloc: Global, out: &mut Vec<u8>, refusal: SwitchError) -> Resul
     Ok(())
 }
 
+/// Appends the report of a call. Where memory ran out there is none.
+pub fn push_report(
+    alloc: Global,
+    out: &mut Vec<u8>,
+    called: Result<Effects, SwitchError>,
+) -> Result<(), SwitchError>
+    ensures { PrintsReport called result out.old.items out.new.items }
+{
+    match called {
+        Ok(effects) => Ok(push_effects(alloc, out, &effects)?),
+        Err(SwitchError::NoMemory) => Err(SwitchError::NoMemory),
+        Err(refusal) => Ok(push_refusal(alloc, out, refusal)?),
+    }
+}
+
 /// What is printed and not written yet.
 #[derive(Drop)]
 pub struct Printer {
     out: Vec<u8>,
-    // what one call gave
-    text: Vec<u8>,
-    alloc: Global,
 }
 
 impl Model for Printer {
@@ -91,55 +103,21 @@ impl Model for Printer {
     ghost view = { λ p. p.out.items };
 }
 
-fn or_memory(printed: Result<(), AllocError>) -> Result<(), Halt>
-    ensures { OrMemory printed result }
-{
-    match printed {
-        Ok(()) => Ok(()),
-        Err(AllocError) => Err(Halt::Memory),
-    }
-}
-
 impl Printer {
     pub fn new(alloc: Global) -> Self
         ensures { result ≡ [] }
     {
         Printer {
             out: Vec::new(alloc),
-            text: Vec::new(alloc),
-            alloc,
         }
     }
 
-    /// Prints effects, all of them or nothing.
-    pub fn print_effects(&mut self, effects: &[Effect]) -> Result<(), AllocError>
-        ensures ok { OnOk result (self.new ≡ self.old ++ text_of effects.now) }
+    /// Prints a text, all of it or nothing.
+    pub fn print(&mut self, text: &[u8]) -> Result<(), AllocError>
+        ensures ok { OnOk result (self.new ≡ self.old ++ text.now) }
         ensures err { OnErr result (self.new ≡ self.old) }
     {
-        self.text.clear();
-        push_effects(self.alloc, &mut self.text, effects)?;
-        self.out.extend_from_slice(&self.text)
-    }
-
-    /// Prints that a call was refused, or nothing.
-    pub fn print_refusal(&mut self, refusal: SwitchError) -> Result<(), AllocError>
-        ensures ok { OnOk result (self.new ≡ self.old ++ refused_line refusal) }
-        ensures err { OnErr result (self.new ≡ self.old) }
-    {
-        self.text.clear();
-        push_refusal(self.alloc, &mut self.text, refusal)?;
-        self.out.extend_from_slice(&self.text)
-    }
-
-    /// Prints the report of a call; where memory ran out, nothing.
-    pub fn print_report(&mut self, called: Result<Effects, SwitchError>) -> Result<(), Halt>
-        ensures { PrintsReport called result self.old self.new }
-    {
-        match called {
-            Ok(effects) => or_memory(self.print_effects(&effects)),
-            Err(SwitchError::NoMemory) => Err(Halt::Memory),
-            Err(refusal) => or_memory(self.print_refusal(refusal)),
-        }
+        self.out.extend_from_slice(text)
     }
 
     /// Whether there is a part that is large enough to be written.

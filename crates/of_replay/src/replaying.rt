@@ -1,16 +1,16 @@
-//! Rows as they are read, played on a switch, and what it gives printed.
+//! Rows as they are read, played on a switch, and what is told of them.
 ghost use Rattle.std.specs.Prelude.{◌≡◌, ◌+◌, ◌<◌, ◌≤◌, ◌^◌, ◌++◌, ℕ, List, [], Option, IfErr, OnOk, length, take, drop, position, ◌==◌};
 ghost use Rattle.of_switch.specs.State.{start};
 ghost use Rattle.of_replay.specs.Rows.{row_of};
-ghost use Rattle.of_replay.specs.Play.{Replays};
+ghost use Rattle.of_replay.specs.Tales.{Tells};
 ghost use Rattle.of_replay.specs.Stepping.{LineTells, LineGoes, Within, PieceGoes, PlayedAll, PlaysRead, WritesFail, ReadsFail, ended_so};
 
 use crate::halt::Halt;
 use crate::io::{Reading, Sink, Source};
 use crate::open_line::OpenLine;
 use crate::output::Printer;
-use crate::play::play_row;
 use crate::rows::read_row;
+use crate::telling::Teller;
 use of_classifier::Lookup;
 use of_switch::Switch;
 use std::alloc::{AllocError, Global};
@@ -27,6 +27,8 @@ pub struct Replaying<L: Lookup> {
     // the bytes of a row
     bytes: Vec<u8>,
     switch: Switch<L>,
+    // what is told of a row
+    text: Vec<u8>,
     printer: Printer,
     alloc: Global,
 }
@@ -61,6 +63,7 @@ impl<L: Lookup> Replaying<L> {
             number: 1,
             bytes: Vec::new(alloc),
             switch,
+            text: Vec::new(alloc),
             printer: Printer::new(alloc),
             alloc,
         }
@@ -73,9 +76,9 @@ impl<L: Lookup> Replaying<L> {
         self.switch
     }
 
-    // Plays the open line, and prints what it gives.
-    fn tell(&mut self) -> Result<(), Halt>
-        ensures tells { LineTells result self.old.number (row_of self.old.open) self.old.switch self.new.switch self.old.printer self.new.printer }
+    // Plays the open line, and prints what is told of it.
+    fn tell<T: Teller<L>>(&mut self, teller: &T) -> Result<(), Halt>
+        ensures tells { LineTells T.tale result self.old.number self.old.open (row_of self.old.open) self.old.switch self.new.switch self.old.printer self.new.printer }
         ensures number { self.new.number ≡ self.old.number }
     {
         let row = match read_row(self.open.bytes(), &mut self.bytes) {
@@ -83,20 +86,34 @@ impl<L: Lookup> Replaying<L> {
             Ok(None) => return Err(Halt::Bad(self.number)),
             Err(AllocError) => return Err(Halt::Memory),
         };
-        let called = play_row(self.alloc, &mut self.switch, row, &self.bytes);
-        self.printer.print_report(called)
+        self.text.clear();
+        let told = teller.tell(
+            self.alloc,
+            &mut self.switch,
+            self.open.bytes(),
+            row,
+            &self.bytes,
+            &mut self.text,
+        );
+        if told.is_err() {
+            return Err(Halt::Memory);
+        }
+        match self.printer.print(&self.text) {
+            Ok(()) => Ok(()),
+            Err(AllocError) => Err(Halt::Memory),
+        }
     }
 
     // Plays the open line, and begins another.
-    fn line<W: Sink>(&mut self, writer: &mut W) -> Result<(), Halt>
+    fn line<T: Teller<L>, W: Sink>(&mut self, teller: &T, writer: &mut W) -> Result<(), Halt>
         requires few { self.old.number < 2 ^ 63 }
         requires well { W.failures writer.old ≡ 0 }
-        ensures goes { LineGoes result self.old.number (row_of self.old.open) self.old.switch self.new.switch self.old.printer self.new.printer (W.taken writer.old) (W.taken writer.new) }
+        ensures goes { LineGoes T.tale result self.old.number self.old.open (row_of self.old.open) self.old.switch self.new.switch self.old.printer self.new.printer (W.taken writer.old) (W.taken writer.new) }
         ensures open { OnOk result (self.new.open ≡ []) }
         ensures number { OnOk result (self.new.number ≡ self.old.number + 1) }
         ensures writes { WritesFail result (W.failures writer.new) }
     {
-        self.tell()?;
+        self.tell(teller)?;
         if self.printer.has_part() {
             self.printer.flush(writer)?;
         }
@@ -118,11 +135,16 @@ impl<L: Lookup> Replaying<L> {
     }
 
     // Bytes come: plays the lines that they end.
-    fn piece<W: Sink>(&mut self, piece: &[u8], writer: &mut W) -> Result<(), Halt>
+    fn piece<T: Teller<L>, W: Sink>(
+        &mut self,
+        teller: &T,
+        piece: &[u8],
+        writer: &mut W,
+    ) -> Result<(), Halt>
         requires few { self.old.number + length piece.now < 2 ^ 63 }
         requires well { W.failures writer.old ≡ 0 }
-        ensures goes { (bytes : List ℕ) (first : Option (List ℕ)) → Within bytes [] self.old.open self.old.number self.old.switch self.old.printer first (W.taken writer.old)
-            → PieceGoes result (bytes ++ piece.now) self.new.open self.new.number self.new.switch self.new.printer first (W.taken writer.new) }
+        ensures goes { (bytes : List ℕ) (first : Option (List ℕ)) → Within T.tale bytes [] self.old.open self.old.number self.old.switch self.old.printer first (W.taken writer.old)
+            → PieceGoes T.tale result (bytes ++ piece.now) self.new.open self.new.number self.new.switch self.new.printer first (W.taken writer.new) }
         ensures number { OnOk result (self.new.number ≤ self.old.number + length piece.now) }
         ensures writes { WritesFail result (W.failures writer.new) }
     {
@@ -133,14 +155,15 @@ impl<L: Lookup> Replaying<L> {
                 return self.keep(rest);
             };
             self.keep(front_of(rest, len))?;
-            self.line(writer)?;
+            self.line(teller, writer)?;
             at += len + 1;
         }
     }
 
-    // Plays the lines of a source as they are read. What they print last is still to be written.
-    fn read<S: Source, W: Sink>(
+    // Plays the lines of a source as they are read. What is told last is still to be written.
+    fn read<T: Teller<L>, S: Source, W: Sink>(
         &mut self,
+        teller: &T,
         reader: &mut S,
         buffer: &mut [u8],
         writer: &mut W,
@@ -150,25 +173,26 @@ impl<L: Lookup> Replaying<L> {
         requires well { W.failures writer.old ≡ 0 }
         requires start { (self.old.open ≡ []) × (self.old.number ≡ 1) × (self.old.switch ≡ start 1) × (self.old.printer ≡ []) }
         ensures played { OnOk result (PlayedAll (S.answers reader.old) (S.answers reader.new) self.new.switch) }
-        ensures plays { PlaysRead result (S.answers reader.old) (S.answers reader.new) (S.ends reader.old) (S.ends reader.new) self.new.printer (W.taken writer.old) (W.taken writer.new) }
+        ensures plays { PlaysRead T.tale result (S.answers reader.old) (S.answers reader.new) (S.ends reader.old) (S.ends reader.new) self.new.printer (W.taken writer.old) (W.taken writer.new) }
         ensures reads { ReadsFail result (S.reads reader.new) (S.ends reader.old) (S.ends reader.new) (S.failures reader.old) (S.failures reader.new) }
         ensures few { S.reads reader.new ≤ 1000000 }
         ensures writes { WritesFail result (W.failures writer.new) }
     {
         for _ in 0..MOST_READS {
             match reader.read(buffer) {
-                Reading::Bytes(n) => self.piece(front_of(buffer, n), writer)?,
+                Reading::Bytes(n) => self.piece(teller, front_of(buffer, n), writer)?,
                 Reading::Nothing => {}
-                Reading::End => return self.line(writer),
+                Reading::End => return self.line(teller, writer),
                 Reading::Fault => return Err(Halt::Read),
             }
         }
         Err(Halt::Read)
     }
 
-    /// Plays the lines of a source as they are read, and writes what they print.
-    pub fn play<S: Source, W: Sink>(
+    /// Plays the lines of a source as they are read, and writes what is told of them.
+    pub fn play<T: Teller<L>, S: Source, W: Sink>(
         &mut self,
+        teller: &T,
         reader: &mut S,
         buffer: &mut [u8],
         writer: &mut W,
@@ -178,12 +202,12 @@ impl<L: Lookup> Replaying<L> {
         requires well { W.failures writer.old ≡ 0 }
         requires start { (self.old.open ≡ []) × (self.old.number ≡ 1) × (self.old.switch ≡ start 1) × (self.old.printer ≡ []) }
         ensures played { OnOk result (PlayedAll (S.answers reader.old) (S.answers reader.new) self.new.switch) }
-        ensures plays { Replays (ended_so result) (S.answers reader.old) (S.answers reader.new) (S.ends reader.old) (S.ends reader.new) (W.taken writer.old) (W.taken writer.new) }
+        ensures plays { Tells T.tale (ended_so result) (S.answers reader.old) (S.answers reader.new) (S.ends reader.old) (S.ends reader.new) (W.taken writer.old) (W.taken writer.new) }
         ensures reads { ReadsFail result (S.reads reader.new) (S.ends reader.old) (S.ends reader.new) (S.failures reader.old) (S.failures reader.new) }
         ensures few { S.reads reader.new ≤ 1000000 }
         ensures writes { WritesFail result (W.failures writer.new) }
     {
-        let played = self.read(reader, buffer, writer);
+        let played = self.read(teller, reader, buffer, writer);
         if let Err(Halt::Write) = played {
             return played;
         }

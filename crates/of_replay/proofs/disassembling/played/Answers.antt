@@ -1,6 +1,7 @@
 use Rattle.std.proofs.Common.{refl}
-use Rattle.of_replay.proofs.FileLemmas.{faults_nothing, faults_done}
-use Rattle.of_replay.proofs.DisLemmas.{played_nothing, played_all, played_not, faults_unplayed}
+use Rattle.of_replay.proofs.FileLemmas.{faults_nothing}
+use Rattle.of_replay.proofs.DisLemmas.{played_nothing, played_not, faults_unplayed}
+use Rattle.of_replay.specs.Tales.{plain}
 use Rattle.of_replay.proofs.disassembling.played.Goals as goal
 
 pub returns-in_default-clause-played : goal.returns-in_default-clause-played
@@ -10,7 +11,7 @@ pub returns-in_default-clause-faults : goal.returns-in_default-clause-faults
 returns-in_default-clause-faults g c = faults_nothing (g.S.Source.reads c.args.reader.now) (g.S.Source.ends c.args.reader.now) (g.S.Source.failures c.args.reader.now) 0 refl
 
 pub returns-clause-played : goal.returns-clause-played
-returns-clause-played g c = rw c.ended_by.ensures (played_not c.in-Err.halt (g.S.Source.answers c.args.reader.now) (g.S.Source.answers c.play.new.reader) (g.S.Source.ends c.args.reader.now) (g.S.Source.ends c.play.new.reader) _ _ c.in-Err.ensures.plays c.in-Err.ensures.writes)
+returns-clause-played g c = rw c.ended_by.ensures (played_not plain c.in-Err.halt (g.S.Source.answers c.args.reader.now) (g.S.Source.answers c.play.new.reader) (g.S.Source.ends c.args.reader.now) (g.S.Source.ends c.play.new.reader) _ _ c.in-Err.ensures.plays c.in-Err.ensures.writes)
 
 pub returns-clause-faults : goal.returns-clause-faults
 returns-clause-faults g c = rw c.ended_by.ensures (faults_unplayed c.in-Err.halt (g.S.Source.reads c.play.new.reader) (g.S.Source.ends c.args.reader.now) (g.S.Source.ends c.play.new.reader) (g.S.Source.failures c.args.reader.now) (g.S.Source.failures c.play.new.reader) c.in-Err.ensures.reads c.in-Err.ensures.writes)

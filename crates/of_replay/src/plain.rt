@@ -1,0 +1,31 @@
+//! What `replay` prints of a row: what the switch gives.
+ghost use Rattle.of_replay.specs.Tales.{plain};
+
+use crate::output::push_report;
+use crate::play::play_row;
+use crate::rows::Row;
+use crate::telling::Teller;
+use of_classifier::Lookup;
+use of_switch::{Switch, SwitchError};
+use std::alloc::Global;
+
+/// Tells of a row the lines of what it gives.
+#[derive(Drop)]
+pub struct Plain;
+
+impl<L: Lookup> Teller<L> for Plain {
+    ghost tale = { plain };
+
+    fn tell(
+        &self,
+        alloc: Global,
+        switch: &mut Switch<L>,
+        _line: &[u8],
+        row: Row,
+        bytes: &[u8],
+        out: &mut Vec<u8>,
+    ) -> Result<(), SwitchError> {
+        let called = play_row(alloc, switch, row, bytes);
+        push_report(alloc, out, called)
+    }
+}

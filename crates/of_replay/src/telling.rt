@@ -1,0 +1,33 @@
+//! What is told of the rows of a file.
+ghost use Rattle.std.specs.Prelude.{◌≡◌, ◌++◌, ℕ, List, IfErr, OnOk};
+ghost use Rattle.of_switch.specs.State.{State};
+ghost use Rattle.of_switch.specs.declared.switch_error.SwitchError.TheVariants.{NoMemory};
+ghost use Rattle.of_replay.specs.Rows.{EventRow, with_bytes};
+ghost use Rattle.of_replay.specs.Tales.{row_happened};
+
+use crate::rows::Row;
+use of_classifier::Lookup;
+use of_switch::{Switch, SwitchError};
+use std::alloc::Global;
+
+/// Who tells what rows do, one after the other.
+pub trait Teller<L: Lookup> {
+    /// What is told of a row that happens to a switch in this state, by its line and itself.
+    ghost tale: { State → List ℕ → EventRow → List ℕ };
+
+    /// Plays a row, whose bytes stand beside it, and appends what is told of it.
+    ///
+    /// It fails where memory runs out, and else never. Then some of that may stand there.
+    fn tell(
+        &self,
+        alloc: Global,
+        switch: &mut Switch<L>,
+        line: &[u8],
+        row: Row,
+        bytes: &[u8],
+        out: &mut Vec<u8>,
+    ) -> Result<(), SwitchError>
+        ensures text { OnOk result (out.new.items ≡ out.old.items ++ tale switch.old line.now (with_bytes bytes.now row)) }
+        ensures switch { OnOk result (switch.new ≡ (row_happened switch.old (with_bytes bytes.now row)).state) }
+        ensures err { IfErr result (λ e. e ≡ NoMemory) };
+}
