@@ -1,6 +1,7 @@
 -- AN EVENT FILE EXPLAINED: its lines, and below each of them, behind four spaces, what it did in words.
-use Rattle.std.specs.Prelude.{ℕ, List, [], ◌∷◌, ◌++◌, length, codes, decimal, Option, Some, None, if◌then◌else◌}
+use Rattle.std.specs.Prelude.{◌≡◌, ◌≢◌, ℕ, List, [], ◌∷◌, ◌++◌, codes, Option, Some, None, Result, Ok, Err, if◌then◌else◌}
 use Rattle.std.specs.List.{flat_map}
+use Rattle.smallvec.specs.SmallVec.{SmallVec}
 use Rattle.of_headers.specs.declared.headers.FrameFault.{FrameFault}
 use Rattle.of_headers.specs.Faults.{frame_fault}
 use Rattle.of_ports.specs.declared.port.Port.{Port}
@@ -17,13 +18,8 @@ use Rattle.of_switch.specs.State.{State}
 use Rattle.of_switch.specs.Runs.{Report, Gives, IsRefused}
 use Rattle.of_replay.specs.Rows.{EventRow, Passed, Connect, Lost, Piece, Frame, Moment, Ports}
 use Rattle.of_replay.specs.Tales.{Tale, row_happened}
+use Rattle.of_explain.specs.Notes.{ended, note, number_note, port_and_size, with_number}
 use Rattle.of_explain.specs.Messages.{message_words}
-
-abbrev pub ended : List ℕ → List ℕ
-ended line = line ++ 10 ∷ []
-
-abbrev pub note : List ℕ → List ℕ
-note words = codes "    " ++ ended words
 
 -- a line as it stands in the file; an empty one is left out
 abbrev pub echoed : List ℕ → List ℕ
@@ -34,7 +30,7 @@ echoed (b ∷ bs) = ended (b ∷ bs)
 
 abbrev pub effect_words : Effect → List ℕ
 effect_words (Answer bytes) = codes "to the controller: " ++ message_words bytes
-effect_words (Sent port frame) = codes "sent out of port" ++ 32 ∷ decimal port ++ codes "," ++ 32 ∷ decimal (length frame) ++ codes " bytes"
+effect_words (Sent port frame) = port_and_size (codes "sent out of port") port frame
 effect_words Closed = codes "the switch ends the connection"
 
 abbrev pub effect_notes : List Effect → List ℕ
@@ -55,8 +51,8 @@ refusal_words refusals.BadPortNumber = codes "refused: a port's number is 1 to 4
 
 -- where it is looked up, and where its way ends
 abbrev pub step_notes : Step → List ℕ
-step_notes (Miss table) = note (codes "table" ++ 32 ∷ decimal table ++ codes ": no entry matches, and the packet is dropped")
-step_notes (Entry table place) = note (codes "table" ++ 32 ∷ decimal table ++ codes ": entry" ++ 32 ∷ decimal place)
+step_notes (Miss table) = number_note (codes "table") table (codes ": no entry matches, and the packet is dropped")
+step_notes (Entry table place) = number_note (codes "table") table (with_number (codes ": entry") place)
 step_notes Apply = []
 step_notes Clear = []
 step_notes Write = []
@@ -74,13 +70,17 @@ length_notes (Some fault) = note (codes "dropped: a frame has 14 to 9216 bytes")
 abbrev pub not_received : Port → List ℕ
 not_received p = if is_live p then codes " may not receive" else codes " is down"
 
+-- at a port that is there
+abbrev pub port_notes : ℕ → List ℕ → Port → List ℕ
+port_notes number bytes p =
+    if may_receive p
+    then note (port_and_size (codes "in by port") number bytes) ++ length_notes (frame_fault bytes)
+    else number_note (codes "dropped: port") number (not_received p)
+
 -- by which port it comes in, or why it does not
 abbrev pub arrival_notes : ℕ → List ℕ → Option Port → List ℕ
-arrival_notes number bytes None = note (codes "dropped: there is no port" ++ 32 ∷ decimal number)
-arrival_notes number bytes (Some p) =
-    if may_receive p
-    then note (codes "in by port" ++ 32 ∷ decimal number ++ codes "," ++ 32 ∷ decimal (length bytes) ++ codes " bytes") ++ length_notes (frame_fault bytes)
-    else note (codes "dropped: port" ++ 32 ∷ decimal number ++ not_received p)
+arrival_notes number bytes None = number_note (codes "dropped: there is no port") number []
+arrival_notes number bytes (Some p) = port_notes number bytes p
 
 abbrev pub way_notes : ℕ → List ℕ → Forwarding → List ℕ
 way_notes number bytes f = arrival_notes number bytes (port_at f.ports number) ++ flat_map step_notes (steps_in number bytes f)
@@ -111,11 +111,19 @@ end_notes (Frame port bytes) effects = nothing_leaves effects
 end_notes (Moment nanos) effects = []
 end_notes (Ports change) effects = []
 
--- THE NOTES BELOW A ROW: of an event that happens, what it does and a note for each of its effects; of one that is refused, why
-abbrev pub report_notes : State → EventRow → Report → List ℕ
-report_notes s row (Gives effects) = row_notes s row ++ (effect_notes effects ++ end_notes row effects)
-report_notes s row (IsRefused refusal) = note (refusal_words refusal)
+-- THE NOTES BELOW A ROW: of an event that happens, what it does, a note for each of its effects, and how that ends; of one that is refused, why
+abbrev pub report_notes : List ℕ → EventRow → Report → List ℕ
+report_notes before row (Gives effects) = before ++ (effect_notes effects ++ end_notes row effects)
+report_notes before row (IsRefused refusal) = note (refusal_words refusal)
 
 -- THE TALE: the line, and the notes of the very report that `replay` prints
 abbrev pub explained : Tale
-explained s line row = echoed line ++ report_notes s row (row_happened s row).report
+explained s line row = echoed line ++ report_notes (row_notes s row) row (row_happened s row).report
+
+-- ---- for contracts inside this crate
+
+-- the notes of a call's report stand there, or memory ran out
+abbrev pub TellsReport : Result (SmallVec Effect) SwitchError → Result (Unit {0}) SwitchError → List ℕ → EventRow → List ℕ → List ℕ → Type 0
+TellsReport (Ok es) (Ok u) before row out out' = out' ≡ out ++ report_notes before row (Gives es.items)
+TellsReport (Err e) (Ok u) before row out out' = (e ≢ refusals.NoMemory) × (out' ≡ out ++ report_notes before row (IsRefused e))
+TellsReport called (Err e) before row out out' = e ≡ refusals.NoMemory
