@@ -20,9 +20,11 @@ const EVENT_FILES: &str = "An event file has one event a line, and words are sep
 
 Printed are the messages to the controller (`a HEX`), the frames that leave (`s PORT HEX`), `closed` where the switch
 ends the connection, and `refused N` where an event has no place: 3 no connection, 4 connected already, 5 the port is
-there, 6 it is not, 7 too many ports, 8 bad port number.
+there, 6 it is not, 7 too many ports, 8 bad port number. With --explain the rows are printed instead, and below each of
+them what it did, in words: answers by name with their fields, errors by the names of the standard, the ways of frames.
 
-  ofswitch replay examples/first-path.events";
+  ofswitch replay examples/first-path.events
+  ofswitch replay --explain examples/first-path.events";
 
 const FLOW_TEXT: &str =
     "Flow text has groups and then flows, each in some lines, and words are separated by one space:
@@ -100,10 +102,15 @@ fn replay_command<'a>(alloc: Global) -> Result<Command<'a>, AllocError> {
     let file = Arg::new(alloc, "FILE")
         .required(true)
         .help("The event file to run; - is standard input");
+    let explain = Arg::new(alloc, "explain")
+        .long("explain")
+        .action(ArgAction::SetTrue)
+        .help("Prints each row, and below it in words what it did");
     Command::new(alloc, "replay")
         .about("Runs an event file on a new switch and prints what it gives")
         .after_help(EVENT_FILES)
-        .arg(file)
+        .arg(file)?
+        .arg(explain)
 }
 
 // The subcommand that makes an event file of a flow text.

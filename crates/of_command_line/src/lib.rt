@@ -32,6 +32,8 @@ pub enum Request {
     /// To run an event file on a new switch and print what it gives; `-` is standard input.
     Replay {
         file: String,
+        /// Whether its rows are printed too, with what they did in words.
+        explain: bool,
     },
     /// To print an event file that builds the flow tables of a flow text; `-` is standard input.
     Assemble {
@@ -118,6 +120,7 @@ fn request_of(alloc: Global, matches: &ArgMatches<'_>) -> Result<Request, NoRequ
     let Some((name, matches)) = matches.subcommand() else {
         return Ok(Request::Replay {
             file: "-".to_string(alloc)?,
+            explain: false,
         });
     };
     if name == "serve" {
@@ -134,7 +137,10 @@ fn request_of(alloc: Global, matches: &ArgMatches<'_>) -> Result<Request, NoRequ
             explain: matches.get_flag("explain"),
             why: why_of(alloc, matches.get_str("why"))?,
         }),
-        _ => Ok(Request::Replay { file }),
+        _ => Ok(Request::Replay {
+            file,
+            explain: matches.get_flag("explain"),
+        }),
     }
 }
 

@@ -7,6 +7,7 @@ mod sockets;
 
 use hinting::say_hint;
 use of_command_line::{Asked, NoRequest, Request, Serve, read_request};
+use of_explain::explain;
 use of_mask_groups::MaskGroups;
 use of_replay::streams::{ReaderSource, WriterSink};
 use of_replay::{Ended, asm, dis, replay, status};
@@ -57,7 +58,7 @@ fn tell(rt: &HostRuntime, why: &NoRequest) -> ExitCode {
 
 fn carry_out(rt: &HostRuntime, request: &Request) -> ExitCode {
     match request {
-        Request::Replay { file }
+        Request::Replay { file, .. }
         | Request::Assemble { file }
         | Request::Disassemble { file }
         | Request::Trace { file, .. } => run_file(rt, request, file.as_str()),
@@ -117,6 +118,9 @@ fn run<R: Read + Drop>(rt: &HostRuntime, request: &Request, reader: R) -> Ended 
     let mut reader = ReaderSource::new(reader);
     let mut writer = WriterSink::new(rt.stdout());
     match request {
+        Request::Replay { explain: true, .. } => {
+            explain::<MaskGroups, _, _>(rt.alloc(), &mut reader, &mut writer)
+        }
         Request::Replay { .. } => {
             replay::<MaskGroups, _, _>(rt.alloc(), &mut reader, &mut writer)
         }

@@ -1,0 +1,129 @@
+-- AN EVENT FILE EXPLAINED: its lines, and below each of them, behind four spaces, what it did in words.
+use Rattle.std.specs.Prelude.{◌≡◌, ◌≢◌, ℕ, List, [], ◌∷◌, ◌++◌, codes, Option, Some, None, Result, Ok, Err, if◌then◌else◌}
+use Rattle.std.specs.List.{flat_map}
+use Rattle.smallvec.specs.SmallVec.{SmallVec}
+use Rattle.of_headers.specs.declared.headers.FrameFault.{FrameFault}
+use Rattle.of_headers.specs.Faults.{frame_fault}
+use Rattle.of_ports.specs.declared.port.Port.{Port}
+use Rattle.of_ports.specs.Ports.{is_live, may_receive, port_at}
+use Rattle.of_machine.specs.declared.data.Step.{Step}
+use Rattle.of_machine.specs.declared.data.Step.TheVariants.{Miss, Entry, Apply, Clear, Write, Metadata, Goto, Set, Act, TtlExpired, End}
+use Rattle.of_switch.specs.declared.effect.Effect.{Effect}
+use Rattle.of_switch.specs.declared.effect.Effect.TheVariants.{Answer, Sent, Closed}
+use Rattle.of_switch.specs.declared.switch_error.SwitchError.{SwitchError}
+use Rattle.of_switch.specs.declared.switch_error.SwitchError.TheVariants as refusals
+use Rattle.of_switch.specs.DryRun.{steps_in}
+use Rattle.of_switch.specs.Plane.{Forwarding}
+use Rattle.of_switch.specs.State.{State}
+use Rattle.of_switch.specs.Runs.{Report, Gives, IsRefused}
+use Rattle.of_replay.specs.Rows.{EventRow, Passed, Connect, Lost, Piece, Frame, Moment, Ports}
+use Rattle.of_replay.specs.Tales.{Tale, row_happened}
+use Rattle.of_explain.specs.Notes.{ended, note, number_note, port_and_size, with_number}
+use Rattle.of_explain.specs.Messages.{message_words}
+
+-- a line as it stands in the file; an empty one is left out
+abbrev pub echoed : List ℕ → List ℕ
+echoed [] = []
+echoed (b ∷ bs) = ended (b ∷ bs)
+
+-- ---- what the switch gives: a note for each effect
+
+abbrev pub effect_words : Effect → List ℕ
+effect_words (Answer bytes) = codes "to the controller: " ++ message_words bytes
+effect_words (Sent port frame) = port_and_size (codes "sent out of port") port frame
+effect_words Closed = codes "the switch ends the connection"
+
+abbrev pub effect_notes : List Effect → List ℕ
+effect_notes effects = flat_map (λ e. note (effect_words e)) effects
+
+-- ---- why an event is refused
+
+abbrev pub refusal_words : SwitchError → List ℕ
+refusal_words refusals.NoMemory = codes "refused: no memory"
+refusal_words refusals.NotConnected = codes "refused: there is no connection"
+refusal_words refusals.Connected = codes "refused: there is a connection already"
+refusal_words refusals.PortExists = codes "refused: a port of that number is there already"
+refusal_words refusals.NoSuchPort = codes "refused: there is no port of that number"
+refusal_words refusals.TooManyPorts = codes "refused: there are 64 ports already"
+refusal_words refusals.BadPortNumber = codes "refused: a port's number is 1 to 4294967040"
+
+-- ---- the way of a frame, on the switch before it
+
+-- where it is looked up, and where its way ends
+abbrev pub step_notes : Step → List ℕ
+step_notes (Miss table) = number_note (codes "table") table (codes ": no entry matches, and the packet is dropped")
+step_notes (Entry table place) = number_note (codes "table") table (with_number (codes ": entry") place)
+step_notes Apply = []
+step_notes Clear = []
+step_notes Write = []
+step_notes (Metadata value mask) = []
+step_notes (Goto table) = []
+step_notes Set = []
+step_notes (Act action) = []
+step_notes TtlExpired = note (codes "its time to live is over, and the packet is dropped")
+step_notes End = []
+
+abbrev pub length_notes : Option FrameFault → List ℕ
+length_notes None = []
+length_notes (Some fault) = note (codes "dropped: a frame has 14 to 9216 bytes")
+
+abbrev pub not_received : Port → List ℕ
+not_received p = if is_live p then codes " may not receive" else codes " is down"
+
+-- at a port that is there
+abbrev pub port_notes : ℕ → List ℕ → Port → List ℕ
+port_notes number bytes p =
+    if may_receive p
+    then note (port_and_size (codes "in by port") number bytes) ++ length_notes (frame_fault bytes)
+    else number_note (codes "dropped: port") number (not_received p)
+
+-- by which port it comes in, or why it does not
+abbrev pub arrival_notes : ℕ → List ℕ → Option Port → List ℕ
+arrival_notes number bytes None = number_note (codes "dropped: there is no port") number []
+arrival_notes number bytes (Some p) = port_notes number bytes p
+
+abbrev pub way_notes : ℕ → List ℕ → Forwarding → List ℕ
+way_notes number bytes f = arrival_notes number bytes (port_at f.ports number) ++ flat_map step_notes (steps_in number bytes f)
+
+abbrev pub nothing_leaves : List Effect → List ℕ
+nothing_leaves [] = note (codes "nothing leaves")
+nothing_leaves (e ∷ es) = []
+
+-- ---- a row
+
+-- what it does on the switch before it
+abbrev pub row_notes : State → EventRow → List ℕ
+row_notes s Passed = []
+row_notes s Connect = []
+row_notes s Lost = []
+row_notes s (Piece bytes) = []
+row_notes s (Frame port bytes) = way_notes port bytes s.core.forwarding
+row_notes s (Moment nanos) = []
+row_notes s (Ports change) = []
+
+-- what a frame does that leaves nothing behind
+abbrev pub end_notes : EventRow → List Effect → List ℕ
+end_notes Passed effects = []
+end_notes Connect effects = []
+end_notes Lost effects = []
+end_notes (Piece bytes) effects = []
+end_notes (Frame port bytes) effects = nothing_leaves effects
+end_notes (Moment nanos) effects = []
+end_notes (Ports change) effects = []
+
+-- THE NOTES BELOW A ROW: of an event that happens, what it does, a note for each of its effects, and how that ends; of one that is refused, why
+abbrev pub report_notes : List ℕ → EventRow → Report → List ℕ
+report_notes before row (Gives effects) = before ++ (effect_notes effects ++ end_notes row effects)
+report_notes before row (IsRefused refusal) = note (refusal_words refusal)
+
+-- THE TALE: the line, and the notes of the very report that `replay` prints
+abbrev pub explained : Tale
+explained s line row = echoed line ++ report_notes (row_notes s row) row (row_happened s row).report
+
+-- ---- for contracts inside this crate
+
+-- the notes of a call's report stand there, or memory ran out
+abbrev pub TellsReport : Result (SmallVec Effect) SwitchError → Result (Unit {0}) SwitchError → List ℕ → EventRow → List ℕ → List ℕ → Type 0
+TellsReport (Ok es) (Ok u) before row out out' = out' ≡ out ++ report_notes before row (Gives es.items)
+TellsReport (Err e) (Ok u) before row out out' = (e ≢ refusals.NoMemory) × (out' ≡ out ++ report_notes before row (IsRefused e))
+TellsReport called (Err e) before row out out' = e ≡ refusals.NoMemory

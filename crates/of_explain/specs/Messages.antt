@@ -1,0 +1,114 @@
+-- A MESSAGE IN WORDS: its name, its transaction id, what its kind says besides, and how many bytes it has. The words are read from the bytes.
+use Rattle.std.specs.Prelude.{ℕ, ◌+◌, ◌==◌, nat_le, List, [], ◌∷◌, ◌++◌, length, take, drop, codes, decimal, Option, Some, None, if◌then◌else◌}
+use Rattle.byteorder.specs.Endian.{big_number}
+use Rattle.hex.specs.Hex.{encode_lower}
+use Rattle.of_wire.specs.CodeNames.{name_of}
+use Rattle.of_explain.specs.declared.names.Names.{Names}
+use Rattle.of_explain.specs.declared.names.Names.TheVariants.{Types, ErrorTypes, PacketInReasons, FlowRemovedReasons, PortStatusReasons, FlowCommands, GroupCommands, Multiparts, Roles}
+use Rattle.of_explain.specs.Names.{named, name_in}
+use Rattle.of_explain.specs.Notes.{size_words}
+
+-- A FIELD: a number of so many bytes at a place; None where the message ends before it
+abbrev pub number_at : ℕ → ℕ → List ℕ → Option ℕ
+number_at at size m = if nat_le (at + size) (length m) then Some (big_number size (drop at m)) else None
+
+-- a word, and the number in decimal
+abbrev pub and_number : List ℕ → Option ℕ → List ℕ
+and_number word None = []
+and_number word (Some n) = word ++ 32 ∷ decimal n
+
+unfoldable pub number_field : List ℕ → ℕ → ℕ → List ℕ → List ℕ
+number_field word at size m = and_number word (number_at at size m)
+
+-- a word, and the number by its name
+abbrev pub and_name : List ℕ → Names → Option ℕ → List ℕ
+and_name word names None = []
+and_name word names (Some n) = word ++ 32 ∷ name_in names n
+
+unfoldable pub name_field : List ℕ → Names → ℕ → ℕ → List ℕ → List ℕ
+name_field word names at size m = and_name word names (number_at at size m)
+
+-- a word, and the eight bytes in hex digits
+unfoldable pub hex_field : List ℕ → ℕ → List ℕ → List ℕ
+hex_field word at m = if nat_le (at + 8) (length m) then word ++ codes " 0x" ++ encode_lower (take 8 (drop at m)) else []
+
+-- THE FIELDS OF EACH KIND
+
+-- the names of the type and the code, and the type of the message that is refused, where its first bytes are there (7.4.4)
+unfoldable pub and_code : Option ℕ → Option ℕ → List ℕ
+and_code None code = []
+and_code (Some kind) None = []
+and_code (Some kind) (Some code) = 32 ∷ name_in ErrorTypes kind ++ 32 ∷ named (name_of kind code) code
+
+unfoldable pub error_fields : List ℕ → List ℕ
+error_fields m = and_code (number_at 8 2 m) (number_at 10 2 m) ++ name_field (codes " for") Types 13 1 m
+
+-- 7.4.1
+unfoldable pub packet_in_fields : List ℕ → List ℕ
+packet_in_fields m = name_field (codes " reason") PacketInReasons 14 1 m ++ number_field (codes " table") 15 1 m ++ hex_field (codes " cookie") 16 m ++ number_field (codes " frame of") 12 2 m
+
+-- 7.4.2
+
+-- which entry it was, and why it went
+unfoldable pub removed_entry : List ℕ → List ℕ
+removed_entry m = name_field (codes " reason") FlowRemovedReasons 18 1 m ++ number_field (codes " table") 19 1 m ++ number_field (codes " priority") 16 2 m ++ hex_field (codes " cookie") 8 m
+
+-- how long it stood, and what it counted
+unfoldable pub removed_counts : List ℕ → List ℕ
+removed_counts m = number_field (codes " seconds") 20 4 m ++ number_field (codes " packets") 32 8 m ++ number_field (codes " bytes") 40 8 m
+
+unfoldable pub flow_removed_fields : List ℕ → List ℕ
+flow_removed_fields m = removed_entry m ++ removed_counts m
+
+-- the configuration and the state are sums of bits (7.2.1 and 7.4.3)
+unfoldable pub port_status_fields : List ℕ → List ℕ
+port_status_fields m = name_field (codes " reason") PortStatusReasons 8 1 m ++ number_field (codes " port") 16 4 m ++ number_field (codes " config") 48 4 m ++ number_field (codes " state") 52 4 m
+
+-- 7.3.4.1
+
+unfoldable pub commanded_entry : List ℕ → List ℕ
+commanded_entry m = name_field [] FlowCommands 25 1 m ++ number_field (codes " table") 24 1 m ++ number_field (codes " priority") 30 2 m ++ hex_field (codes " cookie") 8 m
+
+unfoldable pub commanded_times : List ℕ → List ℕ
+commanded_times m = number_field (codes " idle") 26 2 m ++ number_field (codes " hard") 28 2 m ++ number_field (codes " flags") 44 2 m
+
+unfoldable pub flow_mod_fields : List ℕ → List ℕ
+flow_mod_fields m = commanded_entry m ++ commanded_times m
+
+-- 7.3.4.2
+unfoldable pub group_mod_fields : List ℕ → List ℕ
+group_mod_fields m = name_field [] GroupCommands 8 2 m ++ number_field (codes " group") 12 4 m
+
+-- 7.3.7
+unfoldable pub packet_out_fields : List ℕ → List ℕ
+packet_out_fields m = number_field (codes " in_port") 12 4 m
+
+-- 7.3.9
+unfoldable pub role_fields : List ℕ → List ℕ
+role_fields m = name_field [] Roles 8 4 m ++ number_field (codes " generation") 16 8 m
+
+-- by the type (7.1)
+unfoldable pub fields_of : ℕ → List ℕ → List ℕ
+fields_of type m =
+    if type == 1 then error_fields m
+    else if type == 6 then hex_field (codes " datapath") 8 m
+    else if type == 10 then packet_in_fields m
+    else if type == 11 then flow_removed_fields m
+    else if type == 12 then port_status_fields m
+    else if type == 13 then packet_out_fields m
+    else if type == 14 then flow_mod_fields m
+    else if type == 15 then group_mod_fields m
+    else if type == 16 then number_field (codes " port") 8 4 m
+    else if type == 18 then name_field [] Multiparts 8 2 m
+    else if type == 19 then name_field [] Multiparts 8 2 m
+    else if type == 24 then role_fields m
+    else if type == 25 then role_fields m
+    else []
+
+unfoldable pub type_and_fields : Option ℕ → List ℕ → List ℕ
+type_and_fields None m = []
+type_and_fields (Some type) m = name_in Types type ++ number_field (codes " xid") 4 4 m ++ fields_of type m
+
+-- THE WORDS OF A MESSAGE
+unfoldable pub message_words : List ℕ → List ℕ
+message_words m = type_and_fields (number_at 1 1 m) m ++ size_words (length m)

@@ -1,0 +1,59 @@
+//! What a switch gives, in words.
+ghost use Rattle.std.specs.Prelude.{◌≡◌, ◌++◌, OnOk};
+ghost use Rattle.of_explain.specs.Notes.{note};
+ghost use Rattle.of_explain.specs.Explained.{effect_notes, effect_words, refusal_words as words_of_refusal};
+
+use crate::messages::push_message;
+use crate::notes::{begin_note, end_note, push_note, push_port_and_size};
+use of_switch::{Effect, SwitchError};
+use std::alloc::{AllocError, Global};
+
+// Appends an effect in words.
+fn push_effect(alloc: Global, out: &mut Vec<u8>, effect: &Effect) -> Result<(), AllocError>
+    ensures { OnOk result (out.new.items ≡ out.old.items ++ effect_words effect.now) }
+{
+    match effect {
+        Effect::Answer(bytes) => {
+            out.extend_from_slice(b"to the controller: ")?;
+            push_message(alloc, out, bytes.as_slice())?;
+        }
+        Effect::Sent { port, frame } => {
+            push_port_and_size(out, b"sent out of port", *port, frame.as_slice())?;
+        }
+        Effect::Closed => out.extend_from_slice(b"the switch ends the connection")?,
+    }
+    Ok(())
+}
+
+/// Appends a note for each effect.
+pub fn push_effects(alloc: Global, out: &mut Vec<u8>, effects: &[Effect]) -> Result<(), AllocError>
+    ensures { OnOk result (out.new.items ≡ out.old.items ++ effect_notes effects.now) }
+{
+    for effect in effects {
+        begin_note(out)?;
+        push_effect(alloc, out, effect)?;
+        end_note(out)?;
+    }
+    Ok(())
+}
+
+fn refusal_words(refusal: SwitchError) -> &'static [u8]
+    ensures { result.now ≡ words_of_refusal refusal }
+{
+    match refusal {
+        SwitchError::NoMemory => b"refused: no memory",
+        SwitchError::NotConnected => b"refused: there is no connection",
+        SwitchError::Connected => b"refused: there is a connection already",
+        SwitchError::PortExists => b"refused: a port of that number is there already",
+        SwitchError::NoSuchPort => b"refused: there is no port of that number",
+        SwitchError::TooManyPorts => b"refused: there are 64 ports already",
+        SwitchError::BadPortNumber => b"refused: a port's number is 1 to 4294967040",
+    }
+}
+
+/// Appends why an event is refused.
+pub fn push_refusal(out: &mut Vec<u8>, refusal: SwitchError) -> Result<(), AllocError>
+    ensures { OnOk result (out.new.items ≡ out.old.items ++ note (words_of_refusal refusal)) }
+{
+    push_note(out, refusal_words(refusal))
+}

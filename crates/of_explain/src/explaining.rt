@@ -1,0 +1,32 @@
+//! Event files, explained.
+ghost use Rattle.std.specs.Prelude.{◌≡◌, ◌⊎◌, ◌↔◌, ◌<◌, ◌≤◌, ◌+◌};
+ghost use Rattle.of_replay.specs.Tales.{Tells};
+ghost use Rattle.of_explain.specs.Explained.{explained};
+
+use crate::rows::Explaining;
+use of_classifier::Lookup;
+use of_replay::{Ended, Sink, Source, tell_file};
+use std::alloc::Global;
+
+/// Plays the rows of a source as `replay` does, and writes each line, and below it, behind four spaces, what it did in words.
+///
+/// A row that happens has a note for each effect that `replay` would print, in order. A frame's way stands before them: the
+/// port by which it comes in, or why it does not, and each look-up. A row that is refused has a note that says why. Empty
+/// lines are left out. It reads, writes and ends as `replay` does.
+pub fn explain<L: Lookup, S: Source, W: Sink>(
+    alloc: Global,
+    reader: &mut S,
+    writer: &mut W,
+) -> Ended
+    requires reads { S.reads reader.old ≡ 0 }
+    requires failures { W.failures writer.old ≡ 0 }
+    ensures output { Tells explained result (S.answers reader.old) (S.answers reader.new) (S.ends reader.old) (S.ends reader.new) (W.taken writer.old) (W.taken writer.new) }
+    ensures done { result ≡ Ended.Done → (S.failures reader.new ≡ S.failures reader.old) × (S.ends reader.new ≡ S.ends reader.old + 1) × (W.failures writer.new ≡ 0) }
+    ensures reads { S.reads reader.new ≤ 1000000 }
+    ensures once { S.failures reader.new ≤ S.failures reader.old + 1 }
+    ensures read_fault { result ≡ Ended.ReadFault → (S.failures reader.old < S.failures reader.new) ⊎ ((S.reads reader.new ≡ 1000000) × (S.ends reader.new ≡ S.ends reader.old)) }
+    ensures failed_read { S.failures reader.old < S.failures reader.new → (result ≡ Ended.ReadFault) ⊎ (result ≡ Ended.WriteFault) }
+    ensures write_fault { (result ≡ Ended.WriteFault) ↔ (0 < W.failures writer.new) }
+{
+    tell_file::<L, _, _, _>(alloc, &Explaining, reader, writer)
+}

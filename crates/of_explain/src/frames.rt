@@ -1,0 +1,155 @@
+//! The ways of frames in words.
+ghost use Rattle.std.specs.Prelude.{◌≡◌, ◌++◌, IfErr, OnOk, codes};
+ghost use Rattle.of_switch.specs.declared.switch_error.SwitchError.TheVariants.{NoMemory};
+ghost use Rattle.std.specs.List.{flat_map};
+ghost use Rattle.std.specs.Option.{option_copied};
+ghost use Rattle.of_headers.specs.Faults.{frame_fault};
+ghost use Rattle.of_ports.specs.Ports.{port_at};
+ghost use Rattle.of_explain.specs.Notes.{note, number_note, port_and_size, with_number};
+ghost use Rattle.of_explain.specs.Explained.{arrival_notes, length_notes, not_received, nothing_leaves, port_notes, step_notes, way_notes};
+
+use crate::notes::{
+    begin_note, end_note, push_note, push_number_note, push_port_and_size, push_with_number,
+};
+use of_classifier::Lookup;
+use of_headers::check_length;
+use of_machine::{Step, Steps};
+use of_ports::Port;
+use of_switch::{Effect, Switch, SwitchError};
+use std::alloc::{AllocError, Global};
+
+fn find_port(ports: &[Port], number: u32) -> Option<&Port>
+    ensures { option_copied result ≡ port_at ports.now number }
+{
+    ports.iter().find(|port| port.number == number)
+}
+
+// Why a port that is there takes no frame in.
+fn not_received_words(port: &Port) -> &'static [u8]
+    ensures { result.now ≡ not_received port.now }
+{
+    if port.is_live() {
+        b" may not receive"
+    } else {
+        b" is down"
+    }
+}
+
+// Appends that a frame is too short or too long.
+fn push_length(out: &mut Vec<u8>, frame: &[u8]) -> Result<(), AllocError>
+    ensures { OnOk result (out.new.items ≡ out.old.items ++ length_notes (frame_fault frame.now)) }
+{
+    match check_length(frame) {
+        Ok(()) => Ok(()),
+        Err(_) => push_note(out, b"dropped: a frame has 14 to 9216 bytes"),
+    }
+}
+
+// Appends that a frame came in by a port.
+fn push_entry(out: &mut Vec<u8>, number: u32, frame: &[u8]) -> Result<(), AllocError>
+    ensures { OnOk result (out.new.items ≡ out.old.items ++ note (port_and_size (codes "in by port") number frame.now)) }
+{
+    begin_note(out)?;
+    push_port_and_size(out, b"in by port", number, frame)?;
+    end_note(out)
+}
+
+// Appends whether a frame comes in by a port that is there.
+fn push_at_port(out: &mut Vec<u8>, port: &Port, number: u32, frame: &[u8]) -> Result<(), AllocError>
+    ensures { OnOk result (out.new.items ≡ out.old.items ++ port_notes number frame.now port.now) }
+{
+    if port.may_receive() {
+        push_entry(out, number, frame)?;
+        push_length(out, frame)
+    } else {
+        let words = not_received_words(port);
+        push_number_note(out, b"dropped: port", u64::from(number), words)
+    }
+}
+
+// Appends by which port a frame comes in, or why it does not.
+fn push_arrival(
+    out: &mut Vec<u8>,
+    port: Option<&Port>,
+    number: u32,
+    frame: &[u8],
+) -> Result<(), AllocError>
+    ensures { OnOk result (out.new.items ≡ out.old.items ++ arrival_notes number frame.now (option_copied port.entry)) }
+{
+    match port {
+        None => push_number_note(out, b"dropped: there is no port", u64::from(number), b""),
+        Some(port) => push_at_port(out, port, number, frame),
+    }
+}
+
+// Appends that a table has an entry at that place by age.
+fn push_found(out: &mut Vec<u8>, table: u8, place: usize) -> Result<(), AllocError>
+    ensures { OnOk result (out.new.items ≡ out.old.items ++ number_note (codes "table") table (with_number (codes ": entry") place)) }
+{
+    begin_note(out)?;
+    push_with_number(out, b"table", u64::from(table))?;
+    push_with_number(out, b": entry", place as u64)?;
+    end_note(out)
+}
+
+// Appends the note of a step.
+fn push_step(out: &mut Vec<u8>, step: Step) -> Result<(), AllocError>
+    ensures { OnOk result (out.new.items ≡ out.old.items ++ step_notes step) }
+{
+    match step {
+        Step::Miss(table) => push_number_note(
+            out,
+            b"table",
+            u64::from(table),
+            b": no entry matches, and the packet is dropped",
+        ),
+        Step::Entry { table, number } => push_found(out, table, number),
+        Step::TtlExpired => push_note(out, b"its time to live is over, and the packet is dropped"),
+        Step::Apply
+        | Step::Clear
+        | Step::Write
+        | Step::Metadata { .. }
+        | Step::Goto(_)
+        | Step::Set
+        | Step::Act(_)
+        | Step::End => Ok(()),
+    }
+}
+
+// Appends the notes of steps.
+fn push_steps(out: &mut Vec<u8>, steps: &[Step]) -> Result<(), AllocError>
+    ensures { OnOk result (out.new.items ≡ out.old.items ++ flat_map step_notes steps.now) }
+{
+    for step in steps {
+        push_step(out, *step)?;
+    }
+    Ok(())
+}
+
+/// Appends the way that a frame would take next. Nothing changes.
+pub fn push_way<L: Lookup>(
+    alloc: Global,
+    out: &mut Vec<u8>,
+    switch: &Switch<L>,
+    number: u32,
+    frame: &[u8],
+) -> Result<(), SwitchError>
+    ensures text { OnOk result (out.new.items ≡ out.old.items ++ way_notes number frame.now switch.now.core.forwarding) }
+    ensures err { IfErr result (λ e. e ≡ NoMemory) }
+{
+    let mut log = Steps::new(alloc);
+    switch.dry_run(number, frame, &mut log)?;
+    push_arrival(out, find_port(switch.ports(), number), number, frame)?;
+    push_steps(out, &log.list)?;
+    Ok(())
+}
+
+/// Appends that a frame leaves nothing behind.
+pub fn push_nothing(out: &mut Vec<u8>, effects: &[Effect]) -> Result<(), AllocError>
+    ensures { OnOk result (out.new.items ≡ out.old.items ++ nothing_leaves effects.now) }
+{
+    if effects.is_empty() {
+        return push_note(out, b"nothing leaves");
+    }
+    Ok(())
+}

@@ -1,0 +1,110 @@
+//! Rows explained.
+ghost use Rattle.std.specs.Prelude.{◌≡◌, ◌++◌, ℕ, List, IfErr, OnOk};
+ghost use Rattle.of_switch.specs.declared.switch_error.SwitchError.TheVariants.{NoMemory};
+ghost use Rattle.of_replay.specs.Rows.{with_bytes};
+ghost use Rattle.of_explain.specs.Explained.{echoed, end_notes, explained, report_notes, row_notes, TellsReport};
+ghost use Rattle.of_switch.specs.Runs.{Gives};
+
+use crate::effects::{push_effects, push_refusal};
+use crate::frames::{push_nothing, push_way};
+use of_classifier::Lookup;
+use of_replay::{Row, Teller, play_row};
+use of_switch::{Effect, Effects, Switch, SwitchError};
+use std::alloc::{AllocError, Global};
+
+// Appends a line as it stands in the file. An empty one is left out.
+fn push_line(out: &mut Vec<u8>, line: &[u8]) -> Result<(), AllocError>
+    ensures { OnOk result (out.new.items ≡ out.old.items ++ echoed line.now) }
+{
+    if line.is_empty() {
+        return Ok(());
+    }
+    out.extend_from_slice(line)?;
+    out.push(b'\n')?;
+    Ok(())
+}
+
+// Appends what a row is about to do.
+fn push_row<L: Lookup>(
+    alloc: Global,
+    out: &mut Vec<u8>,
+    switch: &Switch<L>,
+    row: Row,
+    bytes: &[u8],
+) -> Result<(), SwitchError>
+    ensures text { OnOk result (out.new.items ≡ out.old.items ++ row_notes switch.now (with_bytes bytes.now row)) }
+    ensures err { IfErr result (λ e. e ≡ NoMemory) }
+{
+    match row {
+        Row::Frame { port } => push_way(alloc, out, switch, port, bytes),
+        Row::Passed | Row::Connect | Row::Lost | Row::Piece | Row::Moment { .. } | Row::Ports(_) =>
+            { Ok(()) }
+    }
+}
+
+// Appends what a row left behind.
+fn push_end(out: &mut Vec<u8>, row: Row, effects: &[Effect]) -> Result<(), AllocError>
+    ensures { (bytes : List ℕ) → OnOk result (out.new.items ≡ out.old.items ++ end_notes (with_bytes bytes row) effects.now) }
+{
+    match row {
+        Row::Frame { .. } => push_nothing(out, effects),
+        Row::Passed | Row::Connect | Row::Lost | Row::Piece | Row::Moment { .. } | Row::Ports(_) =>
+            { Ok(()) }
+    }
+}
+
+// Appends what a row did: what was noted before it, its effects, and how that ends.
+fn push_effects_of(
+    alloc: Global,
+    out: &mut Vec<u8>,
+    before: &[u8],
+    row: Row,
+    effects: &[Effect],
+) -> Result<(), AllocError>
+    ensures { (bytes : List ℕ) → OnOk result (out.new.items ≡ out.old.items ++ report_notes before.now (with_bytes bytes row) (Gives effects.now)) }
+{
+    out.extend_from_slice(before)?;
+    push_effects(alloc, out, effects)?;
+    push_end(out, row, effects)
+}
+
+// Appends the notes of a call's report. Where memory ran out there is none.
+fn push_report(
+    alloc: Global,
+    out: &mut Vec<u8>,
+    before: &[u8],
+    row: Row,
+    called: Result<Effects, SwitchError>,
+) -> Result<(), SwitchError>
+    ensures { (bytes : List ℕ) → TellsReport called result before.now (with_bytes bytes row) out.old.items out.new.items }
+{
+    match called {
+        Ok(effects) => Ok(push_effects_of(alloc, out, before, row, &effects)?),
+        Err(SwitchError::NoMemory) => Err(SwitchError::NoMemory),
+        Err(refusal) => Ok(push_refusal(out, refusal)?),
+    }
+}
+
+/// Tells of each row its line, and below it what it did.
+#[derive(Drop)]
+pub struct Explaining;
+
+impl<L: Lookup> Teller<L> for Explaining {
+    ghost tale = { explained };
+
+    fn tell(
+        &self,
+        alloc: Global,
+        switch: &mut Switch<L>,
+        line: &[u8],
+        row: Row,
+        bytes: &[u8],
+        out: &mut Vec<u8>,
+    ) -> Result<(), SwitchError> {
+        let mut before = Vec::new(alloc);
+        push_row(alloc, &mut before, switch, row, bytes)?;
+        push_line(out, line)?;
+        let called = play_row(alloc, switch, row, bytes);
+        push_report(alloc, out, &before, row, called)
+    }
+}
