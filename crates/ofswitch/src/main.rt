@@ -2,6 +2,7 @@
 #![tactic(auto)]
 
 mod hinting;
+mod refusals;
 mod serving;
 mod sockets;
 

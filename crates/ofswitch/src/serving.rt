@@ -1,4 +1,5 @@
 //! A switch that serves controllers over sockets.
+use crate::refusals::Refusals;
 use crate::sockets::{MachineClock, Sockets};
 use of_command_line::Serve;
 use of_mask_groups::MaskGroups;
@@ -6,6 +7,14 @@ use of_replay::Ended;
 use of_replay::streams::WriterSink;
 use of_serve::serve;
 use of_switch::Event;
+
+// The rows that are refused, unless nothing is to be said.
+fn refusals_of(rt: &HostRuntime, asked: &Serve, rows: &[Event]) -> Option<Refusals> {
+    match &asked.events {
+        Some(path) if !asked.quiet => Refusals::new(rt, path.as_str(), rows),
+        _ => None,
+    }
+}
 
 /// Serves controllers on a new switch, with the events of a file.
 pub fn serve_rows(rt: &HostRuntime, asked: &Serve, rows: Vec<Event>) -> Ended {
@@ -16,7 +25,7 @@ pub fn serve_rows(rt: &HostRuntime, asked: &Serve, rows: Vec<Event>) -> Ended {
             return Ended::ReadFault;
         }
     };
-    let mut clock = MachineClock::new(rt);
+    let mut clock = MachineClock::new(rt, refusals_of(rt, asked, &rows));
     let mut out = WriterSink::new(rt.stdout());
     serve::<MaskGroups, _, _, _>(
         rt.alloc(),

@@ -1,6 +1,7 @@
 //! Controllers over TCP, and the machine's clock.
 ghost use Rattle.std.specs.Prelude.{◌≡◌, ◌≢◌, ◌≤◌, None as NotTold, IfOk};
 
+use crate::refusals::Refusals;
 use of_command_line::Meeting;
 use of_replay::{Reading, Writing};
 use of_serve::{Accepted, Clock, Peers};
@@ -214,14 +215,18 @@ pub struct MachineClock<'r> {
     start: Option<Instant>,
     // what it told last
     last: u64,
+    // those of the event file, to be said when their time has come
+    refusals: Option<Refusals>,
 }
 
 impl<'r> MachineClock<'r> {
-    pub fn new(rt: &'r HostRuntime) -> Self {
+    /// A clock that says the refused rows that are due before it tells the time to a turn.
+    pub fn new(rt: &'r HostRuntime, refusals: Option<Refusals>) -> Self {
         MachineClock {
             rt,
             start: Instant::now(rt).ok(),
             last: 0,
+            refusals,
         }
     }
 }
@@ -235,6 +240,9 @@ impl Clock for MachineClock<'_> {
             if let Ok(passed) = start.elapsed(self.rt) {
                 self.last = u64::try_from(passed.as_nanos()).unwrap_or(self.last);
             }
+        }
+        if let Some(refusals) = &mut self.refusals {
+            refusals.say(self.rt, self.last);
         }
         self.last
     }
