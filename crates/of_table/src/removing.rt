@@ -33,13 +33,6 @@ pub(crate) fn take_gone<L: Lookup>(lookup: &mut L, entries: &[Entry], cause: &Ca
     }
 }
 
-/// Keeps the entries that stay.
-pub(crate) fn keep_staying(entries: &mut Vec<Entry>, cause: &Cause)
-    ensures { entries.new.items ≡ kept_of cause.now entries.old.items }
-{
-    entries.retain(|entry| reason(cause, entry).is_none());
-}
-
 // A notice of the entry, where it goes and its flags ask for one.
 fn notice<'a>(table: u8, entry: &'a Entry, cause: &Cause) -> Option<Removed<'a>>
     ensures { option_map told_of result ≡ told_by table entry.now (reason_of cause.now (entry_of entry.now)) }
