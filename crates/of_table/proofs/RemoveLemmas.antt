@@ -1,6 +1,6 @@
 -- Entries after one more of them was looked at, and taken if it goes.
 use Rattle.std.proofs.Common.{◌≡◌, ℕ, ◌+◌, ◌<◌, Bool, true, false, cond, eqb, List, [], ◌∷◌, ◌++◌, length, get_or, take, drop, Option, Some, None, refl, sym, ap, ◌∙◌, arith, append_assoc}
-use Rattle.std.specs.Prelude.{map}
+use Rattle.std.specs.Prelude.{map, is_some, is_none}
 use Rattle.std.specs.Option.{option_map, option_to_list}
 use Rattle.std.proofs.lemmas.Bool.Decides.{nat_tests}
 use Rattle.std.proofs.lemmas.List.{map-append, append-nil, drop_more, take_more}
@@ -69,9 +69,25 @@ looked_more cause es i e d lt at distinct =
     (λ j. cond (stays cause (entry_of e)) (rows_of (before j)) (without row_number e.number (rows_of (before j))))
     ∙ between (stays cause (entry_of e)) (kept_of cause (take i es)) (drop (i + 1) es) e apart ∙ ap rows_of (sym after)
 
-pub taken_more : (cause : Cause) (es : List Entry) (i : ℕ) (e : Entry) (before after : List Row) → i < length es → e ≡ get_or es i e → before ≡ rows_of (looked_to cause i es) → is_distinct row_number before ≡ true →
+taken_more : (cause : Cause) (es : List Entry) (i : ℕ) (e : Entry) (before after : List Row) → i < length es → e ≡ get_or es i e → before ≡ rows_of (looked_to cause i es) → is_distinct row_number before ≡ true →
     after ≡ cond (stays cause (entry_of e)) before (without row_number e.number before) → after ≡ rows_of (looked_to cause (i + 1) es)
 taken_more cause es i e before after lt at is distinct took = rw is at took ∙ looked_more cause es i e e lt at (rw is at distinct)
+
+pub goes_by : (o : Option RemovedReason) → true ≡ is_some o → is_none o ≡ false
+goes_by None h = absurd cc
+goes_by (Some reason) h = refl
+
+pub stays_by : (o : Option RemovedReason) → false ≡ is_some o → is_none o ≡ true
+stays_by None h = refl
+stays_by (Some reason) h = absurd cc
+
+pub taken_goes : (cause : Cause) (es : List Entry) (i : ℕ) (e : Entry) (before after : List Row) → i < length es → e ≡ get_or es i e → before ≡ rows_of (looked_to cause i es) → is_distinct row_number before ≡ true → true ≡ is_some (reason_of cause (entry_of e)) →
+    after ≡ without row_number e.number before → after ≡ rows_of (looked_to cause (i + 1) es)
+taken_goes cause es i e before after lt at is distinct some took = taken_more cause es i e before after lt at is distinct (rw (goes_by (reason_of cause (entry_of e)) some) took)
+
+pub taken_stays : (cause : Cause) (es : List Entry) (i : ℕ) (e : Entry) (before after : List Row) → i < length es → e ≡ get_or es i e → before ≡ rows_of (looked_to cause i es) → is_distinct row_number before ≡ true → false ≡ is_some (reason_of cause (entry_of e)) →
+    after ≡ before → after ≡ rows_of (looked_to cause (i + 1) es)
+taken_stays cause es i e before after lt at is distinct none same = taken_more cause es i e before after lt at is distinct (rw (stays_by (reason_of cause (entry_of e)) none) same)
 
 -- ---- the same without the numbers
 

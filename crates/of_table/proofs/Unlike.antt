@@ -15,7 +15,7 @@ use Rattle.of_table.specs.Table.{FlowEntry, is_same, is_full, is_overlapped, add
 use Rattle.of_classifier.specs.declared.Row.{Row}
 use Rattle.of_table.specs.declared.selection.Cause.{Cause}
 use Rattle.of_table.specs.Selecting.{stays, kept_of}
-use Rattle.of_table.specs.Entries.{entry_of, flows_of, row_of, rows_of, added_entries}
+use Rattle.of_table.specs.Entries.{entry_of, flows_of, rows_of, added_entries}
 use Rattle.of_table.specs.Sound.{Key, key_of, is_same_key, are_unlike}
 use Rattle.of_table.proofs.AddLemmas.{same_is, is_itself, flows_added}
 use Rattle.of_table.proofs.RemoveLemmas.{flows_left}

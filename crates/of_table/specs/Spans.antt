@@ -1,5 +1,5 @@
 -- From which place to which those stand that may pass a test: inner definitions, which no public contract cites.
-use Rattle.std.specs.Prelude.{◌≡◌, ◌≤◌, ◌-◌, ℕ, Bool, false, List, length, take, drop}
+use Rattle.std.specs.Prelude.{◌≡◌, ◌≤◌, ℕ, Bool, false, List, length, take, drop}
 use Rattle.std.specs.List.{list_any}
 
 -- none before the first place and none from the end on passes

@@ -9,8 +9,8 @@ use std::marker::Model;
 /// So many copies of the instructions of a MODIFY command.
 #[derive(Drop)]
 pub(crate) struct Copies<'a> {
-    instructions: &'a InstructionList,
-    made: Vec<InstructionList>,
+    pub instructions: &'a InstructionList,
+    pub made: Vec<InstructionList>,
 }
 
 impl<'a> Model for Copies<'a> {
@@ -25,16 +25,6 @@ impl<'a> Model for Copies<'a> {
 }
 
 impl<'a> Copies<'a> {
-    /// None so far.
-    pub(crate) fn of(alloc: Global, instructions: &'a InstructionList) -> Self
-        ensures { result ≡ record { instructions = instructions.now; count = 0 } }
-    {
-        Copies {
-            instructions,
-            made: Vec::new(alloc),
-        }
-    }
-
     /// One more.
     pub(crate) fn make(&mut self) -> Result<(), AllocError>
         ensures { OnOk result (self.new ≡ record self.old { count = self.old.count + 1 }) }

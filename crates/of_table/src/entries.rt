@@ -5,7 +5,7 @@ ghost use Rattle.std.specs.List.{list_any};
 ghost use Rattle.of_wire.specs.Numbered.{is_used, is_distinct, renewed};
 ghost use Rattle.of_classifier.specs.Rows.{row_number};
 ghost use Rattle.of_oxm.specs.Relations.{overlaps_match};
-ghost use Rattle.of_table.specs.Table.{is_same, is_overlapped as overlapped, with_flow, unless_reset as zero_or, risen as with_more, counted_at};
+ghost use Rattle.of_table.specs.Table.{is_same, is_overlapped as overlapped, with_flow, risen as with_more, counted_at};
 ghost use Rattle.of_table.specs.Entries.{entry_of, flows_of, rows_of, numbers_of, place_of, is_there, IsNumberFor, added_entries};
 ghost use Rattle.of_table.specs.Sound.{key_of, are_unlike};
 ghost use Rattle.of_table.specs.Deadlines.{all_stay};
@@ -55,22 +55,20 @@ pub(crate) fn new_entry(number: usize, flow: Flow, now: u64) -> Entry
     }
 }
 
-/// A counter, or 0 where it is to be reset.
-pub(crate) fn unless_reset(reset: bool, counter: u64) -> u64
-    ensures { result ≡ zero_or reset counter }
-{
-    if reset { 0 } else { counter }
-}
-
 // The entry with another flow of its match and priority, which is added now.
 fn replaced_entry(entry: &Entry, flow: Flow, now: u64) -> Entry
     ensures number { result.number ≡ entry.now.number }
     ensures entry { entry_of result ≡ with_flow now flow (Some (entry_of entry.now)) }
 {
     let reset = flow.flags.reset_counts;
+    let (packets, bytes) = if reset {
+        (0, 0)
+    } else {
+        (entry.packets, entry.bytes)
+    };
     Entry {
-        packets: unless_reset(reset, entry.packets),
-        bytes: unless_reset(reset, entry.bytes),
+        packets,
+        bytes,
         ..new_entry(entry.number, flow, now)
     }
 }

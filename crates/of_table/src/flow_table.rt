@@ -23,7 +23,7 @@ use crate::entry::Entry;
 use crate::flow::Flow;
 use crate::modifying::{make_copies, modify_all};
 use crate::places::note_places;
-use crate::removing::{keep_staying, list_gone, take_gone};
+use crate::removing::{list_gone, take_gone};
 use crate::selection::{Cause, Removed, Which, concerns, is_in, reason};
 use crate::span::Span;
 use crate::table_fault::TableFault;
@@ -307,7 +307,7 @@ impl<L: Lookup> FlowTable<L> {
     {
         settle(&mut self.entries, &mut self.replaced);
         take_gone(&mut self.lookup, &self.entries, cause);
-        keep_staying(&mut self.entries, cause);
+        self.entries.retain(|entry| reason(cause, entry).is_none());
         note_places(&mut self.places, &self.entries, 0);
         self.due = earliest(&self.entries);
     }
@@ -374,18 +374,11 @@ impl<L: Lookup> FlowTable<L> {
         &self.entries[self.replaced..]
     }
 
-    /// How many packets were looked up. It wraps.
-    pub fn lookups(&self) -> u64
-        ensures { result ≡ self.now.lookups }
+    /// How many packets were looked up, and how many hit an entry. They wrap.
+    pub fn counters(&self) -> (u64, u64)
+        ensures { result ≡ (self.now.lookups, self.now.matched) }
     {
-        self.lookups
-    }
-
-    /// How many packets hit an entry. It wraps.
-    pub fn matched(&self) -> u64
-        ensures { result ≡ self.now.matched }
-    {
-        self.matched
+        (self.lookups, self.matched)
     }
 
     /// No two entries have one number, and no two one priority and match.

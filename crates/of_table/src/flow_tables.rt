@@ -107,7 +107,10 @@ impl<L: Lookup> FlowTables<L> {
         ensures err { OnErr result (self.new ≡ self.old) }
     {
         let _ = instructions.as_slice();
-        let mut copies = Copies::of(*self.tables.allocator(), instructions);
+        let mut copies = Copies {
+            instructions,
+            made: Vec::new(*self.tables.allocator()),
+        };
         copies_for_all(&self.tables, which, &mut copies)?;
         modify_tables(&mut self.tables, which, &mut copies, reset);
         Ok(())
@@ -231,7 +234,7 @@ impl<L: Lookup> FlowTables<L> {
         requires { table < 16 }
         ensures { result ≡ (numbered_at table self.now).lookups }
     {
-        self.tables[table as usize].lookups()
+        self.tables[table as usize].counters().0
     }
 
     /// How many packets hit an entry of a table. It wraps.
@@ -239,7 +242,7 @@ impl<L: Lookup> FlowTables<L> {
         requires { table < 16 }
         ensures { result ≡ (numbered_at table self.now).matched }
     {
-        self.tables[table as usize].matched()
+        self.tables[table as usize].counters().1
     }
 
     /// There are sixteen tables; in each there are at most 4,096 entries, no two of one number or of one priority and match, and the instructions of each may stand in it.

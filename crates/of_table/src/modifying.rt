@@ -9,7 +9,6 @@ ghost use Rattle.of_table.specs.Sound.{AreSound, are_fit, is_fit, is_checked};
 ghost use Rattle.of_actions.specs.FlowCheck.{all_go_with};
 
 use crate::copies::Copies;
-use crate::entries::unless_reset;
 use crate::entry::Entry;
 use crate::selection::{Which, modifies};
 use crate::span::Span;
@@ -44,8 +43,10 @@ fn modify_entry(entry: &mut Entry, which: &Which, copies: &mut Copies<'_>, reset
         which.fields.known();
         entry.flow.fields.known();
         entry.flow.instructions = copies.take();
-        entry.packets = unless_reset(reset, entry.packets);
-        entry.bytes = unless_reset(reset, entry.bytes);
+        if reset {
+            entry.packets = 0;
+            entry.bytes = 0;
+        }
     }
 }
 

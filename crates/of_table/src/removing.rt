@@ -12,16 +12,6 @@ use crate::selection::{Cause, Removed, reason};
 use of_classifier::Lookup;
 use std::alloc::AllocError;
 
-// Takes the entry from the classifier, if it goes.
-fn take_one<L: Lookup>(lookup: &mut L, entry: &Entry, cause: &Cause)
-    requires { IsTrue (is_used row_number entry.now.number (L.content lookup.old)) }
-    ensures { L.content lookup.new ≡ (if stays cause.now (entry_of entry.now) then L.content lookup.old else without row_number entry.now.number (L.content lookup.old)) }
-{
-    if reason(cause, entry).is_some() {
-        lookup.take(entry.number);
-    }
-}
-
 /// Takes each entry that goes from the classifier.
 pub(crate) fn take_gone<L: Lookup>(lookup: &mut L, entries: &[Entry], cause: &Cause)
     requires { L.content lookup.old ≡ rows_of entries.now }
@@ -29,28 +19,9 @@ pub(crate) fn take_gone<L: Lookup>(lookup: &mut L, entries: &[Entry], cause: &Ca
 {
     for entry in entries {
         lookup.known();
-        take_one(lookup, entry, cause);
-    }
-}
-
-/// Keeps the entries that stay.
-pub(crate) fn keep_staying(entries: &mut Vec<Entry>, cause: &Cause)
-    ensures { entries.new.items ≡ kept_of cause.now entries.old.items }
-{
-    entries.retain(|entry| reason(cause, entry).is_none());
-}
-
-// A notice of the entry, where it goes and its flags ask for one.
-fn notice<'a>(table: u8, entry: &'a Entry, cause: &Cause) -> Option<Removed<'a>>
-    ensures { option_map told_of result ≡ told_by table entry.now (reason_of cause.now (entry_of entry.now)) }
-{
-    match reason(cause, entry) {
-        Some(reason) if entry.flow.flags.send_removed => Some(Removed {
-            table,
-            reason,
-            entry,
-        }),
-        _ => None,
+        if reason(cause, entry).is_some() {
+            lookup.take(entry.number);
+        }
     }
 }
 
@@ -64,8 +35,15 @@ pub(crate) fn list_gone<'a>(
     ensures { OnOk result (all_told removed.new.items ≡ all_told removed.old.items ++ told cause.now table entries.now) }
 {
     for entry in entries {
-        if let Some(notice) = notice(table, entry, cause) {
-            removed.push(notice)?;
+        match reason(cause, entry) {
+            Some(reason) if entry.flow.flags.send_removed => {
+                removed.push(Removed {
+                    table,
+                    reason,
+                    entry,
+                })?;
+            }
+            _ => {}
         }
     }
     Ok(())

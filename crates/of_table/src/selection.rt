@@ -4,7 +4,7 @@ ghost use Rattle.std.specs.Prelude.{◌≡◌};
 ghost use Rattle.of_table.specs.Entries.{entry_of};
 ghost use Rattle.std.specs.List.{list_any};
 ghost use Rattle.of_table.specs.Tables.{is_in as is_within, concerns as concerning};
-ghost use Rattle.of_table.specs.Selecting.{leads_to as leading_to, passes_port as passing_port, has_action as with_action, names_group as naming, passes_group as passing_group, modifies as modified_by_it, selects as selected, is_over as over, timeout_reason as reason_at, reason_of};
+ghost use Rattle.of_table.specs.Selecting.{leads_to as leading_to, passes_port as passing_port, has_action as with_action, names_group as naming, passes_group as passing_group, modifies as modified_by_it, selects as selected, is_over as over, reason_of};
 
 use crate::entry::Entry;
 use of_actions::{Action, Instruction};
@@ -160,42 +160,23 @@ fn is_over(now: u64, since: u64, seconds: u16) -> bool
     seconds != 0 && NANOS * u64::from(seconds) <= now.saturating_sub(since)
 }
 
-fn timeout_reason(entry: &Entry, now: u64) -> Option<RemovedReason>
-    ensures { result ≡ reason_at now (entry_of entry.now) }
-{
-    if is_over(now, entry.created, entry.flow.hard_timeout) {
-        return Some(RemovedReason::HardTimeout);
-    }
-    if is_over(
-        now,
-        entry.last.unwrap_or(entry.created),
-        entry.flow.idle_timeout,
-    ) {
-        return Some(RemovedReason::IdleTimeout);
-    }
-    None
-}
-
 /// Why the entry goes, or that it stays.
 pub(crate) fn reason(cause: &Cause, entry: &Entry) -> Option<RemovedReason>
     ensures { result ≡ reason_of cause.now (entry_of entry.now) }
 {
     match cause {
-        Cause::Delete(which) => {
-            if selects(which, entry) {
-                Some(RemovedReason::Delete)
-            } else {
-                None
-            }
+        Cause::Delete(which) if selects(which, entry) => Some(RemovedReason::Delete),
+        Cause::Group(group) if names_group(entry, *group) => Some(RemovedReason::GroupDelete),
+        Cause::Moment(now) if is_over(*now, entry.created, entry.flow.hard_timeout) => {
+            Some(RemovedReason::HardTimeout)
         }
-        Cause::Moment(now) => timeout_reason(entry, *now),
-        Cause::Group(group) => {
-            if names_group(entry, *group) {
-                Some(RemovedReason::GroupDelete)
-            } else {
-                None
-            }
-        }
+        Cause::Moment(now)
+            if is_over(
+                *now,
+                entry.last.unwrap_or(entry.created),
+                entry.flow.idle_timeout,
+            ) => { Some(RemovedReason::IdleTimeout) }
+        _ => None,
     }
 }
 

@@ -1,6 +1,5 @@
-use Rattle.std.proofs.Common.{◌≡◌, ◌-◌, ◌≤◌, ◌∙◌, List, length, take, drop, sym, ap, arith}
+use Rattle.std.proofs.Common.{◌≡◌, ◌-◌, ◌∙◌, length, take, drop, sym, ap, arith}
 use Rattle.std.proofs.lemmas.List.{take_rest, length-drop}
-use Rattle.of_table.specs.declared.entry.Entry.{Entry}
 use Rattle.of_table.specs.declared.selection.Cause.TheVariants.{Moment}
 use Rattle.of_table.specs.Deadlines.{all_stay}
 use Rattle.of_table.specs.Entries.{rows_of}

@@ -1,14 +1,13 @@
-use Rattle.std.proofs.Common.{◌≡◌, ◌+◌, ◌-◌, ◌<◌, ◌≤◌, ◌∙◌, List, Some, None, Option, true, false, length, get_or, drop, refl, sym, ap, arith}
-use Rattle.std.specs.Prelude.{is_some, is_none, not, remove}
+use Rattle.std.proofs.Common.{◌≡◌, ◌+◌, ◌-◌, ◌<◌, ◌∙◌, true, false, length, get_or, drop, refl, sym, ap, arith}
+use Rattle.std.specs.Prelude.{is_some, remove}
 use Rattle.std.proofs.lemmas.List.{length-drop}
 use Rattle.of_wire.specs.Numbered.{is_distinct, without}
 use Rattle.of_classifier.specs.Rows.{row_number}
-use Rattle.of_table.specs.declared.selection.RemovedReason.{RemovedReason}
 use Rattle.of_table.specs.Entries.{entry_of, rows_of}
 use Rattle.of_table.specs.Selecting.{reason_of, stays, kept_of}
-use Rattle.of_table.specs.Spans.{Outside}
 use Rattle.of_table.proofs.AddLemmas.{with_entries, used_again, rows_gone}
 use Rattle.of_table.proofs.DeadlineLemmas.{kept_none_over}
+use Rattle.of_table.proofs.RemoveLemmas.{goes_by, stays_by}
 use Rattle.of_table.proofs.Replaced.{at_behind, one_gone}
 use Rattle.of_table.proofs.SpanLemmas.{one_goes, one_stays}
 use Rattle.of_table.proofs.Unlike.{unlike_kept}
@@ -20,14 +19,6 @@ take-requires g c =
     let o = rw (← c.self.view_is) at c.requires in
     let lt : c.args.place < length es = omega (arith, o.within) in
     rw c.self.invariant.0 (used_again es c.args.place c.remove-entry.result lt (at_behind c.self.inside.entries.items c.self.inside.replaced c.args.place c.remove-entry.result c.remove-entry.ensures.value))
-
-goes_by : (o : Option RemovedReason) → is_some o ≡ true → is_none o ≡ false
-goes_by None h = absurd cc
-goes_by (Some reason) h = refl
-
-stays_by : (o : Option RemovedReason) → is_some o ≡ false → is_none o ≡ true
-stays_by None h = refl
-stays_by (Some reason) h = absurd cc
 
 pub invariant_of-self : goal.invariant_of-self
 invariant_of-self g c =
@@ -41,7 +32,7 @@ invariant_of-self g c =
     let lt : c.args.place < length es = omega (arith, o.within) in
     let there : e ≡ get_or es c.args.place e = at_behind xs r c.args.place e c.index.ensures in
     let gone : drop r c.remove-entry.new.self.items ≡ remove es c.args.place = ap (drop r) c.remove-entry.ensures.items ∙ one_gone xs r c.args.place (r + c.args.place) refl (omega (arith, lt, few)) in
-    let some : is_some (reason_of c.args.cause.now (entry_of e)) ≡ true = sym (c.if-is_some.ensures ∙ ap is_some c.reason.ensures) in
+    let some : true ≡ is_some (reason_of c.args.cause.now (entry_of e)) = c.if-is_some.ensures ∙ ap is_some c.reason.ensures in
     let goes : stays c.args.cause.now (entry_of (get_or es c.args.place e)) ≡ false = rw (← there) (goes_by (reason_of c.args.cause.now (entry_of e)) some) in
     let kept : drop r c.remove-entry.new.self.items ≡ kept_of c.args.cause.now es = gone ∙ sym (one_goes c.args.cause.now es c.args.place e o goes) in
     let distinct : is_distinct row_number (rows_of es) ≡ true = rw c.self.invariant.0 at c.known.ensures in (
@@ -62,7 +53,7 @@ returns-then-is_some g c =
     let lt : c.args.place < length es = omega (arith, o.within) in
     let there : e ≡ get_or es c.args.place e = at_behind xs r c.args.place e c.index.ensures in
     let gone : drop r c.remove-entry.new.self.items ≡ remove es c.args.place = ap (drop r) c.remove-entry.ensures.items ∙ one_gone xs r c.args.place (r + c.args.place) refl (omega (arith, lt, few)) in
-    let some : is_some (reason_of c.args.cause.now (entry_of e)) ≡ true = sym (c.if-is_some.ensures ∙ ap is_some c.reason.ensures) in
+    let some : true ≡ is_some (reason_of c.args.cause.now (entry_of e)) = c.if-is_some.ensures ∙ ap is_some c.reason.ensures in
     let goes : stays c.args.cause.now (entry_of (get_or es c.args.place e)) ≡ false = rw (← there) (goes_by (reason_of c.args.cause.now (entry_of e)) some) in
     rw (← c.self.view_is) (ap (with_entries c.self.inside.lookups c.self.inside.matched) (gone ∙ sym (one_goes c.args.cause.now es c.args.place e o goes)))
 
@@ -73,6 +64,6 @@ returns-else-is_some g c =
     let e = c.index.result.now in
     let o = rw (← c.self.view_is) at c.requires in
     let there : e ≡ get_or es c.args.place e = at_behind xs c.self.inside.replaced c.args.place e c.index.ensures in
-    let none : is_some (reason_of c.args.cause.now (entry_of e)) ≡ false = sym (c.if-is_some.ensures ∙ ap is_some c.reason.ensures) in
+    let none : false ≡ is_some (reason_of c.args.cause.now (entry_of e)) = c.if-is_some.ensures ∙ ap is_some c.reason.ensures in
     let is : stays c.args.cause.now (entry_of (get_or es c.args.place e)) ≡ true = rw (← there) (stays_by (reason_of c.args.cause.now (entry_of e)) none) in
     rw (← c.self.view_is) (ap (with_entries c.self.inside.lookups c.self.inside.matched) (sym (one_stays c.args.cause.now es c.args.place e o is)))

@@ -12,7 +12,7 @@ pub returns-clause-tables : goal.returns-clause-tables
 returns-clause-tables g c =
     let n : NumberedTables = record { tables = c.self.inside.tables.items; latest = c.self.inside.latest } in
     let new : NumberedTables = record { tables = c.modify_tables.new.tables; latest = c.self.inside.latest } in
-    let same : c.copies_for_all.new.copies.instructions ≡ c.args.instructions.now = ap (λ (s : Supply). s.instructions) c.in_ok-copies_for_all.ensures ∙ ap (λ (s : Supply). s.instructions) c.of-copies.ensures in
+    let same : c.copies_for_all.new.copies.instructions ≡ c.args.instructions.now = ap (λ (s : Supply). s.instructions) c.in_ok-copies_for_all.ensures in
     let tables : c.modify_tables.new.tables ≡ each_from (modified_numbered c.args.which.now c.args.instructions.now c.args.reset) 0 n.tables = c.modify_tables.ensures.tables
     ∙ ap (λ (is : List Instruction). each_from (modified_numbered c.args.which.now is c.args.reset) 0 c.deref_mut.result.now) same
     ∙ ap (λ (ns : List Numbered). each_from (modified_numbered c.args.which.now c.args.instructions.now c.args.reset) 0 ns) c.deref_mut.ensures.value in
@@ -23,7 +23,7 @@ returns-clause-tables g c =
 pub returns-clause-ok : goal.returns-clause-ok
 returns-clause-ok g c =
     let ns = c.self.inside.tables.items in
-    let same : c.copies_for_all.new.copies.instructions ≡ c.args.instructions.now = ap (λ (s : Supply). s.instructions) c.in_ok-copies_for_all.ensures ∙ ap (λ (s : Supply). s.instructions) c.of-copies.ensures in
+    let same : c.copies_for_all.new.copies.instructions ≡ c.args.instructions.now = ap (λ (s : Supply). s.instructions) c.in_ok-copies_for_all.ensures in
     let tables : c.modify_tables.new.tables ≡ each_from (modified_numbered c.args.which.now c.args.instructions.now c.args.reset) 0 ns = c.modify_tables.ensures.tables
     ∙ ap (λ (is : List Instruction). each_from (modified_numbered c.args.which.now is c.args.reset) 0 c.deref_mut.result.now) same
     ∙ ap (λ (ts : List Numbered). each_from (modified_numbered c.args.which.now c.args.instructions.now c.args.reset) 0 ts) c.deref_mut.ensures.value in
@@ -32,7 +32,7 @@ returns-clause-ok g c =
 
 pub invariant_of-self : goal.invariant_of-self
 invariant_of-self g c =
-    let same : c.copies_for_all.new.copies.instructions ≡ c.args.instructions.now = ap (λ (s : Supply). s.instructions) c.in_ok-copies_for_all.ensures ∙ ap (λ (s : Supply). s.instructions) c.of-copies.ensures in
+    let same : c.copies_for_all.new.copies.instructions ≡ c.args.instructions.now = ap (λ (s : Supply). s.instructions) c.in_ok-copies_for_all.ensures in
     let fits : (k : ℕ) → is_in c.args.which.now.table k ≡ true → are_fit k c.args.instructions.now ≡ true = (λ k for. rw (c.as_slice.ensures.kept, c.requires.fit k for) refl) in
     rw (written c.modify_tables.new.tables c.self.inside.tables.items c.self.inside.tables.len (omega arith) (omega arith)) (
       c.modify_tables.ensures.length ∙ ap length c.deref_mut.ensures.value ∙ c.self.invariant.0,
