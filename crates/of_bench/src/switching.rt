@@ -108,7 +108,9 @@ pub fn time_flow_mod(rt: &HostRuntime) -> io::Result<()> {
 
 /// Commands of a FLOW_MOD.
 const ADD_FLOW: u8 = 0;
+
 const MODIFY_STRICT: u8 = 2;
+
 const DELETE_STRICT: u8 = 4;
 
 #[derive(Drop)]
