@@ -40,7 +40,6 @@ fn run(rt: &HostRuntime, name: &str) -> io::Result<()> {
         "features" => asking::time_features(rt),
         "flow_stats" => asking::time_flow_stats(rt),
         "flow_mod_stream" => asking::time_flow_mod_stream(rt),
-        "strict" => switching::time_strict(rt),
         "moment" => switching::time_moment(rt),
         "set" => rewriting::time_set(rt),
         "push_pop" => rewriting::time_push_pop(rt),

@@ -106,47 +106,6 @@ pub fn time_flow_mod(rt: &HostRuntime) -> io::Result<()> {
     time_flow_mod_of(rt, "flow_mod, 4000", 4000)
 }
 
-/// Commands of a FLOW_MOD.
-const ADD_FLOW: u8 = 0;
-
-const MODIFY_STRICT: u8 = 2;
-
-const DELETE_STRICT: u8 = 4;
-
-#[derive(Drop)]
-struct Strict {
-    switch: Switch<MaskGroups>,
-    commands: &'static [u8],
-}
-
-impl Timed for Strict {
-    // Each command, for one of 4,096 flows, which are not taken by age.
-    fn call(&mut self, turn: u64) -> u64 {
-        let number = (turn.wrapping_mul(1_031) % 4096) as u16;
-        let mut effects: u64 = 0;
-        for command in self.commands {
-            let mut message = add(0, number, 0);
-            message[25] = *command;
-            effects = effects.wrapping_add(piece(&mut self.switch, &message).unwrap_or(0));
-        }
-        effects
-    }
-}
-
-fn time_strict_of(rt: &HostRuntime, name: &str, commands: &'static [u8]) -> io::Result<()> {
-    match switch_with(rt, 1, 4096, 0) {
-        Some(switch) => time(rt, name, &mut Strict { switch, commands }),
-        None => println!(rt; "{name}: no memory"),
-    }
-}
-
-/// Commands for one of 4,096 entries of a table: a strict MODIFY, a strict DELETE and an ADD of it again, and an ADD that replaces it.
-pub fn time_strict(rt: &HostRuntime) -> io::Result<()> {
-    time_strict_of(rt, "strict modify", &[MODIFY_STRICT])?;
-    time_strict_of(rt, "strict delete and add", &[DELETE_STRICT, ADD_FLOW])?;
-    time_strict_of(rt, "replace", &[ADD_FLOW])
-}
-
 #[derive(Drop)]
 struct Moment {
     switch: Switch<MaskGroups>,
