@@ -6,8 +6,6 @@ use Rattle.std.proofs.lemmas.List.{append_assoc, append-nil}
 use Rattle.std.proofs.lemmas.List.Concat.{flat_map-append}
 use Rattle.of_layers.specs.declared.field.Field.{Field}
 use Rattle.of_layers.specs.declared.field.TheConstants.Field as constants
-use Rattle.of_headers.specs.declared.headers.FrameFault.{FrameFault}
-use Rattle.of_headers.specs.Faults.{frame_fault}
 use Rattle.of_actions.specs.declared.action.Action.{Action}
 use Rattle.of_actions.specs.declared.action.Action.TheVariants.{Output, PushVlan, PopVlan, Group, SetNwTtl, DecNwTtl, SetField}
 use Rattle.of_actions.specs.PortNumbers.{in_port}
@@ -27,7 +25,7 @@ use Rattle.of_switch.specs.declared.effect.Effect.{Effect}
 use Rattle.of_switch.specs.Plane.{Forwarding, world_of}
 use Rattle.of_replay.specs.Output.{text_of}
 use Rattle.of_trace.specs.declared.form.Asked.{Asked}
-use Rattle.of_trace.specs.declared.form.Asked.TheVariants.{Nothing, All, Priority}
+use Rattle.of_trace.specs.declared.form.Asked.TheVariants.{Nothing}
 use Rattle.of_trace.specs.declared.form.Form.{Form}
 use Rattle.of_trace.specs.declared.form.Form.TheVariants.{Plain, Explained, Why}
 use Rattle.of_trace.specs.declared.reason.Reason.{Reason}
@@ -36,7 +34,7 @@ use Rattle.of_trace.specs.Sights.{key_seen, sight_after, stepped}
 use Rattle.of_trace.specs.Text.{step_line, steps_text, trace_text}
 use Rattle.of_trace.specs.Why.{reason_in}
 use Rattle.of_trace.specs.OnlyNotes.{NotedLine, OnlyNotesAdded}
-use Rattle.of_trace.specs.Notes.{bucket_notes, change_note, change_notes, changes, entered, entry_notes, explained, explained_from, first_notes, flow_there, group_notes, head_in, is_asked, is_many, is_set, is_unsent, look_notes, looks_at, match_notes, note, notes, output_note, port_note, port_words, reason_note, reasons_from, said, same_value, seen_note, seen_notes, sending_notes, set_notes, table_notes, ttl_note, ttl_seen, ttl_words, reason_words, value_or_absent}
+use Rattle.of_trace.specs.Notes.{changes, entered, entry_notes, explained, explained_from, first_notes, flow_there, group_notes, head_in, is_asked, is_many, is_set, is_unsent, look_notes, looks_at, match_notes, note, notes, output_note, port_note, port_words, reason_note, reasons_from, said, same_value, seen_notes, sending_notes, set_notes, ttl_seen, ttl_words, reason_words, value_or_absent}
 
 pub record AreNotes (text : List ℕ) : Type 0 where
   pub notes : List (List ℕ)
