@@ -1,2 +1,4 @@
 pub mod RowsRead
 pub mod Pieces
+pub mod ByteLemmas
+pub mod FlowAgain

@@ -83,6 +83,3 @@ pub leads_first : (e : Event) (es : List Event) (s t u : State) → happened e s
 leads_first e es s t u first others =
     ap (λ (h : Happened). record { reports = h.report ∷ (run es h.state).reports; state = (run es h.state).state }) first
     ∙ ap (λ (r : Run). record { reports = Gives [] ∷ r.reports; state = r.state }) others
-
-pub leads_both : (es fs : List Event) (s t u : State) → Leads es s t → Leads fs t u → Leads (es ++ fs) s u
-leads_both es fs s t u a b = ?both
