@@ -27,6 +27,7 @@ use Rattle.of_groups.specs.declared.bucket.Bucket.{Bucket}
 use Rattle.of_groups.specs.declared.group.GroupKind.{GroupKind}
 use Rattle.of_groups.specs.declared.group.GroupKind.TheVariants.{All, Indirect, FastFailover}
 use Rattle.of_groups.specs.Buckets.{are_fit, is_fit}
+use Rattle.of_text.proofs.TextLemmas.{all_both}
 use Rattle.of_messages.specs.declared.message.FlowMod.{FlowMod}
 use Rattle.of_messages.specs.declared.message.FlowModCommand.{FlowModCommand}
 use Rattle.of_messages.specs.declared.message.FlowModCommand.TheVariants.{Add, Modify, ModifyStrict, Delete, DeleteStrict}
@@ -35,41 +36,37 @@ use Rattle.of_messages.specs.Written.{command_number, flow_mod_bytes, flow_mod_f
 use Rattle.of_messages.specs.CanonicalGroups.{canonical_bucket, canonical_buckets, group_add_bytes, group_add_front, kind_number}
 
 -- each is below 256
-unfoldable pub Bytes : List ℕ → Type 0
-Bytes bytes = AllByRecursion (λ (b : ℕ). b < 256) bytes
+pub record Bytes (bytes : List ℕ) : Type 0 where
+  pub each : AllByRecursion (λ (b : ℕ). b < 256) bytes
+
+at_places : (bytes : List ℕ) → AllByRecursion (λ (b : ℕ). b < 256) bytes → IsBytes bytes
+at_places [] h i = omega arith
+at_places (b ∷ bs) h zero = h.0
+at_places (b ∷ bs) h (suc i) = at_places bs h.1 i
 
 pub are_bytes : (bytes : List ℕ) → Bytes bytes → IsBytes bytes
-unfolding Bytes
-are_bytes [] h i = omega arith
-are_bytes (b ∷ bs) h zero = h.0
-are_bytes (b ∷ bs) h (suc i) = are_bytes bs h.1 i
+are_bytes bytes h = at_places bytes h.each
 
 none : Bytes []
-unfolding Bytes
-none = tt
+none = record { each = tt }
 
 next : {b : ℕ} {bs : List ℕ} → b < 256 → Bytes bs → Bytes (b ∷ bs)
-unfolding Bytes
-next h hs = (h, hs)
+next h hs = record { each = (h, hs.each) }
 
 both : {xs ys : List ℕ} → Bytes xs → Bytes ys → Bytes (xs ++ ys)
-unfolding Bytes
-both {xs = []} a b = b
-both {xs = x ∷ xs} a b = (a.0, both {xs = xs} a.1 b)
+both {xs = xs} {ys = ys} a b = record { each = all_both (λ (b : ℕ). b < 256) xs ys a.each b.each }
 
 byte : (i n : ℕ) → byte_at i n < 256
 byte zero n = mod-lt n (omega arith)
 byte (suc i) n = mod-lt _ (omega arith)
 
 big : (n x : ℕ) → Bytes (big_bytes n x)
-unfolding Bytes
-big zero x = tt
-big (suc n) x = (byte n x, big n x)
+big zero x = none
+big (suc n) x = next (byte n x) (big n x)
 
 zeros : (n : ℕ) → Bytes (replicate n 0)
-unfolding Bytes
-zeros zero = tt
-zeros (suc n) = (omega arith, zeros n)
+zeros zero = none
+zeros (suc n) = next (omega arith) (zeros n)
 
 each_bytes : {X : Type 0} (f : X → List ℕ) (xs : List X) → AllByRecursion (λ x. Bytes (f x)) xs → Bytes (flat_map f xs)
 each_bytes f [] h = none
