@@ -2,3 +2,5 @@ pub mod RowsRead
 pub mod Pieces
 pub mod ByteLemmas
 pub mod FlowAgain
+pub mod Messages
+pub mod FlowsAdded
