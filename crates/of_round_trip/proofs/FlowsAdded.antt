@@ -17,12 +17,13 @@ use Rattle.of_groups.specs.Faults.{is_absent}
 use Rattle.of_table.specs.declared.flow.Flow.{Flow}
 use Rattle.of_table.specs.Selecting.{has_action}
 use Rattle.of_table.specs.Table.{FlowEntry, Table, added, empty_table, is_full, is_overlapped, is_same}
-use Rattle.of_table.specs.Tables.{Tables, added_to, table_at, with_table}
+use Rattle.of_table.specs.Tables.{Tables, added_to, no_tables, table_at, tables_of}
 use Rattle.of_table.proofs.PlaceLemmas.{find_none, filter_others}
 use Rattle.of_text.specs.Flows.{Flow as TextFlow, Step, Apply, Clear, Write, Metadata, Goto}
 use Rattle.of_text.specs.Groups.{TextGroup, groups_at}
 use Rattle.of_text.specs.Kept.{AllStandBehind, IsEntry, StandsBehind, instruction_of, instructions_of}
 use Rattle.of_text.specs.Refusals.{names_absent, is_same as is_same_text}
+use Rattle.of_text.specs.Configs.{all_flows}
 use Rattle.of_text.specs.Rows.{HeadFits}
 use Rattle.of_messages.specs.Heads.{xid_of}
 use Rattle.of_messages.specs.declared.message.FlowMod.{FlowMod}
@@ -37,7 +38,7 @@ use Rattle.of_switch.specs.Loading.{flow_in, loaded_entry, loaded_table, loaded_
 use Rattle.of_switch.specs.State.{Core, State}
 use Rattle.of_switch.specs.Steps.{does, done, state_refusals, with_tables}
 use Rattle.of_switch.specs.Runs.{Gives, happened}
-use Rattle.of_switch.proofs.LoadLemmas.{filled, filled_all, filled_more, filled_next}
+use Rattle.of_switch.proofs.LoadLemmas.{filled, filled_all, filled_more, filled_next, filled_none}
 use Rattle.of_round_trip.proofs.ByteLemmas.{flow_mod_are_bytes}
 use Rattle.of_round_trip.proofs.FlowAgain.{IsAdd, flow_mod_again}
 use Rattle.of_round_trip.proofs.Messages.{built, one_message}
@@ -216,3 +217,68 @@ table_leads dpid gs ts k before (f ∷ fs) rest t lt sent stand others xid =
     let later = table_leads dpid gs ts k (before ++ f ∷ []) fs rest t lt sent.1 stand.1 (λ x. subst (λ (b : List TextFlow). Leads (flow_events x rest) (ready (built dpid (groups_at 0 gs) (having ts k b))) t) all (others x)) (xid + 1) in
     leads_first (Piece (flow_mod_bytes xid (add_of f))) (flow_events (xid + 1) (fs ++ rest)) (ready (built dpid (groups_at 0 gs) (having ts k before))) (ready (built dpid (groups_at 0 gs) (having ts k (before ++ f ∷ [])))) t
     (first ∙ ap (λ (u : Tables). record { report = Gives []; state = ready (built dpid (groups_at 0 gs) u) }) next) later
+
+-- ---- table by table
+
+abbrev filled_to : List (List TextFlow) → ℕ → Tables
+filled_to ts k = record { tables = filled 0 k ts; latest = 0 }
+
+-- what holds of the flows of a table
+pub record IsSentTable (gs : List TextGroup) (k : ℕ) (fs : List TextFlow) : Type 0 where
+  pub sent : AllByRecursion (IsSent k) fs
+  pub stand : AllStandBehind gs [] fs
+
+abbrev pub AreSent : List TextGroup → ℕ → List (List TextFlow) → Type 0
+AreSent gs k [] = Unit {0}
+AreSent gs k (fs ∷ rest) = IsSentTable gs k fs × AreSent gs (suc k) rest
+
+length_filled : (now k : ℕ) (ts : List (List TextFlow)) → length (filled now k ts) ≡ length ts
+length_filled now k [] = refl
+length_filled now zero (t ∷ ts) = ap suc (length_filled now zero ts)
+length_filled now (suc k) (t ∷ ts) = ap suc (length_filled now k ts)
+
+drop_none : {X : Type 0} (xs : List X) (k : ℕ) → drop k xs ≡ [] → length xs ≤ k
+drop_none [] k h = omega arith
+drop_none (x ∷ xs) zero h = absurd cc
+drop_none (x ∷ xs) (suc k) h = let l = drop_none xs k h in omega (arith, l)
+
+drop_some : {X : Type 0} (xs : List X) (k : ℕ) (y d : X) (ys : List X) → drop k xs ≡ y ∷ ys → (k < length xs) × (get_or xs k d ≡ y) × (drop (suc k) xs ≡ ys)
+drop_some [] zero y d ys h = absurd cc
+drop_some [] (suc k) y d ys h = absurd cc
+drop_some (x ∷ xs) zero y d ys h = (omega arith, cc, cc)
+drop_some (x ∷ xs) (suc k) y d ys h = let l = drop_some xs k y d ys h in (omega (arith, l.0), l.1, l.2)
+
+tables_lead : (dpid : ℕ) (gs : List TextGroup) (ts : List (List TextFlow)) (k : ℕ) (rest : List (List TextFlow)) → drop k ts ≡ rest → AreSent gs k rest
+    → (xid : ℕ) → Leads (flow_events xid (all_flows rest)) (ready (built dpid (groups_at 0 gs) (filled_to ts k))) (ready (built dpid (groups_at 0 gs) (loaded_tables 0 ts)))
+tables_lead dpid gs ts k [] left sent xid =
+    let all : filled 0 k ts ≡ map (loaded_table 0) ts = filled_all 0 k ts (drop_none ts k left) in
+    ap (λ (us : List Table). record { reports = []; state = ready (built dpid (groups_at 0 gs) (record { tables = us; latest = 0 })) }) all
+tables_lead dpid gs ts k (fs ∷ rest) left sent xid =
+    let parts = drop_some ts k fs [] rest left in
+    let us = filled 0 k ts in
+    let within : k < length us = omega (arith, length_filled 0 k ts, parts.0) in
+    let empty : set us k (loaded_table 0 []) ≡ us = set_same us k (loaded_table 0 []) empty_table within (filled_next 0 k ts parts.0) in
+    let more : set us k (loaded_table 0 fs) ≡ filled 0 (suc k) ts = ap (λ (t : List TextFlow). set us k (loaded_table 0 t)) (sym parts.1) ∙ filled_more 0 k ts parts.0 in
+    let end : State = ready (built dpid (groups_at 0 gs) (loaded_tables 0 ts)) in
+    let later : (x : ℕ) → Leads (flow_events x (all_flows rest)) (ready (built dpid (groups_at 0 gs) (having us k fs))) end = λ x.
+    subst (λ (vs : List Table). Leads (flow_events x (all_flows rest)) (ready (built dpid (groups_at 0 gs) (record { tables = vs; latest = 0 }))) end) (sym more) (tables_lead dpid gs ts (suc k) rest parts.2 sent.1 x) in
+    subst (λ (vs : List Table). Leads (flow_events xid (fs ++ all_flows rest)) (ready (built dpid (groups_at 0 gs) (record { tables = vs; latest = 0 }))) end) empty
+    (table_leads dpid gs us k [] fs (all_flows rest) end within sent.0.sent sent.0.stand later xid)
+
+-- ALL FLOWS are added, where the groups that they name are there
+pub flows_lead : (dpid xid : ℕ) (gs : List TextGroup) (ts : List (List TextFlow)) → length ts ≡ 16 → AreSent gs 0 ts
+    → Leads (flow_events xid (all_flows ts)) (ready (built dpid (groups_at 0 gs) (tables_of no_tables))) (ready (built dpid (groups_at 0 gs) (loaded_tables 0 ts)))
+flows_lead dpid xid gs ts n sent =
+    let none : filled 0 0 ts ≡ replicate 16 empty_table = filled_none 0 ts ∙ ap (λ (k : ℕ). replicate k empty_table) n in
+    subst (λ (us : List Table). Leads (flow_events xid (all_flows ts)) (ready (built dpid (groups_at 0 gs) (record { tables = us; latest = 0 }))) (ready (built dpid (groups_at 0 gs) (loaded_tables 0 ts)))) none (tables_lead dpid gs ts 0 ts refl sent xid)
+
+-- ---- their rows
+
+shown_table : (xid k : ℕ) (fs rest : List TextFlow) → AllByRecursion (IsSent k) fs → ((x : ℕ) → Means (add_lines x rest) (flow_events x rest)) → Means (add_lines xid (fs ++ rest)) (flow_events xid (fs ++ rest))
+shown_table xid k [] rest sent others = others xid
+shown_table xid k (f ∷ fs) rest sent others =
+    means_piece (flow_mod_bytes xid (add_of f)) (add_lines (xid + 1) (fs ++ rest)) (flow_events (xid + 1) (fs ++ rest)) (shown_flow xid k f sent.0) (shown_table (xid + 1) k fs rest sent.1 others)
+
+pub flows_shown : (gs : List TextGroup) (k : ℕ) (ts : List (List TextFlow)) → AreSent gs k ts → (xid : ℕ) → Means (add_lines xid (all_flows ts)) (flow_events xid (all_flows ts))
+flows_shown gs k [] sent xid = means_end
+flows_shown gs k (fs ∷ rest) sent xid = shown_table xid k fs (all_flows rest) sent.0.sent (flows_shown gs (suc k) rest sent.1)

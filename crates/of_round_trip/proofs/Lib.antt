@@ -4,3 +4,5 @@ pub mod ByteLemmas
 pub mod FlowAgain
 pub mod Messages
 pub mod FlowsAdded
+pub mod Present
+pub mod GroupsAdded

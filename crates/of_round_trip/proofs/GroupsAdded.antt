@@ -1,0 +1,2 @@
+-- Groups that are added in turn.
+use Rattle.std.proofs.Common.{◌≡◌, ℕ}
