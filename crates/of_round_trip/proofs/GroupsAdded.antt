@@ -22,7 +22,7 @@ use Rattle.of_groups.proofs.ChainLemmas.{there_found}
 use Rattle.of_groups.proofs.NameLemmas.{named_at, named_number}
 use Rattle.of_table.specs.Tables.{Tables}
 use Rattle.of_text.specs.Groups.{TextBucket, TextGroup, bucket_of, buckets_of, group_at, groups_at}
-use Rattle.of_text.proofs.TextLemmas.{all_back}
+use Rattle.of_text.proofs.TextLemmas.{all_both}
 use Rattle.of_messages.specs.declared.group_mod.GroupMod.TheVariants.{Add}
 use Rattle.of_messages.specs.declared.message.Message.TheVariants.{GroupMod as IsGroupMod}
 use Rattle.of_messages.specs.CanonicalGroups.{as_written, canonical_buckets, group_add_bytes, group_add_front, has_numbers}
@@ -251,8 +251,43 @@ turn_leads dpid gs ts n before (g ∷ rest) others more t now all parted sent la
         (subst (λ (hs : List Group). after (ready (built dpid hs ts))) (comes gs before rest g n x) first) (next (xid + 1))
     by_test false e next = subst (λ (hs : List TextGroup). Leads (group_events xid (filter (of_len gs n) rest ++ others) more) (ready (built dpid (groups_at 0 hs) ts)) t) (sym (passed_over (len_in gs) n before rest g e)) (next xid)
 
+each_short : (all : List Group) (gs : List TextGroup) → AllByRecursion (IsSentGroup all) gs → AllByRecursion (λ (g : TextGroup). chain all g.head.id ≤ 3) gs
+each_short all [] h = tt
+each_short all (g ∷ gs) h = (h.0.short, each_short all gs h.1)
+
+each_some : (all : List Group) (gs : List TextGroup) → AllByRecursion (IsSentGroup all) gs → AllByRecursion (λ (g : TextGroup). 0 < chain all g.head.id) gs
+each_some all [] h = tt
+each_some all (g ∷ gs) h = (h.0.some, each_some all gs h.1)
+
 -- ALL GROUPS are added
 pub groups_lead : (dpid : ℕ) (gs : List TextGroup) (ts : Tables) (more : List Event) (t : State) → ts.latest ≡ 0 → AreSentGroups gs
     → Leads more (ready (built dpid (groups_at 0 gs) ts)) t
     → (xid : ℕ) → Leads (group_events xid (in_turn gs) more) (ready (built dpid [] ts)) t
-groups_lead dpid gs ts more t now all rest xid = ?all
+groups_lead dpid gs ts more t now all rest xid =
+    let length_of : ℕ → List TextGroup → Type 0 = λ n hs. (x : ℕ) → Leads (group_events x hs more) (ready (built dpid (there gs n [] gs) ts)) t in
+    let ended : (x : ℕ) → Leads (group_events x [] more) (ready (built dpid (there gs 3 gs []) ts)) t = λ x.
+    subst (λ (hs : List TextGroup). Leads more (ready (built dpid (groups_at 0 hs) ts)) t) (sym (all_present (len_in gs) 3 gs (each_short (groups_at 0 gs) gs all.each))) rest in
+    let third : length_of 3 (of_length gs 3 gs) = λ x.
+    subst (λ (hs : List TextGroup). Leads (group_events x hs more) (ready (built dpid (there gs 3 [] gs) ts)) t) (append-nil (of_length gs 3 gs))
+    (turn_leads dpid gs ts 3 [] gs [] more t now all refl all.each ended x) in
+    let second : length_of 2 (of_length gs 2 gs ++ of_length gs 3 gs) = λ x. turn_leads dpid gs ts 2 [] gs (of_length gs 3 gs) more t now all refl all.each (over 2 (of_length gs 3 gs) third) x in
+    let first : length_of 1 (in_turn gs) = λ x. turn_leads dpid gs ts 1 [] gs (of_length gs 2 gs ++ of_length gs 3 gs) more t now all refl all.each (over 1 (of_length gs 2 gs ++ of_length gs 3 gs) second) x in
+    subst (λ (hs : List TextGroup). Leads (group_events xid (in_turn gs) more) (ready (built dpid (groups_at 0 hs) ts)) t) (none_present (len_in gs) gs (each_some (groups_at 0 gs) gs all.each)) (first xid)
+  where
+    over : (n : ℕ) (hs : List TextGroup) → ((x : ℕ) → Leads (group_events x hs more) (ready (built dpid (there gs (suc n) [] gs) ts)) t) → (x : ℕ) → Leads (group_events x hs more) (ready (built dpid (there gs n gs []) ts)) t
+    over n hs later x = subst (λ (us : List TextGroup). Leads (group_events x hs more) (ready (built dpid (groups_at 0 us) ts)) t) (sym (next_present (len_in gs) n gs)) (later x)
+
+-- ---- their rows
+
+shown_all : (all : List Group) (xid : ℕ) (gs : List TextGroup) (rest : List ℕ) (more : List Event) → AllByRecursion (IsSentGroup all) gs → Means rest more → Means (group_lines xid gs ++ rest) (group_events xid gs more)
+shown_all all xid [] rest more sent others = others
+shown_all all xid (g ∷ gs) rest more sent others =
+    subst (λ (file : List ℕ). Means file (group_events xid (g ∷ gs) more)) (sym (append_assoc (piece_line (group_add_bytes xid (new_of g))) (group_lines (xid + 1) gs) rest))
+    (means_piece (group_add_bytes xid (new_of g)) (group_lines (xid + 1) gs ++ rest) (group_events (xid + 1) gs more) (shown_group xid all g sent.0) (shown_all all (xid + 1) gs rest more sent.1 others))
+
+pub groups_shown : (xid : ℕ) (gs : List TextGroup) (rest : List ℕ) (more : List Event) → AreSentGroups gs → Means rest more → Means (group_lines xid (in_turn gs) ++ rest) (group_events xid (in_turn gs) more)
+groups_shown xid gs rest more all others =
+    let kept : (n : ℕ) → AllByRecursion (IsSentGroup (groups_at 0 gs)) (of_length gs n gs) = λ n. all_kept (IsSentGroup (groups_at 0 gs)) (of_len gs n) gs all.each in
+    let each : AllByRecursion (IsSentGroup (groups_at 0 gs)) (in_turn gs) =
+    all_both (IsSentGroup (groups_at 0 gs)) (of_length gs 1 gs) (of_length gs 2 gs ++ of_length gs 3 gs) (kept 1) (all_both (IsSentGroup (groups_at 0 gs)) (of_length gs 2 gs) (of_length gs 3 gs) (kept 2) (kept 3)) in
+    shown_all (groups_at 0 gs) xid (in_turn gs) rest more each others

@@ -6,3 +6,4 @@ pub mod Messages
 pub mod FlowsAdded
 pub mod Present
 pub mod GroupsAdded
+pub mod ComingBack
