@@ -1,25 +1,24 @@
 -- A configuration comes back from its file.
-use Rattle.std.proofs.Common.{◌≡◌, ℕ, zero, suc, ◌+◌, ◌^◌, ◌<◌, ◌≤◌, eqb, Bool, true, false, not, List, [], ◌∷◌, ◌++◌, length, drop, Option, Some, None, refl, sym, ◌∙◌, ap, subst, arith}
-use Rattle.std.specs.Prelude.{◌||◌, map, replicate, slice_index_or}
-use Rattle.std.specs.List.{AllByRecursion, flat_map, list_all, list_any}
+use Rattle.std.proofs.Common.{◌≡◌, ℕ, suc, ◌+◌, ◌<◌, ◌≤◌, eqb, Bool, true, false, not, List, [], ◌∷◌, ◌++◌, length, refl, ◌∙◌, ap, subst, arith}
+use Rattle.std.specs.Prelude.{map, replicate, slice_index_or}
+use Rattle.std.specs.List.{AllByRecursion, flat_map, list_all}
 use Rattle.std.proofs.lemmas.Bool.{and_from, and_parts, eq-eqb, lt-ltb}
 use Rattle.std.proofs.lemmas.List.{length-map}
-use Rattle.of_groups.specs.declared.bucket.Bucket.{Bucket}
 use Rattle.of_groups.specs.declared.group.Group.{Group}
-use Rattle.of_groups.specs.Chains.{AreShort, chain}
+use Rattle.of_groups.specs.Chains.{AreShort}
 use Rattle.of_groups.specs.Faults.{is_absent}
 use Rattle.of_groups.specs.Groups.{any_named, is_there}
 use Rattle.of_groups.specs.Sound.{is_fit_group, is_whole}
 use Rattle.of_groups.proofs.ChainLaws.{chain_at_most, chain_there}
 use Rattle.of_groups.proofs.NameLemmas.{or_first, or_true}
 use Rattle.of_table.specs.Tables.{no_tables, tables_of as empty_tables}
-use Rattle.of_text.specs.Rows.{Fits, HeadFits}
-use Rattle.of_text.specs.Groups.{TextBucket, TextGroup, bucket_of, bucket_rows, buckets_of, group_at, group_rows, groups_at, rows_of_groups}
+use Rattle.of_text.specs.Rows.{Fits}
+use Rattle.of_text.specs.Groups.{TextBucket, TextGroup, bucket_of, bucket_rows, group_at, group_rows, groups_at, rows_of_groups}
 use Rattle.of_text.specs.Flows.{Flow as TextFlow, flow_rows, rows_of as rows_of_flows}
 use Rattle.of_text.specs.Kept.{AllStandBehind, AreKeptGroups, IsEntry}
-use Rattle.of_text.specs.Configs.{Configuration, IsConfig, SpellConfig, all_flows}
+use Rattle.of_text.specs.Configs.{Configuration, IsConfig, SpellConfig, all_flows, config_text}
 use Rattle.of_text.specs.Lines.{lines_of as text_lines}
-use Rattle.of_text.proofs.ConfigLemmas.{AllFor, all_for, config_fits, spelt_config}
+use Rattle.of_text.proofs.ConfigLemmas.{AllFor, all_for, config_fits, one_config, spelt_config}
 use Rattle.of_text.proofs.EntryLemmas.{config_entries, config_stands}
 use Rattle.of_text.proofs.FillLemmas.{sixteen, table_at as text_table_at}
 use Rattle.of_text.proofs.GroupLemmas.{config_groups}
@@ -27,22 +26,24 @@ use Rattle.of_text.proofs.TextLemmas.{all_back, all_front}
 use Rattle.of_messages.specs.CanonicalGroups.{has_numbers}
 use Rattle.of_messages.specs.Written.{hello_bytes}
 use Rattle.of_session.specs.Session.{greeting}
-use Rattle.of_build.specs.Building.{add_lines, build_text, group_lines, hello, in_turn, piece_line}
+use Rattle.of_build.specs.Building.{BuildsOf, add_lines, build_text, group_lines, hello, in_turn, piece_line}
 use Rattle.of_switch.specs.declared.effect.Effect.TheVariants.{Answer}
 use Rattle.of_switch.specs.declared.event.Event.{Event}
 use Rattle.of_switch.specs.declared.event.Event.TheVariants.{Connect, Piece}
-use Rattle.of_switch.specs.Loading.{config_of, loaded, loaded_tables}
+use Rattle.of_switch.specs.Loading.{config_of, loaded_tables}
 use Rattle.of_switch.specs.State.{State, new_core, start}
-use Rattle.of_switch.specs.Runs.{Gives, Happened, Run, run}
+use Rattle.of_switch.specs.Runs.{Gives, Run, run}
 use Rattle.of_switch.proofs.ConfiguringLemmas.{told_again}
+use Rattle.of_replay.specs.Disassembling.{text_after}
 use Rattle.of_replay.specs.Lexing.{lines_of}
+use Rattle.of_replay.specs.Play.{lines_read}
 use Rattle.of_replay.specs.Rows.{Rows, rows_of}
 use Rattle.of_round_trip.specs.RoundTrip.{ComesBack, run_of}
 use Rattle.of_round_trip.proofs.ByteLemmas.{are_bytes}
-use Rattle.of_round_trip.proofs.FlowsAdded.{AreSent, IsSent, IsSentTable, flow_events, flows_lead, flows_shown}
+use Rattle.of_round_trip.proofs.FlowsAdded.{AreSent, IsSent, flow_events, flows_lead, flows_shown}
 use Rattle.of_round_trip.proofs.GroupsAdded.{AreSentGroups, IsSentGroup, group_events, groups_lead, groups_shown}
 use Rattle.of_round_trip.proofs.Messages.{built}
-use Rattle.of_round_trip.proofs.Pieces.{Leads, connects, greets, leads_first, ready}
+use Rattle.of_round_trip.proofs.Pieces.{Leads, greets, leads_first, ready}
 use Rattle.of_round_trip.proofs.RowsRead.{IsShown, Means, means_connect, means_piece}
 
 -- ---- the groups of a configuration
@@ -56,9 +57,10 @@ numbers_fit (b ∷ bs) h =
 
 there_among : (all : List Group) (gs : List TextGroup) → ((m : ℕ) → is_there m (groups_at 0 gs) ≡ true → is_there m all ≡ true) → AllByRecursion (λ (g : TextGroup). is_there g.head.id all ≡ true) gs
 there_among all [] among = tt
-there_among all (g ∷ gs) among =
-    (among g.head.id (or_first (eqb g.head.id g.head.id) (is_there g.head.id (groups_at 0 gs)) (eq-eqb g.head.id g.head.id refl)),
-    there_among all gs (λ m h. among m (or_true (eqb g.head.id m) (is_there m (groups_at 0 gs)) h)))
+there_among all (g ∷ gs) among = (
+  among g.head.id (or_first (eqb g.head.id g.head.id) (is_there g.head.id (groups_at 0 gs)) (eq-eqb g.head.id g.head.id refl)),
+  there_among all gs (λ m h. among m (or_true (eqb g.head.id m) (is_there m (groups_at 0 gs)) h)),
+)
 
 not_true : (b : Bool) → not b ≡ true → b ≡ false
 not_true true h = absurd cc
@@ -70,16 +72,17 @@ each_sent all [] short fits numbers fit whole there = tt
 each_sent all (g ∷ gs) short fits numbers fit whole there =
     let f = and_parts (is_fit_group (group_at 0 g)) (list_all is_fit_group (groups_at 0 gs)) fit in
     let w = and_parts (is_whole all (group_at 0 g)) (list_all (is_whole all) (groups_at 0 gs)) whole in
-    let rows = all_front Fits (group_rows g) (rows_of_groups gs) fits in
-    (record {
-      number = numbers.0;
-      numbers = numbers_fit g.buckets rows.1;
-      fit = f.0;
-      whole = not_true (any_named (is_absent all) (group_at 0 g)) w.0;
-      some = chain_there all g.head.id there.0;
-      short = chain_at_most all g.head.id short;
-    },
-    each_sent all gs short (all_back Fits (group_rows g) (rows_of_groups gs) fits) numbers.1 f.1 w.1 there.1)
+    let rows = all_front Fits (group_rows g) (rows_of_groups gs) fits in (
+      record {
+        number = numbers.0;
+        numbers = numbers_fit g.buckets rows.1;
+        fit = f.0;
+        whole = not_true (any_named (is_absent all) (group_at 0 g)) w.0;
+        some = chain_there all g.head.id there.0;
+        short = chain_at_most all g.head.id short;
+      },
+      each_sent all gs short (all_back Fits (group_rows g) (rows_of_groups gs) fits) numbers.1 f.1 w.1 there.1,
+    )
 
 groups_sent : (gs : List TextGroup) → AreKeptGroups gs → AreSentGroups gs
 groups_sent gs k = record {
@@ -171,3 +174,14 @@ comes_back text config dpid s =
       quiet = ap (λ (r : Run). r.reports) all;
       config_is = ap (λ (r : Run). config_of r.state) all ∙ told_again config (start dpid) k;
     }
+
+-- ---- and back to text
+
+pub good_again : (text file : List ℕ) → BuildsOf text file → (rows_of (lines_read true file)).bad ≡ None
+good_again text file b = ap (λ (bytes : List ℕ). (rows_of (lines_of bytes)).bad) b.is ∙ (comes_back text b.config 1 b.spelt).good
+
+pub text_again : (text file : List ℕ) (config : Configuration) → BuildsOf text file → SpellConfig (text_lines text) config → text_after (rows_of (lines_read true file)) ≡ config_text config
+text_again text file config b s =
+    let same : b.config ≡ config = one_config (text_lines text) b.config config b.spelt s in
+    ap (λ (bytes : List ℕ). text_after (rows_of (lines_of bytes))) b.is
+    ∙ (ap config_text (comes_back text b.config 1 b.spelt).config_is ∙ ap config_text same)

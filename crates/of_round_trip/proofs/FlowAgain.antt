@@ -1,12 +1,11 @@
 -- A FLOW_MOD that is written is read again.
-use Rattle.std.proofs.Common.{◌≡◌, ℕ, ◌+◌, ◌-◌, ◌^◌, ◌<◌, ◌≤◌, Bool, true, false, cond, ltb, eqb, List, [], ◌∷◌, ◌++◌, length, drop, take, Option, Some, None, Result, Ok, Err, refl, sym, ◌∙◌, ap, subst, append_assoc, arith}
-use Rattle.std.specs.Prelude.{slice_index, nat_lt, not, ◌&&◌, ◌||◌}
+use Rattle.std.proofs.Common.{◌≡◌, ℕ, ◌+◌, ◌-◌, ◌^◌, ◌<◌, ◌≤◌, Bool, true, false, cond, ltb, eqb, List, [], ◌∷◌, ◌++◌, length, drop, take, Option, None, Ok, Err, refl, sym, ◌∙◌, ap, append_assoc, arith}
+use Rattle.std.specs.Prelude.{slice_index, ◌||◌}
 use Rattle.std.proofs.lemmas.Bool.{le-ltb, eq-eqb}
 use Rattle.std.proofs.lemmas.List.{append-nil, length-append, take_at, drop_at}
 use Rattle.byteorder.specs.Endian.{big_number, big_bytes}
 use Rattle.byteorder.specs.Numbers.{big_number-reads_back}
 use Rattle.of_wire.specs.declared.code.Code.{Code}
-use Rattle.of_wire.specs.declared.code.ReadError.{ReadError}
 use Rattle.of_wire.specs.Refusals.{first_of, refusal}
 use Rattle.of_oxm.specs.declared.match_field.MatchField.{MatchField}
 use Rattle.of_oxm.specs.NormalForm.{IsMatch}
@@ -30,8 +29,6 @@ use Rattle.of_messages.specs.declared.message.Message.TheVariants.{FlowMod as Is
 use Rattle.of_messages.specs.Heads.{head_refusals, header_length, size_of, type_of, version_of}
 use Rattle.of_messages.specs.Messages.{body_of, flow_mod_by, flow_mod_of, flow_mod_refusals, flow_mod_with, message_from, message_of, then_instructions, then_match, command_of}
 use Rattle.of_messages.specs.Written.{flow_mod_bytes, flow_mod_front, command_number}
-use Rattle.of_messages.proofs.Appended.{length_flow_mod}
-use Rattle.of_session.specs.Stream.{IsMessage}
 
 -- ---- a match that is spelt is read, whatever follows it
 

@@ -1,8 +1,8 @@
 -- Flows that are added, each behind those before it.
-use Rattle.std.proofs.Common.{◌≡◌, ℕ, zero, suc, ◌+◌, ◌^◌, ◌<◌, ◌≤◌, eqb, Bool, true, false, not, cond, List, [], ◌∷◌, ◌++◌, length, drop, get_or, set, Option, Some, None, refl, sym, ◌∙◌, ap, subst, append_assoc, arith}
-use Rattle.std.specs.Prelude.{◌&&◌, ◌||◌, map, nat_le, bit_and, replicate, slice_index_or}
+use Rattle.std.proofs.Common.{◌≡◌, ℕ, zero, suc, ◌+◌, ◌<◌, ◌≤◌, eqb, Bool, true, false, not, List, [], ◌∷◌, ◌++◌, length, drop, get_or, set, None, refl, sym, ◌∙◌, ap, subst, append_assoc, arith}
+use Rattle.std.specs.Prelude.{◌&&◌, ◌||◌, map, nat_le, bit_and, replicate}
 use Rattle.std.specs.List.{AllByRecursion, list_any}
-use Rattle.std.proofs.lemmas.Bool.{and_parts, eq-eqb, eqb-true, le-ltb}
+use Rattle.std.proofs.lemmas.Bool.{and_parts, eq-eqb, eqb-true}
 use Rattle.std.proofs.lemmas.Bool.Decides.{nat_tests}
 use Rattle.std.proofs.lemmas.Nat.{and_le_r}
 use Rattle.std.proofs.lemmas.List.{append-nil, map-append, length-map, length-append}
@@ -11,32 +11,27 @@ use Rattle.of_oxm.proofs.Written.{canonical_short}
 use Rattle.of_oxm.specs.Canonical.{canonical}
 use Rattle.of_actions.specs.CanonicalInstructions.{canonical_instructions}
 use Rattle.of_actions.proofs.InstructionLengths.{instructions_short}
-use Rattle.of_groups.specs.declared.group.Group.{Group}
 use Rattle.of_groups.specs.Buckets.{sends}
 use Rattle.of_groups.specs.Faults.{is_absent}
-use Rattle.of_table.specs.declared.flow.Flow.{Flow}
 use Rattle.of_table.specs.Selecting.{has_action}
-use Rattle.of_table.specs.Table.{FlowEntry, Table, added, empty_table, is_full, is_overlapped, is_same}
+use Rattle.of_table.specs.Table.{FlowEntry, Table, added, empty_table, is_full, is_same}
 use Rattle.of_table.specs.Tables.{Tables, added_to, no_tables, table_at, tables_of}
 use Rattle.of_table.proofs.PlaceLemmas.{find_none, filter_others}
 use Rattle.of_text.specs.Flows.{Flow as TextFlow, Step, Apply, Clear, Write, Metadata, Goto}
 use Rattle.of_text.specs.Groups.{TextGroup, groups_at}
-use Rattle.of_text.specs.Kept.{AllStandBehind, IsEntry, StandsBehind, instruction_of, instructions_of}
+use Rattle.of_text.specs.Kept.{AllStandBehind, IsEntry, instruction_of, instructions_of}
 use Rattle.of_text.specs.Refusals.{names_absent, is_same as is_same_text}
 use Rattle.of_text.specs.Configs.{all_flows}
 use Rattle.of_text.specs.Rows.{HeadFits}
-use Rattle.of_messages.specs.Heads.{xid_of}
-use Rattle.of_messages.specs.declared.message.FlowMod.{FlowMod}
 use Rattle.of_messages.specs.declared.message.Message.TheVariants.{FlowMod as IsFlowMod}
 use Rattle.of_messages.specs.Written.{flow_mod_bytes, flow_mod_front}
 use Rattle.of_messages.proofs.Appended.{length_flow_mod}
-use Rattle.of_build.specs.Building.{add_of, add_lines, piece_line}
+use Rattle.of_build.specs.Building.{add_of, add_lines}
 use Rattle.of_switch.specs.declared.event.Event.{Event}
 use Rattle.of_switch.specs.declared.event.Event.TheVariants.{Piece}
-use Rattle.of_switch.specs.Commands.{flags_of, flow_mod_refusals, flow_of, has_flag, names_absent_group}
-use Rattle.of_switch.specs.Loading.{flow_in, loaded_entry, loaded_table, loaded_tables}
-use Rattle.of_switch.specs.State.{Core, State}
-use Rattle.of_switch.specs.Steps.{does, done, state_refusals, with_tables}
+use Rattle.of_switch.specs.Commands.{flow_mod_refusals, flow_of, has_flag, names_absent_group}
+use Rattle.of_switch.specs.Loading.{loaded_entry, loaded_table, loaded_tables}
+use Rattle.of_switch.specs.State.{State}
 use Rattle.of_switch.specs.Runs.{Gives, happened}
 use Rattle.of_switch.proofs.LoadLemmas.{filled, filled_all, filled_more, filled_next, filled_none}
 use Rattle.of_round_trip.proofs.ByteLemmas.{flow_mod_are_bytes}

@@ -1,9 +1,9 @@
 -- Groups that are added in turn.
-use Rattle.std.proofs.Common.{◌≡◌, ℕ, zero, suc, ◌+◌, ◌^◌, ◌<◌, ◌≤◌, eqb, ltb, Bool, true, false, not, cond, List, [], ◌∷◌, ◌++◌, length, Option, Some, None, refl, sym, ◌∙◌, ap, subst, append_assoc, arith}
+use Rattle.std.proofs.Common.{◌≡◌, ℕ, suc, ◌+◌, ◌<◌, ◌≤◌, eqb, Bool, true, false, not, cond, List, [], ◌∷◌, ◌++◌, length, Option, Some, None, refl, sym, ◌∙◌, ap, subst, append_assoc, arith}
 use Rattle.std.specs.Prelude.{◌&&◌, ◌||◌, map, filter, nat_le, nat_lt}
-use Rattle.std.specs.List.{AllByRecursion, list_all, list_any, flat_map}
+use Rattle.std.specs.List.{AllByRecursion, list_all}
 use Rattle.std.specs.Option.{option_map_or}
-use Rattle.std.proofs.lemmas.Bool.{and_from, and_parts, eq-eqb, eqb-true, lt-ltb, le-ltb, not-false}
+use Rattle.std.proofs.lemmas.Bool.{and_parts, eq-eqb, eqb-true}
 use Rattle.std.proofs.lemmas.Bool.Decides.{nat_tests}
 use Rattle.std.proofs.lemmas.List.{append-nil, length-append, length-map}
 use Rattle.of_wire.specs.Refusals.{first_of}
@@ -32,7 +32,7 @@ use Rattle.of_build.specs.Building.{group_lines, in_turn, new_of, of_length, pie
 use Rattle.of_switch.specs.declared.event.Event.{Event}
 use Rattle.of_switch.specs.declared.event.Event.TheVariants.{Piece}
 use Rattle.of_switch.specs.GroupMods.{refused_for}
-use Rattle.of_switch.specs.State.{Core, State}
+use Rattle.of_switch.specs.State.{State}
 use Rattle.of_switch.specs.Runs.{Gives, happened}
 use Rattle.of_round_trip.proofs.ByteLemmas.{group_add_are_bytes}
 use Rattle.of_round_trip.proofs.Messages.{built, one_message}

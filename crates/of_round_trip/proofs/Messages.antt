@@ -1,6 +1,5 @@
 -- What is written is one message of the stream; and the switch that is built.
-use Rattle.std.proofs.Common.{◌≡◌, ℕ, ◌+◌, ◌*◌, ◌<◌, ◌≤◌, List, [], ◌∷◌, ◌++◌, length, drop, refl, sym, ◌∙◌, ap, arith}
-use Rattle.byteorder.specs.Endian.{big_number}
+use Rattle.std.proofs.Common.{◌≡◌, ℕ, ◌≤◌, List, [], length, ◌∙◌, arith}
 use Rattle.of_groups.specs.declared.group.Group.{Group}
 use Rattle.of_table.specs.Tables.{Tables}
 use Rattle.of_messages.specs.Heads.{header_length}

@@ -1,24 +1,21 @@
 -- A piece that is one message.
-use Rattle.std.proofs.Common.{◌≡◌, ℕ, ◌+◌, ◌<◌, ◌≤◌, Bool, true, false, List, [], ◌∷◌, ◌++◌, length, take, drop, Option, Some, None, Result, Ok, Err, refl, sym, ◌∙◌, ap, subst, append_assoc, arith}
+use Rattle.std.proofs.Common.{◌≡◌, ℕ, List, [], ◌∷◌, ◌++◌, length, take, drop, Some, None, Ok, refl, sym, ◌∙◌, ap, arith}
 use Rattle.std.specs.Prelude.{replicate}
 use Rattle.std.proofs.lemmas.List.{append-nil, drop_all}
-use Rattle.of_wire.specs.declared.code.Code.{Code}
 use Rattle.of_wire.specs.Refusals.{first_of}
 use Rattle.of_messages.specs.declared.message.Message.{Message}
-use Rattle.of_messages.specs.declared.role.Role.{Role}
 use Rattle.of_messages.specs.declared.role.Role.TheVariants.{Equal}
 use Rattle.of_messages.specs.Heads.{xid_of}
 use Rattle.of_messages.specs.Hellos.{version_by, elements_of}
-use Rattle.of_messages.specs.Messages.{message_from, message_of}
+use Rattle.of_messages.specs.Messages.{message_of}
 use Rattle.of_messages.specs.Written.{hello_bytes}
 use Rattle.of_session.specs.declared.session.Phase.TheVariants.{Open}
 use Rattle.of_session.specs.declared.session.Next.{Next}
 use Rattle.of_session.specs.declared.session.Next.TheVariants.{Read}
-use Rattle.of_session.specs.Stream.{First, Whole, IsMessage, front_of}
-use Rattle.of_session.specs.Session.{Connection, greeting, next_by as next_in_by, read_as}
+use Rattle.of_session.specs.Stream.{Whole, IsMessage, front_of}
+use Rattle.of_session.specs.Session.{greeting}
 use Rattle.of_session.proofs.Fronts.{message_front}
 use Rattle.of_build.specs.Building.{hello}
-use Rattle.of_switch.specs.declared.effect.Effect.{Effect}
 use Rattle.of_switch.specs.declared.effect.Effect.TheVariants.{Answer}
 use Rattle.of_switch.specs.declared.event.Event.{Event}
 use Rattle.of_switch.specs.declared.event.Event.TheVariants.{Connect, Piece}

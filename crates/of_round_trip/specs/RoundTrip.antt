@@ -4,7 +4,7 @@ use Rattle.of_text.specs.Configs.{Configuration}
 use Rattle.of_messages.specs.Written.{hello_bytes}
 use Rattle.of_switch.specs.declared.effect.Effect.TheVariants.{Answer}
 use Rattle.of_switch.specs.State.{start}
-use Rattle.of_switch.specs.Runs.{Report, Gives, Run, run}
+use Rattle.of_switch.specs.Runs.{Gives, Run, run}
 use Rattle.of_switch.specs.Loading.{config_of}
 use Rattle.of_replay.specs.Lexing.{lines_of}
 use Rattle.of_replay.specs.Rows.{rows_of}
