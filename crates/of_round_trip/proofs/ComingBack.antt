@@ -172,6 +172,7 @@ comes_back text config dpid s =
       good = ap (λ (r : Rows). r.bad) rows;
       others = length (Piece hello ∷ later config);
       quiet = ap (λ (r : Run). r.reports) all;
+      core_is = ap (λ (r : Run). r.state.core) all;
       config_is = ap (λ (r : Run). config_of r.state) all ∙ told_again config (start dpid) k;
     }
 

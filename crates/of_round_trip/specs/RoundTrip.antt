@@ -5,7 +5,7 @@ use Rattle.of_messages.specs.Written.{hello_bytes}
 use Rattle.of_switch.specs.declared.effect.Effect.TheVariants.{Answer}
 use Rattle.of_switch.specs.State.{start}
 use Rattle.of_switch.specs.Runs.{Gives, Run, run}
-use Rattle.of_switch.specs.Loading.{config_of}
+use Rattle.of_switch.specs.Loading.{config_of, loaded}
 use Rattle.of_replay.specs.Lexing.{lines_of}
 use Rattle.of_replay.specs.Rows.{rows_of}
 
@@ -17,8 +17,10 @@ run_of dpid file = run (rows_of (lines_of file)).events (start dpid)
 pub record ComesBack (dpid : ℕ) (file : List ℕ) (config : Configuration) : Type 0 where
   -- no row is bad
   pub good : (rows_of (lines_of file)).bad ≡ None
-  -- the switch says its HELLO, and has nothing to say to what follows; no event is refused and no message is answered by an ERROR
+  -- the switch says its HELLO, and has nothing to say to what follows: no event is refused, and no message is answered by an ERROR
   pub others : ℕ
   pub quiet : (run_of dpid file).reports ≡ Gives (Answer hello_bytes ∷ []) ∷ replicate others (Gives [])
-  -- the switch has the configuration
+  -- but for its connection the switch is a new one that the configuration was loaded into
+  pub core_is : (run_of dpid file).state.core ≡ (loaded config (start dpid)).core
+  -- so it has the configuration
   pub config_is : config_of (run_of dpid file).state ≡ config
