@@ -160,7 +160,7 @@ steps_noted f asked sights (step ∷ steps) rest =
     let whole : OnlyNotesAdded (line ++ (steps_text steps ++ rest)) (line ++ (first ++ set) ++ (behind ++ rest)) = more (step_line step) (first ++ set) _ _ (both first set (of_first f asked sights step) (of_set step steps)) (steps_noted f asked (stepped (world_of f) step sights) steps rest) in
     let plain : line ++ (steps_text steps ++ rest) ≡ steps_text (step ∷ steps) ++ rest = sym (append_assoc line (steps_text steps) rest) in
     let noted : line ++ (first ++ set) ++ (behind ++ rest) ≡ explained_from f asked sights (step ∷ steps) ++ rest =
-        ap (λ (l : List ℕ). l ++ (behind ++ rest)) (sym (append_assoc line first set)) ∙ sym (append_assoc (line ++ first ++ set) behind rest) in
+    ap (λ (l : List ℕ). l ++ (behind ++ rest)) (sym (append_assoc line first set)) ∙ sym (append_assoc (line ++ first ++ set) behind rest) in
     rw (sym plain, sym noted) whole
 
 pub explained_noted : (f : Forwarding) (asked : Asked) (port : ℕ) (frame : List ℕ) (steps : List Step) (effects : List Effect) → OnlyNotesAdded (trace_text steps effects) (explained f asked port frame steps effects)
