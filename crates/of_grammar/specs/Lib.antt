@@ -1,0 +1,4 @@
+pub mod Cells
+pub mod Buckets
+pub mod Requests
+pub mod Grammar

@@ -1,0 +1,7 @@
+//! The grammar of OpenFlow messages: which bytes spell which message, apart from what reads and writes them, and the laws that
+//! join it to both. There is nothing to call here.
+#![tactic(auto)]
+
+mod laws;
+
+pub use laws::{no_spelling_begins_another, one_message, read_exactly};
