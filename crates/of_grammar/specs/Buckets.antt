@@ -8,16 +8,16 @@ use Rattle.of_grammar.specs.Cells.{Cell, u16, u32, pad, Begins}
 abbrev pub bucket_cells : ℕ → Bucket → List Cell
 bucket_cells size b = u16 size ∷ u16 b.weight ∷ u32 b.watch_port ∷ u32 b.watch_group ∷ pad 4 ∷ []
 
--- these bytes are the bucket, which was used by no packet yet, and behind its fields stand its actions; OFPGMFC_BAD_BUCKET of a length that is no multiple of 8
-pub record IsBucket (b : Bucket) (bytes : List ℕ) : Type 0 where
+-- in front of the bytes stands the bucket, its fields and its actions, and behind it the rest; no packet has used it yet, and its length is a multiple of 8 (else OFPGMFC_BAD_BUCKET)
+pub record IsBucket (b : Bucket) (bytes rest : List ℕ) : Type 0 where
   pub actions : List ℕ
-  pub front : Begins (bucket_cells (length bytes) b) bytes actions
+  pub front : Begins (bucket_cells (16 + length actions) b) bytes (actions ++ rest)
   pub are : AreActions false [] actions b.actions None
-  pub eights : length bytes % 8 ≡ 0
+  pub eights : (16 + length actions) % 8 ≡ 0
   pub packets : b.packets ≡ 0
   pub bytes_used : b.bytes ≡ 0
 
--- these bytes are the buckets, one behind the other
+-- bytes are these buckets, one behind the other
 abbrev pub AreBuckets : List Bucket → List ℕ → Type 0
 AreBuckets [] bytes = bytes ≡ []
-AreBuckets (b ∷ bs) bytes = (this : List ℕ) × (others : List ℕ) × (bytes ≡ this ++ others) × IsBucket b this × AreBuckets bs others
+AreBuckets (b ∷ bs) bytes = (rest : List ℕ) × IsBucket b bytes rest × AreBuckets bs rest

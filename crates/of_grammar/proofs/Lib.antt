@@ -1,0 +1,5 @@
+mod Places
+mod Items
+mod ActionTails
+mod InstructionTails
+mod MatchTails
