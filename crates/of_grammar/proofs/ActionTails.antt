@@ -1,18 +1,20 @@
 -- Actions that were computed from bytes are the actions that the bytes are.
-use Rattle.std.proofs.Common.{◌≡◌, ◌<◌, ℕ, zero, suc, Bool, true, false, cond, List, [], ◌∷◌, length, drop, Option, Some, None, Result, Ok, Err, refl, arith}
-use Rattle.std.specs.Prelude.{IsSome}
+use Rattle.std.proofs.Common.{◌≡◌, ◌<◌, ℕ, zero, suc, Bool, true, false, not, eqb, cond, List, [], ◌∷◌, length, drop, Option, Some, None, Result, Ok, Err, refl, arith}
+use Rattle.std.specs.Prelude.{IsSome, slice_index}
 use Rattle.std.specs.Option.{option_map, option_map_or}
 use Rattle.std.proofs.lemmas.Bool.{ltb-false}
 use Rattle.of_wire.specs.declared.code.Code.{Code}
-use Rattle.of_wire.specs.Refusals.{first_of}
+use Rattle.of_wire.specs.Refusals.{refusal, first_of}
 use Rattle.of_wire.specs.Items.{TakesBytes}
 use Rattle.of_wire.proofs.FirstLemmas.{none_applies, first_false}
 use Rattle.of_layers.specs.declared.field.Field.{Field}
+use Rattle.of_layers.specs.Reading.{is_tag_type}
 use Rattle.of_actions.specs.declared.action.Action.{Action}
-use Rattle.of_actions.specs.declared.action.Action.TheVariants.{SetField}
-use Rattle.of_actions.specs.Beginnings.{len_at}
+use Rattle.of_actions.specs.declared.action.Action.TheVariants.{Output, PushVlan, PopVlan, Group, SetNwTtl, DecNwTtl, SetField}
+use Rattle.of_actions.specs.Beginnings.{type_at, len_at}
+use Rattle.of_actions.specs.PortNumbers.{is_port}
 use Rattle.of_actions.specs.SetField.{set_field_at, set_value_at, set_refusals, known_set_refusals}
-use Rattle.of_actions.specs.Actions.{actions_of, action_refusals, type_refusals, action_at, actions_said, AreActions}
+use Rattle.of_actions.specs.Actions.{first_at, max_len_at, wrong_size, actions_of, action_refusals, type_refusals, action_at, actions_said, AreActions}
 use Rattle.of_grammar.proofs.Items.{HasValues, are_items}
 
 -- where none is refused, none of the later ones is
@@ -55,7 +57,13 @@ some_set rest none = some_field rest (set_field_at rest) _ none
 
 some_type : (packet_out : Bool) (rest : List ℕ) → first_of (type_refusals packet_out rest) ≡ None → IsSome (action_at rest)
 unfolding type_refusals action_at
-some_type packet_out rest none = some_action _ _ _ _ _ _ _ _ _ _ _ _ _ _ _ _ _ _ _ _ _ _ _ _ (some_set rest) none
+some_type packet_out rest none =
+    let t = type_at rest in
+    some_action (eqb t 0) (eqb t 17) (eqb t 18) (eqb t 22) (eqb t 23) (eqb t 24) (eqb t 25) (eqb t 0xffff)
+    (wrong_size 16 rest ∷ (not (is_port packet_out (first_at 4 rest)), refusal 2 4) ∷ []) (wrong_size 8 rest ∷ (not (is_tag_type (first_at 2 rest)), refusal 2 5) ∷ []) (wrong_size 8 rest ∷ []) (wrong_size 8 rest ∷ [])
+    (wrong_size 8 rest ∷ []) (wrong_size 8 rest ∷ []) (set_refusals rest) (refusal 2 2) (refusal 2 0)
+    (Output (first_at 4 rest) (max_len_at rest)) (PushVlan (first_at 2 rest)) PopVlan (Group (first_at 4 rest)) (SetNwTtl (slice_index rest 4)) DecNwTtl
+    (option_map (λ (f : Field). SetField f (set_value_at f rest)) (set_field_at rest)) (some_set rest) none
 
 actions_have : (packet_out : Bool) → HasValues (actions_of packet_out)
 unfolding action_refusals

@@ -3,3 +3,5 @@ mod Items
 mod ActionTails
 mod InstructionTails
 mod MatchTails
+mod BucketTails
+mod Heads

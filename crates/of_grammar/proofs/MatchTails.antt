@@ -61,16 +61,20 @@ fields_found body fields fits h =
     record { rest = []; whole = r.whole ∙ sym (append-nil (spellings fields)); fine = r.fine; ended = refl }
 
 
+parts : (a c : List MatchField) (b d : ℕ) → ◌≡◌ {A = Result (List MatchField × ℕ) Code} (Ok (a, b)) (Ok (c, d)) → (a ≡ c) × (b ≡ d)
+parts a c b d e = let both : (a, b) ≡ (c, d) = cc in (ap (λ (p : List MatchField × ℕ). p.0) both, ap (λ (p : List MatchField × ℕ). p.1) both)
+
 pub match_found : (bytes : List ℕ) (m : List MatchField) (n : ℕ) → IsBytes bytes → match_of bytes ≡ Ok (m, n) → SpellsMatch (take n bytes) m
 unfolding match_of
 match_found bytes m n fits h = by_head (first_of (head_refusals bytes)) refl h
   where
     by_met : (none : first_of (head_refusals bytes) ≡ None) (fields : List MatchField) → Fields [] (body_of bytes) fields None → (met : Bool) → all_met (normal fields) ≡ met
-        → cond met (Ok (normal fields, padded (match_len bytes))) (Err (record { kind = 4; code = 9 })) ≡ Ok (m, n) → SpellsMatch (take n bytes) m
+        → cond {A = Result (List MatchField × ℕ) Code} met (Ok (normal fields, padded (match_len bytes))) (Err (record { kind = 4; code = 9 })) ≡ Ok (m, n) → SpellsMatch (take n bytes) m
     by_met none fields walk false met e = absurd cc
     by_met none fields walk true met e =
-        let same : normal fields ≡ m = cc in
-        let size : padded (match_len bytes) ≡ n = cc in
+        let both = parts (normal fields) m (padded (match_len bytes)) n e in
+        let same = both.0 in
+        let size = both.1 in
         subst (λ (k : ℕ). SpellsMatch (take k bytes) m) size
         (whole_spelt bytes (body_of bytes) (match_len bytes) fields m fits none refl refl walk (sym same) (ap all_met (sym same) ∙ met))
 
