@@ -5,3 +5,7 @@ mod InstructionTails
 mod MatchTails
 mod BucketTails
 mod Heads
+mod OnlySmall
+mod OnlyLarge
+mod OnlyRequests
+mod Only
