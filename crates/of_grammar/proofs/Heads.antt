@@ -186,7 +186,7 @@ body_known set_async m = refl
 
 -- ---- what holds of a message whose head is not refused
 
-abbrev needs_version : Kind → ℕ → Bool
+abbrev pub needs_version : Kind → ℕ → Bool
 needs_version k version = not (eqb (type_number k) 0) && not (eqb version 4)
 
 abbrev pub is_short : Kind → List ℕ → Bool

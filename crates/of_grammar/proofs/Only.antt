@@ -15,6 +15,7 @@ use Rattle.of_messages.specs.declared.role.RoleRequest.TheVariants.{NoChange, Eq
 use Rattle.of_messages.specs.Heads.{version_of, type_of, header_length, xid_of, actions_length}
 use Rattle.of_messages.specs.Messages.{message_of, as_flow_mod, as_packet_out, as_group_mod, as_port_mod, as_table_mod, as_set_config, as_role_request, as_multipart}
 use Rattle.of_grammar.specs.Grammar.{MatchThenInstructions, front_cells, group_mod_cells, role_cells, IsValid, Spells, Tail}
+use Rattle.of_grammar.specs.Requests.{request_cells}
 use Rattle.of_grammar.proofs.Heads.{Kind, hello, error, echo_request, echo_reply, features_request, get_config_request, set_config, packet_out, flow_mod, group_mod, port_mod, table_mod, multipart, barrier_request, role_request, get_async_request, set_async, type_number, is_bad, is_short, needs_version, body_by, Head, said_by}
 use Rattle.of_grammar.proofs.OnlyLarge.{Tailed, tailed, packet_out_only, flow_mod_only, group_mod_only}
 use Rattle.of_grammar.proofs.OnlyRequests.{request_only}
@@ -117,7 +118,8 @@ reads_as xid (IsGroupMod g) m tail p t valid =
     let y = p.places in
     let long = p.long in
     let places = group_size g in
-    let behind : tail ≡ drop 16 m = p.behind ∙ ap (λ (n : ℕ). drop n m) (omega arith) in
+    let place : size (front_cells (IsGroupMod g) (length m) xid) ≡ 16 = omega arith in
+    let behind : tail ≡ drop 16 m = p.behind ∙ ap (λ (n : ℕ). drop n m) place in
     of_kind group_mod m (omega arith) y.0 y.1.0 y.1.1.0 (le-ltb _ _ (omega arith)) refl ∙ ap as_group_mod (group_mod_only g m tail behind y.1.1.1.1 t valid)
 reads_as xid (IsPortMod port) m tail p t valid =
     let y = p.places in
@@ -132,8 +134,9 @@ reads_as xid (IsTableMod table) m tail p t valid =
 reads_as xid (Multipart request) m tail p t valid =
     let y = p.places in
     let long = p.long in
+    let place : size (front_cells (Multipart request) (length m) xid) ≡ 8 + size (request_cells request) = omega arith in
     of_kind multipart m (omega arith) y.0 y.1.0 y.1.1.0 (le-ltb _ _ (omega arith)) refl
-    ∙ ap as_multipart (request_only request m tail y.1.1.1.1 (omega arith) (p.behind ∙ ap (λ (n : ℕ). drop n m) (omega arith)) t valid)
+    ∙ ap as_multipart (request_only request m tail y.1.1.1.1 (omega arith) (p.behind ∙ ap (λ (n : ℕ). drop n m) place) t valid)
 reads_as xid BarrierRequest m tail p t valid =
     let y = p.places in
     let long = p.long in
