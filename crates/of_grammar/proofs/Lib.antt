@@ -9,3 +9,5 @@ mod OnlySmall
 mod OnlyLarge
 mod OnlyRequests
 mod Only
+mod FoundSmall
+mod FoundLarge

@@ -171,15 +171,15 @@ group_only g command m tail there s said most =
     ∙ ap (then_buckets (number_in m) g.kind) buckets
     ∙ ap (λ (n : ℕ). Ok (record { id = n; kind = g.kind; buckets = g.buckets })) number
 
-by_add : (m : List ℕ) → command_in m ≡ 0 → group_mod_of m ≡ as_add (group_of m)
+pub by_add : (m : List ℕ) → command_in m ≡ 0 → group_mod_of m ≡ as_add (group_of m)
 unfolding group_command_of
 by_add m e = rw e refl
 
-by_modify : (m : List ℕ) → command_in m ≡ 1 → group_mod_of m ≡ as_modify (group_of m)
+pub by_modify : (m : List ℕ) → command_in m ≡ 1 → group_mod_of m ≡ as_modify (group_of m)
 unfolding group_command_of
 by_modify m e = rw e refl
 
-by_delete : (m : List ℕ) → command_in m ≡ 2 → group_mod_of m ≡ delete_of (number_in m)
+pub by_delete : (m : List ℕ) → command_in m ≡ 2 → group_mod_of m ≡ delete_of (number_in m)
 unfolding group_command_of
 by_delete m e = rw e refl
 
