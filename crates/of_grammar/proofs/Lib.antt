@@ -11,3 +11,6 @@ mod OnlyRequests
 mod Only
 mod FoundSmall
 mod FoundLarge
+mod FoundRequests
+mod Found
+mod OneMessage
