@@ -14,3 +14,4 @@ mod FoundLarge
 mod FoundRequests
 mod Found
 mod OneMessage
+mod Senders

@@ -20,6 +20,8 @@ use Rattle.of_messages.specs.declared.message.Message.TheVariants.{Hello, Error,
 use Rattle.of_messages.specs.declared.message.PacketData.{PacketData}
 use Rattle.of_messages.specs.declared.message.PacketData.TheVariants.{Buffered, Frame}
 use Rattle.of_messages.specs.declared.message.PacketOut.{PacketOut}
+use Rattle.of_messages.specs.declared.role.Role.{Role}
+use Rattle.of_messages.specs.declared.role.Role.TheVariants as role
 use Rattle.of_messages.specs.declared.role.RoleRequest.{RoleRequest}
 use Rattle.of_messages.specs.declared.role.RoleRequest.TheVariants.{NoChange, Equal, Master, Slave}
 use Rattle.of_grammar.specs.Buckets.{AreBuckets}
@@ -269,3 +271,28 @@ pub record Spells (xid : ℕ) (m : Message) (bytes : List ℕ) : Type 0 where
   pub front : Begins (front_cells m (length bytes) xid) bytes tail
   pub behind : Tail m tail
   pub valid : IsValid m
+
+-- WHO MAY SEND IT (6.3.4): a slave may not change the switch or send a packet, else OFPBRC_IS_SLAVE
+abbrev pub changes : Message → Bool
+changes Hello = false
+changes Error = false
+changes (EchoRequest echoed) = false
+changes EchoReply = false
+changes FeaturesRequest = false
+changes GetConfigRequest = false
+changes (SetConfig config) = false
+changes (IsPacketOut m) = true
+changes (IsFlowMod m) = true
+changes (IsGroupMod m) = true
+changes (IsPortMod m) = true
+changes (IsTableMod m) = true
+changes (Multipart request) = false
+changes BarrierRequest = false
+changes (IsRoleRequest request) = false
+changes GetAsyncRequest = false
+changes (SetAsync masks) = false
+
+abbrev pub MaySend : Role → Message → Type 0
+MaySend role.Equal m = ⊤
+MaySend role.Master m = ⊤
+MaySend role.Slave m = changes m ≡ false

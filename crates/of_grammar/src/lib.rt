@@ -4,4 +4,4 @@
 
 mod laws;
 
-pub use laws::{no_spelling_begins_another, one_message, read_exactly};
+pub use laws::{no_spelling_begins_another, one_message, read_as_exactly, read_exactly};
