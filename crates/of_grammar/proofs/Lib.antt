@@ -15,3 +15,4 @@ mod FoundRequests
 mod Found
 mod OneMessage
 mod Senders
+mod Writings

@@ -38,3 +38,12 @@ IsCell (even w) bytes = big_number w bytes % 2 ≡ 0
 abbrev pub Begins : List Cell → List ℕ → List ℕ → Type 0
 Begins [] bytes rest = bytes ≡ rest
 Begins (c ∷ cs) bytes rest = (width c ≤ length bytes) × IsCell c (take (width c) bytes) × Begins cs (drop (width c) bytes) rest
+
+-- each number is below what its bytes can say, and bytes that stand as they are have their width
+abbrev pub Fits : List Cell → Type 0
+Fits [] = Unit {0}
+Fits (byte n ∷ cs) = (n < 256) × Fits cs
+Fits (number w n ∷ cs) = (n < 256 ^ w) × Fits cs
+Fits (plain w xs ∷ cs) = (length xs ≡ w) × Fits cs
+Fits (pad w ∷ cs) = Fits cs
+Fits (even w ∷ cs) = Fits cs

@@ -2,3 +2,4 @@ pub mod Cells
 pub mod Buckets
 pub mod Requests
 pub mod Grammar
+pub mod Told
