@@ -16,3 +16,5 @@ mod Found
 mod OneMessage
 mod Senders
 mod Writings
+mod WrittenRequests
+mod WrittenTold
