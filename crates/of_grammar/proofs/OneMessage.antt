@@ -8,8 +8,10 @@ use Rattle.of_messages.specs.declared.message.Message.{Message}
 use Rattle.of_messages.specs.Heads.{header_length}
 use Rattle.of_messages.specs.Messages.{message_of}
 use Rattle.of_grammar.specs.Grammar.{Spells}
+use Rattle.of_grammar.specs.Told.{Told, told_front, SpellsTold}
 use Rattle.of_grammar.proofs.Heads.{said}
 use Rattle.of_grammar.proofs.Only.{only, xid_is}
+use Rattle.of_grammar.proofs.Places.{says, size_is}
 
 pub one_message : (x y : ℕ) (v w : Message) (bytes : List ℕ) → Spells x v bytes → Spells y w bytes → (x ≡ y) × (v ≡ w)
 one_message x y v w bytes s t =
@@ -32,3 +34,21 @@ no_front x y v w bytes more s t =
     let a = said bytes v (only x v bytes s) in
     let b = said (bytes ++ more) w (only y w (bytes ++ more) t) in
     ends_it bytes more a.head.long a.head.len b.head.len
+
+-- the same of what a switch tells
+record Sized (bytes : List ℕ) : Type 0 where
+  long : 8 ≤ length bytes
+  len : header_length bytes ≡ length bytes
+
+told_size : (x : ℕ) (t : Told) (bytes : List ℕ) → SpellsTold x t bytes → Sized bytes
+told_size x t bytes s =
+    let cells = told_front t (length bytes) x in
+    let y = says 0 cells bytes bytes s.tail refl s.front in
+    let long = size_is cells bytes s.tail s.front in
+    record { long = omega arith; len = y.1.1.0 }
+
+pub no_told_front : (x y : ℕ) (t u : Told) (bytes more : List ℕ) → SpellsTold x t bytes → SpellsTold y u (bytes ++ more) → more ≡ []
+no_told_front x y t u bytes more s r =
+    let a = told_size x t bytes s in
+    let b = told_size y u (bytes ++ more) r in
+    ends_it bytes more a.long a.len b.len

@@ -1,10 +1,11 @@
-//! Laws of the grammar of messages.
+//! Laws of the grammar of messages, joined to what reads them.
 ghost use Rattle.std.specs.Prelude.{◌≡◌, ◌++◌, ℕ, List, [], true, Ok, Err};
 ghost use Rattle.of_wire.specs.Refusals.{refusal};
 ghost use Rattle.of_messages.specs.Messages.{message_from, message_of, xid_of};
 ghost use Rattle.of_messages.specs.declared.message.Message.{Message};
 ghost use Rattle.of_messages.specs.declared.role.Role.TheVariants.{Slave};
 ghost use Rattle.of_grammar.specs.Grammar.{changes, MaySend, Spells};
+ghost use Rattle.of_grammar.specs.Told.{SpellsTold, Told};
 
 use of_messages::Role;
 
@@ -30,7 +31,8 @@ pub fn one_message()
     ensures { (x y : ℕ) (v w : Message) (bytes : List ℕ) → Spells x v bytes → Spells y w bytes → (x ≡ y) × (v ≡ w) }
 {}
 
-/// No spelling of a message begins another one's.
+/// No spelling begins another one's, of messages of a controller or of what this switch tells.
 pub fn no_spelling_begins_another()
-    ensures { (x y : ℕ) (v w : Message) (bytes more : List ℕ) → Spells x v bytes → Spells y w (bytes ++ more) → more ≡ [] }
+    ensures message { (x y : ℕ) (v w : Message) (bytes more : List ℕ) → Spells x v bytes → Spells y w (bytes ++ more) → more ≡ [] }
+    ensures told { (x y : ℕ) (t u : Told) (bytes more : List ℕ) → SpellsTold x t bytes → SpellsTold y u (bytes ++ more) → more ≡ [] }
 {}

@@ -3,5 +3,7 @@
 #![tactic(auto)]
 
 mod laws;
+mod written;
 
 pub use laws::{no_spelling_begins_another, one_message, read_as_exactly, read_exactly};
+pub use written::{written_flow_mod_is_spelt, written_group_mod_is_spelt, written_is_told};
