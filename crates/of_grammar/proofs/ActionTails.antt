@@ -1,5 +1,5 @@
 -- Actions that were computed from bytes are the actions that the bytes are.
-use Rattle.std.proofs.Common.{◌≡◌, ◌<◌, ℕ, zero, suc, Bool, true, false, not, eqb, cond, List, [], ◌∷◌, length, drop, Option, Some, None, Result, Ok, Err, refl, arith}
+use Rattle.std.proofs.Common.{◌≡◌, ℕ, zero, suc, Bool, true, false, not, eqb, cond, List, [], ◌∷◌, drop, Option, Some, None, Ok, refl, arith}
 use Rattle.std.specs.Prelude.{IsSome, slice_index}
 use Rattle.std.specs.Option.{option_map, option_map_or}
 use Rattle.std.proofs.lemmas.Bool.{ltb-false}
@@ -30,7 +30,7 @@ behind_none (suc n) (r ∷ rs) h = by_test r.0 h (behind_none n rs)
 actions_take : (packet_out : Bool) → TakesBytes (actions_of packet_out)
 unfolding action_refusals
 actions_take packet_out seen bytes some none =
-    let low = first_false _ _ (first_false _ _ (none_applies (action_refusals packet_out seen bytes) none).1.1.0) in
+    let low : ltb (len_at bytes) 8 ≡ false = first_false _ _ (first_false _ _ (none_applies (action_refusals packet_out seen bytes) none).1.1.0) in
     omega (arith, ltb-false (len_at bytes) 8 low)
 
 -- by the tests of the type, over plain variables

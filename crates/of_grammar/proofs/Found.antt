@@ -1,9 +1,8 @@
 -- What was read as a message spells it.
-use Rattle.std.proofs.Common.{◌≡◌, ◌≤◌, ◌<◌, ◌+◌, ℕ, Bool, true, false, not, eqb, ltb, List, [], ◌∷◌, length, drop, Result, Ok, Err, refl, sym, ap, subst, ◌∙◌, arith}
-use Rattle.std.specs.Prelude.{slice_index, ◌&&◌, ⊤}
+use Rattle.std.proofs.Common.{◌≡◌, ◌≤◌, ◌+◌, ℕ, Bool, true, false, not, eqb, List, [], length, drop, Result, Ok, Err, refl, sym, ap, subst, ◌∙◌, arith}
+use Rattle.std.specs.Prelude.{◌&&◌}
 use Rattle.std.proofs.lemmas.Bool.{eqb-true, ltb-false}
 use Rattle.std.proofs.Math.ListN.{drop_of_length-le}
-use Rattle.byteorder.specs.Endian.{big_number}
 use Rattle.of_wire.specs.declared.code.Code.{Code}
 use Rattle.of_wire.proofs.Numbers.{IsBytes}
 use Rattle.of_messages.specs.declared.config.SwitchConfig.{SwitchConfig}
@@ -21,18 +20,17 @@ use Rattle.of_messages.specs.declared.role.RoleRequest.TheVariants.{NoChange, Eq
 use Rattle.of_messages.specs.AsyncConfigs.{async_masks_of}
 use Rattle.of_messages.specs.Configs.{set_config_of, table_mod_of}
 use Rattle.of_messages.specs.GroupMods.{group_mod_of}
-use Rattle.of_messages.specs.Heads.{version_of, type_of, header_length, xid_of, actions_length}
+use Rattle.of_messages.specs.Heads.{version_of, xid_of, actions_length}
 use Rattle.of_messages.specs.Messages.{message_of, as_flow_mod, as_packet_out, as_group_mod, as_port_mod, as_table_mod, as_set_config, as_role_request, as_multipart, flow_mod_of, packet_out_of}
 use Rattle.of_messages.specs.Multiparts.{multipart_of}
 use Rattle.of_messages.specs.PortMods.{port_mod_of}
 use Rattle.of_messages.specs.Roles.{role_request_of}
-use Rattle.of_grammar.specs.Cells.{Cell}
-use Rattle.of_grammar.specs.Grammar.{front_cells, group_mod_cells, role_cells, GroupTail, IsValid, Spells, Tail}
-use Rattle.of_grammar.specs.Requests.{request_cells, RequestTail}
-use Rattle.of_grammar.proofs.FoundLarge.{GroupModSays, packet_out_found, flow_mod_found, group_mod_found}
+use Rattle.of_grammar.specs.Grammar.{front_cells, group_mod_cells, role_cells, IsValid, Spells, Tail}
+use Rattle.of_grammar.specs.Requests.{request_cells}
+use Rattle.of_grammar.proofs.FoundLarge.{packet_out_found, flow_mod_found, group_mod_found}
 use Rattle.of_grammar.proofs.FoundRequests.{request_found}
 use Rattle.of_grammar.proofs.FoundSmall.{async_found, config_found, port_mod_found, role_found, table_mod_found}
-use Rattle.of_grammar.proofs.Heads.{Kind, hello, error, echo_request, echo_reply, features_request, get_config_request, set_config, packet_out, flow_mod, group_mod, port_mod, table_mod, multipart, barrier_request, role_request, get_async_request, set_async, type_number, is_bad, body_by, Head, said}
+use Rattle.of_grammar.proofs.Heads.{Kind, hello, error, echo_request, echo_reply, features_request, get_config_request, set_config, packet_out, flow_mod, group_mod, port_mod, table_mod, multipart, barrier_request, role_request, get_async_request, set_async, type_number, body_by, Head, said}
 use Rattle.of_grammar.proofs.Places.{Says, size, front_of}
 
 made : (v : Message) (m : List ℕ) (n : ℕ) → IsBytes m → size (front_cells v (length m) (xid_of m)) ≡ n → n ≤ length m → Says 0 (front_cells v (length m) (xid_of m)) m → Tail v (drop n m) → IsValid v → Spells (xid_of m) v m

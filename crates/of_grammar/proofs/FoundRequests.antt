@@ -1,6 +1,6 @@
 -- What was read as a MULTIPART_REQUEST stands in its places, and behind them.
-use Rattle.std.proofs.Common.{◌≡◌, ◌≤◌, ◌<◌, ◌+◌, ◌%◌, ℕ, Bool, true, false, not, eqb, ltb, cond, List, [], ◌∷◌, ◌++◌, length, take, drop, Option, Some, None, Result, Ok, Err, refl, sym, ap, subst, ◌∙◌, arith, inl, inr}
-use Rattle.std.specs.Prelude.{slice_index, ◌==◌, if◌then◌else◌, is_none, ⊤}
+use Rattle.std.proofs.Common.{◌≡◌, ◌≤◌, ◌+◌, ◌%◌, ℕ, Bool, true, false, not, eqb, ltb, cond, List, [], length, take, drop, Option, Some, None, Result, Ok, Err, refl, sym, ap, subst, ◌∙◌, arith}
+use Rattle.std.specs.Prelude.{slice_index, ◌==◌, if◌then◌else◌, is_none}
 use Rattle.std.proofs.lemmas.Bool.{eqb-true, eqb-false, ltb-false}
 use Rattle.std.proofs.lemmas.Bool.Decides.{nat_tests}
 use Rattle.std.proofs.lemmas.List.{take-append-drop}
@@ -17,9 +17,8 @@ use Rattle.of_messages.specs.declared.multipart.MultipartRequest.{MultipartReque
 use Rattle.of_messages.specs.declared.multipart.MultipartRequest.TheVariants.{Description, Flow, Aggregate, Table, PortStats, Group, GroupDescription, GroupFeatures, PortDescription}
 use Rattle.of_messages.specs.Configs.{names_table}
 use Rattle.of_messages.specs.Heads.{is_bad_size}
-use Rattle.of_messages.specs.Multiparts.{kind_of, kind_in, size_asked, has_more, multipart_refusals, multipart_by, flow_stats_with, then_match, flow_stats_of, one_or_all, number_in, as_flow, as_aggregate, multipart_of}
-use Rattle.of_grammar.specs.Cells.{Cell, byte, u16, u32, u64, pad, even}
-use Rattle.of_grammar.specs.Requests.{BeginsMatch, IsOne, IsValidRequest, NamesTable, RequestTail, all_groups, any_port, body_cells, flows_cells, or_all, request_cells, request_type}
+use Rattle.of_messages.specs.Multiparts.{kind_of, kind_in, size_asked, multipart_refusals, multipart_by, flow_stats_with, then_match, flow_stats_of, one_or_all, number_in, as_flow, as_aggregate, multipart_of}
+use Rattle.of_grammar.specs.Requests.{BeginsMatch, IsOne, IsValidRequest, NamesTable, RequestTail, all_groups, any_port, flows_cells, or_all, request_cells}
 use Rattle.of_grammar.proofs.FoundSmall.{named}
 use Rattle.of_grammar.proofs.MatchTails.{match_found}
 use Rattle.of_grammar.proofs.OnlyRequests.{Asks, asks_0, asks_1, asks_2, asks_3, asks_4, asks_6, asks_7, asks_8, asks_13}

@@ -1,6 +1,6 @@
 -- What was read as a small message stands in its places.
-use Rattle.std.proofs.Common.{◌≡◌, ◌≤◌, ◌<◌, ◌+◌, ℕ, Bool, true, false, not, eqb, ltb, cond, List, [], ◌∷◌, length, take, drop, Option, Some, None, Result, Ok, Err, refl, sym, ap, subst, ◌∙◌, arith, inl, inr}
-use Rattle.std.specs.Prelude.{slice_index, bit_and, ◌⊎◌, ◌||◌, ⊤}
+use Rattle.std.proofs.Common.{◌≡◌, ◌≤◌, ◌+◌, ℕ, Bool, true, false, eqb, ltb, cond, List, [], ◌∷◌, length, drop, Option, Some, None, Result, Ok, Err, refl, sym, ap, subst, arith, inl, inr}
+use Rattle.std.specs.Prelude.{slice_index, bit_and, ◌||◌}
 use Rattle.std.proofs.lemmas.Bool.{eqb-true, ltb-true}
 use Rattle.std.proofs.lemmas.Bool.Decides.{nat_tests}
 use Rattle.std.proofs.lemmas.List.{drop-drop}
@@ -15,9 +15,9 @@ use Rattle.of_messages.specs.declared.role.RoleRequest.{RoleRequest}
 use Rattle.of_messages.specs.declared.role.RoleRequest.TheVariants.{NoChange, Equal, Master, Slave}
 use Rattle.of_messages.specs.AsyncConfigs.{async_masks_of}
 use Rattle.of_messages.specs.Configs.{set_config_of, names_table, table_mod_of}
-use Rattle.of_messages.specs.PortMods.{known_bits, hw_in, mask_in, port_mod_with, port_mod_of}
+use Rattle.of_messages.specs.PortMods.{known_bits, mask_in, port_mod_with, port_mod_of}
 use Rattle.of_messages.specs.Roles.{asked_by, asked_or_refused, role_request_of}
-use Rattle.of_grammar.specs.Cells.{Cell, byte, u16, u32, pad, plain}
+use Rattle.of_grammar.specs.Cells.{byte, u16, u32, pad, plain}
 use Rattle.of_grammar.specs.Grammar.{role_cells}
 use Rattle.of_grammar.specs.Requests.{NamesTable}
 use Rattle.of_grammar.proofs.OnlySmall.{async_cells, six_bytes}

@@ -1,10 +1,9 @@
 -- Instructions that were computed from bytes are those that the bytes spell.
-use Rattle.std.proofs.Common.{◌≡◌, ◌<◌, ℕ, Bool, true, false, not, List, [], ◌∷◌, length, Option, Some, None, Result, Ok, Err, refl, sym, ap, subst, ◌∙◌, arith}
+use Rattle.std.proofs.Common.{◌≡◌, ℕ, Bool, true, false, not, List, [], ◌∷◌, length, None, Result, Ok, Err, refl, sym, subst, arith}
 use Rattle.std.specs.Prelude.{IsSome}
 use Rattle.std.proofs.lemmas.Bool.{ltb-false}
 use Rattle.std.proofs.lemmas.Bool.Decides.{nat_tests}
 use Rattle.of_wire.specs.declared.code.Code.{Code}
-use Rattle.of_wire.specs.Refusals.{first_of}
 use Rattle.of_wire.specs.Items.{TakesBytes, items_of}
 use Rattle.of_wire.proofs.FirstLemmas.{none_applies, first_false}
 use Rattle.of_actions.specs.declared.action.Action.{Action}
@@ -22,7 +21,7 @@ use Rattle.of_grammar.proofs.ActionTails.{actions_found}
 headers_take : (table : ℕ) → TakesBytes (headers_of table)
 unfolding header_refusals
 headers_take table seen bytes some none =
-    let low = first_false _ _ (first_false _ _ (none_applies (header_refusals table seen bytes) none).1.0) in
+    let low : ltb (len_at bytes) 8 ≡ false = first_false _ _ (first_false _ _ (none_applies (header_refusals table seen bytes) none).1.0) in
     omega (arith, ltb-false (len_at bytes) 8 low)
 
 not_false : (a : Bool) → not a ≡ false → a ≡ true

@@ -1,5 +1,5 @@
 -- A match that was computed from bytes is the one that they begin with, and back.
-use Rattle.std.proofs.Common.{◌≡◌, ℕ, ◌+◌, ◌-◌, ◌<◌, ◌≤◌, Bool, true, false, ltb, cond, List, [], ◌∷◌, ◌++◌, length, get_or, take, drop, Option, Some, None, Result, Ok, Err, refl, sym, ap, subst, ◌∙◌, arith}
+use Rattle.std.proofs.Common.{◌≡◌, ℕ, ◌+◌, ◌-◌, ◌≤◌, Bool, true, false, ltb, cond, List, [], ◌∷◌, ◌++◌, length, get_or, take, drop, Option, Some, None, Result, Ok, Err, refl, sym, ap, subst, ◌∙◌, arith}
 use Rattle.std.specs.Prelude.{◌||◌, IsSome}
 use Rattle.std.specs.Option.{option_map, option_map_or}
 use Rattle.std.proofs.lemmas.Bool.{le-ltb}
@@ -15,7 +15,7 @@ use Rattle.of_layers.specs.Fields.{field_at}
 use Rattle.of_oxm.specs.declared.match_field.MatchField.{MatchField}
 use Rattle.of_oxm.specs.MatchFieldWire.{spelling, number_at, match_field_of, field_refusals, known_field_refusals}
 use Rattle.of_oxm.specs.MatchGrammar.{spellings, AreFieldsAfter, Fields, match_len, padded, body_of, head_refusals, SpellsMatch}
-use Rattle.of_oxm.specs.MatchReading.{match_fields, normal_match, then_normal, match_by, match_of}
+use Rattle.of_oxm.specs.MatchReading.{match_fields, then_normal, match_by, match_of}
 use Rattle.of_oxm.specs.NormalForm.{normal}
 use Rattle.of_oxm.specs.Prerequisites.{all_met}
 use Rattle.of_oxm.proofs.Computed.{found_computed}
@@ -59,7 +59,6 @@ fields_found : (body : List ℕ) (fields : List MatchField) → IsBytes body →
 fields_found body fields fits h =
     let r = read_so [] fields body fits (are_items match_fields body fields fields_take fields_have h) in
     record { rest = []; whole = r.whole ∙ sym (append-nil (spellings fields)); fine = r.fine; ended = refl }
-
 
 parts : (a c : List MatchField) (b d : ℕ) → ◌≡◌ {A = Result (List MatchField × ℕ) Code} (Ok (a, b)) (Ok (c, d)) → (a ≡ c) × (b ≡ d)
 parts a c b d e = let both : (a, b) ≡ (c, d) = cc in (ap (λ (p : List MatchField × ℕ). p.0) both, ap (λ (p : List MatchField × ℕ). p.1) both)

@@ -1,12 +1,11 @@
 -- Laws of the grammar: one message, and no spelling in front of another.
-use Rattle.std.proofs.Common.{◌≡◌, ◌≤◌, ◌+◌, ℕ, List, [], ◌∷◌, ◌++◌, length, drop, Result, Ok, refl, sym, ap, ◌∙◌, arith}
+use Rattle.std.proofs.Common.{◌≡◌, ◌≤◌, ℕ, List, [], ◌∷◌, ◌++◌, length, drop, Result, Ok, refl, sym, ap, ◌∙◌, arith}
 use Rattle.std.proofs.lemmas.List.{length-append, length-drop, drop-append-le}
 use Rattle.byteorder.specs.Endian.{big_number}
 use Rattle.byteorder.specs.Numbers.{big_from-append}
 use Rattle.of_wire.specs.declared.code.Code.{Code}
 use Rattle.of_messages.specs.declared.message.Message.{Message}
 use Rattle.of_messages.specs.Heads.{header_length}
-use Rattle.of_messages.specs.Messages.{message_of}
 use Rattle.of_grammar.specs.Grammar.{Spells}
 use Rattle.of_grammar.specs.Told.{Told, told_front, SpellsTold}
 use Rattle.of_grammar.proofs.Heads.{said}

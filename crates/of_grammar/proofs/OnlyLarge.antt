@@ -1,23 +1,18 @@
 -- What stands in the places of a PACKET_OUT, a FLOW_MOD or a GROUP_MOD, and behind them, it says.
-use Rattle.std.proofs.Common.{◌≡◌, ◌≤◌, ◌<◌, ◌+◌, ◌-◌, ℕ, Bool, true, false, not, eqb, ltb, cond, List, [], ◌∷◌, ◌++◌, length, take, drop, Option, Some, None, Result, Ok, Err, refl, sym, ap, subst, ◌∙◌, arith, inl, inr}
-use Rattle.std.specs.Prelude.{slice_index, ◌⊎◌, ◌&&◌, ◌||◌, is_none, ⊤}
-use Rattle.std.proofs.lemmas.Bool.{le-ltb, eq-eqb}
+use Rattle.std.proofs.Common.{◌≡◌, ◌≤◌, ◌<◌, ◌+◌, ◌-◌, ℕ, Bool, true, false, not, eqb, ltb, cond, List, [], ◌∷◌, ◌++◌, length, take, drop, Option, Some, None, Ok, Err, refl, sym, ap, subst, ◌∙◌, arith, inl, inr}
+use Rattle.std.specs.Prelude.{slice_index, ◌&&◌, is_none}
+use Rattle.std.proofs.lemmas.Bool.{le-ltb}
 use Rattle.std.proofs.lemmas.Bool.Decides.{nat_tests}
 use Rattle.std.proofs.lemmas.List.{length-append, length-drop, drop-drop, take_at, drop_at}
 use Rattle.byteorder.specs.Endian.{big_number}
 use Rattle.of_wire.specs.declared.code.Code.{Code}
 use Rattle.of_wire.specs.Refusals.{refusal, first_of}
 use Rattle.of_headers.specs.Faults.{frame_fault}
-use Rattle.of_oxm.specs.declared.match_field.MatchField.{MatchField}
 use Rattle.of_oxm.specs.MatchReading.{match_of}
-use Rattle.of_actions.specs.declared.action.Action.{Action}
-use Rattle.of_actions.specs.declared.instruction.Instruction.{Instruction}
 use Rattle.of_actions.specs.Actions.{actions_said}
-use Rattle.of_actions.specs.FlowCheck.{all_go_with}
 use Rattle.of_actions.specs.InstructionReading.{instructions_of}
 use Rattle.of_actions.proofs.ActionsComputed.{actions_are}
 use Rattle.of_actions.proofs.Computed.{is_computed}
-use Rattle.of_groups.specs.declared.bucket.Bucket.{Bucket}
 use Rattle.of_groups.specs.declared.group.GroupKind.{GroupKind}
 use Rattle.of_groups.specs.declared.group.GroupKind.TheVariants.{All, Indirect, FastFailover}
 use Rattle.of_messages.specs.declared.group_mod.GroupMod.{GroupMod}
@@ -32,9 +27,9 @@ use Rattle.of_messages.specs.declared.message.PacketOut.{PacketOut}
 use Rattle.of_messages.specs.Buckets.{buckets_said}
 use Rattle.of_messages.specs.GroupMods.{command_of as group_command_of, command_in, number_in, is_above, kind_of, then_buckets, then_kind, group_of, as_add, as_modify, delete_of, group_mod_of}
 use Rattle.of_messages.specs.Heads.{actions_length}
-use Rattle.of_messages.specs.Messages.{command_of, is_delete, is_bad_table, flow_mod_refusals, flow_mod_with, instructions_for, then_instructions, then_match, flow_mod_by, flow_mod_of, is_ingress, packet_out_refusals, actions_in, frame_in, packet_out_with, packet_in_data, then_packet, then_actions, packet_out_by, packet_out_of}
-use Rattle.of_grammar.specs.Cells.{Cell, byte, u16, u32, pad}
-use Rattle.of_grammar.specs.Grammar.{IsData, IsValidData, IsIngress, IsValidPacketOut, ActionsThenData, buffer_of, no_buffer, command_number, flow_mod_cells, deletes, HasInstructions, MatchThenInstructions, MayName, IsValidFlowMod, kind_number, group_cells, group_mod_cells, GroupTail, IsValidGroup, IsValidNumber, IsValidGroupMod}
+use Rattle.of_messages.specs.Messages.{command_of, is_bad_table, flow_mod_refusals, flow_mod_with, instructions_for, then_instructions, then_match, flow_mod_by, flow_mod_of, is_ingress, packet_out_refusals, actions_in, frame_in, packet_in_data, then_packet, then_actions, packet_out_by, packet_out_of}
+use Rattle.of_grammar.specs.Cells.{Cell, u16, pad}
+use Rattle.of_grammar.specs.Grammar.{IsData, IsValidData, IsIngress, IsValidPacketOut, ActionsThenData, buffer_of, command_number, flow_mod_cells, deletes, HasInstructions, MatchThenInstructions, MayName, IsValidFlowMod, kind_number, group_cells, group_mod_cells, GroupTail, IsValidNumber, IsValidGroupMod}
 use Rattle.of_grammar.specs.Requests.{NamesTable, all_groups, or_all}
 use Rattle.of_grammar.proofs.BucketTails.{buckets_only}
 use Rattle.of_grammar.proofs.MatchTails.{match_only}

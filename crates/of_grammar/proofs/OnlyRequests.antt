@@ -1,21 +1,19 @@
 -- What stands in the places of a MULTIPART_REQUEST, and behind them, it says.
-use Rattle.std.proofs.Common.{◌≡◌, ◌≤◌, ◌<◌, ◌+◌, ◌%◌, ℕ, Bool, true, false, not, eqb, ltb, cond, List, [], ◌∷◌, ◌++◌, length, take, drop, Option, Some, None, Result, Ok, Err, refl, sym, ap, subst, ◌∙◌, arith, inl, inr}
-use Rattle.std.specs.Prelude.{slice_index, ⊤}
+use Rattle.std.proofs.Common.{◌≡◌, ◌≤◌, ◌+◌, ◌%◌, ℕ, Bool, true, false, eqb, ltb, cond, List, ◌++◌, length, drop, Option, Some, None, Ok, Err, refl, sym, ap, ◌∙◌, arith}
+use Rattle.std.specs.Prelude.{slice_index}
 use Rattle.std.proofs.lemmas.Bool.{le-ltb, eq-eqb}
 use Rattle.std.proofs.lemmas.Bool.Decides.{nat_tests}
 use Rattle.std.proofs.lemmas.List.{length-append}
 use Rattle.byteorder.specs.Endian.{big_number}
-use Rattle.of_wire.specs.declared.code.Code.{Code}
-use Rattle.of_wire.specs.Refusals.{refusal, first_of}
+use Rattle.of_wire.specs.Refusals.{refusal}
 use Rattle.of_oxm.specs.declared.match_field.MatchField.{MatchField}
 use Rattle.of_oxm.specs.MatchReading.{match_of}
 use Rattle.of_messages.specs.declared.multipart.FlowStatsRequest.{FlowStatsRequest}
 use Rattle.of_messages.specs.declared.multipart.MultipartRequest.{MultipartRequest}
 use Rattle.of_messages.specs.declared.multipart.MultipartRequest.TheVariants.{Description, Flow, Aggregate, Table, PortStats, Group, GroupDescription, GroupFeatures, PortDescription}
 use Rattle.of_messages.specs.Configs.{names_table}
-use Rattle.of_messages.specs.Multiparts.{kind_of, flow_stats_with, then_match, flow_stats_of, one_or_all, number_in, as_flow, as_aggregate, multipart_of}
-use Rattle.of_grammar.specs.Cells.{Cell, byte, u16, u32, u64, pad, even}
-use Rattle.of_grammar.specs.Requests.{BeginsMatch, IsOne, IsValidRequest, NamesTable, RequestTail, all_groups, any_port, body_cells, flows_cells, or_all, request_cells, request_type}
+use Rattle.of_messages.specs.Multiparts.{kind_of, then_match, flow_stats_of, one_or_all, number_in, as_flow, as_aggregate, multipart_of}
+use Rattle.of_grammar.specs.Requests.{BeginsMatch, IsOne, IsValidRequest, NamesTable, RequestTail, all_groups, any_port, flows_cells, or_all, request_cells}
 use Rattle.of_grammar.proofs.MatchTails.{match_only}
 use Rattle.of_grammar.proofs.OnlySmall.{table_named}
 use Rattle.of_grammar.proofs.Places.{Says, size}

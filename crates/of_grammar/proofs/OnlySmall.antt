@@ -1,14 +1,12 @@
 -- What stands in the places of a small message, it says.
-use Rattle.std.proofs.Common.{◌≡◌, ◌≤◌, ◌<◌, ◌+◌, ℕ, suc, Bool, true, false, not, eqb, ltb, cond, List, [], ◌∷◌, length, take, drop, drop-cons, Option, Some, None, Result, Ok, Err, refl, sym, ap, subst, ◌∙◌, arith, inl, inr}
-use Rattle.std.specs.Prelude.{slice_index, bit_and, ◌⊎◌, ◌||◌, ⊤}
-use Rattle.std.proofs.lemmas.Bool.{le-ltb, eq-eqb}
+use Rattle.std.proofs.Common.{◌≡◌, ◌≤◌, ◌<◌, ◌+◌, ℕ, suc, Bool, true, eqb, cond, List, [], ◌∷◌, length, take, drop, drop-cons, Some, Ok, Err, refl, sym, ap, ◌∙◌, arith, inl, inr}
+use Rattle.std.specs.Prelude.{slice_index, bit_and}
+use Rattle.std.proofs.lemmas.Bool.{eq-eqb}
 use Rattle.std.proofs.lemmas.List.{drop-drop}
 use Rattle.std.proofs.lemmas.Bool.Decides.{nat_tests}
 use Rattle.byteorder.specs.Endian.{big_number}
-use Rattle.of_wire.specs.declared.code.Code.{Code}
 use Rattle.of_wire.specs.Refusals.{refusal}
 use Rattle.of_messages.specs.declared.async_masks.AsyncMasks.{AsyncMasks}
-use Rattle.of_messages.specs.declared.async_masks.RoleMasks.{RoleMasks}
 use Rattle.of_messages.specs.declared.config.SwitchConfig.{SwitchConfig}
 use Rattle.of_messages.specs.declared.config.TableMod.{TableMod}
 use Rattle.of_messages.specs.declared.port_mod.PortMod.{PortMod}
@@ -19,7 +17,7 @@ use Rattle.of_messages.specs.Configs.{set_config_of, names_table, table_mod_of}
 use Rattle.of_messages.specs.PortMods.{known_bits, hw_in, port_mod_of}
 use Rattle.of_messages.specs.Roles.{asked_by, asked_or_refused, role_request_of}
 use Rattle.of_grammar.specs.Cells.{Cell, byte, u16, u32, pad, plain}
-use Rattle.of_grammar.specs.Grammar.{masks_cells, role_cells}
+use Rattle.of_grammar.specs.Grammar.{role_cells}
 use Rattle.of_grammar.specs.Requests.{NamesTable}
 use Rattle.of_grammar.proofs.Places.{Says}
 

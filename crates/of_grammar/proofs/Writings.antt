@@ -6,7 +6,6 @@ use Rattle.byteorder.specs.Endian.{big_number, big_bytes}
 use Rattle.byteorder.specs.Numbers.{big_number-reads_back, length-bytes_high_first}
 use Rattle.of_messages.specs.Written.{message}
 use Rattle.of_grammar.specs.Cells.{Cell, byte, number, plain, pad, even, u16, u32, width, IsCell, Begins, Fits}
-use Rattle.of_grammar.proofs.Places.{size}
 
 -- as it is written: padding and flags are 0
 abbrev pub text : Cell → List ℕ

@@ -1,10 +1,8 @@
 -- A FLOW_MOD and a GROUP_MOD that are written are spelt.
-use Rattle.std.proofs.Common.{◌≡◌, ℕ, ◌+◌, ◌*◌, ◌%◌, ◌^◌, ◌<◌, ◌≤◌, true, false, List, [], ◌∷◌, ◌++◌, length, map, Ok, refl, sym, ap, subst, ◌∙◌, arith}
-use Rattle.std.specs.Prelude.{replicate}
+use Rattle.std.proofs.Common.{◌≡◌, ℕ, ◌+◌, ◌^◌, ◌<◌, ◌≤◌, true, false, List, [], ◌∷◌, ◌++◌, length, map, refl, arith}
 use Rattle.std.specs.List.{list_all}
 use Rattle.std.proofs.lemmas.Bool.Decides.{nat_tests}
 use Rattle.std.proofs.lemmas.List.{length-append, length-map}
-use Rattle.byteorder.specs.Endian.{big_bytes}
 use Rattle.of_oxm.specs.Canonical.{canonical}
 use Rattle.of_oxm.specs.NormalForm.{IsMatch}
 use Rattle.of_oxm.proofs.Written.{canonical_short, canonical_spells}
@@ -29,7 +27,7 @@ use Rattle.of_messages.specs.declared.message.FlowModCommand.TheVariants.{Add, M
 use Rattle.of_messages.specs.declared.message.Message.TheVariants.{FlowMod as IsFlowMod, GroupMod as IsGroupMod}
 use Rattle.of_messages.proofs.BucketsWritten.{buckets_short}
 use Rattle.of_grammar.specs.Buckets.{AreBuckets, bucket_cells}
-use Rattle.of_grammar.specs.Cells.{Cell, byte, Fits}
+use Rattle.of_grammar.specs.Cells.{Fits}
 use Rattle.of_grammar.specs.Grammar.{HasInstructions, IsValidFlowMod, Spells, command_number, deletes, flow_mod_cells, group_cells, kind_number}
 use Rattle.of_grammar.proofs.Writings.{fronted, spelling, written}
 
@@ -102,15 +100,18 @@ buckets_spelt (b ∷ bs) numbers fit =
     let text = canonical_actions b.actions in
     let size = actions_short false b.actions served in
     let eights = size.eights in
-    let cells = bucket_cells (16 + length text) (fresh b) in
-    (rest, record {
-      actions = text;
-      front = rw (bucket_front b rest) (written cells (text ++ rest) (bucket_fits b this size.short));
-      are = canonical_spelt false b.actions served;
-      eights = omega arith;
-      packets = refl;
-      bytes_used = refl;
-    }, buckets_spelt bs others fit_others)
+    let cells = bucket_cells (16 + length text) (fresh b) in (
+      rest,
+      record {
+        actions = text;
+        front = rw (bucket_front b rest) (written cells (text ++ rest) (bucket_fits b this size.short));
+        are = canonical_spelt false b.actions served;
+        eights = omega arith;
+        packets = refl;
+        bytes_used = refl;
+      },
+      buckets_spelt bs others fit_others,
+    )
 
 kind_same : (k : GroupKind) → number_of k ≡ kind_number k
 kind_same All = refl

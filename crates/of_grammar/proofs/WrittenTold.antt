@@ -1,6 +1,6 @@
 -- What a switch writes is spelt.
-use Rattle.std.proofs.Common.{◌≡◌, ℕ, ◌+◌, ◌^◌, ◌<◌, ◌≤◌, Bool, true, false, eqb, List, [], ◌∷◌, ◌++◌, length, cond, None, refl, sym, ap, subst, ◌∙◌, arith}
-use Rattle.std.specs.Prelude.{replicate, ◌==◌}
+use Rattle.std.proofs.Common.{◌≡◌, ℕ, ◌+◌, ◌^◌, ◌<◌, ◌≤◌, Bool, true, false, eqb, List, [], ◌∷◌, ◌++◌, length, cond, None, refl, sym, ap, ◌∙◌, arith}
+use Rattle.std.specs.Prelude.{replicate}
 use Rattle.std.proofs.lemmas.List.{append-nil, append_assoc, length-append}
 use Rattle.byteorder.specs.Endian.{big_bytes}
 use Rattle.of_wire.specs.declared.code.Code.{Code}
@@ -9,12 +9,11 @@ use Rattle.of_layers.specs.declared.field.Field.{Field}
 use Rattle.of_layers.specs.declared.field.Field.TheVariants.{InPort, Metadata}
 use Rattle.of_oxm.specs.declared.match_field.MatchField.{MatchField}
 use Rattle.of_oxm.specs.Canonical.{canonical}
-use Rattle.of_oxm.specs.MatchGrammar.{SpellsMatch}
 use Rattle.of_oxm.specs.NormalForm.{IsKept, IsMatch}
 use Rattle.of_oxm.specs.Prerequisites.{all_met}
 use Rattle.of_oxm.proofs.Written.{canonical_short, canonical_spells}
-use Rattle.of_messages.specs.Roles.{role_number, generation_number}
-use Rattle.of_messages.specs.Written.{message, hello_bytes, error_bytes, echo_reply_bytes, barrier_reply_bytes, features_body, features_reply_bytes, config_reply_bytes, role_reply_bytes, async_reply_bytes, reason_number, flow_removed_front, flow_removed_bytes, packet_in_number, packet_fields, packet_in_front, packet_in_bytes, status_number, port_names, port_bits, port_bytes, port_status_bytes}
+use Rattle.of_messages.specs.Roles.{role_number}
+use Rattle.of_messages.specs.Written.{message, hello_bytes, error_bytes, echo_reply_bytes, barrier_reply_bytes, features_body, features_reply_bytes, config_reply_bytes, async_reply_bytes, reason_number, flow_removed_front, flow_removed_bytes, packet_in_number, packet_fields, packet_in_front, packet_in_bytes, status_number, port_names, port_bits, port_bytes, port_status_bytes}
 use Rattle.of_messages.specs.declared.async_masks.AsyncMasks.{AsyncMasks}
 use Rattle.of_messages.specs.declared.config.SwitchConfig.{SwitchConfig}
 use Rattle.of_messages.specs.declared.message.FlowRemoved.{FlowRemoved}
@@ -29,8 +28,8 @@ use Rattle.of_messages.specs.declared.port_mod.PortStatusReason.TheVariants as s
 use Rattle.of_messages.specs.declared.role.Role.{Role}
 use Rattle.of_messages.specs.declared.role.Role.TheVariants as role
 use Rattle.of_messages.proofs.PacketFields.{with_metadata, without_metadata}
-use Rattle.of_grammar.specs.Cells.{Cell, Fits}
-use Rattle.of_grammar.specs.Told.{Told, hello, error, echo_reply, features_reply, config_reply, packet_in, flow_removed, port_status, barrier_reply, role_reply, async_reply, told_type, told_cells, told_front, told_fields, ToldTail, SpellsTold, packet_reason, removed_reason, port_reason, role_value, removed_cells, packet_in_cells}
+use Rattle.of_grammar.specs.Cells.{Fits}
+use Rattle.of_grammar.specs.Told.{Told, hello, error, echo_reply, features_reply, config_reply, packet_in, flow_removed, port_status, barrier_reply, role_reply, async_reply, told_type, told_cells, told_fields, ToldTail, SpellsTold, packet_reason, removed_reason, port_reason, role_value, removed_cells, packet_in_cells}
 use Rattle.of_grammar.proofs.Writings.{fronted, spelling}
 
 type_fits : (t : Told) → told_type t < 256

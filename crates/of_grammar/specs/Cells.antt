@@ -1,5 +1,5 @@
 -- The structs of the standard: fields of so many bytes, one behind the other, the high byte of a number first (OpenFlow 1.3.5, 7).
-use Rattle.std.specs.Prelude.{◌≡◌, ◌≤◌, ◌<◌, ℕ, ◌+◌, ◌%◌, ◌^◌, List, [], ◌∷◌, length, take, drop}
+use Rattle.std.specs.Prelude.{◌≡◌, ◌≤◌, ◌<◌, ℕ, ◌%◌, ◌^◌, List, [], ◌∷◌, length, take, drop}
 use Rattle.byteorder.specs.Endian.{big_number, big_bytes}
 
 -- A field: a number of one byte, a number of so many bytes, so many bytes as they are; padding of so many bytes, which may be any; and flags of so many bytes, of which the lowest is not set and the others are not looked at.

@@ -1,11 +1,10 @@
 -- THE GRAMMAR: which bytes spell which message of a controller (OpenFlow 1.3.5, 7).
-use Rattle.std.specs.Prelude.{◌≡◌, ◌≤◌, ◌<◌, ℕ, bit_and, ◌⊎◌, ⊤, Bool, true, false, if◌then◌else◌, List, [], ◌∷◌, ◌++◌, length, Option, Some, None}
+use Rattle.std.specs.Prelude.{◌≡◌, ◌≤◌, ◌<◌, ℕ, bit_and, ◌⊎◌, ⊤, Bool, true, false, List, [], ◌∷◌, ◌++◌, length, Option, Some, None}
 use Rattle.of_oxm.specs.MatchGrammar.{SpellsMatch}
 use Rattle.of_actions.specs.Actions.{AreActions}
 use Rattle.of_actions.specs.FlowCheck.{all_go_with}
 use Rattle.of_actions.specs.Instructions.{SpellsInstructions}
 use Rattle.of_actions.specs.PortNumbers.{controller}
-use Rattle.of_actions.specs.declared.action.Action.{Action}
 use Rattle.of_groups.specs.declared.group.GroupKind.{GroupKind}
 use Rattle.of_groups.specs.declared.group.GroupKind.TheVariants.{All, Indirect, FastFailover}
 use Rattle.of_messages.specs.declared.async_masks.RoleMasks.{RoleMasks}
