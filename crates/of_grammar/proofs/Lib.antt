@@ -18,3 +18,4 @@ mod Senders
 mod Writings
 mod WrittenRequests
 mod WrittenTold
+mod OneTold

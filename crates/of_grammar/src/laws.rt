@@ -26,9 +26,10 @@ pub fn read_as_exactly(role: Role, bytes: &[u8])
     ensures slave { (xid : ℕ) (m : Message) → Spells xid m bytes.now → changes m ≡ true → message_from Slave bytes.now ≡ Err (refusal 1 10) }
 {}
 
-/// No bytes spell two messages, or one with two transaction ids.
+/// No bytes spell two messages of a controller, or tell two things, or have two transaction ids.
 pub fn one_message()
-    ensures { (x y : ℕ) (v w : Message) (bytes : List ℕ) → Spells x v bytes → Spells y w bytes → (x ≡ y) × (v ≡ w) }
+    ensures message { (x y : ℕ) (v w : Message) (bytes : List ℕ) → Spells x v bytes → Spells y w bytes → (x ≡ y) × (v ≡ w) }
+    ensures told { (x y : ℕ) (t u : Told) (bytes : List ℕ) → SpellsTold x t bytes → SpellsTold y u bytes → (x ≡ y) × (t ≡ u) }
 {}
 
 /// No spelling begins another one's, of messages of a controller or of what this switch tells.
