@@ -181,3 +181,11 @@ by_body set_async m v fits h e =
 
 pub found : (m : List ℕ) (v : Message) → IsBytes m → message_of m ≡ Ok v → Spells (xid_of m) v m
 found m v fits e = let s = said m v e in by_body s.kind m v fits s.head s.body
+
+-- what nothing spells is refused
+pub other : (m : List ℕ) → IsBytes m → ((xid : ℕ) (v : Message) → ¬ Spells xid v m) → (code : Code) × (message_of m ≡ Err code)
+other m fits none = by_result (message_of m) refl
+  where
+    by_result : (r : Result Message Code) → message_of m ≡ r → (code : Code) × (message_of m ≡ Err code)
+    by_result (Ok v) is = absurd (none (xid_of m) v (found m v fits is))
+    by_result (Err code) is = (code, is)

@@ -1,5 +1,6 @@
 //! Laws of the grammar of messages, joined to what reads them.
 ghost use Rattle.std.specs.Prelude.{◌≡◌, ◌++◌, ℕ, List, [], true, Ok, Err};
+ghost use Rattle.of_wire.specs.declared.code.Code.{Code};
 ghost use Rattle.of_wire.specs.Refusals.{refusal};
 ghost use Rattle.of_messages.specs.Messages.{message_from, message_of, xid_of};
 ghost use Rattle.of_messages.specs.declared.message.Message.{Message};
@@ -15,6 +16,7 @@ use of_messages::Role;
 pub fn read_exactly(bytes: &[u8])
     ensures found { (m : Message) → message_of bytes.now ≡ Ok m → Spells (xid_of bytes.now) m bytes.now }
     ensures only { (xid : ℕ) (m : Message) → Spells xid m bytes.now → (xid ≡ xid_of bytes.now) × (message_of bytes.now ≡ Ok m) }
+    ensures other { ((xid : ℕ) (m : Message) → ¬ Spells xid m bytes.now) → (code : Code) × (message_of bytes.now ≡ Err code) }
 {}
 
 /// The same of a controller's role, as `of_messages::read_message_as` answers it: what is read is spelt, and its sender may

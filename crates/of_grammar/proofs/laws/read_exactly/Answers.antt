@@ -1,5 +1,5 @@
 use Rattle.std.proofs.Common.{arith}
-use Rattle.of_grammar.proofs.Found.{found}
+use Rattle.of_grammar.proofs.Found.{found, other}
 use Rattle.of_grammar.proofs.Only.{only, xid_is}
 use Rattle.of_grammar.proofs.laws.read_exactly.Goals as goal
 
@@ -8,3 +8,6 @@ returns-clause-found c m h = found c.args.bytes.now m (λ i. omega (arith, c.typ
 
 pub returns-clause-only : goal.returns-clause-only
 returns-clause-only c xid m s = (xid_is xid m c.args.bytes.now s, only xid m c.args.bytes.now s)
+
+pub returns-clause-other : goal.returns-clause-other
+returns-clause-other c none = other c.args.bytes.now (λ i. omega (arith, c.type_inv.bytes i)) none
