@@ -1,0 +1,141 @@
+-- WHAT A SWITCH TELLS: which bytes spell which message of this switch (OpenFlow 1.3.5, 7), but for the replies to multipart requests.
+use Rattle.std.specs.Prelude.{◌≡◌, ◌==◌, ℕ, if◌then◌else◌, List, [], ◌∷◌, ◌++◌, length, None}
+use Rattle.of_wire.specs.declared.code.Code.{Code}
+use Rattle.of_layers.specs.declared.field.Field.TheVariants.{InPort, Metadata}
+use Rattle.of_oxm.specs.declared.match_field.MatchField.{MatchField}
+use Rattle.of_oxm.specs.MatchGrammar.{SpellsMatch}
+use Rattle.of_messages.specs.declared.async_masks.AsyncMasks.{AsyncMasks}
+use Rattle.of_messages.specs.declared.config.SwitchConfig.{SwitchConfig}
+use Rattle.of_messages.specs.declared.message.FlowRemoved.{FlowRemoved}
+use Rattle.of_messages.specs.declared.message.FlowRemovedReason.{FlowRemovedReason}
+use Rattle.of_messages.specs.declared.message.FlowRemovedReason.TheVariants as removed
+use Rattle.of_messages.specs.declared.message.PacketIn.{PacketIn}
+use Rattle.of_messages.specs.declared.message.PacketInReason.{PacketInReason}
+use Rattle.of_messages.specs.declared.message.PacketInReason.TheVariants.{NoMatch, Action, InvalidTtl}
+use Rattle.of_messages.specs.declared.port_mod.PortDescription.{PortDescription}
+use Rattle.of_messages.specs.declared.port_mod.PortStatusReason.{PortStatusReason}
+use Rattle.of_messages.specs.declared.port_mod.PortStatusReason.TheVariants as status
+use Rattle.of_messages.specs.declared.role.Role.{Role}
+use Rattle.of_messages.specs.declared.role.Role.TheVariants as role
+use Rattle.of_grammar.specs.Cells.{Cell, byte, u16, u32, u64, plain, pad, Begins}
+use Rattle.of_grammar.specs.Grammar.{no_buffer, masks_cells}
+
+-- HELLO with a bitmap of versions, ERROR with its data, ECHO_REPLY with its data, FEATURES_REPLY with the datapath id, GET_CONFIG_REPLY, PACKET_IN with its frame, FLOW_REMOVED with its match, PORT_STATUS, BARRIER_REPLY, ROLE_REPLY with its generation, and GET_ASYNC_REPLY
+pub data Told : Type 0 where
+  hello : ℕ → Told
+  error : Code → List ℕ → Told
+  echo_reply : List ℕ → Told
+  features_reply : ℕ → Told
+  config_reply : SwitchConfig → Told
+  packet_in : PacketIn → List ℕ → Told
+  flow_removed : FlowRemoved → List MatchField → Told
+  port_status : PortStatusReason → PortDescription → Told
+  barrier_reply : Told
+  role_reply : Role → ℕ → Told
+  async_reply : AsyncMasks → Told
+
+-- OFPT_*
+abbrev pub told_type : Told → ℕ
+told_type (hello bitmap) = 0
+told_type (error code failed) = 1
+told_type (echo_reply echoed) = 3
+told_type (features_reply dpid) = 6
+told_type (config_reply config) = 8
+told_type (packet_in p frame) = 10
+told_type (flow_removed r fields) = 11
+told_type (port_status reason port) = 12
+told_type barrier_reply = 21
+told_type (role_reply role generation) = 25
+told_type (async_reply masks) = 27
+
+-- OFPR_* (7.4.1), OFPRR_* (7.4.2), OFPPR_* (7.4.3), OFPCR_ROLE_* (7.3.9)
+abbrev pub packet_reason : PacketInReason → ℕ
+packet_reason NoMatch = 0
+packet_reason Action = 1
+packet_reason InvalidTtl = 2
+
+abbrev pub removed_reason : FlowRemovedReason → ℕ
+removed_reason removed.IdleTimeout = 0
+removed_reason removed.HardTimeout = 1
+removed_reason removed.Delete = 2
+removed_reason removed.GroupDelete = 3
+
+abbrev pub port_reason : PortStatusReason → ℕ
+port_reason status.Add = 0
+port_reason status.Delete = 1
+port_reason status.Modify = 2
+
+abbrev pub role_value : Role → ℕ
+role_value role.Equal = 1
+role_value role.Master = 2
+role_value role.Slave = 3
+
+-- struct ofp_switch_features (7.3.1): no buffers, 16 tables, no auxiliary connection, OFPC_FLOW_STATS, TABLE_STATS, PORT_STATS and GROUP_STATS
+abbrev pub features_cells : ℕ → List Cell
+features_cells dpid = u64 dpid ∷ u32 0 ∷ byte 16 ∷ byte 0 ∷ pad 2 ∷ u32 15 ∷ pad 4 ∷ []
+
+-- struct ofp_packet_in (7.4.1), in front of the match: the frame is not buffered, and is told whole
+abbrev pub packet_in_cells : PacketIn → List ℕ → List Cell
+packet_in_cells p frame = u32 no_buffer ∷ u16 (length frame) ∷ byte (packet_reason p.reason) ∷ byte p.table ∷ u64 p.cookie ∷ []
+
+-- struct ofp_flow_removed (7.4.2), in front of the match
+abbrev pub removed_cells : FlowRemoved → List Cell
+removed_cells r =
+    u64 r.cookie ∷ u16 r.priority ∷ byte (removed_reason r.reason) ∷ byte r.table ∷ u32 r.duration_sec ∷ u32 r.duration_nsec
+    ∷ u16 r.idle_timeout ∷ u16 r.hard_timeout ∷ u64 r.packets ∷ u64 r.bytes ∷ []
+
+-- struct ofp_port (7.2.1): no features (four words) and no speeds (two)
+abbrev pub port_cells : PortDescription → List Cell
+port_cells p =
+    u32 p.number ∷ pad 4 ∷ plain 6 p.hw ∷ pad 2 ∷ plain 16 p.name ∷ u32 p.config ∷ u32 p.state
+    ∷ u32 0 ∷ u32 0 ∷ u32 0 ∷ u32 0 ∷ u32 0 ∷ u32 0 ∷ []
+
+-- the fields behind the header; of a HELLO one element, OFPHET_VERSIONBITMAP, of 8 bytes (7.5.1)
+abbrev pub told_cells : Told → List Cell
+told_cells (hello bitmap) = u16 1 ∷ u16 8 ∷ u32 bitmap ∷ []
+told_cells (error code failed) = u16 code.kind ∷ u16 code.code ∷ []
+told_cells (echo_reply echoed) = []
+told_cells (features_reply dpid) = features_cells dpid
+told_cells (config_reply config) = u16 0 ∷ u16 config.miss_send_len ∷ []
+told_cells (packet_in p frame) = packet_in_cells p frame
+told_cells (flow_removed r fields) = removed_cells r
+told_cells (port_status reason port) = byte (port_reason reason) ∷ pad 7 ∷ port_cells port
+told_cells barrier_reply = []
+told_cells (role_reply role generation) = u32 (role_value role) ∷ pad 4 ∷ u64 generation ∷ []
+told_cells (async_reply masks) = masks_cells masks.packet_in ++ (masks_cells masks.port_status ++ masks_cells masks.flow_removed)
+
+-- a PACKET_IN tells the ingress port, and the metadata where it is not 0
+abbrev pub told_fields : PacketIn → List MatchField
+told_fields p =
+    record { field = InPort; value = p.in_port; mask = None }
+    ∷ (if p.metadata == 0 then [] else record { field = Metadata; value = p.metadata; mask = None } ∷ [])
+
+-- the match, two bytes of padding, and the frame
+pub record MatchThenFrame (p : PacketIn) (frame tail : List ℕ) : Type 0 where
+  pub fields : List ℕ
+  pub rest : List ℕ
+  pub whole : tail ≡ fields ++ rest
+  pub spelt : SpellsMatch fields (told_fields p)
+  pub behind : Begins (pad 2 ∷ []) rest frame
+
+abbrev pub ToldTail : Told → List ℕ → Type 0
+ToldTail (hello bitmap) tail = tail ≡ []
+ToldTail (error code failed) tail = tail ≡ failed
+ToldTail (echo_reply echoed) tail = tail ≡ echoed
+ToldTail (features_reply dpid) tail = tail ≡ []
+ToldTail (config_reply config) tail = tail ≡ []
+ToldTail (packet_in p frame) tail = MatchThenFrame p frame tail
+ToldTail (flow_removed r fields) tail = SpellsMatch tail fields
+ToldTail (port_status reason port) tail = tail ≡ []
+ToldTail barrier_reply tail = tail ≡ []
+ToldTail (role_reply role generation) tail = tail ≡ []
+ToldTail (async_reply masks) tail = tail ≡ []
+
+abbrev pub told_front : Told → ℕ → ℕ → List Cell
+told_front t size xid = byte 4 ∷ byte (told_type t) ∷ u16 size ∷ u32 xid ∷ told_cells t
+
+-- these bytes, all of them, spell what is told with this transaction id
+pub record SpellsTold (xid : ℕ) (t : Told) (bytes : List ℕ) : Type 0 where
+  pub tail : List ℕ
+  pub front : Begins (told_front t (length bytes) xid) bytes tail
+  pub behind : ToldTail t tail

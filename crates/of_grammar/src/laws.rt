@@ -1,0 +1,41 @@
+//! Laws of the grammar of messages, joined to what reads them.
+ghost use Rattle.std.specs.Prelude.{◌≡◌, ◌++◌, ℕ, List, [], true, Ok, Err};
+ghost use Rattle.of_wire.specs.declared.code.Code.{Code};
+ghost use Rattle.of_wire.specs.Refusals.{refusal};
+ghost use Rattle.of_messages.specs.Messages.{message_from, message_of, xid_of};
+ghost use Rattle.of_messages.specs.declared.message.Message.{Message};
+ghost use Rattle.of_messages.specs.declared.role.Role.TheVariants.{Slave};
+ghost use Rattle.of_grammar.specs.Grammar.{changes, MaySend, Spells};
+ghost use Rattle.of_grammar.specs.Told.{SpellsTold, Told};
+
+use of_messages::Role;
+
+/// What `of_messages::read_message` answers for bytes is the message that they spell, and it answers a message for all bytes
+/// that spell one (OpenFlow 1.3.5, 7), whatever kind of message it is. For others it answers the first code of the written
+/// order.
+pub fn read_exactly(bytes: &[u8])
+    ensures found { (m : Message) → message_of bytes.now ≡ Ok m → Spells (xid_of bytes.now) m bytes.now }
+    ensures only { (xid : ℕ) (m : Message) → Spells xid m bytes.now → (xid ≡ xid_of bytes.now) × (message_of bytes.now ≡ Ok m) }
+    ensures other { ((xid : ℕ) (m : Message) → ¬ Spells xid m bytes.now) → (code : Code) × (message_of bytes.now ≡ Err code) }
+{}
+
+/// The same of a controller's role, as `of_messages::read_message_as` answers it: what is read is spelt, and its sender may
+/// send it; what is spelt and may be sent is read; and what is spelt and a slave may not send is refused as that, OFPBRC_IS_SLAVE
+/// (OpenFlow 1.3.5, 6.3.4).
+pub fn read_as_exactly(role: Role, bytes: &[u8])
+    ensures found { (m : Message) → message_from role bytes.now ≡ Ok m → Spells (xid_of bytes.now) m bytes.now × MaySend role m }
+    ensures only { (xid : ℕ) (m : Message) → Spells xid m bytes.now → MaySend role m → message_from role bytes.now ≡ Ok m }
+    ensures slave { (xid : ℕ) (m : Message) → Spells xid m bytes.now → changes m ≡ true → message_from Slave bytes.now ≡ Err (refusal 1 10) }
+{}
+
+/// No bytes spell two messages of a controller, or tell two things, or have two transaction ids.
+pub fn one_message()
+    ensures message { (x y : ℕ) (v w : Message) (bytes : List ℕ) → Spells x v bytes → Spells y w bytes → (x ≡ y) × (v ≡ w) }
+    ensures told { (x y : ℕ) (t u : Told) (bytes : List ℕ) → SpellsTold x t bytes → SpellsTold y u bytes → (x ≡ y) × (t ≡ u) }
+{}
+
+/// No spelling begins another one's, of messages of a controller or of what this switch tells.
+pub fn no_spelling_begins_another()
+    ensures message { (x y : ℕ) (v w : Message) (bytes more : List ℕ) → Spells x v bytes → Spells y w (bytes ++ more) → more ≡ [] }
+    ensures told { (x y : ℕ) (t u : Told) (bytes more : List ℕ) → SpellsTold x t bytes → SpellsTold y u (bytes ++ more) → more ≡ [] }
+{}
