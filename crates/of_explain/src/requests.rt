@@ -57,11 +57,15 @@ pub fn push_request(alloc: Global, out: &mut Vec<u8>, message: &[u8]) -> Result<
 fn push_requests(alloc: Global, out: &mut Vec<u8>, stream: &mut Stream) -> Result<(), AllocError>
     ensures { OnOk result (out.new.items ≡ out.old.items ++ flat_map request_notes (messages_of stream.old)) }
 {
-    while let Front::Message(size) = stream.front() {
-        push_request(alloc, out, stream.first(size))?;
-        stream.take(size);
+    loop {
+        match stream.front() {
+            Front::Message(size) => {
+                push_request(alloc, out, stream.first(size))?;
+                stream.take(size);
+            }
+            Front::Malformed | Front::Waiting => return Ok(()),
+        }
     }
-    Ok(())
 }
 
 /// Appends each message that a piece of the controller's bytes completes, behind those that wait.
