@@ -1,5 +1,6 @@
 -- The messages of a stream are those into which it splits.
-use Rattle.std.proofs.Common.{◌≡◌, ℕ, zero, suc, ◌+◌, ◌<◌, ◌≤◌, ◌⊎◌, inl, inr, List, [], ◌∷◌, ◌++◌, length, take, drop, refl, sym, ◌∙◌, ap, subst, arith, append_assoc, length-append, length-drop}
+use Rattle.std.proofs.Common.{◌≡◌, ℕ, zero, suc, ◌+◌, ◌<◌, ◌≤◌, ◌⊎◌, inl, inr, List, [], ◌∷◌, ◌++◌, length, take, drop, Result, Ok, Err, refl, sym, ◌∙◌, ap, subst, arith, append_assoc, length-append, length-drop}
+use Rattle.std.specs.Prelude.{OnOk}
 use Rattle.std.specs.List.{flat_map}
 use Rattle.std.proofs.lemmas.List.{append-nil}
 use Rattle.of_session.specs.declared.stream.Front.{Front}
@@ -80,3 +81,8 @@ waits_told bytes out all is told = all_told bytes out all (sym (enough (length b
 
 pub malformed_told : (bytes out all : List ℕ) → front_of bytes ≡ Bad → out ++ flat_map request_notes (messages_of bytes) ≡ all → out ≡ all
 malformed_told bytes out all is told = all_told bytes out all (sym (enough (length bytes) bytes (omega arith)) ∙ no_message (length bytes) bytes Bad is (λ k. refl)) told
+
+-- words behind words
+pub words_behind : {E : Type 0} (result : Result (Unit {0}) E) (out mid out' words more : List ℕ) → mid ≡ out ++ words → OnOk result (out' ≡ mid ++ more) → OnOk result (out' ≡ out ++ (words ++ more))
+words_behind (Ok u) out mid out' words more m t = t ∙ (ap (λ (x : List ℕ). x ++ more) m ∙ append_assoc out words more)
+words_behind (Err e) out mid out' words more m t = tt

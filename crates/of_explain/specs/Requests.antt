@@ -66,9 +66,12 @@ row_line row = codes "        " ++ ended (spelling row)
 abbrev pub row_lines : List Row → List ℕ
 row_lines said = flat_map row_line said
 
+unfoldable pub said_words : List ℕ → List ℕ
+said_words m = codes "from the controller: " ++ message_words m
+
 -- THE NOTES OF A MESSAGE: its words, and its lines of flow text
 unfoldable pub request_notes : List ℕ → List ℕ
-request_notes m = note (codes "from the controller: " ++ message_words m) ++ row_lines (rows_said (message_of m))
+request_notes m = note (said_words m) ++ row_lines (rows_said (message_of m))
 
 -- ---- the messages of a stream
 

@@ -1,10 +1,9 @@
 //! What a controller says, in words.
-ghost use Rattle.std.specs.Prelude.{◌≡◌, ◌++◌, OnOk, codes};
+ghost use Rattle.std.specs.Prelude.{◌≡◌, ◌++◌, OnOk};
 ghost use Rattle.std.specs.List.{AllByRecursion, flat_map};
 ghost use Rattle.of_text.specs.Rows.{Fits};
-ghost use Rattle.of_explain.specs.Messages.{message_words};
 ghost use Rattle.of_explain.specs.Notes.{note};
-ghost use Rattle.of_explain.specs.Requests.{messages_of, piece_notes, request_notes, row_line, row_lines};
+ghost use Rattle.of_explain.specs.Requests.{messages_of, piece_notes, request_notes, row_line, row_lines, said_words};
 
 use crate::messages::push_message;
 use crate::notes::{begin_note, end_note};
@@ -33,13 +32,20 @@ fn push_lines(out: &mut Vec<u8>, rows: &[Row]) -> Result<(), AllocError>
     Ok(())
 }
 
-// Appends the note of a message.
+// Appends that the controller says a message.
 fn push_words(alloc: Global, out: &mut Vec<u8>, message: &[u8]) -> Result<(), AllocError>
-    ensures { OnOk result (out.new.items ≡ out.old.items ++ note (codes "from the controller: " ++ message_words message.now)) }
+    ensures { OnOk result (out.new.items ≡ out.old.items ++ said_words message.now) }
+{
+    out.extend_from_slice(b"from the controller: ")?;
+    push_message(alloc, out, message)
+}
+
+// Appends the note of a message.
+fn push_said(alloc: Global, out: &mut Vec<u8>, message: &[u8]) -> Result<(), AllocError>
+    ensures { OnOk result (out.new.items ≡ out.old.items ++ note (said_words message.now)) }
 {
     begin_note(out)?;
-    out.extend_from_slice(b"from the controller: ")?;
-    push_message(alloc, out, message)?;
+    push_words(alloc, out, message)?;
     end_note(out)
 }
 
@@ -48,7 +54,7 @@ fn push_words(alloc: Global, out: &mut Vec<u8>, message: &[u8]) -> Result<(), Al
 pub fn push_request(alloc: Global, out: &mut Vec<u8>, message: &[u8]) -> Result<(), AllocError>
     ensures { OnOk result (out.new.items ≡ out.old.items ++ request_notes message.now) }
 {
-    push_words(alloc, out, message)?;
+    push_said(alloc, out, message)?;
     let rows = lines_said(alloc, message)?;
     push_lines(out, &rows)
 }
