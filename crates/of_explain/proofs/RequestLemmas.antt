@@ -76,13 +76,17 @@ all_told : (bytes out all : List ℕ) → messages_of bytes ≡ [] → out ++ fl
 all_told bytes out all none told = sym (append-nil out) ∙ (ap (λ (x : List (List ℕ)). out ++ flat_map request_notes x) (sym none) ∙ told)
 
 -- nothing is left to tell where the rest waits or is malformed
-pub waits_told : (bytes out all : List ℕ) → front_of bytes ≡ Partial → out ++ flat_map request_notes (messages_of bytes) ≡ all → out ≡ all
+waits_told : (bytes out all : List ℕ) → front_of bytes ≡ Partial → out ++ flat_map request_notes (messages_of bytes) ≡ all → out ≡ all
 waits_told bytes out all is told = all_told bytes out all (sym (enough (length bytes) bytes (omega arith)) ∙ no_message (length bytes) bytes Partial is (λ k. refl)) told
 
-pub malformed_told : (bytes out all : List ℕ) → front_of bytes ≡ Bad → out ++ flat_map request_notes (messages_of bytes) ≡ all → out ≡ all
+malformed_told : (bytes out all : List ℕ) → front_of bytes ≡ Bad → out ++ flat_map request_notes (messages_of bytes) ≡ all → out ≡ all
 malformed_told bytes out all is told = all_told bytes out all (sym (enough (length bytes) bytes (omega arith)) ∙ no_message (length bytes) bytes Bad is (λ k. refl)) told
 
 -- words behind words
 pub words_behind : {E : Type 0} (result : Result (Unit {0}) E) (out mid out' words more : List ℕ) → mid ≡ out ++ words → OnOk result (out' ≡ mid ++ more) → OnOk result (out' ≡ out ++ (words ++ more))
 words_behind (Ok u) out mid out' words more m t = t ∙ (ap (λ (x : List ℕ). x ++ more) m ∙ append_assoc out words more)
 words_behind (Err e) out mid out' words more m t = tt
+
+pub done_told : (f : Front) (bytes out all : List ℕ) → (f ≡ front.Malformed) ⊎ (f ≡ front.Waiting) → front_of bytes ≡ front_is f bytes → out ++ flat_map request_notes (messages_of bytes) ≡ all → out ≡ all
+done_told f bytes out all (inl is) begins told = malformed_told bytes out all (rw is at begins) told
+done_told f bytes out all (inr is) begins told = waits_told bytes out all (rw is at begins) told
