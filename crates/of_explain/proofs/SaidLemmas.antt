@@ -1,6 +1,6 @@
 -- The lines of flow text that a message has are within their bounds.
-use Rattle.std.proofs.Common.{◌≡◌, ℕ, ◌<◌, ◌≤◌, ◌^◌, true, false, List, [], ◌∷◌, ◌++◌, length, arith}
-use Rattle.std.specs.Prelude.{map, nat_lt, nat_le, IsTrue, ◌||◌}
+use Rattle.std.proofs.Common.{◌≡◌, ℕ, ◌<◌, ◌^◌, true, List, [], ◌∷◌, ◌++◌, length, arith}
+use Rattle.std.specs.Prelude.{map, nat_lt, nat_le, IsTrue}
 use Rattle.std.specs.List.{AllByRecursion, flat_map, list_all}
 use Rattle.std.proofs.lemmas.Bool.{and_parts, ltb-true, leb-true}
 use Rattle.std.proofs.lemmas.Bool.Decides.{nat_tests}
@@ -14,11 +14,10 @@ use Rattle.of_actions.specs.declared.instruction.Instruction.{Instruction}
 use Rattle.of_actions.specs.InstructionLists.{are_kept}
 use Rattle.of_actions.specs.PortNumbers.{is_port}
 use Rattle.of_actions.specs.Served.{is_served, are_served}
-use Rattle.of_text.specs.declared.row.Row.{Row}
 use Rattle.of_text.specs.declared.row.Row.TheVariants as rows
 use Rattle.of_text.specs.Rows.{Fits, ActionFits}
 use Rattle.of_text.specs.Flows.{step_rows}
-use Rattle.of_text.specs.Kept.{KeptFlow, IsKeptFlow, in_text, step_of}
+use Rattle.of_text.specs.Kept.{KeptFlow, IsKeptFlow, step_of}
 use Rattle.of_text.proofs.KeptLemmas.{flows_fit}
 use Rattle.of_text.proofs.TextLemmas.{all_front}
 

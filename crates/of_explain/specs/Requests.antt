@@ -2,7 +2,6 @@
 use Rattle.std.specs.Prelude.{ℕ, zero, suc, List, [], ◌∷◌, ◌++◌, length, map, codes, Result, Ok, Err}
 use Rattle.std.specs.List.{flat_map}
 use Rattle.of_wire.specs.declared.code.Code.{Code}
-use Rattle.of_actions.specs.declared.instruction.Instruction.{Instruction}
 use Rattle.of_messages.specs.declared.message.Message.{Message}
 use Rattle.of_messages.specs.declared.message.Message.TheVariants.{Hello, Error, EchoRequest, EchoReply, FeaturesRequest, GetConfigRequest, SetConfig, PacketOut, FlowMod, GroupMod, PortMod, TableMod, Multipart, BarrierRequest, RoleRequest, GetAsyncRequest, SetAsync}
 use Rattle.of_messages.specs.declared.message.FlowMod.{FlowMod as AFlowMod}
