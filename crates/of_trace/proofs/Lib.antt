@@ -6,3 +6,4 @@ pub mod FieldLemmas
 pub mod SightLemmas
 pub mod NotingLemmas
 pub mod FileLemmas
+pub mod NoteLemmas

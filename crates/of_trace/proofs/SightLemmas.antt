@@ -1,6 +1,6 @@
 -- The steps of a run tell its packets.
-use Rattle.std.proofs.Common.{◌≡◌, ◌==◌, ℕ, suc, zero, Bool, true, false, cond, List, [], ◌∷◌, ◌++◌, Option, Some, None, refl, sym, ap, ◌∙◌, ◌≢◌, ◌≤◌}
-use Rattle.std.specs.Prelude.{map, replicate, length}
+use Rattle.std.proofs.Common.{◌≡◌, ◌==◌, ℕ, suc, zero, Bool, true, false, cond, List, [], ◌∷◌, ◌++◌, Option, Some, None, refl, sym, ap, ◌∙◌, ◌≤◌}
+use Rattle.std.specs.Prelude.{replicate, length}
 use Rattle.of_layers.specs.Reading.{layers_of}
 use Rattle.of_rewrite.specs.declared.frame.Ttl.{Ttl}
 use Rattle.of_rewrite.specs.declared.frame.Ttl.TheVariants.{Done, Expired, Absent}
@@ -18,8 +18,8 @@ use Rattle.of_machine.specs.TheWorld.{TheWorld}
 use Rattle.of_machine.specs.Rows.{Work, Lookup, Do, RunSet, Act, Task, task, Row, row, key_of, entering, lookup_row, entry_row, output_row, group_row, aged_row, copies}
 use Rattle.of_machine.specs.Runs.{Machine, step, first_step, after, starting}
 use Rattle.of_machine.specs.Sound.{IsSound}
-use Rattle.of_machine.specs.Weights.{IsFit, AllFit}
-use Rattle.of_machine.specs.Growth.{IsLow, AllLow}
+use Rattle.of_machine.specs.Weights.{AllFit}
+use Rattle.of_machine.specs.Growth.{AllLow}
 use Rattle.of_machine.proofs.Growing.{row_low, frame_low}
 use Rattle.of_machine.proofs.Weighing.{bounded}
 use Rattle.of_machine.proofs.Whole.{frame_fits}

@@ -5,3 +5,4 @@ pub mod Writing
 pub mod Sights
 pub mod Notes
 pub mod Files
+pub mod OnlyNotes

@@ -1,11 +1,13 @@
 -- A TRACE FOR PEOPLE: below a line stand notes, each behind four spaces. Without them it is the text of the trace.
-use Rattle.std.specs.Prelude.{ℕ, ◌+◌, ◌==◌, ◌&&◌, ◌||◌, Bool, true, false, nat_lt, bit_and, List, [], ◌∷◌, ◌++◌, Option, Some, None, codes, decimal, suc, if◌then◌else◌}
+use Rattle.std.specs.Prelude.{ℕ, ◌+◌, ◌==◌, ◌&&◌, ◌||◌, Bool, true, false, not, nat_lt, bit_and, List, [], ◌∷◌, ◌++◌, Option, Some, None, codes, decimal, suc, if◌then◌else◌}
 use Rattle.std.specs.List.{flat_map, list_any}
 use Rattle.of_layers.specs.declared.field.Field.{Field}
 use Rattle.of_layers.specs.declared.field.TheConstants.Field as constants
 use Rattle.of_layers.specs.Fields.{number_of, ones_of}
+use Rattle.of_layers.specs.Reading.{layers_of}
 use Rattle.of_headers.specs.declared.headers.FrameFault.{FrameFault}
 use Rattle.of_headers.specs.Faults.{frame_fault}
+use Rattle.of_rewrite.specs.Aging.{ttl_of}
 use Rattle.of_actions.specs.PortNumbers.{in_port, table as to_tables, flood, all, controller}
 use Rattle.of_actions.specs.declared.action.Action.{Action}
 use Rattle.of_actions.specs.declared.action.Action.TheVariants.{Output, PushVlan, PopVlan, Group, SetNwTtl, DecNwTtl, SetField}
@@ -133,6 +135,18 @@ change_note old new f = if same_value (old f) (new f) then [] else note (name_of
 abbrev pub change_notes : (Field → Option ℕ) → (Field → Option ℕ) → List ℕ
 change_notes old new = flat_map (change_note old new) constants.ALL
 
+-- ---- whether it changed the time to live of IPv4 or the hop limit of IPv6 (RFC 791, 3.1; RFC 8200, 3)
+
+abbrev pub ttl_seen : Sight → Option ℕ
+ttl_seen s = ttl_of (layers_of s.frame)
+
+abbrev pub ttl_words : Option ℕ → List ℕ
+ttl_words None = codes " absent"
+ttl_words (Some n) = 32 ∷ decimal n
+
+abbrev pub ttl_note : Option ℕ → Option ℕ → List ℕ
+ttl_note old new = if same_value old new then [] else note (codes "nw_ttl" ++ ttl_words old ++ codes " ->" ++ ttl_words new)
+
 -- ---- why an output sends nothing
 
 abbrev pub port_words : Port → List ℕ
@@ -165,7 +179,7 @@ group_notes group (Some (k ∷ places)) = bucket_notes (k ∷ places)
 -- ---- the notes of a step, which this packet takes
 
 abbrev pub changes : Step → Sight → List ℕ
-changes step s = change_notes (key_seen s) (key_seen (sight_after step s))
+changes step s = change_notes (key_seen s) (key_seen (sight_after step s)) ++ ttl_note (ttl_seen s) (ttl_seen (sight_after step s))
 
 abbrev pub sending_notes : Forwarding → Sight → Action → List ℕ
 sending_notes f s (Output port max_len) = output_note f.ports s.ingress port
@@ -189,6 +203,51 @@ notes f asked s (Act action) = sending_notes f s action ++ changes (Act action) 
 notes f asked s TtlExpired = note (codes "its work ends here")
 notes f asked s End = []
 
+-- ---- an action set without output: none of its actions sends, and the packet ends (5.10)
+
+abbrev pub sends : Action → Bool
+sends (Output port max_len) = true
+sends (PushVlan type) = false
+sends PopVlan = false
+sends (Group group) = true
+sends (SetNwTtl ttl) = false
+sends DecNwTtl = false
+sends (SetField field value) = false
+
+-- of a step, where this is so of those behind it
+abbrev pub is_unsent_from : Step → Bool → Bool
+is_unsent_from (Miss t) behind = false
+is_unsent_from (Entry t n) behind = false
+is_unsent_from Apply behind = false
+is_unsent_from Clear behind = false
+is_unsent_from Write behind = false
+is_unsent_from (Metadata value mask) behind = false
+is_unsent_from (Goto t) behind = false
+is_unsent_from Set behind = false
+is_unsent_from (Act action) behind = not (sends action) && behind
+is_unsent_from TtlExpired behind = false
+is_unsent_from End behind = true
+
+abbrev pub is_unsent : List Step → Bool
+is_unsent [] = false
+is_unsent (step ∷ steps) = is_unsent_from step (is_unsent steps)
+
+abbrev pub is_set : Step → Bool
+is_set (Miss t) = false
+is_set (Entry t n) = false
+is_set Apply = false
+is_set Clear = false
+is_set Write = false
+is_set (Metadata value mask) = false
+is_set (Goto t) = false
+is_set Set = true
+is_set (Act action) = false
+is_set TtlExpired = false
+is_set End = false
+
+abbrev pub set_notes : Step → List Step → List ℕ
+set_notes step behind = if is_set step && is_unsent behind then note (codes "the action set has no output") else []
+
 -- ---- the text
 
 -- the first packet takes the step
@@ -198,7 +257,7 @@ first_notes f asked (s ∷ others) step = notes f asked s step
 
 abbrev pub explained_from : Forwarding → Asked → List Sight → List Step → List ℕ
 explained_from f asked sights [] = []
-explained_from f asked sights (step ∷ steps) = ended (step_line step) ++ first_notes f asked sights step ++ explained_from f asked (stepped (world_of f) step sights) steps
+explained_from f asked sights (step ∷ steps) = ended (step_line step) ++ first_notes f asked sights step ++ set_notes step steps ++ explained_from f asked (stepped (world_of f) step sights) steps
 
 -- a frame that comes in; one that is too short or too long does not
 abbrev pub unless_fault : ℕ → List ℕ → Option FrameFault → List Sight

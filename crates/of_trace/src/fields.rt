@@ -5,7 +5,7 @@ ghost use Rattle.of_headers.specs.FieldMap.{value};
 ghost use Rattle.of_layers.specs.Fields.{number_of};
 ghost use Rattle.of_table.specs.Entries.{flows_of};
 ghost use Rattle.of_table.specs.Tables.{table_at};
-ghost use Rattle.of_trace.specs.Notes.{change_note, change_notes, digits, has_field, looks_at as is_looked_at, mask_digits, same_value, seen_note, seen_notes, value_or_absent};
+ghost use Rattle.of_trace.specs.Notes.{change_note, change_notes, digits, has_field, looks_at as is_looked_at, mask_digits, same_value, seen_note, seen_notes, ttl_note, ttl_words, value_or_absent};
 
 use crate::notes::{begin_note, end_note};
 use of_classifier::Lookup;
@@ -13,7 +13,7 @@ use of_headers::{Field, FieldKey};
 use of_oxm::MatchField;
 use of_switch::Switch;
 use of_table::Entries;
-use of_text::{name, push_value};
+use of_text::{name, push_number, push_value};
 use std::alloc::AllocError;
 
 // Whether the match has the field.
@@ -165,4 +165,43 @@ pub fn push_changes(out: &mut Vec<u8>, old: &FieldKey, new: &FieldKey) -> Result
     ensures { OnOk result (out.new.items ≡ out.old.items ++ change_notes (value old.now) (value new.now)) }
 {
     push_changes_of(out, old, new, &Field::ALL)
+}
+
+// A time to live as a wider number.
+fn widened(ttl: Option<u8>) -> Option<u128>
+    ensures { result ≡ ttl }
+{
+    match ttl {
+        None => None,
+        Some(ttl) => Some(u128::from(ttl)),
+    }
+}
+
+// Appends a time to live, or that there is none.
+fn push_ttl(out: &mut Vec<u8>, ttl: Option<u8>) -> Result<(), AllocError>
+    ensures { OnOk result (out.new.items ≡ out.old.items ++ ttl_words ttl) }
+{
+    match ttl {
+        None => out.extend_from_slice(b" absent"),
+        Some(ttl) => push_number(out, u64::from(ttl)),
+    }
+}
+
+/// Appends the time to live, if it is another one then.
+pub fn push_ttl_change(
+    out: &mut Vec<u8>,
+    old: Option<u8>,
+    new: Option<u8>,
+) -> Result<(), AllocError>
+    ensures { OnOk result (out.new.items ≡ out.old.items ++ ttl_note old new) }
+{
+    if is_same(widened(old), widened(new)) {
+        return Ok(());
+    }
+    begin_note(out)?;
+    out.extend_from_slice(b"nw_ttl")?;
+    push_ttl(out, old)?;
+    out.extend_from_slice(b" ->")?;
+    push_ttl(out, new)?;
+    end_note(out)
 }

@@ -1,15 +1,29 @@
 //! Laws of traces.
 ghost use Rattle.std.specs.Prelude.{◌≡◌, ◌≤◌, ◌∷◌, ℕ, List, [], length};
 ghost use Rattle.of_rewrite.specs.Frames.{IsFrame};
+ghost use Rattle.of_machine.specs.declared.data.Step.{Step};
 ghost use Rattle.of_machine.specs.TheWorld.{TheWorld};
 ghost use Rattle.of_machine.specs.Sound.{IsSound};
 ghost use Rattle.of_machine.specs.Rows.{Lookup, entering};
 ghost use Rattle.of_machine.specs.Runs.{after, starting};
+ghost use Rattle.of_switch.specs.declared.effect.Effect.{Effect};
+ghost use Rattle.of_switch.specs.Plane.{Forwarding};
+ghost use Rattle.of_trace.specs.declared.form.Form.{Form};
+ghost use Rattle.of_trace.specs.Notes.{said};
+ghost use Rattle.of_trace.specs.OnlyNotes.{OnlyNotesAdded};
 ghost use Rattle.of_trace.specs.Sights.{all_stepped, sight_of, sights_of};
+ghost use Rattle.of_trace.specs.Text.{trace_text};
 
 /// The steps of a frame tell its packets: after any number of steps of the machine, the packets that are left are, as tables see
 /// them and in turn, those that the lines of these steps tell.
 pub fn steps_tell_packets()
     ensures { (w : TheWorld) (frame : List ℕ) (port k : ℕ) → IsSound w → IsFrame frame → length frame ≤ 9216 →
         sights_of (after w k (starting (entering frame port) (Lookup 0 ∷ []))).tasks ≡ all_stepped w (after w k (starting (entering frame port) (Lookup 0 ∷ []))).lines (sight_of (entering frame port) ∷ []) }
+{}
+
+/// The text of a trace in any of its forms is the plain text with notes put in below its lines: nothing else is added, and nothing
+/// is left out.
+pub fn notes_only_add()
+    ensures { (form : Form) (f : Forwarding) (port : ℕ) (frame : List ℕ) (steps : List Step) (effects : List Effect) →
+        OnlyNotesAdded (trace_text steps effects) (said form f port frame steps effects) }
 {}

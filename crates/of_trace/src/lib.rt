@@ -20,7 +20,7 @@ mod writing;
 
 pub use explaining::why;
 pub use form::{Asked, Form};
-pub use laws::steps_tell_packets;
+pub use laws::{notes_only_add, steps_tell_packets};
 pub use noting::explain;
 pub use printing::print;
 pub use reason::Reason;

@@ -8,9 +8,9 @@ ghost use Rattle.of_switch.specs.Plane.{world_of};
 ghost use Rattle.of_table.specs.Tables.{table_at};
 ghost use Rattle.of_trace.specs.Spelt.{are_spelt, is_spelt};
 ghost use Rattle.of_trace.specs.Sights.{key_seen, sight_after, stepped};
-ghost use Rattle.of_trace.specs.Notes.{changes, entry_notes, explained, explained_from, first_notes, flag_of, flags_number, flow_there, head_in, look_notes, match_notes, note, notes as notes_of, sending_notes, table_notes};
+ghost use Rattle.of_trace.specs.Notes.{changes, entry_notes, explained, explained_from, first_notes, flag_of, flags_number, flow_there, head_in, is_unsent as is_unsent_by, look_notes, match_notes, note, notes as notes_of, sending_notes, sends as is_sending, set_notes, table_notes};
 
-use crate::fields::{push_changes, push_seen};
+use crate::fields::{push_changes, push_seen, push_ttl_change};
 use crate::form::Asked;
 use crate::notes::{begin_note, end_note, push_note, push_number_note};
 use crate::packets::{Packets, enter, put_back};
@@ -153,7 +153,8 @@ fn push_changed(
     requires { after.now ≡ sight_after step sight.now }
     ensures { OnOk result (out.new.items ≡ out.old.items ++ changes step sight.now) }
 {
-    push_changes(out, &sight.key(), &after.key())
+    push_changes(out, &sight.key(), &after.key())?;
+    push_ttl_change(out, sight.ttl(), after.ttl())
 }
 
 // Appends where an output or a group sends a packet.
@@ -231,6 +232,38 @@ fn push_step_notes<L: Lookup>(
     put_back(alloc, packets, switch, &sight, step, after)
 }
 
+// Whether an action sends the packet, or copies of it.
+fn sends(action: Action) -> bool
+    ensures { result ≡ is_sending action }
+{
+    matches!(action, Action::Output { .. } | Action::Group(_))
+}
+
+// Whether these steps end a packet before any of its actions sends it.
+fn is_unsent(steps: &[Step]) -> bool
+    ensures { result ≡ is_unsent_by steps.now }
+{
+    let mut rest = steps;
+    while let [step, behind @ ..] = rest {
+        match step {
+            Step::Act(action) if !sends(*action) => rest = behind,
+            Step::End => return true,
+            _ => return false,
+        }
+    }
+    false
+}
+
+// Appends that the action set which runs now has no output.
+fn push_set_note(out: &mut Vec<u8>, step: Step, behind: &[Step]) -> Result<(), AllocError>
+    ensures { OnOk result (out.new.items ≡ out.old.items ++ set_notes step behind.now) }
+{
+    if matches!(step, Step::Set) && is_unsent(behind) {
+        return push_note(out, b"the action set has no output");
+    }
+    Ok(())
+}
+
 // Appends the lines of steps, with notes.
 fn push_explained<L: Lookup>(
     alloc: Global,
@@ -244,10 +277,13 @@ fn push_explained<L: Lookup>(
     ensures { OnOk result (out.new.items ≡ out.old.items ++ explained_from switch.now.core.forwarding asked packets.items steps.now) }
 {
     let mut packets = packets;
-    for step in steps {
+    let mut rest = steps;
+    while let [step, behind @ ..] = rest {
         push_step(out, *step)?;
         out.push(b'\n')?;
         push_step_notes(alloc, out, switch, asked, &mut packets, *step)?;
+        push_set_note(out, *step, behind)?;
+        rest = behind;
     }
     Ok(())
 }
@@ -256,7 +292,8 @@ fn push_explained<L: Lookup>(
 ///
 /// Below a look-up stand the winning entry's `flow` line and `match` lines, as flow text writes them, or that no entry matches;
 /// each field that the match of some entry of the table has, as the packet has it; and why entries won or did not, as far as it
-/// is asked. Below an action stand the fields that it changed, why an output sends nothing, or which buckets of a group run.
+/// is asked. Below an action stand the fields that it changed and the time to live, why an output sends nothing, or which buckets
+/// of a group run; below the action set, that it has no output.
 /// `port` and `frame` are those of the trace.
 pub fn explain<L: Lookup>(
     alloc: Global,

@@ -3,6 +3,7 @@ ghost use Rattle.std.specs.Prelude.{◌≡◌, IfOk, OnOk, IsTrue, false};
 ghost use Rattle.of_actions.specs.Served.{is_served};
 ghost use Rattle.of_headers.specs.FieldMap.{value, field_map};
 ghost use Rattle.of_layers.specs.Reading.{layers_of};
+ghost use Rattle.of_trace.specs.Notes.{ttl_seen};
 ghost use Rattle.of_trace.specs.Sights.{frame_after, key_seen, sight_after};
 ghost use Rattle.of_trace.specs.Spelt.{is_spelt};
 
@@ -27,6 +28,13 @@ impl Sight {
         ensures { value result ≡ key_seen self.now }
     {
         key_of_frame(&self.frame, self.ingress, self.metadata)
+    }
+
+    /// The time to live, if the frame has an IP layer.
+    pub fn ttl(&self) -> Option<u8>
+        ensures { result ≡ ttl_seen self.now }
+    {
+        self.frame.ttl()
     }
 
     /// The same again.

@@ -1,0 +1,185 @@
+-- Messages are bytes: numbers below 256.
+use Rattle.std.proofs.Common.{◌≡◌, ℕ, ◌+◌, ◌-◌, ◌<◌, suc, zero, true, false, List, [], ◌∷◌, ◌++◌, length, Option, Some, None, arith}
+use Rattle.std.specs.Prelude.{replicate}
+use Rattle.std.specs.List.{AllByRecursion, flat_map, list_all}
+use Rattle.std.proofs.Math.Nat.{mod-lt}
+use Rattle.std.proofs.lemmas.Bool.Decides.{nat_tests}
+use Rattle.std.specs.Int.{byte_at}
+use Rattle.byteorder.specs.Endian.{big_bytes}
+use Rattle.hex.specs.Hex.{IsBytes}
+use Rattle.of_layers.specs.declared.field.Field.{Field}
+use Rattle.of_layers.specs.Fields.{bytes_of}
+use Rattle.of_layers.proofs.Table.{number_below, bytes_most}
+use Rattle.of_oxm.specs.declared.match_field.MatchField.{MatchField}
+use Rattle.of_oxm.specs.MatchFieldWire.{spelling}
+use Rattle.of_oxm.specs.MatchGrammar.{padded}
+use Rattle.of_oxm.specs.Canonical.{canonical, written_len}
+use Rattle.of_actions.specs.declared.action.Action.{Action}
+use Rattle.of_actions.specs.declared.action.Action.TheVariants.{Output, PushVlan, PopVlan, Group, SetNwTtl, DecNwTtl, SetField}
+use Rattle.of_actions.specs.declared.instruction.Instruction.{Instruction}
+use Rattle.of_actions.specs.declared.instruction.Instruction.TheVariants.{Apply, Clear, Write, Metadata, Goto}
+use Rattle.of_actions.specs.Served.{is_served, are_served}
+use Rattle.of_actions.specs.InstructionLists.{are_kept, is_served_body}
+use Rattle.of_actions.specs.SetField.{set_len}
+use Rattle.of_actions.specs.CanonicalActions.{canonical_action, canonical_actions, canonical_set_field}
+use Rattle.of_actions.specs.CanonicalInstructions.{after_type, canonical_instruction, canonical_instructions}
+use Rattle.of_groups.specs.declared.bucket.Bucket.{Bucket}
+use Rattle.of_groups.specs.declared.group.GroupKind.{GroupKind}
+use Rattle.of_groups.specs.declared.group.GroupKind.TheVariants.{All, Indirect, FastFailover}
+use Rattle.of_groups.specs.Buckets.{are_fit, is_fit}
+use Rattle.of_text.proofs.TextLemmas.{all_both}
+use Rattle.of_messages.specs.declared.message.FlowMod.{FlowMod}
+use Rattle.of_messages.specs.declared.message.FlowModCommand.{FlowModCommand}
+use Rattle.of_messages.specs.declared.message.FlowModCommand.TheVariants.{Add, Modify, ModifyStrict, Delete, DeleteStrict}
+use Rattle.of_messages.specs.declared.group_mod.NewGroup.{NewGroup}
+use Rattle.of_messages.specs.Written.{command_number, flow_mod_bytes, flow_mod_front, message}
+use Rattle.of_messages.specs.CanonicalGroups.{canonical_bucket, canonical_buckets, group_add_bytes, group_add_front, kind_number}
+
+-- each is below 256
+pub record Bytes (bytes : List ℕ) : Type 0 where
+  pub each : AllByRecursion (λ (b : ℕ). b < 256) bytes
+
+at_places : (bytes : List ℕ) → AllByRecursion (λ (b : ℕ). b < 256) bytes → IsBytes bytes
+at_places [] h i = omega arith
+at_places (b ∷ bs) h zero = h.0
+at_places (b ∷ bs) h (suc i) = at_places bs h.1 i
+
+pub are_bytes : (bytes : List ℕ) → Bytes bytes → IsBytes bytes
+are_bytes bytes h = at_places bytes h.each
+
+none : Bytes []
+none = record { each = tt }
+
+next : {b : ℕ} {bs : List ℕ} → b < 256 → Bytes bs → Bytes (b ∷ bs)
+next h hs = record { each = (h, hs.each) }
+
+both : {xs ys : List ℕ} → Bytes xs → Bytes ys → Bytes (xs ++ ys)
+both {xs = xs} {ys = ys} a b = record { each = all_both (λ (b : ℕ). b < 256) xs ys a.each b.each }
+
+byte : (i n : ℕ) → byte_at i n < 256
+byte zero n = mod-lt n (omega arith)
+byte (suc i) n = mod-lt _ (omega arith)
+
+big : (n x : ℕ) → Bytes (big_bytes n x)
+big zero x = none
+big (suc n) x = next (byte n x) (big n x)
+
+zeros : (n : ℕ) → Bytes (replicate n 0)
+zeros zero = none
+zeros (suc n) = next (omega arith) (zeros n)
+
+each_bytes : {X : Type 0} (f : X → List ℕ) (xs : List X) → AllByRecursion (λ x. Bytes (f x)) xs → Bytes (flat_map f xs)
+each_bytes f [] h = none
+each_bytes f (x ∷ xs) h = both h.0 (each_bytes f xs h.1)
+
+four : {a b c d : ℕ} {bs : List ℕ} → a < 256 → b < 256 → c < 256 → d < 256 → Bytes bs → Bytes (a ∷ b ∷ c ∷ d ∷ bs)
+four i j k l h = next i (next j (next k (next l h)))
+
+-- ---- matches
+
+spelling_by : (f : Field) (v : ℕ) (mask : Option ℕ) → let e : MatchField = record { field = f; value = v; mask = mask } in Bytes (spelling e)
+unfolding spelling
+spelling_by f v None =
+    let number = number_below f in
+    let size = bytes_most f in
+    four (omega arith) (omega arith) (omega (arith, number)) (omega (arith, size)) (both (big (bytes_of f) v) none)
+spelling_by f v (Some m) =
+    let number = number_below f in
+    let size = bytes_most f in
+    four (omega arith) (omega arith) (omega (arith, number)) (omega (arith, size)) (both (big (bytes_of f) v) (big (bytes_of f) m))
+
+all_spellings : (m : List MatchField) → AllByRecursion (λ e. Bytes (spelling e)) m
+all_spellings [] = tt
+all_spellings (e ∷ es) = (spelling_by e.field e.value e.mask, all_spellings es)
+
+match_bytes : (m : List MatchField) → Bytes (canonical m)
+unfolding canonical
+match_bytes m = next (omega arith) (next (omega arith) (both (big 2 (written_len m)) (both (each_bytes spelling m (all_spellings m)) (zeros (padded (written_len m) - written_len m)))))
+
+-- ---- actions
+
+action_bytes : (a : Action) → is_served false a ≡ true → Bytes (canonical_action a)
+unfolding canonical_action canonical_set_field is_served
+action_bytes (Output port max_len) h = four (omega arith) (omega arith) (omega arith) (omega arith) (both (big 4 port) (both (big 2 max_len) (zeros 6)))
+action_bytes (PushVlan type) h = four (omega arith) (omega arith) (omega arith) (omega arith) (both (big 2 type) (zeros 2))
+action_bytes PopVlan h = four (omega arith) (omega arith) (omega arith) (omega arith) (zeros 4)
+action_bytes (Group group) h = four (omega arith) (omega arith) (omega arith) (omega arith) (big 4 group)
+action_bytes (SetNwTtl ttl) h = four (omega arith) (omega arith) (omega arith) (omega arith) (next (grind (arith, nat_tests)) (zeros 3))
+action_bytes DecNwTtl h = four (omega arith) (omega arith) (omega arith) (omega arith) (zeros 4)
+action_bytes (SetField f v) h =
+    let number = number_below f in
+    let size = bytes_most f in
+    four (omega arith) (omega arith) (omega arith) (omega (arith, size)) (four (omega arith) (omega arith) (omega (arith, number)) (omega (arith, size)) (both (big (bytes_of f) v) (zeros (set_len f - (8 + bytes_of f)))))
+
+all_actions : (xs : List Action) → list_all (is_served false) xs ≡ true → AllByRecursion (λ a. Bytes (canonical_action a)) xs
+all_actions [] h = tt
+all_actions (a ∷ xs) h = (action_bytes a (grind (arith, nat_tests)), all_actions xs (grind (arith, nat_tests)))
+
+actions_bytes : (xs : List Action) → are_served false xs ≡ true → Bytes (canonical_actions xs)
+actions_bytes xs h = each_bytes canonical_action xs (all_actions xs (grind (arith, nat_tests)))
+
+-- ---- instructions
+
+after_bytes : (bytes : List ℕ) → Bytes bytes → Bytes (after_type bytes)
+after_bytes bytes h = both (big 2 (8 + length bytes)) (both (zeros 4) h)
+
+instruction_bytes : (i : Instruction) → is_served_body i ≡ true → Bytes (canonical_instruction i)
+unfolding canonical_instruction
+instruction_bytes (Apply actions) h = next (omega arith) (next (omega arith) (after_bytes (canonical_actions actions) (actions_bytes actions h)))
+instruction_bytes Clear h = four (omega arith) (omega arith) (omega arith) (omega arith) (zeros 4)
+instruction_bytes (Write actions) h = next (omega arith) (next (omega arith) (after_bytes (canonical_actions actions) (actions_bytes actions h)))
+instruction_bytes (Metadata value mask) h = four (omega arith) (omega arith) (omega arith) (omega arith) (both (zeros 4) (both (big 8 value) (big 8 mask)))
+instruction_bytes (Goto table) h = let low : table < 16 = grind (arith, nat_tests) in four (omega arith) (omega arith) (omega arith) (omega arith) (next (omega (arith, low)) (zeros 3))
+
+all_instructions : (is : List Instruction) → list_all is_served_body is ≡ true → AllByRecursion (λ i. Bytes (canonical_instruction i)) is
+all_instructions [] h = tt
+all_instructions (i ∷ is) h = (instruction_bytes i (grind (arith, nat_tests)), all_instructions is (grind (arith, nat_tests)))
+
+instructions_bytes : (is : List Instruction) → are_kept is ≡ true → Bytes (canonical_instructions is)
+instructions_bytes is h = each_bytes canonical_instruction is (all_instructions is (grind (arith, nat_tests)))
+
+-- ---- messages
+
+message_bytes : (kind xid : ℕ) (body : List ℕ) → kind < 256 → Bytes body → Bytes (message kind xid body)
+message_bytes kind xid body k h = next (omega arith) (next k (both (both (big 2 (8 + length body)) (big 4 xid)) h))
+
+command_byte : (c : FlowModCommand) → command_number c < 256
+command_byte Add = omega arith
+command_byte Modify = omega arith
+command_byte ModifyStrict = omega arith
+command_byte Delete = omega arith
+command_byte DeleteStrict = omega arith
+
+front_bytes : (m : FlowMod) → m.table < 256 → Bytes (flow_mod_front m)
+unfolding flow_mod_front
+front_bytes m table =
+    both (big 8 m.cookie) (both (big 8 m.cookie_mask) (both (next table (next (command_byte m.command) none))
+    (both (big 2 m.idle_timeout) (both (big 2 m.hard_timeout) (both (big 2 m.priority)
+    (both (big 4 m.buffer) (both (big 4 m.out_port) (both (big 4 m.out_group) (both (big 2 m.flags) (zeros 2))))))))))
+
+pub flow_mod_are_bytes : (xid : ℕ) (m : FlowMod) → m.table < 256 → are_kept m.instructions ≡ true → IsBytes (flow_mod_bytes xid m)
+flow_mod_are_bytes xid m table kept =
+    are_bytes (flow_mod_bytes xid m) (message_bytes 14 xid (flow_mod_front m ++ (canonical m.fields ++ canonical_instructions m.instructions)) (omega arith) (both (front_bytes m table) (both (match_bytes m.fields) (instructions_bytes m.instructions kept))))
+
+kind_byte : (kind : GroupKind) → kind_number kind < 256
+kind_byte All = omega arith
+kind_byte Indirect = omega arith
+kind_byte FastFailover = omega arith
+
+group_front_bytes : (g : NewGroup) → Bytes (group_add_front g)
+unfolding group_add_front
+group_front_bytes g = both (big 2 0) (both (next (kind_byte g.kind) (next (omega arith) none)) (big 4 g.id))
+
+bucket_bytes : (b : Bucket) → are_served false b.actions ≡ true → Bytes (canonical_bucket b)
+unfolding canonical_bucket
+bucket_bytes b h =
+    both (big 2 (16 + length (canonical_actions b.actions)))
+    (both (big 2 b.weight) (both (big 4 b.watch_port) (both (big 4 b.watch_group) (both (zeros 4) (actions_bytes b.actions h)))))
+
+all_buckets : (bs : List Bucket) → list_all is_fit bs ≡ true → AllByRecursion (λ b. Bytes (canonical_bucket b)) bs
+all_buckets [] h = tt
+all_buckets (b ∷ bs) h = (bucket_bytes b (grind (arith, nat_tests)), all_buckets bs (grind (arith, nat_tests)))
+
+pub group_add_are_bytes : (xid : ℕ) (g : NewGroup) → are_fit g.buckets ≡ true → IsBytes (group_add_bytes xid g)
+group_add_are_bytes xid g fit =
+    are_bytes (group_add_bytes xid g) (message_bytes 15 xid (group_add_front g ++ canonical_buckets g.buckets) (omega arith) (both (group_front_bytes g) (each_bytes canonical_bucket g.buckets (all_buckets g.buckets (grind (arith, nat_tests))))))

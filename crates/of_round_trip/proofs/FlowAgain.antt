@@ -1,0 +1,186 @@
+-- A FLOW_MOD that is written is read again.
+use Rattle.std.proofs.Common.{◌≡◌, ℕ, ◌+◌, ◌-◌, ◌^◌, ◌<◌, ◌≤◌, Bool, true, false, cond, ltb, eqb, List, [], ◌∷◌, ◌++◌, length, drop, take, Option, None, Ok, Err, refl, sym, ◌∙◌, ap, append_assoc, arith}
+use Rattle.std.specs.Prelude.{slice_index, ◌||◌}
+use Rattle.std.proofs.lemmas.Bool.{le-ltb, eq-eqb}
+use Rattle.std.proofs.lemmas.List.{append-nil, length-append, take_at, drop_at}
+use Rattle.byteorder.specs.Endian.{big_number, big_bytes}
+use Rattle.byteorder.specs.Numbers.{big_number-reads_back}
+use Rattle.of_wire.specs.declared.code.Code.{Code}
+use Rattle.of_wire.specs.Refusals.{first_of, refusal}
+use Rattle.of_oxm.specs.declared.match_field.MatchField.{MatchField}
+use Rattle.of_oxm.specs.NormalForm.{IsMatch}
+use Rattle.of_oxm.specs.Canonical.{canonical}
+use Rattle.of_oxm.specs.MatchGrammar.{Fields, SpellsMatch, body_of as match_body, head_refusals as match_head, match_len, padded, spellings}
+use Rattle.of_oxm.specs.MatchReading.{match_of}
+use Rattle.of_oxm.proofs.Computed.{found_computed}
+use Rattle.of_oxm.proofs.Written.{canonical_short, canonical_spells}
+use Rattle.of_oxm.proofs.MatchFieldLemmas.{NoneApplies, none_first}
+use Rattle.of_actions.specs.declared.instruction.Instruction.{Instruction}
+use Rattle.of_actions.specs.CanonicalInstructions.{canonical_instructions}
+use Rattle.of_actions.specs.FlowCheck.{all_go_with}
+use Rattle.of_actions.specs.InstructionLists.{are_for, are_kept}
+use Rattle.of_actions.specs.InstructionReading.{instructions_of}
+use Rattle.of_actions.proofs.Computed.{is_computed}
+use Rattle.of_actions.proofs.InstructionLengths.{instructions_short}
+use Rattle.of_actions.proofs.InstructionsAgain.{instructions_spelt}
+use Rattle.of_messages.specs.declared.message.FlowMod.{FlowMod}
+use Rattle.of_messages.specs.declared.message.FlowModCommand.TheVariants.{Add}
+use Rattle.of_messages.specs.declared.message.Message.TheVariants.{FlowMod as IsFlowMod}
+use Rattle.of_messages.specs.Heads.{head_refusals, header_length, size_of, type_of, version_of}
+use Rattle.of_messages.specs.Messages.{body_of, flow_mod_by, flow_mod_of, flow_mod_refusals, flow_mod_with, message_from, message_of, then_instructions, then_match, command_of}
+use Rattle.of_messages.specs.Written.{flow_mod_bytes, flow_mod_front, command_number}
+
+-- ---- a match that is spelt is read, whatever follows it
+
+match_read : (a x : List ℕ) (m : List MatchField) → SpellsMatch a m → match_of (a ++ x) ≡ Ok (m, length a)
+match_read a x m s =
+    let sp = spellings s.fields in
+    let written : List ℕ = 0 ∷ 1 ∷ (big_bytes 2 s.len ++ (sp ++ s.padding)) in
+    let all = written ++ x in
+    let len_is : match_len all ≡ s.len = ap (big_number 2) (append_assoc (big_bytes 2 s.len) (sp ++ s.padding) x) ∙ big_number-reads_back 2 s.len ((sp ++ s.padding) ++ x) (omega (arith, s.len_fits)) in
+    let size : length written ≡ padded s.len = ap length (sym s.whole) ∙ s.size in
+    let long : padded s.len ≤ length all = omega (arith, size, length-append written x) in
+    let low : 4 ≤ s.len = omega (arith, s.len_is) in
+    let le : s.len ≤ padded s.len = omega arith in
+    let third : (ltb (match_len all) 4 || ltb (length all) (padded (match_len all))) ≡ false =
+    ap (λ (n : ℕ). ltb n 4 || ltb (length all) (padded n)) len_is ∙ ap (λ (b : Bool). b || ltb (length all) (padded s.len)) (le-ltb _ _ low) ∙ le-ltb _ _ long in
+    let applies : NoneApplies (match_head all) = (le-ltb _ _ (omega (arith, long, low, le)), (refl, (third, tt))) in
+    let body : match_body all ≡ sp = ap (λ (n : ℕ). take (n - 4) (drop 4 all)) len_is ∙ ap (take (s.len - 4)) (append_assoc sp s.padding x) ∙ take_at sp (s.padding ++ x) (s.len - 4) (omega (arith, s.len_is)) in
+    let walk : Fields [] sp s.fields None = record { rest = []; whole = sym (append-nil sp); fine = s.fine; ended = refl } in
+    let found : match_of all ≡ Ok (m, padded s.len) = found_computed all sp s.len s.fields m (none_first (match_head all) applies) (sym len_is) (sym body) walk s.normal_form s.met in
+    let whole : a ++ x ≡ all = ap (λ (w : List ℕ). w ++ x) s.whole in
+    ap match_of whole ∙ (found ∙ ap (λ (n : ℕ). Ok (m, n)) (sym s.size))
+
+instructions_read : (table : ℕ) (is : List Instruction) → are_kept is ≡ true → are_for table is ≡ true → instructions_of table (canonical_instructions is) ≡ Ok is
+instructions_read table is kept fit = is_computed table (canonical_instructions is) (Ok is) (instructions_spelt table is kept fit) tt
+
+-- ---- an ADD that may be written
+
+pub record IsAdd (m : FlowMod) : Type 0 where
+  pub cookie : m.cookie < 256 ^ 8
+  pub cookie_mask : m.cookie_mask < 256 ^ 8
+  pub table : m.table < 16
+  pub command : m.command ≡ Add
+  pub idle : m.idle_timeout < 256 ^ 2
+  pub hard : m.hard_timeout < 256 ^ 2
+  pub priority : m.priority < 256 ^ 2
+  pub buffer : m.buffer < 256 ^ 4
+  pub out_port : m.out_port < 256 ^ 4
+  pub out_group : m.out_group < 256 ^ 4
+  pub flags : m.flags ≤ 31
+  pub fields : IsMatch m.fields
+  pub kept : are_kept m.instructions ≡ true
+  pub fit : are_for m.table m.instructions ≡ true
+  pub checked : all_go_with m.fields m.instructions ≡ true
+
+-- what a message says, over a variable, where nothing has computed to bytes yet
+record Says (m : FlowMod) (b : List ℕ) : Type 0 where
+  version : version_of b ≡ 4
+  type : type_of b ≡ 14
+  size : header_length b ≡ length b
+  long : 56 ≤ length b
+  few : length b ≤ 4304
+  cookie : big_number 8 (drop 8 b) ≡ m.cookie
+  cookie_mask : big_number 8 (drop 16 b) ≡ m.cookie_mask
+  table : slice_index b 24 ≡ m.table
+  command : slice_index b 25 ≡ 0
+  idle : big_number 2 (drop 26 b) ≡ m.idle_timeout
+  hard : big_number 2 (drop 28 b) ≡ m.hard_timeout
+  priority : big_number 2 (drop 30 b) ≡ m.priority
+  buffer : big_number 4 (drop 32 b) ≡ m.buffer
+  out_port : big_number 4 (drop 36 b) ≡ m.out_port
+  out_group : big_number 4 (drop 40 b) ≡ m.out_group
+  flags : big_number 2 (drop 44 b) ≡ m.flags
+  rest_is : drop 48 b ≡ canonical m.fields ++ canonical_instructions m.instructions
+
+says : (xid : ℕ) (m : FlowMod) → IsAdd m → Says m (flow_mod_bytes xid m)
+unfolding flow_mod_front
+says xid m a =
+    let b = flow_mod_bytes xid m in
+    let tail = canonical m.fields ++ canonical_instructions m.instructions in
+    let body = flow_mod_front m ++ tail in
+    let long : length b ≡ 48 + length tail = omega arith in
+    let size : 8 + length body ≡ length b = omega arith in
+    let parts = length-append (canonical m.fields) (canonical_instructions m.instructions) in
+    let most = canonical_short m.fields a.fields.rising in
+    let more = instructions_short m.instructions a.kept in
+    let spelt = canonical_spells m.fields a.fields in
+    let least : 8 ≤ length (canonical m.fields) = omega (arith, spelt.size, spelt.len_is) in
+    record {
+      version = refl;
+      type = refl;
+      size = big_number-reads_back 2 (8 + length body) (drop 4 b) (omega (arith, parts, most, more)) ∙ size;
+      long = omega (arith, parts, least);
+      few = omega (arith, parts, most, more);
+      cookie = big_number-reads_back 8 m.cookie (drop 16 b) a.cookie;
+      cookie_mask = big_number-reads_back 8 m.cookie_mask (drop 24 b) a.cookie_mask;
+      table = refl;
+      command = ap command_number a.command;
+      idle = big_number-reads_back 2 m.idle_timeout (drop 28 b) a.idle;
+      hard = big_number-reads_back 2 m.hard_timeout (drop 30 b) a.hard;
+      priority = big_number-reads_back 2 m.priority (drop 32 b) a.priority;
+      buffer = big_number-reads_back 4 m.buffer (drop 36 b) a.buffer;
+      out_port = big_number-reads_back 4 m.out_port (drop 40 b) a.out_port;
+      out_group = big_number-reads_back 4 m.out_group (drop 44 b) a.out_group;
+      flags = big_number-reads_back 2 m.flags (drop 46 b) (omega (arith, a.flags));
+      rest_is = refl;
+    }
+
+head_passes : (m : FlowMod) (b : List ℕ) → Says m b → first_of (head_refusals b) ≡ None
+unfolding size_of
+head_passes m b h =
+    let long = h.long in
+    let eight : ltb (length b) 8 ≡ false = le-ltb _ _ (omega (arith, long)) in
+    let most : ltb (length b) 56 ≡ false = le-ltb _ _ long in
+    let size : eqb (header_length b) (length b) ≡ true = eq-eqb _ _ h.size in
+    rw (h.type, h.version, eight, most, size) refl
+
+add_passes : (m : FlowMod) (b : List ℕ) → IsAdd m → Says m b → first_of (flow_mod_refusals b) ≡ None
+add_passes m b a h =
+    let table : ltb 15 m.table ≡ false = le-ltb _ _ (omega (arith, a.table)) in
+    let flags : ltb 31 m.flags ≡ false = le-ltb _ _ a.flags in
+    rw (h.command, h.table, h.flags, table, flags) refl
+
+match_there : (m : FlowMod) (b : List ℕ) → IsAdd m → Says m b → match_of (drop 48 b) ≡ Ok (m.fields, length (canonical m.fields))
+match_there m b a h = ap match_of h.rest_is ∙ match_read (canonical m.fields) (canonical_instructions m.instructions) m.fields (canonical_spells m.fields a.fields)
+
+instructions_there : (m : FlowMod) (b : List ℕ) → IsAdd m → Says m b → instructions_of (slice_index b 24) (drop (length (canonical m.fields)) (drop 48 b)) ≡ Ok m.instructions
+instructions_there m b a h =
+    ap (instructions_of (slice_index b 24)) (ap (drop (length (canonical m.fields))) h.rest_is ∙ drop_at (canonical m.fields) (canonical_instructions m.instructions) (length (canonical m.fields)) refl)
+    ∙ (ap (λ (t : ℕ). instructions_of t (canonical_instructions m.instructions)) h.table ∙ instructions_read m.table m.instructions a.kept a.fit)
+
+same_mod : (m : FlowMod) (b : List ℕ) → IsAdd m → Says m b → flow_mod_with b Add m.fields m.instructions ≡ m
+same_mod m b a h = λ i. record {
+  cookie = h.cookie i;
+  cookie_mask = h.cookie_mask i;
+  table = h.table i;
+  command = (sym a.command) i;
+  idle_timeout = h.idle i;
+  hard_timeout = h.hard i;
+  priority = h.priority i;
+  buffer = h.buffer i;
+  out_port = h.out_port i;
+  out_group = h.out_group i;
+  flags = h.flags i;
+  fields = m.fields;
+  instructions = m.instructions;
+}
+
+mod_again : (m : FlowMod) (b : List ℕ) → IsAdd m → Says m b → flow_mod_of b ≡ Ok m
+mod_again m b a h =
+    ap (λ (o : Option Code). flow_mod_by b o (command_of (slice_index b 25))) (add_passes m b a h)
+    ∙ (ap (λ (n : ℕ). flow_mod_by b None (command_of n)) h.command
+    ∙ (ap (then_match b Add) (match_there m b a h)
+    ∙ (ap (then_instructions b Add m.fields) (instructions_there m b a h)
+    ∙ (ap (λ (t : Bool). cond t (Ok (flow_mod_with b Add m.fields m.instructions)) (Err (refusal 2 10))) a.checked
+    ∙ ap Ok (same_mod m b a h)))))
+
+body_again : (m : FlowMod) (b : List ℕ) → Says m b → first_of (head_refusals b) ≡ None → flow_mod_of b ≡ Ok m → message_of b ≡ Ok (IsFlowMod m)
+unfolding message_from body_of
+body_again m b h head body = rw (head, h.type, body) refl
+
+pub flow_mod_again : (xid : ℕ) (m : FlowMod) → IsAdd m → message_of (flow_mod_bytes xid m) ≡ Ok (IsFlowMod m)
+flow_mod_again xid m a =
+    let b = flow_mod_bytes xid m in
+    let h = says xid m a in
+    body_again m b h (head_passes m b h) (mod_again m b a h)

@@ -1,0 +1,9 @@
+pub mod RowsRead
+pub mod Pieces
+pub mod ByteLemmas
+pub mod FlowAgain
+pub mod Messages
+pub mod FlowsAdded
+pub mod Present
+pub mod GroupsAdded
+pub mod ComingBack

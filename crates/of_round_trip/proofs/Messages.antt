@@ -1,0 +1,20 @@
+-- What is written is one message of the stream; and the switch that is built.
+use Rattle.std.proofs.Common.{◌≡◌, ℕ, ◌≤◌, List, [], length, ◌∙◌, arith}
+use Rattle.of_groups.specs.declared.group.Group.{Group}
+use Rattle.of_table.specs.Tables.{Tables}
+use Rattle.of_messages.specs.Heads.{header_length}
+use Rattle.of_messages.specs.Written.{message}
+use Rattle.of_messages.proofs.Lengths.{is_message}
+use Rattle.of_session.specs.Stream.{IsMessage, length_of}
+use Rattle.of_switch.specs.Control.{new_control}
+use Rattle.of_switch.specs.State.{Core}
+
+pub one_message : (kind xid : ℕ) (body : List ℕ) → length body ≤ 65527 → IsMessage (message kind xid body)
+one_message kind xid body few =
+    let parts = is_message kind xid body few in
+    let same : length_of (message kind xid body) ≡ header_length (message kind xid body) = omega arith in
+    record { header = parts.0; whole = same ∙ parts.3 }
+
+-- a switch of that number, with these groups and tables
+abbrev pub built : ℕ → List Group → Tables → Core
+built dpid groups tables = record { dpid = dpid; control = new_control; forwarding = record { tables = tables; groups = groups; ports = [] } }

@@ -1,0 +1,23 @@
+//! Laws of the round trip.
+ghost use Rattle.std.specs.Prelude.{◌≡◌, ℕ, List, None, true};
+ghost use Rattle.of_build.specs.Building.{BuildsOf, build_text};
+ghost use Rattle.of_text.specs.Configs.{Configuration, SpellConfig, config_text};
+ghost use Rattle.of_text.specs.Lines.{lines_of};
+ghost use Rattle.of_replay.specs.Disassembling.{text_after};
+ghost use Rattle.of_replay.specs.Play.{lines_read};
+ghost use Rattle.of_replay.specs.Rows.{rows_of};
+ghost use Rattle.of_round_trip.specs.RoundTrip.{ComesBack};
+
+/// The file that is built of a flow text, run on a new switch of any number, ends with the configuration that the text spells.
+///
+/// No row of the file is bad, no event is refused, and no message is answered: the switch says its own HELLO alone. But for its
+/// connection it is then a new switch that the configuration was loaded into: groups and flows in their order, counters of 0.
+pub fn text_comes_back()
+    ensures { (text : List ℕ) (config : Configuration) (dpid : ℕ) → SpellConfig (lines_of text) config → ComesBack dpid (build_text config) config }
+{}
+
+/// What `dis` writes of the file that `asm` wrote for a flow text is the canonical text of the configuration that the text spells.
+pub fn dis_undoes_asm()
+    ensures good { (text file : List ℕ) → BuildsOf text file → (rows_of (lines_read true file)).bad ≡ None }
+    ensures canonical { (text file : List ℕ) (config : Configuration) → BuildsOf text file → SpellConfig (lines_of text) config → text_after (rows_of (lines_read true file)) ≡ config_text config }
+{}

@@ -1,0 +1,6 @@
+//! The round trip of flow texts: laws of what `asm` writes.
+#![tactic(auto)]
+
+mod laws;
+
+pub use laws::{dis_undoes_asm, text_comes_back};

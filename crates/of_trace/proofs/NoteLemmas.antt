@@ -1,0 +1,172 @@
+-- What stands below a line is notes, whatever it tells.
+use Rattle.std.proofs.Common.{◌≡◌, ◌==◌, ◌&&◌, ℕ, suc, Bool, true, false, cond, List, [], ◌∷◌, ◌++◌, Option, Some, None, refl, sym, ap, ◌∙◌}
+use Rattle.std.specs.Prelude.{codes, decimal, nat_lt}
+use Rattle.std.specs.List.{flat_map}
+use Rattle.std.proofs.lemmas.List.{append_assoc, append-nil}
+use Rattle.std.proofs.lemmas.List.Concat.{flat_map-append}
+use Rattle.of_layers.specs.declared.field.Field.{Field}
+use Rattle.of_layers.specs.declared.field.TheConstants.Field as constants
+use Rattle.of_actions.specs.declared.action.Action.{Action}
+use Rattle.of_actions.specs.declared.action.Action.TheVariants.{Output, PushVlan, PopVlan, Group, SetNwTtl, DecNwTtl, SetField}
+use Rattle.of_actions.specs.PortNumbers.{in_port}
+use Rattle.of_oxm.specs.declared.match_field.MatchField.{MatchField}
+use Rattle.of_ports.specs.declared.port.Port.{Port}
+use Rattle.of_ports.specs.Ports.{may_send, port_at}
+use Rattle.of_table.specs.declared.flow.Flow.{Flow}
+use Rattle.of_table.specs.Table.{FlowEntry}
+use Rattle.of_table.specs.Tables.{table_at}
+use Rattle.of_machine.specs.declared.data.Step.{Step}
+use Rattle.of_machine.specs.declared.data.Step.TheVariants.{Miss, Entry, Apply, Clear, Write, Metadata, Goto, Set, Act, TtlExpired, End}
+use Rattle.of_text.specs.Lines.{ended}
+use Rattle.of_text.specs.Names.{name_of}
+use Rattle.of_text.specs.Rows.{spelling}
+use Rattle.of_text.specs.declared.row.Row.TheVariants as rows
+use Rattle.of_switch.specs.declared.effect.Effect.{Effect}
+use Rattle.of_switch.specs.Plane.{Forwarding, world_of}
+use Rattle.of_replay.specs.Output.{text_of}
+use Rattle.of_trace.specs.declared.form.Asked.{Asked}
+use Rattle.of_trace.specs.declared.form.Asked.TheVariants.{Nothing}
+use Rattle.of_trace.specs.declared.form.Form.{Form}
+use Rattle.of_trace.specs.declared.form.Form.TheVariants.{Plain, Explained, Why}
+use Rattle.of_trace.specs.declared.reason.Reason.{Reason}
+use Rattle.of_trace.specs.declared.sight.Sight.{Sight}
+use Rattle.of_trace.specs.Sights.{key_seen, sight_after, stepped}
+use Rattle.of_trace.specs.Text.{step_line, steps_text, trace_text}
+use Rattle.of_trace.specs.Why.{reason_in}
+use Rattle.of_trace.specs.OnlyNotes.{NotedLine, OnlyNotesAdded}
+use Rattle.of_trace.specs.Notes.{changes, entered, entry_notes, explained, explained_from, first_notes, flow_there, group_notes, head_in, is_asked, is_many, is_set, is_unsent, look_notes, looks_at, match_notes, note, notes, output_note, port_note, port_words, reason_note, reasons_from, said, same_value, seen_notes, sending_notes, set_notes, ttl_seen, ttl_words, reason_words, value_or_absent}
+
+pub record AreNotes (text : List ℕ) : Type 0 where
+  pub notes : List (List ℕ)
+  pub is : text ≡ flat_map note notes
+
+none : AreNotes []
+none = record { notes = []; is = refl }
+
+one : (line : List ℕ) → AreNotes (note line)
+one line = record { notes = line ∷ []; is = sym (append-nil (note line)) }
+
+both : (xs ys : List ℕ) → AreNotes xs → AreNotes ys → AreNotes (xs ++ ys)
+both xs ys a b =
+    record {
+      notes = a.notes ++ b.notes;
+      is = ap (λ (l : List ℕ). l ++ ys) a.is ∙ ap (λ (l : List ℕ). flat_map note a.notes ++ l) b.is ∙ sym (flat_map-append note a.notes b.notes);
+    }
+
+each : {X : Type 0} (f : X → List ℕ) (xs : List X) → ((x : X) → AreNotes (f x)) → AreNotes (flat_map f xs)
+each f [] h = none
+each f (x ∷ xs) h = both (f x) (flat_map f xs) (h x) (each f xs h)
+
+either : (b : Bool) (xs ys : List ℕ) → AreNotes xs → AreNotes ys → AreNotes (cond b xs ys)
+either true xs ys a b = a
+either false xs ys a b = b
+
+-- ---- each kind of note
+
+matched : (fields : List MatchField) → AreNotes (match_notes fields)
+matched fields = each _ fields (λ e. one (spelling (rows.Match e)))
+
+of_entry : (t : ℕ) (f : Option Flow) → AreNotes (entry_notes t f)
+of_entry t None = none
+of_entry t (Some f) = both _ _ (one (spelling (rows.Flow (head_in t f)))) (matched f.fields)
+
+seen : (flows : List FlowEntry) (map : Field → Option ℕ) → AreNotes (seen_notes flows map)
+seen flows map = each _ constants.ALL (λ f. either (looks_at flows f) _ _ (one (codes "sees " ++ name_of f ++ value_or_absent f (map f))) none)
+
+of_reason : (e : FlowEntry) (place : ℕ) (r : Option Reason) → AreNotes (reason_note e place r)
+of_reason e place None = none
+of_reason e place (Some r) = one (codes "entry" ++ 32 ∷ decimal place ++ codes " (priority" ++ 32 ∷ decimal e.flow.priority ++ codes "): " ++ reason_words r)
+
+reasons : (asked : Asked) (t : ℕ) (map : Field → Option ℕ) (flows : List FlowEntry) (place : ℕ) (rest : List FlowEntry) → AreNotes (reasons_from asked t map flows place rest)
+reasons asked t map flows place [] = none
+reasons asked t map flows place (e ∷ rest) = both _ _ (either (is_asked asked t e) _ _ (of_reason e place (reason_in flows map place)) none) (reasons asked t map flows (suc place) rest)
+
+of_look : (f : Forwarding) (asked : Asked) (t : ℕ) (map : Field → Option ℕ) → AreNotes (look_notes f asked t map)
+of_look f asked t map =
+    let flows : List FlowEntry = (table_at t f.tables).flows in
+    either (nat_lt t 16) _ _ (both _ _ (seen flows map) (reasons asked t map flows 0 flows)) none
+
+of_changes : (step : Step) (s : Sight) → AreNotes (changes step s)
+of_changes step s =
+    both _ _
+    (each _ constants.ALL (λ f. either (same_value (key_seen s f) (key_seen (sight_after step s) f)) _ _ none (one (name_of f ++ value_or_absent f (key_seen s f) ++ codes " ->" ++ value_or_absent f (key_seen (sight_after step s) f)))))
+    (either (same_value (ttl_seen s) (ttl_seen (sight_after step s))) _ _ none (one (codes "nw_ttl" ++ ttl_words (ttl_seen s) ++ codes " ->" ++ ttl_words (ttl_seen (sight_after step s)))))
+
+of_port : (n : ℕ) (q : Option Port) → AreNotes (port_note n q)
+of_port n None = one (codes "there is no port" ++ 32 ∷ decimal n)
+of_port n (Some q) = either (may_send q) _ _ none (one (codes "port" ++ 32 ∷ decimal n ++ port_words q))
+
+of_output : (ports : List Port) (ingress port : ℕ) → AreNotes (output_note ports ingress port)
+of_output ports ingress port =
+    either (port == in_port) _ _ (of_port ingress (port_at ports ingress))
+    (either (is_many port) _ _ none (either (port == ingress) _ _ (one (codes "the frame came in by that port")) (of_port port (port_at ports port))))
+
+of_group : (group : ℕ) (places : Option (List ℕ)) → AreNotes (group_notes group places)
+of_group group None = one (codes "there is no group" ++ 32 ∷ decimal group)
+of_group group (Some []) = one (codes "no bucket runs")
+of_group group (Some (k ∷ places)) = each _ (k ∷ places) (λ place. one (codes "bucket" ++ 32 ∷ decimal place))
+
+of_sending : (f : Forwarding) (s : Sight) (action : Action) → AreNotes (sending_notes f s action)
+of_sending f s (Output port max_len) = of_output f.ports s.ingress port
+of_sending f s (PushVlan type) = none
+of_sending f s PopVlan = none
+of_sending f s (Group group) = of_group group ((world_of f).chosen group)
+of_sending f s (SetNwTtl ttl) = none
+of_sending f s DecNwTtl = none
+of_sending f s (SetField field value) = none
+
+of_step : (f : Forwarding) (asked : Asked) (s : Sight) (step : Step) → AreNotes (notes f asked s step)
+of_step f asked s (Miss t) = both _ _ (one (codes "no entry matches in table" ++ 32 ∷ decimal t)) (of_look f asked t (key_seen s))
+of_step f asked s (Entry t place) = both _ _ (of_entry t (flow_there f t place)) (of_look f asked t (key_seen s))
+of_step f asked s Apply = none
+of_step f asked s Clear = none
+of_step f asked s Write = none
+of_step f asked s (Metadata value mask) = of_changes (Metadata value mask) s
+of_step f asked s (Goto t) = none
+of_step f asked s Set = none
+of_step f asked s (Act action) = both _ _ (of_sending f s action) (of_changes (Act action) s)
+of_step f asked s TtlExpired = one (codes "its work ends here")
+of_step f asked s End = none
+
+of_first : (f : Forwarding) (asked : Asked) (sights : List Sight) (step : Step) → AreNotes (first_notes f asked sights step)
+of_first f asked [] step = none
+of_first f asked (s ∷ others) step = of_step f asked s step
+
+of_set : (step : Step) (behind : List Step) → AreNotes (set_notes step behind)
+of_set step behind = either (is_set step && is_unsent behind) _ _ (one (codes "the action set has no output")) none
+
+-- ---- the text
+
+-- one line more
+more : (line notes_text plain noted : List ℕ) → AreNotes notes_text → OnlyNotesAdded plain noted → OnlyNotesAdded (ended line ++ plain) (ended line ++ notes_text ++ noted)
+more line text plain noted a h =
+    record {
+      lines = record { line = line; notes = a.notes } ∷ h.lines;
+      rest = h.rest;
+      plain_is = ap (λ (l : List ℕ). ended line ++ l) h.plain_is ∙ sym (append_assoc (ended line) (flat_map (λ (l : NotedLine). ended l.line) h.lines) h.rest);
+      noted_is =
+          ap (λ (l : List ℕ). ended line ++ l ++ noted) a.is
+          ∙ ap (λ (l : List ℕ). ended line ++ flat_map note a.notes ++ l) h.noted_is
+          ∙ sym (append_assoc (ended line ++ flat_map note a.notes) (flat_map (λ (l : NotedLine). ended l.line ++ flat_map note l.notes) h.lines) h.rest);
+    }
+
+steps_noted : (f : Forwarding) (asked : Asked) (sights : List Sight) (steps : List Step) (rest : List ℕ) → OnlyNotesAdded (steps_text steps ++ rest) (explained_from f asked sights steps ++ rest)
+steps_noted f asked sights [] rest = record { lines = []; rest = rest; plain_is = refl; noted_is = refl }
+steps_noted f asked sights (step ∷ steps) rest =
+    let behind : List ℕ = explained_from f asked (stepped (world_of f) step sights) steps in
+    let line : List ℕ = ended (step_line step) in
+    let first : List ℕ = first_notes f asked sights step in
+    let set : List ℕ = set_notes step steps in
+    let whole : OnlyNotesAdded (line ++ (steps_text steps ++ rest)) (line ++ (first ++ set) ++ (behind ++ rest)) = more (step_line step) (first ++ set) _ _ (both first set (of_first f asked sights step) (of_set step steps)) (steps_noted f asked (stepped (world_of f) step sights) steps rest) in
+    let plain : line ++ (steps_text steps ++ rest) ≡ steps_text (step ∷ steps) ++ rest = sym (append_assoc line (steps_text steps) rest) in
+    let noted : line ++ (first ++ set) ++ (behind ++ rest) ≡ explained_from f asked sights (step ∷ steps) ++ rest =
+        ap (λ (l : List ℕ). l ++ (behind ++ rest)) (sym (append_assoc line first set)) ∙ sym (append_assoc (line ++ first ++ set) behind rest) in
+    rw (sym plain, sym noted) whole
+
+pub explained_noted : (f : Forwarding) (asked : Asked) (port : ℕ) (frame : List ℕ) (steps : List Step) (effects : List Effect) → OnlyNotesAdded (trace_text steps effects) (explained f asked port frame steps effects)
+explained_noted f asked port frame steps effects = steps_noted f asked (entered port frame) steps (text_of effects)
+
+pub said_noted : (form : Form) (f : Forwarding) (port : ℕ) (frame : List ℕ) (steps : List Step) (effects : List Effect) → OnlyNotesAdded (trace_text steps effects) (said form f port frame steps effects)
+said_noted Plain f port frame steps effects = record { lines = []; rest = trace_text steps effects; plain_is = refl; noted_is = refl }
+said_noted Explained f port frame steps effects = explained_noted f Nothing port frame steps effects
+said_noted (Why asked) f port frame steps effects = explained_noted f asked port frame steps effects
