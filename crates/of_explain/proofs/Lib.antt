@@ -1,1 +1,4 @@
 pub mod ReportLemmas
+pub mod RequestLemmas
+pub mod SaidLemmas
+pub mod ToldLemmas

@@ -20,6 +20,7 @@ use Rattle.of_replay.specs.Rows.{EventRow, Passed, Connect, Lost, Piece, Frame, 
 use Rattle.of_replay.specs.Tales.{Tale, row_happened}
 use Rattle.of_explain.specs.Notes.{ended, note, number_note, port_and_size, with_number}
 use Rattle.of_explain.specs.Messages.{message_words}
+use Rattle.of_explain.specs.Requests.{piece_notes}
 
 -- a line as it stands in the file; an empty one is left out
 abbrev pub echoed : List ℕ → List ℕ
@@ -96,7 +97,7 @@ abbrev pub row_notes : State → EventRow → List ℕ
 row_notes s Passed = []
 row_notes s Connect = []
 row_notes s Lost = []
-row_notes s (Piece bytes) = []
+row_notes s (Piece bytes) = piece_notes s.connection.pending bytes
 row_notes s (Frame port bytes) = way_notes port bytes s.core.forwarding
 row_notes s (Moment nanos) = []
 row_notes s (Ports change) = []

@@ -1,4 +1,5 @@
 pub mod Names
 pub mod Notes
 pub mod Messages
+pub mod Requests
 pub mod Explained

@@ -64,6 +64,18 @@ flow_removed_fields m = removed_entry m ++ removed_counts m
 unfoldable pub port_status_fields : List ℕ → List ℕ
 port_status_fields m = name_field (codes " reason") PortStatusReasons 8 1 m ++ number_field (codes " port") 16 4 m ++ number_field (codes " config") 48 4 m ++ number_field (codes " state") 52 4 m
 
+-- 7.3.2
+unfoldable pub config_fields : List ℕ → List ℕ
+config_fields m = number_field (codes " flags") 8 2 m ++ number_field (codes " miss_send_len") 10 2 m
+
+-- 7.3.3
+unfoldable pub table_mod_fields : List ℕ → List ℕ
+table_mod_fields m = number_field (codes " table") 8 1 m ++ number_field (codes " config") 12 4 m
+
+-- the configuration and its mask are sums of bits (7.3.4.3 and 7.2.1)
+unfoldable pub port_mod_fields : List ℕ → List ℕ
+port_mod_fields m = number_field (codes " port") 8 4 m ++ number_field (codes " config") 24 4 m ++ number_field (codes " mask") 28 4 m
+
 -- 7.3.4.1
 
 unfoldable pub commanded_entry : List ℕ → List ℕ
@@ -92,13 +104,16 @@ unfoldable pub fields_of : ℕ → List ℕ → List ℕ
 fields_of type m =
     if type == 1 then error_fields m
     else if type == 6 then hex_field (codes " datapath") 8 m
+    else if type == 8 then config_fields m
+    else if type == 9 then config_fields m
     else if type == 10 then packet_in_fields m
     else if type == 11 then flow_removed_fields m
     else if type == 12 then port_status_fields m
     else if type == 13 then packet_out_fields m
     else if type == 14 then flow_mod_fields m
     else if type == 15 then group_mod_fields m
-    else if type == 16 then number_field (codes " port") 8 4 m
+    else if type == 16 then port_mod_fields m
+    else if type == 17 then table_mod_fields m
     else if type == 18 then name_field [] Multiparts 8 2 m
     else if type == 19 then name_field [] Multiparts 8 2 m
     else if type == 24 then role_fields m

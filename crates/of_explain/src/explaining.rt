@@ -10,9 +10,10 @@ use std::alloc::Global;
 
 /// Plays the rows of a source as `replay` does, and writes each line, and below it, behind four spaces, what it did in words.
 ///
-/// A row that happens has a note for each effect that `replay` would print, in order. A frame's way stands before them: the
-/// port by which it comes in, or why it does not, and each look-up. A row that is refused has a note that says why. Empty
-/// lines are left out. It reads, writes and ends as `replay` does.
+/// A row that happens has a note for each effect that `replay` would print, in order. Before them stand, of a controller's
+/// bytes, each message that they complete (OpenFlow 1.3.5, 6.3.2 and 7.1), and of a frame its way: the port by which it comes
+/// in, or why it does not, and each look-up. A row that is refused has a note that says why. Empty lines are left out. It
+/// reads, writes and ends as `replay` does.
 pub fn explain<L: Lookup, S: Source, W: Sink>(
     alloc: Global,
     reader: &mut S,

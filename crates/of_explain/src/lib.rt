@@ -5,11 +5,16 @@ mod effects;
 mod explaining;
 mod fields;
 mod frames;
+mod laws;
 mod messages;
 mod names;
 mod notes;
+mod requests;
 mod rows;
+mod said;
 
 pub use explaining::explain;
+pub use laws::each_message_is_told;
 pub use messages::push_message;
 pub use names::Names;
+pub use requests::push_request;

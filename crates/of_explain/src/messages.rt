@@ -1,6 +1,6 @@
 //! Messages in words.
 ghost use Rattle.std.specs.Prelude.{◌≡◌, ◌++◌, OnOk};
-ghost use Rattle.of_explain.specs.Messages.{and_code, commanded_entry, commanded_times, error_fields, fields_of, flow_mod_fields, flow_removed_fields, group_mod_fields, message_words, number_at as a_number_at, packet_in_fields, port_status_fields, removed_counts, removed_entry, role_fields, type_and_fields};
+ghost use Rattle.of_explain.specs.Messages.{and_code, commanded_entry, commanded_times, config_fields, error_fields, fields_of, flow_mod_fields, flow_removed_fields, group_mod_fields, message_words, number_at as a_number_at, packet_in_fields, port_mod_fields, port_status_fields, removed_counts, removed_entry, role_fields, table_mod_fields, type_and_fields};
 
 use crate::fields::{half_at, number_at, push_hex_field, push_name_field, push_number_field};
 use crate::names::{Names, push_name, push_named};
@@ -86,6 +86,34 @@ fn push_port_status(out: &mut Vec<u8>, message: &[u8]) -> Result<(), AllocError>
     push_number_field(out, message, b" state", 52, 4)
 }
 
+// GET_CONFIG_REPLY and SET_CONFIG (7.3.2).
+#[tactic(auto, unfolding(crate::specs::Messages::config_fields))]
+fn push_config(out: &mut Vec<u8>, message: &[u8]) -> Result<(), AllocError>
+    ensures { OnOk result (out.new.items ≡ out.old.items ++ config_fields message.now) }
+{
+    push_number_field(out, message, b" flags", 8, 2)?;
+    push_number_field(out, message, b" miss_send_len", 10, 2)
+}
+
+// TABLE_MOD (7.3.3).
+#[tactic(auto, unfolding(crate::specs::Messages::table_mod_fields))]
+fn push_table_mod(out: &mut Vec<u8>, message: &[u8]) -> Result<(), AllocError>
+    ensures { OnOk result (out.new.items ≡ out.old.items ++ table_mod_fields message.now) }
+{
+    push_number_field(out, message, b" table", 8, 1)?;
+    push_number_field(out, message, b" config", 12, 4)
+}
+
+// PORT_MOD (7.3.4.3).
+#[tactic(auto, unfolding(crate::specs::Messages::port_mod_fields))]
+fn push_port_mod(out: &mut Vec<u8>, message: &[u8]) -> Result<(), AllocError>
+    ensures { OnOk result (out.new.items ≡ out.old.items ++ port_mod_fields message.now) }
+{
+    push_number_field(out, message, b" port", 8, 4)?;
+    push_number_field(out, message, b" config", 24, 4)?;
+    push_number_field(out, message, b" mask", 28, 4)
+}
+
 // What a FLOW_MOD does, and to which entry.
 #[tactic(auto, unfolding(crate::specs::Messages::commanded_entry))]
 fn push_commanded_entry(alloc: Global, out: &mut Vec<u8>, message: &[u8]) -> Result<(), AllocError>
@@ -147,13 +175,15 @@ fn push_fields(
     match kind {
         1 => push_error(out, message),
         6 => push_hex_field(alloc, out, message, b" datapath", 8),
+        8 | 9 => push_config(out, message),
         10 => push_packet_in(alloc, out, message),
         11 => push_flow_removed(alloc, out, message),
         12 => push_port_status(out, message),
         13 => push_number_field(out, message, b" in_port", 12, 4),
         14 => push_flow_mod(alloc, out, message),
         15 => push_group_mod(out, message),
-        16 => push_number_field(out, message, b" port", 8, 4),
+        16 => push_port_mod(out, message),
+        17 => push_table_mod(out, message),
         18 | 19 => push_name_field(out, message, b"", Names::Multiparts, 8, 2),
         24 | 25 => push_role(out, message),
         _ => Ok(()),

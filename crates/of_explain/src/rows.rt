@@ -7,6 +7,7 @@ ghost use Rattle.of_switch.specs.Runs.{Gives};
 
 use crate::effects::{push_effects, push_refusal};
 use crate::frames::{push_nothing, push_way};
+use crate::requests::push_piece;
 use of_classifier::Lookup;
 use of_replay::{Row, Teller, play_row};
 use of_switch::{Effect, Effects, Switch, SwitchError};
@@ -36,9 +37,9 @@ fn push_row<L: Lookup>(
     ensures err { IfErr result (λ e. e ≡ NoMemory) }
 {
     match row {
+        Row::Piece => Ok(push_piece(alloc, out, switch.pending(), bytes)?),
         Row::Frame { port } => push_way(alloc, out, switch, port, bytes),
-        Row::Passed | Row::Connect | Row::Lost | Row::Piece | Row::Moment { .. } | Row::Ports(_) =>
-            { Ok(()) }
+        Row::Passed | Row::Connect | Row::Lost | Row::Moment { .. } | Row::Ports(_) => Ok(()),
     }
 }
 

@@ -93,6 +93,13 @@ impl Session {
         self.phase
     }
 
+    /// The bytes that came and were not yet handled.
+    pub fn pending(&self) -> &[u8]
+        ensures { result.now ≡ self.now.pending }
+    {
+        self.stream.left()
+    }
+
     /// A connection begins: its first message is waited for.
     pub fn connect(&mut self)
         ensures { self.new ≡ greeting }

@@ -112,6 +112,13 @@ impl<L: Lookup> Switch<L> {
         self.session.phase() != Phase::Disconnected
     }
 
+    /// The bytes of the controller that came and were not yet handled.
+    pub fn pending(&self) -> &[u8]
+        ensures { result.now ≡ self.now.connection.pending }
+    {
+        self.session.pending()
+    }
+
     /// Bytes of the controller come, cut anywhere. They are handled by `next`.
     ///
     /// Refused: `NotConnected`.

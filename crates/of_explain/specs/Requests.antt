@@ -1,0 +1,94 @@
+-- WHAT A CONTROLLER SAYS: a note for each message that its bytes complete, and below it the lines of flow text that it has.
+use Rattle.std.specs.Prelude.{ℕ, zero, suc, List, [], ◌∷◌, ◌++◌, length, map, codes, Result, Ok, Err}
+use Rattle.std.specs.List.{flat_map}
+use Rattle.of_wire.specs.declared.code.Code.{Code}
+use Rattle.of_messages.specs.declared.message.Message.{Message}
+use Rattle.of_messages.specs.declared.message.Message.TheVariants.{Hello, Error, EchoRequest, EchoReply, FeaturesRequest, GetConfigRequest, SetConfig, PacketOut, FlowMod, GroupMod, PortMod, TableMod, Multipart, BarrierRequest, RoleRequest, GetAsyncRequest, SetAsync}
+use Rattle.of_messages.specs.declared.message.FlowMod.{FlowMod as AFlowMod}
+use Rattle.of_messages.specs.declared.group_mod.GroupMod.{GroupMod as AGroupMod}
+use Rattle.of_messages.specs.declared.group_mod.GroupMod.TheVariants.{Add, Modify, Delete}
+use Rattle.of_messages.specs.declared.group_mod.NewGroup.{NewGroup}
+use Rattle.of_messages.specs.Messages.{message_of}
+use Rattle.of_session.specs.Stream.{First, Whole, Bad, Partial, front_of}
+use Rattle.of_text.specs.declared.row.Row.{Row}
+use Rattle.of_text.specs.declared.row.Row.TheVariants as rows
+use Rattle.of_text.specs.Rows.{spelling}
+use Rattle.of_text.specs.Flows.{step_rows}
+use Rattle.of_text.specs.Groups.{TextGroup, bucket_text, group_rows}
+use Rattle.of_text.specs.Kept.{step_of}
+use Rattle.of_explain.specs.Notes.{ended, note}
+use Rattle.of_explain.specs.Messages.{message_words}
+
+-- ---- a message as flow text
+
+-- its match, and its instructions in the order of running
+abbrev pub flow_mod_rows : AFlowMod → List Row
+flow_mod_rows m = map rows.Match m.fields ++ flat_map step_rows (map step_of m.instructions)
+
+abbrev pub group_said : NewGroup → TextGroup
+group_said g = record { head = record { id = g.id; kind = g.kind }; buckets = map bucket_text g.buckets }
+
+-- the group that it asks for
+abbrev pub group_mod_rows : AGroupMod → List Row
+group_mod_rows (Add g) = group_rows (group_said g)
+group_mod_rows (Modify g) = group_rows (group_said g)
+group_mod_rows (Delete which) = []
+
+abbrev pub rows_in : Message → List Row
+rows_in (FlowMod m) = flow_mod_rows m
+rows_in (GroupMod m) = group_mod_rows m
+rows_in (PacketOut m) = map rows.Do m.actions
+rows_in Hello = []
+rows_in Error = []
+rows_in (EchoRequest echoed) = []
+rows_in EchoReply = []
+rows_in FeaturesRequest = []
+rows_in GetConfigRequest = []
+rows_in (SetConfig config) = []
+rows_in (PortMod m) = []
+rows_in (TableMod m) = []
+rows_in (Multipart request) = []
+rows_in BarrierRequest = []
+rows_in (RoleRequest request) = []
+rows_in GetAsyncRequest = []
+rows_in (SetAsync masks) = []
+
+-- one that is refused by itself has none
+abbrev pub rows_said : Result Message Code → List Row
+rows_said (Ok message) = rows_in message
+rows_said (Err code) = []
+
+-- a line of flow text, behind eight spaces
+abbrev pub row_line : Row → List ℕ
+row_line row = codes "        " ++ ended (spelling row)
+
+abbrev pub row_lines : List Row → List ℕ
+row_lines said = flat_map row_line said
+
+unfoldable pub said_words : List ℕ → List ℕ
+said_words m = codes "from the controller: " ++ message_words m
+
+-- THE NOTES OF A MESSAGE: its words, and its lines of flow text
+unfoldable pub request_notes : List ℕ → List ℕ
+request_notes m = note (said_words m) ++ row_lines (rows_said (message_of m))
+
+-- ---- the messages of a stream
+
+-- the first message, and then others
+abbrev pub and_others : (List ℕ → List (List ℕ)) → First → List (List ℕ)
+and_others others (Whole m rest) = m ∷ others rest
+and_others others Bad = []
+and_others others Partial = []
+
+-- so many at most
+abbrev pub first_messages : ℕ → List ℕ → List (List ℕ)
+first_messages zero bytes = []
+first_messages (suc n) bytes = and_others (first_messages n) (front_of bytes)
+
+-- all: each has some bytes
+unfoldable pub messages_of : List ℕ → List (List ℕ)
+messages_of bytes = first_messages (length bytes) bytes
+
+-- THE NOTES OF A PIECE, behind the bytes that wait
+abbrev pub piece_notes : List ℕ → List ℕ → List ℕ
+piece_notes waiting piece = flat_map request_notes (messages_of (waiting ++ piece))

@@ -1,0 +1,176 @@
+//! What a message says as lines of flow text.
+ghost use Rattle.std.specs.Prelude.{◌≡◌, ◌++◌, [], IfOk, OnOk, map};
+ghost use Rattle.std.specs.List.{AllByRecursion, flat_map};
+ghost use Rattle.of_messages.specs.Messages.{message_of};
+ghost use Rattle.of_text.specs.Flows.{step_rows};
+ghost use Rattle.of_text.specs.Groups.{bucket_rows, group_rows};
+ghost use Rattle.of_text.specs.Kept.{step_of};
+ghost use Rattle.of_text.specs.Rows.{Fits};
+ghost use Rattle.of_text.specs.Views.{view_bucket, view_group};
+ghost use Rattle.of_explain.specs.Requests.{flow_mod_rows, group_mod_rows, group_said, rows_in, rows_said};
+
+use of_actions::{Action, Instruction};
+use of_groups::Group;
+use of_messages::{FlowMod, GroupMod, Message, NewGroup, PacketOut, read_message};
+use of_oxm::MatchField;
+use of_text::{BucketText, GroupText, Row};
+use of_wire::ReadError;
+use std::alloc::{AllocError, Global};
+
+fn push_actions(rows: &mut Vec<Row>, actions: &[Action]) -> Result<(), AllocError>
+    ensures { OnOk result (rows.new.items ≡ rows.old.items ++ map Row.Do actions.now) }
+{
+    for action in actions {
+        rows.push(Row::Do(*action))?;
+    }
+    Ok(())
+}
+
+fn push_fields(rows: &mut Vec<Row>, fields: &[MatchField]) -> Result<(), AllocError>
+    ensures { OnOk result (rows.new.items ≡ rows.old.items ++ map Row.Match fields.now) }
+{
+    for field in fields {
+        rows.push(Row::Match(*field))?;
+    }
+    Ok(())
+}
+
+fn push_instruction(rows: &mut Vec<Row>, instruction: &Instruction) -> Result<(), AllocError>
+    ensures { OnOk result (rows.new.items ≡ rows.old.items ++ step_rows (step_of instruction.now)) }
+{
+    match instruction {
+        Instruction::Apply(actions) => {
+            rows.push(Row::Apply)?;
+            push_actions(rows, actions.as_slice())?;
+        }
+        Instruction::Clear => rows.push(Row::Clear)?,
+        Instruction::Write(actions) => {
+            rows.push(Row::Write)?;
+            push_actions(rows, actions.as_slice())?;
+        }
+        Instruction::Metadata { value, mask } => rows.push(Row::Metadata {
+            value: *value,
+            mask: *mask,
+        })?,
+        Instruction::Goto(table) => rows.push(Row::Goto(*table))?,
+    }
+    Ok(())
+}
+
+fn push_instructions(rows: &mut Vec<Row>, instructions: &[Instruction]) -> Result<(), AllocError>
+    ensures { OnOk result (rows.new.items ≡ rows.old.items ++ flat_map step_rows (map step_of instructions.now)) }
+{
+    for instruction in instructions {
+        push_instruction(rows, instruction)?;
+    }
+    Ok(())
+}
+
+// The lines of a flow's match and instructions.
+fn flow_mod_lines(alloc: Global, flow_mod: &FlowMod) -> Result<Vec<Row>, AllocError>
+    ensures text { IfOk result (λ rows. rows.items ≡ flow_mod_rows flow_mod.now) }
+    ensures fits { IfOk result (λ rows. AllByRecursion Fits rows.items) }
+{
+    flow_mod.fields.known();
+    let mut rows = Vec::new(alloc);
+    push_fields(&mut rows, flow_mod.fields.fields())?;
+    push_instructions(&mut rows, flow_mod.instructions.as_slice())?;
+    Ok(rows)
+}
+
+fn push_buckets(rows: &mut Vec<Row>, buckets: &[BucketText]) -> Result<(), AllocError>
+    ensures { OnOk result (rows.new.items ≡ rows.old.items ++ flat_map bucket_rows (map view_bucket buckets.now)) }
+{
+    for bucket in buckets {
+        rows.push(Row::Bucket(bucket.head))?;
+        push_actions(rows, &bucket.actions)?;
+    }
+    Ok(())
+}
+
+// A group as text has it.
+fn group_text(alloc: Global, group: NewGroup) -> Result<GroupText, AllocError>
+    ensures text { IfOk result (λ text. view_group text ≡ group_said group) }
+    ensures fits { IfOk result (λ text. AllByRecursion Fits (group_rows (view_group text))) }
+{
+    let group = Group {
+        id: group.id,
+        kind: group.kind,
+        buckets: group.buckets,
+        packets: 0,
+        bytes: 0,
+        created: 0,
+    };
+    GroupText::of(alloc, &group)
+}
+
+// The lines of a group.
+fn group_lines(alloc: Global, group: NewGroup) -> Result<Vec<Row>, AllocError>
+    ensures text { IfOk result (λ rows. rows.items ≡ group_rows (group_said group)) }
+    ensures fits { IfOk result (λ rows. AllByRecursion Fits rows.items) }
+{
+    let text = group_text(alloc, group)?;
+    let mut rows = Vec::new(alloc);
+    rows.push(Row::Group(text.head))?;
+    push_buckets(&mut rows, &text.buckets)?;
+    Ok(rows)
+}
+
+fn group_mod_lines(alloc: Global, group_mod: GroupMod) -> Result<Vec<Row>, AllocError>
+    ensures text { IfOk result (λ rows. rows.items ≡ group_mod_rows group_mod) }
+    ensures fits { IfOk result (λ rows. AllByRecursion Fits rows.items) }
+{
+    match group_mod {
+        GroupMod::Add(group) | GroupMod::Modify(group) => group_lines(alloc, group),
+        GroupMod::Delete(_) => Ok(Vec::new(alloc)),
+    }
+}
+
+// The lines of a PACKET_OUT's actions.
+fn packet_out_lines(alloc: Global, packet_out: &PacketOut) -> Result<Vec<Row>, AllocError>
+    ensures text { IfOk result (λ rows. rows.items ≡ map Row.Do packet_out.now.actions) }
+    ensures fits { IfOk result (λ rows. AllByRecursion Fits rows.items) }
+{
+    let mut rows = Vec::new(alloc);
+    push_actions(&mut rows, packet_out.actions.as_slice())?;
+    Ok(rows)
+}
+
+fn lines_in(alloc: Global, message: Message) -> Result<Vec<Row>, AllocError>
+    ensures text { IfOk result (λ rows. rows.items ≡ rows_in message) }
+    ensures fits { IfOk result (λ rows. AllByRecursion Fits rows.items) }
+{
+    match message {
+        Message::FlowMod(flow_mod) => flow_mod_lines(alloc, &flow_mod),
+        Message::GroupMod(group_mod) => group_mod_lines(alloc, group_mod),
+        Message::PacketOut(packet_out) => packet_out_lines(alloc, &packet_out),
+        Message::Hello
+        | Message::Error
+        | Message::EchoRequest(_)
+        | Message::EchoReply
+        | Message::FeaturesRequest
+        | Message::GetConfigRequest
+        | Message::SetConfig(_)
+        | Message::PortMod(_)
+        | Message::TableMod(_)
+        | Message::Multipart(_)
+        | Message::BarrierRequest
+        | Message::RoleRequest(_)
+        | Message::GetAsyncRequest
+        | Message::SetAsync(_) => Ok(Vec::new(alloc)),
+    }
+}
+
+/// The lines of flow text that a message has: of a FLOW_MOD its match and instructions, of a GROUP_MOD its group, of a PACKET_OUT its actions.
+///
+/// A message that is refused by itself has none.
+pub fn lines_said(alloc: Global, message: &[u8]) -> Result<Vec<Row>, AllocError>
+    ensures text { IfOk result (λ rows. rows.items ≡ rows_said (message_of message.now)) }
+    ensures fits { IfOk result (λ rows. AllByRecursion Fits rows.items) }
+{
+    match read_message(alloc, message) {
+        Ok(message) => lines_in(alloc, message),
+        Err(ReadError::Refused(_)) => Ok(Vec::new(alloc)),
+        Err(ReadError::Memory) => Err(AllocError),
+    }
+}
