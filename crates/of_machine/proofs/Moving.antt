@@ -15,7 +15,7 @@ use Rattle.of_actions.specs.declared.instruction.Instruction.TheVariants.{Apply,
 use Rattle.of_action_set.specs.Sets.{with_actions, in_order}
 use Rattle.of_table.specs.declared.flow.Flow.{Flow}
 use Rattle.of_machine.specs.declared.data.Packet.{Packet}
-use Rattle.of_machine.specs.declared.data.PacketInReason.TheVariants.{InvalidTtl}
+use Rattle.of_wire.specs.declared.reasons.PacketInReason.TheVariants.{InvalidTtl}
 use Rattle.of_machine.specs.declared.data.Count.TheVariants.{Lookup as CountLookup, Matched, Group as CountGroup, Bucket}
 use Rattle.of_machine.specs.declared.data.Step.{Step}
 use Rattle.of_machine.specs.declared.data.Step.TheVariants.{Miss, Entry, Apply as DidApply, Clear as DidClear, Write as DidWrite, Metadata as DidMetadata, Goto as DidGoto, Set as DidSet, Act as DidAct, TtlExpired, End}

@@ -16,8 +16,8 @@ use Rattle.of_action_set.specs.Sets.{with_actions, in_order}
 use Rattle.of_table.specs.declared.flow.Flow.{Flow}
 use Rattle.of_ports.specs.declared.port.Port.{Port}
 use Rattle.of_machine.specs.declared.data.Packet.{Packet}
-use Rattle.of_machine.specs.declared.data.PacketInReason.{PacketInReason}
-use Rattle.of_machine.specs.declared.data.PacketInReason.TheVariants.{NoMatch, Action as ByAction, InvalidTtl}
+use Rattle.of_wire.specs.declared.reasons.PacketInReason.{PacketInReason}
+use Rattle.of_wire.specs.declared.reasons.PacketInReason.TheVariants.{NoMatch, Action as ByAction, InvalidTtl}
 use Rattle.of_machine.specs.declared.data.Item.{Item}
 use Rattle.of_machine.specs.declared.data.ToController.{ToController}
 use Rattle.of_machine.specs.declared.data.Item.TheVariants.{Sent, PacketIn}

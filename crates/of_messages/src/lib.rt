@@ -29,10 +29,7 @@ pub use group_mod_writing::{write_buckets, write_group_mod};
 pub use head::check_head;
 pub use hello::agreed_version;
 pub use laws::{elements_are_whole, header_tells_length};
-pub use message::{
-    FlowMod, FlowModCommand, FlowRemoved, FlowRemovedReason, Message, PacketData, PacketIn,
-    PacketInReason, PacketOut,
-};
+pub use message::{FlowMod, FlowModCommand, FlowRemoved, Message, PacketData, PacketIn, PacketOut};
 pub use message_bytes::MessageBytes;
 pub use multipart::{FlowStatsRequest, MultipartRequest};
 pub use port_mod::{PortDescription, PortMod, PortStatusReason};
@@ -43,3 +40,4 @@ pub use writing::{
     write_barrier_reply, write_echo_reply, write_error, write_flow_removed, write_hello,
     write_packet_in,
 };
+pub use of_wire::{FlowRemovedReason, PacketInReason};

@@ -11,8 +11,8 @@ use Rattle.of_oxm.specs.SameMatch.{is_same_match}
 use Rattle.of_table.specs.declared.selection.Which.{Which}
 use Rattle.of_table.specs.declared.selection.Cause.{Cause}
 use Rattle.of_table.specs.declared.selection.Cause.TheVariants as causes
-use Rattle.of_table.specs.declared.selection.RemovedReason.{RemovedReason}
-use Rattle.of_table.specs.declared.selection.RemovedReason.TheVariants.{IdleTimeout, HardTimeout, Delete, GroupDelete}
+use Rattle.of_wire.specs.declared.reasons.FlowRemovedReason.{FlowRemovedReason}
+use Rattle.of_wire.specs.declared.reasons.FlowRemovedReason.TheVariants.{IdleTimeout, HardTimeout, Delete, GroupDelete}
 use Rattle.of_table.specs.declared.selection.Removed.{Removed}
 use Rattle.of_table.specs.declared.selection.Target.{Target}
 use Rattle.of_table.specs.declared.selection.Target.TheVariants.{Port, Group as ToGroup}
@@ -116,14 +116,14 @@ abbrev pub is_over : ℕ → ℕ → ℕ → Bool
 is_over now since seconds = not (seconds == 0) && has_passed now since seconds
 
 -- the hard timeout counts from the adding, the idle one from the last packet
-abbrev pub timeout_reason : ℕ → FlowEntry → Option RemovedReason
+abbrev pub timeout_reason : ℕ → FlowEntry → Option FlowRemovedReason
 timeout_reason now e =
     if is_over now e.created e.flow.hard_timeout then Some HardTimeout
     else if is_over now (unwrap_or e.last e.created) e.flow.idle_timeout then Some IdleTimeout
     else None
 
 -- why an entry goes, or that it stays
-abbrev pub reason_of : Cause → FlowEntry → Option RemovedReason
+abbrev pub reason_of : Cause → FlowEntry → Option FlowRemovedReason
 reason_of (causes.Delete w) e = if selects w e then Some Delete else None
 reason_of (causes.Moment now) e = timeout_reason now e
 reason_of (causes.Group group) e = if names_group group e then Some GroupDelete else None
@@ -138,11 +138,11 @@ left cause flows = filter (stays cause) flows
 -- a notice of an entry that went
 pub record Notice : Type 0 where
   pub table : ℕ
-  pub reason : RemovedReason
+  pub reason : FlowRemovedReason
   pub entry : FlowEntry
 
 -- it is given where the entry's flags ask for it
-abbrev pub notice_by : ℕ → FlowEntry → Option RemovedReason → Option Notice
+abbrev pub notice_by : ℕ → FlowEntry → Option FlowRemovedReason → Option Notice
 notice_by table e None = None
 notice_by table e (Some reason) = if e.flow.flags.send_removed then Some (record { table = table; reason = reason; entry = e }) else None
 
@@ -156,13 +156,13 @@ kept_of cause entries = filter (λ e. stays cause (entry_of e)) entries
 -- a notice of an entry that went, with its number
 pub record Told : Type 0 where
   pub table : ℕ
-  pub reason : RemovedReason
+  pub reason : FlowRemovedReason
   pub entry : Entry
 
 abbrev pub with_number : Entry → Notice → Told
 with_number e n = record { table = n.table; reason = n.reason; entry = e }
 
-abbrev pub told_by : ℕ → Entry → Option RemovedReason → Option Told
+abbrev pub told_by : ℕ → Entry → Option FlowRemovedReason → Option Told
 told_by table e reason = option_map (with_number e) (notice_by table (entry_of e) reason)
 
 abbrev pub told : Cause → ℕ → List Entry → List Told
