@@ -53,9 +53,13 @@ none_watched = 0xffffffff
 abbrev pub watches : (ℕ → Bool) → Bucket → Bool
 watches is_so b = not (b.watch_group == none_watched) && is_so b.watch_group
 
+-- OFPG_MAX, the highest number of a group (6.5)
+abbrev pub group_max : ℕ
+group_max = 0xffffff00
+
 -- what a bucket of FAST-FAILOVER watches can be: a port of the switch, a group, or both, and nothing else
 abbrev pub is_badly_watched : Bucket → Bool
 is_badly_watched b =
     (not (b.watch_port == none_watched) && not (is_number b.watch_port))
-    || (not (b.watch_group == none_watched) && nat_lt 0xffffff00 b.watch_group)
+    || (not (b.watch_group == none_watched) && nat_lt group_max b.watch_group)
     || ((b.watch_port == none_watched) && (b.watch_group == none_watched))

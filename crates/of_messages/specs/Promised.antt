@@ -12,6 +12,7 @@ use Rattle.of_messages.specs.declared.message.PacketData.{PacketData}
 use Rattle.of_messages.specs.declared.message.PacketData.TheVariants.{Buffered, Frame}
 use Rattle.of_messages.specs.Messages.{is_delete}
 use Rattle.of_messages.specs.Multiparts.{IsSoundRequest}
+use Rattle.of_groups.specs.Buckets.{group_max}
 
 -- an ADD or a MODIFY names a table, its instructions may stand there, and they set no field that the match does not ask for
 pub record IsSoundFlowMod (m : FlowMod) : Type 0 where
@@ -26,8 +27,8 @@ IsSoundPacket (Frame bytes) = frame_fault bytes ≡ None
 
 -- a group that is added or modified has a number up to OFPG_MAX
 abbrev pub IsSoundGroupMod : GroupMod → Type 0
-IsSoundGroupMod (Add g) = g.id ≤ 0xffffff00
-IsSoundGroupMod (Modify g) = g.id ≤ 0xffffff00
+IsSoundGroupMod (Add g) = g.id ≤ group_max
+IsSoundGroupMod (Modify g) = g.id ≤ group_max
 IsSoundGroupMod (Delete which) = ⊤
 
 -- an ECHO_REQUEST was a message itself, so its data fits one

@@ -15,7 +15,7 @@ use Rattle.of_table.specs.declared.flow.FlowFlags.{FlowFlags}
 use Rattle.of_table.specs.declared.selection.Which.{Which}
 use Rattle.of_table.specs.declared.selection.Cause.TheVariants as cause
 use Rattle.of_table.specs.Table.{is_overlapped, is_full}
-use Rattle.of_table.specs.Selecting.{Notice, has_action}
+use Rattle.of_table.specs.Selecting.{Notice, has_action, seconds_since, nanoseconds_since}
 use Rattle.of_actions.specs.declared.action.Action.{Action}
 use Rattle.of_actions.specs.declared.instruction.Instruction.{Instruction}
 use Rattle.of_groups.specs.declared.group.Group.{Group}
@@ -121,8 +121,8 @@ removed_of now n = record {
   priority = n.entry.flow.priority;
   reason = n.reason;
   table = n.table;
-  duration_sec = (now - n.entry.created) / 1000000000 % 2 ^ 32;
-  duration_nsec = (now - n.entry.created) % 1000000000;
+  duration_sec = seconds_since now n.entry.created % 2 ^ 32;
+  duration_nsec = nanoseconds_since now n.entry.created;
   idle_timeout = n.entry.flow.idle_timeout;
   hard_timeout = n.entry.flow.hard_timeout;
   packets = n.entry.packets;

@@ -11,7 +11,7 @@ use crate::effect::{Effect, Effects};
 use of_actions::{Action, Instruction};
 use of_groups::Groups;
 use of_messages::{FlowMod, FlowModCommand, FlowRemoved, write_flow_removed};
-use of_table::{Flow, FlowFlags, Removed, Which};
+use of_table::{Flow, FlowFlags, NANOS, Removed, Which};
 use std::alloc::{AllocError, Global};
 
 /// OFPTT_ALL: all tables.
@@ -19,8 +19,6 @@ pub const ALL_TABLES: u8 = 255;
 
 /// OFPP_ANY and OFPG_ANY: no port and no group is asked for.
 pub const ANY: u32 = 0xffff_ffff;
-
-const NANOS: u64 = 1_000_000_000;
 
 pub fn has_flag(flags: u16, flag: u16) -> bool
     ensures { result ≡ with_flag flags flag }

@@ -107,9 +107,22 @@ modified_entries w instructions reset entries = map (on_entry (modified_by w ins
 
 -- ---- what goes (5.5 and 6.5)
 
+-- MOMENTS are in nanoseconds
+
+-- one second
+abbrev pub second : ℕ
+second = 1000000000
+
+-- the whole seconds since a moment, and the nanoseconds beyond them
+abbrev pub seconds_since : ℕ → ℕ → ℕ
+seconds_since now since = (now - since) / second
+
+abbrev pub nanoseconds_since : ℕ → ℕ → ℕ
+nanoseconds_since now since = (now - since) % second
+
 -- so many seconds passed since a moment
 abbrev pub has_passed : ℕ → ℕ → ℕ → Bool
-has_passed now since seconds = nat_le (1000000000 * seconds) (now - since)
+has_passed now since seconds = nat_le (second * seconds) (now - since)
 
 -- a timeout of 0 is none
 abbrev pub is_over : ℕ → ℕ → ℕ → Bool

@@ -139,7 +139,7 @@ pub fn selects(which: &Which, entry: &Entry) -> bool
 }
 
 /// Nanoseconds in a second.
-pub(crate) const NANOS: u64 = 1_000_000_000;
+pub const NANOS: u64 = 1_000_000_000;
 
 // Whether a timeout of so many seconds is over; 0 is none.
 fn is_over(now: u64, since: u64, seconds: u16) -> bool
