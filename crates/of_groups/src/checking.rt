@@ -9,11 +9,10 @@ ghost use Rattle.of_groups.specs.Faults.{fault_in, is_bad_watch, is_not_one, nam
 
 use crate::bucket::Bucket;
 use crate::chains::{MOST_GROUPS, makes_long};
-use crate::group::{Group, GroupKind};
+use crate::group::{GROUP_MAX, Group, GroupKind};
 use crate::group_fault::GroupFault;
 use crate::lookup::is_there;
 use crate::naming::{NONE_WATCHED, NumberTest, any_sends, any_watches};
-use crate::group::GROUP_MAX;
 use of_actions::is_number;
 
 /// Whether no group of a number is there, with the new one among them.
