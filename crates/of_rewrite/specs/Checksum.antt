@@ -52,9 +52,9 @@ carried_renewed may_lack Tcp = renewed
 carried_renewed may_lack Icmpv4 = renewed
 carried_renewed may_lack Icmpv6 = renewed
 
--- ---- what a checksum is for: with the other words it sums up to ones (RFC 1071, 1)
-abbrev pub IsRight : ℕ → List ℕ → Type 0
-IsRight c others = (0 < c + sum others) × ((c + sum others) % 65535 ≡ 0)
+-- ---- what a checksum is for: words, it one of them, sum up to ones (RFC 1071, 1)
+abbrev pub sums_to_ones : List ℕ → Bool
+sums_to_ones ws = fold (sum ws) == 65535
 
 abbrev pub AreWords : List ℕ → Type 0
 AreWords s = (i : ℕ) → slice_index s i < 65536

@@ -1,16 +1,12 @@
 -- Checksums that are right: with all the words that they cover they sum up to ones (RFC 1071, 1).
-use Rattle.std.specs.Prelude.{ℕ, ◌<◌, Bool, false, IsTrue, ◌||◌, ◌==◌, List, ◌++◌, sum, Option, Some, None}
+use Rattle.std.specs.Prelude.{ℕ, ◌<◌, Bool, false, IsTrue, ◌||◌, ◌==◌, List, ◌++◌, Option, Some, None}
 use Rattle.of_layers.specs.declared.transport.Transport.{Transport}
 use Rattle.of_layers.specs.declared.transport.Transport.TheVariants.{Nothing, Tcp, Udp, Icmpv4, Icmpv6}
 use Rattle.of_layers.specs.Layers.{Body, Plain, Arp, Ipv4, Ipv6, checksum}
 use Rattle.of_layers.specs.Looking.{look_up}
 use Rattle.of_layers.specs.Reading.{layers_of}
-use Rattle.of_rewrite.specs.Checksum.{fold}
+use Rattle.of_rewrite.specs.Checksum.{sums_to_ones}
 use Rattle.of_rewrite.specs.Rewriting.{words, header_cover, address_cover, carried_cover}
-
--- words, the checksum one of them
-abbrev pub sums_to_ones : List ℕ → Bool
-sums_to_ones ws = fold (sum ws) == 65535
 
 -- that of the IPv4 header (RFC 791, 3.1)
 abbrev pub header_is_right : Body → Bool
