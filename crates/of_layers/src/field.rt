@@ -1,7 +1,7 @@
 //! The match fields of OpenFlow 1.3.5 and their table (7.2.3.7).
 
 ghost use Rattle.std.specs.Prelude.{◌≡◌, ◌≤◌, ◌<◌};
-ghost use Rattle.of_layers.specs.Fields.{row_of, field_at};
+ghost use Rattle.of_layers.specs.Fields.{name_of, row_of, field_at};
 
 /// What a field needs elsewhere in its match (OpenFlow 1.3.5, 7.2.3.6).
 #[derive(Clone, Copy, Debug, PartialEq, Eq)]
@@ -186,6 +186,43 @@ impl Field {
             Field::Ipv6Flabel => make_row(28, 20, 4, 0xfffff, true, true, Need::Ipv6),
             Field::Icmpv6Type => make_row(29, 8, 1, 0xff, false, true, Need::Icmpv6),
             Field::Icmpv6Code => make_row(30, 8, 1, 0xff, false, true, Need::Icmpv6),
+        }
+    }
+
+    /// The field's name, in lower case.
+    #[tactic(auto, unfolding(crate::specs::Fields::name_of))]
+    pub fn name(self) -> &'static [u8]
+        ensures { result.now ≡ name_of self }
+    {
+        match self {
+            Field::InPort => b"in_port",
+            Field::Metadata => b"metadata",
+            Field::EthDst => b"eth_dst",
+            Field::EthSrc => b"eth_src",
+            Field::EthType => b"eth_type",
+            Field::VlanVid => b"vlan_vid",
+            Field::VlanPcp => b"vlan_pcp",
+            Field::IpDscp => b"ip_dscp",
+            Field::IpEcn => b"ip_ecn",
+            Field::IpProto => b"ip_proto",
+            Field::Ipv4Src => b"ipv4_src",
+            Field::Ipv4Dst => b"ipv4_dst",
+            Field::TcpSrc => b"tcp_src",
+            Field::TcpDst => b"tcp_dst",
+            Field::UdpSrc => b"udp_src",
+            Field::UdpDst => b"udp_dst",
+            Field::Icmpv4Type => b"icmpv4_type",
+            Field::Icmpv4Code => b"icmpv4_code",
+            Field::ArpOp => b"arp_op",
+            Field::ArpSpa => b"arp_spa",
+            Field::ArpTpa => b"arp_tpa",
+            Field::ArpSha => b"arp_sha",
+            Field::ArpTha => b"arp_tha",
+            Field::Ipv6Src => b"ipv6_src",
+            Field::Ipv6Dst => b"ipv6_dst",
+            Field::Ipv6Flabel => b"ipv6_flabel",
+            Field::Icmpv6Type => b"icmpv6_type",
+            Field::Icmpv6Code => b"icmpv6_code",
         }
     }
 

@@ -18,7 +18,7 @@ use Rattle.of_table.specs.Tables.{table_at}
 use Rattle.of_machine.specs.declared.data.Step.{Step}
 use Rattle.of_machine.specs.declared.data.Step.TheVariants.{Miss, Entry, Apply, Clear, Write, Metadata, Goto, Set, Act, TtlExpired, End}
 use Rattle.of_text.specs.Lines.{ended}
-use Rattle.of_text.specs.Names.{name_of}
+use Rattle.of_layers.specs.Fields.{name_of}
 use Rattle.of_text.specs.Rows.{spelling}
 use Rattle.of_text.specs.declared.row.Row.TheVariants as rows
 use Rattle.of_switch.specs.declared.effect.Effect.{Effect}

@@ -3,7 +3,7 @@ use Rattle.std.specs.Prelude.{ℕ, ◌+◌, ◌==◌, ◌&&◌, ◌||◌, Bool, 
 use Rattle.std.specs.List.{flat_map, list_any}
 use Rattle.of_layers.specs.declared.field.Field.{Field}
 use Rattle.of_layers.specs.declared.field.TheConstants.Field as constants
-use Rattle.of_layers.specs.Fields.{number_of, ones_of}
+use Rattle.of_layers.specs.Fields.{name_of, number_of, ones_of}
 use Rattle.of_layers.specs.Reading.{layers_of}
 use Rattle.of_headers.specs.declared.headers.FrameFault.{FrameFault}
 use Rattle.of_headers.specs.Faults.{frame_fault}
@@ -22,7 +22,6 @@ use Rattle.of_machine.specs.declared.data.Step.TheVariants.{Miss, Entry, Apply, 
 use Rattle.of_oxm.specs.declared.match_field.MatchField.{MatchField}
 use Rattle.of_text.specs.Lines.{ended}
 use Rattle.of_text.specs.declared.row.FlowHead.{FlowHead}
-use Rattle.of_text.specs.Names.{name_of}
 use Rattle.of_text.specs.Rows.{spelling, value_word}
 use Rattle.of_text.specs.declared.row.Row.TheVariants as rows
 use Rattle.of_switch.specs.declared.effect.Effect.{Effect}
