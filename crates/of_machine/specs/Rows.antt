@@ -153,13 +153,11 @@ group_row w p rest group (Some places) =
 
 -- the frame that the other actions make
 abbrev pub rewritten : Action → List ℕ → List ℕ
-rewritten (Output port max_len) frame = frame
 rewritten (PushVlan type) frame = frame_pushed type frame
 rewritten PopVlan frame = frame_popped frame
-rewritten (Group group) frame = frame
 rewritten (SetNwTtl ttl) frame = frame_ttl ttl frame
-rewritten DecNwTtl frame = frame
 rewritten (SetField field value) frame = frame_set field value frame
+rewritten other frame = frame
 
 abbrev pub rewrite_row : Packet → List Work → Action → Row
 rewrite_row p rest a = goes_on (DidAct a) (record p { frame = rewritten a p.frame }) rest

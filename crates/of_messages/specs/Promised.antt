@@ -4,7 +4,7 @@ use Rattle.of_actions.specs.InstructionLists.{are_for}
 use Rattle.of_actions.specs.FlowCheck.{all_go_with}
 use Rattle.of_headers.specs.Faults.{frame_fault}
 use Rattle.of_messages.specs.declared.message.Message.{Message}
-use Rattle.of_messages.specs.declared.message.Message.TheVariants.{Hello, Error, EchoRequest, EchoReply, FeaturesRequest, GetConfigRequest, SetConfig, PacketOut as IsPacketOut, FlowMod as IsFlowMod, GroupMod as IsGroupMod, PortMod as IsPortMod, TableMod as IsTableMod, Multipart, BarrierRequest, RoleRequest as IsRoleRequest, GetAsyncRequest, SetAsync}
+use Rattle.of_messages.specs.declared.message.Message.TheVariants.{EchoRequest, PacketOut as IsPacketOut, FlowMod as IsFlowMod, GroupMod as IsGroupMod, Multipart}
 use Rattle.of_messages.specs.declared.message.FlowMod.{FlowMod}
 use Rattle.of_messages.specs.declared.group_mod.GroupMod.{GroupMod}
 use Rattle.of_messages.specs.declared.group_mod.GroupMod.TheVariants.{Add, Modify, Delete}
@@ -33,20 +33,9 @@ IsSoundGroupMod (Delete which) = ⊤
 
 -- an ECHO_REQUEST was a message itself, so its data fits one
 abbrev pub IsSoundMessage : Message → Type 0
-IsSoundMessage Hello = ⊤
-IsSoundMessage Error = ⊤
 IsSoundMessage (EchoRequest echoed) = length echoed ≤ 65527
-IsSoundMessage EchoReply = ⊤
-IsSoundMessage FeaturesRequest = ⊤
-IsSoundMessage GetConfigRequest = ⊤
-IsSoundMessage (SetConfig config) = ⊤
 IsSoundMessage (IsPacketOut m) = IsSoundPacket m.packet
 IsSoundMessage (IsFlowMod m) = IsSoundFlowMod m
 IsSoundMessage (IsGroupMod m) = IsSoundGroupMod m
-IsSoundMessage (IsPortMod m) = ⊤
-IsSoundMessage (IsTableMod m) = ⊤
 IsSoundMessage (Multipart request) = IsSoundRequest request
-IsSoundMessage BarrierRequest = ⊤
-IsSoundMessage (IsRoleRequest request) = ⊤
-IsSoundMessage GetAsyncRequest = ⊤
-IsSoundMessage (SetAsync masks) = ⊤
+IsSoundMessage other = ⊤

@@ -44,17 +44,12 @@ flow_of m = record { fields = m.fields; priority = m.priority; cookie = m.cookie
 
 abbrev pub is_add : FlowModCommand → Bool
 is_add Add = true
-is_add Modify = false
-is_add ModifyStrict = false
-is_add Delete = false
-is_add DeleteStrict = false
+is_add other = false
 
 abbrev pub is_strict : FlowModCommand → Bool
-is_strict Add = false
-is_strict Modify = false
 is_strict ModifyStrict = true
-is_strict Delete = false
 is_strict DeleteStrict = true
+is_strict other = false
 
 -- a number that may stand for any: OFPTT_ALL, OFPP_ANY and OFPG_ANY are all ones
 abbrev pub unless_any : ℕ → ℕ → Option ℕ

@@ -3,9 +3,9 @@ use Rattle.std.specs.Prelude.{ℕ, ◌-◌, ◌*◌, ◌==◌, ◌&&◌, nat_le,
 use Rattle.std.specs.List.{list_any, flat_map}
 use Rattle.std.specs.Option.{option_map, option_map_or, option_to_list}
 use Rattle.of_actions.specs.declared.action.Action.{Action}
-use Rattle.of_actions.specs.declared.action.Action.TheVariants.{Output, PushVlan, PopVlan, Group, SetNwTtl, DecNwTtl, SetField}
+use Rattle.of_actions.specs.declared.action.Action.TheVariants.{Output, Group}
 use Rattle.of_actions.specs.declared.instruction.Instruction.{Instruction}
-use Rattle.of_actions.specs.declared.instruction.Instruction.TheVariants.{Apply, Clear, Write, Metadata, Goto}
+use Rattle.of_actions.specs.declared.instruction.Instruction.TheVariants.{Apply, Write}
 use Rattle.of_oxm.specs.Relations.{covers_match}
 use Rattle.of_oxm.specs.SameMatch.{is_same_match}
 use Rattle.of_table.specs.declared.selection.Which.{Which}
@@ -36,20 +36,13 @@ has_cookie w e = bit_and e.flow.cookie w.cookie_mask == bit_and w.cookie w.cooki
 
 abbrev pub is_output_to : ℕ → Action → Bool
 is_output_to port (Output to max_len) = to == port
-is_output_to port (PushVlan type) = false
-is_output_to port PopVlan = false
-is_output_to port (Group to) = false
-is_output_to port (SetNwTtl ttl) = false
-is_output_to port DecNwTtl = false
-is_output_to port (SetField field value) = false
+is_output_to port other = false
 
 -- some action that is done at once or written into the action set is so
 abbrev pub has_action : (Action → Bool) → Instruction → Bool
 has_action is_so (Apply actions) = list_any is_so actions
-has_action is_so Clear = false
 has_action is_so (Write actions) = list_any is_so actions
-has_action is_so (Metadata value mask) = false
-has_action is_so (Goto table) = false
+has_action is_so other = false
 
 abbrev pub sends_to : ℕ → Instruction → Bool
 sends_to port = has_action (is_output_to port)
@@ -60,13 +53,8 @@ passes_port w e = option_map_or (λ port. list_any (sends_to port) e.flow.instru
 
 -- to this group; where none is named, to any
 abbrev pub is_to : Option ℕ → Action → Bool
-is_to group (Output to max_len) = false
-is_to group (PushVlan type) = false
-is_to group PopVlan = false
 is_to group (Group to) = option_map_or (λ g. to == g) group true
-is_to group (SetNwTtl ttl) = false
-is_to group DecNwTtl = false
-is_to group (SetField field value) = false
+is_to group other = false
 
 -- some action of the entry sends to this group; where none is named, to any
 abbrev pub names_group : Option ℕ → FlowEntry → Bool
