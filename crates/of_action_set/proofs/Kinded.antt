@@ -1,6 +1,6 @@
 -- The kinds of actions that some bytes spell: 30 ranks.
 use Rattle.std.proofs.Common.{◌≡◌, ℕ, ◌≤◌, ◌<◌, ◌+◌, ◌++◌, Bool, true, false, not, cond, eqb, ltb, List, [], ◌∷◌, length, refl, sym, ap, arith}
-use Rattle.std.specs.Prelude.{filter, find, Option, Some, None}
+use Rattle.std.specs.Prelude.{filter, find, map, Option, Some, None}
 use Rattle.std.specs.Option.{MatchOption}
 use Rattle.arrayvec.specs.ArrayVec.{ArrayVec}
 use Rattle.std.specs.List.{list_all}
@@ -9,59 +9,28 @@ use Rattle.std.proofs.lemmas.List.{append-nil}
 use Rattle.std.proofs.lemmas.List.Edits.{length-insert}
 use Rattle.of_layers.proofs.Table.{number_below}
 use Rattle.of_layers.specs.declared.field.Field.{Field}
-use Rattle.of_layers.specs.declared.field.Field.TheVariants.{InPort, Metadata, EthDst, EthSrc, EthType, VlanVid, VlanPcp, IpDscp, IpEcn, IpProto, Ipv4Src, Ipv4Dst, TcpSrc, TcpDst, UdpSrc, UdpDst, Icmpv4Type, Icmpv4Code, ArpOp, ArpSpa, ArpTpa, ArpSha, ArpTha, Ipv6Src, Ipv6Dst, Ipv6Flabel, Icmpv6Type, Icmpv6Code}
-use Rattle.of_layers.specs.Fields.{number_of, is_settable, row_of}
+use Rattle.of_layers.specs.declared.field.Field.TheVariants.{InPort}
+use Rattle.of_layers.specs.Fields.{number_of, is_settable, row_of, all_fields}
 use Rattle.of_actions.specs.declared.action.Action.{Action}
-use Rattle.of_actions.specs.declared.action.Action.TheVariants.{Output, PushVlan, PopVlan, Group, SetNwTtl, DecNwTtl, SetField}
+use Rattle.of_actions.specs.declared.action.Action.TheVariants.{SetField}
 use Rattle.of_actions.specs.Served.{is_served}
 use Rattle.of_actions.specs.Rising.{is_rising}
 use Rattle.of_action_set.specs.Sets.{rank, is_output}
 use Rattle.of_action_set.specs.Storage.{stored}
 use Rattle.of_action_set.proofs.Ranked.{is_in, at_most, below, but, put, rising_put, all_put, insert_is_put, length-filter_le}
 
+-- tags and TTL, the fields that may be set, GROUP and OUTPUT
 abbrev pub ranks : List ℕ
-ranks = 0 ∷ 1 ∷ 2 ∷ 3 ∷ 7 ∷ 8 ∷ 10 ∷ 11 ∷ 12 ∷ 13 ∷ 15 ∷ 16 ∷ 17 ∷ 18 ∷ 19 ∷ 20 ∷ 23 ∷ 24 ∷ 25 ∷ 26 ∷ 27 ∷ 28 ∷ 29 ∷ 30 ∷ 31 ∷ 32 ∷ 33 ∷ 34 ∷ 40 ∷ 41 ∷ []
+ranks = 0 ∷ 1 ∷ 2 ∷ 3 ∷ map (λ f. 4 + number_of f) (filter is_settable all_fields) ++ 40 ∷ 41 ∷ []
 
 settable_in : (f : Field) → is_settable f ≡ true → is_in (4 + number_of f) ranks ≡ true
 unfolding row_of
-settable_in InPort h = cc
-settable_in Metadata h = cc
-settable_in EthDst h = refl
-settable_in EthSrc h = refl
-settable_in EthType h = cc
-settable_in VlanVid h = refl
-settable_in VlanPcp h = refl
-settable_in IpDscp h = refl
-settable_in IpEcn h = refl
-settable_in IpProto h = cc
-settable_in Ipv4Src h = refl
-settable_in Ipv4Dst h = refl
-settable_in TcpSrc h = refl
-settable_in TcpDst h = refl
-settable_in UdpSrc h = refl
-settable_in UdpDst h = refl
-settable_in Icmpv4Type h = refl
-settable_in Icmpv4Code h = refl
-settable_in ArpOp h = refl
-settable_in ArpSpa h = refl
-settable_in ArpTpa h = refl
-settable_in ArpSha h = refl
-settable_in ArpTha h = refl
-settable_in Ipv6Src h = refl
-settable_in Ipv6Dst h = refl
-settable_in Ipv6Flabel h = refl
-settable_in Icmpv6Type h = refl
-settable_in Icmpv6Code h = refl
+settable_in f = elim f as (λ f. is_settable f ≡ true → is_in (4 + number_of f) ranks ≡ true) [ InPort ↦ λ h. absurd cc | _ ↦ λ h. cc ]
 
 served_in : (a : Action) → is_served false a ≡ true → is_in (rank a) ranks ≡ true
-unfolding is_served
-served_in (Output port max_len) h = refl
-served_in (PushVlan type) h = refl
-served_in PopVlan h = refl
-served_in (Group group) h = refl
-served_in (SetNwTtl ttl) h = refl
-served_in DecNwTtl h = refl
+unfolding is_served row_of
 served_in (SetField field value) h = settable_in field (grind (arith, nat_tests))
+served_in other h = refl
 
 all_in : (s : List Action) → list_all (is_served false) s ≡ true → list_all (λ a. is_in (rank a) ranks) s ≡ true
 all_in [] h = refl
@@ -72,6 +41,7 @@ all_in (a ∷ s) h =
 
 -- a set has at most 30 actions
 pub few : (s : List Action) → is_rising rank s ≡ true → list_all (is_served false) s ≡ true → length s ≤ 30
+unfolding row_of
 few s rising served = at_most rank ranks s refl rising (all_in s served)
 
 -- ---- OUTPUT ranks highest
@@ -80,22 +50,12 @@ field_below : (f : Field) → eqb (4 + number_of f) 41 ≡ false
 field_below f = grind (arith, nat_tests, number_below f)
 
 pub rank_of_output : (a : Action) → eqb (rank a) 41 ≡ is_output a
-rank_of_output (Output port max_len) = refl
-rank_of_output (PushVlan type) = refl
-rank_of_output PopVlan = refl
-rank_of_output (Group group) = refl
-rank_of_output (SetNwTtl ttl) = refl
-rank_of_output DecNwTtl = refl
 rank_of_output (SetField field value) = field_below field
+rank_of_output other = refl
 
 pub rank_most : (a : Action) → rank a ≤ 41
-rank_most (Output port max_len) = omega arith
-rank_most (PushVlan type) = omega arith
-rank_most PopVlan = omega arith
-rank_most (Group group) = omega arith
-rank_most (SetNwTtl ttl) = omega arith
-rank_most DecNwTtl = omega arith
 rank_most (SetField field value) = omega (arith, number_below field)
+rank_most other = omega arith
 
 last_passes : (p : Action → Bool) (s : List Action) (x : Action) → list_all p (s ++ x ∷ []) ≡ true → p x ≡ true
 last_passes p [] x h = grind (arith, nat_tests)

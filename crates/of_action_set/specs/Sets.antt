@@ -29,22 +29,12 @@ with_actions set [] = set
 with_actions set (a ∷ others) = with_actions (with_action set a) others
 
 abbrev pub is_group : Action → Bool
-is_group (Output port max_len) = false
-is_group (PushVlan type) = false
-is_group PopVlan = false
 is_group (Group group) = true
-is_group (SetNwTtl ttl) = false
-is_group DecNwTtl = false
-is_group (SetField field value) = false
+is_group other = false
 
 abbrev pub is_output : Action → Bool
 is_output (Output port max_len) = true
-is_output (PushVlan type) = false
-is_output PopVlan = false
-is_output (Group group) = false
-is_output (SetNwTtl ttl) = false
-is_output DecNwTtl = false
-is_output (SetField field value) = false
+is_output other = false
 
 -- what a set runs: beside a GROUP, OUTPUT is left out
 abbrev pub in_order : List Action → List Action

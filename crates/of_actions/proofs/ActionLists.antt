@@ -6,7 +6,7 @@ use Rattle.std.proofs.lemmas.Bool.Decides.{nat_tests}
 use Rattle.std.proofs.lemmas.List.{length-append}
 use Rattle.std.proofs.lemmas.List.Folds.{list_all-append}
 use Rattle.of_actions.specs.declared.action.Action.{Action}
-use Rattle.of_actions.specs.declared.action.Action.TheVariants.{Output, PushVlan, PopVlan, Group, SetNwTtl, DecNwTtl, SetField}
+use Rattle.of_actions.specs.declared.action.Action.TheVariants.{Output}
 use Rattle.of_actions.specs.PortNumbers.{is_port}
 use Rattle.of_actions.specs.Served.{is_served, are_served}
 
@@ -43,12 +43,7 @@ both false b c h f = absurd cc
 action_wider : (packet_out : Bool) (a : Action) → is_served packet_out a ≡ true → is_served true a ≡ true
 unfolding is_served
 action_wider packet_out (Output port max_len) h = both _ _ _ h (port_wider packet_out port)
-action_wider packet_out (PushVlan type) h = h
-action_wider packet_out PopVlan h = h
-action_wider packet_out (Group group) h = h
-action_wider packet_out (SetNwTtl ttl) h = h
-action_wider packet_out DecNwTtl h = h
-action_wider packet_out (SetField field value) h = h
+action_wider packet_out other h = h
 
 all_wider : (packet_out : Bool) (actions : List Action) → list_all (is_served packet_out) actions ≡ true → list_all (is_served true) actions ≡ true
 all_wider packet_out [] h = refl

@@ -1,6 +1,6 @@
 -- Actions that are written are read again, whatever follows.
-use Rattle.std.proofs.Common.{◌≡◌, ℕ, ◌+◌, ◌-◌, ◌*◌, ◌/◌, ◌%◌, ◌<◌, ◌≤◌, Bool, true, false, ltb, eqb, List, [], ◌∷◌, ◌++◌, length, drop, replicate, Some, None, inl, inr, ◌⊎◌, refl, sym, ap, ◌∙◌, arith}
-use Rattle.std.specs.Prelude.{slice_index}
+use Rattle.std.proofs.Common.{◌≡◌, ℕ, ◌+◌, ◌-◌, ◌*◌, ◌/◌, ◌%◌, ◌≤◌, Bool, true, false, ltb, eqb, List, [], ◌∷◌, ◌++◌, length, drop, replicate, Some, None, refl, sym, ap, ◌∙◌, arith}
+use Rattle.std.specs.Prelude.{slice_index, ⊤}
 use Rattle.std.specs.List.{list_all}
 use Rattle.std.proofs.lemmas.Bool.{le-ltb, eq-eqb}
 use Rattle.std.proofs.lemmas.Bool.Decides.{nat_tests}
@@ -11,10 +11,9 @@ use Rattle.of_wire.specs.Refusals.{first_of}
 use Rattle.of_wire.proofs.ItemsAgain.{Again, AllAgain, written_items}
 use Rattle.of_layers.specs.declared.field.Field.{Field}
 use Rattle.of_layers.specs.Fields.{number_of, bytes_of, ones_of, is_settable, field_at}
-use Rattle.of_layers.specs.Reading.{is_tag_type}
 use Rattle.of_layers.proofs.Table.{field_at-number_of, bytes_some, bytes_most, value_below}
 use Rattle.of_actions.specs.declared.action.Action.{Action}
-use Rattle.of_actions.specs.declared.action.Action.TheVariants.{Output, PushVlan, PopVlan, Group, SetNwTtl, DecNwTtl, SetField}
+use Rattle.of_actions.specs.declared.action.Action.TheVariants.{Output, PushVlan, SetField}
 use Rattle.of_actions.specs.Beginnings.{type_at, len_at}
 use Rattle.of_actions.specs.PortNumbers.{is_port}
 use Rattle.of_actions.specs.SetField.{settable, set_field_at, set_value_at, set_len, set_refusals}
@@ -22,6 +21,11 @@ use Rattle.of_actions.specs.Served.{is_served, are_served}
 use Rattle.of_actions.specs.Actions.{actions_of, AreActions, action_refusals, type_refusals, action_at, first_at, max_len_at}
 use Rattle.of_actions.specs.CanonicalActions.{canonical_action, canonical_actions, canonical_set_field}
 use Rattle.of_actions.proofs.ActionLists.{is_served_list}
+
+-- an action of a fixed size
+abbrev IsPlain : Action → Type 0
+IsPlain (SetField f v) = ⊥
+IsPlain other = ⊤
 
 -- what stands before the type: over a variable, where nothing has computed to cells yet
 head_none : (packet_out : Bool) (seen : List Action) (rest : List ℕ) (n : ℕ) → length seen ≤ 63 → len_at rest ≡ n → 8 ≤ n → (n % 8) ≡ 0 → n ≤ length rest
@@ -35,56 +39,20 @@ head_none packet_out seen rest n few len low eight whole kind =
     let whole' : ltb (length rest) n ≡ false = le-ltb _ _ whole in
     rw (room, short, len, low', eight', whole') kind
 
-output_none : (packet_out : Bool) (rest : List ℕ) → type_at rest ≡ 0 → len_at rest ≡ 16 → is_port packet_out (first_at 4 rest) ≡ true → first_of (type_refusals packet_out rest) ≡ None
-unfolding type_refusals
-output_none packet_out rest kind len ok = rw (kind, len, ok) refl
-
-output_again : (packet_out : Bool) (port max_len : ℕ) (seen : List Action) (x : List ℕ) → length seen ≤ 63 → is_port packet_out port ≡ true → port < 0x100000000 → max_len < 0x10000
-    → Again (actions_of packet_out) (canonical_action (Output port max_len)) (Output port max_len) seen x
-unfolding canonical_action action_at
-output_again packet_out port max_len seen x few served fits max_fits =
-    let rest = canonical_action (Output port max_len) ++ x in
-    let port_is : first_at 4 rest ≡ port = big_number-reads_back 4 port (big_bytes 2 max_len ++ (replicate 6 0 ++ x)) (omega arith) in
-    let max_is : max_len_at rest ≡ max_len = big_number-reads_back 2 max_len (replicate 6 0 ++ x) (omega arith) in
-    let ok : is_port packet_out (first_at 4 rest) ≡ true = ap (is_port packet_out) port_is ∙ served in
-    record {
-      some = omega arith;
-      none = head_none packet_out seen rest 16 few refl (omega arith) refl (omega arith) (output_none packet_out rest refl refl ok);
-      at = ap (λ (p : ℕ). Some (Output p (max_len_at rest))) port_is ∙ ap (λ (m : ℕ). Some (Output port m)) max_is;
-      size = refl;
-    }
-
-push_none : (packet_out : Bool) (rest : List ℕ) → type_at rest ≡ 17 → len_at rest ≡ 8 → is_tag_type (first_at 2 rest) ≡ true → first_of (type_refusals packet_out rest) ≡ None
-unfolding type_refusals
-push_none packet_out rest kind len ok = rw (kind, len, ok) refl
-
-push_again : (packet_out : Bool) (type : ℕ) (seen : List Action) (x : List ℕ) → length seen ≤ 63 → is_tag_type type ≡ true → type < 0x10000 → Again (actions_of packet_out) (canonical_action (PushVlan type)) (PushVlan type) seen x
-unfolding canonical_action action_at
-push_again packet_out type seen x few served fits =
-    let rest = canonical_action (PushVlan type) ++ x in
-    let type_is : first_at 2 rest ≡ type = big_number-reads_back 2 type (replicate 2 0 ++ x) (omega arith) in
-    let ok : is_tag_type (first_at 2 rest) ≡ true = ap is_tag_type type_is ∙ served in
-    record {
-      some = omega arith;
-      none = head_none packet_out seen rest 8 few refl (omega arith) refl (omega arith) (push_none packet_out rest refl refl ok);
-      at = ap (λ (t : ℕ). Some (PushVlan t)) type_is;
-      size = refl;
-    }
-
-group_none : (packet_out : Bool) (rest : List ℕ) → type_at rest ≡ 22 → len_at rest ≡ 8 → first_of (type_refusals packet_out rest) ≡ None
-unfolding type_refusals
-group_none packet_out rest kind len = rw (kind, len) refl
-
-group_again : (packet_out : Bool) (group : ℕ) (seen : List Action) (x : List ℕ) → length seen ≤ 63 → group < 0x100000000 → Again (actions_of packet_out) (canonical_action (Group group)) (Group group) seen x
-unfolding canonical_action action_at
-group_again packet_out group seen x few fits =
-    let rest = canonical_action (Group group) ++ x in
-    record {
-      some = omega arith;
-      none = head_none packet_out seen rest 8 few refl (omega arith) refl (omega arith) (group_none packet_out rest refl refl);
-      at = ap (λ (g : ℕ). Some (Group g)) (big_number-reads_back 4 group x (omega arith));
-      size = refl;
-    }
+-- what is read of an action of 8 or 16 bytes that is served is not refused
+plain_none : (packet_out : Bool) (a : Action) (rest : List ℕ) → is_served packet_out a ≡ true → type_at rest ≡ type_at (canonical_action a) → len_at rest ≡ len_at (canonical_action a) → action_at rest ≡ Some a → IsPlain a → first_of (type_refusals packet_out rest) ≡ None
+unfolding canonical_action action_at type_refusals is_served
+plain_none packet_out (Output port max_len) rest served kind len read plain =
+    let same : Some (Output (first_at 4 rest) (max_len_at rest)) ≡ Some (Output port max_len) = rw kind at read in
+    let port_is : first_at 4 rest ≡ port = cc in
+    let ok : is_port packet_out port ≡ true = grind (arith, nat_tests) in
+    rw (kind, len, port_is, ok) refl
+plain_none packet_out (PushVlan type) rest served kind len read plain =
+    let same : Some (PushVlan (first_at 2 rest)) ≡ Some (PushVlan type) = rw kind at read in
+    let type_is : first_at 2 rest ≡ type = cc in
+    rw (kind, len, type_is, served) refl
+plain_none packet_out (SetField f v) rest served kind len read plain = absurd plain
+plain_none packet_out other rest served kind len read plain = rw (kind, len) refl
 
 -- ---- a set field
 
@@ -142,19 +110,6 @@ set_again packet_out f v seen x few ok fits =
 
 -- ---- each action
 
--- what is served is in range
-record OutputFits (packet_out : Bool) (port max_len : ℕ) : Type 0 where
-  served : is_port packet_out port ≡ true
-  port_fits : port < 0x100000000
-  max_fits : max_len < 0x10000
-
-fits : (packet_out : Bool) (port max_len : ℕ) → is_served packet_out (Output port max_len) ≡ true → OutputFits packet_out port max_len
-unfolding is_served
-fits packet_out port max_len h = record { served = grind (arith, nat_tests); port_fits = grind (arith, nat_tests); max_fits = grind (arith, nat_tests) }
-
-type_fits : (type : ℕ) → is_tag_type type ≡ true → type < 0x10000
-type_fits type h = grind (arith, nat_tests)
-
 -- a field that is served may be set, and its value fits it
 record FieldFits (f : Field) (v : ℕ) : Type 0 where
   settable : is_settable f ≡ true
@@ -164,38 +119,28 @@ field_fits : (packet_out : Bool) (f : Field) (v : ℕ) → is_served packet_out 
 unfolding is_served
 field_fits packet_out f v h = record { settable = grind (arith, nat_tests); value = grind (arith, nat_tests) }
 
-group_fits : (packet_out : Bool) (group : ℕ) → is_served packet_out (Group group) ≡ true → group < 0x100000000
-unfolding is_served
-group_fits packet_out group h = grind (arith, nat_tests)
+plain_again : (packet_out : Bool) (a : Action) (seen : List Action) (x : List ℕ) (n : ℕ) → length seen ≤ 63 → is_served packet_out a ≡ true → IsPlain a → len_at (canonical_action a ++ x) ≡ n → 8 ≤ n → n % 8 ≡ 0 → length (canonical_action a) ≡ n → type_at (canonical_action a ++ x) ≡ type_at (canonical_action a) → len_at (canonical_action a) ≡ n → action_at (canonical_action a ++ x) ≡ Some a → Again (actions_of packet_out) (canonical_action a) a seen x
+plain_again packet_out a seen x n few served plain len some eights whole kind len' read =
+    let rest = canonical_action a ++ x in
+    let long = length-append (canonical_action a) x in
+    record {
+      some = omega (arith, long, whole, some);
+      none = head_none packet_out seen rest n few len some eights (omega (arith, long, whole)) (plain_none packet_out a rest served kind (len ∙ sym len') read plain);
+      at = read;
+      size = len ∙ sym whole;
+    }
 
-tag_served : (packet_out : Bool) (type : ℕ) → is_served packet_out (PushVlan type) ≡ true → is_tag_type type ≡ true
-unfolding is_served
-tag_served packet_out type h = h
-
-small_none : (packet_out : Bool) (rest : List ℕ) (kind : ℕ) → type_at rest ≡ kind → (kind ≡ 18) ⊎ ((kind ≡ 23) ⊎ (kind ≡ 24)) → len_at rest ≡ 8 → first_of (type_refusals packet_out rest) ≡ None
-unfolding type_refusals
-small_none packet_out rest kind e (inl h) len = rw (e, h, len) refl
-small_none packet_out rest kind e (inr (inl h)) len = rw (e, h, len) refl
-small_none packet_out rest kind e (inr (inr h)) len = rw (e, h, len) refl
+value_again : (packet_out : Bool) (a : Action) (x : List ℕ) → is_served packet_out a ≡ true → IsPlain a → action_at (canonical_action a ++ x) ≡ Some a
+unfolding canonical_action action_at is_served
+value_again packet_out (SetField f v) x served plain = absurd plain
+value_again packet_out other x served plain = grind (arith, nat_tests)
 
 pub action_again : (packet_out : Bool) (a : Action) (seen : List Action) (x : List ℕ) → length seen ≤ 63 → is_served packet_out a ≡ true → Again (actions_of packet_out) (canonical_action a) a seen x
 unfolding canonical_action action_at
-action_again packet_out (Output port max_len) seen x few served =
-    let f = fits packet_out port max_len served in output_again packet_out port max_len seen x few f.served f.port_fits f.max_fits
-action_again packet_out (PushVlan type) seen x few served =
-    let tag = tag_served packet_out type served in push_again packet_out type seen x few tag (type_fits type tag)
-action_again packet_out PopVlan seen x few served =
-    let rest = canonical_action PopVlan ++ x in
-    record { some = omega arith; none = head_none packet_out seen rest 8 few refl (omega arith) refl (omega arith) (small_none packet_out rest 18 refl (inl refl) refl); at = refl; size = refl }
-action_again packet_out (Group group) seen x few served = group_again packet_out group seen x few (group_fits packet_out group served)
-action_again packet_out (SetNwTtl ttl) seen x few served =
-    let rest = canonical_action (SetNwTtl ttl) ++ x in
-    record { some = omega arith; none = head_none packet_out seen rest 8 few refl (omega arith) refl (omega arith) (small_none packet_out rest 23 refl (inr (inl refl)) refl); at = refl; size = refl }
-action_again packet_out DecNwTtl seen x few served =
-    let rest = canonical_action DecNwTtl ++ x in
-    record { some = omega arith; none = head_none packet_out seen rest 8 few refl (omega arith) refl (omega arith) (small_none packet_out rest 24 refl (inr (inr refl)) refl); at = refl; size = refl }
 action_again packet_out (SetField f v) seen x few served =
     let h = field_fits packet_out f v served in set_again packet_out f v seen x few h.settable h.value
+action_again packet_out other seen x few served =
+    plain_again packet_out other seen x _ few served tt refl (omega arith) refl refl refl refl (value_again packet_out other x served tt)
 
 all_again : (packet_out : Bool) (seen xs : List Action) → length seen + length xs ≤ 64 → list_all (is_served packet_out) xs ≡ true → AllAgain (actions_of packet_out) canonical_action seen xs
 all_again packet_out seen [] few served = tt
@@ -218,13 +163,8 @@ pub record Length (bytes : List ℕ) (most : ℕ) : Type 0 where
 
 length-action : (a : Action) → Length (canonical_action a) 24
 unfolding canonical_action
-length-action (Output port max_len) = record { short = omega arith; eights = refl }
-length-action (PushVlan type) = record { short = omega arith; eights = refl }
-length-action PopVlan = record { short = omega arith; eights = refl }
-length-action (Group group) = record { short = omega arith; eights = refl }
-length-action (SetNwTtl ttl) = record { short = omega arith; eights = refl }
-length-action DecNwTtl = record { short = omega arith; eights = refl }
 length-action (SetField f v) = record { short = omega (arith, length-set f v, bytes_most f); eights = omega (arith, length-set f v) }
+length-action other = record { short = omega arith; eights = refl }
 
 pub length-canonical : (actions : List Action) → Length (canonical_actions actions) (24 * length actions)
 length-canonical [] = record { short = omega arith; eights = refl }

@@ -5,29 +5,22 @@ use Rattle.of_layers.specs.Fields.{number_of, need_of}
 use Rattle.of_oxm.specs.declared.match_field.MatchField.{MatchField}
 use Rattle.of_oxm.specs.Prerequisites.{is_met}
 use Rattle.of_actions.specs.declared.action.Action.{Action}
-use Rattle.of_actions.specs.declared.action.Action.TheVariants.{Output, PushVlan, PopVlan, Group, SetNwTtl, DecNwTtl, SetField}
+use Rattle.of_actions.specs.declared.action.Action.TheVariants.{SetField}
 use Rattle.of_actions.specs.declared.instruction.Instruction.{Instruction}
-use Rattle.of_actions.specs.declared.instruction.Instruction.TheVariants.{Apply, Clear, Write, Metadata, Goto}
+use Rattle.of_actions.specs.declared.instruction.Instruction.TheVariants.{Apply, Write}
 
 -- what a set field needs stands in the match; fields below 8, those of Ethernet and of the tag, are not asked
 abbrev pub is_need_met : List MatchField → Action → Bool
-is_need_met m (Output port max_len) = true
-is_need_met m (PushVlan type) = true
-is_need_met m PopVlan = true
-is_need_met m (Group group) = true
-is_need_met m (SetNwTtl ttl) = true
-is_need_met m DecNwTtl = true
 is_need_met m (SetField field value) = nat_lt (number_of field) 8 || is_met m (need_of field)
+is_need_met m other = true
 
 abbrev pub are_needs_met : List MatchField → List Action → Bool
 are_needs_met m actions = list_all (is_need_met m) actions
 
 abbrev pub goes_with : List MatchField → Instruction → Bool
 goes_with m (Apply actions) = are_needs_met m actions
-goes_with m Clear = true
 goes_with m (Write actions) = are_needs_met m actions
-goes_with m (Metadata value mask) = true
-goes_with m (Goto table) = true
+goes_with m other = true
 
 -- the flow check: each of the instructions goes with the match
 abbrev pub all_go_with : List MatchField → List Instruction → Bool

@@ -36,11 +36,8 @@ are_kept instructions = is_rising run_place instructions && list_all is_served_b
 
 -- an entry of the table may have it: GOTO_TABLE leads to a later table
 abbrev pub is_for : ℕ → Instruction → Bool
-is_for table (Apply actions) = true
-is_for table Clear = true
-is_for table (Write actions) = true
-is_for table (Metadata value mask) = true
 is_for table (Goto to) = nat_lt table to
+is_for table other = true
 
 abbrev pub are_for : ℕ → List Instruction → Bool
 are_for table instructions = list_all (is_for table) instructions

@@ -3,40 +3,11 @@ ghost use Rattle.std.specs.Prelude.{◌≡◌, ◌≤◌, ◌++◌, Bool, true, 
 ghost use Rattle.std.specs.List.{list_all};
 ghost use Rattle.of_actions.specs.Actions.{AreActions};
 ghost use Rattle.of_actions.specs.Served.{is_served, are_served};
-ghost use Rattle.of_actions.specs.CanonicalActions.{canonical_action, canonical_actions};
+ghost use Rattle.of_actions.specs.CanonicalActions.{canonical_actions};
 
-use crate::action::Action;
+use crate::action::{Action, put_action};
 use crate::action_list::ActionList;
-use crate::set_field::put_set_field;
 use std::alloc::{AllocError, Global};
-
-#[tactic(auto, unfolding(crate::specs::CanonicalActions::canonical_action, crate::specs::Served::is_served))]
-fn put_action(out: &mut Vec<u8>, action: Action) -> Result<(), AllocError>
-    requires { is_served true action ≡ true }
-    ensures { OnOk result (out.new.items ≡ out.old.items ++ canonical_action action) }
-{
-    match action {
-        Action::Output { port, max_len } => {
-            out.extend_from_slice(&[0, 0, 0, 16])?;
-            out.extend_from_slice(&port.to_be_bytes())?;
-            out.extend_from_slice(&max_len.to_be_bytes())?;
-            out.extend_from_slice(&[0; 6])
-        }
-        Action::PushVlan(ethertype) => {
-            out.extend_from_slice(&[0, 17, 0, 8])?;
-            out.extend_from_slice(&ethertype.to_be_bytes())?;
-            out.extend_from_slice(&[0; 2])
-        }
-        Action::PopVlan => out.extend_from_slice(&[0, 18, 0, 8, 0, 0, 0, 0]),
-        Action::Group(group) => {
-            out.extend_from_slice(&[0, 22, 0, 8])?;
-            out.extend_from_slice(&group.to_be_bytes())
-        }
-        Action::SetNwTtl(ttl) => out.extend_from_slice(&[0, 23, 0, 8, ttl, 0, 0, 0]),
-        Action::DecNwTtl => out.extend_from_slice(&[0, 24, 0, 8, 0, 0, 0, 0]),
-        Action::SetField { field, value } => put_set_field(out, field, value),
-    }
-}
 
 fn put_actions(out: &mut Vec<u8>, actions: &[Action]) -> Result<(), AllocError>
     requires { list_all (is_served true) actions.now ≡ true }

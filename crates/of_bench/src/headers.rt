@@ -16,7 +16,9 @@ impl Timed for Key {
         match read(&self.frame, (turn % 64) as u32, 0) {
             Ok(headers) => {
                 let key = headers.key();
-                u64::from(key.ipv4_src) ^ u64::from(key.tcp_dst) ^ u64::from(key.in_port)
+                u64::from(key.numbers.ipv4_src)
+                    ^ u64::from(key.numbers.tcp_dst)
+                    ^ u64::from(key.numbers.in_port)
             }
             Err(_) => 0,
         }

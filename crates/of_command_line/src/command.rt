@@ -84,121 +84,151 @@ const VERSION: &str = "0.1.0";
 
 /// The command line of the program.
 pub fn command<'a>(alloc: Global) -> Result<Command<'a>, AllocError> {
-    Command::new(alloc, "ofswitch")
+    let command = Command::new(alloc, "ofswitch")
         .version(VERSION)
         .about("An OpenFlow 1.3.5 switch whose behaviour is proved")
         .after_help(STATUSES)
         .subcommand_required(true)
-        .arg_required_else_help(true)
-        .subcommand(replay_command(alloc)?)?
-        .subcommand(assemble_command(alloc)?)?
-        .subcommand(disassemble_command(alloc)?)?
-        .subcommand(trace_command(alloc)?)?
-        .subcommand(serve_command(alloc)?)
+        .arg_required_else_help(true);
+    let command = with(command, replay_command(alloc))?;
+    let command = with(command, assemble_command(alloc))?;
+    let command = with(command, disassemble_command(alloc))?;
+    let command = with(command, trace_command(alloc))?;
+    with(command, serve_command(alloc))
+}
+
+// The command with a subcommand more.
+fn with<'a>(
+    command: Command<'a>,
+    subcommand: Result<Command<'a>, AllocError>,
+) -> Result<Command<'a>, AllocError> {
+    command.subcommand(subcommand?)
 }
 
 // The subcommand that runs an event file.
 fn replay_command<'a>(alloc: Global) -> Result<Command<'a>, AllocError> {
-    let file = Arg::new(alloc, "FILE")
-        .required(true)
-        .help("The event file to run; - is standard input");
-    let explain = Arg::new(alloc, "explain")
-        .long("explain")
-        .action(ArgAction::SetTrue)
-        .help("Prints each row, and below it in words what it did");
     Command::new(alloc, "replay")
         .about("Runs an event file on a new switch and prints what it gives")
         .after_help(EVENT_FILES)
-        .arg(file)?
-        .arg(explain)
+        .arg(
+            Arg::new(alloc, "FILE")
+                .required(true)
+                .help("The event file to run; - is standard input"),
+        )?
+        .arg(
+            Arg::new(alloc, "explain")
+                .long("explain")
+                .action(ArgAction::SetTrue)
+                .help("Prints each row, and below it in words what it did"),
+        )
 }
 
 // The subcommand that makes an event file of a flow text.
 fn assemble_command<'a>(alloc: Global) -> Result<Command<'a>, AllocError> {
-    let text = Arg::new(alloc, "FILE")
-        .required(true)
-        .help("The flow text to read; - is standard input");
     Command::new(alloc, "asm")
         .about("Prints an event file that builds the groups and flow tables of a flow text")
         .after_help(FLOW_TEXT)
-        .arg(text)
+        .arg(
+            Arg::new(alloc, "FILE")
+                .required(true)
+                .help("The flow text to read; - is standard input"),
+        )
 }
 
 // The subcommand that makes a flow text of an event file.
 fn disassemble_command<'a>(alloc: Global) -> Result<Command<'a>, AllocError> {
-    let rows = Arg::new(alloc, "FILE")
-        .required(true)
-        .help("The event file to run; - is standard input");
     Command::new(alloc, "dis")
         .about(
             "Runs an event file on a new switch and prints its groups and flow tables as flow text",
         )
         .after_help(DISASSEMBLY)
-        .arg(rows)
+        .arg(
+            Arg::new(alloc, "FILE")
+                .required(true)
+                .help("The event file to run; - is standard input"),
+        )
 }
 
 // The subcommand that traces a frame.
 fn trace_command<'a>(alloc: Global) -> Result<Command<'a>, AllocError> {
-    let flows = Arg::new(alloc, "FILE").long("flows").required(true).help(
-        "The flow text with the switch's flows; - is standard input",
-    );
-    let port = Arg::new(alloc, "N")
-        .long("port")
-        .required(true)
-        .help("The port by which the frame comes in, 1 to 64");
-    let frame = Arg::new(alloc, "HEX")
-        .required(true)
-        .help("The frame, two hexadecimal digits a byte");
-    let explain = Arg::new(alloc, "explain")
-        .long("explain")
-        .action(ArgAction::SetTrue)
-        .help("Adds notes: what tables see, and what actions change");
-    let why = Arg::new(alloc, "why")
-        .long("why")
-        .value_name("ENTRIES")
-        .help("Adds to the notes why entries won or did not: all, or those of \"TABLE PRIORITY\"");
     Command::new(alloc, "trace")
         .about("Prints, step by step, what a frame does on a switch with the flows of a flow text")
         .after_help(TRACES)
-        .arg(flows)?
-        .arg(port)?
-        .arg(frame)?
-        .arg(explain)?
-        .arg(why)
+        .arg(
+            Arg::new(alloc, "FILE").long("flows").required(true).help(
+                "The flow text with the switch's flows; - is standard input",
+            ),
+        )?
+        .arg(
+            Arg::new(alloc, "N")
+                .long("port")
+                .required(true)
+                .help("The port by which the frame comes in, 1 to 64"),
+        )?
+        .arg(
+            Arg::new(alloc, "HEX")
+                .required(true)
+                .help("The frame, two hexadecimal digits a byte"),
+        )?
+        .arg(
+            Arg::new(alloc, "explain")
+                .long("explain")
+                .action(ArgAction::SetTrue)
+                .help("Adds notes: what tables see, and what actions change"),
+        )?
+        .arg(
+            Arg::new(alloc, "why")
+                .long("why")
+                .value_name("ENTRIES")
+                .help(
+                    "Adds to the notes why entries won or did not: all, or those of \"TABLE PRIORITY\"",
+                ),
+        )
 }
 
 // The subcommand that serves controllers.
 fn serve_command<'a>(alloc: Global) -> Result<Command<'a>, AllocError> {
-    let listen = Arg::new(alloc, "listen")
-        .long("listen")
-        .value_name("ADDR")
-        .help("Where to wait for a controller, as 127.0.0.1:6653 (the default) or [::]:6653");
-    let connect = Arg::new(alloc, "connect")
-        .long("connect")
-        .value_name("ADDR")
-        .conflicts_with("listen")?
-        .help("The controller to dial, as 10.0.0.1:6653");
-    let events = Arg::new(alloc, "FILE")
-        .long("events")
-        .help("An event file with ports and frames");
-    let turns = Arg::new(alloc, "turns")
-        .long("turns")
-        .value_name("N")
-        .help("Ends after so many turns (by default 1000000)");
-    let dpid = Arg::new(alloc, "dpid").long("dpid").value_name("N").help(
-        "The switch's own number, decimal or 0x and hexadecimal digits (by default 1)",
-    );
-    let quiet = Arg::new(alloc, "quiet")
-        .long("quiet")
-        .action(ArgAction::SetTrue)
-        .help("Says nothing of connections on standard error");
     Command::new(alloc, "serve")
         .about("Serves OpenFlow 1.3 controllers over TCP")
         .after_help(SERVING)
-        .arg(listen)?
-        .arg(connect)?
-        .arg(events)?
-        .arg(turns)?
-        .arg(dpid)?
-        .arg(quiet)
+        .arg(
+            Arg::new(alloc, "listen")
+                .long("listen")
+                .value_name("ADDR")
+                .help(
+                    "Where to wait for a controller, as 127.0.0.1:6653 (the default) or [::]:6653",
+                ),
+        )?
+        .arg(dialled(alloc)?)?
+        .arg(
+            Arg::new(alloc, "FILE")
+                .long("events")
+                .help("An event file with ports and frames"),
+        )?
+        .arg(
+            Arg::new(alloc, "turns")
+                .long("turns")
+                .value_name("N")
+                .help("Ends after so many turns (by default 1000000)"),
+        )?
+        .arg(
+            Arg::new(alloc, "dpid").long("dpid").value_name("N").help(
+                "The switch's own number, decimal or 0x and hexadecimal digits (by default 1)",
+            ),
+        )?
+        .arg(
+            Arg::new(alloc, "quiet")
+                .long("quiet")
+                .action(ArgAction::SetTrue)
+                .help("Says nothing of connections on standard error"),
+        )
+}
+
+// The argument that names a controller to dial.
+fn dialled<'a>(alloc: Global) -> Result<Arg<'a>, AllocError> {
+    Arg::new(alloc, "connect")
+        .long("connect")
+        .value_name("ADDR")
+        .help("The controller to dial, as 10.0.0.1:6653")
+        .conflicts_with("listen")
 }

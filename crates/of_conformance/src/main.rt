@@ -16,7 +16,7 @@ mod stream_tests;
 mod tests;
 
 /// The event files, each beside the text that it is to print.
-const NAMES: [&str; 79] = [
+const NAMES: [&str; 67] = [
     "hello",
     "wrong-version",
     "first-path",
@@ -84,19 +84,10 @@ const NAMES: [&str; 79] = [
     "zero-mask",
     "flow-statistics",
     "features",
-    "random-1",
-    "random-2",
-    "random-3",
-    "random-4",
-    "random-5",
-    "random-6",
-    "random-7",
-    "random-8",
-    "random-9",
-    "random-10",
-    "random-11",
-    "random-12",
 ];
+
+/// So many event files more were made at random; what they are to print was computed by a model that shares nothing with this code.
+const RANDOM: u32 = 79;
 
 /// A read gives so many bytes at most.
 const PIECE: usize = 1000;
@@ -105,14 +96,21 @@ const AS_EXPECTED: &str = "as expected";
 
 fn main(rt: HostRuntime) -> io::Result<()> {
     for name in NAMES {
-        let events = fs::read_to_string(&rt, &format!(in rt.alloc(); "{name}.events")?)?;
-        let expected = fs::read_to_string(&rt, &format!(in rt.alloc(); "{name}.expected")?)?;
-        println!(rt;
-            "{name}: {}",
-            verdicts(&rt, events.as_bytes(), expected.as_bytes())
-        )?;
+        tell(&rt, name)?;
+    }
+    for number in 1..=RANDOM {
+        tell(&rt, &format!(in rt.alloc(); "random-{number}")?)?;
     }
     Ok(())
+}
+
+fn tell(rt: &HostRuntime, name: &str) -> io::Result<()> {
+    let events = fs::read_to_string(rt, &format!(in rt.alloc(); "{name}.events")?)?;
+    let expected = fs::read_to_string(rt, &format!(in rt.alloc(); "{name}.expected")?)?;
+    println!(rt;
+        "{name}: {}",
+        verdicts(rt, events.as_bytes(), expected.as_bytes())
+    )
 }
 
 fn verdicts(rt: &HostRuntime, events: &[u8], expected: &[u8]) -> &'static str {

@@ -7,7 +7,7 @@ use Rattle.of_headers.specs.Faults.{frame_fault}
 use Rattle.of_ports.specs.declared.port.Port.{Port}
 use Rattle.of_ports.specs.Ports.{is_live, may_receive, port_at}
 use Rattle.of_machine.specs.declared.data.Step.{Step}
-use Rattle.of_machine.specs.declared.data.Step.TheVariants.{Miss, Entry, Apply, Clear, Write, Metadata, Goto, Set, Act, TtlExpired, End}
+use Rattle.of_machine.specs.declared.data.Step.TheVariants.{Miss, Entry, TtlExpired}
 use Rattle.of_switch.specs.declared.effect.Effect.{Effect}
 use Rattle.of_switch.specs.declared.effect.Effect.TheVariants.{Answer, Sent, Closed}
 use Rattle.of_switch.specs.declared.switch_error.SwitchError.{SwitchError}
@@ -54,15 +54,8 @@ refusal_words refusals.BadPortNumber = codes "refused: a port's number is 1 to 4
 abbrev pub step_notes : Step → List ℕ
 step_notes (Miss table) = number_note (codes "table") table (codes ": no entry matches, and the packet is dropped")
 step_notes (Entry table place) = number_note (codes "table") table (with_number (codes ": entry") place)
-step_notes Apply = []
-step_notes Clear = []
-step_notes Write = []
-step_notes (Metadata value mask) = []
-step_notes (Goto table) = []
-step_notes Set = []
-step_notes (Act action) = []
 step_notes TtlExpired = note (codes "its time to live is over, and the packet is dropped")
-step_notes End = []
+step_notes other = []
 
 abbrev pub length_notes : Option FrameFault → List ℕ
 length_notes None = []
@@ -94,23 +87,14 @@ nothing_leaves (e ∷ es) = []
 
 -- what it does on the switch before it
 abbrev pub row_notes : State → EventRow → List ℕ
-row_notes s Passed = []
-row_notes s Connect = []
-row_notes s Lost = []
 row_notes s (Piece bytes) = piece_notes s.connection.pending bytes
 row_notes s (Frame port bytes) = way_notes port bytes s.core.forwarding
-row_notes s (Moment nanos) = []
-row_notes s (Ports change) = []
+row_notes s other = []
 
 -- what a frame does that leaves nothing behind
 abbrev pub end_notes : EventRow → List Effect → List ℕ
-end_notes Passed effects = []
-end_notes Connect effects = []
-end_notes Lost effects = []
-end_notes (Piece bytes) effects = []
 end_notes (Frame port bytes) effects = nothing_leaves effects
-end_notes (Moment nanos) effects = []
-end_notes (Ports change) effects = []
+end_notes other effects = []
 
 -- THE NOTES BELOW A ROW: of an event that happens, what it does, a note for each of its effects, and how that ends; of one that is refused, why
 abbrev pub report_notes : List ℕ → EventRow → Report → List ℕ

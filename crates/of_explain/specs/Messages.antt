@@ -32,6 +32,22 @@ name_field word names at size m = and_name word names (number_at at size m)
 unfoldable pub hex_field : List ℕ → ℕ → List ℕ → List ℕ
 hex_field word at m = if nat_le (at + 8) (length m) then word ++ codes " 0x" ++ encode_lower (take 8 (drop at m)) else []
 
+-- a word, and the number of four bytes; nothing where all its bits are set: OFP_NO_BUFFER, OFPP_ANY and OFPG_ANY name none
+abbrev pub unless_any : List ℕ → Option ℕ → List ℕ
+unless_any word None = []
+unless_any word (Some n) = if n == 0xffffffff then [] else word ++ 32 ∷ decimal n
+
+unfoldable pub some_field : List ℕ → ℕ → List ℕ → List ℕ
+some_field word at m = unless_any word (number_at at 4 m)
+
+-- a word, and eight bytes in hex digits; nothing where they are zeros
+abbrev pub unless_zero : Option ℕ → List ℕ → List ℕ
+unless_zero None words = words
+unless_zero (Some n) words = if n == 0 then [] else words
+
+unfoldable pub bits_field : List ℕ → ℕ → List ℕ → List ℕ
+bits_field word at m = unless_zero (number_at at 8 m) (hex_field word at m)
+
 -- THE FIELDS OF EACH KIND
 
 -- the names of the type and the code, and the type of the message that is refused, where its first bytes are there (7.4.4)
@@ -84,8 +100,12 @@ commanded_entry m = name_field [] FlowCommands 25 1 m ++ number_field (codes " t
 unfoldable pub commanded_times : List ℕ → List ℕ
 commanded_times m = number_field (codes " idle") 26 2 m ++ number_field (codes " hard") 28 2 m ++ number_field (codes " flags") 44 2 m
 
+-- the cookie's bits that are looked at, the packet that waits, and what a DELETE asks of actions
+unfoldable pub commanded_filter : List ℕ → List ℕ
+commanded_filter m = bits_field (codes " cookie_mask") 16 m ++ some_field (codes " buffer") 32 m ++ some_field (codes " out_port") 36 m ++ some_field (codes " out_group") 40 m
+
 unfoldable pub flow_mod_fields : List ℕ → List ℕ
-flow_mod_fields m = commanded_entry m ++ commanded_times m
+flow_mod_fields m = commanded_entry m ++ commanded_times m ++ commanded_filter m
 
 -- 7.3.4.2
 unfoldable pub group_mod_fields : List ℕ → List ℕ
@@ -93,7 +113,37 @@ group_mod_fields m = name_field [] GroupCommands 8 2 m ++ number_field (codes " 
 
 -- 7.3.7
 unfoldable pub packet_out_fields : List ℕ → List ℕ
-packet_out_fields m = number_field (codes " in_port") 12 4 m
+packet_out_fields m = some_field (codes " buffer") 8 m ++ number_field (codes " in_port") 12 4 m
+
+-- which entries are asked for (7.3.5.2 and 7.3.5.3)
+unfoldable pub asked_entries : List ℕ → List ℕ
+asked_entries m = number_field (codes " table") 16 1 m ++ some_field (codes " out_port") 20 m ++ some_field (codes " out_group") 24 m ++ bits_field (codes " cookie") 32 m ++ bits_field (codes " cookie_mask") 40 m
+
+-- what is asked for, by the kind of the request (7.3.5)
+unfoldable pub asked_by : Option ℕ → List ℕ → List ℕ
+asked_by None m = []
+asked_by (Some kind) m =
+    if kind == 1 then asked_entries m
+    else if kind == 2 then asked_entries m
+    else if kind == 4 then some_field (codes " port") 16 m
+    else if kind == 6 then some_field (codes " group") 16 m
+    else []
+
+unfoldable pub multipart_fields : List ℕ → List ℕ
+multipart_fields m = name_field [] Multiparts 8 2 m ++ asked_by (number_at 8 2 m) m
+
+-- masks of reasons, each first that of a master or equal controller and then that of a slave (7.3.10)
+unfoldable pub async_packet_in : List ℕ → List ℕ
+async_packet_in m = number_field (codes " packet_in") 8 4 m ++ number_field (codes " slave") 12 4 m
+
+unfoldable pub async_port_status : List ℕ → List ℕ
+async_port_status m = number_field (codes " port_status") 16 4 m ++ number_field (codes " slave") 20 4 m
+
+unfoldable pub async_flow_removed : List ℕ → List ℕ
+async_flow_removed m = number_field (codes " flow_removed") 24 4 m ++ number_field (codes " slave") 28 4 m
+
+unfoldable pub async_fields : List ℕ → List ℕ
+async_fields m = async_packet_in m ++ async_port_status m ++ async_flow_removed m
 
 -- 7.3.9
 unfoldable pub role_fields : List ℕ → List ℕ
@@ -114,10 +164,12 @@ fields_of type m =
     else if type == 15 then group_mod_fields m
     else if type == 16 then port_mod_fields m
     else if type == 17 then table_mod_fields m
-    else if type == 18 then name_field [] Multiparts 8 2 m
+    else if type == 18 then multipart_fields m
     else if type == 19 then name_field [] Multiparts 8 2 m
     else if type == 24 then role_fields m
     else if type == 25 then role_fields m
+    else if type == 27 then async_fields m
+    else if type == 28 then async_fields m
     else []
 
 unfoldable pub type_and_fields : Option ℕ → List ℕ → List ℕ

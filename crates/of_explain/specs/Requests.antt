@@ -3,11 +3,13 @@ use Rattle.std.specs.Prelude.{ℕ, zero, suc, List, [], ◌∷◌, ◌++◌, len
 use Rattle.std.specs.List.{flat_map}
 use Rattle.of_wire.specs.declared.code.Code.{Code}
 use Rattle.of_messages.specs.declared.message.Message.{Message}
-use Rattle.of_messages.specs.declared.message.Message.TheVariants.{Hello, Error, EchoRequest, EchoReply, FeaturesRequest, GetConfigRequest, SetConfig, PacketOut, FlowMod, GroupMod, PortMod, TableMod, Multipart, BarrierRequest, RoleRequest, GetAsyncRequest, SetAsync}
+use Rattle.of_messages.specs.declared.message.Message.TheVariants.{PacketOut, FlowMod, GroupMod, Multipart}
 use Rattle.of_messages.specs.declared.message.FlowMod.{FlowMod as AFlowMod}
 use Rattle.of_messages.specs.declared.group_mod.GroupMod.{GroupMod as AGroupMod}
 use Rattle.of_messages.specs.declared.group_mod.GroupMod.TheVariants.{Add, Modify, Delete}
 use Rattle.of_messages.specs.declared.group_mod.NewGroup.{NewGroup}
+use Rattle.of_messages.specs.declared.multipart.MultipartRequest.{MultipartRequest}
+use Rattle.of_messages.specs.declared.multipart.MultipartRequest.TheVariants.{Flow, Aggregate}
 use Rattle.of_messages.specs.Messages.{message_of}
 use Rattle.of_session.specs.Stream.{First, Whole, Bad, Partial, front_of}
 use Rattle.of_text.specs.declared.row.Row.{Row}
@@ -34,24 +36,18 @@ group_mod_rows (Add g) = group_rows (group_said g)
 group_mod_rows (Modify g) = group_rows (group_said g)
 group_mod_rows (Delete which) = []
 
+-- the match of the entries that are asked for
+abbrev pub asked_rows : MultipartRequest → List Row
+asked_rows (Flow r) = map rows.Match r.fields
+asked_rows (Aggregate r) = map rows.Match r.fields
+asked_rows other = []
+
 abbrev pub rows_in : Message → List Row
 rows_in (FlowMod m) = flow_mod_rows m
 rows_in (GroupMod m) = group_mod_rows m
 rows_in (PacketOut m) = map rows.Do m.actions
-rows_in Hello = []
-rows_in Error = []
-rows_in (EchoRequest echoed) = []
-rows_in EchoReply = []
-rows_in FeaturesRequest = []
-rows_in GetConfigRequest = []
-rows_in (SetConfig config) = []
-rows_in (PortMod m) = []
-rows_in (TableMod m) = []
-rows_in (Multipart request) = []
-rows_in BarrierRequest = []
-rows_in (RoleRequest request) = []
-rows_in GetAsyncRequest = []
-rows_in (SetAsync masks) = []
+rows_in (Multipart request) = asked_rows request
+rows_in other = []
 
 -- one that is refused by itself has none
 abbrev pub rows_said : Result Message Code → List Row

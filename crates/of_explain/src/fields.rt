@@ -1,6 +1,6 @@
 //! Fields of messages in words.
 ghost use Rattle.std.specs.Prelude.{◌≡◌, ◌≤◌, ◌<◌, ◌^◌, ◌++◌, OnOk};
-ghost use Rattle.of_explain.specs.Messages.{and_name, and_number, hex_field, name_field, number_at as a_number_at, number_field};
+ghost use Rattle.of_explain.specs.Messages.{and_name, and_number, bits_field, hex_field, name_field, number_at as a_number_at, number_field, some_field};
 
 use crate::names::{Names, push_name};
 use crate::notes::push_with_number;
@@ -95,4 +95,44 @@ pub fn push_hex_field(
     out.extend_from_slice(word)?;
     out.extend_from_slice(b" 0x")?;
     out.extend_from_slice(digits.as_bytes())
+}
+
+/// Appends a word and a number of four bytes of a message; nothing where all its bits are set, which names none.
+#[tactic(auto, unfolding(crate::specs::Messages::some_field))]
+pub fn push_some_field(
+    out: &mut Vec<u8>,
+    message: &[u8],
+    word: &[u8],
+    at: usize,
+) -> Result<(), AllocError>
+    requires place { at < 2 ^ 16 }
+    ensures { OnOk result (out.new.items ≡ out.old.items ++ some_field word.now at message.now) }
+{
+    let Some(number) = number_at(message, at, 4) else {
+        return Ok(());
+    };
+    if number == 0xffff_ffff {
+        return Ok(());
+    }
+    push_with_number(out, word, number)
+}
+
+/// Appends a word and eight bytes of a message in hex digits; nothing where they are zeros.
+#[tactic(auto, unfolding(crate::specs::Messages::bits_field))]
+pub fn push_bits_field(
+    alloc: Global,
+    out: &mut Vec<u8>,
+    message: &[u8],
+    word: &[u8],
+    at: usize,
+) -> Result<(), AllocError>
+    requires place { at < 2 ^ 16 }
+    ensures { OnOk result (out.new.items ≡ out.old.items ++ bits_field word.now at message.now) }
+{
+    if let Some(number) = number_at(message, at, 8) {
+        if number == 0 {
+            return Ok(());
+        }
+    }
+    push_hex_field(alloc, out, message, word, at)
 }

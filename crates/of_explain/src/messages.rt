@@ -1,8 +1,11 @@
 //! Messages in words.
 ghost use Rattle.std.specs.Prelude.{◌≡◌, ◌++◌, OnOk};
-ghost use Rattle.of_explain.specs.Messages.{and_code, commanded_entry, commanded_times, config_fields, error_fields, fields_of, flow_mod_fields, flow_removed_fields, group_mod_fields, message_words, number_at as a_number_at, packet_in_fields, port_mod_fields, port_status_fields, removed_counts, removed_entry, role_fields, table_mod_fields, type_and_fields};
+ghost use Rattle.of_explain.specs.Messages.{and_code, asked_by, asked_entries, async_fields, async_flow_removed, async_packet_in, async_port_status, commanded_entry, commanded_filter, commanded_times, config_fields, error_fields, fields_of, flow_mod_fields, flow_removed_fields, group_mod_fields, message_words, multipart_fields, number_at as a_number_at, packet_in_fields, packet_out_fields, port_mod_fields, port_status_fields, removed_counts, removed_entry, role_fields, table_mod_fields, type_and_fields};
 
-use crate::fields::{half_at, number_at, push_hex_field, push_name_field, push_number_field};
+use crate::fields::{
+    half_at, number_at, push_bits_field, push_hex_field, push_name_field, push_number_field,
+    push_some_field,
+};
 use crate::names::{Names, push_name, push_named};
 use crate::notes::push_size;
 use of_wire::Code;
@@ -135,13 +138,25 @@ fn push_commanded_times(out: &mut Vec<u8>, message: &[u8]) -> Result<(), AllocEr
     push_number_field(out, message, b" flags", 44, 2)
 }
 
+// Which bits of the cookie are looked at, the packet that waits, and what a DELETE asks of actions.
+#[tactic(auto, unfolding(crate::specs::Messages::commanded_filter))]
+fn push_commanded_filter(alloc: Global, out: &mut Vec<u8>, message: &[u8]) -> Result<(), AllocError>
+    ensures { OnOk result (out.new.items ≡ out.old.items ++ commanded_filter message.now) }
+{
+    push_bits_field(alloc, out, message, b" cookie_mask", 16)?;
+    push_some_field(out, message, b" buffer", 32)?;
+    push_some_field(out, message, b" out_port", 36)?;
+    push_some_field(out, message, b" out_group", 40)
+}
+
 // FLOW_MOD (7.3.4.1).
 #[tactic(auto, unfolding(crate::specs::Messages::flow_mod_fields))]
 fn push_flow_mod(alloc: Global, out: &mut Vec<u8>, message: &[u8]) -> Result<(), AllocError>
     ensures { OnOk result (out.new.items ≡ out.old.items ++ flow_mod_fields message.now) }
 {
     push_commanded_entry(alloc, out, message)?;
-    push_commanded_times(out, message)
+    push_commanded_times(out, message)?;
+    push_commanded_filter(alloc, out, message)
 }
 
 // GROUP_MOD (7.3.4.2).
@@ -151,6 +166,92 @@ fn push_group_mod(out: &mut Vec<u8>, message: &[u8]) -> Result<(), AllocError>
 {
     push_name_field(out, message, b"", Names::GroupCommands, 8, 2)?;
     push_number_field(out, message, b" group", 12, 4)
+}
+
+// PACKET_OUT (7.3.7).
+#[tactic(auto, unfolding(crate::specs::Messages::packet_out_fields))]
+fn push_packet_out(out: &mut Vec<u8>, message: &[u8]) -> Result<(), AllocError>
+    ensures { OnOk result (out.new.items ≡ out.old.items ++ packet_out_fields message.now) }
+{
+    push_some_field(out, message, b" buffer", 8)?;
+    push_number_field(out, message, b" in_port", 12, 4)
+}
+
+// Which entries a FLOW or AGGREGATE request asks for (7.3.5.2 and 7.3.5.3).
+#[tactic(auto, unfolding(crate::specs::Messages::asked_entries))]
+fn push_asked_entries(alloc: Global, out: &mut Vec<u8>, message: &[u8]) -> Result<(), AllocError>
+    ensures { OnOk result (out.new.items ≡ out.old.items ++ asked_entries message.now) }
+{
+    push_number_field(out, message, b" table", 16, 1)?;
+    push_some_field(out, message, b" out_port", 20)?;
+    push_some_field(out, message, b" out_group", 24)?;
+    push_bits_field(alloc, out, message, b" cookie", 32)?;
+    push_bits_field(alloc, out, message, b" cookie_mask", 40)
+}
+
+// What a request of a kind asks for.
+#[tactic(auto, unfolding(crate::specs::Messages::asked_by))]
+fn push_asked(
+    alloc: Global,
+    out: &mut Vec<u8>,
+    kind: Option<u16>,
+    message: &[u8],
+) -> Result<(), AllocError>
+    ensures { OnOk result (out.new.items ≡ out.old.items ++ asked_by kind message.now) }
+{
+    let Some(kind) = kind else {
+        return Ok(());
+    };
+    match kind {
+        1 | 2 => push_asked_entries(alloc, out, message),
+        4 => push_some_field(out, message, b" port", 16),
+        6 => push_some_field(out, message, b" group", 16),
+        _ => Ok(()),
+    }
+}
+
+// MULTIPART_REQUEST (7.3.5).
+#[tactic(auto, unfolding(crate::specs::Messages::multipart_fields))]
+fn push_multipart(alloc: Global, out: &mut Vec<u8>, message: &[u8]) -> Result<(), AllocError>
+    ensures { OnOk result (out.new.items ≡ out.old.items ++ multipart_fields message.now) }
+{
+    push_name_field(out, message, b"", Names::Multiparts, 8, 2)?;
+    push_asked(alloc, out, half_at(message, 8), message)
+}
+
+// The masks of one message, of a master or equal controller and of a slave.
+#[tactic(auto, unfolding(crate::specs::Messages::async_packet_in))]
+fn push_packet_in_masks(out: &mut Vec<u8>, message: &[u8]) -> Result<(), AllocError>
+    ensures { OnOk result (out.new.items ≡ out.old.items ++ async_packet_in message.now) }
+{
+    push_number_field(out, message, b" packet_in", 8, 4)?;
+    push_number_field(out, message, b" slave", 12, 4)
+}
+
+#[tactic(auto, unfolding(crate::specs::Messages::async_port_status))]
+fn push_port_status_masks(out: &mut Vec<u8>, message: &[u8]) -> Result<(), AllocError>
+    ensures { OnOk result (out.new.items ≡ out.old.items ++ async_port_status message.now) }
+{
+    push_number_field(out, message, b" port_status", 16, 4)?;
+    push_number_field(out, message, b" slave", 20, 4)
+}
+
+#[tactic(auto, unfolding(crate::specs::Messages::async_flow_removed))]
+fn push_flow_removed_masks(out: &mut Vec<u8>, message: &[u8]) -> Result<(), AllocError>
+    ensures { OnOk result (out.new.items ≡ out.old.items ++ async_flow_removed message.now) }
+{
+    push_number_field(out, message, b" flow_removed", 24, 4)?;
+    push_number_field(out, message, b" slave", 28, 4)
+}
+
+// GET_ASYNC_REPLY and SET_ASYNC (7.3.10).
+#[tactic(auto, unfolding(crate::specs::Messages::async_fields))]
+fn push_async(out: &mut Vec<u8>, message: &[u8]) -> Result<(), AllocError>
+    ensures { OnOk result (out.new.items ≡ out.old.items ++ async_fields message.now) }
+{
+    push_packet_in_masks(out, message)?;
+    push_port_status_masks(out, message)?;
+    push_flow_removed_masks(out, message)
 }
 
 // ROLE_REQUEST and ROLE_REPLY (7.3.9).
@@ -163,7 +264,7 @@ fn push_role(out: &mut Vec<u8>, message: &[u8]) -> Result<(), AllocError>
 }
 
 // Appends what a message of that type says.
-#[tactic(auto, unfolding(crate::specs::Messages::fields_of, crate::specs::Messages::packet_out_fields))]
+#[tactic(auto, unfolding(crate::specs::Messages::fields_of))]
 fn push_fields(
     alloc: Global,
     out: &mut Vec<u8>,
@@ -179,13 +280,15 @@ fn push_fields(
         10 => push_packet_in(alloc, out, message),
         11 => push_flow_removed(alloc, out, message),
         12 => push_port_status(out, message),
-        13 => push_number_field(out, message, b" in_port", 12, 4),
+        13 => push_packet_out(out, message),
         14 => push_flow_mod(alloc, out, message),
         15 => push_group_mod(out, message),
         16 => push_port_mod(out, message),
         17 => push_table_mod(out, message),
-        18 | 19 => push_name_field(out, message, b"", Names::Multiparts, 8, 2),
+        18 => push_multipart(alloc, out, message),
+        19 => push_name_field(out, message, b"", Names::Multiparts, 8, 2),
         24 | 25 => push_role(out, message),
+        27 | 28 => push_async(out, message),
         _ => Ok(()),
     }
 }

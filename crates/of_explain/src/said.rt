@@ -7,12 +7,14 @@ ghost use Rattle.of_text.specs.Groups.{bucket_rows, group_rows};
 ghost use Rattle.of_text.specs.Kept.{step_of};
 ghost use Rattle.of_text.specs.Rows.{Fits};
 ghost use Rattle.of_text.specs.Views.{view_bucket, view_group};
-ghost use Rattle.of_explain.specs.Requests.{flow_mod_rows, group_mod_rows, group_said, rows_in, rows_said};
+ghost use Rattle.of_explain.specs.Requests.{asked_rows, flow_mod_rows, group_mod_rows, group_said, rows_in, rows_said};
 
 use of_actions::{Action, Instruction};
 use of_groups::Group;
-use of_messages::{FlowMod, GroupMod, Message, NewGroup, PacketOut, read_message};
-use of_oxm::MatchField;
+use of_messages::{
+    FlowMod, GroupMod, Message, MultipartRequest, NewGroup, PacketOut, read_message,
+};
+use of_oxm::{Match, MatchField};
 use of_text::{BucketText, GroupText, Row};
 use of_wire::ReadError;
 use std::alloc::{AllocError, Global};
@@ -136,6 +138,30 @@ fn packet_out_lines(alloc: Global, packet_out: &PacketOut) -> Result<Vec<Row>, A
     Ok(rows)
 }
 
+// The lines of a match.
+fn match_lines(alloc: Global, fields: &Match) -> Result<Vec<Row>, AllocError>
+    ensures text { IfOk result (λ rows. rows.items ≡ map Row.Match fields.now) }
+    ensures fits { IfOk result (λ rows. AllByRecursion Fits rows.items) }
+{
+    fields.known();
+    let mut rows = Vec::new(alloc);
+    push_fields(&mut rows, fields.fields())?;
+    Ok(rows)
+}
+
+// The lines of the match that a multipart request asks for.
+fn multipart_lines(alloc: Global, request: MultipartRequest) -> Result<Vec<Row>, AllocError>
+    ensures text { IfOk result (λ rows. rows.items ≡ asked_rows request) }
+    ensures fits { IfOk result (λ rows. AllByRecursion Fits rows.items) }
+{
+    match request {
+        MultipartRequest::Flow(asked) | MultipartRequest::Aggregate(asked) => {
+            match_lines(alloc, &asked.fields)
+        }
+        _ => Ok(Vec::new(alloc)),
+    }
+}
+
 fn lines_in(alloc: Global, message: Message) -> Result<Vec<Row>, AllocError>
     ensures text { IfOk result (λ rows. rows.items ≡ rows_in message) }
     ensures fits { IfOk result (λ rows. AllByRecursion Fits rows.items) }
@@ -144,24 +170,12 @@ fn lines_in(alloc: Global, message: Message) -> Result<Vec<Row>, AllocError>
         Message::FlowMod(flow_mod) => flow_mod_lines(alloc, &flow_mod),
         Message::GroupMod(group_mod) => group_mod_lines(alloc, group_mod),
         Message::PacketOut(packet_out) => packet_out_lines(alloc, &packet_out),
-        Message::Hello
-        | Message::Error
-        | Message::EchoRequest(_)
-        | Message::EchoReply
-        | Message::FeaturesRequest
-        | Message::GetConfigRequest
-        | Message::SetConfig(_)
-        | Message::PortMod(_)
-        | Message::TableMod(_)
-        | Message::Multipart(_)
-        | Message::BarrierRequest
-        | Message::RoleRequest(_)
-        | Message::GetAsyncRequest
-        | Message::SetAsync(_) => Ok(Vec::new(alloc)),
+        Message::Multipart(request) => multipart_lines(alloc, request),
+        _ => Ok(Vec::new(alloc)),
     }
 }
 
-/// The lines of flow text that a message has: of a FLOW_MOD its match and instructions, of a GROUP_MOD its group, of a PACKET_OUT its actions.
+/// The lines of flow text that a message has: of a FLOW_MOD its match and instructions, of a GROUP_MOD its group, of a PACKET_OUT its actions, of a request for flows the match that they are to have.
 ///
 /// A message that is refused by itself has none.
 pub fn lines_said(alloc: Global, message: &[u8]) -> Result<Vec<Row>, AllocError>

@@ -83,10 +83,10 @@ fn fields(rt: HostRuntime) -> Result<(), Fail> {
 fn tagged_frame(rt: HostRuntime) {
     let frame = b"\x02\0\0\0\0\x02\x02\0\0\0\0\x01\x81\0\xa0\x05\x88\xb5";
     let key = read(frame, 1, 0).expect(&rt, "a frame").key();
-    assert_eq!(rt; key.in_port, 1);
-    assert_eq!(rt; key.eth_dst, 0x020000000002);
-    assert_eq!(rt; key.eth_src, 0x020000000001);
-    assert_eq!(rt; key.eth_type, 0x88b5);
+    assert_eq!(rt; key.numbers.in_port, 1);
+    assert_eq!(rt; key.numbers.eth_dst, 0x020000000002);
+    assert_eq!(rt; key.numbers.eth_src, 0x020000000001);
+    assert_eq!(rt; key.numbers.eth_type, 0x88b5);
 }
 
 #[test]
@@ -94,7 +94,7 @@ fn cut_tag(rt: HostRuntime) {
     let frame = b"\x02\0\0\0\0\x02\x02\0\0\0\0\x01\x81\0\xa0\x05";
     let headers = read_inside(frame, 1, 0).expect(&rt, "a frame");
     assert_eq!(rt; headers.layout.tags, 0);
-    assert_eq!(rt; headers.key().eth_type, 0x8100);
+    assert_eq!(rt; headers.key().numbers.eth_type, 0x8100);
 }
 
 #[test]

@@ -12,18 +12,19 @@ use Rattle.of_oxm.specs.MatchReading.{match_of}
 use Rattle.of_messages.specs.AsyncConfigs.{async_masks_of}
 use Rattle.of_messages.specs.Heads.{type_of, xid_of}
 use Rattle.of_messages.specs.declared.message.FlowRemoved.{FlowRemoved}
-use Rattle.of_messages.specs.declared.message.FlowRemovedReason.{FlowRemovedReason}
-use Rattle.of_messages.specs.declared.message.FlowRemovedReason.TheVariants as removed
+use Rattle.of_wire.specs.declared.reasons.FlowRemovedReason.{FlowRemovedReason}
+use Rattle.of_wire.specs.declared.reasons.FlowRemovedReason.TheVariants as removed
 use Rattle.of_messages.specs.declared.message.PacketIn.{PacketIn}
-use Rattle.of_messages.specs.declared.message.PacketInReason.{PacketInReason}
-use Rattle.of_messages.specs.declared.message.PacketInReason.TheVariants.{NoMatch, Action, InvalidTtl}
+use Rattle.of_wire.specs.declared.reasons.PacketInReason.{PacketInReason}
+use Rattle.of_wire.specs.declared.reasons.PacketInReason.TheVariants.{NoMatch, Action, InvalidTtl}
 use Rattle.of_messages.specs.declared.port_mod.PortDescription.{PortDescription}
 use Rattle.of_messages.specs.declared.port_mod.PortStatusReason.{PortStatusReason}
 use Rattle.of_messages.specs.declared.port_mod.PortStatusReason.TheVariants as status
 use Rattle.of_messages.specs.declared.role.Role.{Role}
 use Rattle.of_messages.specs.declared.role.Role.TheVariants as role
+use Rattle.of_wire.specs.Reasons.{packet_in_number, flow_removed_number}
 use Rattle.of_grammar.specs.Cells.{pad}
-use Rattle.of_grammar.specs.Told.{Told, hello, error, echo_reply, features_reply, config_reply, packet_in, flow_removed, port_status, barrier_reply, role_reply, async_reply, told_type, told_cells, told_front, told_fields, MatchThenFrame, ToldTail, SpellsTold, packet_reason, removed_reason, port_reason, role_value}
+use Rattle.of_grammar.specs.Told.{Told, hello, error, echo_reply, features_reply, config_reply, packet_in, flow_removed, port_status, barrier_reply, role_reply, async_reply, told_type, told_cells, told_front, told_fields, MatchThenFrame, ToldTail, SpellsTold, port_reason, role_value}
 use Rattle.of_grammar.proofs.MatchTails.{match_only}
 use Rattle.of_grammar.proofs.OnlySmall.{async_only}
 use Rattle.of_grammar.proofs.Places.{Says, says, size, rest_is}
@@ -94,12 +95,12 @@ told_at n m =
 
 -- ---- and is what is told
 
-packet_reason_again : (r : PacketInReason) → packet_reason_at (packet_reason r) ≡ r
+packet_reason_again : (r : PacketInReason) → packet_reason_at (packet_in_number r) ≡ r
 packet_reason_again NoMatch = refl
 packet_reason_again Action = refl
 packet_reason_again InvalidTtl = refl
 
-removed_reason_again : (r : FlowRemovedReason) → removed_reason_at (removed_reason r) ≡ r
+removed_reason_again : (r : FlowRemovedReason) → removed_reason_at (flow_removed_number r) ≡ r
 removed_reason_again removed.IdleTimeout = refl
 removed_reason_again removed.HardTimeout = refl
 removed_reason_again removed.Delete = refl

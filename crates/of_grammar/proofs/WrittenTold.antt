@@ -13,15 +13,11 @@ use Rattle.of_oxm.specs.NormalForm.{IsKept, IsMatch}
 use Rattle.of_oxm.specs.Prerequisites.{all_met}
 use Rattle.of_oxm.proofs.Written.{canonical_short, canonical_spells}
 use Rattle.of_messages.specs.Roles.{role_number}
-use Rattle.of_messages.specs.Written.{message, hello_bytes, error_bytes, echo_reply_bytes, barrier_reply_bytes, features_body, features_reply_bytes, config_reply_bytes, async_reply_bytes, reason_number, flow_removed_front, flow_removed_bytes, packet_in_number, packet_fields, packet_in_front, packet_in_bytes, status_number, port_names, port_bits, port_bytes, port_status_bytes}
+use Rattle.of_messages.specs.Written.{message, hello_bytes, error_bytes, echo_reply_bytes, barrier_reply_bytes, features_body, features_reply_bytes, config_reply_bytes, async_reply_bytes, flow_removed_front, flow_removed_bytes, packet_fields, packet_in_front, packet_in_bytes, status_number, port_names, port_bits, port_bytes, port_status_bytes}
 use Rattle.of_messages.specs.declared.async_masks.AsyncMasks.{AsyncMasks}
 use Rattle.of_messages.specs.declared.config.SwitchConfig.{SwitchConfig}
 use Rattle.of_messages.specs.declared.message.FlowRemoved.{FlowRemoved}
-use Rattle.of_messages.specs.declared.message.FlowRemovedReason.{FlowRemovedReason}
-use Rattle.of_messages.specs.declared.message.FlowRemovedReason.TheVariants as removed
 use Rattle.of_messages.specs.declared.message.PacketIn.{PacketIn}
-use Rattle.of_messages.specs.declared.message.PacketInReason.{PacketInReason}
-use Rattle.of_messages.specs.declared.message.PacketInReason.TheVariants.{NoMatch, Action, InvalidTtl}
 use Rattle.of_messages.specs.declared.port_mod.PortDescription.{PortDescription}
 use Rattle.of_messages.specs.declared.port_mod.PortStatusReason.{PortStatusReason}
 use Rattle.of_messages.specs.declared.port_mod.PortStatusReason.TheVariants as status
@@ -29,7 +25,7 @@ use Rattle.of_messages.specs.declared.role.Role.{Role}
 use Rattle.of_messages.specs.declared.role.Role.TheVariants as role
 use Rattle.of_messages.proofs.PacketFields.{with_metadata, without_metadata}
 use Rattle.of_grammar.specs.Cells.{Fits}
-use Rattle.of_grammar.specs.Told.{Told, hello, error, echo_reply, features_reply, config_reply, packet_in, flow_removed, port_status, barrier_reply, role_reply, async_reply, told_type, told_cells, told_fields, ToldTail, SpellsTold, packet_reason, removed_reason, port_reason, role_value, removed_cells, packet_in_cells}
+use Rattle.of_grammar.specs.Told.{Told, hello, error, echo_reply, features_reply, config_reply, packet_in, flow_removed, port_status, barrier_reply, role_reply, async_reply, told_type, told_cells, told_fields, ToldTail, SpellsTold, port_reason, role_value, removed_cells, packet_in_cells}
 use Rattle.of_grammar.proofs.Writings.{fronted, spelling}
 
 type_fits : (t : Told) → told_type t < 256
@@ -91,15 +87,9 @@ async_told xid masks x fits = told (async_reply masks) xid _ [] refl x fits (ome
 
 -- ---- FLOW_REMOVED
 
-removed_same : (r : FlowRemovedReason) → reason_number r ≡ removed_reason r
-removed_same removed.IdleTimeout = refl
-removed_same removed.HardTimeout = refl
-removed_same removed.Delete = refl
-removed_same removed.GroupDelete = refl
-
 removed_text : (r : FlowRemoved) (tail : List ℕ) → flow_removed_front r ++ tail ≡ spelling (removed_cells r) ++ tail
 unfolding flow_removed_front
-removed_text r tail = rw (removed_same r.reason) refl
+removed_text r tail = refl
 
 length-removed : (r : FlowRemoved) (tail : List ℕ) → length (flow_removed_front r ++ tail) ≡ 40 + length tail
 unfolding flow_removed_front
@@ -134,14 +124,9 @@ port_told xid r p x fits =
 
 -- ---- PACKET_IN
 
-reason_same : (r : PacketInReason) → packet_in_number r ≡ packet_reason r
-reason_same NoMatch = refl
-reason_same Action = refl
-reason_same InvalidTtl = refl
-
 packet_text : (p : PacketIn) (frame tail : List ℕ) → packet_in_front p (length frame) ++ tail ≡ spelling (packet_in_cells p frame) ++ tail
 unfolding packet_in_front
-packet_text p frame tail = rw (reason_same p.reason) refl
+packet_text p frame tail = refl
 
 length-packet : (p : PacketIn) (size : ℕ) (tail : List ℕ) → length (packet_in_front p size ++ tail) ≡ 16 + length tail
 unfolding packet_in_front

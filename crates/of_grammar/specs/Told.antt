@@ -1,17 +1,14 @@
 -- WHAT A SWITCH TELLS: which bytes spell which message of this switch (OpenFlow 1.3.5, 7), but for the replies to multipart requests.
 use Rattle.std.specs.Prelude.{◌≡◌, ◌==◌, ℕ, if◌then◌else◌, List, [], ◌∷◌, ◌++◌, length, None}
 use Rattle.of_wire.specs.declared.code.Code.{Code}
+use Rattle.of_wire.specs.Reasons.{packet_in_number, flow_removed_number}
 use Rattle.of_layers.specs.declared.field.Field.TheVariants.{InPort, Metadata}
 use Rattle.of_oxm.specs.declared.match_field.MatchField.{MatchField}
 use Rattle.of_oxm.specs.MatchGrammar.{SpellsMatch}
 use Rattle.of_messages.specs.declared.async_masks.AsyncMasks.{AsyncMasks}
 use Rattle.of_messages.specs.declared.config.SwitchConfig.{SwitchConfig}
 use Rattle.of_messages.specs.declared.message.FlowRemoved.{FlowRemoved}
-use Rattle.of_messages.specs.declared.message.FlowRemovedReason.{FlowRemovedReason}
-use Rattle.of_messages.specs.declared.message.FlowRemovedReason.TheVariants as removed
 use Rattle.of_messages.specs.declared.message.PacketIn.{PacketIn}
-use Rattle.of_messages.specs.declared.message.PacketInReason.{PacketInReason}
-use Rattle.of_messages.specs.declared.message.PacketInReason.TheVariants.{NoMatch, Action, InvalidTtl}
 use Rattle.of_messages.specs.declared.port_mod.PortDescription.{PortDescription}
 use Rattle.of_messages.specs.declared.port_mod.PortStatusReason.{PortStatusReason}
 use Rattle.of_messages.specs.declared.port_mod.PortStatusReason.TheVariants as status
@@ -48,18 +45,7 @@ told_type barrier_reply = 21
 told_type (role_reply role generation) = 25
 told_type (async_reply masks) = 27
 
--- OFPR_* (7.4.1), OFPRR_* (7.4.2), OFPPR_* (7.4.3), OFPCR_ROLE_* (7.3.9)
-abbrev pub packet_reason : PacketInReason → ℕ
-packet_reason NoMatch = 0
-packet_reason Action = 1
-packet_reason InvalidTtl = 2
-
-abbrev pub removed_reason : FlowRemovedReason → ℕ
-removed_reason removed.IdleTimeout = 0
-removed_reason removed.HardTimeout = 1
-removed_reason removed.Delete = 2
-removed_reason removed.GroupDelete = 3
-
+-- OFPPR_* (7.4.3), OFPCR_ROLE_* (7.3.9)
 abbrev pub port_reason : PortStatusReason → ℕ
 port_reason status.Add = 0
 port_reason status.Delete = 1
@@ -76,12 +62,12 @@ features_cells dpid = u64 dpid ∷ u32 0 ∷ byte 16 ∷ byte 0 ∷ pad 2 ∷ u3
 
 -- struct ofp_packet_in (7.4.1), in front of the match: the frame is not buffered, and is told whole
 abbrev pub packet_in_cells : PacketIn → List ℕ → List Cell
-packet_in_cells p frame = u32 no_buffer ∷ u16 (length frame) ∷ byte (packet_reason p.reason) ∷ byte p.table ∷ u64 p.cookie ∷ []
+packet_in_cells p frame = u32 no_buffer ∷ u16 (length frame) ∷ byte (packet_in_number p.reason) ∷ byte p.table ∷ u64 p.cookie ∷ []
 
 -- struct ofp_flow_removed (7.4.2), in front of the match
 abbrev pub removed_cells : FlowRemoved → List Cell
 removed_cells r =
-    u64 r.cookie ∷ u16 r.priority ∷ byte (removed_reason r.reason) ∷ byte r.table ∷ u32 r.duration_sec ∷ u32 r.duration_nsec
+    u64 r.cookie ∷ u16 r.priority ∷ byte (flow_removed_number r.reason) ∷ byte r.table ∷ u32 r.duration_sec ∷ u32 r.duration_nsec
     ∷ u16 r.idle_timeout ∷ u16 r.hard_timeout ∷ u64 r.packets ∷ u64 r.bytes ∷ []
 
 -- struct ofp_port (7.2.1): no features (four words) and no speeds (two)

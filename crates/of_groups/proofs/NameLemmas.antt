@@ -4,7 +4,7 @@ use Rattle.std.specs.Prelude.{◌&&◌, ◌||◌}
 use Rattle.std.specs.List.{list_any, list_all}
 use Rattle.std.proofs.lemmas.Bool.Decides.{nat_tests, eqb_tells}
 use Rattle.of_actions.specs.declared.action.Action.{Action}
-use Rattle.of_actions.specs.declared.action.Action.TheVariants.{Output, PushVlan, PopVlan, Group as ToGroup, SetNwTtl, DecNwTtl, SetField}
+use Rattle.of_actions.specs.declared.action.Action.TheVariants.{Group as ToGroup}
 use Rattle.of_groups.specs.declared.bucket.Bucket.{Bucket}
 use Rattle.of_groups.specs.declared.group.Group.{Group}
 use Rattle.of_groups.specs.declared.group.GroupKind.{GroupKind}
@@ -42,13 +42,8 @@ all_more p q (x ∷ xs) f h = both (p x) (list_all p xs) (q x) (list_all q xs) (
 -- ---- a wider test holds of what is named wherever a narrower one does
 
 sends_more : (p q : ℕ → Bool) → ((n : ℕ) → q n ≡ true → p n ≡ true) → (a : Action) → sends q a ≡ true → sends p a ≡ true
-sends_more p q f (Output port max_len) h = h
-sends_more p q f (PushVlan type) h = h
-sends_more p q f PopVlan h = h
 sends_more p q f (ToGroup group) h = f group h
-sends_more p q f (SetNwTtl ttl) h = h
-sends_more p q f DecNwTtl h = h
-sends_more p q f (SetField field value) h = h
+sends_more p q f other h = h
 
 pub any_sends_more : (p q : ℕ → Bool) → ((n : ℕ) → q n ≡ true → p n ≡ true) → (buckets : List Bucket) → any_sends q buckets ≡ true → any_sends p buckets ≡ true
 any_sends_more p q f buckets h =
@@ -95,13 +90,8 @@ any_passing {X} p (x ∷ xs) h = by_test (p x) refl (any_passing p xs) h
     by_test false e again t = let r = again t in (r.0, r.1, λ q is. or_true (q x) (list_any q xs) (r.2 q is))
 
 sent_number : (p : ℕ → Bool) (a : Action) → sends p a ≡ true → (m : ℕ) × (sends (λ n. eqb n m) a ≡ true) × (p m ≡ true)
-sent_number p (Output port max_len) h = absurd (cc)
-sent_number p (PushVlan type) h = absurd (cc)
-sent_number p PopVlan h = absurd (cc)
 sent_number p (ToGroup group) h = (group, grind (arith, nat_tests, eqb_tells group group), h)
-sent_number p (SetNwTtl ttl) h = absurd (cc)
-sent_number p DecNwTtl h = absurd (cc)
-sent_number p (SetField field value) h = absurd (cc)
+sent_number p other h = absurd (cc)
 
 pub any_sent_number : (p : ℕ → Bool) (buckets : List Bucket) → any_sends p buckets ≡ true → (m : ℕ) × (any_sends (λ n. eqb n m) buckets ≡ true) × (p m ≡ true)
 any_sent_number p buckets h =

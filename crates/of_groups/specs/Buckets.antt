@@ -2,7 +2,7 @@
 use Rattle.std.specs.Prelude.{ℕ, zero, suc, ◌+◌, ◌%◌, ◌^◌, ◌==◌, nat_le, nat_lt, Bool, false, not, ◌&&◌, ◌||◌, List, [], ◌∷◌, length}
 use Rattle.std.specs.List.{list_any, list_all}
 use Rattle.of_actions.specs.declared.action.Action.{Action}
-use Rattle.of_actions.specs.declared.action.Action.TheVariants.{Output, PushVlan, PopVlan, Group, SetNwTtl, DecNwTtl, SetField}
+use Rattle.of_actions.specs.declared.action.Action.TheVariants.{Group}
 use Rattle.of_actions.specs.Served.{are_served}
 use Rattle.of_actions.specs.PortNumbers.{is_number}
 use Rattle.of_groups.specs.declared.bucket.Bucket.{Bucket}
@@ -33,13 +33,8 @@ used_at (suc place) bytes (b ∷ buckets) = b ∷ used_at place bytes buckets
 
 -- an action that gives the packet to a group of such a number
 abbrev pub sends : (ℕ → Bool) → Action → Bool
-sends is_so (Output port max_len) = false
-sends is_so (PushVlan type) = false
-sends is_so PopVlan = false
 sends is_so (Group group) = is_so group
-sends is_so (SetNwTtl ttl) = false
-sends is_so DecNwTtl = false
-sends is_so (SetField field value) = false
+sends is_so other = false
 
 -- some action of some bucket does
 abbrev pub any_sends : (ℕ → Bool) → List Bucket → Bool
@@ -53,9 +48,13 @@ none_watched = 0xffffffff
 abbrev pub watches : (ℕ → Bool) → Bucket → Bool
 watches is_so b = not (b.watch_group == none_watched) && is_so b.watch_group
 
+-- OFPG_MAX, the highest number of a group (6.5)
+abbrev pub group_max : ℕ
+group_max = 0xffffff00
+
 -- what a bucket of FAST-FAILOVER watches can be: a port of the switch, a group, or both, and nothing else
 abbrev pub is_badly_watched : Bucket → Bool
 is_badly_watched b =
     (not (b.watch_port == none_watched) && not (is_number b.watch_port))
-    || (not (b.watch_group == none_watched) && nat_lt 0xffffff00 b.watch_group)
+    || (not (b.watch_group == none_watched) && nat_lt group_max b.watch_group)
     || ((b.watch_port == none_watched) && (b.watch_group == none_watched))

@@ -9,11 +9,11 @@ ghost use Rattle.of_groups.specs.Faults.{fault_in, is_bad_watch, is_not_one, nam
 
 use crate::bucket::Bucket;
 use crate::chains::{MOST_GROUPS, makes_long};
-use crate::group::{Group, GroupKind};
+use crate::group::{GROUP_MAX, Group, GroupKind};
 use crate::group_fault::GroupFault;
 use crate::lookup::is_there;
 use crate::naming::{NONE_WATCHED, NumberTest, any_sends, any_watches};
-use of_actions::{PORT_MAX, is_number};
+use of_actions::is_number;
 
 /// Whether no group of a number is there, with the new one among them.
 #[derive(Drop)]
@@ -34,7 +34,7 @@ fn is_badly_watched(bucket: &Bucket) -> bool
     ensures { result ≡ watches_badly bucket.now }
 {
     (bucket.watch_port != NONE_WATCHED && !is_number(bucket.watch_port))
-        || (bucket.watch_group != NONE_WATCHED && bucket.watch_group > PORT_MAX)
+        || (bucket.watch_group != NONE_WATCHED && bucket.watch_group > GROUP_MAX)
         || (bucket.watch_port == NONE_WATCHED && bucket.watch_group == NONE_WATCHED)
 }
 

@@ -1,5 +1,5 @@
 -- Field maps: the value of each field, or none where it is absent (OpenFlow 1.3.5, 5.3 and 7.2.3.7).
-use Rattle.std.specs.Prelude.{ℕ, ◌+◌, ◌==◌, if◌then◌else◌, List, [], ◌∷◌, slice_index, bit_and, Option, Some, None}
+use Rattle.std.specs.Prelude.{ℕ, ◌+◌, ◌==◌, if◌then◌else◌, slice_index, bit_and, Option, Some, None}
 use Rattle.std.specs.Int.{bit_at}
 use Rattle.of_layers.specs.declared.field.Field.{Field}
 use Rattle.of_layers.specs.declared.field.Field.TheVariants.{InPort, Metadata, VlanVid}
@@ -7,6 +7,7 @@ use Rattle.of_layers.specs.Fields.{number_of}
 use Rattle.of_layers.specs.Layers.{Layers, cells}
 use Rattle.of_layers.specs.Looking.{look}
 use Rattle.of_headers.specs.declared.key.FieldKey.{FieldKey}
+use Rattle.of_headers.specs.Numbers.{numbers_in}
 
 -- ---- the field map of a frame
 
@@ -24,19 +25,12 @@ field_map l port metadata f = look f (cells l)
 
 -- ---- a key as a field map
 
--- the numbers of a key, each in the place of its field's number; no field has the numbers 1, 17 and 18
-abbrev pub numbers_in : FieldKey → List ℕ
-numbers_in k =
-    k.in_port ∷ 0 ∷ k.metadata ∷ k.eth_dst ∷ k.eth_src ∷ k.eth_type ∷ k.vlan_vid ∷ k.vlan_pcp ∷ k.ip_dscp ∷ k.ip_ecn ∷ k.ip_proto ∷ k.ipv4_src ∷ k.ipv4_dst
-    ∷ k.tcp_src ∷ k.tcp_dst ∷ k.udp_src ∷ k.udp_dst ∷ 0 ∷ 0 ∷ k.icmpv4_type ∷ k.icmpv4_code ∷ k.arp_op ∷ k.arp_spa ∷ k.arp_tpa ∷ k.arp_sha ∷ k.arp_tha
-    ∷ k.ipv6_src ∷ k.ipv6_dst ∷ k.ipv6_flabel ∷ k.icmpv6_type ∷ k.icmpv6_code ∷ []
-
 -- a number, if the word says that it is there
 abbrev pub there : ℕ → ℕ → ℕ → Option ℕ
 there present n v = if bit_at present n == 1 then Some v else None
 
 unfoldable pub value : FieldKey → Field → Option ℕ
-value k f = there k.present (number_of f) (slice_index (numbers_in k) (number_of f))
+value k f = there k.numbers.present (number_of f) (slice_index (numbers_in k.numbers) (number_of f))
 
 -- ---- what is seen of a field under a mask, if any: nothing where no mask is, else whether it is there, and the bits under the mask
 

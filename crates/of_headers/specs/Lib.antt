@@ -1,3 +1,4 @@
+pub mod Numbers
 pub mod Presence
 pub mod FieldMap
 pub mod Places

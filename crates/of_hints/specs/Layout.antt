@@ -16,8 +16,4 @@ IsFault Space line = Unit {0}
 
 abbrev pub IsSo : Hint → List ℕ → Type 0
 IsSo (hints.Layout fault) line = IsFault fault line
-IsSo hints.UnknownRow line = Unit {0}
-IsSo hints.UnknownLine line = Unit {0}
-IsSo (hints.Words fault) line = Unit {0}
-IsSo hints.Controller line = Unit {0}
-IsSo (hints.Order order) line = Unit {0}
+IsSo other line = Unit {0}

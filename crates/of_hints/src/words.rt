@@ -2,7 +2,6 @@
 
 use crate::forms::{Form, Word};
 use of_layers::Field;
-use of_text::name;
 use thiserror::Error;
 
 /// What is wrong with the words of a line. Words count from 1.
@@ -101,7 +100,7 @@ fn field_named(word: &[u8]) -> Option<Field> {
     Field::ALL
         .iter()
         .copied()
-        .find(|field| name(*field) == word)
+        .find(|field| field.name() == word)
 }
 
 // The fault where the test fails.

@@ -1,6 +1,6 @@
 -- The match fields (OpenFlow 1.3.5, 7.2.3.7): their numbers, their bits, the bytes of a value,
 -- whether a mask may stand (7.2.3.5), whether a set-field action may set them (5.12), and what they need (7.2.3.6).
-use Rattle.std.specs.Prelude.{ℕ, ◌^◌, ◌-◌, Bool, true, false, ◌==◌, Option, find}
+use Rattle.std.specs.Prelude.{ℕ, ◌^◌, ◌-◌, Bool, true, false, ◌==◌, List, codes, Option, find}
 use Rattle.of_layers.specs.declared.field.Field.{Field}
 use Rattle.of_layers.specs.declared.field.Field.TheVariants.{InPort, Metadata, EthDst, EthSrc, EthType, VlanVid, VlanPcp, IpDscp, IpEcn, IpProto, Ipv4Src, Ipv4Dst, TcpSrc, TcpDst, UdpSrc, UdpDst, Icmpv4Type, Icmpv4Code, ArpOp, ArpSpa, ArpTpa, ArpSha, ArpTha, Ipv6Src, Ipv6Dst, Ipv6Flabel, Icmpv6Type, Icmpv6Code}
 use Rattle.of_layers.specs.declared.field.Need.{Need}
@@ -56,6 +56,37 @@ row_of Ipv6Flabel = row 28 20 4 masks sets Ipv6
 row_of Icmpv6Type = row 29 8 1 plain sets Icmpv6
 row_of Icmpv6Code = row 30 8 1 plain sets Icmpv6
 
+-- their names in lower case
+unfoldable pub name_of : Field → List ℕ
+name_of InPort = codes "in_port"
+name_of Metadata = codes "metadata"
+name_of EthDst = codes "eth_dst"
+name_of EthSrc = codes "eth_src"
+name_of EthType = codes "eth_type"
+name_of VlanVid = codes "vlan_vid"
+name_of VlanPcp = codes "vlan_pcp"
+name_of IpDscp = codes "ip_dscp"
+name_of IpEcn = codes "ip_ecn"
+name_of IpProto = codes "ip_proto"
+name_of Ipv4Src = codes "ipv4_src"
+name_of Ipv4Dst = codes "ipv4_dst"
+name_of TcpSrc = codes "tcp_src"
+name_of TcpDst = codes "tcp_dst"
+name_of UdpSrc = codes "udp_src"
+name_of UdpDst = codes "udp_dst"
+name_of Icmpv4Type = codes "icmpv4_type"
+name_of Icmpv4Code = codes "icmpv4_code"
+name_of ArpOp = codes "arp_op"
+name_of ArpSpa = codes "arp_spa"
+name_of ArpTpa = codes "arp_tpa"
+name_of ArpSha = codes "arp_sha"
+name_of ArpTha = codes "arp_tha"
+name_of Ipv6Src = codes "ipv6_src"
+name_of Ipv6Dst = codes "ipv6_dst"
+name_of Ipv6Flabel = codes "ipv6_flabel"
+name_of Icmpv6Type = codes "icmpv6_type"
+name_of Icmpv6Code = codes "icmpv6_code"
+
 abbrev pub number_of : Field → ℕ
 number_of f = (row_of f).number
 
@@ -77,6 +108,10 @@ is_settable f = (row_of f).settable
 abbrev pub need_of : Field → Need
 need_of f = (row_of f).need
 
+-- each field once, by rising number
+abbrev pub all_fields : List Field
+all_fields = constants.ALL
+
 -- the field that has a number
 unfoldable pub field_at : ℕ → Option Field
-field_at n = find (λ f. number_of f == n) constants.ALL
+field_at n = find (λ f. number_of f == n) all_fields

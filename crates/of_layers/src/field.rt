@@ -1,7 +1,7 @@
 //! The match fields of OpenFlow 1.3.5 and their table (7.2.3.7).
 
 ghost use Rattle.std.specs.Prelude.{◌≡◌, ◌≤◌, ◌<◌};
-ghost use Rattle.of_layers.specs.Fields.{row_of, field_at};
+ghost use Rattle.of_layers.specs.Fields.{name_of, row_of, number_of, field_at};
 
 /// What a field needs elsewhere in its match (OpenFlow 1.3.5, 7.2.3.6).
 #[derive(Clone, Copy, Debug, PartialEq, Eq)]
@@ -27,37 +27,37 @@ pub enum Need {
     Icmpv6,
 }
 
-/// A field that a match can name (OpenFlow 1.3.5, 7.2.3.7).
+/// A field that a match can name, with its number in the class `OFPXMC_OPENFLOW_BASIC` (OpenFlow 1.3.5, 7.2.3.7).
 #[derive(Clone, Copy, Debug, PartialEq, Eq)]
 pub enum Field {
-    InPort,
-    Metadata,
-    EthDst,
-    EthSrc,
-    EthType,
-    VlanVid,
-    VlanPcp,
-    IpDscp,
-    IpEcn,
-    IpProto,
-    Ipv4Src,
-    Ipv4Dst,
-    TcpSrc,
-    TcpDst,
-    UdpSrc,
-    UdpDst,
-    Icmpv4Type,
-    Icmpv4Code,
-    ArpOp,
-    ArpSpa,
-    ArpTpa,
-    ArpSha,
-    ArpTha,
-    Ipv6Src,
-    Ipv6Dst,
-    Ipv6Flabel,
-    Icmpv6Type,
-    Icmpv6Code,
+    InPort = 0,
+    Metadata = 2,
+    EthDst = 3,
+    EthSrc = 4,
+    EthType = 5,
+    VlanVid = 6,
+    VlanPcp = 7,
+    IpDscp = 8,
+    IpEcn = 9,
+    IpProto = 10,
+    Ipv4Src = 11,
+    Ipv4Dst = 12,
+    TcpSrc = 13,
+    TcpDst = 14,
+    UdpSrc = 15,
+    UdpDst = 16,
+    Icmpv4Type = 19,
+    Icmpv4Code = 20,
+    ArpOp = 21,
+    ArpSpa = 22,
+    ArpTpa = 23,
+    ArpSha = 24,
+    ArpTha = 25,
+    Ipv6Src = 26,
+    Ipv6Dst = 27,
+    Ipv6Flabel = 28,
+    Icmpv6Type = 29,
+    Icmpv6Code = 30,
 }
 
 /// What the table of fields says of one field (OpenFlow 1.3.5, 7.2.3.7).
@@ -133,6 +133,14 @@ impl Field {
         Field::Icmpv6Code,
     ];
 
+    /// The field's number in the class `OFPXMC_OPENFLOW_BASIC`.
+    #[tactic(auto, unfolding(crate::specs::Fields::row_of))]
+    pub fn number(self) -> u8
+        ensures { result ≡ number_of self }
+    {
+        self as u8
+    }
+
     /// The field's row of the table.
     #[tactic(auto, unfolding(crate::specs::Fields::row_of))]
     pub fn row(self) -> FieldRow
@@ -141,32 +149,41 @@ impl Field {
         ensures most { result.bytes ≤ 16 }
         ensures low { result.number < 31 }
     {
+        let number = self.number();
         match self {
-            Field::InPort => make_row(0, 32, 4, 0xffffffff, false, false, Need::Nothing),
-            Field::Metadata => make_row(2, 64, 8, 0xffffffffffffffff, true, false, Need::Nothing),
-            Field::EthDst => make_row(3, 48, 6, 0xffffffffffff, true, true, Need::Nothing),
-            Field::EthSrc => make_row(4, 48, 6, 0xffffffffffff, true, true, Need::Nothing),
-            Field::EthType => make_row(5, 16, 2, 0xffff, false, false, Need::Nothing),
-            Field::VlanVid => make_row(6, 13, 2, 0x1fff, true, true, Need::Nothing),
-            Field::VlanPcp => make_row(7, 3, 1, 0x7, false, true, Need::Tag),
-            Field::IpDscp => make_row(8, 6, 1, 0x3f, false, true, Need::Ip),
-            Field::IpEcn => make_row(9, 2, 1, 0x3, false, true, Need::Ip),
-            Field::IpProto => make_row(10, 8, 1, 0xff, false, false, Need::Ip),
-            Field::Ipv4Src => make_row(11, 32, 4, 0xffffffff, true, true, Need::Ipv4),
-            Field::Ipv4Dst => make_row(12, 32, 4, 0xffffffff, true, true, Need::Ipv4),
-            Field::TcpSrc => make_row(13, 16, 2, 0xffff, false, true, Need::Tcp),
-            Field::TcpDst => make_row(14, 16, 2, 0xffff, false, true, Need::Tcp),
-            Field::UdpSrc => make_row(15, 16, 2, 0xffff, false, true, Need::Udp),
-            Field::UdpDst => make_row(16, 16, 2, 0xffff, false, true, Need::Udp),
-            Field::Icmpv4Type => make_row(19, 8, 1, 0xff, false, true, Need::Icmpv4),
-            Field::Icmpv4Code => make_row(20, 8, 1, 0xff, false, true, Need::Icmpv4),
-            Field::ArpOp => make_row(21, 16, 2, 0xffff, false, true, Need::Arp),
-            Field::ArpSpa => make_row(22, 32, 4, 0xffffffff, true, true, Need::Arp),
-            Field::ArpTpa => make_row(23, 32, 4, 0xffffffff, true, true, Need::Arp),
-            Field::ArpSha => make_row(24, 48, 6, 0xffffffffffff, true, true, Need::Arp),
-            Field::ArpTha => make_row(25, 48, 6, 0xffffffffffff, true, true, Need::Arp),
+            Field::InPort => make_row(number, 32, 4, 0xffffffff, false, false, Need::Nothing),
+            Field::Metadata => make_row(
+                number,
+                64,
+                8,
+                0xffffffffffffffff,
+                true,
+                false,
+                Need::Nothing,
+            ),
+            Field::EthDst => make_row(number, 48, 6, 0xffffffffffff, true, true, Need::Nothing),
+            Field::EthSrc => make_row(number, 48, 6, 0xffffffffffff, true, true, Need::Nothing),
+            Field::EthType => make_row(number, 16, 2, 0xffff, false, false, Need::Nothing),
+            Field::VlanVid => make_row(number, 13, 2, 0x1fff, true, true, Need::Nothing),
+            Field::VlanPcp => make_row(number, 3, 1, 0x7, false, true, Need::Tag),
+            Field::IpDscp => make_row(number, 6, 1, 0x3f, false, true, Need::Ip),
+            Field::IpEcn => make_row(number, 2, 1, 0x3, false, true, Need::Ip),
+            Field::IpProto => make_row(number, 8, 1, 0xff, false, false, Need::Ip),
+            Field::Ipv4Src => make_row(number, 32, 4, 0xffffffff, true, true, Need::Ipv4),
+            Field::Ipv4Dst => make_row(number, 32, 4, 0xffffffff, true, true, Need::Ipv4),
+            Field::TcpSrc => make_row(number, 16, 2, 0xffff, false, true, Need::Tcp),
+            Field::TcpDst => make_row(number, 16, 2, 0xffff, false, true, Need::Tcp),
+            Field::UdpSrc => make_row(number, 16, 2, 0xffff, false, true, Need::Udp),
+            Field::UdpDst => make_row(number, 16, 2, 0xffff, false, true, Need::Udp),
+            Field::Icmpv4Type => make_row(number, 8, 1, 0xff, false, true, Need::Icmpv4),
+            Field::Icmpv4Code => make_row(number, 8, 1, 0xff, false, true, Need::Icmpv4),
+            Field::ArpOp => make_row(number, 16, 2, 0xffff, false, true, Need::Arp),
+            Field::ArpSpa => make_row(number, 32, 4, 0xffffffff, true, true, Need::Arp),
+            Field::ArpTpa => make_row(number, 32, 4, 0xffffffff, true, true, Need::Arp),
+            Field::ArpSha => make_row(number, 48, 6, 0xffffffffffff, true, true, Need::Arp),
+            Field::ArpTha => make_row(number, 48, 6, 0xffffffffffff, true, true, Need::Arp),
             Field::Ipv6Src => make_row(
-                26,
+                number,
                 128,
                 16,
                 0xffffffffffffffffffffffffffffffff,
@@ -175,7 +192,7 @@ impl Field {
                 Need::Ipv6,
             ),
             Field::Ipv6Dst => make_row(
-                27,
+                number,
                 128,
                 16,
                 0xffffffffffffffffffffffffffffffff,
@@ -183,9 +200,46 @@ impl Field {
                 true,
                 Need::Ipv6,
             ),
-            Field::Ipv6Flabel => make_row(28, 20, 4, 0xfffff, true, true, Need::Ipv6),
-            Field::Icmpv6Type => make_row(29, 8, 1, 0xff, false, true, Need::Icmpv6),
-            Field::Icmpv6Code => make_row(30, 8, 1, 0xff, false, true, Need::Icmpv6),
+            Field::Ipv6Flabel => make_row(number, 20, 4, 0xfffff, true, true, Need::Ipv6),
+            Field::Icmpv6Type => make_row(number, 8, 1, 0xff, false, true, Need::Icmpv6),
+            Field::Icmpv6Code => make_row(number, 8, 1, 0xff, false, true, Need::Icmpv6),
+        }
+    }
+
+    /// The field's name, in lower case.
+    #[tactic(auto, unfolding(crate::specs::Fields::name_of))]
+    pub fn name(self) -> &'static [u8]
+        ensures { result.now ≡ name_of self }
+    {
+        match self {
+            Field::InPort => b"in_port",
+            Field::Metadata => b"metadata",
+            Field::EthDst => b"eth_dst",
+            Field::EthSrc => b"eth_src",
+            Field::EthType => b"eth_type",
+            Field::VlanVid => b"vlan_vid",
+            Field::VlanPcp => b"vlan_pcp",
+            Field::IpDscp => b"ip_dscp",
+            Field::IpEcn => b"ip_ecn",
+            Field::IpProto => b"ip_proto",
+            Field::Ipv4Src => b"ipv4_src",
+            Field::Ipv4Dst => b"ipv4_dst",
+            Field::TcpSrc => b"tcp_src",
+            Field::TcpDst => b"tcp_dst",
+            Field::UdpSrc => b"udp_src",
+            Field::UdpDst => b"udp_dst",
+            Field::Icmpv4Type => b"icmpv4_type",
+            Field::Icmpv4Code => b"icmpv4_code",
+            Field::ArpOp => b"arp_op",
+            Field::ArpSpa => b"arp_spa",
+            Field::ArpTpa => b"arp_tpa",
+            Field::ArpSha => b"arp_sha",
+            Field::ArpTha => b"arp_tha",
+            Field::Ipv6Src => b"ipv6_src",
+            Field::Ipv6Dst => b"ipv6_dst",
+            Field::Ipv6Flabel => b"ipv6_flabel",
+            Field::Icmpv6Type => b"icmpv6_type",
+            Field::Icmpv6Code => b"icmpv6_code",
         }
     }
 
@@ -194,9 +248,6 @@ impl Field {
     pub fn from_number(number: u8) -> Option<Field>
         ensures { result ≡ field_at number }
     {
-        Field::ALL
-            .iter()
-            .copied()
-            .find(|f| f.row().number == number)
+        Field::ALL.iter().copied().find(|f| f.number() == number)
     }
 }

@@ -10,7 +10,7 @@ use Rattle.of_rewrite.specs.Aging.{ttl_of, answer_to}
 use Rattle.of_rewrite.specs.Frames.{IsFrame, frame_aged}
 use Rattle.of_rewrite.proofs.Framing.{set_frame, ttl_frame, aged_frame, pushed_frame, popped_frame}
 use Rattle.of_actions.specs.declared.action.Action.{Action}
-use Rattle.of_actions.specs.declared.action.Action.TheVariants.{Output, PushVlan, PopVlan, Group, SetNwTtl, DecNwTtl, SetField}
+use Rattle.of_actions.specs.declared.action.Action.TheVariants.{Output, PushVlan, Group, DecNwTtl}
 use Rattle.of_actions.specs.declared.instruction.Instruction.{Instruction}
 use Rattle.of_actions.specs.declared.instruction.Instruction.TheVariants.{Apply, Clear, Write, Metadata, Goto}
 use Rattle.of_actions.specs.InstructionLists.{run_place, is_served_body}
@@ -100,12 +100,9 @@ module _ (most : ℕ) (p : Packet) (low : length p.frame ≤ most) where
   row_short w (Do (Goto t) ∷ rest) = tt
   row_short w (RunSet ∷ rest) = tt
   row_short w (Act (Output port max_len) ∷ rest) = output_short w rest (Output port max_len) port (port == table) refl
-  row_short w (Act (PushVlan type) ∷ rest) = tt
-  row_short w (Act PopVlan ∷ rest) = tt
   row_short w (Act (Group g) ∷ rest) = group_short w rest g (w.chosen g)
-  row_short w (Act (SetNwTtl ttl) ∷ rest) = tt
   row_short w (Act DecNwTtl ∷ rest) = aged_short rest (answer_to (ttl_of (layers_of p.frame)))
-  row_short w (Act (SetField f v) ∷ rest) = tt
+  row_short w (Act other ∷ rest) = tt
 
 -- ---- pushes of lists
 
@@ -117,12 +114,8 @@ module _ (w : TheWorld) where
   -- an action of a flow, whose groups have chains of at most m
   act_room : (m : ℕ) (a : Action) (later : ℕ) → IsBelow w (suc m) a → IsTrue (is_served false a) → act_pushes w a later ≤ 1 + max m later
   act_room m (Output port max_len) later h served = rw (out_of_tables port max_len served) (omega arith)
-  act_room m (PushVlan type) later h served = omega arith
-  act_room m PopVlan later h served = omega arith
   act_room m (Group g) later h served = let le : w.chain g < suc m = h in omega arith
-  act_room m (SetNwTtl ttl) later h served = omega arith
-  act_room m DecNwTtl later h served = omega arith
-  act_room m (SetField f v) later h served = omega arith
+  act_room m other later h served = omega arith
 
   list_room : (m : ℕ) (l : List Action) (later : ℕ) → AllBelow w (suc m) l → IsTrue (list_all (is_served false) l) → list_pushes w l later ≤ length l + max m later
   list_room m [] later h served = omega arith
@@ -143,11 +136,8 @@ module _ (w : TheWorld) where
       by_action : (a : Action) → nat_lt 1 (rank a) ≡ true → is_served false a ≡ true → IsBelow w (suc m) a → list_pushes w s 0 ≤ m → list_pushes w (a ∷ s) 0 ≤ m
       by_action (Output port max_len) e here h ih = rw (out_of_tables port max_len here) ih
       by_action (PushVlan type) e here h ih = absurd cc
-      by_action PopVlan e here h ih = ih
       by_action (Group g) e here h ih = let le : w.chain g < suc m = h in omega arith
-      by_action (SetNwTtl ttl) e here h ih = ih
-      by_action DecNwTtl e here h ih = ih
-      by_action (SetField f v) e here h ih = ih
+      by_action other e here h ih = ih
 
   rising_room : (m : ℕ) (s : List Action) → IsTrue (is_rising rank s) → IsTrue (list_all (is_served false) s) → AllBelow w (suc m) s → list_pushes w s 0 ≤ 1 + m
   rising_room m [] rising served below = omega arith
@@ -159,11 +149,8 @@ module _ (w : TheWorld) where
       by_action : (a : Action) → list_all (λ y. nat_lt (rank a) (rank y)) s ≡ true → is_served false a ≡ true → list_all (is_served false) s ≡ true → IsBelow w (suc m) a → AllBelow w (suc m) s → list_pushes w s 0 ≤ 1 + m → list_pushes w (a ∷ s) 0 ≤ 1 + m
       by_action (Output port max_len) high here others h hs ih = rw (out_of_tables port max_len here) ih
       by_action (PushVlan type) high here others h hs ih = let x = tail_room m s high others hs in omega arith
-      by_action PopVlan high here others h hs ih = ih
       by_action (Group g) high here others h hs ih = let le : w.chain g < suc m = h in omega arith
-      by_action (SetNwTtl ttl) high here others h hs ih = ih
-      by_action DecNwTtl high here others h hs ih = ih
-      by_action (SetField f v) high here others h hs ih = ih
+      by_action other high here others h hs ih = ih
 
   set_room : (m : ℕ) (s : List Action) → IsSet s → AllBelow w (suc m) s → list_pushes w (in_order s) 0 ≤ 1 + m
   set_room m s h below = let k = run_set s h in rising_room m (in_order s) k.rising k.served (order_below w (suc m) s below)
@@ -229,6 +216,9 @@ module _ (w : TheWorld) where
     aged_low b p rest Absent frame room = one_low b p rest frame room
 
     -- a frame that is as long, or less
+    as_long : (f g : List ℕ) → (length f ≡ length g) × IsFrame f → (length f ≤ length g) × IsFrame f
+    as_long f g h = let same = h.0 in (omega (arith, same), h.1)
+
     rewritten_low : (b : ℕ) (p : Packet) (rest : List Work) (a : Action) → (length (rewritten a p.frame) ≤ length p.frame) × IsFrame (rewritten a p.frame) → length p.frame + 4 * work_pushes w p.action_set rest ≤ b → AllLow w b (task (record p { frame = rewritten a p.frame }) rest ∷ [])
     rewritten_low b p rest a k room = one_low b (record p { frame = rewritten a p.frame }) rest k.1 (let le = k.0 in omega (arith, le, room))
 
@@ -250,11 +240,9 @@ module _ (w : TheWorld) where
         let k = pushed_frame type p.frame low.frame in
         let room = low.room in
         one_low b (record p { frame = rewritten (PushVlan type) p.frame }) rest k.1 (let longer = k.0 in omega (arith, longer, room))
-    row_low b p (Act PopVlan ∷ rest) set fit low = rewritten_low b p rest PopVlan (popped_frame p.frame low.frame) low.room
     row_low b p (Act (Group g) ∷ rest) set fit low = group_low b g p rest (w.chosen g) refl low.frame low.room
-    row_low b p (Act (SetNwTtl ttl) ∷ rest) set fit low = let k = ttl_frame ttl p.frame low.frame in rewritten_low b p rest (SetNwTtl ttl) (let same = k.0 in omega (arith, same), k.1) low.room
     row_low b p (Act DecNwTtl ∷ rest) set fit low = aged_low b p rest (answer_to (ttl_of (layers_of p.frame))) low.frame low.room
-    row_low b p (Act (SetField f v) ∷ rest) set fit low = let k = set_frame f v p.frame low.frame in rewritten_low b p rest (SetField f v) (let same = k.0 in omega (arith, same), k.1) low.room
+    row_low b p (Act other ∷ rest) set fit low = rewritten_low b p rest other (search (as_long, popped_frame, ttl_frame, set_frame, low.frame)) low.room
 
     -- ---- the whole run
 
@@ -290,12 +278,8 @@ module _ (w : TheWorld) where
 
     act_more : (a : Action) (later : ℕ) → act_pushes w a later ≤ 1 + max (table_pushes 0) later
     act_more (Output port max_len) later = output_more port later (port == table) refl
-    act_more (PushVlan type) later = omega arith
-    act_more PopVlan later = omega arith
     act_more (Group g) later = let le : w.chain g ≤ longest = sound.short g in omega (arith, le)
-    act_more (SetNwTtl ttl) later = omega arith
-    act_more DecNwTtl later = omega arith
-    act_more (SetField f v) later = omega arith
+    act_more other later = omega arith
 
     acts_more : (l : List Action) (s : List Action) → work_pushes w s (acts l) ≤ length l + table_pushes 0
     acts_more [] s = omega arith

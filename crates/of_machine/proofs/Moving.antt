@@ -8,14 +8,14 @@ use Rattle.of_rewrite.specs.declared.frame.Ttl.TheVariants.{Done, Expired, Absen
 use Rattle.of_rewrite.specs.Aging.{ttl_of, answer_to}
 use Rattle.of_rewrite.specs.Frames.{IsFrame, frame_aged}
 use Rattle.of_actions.specs.declared.action.Action.{Action}
-use Rattle.of_actions.specs.declared.action.Action.TheVariants.{Output, PushVlan, PopVlan, Group as ToGroup, SetNwTtl, DecNwTtl, SetField}
+use Rattle.of_actions.specs.declared.action.Action.TheVariants.{Output, Group as ToGroup, DecNwTtl}
 use Rattle.of_actions.specs.PortNumbers.{table}
 use Rattle.of_actions.specs.declared.instruction.Instruction.{Instruction}
 use Rattle.of_actions.specs.declared.instruction.Instruction.TheVariants.{Apply, Clear, Write, Metadata, Goto}
 use Rattle.of_action_set.specs.Sets.{with_actions, in_order}
 use Rattle.of_table.specs.declared.flow.Flow.{Flow}
 use Rattle.of_machine.specs.declared.data.Packet.{Packet}
-use Rattle.of_machine.specs.declared.data.PacketInReason.TheVariants.{InvalidTtl}
+use Rattle.of_wire.specs.declared.reasons.PacketInReason.TheVariants.{InvalidTtl}
 use Rattle.of_machine.specs.declared.data.Count.TheVariants.{Lookup as CountLookup, Matched, Group as CountGroup, Bucket}
 use Rattle.of_machine.specs.declared.data.Step.{Step}
 use Rattle.of_machine.specs.declared.data.Step.TheVariants.{Miss, Entry, Apply as DidApply, Clear as DidClear, Write as DidWrite, Metadata as DidMetadata, Goto as DidGoto, Set as DidSet, Act as DidAct, TtlExpired, End}
@@ -62,12 +62,7 @@ module _ (w : TheWorld) (keeps : Bool) (p : Packet) (rest : List Work) (others :
 
   tables_is : (a : Action) → IsTrue (is_to_tables a) → act_row w p rest a ≡ table_row p rest a
   tables_is (Output port max_len) e = rw e refl
-  tables_is (PushVlan type) e = cc
-  tables_is PopVlan e = cc
-  tables_is (ToGroup g) e = cc
-  tables_is (SetNwTtl ttl) e = cc
-  tables_is DecNwTtl e = cc
-  tables_is (SetField f v) e = cc
+  tables_is other e = cc
 
   pub dispatches : (a : Action) → IsTrue (is_to_tables a) → (keeps ≡ true → told' ≡ told ++ DidAct a ∷ []) →
       Moves w keeps (point (task p (Act a ∷ rest) ∷ others) o told) (point (task (fresh p) (Lookup 0 ∷ []) ∷ task p rest ∷ others) o told')
@@ -77,12 +72,9 @@ module _ (w : TheWorld) (keeps : Bool) (p : Packet) (rest : List Work) (others :
   pub rewrites : (a : Action) → ((port max_len : ℕ) → a ≢ Output port max_len) → ((g : ℕ) → a ≢ ToGroup g) → a ≢ DecNwTtl → (frame : List ℕ) → frame ≡ rewritten a p.frame → (keeps ≡ true → told' ≡ told ++ DidAct a ∷ []) →
       Moves w keeps (point (task p (Act a ∷ rest) ∷ others) o told) (point (task (record p { frame = frame }) rest ∷ others) o told')
   rewrites (Output port max_len) not_output not_group not_dec frame e = absurd (not_output port max_len refl)
-  rewrites (PushVlan type) not_output not_group not_dec frame e = rw e (quiet (Act (PushVlan type) ∷ rest) (DidAct (PushVlan type)) (record p { frame = rewritten (PushVlan type) p.frame }) rest refl)
-  rewrites PopVlan not_output not_group not_dec frame e = rw e (quiet (Act PopVlan ∷ rest) (DidAct PopVlan) (record p { frame = rewritten PopVlan p.frame }) rest refl)
   rewrites (ToGroup g) not_output not_group not_dec frame e = absurd (not_group g refl)
-  rewrites (SetNwTtl ttl) not_output not_group not_dec frame e = rw e (quiet (Act (SetNwTtl ttl) ∷ rest) (DidAct (SetNwTtl ttl)) (record p { frame = rewritten (SetNwTtl ttl) p.frame }) rest refl)
   rewrites DecNwTtl not_output not_group not_dec frame e = absurd (not_dec refl)
-  rewrites (SetField f v) not_output not_group not_dec frame e = rw e (quiet (Act (SetField f v) ∷ rest) (DidAct (SetField f v)) (record p { frame = rewritten (SetField f v) p.frame }) rest refl)
+  rewrites other not_output not_group not_dec frame e = rw e (quiet (Act other ∷ rest) (DidAct other) (record p { frame = rewritten other p.frame }) rest refl)
 
   aged_is : (answer : Ttl) → answer ≡ answer_to (ttl_of (layers_of p.frame)) → act_row w p rest DecNwTtl ≡ aged_row p rest answer
   aged_is answer e = rw (← e) refl

@@ -8,7 +8,7 @@ use Rattle.of_layers.specs.Fields.{is_settable, ones_of}
 use Rattle.of_layers.specs.Reading.{is_tag_type}
 use Rattle.of_layers.proofs.TestLemmas.{and_true}
 use Rattle.of_actions.specs.declared.action.Action.{Action}
-use Rattle.of_actions.specs.declared.action.Action.TheVariants.{Output, PushVlan, PopVlan, Group, SetNwTtl, DecNwTtl, SetField}
+use Rattle.of_actions.specs.declared.action.Action.TheVariants.{Output, PushVlan, Group, SetField}
 use Rattle.of_actions.specs.PortNumbers.{is_port, table}
 use Rattle.of_actions.specs.declared.instruction.Instruction.{Instruction}
 use Rattle.of_actions.specs.InstructionLists.{are_kept, is_served_body, run_place}
@@ -47,12 +47,7 @@ out_of_tables port max_len h =
 pub flow_serves : (a : Action) → IsTrue (is_served true a) → is_to_tables a ≡ false → IsTrue (is_served false a)
 unfolding is_served
 flow_serves (Output port max_len) h e = rw e at h
-flow_serves (PushVlan type) h e = h
-flow_serves PopVlan h e = h
-flow_serves (Group g) h e = h
-flow_serves (SetNwTtl ttl) h e = h
-flow_serves DecNwTtl h e = h
-flow_serves (SetField f v) h e = h
+flow_serves other h e = h
 
 pub all_at : {X : Type 0} (p : X → Bool) (l : List X) (i : ℕ) (d : X) → list_all p l ≡ true → i < length l → p (get_or l i d) ≡ true
 all_at p [] i d all lt = absurd (omega arith)
@@ -94,26 +89,16 @@ module _ (w : TheWorld) (n : ℕ) where
       by_test false = h
 
 pub action_below_more : (w : TheWorld) (m n : ℕ) (a : Action) → m ≤ n → IsBelow w m a → IsBelow w n a
-action_below_more w m n (Output port max_len) le h = tt
-action_below_more w m n (PushVlan type) le h = tt
-action_below_more w m n PopVlan le h = tt
 action_below_more w m n (Group g) le h = omega (arith, h, le)
-action_below_more w m n (SetNwTtl ttl) le h = tt
-action_below_more w m n DecNwTtl le h = tt
-action_below_more w m n (SetField f v) le h = tt
+action_below_more w m n other le h = tt
 
 pub all_below_more : (w : TheWorld) (m n : ℕ) (l : List Action) → m ≤ n → AllBelow w m l → AllBelow w n l
 all_below_more w m n [] le h = tt
 all_below_more w m n (a ∷ l) le h = (action_below_more w m n a le h.0, all_below_more w m n l le h.1)
 
 pub action_is_below : (w : TheWorld) (a : Action) → IsSound w → IsBelow w (longest + 1) a
-action_is_below w (Output port max_len) sound = tt
-action_is_below w (PushVlan type) sound = tt
-action_is_below w PopVlan sound = tt
 action_is_below w (Group g) sound = omega (arith, sound.short g)
-action_is_below w (SetNwTtl ttl) sound = tt
-action_is_below w DecNwTtl sound = tt
-action_is_below w (SetField f v) sound = tt
+action_is_below w other sound = tt
 
 pub all_are_below : (w : TheWorld) (l : List Action) → IsSound w → AllBelow w (longest + 1) l
 all_are_below w [] sound = tt

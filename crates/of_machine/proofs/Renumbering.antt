@@ -8,7 +8,7 @@ use Rattle.of_rewrite.specs.declared.frame.Ttl.{Ttl}
 use Rattle.of_rewrite.specs.declared.frame.Ttl.TheVariants.{Done, Expired, Absent}
 use Rattle.of_rewrite.specs.Aging.{ttl_of, answer_to}
 use Rattle.of_actions.specs.declared.action.Action.{Action}
-use Rattle.of_actions.specs.declared.action.Action.TheVariants.{Output, PushVlan, PopVlan, Group as ToGroup, SetNwTtl, DecNwTtl, SetField}
+use Rattle.of_actions.specs.declared.action.Action.TheVariants.{Output, Group as ToGroup, DecNwTtl}
 use Rattle.of_actions.specs.declared.instruction.Instruction.TheVariants.{Apply, Clear, Write, Metadata, Goto}
 use Rattle.of_actions.specs.PortNumbers.{in_port, table, flood, all, controller}
 use Rattle.of_action_set.specs.Sets.{with_actions, in_order}
@@ -94,12 +94,9 @@ module _ (number : ℕ → ℕ → ℕ) (w v : TheWorld) (h : IsRenumbered numbe
 
   act_is : (p : Packet) (rest : List Work) (a : Action) → act_row v p rest a ≡ renumbered_row (act_row w p rest a)
   act_is p rest (Output port max_len) = output_is p rest (Output port max_len) port
-  act_is p rest (PushVlan type) = refl
-  act_is p rest PopVlan = refl
   act_is p rest (ToGroup g) = ap (group_row v p rest g) (h.chosen g) ∙ group_is p rest g (w.chosen g)
-  act_is p rest (SetNwTtl ttl) = refl
   act_is p rest DecNwTtl = aged_is p rest (answer_to (ttl_of (layers_of p.frame)))
-  act_is p rest (SetField f x) = refl
+  act_is p rest other = refl
 
   row_is : (p : Packet) (work : List Work) → row v p work ≡ renumbered_row (row w p work)
   row_is p [] = refl
@@ -128,13 +125,8 @@ module _ (number : ℕ → ℕ → ℕ) (w v : TheWorld) (h : IsRenumbered numbe
 
   -- a run has as many steps
   act_weighs : (a : Action) → act_weight v a ≡ act_weight w a
-  act_weighs (Output port max_len) = refl
-  act_weighs (PushVlan type) = refl
-  act_weighs PopVlan = refl
   act_weighs (ToGroup g) = rw (h.chain g) refl
-  act_weighs (SetNwTtl ttl) = refl
-  act_weighs DecNwTtl = refl
-  act_weighs (SetField f x) = refl
+  act_weighs other = refl
 
   acts_weigh : (l : List Action) → acts_weight v l ≡ acts_weight w l
   acts_weigh [] = refl

@@ -11,7 +11,7 @@ use Rattle.of_rewrite.specs.declared.frame.Ttl.TheVariants.{Done, Expired, Absen
 use Rattle.of_rewrite.specs.Aging.{ttl_of, answer_to}
 use Rattle.of_rewrite.specs.Frames.{frame_aged}
 use Rattle.of_actions.specs.declared.action.Action.{Action}
-use Rattle.of_actions.specs.declared.action.Action.TheVariants.{Output, PushVlan, PopVlan, Group, SetNwTtl, DecNwTtl, SetField}
+use Rattle.of_actions.specs.declared.action.Action.TheVariants.{Output, Group, DecNwTtl}
 use Rattle.of_actions.specs.declared.instruction.Instruction.{Instruction}
 use Rattle.of_actions.specs.declared.instruction.Instruction.TheVariants.{Apply, Clear, Write, Metadata, Goto}
 use Rattle.of_actions.specs.InstructionLists.{run_place, are_for, is_for, is_served_body}
@@ -114,12 +114,8 @@ module _ (w : TheWorld) where
   -- an action whose groups have chains of at most m
   act_bound : (m : ℕ) (a : Action) → IsBelow w (suc m) a → IsTrue (is_served false a) → act_weight w a ≤ 1 + 16 * copy_steps m
   act_bound m (Output port max_len) h served = let e = output_is_one port max_len served in omega arith
-  act_bound m (PushVlan type) h served = omega arith
-  act_bound m PopVlan h served = omega arith
   act_bound m (Group g) h served = let le = copies_more (w.chain g) m (omega (arith, h)) in omega arith
-  act_bound m (SetNwTtl ttl) h served = omega arith
-  act_bound m DecNwTtl h served = omega arith
-  act_bound m (SetField f v) h served = omega arith
+  act_bound m other h served = omega arith
 
   list_bound : (l : List Action) → AllBelow w (longest + 1) l → IsTrue (list_all (is_served false) l) → acts_weight w l ≤ action_steps longest * length l
   unfolding action_steps
@@ -138,12 +134,8 @@ module _ (w : TheWorld) where
     where
       by_action : (a : Action) → nat_lt 40 (rank a) ≡ true → is_served false a ≡ true → acts_weight w s ≤ length s → acts_weight w (a ∷ s) ≤ length (a ∷ s)
       by_action (Output port max_len) e here ih = let one = output_is_one port max_len here in omega arith
-      by_action (PushVlan type) e here ih = omega arith
-      by_action PopVlan e here ih = omega arith
       by_action (Group g) e here ih = absurd cc
-      by_action (SetNwTtl ttl) e here ih = omega arith
-      by_action DecNwTtl e here ih = omega arith
-      by_action (SetField f v) e here ih = omega arith
+      by_action other e here ih = omega arith
 
   -- a set has one group at most
   rising_bound : (m : ℕ) (s : List Action) → IsTrue (is_rising rank s) → IsTrue (list_all (is_served false) s) → AllBelow w (suc m) s → acts_weight w s ≤ length s + 16 * copy_steps m
@@ -155,12 +147,8 @@ module _ (w : TheWorld) where
     where
       by_action : (a : Action) → list_all (λ y. nat_lt (rank a) (rank y)) s ≡ true → is_served false a ≡ true → list_all (is_served false) s ≡ true → IsBelow w (suc m) a → acts_weight w s ≤ length s + 16 * copy_steps m → acts_weight w (a ∷ s) ≤ length (a ∷ s) + 16 * copy_steps m
       by_action (Output port max_len) high here others h ih = let one = output_is_one port max_len here in omega arith
-      by_action (PushVlan type) high here others h ih = omega arith
-      by_action PopVlan high here others h ih = omega arith
       by_action (Group g) high here others h ih = let x = tail_bound s high others in let le = copies_more (w.chain g) m (omega (arith, h)) in omega arith
-      by_action (SetNwTtl ttl) high here others h ih = omega arith
-      by_action DecNwTtl high here others h ih = omega arith
-      by_action (SetField f v) high here others h ih = omega arith
+      by_action other high here others h ih = omega arith
 
   pub set_bound : (m : ℕ) (s : List Action) → IsSet s → AllBelow w (suc m) s → acts_weight w (in_order s) ≤ 30 + 16 * copy_steps m
   set_bound m s h below =
@@ -272,12 +260,9 @@ module _ (w : TheWorld) where
     row_lowers p (Do (Goto t) ∷ rest) set fit = omega arith
     row_lowers p (RunSet ∷ rest) set fit = let x = acts_work (in_order p.action_set) [] rest in omega arith
     row_lowers p (Act (Output port max_len) ∷ rest) set fit = output_lowers p rest port max_len (port == table) refl
-    row_lowers p (Act (PushVlan type) ∷ rest) set fit = omega arith
-    row_lowers p (Act PopVlan ∷ rest) set fit = omega arith
     row_lowers p (Act (Group g) ∷ rest) set fit = let x = group_lowers p rest g (w.chosen g) refl in omega arith
-    row_lowers p (Act (SetNwTtl ttl) ∷ rest) set fit = omega arith
     row_lowers p (Act DecNwTtl ∷ rest) set fit = let x = aged_lowers p rest (answer_to (ttl_of (layers_of p.frame))) in omega arith
-    row_lowers p (Act (SetField f v) ∷ rest) set fit = omega arith
+    row_lowers p (Act other ∷ rest) set fit = omega arith
 
     -- ---- and keeps the work fit
 
@@ -340,12 +325,9 @@ module _ (w : TheWorld) where
     row_fits p (Do (Goto t) ∷ rest) set fit = one_task p (Lookup t ∷ []) set (fit.0, tt)
     row_fits p (RunSet ∷ rest) set fit = one_task (set_out p) (acts (in_order p.action_set) ++ rest) empty_set (acts_fit (in_order p.action_set) rest fit.1)
     row_fits p (Act (Output port max_len) ∷ rest) set fit = output_fits p rest port max_len (port == table) refl set fit.1
-    row_fits p (Act (PushVlan type) ∷ rest) set fit = one_task (record p { frame = rewritten (PushVlan type) p.frame }) rest set fit.1
-    row_fits p (Act PopVlan ∷ rest) set fit = one_task (record p { frame = rewritten PopVlan p.frame }) rest set fit.1
     row_fits p (Act (Group g) ∷ rest) set fit = group_fits p rest g (w.chosen g) refl set fit.1
-    row_fits p (Act (SetNwTtl ttl) ∷ rest) set fit = one_task (record p { frame = rewritten (SetNwTtl ttl) p.frame }) rest set fit.1
     row_fits p (Act DecNwTtl ∷ rest) set fit = aged_fits p rest (answer_to (ttl_of (layers_of p.frame))) set fit.1
-    row_fits p (Act (SetField f v) ∷ rest) set fit = one_task (record p { frame = rewritten (SetField f v) p.frame }) rest set fit.1
+    row_fits p (Act other ∷ rest) set fit = one_task (record p { frame = rewritten other p.frame }) rest set fit.1
 
     -- ---- the whole run
 

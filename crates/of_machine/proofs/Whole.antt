@@ -2,7 +2,7 @@
 use Rattle.std.proofs.Common.{◌≡◌, ℕ, ◌+◌, ◌*◌, ◌-◌, ◌≤◌, ◌==◌, suc, zero, Bool, true, false, List, [], ◌∷◌, ◌++◌, refl, sym, ◌∙◌, ap, length, length-append, arith, add_comm, ◌⊎◌, inl, inr}
 use Rattle.std.proofs.Math.Nat.{mul-le-mul_left}
 use Rattle.of_actions.specs.declared.action.Action.{Action}
-use Rattle.of_actions.specs.declared.action.Action.TheVariants.{Output, PushVlan, PopVlan, Group, SetNwTtl, DecNwTtl, SetField}
+use Rattle.of_actions.specs.declared.action.Action.TheVariants.{Output, Group}
 use Rattle.of_actions.specs.PortNumbers.{table}
 use Rattle.of_machine.specs.declared.data.Packet.{Packet}
 use Rattle.of_machine.specs.declared.data.Step.{Step}
@@ -100,12 +100,8 @@ module _ (w : TheWorld) where
 
     act_heavy : (a : Action) → act_weight w a ≤ 1 + lookup_steps longest 0
     act_heavy (Output port max_len) = output_heavy port (port == table) refl
-    act_heavy (PushVlan type) = omega arith
-    act_heavy PopVlan = omega arith
     act_heavy (Group g) = let x = copies_more (w.chain g) longest (sound.short g) in let y = small_copy in omega arith
-    act_heavy (SetNwTtl ttl) = omega arith
-    act_heavy DecNwTtl = omega arith
-    act_heavy (SetField f v) = omega arith
+    act_heavy other = omega arith
 
     acts_heavy : (l : List Action) (s : List Action) → work_weight w s (acts l) ≤ (1 + lookup_steps longest 0) * length l + 1
     acts_heavy [] s = omega arith

@@ -2,7 +2,7 @@
 use Rattle.std.specs.Prelude.{ℕ, ◌+◌, ◌*◌, ◌-◌, ◌≤◌, max, ◌==◌, if◌then◌else◌, List, [], ◌∷◌, length, ⊤}
 use Rattle.std.specs.List.{All}
 use Rattle.of_actions.specs.declared.action.Action.{Action}
-use Rattle.of_actions.specs.declared.action.Action.TheVariants.{Output, PushVlan, PopVlan, Group, SetNwTtl, DecNwTtl, SetField}
+use Rattle.of_actions.specs.declared.action.Action.TheVariants.{Output, PushVlan, Group}
 use Rattle.of_actions.specs.declared.instruction.Instruction.TheVariants.{Apply, Clear, Write, Metadata, Goto}
 use Rattle.of_actions.specs.PortNumbers.{table}
 use Rattle.of_rewrite.specs.Frames.{IsFrame}
@@ -21,11 +21,8 @@ table_pushes t = (16 - t) * 64 + (1 + longest)
 abbrev pub act_pushes : TheWorld → Action → ℕ → ℕ
 act_pushes w (Output port max_len) later = if port == table then max (table_pushes 0) later else later
 act_pushes w (PushVlan type) later = 1 + later
-act_pushes w PopVlan later = later
 act_pushes w (Group group) later = max (w.chain group) later
-act_pushes w (SetNwTtl ttl) later = later
-act_pushes w DecNwTtl later = later
-act_pushes w (SetField field value) later = later
+act_pushes w other later = later
 
 abbrev pub list_pushes : TheWorld → List Action → ℕ → ℕ
 list_pushes w [] later = later

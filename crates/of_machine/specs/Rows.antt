@@ -16,8 +16,8 @@ use Rattle.of_action_set.specs.Sets.{with_actions, in_order}
 use Rattle.of_table.specs.declared.flow.Flow.{Flow}
 use Rattle.of_ports.specs.declared.port.Port.{Port}
 use Rattle.of_machine.specs.declared.data.Packet.{Packet}
-use Rattle.of_machine.specs.declared.data.PacketInReason.{PacketInReason}
-use Rattle.of_machine.specs.declared.data.PacketInReason.TheVariants.{NoMatch, Action as ByAction, InvalidTtl}
+use Rattle.of_wire.specs.declared.reasons.PacketInReason.{PacketInReason}
+use Rattle.of_wire.specs.declared.reasons.PacketInReason.TheVariants.{NoMatch, Action as ByAction, InvalidTtl}
 use Rattle.of_machine.specs.declared.data.Item.{Item}
 use Rattle.of_machine.specs.declared.data.ToController.{ToController}
 use Rattle.of_machine.specs.declared.data.Item.TheVariants.{Sent, PacketIn}
@@ -153,25 +153,20 @@ group_row w p rest group (Some places) =
 
 -- the frame that the other actions make
 abbrev pub rewritten : Action → List ℕ → List ℕ
-rewritten (Output port max_len) frame = frame
 rewritten (PushVlan type) frame = frame_pushed type frame
 rewritten PopVlan frame = frame_popped frame
-rewritten (Group group) frame = frame
 rewritten (SetNwTtl ttl) frame = frame_ttl ttl frame
-rewritten DecNwTtl frame = frame
 rewritten (SetField field value) frame = frame_set field value frame
+rewritten other frame = frame
 
 abbrev pub rewrite_row : Packet → List Work → Action → Row
 rewrite_row p rest a = goes_on (DidAct a) (record p { frame = rewritten a p.frame }) rest
 
 abbrev pub act_row : TheWorld → Packet → List Work → Action → Row
 act_row w p rest (Output port max_len) = output_row w p rest (Output port max_len) port
-act_row w p rest (PushVlan type) = rewrite_row p rest (PushVlan type)
-act_row w p rest PopVlan = rewrite_row p rest PopVlan
 act_row w p rest (Group group) = group_row w p rest group (w.chosen group)
-act_row w p rest (SetNwTtl ttl) = rewrite_row p rest (SetNwTtl ttl)
 act_row w p rest DecNwTtl = aged_row p rest (answer_to (ttl_of (layers_of p.frame)))
-act_row w p rest (SetField field value) = rewrite_row p rest (SetField field value)
+act_row w p rest other = rewrite_row p rest other
 
 -- ---- instructions (5.9)
 

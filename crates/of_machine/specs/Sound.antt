@@ -2,7 +2,7 @@
 use Rattle.std.specs.Prelude.{◌≡◌, ◌≢◌, ℕ, ◌<◌, ◌≤◌, List, [], ◌∷◌, Option, Some, None, length, false, IsTrue, ⊤}
 use Rattle.of_layers.specs.declared.field.Field.{Field}
 use Rattle.of_actions.specs.declared.action.Action.{Action}
-use Rattle.of_actions.specs.declared.action.Action.TheVariants.{Output, PushVlan, PopVlan, Group, SetNwTtl, DecNwTtl, SetField}
+use Rattle.of_actions.specs.declared.action.Action.TheVariants.{Group}
 use Rattle.of_actions.specs.Served.{are_served}
 use Rattle.of_actions.specs.Rising.{is_rising}
 use Rattle.of_actions.specs.InstructionLists.{are_kept, are_for}
@@ -16,13 +16,8 @@ longest = 3
 
 -- the chains of the group that an action names, if it names one, have fewer groups than that
 abbrev pub IsBelow : TheWorld → ℕ → Action → Type 0
-IsBelow w n (Output port max_len) = ⊤
-IsBelow w n (PushVlan type) = ⊤
-IsBelow w n PopVlan = ⊤
 IsBelow w n (Group group) = w.chain group < n
-IsBelow w n (SetNwTtl ttl) = ⊤
-IsBelow w n DecNwTtl = ⊤
-IsBelow w n (SetField field value) = ⊤
+IsBelow w n other = ⊤
 
 abbrev pub AllBelow : TheWorld → ℕ → List Action → Type 0
 AllBelow w n [] = ⊤

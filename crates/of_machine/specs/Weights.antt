@@ -2,7 +2,7 @@
 use Rattle.std.specs.Prelude.{ℕ, ◌+◌, ◌*◌, ◌-◌, ◌<◌, suc, zero, false, ◌==◌, if◌then◌else◌, List, [], ◌∷◌, IsTrue, ⊤}
 use Rattle.std.specs.List.{list_all}
 use Rattle.of_actions.specs.declared.action.Action.{Action}
-use Rattle.of_actions.specs.declared.action.Action.TheVariants.{Output, PushVlan, PopVlan, Group, SetNwTtl, DecNwTtl, SetField}
+use Rattle.of_actions.specs.declared.action.Action.TheVariants.{Output, Group}
 use Rattle.of_actions.specs.declared.instruction.Instruction.TheVariants.{Apply, Clear, Write, Metadata, Goto}
 use Rattle.of_actions.specs.PortNumbers.{table}
 use Rattle.of_actions.specs.Served.{is_served}
@@ -42,12 +42,8 @@ output_weight port = if port == table then 1 + lookup_steps longest 0 else 1
 
 abbrev pub act_weight : TheWorld → Action → ℕ
 act_weight w (Output port max_len) = output_weight port
-act_weight w (PushVlan type) = 1
-act_weight w PopVlan = 1
 act_weight w (Group group) = 1 + 16 * copy_steps (w.chain group)
-act_weight w (SetNwTtl ttl) = 1
-act_weight w DecNwTtl = 1
-act_weight w (SetField field value) = 1
+act_weight w other = 1
 
 abbrev pub acts_weight : TheWorld → List Action → ℕ
 acts_weight w [] = 0

@@ -8,7 +8,7 @@ use crate::packet_frame::PacketFrame;
 use of_action_set::ActionSet;
 use of_actions::Action;
 use of_headers::{FieldKey, read_inside};
-use of_wire::Bytes;
+use of_wire::{Bytes, PacketInReason};
 use smallvec::SmallVec;
 use std::alloc::Global;
 use std::default::MadeWith;
@@ -27,17 +27,6 @@ pub struct Packet<'a> {
     pub table: u8,
     /// Whether the entry whose instructions are followed is the one for table misses.
     pub miss: bool,
-}
-
-/// Why a packet goes to the controller (OpenFlow 1.3.5, 7.4.1).
-#[derive(Clone, Copy, Debug, PartialEq, Eq)]
-pub enum PacketInReason {
-    /// OFPR_NO_MATCH: by the entry for table misses.
-    NoMatch,
-    /// OFPR_ACTION: by an OUTPUT to the controller.
-    Action,
-    /// OFPR_INVALID_TTL: its time to live is over.
-    InvalidTtl,
 }
 
 /// What is emitted.

@@ -5,11 +5,11 @@ ghost use Rattle.of_machine.specs.Rows.{emission, to_port, packet_in, flooded, o
 ghost use Rattle.of_ports.specs.Ports.{port_at};
 ghost use Rattle.of_machine.specs.Gained.{Gains};
 
-use crate::data::{Count, Item, Outcome, Packet, PacketInReason, ToController};
+use crate::data::{Count, Item, Outcome, Packet, ToController};
 use crate::packet_frame::PacketFrame;
 use of_actions::{PORT_ALL, PORT_CONTROLLER, PORT_FLOOD, PORT_IN_PORT};
 use of_ports::Port;
-use of_wire::Bytes;
+use of_wire::{Bytes, PacketInReason};
 use std::alloc::{AllocError, Global};
 
 /// What an output to this port, or to a reserved one that is not TABLE, emits (OpenFlow 1.3.5, 7.2.5).

@@ -8,12 +8,13 @@ ghost use Rattle.of_machine.specs.Runs.{Moves, Acts, Ends, Breaks, AllEnd, AllFa
 ghost use Rattle.of_machine.specs.Sound.{IsSound, IsBelow, AllBelow, AllBuckets};
 ghost use Rattle.of_machine.specs.TheWorld.{TheWorld};
 
-use crate::data::{Count, Outcome, Packet, PacketInReason, Step};
+use crate::data::{Count, Outcome, Packet, Step};
 use crate::emit::{emit, to_controller};
 use crate::packet_frame::PacketFrame;
 use crate::world::{StepLog, World};
 use of_actions::Action;
 use of_rewrite::Ttl;
+use of_wire::PacketInReason;
 use std::alloc::AllocError;
 
 /// How many groups a chain of groups has at most.

@@ -116,7 +116,7 @@ fn rewrite(action: Action, frame: &mut Frame) -> Result<(), AllocError>
         Action::PopVlan => frame.pop_vlan(),
         Action::SetNwTtl(ttl) => frame.set_ttl(ttl),
         Action::SetField { field, value } => frame.set(field, value),
-        Action::Output { .. } | Action::Group(_) | Action::DecNwTtl => {}
+        _ => {}
     }
     Ok(())
 }

@@ -13,6 +13,3 @@ mod renumbering;
 mod same;
 
 pub use mask_groups::MaskGroups;
-
-#[cfg(test)]
-mod tests;

@@ -4,7 +4,7 @@ ghost use Rattle.std.specs.Hash as fed;
 ghost use Rattle.of_mask_groups.specs.Digest.{side_by_side, sum_of, place_word_of, target_word_of, source_word_of, internet_word_of, port_word_of, octet_word_of, low_source_word_of, high_source_word_of, low_target_word_of, high_target_word_of, digest_of};
 ghost use Rattle.of_mask_groups.specs.SameKey.{masked_alike};
 
-use of_headers::FieldKey;
+use of_headers::{FieldKey, Numbers};
 use std::hash::{Hash, Hasher};
 
 /// A key under the mask of a group, as the group's map hashes it.
@@ -15,12 +15,12 @@ pub(crate) struct MaskedKey {
 
 // One number that depends on all fields: to feed them one after another takes several times as long.
 impl Hash for MaskedKey {
-    ghost hash_input = { λ k. fed.u64 (digest_of k.fields) };
+    ghost hash_input = { λ k. fed.u64 (digest_of k.fields.numbers) };
 
     ghost respects_eq = { masked_alike };
 
     fn hash<H: Hasher>(&self, state: &mut H) {
-        state.write_u64(digest(&self.fields));
+        state.write_u64(digest(&self.fields.numbers));
     }
 }
 
@@ -60,7 +60,7 @@ fn high(number: u128) -> u64
 
 // The key's words, each times an odd number whose bits look random. Fields of which a frame has one at most may share a word.
 #[inline]
-fn digest(key: &FieldKey) -> u64
+fn digest(key: &Numbers) -> u64
     ensures { result ≡ digest_of key.now }
 {
     sum(&[
@@ -80,7 +80,7 @@ fn digest(key: &FieldKey) -> u64
 
 #[inline]
 #[tactic(auto, unfolding(crate::specs::Digest::place_word_of))]
-fn place_word(key: &FieldKey) -> u64
+fn place_word(key: &Numbers) -> u64
     ensures { result ≡ place_word_of key.now }
 {
     beside(
@@ -91,7 +91,7 @@ fn place_word(key: &FieldKey) -> u64
 
 #[inline]
 #[tactic(auto, unfolding(crate::specs::Digest::target_word_of))]
-fn target_word(key: &FieldKey) -> u64
+fn target_word(key: &Numbers) -> u64
     ensures { result ≡ target_word_of key.now }
 {
     beside(0x1_0000, &[key.eth_dst, u64::from(key.eth_type)])
@@ -99,7 +99,7 @@ fn target_word(key: &FieldKey) -> u64
 
 #[inline]
 #[tactic(auto, unfolding(crate::specs::Digest::source_word_of))]
-fn source_word(key: &FieldKey) -> u64
+fn source_word(key: &Numbers) -> u64
     ensures { result ≡ source_word_of key.now }
 {
     beside(0x1_0000, &[key.eth_src, u64::from(key.vlan_vid)])
@@ -107,7 +107,7 @@ fn source_word(key: &FieldKey) -> u64
 
 #[inline]
 #[tactic(auto, unfolding(crate::specs::Digest::internet_word_of))]
-fn internet_word(key: &FieldKey) -> u64
+fn internet_word(key: &Numbers) -> u64
     ensures { result ≡ internet_word_of key.now }
 {
     beside(
@@ -119,7 +119,7 @@ fn internet_word(key: &FieldKey) -> u64
 
 #[inline]
 #[tactic(auto, unfolding(crate::specs::Digest::port_word_of))]
-fn port_word(key: &FieldKey) -> u64
+fn port_word(key: &Numbers) -> u64
     ensures { result ≡ port_word_of key.now }
 {
     beside(
@@ -135,7 +135,7 @@ fn port_word(key: &FieldKey) -> u64
 
 #[inline]
 #[tactic(auto, unfolding(crate::specs::Digest::octet_word_of))]
-fn octet_word(key: &FieldKey) -> u64
+fn octet_word(key: &Numbers) -> u64
     ensures { result ≡ octet_word_of key.now }
 {
     beside(
@@ -155,7 +155,7 @@ fn octet_word(key: &FieldKey) -> u64
 
 #[inline]
 #[tactic(auto, unfolding(crate::specs::Digest::low_source_word_of))]
-fn low_source_word(key: &FieldKey) -> u64
+fn low_source_word(key: &Numbers) -> u64
     ensures { result ≡ low_source_word_of key.now }
 {
     low(key.ipv6_src).wrapping_add(beside(
@@ -166,7 +166,7 @@ fn low_source_word(key: &FieldKey) -> u64
 
 #[inline]
 #[tactic(auto, unfolding(crate::specs::Digest::high_source_word_of))]
-fn high_source_word(key: &FieldKey) -> u64
+fn high_source_word(key: &Numbers) -> u64
     ensures { result ≡ high_source_word_of key.now }
 {
     high(key.ipv6_src).wrapping_add(beside(0x1_0000, &[key.arp_sha, u64::from(key.arp_op)]))
@@ -174,7 +174,7 @@ fn high_source_word(key: &FieldKey) -> u64
 
 #[inline]
 #[tactic(auto, unfolding(crate::specs::Digest::low_target_word_of))]
-fn low_target_word(key: &FieldKey) -> u64
+fn low_target_word(key: &Numbers) -> u64
     ensures { result ≡ low_target_word_of key.now }
 {
     low(key.ipv6_dst).wrapping_add(key.arp_tha)
@@ -182,7 +182,7 @@ fn low_target_word(key: &FieldKey) -> u64
 
 #[inline]
 #[tactic(auto, unfolding(crate::specs::Digest::high_target_word_of))]
-fn high_target_word(key: &FieldKey) -> u64
+fn high_target_word(key: &Numbers) -> u64
     ensures { result ≡ high_target_word_of key.now }
 {
     high(key.ipv6_dst)

@@ -12,6 +12,7 @@ use Rattle.of_messages.specs.declared.group_mod.GroupCommand.TheVariants as comm
 use Rattle.of_messages.specs.declared.group_mod.GroupMod.{GroupMod}
 use Rattle.of_messages.specs.declared.group_mod.GroupMod.TheVariants.{Add, Modify, Delete}
 use Rattle.of_messages.specs.Buckets.{buckets_said}
+use Rattle.of_groups.specs.Buckets.{group_max}
 
 -- OFPGT_ALL, OFPGT_INDIRECT and OFPGT_FF
 unfoldable pub kind_of : ℕ → Option GroupKind
@@ -28,7 +29,7 @@ number_in m = big_number 4 (drop 12 m)
 
 -- above OFPG_MAX
 abbrev pub is_above : ℕ → Bool
-is_above number = nat_lt 0xffffff00 number
+is_above number = nat_lt group_max number
 
 -- OFPG_ALL
 abbrev pub all_groups : ℕ

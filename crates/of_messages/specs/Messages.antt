@@ -50,11 +50,9 @@ command_of byte =
     else None))))
 
 abbrev pub is_delete : FlowModCommand → Bool
-is_delete Add = false
-is_delete Modify = false
-is_delete ModifyStrict = false
 is_delete Delete = true
 is_delete DeleteStrict = true
+is_delete other = false
 
 abbrev pub is_unknown : Option FlowModCommand → Bool
 is_unknown None = true

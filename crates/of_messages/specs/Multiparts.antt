@@ -31,15 +31,11 @@ kind_of number =
 
 -- the size of the whole message
 abbrev pub size_of : MultipartKind → Size
-size_of kind.Description = Exact 16
 size_of kind.Flow = Least 56
 size_of kind.Aggregate = Least 56
-size_of kind.Table = Exact 16
 size_of kind.PortStats = Exact 24
 size_of kind.Group = Exact 24
-size_of kind.GroupDescription = Exact 16
-size_of kind.GroupFeatures = Exact 16
-size_of kind.PortDescription = Exact 16
+size_of other = Exact 16
 
 abbrev pub size_asked : Option MultipartKind → Option Size
 size_asked None = None
@@ -120,12 +116,6 @@ multipart_of m = multipart_by m (first_of (multipart_refusals m)) (kind_in m)
 
 -- WHAT HOLDS OF WHAT WAS READ: a request for flows names a table, or all
 abbrev pub IsSoundRequest : MultipartRequest → Type 0
-IsSoundRequest Description = ⊤
 IsSoundRequest (Flow r) = names_table r.table ≡ true
 IsSoundRequest (Aggregate r) = names_table r.table ≡ true
-IsSoundRequest Table = ⊤
-IsSoundRequest (PortStats port) = ⊤
-IsSoundRequest (Group group) = ⊤
-IsSoundRequest GroupDescription = ⊤
-IsSoundRequest GroupFeatures = ⊤
-IsSoundRequest PortDescription = ⊤
+IsSoundRequest other = ⊤

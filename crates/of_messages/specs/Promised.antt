@@ -4,7 +4,7 @@ use Rattle.of_actions.specs.InstructionLists.{are_for}
 use Rattle.of_actions.specs.FlowCheck.{all_go_with}
 use Rattle.of_headers.specs.Faults.{frame_fault}
 use Rattle.of_messages.specs.declared.message.Message.{Message}
-use Rattle.of_messages.specs.declared.message.Message.TheVariants.{Hello, Error, EchoRequest, EchoReply, FeaturesRequest, GetConfigRequest, SetConfig, PacketOut as IsPacketOut, FlowMod as IsFlowMod, GroupMod as IsGroupMod, PortMod as IsPortMod, TableMod as IsTableMod, Multipart, BarrierRequest, RoleRequest as IsRoleRequest, GetAsyncRequest, SetAsync}
+use Rattle.of_messages.specs.declared.message.Message.TheVariants.{EchoRequest, PacketOut as IsPacketOut, FlowMod as IsFlowMod, GroupMod as IsGroupMod, Multipart}
 use Rattle.of_messages.specs.declared.message.FlowMod.{FlowMod}
 use Rattle.of_messages.specs.declared.group_mod.GroupMod.{GroupMod}
 use Rattle.of_messages.specs.declared.group_mod.GroupMod.TheVariants.{Add, Modify, Delete}
@@ -12,6 +12,7 @@ use Rattle.of_messages.specs.declared.message.PacketData.{PacketData}
 use Rattle.of_messages.specs.declared.message.PacketData.TheVariants.{Buffered, Frame}
 use Rattle.of_messages.specs.Messages.{is_delete}
 use Rattle.of_messages.specs.Multiparts.{IsSoundRequest}
+use Rattle.of_groups.specs.Buckets.{group_max}
 
 -- an ADD or a MODIFY names a table, its instructions may stand there, and they set no field that the match does not ask for
 pub record IsSoundFlowMod (m : FlowMod) : Type 0 where
@@ -26,26 +27,15 @@ IsSoundPacket (Frame bytes) = frame_fault bytes ≡ None
 
 -- a group that is added or modified has a number up to OFPG_MAX
 abbrev pub IsSoundGroupMod : GroupMod → Type 0
-IsSoundGroupMod (Add g) = g.id ≤ 0xffffff00
-IsSoundGroupMod (Modify g) = g.id ≤ 0xffffff00
+IsSoundGroupMod (Add g) = g.id ≤ group_max
+IsSoundGroupMod (Modify g) = g.id ≤ group_max
 IsSoundGroupMod (Delete which) = ⊤
 
 -- an ECHO_REQUEST was a message itself, so its data fits one
 abbrev pub IsSoundMessage : Message → Type 0
-IsSoundMessage Hello = ⊤
-IsSoundMessage Error = ⊤
 IsSoundMessage (EchoRequest echoed) = length echoed ≤ 65527
-IsSoundMessage EchoReply = ⊤
-IsSoundMessage FeaturesRequest = ⊤
-IsSoundMessage GetConfigRequest = ⊤
-IsSoundMessage (SetConfig config) = ⊤
 IsSoundMessage (IsPacketOut m) = IsSoundPacket m.packet
 IsSoundMessage (IsFlowMod m) = IsSoundFlowMod m
 IsSoundMessage (IsGroupMod m) = IsSoundGroupMod m
-IsSoundMessage (IsPortMod m) = ⊤
-IsSoundMessage (IsTableMod m) = ⊤
 IsSoundMessage (Multipart request) = IsSoundRequest request
-IsSoundMessage BarrierRequest = ⊤
-IsSoundMessage (IsRoleRequest request) = ⊤
-IsSoundMessage GetAsyncRequest = ⊤
-IsSoundMessage (SetAsync masks) = ⊤
+IsSoundMessage other = ⊤

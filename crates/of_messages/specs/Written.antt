@@ -6,6 +6,7 @@ use Rattle.of_oxm.specs.declared.match_field.MatchField.{MatchField}
 use Rattle.of_oxm.specs.Canonical.{canonical}
 use Rattle.of_layers.specs.declared.field.Field.TheVariants.{InPort, Metadata}
 use Rattle.of_actions.specs.CanonicalInstructions.{canonical_instructions}
+use Rattle.of_wire.specs.Reasons.{flow_removed_number, packet_in_number}
 use Rattle.of_messages.specs.Heads.{version_of, header_length}
 use Rattle.of_messages.specs.Roles.{role_number, generation_number}
 use Rattle.of_messages.specs.declared.async_masks.AsyncMasks.{AsyncMasks}
@@ -19,11 +20,7 @@ use Rattle.of_messages.specs.declared.message.PacketIn.{PacketIn}
 use Rattle.of_messages.specs.declared.port_mod.PortDescription.{PortDescription}
 use Rattle.of_messages.specs.declared.port_mod.PortStatusReason.{PortStatusReason}
 use Rattle.of_messages.specs.declared.port_mod.PortStatusReason.TheVariants as status
-use Rattle.of_messages.specs.declared.message.PacketInReason.{PacketInReason}
-use Rattle.of_messages.specs.declared.message.PacketInReason.TheVariants.{NoMatch, Action, InvalidTtl}
 use Rattle.of_messages.specs.declared.message.FlowRemoved.{FlowRemoved}
-use Rattle.of_messages.specs.declared.message.FlowRemovedReason.{FlowRemovedReason}
-use Rattle.of_messages.specs.declared.message.FlowRemovedReason.TheVariants.{IdleTimeout, HardTimeout, Delete, GroupDelete}
 
 -- version 4, type, length, transaction id (OpenFlow 1.3.5, 7.1)
 abbrev pub header : ℕ → ℕ → ℕ → List ℕ
@@ -77,18 +74,12 @@ async_reply_bytes xid masks = message 27 xid (role_masks_bytes masks.packet_in +
 
 -- FLOW_REMOVED (7.4.2)
 
-abbrev pub reason_number : FlowRemovedReason → ℕ
-reason_number IdleTimeout = 0
-reason_number HardTimeout = 1
-reason_number Delete = 2
-reason_number GroupDelete = 3
-
 -- what stands in front of the match
 unfoldable pub flow_removed_front : FlowRemoved → List ℕ
 flow_removed_front removed =
     big_bytes 8 removed.cookie
     ++ (big_bytes 2 removed.priority
-    ++ (reason_number removed.reason ∷ removed.table
+    ++ (flow_removed_number removed.reason ∷ removed.table
     ∷ (big_bytes 4 removed.duration_sec
     ++ (big_bytes 4 removed.duration_nsec
     ++ (big_bytes 2 removed.idle_timeout
@@ -100,11 +91,6 @@ abbrev pub flow_removed_bytes : ℕ → FlowRemoved → List MatchField → List
 flow_removed_bytes xid removed fields = message 11 xid (flow_removed_front removed ++ canonical fields)
 
 -- PACKET_IN (7.4.1)
-
-abbrev pub packet_in_number : PacketInReason → ℕ
-packet_in_number NoMatch = 0
-packet_in_number Action = 1
-packet_in_number InvalidTtl = 2
 
 -- the match tells the ingress port, and the metadata where it is not 0
 abbrev pub packet_fields : ℕ → ℕ → List MatchField

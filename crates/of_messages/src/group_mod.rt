@@ -7,7 +7,7 @@ ghost use Rattle.of_messages.specs.Promised.{IsSoundGroupMod};
 use crate::bucket_reading::read_buckets;
 use crate::reading::rest_from;
 use byteorder::{BigEndian, ByteOrder};
-use of_groups::{Buckets, GroupKind};
+use of_groups::{Buckets, GROUP_MAX, GroupKind};
 use of_wire::{Code, ReadError};
 use std::alloc::Global;
 
@@ -16,9 +16,6 @@ const INVALID_GROUP: Code = Code { kind: 6, code: 1 };
 const BAD_TYPE: Code = Code { kind: 6, code: 10 };
 
 const BAD_COMMAND: Code = Code { kind: 6, code: 11 };
-
-/// OFPG_MAX: the highest number of a group.
-const LAST_GROUP: u32 = 0xffff_ff00;
 
 /// OFPG_ALL: all groups, of a DELETE.
 const ALL_GROUPS: u32 = 0xffff_fffc;
@@ -80,7 +77,7 @@ fn read_group(alloc: Global, message: &[u8]) -> Result<NewGroup, ReadError>
     ensures number { IfOk result (λ group. group.id ≤ 0xffffff00) }
 {
     let id = BigEndian::read_u32(rest_from(message, 12));
-    if id > LAST_GROUP {
+    if id > GROUP_MAX {
         return Err(ReadError::Refused(INVALID_GROUP));
     }
     let Some(kind) = kind_from(message[10]) else {
@@ -97,7 +94,7 @@ fn delete_from(number: u32) -> Result<GroupMod, ReadError>
 {
     if number == ALL_GROUPS {
         Ok(GroupMod::Delete(None))
-    } else if number > LAST_GROUP {
+    } else if number > GROUP_MAX {
         Err(ReadError::Refused(INVALID_GROUP))
     } else {
         Ok(GroupMod::Delete(Some(number)))

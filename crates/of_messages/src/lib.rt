@@ -29,12 +29,10 @@ pub use group_mod_writing::{write_buckets, write_group_mod};
 pub use head::check_head;
 pub use hello::agreed_version;
 pub use laws::{elements_are_whole, header_tells_length};
-pub use message::{
-    FlowMod, FlowModCommand, FlowRemoved, FlowRemovedReason, Message, PacketData, PacketIn,
-    PacketInReason, PacketOut,
-};
+pub use message::{FlowMod, FlowModCommand, FlowRemoved, Message, PacketData, PacketIn, PacketOut};
 pub use message_bytes::MessageBytes;
 pub use multipart::{FlowStatsRequest, MultipartRequest};
+pub use of_wire::{FlowRemovedReason, PacketInReason};
 pub use port_mod::{PortDescription, PortMod, PortStatusReason};
 pub use port_status::{put_port, write_port_status};
 pub use reading::{read_message, read_message_as};

@@ -10,7 +10,7 @@ use crate::port_mod::PortMod;
 use crate::role::RoleRequest;
 use of_actions::{ActionList, InstructionList};
 use of_oxm::Match;
-use of_wire::Bytes;
+use of_wire::{Bytes, FlowRemovedReason, PacketInReason};
 
 /// What a FLOW_MOD does (OpenFlow 1.3.5, 7.3.4.1).
 #[derive(Clone, Copy, Debug, PartialEq, Eq)]
@@ -88,17 +88,6 @@ pub struct PacketOut {
     pub packet: PacketData,
 }
 
-/// Why a packet is sent to the controller (OpenFlow 1.3.5, 7.4.1).
-#[derive(Clone, Copy, Debug, PartialEq, Eq)]
-pub enum PacketInReason {
-    /// The entry for table misses sent it.
-    NoMatch,
-    /// Another OUTPUT sent it.
-    Action,
-    /// Its time to live could not be taken down.
-    InvalidTtl,
-}
-
 /// What a PACKET_IN says of a frame (OpenFlow 1.3.5, 7.4.1).
 #[derive(Clone, Copy, Debug, PartialEq, Eq)]
 pub struct PacketIn {
@@ -107,15 +96,6 @@ pub struct PacketIn {
     pub cookie: u64,
     pub in_port: u32,
     pub metadata: u64,
-}
-
-/// Why an entry was removed (OpenFlow 1.3.5, 7.4.2).
-#[derive(Clone, Copy, Debug, PartialEq, Eq)]
-pub enum FlowRemovedReason {
-    IdleTimeout,
-    HardTimeout,
-    Delete,
-    GroupDelete,
 }
 
 /// What a FLOW_REMOVED says of an entry, besides its match (OpenFlow 1.3.5, 7.4.2).

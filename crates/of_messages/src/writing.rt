@@ -1,10 +1,10 @@
 //! The bytes of messages that the switch sends.
 ghost use Rattle.std.specs.Prelude.{◌≡◌, ◌≤◌, ◌++◌, length, OnOk, IfOk};
 ghost use Rattle.byteorder.specs.Endian.{big_bytes};
-ghost use Rattle.of_messages.specs.Written.{header, hello_bytes, error_bytes, echo_reply_bytes, barrier_reply_bytes, reason_number, flow_removed_front, flow_removed_bytes, packet_in_number, packet_fields, packet_in_front, packet_in_bytes};
+ghost use Rattle.of_messages.specs.Written.{header, hello_bytes, error_bytes, echo_reply_bytes, barrier_reply_bytes, flow_removed_front, flow_removed_bytes, packet_fields, packet_in_front, packet_in_bytes};
 ghost use Rattle.of_oxm.specs.Canonical.{canonical};
 
-use crate::message::{FlowRemoved, FlowRemovedReason, PacketIn, PacketInReason};
+use crate::message::{FlowRemoved, PacketIn};
 use crate::message_bytes::MessageBytes;
 use of_oxm::{Match, write_match};
 use of_wire::{Bytes, Code};
@@ -76,17 +76,6 @@ pub fn write_barrier_reply(alloc: Global, xid: u32) -> Result<MessageBytes, Allo
     Ok(MessageBytes::new(Bytes::new(out)))
 }
 
-fn number_of(reason: FlowRemovedReason) -> u8
-    ensures { result ≡ reason_number reason }
-{
-    match reason {
-        FlowRemovedReason::IdleTimeout => 0,
-        FlowRemovedReason::HardTimeout => 1,
-        FlowRemovedReason::Delete => 2,
-        FlowRemovedReason::GroupDelete => 3,
-    }
-}
-
 pub(crate) fn put_u16(out: &mut Vec<u8>, number: u16) -> Result<(), AllocError>
     ensures { OnOk result (out.new.items ≡ out.old.items ++ big_bytes 2 number) }
 {
@@ -111,7 +100,7 @@ fn put_flow_removed(out: &mut Vec<u8>, removed: &FlowRemoved) -> Result<(), Allo
 {
     put_u64(out, removed.cookie)?;
     put_u16(out, removed.priority)?;
-    out.extend_from_slice(&[number_of(removed.reason), removed.table])?;
+    out.extend_from_slice(&[removed.reason.number(), removed.table])?;
     put_u32(out, removed.duration_sec)?;
     put_u32(out, removed.duration_nsec)?;
     put_u16(out, removed.idle_timeout)?;
@@ -138,23 +127,13 @@ pub fn write_flow_removed(
     Ok(MessageBytes::new(Bytes::new(out)))
 }
 
-fn number_of_reason(reason: PacketInReason) -> u8
-    ensures { result ≡ packet_in_number reason }
-{
-    match reason {
-        PacketInReason::NoMatch => 0,
-        PacketInReason::Action => 1,
-        PacketInReason::InvalidTtl => 2,
-    }
-}
-
 // What stands in front of the match, 16 bytes.
 fn put_packet_in(out: &mut Vec<u8>, packet: &PacketIn, size: u16) -> Result<(), AllocError>
     ensures { OnOk result (out.new.items ≡ out.old.items ++ packet_in_front packet.now size) }
 {
     put_u32(out, 0xffff_ffff)?;
     put_u16(out, size)?;
-    out.extend_from_slice(&[number_of_reason(packet.reason), packet.table])?;
+    out.extend_from_slice(&[packet.reason.number(), packet.table])?;
     put_u64(out, packet.cookie)
 }
 

@@ -5,7 +5,7 @@ use of_actions::{Action, ActionList, Instruction, InstructionList, check_flow};
 use of_classifier::{Lookup, Scan};
 use of_headers::{FieldKey, read};
 use of_oxm::Match;
-use of_table::{Cause, Flow, FlowFlags, FlowTables, RemovedReason, TableFault, Which};
+use of_table::{Cause, Flow, FlowFlags, FlowRemovedReason, FlowTables, TableFault, Which};
 use std::alloc::Global;
 use std::process::Abort;
 use std::test::Fail;
@@ -139,7 +139,7 @@ fn one_notice<L: Lookup>(
     tables: &FlowTables<L>,
     cause: &Cause,
     table: u8,
-    reason: RemovedReason,
+    reason: FlowRemovedReason,
     cookie: u64,
 ) -> Result<(), Fail> {
     let removed = tables.listed(cause)?;
@@ -181,7 +181,7 @@ fn modified_and_deleted(rt: HostRuntime) -> Result<(), Fail> {
     let mut which = which_of_port_one(rt.alloc())?;
     which.out_port = Some(7);
     let cause = Cause::Delete(which);
-    one_notice(&rt, &tables, &cause, 2, RemovedReason::Delete, 10)?;
+    one_notice(&rt, &tables, &cause, 2, FlowRemovedReason::Delete, 10)?;
     tables.remove(&cause);
     assert_eq!(rt; tables.listed(&cause)?.len(), 0);
     assert_eq!(rt; tables.entries(2).count(), 1);
@@ -212,7 +212,7 @@ fn flows_of_a_group(rt: HostRuntime) -> Result<(), Fail> {
         &tables,
         &Cause::Group(Some(8)),
         1,
-        RemovedReason::GroupDelete,
+        FlowRemovedReason::GroupDelete,
         8,
     )?;
     tables.remove(&Cause::Group(Some(8)));
@@ -239,7 +239,7 @@ fn hard_before_idle(rt: HostRuntime) -> Result<(), Fail> {
     tables.remove(&Cause::Moment(8 * SECOND));
     assert_eq!(rt; tables.listed(&Cause::Moment(0))?.len(), 0);
     let cause = Cause::Moment(10 * SECOND);
-    one_notice(&rt, &tables, &cause, 0, RemovedReason::HardTimeout, 10)?;
+    one_notice(&rt, &tables, &cause, 0, FlowRemovedReason::HardTimeout, 10)?;
     assert_eq!(rt; tables.latest(), 8 * SECOND);
     tables.remove(&cause);
     assert_eq!(rt; tables.entries(0).count(), 0);

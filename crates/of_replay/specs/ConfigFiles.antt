@@ -15,12 +15,10 @@ pub record Spells (file : List ℕ) (config : Configuration) : Type 0 where
 
 -- why a file has no configuration
 abbrev pub LacksConfig : Ended → List ℕ → Type 0
-LacksConfig Done file = ⊥
 LacksConfig (BadRow n) file = bad_line file ≡ Some n
 LacksConfig (Text f) file = (bad_line file ≡ None) × HasFault file f
-LacksConfig ReadFault file = ⊥
-LacksConfig WriteFault file = ⊥
 LacksConfig NoMemory file = Unit {0}
+LacksConfig other file = ⊥
 
 abbrev pub IsConfigOf : Result Configuration Ended → List ℕ → Type 0
 IsConfigOf (Ok config) file = Spells file config

@@ -1,13 +1,11 @@
 -- How a run ends.
 use Rattle.std.specs.Prelude.{ℕ}
 use Rattle.of_replay.specs.declared.event_file.Ended.{Ended}
-use Rattle.of_replay.specs.declared.event_file.Ended.TheVariants.{Done, BadRow, Text, ReadFault, WriteFault, NoMemory}
+use Rattle.of_replay.specs.declared.event_file.Ended.TheVariants.{Done, BadRow, Text}
 
 -- the exit statuses
 abbrev pub status_of : Ended → ℕ
 status_of Done = 0
 status_of (BadRow n) = 2
 status_of (Text f) = 2
-status_of ReadFault = 3
-status_of WriteFault = 3
-status_of NoMemory = 3
+status_of other = 3

@@ -32,37 +32,27 @@ answer_of reading.Fault buffer = Failed
 -- the bytes that answers gave
 abbrev pub bytes_of : Answer → List ℕ
 bytes_of (Gave bytes) = bytes
-bytes_of Idle = []
-bytes_of Ended = []
-bytes_of Failed = []
+bytes_of other = []
 
 abbrev pub given : List Answer → List ℕ
 given answers = flat_map bytes_of answers
 
 abbrev pub read_count : Reading → ℕ
 read_count (reading.Bytes n) = n
-read_count reading.Nothing = 0
-read_count reading.End = 0
-read_count reading.Fault = 0
+read_count other = 0
 
 abbrev pub read_ends : Reading → ℕ
-read_ends (reading.Bytes n) = 0
-read_ends reading.Nothing = 0
 read_ends reading.End = 1
-read_ends reading.Fault = 0
+read_ends other = 0
 
 abbrev pub read_faults : Reading → ℕ
-read_faults (reading.Bytes n) = 0
-read_faults reading.Nothing = 0
-read_faults reading.End = 0
 read_faults reading.Fault = 1
+read_faults other = 0
 
 -- a read gives one byte at least, and no more than there is room for
 abbrev pub IsReading : Reading → ℕ → Type 0
 IsReading (reading.Bytes n) room = (0 < n) × (n ≤ room)
-IsReading reading.Nothing room = Unit {0}
-IsReading reading.End room = Unit {0}
-IsReading reading.Fault room = Unit {0}
+IsReading other room = Unit {0}
 
 abbrev pub write_count : Writing → ℕ
 write_count (writing.Wrote n) = n

@@ -3,7 +3,7 @@ use Rattle.std.proofs.Common.{◌≡◌, ℕ, suc, ◌+◌, ◌-◌, ◌*◌, �
 use Rattle.std.specs.Prelude.{◌==◌, not, ◌||◌}
 use Rattle.std.proofs.lemmas.Bool.{cases_eq, ne_eqb}
 use Rattle.std.proofs.lemmas.List.Sums.{sum_by-cons}
-use Rattle.of_rewrite.specs.Checksum.{fold, change, differ, renewed, IsRight, AreWords, never_zero}
+use Rattle.of_rewrite.specs.Checksum.{fold, change, differ, renewed, AreWords}
 use Rattle.of_rewrite.proofs.Folding.{fold_is, fold_small}
 
 -- ---- one change after another
@@ -145,15 +145,6 @@ off_by c s t x k h e = elim (cases_eq (65535 - c + x) 0) [
 -- a checksum that is off stays off by as much
 pub off_again : (c : ℕ) (old new : List ℕ) → c < 65536 → AreWords old → length old ≡ length new → (renewed c old new + sum new) % 65535 ≡ (c + sum old) % 65535
 off_again c old new h w l = off_by c (sum old) (sum new) (change old new) (changes old new) (omega arith) (sum_changed old new w l)
-
-pub right_again : (c : ℕ) (old new : List ℕ) → c < 65536 → AreWords old → length old ≡ length new → 0 < sum new → IsRight c old → IsRight (renewed c old new) new
-right_again c old new h w l p r = right_by c (sum old) (sum new) (change old new) (changes old new) (omega arith) (sum_changed old new w l) p r.0 r.1
-
-pub never_wrong : (c : ℕ) (new : List ℕ) → IsRight c new → IsRight (never_zero c) new
-never_wrong c new r = elim (cases_eq c 0) [
-  | inl e ↦ let s : 0 < c + sum new = r.0 in let t : (c + sum new) % 65535 ≡ 0 = r.1 in rw e (omega arith, omega arith)
-  | inr ne ↦ rw (ne_eqb c 0 ne) r
-]
 
 -- a word that stays makes no difference
 pub without_word : (c w : ℕ) (a x b y : List ℕ) → length a ≡ length x → renewed c (a ++ (w ∷ b)) (x ++ (w ∷ y)) ≡ renewed c (a ++ b) (x ++ y)

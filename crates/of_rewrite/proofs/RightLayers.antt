@@ -15,12 +15,12 @@ use Rattle.of_layers.specs.Looking.{name_is, look_up, locate_at}
 use Rattle.of_layers.specs.WellFormed.{Fits, IsIpv4, IsLayers}
 use Rattle.of_headers.specs.Places.{width, network_of, layout_of}
 use Rattle.of_headers.proofs.LocateLemmas.{width-append, width_bytes, locate_front}
-use Rattle.of_rewrite.specs.Checksum.{fold, words_of, number, differ, renewed, never_zero, udp_renewed, carried_renewed, AreWords}
+use Rattle.of_rewrite.specs.Checksum.{fold, words_of, number, differ, renewed, never_zero, udp_renewed, carried_renewed, AreWords, sums_to_ones}
 use Rattle.of_rewrite.specs.Rewriting.{change_at, words, without_addresses, header_cover, address_cover, carried_cover}
 use Rattle.of_rewrite.specs.Renewal.{packet_at, header_span, address_span, carried_span}
 use Rattle.of_rewrite.proofs.CoveredWords.{words_in}
 use Rattle.of_rewrite.specs.Replaced.{numbers_with, tags_with, body_with, layers_with}
-use Rattle.of_rewrite.specs.Right.{sums_to_ones, is_left_out}
+use Rattle.of_rewrite.specs.Right.{is_left_out}
 use Rattle.of_rewrite.proofs.Changes.{renewed_below}
 use Rattle.of_rewrite.proofs.Covering.{Covers, covers, change_id, drop_cells}
 use Rattle.of_rewrite.proofs.Finding.{Sound, Found, found, names_apart}

@@ -1,6 +1,6 @@
 -- Checksums that were right are right after they are renewed.
 use Rattle.std.proofs.Common.{◌≡◌, ℕ, zero, suc, ◌+◌, ◌-◌, ◌*◌, ◌/◌, ◌%◌, ◌^◌, ◌<◌, ◌≤◌, true, false, List, [], ◌∷◌, ◌++◌, length, take, drop, sum, Some, refl, sym, ap, ◌∙◌, arith, subst, inl, inr}
-use Rattle.std.specs.Prelude.{◌==◌}
+use Rattle.std.specs.Prelude.{◌==◌, IsTrue}
 use Rattle.std.proofs.lemmas.Bool.{cases_eq, ne_eqb, eqb-true, eq-eqb}
 use Rattle.std.proofs.lemmas.List.{take_at, drop_at, length-append, length-drop, length-take, take-append-le, drop-append-le}
 use Rattle.std.proofs.lemmas.List.Sums.{sum_by-cons}
@@ -9,7 +9,7 @@ use Rattle.of_layers.specs.Bits.{bits}
 use Rattle.of_layers.specs.Layers.{Cell, spelt}
 use Rattle.of_layers.specs.Looking.{look_up, locate_at}
 use Rattle.of_layers.proofs.BitLemmas.{length-bits}
-use Rattle.of_rewrite.specs.Checksum.{fold, number, words_of, change, differ, renewed, never_zero, AreWords}
+use Rattle.of_rewrite.specs.Checksum.{fold, number, words_of, change, differ, renewed, never_zero, sums_to_ones, AreWords}
 use Rattle.of_rewrite.specs.Rewriting.{change_at, words}
 use Rattle.of_rewrite.proofs.Changes.{changes, sum_changed, right_by, without_word}
 use Rattle.of_rewrite.proofs.Finding.{Sound, Found, found}
@@ -30,6 +30,30 @@ ones s h = elim (cases_eq s 0) [
 
 pub folded : (s : ℕ) → Ones s → (fold s == 65535) ≡ true
 folded s h = let f : fold s ≡ 1 + (s - 1) % 65535 = fold_is s h.0 in let a : 0 < s = h.0 in let m : s % 65535 ≡ 0 = h.1 in eq-eqb (fold s) 65535 (omega arith)
+
+-- a checksum that is right stays so
+pub right_again : (c : ℕ) (old new : List ℕ) → c < 65536 → AreWords old → length old ≡ length new → 0 < sum new → IsTrue (sums_to_ones (c ∷ old)) → IsTrue (sums_to_ones (renewed c old new ∷ new))
+right_again c old new h w l p r =
+    let before : sum (c ∷ old) ≡ c + sum old = sum_by-cons (λ (k : ℕ). k) c old in
+    let after : sum (renewed c old new ∷ new) ≡ renewed c old new + sum new = sum_by-cons (λ (k : ℕ). k) (renewed c old new) new in
+    let o : Ones (sum (c ∷ old)) = ones (sum (c ∷ old)) r in
+    let some : 0 < sum (c ∷ old) = o.0 in
+    let kept = right_by c (sum old) (sum new) (change old new) (changes old new) (omega arith) (sum_changed old new w l) p (omega arith) (ap (λ (n : ℕ). n % 65535) (sym before) ∙ o.1) in
+    let more : 0 < renewed c old new + sum new = kept.0 in
+    folded (sum (renewed c old new ∷ new)) (omega arith, ap (λ (n : ℕ). n % 65535) after ∙ kept.1)
+
+pub never_wrong : (c : ℕ) (new : List ℕ) → IsTrue (sums_to_ones (c ∷ new)) → IsTrue (sums_to_ones (never_zero c ∷ new))
+never_wrong c new r = elim (cases_eq c 0) [
+  | inl e ↦
+      let o : Ones (sum (c ∷ new)) = ones (sum (c ∷ new)) r in
+      let some : 0 < sum (c ∷ new) = o.0 in
+      let whole : sum (c ∷ new) % 65535 ≡ 0 = o.1 in
+      let before : sum (c ∷ new) ≡ c + sum new = sum_by-cons (λ (k : ℕ). k) c new in
+      let after : sum (65535 ∷ new) ≡ 65535 + sum new = sum_by-cons (λ (k : ℕ). k) 65535 new in
+      let is : never_zero c ≡ 65535 = ap never_zero e in
+      subst (λ (k : ℕ). IsTrue (sums_to_ones (k ∷ new))) (sym is) (folded (sum (65535 ∷ new)) (omega arith, omega arith))
+  | inr ne ↦ let is : never_zero c ≡ c = rw (ne_eqb c 0 ne) refl in subst (λ (k : ℕ). IsTrue (sums_to_ones (k ∷ new))) (sym is) r
+]
 
 -- ---- words where one is put
 

@@ -9,10 +9,10 @@ use Rattle.of_layers.specs.Looking.{look_up}
 use Rattle.of_layers.specs.Reading.{layers_of}
 use Rattle.of_layers.specs.WellFormed.{AreBytes, Fits, IsIpv4, IsLayers}
 use Rattle.of_layers.proofs.FrameLemmas.{are_layers}
-use Rattle.of_rewrite.specs.Checksum.{renewed, carried_renewed}
+use Rattle.of_rewrite.specs.Checksum.{renewed, carried_renewed, sums_to_ones}
 use Rattle.of_rewrite.specs.Rewriting.{change_at, replace_at, words, without_addresses, address_cover, carried_cover, header_renewed, carried_after}
 use Rattle.of_rewrite.specs.Replaced.{Replaceable, LeavesLayers, numbers_with, carried_with, body_with, layers_with, layers_set}
-use Rattle.of_rewrite.specs.Right.{sums_to_ones, header_is_right, is_left_out, carried_is_right, StayRight}
+use Rattle.of_rewrite.specs.Right.{header_is_right, is_left_out, carried_is_right, StayRight}
 use Rattle.of_rewrite.proofs.Kept.{cut_at, cut_cells, cut_named, bytes_nameless}
 use Rattle.of_rewrite.proofs.KeptLayers.{fits_with, layers_kept, ipv4_kept}
 use Rattle.of_rewrite.proofs.Parts.{length_changed}

@@ -1,7 +1,7 @@
 -- How a checksum follows a change of the words that it covers (RFC 1624, 3; UDP: RFC 768 and RFC 8200, 8.1).
 use Rattle.std.specs.Prelude.{◌≡◌, ℕ, zero, suc, ◌+◌, ◌-◌, ◌*◌, ◌%◌, ◌^◌, ◌<◌, Bool, false, not, ◌&&◌, ◌||◌, ◌==◌, if◌then◌else◌, List, [], ◌∷◌, length, take, drop, sum, slice_index}
 use Rattle.of_layers.specs.declared.transport.Transport.{Transport}
-use Rattle.of_layers.specs.declared.transport.Transport.TheVariants.{Nothing, Tcp, Udp, Icmpv4, Icmpv6}
+use Rattle.of_layers.specs.declared.transport.Transport.TheVariants.{Udp}
 
 -- ---- the words of 16 bits that bits are, the highest bit of each first
 
@@ -47,14 +47,11 @@ udp_renewed may_lack c old new = if (may_lack && (c == 0)) || not (differ old ne
 -- the checksum in the header of what an IP packet carries
 abbrev pub carried_renewed : Bool → Transport → ℕ → List ℕ → List ℕ → ℕ
 carried_renewed may_lack Udp = udp_renewed may_lack
-carried_renewed may_lack Nothing = renewed
-carried_renewed may_lack Tcp = renewed
-carried_renewed may_lack Icmpv4 = renewed
-carried_renewed may_lack Icmpv6 = renewed
+carried_renewed may_lack other = renewed
 
--- ---- what a checksum is for: with the other words it sums up to ones (RFC 1071, 1)
-abbrev pub IsRight : ℕ → List ℕ → Type 0
-IsRight c others = (0 < c + sum others) × ((c + sum others) % 65535 ≡ 0)
+-- ---- what a checksum is for: words, it one of them, sum up to ones (RFC 1071, 1)
+abbrev pub sums_to_ones : List ℕ → Bool
+sums_to_ones ws = fold (sum ws) == 65535
 
 abbrev pub AreWords : List ℕ → Type 0
 AreWords s = (i : ℕ) → slice_index s i < 65536

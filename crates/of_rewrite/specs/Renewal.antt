@@ -28,10 +28,8 @@ packet_at l = 14 + 4 * l.tags
 
 -- the IPv4 header with its options (RFC 791, 3.1)
 abbrev pub header_span : ℕ → Network → Span
-header_span at Plain = no_words
-header_span at Arp = no_words
 header_span at (Ipv4 p) = span at (p.at / 2)
-header_span at (Ipv6 named p) = no_words
+header_span at other = no_words
 
 -- they begin at byte 12 of an IPv4 header, and at byte 8 of an IPv6 header
 abbrev pub address_span : ℕ → Network → Span
@@ -65,10 +63,8 @@ moved at None = None
 moved at (Some n) = Some (at + n)
 
 abbrev pub header_at : ℕ → Network → Option ℕ
-header_at at Plain = None
-header_at at Arp = None
 header_at at (Ipv4 p) = Some (at + 10)
-header_at at (Ipv6 named p) = None
+header_at at other = None
 
 abbrev pub carried_at : ℕ → Network → Option ℕ
 carried_at at Plain = None
@@ -91,11 +87,8 @@ sums_of l s = record {
 
 -- what is written where the checksum was c
 abbrev pub is_udp : Transport → Bool
-is_udp Nothing = false
-is_udp Tcp = false
 is_udp Udp = true
-is_udp Icmpv4 = false
-is_udp Icmpv6 = false
+is_udp other = false
 
 abbrev pub settled : Bool → Transport → ℕ → Sum → ℕ
 settled may_lack kind c m =

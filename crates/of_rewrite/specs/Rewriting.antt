@@ -2,7 +2,7 @@
 use Rattle.std.specs.Prelude.{ℕ, ◌/◌, Bool, true, false, if◌then◌else◌, List, [], ◌∷◌, ◌++◌, length, drop}
 use Rattle.of_layers.specs.declared.field.Field.{Field}
 use Rattle.of_layers.specs.declared.transport.Transport.{Transport}
-use Rattle.of_layers.specs.declared.transport.Transport.TheVariants.{Nothing, Tcp, Udp, Icmpv4, Icmpv6}
+use Rattle.of_layers.specs.declared.transport.Transport.TheVariants.{Nothing, Icmpv4}
 use Rattle.of_layers.specs.Fields.{number_of}
 use Rattle.of_layers.specs.Layers.{Body, Plain, Arp, Ipv4, Ipv6, Layers, Cell, ipv4, ipv6, plain, items_of, cells_in, byte_cells, cells, spelt, header_checksum, checksum}
 use Rattle.of_layers.specs.Looking.{name_is}
@@ -25,18 +25,14 @@ words cs = words_of (length (spelt cs) / 16) (spelt cs)
 
 -- the IPv4 header with its options (RFC 791, 3.1)
 abbrev pub header_cover : Body → List Cell
-header_cover (Plain rest) = []
-header_cover (Arp ns rest) = []
 header_cover (Ipv4 ns opts carried rest) = cells_in ipv4 ns ++ byte_cells opts
-header_cover (Ipv6 ns extensions carried rest) = []
+header_cover other = []
 
 -- ICMP over IPv4 leaves the addresses out (RFC 792); TCP, UDP and ICMPv6 take them in (RFC 9293, 3.1; RFC 768; RFC 4443, 2.3)
 abbrev pub without_addresses : Transport → Bool
 without_addresses Nothing = true
-without_addresses Tcp = false
-without_addresses Udp = false
 without_addresses Icmpv4 = true
-without_addresses Icmpv6 = false
+without_addresses other = false
 
 -- they are the numbers from 11 on of an IPv4 header, and from 7 on of an IPv6 header
 abbrev pub address_cover : Body → List Cell

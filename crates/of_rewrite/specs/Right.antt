@@ -5,12 +5,8 @@ use Rattle.of_layers.specs.declared.transport.Transport.TheVariants.{Nothing, Tc
 use Rattle.of_layers.specs.Layers.{Body, Plain, Arp, Ipv4, Ipv6, checksum}
 use Rattle.of_layers.specs.Looking.{look_up}
 use Rattle.of_layers.specs.Reading.{layers_of}
-use Rattle.of_rewrite.specs.Checksum.{fold}
+use Rattle.of_rewrite.specs.Checksum.{sums_to_ones}
 use Rattle.of_rewrite.specs.Rewriting.{words, header_cover, address_cover, carried_cover}
-
--- words, the checksum one of them
-abbrev pub sums_to_ones : List ℕ → Bool
-sums_to_ones ws = fold (sum ws) == 65535
 
 -- that of the IPv4 header (RFC 791, 3.1)
 abbrev pub header_is_right : Body → Bool
@@ -26,10 +22,8 @@ is_left_out Icmpv4 c = false
 is_left_out Icmpv6 c = false
 
 abbrev pub left_out : Body → Bool
-left_out (Plain rest) = false
-left_out (Arp ns rest) = false
 left_out (Ipv4 ns opts carried rest) = is_left_out carried.kind (look_up checksum (carried_cover (Ipv4 ns opts carried rest)))
-left_out (Ipv6 ns extensions carried rest) = false
+left_out other = false
 
 -- That of what an IP packet carries. Beside the addresses and its header it covers more words, which no action changes: the protocol and the length (RFC 768; RFC 8200, 8.1; RFC 9293, 3.1), and the bytes behind its header.
 abbrev pub carried_is_right : List ℕ → Body → Bool

@@ -1,7 +1,7 @@
 //! What the renewal of a checksum keeps.
 
-ghost use Rattle.std.specs.Prelude.{ℕ, ◌≡◌, ◌<◌, ◌+◌, ◌%◌, ◌∷◌, ◌++◌, List, length, sum};
-ghost use Rattle.of_rewrite.specs.Checksum.{renewed, never_zero, IsRight, AreWords};
+ghost use Rattle.std.specs.Prelude.{ℕ, ◌≡◌, ◌<◌, ◌+◌, ◌%◌, ◌∷◌, ◌++◌, IsTrue, List, length, sum};
+ghost use Rattle.of_rewrite.specs.Checksum.{renewed, never_zero, sums_to_ones, AreWords};
 
 /// A checksum that was right is right after it is renewed: with all the words that it covers it sums up to ones (RFC 1071, 1).
 ///
@@ -10,8 +10,8 @@ ghost use Rattle.of_rewrite.specs.Checksum.{renewed, never_zero, IsRight, AreWor
 /// `udp`: writing a computed 0 as ones changes nothing of that.
 /// `off`: what it sums up to otherwise stays the same too, so that a checksum that was wrong stays wrong by as much.
 pub fn stays_right()
-    ensures kept { (c : ℕ) (old new : List ℕ) → c < 65536 → AreWords old → length old ≡ length new → 0 < sum new → IsRight c old → IsRight (renewed c old new) new }
+    ensures kept { (c : ℕ) (old new : List ℕ) → c < 65536 → AreWords old → length old ≡ length new → 0 < sum new → IsTrue (sums_to_ones (c ∷ old)) → IsTrue (sums_to_ones (renewed c old new ∷ new)) }
     ensures staying { (c w : ℕ) (a x b y : List ℕ) → length a ≡ length x → renewed c (a ++ (w ∷ b)) (x ++ (w ∷ y)) ≡ renewed c (a ++ b) (x ++ y) }
     ensures off { (c : ℕ) (old new : List ℕ) → c < 65536 → AreWords old → length old ≡ length new → (renewed c old new + sum new) % 65535 ≡ (c + sum old) % 65535 }
-    ensures udp { (c : ℕ) (new : List ℕ) → IsRight c new → IsRight (never_zero c) new }
+    ensures udp { (c : ℕ) (new : List ℕ) → IsTrue (sums_to_ones (c ∷ new)) → IsTrue (sums_to_ones (never_zero c ∷ new)) }
 {}

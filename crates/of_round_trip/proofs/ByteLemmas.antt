@@ -1,5 +1,5 @@
 -- Messages are bytes: numbers below 256.
-use Rattle.std.proofs.Common.{◌≡◌, ℕ, ◌+◌, ◌-◌, ◌<◌, suc, zero, true, false, List, [], ◌∷◌, ◌++◌, length, Option, Some, None, arith}
+use Rattle.std.proofs.Common.{◌≡◌, ℕ, ◌+◌, ◌-◌, ◌<◌, suc, zero, true, false, List, [], ◌∷◌, ◌++◌, length, Option, Some, None, arith, rules}
 use Rattle.std.specs.Prelude.{replicate}
 use Rattle.std.specs.List.{AllByRecursion, flat_map, list_all}
 use Rattle.std.proofs.Math.Nat.{mod-lt}
@@ -15,7 +15,7 @@ use Rattle.of_oxm.specs.MatchFieldWire.{spelling}
 use Rattle.of_oxm.specs.MatchGrammar.{padded}
 use Rattle.of_oxm.specs.Canonical.{canonical, written_len}
 use Rattle.of_actions.specs.declared.action.Action.{Action}
-use Rattle.of_actions.specs.declared.action.Action.TheVariants.{Output, PushVlan, PopVlan, Group, SetNwTtl, DecNwTtl, SetField}
+use Rattle.of_actions.specs.declared.action.Action.TheVariants.{SetField}
 use Rattle.of_actions.specs.declared.instruction.Instruction.{Instruction}
 use Rattle.of_actions.specs.declared.instruction.Instruction.TheVariants.{Apply, Clear, Write, Metadata, Goto}
 use Rattle.of_actions.specs.Served.{is_served, are_served}
@@ -100,16 +100,11 @@ match_bytes m = next (omega arith) (next (omega arith) (both (big 2 (written_len
 
 action_bytes : (a : Action) → is_served false a ≡ true → Bytes (canonical_action a)
 unfolding canonical_action canonical_set_field is_served
-action_bytes (Output port max_len) h = four (omega arith) (omega arith) (omega arith) (omega arith) (both (big 4 port) (both (big 2 max_len) (zeros 6)))
-action_bytes (PushVlan type) h = four (omega arith) (omega arith) (omega arith) (omega arith) (both (big 2 type) (zeros 2))
-action_bytes PopVlan h = four (omega arith) (omega arith) (omega arith) (omega arith) (zeros 4)
-action_bytes (Group group) h = four (omega arith) (omega arith) (omega arith) (omega arith) (big 4 group)
-action_bytes (SetNwTtl ttl) h = four (omega arith) (omega arith) (omega arith) (omega arith) (next (grind (arith, nat_tests)) (zeros 3))
-action_bytes DecNwTtl h = four (omega arith) (omega arith) (omega arith) (omega arith) (zeros 4)
 action_bytes (SetField f v) h =
     let number = number_below f in
     let size = bytes_most f in
     four (omega arith) (omega arith) (omega arith) (omega (arith, size)) (four (omega arith) (omega arith) (omega (arith, number)) (omega (arith, size)) (both (big (bytes_of f) v) (zeros (set_len f - (8 + bytes_of f)))))
+action_bytes other h = search (rules, next, big)
 
 all_actions : (xs : List Action) → list_all (is_served false) xs ≡ true → AllByRecursion (λ a. Bytes (canonical_action a)) xs
 all_actions [] h = tt

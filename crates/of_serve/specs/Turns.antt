@@ -19,11 +19,7 @@ use Rattle.of_serve.specs.Told.{Came, accept_came, Answered, then_begun, then_on
 -- the clock has not reached this `t` row
 abbrev pub waits : ℕ → Event → Bool
 waits now (Moment nanos) = nat_lt now nanos
-waits now Connect = false
-waits now Lost = false
-waits now (Piece bytes) = false
-waits now (Frame port bytes) = false
-waits now (Ports change) = false
+waits now other = false
 
 -- a `t` row itself does nothing: it is the clock that tells moments
 abbrev pub acts : Event → List Event
@@ -165,12 +161,8 @@ cut_events c = c.done ++ c.event ∷ c.others
 
 -- what so many messages of an event give: only a piece has any
 abbrev pub part_of : ℕ → Event → State → List Effect
-part_of n Connect s = []
-part_of n Lost s = []
 part_of n (Piece bytes) s = (drain n (come bytes s)).effects
-part_of n (Frame port bytes) s = []
-part_of n (Moment nanos) s = []
-part_of n (Ports change) s = []
+part_of n other s = []
 
 abbrev pub with_effects : List Effect → Gathered → Gathered
 with_effects effects g = record {

@@ -97,9 +97,5 @@ IsSized (Refused xid size code) n = size ≡ n
 
 -- what holds of each message that was read
 abbrev pub IsSound : Next → Type 0
-IsSound Nothing = Unit {0}
-IsSound (BadStream xid) = Unit {0}
-IsSound (NotHello xid) = Unit {0}
-IsSound (Opened size) = Unit {0}
 IsSound (Read xid size message) = IsSoundMessage message
-IsSound (Refused xid size code) = Unit {0}
+IsSound other = Unit {0}

@@ -3,10 +3,8 @@ ghost use Rattle.std.specs.Prelude.{◌≡◌, ◌++◌, OnOk};
 ghost use Rattle.byteorder.specs.Endian.{big_bytes};
 ghost use Rattle.of_statistics.specs.Durations.{duration};
 
+use of_table::NANOS;
 use std::alloc::AllocError;
-
-/// Nanoseconds in a second.
-const NANOS: u64 = 1_000_000_000;
 
 pub(crate) fn put_u16(out: &mut Vec<u8>, number: u16) -> Result<(), AllocError>
     ensures { OnOk result (out.new.items ≡ out.old.items ++ big_bytes 2 number) }

@@ -5,7 +5,7 @@ use Rattle.std.specs.Prelude.{not}
 use Rattle.std.specs.Option.{option_copied, is_some}
 use Rattle.std.proofs.lemmas.Bool.{eq-eqb}
 use Rattle.of_actions.specs.declared.action.Action.{Action}
-use Rattle.of_actions.specs.declared.action.Action.TheVariants.{Output, PushVlan, PopVlan, Group as ToGroup, SetNwTtl, DecNwTtl, SetField}
+use Rattle.of_actions.specs.declared.action.Action.TheVariants.{Group as ToGroup}
 use Rattle.of_groups.specs.declared.group.Group.{Group}
 use Rattle.of_groups.specs.Buckets.{sends}
 use Rattle.of_groups.specs.Groups.{bucket_at, find_group}
@@ -26,13 +26,8 @@ none_absent n groups (Some g) false told e = rw (there_found n groups, ← e) re
 
 module _ (w : TheWorld) (groups : List Group) (chains : (g : ℕ) → w.chain g ≡ chain groups g) (buckets : (g place : ℕ) → w.bucket g place ≡ bucket_at groups g place) where
   below_one : (n : ℕ) (a : Action) → ((m : ℕ) → sends (λ k. eqb k m) a ≡ true → chain groups m < chain groups n) → IsBelow w (w.chain n) a
-  below_one n (Output port max_len) h = tt
-  below_one n (PushVlan type) h = tt
-  below_one n PopVlan h = tt
   below_one n (ToGroup g) h = rw (chains g, chains n) (h g (eq-eqb g g refl))
-  below_one n (SetNwTtl ttl) h = tt
-  below_one n DecNwTtl h = tt
-  below_one n (SetField field value) h = tt
+  below_one n other h = tt
 
   all_below : (n : ℕ) (actions : List Action) → ((m : ℕ) → list_any (sends (λ k. eqb k m)) actions ≡ true → chain groups m < chain groups n) → AllBelow w (w.chain n) actions
   all_below n [] h = tt

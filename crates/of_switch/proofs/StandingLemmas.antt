@@ -6,7 +6,7 @@ use Rattle.std.proofs.lemmas.Bool.{and_parts, and_from, eqb-true, eq-eqb, le-leb
 use Rattle.std.proofs.Math.Path.{fun_ext}
 use Rattle.of_wire.specs.Numbered.{without}
 use Rattle.of_actions.specs.declared.action.Action.{Action}
-use Rattle.of_actions.specs.declared.action.Action.TheVariants.{Output, PushVlan, PopVlan, Group as ToGroup, SetNwTtl, DecNwTtl, SetField}
+use Rattle.of_actions.specs.declared.action.Action.TheVariants.{Group as ToGroup}
 use Rattle.of_actions.specs.declared.instruction.Instruction.{Instruction}
 use Rattle.of_actions.specs.declared.instruction.Instruction.TheVariants as instructions
 use Rattle.of_groups.specs.declared.group.Group.{Group}
@@ -197,13 +197,8 @@ changed_at n change same f k =
     swapped (at_group n change f.groups) f (absent_mapped g (at_same n change same) f.groups) (numbers_mapped g (at_same n change same) f.groups) k
 
 sends_less : (p q : ℕ → Bool) → ((n : ℕ) → p n ≡ false → q n ≡ false) → (a : Action) → sends p a ≡ false → sends p a ≡ false → sends q a ≡ false
-sends_less p q f (Output port m) h k = refl
-sends_less p q f (PushVlan t) h k = refl
-sends_less p q f PopVlan h k = refl
 sends_less p q f (ToGroup n) h k = f n h
-sends_less p q f (SetNwTtl t) h k = refl
-sends_less p q f DecNwTtl h k = refl
-sends_less p q f (SetField field v) h k = refl
+sends_less p q f other h k = refl
 
 entry_less : (gs hs : List Group) → ((n : ℕ) → is_absent gs n ≡ false → is_absent hs n ≡ false) → (e : FlowEntry) → is_standing gs e ≡ true → is_standing hs e ≡ true
 entry_less gs hs f e h =
@@ -244,9 +239,6 @@ there_left n m (g ∷ gs) e h = by_tests (eqb g.id n) (eqb g.id m) refl refl h (
     by_tests false false a b h again = rw (a, b) (again (rw b at h))
 
 gone_or_left : (which : Option ℕ) (gs : List Group) (a : Action) → sends (is_absent gs) a ≡ false → is_to which a ≡ false → sends (is_absent (left which gs)) a ≡ false
-gone_or_left which gs (Output port m) h k = refl
-gone_or_left which gs (PushVlan t) h k = refl
-gone_or_left which gs PopVlan h k = refl
 gone_or_left None gs (ToGroup m) h k = absurd cc
 gone_or_left (Some n) gs (ToGroup m) h k = not_there (there_left n m gs k (there h))
   where
@@ -259,9 +251,7 @@ gone_or_left (Some n) gs (ToGroup m) h k = not_there (there_left n m gs k (there
 
     not_there : is_there m (without number_of n gs) ≡ true → is_absent (without number_of n gs) m ≡ false
     not_there e = rw e refl
-gone_or_left which gs (SetNwTtl t) h k = refl
-gone_or_left which gs DecNwTtl h k = refl
-gone_or_left which gs (SetField field v) h k = refl
+gone_or_left which gs other h k = refl
 
 unnamed : (which : Option ℕ) (e : FlowEntry) → stays (OfGroup which) e ≡ true → names_group which e ≡ false
 unnamed which e h = by_test (names_group which e) refl

@@ -1,24 +1,21 @@
 -- What a FLOW_MOD does to the flow tables (OpenFlow 1.3.5, 6.4 and 7.3.4.1), and the notices of entries that went (7.4.2).
 use Rattle.std.specs.Prelude.{ℕ, ◌-◌, ◌/◌, ◌%◌, ◌^◌, ◌==◌, ◌&&◌, nat_le, bit_and, Bool, true, false, not, List, [], ◌∷◌, map, filter, Option, Some, None, if◌then◌else◌}
 use Rattle.std.specs.List.{list_any}
+use Rattle.of_wire.specs.Reasons.{flow_removed_number}
 use Rattle.of_wire.specs.declared.code.Code.{Code}
 use Rattle.of_wire.specs.Refusals.{refusal}
 use Rattle.of_messages.specs.declared.message.FlowMod.{FlowMod}
 use Rattle.of_messages.specs.declared.message.FlowModCommand.{FlowModCommand}
 use Rattle.of_messages.specs.declared.message.FlowModCommand.TheVariants.{Add, Modify, ModifyStrict, Delete, DeleteStrict}
 use Rattle.of_messages.specs.declared.message.FlowRemoved.{FlowRemoved}
-use Rattle.of_messages.specs.declared.message.FlowRemovedReason.{FlowRemovedReason}
-use Rattle.of_messages.specs.declared.message.FlowRemovedReason.TheVariants as wire
 use Rattle.of_messages.specs.Messages.{is_delete}
 use Rattle.of_messages.specs.Written.{flow_removed_bytes}
 use Rattle.of_table.specs.declared.flow.Flow.{Flow}
 use Rattle.of_table.specs.declared.flow.FlowFlags.{FlowFlags}
 use Rattle.of_table.specs.declared.selection.Which.{Which}
 use Rattle.of_table.specs.declared.selection.Cause.TheVariants as cause
-use Rattle.of_table.specs.declared.selection.RemovedReason.{RemovedReason}
-use Rattle.of_table.specs.declared.selection.RemovedReason.TheVariants as reason
 use Rattle.of_table.specs.Table.{is_overlapped, is_full}
-use Rattle.of_table.specs.Selecting.{Notice, has_action}
+use Rattle.of_table.specs.Selecting.{Notice, has_action, seconds_since, nanoseconds_since}
 use Rattle.of_actions.specs.declared.action.Action.{Action}
 use Rattle.of_actions.specs.declared.instruction.Instruction.{Instruction}
 use Rattle.of_groups.specs.declared.group.Group.{Group}
@@ -47,17 +44,12 @@ flow_of m = record { fields = m.fields; priority = m.priority; cookie = m.cookie
 
 abbrev pub is_add : FlowModCommand → Bool
 is_add Add = true
-is_add Modify = false
-is_add ModifyStrict = false
-is_add Delete = false
-is_add DeleteStrict = false
+is_add other = false
 
 abbrev pub is_strict : FlowModCommand → Bool
-is_strict Add = false
-is_strict Modify = false
 is_strict ModifyStrict = true
-is_strict Delete = false
 is_strict DeleteStrict = true
+is_strict other = false
 
 -- a number that may stand for any: OFPTT_ALL, OFPP_ANY and OFPG_ANY are all ones
 abbrev pub unless_any : ℕ → ℕ → Option ℕ
@@ -117,21 +109,15 @@ command_notices m ts = if is_delete m.command then notices_in (cause.Delete (whi
 
 -- ---- FLOW_REMOVED
 
-abbrev pub wire_reason : RemovedReason → FlowRemovedReason
-wire_reason reason.IdleTimeout = wire.IdleTimeout
-wire_reason reason.HardTimeout = wire.HardTimeout
-wire_reason reason.Delete = wire.Delete
-wire_reason reason.GroupDelete = wire.GroupDelete
-
 -- of an entry that went now; the seconds are cut to 32 bits
 abbrev pub removed_of : ℕ → Notice → FlowRemoved
 removed_of now n = record {
   cookie = n.entry.flow.cookie;
   priority = n.entry.flow.priority;
-  reason = wire_reason n.reason;
+  reason = n.reason;
   table = n.table;
-  duration_sec = (now - n.entry.created) / 1000000000 % 2 ^ 32;
-  duration_nsec = (now - n.entry.created) % 1000000000;
+  duration_sec = seconds_since now n.entry.created % 2 ^ 32;
+  duration_nsec = nanoseconds_since now n.entry.created;
   idle_timeout = n.entry.flow.idle_timeout;
   hard_timeout = n.entry.flow.hard_timeout;
   packets = n.entry.packets;
@@ -142,14 +128,8 @@ removed_of now n = record {
 abbrev pub notice_effect : ℕ → Notice → Effect
 notice_effect now n = Answer (flow_removed_bytes 0 (removed_of now n) n.entry.flow.fields)
 
-abbrev pub removed_bit : RemovedReason → ℕ
-removed_bit reason.IdleTimeout = 1
-removed_bit reason.HardTimeout = 2
-removed_bit reason.Delete = 4
-removed_bit reason.GroupDelete = 8
-
 abbrev pub is_notice_heard : Heard → Notice → Bool
-is_notice_heard heard n = lets_pass heard.flow_removed (removed_bit n.reason)
+is_notice_heard heard n = lets_pass heard.flow_removed (2 ^ flow_removed_number n.reason)
 
 -- of those that the controller is told of
 abbrev pub notice_effects : Heard → ℕ → List Notice → List Effect

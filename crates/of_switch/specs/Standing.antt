@@ -5,6 +5,7 @@ use Rattle.of_groups.specs.declared.group.Group.{Group}
 use Rattle.of_table.specs.Table.{FlowEntry, Table}
 use Rattle.of_switch.specs.Commands.{names_absent_group}
 use Rattle.of_switch.specs.Plane.{Forwarding}
+use Rattle.of_groups.specs.Buckets.{group_max}
 
 -- each group to which an action of the entry gives packets is there
 abbrev pub is_standing : List Group → FlowEntry → Bool
@@ -15,7 +16,7 @@ are_standing groups t = list_all (is_standing groups) t.flows
 
 -- OFPG_MAX is the highest number of a group
 abbrev pub is_numbered : Group → Bool
-is_numbered g = nat_le g.id 0xffffff00
+is_numbered g = nat_le g.id group_max
 
 -- EACH GROUP THAT AN ENTRY NAMES IS THERE, and no group has a number above OFPG_MAX
 pub record IsStanding (f : Forwarding) : Type 0 where

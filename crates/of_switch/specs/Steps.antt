@@ -3,7 +3,7 @@ use Rattle.std.specs.Prelude.{◌≡◌, ℕ, max, Bool, List, [], ◌∷◌, ma
 use Rattle.of_wire.specs.declared.code.Code.{Code}
 use Rattle.of_wire.specs.Refusals.{refusal, first_of}
 use Rattle.of_messages.specs.declared.message.Message.{Message}
-use Rattle.of_messages.specs.declared.message.Message.TheVariants.{Hello, Error, EchoRequest, EchoReply, FeaturesRequest, GetConfigRequest, SetConfig, BarrierRequest, FlowMod as IsFlowMod, PacketOut as IsPacketOut, GroupMod as IsGroupMod, PortMod as IsPortMod, TableMod as IsTableMod, Multipart, RoleRequest as IsRoleRequest, GetAsyncRequest, SetAsync}
+use Rattle.of_messages.specs.declared.message.Message.TheVariants.{EchoRequest, FeaturesRequest, GetConfigRequest, SetConfig, BarrierRequest, FlowMod as IsFlowMod, PacketOut as IsPacketOut, GroupMod as IsGroupMod, PortMod as IsPortMod, Multipart, RoleRequest as IsRoleRequest, GetAsyncRequest, SetAsync}
 use Rattle.of_messages.specs.declared.message.PacketOut.{PacketOut}
 use Rattle.of_messages.specs.declared.port_mod.PortMod.{PortMod}
 use Rattle.of_messages.specs.declared.port_mod.PortStatusReason.TheVariants as port
@@ -66,23 +66,13 @@ forwarded f k = does f.effects (record k { forwarding = f.forwarding })
 
 -- what a message is refused for that was read, in the written order
 abbrev pub state_refusals : Message → Core → List (Bool × Code)
-state_refusals Hello k = []
-state_refusals Error k = []
-state_refusals (EchoRequest echoed) k = []
-state_refusals EchoReply k = []
-state_refusals FeaturesRequest k = []
-state_refusals GetConfigRequest k = []
-state_refusals (SetConfig config) k = []
-state_refusals BarrierRequest k = []
-state_refusals (IsTableMod m) k = []
 state_refusals (Multipart request) k = multipart_refusals request k.forwarding.ports
 state_refusals (IsRoleRequest request) k = election_refusals request k.control
-state_refusals GetAsyncRequest k = []
-state_refusals (SetAsync masks) k = []
 state_refusals (IsPacketOut m) k = packet_out_refusals m k.forwarding.groups
 state_refusals (IsPortMod m) k = port_mod_refusals m k.forwarding.ports
 state_refusals (IsFlowMod m) k = flow_mod_refusals m k.forwarding.tables k.forwarding.groups
 state_refusals (IsGroupMod m) k = refused_for (group_mod_fault m k.forwarding.tables.latest k.forwarding.groups)
+state_refusals other k = []
 
 -- a FLOW_MOD does its command, with a notice of each entry that went
 abbrev pub flow_modded : FlowMod → Core → Done
@@ -136,15 +126,11 @@ masked masks k = does [] (record k { control = record k.control { masks = masks 
 
 -- what is done where nothing is refused: a later HELLO, an ERROR, an ECHO_REPLY and a TABLE_MOD do nothing
 abbrev pub done : ℕ → Message → Core → Done
-done xid Hello k = does [] k
-done xid Error k = does [] k
 done xid (EchoRequest echoed) k = does (Answer (echo_reply_bytes xid echoed) ∷ []) k
-done xid EchoReply k = does [] k
 done xid FeaturesRequest k = does (Answer (features_reply_bytes xid k.dpid) ∷ []) k
 done xid GetConfigRequest k = does (Answer (config_reply_bytes xid k.control.config) ∷ []) k
 done xid (SetConfig config) k = configured config k
 done xid BarrierRequest k = does (Answer (barrier_reply_bytes xid) ∷ []) k
-done xid (IsTableMod m) k = does [] k
 done xid (Multipart request) k = replied xid request k
 done xid (IsRoleRequest request) k = role_asked xid request k
 done xid GetAsyncRequest k = does (Answer (async_reply_bytes xid k.control.masks) ∷ []) k
@@ -153,6 +139,7 @@ done xid (IsPacketOut m) k = packet_outed m k
 done xid (IsPortMod m) k = port_modded m k
 done xid (IsFlowMod m) k = flow_modded m k
 done xid (IsGroupMod m) k = group_modded m k
+done xid other k = does [] k
 
 -- a refused message is answered by an ERROR with its first bytes (7.4.4), and does nothing else
 abbrev pub refused : ℕ → Code → List ℕ → Core → Done
@@ -233,12 +220,9 @@ next_of s = next_by (coming s) s
 
 -- what comes next is a message of that transaction id and size that is refused with this code: for its bytes, or for the state
 abbrev pub IsRefusedWith : Next → Core → ℕ → ℕ → Code → Type 0
-IsRefusedWith Nothing k xid size code = ⊥
-IsRefusedWith (BadStream x) k xid size code = ⊥
-IsRefusedWith (NotHello x) k xid size code = ⊥
-IsRefusedWith (Opened n) k xid size code = ⊥
 IsRefusedWith (Refused x n c) k xid size code = (x ≡ xid) × (n ≡ size) × (c ≡ code)
 IsRefusedWith (Read x n m) k xid size code = (x ≡ xid) × (n ≡ size) × (first_of (state_refusals m k) ≡ Some code)
+IsRefusedWith other k xid size code = ⊥
 
 -- WHAT THE CONTROLLER IS TOLD UNASKED
 

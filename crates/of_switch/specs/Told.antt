@@ -1,11 +1,10 @@
 -- What a switch sends of what a packet's run emitted: frames out of ports, and PACKET_INs to the controller (OpenFlow 1.3.5, 7.4.1).
-use Rattle.std.specs.Prelude.{ℕ, Bool, true, false, not, ◌&&◌, List, [], map, filter, if◌then◌else◌}
+use Rattle.std.specs.Prelude.{ℕ, ◌^◌, Bool, true, false, not, ◌&&◌, List, [], map, filter, if◌then◌else◌}
 use Rattle.std.specs.Option.{option_map_or}
-use Rattle.of_messages.specs.declared.message.PacketInReason.{PacketInReason}
-use Rattle.of_messages.specs.declared.message.PacketInReason.TheVariants as wire
+use Rattle.of_wire.specs.Reasons.{packet_in_number}
 use Rattle.of_messages.specs.Written.{packet_in_bytes}
-use Rattle.of_machine.specs.declared.data.PacketInReason.{PacketInReason as Reason}
-use Rattle.of_machine.specs.declared.data.PacketInReason.TheVariants as reason
+use Rattle.of_wire.specs.declared.reasons.PacketInReason.{PacketInReason}
+use Rattle.of_wire.specs.declared.reasons.PacketInReason.TheVariants as reason
 use Rattle.of_machine.specs.declared.data.ToController.{ToController}
 use Rattle.of_machine.specs.declared.data.Item.{Item}
 use Rattle.of_machine.specs.declared.data.Item.TheVariants as item
@@ -21,23 +20,13 @@ use Rattle.of_switch.specs.declared.effect.Effect.TheVariants.{Answer, Sent}
 abbrev pub told : ℕ → ℕ → List Effect → List Effect
 told mask reason effects = if lets_pass mask reason then effects else []
 
-abbrev pub packet_in_bit : Reason → ℕ
-packet_in_bit reason.NoMatch = 1
-packet_in_bit reason.Action = 2
-packet_in_bit reason.InvalidTtl = 4
-
-abbrev pub packet_in_reason : Reason → PacketInReason
-packet_in_reason reason.NoMatch = wire.NoMatch
-packet_in_reason reason.Action = wire.Action
-packet_in_reason reason.InvalidTtl = wire.InvalidTtl
-
 -- a message that the switch begins has the transaction id 0
 abbrev pub effect_of : Item → Effect
 effect_of (item.Sent port frame) = Sent port frame
 effect_of (item.PacketIn p) =
-    Answer (packet_in_bytes 0 (record { reason = packet_in_reason p.reason; table = p.table; cookie = p.cookie; in_port = p.ingress; metadata = p.metadata }) p.frame)
+    Answer (packet_in_bytes 0 (record { reason = p.reason; table = p.table; cookie = p.cookie; in_port = p.ingress; metadata = p.metadata }) p.frame)
 
-abbrev pub is_no_match : Reason → Bool
+abbrev pub is_no_match : PacketInReason → Bool
 is_no_match reason.NoMatch = true
 is_no_match reason.Action = false
 is_no_match reason.InvalidTtl = false
@@ -49,7 +38,7 @@ is_silenced ports p = is_no_match p.reason && option_map_or (λ q. q.config.no_p
 -- a frame always leaves
 abbrev pub is_given : Heard → List Port → Item → Bool
 is_given heard ports (item.Sent port frame) = true
-is_given heard ports (item.PacketIn p) = lets_pass heard.packet_in (packet_in_bit p.reason) && not (is_silenced ports p)
+is_given heard ports (item.PacketIn p) = lets_pass heard.packet_in (2 ^ packet_in_number p.reason) && not (is_silenced ports p)
 
 abbrev pub effects_of : Heard → List Port → List Item → List Effect
 effects_of heard ports items = map effect_of (filter (is_given heard ports) items)

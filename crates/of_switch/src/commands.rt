@@ -2,7 +2,7 @@
 
 ghost use Rattle.std.specs.Prelude.{◌≡◌, OnOk, IfOk};
 ghost use Rattle.of_table.specs.Selecting.{notice_of, notices_of};
-ghost use Rattle.of_switch.specs.Commands.{flags_of, flow_of, has_flag as with_flag, is_strict as strict, notice_effect, notice_effects, out_of, removed_bit, removed_of, unless_any as none_for, which_of, wire_reason, is_to_absent_group as to_absent_group, names_absent_group as naming_absent_group};
+ghost use Rattle.of_switch.specs.Commands.{flags_of, flow_of, has_flag as with_flag, is_strict as strict, notice_effect, notice_effects, out_of, removed_of, unless_any as none_for, which_of, is_to_absent_group as to_absent_group, names_absent_group as naming_absent_group};
 ghost use Rattle.std.specs.List.{list_any};
 ghost use Rattle.of_table.specs.Selecting.{has_action};
 
@@ -10,8 +10,8 @@ use crate::control::{Heard, lets_through};
 use crate::effect::{Effect, Effects};
 use of_actions::{Action, Instruction};
 use of_groups::Groups;
-use of_messages::{FlowMod, FlowModCommand, FlowRemoved, FlowRemovedReason, write_flow_removed};
-use of_table::{Flow, FlowFlags, Removed, RemovedReason, Which};
+use of_messages::{FlowMod, FlowModCommand, FlowRemoved, write_flow_removed};
+use of_table::{Flow, FlowFlags, NANOS, Removed, Which};
 use std::alloc::{AllocError, Global};
 
 /// OFPTT_ALL: all tables.
@@ -19,8 +19,6 @@ pub const ALL_TABLES: u8 = 255;
 
 /// OFPP_ANY and OFPG_ANY: no port and no group is asked for.
 pub const ANY: u32 = 0xffff_ffff;
-
-const NANOS: u64 = 1_000_000_000;
 
 pub fn has_flag(flags: u16, flag: u16) -> bool
     ensures { result ≡ with_flag flags flag }
@@ -133,17 +131,6 @@ pub fn which_from(flow_mod: FlowMod) -> Which
     }
 }
 
-fn reason_from(reason: RemovedReason) -> FlowRemovedReason
-    ensures { result ≡ wire_reason reason }
-{
-    match reason {
-        RemovedReason::IdleTimeout => FlowRemovedReason::IdleTimeout,
-        RemovedReason::HardTimeout => FlowRemovedReason::HardTimeout,
-        RemovedReason::Delete => FlowRemovedReason::Delete,
-        RemovedReason::GroupDelete => FlowRemovedReason::GroupDelete,
-    }
-}
-
 fn removed_from(removed: &Removed<'_>, now: u64) -> FlowRemoved
     ensures { result ≡ removed_of now (notice_of removed.now) }
 {
@@ -152,7 +139,7 @@ fn removed_from(removed: &Removed<'_>, now: u64) -> FlowRemoved
     FlowRemoved {
         cookie: entry.flow.cookie,
         priority: entry.flow.priority,
-        reason: reason_from(removed.reason),
+        reason: removed.reason,
         table: removed.table,
         duration_sec: (age / NANOS % 0x1_0000_0000) as u32,
         duration_nsec: (age % NANOS) as u32,
@@ -170,17 +157,6 @@ fn notice(alloc: Global, removed: &Removed<'_>, now: u64) -> Result<Effect, Allo
     Ok(Effect::Answer(write_flow_removed(alloc, 0, &told, &removed.entry.flow.fields)?))
 }
 
-fn reason_bit(reason: RemovedReason) -> u32
-    ensures { result ≡ removed_bit reason }
-{
-    match reason {
-        RemovedReason::IdleTimeout => 1,
-        RemovedReason::HardTimeout => 2,
-        RemovedReason::Delete => 4,
-        RemovedReason::GroupDelete => 8,
-    }
-}
-
 /// The FLOW_REMOVED messages of entries that went, in their order: those of which the controller is told.
 pub fn notices(
     alloc: Global,
@@ -192,7 +168,7 @@ pub fn notices(
 {
     let mut effects = Effects::new(alloc);
     for one in removed {
-        if lets_through(heard.flow_removed, reason_bit(one.reason)) {
+        if lets_through(heard.flow_removed, one.reason.bit()) {
             effects.push(notice(alloc, one, now)?)?;
         }
     }

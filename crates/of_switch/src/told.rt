@@ -3,7 +3,7 @@ ghost use Rattle.std.specs.Prelude.{◌≡◌, ◌≤◌, IfOk, length, false};
 ghost use Rattle.std.specs.Option.{option_map_or};
 ghost use Rattle.of_ports.specs.Ports.{port_at};
 ghost use Rattle.of_machine.specs.Growth.{AllShort, frame_of};
-ghost use Rattle.of_switch.specs.Told.{effect_of, effects_of, is_given as is_given_to, is_silenced as is_silenced_by, packet_in_bit, packet_in_reason};
+ghost use Rattle.of_switch.specs.Told.{effect_of, effects_of, is_given as is_given_to, is_silenced as is_silenced_by};
 
 use crate::control::{Heard, lets_through};
 use crate::effect::{Effect, Effects};
@@ -11,26 +11,6 @@ use of_machine::{Item, Items, PacketInReason, ToController};
 use of_messages::{PacketIn, write_packet_in};
 use of_ports::Ports;
 use std::alloc::{AllocError, Global};
-
-fn reason_from(reason: PacketInReason) -> of_messages::PacketInReason
-    ensures { result ≡ packet_in_reason reason }
-{
-    match reason {
-        PacketInReason::NoMatch => of_messages::PacketInReason::NoMatch,
-        PacketInReason::Action => of_messages::PacketInReason::Action,
-        PacketInReason::InvalidTtl => of_messages::PacketInReason::InvalidTtl,
-    }
-}
-
-fn reason_bit(reason: PacketInReason) -> u32
-    ensures { result ≡ packet_in_bit reason }
-{
-    match reason {
-        PacketInReason::NoMatch => 1,
-        PacketInReason::Action => 2,
-        PacketInReason::InvalidTtl => 4,
-    }
-}
 
 // Whether its ingress port silences it.
 fn is_silenced(ports: &Ports, packet: &ToController) -> bool
@@ -55,7 +35,7 @@ fn is_given(heard: Heard, ports: &Ports, item: &Item) -> bool
     match item {
         Item::Sent { .. } => true,
         Item::PacketIn(packet) => {
-            lets_through(heard.packet_in, reason_bit(packet.reason)) && !is_silenced(ports, packet)
+            lets_through(heard.packet_in, packet.reason.bit()) && !is_silenced(ports, packet)
         }
     }
 }
@@ -68,7 +48,7 @@ fn effect_from(alloc: Global, item: Item) -> Result<Effect, AllocError>
         Item::Sent { port, frame } => Ok(Effect::Sent { port, frame }),
         Item::PacketIn(packet) => {
             let told = PacketIn {
-                reason: reason_from(packet.reason),
+                reason: packet.reason,
                 table: packet.table,
                 cookie: packet.cookie,
                 in_port: packet.ingress,

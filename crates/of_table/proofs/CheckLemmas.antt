@@ -10,7 +10,7 @@ use Rattle.of_oxm.specs.NormalForm.{IsMatch}
 use Rattle.of_oxm.proofs.Covered.{covered_has_needs}
 use Rattle.of_oxm.proofs.Related.{and_true}
 use Rattle.of_actions.specs.declared.action.Action.{Action}
-use Rattle.of_actions.specs.declared.action.Action.TheVariants.{Output, PushVlan, PopVlan, Group, SetNwTtl, DecNwTtl, SetField}
+use Rattle.of_actions.specs.declared.action.Action.TheVariants.{SetField}
 use Rattle.of_actions.specs.declared.instruction.Instruction.{Instruction}
 use Rattle.of_actions.specs.declared.instruction.Instruction.TheVariants.{Apply, Clear, Write, Metadata, Goto}
 use Rattle.of_actions.specs.FlowCheck.{is_need_met, are_needs_met, goes_with, all_go_with}
@@ -24,13 +24,8 @@ or_more true b c f h = refl
 or_more false b c f h = f h
 
 need_kept : (d m : List MatchField) → ((n : Need) → is_met d n ≡ true → is_met m n ≡ true) → (a : Action) → is_need_met d a ≡ true → is_need_met m a ≡ true
-need_kept d m more (Output port max_len) h = refl
-need_kept d m more (PushVlan type) h = refl
-need_kept d m more PopVlan h = refl
-need_kept d m more (Group group) h = refl
-need_kept d m more (SetNwTtl ttl) h = refl
-need_kept d m more DecNwTtl h = refl
 need_kept d m more (SetField field value) h = or_more (ltb (number_of field) 8) (is_met d (need_of field)) (is_met m (need_of field)) (more (need_of field)) h
+need_kept d m more other h = refl
 
 needs_kept : (d m : List MatchField) → ((n : Need) → is_met d n ≡ true → is_met m n ≡ true) → (actions : List Action) → are_needs_met d actions ≡ true → are_needs_met m actions ≡ true
 needs_kept d m more [] h = refl

@@ -16,7 +16,7 @@ use Rattle.of_table.specs.Deadlines.{all_stay, NoneOver}
 use Rattle.of_table.proofs.Soundness.{all-filter, all-set}
 use Rattle.std.specs.Option.{option_map, option_to_list}
 use Rattle.of_oxm.proofs.Related.{and_true}
-use Rattle.of_table.specs.declared.selection.RemovedReason.{RemovedReason}
+use Rattle.of_wire.specs.declared.reasons.FlowRemovedReason.{FlowRemovedReason}
 
 pub not_over : (now since seconds : ℕ) → now < since + 1000000000 * seconds → is_over now since seconds ≡ false
 not_over now since seconds lt = grind (arith, nat_tests)
@@ -61,7 +61,7 @@ all_kept cause (e ∷ es) h = by_test (stays cause (entry_of e)) h (all_kept cau
     by_test true g ih = ap (λ (xs : List Entry). e ∷ xs) (ih g)
     by_test false g ih = absurd cc
 
-none_by : (table : ℕ) (e : Entry) (reason : Option RemovedReason) → is_none reason ≡ true → option_to_list (told_by table e reason) ≡ []
+none_by : (table : ℕ) (e : Entry) (reason : Option FlowRemovedReason) → is_none reason ≡ true → option_to_list (told_by table e reason) ≡ []
 none_by table e None h = refl
 none_by table e (Some reason) h = absurd cc
 

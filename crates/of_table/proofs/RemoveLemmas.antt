@@ -12,7 +12,7 @@ use Rattle.of_classifier.specs.Rows.{row_number}
 use Rattle.of_table.proofs.PlaceLemmas.{filter-map}
 use Rattle.of_table.specs.Entries.{entry_of, flows_of, row_of, rows_of}
 use Rattle.of_table.specs.Selecting.{Notice, Told, stays, left, reason_of, notice_by, notices, notice_of, notices_of, with_number, told_by, told, all_told, kept_of}
-use Rattle.of_table.specs.declared.selection.RemovedReason.{RemovedReason}
+use Rattle.of_wire.specs.declared.reasons.FlowRemovedReason.{FlowRemovedReason}
 use Rattle.of_table.specs.declared.selection.Cause.{Cause}
 use Rattle.of_table.specs.declared.selection.Removed.{Removed}
 use Rattle.of_table.specs.declared.entry.Entry.{Entry}
@@ -73,11 +73,11 @@ taken_more : (cause : Cause) (es : List Entry) (i : ℕ) (e : Entry) (before aft
     after ≡ cond (stays cause (entry_of e)) before (without row_number e.number before) → after ≡ rows_of (looked_to cause (i + 1) es)
 taken_more cause es i e before after lt at is distinct took = rw is at took ∙ looked_more cause es i e e lt at (rw is at distinct)
 
-pub goes_by : (o : Option RemovedReason) → true ≡ is_some o → is_none o ≡ false
+pub goes_by : (o : Option FlowRemovedReason) → true ≡ is_some o → is_none o ≡ false
 goes_by None h = absurd cc
 goes_by (Some reason) h = refl
 
-pub stays_by : (o : Option RemovedReason) → false ≡ is_some o → is_none o ≡ true
+pub stays_by : (o : Option FlowRemovedReason) → false ≡ is_some o → is_none o ≡ true
 stays_by None h = refl
 stays_by (Some reason) h = absurd cc
 
@@ -102,7 +102,7 @@ pub notices_all : (removed : List Removed) → notices_of removed ≡ map untold
 notices_all [] = refl
 notices_all (r ∷ removed) = ap (λ (ns : List Notice). notice_of r ∷ ns) (notices_all removed)
 
-told_one : (table : ℕ) (e : Entry) (reason : Option RemovedReason) → map untold (option_to_list (told_by table e reason)) ≡ option_to_list (notice_by table (entry_of e) reason)
+told_one : (table : ℕ) (e : Entry) (reason : Option FlowRemovedReason) → map untold (option_to_list (told_by table e reason)) ≡ option_to_list (notice_by table (entry_of e) reason)
 told_one table e None = refl
 told_one table e (Some reason) = by_test e.flow.flags.send_removed
   where

@@ -1,18 +1,18 @@
 -- Which entries a command is for, and which go at a moment or with a group (OpenFlow 1.3.5, 5.5, 6.4 and 6.5).
-use Rattle.std.specs.Prelude.{ℕ, ◌-◌, ◌*◌, ◌==◌, ◌&&◌, nat_le, not, Bool, true, false, List, map, filter, Option, Some, None, is_none, unwrap_or, bit_and, if◌then◌else◌}
+use Rattle.std.specs.Prelude.{ℕ, ◌-◌, ◌*◌, ◌/◌, ◌%◌, ◌==◌, ◌&&◌, nat_le, not, Bool, true, false, List, map, filter, Option, Some, None, is_none, unwrap_or, bit_and, if◌then◌else◌}
 use Rattle.std.specs.List.{list_any, flat_map}
 use Rattle.std.specs.Option.{option_map, option_map_or, option_to_list}
 use Rattle.of_actions.specs.declared.action.Action.{Action}
-use Rattle.of_actions.specs.declared.action.Action.TheVariants.{Output, PushVlan, PopVlan, Group, SetNwTtl, DecNwTtl, SetField}
+use Rattle.of_actions.specs.declared.action.Action.TheVariants.{Output, Group}
 use Rattle.of_actions.specs.declared.instruction.Instruction.{Instruction}
-use Rattle.of_actions.specs.declared.instruction.Instruction.TheVariants.{Apply, Clear, Write, Metadata, Goto}
+use Rattle.of_actions.specs.declared.instruction.Instruction.TheVariants.{Apply, Write}
 use Rattle.of_oxm.specs.Relations.{covers_match}
 use Rattle.of_oxm.specs.SameMatch.{is_same_match}
 use Rattle.of_table.specs.declared.selection.Which.{Which}
 use Rattle.of_table.specs.declared.selection.Cause.{Cause}
 use Rattle.of_table.specs.declared.selection.Cause.TheVariants as causes
-use Rattle.of_table.specs.declared.selection.RemovedReason.{RemovedReason}
-use Rattle.of_table.specs.declared.selection.RemovedReason.TheVariants.{IdleTimeout, HardTimeout, Delete, GroupDelete}
+use Rattle.of_wire.specs.declared.reasons.FlowRemovedReason.{FlowRemovedReason}
+use Rattle.of_wire.specs.declared.reasons.FlowRemovedReason.TheVariants.{IdleTimeout, HardTimeout, Delete, GroupDelete}
 use Rattle.of_table.specs.declared.selection.Removed.{Removed}
 use Rattle.of_table.specs.declared.selection.Target.{Target}
 use Rattle.of_table.specs.declared.selection.Target.TheVariants.{Port, Group as ToGroup}
@@ -36,20 +36,13 @@ has_cookie w e = bit_and e.flow.cookie w.cookie_mask == bit_and w.cookie w.cooki
 
 abbrev pub is_output_to : ℕ → Action → Bool
 is_output_to port (Output to max_len) = to == port
-is_output_to port (PushVlan type) = false
-is_output_to port PopVlan = false
-is_output_to port (Group to) = false
-is_output_to port (SetNwTtl ttl) = false
-is_output_to port DecNwTtl = false
-is_output_to port (SetField field value) = false
+is_output_to port other = false
 
 -- some action that is done at once or written into the action set is so
 abbrev pub has_action : (Action → Bool) → Instruction → Bool
 has_action is_so (Apply actions) = list_any is_so actions
-has_action is_so Clear = false
 has_action is_so (Write actions) = list_any is_so actions
-has_action is_so (Metadata value mask) = false
-has_action is_so (Goto table) = false
+has_action is_so other = false
 
 abbrev pub sends_to : ℕ → Instruction → Bool
 sends_to port = has_action (is_output_to port)
@@ -60,13 +53,8 @@ passes_port w e = option_map_or (λ port. list_any (sends_to port) e.flow.instru
 
 -- to this group; where none is named, to any
 abbrev pub is_to : Option ℕ → Action → Bool
-is_to group (Output to max_len) = false
-is_to group (PushVlan type) = false
-is_to group PopVlan = false
 is_to group (Group to) = option_map_or (λ g. to == g) group true
-is_to group (SetNwTtl ttl) = false
-is_to group DecNwTtl = false
-is_to group (SetField field value) = false
+is_to group other = false
 
 -- some action of the entry sends to this group; where none is named, to any
 abbrev pub names_group : Option ℕ → FlowEntry → Bool
@@ -107,23 +95,36 @@ modified_entries w instructions reset entries = map (on_entry (modified_by w ins
 
 -- ---- what goes (5.5 and 6.5)
 
+-- MOMENTS are in nanoseconds
+
+-- one second
+abbrev pub second : ℕ
+second = 1000000000
+
+-- the whole seconds since a moment, and the nanoseconds beyond them
+abbrev pub seconds_since : ℕ → ℕ → ℕ
+seconds_since now since = (now - since) / second
+
+abbrev pub nanoseconds_since : ℕ → ℕ → ℕ
+nanoseconds_since now since = (now - since) % second
+
 -- so many seconds passed since a moment
 abbrev pub has_passed : ℕ → ℕ → ℕ → Bool
-has_passed now since seconds = nat_le (1000000000 * seconds) (now - since)
+has_passed now since seconds = nat_le (second * seconds) (now - since)
 
 -- a timeout of 0 is none
 abbrev pub is_over : ℕ → ℕ → ℕ → Bool
 is_over now since seconds = not (seconds == 0) && has_passed now since seconds
 
 -- the hard timeout counts from the adding, the idle one from the last packet
-abbrev pub timeout_reason : ℕ → FlowEntry → Option RemovedReason
+abbrev pub timeout_reason : ℕ → FlowEntry → Option FlowRemovedReason
 timeout_reason now e =
     if is_over now e.created e.flow.hard_timeout then Some HardTimeout
     else if is_over now (unwrap_or e.last e.created) e.flow.idle_timeout then Some IdleTimeout
     else None
 
 -- why an entry goes, or that it stays
-abbrev pub reason_of : Cause → FlowEntry → Option RemovedReason
+abbrev pub reason_of : Cause → FlowEntry → Option FlowRemovedReason
 reason_of (causes.Delete w) e = if selects w e then Some Delete else None
 reason_of (causes.Moment now) e = timeout_reason now e
 reason_of (causes.Group group) e = if names_group group e then Some GroupDelete else None
@@ -138,11 +139,11 @@ left cause flows = filter (stays cause) flows
 -- a notice of an entry that went
 pub record Notice : Type 0 where
   pub table : ℕ
-  pub reason : RemovedReason
+  pub reason : FlowRemovedReason
   pub entry : FlowEntry
 
 -- it is given where the entry's flags ask for it
-abbrev pub notice_by : ℕ → FlowEntry → Option RemovedReason → Option Notice
+abbrev pub notice_by : ℕ → FlowEntry → Option FlowRemovedReason → Option Notice
 notice_by table e None = None
 notice_by table e (Some reason) = if e.flow.flags.send_removed then Some (record { table = table; reason = reason; entry = e }) else None
 
@@ -156,13 +157,13 @@ kept_of cause entries = filter (λ e. stays cause (entry_of e)) entries
 -- a notice of an entry that went, with its number
 pub record Told : Type 0 where
   pub table : ℕ
-  pub reason : RemovedReason
+  pub reason : FlowRemovedReason
   pub entry : Entry
 
 abbrev pub with_number : Entry → Notice → Told
 with_number e n = record { table = n.table; reason = n.reason; entry = e }
 
-abbrev pub told_by : ℕ → Entry → Option RemovedReason → Option Told
+abbrev pub told_by : ℕ → Entry → Option FlowRemovedReason → Option Told
 told_by table e reason = option_map (with_number e) (notice_by table (entry_of e) reason)
 
 abbrev pub told : Cause → ℕ → List Entry → List Told

@@ -20,6 +20,7 @@ mod walk;
 pub use entry::Entry;
 pub use flow::{Flow, FlowFlags};
 pub use flow_tables::FlowTables;
-pub use selection::{Cause, Removed, RemovedReason, Which, names_group, selects};
+pub use of_wire::FlowRemovedReason;
+pub use selection::{Cause, NANOS, Removed, Which, names_group, selects};
 pub use table_fault::TableFault;
 pub use walk::Entries;

@@ -9,6 +9,7 @@ ghost use Rattle.of_table.specs.Selecting.{leads_to as leading_to, passes_port a
 use crate::entry::Entry;
 use of_actions::{Action, Instruction};
 use of_oxm::{Match, covers};
+use of_wire::FlowRemovedReason;
 
 /// The entries that a MODIFY or DELETE command is for (OpenFlow 1.3.5, 6.4).
 #[derive(Drop)]
@@ -27,19 +28,6 @@ pub struct Which {
     pub out_group: Option<u32>,
 }
 
-/// Why an entry went (OpenFlow 1.3.5, 7.4.2).
-#[derive(Clone, Copy, Debug, PartialEq, Eq)]
-pub enum RemovedReason {
-    /// No packet hit it for its idle timeout.
-    IdleTimeout,
-    /// Its hard timeout passed.
-    HardTimeout,
-    /// A DELETE command.
-    Delete,
-    /// A group that it named was deleted.
-    GroupDelete,
-}
-
 /// What makes entries go (OpenFlow 1.3.5, 5.5, 6.4 and 6.5).
 #[derive(Drop)]
 pub enum Cause {
@@ -55,7 +43,7 @@ pub enum Cause {
 #[derive(Drop)]
 pub struct Removed<'a> {
     pub table: u8,
-    pub reason: RemovedReason,
+    pub reason: FlowRemovedReason,
     pub entry: &'a Entry,
 }
 
@@ -151,7 +139,7 @@ pub fn selects(which: &Which, entry: &Entry) -> bool
 }
 
 /// Nanoseconds in a second.
-pub(crate) const NANOS: u64 = 1_000_000_000;
+pub const NANOS: u64 = 1_000_000_000;
 
 // Whether a timeout of so many seconds is over; 0 is none.
 fn is_over(now: u64, since: u64, seconds: u16) -> bool
@@ -161,21 +149,21 @@ fn is_over(now: u64, since: u64, seconds: u16) -> bool
 }
 
 /// Why the entry goes, or that it stays.
-pub(crate) fn reason(cause: &Cause, entry: &Entry) -> Option<RemovedReason>
+pub(crate) fn reason(cause: &Cause, entry: &Entry) -> Option<FlowRemovedReason>
     ensures { result ≡ reason_of cause.now (entry_of entry.now) }
 {
     match cause {
-        Cause::Delete(which) if selects(which, entry) => Some(RemovedReason::Delete),
-        Cause::Group(group) if names_group(entry, *group) => Some(RemovedReason::GroupDelete),
+        Cause::Delete(which) if selects(which, entry) => Some(FlowRemovedReason::Delete),
+        Cause::Group(group) if names_group(entry, *group) => Some(FlowRemovedReason::GroupDelete),
         Cause::Moment(now) if is_over(*now, entry.created, entry.flow.hard_timeout) => {
-            Some(RemovedReason::HardTimeout)
+            Some(FlowRemovedReason::HardTimeout)
         }
         Cause::Moment(now)
             if is_over(
                 *now,
                 entry.last.unwrap_or(entry.created),
                 entry.flow.idle_timeout,
-            ) => { Some(RemovedReason::IdleTimeout) }
+            ) => { Some(FlowRemovedReason::IdleTimeout) }
         _ => None,
     }
 }

@@ -17,7 +17,7 @@ use Rattle.of_oxm.specs.declared.match_field.MatchField.{MatchField}
 use Rattle.of_oxm.specs.NormalForm.{IsKept, IsKeptMask, IsRising, IsMatch}
 use Rattle.of_oxm.specs.Prerequisites.{all_met}
 use Rattle.of_actions.specs.declared.action.Action.{Action}
-use Rattle.of_actions.specs.declared.action.Action.TheVariants.{Output, PushVlan, PopVlan, Group, SetNwTtl, DecNwTtl, SetField}
+use Rattle.of_actions.specs.declared.action.Action.TheVariants.{Output, PushVlan, SetField}
 use Rattle.of_actions.specs.declared.instruction.Instruction.{Instruction}
 use Rattle.of_actions.specs.PortNumbers.{is_port}
 use Rattle.of_actions.specs.Headers.{is_next}
@@ -147,13 +147,10 @@ action_served : (a : Action) → ActionFits a → first_of (action_refusals a) �
 unfolding is_served
 action_served (Output p m) k h = let none = none_applies (action_refusals (Output p m)) h in and_from (is_port false p) (nat_lt m 0x10000) (not-false _ none.0) (lt-ltb m 0x10000 k.1)
 action_served (PushVlan t) k h = let none = none_applies (action_refusals (PushVlan t)) h in not-false _ none.0
-action_served PopVlan k h = refl
-action_served (Group g) k h = lt-ltb g 0x100000000 k
-action_served (SetNwTtl t) k h = lt-ltb t 0x100 k
-action_served DecNwTtl k h = refl
 action_served (SetField f v) k h =
     let none = none_applies (action_refusals (SetField f v)) h in
     and_from (is_settable f) (nat_le v (ones_of f)) (not-false _ none.0) (le-leb v (ones_of f) (ltb-false (ones_of f) v none.1.0))
+action_served other k h = grind (arith, nat_tests)
 
 each_served : (xs : List Action) → AllByRecursion Fits (map rows.Do xs) → AllByRecursion (λ a. first_of (action_refusals a) ≡ None) xs → list_all (is_served false) xs ≡ true
 each_served [] k h = refl

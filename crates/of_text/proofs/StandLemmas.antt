@@ -14,7 +14,7 @@ use Rattle.of_oxm.specs.declared.match_field.MatchField.{MatchField}
 use Rattle.of_oxm.specs.MatchFieldWire.{value_refusals}
 use Rattle.of_oxm.specs.NormalForm.{IsKept, IsKeptMask, IsMatch}
 use Rattle.of_actions.specs.declared.action.Action.{Action}
-use Rattle.of_actions.specs.declared.action.Action.TheVariants.{Output, PushVlan, PopVlan, Group as ToGroup, SetNwTtl, DecNwTtl, SetField}
+use Rattle.of_actions.specs.declared.action.Action.TheVariants.{Output, PushVlan, SetField}
 use Rattle.of_actions.specs.PortNumbers.{is_port}
 use Rattle.of_actions.specs.Rising.{is_rising}
 use Rattle.of_actions.specs.Served.{is_served, are_served}
@@ -81,13 +81,10 @@ action_stands : (a : Action) → is_served false a ≡ true → first_of (action
 unfolding is_served
 action_stands (Output p m) h = rw (and_parts (is_port false p) (nat_lt m 0x10000) h).0 refl
 action_stands (PushVlan t) h = rw h refl
-action_stands PopVlan h = refl
-action_stands (ToGroup g) h = refl
-action_stands (SetNwTtl t) h = refl
-action_stands DecNwTtl h = refl
 action_stands (SetField f v) h =
     let parts = and_parts (is_settable f) (nat_le v (ones_of f)) h in
     rw (parts.0, not_above (ones_of f) v (leb-true v (ones_of f) parts.1)) refl
+action_stands other h = refl
 
 list_stands : (xs : List Action) → are_served false xs ≡ true → first_of (list_refusals xs) ≡ None
 unfolding list_refusals

@@ -13,7 +13,7 @@ use Rattle.of_oxm.specs.declared.match_field.MatchField.{MatchField}
 use Rattle.of_oxm.specs.MatchFieldWire.{spelling, is_among, body_len, is_masked_at, number_at, value_at, mask_at, known_field_refusals}
 use Rattle.of_oxm.specs.MatchFieldWire as wire
 use Rattle.of_actions.specs.declared.action.Action.{Action}
-use Rattle.of_actions.specs.declared.action.Action.TheVariants.{Output, PushVlan, PopVlan, Group, SetNwTtl, DecNwTtl, SetField}
+use Rattle.of_actions.specs.declared.action.Action.TheVariants.{Output, PushVlan, SetField}
 use Rattle.of_actions.specs.Beginnings.{type_at, len_at}
 use Rattle.of_actions.specs.SetField.{settable, set_field_at, set_value_at, set_len, set_refusals}
 use Rattle.of_actions.specs.Actions.{type_refusals, first_at}
@@ -109,21 +109,13 @@ push_kind : (t : ℕ) (rest : List ℕ) → type_at rest ≡ 17 → len_at rest 
 unfolding type_refusals
 push_kind t rest kind len type = rw (kind, len, type) refl
 
-pop_kind : (rest : List ℕ) → type_at rest ≡ 18 → len_at rest ≡ 8 → first_of (type_refusals false rest) ≡ None
-unfolding type_refusals
-pop_kind rest kind len = rw (kind, len) refl
-
-group_kind : (rest : List ℕ) → type_at rest ≡ 22 → len_at rest ≡ 8 → first_of (type_refusals false rest) ≡ None
-unfolding type_refusals
-group_kind rest kind len = rw (kind, len) refl
-
-ttl_kind : (rest : List ℕ) → type_at rest ≡ 23 → len_at rest ≡ 8 → first_of (type_refusals false rest) ≡ None
-unfolding type_refusals
-ttl_kind rest kind len = rw (kind, len) refl
-
-dec_kind : (rest : List ℕ) → type_at rest ≡ 24 → len_at rest ≡ 8 → first_of (type_refusals false rest) ≡ None
-unfolding type_refusals
-dec_kind rest kind len = rw (kind, len) refl
+-- a type with no refusal beside that of its size
+plain_kind : (a : Action) (rest : List ℕ) → action_refusals a ≡ [] → type_at rest ≡ type_at (canonical_action a) → len_at rest ≡ 8 → first_of (type_refusals false rest) ≡ None
+unfolding type_refusals canonical_action
+plain_kind (Output p m) rest none kind len = absurd cc
+plain_kind (PushVlan t) rest none kind len = absurd cc
+plain_kind (SetField f v) rest none kind len = absurd cc
+plain_kind other rest none kind len = rw (kind, len) refl
 
 set_kind : (f : Field) (v : ℕ) (rest : List ℕ) → type_at rest ≡ 25 → set_field_at rest ≡ settable (Some f) → slice_index rest 7 ≡ bytes_of f → len_at rest ≡ set_len f → set_value_at f rest ≡ v → first_of (type_refusals false rest) ≡ first_of (action_refusals (SetField f v))
 unfolding type_refusals set_refusals
@@ -176,8 +168,7 @@ action_as_on_wire (PushVlan t) seen x fits few =
     let rest = canonical_action (PushVlan t) ++ x in
     let type_is : first_at 2 rest ≡ t = big_number-reads_back 2 t (replicate 2 0 ++ x) (omega (arith, fits)) in
     past_head seen rest 8 few refl (omega arith) refl (omega arith) ∙ push_kind t rest refl refl type_is
-action_as_on_wire PopVlan seen x fits few = past_head seen (canonical_action PopVlan ++ x) 8 few refl (omega arith) refl (omega arith) ∙ pop_kind (canonical_action PopVlan ++ x) refl refl
-action_as_on_wire (Group g) seen x fits few = past_head seen (canonical_action (Group g) ++ x) 8 few refl (omega arith) refl (omega arith) ∙ group_kind (canonical_action (Group g) ++ x) refl refl
-action_as_on_wire (SetNwTtl t) seen x fits few = past_head seen (canonical_action (SetNwTtl t) ++ x) 8 few refl (omega arith) refl (omega arith) ∙ ttl_kind (canonical_action (SetNwTtl t) ++ x) refl refl
-action_as_on_wire DecNwTtl seen x fits few = past_head seen (canonical_action DecNwTtl ++ x) 8 few refl (omega arith) refl (omega arith) ∙ dec_kind (canonical_action DecNwTtl ++ x) refl refl
 action_as_on_wire (SetField f v) seen x fits few = set_same f v seen x few fits
+action_as_on_wire other seen x fits few =
+    let rest = canonical_action other ++ x in
+    past_head seen rest 8 few refl (omega arith) refl (omega arith) ∙ plain_kind other rest refl refl refl

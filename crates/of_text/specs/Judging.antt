@@ -6,10 +6,11 @@ use Rattle.of_groups.specs.declared.group.Group.{Group}
 use Rattle.of_groups.specs.Faults.{is_bad_watch, is_not_one}
 use Rattle.of_text.specs.Groups.{TextGroup}
 use Rattle.of_text.specs.Refusals.{buckets_refusals, group_refusals}
+use Rattle.of_groups.specs.Buckets.{group_max}
 
 -- what looks at the message alone
 abbrev pub told_refusals : TextGroup → List (Bool × Code)
-told_refusals g = (nat_lt 0xffffff00 g.head.id, refusal 6 1) ∷ buckets_refusals g.buckets
+told_refusals g = (nat_lt group_max g.head.id, refusal 6 1) ∷ buckets_refusals g.buckets
 
 -- what looks at the group behind so many others
 abbrev pub kept_refusals : ℕ → Group → List (Bool × Code)

@@ -16,7 +16,8 @@ ghost use Rattle.of_text.specs.Views.{view_bucket, view_group, view_groups};
 use crate::group::{BucketText, GroupText};
 use crate::refusals::{applied, first, list_refusal, refusal};
 use of_groups::{
-    Buckets, Group, chain_lengths, has_bad_watch, lacks_one_bucket, sends_to_absent, watches_absent,
+    Buckets, GROUP_MAX, Group, chain_lengths, has_bad_watch, lacks_one_bucket, sends_to_absent,
+    watches_absent,
 };
 use of_oxm::Code;
 use std::alloc::{AllocError, Global};
@@ -62,7 +63,7 @@ fn buckets_refusal(buckets: &[BucketText]) -> Option<Code>
 fn told_refusal(group: &GroupText) -> Option<Code>
     ensures { result ≡ first_of (told_refusals (view_group group.now)) }
 {
-    if 0xffff_ff00 < group.head.id {
+    if GROUP_MAX < group.head.id {
         return Some(refusal(6, 1));
     }
     buckets_refusal(&group.buckets)

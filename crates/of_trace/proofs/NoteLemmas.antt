@@ -7,7 +7,7 @@ use Rattle.std.proofs.lemmas.List.Concat.{flat_map-append}
 use Rattle.of_layers.specs.declared.field.Field.{Field}
 use Rattle.of_layers.specs.declared.field.TheConstants.Field as constants
 use Rattle.of_actions.specs.declared.action.Action.{Action}
-use Rattle.of_actions.specs.declared.action.Action.TheVariants.{Output, PushVlan, PopVlan, Group, SetNwTtl, DecNwTtl, SetField}
+use Rattle.of_actions.specs.declared.action.Action.TheVariants.{Output, Group}
 use Rattle.of_actions.specs.PortNumbers.{in_port}
 use Rattle.of_oxm.specs.declared.match_field.MatchField.{MatchField}
 use Rattle.of_ports.specs.declared.port.Port.{Port}
@@ -18,7 +18,7 @@ use Rattle.of_table.specs.Tables.{table_at}
 use Rattle.of_machine.specs.declared.data.Step.{Step}
 use Rattle.of_machine.specs.declared.data.Step.TheVariants.{Miss, Entry, Apply, Clear, Write, Metadata, Goto, Set, Act, TtlExpired, End}
 use Rattle.of_text.specs.Lines.{ended}
-use Rattle.of_text.specs.Names.{name_of}
+use Rattle.of_layers.specs.Fields.{name_of}
 use Rattle.of_text.specs.Rows.{spelling}
 use Rattle.of_text.specs.declared.row.Row.TheVariants as rows
 use Rattle.of_switch.specs.declared.effect.Effect.{Effect}
@@ -108,12 +108,8 @@ of_group group (Some (k ∷ places)) = each _ (k ∷ places) (λ place. one (cod
 
 of_sending : (f : Forwarding) (s : Sight) (action : Action) → AreNotes (sending_notes f s action)
 of_sending f s (Output port max_len) = of_output f.ports s.ingress port
-of_sending f s (PushVlan type) = none
-of_sending f s PopVlan = none
 of_sending f s (Group group) = of_group group ((world_of f).chosen group)
-of_sending f s (SetNwTtl ttl) = none
-of_sending f s DecNwTtl = none
-of_sending f s (SetField field value) = none
+of_sending f s other = none
 
 of_step : (f : Forwarding) (asked : Asked) (s : Sight) (step : Step) → AreNotes (notes f asked s step)
 of_step f asked s (Miss t) = both _ _ (one (codes "no entry matches in table" ++ 32 ∷ decimal t)) (of_look f asked t (key_seen s))

@@ -7,7 +7,7 @@ use Rattle.of_rewrite.specs.declared.frame.Ttl.TheVariants.{Done, Expired, Absen
 use Rattle.of_rewrite.specs.Aging.{ttl_of, answer_to}
 use Rattle.of_rewrite.specs.Frames.{IsFrame, frame_aged}
 use Rattle.of_actions.specs.declared.action.Action.{Action}
-use Rattle.of_actions.specs.declared.action.Action.TheVariants.{Output, PushVlan, PopVlan, Group, SetNwTtl, DecNwTtl, SetField}
+use Rattle.of_actions.specs.declared.action.Action.TheVariants.{Output, Group, DecNwTtl}
 use Rattle.of_actions.specs.declared.instruction.Instruction.{Instruction}
 use Rattle.of_actions.specs.declared.instruction.Instruction.TheVariants.{Apply, Clear, Write, Metadata, Goto}
 use Rattle.of_actions.specs.PortNumbers.{table}
@@ -67,12 +67,9 @@ module _ (w : TheWorld) (p : Packet) (rest : List Work) where
 
   act_told : (a : Action) → IsFrame p.frame → IsTold w p (row w p (Act a ∷ rest))
   act_told (Output port max_len) h = output_told port max_len (port == table) refl
-  act_told (PushVlan type) h = refl
-  act_told PopVlan h = refl
   act_told (Group group) h = group_told group (w.chosen group) refl
-  act_told (SetNwTtl ttl) h = refl
   act_told DecNwTtl h = aged_told (answer_to (ttl_of (layers_of p.frame))) refl h
-  act_told (SetField field value) h = refl
+  act_told other h = refl
 
   do_told : (i : Instruction) → IsTold w p (row w p (Do i ∷ rest))
   do_told (Apply l) = refl

@@ -10,7 +10,7 @@ use Rattle.of_rewrite.specs.declared.frame.Ttl.{Ttl}
 use Rattle.of_rewrite.specs.declared.frame.Ttl.TheVariants.{Done, Expired, Absent}
 use Rattle.of_rewrite.specs.Aging.{ttl_of, answer_to}
 use Rattle.of_actions.specs.declared.action.Action.{Action}
-use Rattle.of_actions.specs.declared.action.Action.TheVariants.{Output, PushVlan, PopVlan, Group, SetNwTtl, DecNwTtl, SetField}
+use Rattle.of_actions.specs.declared.action.Action.TheVariants.{Output, Group, DecNwTtl}
 use Rattle.of_actions.specs.declared.instruction.Instruction.{Instruction}
 use Rattle.of_actions.specs.declared.instruction.Instruction.TheVariants.{Apply, Clear, Write, Metadata, Goto}
 use Rattle.of_actions.specs.PortNumbers.{table}
@@ -109,12 +109,9 @@ module _ (w : TheWorld) (sound : IsSound w) (p : Packet) (rest : List Work) wher
 
   act_spelt : (a : Action) → IsTrue (is_served false a) → AllSpeltWork rest → IsSpeltRow (row w p (Act a ∷ rest))
   act_spelt (Output port max_len) h k = output_spelt port max_len (port == table) refl h k
-  act_spelt (PushVlan type) h k = (h, (k, tt))
-  act_spelt PopVlan h k = (h, (k, tt))
   act_spelt (Group group) h k = group_spelt group (w.chosen group) h k
-  act_spelt (SetNwTtl ttl) h k = (h, (k, tt))
   act_spelt DecNwTtl h k = aged_spelt (answer_to (ttl_of (layers_of p.frame))) k
-  act_spelt (SetField field value) h k = (h, (k, tt))
+  act_spelt other h k = (h, (k, tt))
 
   do_spelt : (i : Instruction) → IsTrue (is_served_body i) → AllSpeltWork rest → IsSpeltRow (row w p (Do i ∷ rest))
   do_spelt (Apply l) h k = (refl, (work_more (acts l) rest (acts_spelt l (list_served l h)) k, tt))

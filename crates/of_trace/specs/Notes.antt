@@ -3,14 +3,14 @@ use Rattle.std.specs.Prelude.{ℕ, ◌+◌, ◌==◌, ◌&&◌, ◌||◌, Bool, 
 use Rattle.std.specs.List.{flat_map, list_any}
 use Rattle.of_layers.specs.declared.field.Field.{Field}
 use Rattle.of_layers.specs.declared.field.TheConstants.Field as constants
-use Rattle.of_layers.specs.Fields.{number_of, ones_of}
+use Rattle.of_layers.specs.Fields.{name_of, number_of, ones_of}
 use Rattle.of_layers.specs.Reading.{layers_of}
 use Rattle.of_headers.specs.declared.headers.FrameFault.{FrameFault}
 use Rattle.of_headers.specs.Faults.{frame_fault}
 use Rattle.of_rewrite.specs.Aging.{ttl_of}
 use Rattle.of_actions.specs.PortNumbers.{in_port, table as to_tables, flood, all, controller}
 use Rattle.of_actions.specs.declared.action.Action.{Action}
-use Rattle.of_actions.specs.declared.action.Action.TheVariants.{Output, PushVlan, PopVlan, Group, SetNwTtl, DecNwTtl, SetField}
+use Rattle.of_actions.specs.declared.action.Action.TheVariants.{Output, Group}
 use Rattle.of_ports.specs.declared.port.Port.{Port}
 use Rattle.of_ports.specs.Ports.{is_live, may_send, port_at}
 use Rattle.of_table.specs.declared.flow.Flow.{Flow}
@@ -18,11 +18,10 @@ use Rattle.of_table.specs.declared.flow.FlowFlags.{FlowFlags}
 use Rattle.of_table.specs.Table.{FlowEntry}
 use Rattle.of_table.specs.Tables.{table_at}
 use Rattle.of_machine.specs.declared.data.Step.{Step}
-use Rattle.of_machine.specs.declared.data.Step.TheVariants.{Miss, Entry, Apply, Clear, Write, Metadata, Goto, Set, Act, TtlExpired, End}
+use Rattle.of_machine.specs.declared.data.Step.TheVariants.{Miss, Entry, Metadata, Set, Act, TtlExpired, End}
 use Rattle.of_oxm.specs.declared.match_field.MatchField.{MatchField}
 use Rattle.of_text.specs.Lines.{ended}
 use Rattle.of_text.specs.declared.row.FlowHead.{FlowHead}
-use Rattle.of_text.specs.Names.{name_of}
 use Rattle.of_text.specs.Rows.{spelling, value_word}
 use Rattle.of_text.specs.declared.row.Row.TheVariants as rows
 use Rattle.of_switch.specs.declared.effect.Effect.{Effect}
@@ -183,67 +182,37 @@ changes step s = change_notes (key_seen s) (key_seen (sight_after step s)) ++ tt
 
 abbrev pub sending_notes : Forwarding → Sight → Action → List ℕ
 sending_notes f s (Output port max_len) = output_note f.ports s.ingress port
-sending_notes f s (PushVlan type) = []
-sending_notes f s PopVlan = []
 sending_notes f s (Group group) = group_notes group ((world_of f).chosen group)
-sending_notes f s (SetNwTtl ttl) = []
-sending_notes f s DecNwTtl = []
-sending_notes f s (SetField field value) = []
+sending_notes f s other = []
 
 abbrev pub notes : Forwarding → Asked → Sight → Step → List ℕ
 notes f asked s (Miss t) = note (codes "no entry matches in table" ++ 32 ∷ decimal t) ++ look_notes f asked t (key_seen s)
 notes f asked s (Entry t place) = entry_notes t (flow_there f t place) ++ look_notes f asked t (key_seen s)
-notes f asked s Apply = []
-notes f asked s Clear = []
-notes f asked s Write = []
 notes f asked s (Metadata value mask) = changes (Metadata value mask) s
-notes f asked s (Goto t) = []
-notes f asked s Set = []
 notes f asked s (Act action) = sending_notes f s action ++ changes (Act action) s
 notes f asked s TtlExpired = note (codes "its work ends here")
-notes f asked s End = []
+notes f asked s other = []
 
 -- ---- an action set without output: none of its actions sends, and the packet ends (5.10)
 
 abbrev pub sends : Action → Bool
 sends (Output port max_len) = true
-sends (PushVlan type) = false
-sends PopVlan = false
 sends (Group group) = true
-sends (SetNwTtl ttl) = false
-sends DecNwTtl = false
-sends (SetField field value) = false
+sends other = false
 
 -- of a step, where this is so of those behind it
 abbrev pub is_unsent_from : Step → Bool → Bool
-is_unsent_from (Miss t) behind = false
-is_unsent_from (Entry t n) behind = false
-is_unsent_from Apply behind = false
-is_unsent_from Clear behind = false
-is_unsent_from Write behind = false
-is_unsent_from (Metadata value mask) behind = false
-is_unsent_from (Goto t) behind = false
-is_unsent_from Set behind = false
 is_unsent_from (Act action) behind = not (sends action) && behind
-is_unsent_from TtlExpired behind = false
 is_unsent_from End behind = true
+is_unsent_from other behind = false
 
 abbrev pub is_unsent : List Step → Bool
 is_unsent [] = false
 is_unsent (step ∷ steps) = is_unsent_from step (is_unsent steps)
 
 abbrev pub is_set : Step → Bool
-is_set (Miss t) = false
-is_set (Entry t n) = false
-is_set Apply = false
-is_set Clear = false
-is_set Write = false
-is_set (Metadata value mask) = false
-is_set (Goto t) = false
 is_set Set = true
-is_set (Act action) = false
-is_set TtlExpired = false
-is_set End = false
+is_set other = false
 
 abbrev pub set_notes : Step → List Step → List ℕ
 set_notes step behind = if is_set step && is_unsent behind then note (codes "the action set has no output") else []

@@ -6,10 +6,10 @@ use Rattle.of_headers.specs.FieldMap.{field_map}
 use Rattle.of_rewrite.specs.Frames.{frame_aged}
 use Rattle.of_actions.specs.PortNumbers.{table}
 use Rattle.of_actions.specs.declared.action.Action.{Action}
-use Rattle.of_actions.specs.declared.action.Action.TheVariants.{Output, PushVlan, PopVlan, Group, SetNwTtl, DecNwTtl, SetField}
+use Rattle.of_actions.specs.declared.action.Action.TheVariants.{Output, Group, DecNwTtl}
 use Rattle.of_machine.specs.declared.data.Packet.{Packet}
 use Rattle.of_machine.specs.declared.data.Step.{Step}
-use Rattle.of_machine.specs.declared.data.Step.TheVariants.{Miss, Entry, Apply, Clear, Write, Metadata, Goto, Set, Act, TtlExpired, End}
+use Rattle.of_machine.specs.declared.data.Step.TheVariants.{Metadata, Act, End}
 use Rattle.of_machine.specs.TheWorld.{TheWorld}
 use Rattle.of_machine.specs.Rows.{Task, rewritten, with_metadata}
 use Rattle.of_trace.specs.declared.sight.Sight.{Sight}
@@ -28,26 +28,13 @@ key_seen s = field_map (layers_of s.frame) s.ingress s.metadata
 -- ---- the packet itself after a step
 
 abbrev pub frame_after : Action → List ℕ → List ℕ
-frame_after (Output port max_len) frame = frame
-frame_after (PushVlan type) frame = rewritten (PushVlan type) frame
-frame_after PopVlan frame = rewritten PopVlan frame
-frame_after (Group group) frame = frame
-frame_after (SetNwTtl ttl) frame = rewritten (SetNwTtl ttl) frame
 frame_after DecNwTtl frame = frame_aged frame
-frame_after (SetField field value) frame = rewritten (SetField field value) frame
+frame_after other frame = rewritten other frame
 
 abbrev pub sight_after : Step → Sight → Sight
-sight_after (Miss t) s = s
-sight_after (Entry t n) s = s
-sight_after Apply s = s
-sight_after Clear s = s
-sight_after Write s = s
 sight_after (Metadata value mask) s = record s { metadata = with_metadata value mask s.metadata }
-sight_after (Goto t) s = s
-sight_after Set s = s
 sight_after (Act action) s = record s { frame = frame_after action s.frame }
-sight_after TtlExpired s = s
-sight_after End s = s
+sight_after other s = s
 
 -- ---- the copies that take steps before it: a group makes one for each bucket that runs, and TABLE one without metadata
 
@@ -60,27 +47,16 @@ output_copies port s = if port == table then record s { metadata = 0 } ∷ [] el
 
 abbrev pub action_copies : TheWorld → Action → Sight → List Sight
 action_copies w (Output port max_len) s = output_copies port s
-action_copies w (PushVlan type) s = []
-action_copies w PopVlan s = []
 action_copies w (Group group) s = group_copies s (w.chosen group)
-action_copies w (SetNwTtl ttl) s = []
-action_copies w DecNwTtl s = []
-action_copies w (SetField field value) s = []
+action_copies w other s = []
 
 -- ---- all that stand in its place
 
 abbrev pub after_step : TheWorld → Step → Sight → List Sight
-after_step w (Miss t) s = s ∷ []
-after_step w (Entry t n) s = s ∷ []
-after_step w Apply s = s ∷ []
-after_step w Clear s = s ∷ []
-after_step w Write s = s ∷ []
 after_step w (Metadata value mask) s = sight_after (Metadata value mask) s ∷ []
-after_step w (Goto t) s = s ∷ []
-after_step w Set s = s ∷ []
 after_step w (Act action) s = action_copies w action s ++ sight_after (Act action) s ∷ []
-after_step w TtlExpired s = s ∷ []
 after_step w End s = []
+after_step w other s = s ∷ []
 
 -- the first packet takes the step
 abbrev pub stepped : TheWorld → Step → List Sight → List Sight

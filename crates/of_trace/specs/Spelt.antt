@@ -3,20 +3,11 @@ use Rattle.std.specs.Prelude.{Bool, true, false, List}
 use Rattle.std.specs.List.{list_all}
 use Rattle.of_actions.specs.Served.{is_served}
 use Rattle.of_machine.specs.declared.data.Step.{Step}
-use Rattle.of_machine.specs.declared.data.Step.TheVariants.{Miss, Entry, Apply, Clear, Write, Metadata, Goto, Set, Act, TtlExpired, End}
+use Rattle.of_machine.specs.declared.data.Step.TheVariants.{Act}
 
 abbrev pub is_spelt : Step → Bool
-is_spelt (Miss table) = true
-is_spelt (Entry table place) = true
-is_spelt Apply = true
-is_spelt Clear = true
-is_spelt Write = true
-is_spelt (Metadata value mask) = true
-is_spelt (Goto table) = true
-is_spelt Set = true
 is_spelt (Act action) = is_served false action
-is_spelt TtlExpired = true
-is_spelt End = true
+is_spelt other = true
 
 abbrev pub are_spelt : List Step → Bool
 are_spelt steps = list_all is_spelt steps

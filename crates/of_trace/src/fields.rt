@@ -13,7 +13,7 @@ use of_headers::{Field, FieldKey};
 use of_oxm::MatchField;
 use of_switch::Switch;
 use of_table::Entries;
-use of_text::{name, push_number, push_value};
+use of_text::{push_number, push_value};
 use std::alloc::AllocError;
 
 // Whether the match has the field.
@@ -78,7 +78,7 @@ fn push_seen_field<L: Lookup>(
     if looks_at(switch.entries(table), field) {
         begin_note(out)?;
         out.extend_from_slice(b"sees ")?;
-        out.extend_from_slice(name(field))?;
+        out.extend_from_slice(field.name())?;
         push_found(out, field, key.get(field))?;
         end_note(out)?;
     }
@@ -138,7 +138,7 @@ fn push_change(
         return Ok(());
     }
     begin_note(out)?;
-    out.extend_from_slice(name(field))?;
+    out.extend_from_slice(field.name())?;
     push_found(out, field, old.get(field))?;
     out.extend_from_slice(b" ->")?;
     push_found(out, field, new.get(field))?;

@@ -14,7 +14,7 @@ use of_classifier::Lookup;
 use of_headers::FieldKey;
 use of_switch::Switch;
 use of_table::Entry;
-use of_text::{name, push_number};
+use of_text::push_number;
 use std::alloc::AllocError;
 
 // Appends that another entry wins, and why.
@@ -33,7 +33,7 @@ fn push_reason(out: &mut Vec<u8>, reason: Reason) -> Result<(), AllocError>
     match reason {
         Reason::Won => out.extend_from_slice(b"wins"),
         Reason::Differs { field: e, found } => {
-            out.extend_from_slice(name(e.field))?;
+            out.extend_from_slice(e.field.name())?;
             out.extend_from_slice(b" is")?;
             push_found(out, e.field, found)?;
             out.extend_from_slice(b", not")?;

@@ -87,7 +87,7 @@ fn act_on(frame: &mut Frame, action: Action) -> Result<(), AllocError>
         Action::DecNwTtl => {
             frame.dec_ttl();
         }
-        Action::Output { .. } | Action::Group(_) => {}
+        _ => {}
     }
     Ok(())
 }

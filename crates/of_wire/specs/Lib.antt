@@ -4,3 +4,4 @@ pub mod Items
 pub mod Highest
 pub mod Numbered
 pub mod CodeNames
+pub mod Reasons

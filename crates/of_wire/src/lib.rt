@@ -4,6 +4,8 @@
 mod bytes;
 mod code;
 mod code_name;
+mod reasons;
 
 pub use bytes::Bytes;
 pub use code::{Code, ReadError};
+pub use reasons::{FlowRemovedReason, PacketInReason};

@@ -1,4 +1,5 @@
-use Rattle.of_rewrite.proofs.Changes.{right_again, never_wrong, without_word, off_again}
+use Rattle.of_rewrite.proofs.Changes.{without_word, off_again}
+use Rattle.of_rewrite.proofs.Righting.{right_again, never_wrong}
 use Rattle.of_rewrite.proofs.laws.stays_right.Goals as goal
 
 pub returns : goal.returns

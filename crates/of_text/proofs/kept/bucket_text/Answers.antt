@@ -10,4 +10,4 @@ pub returns-clause-fits : goal.returns-clause-fits
 returns-clause-fits c =
     let actions = c.args.bucket.now.actions in
     let served = (and_parts (nat_le (length actions) 64) (list_all (is_served false) actions) c.requires).1 in
-    (c.bucket_head.ensures.fits, rw c.in_ok-actions_of.ensures (actions_fit actions served))
+    (c.bucket_head.ensures.fits, rw c.in_ok-actions_of.ensures (actions_fit false actions served))

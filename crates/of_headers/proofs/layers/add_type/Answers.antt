@@ -1,0 +1,18 @@
+use Rattle.std.proofs.Common.{refl}
+use Rattle.of_layers.specs.declared.field.Field.TheVariants.{InPort}
+use Rattle.of_layers.specs.Fields.{row_of}
+use Rattle.of_headers.specs.Presence.{all_bits}
+use Rattle.of_headers.proofs.PresenceLemmas.{fields_or}
+use Rattle.of_headers.proofs.PutLemmas.{value_put, absent_put}
+use Rattle.of_headers.proofs.layers.add_type.Goals as goal
+
+pub invariant_of-key : goal.invariant_of-key
+unfolding all_bits row_of
+invariant_of-key c = record {
+  known = fields_or _ _ c.args.key.now.known refl;
+  absent = absent_put c.args.key.now _ _ refl (elim [ InPort ↦ refl | _ ↦ refl ]);
+}
+
+pub returns : goal.returns
+unfolding row_of
+returns c = value_put c.args.key.now _ _ _ refl (elim [ InPort ↦ record { found = refl; kept = refl } | _ ↦ record { found = refl; kept = refl } ])
