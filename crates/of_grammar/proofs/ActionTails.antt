@@ -1,5 +1,5 @@
 -- Actions that were computed from bytes are the actions that the bytes are.
-use Rattle.std.proofs.Common.{◌≡◌, ℕ, zero, suc, Bool, true, false, not, ltb, cond, List, [], ◌∷◌, drop, Option, Some, None, Ok, refl, arith}
+use Rattle.std.proofs.Common.{◌≡◌, ℕ, zero, suc, Bool, true, false, ltb, cond, List, [], ◌∷◌, drop, Option, Some, None, Ok, refl, arith}
 use Rattle.std.specs.Prelude.{IsSome}
 use Rattle.std.specs.Option.{option_map, option_map_or}
 use Rattle.std.proofs.lemmas.Bool.{ltb-false}

@@ -1,6 +1,7 @@
 mod Places
 mod Items
 mod ActionTails
+mod ActionStructs
 mod InstructionTails
 mod MatchTails
 mod BucketTails

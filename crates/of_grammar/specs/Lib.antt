@@ -1,4 +1,5 @@
 pub mod Cells
+pub mod ActionStructs
 pub mod Buckets
 pub mod Requests
 pub mod Grammar

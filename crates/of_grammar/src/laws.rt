@@ -1,10 +1,14 @@
 //! Laws of the grammar of messages, joined to what reads them.
-ghost use Rattle.std.specs.Prelude.{◌≡◌, ◌++◌, ℕ, List, [], true, Ok, Err};
+ghost use Rattle.std.specs.Prelude.{◌≡◌, ◌++◌, ℕ, List, [], true, None, Ok, Err};
 ghost use Rattle.of_wire.specs.declared.code.Code.{Code};
 ghost use Rattle.of_wire.specs.Refusals.{refusal};
+ghost use Rattle.of_actions.specs.Actions.{AreActions};
+ghost use Rattle.of_actions.specs.Served.{are_served};
+ghost use Rattle.of_actions.specs.declared.action.Action.{Action};
 ghost use Rattle.of_messages.specs.Messages.{message_from, message_of, xid_of};
 ghost use Rattle.of_messages.specs.declared.message.Message.{Message};
 ghost use Rattle.of_messages.specs.declared.role.Role.TheVariants.{Slave};
+ghost use Rattle.of_grammar.specs.ActionStructs.{AreStructs};
 ghost use Rattle.of_grammar.specs.Grammar.{changes, MaySend, Spells};
 ghost use Rattle.of_grammar.specs.Told.{SpellsTold, Told};
 
@@ -38,4 +42,11 @@ pub fn one_message()
 pub fn no_spelling_begins_another()
     ensures message { (x y : ℕ) (v w : Message) (bytes more : List ℕ) → Spells x v bytes → Spells y w (bytes ++ more) → more ≡ [] }
     ensures told { (x y : ℕ) (t u : Told) (bytes more : List ℕ) → SpellsTold x t bytes → SpellsTold y u (bytes ++ more) → more ≡ [] }
+{}
+
+/// Bytes are read as these actions, in a PACKET_OUT or in an instruction, exactly where they are the actions' structs and the
+/// actions may be sent (OpenFlow 1.3.5, 7.2.5): so what is accepted differs from what is written in padding alone.
+pub fn actions_are_structs(packet_out: bool, bytes: &[u8])
+    ensures found { (actions : List Action) → AreActions packet_out [] bytes.now actions None → AreStructs actions bytes.now × (are_served packet_out actions ≡ true) }
+    ensures only { (actions : List Action) → AreStructs actions bytes.now → are_served packet_out actions ≡ true → AreActions packet_out [] bytes.now actions None }
 {}
