@@ -1,0 +1,3 @@
+mod AlwaysThere
+mod Widths
+mod FrameValues
