@@ -1,9 +1,9 @@
-mod Places
+pub mod Places
 mod Items
 mod ActionTails
 mod ActionStructs
 mod InstructionTails
-mod MatchTails
+pub mod MatchTails
 mod BucketTails
 mod Heads
 mod OnlySmall
@@ -16,7 +16,7 @@ mod FoundRequests
 mod Found
 mod OneMessage
 mod Senders
-mod Writings
-mod WrittenRequests
+pub mod Writings
+pub mod WrittenRequests
 mod WrittenTold
 mod OneTold

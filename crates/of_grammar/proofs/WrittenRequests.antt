@@ -89,7 +89,7 @@ bucket_fits b h short =
     let group : b.watch_group < 256 ^ 4 = grind (arith, nat_tests) in
     (omega (arith, short), (weight, (port, (group, tt))))
 
-buckets_spelt : (bs : List Bucket) → list_all has_numbers bs ≡ true → list_all is_fit bs ≡ true → AreBuckets (map fresh bs) (canonical_buckets bs)
+pub buckets_spelt : (bs : List Bucket) → list_all has_numbers bs ≡ true → list_all is_fit bs ≡ true → AreBuckets (map fresh bs) (canonical_buckets bs)
 buckets_spelt [] numbers fit = refl
 buckets_spelt (b ∷ bs) numbers fit =
     let this : has_numbers b ≡ true = grind (arith, nat_tests) in
@@ -113,7 +113,7 @@ buckets_spelt (b ∷ bs) numbers fit =
       buckets_spelt bs others fit_others,
     )
 
-kind_same : (k : GroupKind) → number_of k ≡ kind_number k
+pub kind_same : (k : GroupKind) → number_of k ≡ kind_number k
 kind_same All = refl
 kind_same Indirect = refl
 kind_same FastFailover = refl
@@ -126,7 +126,7 @@ length-group : (g : NewGroup) (tail : List ℕ) → length (group_add_front g ++
 unfolding group_add_front
 length-group g tail = omega arith
 
-kind_fits : (k : GroupKind) → kind_number k < 256
+pub kind_fits : (k : GroupKind) → kind_number k < 256
 kind_fits All = omega arith
 kind_fits Indirect = omega arith
 kind_fits FastFailover = omega arith

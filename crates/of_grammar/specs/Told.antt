@@ -1,4 +1,4 @@
--- WHAT A SWITCH TELLS: which bytes spell which message of this switch (OpenFlow 1.3.5, 7), but for the replies to multipart requests.
+-- WHAT A SWITCH TELLS: which bytes spell which message of this switch (OpenFlow 1.3.5, 7), but for the replies to multipart requests (of_reply_grammar).
 use Rattle.std.specs.Prelude.{◌≡◌, ◌==◌, ℕ, if◌then◌else◌, List, [], ◌∷◌, ◌++◌, length, None}
 use Rattle.of_wire.specs.declared.code.Code.{Code}
 use Rattle.of_wire.specs.Reasons.{packet_in_number, flow_removed_number}

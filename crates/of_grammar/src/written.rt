@@ -41,8 +41,7 @@ pub fn written_group_mod_is_spelt()
 {}
 
 /// What each writer of of_messages writes for the switch is spelt: HELLO, ERROR, ECHO_REPLY, FEATURES_REPLY, GET_CONFIG_REPLY,
-/// PACKET_IN, FLOW_REMOVED, PORT_STATUS, BARRIER_REPLY, ROLE_REPLY and GET_ASYNC_REPLY. Replies to multipart requests are not
-/// among them.
+/// PACKET_IN, FLOW_REMOVED, PORT_STATUS, BARRIER_REPLY, ROLE_REPLY and GET_ASYNC_REPLY.
 pub fn written_is_told()
     ensures hello { SpellsTold 0 (hello 16) hello_bytes }
     ensures error { (xid : ℕ) (code : Code) (failed : List ℕ) → xid < 256 ^ 4 → Fits (told_cells (error code failed)) → length failed ≤ 65523 → SpellsTold xid (error code failed) (error_bytes xid code failed) }

@@ -1,0 +1,7 @@
+mod ManyRows
+mod WrittenRows
+mod WrittenGroups
+mod WrittenReplies
+mod OneRow
+mod OneGroup
+mod OneReply
