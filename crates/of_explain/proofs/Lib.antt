@@ -1,3 +1,4 @@
+pub mod Appended
 pub mod ReportLemmas
 pub mod RequestLemmas
 pub mod SaidLemmas

@@ -28,9 +28,9 @@ and_name word names (Some n) = word ++ 32 ∷ name_in names n
 unfoldable pub name_field : List ℕ → Names → ℕ → ℕ → List ℕ → List ℕ
 name_field word names at size m = and_name word names (number_at at size m)
 
--- a word, and the eight bytes in hex digits
-unfoldable pub hex_field : List ℕ → ℕ → List ℕ → List ℕ
-hex_field word at m = if nat_le (at + 8) (length m) then word ++ codes " 0x" ++ encode_lower (take 8 (drop at m)) else []
+-- a word, and so many bytes in hex digits
+unfoldable pub hex_field : List ℕ → ℕ → ℕ → List ℕ → List ℕ
+hex_field word at size m = if nat_le (at + size) (length m) then word ++ codes " 0x" ++ encode_lower (take size (drop at m)) else []
 
 -- a word, and the number of four bytes; nothing where all its bits are set: OFP_NO_BUFFER, OFPP_ANY and OFPG_ANY name none
 abbrev pub unless_any : List ℕ → Option ℕ → List ℕ
@@ -46,7 +46,7 @@ unless_zero None words = words
 unless_zero (Some n) words = if n == 0 then [] else words
 
 unfoldable pub bits_field : List ℕ → ℕ → List ℕ → List ℕ
-bits_field word at m = unless_zero (number_at at 8 m) (hex_field word at m)
+bits_field word at m = unless_zero (number_at at 8 m) (hex_field word at 8 m)
 
 -- THE FIELDS OF EACH KIND
 
@@ -61,13 +61,13 @@ error_fields m = and_code (number_at 8 2 m) (number_at 10 2 m) ++ name_field (co
 
 -- 7.4.1
 unfoldable pub packet_in_fields : List ℕ → List ℕ
-packet_in_fields m = name_field (codes " reason") PacketInReasons 14 1 m ++ number_field (codes " table") 15 1 m ++ hex_field (codes " cookie") 16 m ++ number_field (codes " frame of") 12 2 m
+packet_in_fields m = name_field (codes " reason") PacketInReasons 14 1 m ++ number_field (codes " table") 15 1 m ++ hex_field (codes " cookie") 16 8 m ++ number_field (codes " frame of") 12 2 m
 
 -- 7.4.2
 
 -- which entry it was, and why it went
 unfoldable pub removed_entry : List ℕ → List ℕ
-removed_entry m = name_field (codes " reason") FlowRemovedReasons 18 1 m ++ number_field (codes " table") 19 1 m ++ number_field (codes " priority") 16 2 m ++ hex_field (codes " cookie") 8 m
+removed_entry m = name_field (codes " reason") FlowRemovedReasons 18 1 m ++ number_field (codes " table") 19 1 m ++ number_field (codes " priority") 16 2 m ++ hex_field (codes " cookie") 8 8 m
 
 -- how long it stood, and what it counted
 unfoldable pub removed_counts : List ℕ → List ℕ
@@ -90,12 +90,12 @@ table_mod_fields m = number_field (codes " table") 8 1 m ++ number_field (codes 
 
 -- the configuration and its mask are sums of bits (7.3.4.3 and 7.2.1)
 unfoldable pub port_mod_fields : List ℕ → List ℕ
-port_mod_fields m = number_field (codes " port") 8 4 m ++ number_field (codes " config") 24 4 m ++ number_field (codes " mask") 28 4 m
+port_mod_fields m = number_field (codes " port") 8 4 m ++ hex_field (codes " hw") 16 6 m ++ number_field (codes " config") 24 4 m ++ number_field (codes " mask") 28 4 m
 
 -- 7.3.4.1
 
 unfoldable pub commanded_entry : List ℕ → List ℕ
-commanded_entry m = name_field [] FlowCommands 25 1 m ++ number_field (codes " table") 24 1 m ++ number_field (codes " priority") 30 2 m ++ hex_field (codes " cookie") 8 m
+commanded_entry m = name_field [] FlowCommands 25 1 m ++ number_field (codes " table") 24 1 m ++ number_field (codes " priority") 30 2 m ++ hex_field (codes " cookie") 8 8 m
 
 unfoldable pub commanded_times : List ℕ → List ℕ
 commanded_times m = number_field (codes " idle") 26 2 m ++ number_field (codes " hard") 28 2 m ++ number_field (codes " flags") 44 2 m
@@ -132,6 +132,17 @@ asked_by (Some kind) m =
 unfoldable pub multipart_fields : List ℕ → List ℕ
 multipart_fields m = name_field [] Multiparts 8 2 m ++ asked_by (number_at 8 2 m) m
 
+-- of AGGREGATE what the entries have counted (7.3.5.3); the rows of the other replies are left out
+unfoldable pub counted : List ℕ → List ℕ
+counted m = number_field (codes " packets") 16 8 m ++ number_field (codes " bytes") 24 8 m ++ number_field (codes " flows") 32 4 m
+
+unfoldable pub counted_by : Option ℕ → List ℕ → List ℕ
+counted_by None m = []
+counted_by (Some kind) m = if kind == 2 then counted m else []
+
+unfoldable pub multipart_reply_fields : List ℕ → List ℕ
+multipart_reply_fields m = name_field [] Multiparts 8 2 m ++ counted_by (number_at 8 2 m) m
+
 -- masks of reasons, each first that of a master or equal controller and then that of a slave (7.3.10)
 unfoldable pub async_packet_in : List ℕ → List ℕ
 async_packet_in m = number_field (codes " packet_in") 8 4 m ++ number_field (codes " slave") 12 4 m
@@ -153,7 +164,7 @@ role_fields m = name_field [] Roles 8 4 m ++ number_field (codes " generation") 
 unfoldable pub fields_of : ℕ → List ℕ → List ℕ
 fields_of type m =
     if type == 1 then error_fields m
-    else if type == 6 then hex_field (codes " datapath") 8 m
+    else if type == 6 then hex_field (codes " datapath") 8 8 m
     else if type == 8 then config_fields m
     else if type == 9 then config_fields m
     else if type == 10 then packet_in_fields m
@@ -165,7 +176,7 @@ fields_of type m =
     else if type == 16 then port_mod_fields m
     else if type == 17 then table_mod_fields m
     else if type == 18 then multipart_fields m
-    else if type == 19 then name_field [] Multiparts 8 2 m
+    else if type == 19 then multipart_reply_fields m
     else if type == 24 then role_fields m
     else if type == 25 then role_fields m
     else if type == 27 then async_fields m

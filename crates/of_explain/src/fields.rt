@@ -76,7 +76,7 @@ pub fn push_name_field(
     push_name(out, names, number)
 }
 
-/// Appends a word and eight bytes of a message in hex digits.
+/// Appends a word and so many bytes of a message in hex digits.
 #[tactic(auto, unfolding(crate::specs::Messages::hex_field))]
 pub fn push_hex_field(
     alloc: Global,
@@ -84,14 +84,16 @@ pub fn push_hex_field(
     message: &[u8],
     word: &[u8],
     at: usize,
+    size: usize,
 ) -> Result<(), AllocError>
     requires place { at < 2 ^ 16 }
-    ensures { OnOk result (out.new.items ≡ out.old.items ++ hex_field word.now at message.now) }
+    requires size { size < 2 ^ 16 }
+    ensures { OnOk result (out.new.items ≡ out.old.items ++ hex_field word.now at size message.now) }
 {
-    if at + 8 > message.len() {
+    if at + size > message.len() {
         return Ok(());
     }
-    let digits = hex::encode(alloc, &message[at..at + 8])?;
+    let digits = hex::encode(alloc, &message[at..at + size])?;
     out.extend_from_slice(word)?;
     out.extend_from_slice(b" 0x")?;
     out.extend_from_slice(digits.as_bytes())
@@ -134,5 +136,5 @@ pub fn push_bits_field(
             return Ok(());
         }
     }
-    push_hex_field(alloc, out, message, word, at)
+    push_hex_field(alloc, out, message, word, at, 8)
 }

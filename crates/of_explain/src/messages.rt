@@ -1,6 +1,6 @@
 //! Messages in words.
 ghost use Rattle.std.specs.Prelude.{◌≡◌, ◌++◌, OnOk};
-ghost use Rattle.of_explain.specs.Messages.{and_code, asked_by, asked_entries, async_fields, async_flow_removed, async_packet_in, async_port_status, commanded_entry, commanded_filter, commanded_times, config_fields, error_fields, fields_of, flow_mod_fields, flow_removed_fields, group_mod_fields, message_words, multipart_fields, number_at as a_number_at, packet_in_fields, packet_out_fields, port_mod_fields, port_status_fields, removed_counts, removed_entry, role_fields, table_mod_fields, type_and_fields};
+ghost use Rattle.of_explain.specs.Messages.{and_code, asked_by, asked_entries, async_fields, async_flow_removed, async_packet_in, async_port_status, commanded_entry, commanded_filter, commanded_times, config_fields, counted, error_fields, fields_of, flow_mod_fields, flow_removed_fields, group_mod_fields, message_words, multipart_fields, multipart_reply_fields, number_at as a_number_at, packet_in_fields, packet_out_fields, port_mod_fields, port_status_fields, removed_counts, removed_entry, role_fields, table_mod_fields, type_and_fields};
 
 use crate::fields::{
     half_at, number_at, push_bits_field, push_hex_field, push_name_field, push_number_field,
@@ -44,7 +44,7 @@ fn push_packet_in(alloc: Global, out: &mut Vec<u8>, message: &[u8]) -> Result<()
 {
     push_name_field(out, message, b" reason", Names::PacketInReasons, 14, 1)?;
     push_number_field(out, message, b" table", 15, 1)?;
-    push_hex_field(alloc, out, message, b" cookie", 16)?;
+    push_hex_field(alloc, out, message, b" cookie", 16, 8)?;
     push_number_field(out, message, b" frame of", 12, 2)
 }
 
@@ -56,7 +56,7 @@ fn push_removed_entry(alloc: Global, out: &mut Vec<u8>, message: &[u8]) -> Resul
     push_name_field(out, message, b" reason", Names::FlowRemovedReasons, 18, 1)?;
     push_number_field(out, message, b" table", 19, 1)?;
     push_number_field(out, message, b" priority", 16, 2)?;
-    push_hex_field(alloc, out, message, b" cookie", 8)
+    push_hex_field(alloc, out, message, b" cookie", 8, 8)
 }
 
 // How long it stood, and what it counted.
@@ -109,10 +109,11 @@ fn push_table_mod(out: &mut Vec<u8>, message: &[u8]) -> Result<(), AllocError>
 
 // PORT_MOD (7.3.4.3).
 #[tactic(auto, unfolding(crate::specs::Messages::port_mod_fields))]
-fn push_port_mod(out: &mut Vec<u8>, message: &[u8]) -> Result<(), AllocError>
+fn push_port_mod(alloc: Global, out: &mut Vec<u8>, message: &[u8]) -> Result<(), AllocError>
     ensures { OnOk result (out.new.items ≡ out.old.items ++ port_mod_fields message.now) }
 {
     push_number_field(out, message, b" port", 8, 4)?;
+    push_hex_field(alloc, out, message, b" hw", 16, 6)?;
     push_number_field(out, message, b" config", 24, 4)?;
     push_number_field(out, message, b" mask", 28, 4)
 }
@@ -125,7 +126,7 @@ fn push_commanded_entry(alloc: Global, out: &mut Vec<u8>, message: &[u8]) -> Res
     push_name_field(out, message, b"", Names::FlowCommands, 25, 1)?;
     push_number_field(out, message, b" table", 24, 1)?;
     push_number_field(out, message, b" priority", 30, 2)?;
-    push_hex_field(alloc, out, message, b" cookie", 8)
+    push_hex_field(alloc, out, message, b" cookie", 8, 8)
 }
 
 // Its timeouts and flags.
@@ -219,6 +220,28 @@ fn push_multipart(alloc: Global, out: &mut Vec<u8>, message: &[u8]) -> Result<()
     push_asked(alloc, out, half_at(message, 8), message)
 }
 
+// What the entries have counted that an AGGREGATE request asked for (7.3.5.3).
+#[tactic(auto, unfolding(crate::specs::Messages::counted))]
+fn push_counted(out: &mut Vec<u8>, message: &[u8]) -> Result<(), AllocError>
+    ensures { OnOk result (out.new.items ≡ out.old.items ++ counted message.now) }
+{
+    push_number_field(out, message, b" packets", 16, 8)?;
+    push_number_field(out, message, b" bytes", 24, 8)?;
+    push_number_field(out, message, b" flows", 32, 4)
+}
+
+// MULTIPART_REPLY (7.3.5): its kind, and of AGGREGATE what it says.
+#[tactic(auto, unfolding(crate::specs::Messages::multipart_reply_fields, crate::specs::Messages::counted_by))]
+fn push_multipart_reply(out: &mut Vec<u8>, message: &[u8]) -> Result<(), AllocError>
+    ensures { OnOk result (out.new.items ≡ out.old.items ++ multipart_reply_fields message.now) }
+{
+    push_name_field(out, message, b"", Names::Multiparts, 8, 2)?;
+    match half_at(message, 8) {
+        Some(2) => push_counted(out, message),
+        _ => Ok(()),
+    }
+}
+
 // The masks of one message, of a master or equal controller and of a slave.
 #[tactic(auto, unfolding(crate::specs::Messages::async_packet_in))]
 fn push_packet_in_masks(out: &mut Vec<u8>, message: &[u8]) -> Result<(), AllocError>
@@ -275,7 +298,7 @@ fn push_fields(
 {
     match kind {
         1 => push_error(out, message),
-        6 => push_hex_field(alloc, out, message, b" datapath", 8),
+        6 => push_hex_field(alloc, out, message, b" datapath", 8, 8),
         8 | 9 => push_config(out, message),
         10 => push_packet_in(alloc, out, message),
         11 => push_flow_removed(alloc, out, message),
@@ -283,10 +306,10 @@ fn push_fields(
         13 => push_packet_out(out, message),
         14 => push_flow_mod(alloc, out, message),
         15 => push_group_mod(out, message),
-        16 => push_port_mod(out, message),
+        16 => push_port_mod(alloc, out, message),
         17 => push_table_mod(out, message),
         18 => push_multipart(alloc, out, message),
-        19 => push_name_field(out, message, b"", Names::Multiparts, 8, 2),
+        19 => push_multipart_reply(out, message),
         24 | 25 => push_role(out, message),
         27 | 28 => push_async(out, message),
         _ => Ok(()),
