@@ -1,8 +1,9 @@
 -- Actions that are read are their structs, and back.
 use Rattle.std.proofs.Common.{◌≡◌, ℕ, ◌+◌, ◌*◌, ◌%◌, ◌/◌, ◌^◌, ◌<◌, ◌≤◌, Bool, true, false, not, eqb, ltb, leb, cond, List, [], ◌∷◌, ◌++◌, length, drop, Option, Some, None, refl, sym, ap, subst, ◌∙◌, arith}
-use Rattle.std.specs.Prelude.{slice_index, ◌&&◌, ◌||◌}
+use Rattle.std.specs.Prelude.{slice_index, ◌==◌, ◌&&◌, ◌||◌}
 use Rattle.std.specs.Option.{option_map}
-use Rattle.std.specs.List.{list_all}
+use Rattle.std.specs.List.{All, list_all, list_any}
+use Rattle.std.proofs.lemmas.List.Elements.{All-from_recursion}
 use Rattle.std.proofs.lemmas.Bool.{eq-eqb, eqb-true, le-ltb}
 use Rattle.std.proofs.lemmas.Bool.Decides.{nat_tests}
 use Rattle.std.proofs.lemmas.List.{length-append}
@@ -14,6 +15,7 @@ use Rattle.of_wire.specs.Items.{AreItems}
 use Rattle.of_wire.proofs.FirstLemmas.{none_applies}
 use Rattle.of_wire.proofs.Numbers.{IsBytes, IsBytes-drop}
 use Rattle.of_layers.specs.declared.field.Field.{Field}
+use Rattle.of_layers.specs.declared.field.Field.TheVariants.{EthDst}
 use Rattle.of_layers.specs.Fields.{bytes_of, field_at, is_settable, number_of, ones_of}
 use Rattle.of_layers.specs.Reading.{is_tag_type}
 use Rattle.of_layers.proofs.Table.{bytes_most, field_at-number_of, number_of-field_at}
@@ -25,23 +27,14 @@ use Rattle.of_actions.specs.PortNumbers.{is_port}
 use Rattle.of_actions.specs.Served.{is_served, are_served}
 use Rattle.of_actions.specs.SetField.{settable, set_field_at, set_value_at, set_len, set_refusals, known_set_refusals}
 use Rattle.of_actions.proofs.ActionLists.{is_served_list, served_is}
-use Rattle.of_grammar.specs.ActionStructs.{action_cells, AreStructs}
+use Rattle.of_grammar.specs.ActionStructs.{action_cells, action_type, action_types, AreStructs}
 use Rattle.of_grammar.specs.Cells.{Begins}
 use Rattle.of_grammar.proofs.ActionTails.{behind_none}
 use Rattle.of_grammar.proofs.Places.{Says, says, size, rest_is, size_is, front_of}
 
 -- ---- from what is read to structs
 
-abbrev number : Action → ℕ
-number (Output port max_len) = 0
-number (PushVlan type) = 17
-number PopVlan = 18
-number (Group group) = 22
-number (SetNwTtl ttl) = 23
-number DecNwTtl = 24
-number (SetField f value) = 25
-
-kind_is : (a : Action) (rest : List ℕ) → action_at rest ≡ Some a → type_at rest ≡ number a
+kind_is : (a : Action) (rest : List ℕ) → action_at rest ≡ Some a → type_at rest ≡ action_type a
 unfolding action_at
 kind_is a rest h = grind (arith, nat_tests, h)
 
@@ -277,3 +270,21 @@ pub only : (packet_out : Bool) (bytes : List ℕ) (actions : List Action) → Ar
 only packet_out bytes actions h served =
     let s = is_served_list packet_out actions served in
     only_items packet_out [] actions bytes (omega (arith, s.few)) s.all h
+
+-- ---- the types of actions
+
+pub type_listed : (a : Action) → list_any (λ n. n == action_type a) action_types ≡ true
+type_listed (Output port max_len) = refl
+type_listed (PushVlan type) = refl
+type_listed PopVlan = refl
+type_listed (Group group) = refl
+type_listed (SetNwTtl ttl) = refl
+type_listed DecNwTtl = refl
+type_listed (SetField f value) = refl
+
+abbrev HasAction : ℕ → Type 0
+HasAction n = (a : Action) × (action_type a ≡ n)
+
+pub types_have_actions : All HasAction action_types
+types_have_actions =
+    All-from_recursion HasAction action_types ((Output 0 0, refl), ((PushVlan 0, refl), ((PopVlan, refl), ((Group 0, refl), ((SetNwTtl 0, refl), ((DecNwTtl, refl), ((SetField EthDst 0, refl), tt)))))))

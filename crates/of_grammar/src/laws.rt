@@ -1,5 +1,6 @@
 //! Laws of the grammar of messages, joined to what reads them.
-ghost use Rattle.std.specs.Prelude.{◌≡◌, ◌++◌, ℕ, List, [], true, None, Ok, Err};
+ghost use Rattle.std.specs.Prelude.{◌≡◌, ◌==◌, ◌++◌, ℕ, List, [], true, None, Ok, Err};
+ghost use Rattle.std.specs.List.{All, list_any};
 ghost use Rattle.of_wire.specs.declared.code.Code.{Code};
 ghost use Rattle.of_wire.specs.Refusals.{refusal};
 ghost use Rattle.of_actions.specs.Actions.{AreActions};
@@ -8,7 +9,7 @@ ghost use Rattle.of_actions.specs.declared.action.Action.{Action};
 ghost use Rattle.of_messages.specs.Messages.{message_from, message_of, xid_of};
 ghost use Rattle.of_messages.specs.declared.message.Message.{Message};
 ghost use Rattle.of_messages.specs.declared.role.Role.TheVariants.{Slave};
-ghost use Rattle.of_grammar.specs.ActionStructs.{AreStructs};
+ghost use Rattle.of_grammar.specs.ActionStructs.{action_type, action_types, AreStructs};
 ghost use Rattle.of_grammar.specs.Grammar.{changes, MaySend, Spells};
 ghost use Rattle.of_grammar.specs.Told.{SpellsTold, Told};
 
@@ -49,4 +50,10 @@ pub fn no_spelling_begins_another()
 pub fn actions_are_structs(packet_out: bool, bytes: &[u8])
     ensures found { (actions : List Action) → AreActions packet_out [] bytes.now actions None → AreStructs actions bytes.now × (are_served packet_out actions ≡ true) }
     ensures only { (actions : List Action) → AreStructs actions bytes.now → are_served packet_out actions ≡ true → AreActions packet_out [] bytes.now actions None }
+{}
+
+/// `action_types` lists the type of each action, and no other (OpenFlow 1.3.5, 7.2.5): those that GROUP_FEATURES tells.
+pub fn action_types_are_all()
+    ensures listed { (a : Action) → list_any (λ n. n == action_type a) action_types ≡ true }
+    ensures only { All (λ n. (a : Action) × (action_type a ≡ n)) action_types }
 {}

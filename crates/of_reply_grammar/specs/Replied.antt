@@ -1,7 +1,9 @@
 -- MULTIPART_REPLY: which bytes spell which reply of this switch (OpenFlow 1.3.5, 7.3.5, struct ofp_multipart_reply).
-use Rattle.std.specs.Prelude.{◌≡◌, ℕ, ◌-◌, Bool, true, false, List, [], ◌∷◌, ◌++◌, length, replicate, codes}
+use Rattle.std.specs.Prelude.{◌≡◌, ℕ, ◌-◌, ◌^◌, Bool, true, false, List, [], ◌∷◌, ◌++◌, length, replicate, codes}
+use Rattle.std.specs.List.{sum_by}
 use Rattle.of_messages.specs.declared.group_mod.NewGroup.{NewGroup}
 use Rattle.of_messages.specs.declared.port_mod.PortDescription.{PortDescription}
+use Rattle.of_grammar.specs.ActionStructs.{action_types}
 use Rattle.of_grammar.specs.Cells.{Cell, byte, u16, u32, u64, plain, pad, Begins}
 use Rattle.of_reply_grammar.specs.Rows.{AreRows, FlowStats, IsFlow, AggregateStats, TableStats, IsTable, PortStats, IsPort, GroupStats, IsGroup, IsDescribed, IsDescribedPort}
 
@@ -37,9 +39,9 @@ text size letters = plain size (letters ++ replicate (size - length letters) 0)
 abbrev pub description_cells : List Cell
 description_cells = text 256 (codes "ofswitch") ∷ text 256 (codes "software") ∷ text 256 (codes "1") ∷ text 32 (codes "0") ∷ text 256 (codes "ofswitch") ∷ []
 
--- OUTPUT, PUSH_VLAN, POP_VLAN, GROUP, SET_NW_TTL, DEC_NW_TTL and SET_FIELD: the bits of their types, 0, 17, 18 and 22 to 25
+-- the bit of each action's type
 abbrev pub bucket_actions : ℕ
-bucket_actions = 0x03c60001
+bucket_actions = sum_by (λ n. 2 ^ n) action_types
 
 -- struct ofp_group_features (7.3.5.11): the types ALL, INDIRECT and FAST-FAILOVER, chaining that is checked, and of the four types how many groups there can be, and their actions
 abbrev pub features_cells : List Cell
