@@ -14,7 +14,7 @@ mod FoundSmall
 mod FoundLarge
 mod FoundRequests
 mod Found
-mod OneMessage
+pub mod OneMessage
 mod Senders
 pub mod Writings
 pub mod WrittenRequests

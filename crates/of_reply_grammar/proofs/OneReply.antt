@@ -1,9 +1,11 @@
 -- No bytes spell two replies: type and flags stand in their places, and behind the fields no bytes are two lists of rows.
-use Rattle.std.proofs.Common.{◌≡◌, ℕ, ◌+◌, Bool, true, false, List, length, drop, refl, sym, ap, subst, ◌∙◌, arith}
+use Rattle.std.proofs.Common.{◌≡◌, ◌≤◌, ℕ, ◌+◌, Bool, true, false, List, [], ◌++◌, length, drop, refl, sym, ap, subst, ◌∙◌, arith}
 use Rattle.byteorder.specs.Endian.{big_number}
 use Rattle.of_reply_grammar.proofs.OneGroup.{group_one, group_some, described_one as described_group_one, described_some as described_group_some}
 use Rattle.of_reply_grammar.proofs.OneRow.{IsOne, HasBytes, rows_one, flow_one, flow_some, table_one, table_some, port_one, port_some, described_one, described_some}
-use Rattle.of_grammar.proofs.Places.{Says, says, size, rest_is}
+use Rattle.of_messages.specs.Heads.{header_length}
+use Rattle.of_grammar.proofs.OneMessage.{ends_it}
+use Rattle.of_grammar.proofs.Places.{Says, says, size, rest_is, size_is}
 use Rattle.of_reply_grammar.specs.Replied.{Reply, SpellsReply, ReplyTail, aggregate, described_groups, described_ports, description, flags, flows, group_features, groups, ports, reply_cells, reply_front, reply_type, tables}
 use Rattle.of_reply_grammar.specs.Rows.{AggregateStats, AreRows, IsDescribed, IsDescribedPort, IsFlow, IsGroup, IsPort, IsTable}
 
@@ -71,3 +73,22 @@ one_reply x y more again r s bytes h k =
     let a = head x more r bytes h in
     let b = head y again s bytes k in
     (sym a.xid ∙ b.xid, one_flag more again (sym a.flag ∙ b.flag), one_kind r s bytes h.tail k.tail (sym a.kind ∙ b.kind) a.laid b.laid)
+
+-- ---- no reply begins another one
+
+record Sized (bytes : List ℕ) : Type 0 where
+  long : 8 ≤ length bytes
+  len : header_length bytes ≡ length bytes
+
+sized : (x : ℕ) (more : Bool) (r : Reply) (bytes : List ℕ) → SpellsReply x more r bytes → Sized bytes
+sized x more r bytes s =
+    let cells = reply_front r more (length bytes) x in
+    let y = says 0 cells bytes bytes s.tail refl s.front in
+    let long = size_is cells bytes s.tail s.front in
+    record { long = omega (arith, long); len = y.1.1.0 }
+
+pub no_front : (x y : ℕ) (more again : Bool) (r s : Reply) (bytes rest : List ℕ) → SpellsReply x more r bytes → SpellsReply y again s (bytes ++ rest) → rest ≡ []
+no_front x y more again r s bytes rest h k =
+    let a = sized x more r bytes h in
+    let b = sized y again s (bytes ++ rest) k in
+    ends_it bytes rest a.long a.len b.len

@@ -1,6 +1,6 @@
 //! Laws of the grammar of replies. That numbers fit their bytes is what the types of a writer's arguments say, and so are the
 //! others' premises: that a match is in its normal form, and that instructions and buckets are such as their lists hold.
-ghost use Rattle.std.specs.Prelude.{◌≡◌, ◌≤◌, ◌<◌, ◌*◌, ◌^◌, ℕ, Bool, false, List, length, map, Option};
+ghost use Rattle.std.specs.Prelude.{◌≡◌, ◌≤◌, ◌<◌, ◌*◌, ◌^◌, ◌++◌, ℕ, Bool, false, List, [], length, map, Option};
 ghost use Rattle.std.specs.List.{All};
 ghost use Rattle.of_groups.specs.declared.group.Group.{Group};
 ghost use Rattle.of_ports.specs.declared.port.Port.{Port};
@@ -19,6 +19,11 @@ ghost use Rattle.of_reply_grammar.specs.Shown.{aggregate_shown, flow_shown, grou
 /// No bytes spell two replies, or have two transaction ids, or say both that more follow and that none do.
 pub fn one_reply()
     ensures { (x y : ℕ) (more again : Bool) (r s : Reply) (bytes : List ℕ) → SpellsReply x more r bytes → SpellsReply y again s bytes → (x ≡ y) × (more ≡ again) × (r ≡ s) }
+{}
+
+/// No reply begins another one.
+pub fn no_reply_begins_another()
+    ensures { (x y : ℕ) (more again : Bool) (r s : Reply) (bytes rest : List ℕ) → SpellsReply x more r bytes → SpellsReply y again s (bytes ++ rest) → rest ≡ [] }
 {}
 
 /// What each writer of of_statistics writes is spelt: DESC, FLOW, AGGREGATE, TABLE, PORT_STATS, GROUP, GROUP_DESC,
