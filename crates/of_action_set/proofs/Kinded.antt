@@ -13,8 +13,8 @@ use Rattle.of_layers.specs.declared.field.Field.TheVariants.{InPort}
 use Rattle.of_layers.specs.Fields.{number_of, is_settable, row_of, all_fields}
 use Rattle.of_actions.specs.declared.action.Action.{Action}
 use Rattle.of_actions.specs.declared.action.Action.TheVariants.{SetField}
-use Rattle.of_actions.specs.Served.{is_served}
-use Rattle.of_actions.specs.Rising.{is_rising}
+use Rattle.of_actions.specs.Supported.{is_supported}
+use Rattle.of_actions.specs.Rising.{is_ascending}
 use Rattle.of_action_set.specs.Sets.{rank, is_output}
 use Rattle.of_action_set.specs.Storage.{stored}
 use Rattle.of_action_set.proofs.Ranked.{is_in, at_most, below, but, put, rising_put, all_put, insert_is_put, length-filter_le}
@@ -27,20 +27,20 @@ settable_in : (f : Field) → is_settable f ≡ true → is_in (4 + number_of f)
 unfolding row_of
 settable_in f = elim f as (λ f. is_settable f ≡ true → is_in (4 + number_of f) ranks ≡ true) [ InPort ↦ λ h. absurd cc | _ ↦ λ h. cc ]
 
-served_in : (a : Action) → is_served false a ≡ true → is_in (rank a) ranks ≡ true
-unfolding is_served row_of
+served_in : (a : Action) → is_supported false a ≡ true → is_in (rank a) ranks ≡ true
+unfolding is_supported row_of
 served_in (SetField field value) h = settable_in field (grind (arith, nat_tests))
 served_in other h = refl
 
-all_in : (s : List Action) → list_all (is_served false) s ≡ true → list_all (λ a. is_in (rank a) ranks) s ≡ true
+all_in : (s : List Action) → list_all (is_supported false) s ≡ true → list_all (λ a. is_in (rank a) ranks) s ≡ true
 all_in [] h = refl
 all_in (a ∷ s) h =
-    let one : is_served false a ≡ true = grind (arith, nat_tests) in
-    let others : list_all (is_served false) s ≡ true = grind (arith, nat_tests) in
+    let one : is_supported false a ≡ true = grind (arith, nat_tests) in
+    let others : list_all (is_supported false) s ≡ true = grind (arith, nat_tests) in
     rw (served_in a one, all_in s others) refl
 
 -- a set has at most 30 actions
-pub few : (s : List Action) → is_rising rank s ≡ true → list_all (is_served false) s ≡ true → length s ≤ 30
+pub few : (s : List Action) → is_ascending rank s ≡ true → list_all (is_supported false) s ≡ true → length s ≤ 30
 unfolding row_of
 few s rising served = at_most rank ranks s refl rising (all_in s served)
 
@@ -66,21 +66,21 @@ lower_no_output : (b x : Action) → ltb (rank b) (rank x) ≡ true → is_outpu
 lower_no_output b x lt = grind (arith, nat_tests, rank_of_output b, rank_most x, eqb_tells (rank b) 41)
 
 -- no OUTPUT stands before the last
-pub before_output : (s : List Action) (x : Action) → is_rising rank (s ++ x ∷ []) ≡ true → filter (λ a. not (is_output a)) s ≡ s
+pub before_output : (s : List Action) (x : Action) → is_ascending rank (s ++ x ∷ []) ≡ true → filter (λ a. not (is_output a)) s ≡ s
 before_output [] x h = refl
 before_output (b ∷ s) x h =
     let above : list_all (λ y. ltb (rank b) (rank y)) (s ++ x ∷ []) ≡ true = grind (arith, nat_tests) in
-    let rest : is_rising rank (s ++ x ∷ []) ≡ true = grind (arith, nat_tests) in
+    let rest : is_ascending rank (s ++ x ∷ []) ≡ true = grind (arith, nat_tests) in
     rw (lower_no_output b x (last_passes (λ y. ltb (rank b) (rank y)) s x above), before_output s x rest) refl
 
 filter_append : (p : Action → Bool) (s t : List Action) → filter p (s ++ t) ≡ filter p s ++ filter p t
 filter_append p [] t = refl
 filter_append p (a ∷ s) t = grind (arith, filter_append p s t)
 
-pub only_last : (s : List Action) (x : Action) → is_rising rank (s ++ x ∷ []) ≡ true → is_output x ≡ true → filter (λ a. not (is_output a)) (s ++ x ∷ []) ≡ s
+pub only_last : (s : List Action) (x : Action) → is_ascending rank (s ++ x ∷ []) ≡ true → is_output x ≡ true → filter (λ a. not (is_output a)) (s ++ x ∷ []) ≡ s
 only_last s x h is = rw (filter_append (λ a. not (is_output a)) s (x ∷ []), before_output s x h, is) (append-nil s)
 
-pub none_but_last : (s : List Action) (x : Action) → is_rising rank (s ++ x ∷ []) ≡ true → is_output x ≡ false → filter (λ a. not (is_output a)) (s ++ x ∷ []) ≡ s ++ x ∷ []
+pub none_but_last : (s : List Action) (x : Action) → is_ascending rank (s ++ x ∷ []) ≡ true → is_output x ≡ false → filter (λ a. not (is_output a)) (s ++ x ∷ []) ≡ s ++ x ∷ []
 none_but_last s x h is = rw (filter_append (λ a. not (is_output a)) s (x ∷ []), before_output s x h, is) refl
 
 not_output_by : (kind : ℕ) (a : Action) (s : List Action) (is same : Bool) → is_output a ≡ is → eqb (rank a) kind ≡ same
@@ -106,9 +106,9 @@ find_not_output kind (a ∷ s) = not_output_by kind a s (is_output a) (eqb (rank
 
 -- ---- one more action
 
-pub put_few : (a : Action) (s : List Action) → is_rising rank s ≡ true → list_all (is_served false) s ≡ true → is_served false a ≡ true → length (but rank (rank a) s) < 30
+pub put_few : (a : Action) (s : List Action) → is_ascending rank s ≡ true → list_all (is_supported false) s ≡ true → is_supported false a ≡ true → length (but rank (rank a) s) < 30
 put_few a s rising served is =
-    let most : length (put rank a s) ≤ 30 = few (put rank a s) (rising_put rank a s rising) (all_put rank (is_served false) a s is served) in
+    let most : length (put rank a s) ≤ 30 = few (put rank a s) (rising_put rank a s rising) (all_put rank (is_supported false) a s is served) in
     let fits = length-filter_le (λ b. ltb (rank b) (rank a)) (but rank (rank a) s) in
     let more = length-insert (but rank (rank a) s) (length (below rank (rank a) (but rank (rank a) s))) a fits in
     let same : length (put rank a s) ≡ length (but rank (rank a) s) + 1 = rw (insert_is_put rank a s rising) at more in

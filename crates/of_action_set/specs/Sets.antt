@@ -5,7 +5,7 @@ use Rattle.of_layers.specs.Fields.{number_of}
 use Rattle.of_actions.specs.declared.action.Action.{Action}
 use Rattle.of_actions.specs.declared.action.Action.TheVariants.{Output, PushVlan, PopVlan, Group, SetNwTtl, DecNwTtl, SetField}
 
--- The kind of an action, as its rank in the order of running: POP_VLAN, PUSH_VLAN, DEC_NW_TTL, SET_NW_TTL, SET_FIELD by rising field, GROUP, OUTPUT. The standard says no more than that pops come before pushes, these before changes of the TTL, and sets, group and output last.
+-- The kind of an action, as its rank in execution order: POP_VLAN, PUSH_VLAN, DEC_NW_TTL, SET_NW_TTL, SET_FIELD by ascending field, GROUP, OUTPUT. The standard says no more than that pops come before pushes, these before changes of the TTL, and sets, group and output last.
 abbrev pub rank : Action → ℕ
 rank PopVlan = 0
 rank (PushVlan type) = 1
@@ -15,7 +15,7 @@ rank (SetField field value) = 4 + number_of field
 rank (Group group) = 40
 rank (Output port max_len) = 41
 
--- a set is the list of its actions by rising rank; this is its action of a kind
+-- a set is the list of its actions by ascending rank; this is its action of a kind
 abbrev pub held : ℕ → List Action → Option Action
 held kind set = find (λ a. rank a == kind) set
 

@@ -1,8 +1,8 @@
 //! Action sets.
 ghost use Rattle.std.specs.Prelude.{◌≡◌, ◌≤◌, ◌==◌, [], true, false, not, length, filter, IsTrue};
 ghost use Rattle.std.specs.List.{list_all};
-ghost use Rattle.of_actions.specs.Served.{is_served};
-ghost use Rattle.of_actions.specs.Rising.{is_rising};
+ghost use Rattle.of_actions.specs.Supported.{is_supported};
+ghost use Rattle.of_actions.specs.Rising.{is_ascending};
 ghost use Rattle.of_action_set.specs.Sets.{rank as rank_of, is_output as is_an_output, with_action, with_actions, in_order as run_order};
 
 use crate::rank::{has_group, is_output, place_of, rank};
@@ -15,10 +15,10 @@ const KINDS: usize = 30;
 
 /// The actions that a packet gathers on its way, at most one of a kind (OpenFlow 1.3.5, 5.10).
 ///
-/// It is of fixed size and needs no memory.
+/// It is of fixed size and needs no allocation.
 #[derive(Debug, Drop)]
 pub struct ActionSet {
-    // none until the first is written: most packets write none, and blank places take time to make
+    // none until the first is written: most packets write none, and filling unused places takes time
     actions: Option<ArrayVec<Action, KINDS>>,
 }
 
@@ -26,8 +26,8 @@ impl Model for ActionSet {
     ghost use Rattle.std.specs.Prelude.{List, IsTrue, false};
     ghost use Rattle.std.specs.List.{list_all};
     ghost use Rattle.of_actions.specs.declared.action.Action.{Action};
-    ghost use Rattle.of_actions.specs.Served.{is_served};
-    ghost use Rattle.of_actions.specs.Rising.{is_rising};
+    ghost use Rattle.of_actions.specs.Supported.{is_supported};
+    ghost use Rattle.of_actions.specs.Rising.{is_ascending};
     ghost use Rattle.of_action_set.specs.Sets.{rank};
     ghost use Rattle.of_action_set.specs.Storage.{stored};
 
@@ -35,7 +35,7 @@ impl Model for ActionSet {
 
     ghost view = { λ set. stored set.actions };
 
-    ghost invariant = { λ set. IsTrue (is_rising rank (stored set.actions)) × IsTrue (list_all (is_served false) (stored set.actions)) };
+    ghost invariant = { λ set. IsTrue (is_ascending rank (stored set.actions)) × IsTrue (list_all (is_supported false) (stored set.actions)) };
 }
 
 impl ActionSet {
@@ -48,7 +48,7 @@ impl ActionSet {
 
     /// Writes actions in their order: each takes the place of the one of its kind, where there is one (OpenFlow 1.3.5, 5.9 and 5.10).
     pub fn write(&mut self, actions: &[Action])
-        requires { IsTrue (list_all (is_served false) actions.now) }
+        requires { IsTrue (list_all (is_supported false) actions.now) }
         ensures { self.new ≡ with_actions self.old actions.now }
     {
         for action in actions {
@@ -57,7 +57,7 @@ impl ActionSet {
     }
 
     fn put(&mut self, action: Action)
-        requires { IsTrue (is_served false action) }
+        requires { IsTrue (is_supported false action) }
         ensures { self.new ≡ with_action self.old action }
     {
         put_in(self.actions.get_or_insert_with(ArrayVec::new), action);
@@ -70,7 +70,7 @@ impl ActionSet {
         self.actions = None;
     }
 
-    /// Takes the actions out, and leaves none (OpenFlow 1.3.5, 5.10).
+    /// Takes the actions, and leaves none (OpenFlow 1.3.5, 5.10).
     pub fn take(&mut self) -> ActionSet
         ensures taken { result ≡ self.old }
         ensures left { self.new ≡ [] }
@@ -80,10 +80,10 @@ impl ActionSet {
         }
     }
 
-    /// The actions in the order of running: OUTPUT is left out beside GROUP (OpenFlow 1.3.5, 5.10).
+    /// The actions in the order of execution: OUTPUT is left out beside GROUP (OpenFlow 1.3.5, 5.10).
     pub fn in_order(&self) -> &[Action]
         ensures actions { result.now ≡ run_order self.now }
-        ensures served { IsTrue (list_all (is_served false) result.now) }
+        ensures served { IsTrue (list_all (is_supported false) result.now) }
         ensures few { length result.now ≤ 30 }
     {
         self.known();
@@ -104,21 +104,21 @@ impl ActionSet {
         }
     }
 
-    /// What is known of each set: its actions stand by rising rank, and some bytes spell each.
+    /// The invariant of each set: its actions are in ascending order of rank, and some bytes spell each.
     pub fn known(&self)
-        ensures rising { IsTrue (is_rising rank_of self.now) }
-        ensures served { IsTrue (list_all (is_served false) self.now) }
+        ensures rising { IsTrue (is_ascending rank_of self.now) }
+        ensures served { IsTrue (list_all (is_supported false) self.now) }
         ensures few { length self.now ≤ 30 }
     {
         let _ = &self.actions;
     }
 }
 
-// Takes the place of the action of its kind.
+// Replaces the action of its kind.
 fn put_in(actions: &mut ArrayVec<Action, KINDS>, action: Action)
-    requires rising { IsTrue (is_rising rank_of actions.old.items) }
-    requires served { IsTrue (list_all (is_served false) actions.old.items) }
-    requires one { IsTrue (is_served false action) }
+    requires rising { IsTrue (is_ascending rank_of actions.old.items) }
+    requires served { IsTrue (list_all (is_supported false) actions.old.items) }
+    requires one { IsTrue (is_supported false action) }
     ensures { actions.new.items ≡ with_action actions.old.items action }
 {
     let kind = rank(action);
@@ -135,7 +135,7 @@ fn remove_kind(actions: &mut ArrayVec<Action, KINDS>, kind: u8)
 
 // OUTPUT ranks highest, so it is the last.
 fn without_output(actions: &[Action]) -> &[Action]
-    requires { IsTrue (is_rising rank_of actions.now) }
+    requires { IsTrue (is_ascending rank_of actions.now) }
     ensures { result.now ≡ filter (λ a. not (is_an_output a)) actions.now }
 {
     let Some((last, before)) = actions.split_last() else {

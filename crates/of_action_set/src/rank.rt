@@ -5,7 +5,7 @@ ghost use Rattle.of_action_set.specs.Sets.{rank as rank_of, is_group as is_to_gr
 
 use of_actions::Action;
 
-/// The place of an action's kind in the order of running (OpenFlow 1.3.5, 5.10).
+/// The place of an action's kind in the order of execution (OpenFlow 1.3.5, 5.10).
 pub(crate) fn rank(action: Action) -> u8
     ensures rank { result ≡ rank_of action }
     ensures most { result ≤ 41 }

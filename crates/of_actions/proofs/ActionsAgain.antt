@@ -17,7 +17,7 @@ use Rattle.of_actions.specs.declared.action.Action.TheVariants.{Output, PushVlan
 use Rattle.of_actions.specs.Beginnings.{type_at, len_at}
 use Rattle.of_actions.specs.PortNumbers.{is_port}
 use Rattle.of_actions.specs.SetField.{settable, set_field_at, set_value_at, set_len, set_refusals}
-use Rattle.of_actions.specs.Served.{is_served, are_served}
+use Rattle.of_actions.specs.Supported.{is_supported, are_supported}
 use Rattle.of_actions.specs.Actions.{actions_of, AreActions, action_refusals, type_refusals, action_at, first_at, max_len_at}
 use Rattle.of_actions.specs.CanonicalActions.{canonical_action, canonical_actions, canonical_set_field}
 use Rattle.of_actions.proofs.ActionLists.{is_served_list}
@@ -39,9 +39,9 @@ head_none packet_out seen rest n few len low eight whole kind =
     let whole' : ltb (length rest) n ≡ false = le-ltb _ _ whole in
     rw (room, short, len, low', eight', whole') kind
 
--- what is read of an action of 8 or 16 bytes that is served is not refused
-plain_none : (packet_out : Bool) (a : Action) (rest : List ℕ) → is_served packet_out a ≡ true → type_at rest ≡ type_at (canonical_action a) → len_at rest ≡ len_at (canonical_action a) → action_at rest ≡ Some a → IsPlain a → first_of (type_refusals packet_out rest) ≡ None
-unfolding canonical_action action_at type_refusals is_served
+-- what is read of a supported action of 8 or 16 bytes is not refused
+plain_none : (packet_out : Bool) (a : Action) (rest : List ℕ) → is_supported packet_out a ≡ true → type_at rest ≡ type_at (canonical_action a) → len_at rest ≡ len_at (canonical_action a) → action_at rest ≡ Some a → IsPlain a → first_of (type_refusals packet_out rest) ≡ None
+unfolding canonical_action action_at type_refusals is_supported
 plain_none packet_out (Output port max_len) rest served kind len read plain =
     let same : Some (Output (first_at 4 rest) (max_len_at rest)) ≡ Some (Output port max_len) = rw kind at read in
     let port_is : first_at 4 rest ≡ port = cc in
@@ -110,16 +110,16 @@ set_again packet_out f v seen x few ok fits =
 
 -- ---- each action
 
--- a field that is served may be set, and its value fits it
+-- a supported field may be set, and its value fits it
 record FieldFits (f : Field) (v : ℕ) : Type 0 where
   settable : is_settable f ≡ true
   value : v ≤ ones_of f
 
-field_fits : (packet_out : Bool) (f : Field) (v : ℕ) → is_served packet_out (SetField f v) ≡ true → FieldFits f v
-unfolding is_served
+field_fits : (packet_out : Bool) (f : Field) (v : ℕ) → is_supported packet_out (SetField f v) ≡ true → FieldFits f v
+unfolding is_supported
 field_fits packet_out f v h = record { settable = grind (arith, nat_tests); value = grind (arith, nat_tests) }
 
-plain_again : (packet_out : Bool) (a : Action) (seen : List Action) (x : List ℕ) (n : ℕ) → length seen ≤ 63 → is_served packet_out a ≡ true → IsPlain a → len_at (canonical_action a ++ x) ≡ n → 8 ≤ n → n % 8 ≡ 0 → length (canonical_action a) ≡ n → type_at (canonical_action a ++ x) ≡ type_at (canonical_action a) → len_at (canonical_action a) ≡ n → action_at (canonical_action a ++ x) ≡ Some a → Again (actions_of packet_out) (canonical_action a) a seen x
+plain_again : (packet_out : Bool) (a : Action) (seen : List Action) (x : List ℕ) (n : ℕ) → length seen ≤ 63 → is_supported packet_out a ≡ true → IsPlain a → len_at (canonical_action a ++ x) ≡ n → 8 ≤ n → n % 8 ≡ 0 → length (canonical_action a) ≡ n → type_at (canonical_action a ++ x) ≡ type_at (canonical_action a) → len_at (canonical_action a) ≡ n → action_at (canonical_action a ++ x) ≡ Some a → Again (actions_of packet_out) (canonical_action a) a seen x
 plain_again packet_out a seen x n few served plain len some eights whole kind len' read =
     let rest = canonical_action a ++ x in
     let long = length-append (canonical_action a) x in
@@ -130,27 +130,27 @@ plain_again packet_out a seen x n few served plain len some eights whole kind le
       size = len ∙ sym whole;
     }
 
-value_again : (packet_out : Bool) (a : Action) (x : List ℕ) → is_served packet_out a ≡ true → IsPlain a → action_at (canonical_action a ++ x) ≡ Some a
-unfolding canonical_action action_at is_served
+value_again : (packet_out : Bool) (a : Action) (x : List ℕ) → is_supported packet_out a ≡ true → IsPlain a → action_at (canonical_action a ++ x) ≡ Some a
+unfolding canonical_action action_at is_supported
 value_again packet_out (SetField f v) x served plain = absurd plain
 value_again packet_out other x served plain = grind (arith, nat_tests)
 
-pub action_again : (packet_out : Bool) (a : Action) (seen : List Action) (x : List ℕ) → length seen ≤ 63 → is_served packet_out a ≡ true → Again (actions_of packet_out) (canonical_action a) a seen x
+pub action_again : (packet_out : Bool) (a : Action) (seen : List Action) (x : List ℕ) → length seen ≤ 63 → is_supported packet_out a ≡ true → Again (actions_of packet_out) (canonical_action a) a seen x
 unfolding canonical_action action_at
 action_again packet_out (SetField f v) seen x few served =
     let h = field_fits packet_out f v served in set_again packet_out f v seen x few h.settable h.value
 action_again packet_out other seen x few served =
     plain_again packet_out other seen x _ few served tt refl (omega arith) refl refl refl refl (value_again packet_out other x served tt)
 
-all_again : (packet_out : Bool) (seen xs : List Action) → length seen + length xs ≤ 64 → list_all (is_served packet_out) xs ≡ true → AllAgain (actions_of packet_out) canonical_action seen xs
+all_again : (packet_out : Bool) (seen xs : List Action) → length seen + length xs ≤ 64 → list_all (is_supported packet_out) xs ≡ true → AllAgain (actions_of packet_out) canonical_action seen xs
 all_again packet_out seen [] few served = tt
 all_again packet_out seen (a ∷ xs) few served =
-    let this : is_served packet_out a ≡ true = grind (arith, nat_tests) in
-    let others : list_all (is_served packet_out) xs ≡ true = grind (arith, nat_tests) in
+    let this : is_supported packet_out a ≡ true = grind (arith, nat_tests) in
+    let others : list_all (is_supported packet_out) xs ≡ true = grind (arith, nat_tests) in
     (λ x. action_again packet_out a seen x (omega arith) this, all_again packet_out (seen ++ a ∷ []) xs (omega (arith, length-append seen (a ∷ []))) others)
 
--- a served list is spelt by what is written
-pub canonical_spelt : (packet_out : Bool) (actions : List Action) → are_served packet_out actions ≡ true → AreActions packet_out [] (canonical_actions actions) actions None
+-- a supported list is spelt by what is written
+pub canonical_spelt : (packet_out : Bool) (actions : List Action) → are_supported packet_out actions ≡ true → AreActions packet_out [] (canonical_actions actions) actions None
 canonical_spelt packet_out actions h =
     let s = is_served_list packet_out actions h in
     written_items (actions_of packet_out) canonical_action [] actions (all_again packet_out [] actions (omega (arith, s.few)) s.all)
@@ -174,7 +174,7 @@ length-canonical (a ∷ actions) =
     let both = length-append (canonical_action a) (canonical_actions actions) in
     record { short = omega (arith, both, one.short, others.short); eights = omega (arith, both, one.eights, others.eights) }
 
-pub canonical_short : (packet_out : Bool) (actions : List Action) → are_served packet_out actions ≡ true → Length (canonical_actions actions) 1536
+pub canonical_short : (packet_out : Bool) (actions : List Action) → are_supported packet_out actions ≡ true → Length (canonical_actions actions) 1536
 canonical_short packet_out actions h =
     let s = is_served_list packet_out actions h in
     let l = length-canonical actions in

@@ -16,7 +16,7 @@ use Rattle.of_actions.specs.Actions.{actions_said}
 use Rattle.of_actions.specs.Beginnings.{len_at}
 use Rattle.of_actions.specs.Headers.{Header, goto, metadata, write, apply, clear, headers_of, header_refusals, AreHeaders}
 use Rattle.of_actions.specs.Instructions.{HasActions, HasFault, IsBody, IsFault, AreBodies, SpellsInstructions, IsRefused}
-use Rattle.of_actions.specs.InstructionReading.{with_actions, body_of, in_front, bodies_of, then_bodies, then_ordered, instructions_of}
+use Rattle.of_actions.specs.InstructionReading.{with_actions, body_of, prepended, bodies_of, then_bodies, then_ordered, instructions_of}
 use Rattle.of_actions.proofs.ActionsComputed.{actions_are}
 
 headers_take : (table : ℕ) → TakesBytes (headers_of table)
@@ -53,7 +53,7 @@ no_end (write bytes) b = b
 no_end (apply bytes) b = b
 no_end clear b = b
 
-in_front_of : (i : Instruction) (is : List Instruction) (fault : Option Code) → in_front (Ok i) (outcome is fault) ≡ outcome (i ∷ is) fault
+in_front_of : (i : Instruction) (is : List Instruction) (fault : Option Code) → prepended (Ok i) (outcome is fault) ≡ outcome (i ∷ is) fault
 in_front_of i is None = refl
 in_front_of i is (Some code) = refl
 
@@ -61,10 +61,10 @@ bodies_are : (hs : List Header) (is : List Instruction) (fault : Option Code) �
 bodies_are [] [] fault h = ap (outcome []) (sym h)
 bodies_are [] (i ∷ is) fault h = absurd h
 bodies_are (h ∷ hs) [] None b = absurd (no_end h b)
-bodies_are (h ∷ hs) [] (Some code) b = ap (λ (r : Result Instruction Code). in_front r (bodies_of hs)) (fault_is h code b)
+bodies_are (h ∷ hs) [] (Some code) b = ap (λ (r : Result Instruction Code). prepended r (bodies_of hs)) (fault_is h code b)
 bodies_are (h ∷ hs) (i ∷ is) fault b =
-    ap (λ (r : Result Instruction Code). in_front r (bodies_of hs)) (body_is h i b.0)
-    ∙ (ap (in_front (Ok i)) (bodies_are hs is fault b.1) ∙ in_front_of i is fault)
+    ap (λ (r : Result Instruction Code). prepended r (bodies_of hs)) (body_is h i b.0)
+    ∙ (ap (prepended (Ok i)) (bodies_are hs is fault b.1) ∙ in_front_of i is fault)
 
 headers_are : (table : ℕ) (bytes : List ℕ) (hs : List Header) (fault : Option Code) → AreHeaders table [] bytes hs fault → items_of (headers_of table) (length bytes) [] bytes ≡ outcome hs fault
 headers_are table bytes hs fault h = items_are (headers_of table) (length bytes) [] bytes hs fault (headers_take table) (omega arith) h

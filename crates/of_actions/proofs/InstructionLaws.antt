@@ -57,7 +57,7 @@ pub body_refused : (table : ℕ) (bytes : List ℕ) (hs given : List Header) →
 body_refused table bytes hs given whole e code h =
     IsRefused.body hs whole h.0 (subst (λ (x : List Header). AreBodies x h.0 (Some code)) e h.1)
 
--- what the bodies begin, in the order of running
+-- what the bodies begin, in the order of execution
 pub all_spelt : (table : ℕ) (bytes : List ℕ) (hs given : List Header) (message list : List Instruction) → AreHeaders table [] bytes hs None → given ≡ hs → AreBodies given message None → list ≡ in_run_order message → SpellsInstructions table bytes list
 all_spelt table bytes hs given message list whole e bodies order =
     record { headers = hs; whole = whole; message = message; bodies = subst (λ (x : List Header). AreBodies x message None) e bodies; order = order }

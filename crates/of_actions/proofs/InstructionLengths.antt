@@ -8,7 +8,7 @@ use Rattle.std.proofs.lemmas.List.{length-append, append_assoc}
 use Rattle.of_wire.specs.Numbered.{only}
 use Rattle.of_actions.specs.declared.instruction.Instruction.{Instruction}
 use Rattle.of_actions.specs.declared.instruction.Instruction.TheVariants.{Apply, Clear, Write, Metadata, Goto}
-use Rattle.of_actions.specs.Rising.{is_rising}
+use Rattle.of_actions.specs.Rising.{is_ascending}
 use Rattle.of_actions.specs.InstructionLists.{run_place, is_served_body, are_kept}
 use Rattle.of_actions.specs.RunOrder.{in_run_order}
 use Rattle.of_actions.specs.CanonicalInstructions.{canonical_instruction, canonical_instructions}
@@ -27,7 +27,7 @@ length-instruction (Write actions) served = let l = canonical_short false action
 length-instruction (Metadata value mask) served = omega arith
 length-instruction (Goto table) served = omega arith
 
-group_short : (k : ℕ) (xs : List Instruction) → list_all (λ x. eqb (run_place x) k) xs ≡ true → is_rising run_place xs ≡ true → list_all is_served_body xs ≡ true → length (canonical_instructions xs) ≤ most k
+group_short : (k : ℕ) (xs : List Instruction) → list_all (λ x. eqb (run_place x) k) xs ≡ true → is_ascending run_place xs ≡ true → list_all is_served_body xs ≡ true → length (canonical_instructions xs) ≤ most k
 group_short k [] all up served = omega arith
 group_short k (x ∷ []) all up served =
     let place = eqb-true (run_place x) k (grind (arith, nat_tests)) in
@@ -43,7 +43,7 @@ abbrev most_of : List ℕ → ℕ
 most_of [] = 0
 most_of (k ∷ ks) = most k + most_of ks
 
-groups_short : (ks : List ℕ) (is : List Instruction) → is_rising run_place is ≡ true → list_all is_served_body is ≡ true → length (canonical_instructions (groups ks is)) ≤ most_of ks
+groups_short : (ks : List ℕ) (is : List Instruction) → is_ascending run_place is ≡ true → list_all is_served_body is ≡ true → length (canonical_instructions (groups ks is)) ≤ most_of ks
 groups_short [] is up served = omega arith
 groups_short (k ∷ ks) is up served =
     let this = group_short k (only run_place k is) (only_all k is) (rising_only_of k is up) (list_all-only is_served_body k is served) in
@@ -54,6 +54,6 @@ groups_short (k ∷ ks) is up served =
 pub instructions_short : (is : List Instruction) → are_kept is ≡ true → length (canonical_instructions is) ≤ 3128
 unfolding in_run_order
 instructions_short is kept =
-    let rising : is_rising run_place is ≡ true = grind (arith, nat_tests) in
+    let rising : is_ascending run_place is ≡ true = grind (arith, nat_tests) in
     let served : list_all is_served_body is ≡ true = grind (arith, nat_tests) in
     subst (λ (x : List Instruction). length (canonical_instructions x) ≤ 3128) (order_same is rising) (groups_short (0 ∷ 1 ∷ 2 ∷ 3 ∷ 4 ∷ []) is rising served)

@@ -15,7 +15,7 @@ use Rattle.of_wire.proofs.ItemsAgain.{Again, AllAgain, written_items}
 use Rattle.of_actions.specs.declared.instruction.Instruction.{Instruction}
 use Rattle.of_actions.specs.declared.instruction.Instruction.TheVariants.{Apply, Clear, Write, Metadata, Goto}
 use Rattle.of_actions.specs.Beginnings.{type_at, len_at}
-use Rattle.of_actions.specs.Rising.{is_rising}
+use Rattle.of_actions.specs.Rising.{is_ascending}
 use Rattle.of_actions.specs.InstructionLists.{type_of, run_place, is_served_body, are_kept, is_for, are_for}
 use Rattle.of_actions.specs.Headers.{Header, goto, metadata, write, apply, clear, kind_of, is_known, is_size, is_next, table_at, headers_of, header_refusals, header_at}
 use Rattle.of_actions.specs.Instructions.{AreBodies, SpellsInstructions}
@@ -212,7 +212,7 @@ all_new (i ∷ is) = all_new is
 
 pub instructions_spelt : (table : ℕ) (is : List Instruction) → are_kept is ≡ true → are_for table is ≡ true → SpellsInstructions table (canonical_instructions is) is
 instructions_spelt table is kept valid =
-    let rising : is_rising run_place is ≡ true = grind (arith, nat_tests) in
+    let rising : is_ascending run_place is ≡ true = grind (arith, nat_tests) in
     let served : list_all is_served_body is ≡ true = grind (arith, nat_tests) in
     let once : is_distinct type_of is ≡ true = sym (distinct_place is) ∙ rising_once is rising in
     record {

@@ -12,7 +12,7 @@ use Rattle.of_actions.specs.SetField.{set_field_at, set_value_at, set_refusals}
 use Rattle.of_actions.specs.declared.action.Action.{Action}
 use Rattle.of_actions.specs.declared.action.Action.TheVariants.{Output, PushVlan, PopVlan, Group, SetNwTtl, DecNwTtl, SetField}
 
--- the port of an OUTPUT, the type of a PUSH_VLAN, the number of a GROUP, and the time to live of a SET_NW_TTL stand first; the max_len of an OUTPUT follows its port
+-- the port of an OUTPUT, the type of a PUSH_VLAN, the number of a GROUP, and the TTL of a SET_NW_TTL come first; the max_len of an OUTPUT follows its port
 abbrev pub first_at : ℕ → List ℕ → ℕ
 first_at bytes rest = big_number bytes (drop 4 rest)
 
@@ -23,7 +23,7 @@ max_len_at rest = big_number 2 (drop 8 rest)
 abbrev pub wrong_size : ℕ → List ℕ → Bool × Code
 wrong_size size rest = (not (len_at rest == size), refusal 2 1)
 
--- The refusals of an action by its type, in order (7.4.4): of its size, OFPBAC_BAD_OUT_PORT of an OUTPUT, OFPBAC_BAD_ARGUMENT of a PUSH_VLAN, those of a set field, OFPBAC_BAD_EXPERIMENTER, and OFPBAC_BAD_TYPE of all other types.
+-- The refusals of an action by its type, in order (7.4.4): of its size, OFPBAC_BAD_OUT_PORT of an OUTPUT, OFPBAC_BAD_ARGUMENT of a PUSH_VLAN, those of a set-field, OFPBAC_BAD_EXPERIMENTER, and OFPBAC_BAD_TYPE of all other types.
 unfoldable pub type_refusals : Bool → List ℕ → List (Bool × Code)
 type_refusals packet_out rest =
     if type_at rest == 0 then wrong_size 16 rest ∷ (not (is_port packet_out (first_at 4 rest)), refusal 2 4) ∷ []
@@ -36,7 +36,7 @@ type_refusals packet_out rest =
     else if type_at rest == 0xffff then (true, refusal 2 2) ∷ []
     else (true, refusal 2 0) ∷ []
 
--- The refusals of the action that begins `rest`, in order, where the actions `seen` stand before it: OFPBAC_TOO_MANY, OFPBAC_BAD_LEN, and those of its type.
+-- The refusals of the action that begins `rest`, in order, after the actions `seen`: OFPBAC_TOO_MANY, OFPBAC_BAD_LEN, and those of its type.
 unfoldable pub action_refusals : Bool → List Action → List ℕ → List (Bool × Code)
 action_refusals packet_out seen rest =
     (nat_lt 63 (length seen), refusal 2 7)
@@ -44,7 +44,7 @@ action_refusals packet_out seen rest =
     ∷ (nat_lt (len_at rest) 8 || not (len_at rest % 8 == 0) || nat_lt (length rest) (len_at rest), refusal 2 1)
     ∷ type_refusals packet_out rest
 
--- what an action that is not refused stands for: OUTPUT, PUSH_VLAN, POP_VLAN, GROUP, SET_NW_TTL, DEC_NW_TTL, SET_FIELD
+-- the action, where it is not refused: OUTPUT, PUSH_VLAN, POP_VLAN, GROUP, SET_NW_TTL, DEC_NW_TTL, SET_FIELD
 unfoldable pub action_at : List ℕ → Option Action
 action_at rest =
     if type_at rest == 0 then Some (Output (first_at 4 rest) (max_len_at rest))

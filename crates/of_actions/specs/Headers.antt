@@ -26,7 +26,7 @@ kind_of clear = 5
 abbrev pub is_known : ℕ → Bool
 is_known kind = nat_le 1 kind && nat_le kind 5
 
--- GOTO_TABLE and CLEAR_ACTIONS have 8 bytes, WRITE_METADATA has 24, and what is unknown has any size
+-- GOTO_TABLE and CLEAR_ACTIONS have 8 bytes, WRITE_METADATA has 24, and the other types have any size
 abbrev pub is_size : ℕ → ℕ → Bool
 is_size kind len = if (kind == 1) || (kind == 5) then len == 8 else if kind == 2 then len == 24 else true
 
@@ -38,7 +38,7 @@ table_at rest = slice_index rest 4
 abbrev pub is_next : ℕ → ℕ → Bool
 is_next table to = nat_lt table to && nat_lt to 16
 
--- The refusals of the instruction that begins `rest`, in order, where those of the headers `seen` stand before it (7.4.4): OFPBIC_BAD_LEN, OFPBIC_UNSUP_INST of a METER, OFPBIC_BAD_EXPERIMENTER, OFPBIC_UNKNOWN_INST, OFPBIC_UNSUP_INST for the second of a type, and OFPBIC_BAD_TABLE_ID.
+-- The refusals of the instruction that begins `rest`, in order, after those of the headers `seen` (7.4.4): OFPBIC_BAD_LEN, OFPBIC_UNSUP_INST for a METER, OFPBIC_BAD_EXPERIMENTER, OFPBIC_UNKNOWN_INST, OFPBIC_UNSUP_INST for the second of a type, and OFPBIC_BAD_TABLE_ID.
 unfoldable pub header_refusals : ℕ → List Header → List ℕ → List (Bool × Code)
 header_refusals table seen rest =
     (nat_lt (length rest) 4, refusal 3 7)
@@ -55,7 +55,7 @@ header_refusals table seen rest =
 abbrev pub actions_at : List ℕ → List ℕ
 actions_at rest = take (len_at rest - 8) (drop 8 rest)
 
--- what a header that is not refused begins: GOTO_TABLE, WRITE_METADATA, WRITE_ACTIONS, APPLY_ACTIONS, CLEAR_ACTIONS
+-- the header, where it is not refused: GOTO_TABLE, WRITE_METADATA, WRITE_ACTIONS, APPLY_ACTIONS, CLEAR_ACTIONS
 unfoldable pub header_at : List ℕ → Option Header
 header_at rest =
     if type_at rest == 1 then Some (goto (table_at rest))

@@ -3,8 +3,8 @@ use Rattle.std.specs.Prelude.{ℕ, ◌^◌, nat_lt, Bool, true, false, ◌&&◌,
 use Rattle.std.specs.List.{list_all}
 use Rattle.of_actions.specs.declared.instruction.Instruction.{Instruction}
 use Rattle.of_actions.specs.declared.instruction.Instruction.TheVariants.{Apply, Clear, Write, Metadata, Goto}
-use Rattle.of_actions.specs.Rising.{is_rising}
-use Rattle.of_actions.specs.Served.{are_served}
+use Rattle.of_actions.specs.Rising.{is_ascending}
+use Rattle.of_actions.specs.Supported.{are_supported}
 
 -- the type of an instruction on the wire
 abbrev pub type_of : Instruction → ℕ
@@ -14,7 +14,7 @@ type_of (Write actions) = 3
 type_of (Apply actions) = 4
 type_of Clear = 5
 
--- the order of running (5.9): APPLY_ACTIONS, CLEAR_ACTIONS, WRITE_ACTIONS, WRITE_METADATA, GOTO_TABLE
+-- the order of execution (5.9): APPLY_ACTIONS, CLEAR_ACTIONS, WRITE_ACTIONS, WRITE_METADATA, GOTO_TABLE
 abbrev pub run_place : Instruction → ℕ
 run_place (Apply actions) = 0
 run_place Clear = 1
@@ -22,17 +22,17 @@ run_place (Write actions) = 2
 run_place (Metadata value mask) = 3
 run_place (Goto table) = 4
 
--- an instruction whose actions are served, whose numbers fit their bytes, and whose table is there
+-- an instruction whose actions are supported, whose numbers fit their bytes, and whose table exists
 abbrev pub is_served_body : Instruction → Bool
-is_served_body (Apply actions) = are_served false actions
+is_served_body (Apply actions) = are_supported false actions
 is_served_body Clear = true
-is_served_body (Write actions) = are_served false actions
+is_served_body (Write actions) = are_supported false actions
 is_served_body (Metadata value mask) = nat_lt value (2 ^ 64) && nat_lt mask (2 ^ 64)
 is_served_body (Goto table) = nat_lt table 16
 
--- one of a type, in the order of running, each served
+-- one of a type, in the order of execution, each supported
 abbrev pub are_kept : List Instruction → Bool
-are_kept instructions = is_rising run_place instructions && list_all is_served_body instructions
+are_kept instructions = is_ascending run_place instructions && list_all is_served_body instructions
 
 -- an entry of the table may have it: GOTO_TABLE leads to a later table
 abbrev pub is_for : ℕ → Instruction → Bool

@@ -21,15 +21,15 @@ body_of (write bytes) = with_actions Write (actions_said false bytes)
 body_of (apply bytes) = with_actions Apply (actions_said false bytes)
 body_of clear = Ok Clear
 
-abbrev pub in_front : Result Instruction Code → Result (List Instruction) Code → Result (List Instruction) Code
-in_front (Ok i) (Ok others) = Ok (i ∷ others)
-in_front (Ok i) (Err code) = Err code
-in_front (Err code) others = Err code
+abbrev pub prepended : Result Instruction Code → Result (List Instruction) Code → Result (List Instruction) Code
+prepended (Ok i) (Ok others) = Ok (i ∷ others)
+prepended (Ok i) (Err code) = Err code
+prepended (Err code) others = Err code
 
 -- those of all headers, or the first refusal
 abbrev pub bodies_of : List Header → Result (List Instruction) Code
 bodies_of [] = Ok []
-bodies_of (h ∷ hs) = in_front (body_of h) (bodies_of hs)
+bodies_of (h ∷ hs) = prepended (body_of h) (bodies_of hs)
 
 abbrev pub then_bodies : Result (List Header) Code → Result (List Instruction) Code
 then_bodies (Ok hs) = bodies_of hs
@@ -39,6 +39,6 @@ abbrev pub then_ordered : Result (List Instruction) Code → Result (List Instru
 then_ordered (Ok instructions) = Ok (in_run_order instructions)
 then_ordered (Err code) = Err code
 
--- all headers are looked at before the first action
+-- all headers are checked before the first action
 unfoldable pub instructions_of : ℕ → List ℕ → Result (List Instruction) Code
 instructions_of table bytes = then_ordered (then_bodies (items_of (headers_of table) (length bytes) [] bytes))

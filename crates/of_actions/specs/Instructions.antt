@@ -41,7 +41,7 @@ AreBodies [] (i ∷ is) fault = ⊥
 AreBodies (h ∷ hs) [] fault = IsFault h fault
 AreBodies (h ∷ hs) (i ∷ is) fault = IsBody h i × AreBodies hs is fault
 
--- The bytes spell these instructions of an entry of the table: no header is refused, each begins its instruction, and the list has them in the order of running.
+-- The bytes spell these instructions of an entry of the table: no header is refused, each begins its instruction, and the list has them in the order of execution.
 pub record SpellsInstructions (table : ℕ) (bytes : List ℕ) (instructions : List Instruction) : Type 0 where
   pub headers : List Header
   pub whole : AreHeaders table [] bytes headers None

@@ -1,5 +1,5 @@
 pub mod PortNumbers
-pub mod Served
+pub mod Supported
 pub mod Rising
 pub mod InstructionLists
 pub mod RunOrder

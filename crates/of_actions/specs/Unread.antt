@@ -11,7 +11,7 @@ header_of (Write bytes) = seen.write bytes.now
 header_of (Apply bytes) = seen.apply bytes.now
 header_of Clear = seen.clear
 
--- numbers fit their bytes, and the table is there
+-- numbers fit their bytes, and the table exists
 abbrev pub is_sound : seen.Header → Bool
 is_sound (seen.goto to) = nat_lt to 16
 is_sound (seen.metadata value mask) = nat_lt value (2 ^ 64) && nat_lt mask (2 ^ 64)
@@ -19,7 +19,7 @@ is_sound (seen.write bytes) = true
 is_sound (seen.apply bytes) = true
 is_sound seen.clear = true
 
--- a GOTO_TABLE leads to a table behind this one
+-- a GOTO_TABLE leads to a later table than this one
 abbrev pub leads_on : ℕ → seen.Header → Bool
 leads_on table (seen.goto to) = nat_lt table to
 leads_on table (seen.metadata value mask) = true

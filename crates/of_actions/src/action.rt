@@ -4,7 +4,7 @@ ghost use Rattle.of_wire.specs.Refusals.{first_of};
 ghost use Rattle.of_actions.specs.Actions.{action_at, type_refusals};
 ghost use Rattle.of_actions.specs.Beginnings.{type_at, len_at};
 ghost use Rattle.of_actions.specs.CanonicalActions.{canonical_action};
-ghost use Rattle.of_actions.specs.Served.{is_served};
+ghost use Rattle.of_actions.specs.Supported.{is_supported};
 
 use crate::codes::{
     BAD_ACTION_EXPERIMENTER, BAD_ACTION_LEN, BAD_ACTION_TYPE, BAD_ARGUMENT, BAD_OUT_PORT,
@@ -28,16 +28,16 @@ pub enum Action {
         /// How many bytes of the packet a controller is to get.
         max_len: u16,
     },
-    /// OFPAT_PUSH_VLAN: puts a VLAN tag of this type, 0x8100 or 0x88a8, in front of the others.
+    /// OFPAT_PUSH_VLAN: pushes a VLAN tag of this type, 0x8100 or 0x88a8, before the others.
     PushVlan(u16),
-    /// OFPAT_POP_VLAN: takes the outermost VLAN tag off.
+    /// OFPAT_POP_VLAN: pops the outermost VLAN tag.
     #[default]
     PopVlan,
-    /// OFPAT_GROUP: gives the packet to the group of this number.
+    /// OFPAT_GROUP: sends the packet to the group of this number.
     Group(u32),
-    /// OFPAT_SET_NW_TTL: replaces the time to live of IPv4, or the hop limit of IPv6.
+    /// OFPAT_SET_NW_TTL: replaces the TTL of IPv4, or the hop limit of IPv6.
     SetNwTtl(u8),
-    /// OFPAT_DEC_NW_TTL: takes it down by one.
+    /// OFPAT_DEC_NW_TTL: decrements it.
     DecNwTtl,
     /// OFPAT_SET_FIELD: replaces a field that may be set by a value that fits it.
     SetField {
@@ -48,9 +48,9 @@ pub enum Action {
 
 impl Action {
     /// Whether some bytes spell it: in a PACKET_OUT, or in an instruction (OpenFlow 1.3.5, 7.2.5).
-    #[tactic(auto, unfolding(crate::specs::Served::is_served))]
-    pub(crate) fn is_served(self, packet_out: bool) -> bool
-        ensures { result ≡ is_served packet_out self }
+    #[tactic(auto, unfolding(crate::specs::Supported::is_supported))]
+    pub(crate) fn is_supported(self, packet_out: bool) -> bool
+        ensures { result ≡ is_supported packet_out self }
     {
         match self {
             Action::Output { port, .. } => is_port(packet_out, port),
@@ -64,7 +64,7 @@ impl Action {
     }
 }
 
-#[tactic(auto, unfolding(crate::specs::Actions::type_refusals, crate::specs::Actions::action_at, crate::specs::Served::is_served))]
+#[tactic(auto, unfolding(crate::specs::Actions::type_refusals, crate::specs::Actions::action_at, crate::specs::Supported::is_supported))]
 fn read_output(rest: &[u8], len: usize, packet_out: bool) -> Result<Action, Code>
     requires long { 8 ≤ len }
     requires whole { len ≤ length rest.now }
@@ -72,7 +72,7 @@ fn read_output(rest: &[u8], len: usize, packet_out: bool) -> Result<Action, Code
     requires kind { type_at rest.now ≡ 0 }
     ensures none { OnOk result (first_of (type_refusals packet_out rest.now) ≡ None) }
     ensures action { IfOk result (λ action. action_at rest.now ≡ Some action) }
-    ensures served { IfOk result (λ action. IsTrue (is_served packet_out action)) }
+    ensures served { IfOk result (λ action. IsTrue (is_supported packet_out action)) }
     ensures first { IfErr result (λ code. first_of (type_refusals packet_out rest.now) ≡ Some code) }
 {
     if len != 16 {
@@ -88,7 +88,7 @@ fn read_output(rest: &[u8], len: usize, packet_out: bool) -> Result<Action, Code
     Ok(Action::Output { port, max_len })
 }
 
-#[tactic(auto, unfolding(crate::specs::Actions::type_refusals, crate::specs::Actions::action_at, crate::specs::Served::is_served))]
+#[tactic(auto, unfolding(crate::specs::Actions::type_refusals, crate::specs::Actions::action_at, crate::specs::Supported::is_supported))]
 fn read_push_vlan(rest: &[u8], len: usize, packet_out: bool) -> Result<Action, Code>
     requires long { 8 ≤ len }
     requires whole { len ≤ length rest.now }
@@ -96,7 +96,7 @@ fn read_push_vlan(rest: &[u8], len: usize, packet_out: bool) -> Result<Action, C
     requires kind { type_at rest.now ≡ 17 }
     ensures none { OnOk result (first_of (type_refusals packet_out rest.now) ≡ None) }
     ensures action { IfOk result (λ action. action_at rest.now ≡ Some action) }
-    ensures served { IfOk result (λ action. IsTrue (is_served packet_out action)) }
+    ensures served { IfOk result (λ action. IsTrue (is_supported packet_out action)) }
     ensures first { IfErr result (λ code. first_of (type_refusals packet_out rest.now) ≡ Some code) }
 {
     if len != 8 {
@@ -123,15 +123,15 @@ fn with_eight_bytes(action: Action, len: usize) -> Result<Action, Code>
     }
 }
 
-/// The action at the front of bytes, by its type; the bytes hold its length, which is 8 at least.
-#[tactic(auto, unfolding(crate::specs::Actions::type_refusals, crate::specs::Actions::action_at, crate::specs::Served::is_served))]
+/// The action that the bytes begin with, by its type; the bytes hold its length, which is 8 at least.
+#[tactic(auto, unfolding(crate::specs::Actions::type_refusals, crate::specs::Actions::action_at, crate::specs::Supported::is_supported))]
 pub(crate) fn read_type(rest: &[u8], len: usize, packet_out: bool) -> Result<Action, Code>
     requires long { 8 ≤ len }
     requires whole { len ≤ length rest.now }
     requires len { len ≡ len_at rest.now }
     ensures none { OnOk result (first_of (type_refusals packet_out rest.now) ≡ None) }
     ensures action { IfOk result (λ action. action_at rest.now ≡ Some action) }
-    ensures served { IfOk result (λ action. IsTrue (is_served packet_out action)) }
+    ensures served { IfOk result (λ action. IsTrue (is_supported packet_out action)) }
     ensures first { IfErr result (λ code. first_of (type_refusals packet_out rest.now) ≡ Some code) }
 {
     let (_, body) = rest.split_at(4);
@@ -149,9 +149,9 @@ pub(crate) fn read_type(rest: &[u8], len: usize, packet_out: bool) -> Result<Act
 }
 
 /// Appends the bytes of an action.
-#[tactic(auto, unfolding(crate::specs::CanonicalActions::canonical_action, crate::specs::Served::is_served))]
+#[tactic(auto, unfolding(crate::specs::CanonicalActions::canonical_action, crate::specs::Supported::is_supported))]
 pub(crate) fn put_action(out: &mut Vec<u8>, action: Action) -> Result<(), AllocError>
-    requires { is_served true action ≡ true }
+    requires { is_supported true action ≡ true }
     ensures { OnOk result (out.new.items ≡ out.old.items ++ canonical_action action) }
 {
     match action {

@@ -1,13 +1,13 @@
 //! Lists of actions.
 ghost use Rattle.std.specs.Prelude.{◌≡◌, ◌↔◌, [], false, true, length, IsTrue, IfOk, IfSome, IfNone};
 ghost use Rattle.std.specs.List.{list_all};
-ghost use Rattle.of_actions.specs.Served.{is_served as is_served_action, are_served as are_served_actions};
+ghost use Rattle.of_actions.specs.Supported.{is_supported as is_served_action, are_supported as are_served_actions};
 
 use crate::action::Action;
 use std::alloc::AllocError;
 use std::marker::Model;
 
-/// At most 64 actions, in the order in which they are done (OpenFlow 1.3.5, 5.11).
+/// At most 64 actions, in the order in which they are executed (OpenFlow 1.3.5, 5.11).
 #[derive(Debug, Drop)]
 pub struct ActionList {
     pub(crate) actions: Vec<Action>,
@@ -16,23 +16,23 @@ pub struct ActionList {
 impl Model for ActionList {
     ghost use Rattle.std.specs.Prelude.{List, IsTrue, true};
     ghost use Rattle.of_actions.specs.declared.action.Action.{Action};
-    ghost use Rattle.of_actions.specs.Served.{are_served};
+    ghost use Rattle.of_actions.specs.Supported.{are_supported};
 
     ghost Value = { List Action };
 
     ghost view = { λ list. list.actions.items };
 
-    ghost invariant = { λ list. IsTrue (are_served true list.actions.items) };
+    ghost invariant = { λ list. IsTrue (are_supported true list.actions.items) };
 }
 
 impl ActionList {
-    /// The list of these actions. None where there are more than 64 of them, or one is not served.
+    /// The list of these actions. None where there are more than 64 of them, or one is not supported.
     pub fn new(actions: Vec<Action>) -> Option<ActionList>
         ensures list { IfSome result (λ list. list ≡ actions.items) }
         ensures served { IfSome result (λ list. IsTrue (are_served_actions true list)) }
         ensures none { IfNone result (are_served_actions true actions.items ≡ false) }
     {
-        if are_served(&actions, true) {
+        if are_supported(&actions, true) {
             Some(ActionList { actions })
         } else {
             None
@@ -70,11 +70,11 @@ impl ActionList {
 fn all_served(actions: &[Action], packet_out: bool) -> bool
     ensures { result ≡ list_all (is_served_action packet_out) actions.now }
 {
-    actions.iter().all(|action| action.is_served(packet_out))
+    actions.iter().all(|action| action.is_supported(packet_out))
 }
 
 /// Whether some bytes spell these actions: of a PACKET_OUT, or of an instruction.
-pub(crate) fn are_served(actions: &[Action], packet_out: bool) -> bool
+pub(crate) fn are_supported(actions: &[Action], packet_out: bool) -> bool
     ensures { result ≡ are_served_actions packet_out actions.now }
 {
     actions.len() <= 64 && all_served(actions, packet_out)

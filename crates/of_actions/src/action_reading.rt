@@ -7,7 +7,7 @@ ghost use Rattle.of_actions.specs.declared.action.Action.{Action as AnAction};
 ghost use Rattle.of_actions.specs.Actions.{AreActions, action_at, action_refusals, actions_said};
 ghost use Rattle.of_actions.specs.Beginnings.{len_at};
 ghost use Rattle.of_actions.specs.Readings.{Reads, Refuses};
-ghost use Rattle.of_actions.specs.Served.{are_served, is_served};
+ghost use Rattle.of_actions.specs.Supported.{are_supported, is_supported};
 
 use crate::action::{Action, read_type};
 use crate::action_list::ActionList;
@@ -16,7 +16,7 @@ use byteorder::{BigEndian, ByteOrder};
 use of_wire::{Code, ReadError};
 use std::alloc::Global;
 
-// The action at the front, and its size.
+// The action that the bytes begin with, and its size.
 #[tactic(auto, unfolding(crate::specs::Actions::action_refusals))]
 fn read_action(rest: &[u8], seen: &[Action], packet_out: bool) -> Result<(Action, usize), Code>
     ensures size { IfOk result (λ read. read.1 ≡ len_at rest.now) }
@@ -25,7 +25,7 @@ fn read_action(rest: &[u8], seen: &[Action], packet_out: bool) -> Result<(Action
     ensures room { OnOk result (length seen.now ≤ 63) }
     ensures none { OnOk result (first_of (action_refusals packet_out seen.now rest.now) ≡ None) }
     ensures action { IfOk result (λ read. action_at rest.now ≡ Some read.0) }
-    ensures served { IfOk result (λ read. IsTrue (is_served packet_out read.0)) }
+    ensures served { IfOk result (λ read. IsTrue (is_supported packet_out read.0)) }
     ensures first { IfErr result (λ code. first_of (action_refusals packet_out seen.now rest.now) ≡ Some code) }
 {
     if seen.len() > 63 {
@@ -45,7 +45,7 @@ fn read_action(rest: &[u8], seen: &[Action], packet_out: bool) -> Result<(Action
 
 fn read_all(alloc: Global, bytes: &[u8], packet_out: bool) -> Result<Vec<Action>, ReadError>
     ensures found { IfOk result (λ v. AreActions packet_out [] bytes.now v.items None) }
-    ensures served { IfOk result (λ v. IsTrue (are_served packet_out v.items)) }
+    ensures served { IfOk result (λ v. IsTrue (are_supported packet_out v.items)) }
     ensures refused { IfErr result (Fails (λ code. (before : List AnAction) × AreActions packet_out [] bytes.now before (Some code))) }
 {
     let mut actions = Vec::new(alloc);
@@ -65,7 +65,7 @@ fn read_all(alloc: Global, bytes: &[u8], packet_out: bool) -> Result<Vec<Action>
 
 fn parse_actions(alloc: Global, bytes: &[u8], packet_out: bool) -> Result<ActionList, ReadError>
     ensures found { IfOk result (λ list. AreActions packet_out [] bytes.now list None) }
-    ensures served { IfOk result (λ list. IsTrue (are_served packet_out list)) }
+    ensures served { IfOk result (λ list. IsTrue (are_supported packet_out list)) }
     ensures refused { IfErr result (Fails (λ code. (before : List AnAction) × AreActions packet_out [] bytes.now before (Some code))) }
 {
     let actions = read_all(alloc, bytes, packet_out)?;
@@ -83,8 +83,8 @@ pub fn read_actions(alloc: Global, bytes: &[u8], packet_out: bool) -> Result<Act
     ensures exact { (code : ErrorCode) (before : List AnAction) → AreActions packet_out [] bytes.now before (Some code) → Refuses result code }
     // Both, as a function of the bytes.
     ensures reads { AnswersAs result (actions_said packet_out bytes.now) }
-    // What is read may stand where it was read.
-    ensures served { IfOk result (λ list. IsTrue (are_served packet_out list)) }
+    // What is read is valid where it was read.
+    ensures served { IfOk result (λ list. IsTrue (are_supported packet_out list)) }
 {
     parse_actions(alloc, bytes, packet_out)
 }

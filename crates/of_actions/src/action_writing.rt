@@ -2,7 +2,7 @@
 ghost use Rattle.std.specs.Prelude.{◌≡◌, ◌≤◌, ◌++◌, Bool, true, [], length, IsTrue, None, OnOk, IfOk};
 ghost use Rattle.std.specs.List.{list_all};
 ghost use Rattle.of_actions.specs.Actions.{AreActions};
-ghost use Rattle.of_actions.specs.Served.{is_served, are_served};
+ghost use Rattle.of_actions.specs.Supported.{is_supported, are_supported};
 ghost use Rattle.of_actions.specs.CanonicalActions.{canonical_actions};
 
 use crate::action::{Action, put_action};
@@ -10,7 +10,7 @@ use crate::action_list::ActionList;
 use std::alloc::{AllocError, Global};
 
 fn put_actions(out: &mut Vec<u8>, actions: &[Action]) -> Result<(), AllocError>
-    requires { list_all (is_served true) actions.now ≡ true }
+    requires { list_all (is_supported true) actions.now ≡ true }
     ensures { OnOk result (out.new.items ≡ out.old.items ++ canonical_actions actions.now) }
 {
     for action in actions {
@@ -23,9 +23,9 @@ fn put_actions(out: &mut Vec<u8>, actions: &[Action]) -> Result<(), AllocError>
 pub fn write_actions(alloc: Global, actions: &ActionList) -> Result<Vec<u8>, AllocError>
     ensures canonical { IfOk result (λ v. v.items ≡ canonical_actions actions.now) }
     ensures short { IfOk result (λ v. length v.items ≤ 1536) }
-    // A PACKET_OUT may have each list of actions, and an instruction each that is served there.
+    // A PACKET_OUT may have each list of actions, and an instruction each that is supported there.
     ensures spelt { IfOk result (λ v. AreActions true [] v.items actions.now None) }
-    ensures spelt_where_served { IfOk result (λ v. (packet_out : Bool) → IsTrue (are_served packet_out actions.now) → AreActions packet_out [] v.items actions.now None) }
+    ensures spelt_where_served { IfOk result (λ v. (packet_out : Bool) → IsTrue (are_supported packet_out actions.now) → AreActions packet_out [] v.items actions.now None) }
 {
     let mut out = Vec::new(alloc);
     put_actions(&mut out, actions.as_slice())?;

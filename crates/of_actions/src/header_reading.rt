@@ -83,7 +83,7 @@ fn read_fields(rest: &[u8], kind: u16, len: usize, table: u8) -> Result<UnreadIn
     Ok(UnreadInstruction { header })
 }
 
-// The instruction at the front, and its size.
+// The instruction that the bytes begin with, and its size.
 #[tactic(auto, unfolding(crate::specs::Headers::header_refusals))]
 fn read_header<'a>(
     rest: &'a [u8],

@@ -2,12 +2,12 @@
 ghost use Rattle.std.specs.Prelude.{◌≡◌};
 ghost use Rattle.of_actions.specs.InstructionLists.{type_of, run_place as place_of, is_served_body as is_body_served};
 
-use crate::action_list::{ActionList, are_served};
+use crate::action_list::{ActionList, are_supported};
 
 /// What an entry does with a packet (OpenFlow 1.3.5, 5.9 and 7.2.4).
 #[derive(Debug, Drop)]
 pub enum Instruction {
-    /// OFPIT_APPLY_ACTIONS: does the actions at once, in their order.
+    /// OFPIT_APPLY_ACTIONS: executes the actions at once, in their order.
     Apply(ActionList),
     /// OFPIT_CLEAR_ACTIONS: empties the action set.
     Clear,
@@ -33,7 +33,7 @@ impl Instruction {
         }
     }
 
-    /// Its place in the order of running (OpenFlow 1.3.5, 5.9).
+    /// Its place in the order of execution (OpenFlow 1.3.5, 5.9).
     pub(crate) fn run_place(&self) -> u8
         ensures { result ≡ place_of self.now }
     {
@@ -52,7 +52,7 @@ impl Instruction {
     {
         match self {
             Instruction::Apply(actions) | Instruction::Write(actions) => {
-                are_served(actions.as_slice(), false)
+                are_supported(actions.as_slice(), false)
             }
             Instruction::Clear => true,
             Instruction::Metadata { value, mask } => *value <= u64::MAX && *mask <= u64::MAX,

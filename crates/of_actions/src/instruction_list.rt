@@ -2,13 +2,13 @@
 ghost use Rattle.std.specs.Prelude.{◌≡◌, ◌↔◌, ◌∷◌, ◌++◌, [], false, nat_lt, length, IsTrue, IfOk, IfSome, IfNone};
 ghost use Rattle.std.specs.List.{list_all};
 ghost use Rattle.of_actions.specs.InstructionLists.{are_kept as are_kept_so, is_served_body, is_for as is_for_table, are_for as are_for_table, run_place};
-ghost use Rattle.of_actions.specs.Rising.{is_rising};
+ghost use Rattle.of_actions.specs.Rising.{is_ascending};
 
 use crate::instruction::Instruction;
 use std::alloc::{AllocError, Global};
 use std::marker::Model;
 
-/// The instructions of an entry, in the order of running: at most one of a type (OpenFlow 1.3.5, 5.9).
+/// The instructions of an entry, in the order of execution: at most one of a type (OpenFlow 1.3.5, 5.9).
 #[derive(Debug, Drop)]
 pub struct InstructionList {
     pub(crate) instructions: Vec<Instruction>,
@@ -27,7 +27,7 @@ impl Model for InstructionList {
 }
 
 impl InstructionList {
-    /// The list of these instructions. None where they are not in the order of running, one of a type, or one is not served.
+    /// The list of these instructions. None where they are not in the order of execution, one of a type, or one is not supported.
     pub fn new(instructions: Vec<Instruction>) -> Option<InstructionList>
         ensures list { IfSome result (λ list. list ≡ instructions.items) }
         ensures kept { IfSome result (λ list. IsTrue (are_kept_so list)) }
@@ -132,7 +132,7 @@ fn is_before(first: &Instruction, after: &[Instruction]) -> bool
 }
 
 fn are_rising(instructions: &[Instruction]) -> bool
-    ensures { result ≡ is_rising run_place instructions.now }
+    ensures { result ≡ is_ascending run_place instructions.now }
 {
     let mut rest = instructions;
     while let [first, after @ ..] = rest {

@@ -59,8 +59,8 @@ fn parse_instructions(alloc: Global, bytes: &[u8], table: u8) -> Result<Instruct
     Ok(InstructionList { instructions })
 }
 
-/// All of the bytes as the instructions of an entry of the table, in the order of running (OpenFlow 1.3.5, 5.9 and 7.2.4).
-/// All headers are looked at before the first action, and then the actions in the order of the message.
+/// All of the bytes as the instructions of an entry of the table, in the order of execution (OpenFlow 1.3.5, 5.9 and 7.2.4).
+/// All headers are checked before the first action, and then the actions in the order of the message.
 pub fn read_instructions(
     alloc: Global,
     bytes: &[u8],

@@ -4,13 +4,13 @@ ghost use Rattle.of_actions.specs.PortNumbers.{is_number as is_port_number, is_p
 
 /// OFPP_MAX: the ports of a switch have the numbers 1 to this one.
 pub const PORT_MAX: u32 = 0xffff_ff00;
-/// OFPP_IN_PORT: the port by which the packet came in.
+/// OFPP_IN_PORT: the ingress port of the packet.
 pub const PORT_IN_PORT: u32 = 0xffff_fff8;
 /// OFPP_TABLE: the flow tables, from the first on; in a PACKET_OUT alone.
 pub const PORT_TABLE: u32 = 0xffff_fff9;
-/// OFPP_FLOOD: each port but that by which the packet came in.
+/// OFPP_FLOOD: each port but the ingress port of the packet.
 pub const PORT_FLOOD: u32 = 0xffff_fffb;
-/// OFPP_ALL: each port but that by which the packet came in.
+/// OFPP_ALL: each port but the ingress port of the packet.
 pub const PORT_ALL: u32 = 0xffff_fffc;
 /// OFPP_CONTROLLER: the controller.
 pub const PORT_CONTROLLER: u32 = 0xffff_fffd;

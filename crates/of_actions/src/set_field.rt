@@ -7,7 +7,7 @@ ghost use Rattle.of_actions.specs.SetField.{set_field_at, set_refusals};
 ghost use Rattle.of_layers.specs.Fields.{ones_of};
 ghost use Rattle.of_actions.specs.Actions.{action_at};
 ghost use Rattle.of_actions.specs.CanonicalActions.{canonical_set_field};
-ghost use Rattle.of_actions.specs.Served.{is_served};
+ghost use Rattle.of_actions.specs.Supported.{is_supported};
 
 use crate::action::Action;
 use crate::codes::{BAD_SET_ARGUMENT, BAD_SET_LEN, BAD_SET_TYPE};
@@ -30,7 +30,7 @@ fn field_to_set(rest: &[u8]) -> Option<Field>
     }
 }
 
-#[tactic(auto, unfolding(crate::specs::SetField::set_refusals, crate::specs::Actions::action_at, crate::specs::Served::is_served))]
+#[tactic(auto, unfolding(crate::specs::SetField::set_refusals, crate::specs::Actions::action_at, crate::specs::Supported::is_supported))]
 pub(crate) fn read_set_field(rest: &[u8], len: usize) -> Result<Action, Code>
     requires long { 8 ≤ len }
     requires whole { len ≤ length rest.now }
@@ -38,7 +38,7 @@ pub(crate) fn read_set_field(rest: &[u8], len: usize) -> Result<Action, Code>
     requires kind { type_at rest.now ≡ 25 }
     ensures none { OnOk result (first_of (set_refusals rest.now) ≡ None) }
     ensures action { IfOk result (λ action. action_at rest.now ≡ Some action) }
-    ensures served { (packet_out : Bool) → IfOk result (λ action. IsTrue (is_served packet_out action)) }
+    ensures served { (packet_out : Bool) → IfOk result (λ action. IsTrue (is_supported packet_out action)) }
     ensures first { IfErr result (λ code. first_of (set_refusals rest.now) ≡ Some code) }
 {
     let Some(field) = field_to_set(rest) else {

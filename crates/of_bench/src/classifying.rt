@@ -1,4 +1,4 @@
-//! Look-ups in a classifier by groups of masks.
+//! Lookups in a classifier by groups of masks.
 
 use crate::clock::{Timed, time};
 use crate::frames::TAGGED_TCP;
@@ -9,10 +9,10 @@ use of_oxm::{Match, ReadError, read_match};
 use std::alloc::{AllocError, Global};
 use std::io;
 
-/// So many entries.
+/// How many entries there are.
 const ENTRIES: u64 = 4096;
 
-/// So many keys, in turns.
+/// How many keys there are, in turns.
 const KEYS: u64 = 256;
 
 /// A match of METADATA under a mask, ETH_TYPE 0x0800, IP_PROTO 6 and TCP_DST 80.
@@ -82,7 +82,7 @@ fn keys(alloc: Global) -> Result<Vec<FieldKey>, AllocError> {
     Ok(keys)
 }
 
-// Entries over so many masks, of one priority, or of a lower one for each mask.
+// Entries over `masks` masks, of the same priority, or of a lower one for each mask.
 fn entries(alloc: Global, masks: u8, falling: bool) -> Option<MaskGroups> {
     let mut lookup = MaskGroups::empty(alloc).ok()?;
     for value in 0..4096u16 {

@@ -3,10 +3,10 @@
 use std::io;
 use std::time::Instant;
 
-/// So many calls are made between two looks at the clock.
+/// How many calls are made between two looks at the clock.
 const CALLS: u64 = 1000;
 
-/// So many where a call takes long.
+/// The same where a call takes long.
 const SLOW_CALLS: u64 = 10;
 
 /// How long one thing is run.
@@ -14,7 +14,7 @@ const SECONDS: u64 = 2;
 
 /// Something to be timed.
 pub trait Timed {
-    /// Does it once, and gives a number that depends on the answer. The turn says how often it was done before.
+    /// Does it once, and returns a number that depends on the answer. The turn says how often it was done.
     fn call(&mut self, turn: u64) -> u64;
 }
 
@@ -38,7 +38,7 @@ pub fn time_slow(rt: &HostRuntime, name: &str, timed: &mut impl Timed) -> io::Re
     time_by(rt, name, timed, SLOW_CALLS)
 }
 
-// With so many calls between two looks at the clock.
+// With `each` calls between two looks at the clock.
 fn time_by(rt: &HostRuntime, name: &str, timed: &mut impl Timed, each: u64) -> io::Result<()> {
     let mut calls = 0u64;
     let mut checksum = 0u64;

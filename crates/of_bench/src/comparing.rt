@@ -7,10 +7,10 @@ use of_oxm::{Match, ReadError};
 use std::alloc::Global;
 use std::io;
 
-/// So many steps are made on both.
+/// How many steps are made on both.
 const STEPS: u64 = 100_000;
 
-// Takes out the oldest entry of that match and priority, and gives its number.
+// Removes the oldest entry of that match and priority, and returns its number.
 #[tactic(auto, using(of_classifier::proofs::SameUsed::same_used))]
 fn take_same<L: Lookup>(lookup: &mut L, fields: &Match, priority: u16) -> Option<usize> {
     match lookup.same(fields, priority) {
@@ -22,7 +22,7 @@ fn take_same<L: Lookup>(lookup: &mut L, fields: &Match, priority: u16) -> Option
     }
 }
 
-// Makes the oldest entry of that match and priority the youngest, and gives its number.
+// Makes the oldest entry of that match and priority the youngest, and returns its number.
 #[tactic(auto, using(of_classifier::proofs::SameUsed::same_used))]
 fn renew_same<L: Lookup>(lookup: &mut L, fields: &Match, priority: u16) -> Option<usize> {
     match lookup.same(fields, priority) {
@@ -34,7 +34,7 @@ fn renew_same<L: Lookup>(lookup: &mut L, fields: &Match, priority: u16) -> Optio
     }
 }
 
-// One step, which the number names: what the classifier answers.
+// One step, which the number names: what the classifier returns.
 fn step<L: Lookup>(lookup: &mut L, alloc: Global, number: u64) -> Result<Option<usize>, ReadError> {
     let value = (number >> 8) % 16;
     let fields = numbered_match(alloc, ((number >> 16) % 4) as u8, value as u16)?;

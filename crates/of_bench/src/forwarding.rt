@@ -36,7 +36,7 @@ fn sent(effects: &[Effect]) -> u64 {
     }
 }
 
-/// Times a frame that comes in by port 1 and leaves.
+/// Times a frame that is received at port 1 and sent.
 pub fn time_forward(
     rt: &HostRuntime,
     name: &str,
@@ -62,7 +62,7 @@ pub fn eight_flows(alloc: Global) -> Option<Switch<MaskGroups>> {
     Some(switch)
 }
 
-/// A frame that the last of eight flows matches, and that goes out at one port.
+/// A frame that the last of eight flows matches, and that is sent out of one port.
 pub fn time_frame(rt: &HostRuntime) -> io::Result<()> {
     time_forward(rt, "frame", eight_flows(rt.alloc()))
 }
@@ -78,7 +78,7 @@ fn four_masks(alloc: Global) -> Option<Switch<MaskGroups>> {
     Some(switch)
 }
 
-/// A frame that one of 4,096 flows over four masks matches, and that goes out at one port. They have one priority, so that all masks are asked.
+/// A frame that one of 4,096 flows over four masks matches, and that is sent out of one port. All have one priority, so all masks are asked.
 pub fn time_frame_full(rt: &HostRuntime) -> io::Result<()> {
     time_forward(rt, "frame_full", four_masks(rt.alloc()))
 }
@@ -99,7 +99,7 @@ fn four_tables(alloc: Global) -> Option<Switch<MaskGroups>> {
 
 /// A frame through four tables by GOTO_TABLE: a SET_FIELD in the first and the third, the action set in the second and the fourth.
 ///
-/// The set has SET_FIELD, DEC_NW_TTL and OUTPUT, and the frame goes out at one port.
+/// The set has SET_FIELD, DEC_NW_TTL and OUTPUT, and the frame is sent out of one port.
 pub fn time_pipeline(rt: &HostRuntime) -> io::Result<()> {
     time_forward(rt, "pipeline", four_tables(rt.alloc()))
 }

@@ -13,7 +13,7 @@ pub const WEB_MATCH: [u8; 24] = [
     0,
 ];
 
-/// The same segment in a frame without tag, with 6 bytes of padding behind it: 60 bytes.
+/// The same segment in a frame without tag, with 6 bytes of padding after it: 60 bytes.
 pub const TCP: [u8; 60] = [
     0x02, 0, 0, 0, 0, 0x02, 0x02, 0, 0, 0, 0, 0x01, 0x08, 0x00, // addresses and type
     0x45, 0x00, 0x00, 0x28, 0, 1, 0x40, 0x00, 0x40, 0x06, 0x26, 0xcd, // IPv4

@@ -44,7 +44,7 @@ fn layer_behind(id: u32) -> Option<u32> {
     }
 }
 
-// GROUP of one of the groups behind, or POP_VLAN.
+// GROUP of one of the groups of the next layer, or POP_VLAN.
 fn push_action(message: &mut Vec<u8>, behind: Option<u32>, number: u32) -> Result<(), AllocError> {
     match behind {
         Some(first) => {
@@ -134,12 +134,12 @@ fn flooding(alloc: Global) -> Option<Switch<MaskGroups>> {
     Some(switch)
 }
 
-/// A frame that leaves by 63 ports.
+/// A frame that is sent out of 63 ports.
 pub fn time_flood(rt: &HostRuntime) -> io::Result<()> {
     time_forward(rt, "flood", flooding(rt.alloc()))
 }
 
-// An ADD of a group of type ALL with 16 buckets, each of which gives its packets to the next group.
+// An ADD of a group of type ALL with 16 buckets, each of which sends its packets to the next group.
 fn link(alloc: Global, id: u8) -> Result<Vec<u8>, AllocError> {
     let mut message = Vec::new(alloc);
     message.extend_from_slice(&[4, 15, 0x01, 0x90, 0, 0, 0, 2, 0, ADD, 0, 0, 0, 0, 0, id])?;
@@ -175,7 +175,7 @@ fn chained(alloc: Global) -> Option<Switch<MaskGroups>> {
     Some(switch)
 }
 
-/// A frame through a chain of three groups of 16 buckets each: 4,096 frames leave.
+/// A frame through a chain of three groups of 16 buckets each: 4,096 frames are sent.
 pub fn time_group_chain(rt: &HostRuntime) -> io::Result<()> {
     time_forward(rt, "group_chain", chained(rt.alloc()))
 }

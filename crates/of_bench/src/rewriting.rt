@@ -27,7 +27,7 @@ impl Timed for Set {
     }
 }
 
-/// `set` of IPV4_DST in a frame of IPv4 and TCP: a new address at each call, and both checksums follow.
+/// `set` of IPV4_DST in a frame of IPv4 and TCP: a new address at each call, both checksums updated.
 pub fn time_set(rt: &HostRuntime) -> io::Result<()> {
     match tcp_frame(rt.alloc()) {
         Ok(frame) => time(rt, "set", &mut Set { frame }),

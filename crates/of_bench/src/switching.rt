@@ -19,7 +19,7 @@ const ADD: [u8; 64] = [
     0, 1, 0, 12, 0x80, 0, 0, 4, 0, 0, 0, 0, 0, 0, 0, 0, // match
 ];
 
-/// ADD into a table, of IN_PORT 3 and up, with a hard timeout of so many seconds.
+/// ADD into a table, of IN_PORT 3 and up, with a hard timeout of this many seconds.
 pub fn add(table: u8, number: u16, seconds: u16) -> [u8; 64] {
     let mut message = ADD;
     message[24] = table;
@@ -42,7 +42,7 @@ pub fn port(number: u32) -> PortChange {
     }
 }
 
-/// Bytes of the controller come, and each whole message is handled; `None` where that was refused or memory ran out.
+/// Receives bytes of the controller, and handles each whole message; `None` where that was refused or out of memory.
 pub fn piece(switch: &mut Switch<MaskGroups>, bytes: &[u8]) -> Option<u64> {
     switch.feed(bytes).ok()?;
     let mut effects: u64 = 0;
@@ -65,7 +65,7 @@ pub fn open_switch(alloc: Global) -> Option<Switch<MaskGroups>> {
     Some(switch)
 }
 
-/// A switch with so many flows in each of so many tables, with this hard timeout; `None` where memory runs out.
+/// A switch with `flows` flows in each of `tables` tables, with this hard timeout; `None` where memory runs out.
 pub fn switch_with(
     rt: &HostRuntime,
     tables: u8,
@@ -120,7 +120,7 @@ impl Timed for Moment {
     }
 }
 
-/// A moment at which no entry's time is over, of 16 tables of 4,096 entries with a hard timeout.
+/// A moment at which no entry expires, of 16 tables of 4,096 entries with a hard timeout.
 pub fn time_moment(rt: &HostRuntime) -> io::Result<()> {
     match switch_with(rt, 16, 4096, 0xffff) {
         Some(switch) => time(rt, "moment", &mut Moment { switch }),

@@ -101,7 +101,7 @@ adding_more p xid all left rest start out new next later g b e t f n l a =
           ∙ a.rows));
     }
 
--- one pass behind the other
+-- one pass after the other
 pub three_passes : (a b c : List TextGroup) (start one two three : List ℕ) (x y z : ℕ)
     → one ≡ start ++ group_lines 1 a → x ≡ 1 + length a → two ≡ one ++ group_lines x b → y ≡ x + length b → three ≡ two ++ group_lines y c → z ≡ y + length c
     → (three ≡ start ++ group_lines 1 (a ++ (b ++ c))) × (z ≡ 1 + length (a ++ (b ++ c)))

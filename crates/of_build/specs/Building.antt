@@ -53,11 +53,11 @@ group_lines xid (g ∷ gs) = piece_line (group_add_bytes xid (new_of g)) ++ grou
 abbrev pub those : Bool → TextGroup → List TextGroup
 those wanted g = if wanted then g ∷ [] else []
 
--- those that begin a longest chain of this length, where all are there, in their order
+-- those whose longest chain has this length, where all groups exist, in their order
 abbrev pub of_length : List TextGroup → ℕ → List TextGroup → List TextGroup
 of_length all n groups = filter (λ g. chain (groups_at 0 all) g.head.id == n) groups
 
--- GROUPS IN TURN: by rising length of the longest chain that begins there, so that each stands behind those that it names (6.5); then by number
+-- GROUPS IN TURN: by ascending length of the longest chain that begins there, so that each comes after those that it names (6.5); then by number
 abbrev pub in_turn : List TextGroup → List TextGroup
 in_turn groups = of_length groups 1 groups ++ (of_length groups 2 groups ++ of_length groups 3 groups)
 

@@ -85,7 +85,7 @@ fn push_flow(
     push_piece(alloc, out, bytes.as_slice())
 }
 
-// Appends a row for each flow of a table, with transaction ids from this one on, and answers the next.
+// Appends a row for each flow of a table, with transaction ids from this one on, and returns the next.
 fn push_flows(
     alloc: Global,
     out: &mut Vec<u8>,
@@ -106,7 +106,7 @@ fn push_flows(
     Ok(next)
 }
 
-// Appends the row that adds a group, if it is wanted, and answers the next transaction id.
+// Appends the row that adds a group, if it is wanted, and returns the next transaction id.
 fn push_group(
     alloc: Global,
     out: &mut Vec<u8>,
@@ -132,7 +132,7 @@ fn push_group(
     Ok(xid + 1)
 }
 
-// Appends a row for each group that begins a chain of this length, with transaction ids from this one on, and answers the next.
+// Appends a row for each group that begins a chain of this length, with transaction ids from this one on, and returns the next.
 fn push_groups(
     alloc: Global,
     out: &mut Vec<u8>,
@@ -157,7 +157,7 @@ fn push_groups(
     Ok(next)
 }
 
-// Appends a row for each group, in turn, and answers the next transaction id.
+// Appends a row for each group, in turn, and returns the next transaction id.
 fn push_all_groups(alloc: Global, out: &mut Vec<u8>, config: &Config) -> Result<u32, AllocError>
     ensures rows { OnOk result (out.new.items ≡ out.old.items ++ group_lines 1 (in_turn config.now.groups)) }
     ensures next { IfOk result (λ next. next ≡ 1 + length (in_turn config.now.groups)) }

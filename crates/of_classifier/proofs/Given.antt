@@ -1,10 +1,10 @@
--- The numbers that a slab has given out.
+-- The numbers that a slab has assigned.
 use Rattle.std.proofs.Common.{◌≡◌, ℕ, Bool, true, false, not, eqb, List, [], ◌∷◌, ◌++◌, Option, Some, None, refl, arith}
 use Rattle.std.specs.Prelude.{filter, is_some}
 use Rattle.std.proofs.lemmas.Bool.Decides.{nat_tests, eqb_tells}
 use Rattle.std.proofs.lemmas.List.Folds.{list_all-append}
 use Rattle.slab.specs.Slab.{Slab, get, Updates}
-use Rattle.of_wire.specs.Numbered.{is_used, without, only, renewed}
+use Rattle.of_wire.specs.Numbered.{is_used, without, only, moved_to_end}
 use Rattle.of_classifier.specs.declared.Row.{Row}
 use Rattle.of_classifier.specs.Rows.{row_number}
 use Rattle.of_classifier.specs.Scanning.{are_given}
@@ -26,5 +26,5 @@ given-filter : {T : Type 0} (slab : Slab T) (p : Row → Bool) (rows : List Row)
 given-filter slab p [] d = refl
 given-filter slab p (r ∷ rows) d = grind (arith, nat_tests, given-filter slab p rows)
 
-pub given-renewed : {T : Type 0} (slab : Slab T) (n : ℕ) (rows : List Row) → are_given slab rows ≡ true → are_given slab (renewed row_number n rows) ≡ true
-given-renewed slab n rows d = rw (list_all-append (λ r. is_some (get slab r.number)) (without row_number n rows) (only row_number n rows), given-filter slab (λ r. not (eqb r.number n)) rows d) (given-filter slab (λ r. eqb r.number n) rows d)
+pub given-moved_to_end : {T : Type 0} (slab : Slab T) (n : ℕ) (rows : List Row) → are_given slab rows ≡ true → are_given slab (moved_to_end row_number n rows) ≡ true
+given-moved_to_end slab n rows d = rw (list_all-append (λ r. is_some (get slab r.number)) (without row_number n rows) (only row_number n rows), given-filter slab (λ r. not (eqb r.number n)) rows d) (given-filter slab (λ r. eqb r.number n) rows d)

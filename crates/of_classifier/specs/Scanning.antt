@@ -4,7 +4,7 @@ use Rattle.std.specs.List.{list_all}
 use Rattle.slab.specs.Slab.{Slab, get}
 use Rattle.of_classifier.specs.declared.Row.{Row}
 
--- each entry's number is given out
+-- each entry's number is in use
 abbrev pub are_given : {T : Type 0} → Slab T → List Row → Bool
 are_given slab rows = list_all (λ r. is_some (get slab r.number)) rows
 

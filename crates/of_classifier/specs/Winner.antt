@@ -23,7 +23,7 @@ abbrev pub number_of : Option Row → Option ℕ
 number_of None = None
 number_of (Some r) = Some r.number
 
--- The entry stands at this place and matches, no matching entry has a higher priority, and none of its priority stands before it.
+-- The entry is at this place and matches, no matching entry has a higher priority, and none of its priority comes before it.
 pub record Wins (rows : List Row) (key : Field → Option ℕ) (place : ℕ) (r : Row) : Type 0 where
   pub stands : slice_get rows place ≡ Some r
   pub matches : is_matching key r ≡ true

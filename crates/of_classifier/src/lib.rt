@@ -6,7 +6,7 @@ mod scan;
 
 ghost use Rattle.std.specs.Prelude.{◌≡◌, ◌++◌, List, [], ◌∷◌, IsTrue, false, IfOk, OnErr};
 ghost use Rattle.of_headers.specs.FieldMap.{value};
-ghost use Rattle.of_wire.specs.Numbered.{is_used, is_distinct, without, renewed};
+ghost use Rattle.of_wire.specs.Numbered.{is_used, is_distinct, without, moved_to_end};
 ghost use Rattle.of_classifier.specs.declared.Row.{Row};
 ghost use Rattle.of_classifier.specs.Rows.{made_row, row_number, same_of};
 ghost use Rattle.of_classifier.specs.Winner.{winner_of, number_of};
@@ -45,7 +45,7 @@ pub trait Lookup: Sized + Drop {
     fn peek(&self, key: &FieldKey) -> Option<usize>
         ensures { result ≡ number_of (winner_of (content self.now) (value key.now)) };
 
-    /// Puts an entry last, under a number that was not in use, and gives the number.
+    /// Appends an entry, under a number that was not in use, and returns the number.
     fn add(&mut self, fields: Match, priority: u16) -> Result<usize, AllocError>
         ensures ok { IfOk result (λ number. content self.new ≡ content self.old ++ made_row number priority fields ∷ []) }
         ensures unused { IfOk result (λ number. is_used row_number number (content self.old) ≡ false) }
@@ -63,9 +63,9 @@ pub trait Lookup: Sized + Drop {
     /// Makes the entry of that number the youngest.
     fn renew(&mut self, number: usize)
         requires { IsTrue (is_used row_number number (content self.old)) }
-        ensures { content self.new ≡ renewed row_number number (content self.old) };
+        ensures { content self.new ≡ moved_to_end row_number number (content self.old) };
 
-    /// No two entries have one number.
+    /// No two entries have the same number.
     fn known(&self)
         ensures { IsTrue (is_distinct row_number (content self.now)) };
 }

@@ -1,7 +1,7 @@
 //! A classifier that walks a list.
 ghost use Rattle.std.specs.Prelude.{◌≡◌, ◌<◌, IsTrue, false, IfSome, IfNone, length, slice_index_or};
 ghost use Rattle.of_headers.specs.FieldMap.{value};
-ghost use Rattle.of_wire.specs.Numbered.{is_used, is_distinct, without, renewed};
+ghost use Rattle.of_wire.specs.Numbered.{is_used, is_distinct, without, moved_to_end};
 ghost use Rattle.of_classifier.specs.declared.Row.{Row};
 ghost use Rattle.of_classifier.specs.Rows.{row_number, is_same_row};
 ghost use Rattle.of_classifier.specs.Winner.{winner_of, number_of};
@@ -14,7 +14,7 @@ use slab::Slab;
 use std::alloc::{AllocError, Global};
 use std::marker::Model;
 
-/// The entries in a list. A slab gives out their numbers.
+/// The entries in a list. A slab assigns their numbers.
 #[derive(Drop)]
 pub struct Scan {
     rows: Vec<Row>,
@@ -126,7 +126,7 @@ fn remove_row(rows: &mut Vec<Row>, number: usize)
 
 fn renew_row(rows: &mut Vec<Row>, number: usize)
     requires { IsTrue (is_distinct row_number rows.old.items) }
-    ensures { rows.new.items ≡ renewed row_number number rows.old.items }
+    ensures { rows.new.items ≡ moved_to_end row_number number rows.old.items }
 {
     match place_of(rows, number) {
         Some(place) => {

@@ -12,7 +12,7 @@ fn key_of_port(in_port: u32) -> Result<FieldKey, Fail> {
     Ok(read(&[0; 14], in_port, 0).ok().ok_or("a frame")?.key())
 }
 
-// Two entries of one priority, of which the older one wins until it is renewed.
+// Two entries of equal priority, of which the older wins until it is renewed.
 fn two_entries<L: Lookup>(rt: &impl Abort, alloc: Global) -> Result<(), Fail> {
     let key = key_of_port(1)?;
     let mut lookup = L::empty(alloc)?;

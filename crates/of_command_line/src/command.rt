@@ -4,9 +4,9 @@ use clap::{Arg, ArgAction, Command};
 use std::alloc::{AllocError, Global};
 
 const STATUSES: &str =
-    "Exit status: 0 done; 1 bad arguments; 2 a bad FILE (on standard error `line N: bad row`, of `replay` after the \
-effects of the rows before it, and of flow text `line N: syntax` or `line N: type T code C`, of which nothing is \
-written; of `dis` nothing is written either); 3 `read fault`, `write fault` or `no memory`.";
+    "Exit status: 0 done; 1 bad arguments; 2 a bad FILE: on standard error `line N: bad row` for an event file, and \
+`line N: syntax` or `line N: type T code C` for a flow text (`replay` has then printed the effects of the rows before \
+that line, `asm` and `dis` nothing); 3 `read fault`, `write fault` or `no memory`.";
 
 const EVENT_FILES: &str = "An event file has one event a line, and words are separated by one space:
 
@@ -14,14 +14,15 @@ const EVENT_FILES: &str = "An event file has one event a line, and words are sep
   port link 1 down                  the link of port 1 goes down (or up); `port remove 1`: the port is gone
   connect                           a controller connects; `lost`: the connection is gone
   c 0400000800000001                bytes of the controller, in hex (- for none)
-  f 1 020000000002...               a frame comes in by port 1, in hex
+  f 1 020000000002...               a frame is received at port 1, in hex
   t 9000000000                      it is 9 seconds after the start, in nanoseconds
   # ...                             a comment
 
 Printed are the messages to the controller (`a HEX`), the frames that leave (`s PORT HEX`), `closed` where the switch
-ends the connection, and `refused N` where an event has no place: 3 no connection, 4 connected already, 5 the port is
-there, 6 it is not, 7 too many ports, 8 bad port number. With --explain the rows are printed instead, and below each of
-them what it did, in words: answers by name with their fields, errors by the names of the standard, the ways of frames.
+ends the connection, and `refused N` where an event is not possible: 3 not connected, 4 already connected, 5 the port
+exists, 6 there is no such port, 7 too many ports, 8 bad port number. With --explain the rows are printed instead, and
+below each row what it did, in words: answers by name with their fields, errors by the standard's names, and the path
+of each frame.
 
   ofswitch replay examples/first-path.events
   ofswitch replay --explain examples/first-path.events";
@@ -55,180 +56,214 @@ const TRACES: &str =
   apply, write, clear, metadata, goto   an instruction
   output 2 0                            an action; dec_nw_ttl expired
   set                                   the action set is run
-  end                                   the packet's way ends
+  end                                   the packet's processing ends
   s 2 HEX                               and then what leaves
 
 With --explain notes stand below the lines: below a look-up the entry that won, in the words of flow text, and the fields
 that the table sees; below an action what it changed, why an output sends nothing, and which buckets of a group run. With
---why all, or --why \"0 100\" for the entries of table 0 that have priority 100, they also say why entries won or did not.
+--why all, or --why \"0 100\" for the entries of table 0 that have priority 100, they also say why entries won or lost.
 
   ofswitch trace --flows examples/router.flows --port 1 0200000000a10200000000010800450000140000000040fd64e30a0000010a010109";
 
 const SERVING: &str =
-    "A controller connects by TCP (`--listen`), or the switch dials it (`--connect`) and dials again whenever the connection
-is lost. One controller is served at a time; another one waits. The switch keeps its flows between connections, but only
-while one stands does time pass in it.
+    "A controller connects over TCP (`--listen`), or the switch connects to it (`--connect`), again whenever the connection
+is lost. One controller is served at a time; another one waits. The switch keeps its flows between connections, but its
+time advances only while there is one.
 
   ofswitch serve                                     wait at 127.0.0.1:6653
-  ofswitch serve --connect 10.0.0.1:6653             dial a controller that listens
+  ofswitch serve --connect 10.0.0.1:6653             connect to a controller that listens
   ofswitch serve --events ports.events               with ports and frames
 
-The event file has the rows of `replay`, apart from `connect`, `lost` and `c`: here they are bad rows. It is read whole
-before anybody connects. A row happens as soon as a controller is connected and as many nanoseconds have passed since the
-start as each `t` row before it says. Frames that leave are printed (`s PORT HEX`), and on standard error a line stands for
+The event file has the rows of `replay`, except `connect`, `lost` and `c`, which are bad rows here. It is read completely
+before anybody connects. A row happens as soon as a controller is connected and the time of each `t` row before it has
+come, in nanoseconds since the start. Frames that leave are printed (`s PORT HEX`); a line on standard error reports
 each connection and its end.
 
-A turn is an accept, or one read of at most 65,536 bytes that waits 10 ms at most.";
+A turn is an accept, or one read of at most 65,536 bytes that waits at most 10 ms.";
 
 const VERSION: &str = "0.1.0";
 
+// An argument of a subcommand, and what its help says.
+struct Argument {
+    name: &'static str,
+    kind: Kind,
+    help: &'static str,
+}
+
+// How an argument is written.
+enum Kind {
+    // By its place; it has to be there.
+    Positional,
+    // Behind this option, which has to be there.
+    Required(&'static str),
+    // Behind this option, where it is there; the help calls the value so.
+    Optional(&'static str, &'static str),
+    // The same, for an option that the named argument excludes.
+    Excluded(&'static str, &'static str, &'static str),
+    // An option without a value.
+    Flag(&'static str),
+}
+
+const REPLAY: [Argument; 2] = [
+    Argument {
+        name: "FILE",
+        kind: Kind::Positional,
+        help: "The event file to run; - is standard input",
+    },
+    Argument {
+        name: "explain",
+        kind: Kind::Flag("explain"),
+        help: "Prints each row, and below it what it did, in words",
+    },
+];
+
+const ASSEMBLE: [Argument; 1] = [Argument {
+    name: "FILE",
+    kind: Kind::Positional,
+    help: "The flow text to read; - is standard input",
+}];
+
+const DISASSEMBLE: [Argument; 1] = [Argument {
+    name: "FILE",
+    kind: Kind::Positional,
+    help: "The event file to run; - is standard input",
+}];
+
+const TRACE: [Argument; 5] = [
+    Argument {
+        name: "FILE",
+        kind: Kind::Required("flows"),
+        help: "The flow text with the switch's flows; - is standard input",
+    },
+    Argument {
+        name: "N",
+        kind: Kind::Required("port"),
+        help: "The port at which the frame is received, 1 to 64",
+    },
+    Argument {
+        name: "HEX",
+        kind: Kind::Positional,
+        help: "The frame, two hexadecimal digits a byte",
+    },
+    Argument {
+        name: "explain",
+        kind: Kind::Flag("explain"),
+        help: "Adds notes: what tables see, and what actions change",
+    },
+    Argument {
+        name: "why",
+        kind: Kind::Optional("why", "ENTRIES"),
+        help: "Adds to the notes why entries won or lost: all, or those of \"TABLE PRIORITY\"",
+    },
+];
+
+const SERVE: [Argument; 6] = [
+    Argument {
+        name: "listen",
+        kind: Kind::Optional("listen", "ADDR"),
+        help: "Where to wait for a controller, as 127.0.0.1:6653 (the default) or [::]:6653",
+    },
+    Argument {
+        name: "connect",
+        kind: Kind::Excluded("connect", "ADDR", "listen"),
+        help: "The controller to connect to, as 10.0.0.1:6653",
+    },
+    Argument {
+        name: "FILE",
+        kind: Kind::Optional("events", "FILE"),
+        help: "An event file with ports and frames",
+    },
+    Argument {
+        name: "turns",
+        kind: Kind::Optional("turns", "N"),
+        help: "Ends after N turns (by default 1000000)",
+    },
+    Argument {
+        name: "dpid",
+        kind: Kind::Optional("dpid", "N"),
+        help: "The datapath_id, decimal or 0x and hexadecimal digits (by default 1)",
+    },
+    Argument {
+        name: "quiet",
+        kind: Kind::Flag("quiet"),
+        help: "Does not report connections on standard error",
+    },
+];
+
+// A subcommand: its name, its help before and after the arguments, and its arguments.
+struct Subcommand {
+    name: &'static str,
+    about: &'static str,
+    text: &'static str,
+    arguments: &'static [Argument],
+}
+
+const SUBCOMMANDS: [Subcommand; 5] = [
+    Subcommand {
+        name: "replay",
+        about: "Runs an event file on a new switch and prints what it gives",
+        text: EVENT_FILES,
+        arguments: &REPLAY,
+    },
+    Subcommand {
+        name: "asm",
+        about: "Prints an event file that builds the groups and flow tables of a flow text",
+        text: FLOW_TEXT,
+        arguments: &ASSEMBLE,
+    },
+    Subcommand {
+        name: "dis",
+        about: "Runs an event file on a new switch and prints its groups and flow tables as flow text",
+        text: DISASSEMBLY,
+        arguments: &DISASSEMBLE,
+    },
+    Subcommand {
+        name: "trace",
+        about: "Prints, step by step, what a frame does on a switch with the flows of a flow text",
+        text: TRACES,
+        arguments: &TRACE,
+    },
+    Subcommand {
+        name: "serve",
+        about: "Serves OpenFlow 1.3 controllers over TCP",
+        text: SERVING,
+        arguments: &SERVE,
+    },
+];
+
 /// The command line of the program.
 pub fn command<'a>(alloc: Global) -> Result<Command<'a>, AllocError> {
-    let command = Command::new(alloc, "ofswitch")
+    let mut command = Command::new(alloc, "ofswitch")
         .version(VERSION)
         .about("An OpenFlow 1.3.5 switch whose behaviour is proved")
         .after_help(STATUSES)
         .subcommand_required(true)
         .arg_required_else_help(true);
-    let command = with(command, replay_command(alloc))?;
-    let command = with(command, assemble_command(alloc))?;
-    let command = with(command, disassemble_command(alloc))?;
-    let command = with(command, trace_command(alloc))?;
-    with(command, serve_command(alloc))
+    for it in &SUBCOMMANDS {
+        command = command.subcommand(subcommand_of(alloc, it)?)?;
+    }
+    Ok(command)
 }
 
-// The command with a subcommand more.
-fn with<'a>(
-    command: Command<'a>,
-    subcommand: Result<Command<'a>, AllocError>,
-) -> Result<Command<'a>, AllocError> {
-    command.subcommand(subcommand?)
+fn subcommand_of<'a>(alloc: Global, row: &Subcommand) -> Result<Command<'a>, AllocError> {
+    let mut command = Command::new(alloc, row.name)
+        .about(row.about)
+        .after_help(row.text);
+    for it in row.arguments {
+        command = command.arg(argument_of(alloc, it)?)?;
+    }
+    Ok(command)
 }
 
-// The subcommand that runs an event file.
-fn replay_command<'a>(alloc: Global) -> Result<Command<'a>, AllocError> {
-    Command::new(alloc, "replay")
-        .about("Runs an event file on a new switch and prints what it gives")
-        .after_help(EVENT_FILES)
-        .arg(
-            Arg::new(alloc, "FILE")
-                .required(true)
-                .help("The event file to run; - is standard input"),
-        )?
-        .arg(
-            Arg::new(alloc, "explain")
-                .long("explain")
-                .action(ArgAction::SetTrue)
-                .help("Prints each row, and below it in words what it did"),
-        )
-}
-
-// The subcommand that makes an event file of a flow text.
-fn assemble_command<'a>(alloc: Global) -> Result<Command<'a>, AllocError> {
-    Command::new(alloc, "asm")
-        .about("Prints an event file that builds the groups and flow tables of a flow text")
-        .after_help(FLOW_TEXT)
-        .arg(
-            Arg::new(alloc, "FILE")
-                .required(true)
-                .help("The flow text to read; - is standard input"),
-        )
-}
-
-// The subcommand that makes a flow text of an event file.
-fn disassemble_command<'a>(alloc: Global) -> Result<Command<'a>, AllocError> {
-    Command::new(alloc, "dis")
-        .about(
-            "Runs an event file on a new switch and prints its groups and flow tables as flow text",
-        )
-        .after_help(DISASSEMBLY)
-        .arg(
-            Arg::new(alloc, "FILE")
-                .required(true)
-                .help("The event file to run; - is standard input"),
-        )
-}
-
-// The subcommand that traces a frame.
-fn trace_command<'a>(alloc: Global) -> Result<Command<'a>, AllocError> {
-    Command::new(alloc, "trace")
-        .about("Prints, step by step, what a frame does on a switch with the flows of a flow text")
-        .after_help(TRACES)
-        .arg(
-            Arg::new(alloc, "FILE").long("flows").required(true).help(
-                "The flow text with the switch's flows; - is standard input",
-            ),
-        )?
-        .arg(
-            Arg::new(alloc, "N")
-                .long("port")
-                .required(true)
-                .help("The port by which the frame comes in, 1 to 64"),
-        )?
-        .arg(
-            Arg::new(alloc, "HEX")
-                .required(true)
-                .help("The frame, two hexadecimal digits a byte"),
-        )?
-        .arg(
-            Arg::new(alloc, "explain")
-                .long("explain")
-                .action(ArgAction::SetTrue)
-                .help("Adds notes: what tables see, and what actions change"),
-        )?
-        .arg(
-            Arg::new(alloc, "why")
-                .long("why")
-                .value_name("ENTRIES")
-                .help(
-                    "Adds to the notes why entries won or did not: all, or those of \"TABLE PRIORITY\"",
-                ),
-        )
-}
-
-// The subcommand that serves controllers.
-fn serve_command<'a>(alloc: Global) -> Result<Command<'a>, AllocError> {
-    Command::new(alloc, "serve")
-        .about("Serves OpenFlow 1.3 controllers over TCP")
-        .after_help(SERVING)
-        .arg(
-            Arg::new(alloc, "listen")
-                .long("listen")
-                .value_name("ADDR")
-                .help(
-                    "Where to wait for a controller, as 127.0.0.1:6653 (the default) or [::]:6653",
-                ),
-        )?
-        .arg(dialled(alloc)?)?
-        .arg(
-            Arg::new(alloc, "FILE")
-                .long("events")
-                .help("An event file with ports and frames"),
-        )?
-        .arg(
-            Arg::new(alloc, "turns")
-                .long("turns")
-                .value_name("N")
-                .help("Ends after so many turns (by default 1000000)"),
-        )?
-        .arg(
-            Arg::new(alloc, "dpid").long("dpid").value_name("N").help(
-                "The switch's own number, decimal or 0x and hexadecimal digits (by default 1)",
-            ),
-        )?
-        .arg(
-            Arg::new(alloc, "quiet")
-                .long("quiet")
-                .action(ArgAction::SetTrue)
-                .help("Says nothing of connections on standard error"),
-        )
-}
-
-// The argument that names a controller to dial.
-fn dialled<'a>(alloc: Global) -> Result<Arg<'a>, AllocError> {
-    Arg::new(alloc, "connect")
-        .long("connect")
-        .value_name("ADDR")
-        .help("The controller to dial, as 10.0.0.1:6653")
-        .conflicts_with("listen")
+fn argument_of<'a>(alloc: Global, argument: &Argument) -> Result<Arg<'a>, AllocError> {
+    let named = Arg::new(alloc, argument.name).help(argument.help);
+    match argument.kind {
+        Kind::Positional => Ok(named.required(true)),
+        Kind::Required(option) => Ok(named.long(option).required(true)),
+        Kind::Optional(option, value) => Ok(named.long(option).value_name(value)),
+        Kind::Excluded(option, value, other) => {
+            named.long(option).value_name(value).conflicts_with(other)
+        },
+        Kind::Flag(option) => Ok(named.long(option).action(ArgAction::SetTrue)),
+    }
 }

@@ -43,7 +43,7 @@ pub enum Request {
     Disassemble {
         file: String,
     },
-    /// To print the trace of a frame that comes in by a port of a switch with the flows of a flow text; `-` is standard input.
+    /// To print the trace of a frame that is received at a port of a switch with the flows of a flow text; `-` is standard input.
     Trace {
         file: String,
         /// 1 to 64.
@@ -61,7 +61,7 @@ pub enum Request {
 /// Entries of which a trace says why they won or did not.
 #[derive(Clone, Copy, Debug, PartialEq, Eq)]
 pub enum Asked {
-    /// All of each table that is looked at.
+    /// All of each table that is looked up.
     All,
     /// Those of a table, 0 to 15, that have a priority.
     Priority { table: u8, priority: u16 },
@@ -74,7 +74,7 @@ pub struct Serve {
     /// An event file with ports and frames; `-` is standard input.
     pub events: Option<String>,
     pub turns: u32,
-    /// The switch's own number.
+    /// The datapath_id.
     pub dpid: u64,
     /// Whether nothing is said of connections.
     pub quiet: bool,
@@ -230,7 +230,7 @@ fn turns_of(alloc: Global, word: Option<&str>) -> Result<u32, NoRequest> {
     }
 }
 
-// Decimal, or hexadecimal behind 0x.
+// Decimal, or hexadecimal after 0x.
 fn dpid_of(alloc: Global, word: Option<&str>) -> Result<u64, NoRequest> {
     let Some(word) = word else {
         return Ok(DEFAULT_DPID);

@@ -87,9 +87,9 @@ const NAMES: [&str; 67] = [
 ];
 
 /// So many event files more were made at random; what they are to print was computed by a model that shares nothing with this code.
-const RANDOM: u32 = 79;
+const RANDOM: u32 = 80;
 
-/// A read gives so many bytes at most.
+/// How many bytes a read gives at most.
 const PIECE: usize = 1000;
 
 const AS_EXPECTED: &str = "as expected";

@@ -1,8 +1,8 @@
--- What several calls append, one behind the other.
+-- What several calls append, one after the other.
 use Rattle.std.proofs.Common.{◌≡◌, ℕ, List, ◌++◌, Result, Ok, Err, OnOk, ap, ◌∙◌}
 use Rattle.std.proofs.lemmas.List.{append_assoc}
 
--- behind what one call appended stands what the next one did
+-- after what one call appended comes what the next one did
 pub both : (out one two a b : List ℕ) → one ≡ out ++ a → two ≡ one ++ b → two ≡ out ++ (a ++ b)
 both out one two a b is h = h ∙ ap (λ (t : List ℕ). t ++ b) is ∙ append_assoc out a b
 

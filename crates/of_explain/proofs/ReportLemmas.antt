@@ -1,4 +1,4 @@
--- What is told of a row.
+-- What is printed for a row.
 use Rattle.std.proofs.Common.{◌≡◌, ℕ, List, ◌++◌, Result, Ok, Err, sym, ◌∙◌, ap, append_assoc, inl, inr}
 use Rattle.std.specs.Prelude.{◌⊎◌, OnOk}
 use Rattle.smallvec.specs.SmallVec.{SmallVec}
@@ -24,7 +24,7 @@ report_is (Err e) (Ok u) (Gives effects) X before row out out' (inr i) t = absur
 report_is (Err e) (Ok u) (IsRefused refusal) X before row out out' (inr i) t = rw (sym i.0) t.1
 report_is called (Err e) report X before row out out' g t = tt
 
--- behind the line
+-- after the line
 behind_line : (result : Result (Unit {0}) SwitchError) (out mid out' line notes : List ℕ) → mid ≡ out ++ line → OnOk result (out' ≡ mid ++ notes) → OnOk result (out' ≡ out ++ (line ++ notes))
 behind_line (Ok u) out mid out' line notes m t = t ∙ (ap (λ (x : List ℕ). x ++ notes) m ∙ append_assoc out line notes)
 behind_line (Err e) out mid out' line notes m t = tt

@@ -3,9 +3,9 @@ use Rattle.std.proofs.Common.{◌≡◌, ℕ, zero, suc, ◌<◌, ◌≤◌, ◌
 use Rattle.std.specs.Prelude.{OnOk}
 use Rattle.std.specs.List.{flat_map}
 use Rattle.std.proofs.lemmas.List.{append-nil}
-use Rattle.of_session.specs.declared.stream.Front.{Front}
-use Rattle.of_session.specs.declared.stream.Front.TheVariants as front
-use Rattle.of_session.specs.Stream.{First, Whole, Bad, Partial, front_of, front_is, IsMessage, IsMalformed, IsPartial, concat, AreMessages, Splits}
+use Rattle.of_session.specs.declared.stream.Beginning.{Beginning}
+use Rattle.of_session.specs.declared.stream.Beginning.TheVariants as front
+use Rattle.of_session.specs.Stream.{First, Whole, Bad, Partial, beginning_of, beginning_is, IsMessage, IsMalformed, IsPartial, concat, AreMessages, Splits}
 use Rattle.of_session.proofs.Fronts.{message_front, malformed_front, partial_front}
 use Rattle.of_session.proofs.Splitting.{splits_some}
 use Rattle.of_explain.specs.Requests.{and_others, first_messages, messages_of, request_notes}
@@ -30,7 +30,7 @@ all_of (m ∷ ms) (suc n) rest each ends h =
     let others = concat ms ++ rest in
     let same : (m ++ concat ms) ++ rest ≡ m ++ others = append_assoc m (concat ms) rest in
     let size : length ((m ++ concat ms) ++ rest) ≡ length (m ++ others) = ap length same in
-    let begins : front_of ((m ++ concat ms) ++ rest) ≡ Whole m others = ap front_of same ∙ message_front m others each.0 in
+    let begins : beginning_of ((m ++ concat ms) ++ rest) ≡ Whole m others = ap beginning_of same ∙ message_front m others each.0 in
     ap (and_others (first_messages n)) begins ∙ ap (λ (x : List (List ℕ)). m ∷ x) (all_of ms n rest each.1 ends (omega (arith, h, size, longer m others each.0)))
 
 all_messages : (n : ℕ) (stream : List ℕ) (ms : List (List ℕ)) (rest : List ℕ) → Splits stream ms rest → length stream ≤ n → first_messages n stream ≡ ms
@@ -45,24 +45,24 @@ messages_are stream ms rest s = all_messages (length stream) stream ms rest s (o
 enough : (n : ℕ) (bytes : List ℕ) → length bytes ≤ n → first_messages n bytes ≡ messages_of bytes
 enough n bytes h = let s = splits_some bytes in all_messages n bytes s.0 s.1 s.2 h ∙ sym (messages_are bytes s.0 s.1 s.2)
 
-first_by : (n : ℕ) (bytes m rest : List ℕ) → front_of bytes ≡ Whole m rest → length rest < n → first_messages n bytes ≡ m ∷ messages_of rest
+first_by : (n : ℕ) (bytes m rest : List ℕ) → beginning_of bytes ≡ Whole m rest → length rest < n → first_messages n bytes ≡ m ∷ messages_of rest
 first_by zero bytes m rest begins less = absurd (omega (arith, less))
 first_by (suc n) bytes m rest begins less = ap (and_others (first_messages n)) begins ∙ ap (λ (x : List (List ℕ)). m ∷ x) (enough n rest (omega (arith, less)))
 
-first_message : (bytes m rest : List ℕ) → front_of bytes ≡ Whole m rest → length rest < length bytes → messages_of bytes ≡ m ∷ messages_of rest
+first_message : (bytes m rest : List ℕ) → beginning_of bytes ≡ Whole m rest → length rest < length bytes → messages_of bytes ≡ m ∷ messages_of rest
 first_message bytes m rest begins less = sym (enough (length bytes) bytes (omega arith)) ∙ first_by (length bytes) bytes m rest begins less
 
-none_by : (n : ℕ) (bytes : List ℕ) (f : First) → front_of bytes ≡ f → and_others (first_messages n) f ≡ [] → first_messages (suc n) bytes ≡ []
+none_by : (n : ℕ) (bytes : List ℕ) (f : First) → beginning_of bytes ≡ f → and_others (first_messages n) f ≡ [] → first_messages (suc n) bytes ≡ []
 none_by n bytes f is none = ap (and_others (first_messages n)) is ∙ none
 
-no_message : (n : ℕ) (bytes : List ℕ) (f : First) → front_of bytes ≡ f → ((k : ℕ) → and_others (first_messages k) f ≡ []) → first_messages n bytes ≡ []
+no_message : (n : ℕ) (bytes : List ℕ) (f : First) → beginning_of bytes ≡ f → ((k : ℕ) → and_others (first_messages k) f ≡ []) → first_messages n bytes ≡ []
 no_message zero bytes f is none = refl
 no_message (suc n) bytes f is none = none_by n bytes f is (none n)
 
--- ---- what is told of them
+-- ---- what is printed for them
 
--- one more is told
-pub told_more : (size : ℕ) (bytes out out' all : List ℕ) → 8 ≤ size → size ≤ length bytes → front_of bytes ≡ Whole (take size bytes) (drop size bytes) → out' ≡ out ++ request_notes (take size bytes)
+-- one more is printed
+pub told_more : (size : ℕ) (bytes out out' all : List ℕ) → 8 ≤ size → size ≤ length bytes → beginning_of bytes ≡ Whole (take size bytes) (drop size bytes) → out' ≡ out ++ request_notes (take size bytes)
     → out ++ flat_map request_notes (messages_of bytes) ≡ all → out' ++ flat_map request_notes (messages_of (drop size bytes)) ≡ all
 told_more size bytes out out' all low high begins more told =
     let first : messages_of bytes ≡ take size bytes ∷ messages_of (drop size bytes) = first_message bytes (take size bytes) (drop size bytes) begins (omega (arith, length-drop size bytes, low, high)) in
@@ -75,18 +75,18 @@ fewer_left size bytes low high = omega (arith, length-drop size bytes, low, high
 all_told : (bytes out all : List ℕ) → messages_of bytes ≡ [] → out ++ flat_map request_notes (messages_of bytes) ≡ all → out ≡ all
 all_told bytes out all none told = sym (append-nil out) ∙ (ap (λ (x : List (List ℕ)). out ++ flat_map request_notes x) (sym none) ∙ told)
 
--- nothing is left to tell where the rest waits or is malformed
-waits_told : (bytes out all : List ℕ) → front_of bytes ≡ Partial → out ++ flat_map request_notes (messages_of bytes) ≡ all → out ≡ all
+-- nothing is left to print where the rest waits or is malformed
+waits_told : (bytes out all : List ℕ) → beginning_of bytes ≡ Partial → out ++ flat_map request_notes (messages_of bytes) ≡ all → out ≡ all
 waits_told bytes out all is told = all_told bytes out all (sym (enough (length bytes) bytes (omega arith)) ∙ no_message (length bytes) bytes Partial is (λ k. refl)) told
 
-malformed_told : (bytes out all : List ℕ) → front_of bytes ≡ Bad → out ++ flat_map request_notes (messages_of bytes) ≡ all → out ≡ all
+malformed_told : (bytes out all : List ℕ) → beginning_of bytes ≡ Bad → out ++ flat_map request_notes (messages_of bytes) ≡ all → out ≡ all
 malformed_told bytes out all is told = all_told bytes out all (sym (enough (length bytes) bytes (omega arith)) ∙ no_message (length bytes) bytes Bad is (λ k. refl)) told
 
--- words behind words
+-- words after words
 pub words_behind : {E : Type 0} (result : Result (Unit {0}) E) (out mid out' words more : List ℕ) → mid ≡ out ++ words → OnOk result (out' ≡ mid ++ more) → OnOk result (out' ≡ out ++ (words ++ more))
 words_behind (Ok u) out mid out' words more m t = t ∙ (ap (λ (x : List ℕ). x ++ more) m ∙ append_assoc out words more)
 words_behind (Err e) out mid out' words more m t = tt
 
-pub done_told : (f : Front) (bytes out all : List ℕ) → (f ≡ front.Malformed) ⊎ (f ≡ front.Waiting) → front_of bytes ≡ front_is f bytes → out ++ flat_map request_notes (messages_of bytes) ≡ all → out ≡ all
+pub done_told : (f : Beginning) (bytes out all : List ℕ) → (f ≡ front.Malformed) ⊎ (f ≡ front.Waiting) → beginning_of bytes ≡ beginning_is f bytes → out ++ flat_map request_notes (messages_of bytes) ≡ all → out ≡ all
 done_told f bytes out all (inl is) begins told = malformed_told bytes out all (rw is at begins) told
 done_told f bytes out all (inr is) begins told = waits_told bytes out all (rw is at begins) told

@@ -8,7 +8,7 @@ use Rattle.of_oxm.specs.NormalForm.{IsMatch}
 use Rattle.of_actions.specs.declared.action.Action.{Action}
 use Rattle.of_actions.specs.declared.instruction.Instruction.{Instruction}
 use Rattle.of_actions.specs.InstructionLists.{are_kept}
-use Rattle.of_actions.specs.Served.{is_served, are_served}
+use Rattle.of_actions.specs.Supported.{is_supported, are_supported}
 use Rattle.of_text.specs.declared.row.Row.TheVariants as rows
 use Rattle.of_text.specs.Rows.{Fits}
 use Rattle.of_text.specs.Flows.{step_rows}
@@ -28,5 +28,5 @@ pub match_lines_fit : (fields : List MatchField) → IsMatch fields → AllByRec
 match_lines_fit fields m = all_front Fits (map rows.Match fields) [] (flow_lines_fit fields [] m refl)
 
 -- of a PACKET_OUT's actions, which may name OFPP_TABLE
-pub actions_said_fit : (xs : List Action) → IsTrue (are_served true xs) → AllByRecursion Fits (map rows.Do xs)
-actions_said_fit xs h = actions_fit true xs (and_parts (nat_le (length xs) 64) (list_all (is_served true) xs) h).1
+pub actions_said_fit : (xs : List Action) → IsTrue (are_supported true xs) → AllByRecursion Fits (map rows.Do xs)
+actions_said_fit xs h = actions_fit true xs (and_parts (nat_le (length xs) 64) (list_all (is_supported true) xs) h).1

@@ -1,4 +1,4 @@
--- What is told of a controller's bytes.
+-- What is printed for a controller's bytes.
 use Rattle.std.proofs.Common.{◌≡◌, ℕ, false, List, [], ◌++◌, refl, ◌∙◌, ap}
 use Rattle.std.specs.List.{flat_map}
 use Rattle.std.proofs.lemmas.List.{append-nil}
@@ -7,7 +7,7 @@ use Rattle.of_session.specs.Stream.{Splits}
 use Rattle.of_switch.specs.State.{State}
 use Rattle.of_switch.specs.Runs.{Report, Gives, piece_in}
 use Rattle.of_replay.specs.Rows.{Piece}
-use Rattle.of_replay.specs.Tales.{row_happened}
+use Rattle.of_replay.specs.RowTexts.{row_happened}
 use Rattle.of_explain.specs.Explained.{echoed, effect_notes, explained, report_notes, row_notes}
 use Rattle.of_explain.specs.Requests.{request_notes}
 use Rattle.of_explain.proofs.RequestLemmas.{messages_are}

@@ -1,4 +1,4 @@
--- AN EVENT FILE EXPLAINED: its lines, and below each of them, behind four spaces, what it did in words.
+-- AN EVENT FILE EXPLAINED: its lines, and below each of them, after four spaces, what it did in words.
 use Rattle.std.specs.Prelude.{◌≡◌, ◌≢◌, ℕ, List, [], ◌∷◌, ◌++◌, codes, Option, Some, None, Result, Ok, Err, if◌then◌else◌}
 use Rattle.std.specs.List.{flat_map}
 use Rattle.smallvec.specs.SmallVec.{SmallVec}
@@ -17,12 +17,12 @@ use Rattle.of_switch.specs.Plane.{Forwarding}
 use Rattle.of_switch.specs.State.{State}
 use Rattle.of_switch.specs.Runs.{Report, Gives, IsRefused}
 use Rattle.of_replay.specs.Rows.{EventRow, Passed, Connect, Lost, Piece, Frame, Moment, Ports}
-use Rattle.of_replay.specs.Tales.{Tale, row_happened}
+use Rattle.of_replay.specs.RowTexts.{RowText, row_happened}
 use Rattle.of_explain.specs.Notes.{ended, note, number_note, port_and_size, with_number}
 use Rattle.of_explain.specs.Messages.{message_words}
 use Rattle.of_explain.specs.Requests.{piece_notes}
 
--- a line as it stands in the file; an empty one is left out
+-- a line as in the file; an empty one is left out
 abbrev pub echoed : List ℕ → List ℕ
 echoed [] = []
 echoed (b ∷ bs) = ended (b ∷ bs)
@@ -54,7 +54,7 @@ refusal_words refusals.BadPortNumber = codes "refused: a port's number is 1 to 4
 abbrev pub step_notes : Step → List ℕ
 step_notes (Miss table) = number_note (codes "table") table (codes ": no entry matches, and the packet is dropped")
 step_notes (Entry table place) = number_note (codes "table") table (with_number (codes ": entry") place)
-step_notes TtlExpired = note (codes "its time to live is over, and the packet is dropped")
+step_notes TtlExpired = note (codes "its TTL has expired, and its processing ends")
 step_notes other = []
 
 abbrev pub length_notes : Option FrameFault → List ℕ
@@ -64,14 +64,14 @@ length_notes (Some fault) = note (codes "dropped: a frame has 14 to 9216 bytes")
 abbrev pub not_received : Port → List ℕ
 not_received p = if is_live p then codes " may not receive" else codes " is down"
 
--- at a port that is there
+-- at a port that exists
 abbrev pub port_notes : ℕ → List ℕ → Port → List ℕ
 port_notes number bytes p =
     if may_receive p
     then note (port_and_size (codes "in by port") number bytes) ++ length_notes (frame_fault bytes)
     else number_note (codes "dropped: port") number (not_received p)
 
--- by which port it comes in, or why it does not
+-- at which port it is received, or why it is not
 abbrev pub arrival_notes : ℕ → List ℕ → Option Port → List ℕ
 arrival_notes number bytes None = number_note (codes "dropped: there is no port") number []
 arrival_notes number bytes (Some p) = port_notes number bytes p
@@ -91,7 +91,7 @@ row_notes s (Piece bytes) = piece_notes s.connection.pending bytes
 row_notes s (Frame port bytes) = way_notes port bytes s.core.forwarding
 row_notes s other = []
 
--- what a frame does that leaves nothing behind
+-- the note of a frame without effects
 abbrev pub end_notes : EventRow → List Effect → List ℕ
 end_notes (Frame port bytes) effects = nothing_leaves effects
 end_notes other effects = []
@@ -102,12 +102,12 @@ report_notes before row (Gives effects) = before ++ (effect_notes effects ++ end
 report_notes before row (IsRefused refusal) = note (refusal_words refusal)
 
 -- THE TALE: the line, and the notes of the very report that `replay` prints
-abbrev pub explained : Tale
+abbrev pub explained : RowText
 explained s line row = echoed line ++ report_notes (row_notes s row) row (row_happened s row).report
 
 -- ---- for contracts inside this crate
 
--- the notes of a call's report stand there, or memory ran out
+-- the notes of a call's report were appended, or memory ran out
 abbrev pub TellsReport : Result (SmallVec Effect) SwitchError → Result (Unit {0}) SwitchError → List ℕ → EventRow → List ℕ → List ℕ → Type 0
 TellsReport (Ok es) (Ok u) before row out out' = out' ≡ out ++ report_notes before row (Gives es.items)
 TellsReport (Err e) (Ok u) before row out out' = (e ≢ refusals.NoMemory) × (out' ≡ out ++ report_notes before row (IsRefused e))

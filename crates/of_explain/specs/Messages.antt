@@ -1,4 +1,4 @@
--- A MESSAGE IN WORDS: its name, its transaction id, what its kind says besides, and how many bytes it has. The words are read from the bytes.
+-- A MESSAGE IN WORDS: its name, its transaction id, the fields of its type, and how many bytes it has. The words are read from the bytes.
 use Rattle.std.specs.Prelude.{ℕ, ◌+◌, ◌==◌, nat_le, List, [], ◌∷◌, ◌++◌, length, take, drop, codes, decimal, Option, Some, None, if◌then◌else◌}
 use Rattle.byteorder.specs.Endian.{big_number}
 use Rattle.hex.specs.Hex.{encode_lower}
@@ -8,7 +8,7 @@ use Rattle.of_explain.specs.declared.names.Names.TheVariants.{Types, ErrorTypes,
 use Rattle.of_explain.specs.Names.{named, name_in}
 use Rattle.of_explain.specs.Notes.{size_words}
 
--- A FIELD: a number of so many bytes at a place; None where the message ends before it
+-- A FIELD: a number of `size` bytes at a place; None where the message ends before it
 abbrev pub number_at : ℕ → ℕ → List ℕ → Option ℕ
 number_at at size m = if nat_le (at + size) (length m) then Some (big_number size (drop at m)) else None
 
@@ -28,7 +28,7 @@ and_name word names (Some n) = word ++ 32 ∷ name_in names n
 unfoldable pub name_field : List ℕ → Names → ℕ → ℕ → List ℕ → List ℕ
 name_field word names at size m = and_name word names (number_at at size m)
 
--- a word, and so many bytes in hex digits
+-- a word, and `size` bytes in hex digits
 unfoldable pub hex_field : List ℕ → ℕ → ℕ → List ℕ → List ℕ
 hex_field word at size m = if nat_le (at + size) (length m) then word ++ codes " 0x" ++ encode_lower (take size (drop at m)) else []
 
@@ -65,11 +65,11 @@ packet_in_fields m = name_field (codes " reason") PacketInReasons 14 1 m ++ numb
 
 -- 7.4.2
 
--- which entry it was, and why it went
+-- which entry it was, and why it was removed
 unfoldable pub removed_entry : List ℕ → List ℕ
 removed_entry m = name_field (codes " reason") FlowRemovedReasons 18 1 m ++ number_field (codes " table") 19 1 m ++ number_field (codes " priority") 16 2 m ++ hex_field (codes " cookie") 8 8 m
 
--- how long it stood, and what it counted
+-- how long it existed, and what it counted
 unfoldable pub removed_counts : List ℕ → List ℕ
 removed_counts m = number_field (codes " seconds") 20 4 m ++ number_field (codes " packets") 32 8 m ++ number_field (codes " bytes") 40 8 m
 
@@ -100,7 +100,7 @@ commanded_entry m = name_field [] FlowCommands 25 1 m ++ number_field (codes " t
 unfoldable pub commanded_times : List ℕ → List ℕ
 commanded_times m = number_field (codes " idle") 26 2 m ++ number_field (codes " hard") 28 2 m ++ number_field (codes " flags") 44 2 m
 
--- the cookie's bits that are looked at, the packet that waits, and what a DELETE asks of actions
+-- the cookie mask, the buffered packet, and the port and group that a DELETE asks for
 unfoldable pub commanded_filter : List ℕ → List ℕ
 commanded_filter m = bits_field (codes " cookie_mask") 16 m ++ some_field (codes " buffer") 32 m ++ some_field (codes " out_port") 36 m ++ some_field (codes " out_group") 40 m
 

@@ -1,4 +1,4 @@
--- THE TABLE OF NAMES: what the standard calls the kinds of messages and their reasons, each list from number 0 on.
+-- THE TABLE OF NAMES: what the standard calls the types of messages and their reasons, each list from number 0 on.
 use Rattle.std.specs.Prelude.{ℕ, List, [], ◌∷◌, codes, decimal, Option, Some, None, slice_get}
 use Rattle.of_explain.specs.declared.names.Names.{Names}
 use Rattle.of_explain.specs.declared.names.Names.TheVariants.{Types, ErrorTypes, PacketInReasons, FlowRemovedReasons, PortStatusReasons, FlowCommands, GroupCommands, Multiparts, Roles}

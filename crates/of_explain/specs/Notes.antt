@@ -1,4 +1,4 @@
--- NOTES: lines behind four spaces, below a row.
+-- NOTES: lines after four spaces, below a row.
 use Rattle.std.specs.Prelude.{ℕ, List, [], ◌∷◌, ◌++◌, length, codes, decimal}
 
 abbrev pub ended : List ℕ → List ℕ

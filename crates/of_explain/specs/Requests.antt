@@ -11,7 +11,7 @@ use Rattle.of_messages.specs.declared.group_mod.NewGroup.{NewGroup}
 use Rattle.of_messages.specs.declared.multipart.MultipartRequest.{MultipartRequest}
 use Rattle.of_messages.specs.declared.multipart.MultipartRequest.TheVariants.{Flow, Aggregate}
 use Rattle.of_messages.specs.Messages.{message_of}
-use Rattle.of_session.specs.Stream.{First, Whole, Bad, Partial, front_of}
+use Rattle.of_session.specs.Stream.{First, Whole, Bad, Partial, beginning_of}
 use Rattle.of_text.specs.declared.row.Row.{Row}
 use Rattle.of_text.specs.declared.row.Row.TheVariants as rows
 use Rattle.of_text.specs.Rows.{spelling}
@@ -23,7 +23,7 @@ use Rattle.of_explain.specs.Messages.{message_words}
 
 -- ---- a message as flow text
 
--- its match, and its instructions in the order of running
+-- its match, and its instructions in the order of execution
 abbrev pub flow_mod_rows : AFlowMod → List Row
 flow_mod_rows m = map rows.Match m.fields ++ flat_map step_rows (map step_of m.instructions)
 
@@ -54,7 +54,7 @@ abbrev pub rows_said : Result Message Code → List Row
 rows_said (Ok message) = rows_in message
 rows_said (Err code) = []
 
--- a line of flow text, behind eight spaces
+-- a line of flow text, after eight spaces
 abbrev pub row_line : Row → List ℕ
 row_line row = codes "        " ++ ended (spelling row)
 
@@ -76,15 +76,15 @@ and_others others (Whole m rest) = m ∷ others rest
 and_others others Bad = []
 and_others others Partial = []
 
--- so many at most
+-- at most n
 abbrev pub first_messages : ℕ → List ℕ → List (List ℕ)
 first_messages zero bytes = []
-first_messages (suc n) bytes = and_others (first_messages n) (front_of bytes)
+first_messages (suc n) bytes = and_others (first_messages n) (beginning_of bytes)
 
 -- all: each has some bytes
 unfoldable pub messages_of : List ℕ → List (List ℕ)
 messages_of bytes = first_messages (length bytes) bytes
 
--- THE NOTES OF A PIECE, behind the bytes that wait
+-- THE NOTES OF A PIECE, after the bytes that wait
 abbrev pub piece_notes : List ℕ → List ℕ → List ℕ
 piece_notes waiting piece = flat_map request_notes (messages_of (waiting ++ piece))

@@ -1,18 +1,18 @@
 //! Event files, explained.
 ghost use Rattle.std.specs.Prelude.{◌≡◌, ◌⊎◌, ◌↔◌, ◌<◌, ◌≤◌, ◌+◌};
-ghost use Rattle.of_replay.specs.Tales.{Tells};
+ghost use Rattle.of_replay.specs.RowTexts.{Tells};
 ghost use Rattle.of_explain.specs.Explained.{explained};
 
 use crate::rows::Explaining;
 use of_classifier::Lookup;
-use of_replay::{Ended, Sink, Source, tell_file};
+use of_replay::{Ended, Sink, Source, print_file};
 use std::alloc::Global;
 
-/// Plays the rows of a source as `replay` does, and writes each line, and below it, behind four spaces, what it did in words.
+/// Plays the rows of a source as `replay` does, and writes each line, and below it, after four spaces, what it did in words.
 ///
-/// A row that happens has a note for each effect that `replay` would print, in order. Before them stand, of a controller's
-/// bytes, each message that they complete (OpenFlow 1.3.5, 6.3.2 and 7.1), and of a frame its way: the port by which it comes
-/// in, or why it does not, and each look-up. A row that is refused has a note that says why. Empty lines are left out. It
+/// A row that happens has a note for each effect that `replay` would print, in order. Before them come, for a controller's
+/// bytes, each message that they complete (OpenFlow 1.3.5, 6.3.2 and 7.1), and for a frame its way: the port at which it is
+/// received, or why it is not, and each lookup. A row that is refused has a note that says why. Empty lines are left out. It
 /// reads, writes and ends as `replay` does.
 pub fn explain<L: Lookup, S: Source, W: Sink>(
     alloc: Global,
@@ -29,5 +29,5 @@ pub fn explain<L: Lookup, S: Source, W: Sink>(
     ensures failed_read { S.failures reader.old < S.failures reader.new → (result ≡ Ended.ReadFault) ⊎ (result ≡ Ended.WriteFault) }
     ensures write_fault { (result ≡ Ended.WriteFault) ↔ (0 < W.failures writer.new) }
 {
-    tell_file::<L, _, _, _>(alloc, &Explaining, reader, writer)
+    print_file::<L, _, _, _>(alloc, &Explaining, reader, writer)
 }

@@ -7,7 +7,7 @@ use crate::notes::push_with_number;
 use byteorder::{BigEndian, ByteOrder};
 use std::alloc::{AllocError, Global};
 
-/// The number of so many bytes at a place of a message; None where the message ends before it.
+/// The number of `size` bytes at a place of a message; None where the message ends before it.
 pub fn number_at(message: &[u8], at: usize, size: usize) -> Option<u64>
     requires place { at < 2 ^ 16 }
     requires some { 1 ≤ size }
@@ -76,7 +76,7 @@ pub fn push_name_field(
     push_name(out, names, number)
 }
 
-/// Appends a word and so many bytes of a message in hex digits.
+/// Appends a word and `size` bytes of a message in hex digits.
 #[tactic(auto, unfolding(crate::specs::Messages::hex_field))]
 pub fn push_hex_field(
     alloc: Global,

@@ -24,7 +24,7 @@ fn find_port(ports: &[Port], number: u32) -> Option<&Port>
     ports.iter().find(|port| port.number == number)
 }
 
-// Why a port that is there takes no frame in.
+// Why a port that exists receives no frame.
 fn not_received_words(port: &Port) -> &'static [u8]
     ensures { result.now ≡ not_received port.now }
 {
@@ -45,7 +45,7 @@ fn push_length(out: &mut Vec<u8>, frame: &[u8]) -> Result<(), AllocError>
     }
 }
 
-// Appends that a frame came in by a port.
+// Appends that a frame was received at a port.
 fn push_entry(out: &mut Vec<u8>, number: u32, frame: &[u8]) -> Result<(), AllocError>
     ensures { OnOk result (out.new.items ≡ out.old.items ++ note (port_and_size (codes "in by port") number frame.now)) }
 {
@@ -54,7 +54,7 @@ fn push_entry(out: &mut Vec<u8>, number: u32, frame: &[u8]) -> Result<(), AllocE
     end_note(out)
 }
 
-// Appends whether a frame comes in by a port that is there.
+// Appends whether a frame is received at a port that exists.
 fn push_at_port(out: &mut Vec<u8>, port: &Port, number: u32, frame: &[u8]) -> Result<(), AllocError>
     ensures { OnOk result (out.new.items ≡ out.old.items ++ port_notes number frame.now port.now) }
 {
@@ -67,7 +67,7 @@ fn push_at_port(out: &mut Vec<u8>, port: &Port, number: u32, frame: &[u8]) -> Re
     }
 }
 
-// Appends by which port a frame comes in, or why it does not.
+// Appends at which port a frame is received, or why it is not.
 fn push_arrival(
     out: &mut Vec<u8>,
     port: Option<&Port>,
@@ -82,7 +82,7 @@ fn push_arrival(
     }
 }
 
-// Appends that a table has an entry at that place by age.
+// Appends that a table has an entry at that index by age.
 fn push_found(out: &mut Vec<u8>, table: u8, place: usize) -> Result<(), AllocError>
     ensures { OnOk result (out.new.items ≡ out.old.items ++ number_note (codes "table") table (with_number (codes ": entry") place)) }
 {
@@ -104,7 +104,7 @@ fn push_step(out: &mut Vec<u8>, step: Step) -> Result<(), AllocError>
             b": no entry matches, and the packet is dropped",
         ),
         Step::Entry { table, number } => push_found(out, table, number),
-        Step::TtlExpired => push_note(out, b"its time to live is over, and the packet is dropped"),
+        Step::TtlExpired => push_note(out, b"its TTL has expired, and its processing ends"),
         Step::Apply
         | Step::Clear
         | Step::Write
@@ -144,7 +144,7 @@ pub fn push_way<L: Lookup>(
     Ok(())
 }
 
-/// Appends that a frame leaves nothing behind.
+/// Appends that a frame has no effect.
 pub fn push_nothing(out: &mut Vec<u8>, effects: &[Effect]) -> Result<(), AllocError>
     ensures { OnOk result (out.new.items ≡ out.old.items ++ nothing_leaves effects.now) }
 {

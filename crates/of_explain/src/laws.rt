@@ -1,4 +1,4 @@
-//! Laws of what is told.
+//! Laws of what is printed.
 ghost use Rattle.std.specs.Prelude.{◌≡◌, ◌++◌, ℕ, List, [], false};
 ghost use Rattle.std.specs.List.{flat_map};
 ghost use Rattle.of_session.specs.Session.{is_disconnected};
@@ -9,7 +9,7 @@ ghost use Rattle.of_replay.specs.Rows.{Piece};
 ghost use Rattle.of_explain.specs.Explained.{echoed, effect_notes, explained};
 ghost use Rattle.of_explain.specs.Requests.{request_notes};
 
-/// Below a row of a connected controller's bytes stand the notes of each message that they complete, in order, and then
+/// Below a row of a connected controller's bytes come the notes of each message that they complete, in order, and then
 /// those of what the switch gives.
 ///
 /// The messages are those into which the bytes that waited and those of the row split (OpenFlow 1.3.5, 6.3.2 and 7.1).

@@ -59,7 +59,7 @@ fn push_removed_entry(alloc: Global, out: &mut Vec<u8>, message: &[u8]) -> Resul
     push_hex_field(alloc, out, message, b" cookie", 8, 8)
 }
 
-// How long it stood, and what it counted.
+// How long it existed, and what it counted.
 #[tactic(auto, unfolding(crate::specs::Messages::removed_counts))]
 fn push_removed_counts(out: &mut Vec<u8>, message: &[u8]) -> Result<(), AllocError>
     ensures { OnOk result (out.new.items ≡ out.old.items ++ removed_counts message.now) }
@@ -139,7 +139,7 @@ fn push_commanded_times(out: &mut Vec<u8>, message: &[u8]) -> Result<(), AllocEr
     push_number_field(out, message, b" flags", 44, 2)
 }
 
-// Which bits of the cookie are looked at, the packet that waits, and what a DELETE asks of actions.
+// The cookie mask, the buffered packet, and the port and group that a DELETE asks for.
 #[tactic(auto, unfolding(crate::specs::Messages::commanded_filter))]
 fn push_commanded_filter(alloc: Global, out: &mut Vec<u8>, message: &[u8]) -> Result<(), AllocError>
     ensures { OnOk result (out.new.items ≡ out.old.items ++ commanded_filter message.now) }
@@ -329,9 +329,9 @@ fn push_type(alloc: Global, out: &mut Vec<u8>, message: &[u8]) -> Result<(), All
     push_fields(alloc, out, kind, message)
 }
 
-/// Appends a message in words: its name, its transaction id, what its kind says besides, and how many bytes it has.
+/// Appends a message in words: its name, its transaction id, the fields of its type, and how many bytes it has.
 ///
-/// What stands beyond the message's end is left out, and a number without a name is written in decimal.
+/// What is beyond the message's end is left out, and a number without a name is written in decimal.
 #[tactic(auto, unfolding(crate::specs::Messages::message_words))]
 pub fn push_message(alloc: Global, out: &mut Vec<u8>, message: &[u8]) -> Result<(), AllocError>
     ensures { OnOk result (out.new.items ≡ out.old.items ++ message_words message.now) }

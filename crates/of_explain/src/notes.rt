@@ -1,4 +1,4 @@
-//! Notes: lines behind four spaces.
+//! Notes: lines after four spaces.
 ghost use Rattle.std.specs.Prelude.{◌≡◌, ◌++◌, ◌∷◌, [], OnOk, codes};
 ghost use Rattle.of_explain.specs.Notes.{note, number_note, port_and_size, size_words, with_number};
 

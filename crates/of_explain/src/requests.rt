@@ -8,11 +8,11 @@ ghost use Rattle.of_explain.specs.Requests.{messages_of, piece_notes, request_no
 use crate::messages::push_message;
 use crate::notes::{begin_note, end_note};
 use crate::said::lines_said;
-use of_session::{Front, Stream};
+use of_session::{Beginning, Stream};
 use of_text::{Row, push_row};
 use std::alloc::{AllocError, Global};
 
-// Appends a line of flow text behind eight spaces.
+// Appends a line of flow text after eight spaces.
 fn push_line(out: &mut Vec<u8>, row: Row) -> Result<(), AllocError>
     requires { Fits row }
     ensures { OnOk result (out.new.items ≡ out.old.items ++ row_line row) }
@@ -65,16 +65,16 @@ fn push_requests(alloc: Global, out: &mut Vec<u8>, stream: &mut Stream) -> Resul
 {
     loop {
         match stream.front() {
-            Front::Message(size) => {
+            Beginning::Message(size) => {
                 push_request(alloc, out, stream.first(size))?;
                 stream.take(size);
             }
-            Front::Malformed | Front::Waiting => return Ok(()),
+            Beginning::Malformed | Beginning::Waiting => return Ok(()),
         }
     }
 }
 
-/// Appends each message that a piece of the controller's bytes completes, behind those that wait.
+/// Appends each message that a piece of the controller's bytes completes, after those that wait.
 pub fn push_piece(
     alloc: Global,
     out: &mut Vec<u8>,

@@ -9,11 +9,11 @@ use crate::effects::{push_effects, push_refusal};
 use crate::frames::{push_nothing, push_way};
 use crate::requests::push_piece;
 use of_classifier::Lookup;
-use of_replay::{Row, Teller, play_row};
+use of_replay::{Row, RowPrinter, play_row};
 use of_switch::{Effect, Effects, Switch, SwitchError};
 use std::alloc::{AllocError, Global};
 
-// Appends a line as it stands in the file. An empty one is left out.
+// Appends a line as in the file. An empty one is left out.
 fn push_line(out: &mut Vec<u8>, line: &[u8]) -> Result<(), AllocError>
     ensures { OnOk result (out.new.items ≡ out.old.items ++ echoed line.now) }
 {
@@ -86,11 +86,11 @@ fn push_report(
     }
 }
 
-/// Tells of each row its line, and below it what it did.
+/// Prints for each row its line, and below it what it did.
 #[derive(Drop)]
 pub struct Explaining;
 
-impl<L: Lookup> Teller<L> for Explaining {
+impl<L: Lookup> RowPrinter<L> for Explaining {
     ghost tale = { explained };
 
     fn tell(

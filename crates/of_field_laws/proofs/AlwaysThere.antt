@@ -13,13 +13,13 @@ use Rattle.of_headers.specs.FieldMap.{field_map}
 use Rattle.of_headers.proofs.LookLemmas.{look-append}
 use Rattle.of_field_laws.specs.Always.{always}
 
--- ---- behind other cells
+-- ---- after other cells
 
 some_behind : (a b : Option ℕ) → IsSome b → IsSome (option_or a b)
 some_behind None b h = h
 some_behind (Some a) b h = refl
 
--- a number that stands behind other cells is found, if not one in front of it
+-- a number that comes after other cells is found, if none before it is
 found_behind : (n : ℕ) (a b : List Cell) → IsSome (look_up n b) → IsSome (look_up n (a ++ b))
 found_behind n a b h = subst IsSome (sym (look-append n a b)) (some_behind (look_up n a) (look_up n b) h)
 

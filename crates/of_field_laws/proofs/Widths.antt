@@ -36,7 +36,7 @@ abbrev pub agrees : ℕ → ℕ → List Item → Bool
 agrees n w [] = true
 agrees n w (i ∷ is) = (if name_is n i.name then i.width == w else true) && agrees n w is
 
--- the first item has the name, or it is looked for behind it
+-- the first item has the name, or it is looked for after it
 here_or_behind : (t : Bool) (x w m v : ℕ) (rest : Option ℕ) → cond t (eqb x w) true ≡ true → m < 2 ^ x → (rest ≡ Some v → v < 2 ^ w) → cond t (Some m) rest ≡ Some v → v < 2 ^ w
 here_or_behind true x w m v rest a small f e =
     let same : m ≡ v = cc in
@@ -85,7 +85,7 @@ tags_within n w wide (t ∷ ts) h = both_within n w (cells_in outer_tag t) (inne
 carried_within : (n w : ℕ) → IsAsWide n w → (c : Carried) → Fits (items_of c.kind) c.numbers → IsWithin n w (carried_cells c)
 carried_within n w wide c f = both_within n w (cells_in (items_of c.kind) c.numbers) (byte_cells c.rest) (items_within n w (items_of c.kind) c.numbers (wide.in_transport c.kind) f) (bytes_within n w c.rest)
 
--- what is carried, and the bytes behind the packet
+-- what is carried, and the bytes after the packet
 end_within : (n w : ℕ) → IsAsWide n w → (c : Carried) (rest : List ℕ) → Fits (items_of c.kind) c.numbers → IsWithin n w (carried_cells c ++ byte_cells rest)
 end_within n w wide c rest f = both_within n w (carried_cells c) (byte_cells rest) (carried_within n w wide c f) (bytes_within n w rest)
 
@@ -94,7 +94,7 @@ record AreInside (n w : ℕ) (es : List Extension) (c : Carried) : Type 0 where
   pub headers : IsWithin n w (extension_cells es)
   pub carried : Fits (items_of c.kind) c.numbers
 
--- behind a later fragment stands no extension header
+-- no extension header follows a later fragment
 chain_within : (n w : ℕ) → IsAsWide n w → (kind : ℕ) (es : List Extension) (c : Carried) → AreExtensions kind es c → AreInside n w es c
 chain_within n w wide kind [] c h = record { headers = none_within n w [] refl; carried = h.0.numbers }
 chain_within n w wide kind (Options ns bytes ∷ es) c h =

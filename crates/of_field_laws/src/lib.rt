@@ -1,4 +1,4 @@
-//! Laws of the fields of frames, on which nothing stands: which every frame has, and how large their values are.
+//! Laws of the fields of frames, which nothing depends on: which every frame has, and how large their values are.
 #![tactic(auto)]
 
 ghost use Rattle.std.specs.Prelude.{◌≡◌, ◌≤◌, ◌<◌, ◌^◌, ℕ, List, length, IsSome, Some};
@@ -10,7 +10,7 @@ ghost use Rattle.of_layers.specs.WellFormed.{AreBytes};
 ghost use Rattle.of_headers.specs.FieldMap.{field_map};
 ghost use Rattle.of_field_laws.specs.Always.{always};
 
-/// Whatever stands in a frame, its ingress port, the metadata, both addresses, the type and VLAN_VID are there (OpenFlow 1.3.5,
+/// Whatever a frame's bytes are, its ingress port, the metadata, both addresses, the type and VLAN_VID are present (OpenFlow 1.3.5,
 /// 7.2.3.7).
 pub fn fields_of_every_frame()
     ensures { (frame : List ℕ) (in_port metadata : ℕ) → All (λ f. IsSome (field_map (layers_of frame) in_port metadata f)) always }

@@ -1,5 +1,7 @@
-use of_headers::{FieldKey, FrameFault, check_length, read, read_inside, same_fields};
-use of_layers::Field;
+use crate::checks::same_text;
+use crate::keys::{key_of, says};
+use of_headers::{FrameFault, Headers, check_length, read, read_inside, same_fields};
+use of_layers::{Field, Place};
 use of_test_rows::{bytes_of, sides};
 use std::alloc::Global;
 use std::process::Abort;
@@ -12,21 +14,20 @@ const ENDS: &str = "020000000002 020000000001";
 
 /// A frame of these bytes behind its addresses.
 fn frame_of(alloc: Global, words: &str) -> Result<Vec<u8>, Fail> {
-    let mut frame = bytes_of(alloc, ENDS)?;
-    frame.extend_from_slice(&bytes_of(alloc, words)?)?;
-    Ok(frame)
+    bytes_of(alloc, format!(in alloc; "{ENDS} {words}")?.as_str())
 }
 
-/// The fields that a frame has which came in at port 7 with metadata 9.
-fn fields_in(rt: &impl Abort, alloc: Global, frame: &[u8]) -> Result<String, Fail> {
-    let key = read(frame, 7, 9).expect(rt, "a frame").key();
-    let mut text = String::new(alloc);
-    for field in Field::ALL {
-        if let Some(value) = key.get(field) {
-            text.push_str(&format!(in alloc; " {field:?}={value:x}")?)?;
-        }
-    }
-    Ok(text)
+/// Asserts which fields a frame of these bytes has that came in at a port with metadata.
+fn has(
+    rt: &impl Abort,
+    alloc: Global,
+    (port, metadata): (u32, u64),
+    bytes: &str,
+    wanted: &str,
+) -> Result<(), Fail> {
+    let frame = frame_of(alloc, bytes)?;
+    let key = read(&frame, port, metadata).expect(rt, "a frame").key();
+    says(rt, alloc, bytes, &key, wanted)
 }
 
 /// Asserts of each row which fields a frame of these bytes has beside the port, the metadata and its addresses.
@@ -34,59 +35,73 @@ fn have(rt: &impl Abort, alloc: Global, text: &str) -> Result<(), Fail> {
     for line in text.lines() {
         if let Some((bytes, fields)) = sides(line)? {
             let wanted = format!(in alloc;
-                " InPort=7 Metadata=9 EthDst=20000000002 EthSrc=20000000001 {fields}"
+                "InPort=7 Metadata=9 EthDst=20000000002 EthSrc=20000000001 {fields}"
             )?;
-            let found = fields_in(rt, alloc, &frame_of(alloc, bytes)?)?;
-            assert_eq!(rt; found.as_str(), wanted.as_str(), "{line}");
+            has(rt, alloc, (7, 9), bytes, wanted.as_str())?;
         }
     }
     Ok(())
 }
 
+fn add_place(alloc: Global, text: &mut String, field: Field, place: Place) -> Result<(), Fail> {
+    let space = if text.is_empty() { "" } else { " " };
+    let Place { first, bits } = place;
+    text.push_str(&format!(in alloc; "{space}{field:?}={first}+{bits}")?)?;
+    Ok(())
+}
+
 /// Where the fields of a frame stand.
-fn places_in(rt: &impl Abort, alloc: Global, frame: &[u8]) -> Result<String, Fail> {
-    let headers = read(frame, 7, 9).expect(rt, "a frame");
+fn places_of(alloc: Global, headers: &Headers) -> Result<String, Fail> {
     let mut text = String::new(alloc);
     for field in Field::ALL {
         if let Some(place) = headers.place(field) {
-            text.push_str(&format!(in alloc; " {field:?}={}+{}", place.first, place.bits)?)?;
+            add_place(alloc, &mut text, field, place)?;
         }
     }
     Ok(text)
+}
+
+fn places_in(rt: &impl Abort, alloc: Global, words: &str) -> Result<String, Fail> {
+    let frame = frame_of(alloc, words)?;
+    places_of(alloc, &read(&frame, 7, 9).expect(rt, "a frame"))
 }
 
 /// Asserts of each row where the fields of a frame of these bytes stand.
 fn stand(rt: &impl Abort, alloc: Global, text: &str) -> Result<(), Fail> {
     for line in text.lines() {
         if let Some((bytes, places)) = sides(line)? {
-            let wanted = format!(in alloc; " {places}")?;
-            let found = places_in(rt, alloc, &frame_of(alloc, bytes)?)?;
-            assert_eq!(rt; found.as_str(), wanted.as_str(), "{line}");
+            same_text(rt, line, places_in(rt, alloc, bytes)?.as_str(), places);
         }
     }
     Ok(())
 }
 
+const FIELDS: [&str; 6] = [
+    rows::TAGS,
+    rows::ARP,
+    rows::IPV4_HEADERS,
+    rows::IPV4_PAYLOADS,
+    rows::IPV6_HEADERS,
+    rows::IPV6_EXTENSION_HEADERS,
+];
+
 #[test]
 fn fields(rt: HostRuntime) -> Result<(), Fail> {
-    let alloc = rt.alloc();
-    have(&rt, alloc, rows::TAGS)?;
-    have(&rt, alloc, rows::ARP)?;
-    have(&rt, alloc, rows::IPV4_HEADERS)?;
-    have(&rt, alloc, rows::IPV4_PAYLOADS)?;
-    have(&rt, alloc, rows::IPV6_HEADERS)?;
-    have(&rt, alloc, rows::IPV6_EXTENSION_HEADERS)?;
-    stand(&rt, alloc, rows::PLACES)
+    for text in FIELDS {
+        have(&rt, rt.alloc(), text)?;
+    }
+    stand(&rt, rt.alloc(), rows::PLACES)
 }
 
 #[test]
-fn tagged_frame(rt: HostRuntime) {
-    let frame = b"\x02\0\0\0\0\x02\x02\0\0\0\0\x01\x81\0\xa0\x05\x88\xb5";
-    let key = read(frame, 1, 0).expect(&rt, "a frame").key();
-    assert_eq!(rt; key.numbers.in_port, 1);
-    assert_eq!(rt; key.numbers.eth_dst, 0x020000000002);
-    assert_eq!(rt; key.numbers.eth_src, 0x020000000001);
-    assert_eq!(rt; key.numbers.eth_type, 0x88b5);
+fn tagged_frame(rt: HostRuntime) -> Result<(), Fail> {
+    has(
+        &rt,
+        rt.alloc(),
+        (1, 0),
+        "8100a005 88b5",
+        "InPort=1 Metadata=0 EthDst=20000000002 EthSrc=20000000001 EthType=88b5 VlanVid=1005 VlanPcp=5",
+    )
 }
 
 #[test]
@@ -104,20 +119,32 @@ fn short_frame(rt: HostRuntime) {
     assert!(rt; matches!(check_length(frame), Err(FrameFault::Short)));
 }
 
+/// A key, a mask, and what is seen of the key under it.
+const UNDER: [(&str, &str, &str); 2] = [
+    (
+        "EthType=800 Ipv4Src=a0b0c0d",
+        "Ipv4Src=ffff0000 Ipv4Dst=ffffffff",
+        "Ipv4Src=a0b0000",
+    ),
+    ("EthType=800 Ipv4Src=a0b0c0d", "", ""),
+];
+
+/// Asserts what is seen of a key under a mask.
+fn is_seen(
+    rt: &impl Abort,
+    alloc: Global,
+    (key, mask, wanted): (&str, &str, &str),
+) -> Result<(), Fail> {
+    let seen = key_of(rt, alloc, key)?.under(&key_of(rt, alloc, mask)?);
+    assert_eq!(rt; seen, key_of(rt, alloc, wanted)?, "{key} under {mask}");
+    says(rt, alloc, mask, &seen, wanted)
+}
+
 #[test]
-#[tactic(auto, unfolding(of_layers::specs::Fields::row_of))]
-fn key_under_a_mask(rt: HostRuntime) {
-    let key = FieldKey::empty()
-        .with(Field::EthType, 0x0800)
-        .with(Field::Ipv4Src, 0x0a0b0c0d);
-    let mask = FieldKey::empty()
-        .with(Field::Ipv4Src, 0xffff0000)
-        .with(Field::Ipv4Dst, 0xffffffff);
-    let seen = key.under(&mask);
-    assert_eq!(rt; seen.get(Field::Ipv4Src), Some(0x0a0b0000));
-    assert_eq!(rt; seen.get(Field::Ipv4Dst), None);
-    assert_eq!(rt; seen.get(Field::EthType), None);
-    assert_eq!(rt; seen, FieldKey::empty().with(Field::Ipv4Src, 0x0a0b0000));
-    assert_eq!(rt; key.under(&FieldKey::empty()), FieldKey::empty());
+fn key_under_a_mask(rt: HostRuntime) -> Result<(), Fail> {
+    for row in UNDER {
+        is_seen(&rt, rt.alloc(), row)?;
+    }
     same_fields();
+    Ok(())
 }

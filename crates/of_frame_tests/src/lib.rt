@@ -4,7 +4,11 @@
 #![tactic(auto)]
 
 #[cfg(test)]
+mod checks;
+#[cfg(test)]
 mod headers;
+#[cfg(test)]
+mod keys;
 #[cfg(test)]
 mod oxm;
 #[cfg(test)]

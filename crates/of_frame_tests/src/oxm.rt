@@ -1,7 +1,9 @@
+use crate::checks::{same_bytes, same_number};
+use crate::keys::{key_of, says};
 use of_headers::FieldKey;
 use of_layers::Field;
 use of_oxm::{
-    Code, Match, MatchField, ReadError, covers, key_of, mask_of, matches, overlaps, read_match,
+    Code, FieldMask, Match, MatchField, ReadError, covers, mask_of, matches, overlaps, read_match,
     write_match,
 };
 use of_test_rows::{bytes_of, number_of, sides};
@@ -23,34 +25,39 @@ fn code_of(alloc: Global, bytes: &[u8]) -> Option<usize> {
 fn are_refused(rt: &impl Abort, alloc: Global, text: &str) -> Result<(), Fail> {
     for line in text.lines() {
         if let Some((bytes, code)) = sides(line)? {
-            let code = number_of(code)?;
-            assert_eq!(rt;
-                code_of(alloc, &bytes_of(alloc, bytes)?),
-                Some(code),
-                "{line}"
-            );
+            let found = code_of(alloc, &bytes_of(alloc, bytes)?).ok_or("it is refused")?;
+            same_number(rt, line, found, number_of(code)?);
         }
     }
     Ok(())
+}
+
+/// The match that all of these bytes are.
+fn match_of(rt: &impl Abort, alloc: Global, words: &str) -> Result<Match, Fail> {
+    let bytes = bytes_of(alloc, words)?;
+    match read_match(alloc, &bytes) {
+        Ok((found, size)) => {
+            same_number(rt, words, size, bytes.len());
+            Ok(found)
+        }
+        Err(_) => Err("the bytes are a match".into()),
+    }
 }
 
 /// Asserts of each row what is written of the match that is all of its bytes.
 fn are_written(rt: &impl Abort, alloc: Global, text: &str) -> Result<(), Fail> {
     for line in text.lines() {
         if let Some((bytes, wanted)) = sides(line)? {
-            let bytes = bytes_of(alloc, bytes)?;
-            let (m, size) = read_match(alloc, &bytes)
-                .ok()
-                .ok_or("the bytes are a match")?;
-            assert_eq!(rt; size, bytes.len(), "{line}");
-            let written = write_match(alloc, &m)?;
-            assert_eq!(rt;
-                written.as_slice(),
-                bytes_of(alloc, wanted)?.as_slice(),
-                "{line}"
-            );
+            is_written(rt, alloc, bytes, wanted)?;
         }
     }
+    Ok(())
+}
+
+fn is_written(rt: &impl Abort, alloc: Global, bytes: &str, wanted: &str) -> Result<(), Fail> {
+    let written = write_match(alloc, &match_of(rt, alloc, bytes)?)?;
+    let wanted = bytes_of(alloc, wanted)?;
+    same_bytes(rt, bytes, written.as_slice(), &wanted);
     Ok(())
 }
 
@@ -60,18 +67,11 @@ fn read_and_written(rt: HostRuntime) -> Result<(), Fail> {
     are_written(&rt, rt.alloc(), rows::WRITTEN)
 }
 
-#[test]
-#[tactic(auto, unfolding(of_layers::specs::Fields::row_of))]
-fn port_one(rt: HostRuntime) -> Result<(), Fail> {
-    let bytes = [0u8, 1, 0, 0x0c, 0x80, 0, 0, 4, 0, 0, 0, 1, 0, 0, 0, 0];
-    let (m, size) = read_match(rt.alloc(), &bytes)
-        .ok()
-        .ok_or("port 1 is a match")?;
-    assert_eq!(rt; size, 16);
-    assert_eq!(rt; m.len(), 1);
+fn asks_for_port_one(rt: &impl Abort, found: &Match) {
+    same_number(rt, "port 1", found.len(), 1);
     assert!(rt;
         matches!(
-            m.fields(),
+            found.fields(),
             [MatchField {
                 field: Field::InPort,
                 value: 1,
@@ -79,47 +79,97 @@ fn port_one(rt: HostRuntime) -> Result<(), Fail> {
             }]
         )
     );
-    let written = write_match(rt.alloc(), &m)?;
-    assert_eq!(rt; written.as_slice(), bytes.as_slice());
-    assert!(rt; matches(&m, &FieldKey::empty().with(Field::InPort, 1)));
-    assert!(rt; !matches(&m, &FieldKey::empty().with(Field::InPort, 2)));
-    let made = Match::of_in_port(rt.alloc(), 1)?;
-    assert!(rt; m.equals(&made));
-    let copied = m.copy()?;
-    assert!(rt; m.equals(&copied));
-    assert!(rt; covers(&m, &copied));
-    assert!(rt; overlaps(&m, &copied));
-    Ok(())
+}
+
+/// Asserts that a match is one that was made.
+fn is_like(rt: &impl Abort, found: &Match, made: &Match) {
+    assert!(rt; found.equals(made));
+    assert!(rt; covers(found, made));
+    assert!(rt; overlaps(found, made));
 }
 
 #[test]
-#[tactic(auto, unfolding(of_layers::specs::Fields::row_of))]
+fn port_one(rt: HostRuntime) -> Result<(), Fail> {
+    let found = match_of(&rt, rt.alloc(), "0001000c 80000004 00000001 00000000")?;
+    asks_for_port_one(&rt, &found);
+    is_like(&rt, &found, &Match::of_in_port(rt.alloc(), 1)?);
+    is_like(&rt, &found, &found.copy()?);
+    Ok(())
+}
+
+/// A match, and what it asks.
+struct Asking {
+    /// Its bytes.
+    bytes: &'static str,
+    /// Under which mask it looks at a key.
+    mask: &'static str,
+    /// What it wants to see there.
+    asked: &'static str,
+    /// A key in which it sees that.
+    matched: &'static str,
+    /// A key in which it does not.
+    other: &'static str,
+}
+
+const ASKING: [Asking; 2] = [
+    Asking {
+        bytes: "0001000c 80000004 00000001 00000000",
+        mask: "InPort=ffffffff",
+        asked: "InPort=1",
+        matched: "InPort=1",
+        other: "InPort=2",
+    },
+    Asking {
+        bytes: "00010016 80000a020800 800019080a000200ffffff00 0000",
+        mask: "EthType=ffff Ipv4Dst=ffffff00",
+        asked: "EthType=800 Ipv4Dst=a000200",
+        matched: "InPort=3 EthType=800 Ipv4Dst=a000205",
+        other: "InPort=3 EthType=800 Ipv4Dst=a000105",
+    },
+];
+
+/// Asserts what a match asks.
+fn asks(rt: &impl Abort, alloc: Global, row: &Asking) -> Result<(), Fail> {
+    let found = match_of(rt, alloc, row.bytes)?;
+    let matched = key_of(rt, alloc, row.matched)?;
+    let other = key_of(rt, alloc, row.other)?;
+    assert!(rt; matches(&found, &matched), "{}", row.bytes);
+    assert!(rt; !matches(&found, &other), "{}", row.bytes);
+    is_asked(
+        rt,
+        alloc,
+        row,
+        &mask_of(&found),
+        &of_oxm::key_of(&found),
+        &matched,
+    )
+}
+
+/// Asserts under which mask a match looks at a key, and what it wants to see there.
+fn is_asked(
+    rt: &impl Abort,
+    alloc: Global,
+    row: &Asking,
+    mask: &FieldMask,
+    asked: &FieldKey,
+    matched: &FieldKey,
+) -> Result<(), Fail> {
+    says(rt, alloc, row.bytes, &mask.masks, row.mask)?;
+    says(rt, alloc, row.bytes, asked, row.asked)?;
+    sees(rt, row, mask, asked, matched);
+    Ok(())
+}
+
+/// Asserts that a match sees in a key what it wants to see.
+fn sees(rt: &impl Abort, row: &Asking, mask: &FieldMask, asked: &FieldKey, matched: &FieldKey) {
+    let seen = mask.masked(matched);
+    assert!(rt; seen == *asked, "{}", row.bytes);
+}
+
+#[test]
 fn seen_under_the_mask_of_a_match(rt: HostRuntime) -> Result<(), Fail> {
-    let bytes = [
-        0u8, 1, 0, 0x16, // a match of 22 bytes
-        0x80, 0, 0x0a, 2, 8, 0, // ETH_TYPE
-        0x80, 0, 0x19, 8, 10, 0, 2, 0, 0xff, 0xff, 0xff, 0, // IPV4_DST
-        0, 0,
-    ];
-    let (m, _) = read_match(rt.alloc(), &bytes)
-        .ok()
-        .ok_or("a network of IPv4 is a match")?;
-    let mask = mask_of(&m);
-    assert_eq!(rt; mask.masks.get(Field::EthType), Some(0xffff));
-    assert_eq!(rt; mask.masks.get(Field::Ipv4Dst), Some(0xffffff00));
-    assert_eq!(rt; mask.masks.get(Field::InPort), None);
-    let asked = key_of(&m);
-    assert_eq!(rt; asked.get(Field::EthType), Some(0x0800));
-    assert_eq!(rt; asked.get(Field::Ipv4Dst), Some(0x0a000200));
-    assert_eq!(rt; asked.get(Field::InPort), None);
-    let key = FieldKey::empty()
-        .with(Field::InPort, 3)
-        .with(Field::EthType, 0x0800)
-        .with(Field::Ipv4Dst, 0x0a000205);
-    assert!(rt; matches(&m, &key));
-    let seen = mask.masked(&key);
-    assert_eq!(rt; seen.get(Field::Ipv4Dst), Some(0x0a000200));
-    assert_eq!(rt; seen.get(Field::InPort), None);
-    assert!(rt; seen == asked);
+    for row in &ASKING {
+        asks(&rt, rt.alloc(), row)?;
+    }
     Ok(())
 }

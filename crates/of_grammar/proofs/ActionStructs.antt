@@ -24,7 +24,7 @@ use Rattle.of_actions.specs.declared.action.Action.TheVariants.{Output, PushVlan
 use Rattle.of_actions.specs.Actions.{action_at, action_refusals, type_refusals, wrong_size, first_at, max_len_at, actions_of, AreActions}
 use Rattle.of_actions.specs.Beginnings.{type_at, len_at}
 use Rattle.of_actions.specs.PortNumbers.{is_port}
-use Rattle.of_actions.specs.Served.{is_served, are_served}
+use Rattle.of_actions.specs.Supported.{is_supported, are_supported}
 use Rattle.of_actions.specs.SetField.{settable, set_field_at, set_value_at, set_len, set_refusals, known_set_refusals}
 use Rattle.of_actions.proofs.ActionLists.{is_served_list, served_is}
 use Rattle.of_grammar.specs.ActionStructs.{action_cells, action_type, action_types, AreStructs}
@@ -55,10 +55,10 @@ head packet_out seen rest none =
 
 record One (packet_out : Bool) (a : Action) (rest : List ℕ) : Type 0 where
   front : Begins (action_cells a) rest (drop (len_at rest) rest)
-  served : is_served packet_out a ≡ true
+  served : is_supported packet_out a ≡ true
 
 -- a struct of so many bytes
-struct : (packet_out : Bool) (a : Action) (rest : List ℕ) (n : ℕ) → IsBytes rest → len_at rest ≡ n → n ≤ length rest → size (action_cells a) ≡ n → Says 0 (action_cells a) rest → is_served packet_out a ≡ true → One packet_out a rest
+struct : (packet_out : Bool) (a : Action) (rest : List ℕ) (n : ℕ) → IsBytes rest → len_at rest ≡ n → n ≤ length rest → size (action_cells a) ≡ n → Says 0 (action_cells a) rest → is_supported packet_out a ≡ true → One packet_out a rest
 struct packet_out a rest n fits len whole is says served =
     let cells = action_cells a in
     record {
@@ -96,7 +96,7 @@ named f rest h = by_tests (eqb (big_number 2 (drop 4 rest)) 0x8000) refl (eqb (s
 
 set_one : (packet_out : Bool) (f : Field) (value : ℕ) (rest : List ℕ) → IsBytes rest → len_at rest ≤ length rest → type_at rest ≡ 25 → first_of (set_refusals rest) ≡ None
     → (o : Option Field) → set_field_at rest ≡ o → option_map (λ (g : Field). SetField g (set_value_at g rest)) o ≡ Some (SetField f value) → One packet_out (SetField f value) rest
-unfolding set_refusals is_served
+unfolding set_refusals is_supported
 set_one packet_out f value rest fits whole kind none None is read = absurd cc
 set_one packet_out f value rest fits whole kind none (Some g) is read =
     let same : g ≡ f = cc in
@@ -129,7 +129,7 @@ below : (w n o : ℕ) (rest : List ℕ) → IsBytes rest → big_number w (drop 
 below w n o rest fits is = omega (arith, is, big_from-lt 0 w (drop o rest) (IsBytes-drop o rest fits))
 
 one : (packet_out : Bool) (a : Action) (rest : List ℕ) → IsBytes rest → len_at rest ≤ length rest → first_of (type_refusals packet_out rest) ≡ None → action_at rest ≡ Some a → One packet_out a rest
-unfolding type_refusals action_at is_served
+unfolding type_refusals action_at is_supported
 one packet_out (Output port max_len) rest fits whole none at =
     let kind : type_at rest ≡ 0 = kind_is (Output port max_len) rest at in
     let same : Some (Output (first_at 4 rest) (max_len_at rest)) ≡ Some (Output port max_len) = rw kind at at in
@@ -186,7 +186,7 @@ one packet_out (SetField f value) rest fits whole none at =
 record Found (packet_out : Bool) (seen actions : List Action) (bytes : List ℕ) : Type 0 where
   are : AreStructs actions bytes
   few : length seen ≤ 64 → length seen + length actions ≤ 64
-  all : list_all (is_served packet_out) actions ≡ true
+  all : list_all (is_supported packet_out) actions ≡ true
 
 found_items : (packet_out : Bool) (seen actions : List Action) (bytes : List ℕ) → IsBytes bytes → AreItems (actions_of packet_out) seen bytes actions None → Found packet_out seen actions bytes
 found_items packet_out seen [] [] fits h = record { are = refl; few = λ few. omega arith; all = refl }
@@ -201,7 +201,7 @@ found_items packet_out seen (a ∷ actions) bytes fits h =
     let behind = others.few (omega arith) in
     record { are = (rest, this.front, others.are); few = λ few. omega arith; all = rw (this.served, others.all) refl }
 
-pub found : (packet_out : Bool) (bytes : List ℕ) → IsBytes bytes → (actions : List Action) → AreActions packet_out [] bytes actions None → AreStructs actions bytes × (are_served packet_out actions ≡ true)
+pub found : (packet_out : Bool) (bytes : List ℕ) → IsBytes bytes → (actions : List Action) → AreActions packet_out [] bytes actions None → AreStructs actions bytes × (are_supported packet_out actions ≡ true)
 found packet_out bytes fits actions h =
     let f = found_items packet_out [] actions bytes fits h in
     let few = f.few (omega arith) in
@@ -217,8 +217,8 @@ record Passes (packet_out : Bool) (a : Action) (rest : List ℕ) : Type 0 where
   none : first_of (type_refusals packet_out rest) ≡ None
   at : action_at rest ≡ Some a
 
-passes : (packet_out : Bool) (a : Action) (rest : List ℕ) → Says 0 (action_cells a) rest → is_served packet_out a ≡ true → Passes packet_out a rest
-unfolding type_refusals set_refusals action_at is_served
+passes : (packet_out : Bool) (a : Action) (rest : List ℕ) → Says 0 (action_cells a) rest → is_supported packet_out a ≡ true → Passes packet_out a rest
+unfolding type_refusals set_refusals action_at is_supported
 passes packet_out (Output port max_len) rest y served =
     let ok : is_port packet_out port ≡ true = grind (arith, nat_tests, served) in
     record { len = y.1.0; some = omega arith; eights = refl; none = rw (y.0, y.1.0, y.1.1.0, ok) refl; at = rw (y.0, y.1.1.0, y.1.1.1.0) refl }
@@ -253,11 +253,11 @@ none_refused packet_out seen rest n few len some eights whole none =
     let whole' : ltb (length rest) n ≡ false = le-ltb _ _ whole in
     rw (room, short, len, low, eight, whole') none
 
-only_items : (packet_out : Bool) (seen actions : List Action) (bytes : List ℕ) → length seen + length actions ≤ 64 → list_all (is_served packet_out) actions ≡ true → AreStructs actions bytes → AreItems (actions_of packet_out) seen bytes actions None
+only_items : (packet_out : Bool) (seen actions : List Action) (bytes : List ℕ) → length seen + length actions ≤ 64 → list_all (is_supported packet_out) actions ≡ true → AreStructs actions bytes → AreItems (actions_of packet_out) seen bytes actions None
 only_items packet_out seen [] bytes few served h = subst (λ (x : List ℕ). AreItems (actions_of packet_out) seen x [] None) (sym h) refl
 only_items packet_out seen (a ∷ actions) bytes few served h =
-    let this : is_served packet_out a ≡ true = grind (arith, nat_tests, served) in
-    let others : list_all (is_served packet_out) actions ≡ true = grind (arith, nat_tests, served) in
+    let this : is_supported packet_out a ≡ true = grind (arith, nat_tests, served) in
+    let others : list_all (is_supported packet_out) actions ≡ true = grind (arith, nat_tests, served) in
     let cells = action_cells a in
     let p = passes packet_out a bytes (says 0 cells bytes bytes h.0 refl h.1) this in
     let long : length bytes ≡ size cells + length h.0 = size_is cells bytes h.0 h.1 in
@@ -266,7 +266,7 @@ only_items packet_out seen (a ∷ actions) bytes few served h =
     let rest = only_items packet_out (seen ++ a ∷ []) actions h.0 (omega (arith, length-append seen (a ∷ []))) others h.2 in
     (omega (arith, long, p.some), none, p.at, subst (λ (x : List ℕ). AreItems (actions_of packet_out) (seen ++ a ∷ []) x actions None) behind rest)
 
-pub only : (packet_out : Bool) (bytes : List ℕ) (actions : List Action) → AreStructs actions bytes → are_served packet_out actions ≡ true → AreActions packet_out [] bytes actions None
+pub only : (packet_out : Bool) (bytes : List ℕ) (actions : List Action) → AreStructs actions bytes → are_supported packet_out actions ≡ true → AreActions packet_out [] bytes actions None
 only packet_out bytes actions h served =
     let s = is_served_list packet_out actions served in
     only_items packet_out [] actions bytes (omega (arith, s.few)) s.all h

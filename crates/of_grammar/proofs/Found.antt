@@ -25,7 +25,7 @@ use Rattle.of_messages.specs.Messages.{message_of, as_flow_mod, as_packet_out, a
 use Rattle.of_messages.specs.Multiparts.{multipart_of}
 use Rattle.of_messages.specs.PortMods.{port_mod_of}
 use Rattle.of_messages.specs.Roles.{role_request_of}
-use Rattle.of_grammar.specs.Grammar.{front_cells, group_mod_cells, role_cells, IsValid, Spells, Tail}
+use Rattle.of_grammar.specs.Grammar.{fixed_part_cells, group_mod_cells, role_cells, IsValid, Spells, Tail}
 use Rattle.of_grammar.specs.Requests.{request_cells}
 use Rattle.of_grammar.proofs.FoundLarge.{packet_out_found, flow_mod_found, group_mod_found}
 use Rattle.of_grammar.proofs.FoundRequests.{request_found}
@@ -33,9 +33,9 @@ use Rattle.of_grammar.proofs.FoundSmall.{async_found, config_found, port_mod_fou
 use Rattle.of_grammar.proofs.Heads.{Kind, hello, error, echo_request, echo_reply, features_request, get_config_request, set_config, packet_out, flow_mod, group_mod, port_mod, table_mod, multipart, barrier_request, role_request, get_async_request, set_async, type_number, body_by, Head, said}
 use Rattle.of_grammar.proofs.Places.{Says, size, front_of}
 
-made : (v : Message) (m : List ℕ) (n : ℕ) → IsBytes m → size (front_cells v (length m) (xid_of m)) ≡ n → n ≤ length m → Says 0 (front_cells v (length m) (xid_of m)) m → Tail v (drop n m) → IsValid v → Spells (xid_of m) v m
+made : (v : Message) (m : List ℕ) (n : ℕ) → IsBytes m → size (fixed_part_cells v (length m) (xid_of m)) ≡ n → n ≤ length m → Says 0 (fixed_part_cells v (length m) (xid_of m)) m → Tail v (drop n m) → IsValid v → Spells (xid_of m) v m
 made v m n fits size_is long says behind valid =
-    let cells = front_cells v (length m) (xid_of m) in
+    let cells = fixed_part_cells v (length m) (xid_of m) in
     record {
       tail = drop (size cells) m;
       front = front_of cells m fits (omega arith) says;
@@ -130,7 +130,7 @@ by_body group_mod m v fits h e = by_group (group_mod_of m) refl e
         let same : IsGroupMod g ≡ v = cc in
         let long : 16 ≤ length m = ltb-false _ _ h.fits in
         let s = group_mod_found g m fits is in
-        let place : size (front_cells (IsGroupMod g) (length m) (xid_of m)) ≡ 16 = omega (arith, group_size g) in
+        let place : size (fixed_part_cells (IsGroupMod g) (length m) (xid_of m)) ≡ 16 = omega (arith, group_size g) in
         subst (λ (y : Message). Spells (xid_of m) y m) same (made (IsGroupMod g) m 16 fits place long (version_4 group_mod m refl h, (h.type_is, (h.len, (refl, s.says)))) s.behind s.valid)
 by_body port_mod m v fits h e = by_port (port_mod_of m) refl e
   where
@@ -157,7 +157,7 @@ by_body multipart m v fits h e = by_request (multipart_of m) refl e
     by_request (Ok q) is f =
         let same : Multipart q ≡ v = cc in
         let s = request_found q m fits is in
-        let place : size (front_cells (Multipart q) (length m) (xid_of m)) ≡ 8 + size (request_cells q) = omega arith in
+        let place : size (fixed_part_cells (Multipart q) (length m) (xid_of m)) ≡ 8 + size (request_cells q) = omega arith in
         subst (λ (x : Message). Spells (xid_of m) x m) same (made (Multipart q) m (8 + size (request_cells q)) fits place s.long (version_4 multipart m refl h, (h.type_is, (h.len, (refl, s.says)))) s.behind s.valid)
 by_body barrier_request m v fits h e =
     let same : BarrierRequest ≡ v = cc in
@@ -169,7 +169,7 @@ by_body role_request m v fits h e = by_role (role_request_of m) refl e
     by_role (Ok q) is f =
         let same : IsRoleRequest q ≡ v = cc in
         let long = exact _ _ h.fits in
-        let place : size (front_cells (IsRoleRequest q) (length m) (xid_of m)) ≡ 24 = omega (arith, role_size q) in
+        let place : size (fixed_part_cells (IsRoleRequest q) (length m) (xid_of m)) ≡ 24 = omega (arith, role_size q) in
         subst (λ (x : Message). Spells (xid_of m) x m) same (made (IsRoleRequest q) m 24 fits place (omega arith) (version_4 role_request m refl h, (h.type_is, (h.len, (refl, role_found q m is)))) (ended 24 m long) tt)
 by_body get_async_request m v fits h e =
     let same : GetAsyncRequest ≡ v = cc in

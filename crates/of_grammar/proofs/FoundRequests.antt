@@ -1,4 +1,4 @@
--- What was read as a MULTIPART_REQUEST stands in its places, and behind them.
+-- What was read as a MULTIPART_REQUEST is in its places, and after them.
 use Rattle.std.proofs.Common.{◌≡◌, ◌≤◌, ◌+◌, ◌%◌, ℕ, Bool, true, false, not, eqb, ltb, cond, List, [], length, take, drop, Option, Some, None, Result, Ok, Err, refl, sym, ap, subst, ◌∙◌, arith}
 use Rattle.std.specs.Prelude.{slice_index, ◌==◌, if◌then◌else◌, is_none}
 use Rattle.std.proofs.lemmas.Bool.{eqb-true, eqb-false, ltb-false}

@@ -1,4 +1,4 @@
--- What was read as a small message stands in its places.
+-- What was read as a small message is in its places.
 use Rattle.std.proofs.Common.{◌≡◌, ◌≤◌, ◌+◌, ℕ, Bool, true, false, eqb, ltb, cond, List, [], ◌∷◌, length, drop, Option, Some, None, Result, Ok, Err, refl, sym, ap, subst, arith, inl, inr}
 use Rattle.std.specs.Prelude.{slice_index, bit_and, ◌||◌}
 use Rattle.std.proofs.lemmas.Bool.{eqb-true, ltb-true}

@@ -9,7 +9,7 @@ use Rattle.of_wire.proofs.FirstLemmas.{none_applies}
 use Rattle.of_messages.specs.declared.message.Message.{Message}
 use Rattle.of_messages.specs.declared.message.Message.TheVariants.{Hello, Error, EchoRequest, EchoReply, FeaturesRequest, GetConfigRequest, BarrierRequest, GetAsyncRequest, SetAsync}
 use Rattle.of_messages.specs.declared.role.Role.TheVariants as role
-use Rattle.of_messages.specs.Heads.{version_of, type_of, header_length, size_of, is_served, is_bad_size, actions_length, head_refusals, role_refusals}
+use Rattle.of_messages.specs.Heads.{version_of, type_of, header_length, size_of, is_supported, is_bad_size, actions_length, head_refusals, role_refusals}
 use Rattle.of_messages.specs.Messages.{body_of, message_from, message_of, message_by, as_flow_mod, as_packet_out, as_group_mod, as_port_mod, as_table_mod, as_set_config, as_role_request, as_multipart, flow_mod_of, packet_out_of}
 use Rattle.of_messages.specs.AsyncConfigs.{async_masks_of}
 use Rattle.of_messages.specs.Configs.{set_config_of, table_mod_of}
@@ -97,7 +97,7 @@ bad_known role_request size = refl
 bad_known get_async_request size = refl
 bad_known set_async size = refl
 
-is_known : (k : Kind) → is_served (type_number k) ≡ true
+is_known : (k : Kind) → is_supported (type_number k) ≡ true
 unfolding size_of
 is_known hello = refl
 is_known error = refl
@@ -279,7 +279,7 @@ kind_number n role_request h = grind (arith, nat_tests)
 kind_number n get_async_request h = grind (arith, nat_tests)
 kind_number n set_async h = grind (arith, nat_tests)
 
-kind_none : (n : ℕ) → kind_of n ≡ None → is_served n ≡ false
+kind_none : (n : ℕ) → kind_of n ≡ None → is_supported n ≡ false
 unfolding kind_of size_of
 kind_none n h = grind (arith, nat_tests)
 
@@ -314,7 +314,7 @@ said m v e = by_first (first_of (head_refusals m ++ role_refusals role.Equal m))
   where
     by_kind : first_of (head_refusals m ++ role_refusals role.Equal m) ≡ None → (o : Option Kind) → kind_of (type_of m) ≡ o → body_of m ≡ Ok v → Said m v
     by_kind none None is f =
-        let served : is_served (type_of m) ≡ true = not_false _ (none_applies (head_refusals m ++ role_refusals role.Equal m) none).1.1.1.0 in
+        let served : is_supported (type_of m) ≡ true = not_false _ (none_applies (head_refusals m ++ role_refusals role.Equal m) none).1.1.1.0 in
         let both : true ≡ false = sym served ∙ kind_none (type_of m) is in
         absurd cc
     by_kind none (Some k) is f =

@@ -13,7 +13,7 @@ use Rattle.of_actions.specs.Actions.{actions_said}
 use Rattle.of_actions.specs.Beginnings.{type_at, len_at}
 use Rattle.of_actions.specs.Headers.{Header, goto, metadata, write, apply, clear, is_known, headers_of, header_refusals, header_at}
 use Rattle.of_actions.specs.Instructions.{HasActions, IsBody, AreBodies, SpellsInstructions}
-use Rattle.of_actions.specs.InstructionReading.{with_actions, body_of, in_front, bodies_of, then_bodies, then_ordered, instructions_of}
+use Rattle.of_actions.specs.InstructionReading.{with_actions, body_of, prepended, bodies_of, then_bodies, then_ordered, instructions_of}
 use Rattle.of_actions.specs.RunOrder.{in_run_order}
 use Rattle.of_grammar.proofs.Items.{HasValues, are_items}
 use Rattle.of_grammar.proofs.ActionTails.{actions_found}
@@ -52,7 +52,7 @@ bodies_found [] [] e = refl
 bodies_found [] (i ∷ is) e = absurd cc
 bodies_found (h ∷ hs) is e = by_parts (body_of h) refl (bodies_of hs) refl is e (bodies_found hs)
   where
-    by_parts : (r : Result Instruction Code) → body_of h ≡ r → (s : Result (List Instruction) Code) → bodies_of hs ≡ s → (all : List Instruction) → in_front r s ≡ Ok all
+    by_parts : (r : Result Instruction Code) → body_of h ≡ r → (s : Result (List Instruction) Code) → bodies_of hs ≡ s → (all : List Instruction) → prepended r s ≡ Ok all
         → ((others : List Instruction) → bodies_of hs ≡ Ok others → AreBodies hs others None) → AreBodies (h ∷ hs) all None
     by_parts (Err code) is s are all f next = absurd cc
     by_parts (Ok i) is (Err code) are all f next = absurd cc

@@ -10,7 +10,7 @@ use Rattle.of_wire.specs.Items.{Items, AreItems, TakesBytes, item_then, items_of
 abbrev pub HasValues : {V : Type 0} → Items V → Type 0
 HasValues {V} kind = (seen : List V) (bytes : List ℕ) → 0 < length bytes → first_of (kind.refusals seen bytes) ≡ None → IsSome (kind.value_at bytes)
 
--- the rest of the values, behind those that stand before
+-- the rest of the values, after those that come before
 record Found {V : Type 0} (kind : Items V) (seen : List V) (bytes : List ℕ) (all : List V) : Type 0 where
   more : List V
   are : AreItems kind seen bytes more None

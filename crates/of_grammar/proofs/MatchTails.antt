@@ -17,7 +17,7 @@ use Rattle.of_oxm.specs.MatchFieldWire.{spelling, number_at, match_field_of, fie
 use Rattle.of_oxm.specs.MatchGrammar.{spellings, AreFieldsAfter, Fields, match_len, padded, body_of, head_refusals, SpellsMatch}
 use Rattle.of_oxm.specs.MatchReading.{match_fields, then_normal, match_by, match_of}
 use Rattle.of_oxm.specs.NormalForm.{normal}
-use Rattle.of_oxm.specs.Prerequisites.{all_met}
+use Rattle.of_oxm.specs.Prerequisites.{prerequisites_met}
 use Rattle.of_oxm.proofs.Computed.{found_computed}
 use Rattle.of_oxm.proofs.MatchFieldLemmas.{NoneApplies, none_first, IsRead, field_takes}
 use Rattle.of_oxm.proofs.Whole.{whole_spelt}
@@ -67,7 +67,7 @@ pub match_found : (bytes : List ℕ) (m : List MatchField) (n : ℕ) → IsBytes
 unfolding match_of
 match_found bytes m n fits h = by_head (first_of (head_refusals bytes)) refl h
   where
-    by_met : (none : first_of (head_refusals bytes) ≡ None) (fields : List MatchField) → Fields [] (body_of bytes) fields None → (met : Bool) → all_met (normal fields) ≡ met
+    by_met : (none : first_of (head_refusals bytes) ≡ None) (fields : List MatchField) → Fields [] (body_of bytes) fields None → (met : Bool) → prerequisites_met (normal fields) ≡ met
         → cond {A = Result (List MatchField × ℕ) Code} met (Ok (normal fields, padded (match_len bytes))) (Err (record { kind = 4; code = 9 })) ≡ Ok (m, n) → SpellsMatch (take n bytes) m
     by_met none fields walk false met e = absurd cc
     by_met none fields walk true met e =
@@ -75,12 +75,12 @@ match_found bytes m n fits h = by_head (first_of (head_refusals bytes)) refl h
         let same = both.0 in
         let size = both.1 in
         subst (λ (k : ℕ). SpellsMatch (take k bytes) m) size
-        (whole_spelt bytes (body_of bytes) (match_len bytes) fields m fits none refl refl walk (sym same) (ap all_met (sym same) ∙ met))
+        (whole_spelt bytes (body_of bytes) (match_len bytes) fields m fits none refl refl walk (sym same) (ap prerequisites_met (sym same) ∙ met))
 
     by_fields : (none : first_of (head_refusals bytes) ≡ None) (r : Result (List MatchField) Code) → items_of match_fields (length (body_of bytes)) [] (body_of bytes) ≡ r → then_normal (padded (match_len bytes)) r ≡ Ok (m, n) → SpellsMatch (take n bytes) m
     by_fields none (Err code) is e = absurd cc
     by_fields none (Ok fields) is e =
-        by_met none fields (fields_found (body_of bytes) fields (IsBytes-take (match_len bytes - 4) (drop 4 bytes) (IsBytes-drop 4 bytes fits)) is) (all_met (normal fields)) refl e
+        by_met none fields (fields_found (body_of bytes) fields (IsBytes-take (match_len bytes - 4) (drop 4 bytes) (IsBytes-drop 4 bytes fits)) is) (prerequisites_met (normal fields)) refl e
 
     by_head : (o : Option Code) → first_of (head_refusals bytes) ≡ o → match_by bytes o ≡ Ok (m, n) → SpellsMatch (take n bytes) m
     by_head (Some code) none e = absurd cc

@@ -1,4 +1,4 @@
--- Laws of the grammar: one message, and no spelling in front of another.
+-- Laws of the grammar: one message, and no spelling that another begins with.
 use Rattle.std.proofs.Common.{◌≡◌, ◌≤◌, ℕ, List, [], ◌∷◌, ◌++◌, length, drop, Result, Ok, refl, sym, ap, ◌∙◌, arith}
 use Rattle.std.proofs.lemmas.List.{length-append, length-drop, drop-append-le}
 use Rattle.byteorder.specs.Endian.{big_number}
@@ -7,7 +7,7 @@ use Rattle.of_wire.specs.declared.code.Code.{Code}
 use Rattle.of_messages.specs.declared.message.Message.{Message}
 use Rattle.of_messages.specs.Heads.{header_length}
 use Rattle.of_grammar.specs.Grammar.{Spells}
-use Rattle.of_grammar.specs.Told.{Told, told_front, SpellsTold}
+use Rattle.of_grammar.specs.Told.{Told, switch_message_fixed_part, SpellsSwitchMessage}
 use Rattle.of_grammar.proofs.Heads.{said}
 use Rattle.of_grammar.proofs.Only.{only, xid_is}
 use Rattle.of_grammar.proofs.Places.{says, size_is}
@@ -34,19 +34,19 @@ no_front x y v w bytes more s t =
     let b = said (bytes ++ more) w (only y w (bytes ++ more) t) in
     ends_it bytes more a.head.long a.head.len b.head.len
 
--- the same of what a switch tells
+-- the same for what a switch sends
 record Sized (bytes : List ℕ) : Type 0 where
   long : 8 ≤ length bytes
   len : header_length bytes ≡ length bytes
 
-told_size : (x : ℕ) (t : Told) (bytes : List ℕ) → SpellsTold x t bytes → Sized bytes
+told_size : (x : ℕ) (t : Told) (bytes : List ℕ) → SpellsSwitchMessage x t bytes → Sized bytes
 told_size x t bytes s =
-    let cells = told_front t (length bytes) x in
+    let cells = switch_message_fixed_part t (length bytes) x in
     let y = says 0 cells bytes bytes s.tail refl s.front in
     let long = size_is cells bytes s.tail s.front in
     record { long = omega arith; len = y.1.1.0 }
 
-pub no_told_front : (x y : ℕ) (t u : Told) (bytes more : List ℕ) → SpellsTold x t bytes → SpellsTold y u (bytes ++ more) → more ≡ []
+pub no_told_front : (x y : ℕ) (t u : Told) (bytes more : List ℕ) → SpellsSwitchMessage x t bytes → SpellsSwitchMessage y u (bytes ++ more) → more ≡ []
 no_told_front x y t u bytes more s r =
     let a = told_size x t bytes s in
     let b = told_size y u (bytes ++ more) r in

@@ -1,4 +1,4 @@
--- No bytes spell two things that a switch tells: what is told can be read from its places.
+-- No bytes spell two messages of a switch: what is sent can be read from its places.
 use Rattle.std.proofs.Common.{◌≡◌, ℕ, ◌+◌, Bool, true, false, eqb, cond, List, [], ◌∷◌, ◌++◌, length, take, drop, None, Result, Ok, Err, refl, sym, ap, ◌∙◌, arith}
 use Rattle.std.specs.Prelude.{slice_index, ◌==◌, if◌then◌else◌}
 use Rattle.std.proofs.lemmas.Bool.{eqb-true}
@@ -24,12 +24,12 @@ use Rattle.of_messages.specs.declared.role.Role.{Role}
 use Rattle.of_messages.specs.declared.role.Role.TheVariants as role
 use Rattle.of_wire.specs.Reasons.{packet_in_number, flow_removed_number}
 use Rattle.of_grammar.specs.Cells.{pad}
-use Rattle.of_grammar.specs.Told.{Told, hello, error, echo_reply, features_reply, config_reply, packet_in, flow_removed, port_status, barrier_reply, role_reply, async_reply, told_type, told_cells, told_front, told_fields, MatchThenFrame, ToldTail, SpellsTold, port_reason, role_value}
+use Rattle.of_grammar.specs.Told.{Told, hello, error, echo_reply, features_reply, config_reply, packet_in, flow_removed, port_status, barrier_reply, role_reply, async_reply, switch_message_type, told_cells, switch_message_fixed_part, told_fields, MatchThenFrame, ToldTail, SpellsSwitchMessage, port_reason, role_value}
 use Rattle.of_grammar.proofs.MatchTails.{match_only}
 use Rattle.of_grammar.proofs.OnlySmall.{async_only}
 use Rattle.of_grammar.proofs.Places.{Says, says, size, rest_is}
 
--- ---- what stands in the places
+-- ---- what is in the places
 
 abbrev packet_reason_at : ℕ → PacketInReason
 packet_reason_at n = if n == 0 then NoMatch else if n == 1 then Action else InvalidTtl
@@ -93,7 +93,7 @@ told_at n m =
     else if n == 27 then async_reply (async_masks_of m)
     else barrier_reply
 
--- ---- and is what is told
+-- ---- and is what is sent
 
 packet_reason_again : (r : PacketInReason) → packet_reason_at (packet_in_number r) ≡ r
 packet_reason_again NoMatch = refl
@@ -136,7 +136,7 @@ metadata_again p = by_test (eqb p.metadata 0) refl
     by_test true is = sym (eqb-true p.metadata 0 is)
     by_test false is = refl
 
--- what stands behind the fields of a PACKET_IN
+-- what follows the fields of a PACKET_IN
 packet_again : (p : PacketIn) (frame m tail : List ℕ) → tail ≡ drop 24 m → Says 8 (told_cells (packet_in p frame)) m → MatchThenFrame p frame tail
     → packet_in (packet_at m (fields_in (match_of (drop 24 m)))) (drop 2 (drop (size_in (match_of (drop 24 m))) (drop 24 m))) ≡ packet_in p frame
 packet_again p frame m tail there y h =
@@ -161,7 +161,7 @@ port_again s p m y =
     let same : port_at m ≡ p = same_port p _ _ _ _ _ y.1.0 y.1.1.0 y.1.1.1.0 y.1.1.1.1.0 y.1.1.1.1.1.0 in
     ap (λ (r : PortStatusReason). port_status r (port_at m)) (ap port_reason_at y.0 ∙ port_reason_again s) ∙ ap (port_status s) same
 
-again : (t : Told) (m tail : List ℕ) → tail ≡ drop (8 + size (told_cells t)) m → Says 8 (told_cells t) m → ToldTail t tail → told_at (told_type t) m ≡ t
+again : (t : Told) (m tail : List ℕ) → tail ≡ drop (8 + size (told_cells t)) m → Says 8 (told_cells t) m → ToldTail t tail → told_at (switch_message_type t) m ≡ t
 again (hello bitmap) m tail there y h = ap hello y.1.1.0
 again (error code failed) m tail there y h = ap (λ (c : Code). error c (drop 12 m)) (same_code code _ _ y.0 y.1.0) ∙ ap (error code) (sym there ∙ h)
 again (echo_reply echoed) m tail there y h = ap echo_reply (sym there ∙ h)
@@ -178,17 +178,17 @@ record Tells (x : ℕ) (t : Told) (m : List ℕ) : Type 0 where
   xid : x ≡ xid_of m
   value : told_at (type_of m) m ≡ t
 
-tells : (x : ℕ) (t : Told) (m : List ℕ) → SpellsTold x t m → Tells x t m
+tells : (x : ℕ) (t : Told) (m : List ℕ) → SpellsSwitchMessage x t m → Tells x t m
 tells x t m s =
-    let cells = told_front t (length m) x in
+    let cells = switch_message_fixed_part t (length m) x in
     let y = says 0 cells m m s.tail refl s.front in
     let there : s.tail ≡ drop (8 + size (told_cells t)) m = rest_is cells m s.tail s.front ∙ ap (λ (n : ℕ). drop n m) (place t) in
     record { xid = sym y.1.1.1.0; value = ap (λ (n : ℕ). told_at n m) y.1.0 ∙ again t m s.tail there y.1.1.1.1 s.behind }
   where
-    place : (t : Told) → size (told_front t (length m) x) ≡ 8 + size (told_cells t)
+    place : (t : Told) → size (switch_message_fixed_part t (length m) x) ≡ 8 + size (told_cells t)
     place t = omega arith
 
-pub one_told : (x y : ℕ) (t u : Told) (bytes : List ℕ) → SpellsTold x t bytes → SpellsTold y u bytes → (x ≡ y) × (t ≡ u)
+pub one_told : (x y : ℕ) (t u : Told) (bytes : List ℕ) → SpellsSwitchMessage x t bytes → SpellsSwitchMessage y u bytes → (x ≡ y) × (t ≡ u)
 one_told x y t u bytes s r =
     let a = tells x t bytes s in
     let b = tells y u bytes r in

@@ -12,7 +12,7 @@ use Rattle.of_messages.specs.declared.role.RoleRequest.{RoleRequest}
 use Rattle.of_messages.specs.declared.role.RoleRequest.TheVariants.{NoChange, Equal, Master, Slave}
 use Rattle.of_messages.specs.Heads.{version_of, type_of, header_length, xid_of}
 use Rattle.of_messages.specs.Messages.{message_of, as_flow_mod, as_packet_out, as_group_mod, as_port_mod, as_table_mod, as_set_config, as_role_request, as_multipart}
-use Rattle.of_grammar.specs.Grammar.{MatchThenInstructions, front_cells, group_mod_cells, role_cells, IsValid, Spells, Tail}
+use Rattle.of_grammar.specs.Grammar.{MatchThenInstructions, fixed_part_cells, group_mod_cells, role_cells, IsValid, Spells, Tail}
 use Rattle.of_grammar.specs.Requests.{request_cells}
 use Rattle.of_grammar.proofs.Heads.{Kind, hello, error, echo_request, echo_reply, features_request, get_config_request, set_config, packet_out, flow_mod, group_mod, port_mod, table_mod, multipart, barrier_request, role_request, get_async_request, set_async, type_number, is_bad, is_short, needs_version, body_by, said_by}
 use Rattle.of_grammar.proofs.OnlyLarge.{tailed, packet_out_only, flow_mod_only, group_mod_only}
@@ -41,14 +41,14 @@ exact n k e = ap not (eq-eqb n k e)
 
 -- what a message says in its places, and how long it is
 record Placed (xid : ℕ) (v : Message) (m tail : List ℕ) : Type 0 where
-  places : Says 0 (front_cells v (length m) xid) m
-  long : length m ≡ size (front_cells v (length m) xid) + length tail
-  behind : tail ≡ drop (size (front_cells v (length m) xid)) m
+  places : Says 0 (fixed_part_cells v (length m) xid) m
+  long : length m ≡ size (fixed_part_cells v (length m) xid) + length tail
+  behind : tail ≡ drop (size (fixed_part_cells v (length m) xid)) m
 
 ended : (xs : List ℕ) → xs ≡ [] → length xs ≡ 0
 ended xs e = ap length e
 
--- what stands in front of the tail, where the fields go by cases
+-- what comes before the tail, where the fields go by cases
 group_size : (g : GroupMod) → size (group_mod_cells g) ≡ 8
 group_size (group.Add g) = refl
 group_size (group.Modify g) = refl
@@ -116,7 +116,7 @@ reads_as xid (IsGroupMod g) m tail p t valid =
     let y = p.places in
     let long = p.long in
     let places = group_size g in
-    let place : size (front_cells (IsGroupMod g) (length m) xid) ≡ 16 = omega arith in
+    let place : size (fixed_part_cells (IsGroupMod g) (length m) xid) ≡ 16 = omega arith in
     let behind : tail ≡ drop 16 m = p.behind ∙ ap (λ (n : ℕ). drop n m) place in
     of_kind group_mod m (omega arith) y.0 y.1.0 y.1.1.0 (le-ltb _ _ (omega arith)) refl ∙ ap as_group_mod (group_mod_only g m tail behind y.1.1.1.1 t valid)
 reads_as xid (IsPortMod port) m tail p t valid =
@@ -132,7 +132,7 @@ reads_as xid (IsTableMod table) m tail p t valid =
 reads_as xid (Multipart request) m tail p t valid =
     let y = p.places in
     let long = p.long in
-    let place : size (front_cells (Multipart request) (length m) xid) ≡ 8 + size (request_cells request) = omega arith in
+    let place : size (fixed_part_cells (Multipart request) (length m) xid) ≡ 8 + size (request_cells request) = omega arith in
     of_kind multipart m (omega arith) y.0 y.1.0 y.1.1.0 (le-ltb _ _ (omega arith)) refl
     ∙ ap as_multipart (request_only request m tail y.1.1.1.1 (omega arith) (p.behind ∙ ap (λ (n : ℕ). drop n m) place) t valid)
 reads_as xid BarrierRequest m tail p t valid =
@@ -161,11 +161,11 @@ reads_as xid (SetAsync masks) m tail p t valid =
 
 pub only : (xid : ℕ) (v : Message) (m : List ℕ) → Spells xid v m → message_of m ≡ Ok v
 only xid v m s =
-    let cells = front_cells v (length m) xid in
+    let cells = fixed_part_cells v (length m) xid in
     reads_as xid v m s.tail (record { places = says 0 cells m m s.tail refl s.front; long = size_is cells m s.tail s.front; behind = rest_is cells m s.tail s.front }) s.behind s.valid
 
--- the transaction id stands where it is looked for
-xid_placed : (xid : ℕ) (v : Message) (m : List ℕ) → Says 0 (front_cells v (length m) xid) m → xid_of m ≡ xid
+-- the transaction id is where it is looked for
+xid_placed : (xid : ℕ) (v : Message) (m : List ℕ) → Says 0 (fixed_part_cells v (length m) xid) m → xid_of m ≡ xid
 xid_placed xid Hello m y = y.1.1.0
 xid_placed xid Error m y = y.1.1.1.0
 xid_placed xid (EchoRequest echoed) m y = y.1.1.1.0
@@ -185,4 +185,4 @@ xid_placed xid GetAsyncRequest m y = y.1.1.1.0
 xid_placed xid (SetAsync masks) m y = y.1.1.1.0
 
 pub xid_is : (xid : ℕ) (v : Message) (m : List ℕ) → Spells xid v m → xid ≡ xid_of m
-xid_is xid v m s = let cells = front_cells v (length m) xid in sym (xid_placed xid v m (says 0 cells m m s.tail refl s.front))
+xid_is xid v m s = let cells = fixed_part_cells v (length m) xid in sym (xid_placed xid v m (says 0 cells m m s.tail refl s.front))

@@ -1,4 +1,4 @@
--- What stands in the places of a PACKET_OUT, a FLOW_MOD or a GROUP_MOD, and behind them, it says.
+-- What is in the places of a PACKET_OUT, a FLOW_MOD or a GROUP_MOD, and after them, it says.
 use Rattle.std.proofs.Common.{◌≡◌, ◌≤◌, ◌<◌, ◌+◌, ◌-◌, ℕ, Bool, true, false, not, eqb, ltb, cond, List, [], ◌∷◌, ◌++◌, length, take, drop, Option, Some, None, Ok, Err, refl, sym, ap, subst, ◌∙◌, arith, inl, inr}
 use Rattle.std.specs.Prelude.{slice_index, ◌&&◌, is_none}
 use Rattle.std.proofs.lemmas.Bool.{le-ltb}

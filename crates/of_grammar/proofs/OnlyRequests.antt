@@ -1,4 +1,4 @@
--- What stands in the places of a MULTIPART_REQUEST, and behind them, it says.
+-- What is in the places of a MULTIPART_REQUEST, and after them, it says.
 use Rattle.std.proofs.Common.{◌≡◌, ◌≤◌, ◌+◌, ◌%◌, ℕ, Bool, true, false, eqb, ltb, cond, List, ◌++◌, length, drop, Option, Some, None, Ok, Err, refl, sym, ap, ◌∙◌, arith}
 use Rattle.std.specs.Prelude.{slice_index}
 use Rattle.std.proofs.lemmas.Bool.{le-ltb, eq-eqb}

@@ -1,4 +1,4 @@
--- What stands in the places of a small message, it says.
+-- What is in the places of a small message, it says.
 use Rattle.std.proofs.Common.{◌≡◌, ◌≤◌, ◌<◌, ◌+◌, ℕ, suc, Bool, true, eqb, cond, List, [], ◌∷◌, length, take, drop, drop-cons, Some, Ok, Err, refl, sym, ap, ◌∙◌, arith, inl, inr}
 use Rattle.std.specs.Prelude.{slice_index, bit_and}
 use Rattle.std.proofs.lemmas.Bool.{eq-eqb}

@@ -1,4 +1,4 @@
--- Fields one behind the other, and the same by places; and what is written begins with its fields.
+-- Fields one after the other, and the same by places; and what is written begins with its fields.
 use Rattle.std.proofs.Common.{◌≡◌, ℕ, suc, ◌+◌, ◌%◌, ◌^◌, ◌<◌, ◌≤◌, List, [], ◌∷◌, length, get_or, take, drop, drop-cons, sym, ap, subst, ◌∙◌, arith}
 use Rattle.std.specs.Prelude.{slice_index}
 use Rattle.std.proofs.lemmas.List.{append-nil, length-drop, length-take-le, drop-drop, get_or-take, get_or-drop}
@@ -20,7 +20,7 @@ Says o (plain w xs ∷ cs) bytes = (take w (drop o bytes) ≡ xs) × Says (o + w
 Says o (pad w ∷ cs) bytes = Says (o + w) cs bytes
 Says o (even w ∷ cs) bytes = (big_number w (drop o bytes) % 2 ≡ 0) × Says (o + w) cs bytes
 
--- ---- from fields to what stands in their places
+-- ---- from fields to what is in their places
 
 number_read : (w n : ℕ) (bytes : List ℕ) → n < 256 ^ w → take w bytes ≡ big_bytes w n → big_number w bytes ≡ n
 number_read w n bytes lt h =
@@ -51,7 +51,7 @@ says o (pad w ∷ cs) whole bytes rest e h = says (o + w) cs whole (drop w bytes
 says o (even w ∷ cs) whole bytes rest e h =
     (ap (λ (x : List ℕ). big_number w x % 2) (sym e) ∙ ap (λ (n : ℕ). n % 2) (sym (even_read w bytes)) ∙ h.1, says (o + w) cs whole (drop w bytes) rest (next_place o w whole bytes e) h.2)
 
--- the rest stands behind the fields
+-- the rest follows the fields
 pub rest_is : (cs : List Cell) (bytes rest : List ℕ) → Begins cs bytes rest → rest ≡ drop (size cs) bytes
 rest_is [] bytes rest h = sym h
 rest_is (c ∷ cs) bytes rest h = rest_is cs (drop (width c) bytes) rest h.2 ∙ drop-drop (size cs) (width c) bytes
@@ -97,7 +97,7 @@ begins o (pad w ∷ cs) whole b long h =
 begins o (even w ∷ cs) whole b long h =
     (omega (arith, length-drop o whole), ap (λ (n : ℕ). n % 2) (even_read w (drop o whole)) ∙ h.0, next_begins o w cs whole (begins (o + w) cs whole b (omega arith) h.1))
 
--- the fields at the front of all the bytes
+-- the fields that all the bytes begin with
 pub front_of : (cs : List Cell) (whole : List ℕ) → IsBytes whole → size cs ≤ length whole → Says 0 cs whole → Begins cs whole (drop (size cs) whole)
 front_of cs whole b long h =
     let place : 0 + size cs ≡ size cs = omega arith in

@@ -9,7 +9,7 @@ use Rattle.of_oxm.proofs.Written.{canonical_short, canonical_spells}
 use Rattle.of_actions.specs.CanonicalActions.{canonical_actions}
 use Rattle.of_actions.specs.CanonicalInstructions.{canonical_instructions}
 use Rattle.of_actions.specs.InstructionLists.{are_for, are_kept}
-use Rattle.of_actions.specs.Served.{are_served}
+use Rattle.of_actions.specs.Supported.{are_supported}
 use Rattle.of_actions.proofs.ActionsAgain.{canonical_spelt, canonical_short as actions_short}
 use Rattle.of_actions.proofs.InstructionLengths.{instructions_short}
 use Rattle.of_actions.proofs.InstructionsAgain.{instructions_spelt}
@@ -17,8 +17,8 @@ use Rattle.of_groups.specs.Buckets.{are_fit, fresh, is_fit}
 use Rattle.of_groups.specs.declared.bucket.Bucket.{Bucket}
 use Rattle.of_groups.specs.declared.group.GroupKind.{GroupKind}
 use Rattle.of_groups.specs.declared.group.GroupKind.TheVariants.{All, Indirect, FastFailover}
-use Rattle.of_messages.specs.CanonicalGroups.{as_written, canonical_bucket, canonical_buckets, group_add_bytes, group_add_front, has_numbers, kind_number as number_of}
-use Rattle.of_messages.specs.Written.{command_number as number_of_command, flow_mod_bytes, flow_mod_front}
+use Rattle.of_messages.specs.CanonicalGroups.{as_written, canonical_bucket, canonical_buckets, group_add_bytes, group_add_fixed_part, has_numbers, kind_number as number_of}
+use Rattle.of_messages.specs.Written.{command_number as number_of_command, flow_mod_bytes, flow_mod_fixed_part}
 use Rattle.of_messages.specs.declared.group_mod.GroupMod.TheVariants as group
 use Rattle.of_messages.specs.declared.group_mod.NewGroup.{NewGroup}
 use Rattle.of_messages.specs.declared.message.FlowMod.{FlowMod}
@@ -40,12 +40,12 @@ command_same ModifyStrict = refl
 command_same Delete = refl
 command_same DeleteStrict = refl
 
-front_is : (m : FlowMod) (tail : List ℕ) → flow_mod_front m ++ tail ≡ spelling (flow_mod_cells m) ++ tail
-unfolding flow_mod_front
-front_is m tail = rw (command_same m.command) refl
+beginning_is : (m : FlowMod) (tail : List ℕ) → flow_mod_fixed_part m ++ tail ≡ spelling (flow_mod_cells m) ++ tail
+unfolding flow_mod_fixed_part
+beginning_is m tail = rw (command_same m.command) refl
 
-length-front : (m : FlowMod) (tail : List ℕ) → length (flow_mod_front m ++ tail) ≡ 40 + length tail
-unfolding flow_mod_front
+length-front : (m : FlowMod) (tail : List ℕ) → length (flow_mod_fixed_part m ++ tail) ≡ 40 + length tail
+unfolding flow_mod_fixed_part
 length-front m tail = omega arith
 
 -- the two DELETE commands have none
@@ -63,7 +63,7 @@ flow_mod_spelt xid m x fits valid match kept fit none =
     let short : length tail ≤ 4256 = omega (arith, length-append (canonical m.fields) (canonical_instructions m.instructions), canonical_short m.fields match.rising, instructions_short m.instructions kept) in
     record {
       tail = tail;
-      front = fronted 14 xid (flow_mod_cells m) (flow_mod_front m ++ tail) tail (front_is m tail) (omega arith) x fits (omega (arith, length-front m tail));
+      front = fronted 14 xid (flow_mod_cells m) (flow_mod_fixed_part m ++ tail) tail (beginning_is m tail) (omega arith) x fits (omega (arith, length-front m tail));
       behind = record {
         fields = canonical m.fields;
         instructions = canonical_instructions m.instructions;
@@ -94,7 +94,7 @@ buckets_spelt [] numbers fit = refl
 buckets_spelt (b ∷ bs) numbers fit =
     let this : has_numbers b ≡ true = grind (arith, nat_tests) in
     let others : list_all has_numbers bs ≡ true = grind (arith, nat_tests) in
-    let served : are_served false b.actions ≡ true = grind (arith, nat_tests) in
+    let served : are_supported false b.actions ≡ true = grind (arith, nat_tests) in
     let fit_others : list_all is_fit bs ≡ true = grind (arith, nat_tests) in
     let rest = canonical_buckets bs in
     let text = canonical_actions b.actions in
@@ -118,12 +118,12 @@ kind_same All = refl
 kind_same Indirect = refl
 kind_same FastFailover = refl
 
-group_front : (g : NewGroup) (tail : List ℕ) → group_add_front g ++ tail ≡ spelling (group_cells 0 (as_written g)) ++ tail
-unfolding group_add_front
-group_front g tail = rw (kind_same g.kind) refl
+group_fixed_part : (g : NewGroup) (tail : List ℕ) → group_add_fixed_part g ++ tail ≡ spelling (group_cells 0 (as_written g)) ++ tail
+unfolding group_add_fixed_part
+group_fixed_part g tail = rw (kind_same g.kind) refl
 
-length-group : (g : NewGroup) (tail : List ℕ) → length (group_add_front g ++ tail) ≡ 8 + length tail
-unfolding group_add_front
+length-group : (g : NewGroup) (tail : List ℕ) → length (group_add_fixed_part g ++ tail) ≡ 8 + length tail
+unfolding group_add_fixed_part
 length-group g tail = omega arith
 
 pub kind_fits : (k : GroupKind) → kind_number k < 256
@@ -140,7 +140,7 @@ group_add_spelt xid g x most numbers fit =
     let fits : Fits (group_cells 0 (as_written g)) = (omega arith, (kind_fits g.kind, (omega arith, tt))) in
     record {
       tail = tail;
-      front = fronted 15 xid (group_cells 0 (as_written g)) (group_add_front g ++ tail) tail (group_front g tail) (omega arith) x fits (omega (arith, length-group g tail));
+      front = fronted 15 xid (group_cells 0 (as_written g)) (group_add_fixed_part g ++ tail) tail (group_fixed_part g tail) (omega arith) x fits (omega (arith, length-group g tail));
       behind = buckets_spelt g.buckets numbers all;
       valid = (most, omega (arith, length-map g.buckets fresh));
     }

@@ -16,11 +16,11 @@ action_type (SetNwTtl ttl) = 23
 action_type DecNwTtl = 24
 action_type (SetField f value) = 25
 
--- those that there are
+-- all of them
 abbrev pub action_types : List ℕ
 action_types = 0 ∷ 17 ∷ 18 ∷ 22 ∷ 23 ∷ 24 ∷ 25 ∷ []
 
--- behind the type the length of the action, what it says, and padding; a SET_FIELD says an OXM field of class 0x8000 that has no mask (7.2.3.2)
+-- after the type the length of the action, its values, and padding; a SET_FIELD has an OXM field of class 0x8000 without a mask (7.2.3.2)
 abbrev pub said_cells : Action → List Cell
 said_cells (Output port max_len) = u16 16 ∷ u32 port ∷ u16 max_len ∷ pad 6 ∷ []
 said_cells (PushVlan type) = u16 8 ∷ u16 type ∷ pad 2 ∷ []
@@ -34,7 +34,7 @@ said_cells (SetField f value) =
 abbrev pub action_cells : Action → List Cell
 action_cells a = u16 (action_type a) ∷ said_cells a
 
--- bytes are the structs of these actions, one behind the other, whatever their padding is
+-- bytes are the structs of these actions, one after the other, whatever their padding is
 abbrev pub AreStructs : List Action → List ℕ → Type 0
 AreStructs [] bytes = bytes ≡ []
 AreStructs (a ∷ actions) bytes = (rest : List ℕ) × Begins (action_cells a) bytes rest × AreStructs actions rest

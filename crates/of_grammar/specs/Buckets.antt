@@ -4,11 +4,11 @@ use Rattle.of_actions.specs.Actions.{AreActions}
 use Rattle.of_groups.specs.declared.bucket.Bucket.{Bucket}
 use Rattle.of_grammar.specs.Cells.{Cell, u16, u32, pad, Begins}
 
--- the length of the whole bucket, and what it depends on
+-- the length of the whole bucket, its weight, and what it watches
 abbrev pub bucket_cells : ℕ → Bucket → List Cell
 bucket_cells size b = u16 size ∷ u16 b.weight ∷ u32 b.watch_port ∷ u32 b.watch_group ∷ pad 4 ∷ []
 
--- in front of the bytes stands the bucket, its fields and its actions, and behind it the rest; no packet has used it yet, and its length is a multiple of 8 (else OFPGMFC_BAD_BUCKET)
+-- the bytes begin with the bucket, its fields and its actions, and then comes the rest; its counters are 0, and its length is a multiple of 8 (else OFPGMFC_BAD_BUCKET)
 pub record IsBucket (b : Bucket) (bytes rest : List ℕ) : Type 0 where
   pub actions : List ℕ
   pub front : Begins (bucket_cells (16 + length actions) b) bytes (actions ++ rest)
@@ -17,7 +17,7 @@ pub record IsBucket (b : Bucket) (bytes rest : List ℕ) : Type 0 where
   pub packets : b.packets ≡ 0
   pub bytes_used : b.bytes ≡ 0
 
--- bytes are these buckets, one behind the other
+-- bytes are these buckets, one after the other
 abbrev pub AreBuckets : List Bucket → List ℕ → Type 0
 AreBuckets [] bytes = bytes ≡ []
 AreBuckets (b ∷ bs) bytes = (rest : List ℕ) × IsBucket b bytes rest × AreBuckets bs rest

@@ -1,8 +1,8 @@
--- The structs of the standard: fields of so many bytes, one behind the other, the high byte of a number first (OpenFlow 1.3.5, 7).
+-- The structs of the standard: fields of given sizes, one after the other, numbers in big-endian order (OpenFlow 1.3.5, 7).
 use Rattle.std.specs.Prelude.{◌≡◌, ◌≤◌, ◌<◌, ℕ, ◌%◌, ◌^◌, List, [], ◌∷◌, length, take, drop}
 use Rattle.byteorder.specs.Endian.{big_number, big_bytes}
 
--- A field: a number of one byte, a number of so many bytes, so many bytes as they are; padding of so many bytes, which may be any; and flags of so many bytes, of which the lowest is not set and the others are not looked at.
+-- A field: a number of one byte; a number of n bytes; n bytes as they are; n bytes of padding, which may be any; and n bytes of flags, of which the lowest is not set and the others are ignored.
 pub data Cell : Type 0 where
   byte : ℕ → Cell
   number : ℕ → ℕ → Cell
@@ -34,12 +34,12 @@ IsCell (plain w xs) bytes = (length xs ≡ w) × (bytes ≡ xs)
 IsCell (pad w) bytes = Unit {0}
 IsCell (even w) bytes = big_number w bytes % 2 ≡ 0
 
--- in front of the bytes stand these fields, one behind the other, and behind them the rest
+-- the bytes begin with these fields, one after the other, and then comes the rest
 abbrev pub Begins : List Cell → List ℕ → List ℕ → Type 0
 Begins [] bytes rest = bytes ≡ rest
 Begins (c ∷ cs) bytes rest = (width c ≤ length bytes) × IsCell c (take (width c) bytes) × Begins cs (drop (width c) bytes) rest
 
--- each number is below what its bytes can say, and bytes that stand as they are have their width
+-- each number fits its bytes, and bytes that are given as they are have their width
 abbrev pub Fits : List Cell → Type 0
 Fits [] = Unit {0}
 Fits (byte n ∷ cs) = (n < 256) × Fits cs

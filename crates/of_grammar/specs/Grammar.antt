@@ -79,12 +79,12 @@ abbrev pub buffer_of : PacketData → ℕ
 buffer_of (Buffered number) = number
 buffer_of (Frame frame) = no_buffer
 
--- behind the actions stands the frame; of a packet that is buffered nothing is looked at
+-- the frame follows the actions; for a buffered packet what follows is ignored
 abbrev pub IsData : PacketData → List ℕ → Type 0
 IsData (Buffered number) bytes = ⊤
 IsData (Frame frame) bytes = bytes ≡ frame
 
--- behind the ingress port: how many bytes the actions have, padding, the actions, and the packet
+-- after the ingress port: how many bytes the actions have, padding, the actions, and the packet
 pub record ActionsThenData (m : PacketOut) (tail : List ℕ) : Type 0 where
   pub actions : List ℕ
   pub packet : List ℕ
@@ -92,7 +92,7 @@ pub record ActionsThenData (m : PacketOut) (tail : List ℕ) : Type 0 where
   pub are : AreActions true [] actions m.actions None
   pub is : IsData m.packet packet
 
--- OFPBRC_BAD_PACKET of a frame that is shorter than 14 bytes or longer than 9,216
+-- OFPBRC_BAD_PACKET for a frame that is shorter than 14 bytes or longer than 9,216
 abbrev pub IsValidData : PacketData → Type 0
 IsValidData (Buffered number) = ¬ (number ≡ no_buffer)
 IsValidData (Frame frame) = (14 ≤ length frame) × (length frame ≤ 9216)
@@ -126,7 +126,7 @@ deletes ModifyStrict = false
 deletes Delete = true
 deletes DeleteStrict = true
 
--- the two DELETE commands have no instructions, whatever stands there
+-- the two DELETE commands have no instructions, whatever follows
 abbrev pub HasInstructions : FlowMod → Bool → List ℕ → Type 0
 HasInstructions m false bytes = SpellsInstructions m.table bytes m.instructions
 HasInstructions m true bytes = m.instructions ≡ []
@@ -139,12 +139,12 @@ pub record MatchThenInstructions (m : FlowMod) (tail : List ℕ) : Type 0 where
   pub spelt : SpellsMatch fields m.fields
   pub are : HasInstructions m (deletes m.command) instructions
 
--- OFPFMFC_BAD_TABLE_ID: a table, 0 to 15, or OFPTT_ALL of the two DELETE commands
+-- OFPFMFC_BAD_TABLE_ID: a table, 0 to 15, or OFPTT_ALL for the two DELETE commands
 abbrev pub MayName : Bool → ℕ → Type 0
 MayName false table = table < 16
 MayName true table = NamesTable table
 
--- OFPFMFC_BAD_FLAGS of a flag beyond the five, and OFPBAC_MATCH_INCONSISTENT where a field is set that the match does not ask for
+-- OFPFMFC_BAD_FLAGS for a flag beyond the five, and OFPBAC_MATCH_INCONSISTENT where a set-field action lacks its prerequisites in the match
 pub record IsValidFlowMod (m : FlowMod) : Type 0 where
   pub table : MayName (deletes m.command) m.table
   pub flags : m.flags < 32
@@ -161,7 +161,7 @@ kind_number FastFailover = 3
 abbrev pub group_cells : ℕ → NewGroup → List Cell
 group_cells command g = u16 command ∷ byte (kind_number g.kind) ∷ pad 1 ∷ u32 g.id ∷ []
 
--- OFPGC_*; of a DELETE the type and the buckets are not looked at
+-- OFPGC_*; of a DELETE the type and the buckets are ignored
 abbrev pub group_mod_cells : GroupMod → List Cell
 group_mod_cells (group.Add g) = group_cells 0 g
 group_mod_cells (group.Modify g) = group_cells 1 g
@@ -172,7 +172,7 @@ GroupTail (group.Add g) tail = AreBuckets g.buckets tail
 GroupTail (group.Modify g) tail = AreBuckets g.buckets tail
 GroupTail (group.Delete which) tail = ⊤
 
--- up to OFPG_MAX, else OFPGMFC_INVALID_GROUP; and OFPGMFC_OUT_OF_BUCKETS of more than 16 buckets
+-- up to OFPG_MAX, else OFPGMFC_INVALID_GROUP; and OFPGMFC_OUT_OF_BUCKETS for more than 16 buckets
 abbrev pub IsValidGroup : NewGroup → Type 0
 IsValidGroup g = (g.id ≤ 0xffffff00) × (length g.buckets ≤ 16)
 
@@ -187,7 +187,7 @@ IsValidGroupMod (group.Delete which) = IsValidNumber which
 
 -- ROLE_REQUEST (7.3.9, struct ofp_role_request)
 
--- OFPCR_ROLE_*, padding, and the generation, which of a MASTER and of a SLAVE is looked at
+-- OFPCR_ROLE_*, padding, and the generation_id, which counts for a MASTER and a SLAVE alone
 abbrev pub role_cells : RoleRequest → List Cell
 role_cells NoChange = u32 0 ∷ pad 4 ∷ pad 8 ∷ []
 role_cells Equal = u32 1 ∷ pad 4 ∷ pad 8 ∷ []
@@ -200,7 +200,7 @@ masks_cells masks = u32 masks.master ∷ u32 masks.slave ∷ []
 
 -- EACH MESSAGE
 
--- Its fields behind the header: struct ofp_error_msg (7.4.4), whose type and code are not looked at, ofp_switch_config (7.3.2), whose flags are 0 (OFPSCFC_BAD_FLAGS), ofp_port_mod (7.3.4.3), ofp_table_mod (7.3.3), and those above.
+-- Its fields after the header: struct ofp_error_msg (7.4.4), whose type and code are ignored, ofp_switch_config (7.3.2), whose flags are 0 (OFPSCFC_BAD_FLAGS), ofp_port_mod (7.3.4.3), ofp_table_mod (7.3.3), and those above.
 abbrev pub cells : Message → List Cell
 cells Hello = []
 cells Error = pad 2 ∷ pad 2 ∷ []
@@ -220,7 +220,7 @@ cells (IsRoleRequest request) = role_cells request
 cells GetAsyncRequest = []
 cells (SetAsync masks) = masks_cells masks.packet_in ++ (masks_cells masks.port_status ++ masks_cells masks.flow_removed)
 
--- What stands behind these: nothing, data, or what is not looked at (elements of a HELLO, data of an ERROR and of an ECHO_REPLY).
+-- What follows these: nothing, data, or what is ignored (elements of a HELLO, data of an ERROR and of an ECHO_REPLY).
 abbrev pub Tail : Message → List ℕ → Type 0
 Tail Hello tail = ⊤
 Tail Error tail = ⊤
@@ -240,7 +240,7 @@ Tail (IsRoleRequest request) tail = tail ≡ []
 Tail GetAsyncRequest tail = tail ≡ []
 Tail (SetAsync masks) tail = tail ≡ []
 
--- Numbers that fit their bytes, but that no message may have: OFPPMFC_BAD_CONFIG of a mask beyond OFPPC_PORT_DOWN, NO_RECV, NO_FWD and NO_PACKET_IN (1, 4, 32 and 64), OFPTMFC_BAD_TABLE, and those above.
+-- Numbers that fit their bytes, but that no message may have: OFPPMFC_BAD_CONFIG for a mask beyond OFPPC_PORT_DOWN, NO_RECV, NO_FWD and NO_PACKET_IN (1, 4, 32 and 64), OFPTMFC_BAD_TABLE, and those above.
 abbrev pub IsValid : Message → Type 0
 IsValid Hello = ⊤
 IsValid Error = ⊤
@@ -261,13 +261,13 @@ IsValid GetAsyncRequest = ⊤
 IsValid (SetAsync masks) = ⊤
 
 -- version, type, length of the message, transaction id, and the fields of the message
-abbrev pub front_cells : Message → ℕ → ℕ → List Cell
-front_cells m size xid = version m ∷ byte (type m) ∷ u16 size ∷ u32 xid ∷ cells m
+abbrev pub fixed_part_cells : Message → ℕ → ℕ → List Cell
+fixed_part_cells m size xid = version m ∷ byte (type m) ∷ u16 size ∷ u32 xid ∷ cells m
 
 -- these bytes, all of them, spell the message with this transaction id
 pub record Spells (xid : ℕ) (m : Message) (bytes : List ℕ) : Type 0 where
   pub tail : List ℕ
-  pub front : Begins (front_cells m (length bytes) xid) bytes tail
+  pub front : Begins (fixed_part_cells m (length bytes) xid) bytes tail
   pub behind : Tail m tail
   pub valid : IsValid m
 

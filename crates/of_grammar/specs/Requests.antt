@@ -30,7 +30,7 @@ abbrev pub or_all : ℕ → Option ℕ → ℕ
 or_all all None = all
 or_all all (Some number) = number
 
--- struct ofp_flow_stats_request and ofp_aggregate_stats_request, in front of the match (7.3.5.2 and 7.3.5.3)
+-- struct ofp_flow_stats_request and ofp_aggregate_stats_request, before the match (7.3.5.2 and 7.3.5.3)
 abbrev pub flows_cells : FlowStatsRequest → List Cell
 flows_cells r = byte r.table ∷ pad 3 ∷ u32 r.out_port ∷ u32 r.out_group ∷ pad 4 ∷ u64 r.cookie ∷ u64 r.cookie_mask ∷ []
 
@@ -50,7 +50,7 @@ body_cells PortDescription = []
 abbrev pub request_cells : MultipartRequest → List Cell
 request_cells r = u16 (request_type r) ∷ even 2 ∷ pad 4 ∷ body_cells r
 
--- the match, and what stands behind it, which is not looked at
+-- the match, and what follows it, which is ignored
 pub record BeginsMatch (fields : List MatchField) (bytes : List ℕ) : Type 0 where
   pub front : List ℕ
   pub rest : List ℕ

@@ -1,4 +1,4 @@
--- WHAT A SWITCH TELLS: which bytes spell which message of this switch (OpenFlow 1.3.5, 7), but for the replies to multipart requests (of_reply_grammar).
+-- WHAT A SWITCH SENDS: which bytes spell which message of this switch (OpenFlow 1.3.5, 7), but for the replies to multipart requests (of_reply_grammar).
 use Rattle.std.specs.Prelude.{◌≡◌, ◌==◌, ℕ, if◌then◌else◌, List, [], ◌∷◌, ◌++◌, length, None}
 use Rattle.of_wire.specs.declared.code.Code.{Code}
 use Rattle.of_wire.specs.Reasons.{packet_in_number, flow_removed_number}
@@ -32,18 +32,18 @@ pub data Told : Type 0 where
   async_reply : AsyncMasks → Told
 
 -- OFPT_*
-abbrev pub told_type : Told → ℕ
-told_type (hello bitmap) = 0
-told_type (error code failed) = 1
-told_type (echo_reply echoed) = 3
-told_type (features_reply dpid) = 6
-told_type (config_reply config) = 8
-told_type (packet_in p frame) = 10
-told_type (flow_removed r fields) = 11
-told_type (port_status reason port) = 12
-told_type barrier_reply = 21
-told_type (role_reply role generation) = 25
-told_type (async_reply masks) = 27
+abbrev pub switch_message_type : Told → ℕ
+switch_message_type (hello bitmap) = 0
+switch_message_type (error code failed) = 1
+switch_message_type (echo_reply echoed) = 3
+switch_message_type (features_reply dpid) = 6
+switch_message_type (config_reply config) = 8
+switch_message_type (packet_in p frame) = 10
+switch_message_type (flow_removed r fields) = 11
+switch_message_type (port_status reason port) = 12
+switch_message_type barrier_reply = 21
+switch_message_type (role_reply role generation) = 25
+switch_message_type (async_reply masks) = 27
 
 -- OFPPR_* (7.4.3), OFPCR_ROLE_* (7.3.9)
 abbrev pub port_reason : PortStatusReason → ℕ
@@ -60,11 +60,11 @@ role_value role.Slave = 3
 abbrev pub features_cells : ℕ → List Cell
 features_cells dpid = u64 dpid ∷ u32 0 ∷ byte 16 ∷ byte 0 ∷ pad 2 ∷ u32 15 ∷ pad 4 ∷ []
 
--- struct ofp_packet_in (7.4.1), in front of the match: the frame is not buffered, and is told whole
+-- struct ofp_packet_in (7.4.1), before the match: the frame is not buffered, and is sent whole
 abbrev pub packet_in_cells : PacketIn → List ℕ → List Cell
 packet_in_cells p frame = u32 no_buffer ∷ u16 (length frame) ∷ byte (packet_in_number p.reason) ∷ byte p.table ∷ u64 p.cookie ∷ []
 
--- struct ofp_flow_removed (7.4.2), in front of the match
+-- struct ofp_flow_removed (7.4.2), before the match
 abbrev pub removed_cells : FlowRemoved → List Cell
 removed_cells r =
     u64 r.cookie ∷ u16 r.priority ∷ byte (flow_removed_number r.reason) ∷ byte r.table ∷ u32 r.duration_sec ∷ u32 r.duration_nsec
@@ -76,7 +76,7 @@ port_cells p =
     u32 p.number ∷ pad 4 ∷ plain 6 p.hw ∷ pad 2 ∷ plain 16 p.name ∷ u32 p.config ∷ u32 p.state
     ∷ u32 0 ∷ u32 0 ∷ u32 0 ∷ u32 0 ∷ u32 0 ∷ u32 0 ∷ []
 
--- the fields behind the header; of a HELLO one element, OFPHET_VERSIONBITMAP, of 8 bytes (7.5.1)
+-- the fields after the header; of a HELLO one element, OFPHET_VERSIONBITMAP, of 8 bytes (7.5.1)
 abbrev pub told_cells : Told → List Cell
 told_cells (hello bitmap) = u16 1 ∷ u16 8 ∷ u32 bitmap ∷ []
 told_cells (error code failed) = u16 code.kind ∷ u16 code.code ∷ []
@@ -90,7 +90,7 @@ told_cells barrier_reply = []
 told_cells (role_reply role generation) = u32 (role_value role) ∷ pad 4 ∷ u64 generation ∷ []
 told_cells (async_reply masks) = masks_cells masks.packet_in ++ (masks_cells masks.port_status ++ masks_cells masks.flow_removed)
 
--- a PACKET_IN tells the ingress port, and the metadata where it is not 0
+-- the match of a PACKET_IN: the ingress port, and the metadata where it is not 0
 abbrev pub told_fields : PacketIn → List MatchField
 told_fields p =
     record { field = InPort; value = p.in_port; mask = None }
@@ -117,11 +117,11 @@ ToldTail barrier_reply tail = tail ≡ []
 ToldTail (role_reply role generation) tail = tail ≡ []
 ToldTail (async_reply masks) tail = tail ≡ []
 
-abbrev pub told_front : Told → ℕ → ℕ → List Cell
-told_front t size xid = byte 4 ∷ byte (told_type t) ∷ u16 size ∷ u32 xid ∷ told_cells t
+abbrev pub switch_message_fixed_part : Told → ℕ → ℕ → List Cell
+switch_message_fixed_part t size xid = byte 4 ∷ byte (switch_message_type t) ∷ u16 size ∷ u32 xid ∷ told_cells t
 
--- these bytes, all of them, spell what is told with this transaction id
-pub record SpellsTold (xid : ℕ) (t : Told) (bytes : List ℕ) : Type 0 where
+-- these bytes, all of them, spell this message with this transaction id
+pub record SpellsSwitchMessage (xid : ℕ) (t : Told) (bytes : List ℕ) : Type 0 where
   pub tail : List ℕ
-  pub front : Begins (told_front t (length bytes) xid) bytes tail
+  pub front : Begins (switch_message_fixed_part t (length bytes) xid) bytes tail
   pub behind : ToldTail t tail

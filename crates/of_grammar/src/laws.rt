@@ -4,19 +4,19 @@ ghost use Rattle.std.specs.List.{All, list_any};
 ghost use Rattle.of_wire.specs.declared.code.Code.{Code};
 ghost use Rattle.of_wire.specs.Refusals.{refusal};
 ghost use Rattle.of_actions.specs.Actions.{AreActions};
-ghost use Rattle.of_actions.specs.Served.{are_served};
+ghost use Rattle.of_actions.specs.Supported.{are_supported};
 ghost use Rattle.of_actions.specs.declared.action.Action.{Action};
 ghost use Rattle.of_messages.specs.Messages.{message_from, message_of, xid_of};
 ghost use Rattle.of_messages.specs.declared.message.Message.{Message};
 ghost use Rattle.of_messages.specs.declared.role.Role.TheVariants.{Slave};
 ghost use Rattle.of_grammar.specs.ActionStructs.{action_type, action_types, AreStructs};
 ghost use Rattle.of_grammar.specs.Grammar.{changes, MaySend, Spells};
-ghost use Rattle.of_grammar.specs.Told.{SpellsTold, Told};
+ghost use Rattle.of_grammar.specs.Told.{SpellsSwitchMessage, Told};
 
 use of_messages::Role;
 
-/// What `of_messages::read_message` answers for bytes is the message that they spell, and it answers a message for all bytes
-/// that spell one (OpenFlow 1.3.5, 7), whatever kind of message it is. For others it answers the first code of the written
+/// What `of_messages::read_message` returns for bytes is the message that they spell, and it returns a message for all bytes
+/// that spell one (OpenFlow 1.3.5, 7), whatever type of message it is. For others it returns the first code of the written
 /// order.
 pub fn read_exactly(bytes: &[u8])
     ensures found { (m : Message) → message_of bytes.now ≡ Ok m → Spells (xid_of bytes.now) m bytes.now }
@@ -24,7 +24,7 @@ pub fn read_exactly(bytes: &[u8])
     ensures other { ((xid : ℕ) (m : Message) → ¬ Spells xid m bytes.now) → (code : Code) × (message_of bytes.now ≡ Err code) }
 {}
 
-/// The same of a controller's role, as `of_messages::read_message_as` answers it: what is read is spelt, and its sender may
+/// The same for a controller's role, as `of_messages::read_message_as` returns it: what is read is spelt, and its sender may
 /// send it; what is spelt and may be sent is read; and what is spelt and a slave may not send is refused as that, OFPBRC_IS_SLAVE
 /// (OpenFlow 1.3.5, 6.3.4).
 pub fn read_as_exactly(role: Role, bytes: &[u8])
@@ -33,26 +33,26 @@ pub fn read_as_exactly(role: Role, bytes: &[u8])
     ensures slave { (xid : ℕ) (m : Message) → Spells xid m bytes.now → changes m ≡ true → message_from Slave bytes.now ≡ Err (refusal 1 10) }
 {}
 
-/// No bytes spell two messages of a controller, or tell two things, or have two transaction ids.
+/// No bytes spell two messages of a controller or of this switch, or have two transaction ids.
 pub fn one_message()
     ensures message { (x y : ℕ) (v w : Message) (bytes : List ℕ) → Spells x v bytes → Spells y w bytes → (x ≡ y) × (v ≡ w) }
-    ensures told { (x y : ℕ) (t u : Told) (bytes : List ℕ) → SpellsTold x t bytes → SpellsTold y u bytes → (x ≡ y) × (t ≡ u) }
+    ensures told { (x y : ℕ) (t u : Told) (bytes : List ℕ) → SpellsSwitchMessage x t bytes → SpellsSwitchMessage y u bytes → (x ≡ y) × (t ≡ u) }
 {}
 
-/// No spelling begins another one's, of messages of a controller or of what this switch tells.
+/// No spelling begins another one's, of messages of a controller or of this switch.
 pub fn no_spelling_begins_another()
     ensures message { (x y : ℕ) (v w : Message) (bytes more : List ℕ) → Spells x v bytes → Spells y w (bytes ++ more) → more ≡ [] }
-    ensures told { (x y : ℕ) (t u : Told) (bytes more : List ℕ) → SpellsTold x t bytes → SpellsTold y u (bytes ++ more) → more ≡ [] }
+    ensures told { (x y : ℕ) (t u : Told) (bytes more : List ℕ) → SpellsSwitchMessage x t bytes → SpellsSwitchMessage y u (bytes ++ more) → more ≡ [] }
 {}
 
 /// Bytes are read as these actions, in a PACKET_OUT or in an instruction, exactly where they are the actions' structs and the
 /// actions may be sent (OpenFlow 1.3.5, 7.2.5): so what is accepted differs from what is written in padding alone.
 pub fn actions_are_structs(packet_out: bool, bytes: &[u8])
-    ensures found { (actions : List Action) → AreActions packet_out [] bytes.now actions None → AreStructs actions bytes.now × (are_served packet_out actions ≡ true) }
-    ensures only { (actions : List Action) → AreStructs actions bytes.now → are_served packet_out actions ≡ true → AreActions packet_out [] bytes.now actions None }
+    ensures found { (actions : List Action) → AreActions packet_out [] bytes.now actions None → AreStructs actions bytes.now × (are_supported packet_out actions ≡ true) }
+    ensures only { (actions : List Action) → AreStructs actions bytes.now → are_supported packet_out actions ≡ true → AreActions packet_out [] bytes.now actions None }
 {}
 
-/// `action_types` lists the type of each action, and no other (OpenFlow 1.3.5, 7.2.5): those that GROUP_FEATURES tells.
+/// `action_types` lists the type of each action, and no other (OpenFlow 1.3.5, 7.2.5): those that GROUP_FEATURES reports.
 pub fn action_types_are_all()
     ensures listed { (a : Action) → list_any (λ n. n == action_type a) action_types ≡ true }
     ensures only { All (λ n. (a : Action) × (action_type a ≡ n)) action_types }

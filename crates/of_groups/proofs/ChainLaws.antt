@@ -7,7 +7,7 @@ use Rattle.of_groups.specs.Chains.{names_next, is_chain, AreShort, leads, chain,
 use Rattle.of_groups.proofs.NameLemmas.{named_number, any_passing}
 use Rattle.of_groups.proofs.ChainLemmas.{there_found, on_found, chain_leads, leads_three, long_leads, leads_there, any_there}
 
--- a chain with so many groups behind its first
+-- a chain with this many groups after its first
 abbrev pub Behind : List Group → ℕ → ℕ → Type 0
 Behind groups k n = (behind : List ℕ) × (is_chain groups n behind ≡ true) × (length behind ≡ k)
 
@@ -60,7 +60,7 @@ unfolding count
 at_least_4 true b2 b1 b0 e = omega arith
 at_least_4 false b2 b1 b0 e = absurd (cc)
 
--- where so many are led to, the chain has one more
+-- where this many can be reached, the chain has one more
 pub led_counts : (groups : List Group) (k n : ℕ) → k ≤ 3 → leads groups k n ≡ true → suc k ≤ chain groups n
 led_counts groups zero n le h = rw (chain_is groups n) (at_least_1 (leads groups 3 n) (leads groups 2 n) (leads groups 1 n) (leads groups 0 n) h)
 led_counts groups (suc zero) n le h = rw (chain_is groups n) (at_least_2 (leads groups 3 n) (leads groups 2 n) (leads groups 1 n) (leads groups 0 n) h)

@@ -39,7 +39,7 @@ module _ (port : ℕ → Bool) (q one other : ℕ → Bool) (agree : (m : ℕ) �
   kind_same Indirect buckets h = refl
   kind_same FastFailover buckets h = any_same buckets h
 
--- where a chain has no more groups, no more need to be looked at
+-- where a chain has no more groups, no more need to be checked
 within_more : (groups : List Group) (port : ℕ → Bool) (k n : ℕ) → leads groups k n ≡ false → is_live_within groups port k n ≡ is_live_within groups port (suc k) n
 unfolding leads is_live_within
 within_more groups port zero n h = by_found (find_group n groups) (sym (there_found n groups) ∙ h)

@@ -1,4 +1,4 @@
--- Marks of the groups behind which so many more stand.
+-- Marks of the groups after which so many more come.
 use Rattle.std.proofs.Common.{◌≡◌, ℕ, zero, suc, Bool, true, false, cond, eqb, List, [], ◌∷◌, Option, Some, None, refl, sym, ap, ◌∙◌, arith}
 use Rattle.std.specs.Prelude.{map}
 use Rattle.std.specs.Option.{option_map_or}
@@ -31,7 +31,7 @@ found_leads groups k n = by_found (find_group n groups) refl
     by_found None e = none_leads groups k n e
     by_found (Some g) e = ap (leads groups k) (found_number n groups g e)
 
--- the marks tell of each number whether so many stand behind it
+-- the marks say of each number whether so many come after it
 marked_leads : (groups : List Group) (marks : List Bool) (k : ℕ) → marks ≡ marks_of groups k → mark_at groups marks ≡ leads groups k
 marked_leads groups marks k h = fun_ext (λ n. ap (λ (ms : List Bool). mark_at groups ms n) h ∙ (mark_is (λ (g : Group). leads groups k g.id) groups n ∙ found_leads groups k n))
 

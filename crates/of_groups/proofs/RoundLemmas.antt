@@ -1,4 +1,4 @@
--- Rounds: from what is known of k groups behind one to what is known of one more.
+-- Rounds: from what is known of k groups after one to what is known of one more.
 use Rattle.std.proofs.Common.{◌≡◌, ℕ, suc, Bool, true, false, cond, eqb, ltb, List, [], ◌∷◌, length, get_or, Some, None, refl, sym, ap, ◌∙◌, arith}
 use Rattle.std.specs.Prelude.{◌||◌, map, position}
 use Rattle.std.specs.List.{list_any, position_or_len}

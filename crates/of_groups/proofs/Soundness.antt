@@ -1,9 +1,9 @@
--- What holds of groups at all times is kept.
+-- The invariants of groups are kept.
 use Rattle.std.proofs.Common.{◌≡◌, ℕ, ◌≤◌, ◌<◌, Bool, true, false, not, cond, eqb, ltb, List, [], ◌∷◌, length, Option, Some, None, refl, sym, ap, ◌∙◌, arith}
 use Rattle.std.specs.Prelude.{◌&&◌, ◌||◌, ◌+◌, nat_le, Result, Ok, Err, OnOk, OnErr}
 use Rattle.std.proofs.lemmas.List.{length-set}
 use Rattle.std.proofs.lemmas.List.Edits.{length-insert}
-use Rattle.of_actions.specs.Rising.{is_rising}
+use Rattle.of_actions.specs.Rising.{is_ascending}
 use Rattle.std.specs.List.{list_any, list_all}
 use Rattle.std.specs.Option.{option_map_or}
 use Rattle.std.proofs.lemmas.Bool.Decides.{nat_tests, eqb_tells}
@@ -74,7 +74,7 @@ may_modify g groups h =
     let c = chosen_none (is_absent groups g.id) Unknown _ b.1 in
     record { allowed = record { watch = a.0; one = b.0; names = c.1 }; there = not_not (is_there g.id groups) c.0 }
 
--- ---- a group that is put
+-- ---- a group that is inserted
 
 neither : (a b : Bool) → a ≡ false → b ≡ false → (a || b) ≡ false
 neither a b e f = rw (e, f) refl
@@ -214,7 +214,7 @@ sound_none = record { rising = refl; few = omega arith; fit = refl; whole = refl
     none a [] h = cc
     none a (b ∷ behind) h = cc
 
--- ---- what is told of names
+-- ---- what is known of names
 
 absent_is : (g : Group) (groups : List Group) → absent_with g.id groups ≡ is_absent (with_group g groups)
 absent_is g groups = fun_ext (λ n. sym (rw (there_with g n groups) (neither_is (eqb g.id n) (is_there n groups))))
@@ -257,12 +257,12 @@ same_modify g h groups others told e f is = is ∙ (ap (λ (x : Group). modify_f
 pub same_with : (g h : Group) (groups others : List Group) (new : List Group) → g ≡ h → groups ≡ others → new ≡ with_group g groups → new ≡ with_group h others
 same_with g h groups others new e f is = is ∙ (ap (λ (x : Group). with_group x groups) e ∙ ap (with_group h) f)
 
-one_longer : (g : Group) (groups : List Group) → is_rising number_of groups ≡ true → is_there g.id groups ≡ false → length (with_group g groups) ≡ length groups + 1
+one_longer : (g : Group) (groups : List Group) → is_ascending number_of groups ≡ true → is_there g.id groups ≡ false → length (with_group g groups) ≡ length groups + 1
 one_longer g groups r new =
     let le : length (below number_of g.id groups) ≤ length groups = length-filter_le (λ (h : Group). ltb h.id g.id) groups in
     sym (ap length (inserted g groups r new)) ∙ length-insert groups (length (below number_of g.id groups)) g le
 
-as_long : (g : Group) (groups : List Group) → is_rising number_of groups ≡ true → is_there g.id groups ≡ true → length (with_group g groups) ≡ length groups
+as_long : (g : Group) (groups : List Group) → is_ascending number_of groups ≡ true → is_there g.id groups ≡ true → length (with_group g groups) ≡ length groups
 as_long g groups r there = sym (ap length (replaced g groups r there)) ∙ length-set groups (length (below number_of g.id groups)) g
 
 pub sound_added : {A E : Type 0} (r : Result A E) (g : Group) (old new : List Group) → AreSound old → are_fit g.buckets ≡ true → add_fault g old ≡ None → OnOk r (new ≡ with_group g old) → OnErr r (new ≡ old) → AreSound new

@@ -5,7 +5,7 @@ use Rattle.std.specs.List.{list_any, list_all, range_with_len, position_or_len}
 use Rattle.std.specs.Option.{option_map, option_to_list}
 use Rattle.std.proofs.lemmas.Bool.Decides.{nat_tests}
 use Rattle.of_actions.specs.declared.action.Action.{Action}
-use Rattle.of_actions.specs.Served.{are_served}
+use Rattle.of_actions.specs.Supported.{are_supported}
 use Rattle.of_groups.specs.declared.bucket.Bucket.{Bucket}
 use Rattle.of_groups.specs.declared.group.Group.{Group}
 use Rattle.of_groups.specs.declared.group.GroupKind.{GroupKind}
@@ -91,11 +91,11 @@ places_few port group FastFailover buckets few = let l = at_most_one (position (
 
 -- ---- buckets that run
 
--- a bucket that is there: some bytes spell its actions, and the groups to which they send begin shorter chains
+-- a bucket that exists: some bytes spell its actions, and the groups to which they send begin shorter chains
 pub record IsServed (groups : List Group) (n place : ℕ) : Type 0 where
   pub actions : List Action
   pub there : bucket_at groups n place ≡ Some actions
-  pub served : are_served false actions ≡ true
+  pub served : are_supported false actions ≡ true
   pub below : (m : ℕ) → list_any (sends (λ k. eqb k m)) actions ≡ true → chain groups m < chain groups n
 
 abbrev pub AllServed : List Group → ℕ → List ℕ → Type 0
@@ -151,10 +151,10 @@ serves_by groups port n places (Some g) sound found e =
       buckets = all_served groups sound n g found (places_of port (is_live_group groups port) g.kind g.buckets) (places_below port (is_live_group groups port) g.kind g.buckets);
     })
 
--- at most 16 buckets of a group run; they are there, some bytes spell their actions, and the groups that these name begin shorter chains
+-- at most 16 buckets of a group run; they exist, some bytes spell their actions, and the groups that these name begin shorter chains
 pub groups_serve : (groups : List Group) (port : ℕ → Bool) (n : ℕ) (places : List ℕ) → AreSound groups → chosen groups port n ≡ Some places → Serves groups n places
 groups_serve groups port n places sound e = serves_by groups port n places (find_group n groups) sound refl e
 
--- a bucket that is there has its place
+-- a bucket that exists has its place
 pub bucket_within : (groups : List Group) (n place : ℕ) (g : Group) → find_group n groups ≡ Some g → bucket_at groups n place ≢ None → place < length g.buckets
 bucket_within groups n place g found some = slice_within g.buckets place (λ none. some (rw (found, none) refl))

@@ -3,13 +3,13 @@ use Rattle.std.specs.Prelude.{ℕ, zero, suc, ◌+◌, ◌%◌, ◌^◌, ◌==�
 use Rattle.std.specs.List.{list_any, list_all}
 use Rattle.of_actions.specs.declared.action.Action.{Action}
 use Rattle.of_actions.specs.declared.action.Action.TheVariants.{Group}
-use Rattle.of_actions.specs.Served.{are_served}
+use Rattle.of_actions.specs.Supported.{are_supported}
 use Rattle.of_actions.specs.PortNumbers.{is_number}
 use Rattle.of_groups.specs.declared.bucket.Bucket.{Bucket}
 
--- at most 16 of them, each with actions that may stand in a group
+-- at most 16 of them, each with actions that are valid in a group
 abbrev pub is_fit : Bucket → Bool
-is_fit b = are_served false b.actions
+is_fit b = are_supported false b.actions
 
 abbrev pub are_fit : List Bucket → Bool
 are_fit buckets = nat_le (length buckets) 16 && list_all is_fit buckets
@@ -19,11 +19,11 @@ are_fit buckets = nat_le (length buckets) 16 && list_all is_fit buckets
 abbrev pub fresh : Bucket → Bucket
 fresh b = record b { packets = 0; bytes = 0 }
 
--- one packet of so many bytes more
+-- one more packet of this many bytes
 abbrev pub used : ℕ → Bucket → Bucket
 used bytes b = record b { packets = (b.packets + 1) % 2 ^ 64; bytes = (b.bytes + bytes) % 2 ^ 64 }
 
--- at the bucket of a place
+-- at the bucket at a place
 abbrev pub used_at : ℕ → ℕ → List Bucket → List Bucket
 used_at place bytes [] = []
 used_at zero bytes (b ∷ buckets) = used bytes b ∷ buckets
@@ -31,7 +31,7 @@ used_at (suc place) bytes (b ∷ buckets) = b ∷ used_at place bytes buckets
 
 -- ---- the groups that buckets name
 
--- an action that gives the packet to a group of such a number
+-- an action that sends the packet to a group whose number passes the test
 abbrev pub sends : (ℕ → Bool) → Action → Bool
 sends is_so (Group group) = is_so group
 sends is_so other = false
@@ -44,7 +44,7 @@ any_sends is_so buckets = list_any (λ b. list_any (sends is_so) b.actions) buck
 abbrev pub none_watched : ℕ
 none_watched = 0xffffffff
 
--- the bucket watches a group of such a number
+-- the bucket watches a group whose number passes the test
 abbrev pub watches : (ℕ → Bool) → Bucket → Bool
 watches is_so b = not (b.watch_group == none_watched) && is_so b.watch_group
 
@@ -52,7 +52,7 @@ watches is_so b = not (b.watch_group == none_watched) && is_so b.watch_group
 abbrev pub group_max : ℕ
 group_max = 0xffffff00
 
--- what a bucket of FAST-FAILOVER watches can be: a port of the switch, a group, or both, and nothing else
+-- a bucket of FAST-FAILOVER may watch a port, a group, or both: this one watches something else, or nothing
 abbrev pub is_badly_watched : Bucket → Bool
 is_badly_watched b =
     (not (b.watch_port == none_watched) && not (is_number b.watch_port))

@@ -1,4 +1,4 @@
--- Why a change of groups is refused (OpenFlow 1.3.5, 6.5 and 7.4.4), in the written order. What looks at the message alone was refused before.
+-- Why a change of groups is refused (OpenFlow 1.3.5, 6.5 and 7.4.4), in the written order. What the message alone decides was refused before.
 use Rattle.std.specs.Prelude.{ℕ, ◌==◌, nat_le, Bool, false, not, List, length, Option, Some, None, Result, Ok, Err, if◌then◌else◌}
 use Rattle.std.specs.List.{list_any}
 use Rattle.of_wire.specs.declared.code.Code.{Code}
@@ -26,7 +26,7 @@ code_of LongChain = Some (refusal 6 7)
 code_of Named = Some (refusal 6 9)
 code_of NoMemory = None
 
--- the fault that an answer tells, want of memory being none
+-- the fault in a result; running out of memory is none
 abbrev pub fault_in : {A : Type 0} → Result A GroupFault → Option GroupFault
 fault_in (Ok x) = None
 fault_in (Err BadWatch) = Some BadWatch
@@ -40,7 +40,7 @@ fault_in (Err LongChain) = Some LongChain
 fault_in (Err Named) = Some Named
 fault_in (Err NoMemory) = None
 
--- some bucket of FAST-FAILOVER watches what cannot be, or nothing; the other kinds do not look at what is watched
+-- some bucket of FAST-FAILOVER watches what cannot be watched, or nothing; the other types ignore what is watched
 abbrev pub is_bad_watch : GroupKind → List Bucket → Bool
 is_bad_watch All buckets = false
 is_bad_watch Indirect buckets = false
@@ -55,7 +55,7 @@ is_not_one FastFailover buckets = false
 abbrev pub is_absent : List Group → ℕ → Bool
 is_absent groups n = not (is_there n groups)
 
--- what the group names, among the groups as they would be: the group itself counts as there
+-- the groups that it names, among the groups after the change: the group itself counts as existing
 abbrev pub naming_fault : Group → List Group → Option GroupFault
 naming_fault g after =
     if any_sends (is_absent after) g.buckets then Some AbsentGroup
@@ -78,7 +78,7 @@ modify_fault g groups =
     else if is_absent groups g.id then Some Unknown
     else naming_fault g (with_group g groups)
 
--- a group that another one names stays; all groups may go at once
+-- a group that another one names stays; all groups may be deleted at once
 abbrev pub delete_fault : Option ℕ → List Group → Option GroupFault
 delete_fault None groups = None
 delete_fault (Some n) groups = if list_any (names n) groups then Some Named else None

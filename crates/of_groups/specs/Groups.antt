@@ -1,4 +1,4 @@
--- The groups of a switch, by rising number (OpenFlow 1.3.5, 5.6, 5.8 and 6.5).
+-- The groups of a switch, in ascending order of number (OpenFlow 1.3.5, 5.6, 5.8 and 6.5).
 use Rattle.std.specs.Prelude.{ℕ, ◌+◌, ◌%◌, ◌^◌, ◌==◌, nat_lt, Bool, false, ◌||◌, List, [], ◌∷◌, ◌++◌, map, filter, find, slice_get, Option, Some, None, if◌then◌else◌}
 use Rattle.std.specs.List.{list_any}
 use Rattle.std.specs.Option.{option_map, option_map_or}
@@ -30,7 +30,7 @@ any_watches is_so All buckets = false
 any_watches is_so Indirect buckets = false
 any_watches is_so FastFailover buckets = list_any (watches is_so) buckets
 
--- some group that it names has such a number
+-- some group that it names has a number that passes the test
 abbrev pub any_named : (ℕ → Bool) → Group → Bool
 any_named is_so g = any_sends is_so g.buckets || any_watches is_so g.kind g.buckets
 
@@ -47,7 +47,7 @@ sends_to n g = any_sends (λ m. m == n) g.buckets
 abbrev pub new_group : ℕ → GroupKind → List Bucket → ℕ → Group
 new_group id kind buckets created = record { id = id; kind = kind; buckets = map fresh buckets; packets = 0; bytes = 0; created = created }
 
--- it takes the place of the group of its number, or stands between those of lower and those of higher numbers
+-- it replaces the group of its number, or is inserted in order of number
 abbrev pub with_group : Group → List Group → List Group
 with_group g groups = filter (λ h. nat_lt h.id g.id) groups ++ g ∷ filter (λ h. nat_lt g.id h.id) groups
 
@@ -55,7 +55,7 @@ with_group g groups = filter (λ h. nat_lt h.id g.id) groups ++ g ∷ filter (λ
 abbrev pub created_at : ℕ → List Group → ℕ
 created_at n groups = option_map_or (λ g. g.created) (find_group n groups) 0
 
--- a group that is modified was still added when it was added
+-- a group that is modified keeps its time of creation
 abbrev pub modified_group : ℕ → GroupKind → List Bucket → List Group → Group
 modified_group id kind buckets groups = new_group id kind buckets (created_at id groups)
 
@@ -70,7 +70,7 @@ left (Some n) groups = without number_of n groups
 abbrev pub at_group : ℕ → (Group → Group) → List Group → List Group
 at_group n change groups = map (λ g. if g.id == n then change g else g) groups
 
--- a packet of so many bytes more; counters wrap
+-- one more packet of this many bytes; counters wrap
 abbrev pub counted : ℕ → ℕ → List Group → List Group
 counted n bytes groups = at_group n (λ g. record g { packets = (g.packets + 1) % 2 ^ 64; bytes = (g.bytes + bytes) % 2 ^ 64 }) groups
 

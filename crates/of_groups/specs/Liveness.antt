@@ -9,7 +9,7 @@ use Rattle.of_groups.specs.declared.group.GroupKind.TheVariants.{All, Indirect, 
 use Rattle.of_groups.specs.Buckets.{none_watched}
 use Rattle.of_groups.specs.Groups.{find_group}
 
--- a bucket of FAST-FAILOVER is live where the port or the group is that it watches
+-- a bucket of FAST-FAILOVER is live where the port or the group that it watches is live
 abbrev pub is_live_bucket : (ℕ → Bool) → (ℕ → Bool) → Bucket → Bool
 is_live_bucket port group b = (not (b.watch_port == none_watched) && port b.watch_port) || (not (b.watch_group == none_watched) && group b.watch_group)
 
@@ -20,7 +20,7 @@ is_live_kind port group All (b ∷ buckets) = true
 is_live_kind port group Indirect buckets = true
 is_live_kind port group FastFailover buckets = list_any (is_live_bucket port group) buckets
 
--- the group of that number is live; so many groups of a chain are looked at
+-- the group of that number is live; at most k groups of a chain are checked
 unfoldable pub is_live_within : List Group → (ℕ → Bool) → ℕ → ℕ → Bool
 is_live_within groups port zero n = false
 is_live_within groups port (suc k) n = option_map_or (λ g. is_live_kind port (is_live_within groups port k) g.kind g.buckets) (find_group n groups) false
@@ -35,6 +35,6 @@ places_of port group All buckets = range_with_len 0 (length buckets)
 places_of port group Indirect buckets = range_with_len 0 (length buckets)
 places_of port group FastFailover buckets = option_to_list (position (is_live_bucket port group) buckets)
 
--- THE BUCKETS OF A GROUP THAT RUN, where the group is there
+-- THE BUCKETS OF A GROUP THAT RUN, where the group exists
 abbrev pub chosen : List Group → (ℕ → Bool) → ℕ → Option (List ℕ)
 chosen groups port n = option_map (λ g. places_of port (is_live_group groups port) g.kind g.buckets) (find_group n groups)

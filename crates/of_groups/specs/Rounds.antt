@@ -1,15 +1,15 @@
--- What is known of chains after so many rounds. No public clause cites this module.
+-- What is known of chains after k rounds. No public clause cites this module.
 use Rattle.std.specs.Prelude.{◌≡◌, ℕ, ◌==◌, ◌&&◌, not, Bool, false, List, [], ◌∷◌, map, if◌then◌else◌}
 use Rattle.of_groups.specs.declared.group.Group.{Group}
 use Rattle.of_groups.specs.declared.chains.Round.{Round}
 use Rattle.of_groups.specs.Groups.{with_group, is_there}
 use Rattle.of_groups.specs.Chains.{leads}
 
--- no group of that number is there, with the new one among them
+-- no group has that number, with the new one among them
 abbrev pub absent_with : ℕ → List Group → ℕ → Bool
 absent_with new groups n = not (new == n) && not (is_there n groups)
 
--- the mark that stands at the place of the group of that number
+-- the mark of the group of that number
 abbrev pub mark_at : List Group → List Bool → ℕ → Bool
 mark_at [] marks n = false
 mark_at (g ∷ groups) [] n = false
@@ -18,13 +18,13 @@ mark_at (g ∷ groups) (m ∷ marks) n = if g.id == n then m else mark_at groups
 abbrev pub known_of : Round → ℕ → Bool
 known_of r n = if r.new.now.id == n then r.own else mark_at r.groups.now r.marks.items n
 
--- it is known of each group whether so many more stand behind it, with the new group among them
+-- it is known for each group whether some chain has k more groups after it, with the new group among them
 pub record IsRound (gs : List Group) (g : Group) (k : ℕ) (r : Round) : Type 0 where
   pub groups : r.groups.now ≡ gs
   pub new : r.new.now ≡ g
   pub known : known_of r ≡ leads (with_group g gs) k
 
--- of each group whether so many more stand behind it
+-- for each group, whether some chain has k more groups after it
 abbrev pub marks_of : List Group → ℕ → List Bool
 marks_of groups k = map (λ g. leads groups k g.id) groups
 

@@ -1,24 +1,24 @@
--- What holds of the groups of a switch at all times (OpenFlow 1.3.5, 5.6 and 6.5).
+-- The invariants of the groups of a switch (OpenFlow 1.3.5, 5.6 and 6.5).
 use Rattle.std.specs.Prelude.{◌≤◌, Bool, not, ◌&&◌, List, length, IsTrue}
 use Rattle.std.specs.List.{list_all}
-use Rattle.of_actions.specs.Rising.{is_rising}
+use Rattle.of_actions.specs.Rising.{is_ascending}
 use Rattle.of_groups.specs.declared.group.Group.{Group}
 use Rattle.of_groups.specs.Buckets.{are_fit}
 use Rattle.of_groups.specs.Groups.{number_of, any_named}
 use Rattle.of_groups.specs.Chains.{AreShort}
 use Rattle.of_groups.specs.Faults.{is_absent, is_bad_watch, is_not_one}
 
--- at most 16 buckets with actions that may stand there; of INDIRECT one; of FAST-FAILOVER each watches a port or a group
+-- at most 16 buckets with actions that are valid there; of INDIRECT one; of FAST-FAILOVER each watches a port or a group
 abbrev pub is_fit_group : Group → Bool
 is_fit_group g = are_fit g.buckets && not (is_bad_watch g.kind g.buckets) && not (is_not_one g.kind g.buckets)
 
--- each group that it names is there
+-- each group that it names exists
 abbrev pub is_whole : List Group → Group → Bool
 is_whole groups g = not (any_named (is_absent groups) g)
 
 pub record AreSound (groups : List Group) : Type 0 where
-  -- by rising number, so no two have one number
-  pub rising : IsTrue (is_rising number_of groups)
+  -- in ascending order of number, so no two have the same number
+  pub rising : IsTrue (is_ascending number_of groups)
   pub few : length groups ≤ 256
   pub fit : IsTrue (list_all is_fit_group groups)
   pub whole : IsTrue (list_all (is_whole groups) groups)

@@ -1,13 +1,13 @@
 //! Lists of buckets.
 ghost use Rattle.std.specs.Prelude.{◌≡◌, ◌<◌, ◌++◌, ◌∷◌, [], false, IsTrue, OnOk, OnErr, length, map};
-ghost use Rattle.of_actions.specs.Served.{are_served};
+ghost use Rattle.of_actions.specs.Supported.{are_supported};
 ghost use Rattle.of_groups.specs.Buckets.{are_fit as may_stand, fresh, used, used_at};
 
 use crate::bucket::Bucket;
 use std::alloc::{AllocError, Global};
 use std::marker::Model;
 
-/// At most 16 buckets, in their order, each with actions that may stand in a group (OpenFlow 1.3.5, 5.6).
+/// At most 16 buckets, in their order, each with actions that are valid in a group (OpenFlow 1.3.5, 5.6).
 #[derive(Drop)]
 pub struct Buckets {
     buckets: Vec<Bucket>,
@@ -34,10 +34,10 @@ impl Buckets {
         }
     }
 
-    /// A bucket more. A call that fails changes nothing.
+    /// One more bucket. A call that fails changes nothing.
     pub fn push(&mut self, bucket: Bucket) -> Result<(), AllocError>
         requires room { length self.old < 16 }
-        requires served { IsTrue (are_served false bucket.actions) }
+        requires served { IsTrue (are_supported false bucket.actions) }
         ensures ok { OnOk result (self.new ≡ self.old ++ bucket ∷ []) }
         ensures err { OnErr result (self.new ≡ self.old) }
     {
@@ -58,7 +58,7 @@ impl Buckets {
         self.buckets.len()
     }
 
-    /// Nothing is counted any more.
+    /// Sets all counters to 0.
     pub(crate) fn reset(&mut self)
         ensures reset { self.new ≡ map fresh self.old }
         ensures fit { IsTrue (may_stand self.new) }
@@ -66,7 +66,7 @@ impl Buckets {
         reset_all(&mut self.buckets);
     }
 
-    /// A packet of so many bytes for the bucket at that place; where none is there, nothing changes.
+    /// A packet of this many bytes for the bucket at that place; where there is none, nothing changes.
     pub(crate) fn count(&mut self, place: u8, bytes: usize)
         ensures { self.new ≡ used_at place bytes self.old }
     {

@@ -1,4 +1,4 @@
-//! Chains of groups, in rounds: after each it is known which groups have one more behind them (OpenFlow 1.3.5, 6.5).
+//! Chains of groups, in rounds: after each it is known which groups have one more after them (OpenFlow 1.3.5, 6.5).
 ghost use Rattle.std.specs.Prelude.{◌≡◌, ◌≤◌, ℕ, suc, false, List, length, slice_index_or};
 ghost use Rattle.std.specs.List.{list_any};
 ghost use Rattle.of_groups.specs.declared.group.Group.{Group as AGroup};
@@ -14,11 +14,11 @@ use arrayvec::ArrayVec;
 /// How many groups there are at most.
 pub(crate) const MOST_GROUPS: usize = 256;
 
-/// Which groups are known to have so many more behind them.
+/// Which groups are known to have this many more after them.
 #[derive(Drop)]
 struct Round<'a> {
     groups: &'a [Group],
-    /// The group that is added, or that takes the place of the one of its number.
+    /// The group that is added, or that replaces the one of its number.
     new: &'a Group,
     /// Whether it is known of the new group.
     own: bool,
@@ -43,7 +43,7 @@ fn mark_at_place(marks: &[bool], place: usize) -> bool
     marks.get(place).copied().unwrap_or(false)
 }
 
-// The mark that stands at the place of the group of that number.
+// The mark of the group of that number.
 pub(crate) fn mark_of(groups: &[Group], marks: &[bool], number: u32) -> bool
     ensures { result ≡ mark_at groups.now marks.now number }
 {
@@ -53,7 +53,7 @@ pub(crate) fn mark_of(groups: &[Group], marks: &[bool], number: u32) -> bool
     }
 }
 
-// Each group is there.
+// Each group exists.
 fn first_round<'a>(groups: &'a [Group], new: &'a Group) -> Round<'a>
     requires { length groups.now ≤ 256 }
     ensures { IsRound groups.now new.now 0 result }

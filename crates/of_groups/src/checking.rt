@@ -15,7 +15,7 @@ use crate::lookup::is_there;
 use crate::naming::{NONE_WATCHED, NumberTest, any_sends, any_watches};
 use of_actions::is_number;
 
-/// Whether no group of a number is there, with the new one among them.
+/// Whether no group of a number exists, with the new one among them.
 #[derive(Drop)]
 struct IsAbsent<'a> {
     groups: &'a [Group],
@@ -109,7 +109,7 @@ pub(crate) fn check_add(groups: &[Group], new: &Group) -> Result<(), GroupFault>
     check_names(groups, new)
 }
 
-/// Whether the group may take the place of the one of its number.
+/// Whether the group may replace the one of its number.
 pub(crate) fn check_modify(groups: &[Group], new: &Group) -> Result<(), GroupFault>
     requires { length groups.now ≤ 256 }
     ensures fault { fault_in result ≡ modify_fault new.now groups.now }

@@ -27,7 +27,7 @@ impl Chosen {
         }
     }
 
-    /// A place more.
+    /// One more place.
     pub fn push(&mut self, place: u8)
         requires { length self.old < 16 }
         ensures { self.new ≡ self.old ++ place ∷ [] }

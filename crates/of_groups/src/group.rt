@@ -5,14 +5,14 @@ use crate::buckets::Buckets;
 /// OFPG_MAX: the highest number of a group (OpenFlow 1.3.5, 7.3.4.2).
 pub const GROUP_MAX: u32 = 0xffff_ff00;
 
-/// The kind of a group (OpenFlow 1.3.5, 5.6.1).
+/// The type of a group (OpenFlow 1.3.5, 5.6.1).
 #[derive(Clone, Copy, Debug, PartialEq, Eq)]
 pub enum GroupKind {
     /// OFPGT_ALL: each bucket runs.
     All,
     /// OFPGT_INDIRECT: its one bucket runs.
     Indirect,
-    /// OFPGT_FF: the first bucket runs that is live.
+    /// OFPGT_FF: the first live bucket runs.
     FastFailover,
 }
 
@@ -23,7 +23,7 @@ pub struct Group {
     pub id: u32,
     pub kind: GroupKind,
     pub buckets: Buckets,
-    /// How many packets were given to it (OpenFlow 1.3.5, 5.8). It wraps.
+    /// How many packets were sent to it (OpenFlow 1.3.5, 5.8). It wraps.
     pub packets: u64,
     /// How many bytes they had. It wraps.
     pub bytes: u64,

@@ -4,22 +4,22 @@ ghost use Rattle.of_groups.specs.Faults.{code_of};
 
 use of_wire::Code;
 
-/// Why a group is not added, modified or deleted (OpenFlow 1.3.5, 6.5 and 7.4.4), in the order in which the faults are looked for.
+/// Why a group is not added, modified or deleted (OpenFlow 1.3.5, 6.5 and 7.4.4), in the order in which the faults are checked.
 #[derive(Clone, Copy, Debug, PartialEq, Eq)]
 pub enum GroupFault {
     /// A bucket of FAST-FAILOVER watches what cannot be a port or a group, or nothing.
     BadWatch,
     /// An INDIRECT group has no bucket, or more than one.
     NotOneBucket,
-    /// There is a group of that number.
+    /// There is a group of that number already.
     Exists,
     /// There are 256 groups.
     Full,
     /// There is no group of that number.
     Unknown,
-    /// An action names a group that is not there.
+    /// An action names a group that does not exist.
     AbsentGroup,
-    /// A bucket of FAST-FAILOVER watches a group that is not there.
+    /// A bucket of FAST-FAILOVER watches a group that does not exist.
     AbsentWatch,
     /// A chain of groups would have more than three, or no end.
     LongChain,
@@ -29,7 +29,7 @@ pub enum GroupFault {
 }
 
 impl GroupFault {
-    /// The error that an ERROR message tells; none where memory ran out.
+    /// The error that an ERROR message carries; none where memory ran out.
     pub fn code(self) -> Option<Code>
         ensures { result ≡ code_of self }
     {

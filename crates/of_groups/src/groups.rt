@@ -22,9 +22,9 @@ use of_actions::Action;
 use std::alloc::Global;
 use std::marker::Model;
 
-/// The groups of a switch, by rising number: at most 256 (OpenFlow 1.3.5, 5.6 and 6.5).
+/// The groups of a switch, in ascending order of number: at most 256 (OpenFlow 1.3.5, 5.6 and 6.5).
 ///
-/// Each group that one of them names is there, and no chain of them has more than three.
+/// Each group that one of them names exists, and no chain of them has more than three.
 #[derive(Drop)]
 pub struct Groups {
     groups: Vec<Group>,
@@ -53,7 +53,7 @@ impl Groups {
         }
     }
 
-    /// Groups that stand beside each other as those of a switch do.
+    /// Groups that satisfy the invariants of a switch's groups.
     pub fn of(groups: Vec<Group>) -> Groups
         requires { AreSound groups.items }
         ensures { result ≡ groups.items }
@@ -83,9 +83,9 @@ impl Groups {
         }
     }
 
-    /// Gives a group that is there another kind and other buckets (OpenFlow 1.3.5, 6.5). Its counters begin at 0 again, and its time goes on.
+    /// Gives a group that exists another type and other buckets (OpenFlow 1.3.5, 6.5). Its counters begin at 0 again, and its time goes on.
     ///
-    /// It wants no memory. A call that fails changes nothing.
+    /// It needs no memory. A call that fails changes nothing.
     pub fn modify(&mut self, id: u32, kind: GroupKind, buckets: Buckets) -> Result<(), GroupFault>
         ensures fault { result_err result ≡ modify_fault (modified_group id kind buckets self.old) self.old }
         ensures ok { OnOk result (self.new ≡ with_group (modified_group id kind buckets self.old) self.old) }
@@ -99,7 +99,7 @@ impl Groups {
 
     /// Deletes the group of that number, or all groups (OpenFlow 1.3.5, 6.5). Where there is none, nothing changes.
     ///
-    /// One that another names is not deleted alone. It wants no memory. A call that fails changes nothing.
+    /// One that another names is not deleted alone. It needs no memory. A call that fails changes nothing.
     pub fn delete(&mut self, id: Option<u32>) -> Result<(), GroupFault>
         ensures fault { result_err result ≡ delete_fault id self.old }
         ensures ok { OnOk result (self.new ≡ left id self.old) }
@@ -117,7 +117,7 @@ impl Groups {
         Ok(())
     }
 
-    /// The groups, by rising number.
+    /// The groups, in ascending order of number.
     pub fn groups(&self) -> &[Group]
         ensures groups { result.now ≡ self.now }
         ensures sound { AreSound self.now }
@@ -132,9 +132,9 @@ impl Groups {
         find_group(&self.groups, id)
     }
 
-    /// The places of the buckets that run for a packet, where the group of that number is there (OpenFlow 1.3.5, 5.6.1).
+    /// The places of the buckets that run for a packet, where the group of that number exists (OpenFlow 1.3.5, 5.6.1).
     ///
-    /// Of ALL each runs, of INDIRECT its one, of FAST-FAILOVER the first that is live, or none. It wants no memory.
+    /// Of ALL each runs, of INDIRECT its one, of FAST-FAILOVER the first that is live, or none. It needs no memory.
     pub fn buckets_for<P: LivePorts>(&self, id: u32, ports: &P) -> Option<Chosen>
         ensures { result ≡ chosen self.now (P.live ports.now) id }
     {
@@ -152,21 +152,21 @@ impl Groups {
         }
     }
 
-    /// Counts a packet of so many bytes for the group of that number (OpenFlow 1.3.5, 5.8); where there is none, nothing changes. Counters wrap.
+    /// Counts a packet of this many bytes for the group of that number (OpenFlow 1.3.5, 5.8); where there is none, nothing changes. Counters wrap.
     pub fn count(&mut self, id: u32, bytes: usize)
         ensures { self.new ≡ counted id bytes self.old }
     {
         count_group(&mut self.groups, id, bytes);
     }
 
-    /// Counts a packet of so many bytes for the bucket at that place of the group of that number; where there is none, nothing changes. Counters wrap.
+    /// Counts a packet of this many bytes for the bucket at that place of the group of that number; where there is none, nothing changes. Counters wrap.
     pub fn count_bucket(&mut self, id: u32, place: u8, bytes: usize)
         ensures { self.new ≡ bucket_counted id place bytes self.old }
     {
         count_use_of(&mut self.groups, id, place, bytes);
     }
 
-    /// How many groups have an action that gives packets to the group of that number (OpenFlow 1.3.5, 7.3.5.6).
+    /// How many groups have an action that sends packets to the group of that number (OpenFlow 1.3.5, 7.3.5.6).
     pub fn references(&self, id: u32) -> usize
         ensures { result ≡ count_by (is_sending id) self.now }
     {

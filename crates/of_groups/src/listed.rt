@@ -1,4 +1,4 @@
-//! Groups of a list, whether a switch would take them or not: what they name, and how long their chains are (OpenFlow 1.3.5, 5.6.1 and 6.5).
+//! Groups of a list, whether a switch would accept them or not: what they name, and how long chains are (OpenFlow 1.3.5, 5.6.1 and 6.5).
 ghost use Rattle.std.specs.Prelude.{◌≡◌, ℕ, suc, map, false, IfOk};
 ghost use Rattle.std.specs.Option.{option_map_or};
 ghost use Rattle.of_groups.specs.Buckets.{any_sends as some_sends};
@@ -27,7 +27,7 @@ impl NumberTest for IsNotAmong<'_> {
     }
 }
 
-/// Whether an action of the group gives packets to a group that is not among these.
+/// Whether an action of the group sends packets to a group that is not among these.
 pub fn sends_to_absent(groups: &[Group], group: &Group) -> bool
     ensures { result ≡ some_sends (is_not_there groups.now) group.now.buckets }
 {
@@ -66,7 +66,7 @@ fn names_marked(groups: &[Group], marks: &[bool], number: u32) -> bool
     }
 }
 
-// Each group is there.
+// Each group exists.
 fn first_marks(alloc: Global, groups: &[Group]) -> Result<Vec<bool>, AllocError>
     ensures { IfOk result (λ marks. marks.items ≡ marks_of groups.now 0) }
 {
@@ -105,7 +105,7 @@ fn length_by(there: bool, one: bool, two: bool, three: bool) -> u8
     }
 }
 
-/// Of each group how many the longest chain has that begins at it, and 4 where it has more than three or no end.
+/// For each group how many the longest chain that begins at it has, and 4 where it has more than three or no end.
 pub fn chain_lengths(alloc: Global, groups: &[Group]) -> Result<Vec<u8>, AllocError>
     ensures { IfOk result (λ lengths. lengths.items ≡ map (λ g. chain groups.now g.id) groups.now) }
 {

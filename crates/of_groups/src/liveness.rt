@@ -31,7 +31,7 @@ fn is_live_bucket<P: LivePorts>(groups: &[Group], ports: &P, levels: u8, bucket:
             && is_live_within(groups, ports, levels, bucket.watch_group))
 }
 
-// Whether the group of that number is live, where the chains that it begins have at most so many groups.
+// Whether the group of that number is live, where the chains that it begins have at most `levels` groups.
 #[cycle(liveness)]
 fn is_live_within<P: LivePorts>(groups: &[Group], ports: &P, levels: u8, id: u32) -> bool
     ensures { result ≡ lives_within groups.now (P.live ports.now) levels id }
@@ -64,7 +64,7 @@ fn is_live_group<P: LivePorts>(groups: &[Group], ports: &P, levels: u8, group: &
     }
 }
 
-// The place of the first bucket that is live.
+// The place of the first live bucket.
 fn first_live<P: LivePorts>(groups: &[Group], ports: &P, buckets: &[Bucket]) -> Option<usize>
     ensures { result ≡ position (bucket_lives (P.live ports.now) (group_lives groups.now (P.live ports.now))) buckets.now }
 {
@@ -105,7 +105,7 @@ fn places_of<P: LivePorts>(groups: &[Group], ports: &P, group: &Group) -> Chosen
     }
 }
 
-/// The buckets of the group of that number that run, where it is there.
+/// The buckets of the group of that number that run, where it exists.
 pub(crate) fn choose<P: LivePorts>(groups: &[Group], ports: &P, id: u32) -> Option<Chosen>
     ensures { result ≡ chosen groups.now (P.live ports.now) id }
 {

@@ -11,7 +11,7 @@ use of_actions::Action;
 /// No port and no group is watched: OFPP_ANY and OFPG_ANY.
 pub(crate) const NONE_WATCHED: u32 = 0xffff_ffff;
 
-/// A question about the number of a group.
+/// A test of the number of a group.
 pub(crate) trait NumberTest {
     ghost holds: { Self → ℕ → Bool };
 
@@ -46,7 +46,7 @@ fn any_sends_so<T: NumberTest>(actions: &[Action], test: &T) -> bool
     actions.iter().any(|action| sends_so(action, test))
 }
 
-/// Whether some action gives the packet to a group of such a number.
+/// Whether some action sends the packet to a group whose number passes the test.
 pub(crate) fn any_sends<T: NumberTest>(buckets: &[Bucket], test: &T) -> bool
     ensures { result ≡ some_sends (T.holds test.now) buckets.now }
 {
@@ -67,7 +67,7 @@ fn any_watches_so<T: NumberTest>(buckets: &[Bucket], test: &T) -> bool
     buckets.iter().any(|bucket| watches(bucket, test))
 }
 
-/// Whether some bucket of FAST-FAILOVER watches a group of such a number.
+/// Whether some bucket of FAST-FAILOVER watches a group whose number passes the test.
 pub(crate) fn any_watches<T: NumberTest>(kind: GroupKind, buckets: &[Bucket], test: &T) -> bool
     ensures { result ≡ some_watches (T.holds test.now) kind buckets.now }
 {
@@ -77,7 +77,7 @@ pub(crate) fn any_watches<T: NumberTest>(kind: GroupKind, buckets: &[Bucket], te
     }
 }
 
-/// Whether the group names one of such a number.
+/// Whether the group names one whose number passes the test.
 pub(crate) fn any_named<T: NumberTest>(group: &Group, test: &T) -> bool
     ensures { result ≡ some_named (T.holds test.now) group.now }
 {
@@ -92,7 +92,7 @@ pub fn names(group: &Group, number: u32) -> bool
     any_named(group, &IsNumber(number))
 }
 
-/// Whether an action of a bucket gives packets to that group, for the number of references (OpenFlow 1.3.5, 7.3.5.6).
+/// Whether an action of a bucket sends packets to that group, for the number of references (OpenFlow 1.3.5, 7.3.5.6).
 pub fn sends_to(group: &Group, number: u32) -> bool
     ensures { result ≡ is_sending number group.now }
 {

@@ -104,7 +104,7 @@ one_more kind s e l =
 pub nothing_in : (n : ℕ) → whole_in Nothing n ≡ Nothing
 nothing_in n = elim (nat_le 0 n) as (λ b. cond b Nothing Nothing ≡ Nothing) [ true ↦ refl | false ↦ refl ]
 
--- ---- where the layers stand
+-- ---- where the layers begin
 
 later_by : (b c : Bool) (n : ℕ) → (b && c) ≡ true → cond b 8 (8 * (n + 1)) ≡ 8
 later_by true c n e = refl

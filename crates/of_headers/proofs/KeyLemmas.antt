@@ -109,7 +109,7 @@ look_ipv6 f p before y h =
     ∙ ap (option_or (look_up n (cells_in (ipv6 (next_before es)) (ipv6_numbers p)))) (sym (look-append n (extension_cells es) (carried_cells c.carried ++ byte_cells rest)))
     ∙ sym (look-append n (cells_in (ipv6 (next_before es)) (ipv6_numbers p)) (extension_cells es ++ (carried_cells c.carried ++ byte_cells rest)))
 
--- ---- which packet stands after a type
+-- ---- which packet follows a type
 
 abbrev choice : Bool → Bool → Bool → Body → Body → Body → Body → Body
 choice a b d x y z w = cond a x (cond b y (cond d z w))
@@ -283,7 +283,7 @@ key_tagged frame n m port meta f e z =
       | g ↦ sym (parts g)
     ]
 
--- ---- where the layers stand
+-- ---- where the layers begin
 
 pub record StandsAt (frame : List ℕ) (y : Layout) : Type 0 where
   pub room : 12 + 4 * y.tags + 2 ≤ length frame

@@ -1,4 +1,4 @@
--- Where the layers of a packet stand, and of a frame.
+-- Where the layers of a packet begin, and of a frame.
 use Rattle.std.proofs.Common.{◌≡◌, ℕ, ◌+◌, ◌-◌, ◌*◌, ◌%◌, ◌/◌, ◌≤◌, ◌≢◌, min, Bool, true, false, cond, ◌&&◌, List, length, get_or, take, drop, refl, sym, ap, ◌∙◌, arith}
 use Rattle.std.specs.Prelude.{nat_le, ◌==◌}
 use Rattle.std.proofs.lemmas.Bool.{leb-true, eq-eqb, ne_eqb}
@@ -71,7 +71,7 @@ pub ipv6_network : (p q : List ℕ) → q ≡ take (40 + word p 4) p → network
 unfolding ipv6_of
 ipv6_network p q e = ap (λ (r : List ℕ). network_behind 6 40 (chain_of (length (drop 40 r)) (get_or p 6 0) (drop 40 r))) e
 
--- ---- what stands after a type
+-- ---- what follows a type
 
 pub body_arp : (kind : ℕ) (p : List ℕ) → ((kind == 0x0806) && is_arp p) ≡ true → body_of kind p ≡ arp_of p
 unfolding body_of

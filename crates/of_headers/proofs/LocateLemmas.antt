@@ -1,4 +1,4 @@
--- Where a field stands among cells, and how many bits cells take.
+-- The place of a field among cells, and how many bits cells take.
 use Rattle.std.proofs.Common.{◌≡◌, ℕ, zero, suc, ◌+◌, ◌*◌, ◌^◌, ◌<◌, ◌≤◌, ◌%◌, Bool, true, false, cond, List, [], ◌∷◌, ◌++◌, length, drop, Option, Some, None, refl, sym, ap, ◌∙◌, arith}
 use Rattle.std.specs.Option.{option_or}
 use Rattle.of_layers.specs.declared.place.Place.{Place}

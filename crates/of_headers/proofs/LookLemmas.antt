@@ -30,11 +30,11 @@ pub or_assoc : (a b c : Option ℕ) → option_or (option_or a b) c ≡ option_o
 or_assoc None b c = refl
 or_assoc (Some a) b c = refl
 
--- bytes behind cells hold no field
+-- bytes after cells hold no field
 pub look_front : (n : ℕ) (a : List Cell) (s : List ℕ) → look_up n (a ++ byte_cells s) ≡ look_up n a
 look_front n a s = look-append n a (byte_cells s) ∙ ap (option_or (look_up n a)) (look_bytes n s) ∙ or_none (look_up n a)
 
--- nor do those in front of them
+-- nor do those before them
 pub look_behind : (n : ℕ) (s : List ℕ) (a : List Cell) → look_up n (byte_cells s ++ a) ≡ look_up n a
 look_behind n s a = look-append n (byte_cells s) a ∙ ap (λ (x : Option ℕ). option_or x (look_up n a)) (look_bytes n s)
 
@@ -51,7 +51,7 @@ look_tags n m s =
     ∙ ap (λ (x : Option ℕ). option_or (look_up n (cells_in outer_tag (tag_numbers s))) x) (look_inner n m (drop 4 s))
     ∙ or_none (look_up n (cells_in outer_tag (tag_numbers s)))
 
--- ---- names that are not there
+-- ---- names that do not occur
 
 -- no item has this name
 abbrev pub lacks : ℕ → List Item → Bool

@@ -11,12 +11,12 @@ use Rattle.of_headers.specs.Numbers.{numbers_in}
 
 -- ---- the field map of a frame
 
--- VLAN_VID is always there: 0 without a tag, else the tag's VID with the bit 0x1000 (7.2.3.7)
+-- VLAN_VID is always present: 0 without a tag, else the tag's VID with the bit 0x1000 (7.2.3.7)
 abbrev pub vid : Option ℕ → ℕ
 vid None = 0
 vid (Some v) = 4096 + v
 
--- the fields of a frame that came by a port, with metadata
+-- the fields of a frame that was received at a port, with metadata
 abbrev pub field_map : Layers → ℕ → ℕ → Field → Option ℕ
 field_map l port metadata InPort = Some port
 field_map l port metadata Metadata = Some metadata
@@ -25,14 +25,14 @@ field_map l port metadata f = look f (cells l)
 
 -- ---- a key as a field map
 
--- a number, if the word says that it is there
+-- a number, if the word says that it is present
 abbrev pub there : ℕ → ℕ → ℕ → Option ℕ
 there present n v = if bit_at present n == 1 then Some v else None
 
 unfoldable pub value : FieldKey → Field → Option ℕ
 value k f = there k.numbers.present (number_of f) (slice_index (numbers_in k.numbers) (number_of f))
 
--- ---- what is seen of a field under a mask, if any: nothing where no mask is, else whether it is there, and the bits under the mask
+-- ---- what is seen of a field under a mask, if any: nothing without a mask, else whether it is present, and the bits under the mask
 
 abbrev pub seen : Option ℕ → Option ℕ → Option ℕ
 seen None v = None

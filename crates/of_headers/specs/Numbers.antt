@@ -9,7 +9,7 @@ numbers_in k =
     ∷ k.tcp_src ∷ k.tcp_dst ∷ k.udp_src ∷ k.udp_dst ∷ 0 ∷ 0 ∷ k.icmpv4_type ∷ k.icmpv4_code ∷ k.arp_op ∷ k.arp_spa ∷ k.arp_tpa ∷ k.arp_sha ∷ k.arp_tha
     ∷ k.ipv6_src ∷ k.ipv6_dst ∷ k.ipv6_flabel ∷ k.icmpv6_type ∷ k.icmpv6_code ∷ []
 
--- the bits that two lists have both, place by place
+-- the bits that both lists have, place by place
 abbrev pub bits_both : List ℕ → List ℕ → List ℕ
 bits_both [] ys = []
 bits_both (x ∷ xs) [] = []

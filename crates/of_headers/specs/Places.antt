@@ -1,4 +1,4 @@
--- Where the layers of a frame stand, and its cells.
+-- Where the layers of a frame begin, and how many bits its cells take.
 use Rattle.std.specs.Prelude.{ℕ, ◌+◌, List, [], ◌∷◌, length}
 use Rattle.of_layers.specs.Reading.{Chain}
 use Rattle.of_layers.specs.Layers.{Cell, Extension, extension_bytes, all_bytes, Body, Plain, Arp, Ipv4, Ipv6, Layers}
@@ -11,7 +11,7 @@ abbrev pub protocol_at : ℕ → ℕ → List Extension → ℕ
 protocol_at named at [] = named
 protocol_at named at (e ∷ es) = protocol_at at (at + extension_bytes e) es
 
--- the layers behind IPv6's own header, where the first of them begins at `at`
+-- the layers after IPv6's own header, where the first of them begins at `at`
 abbrev pub network_behind : ℕ → ℕ → Chain → Network
 network_behind named at c = network.Ipv6 (protocol_at named at c.extensions) (record { transport = c.carried.kind; at = at + all_bytes c.extensions })
 

@@ -1,4 +1,4 @@
--- Which fields a key has: bit n of a word says whether the field of number n is there.
+-- Which fields a key has: bit n of a word says whether the field of number n is present.
 use Rattle.std.specs.Prelude.{◌≡◌, ℕ, ◌^◌, List, [], ◌∷◌, slice_index, bit_and, bit_or}
 use Rattle.std.specs.Int.{bit_at}
 use Rattle.of_layers.specs.declared.field.Field.{Field}

@@ -1,4 +1,4 @@
-//! Numbers of several bytes, the highest byte first.
+//! Big-endian numbers of several bytes.
 
 ghost use Rattle.std.specs.Prelude.{◌≡◌, ◌+◌, ◌≤◌, length, drop};
 ghost use Rattle.of_layers.specs.Reading.{word, double, six, sixteen};

@@ -9,7 +9,7 @@ use crate::layout::{Network, Payload};
 use crate::transport::{named_over_ipv6, transport_in};
 use of_layers::Transport;
 
-/// Whether a header of this kind has options or a route, and tells its length.
+/// Whether a header of this kind has options or a route, with a field for its length.
 fn tells_length(kind: u8) -> bool
     ensures { result ≡ has_options kind }
 {
@@ -43,7 +43,7 @@ fn is_later_at(kind: u8, rest: &[u8]) -> bool
     kind == 44 && word_at(rest, 2) / 8 != 0
 }
 
-/// Passes over the extension headers of an IPv6 packet, which ends where its payload does; the first is of this kind.
+/// Skips the extension headers of an IPv6 packet, which ends where its payload does; the first is of this kind.
 pub fn chain_in(packet: &[u8], first: u8) -> Network
     requires { 40 ≤ length packet.now }
     ensures { result ≡ network_behind 6 40 (chain_of (length (drop 40 packet.now)) first (drop 40 packet.now)) }

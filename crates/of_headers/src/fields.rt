@@ -49,7 +49,7 @@ impl FieldKey {
         FieldKey { numbers }
     }
 
-    /// What is seen of the key under a mask for each field: a field without a mask is not looked at, and is absent.
+    /// What is seen of the key under a mask for each field: a field without a mask is ignored, and is absent.
     pub fn under(&self, mask: &FieldKey) -> FieldKey
         ensures { (f : TheField) → value result f ≡ seen (value mask.now f) (value self.now f) }
     {

@@ -15,7 +15,7 @@ use crate::reading::key_in;
 use of_layers::{Field, Place};
 use thiserror::Error;
 
-/// Why bytes are no frame that the switch takes.
+/// Why the switch does not accept bytes as a frame.
 #[derive(Clone, Copy, Debug, PartialEq, Eq, Error)]
 pub enum FrameFault {
     /// Fewer than the 14 bytes of two addresses and a type.
@@ -26,7 +26,7 @@ pub enum FrameFault {
     Long,
 }
 
-/// What was read of one frame: where its layers stand, and its fields.
+/// What was read of one frame: where its layers begin, and its fields.
 #[derive(Clone, Copy, Debug)]
 pub struct Headers {
     pub layout: Layout,
@@ -41,7 +41,7 @@ impl Headers {
         self.key
     }
 
-    /// Where a field stands in the frame, as [`Layout::place`] says.
+    /// Where a field is in the frame, as [`Layout::place`] says.
     pub fn place(&self, field: Field) -> Option<Place>
         ensures { (s : List ℕ) → 14 ≤ length s → 8 * length s < 2 ^ 64 → self.now.layout ≡ layout_of (layers_of s) → result ≡ locate field (cells (layers_of s)) }
     {
@@ -49,7 +49,7 @@ impl Headers {
     }
 }
 
-/// Reads a frame that may have grown inside the switch, by tags that were put on it.
+/// Reads a frame that may have grown inside the switch, by tags that were pushed.
 ///
 /// It is refused as `Short` below 14 bytes, and never as `Long`.
 pub fn read_inside(frame: &[u8], in_port: u32, metadata: u64) -> Result<Headers, FrameFault>
@@ -80,7 +80,7 @@ pub fn check_length(frame: &[u8]) -> Result<(), FrameFault>
     Ok(())
 }
 
-/// Reads a frame that came in by a port, with the metadata that a lookup sees.
+/// Reads a frame that was received at a port, with the metadata that a lookup sees.
 ///
 /// It is refused as `Short` below 14 bytes, and as `Long` above 9,216.
 pub fn read(frame: &[u8], in_port: u32, metadata: u64) -> Result<Headers, FrameFault>

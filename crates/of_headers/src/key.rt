@@ -5,7 +5,7 @@ ghost use Rattle.of_headers.specs.Presence.{AreFields, AbsentAreZero};
 
 use crate::numbers::Numbers;
 
-/// The fields of one frame and of the port by which it came (OpenFlow 1.3.5, 5.3).
+/// The fields of one frame and of its ingress port (OpenFlow 1.3.5, 5.3).
 ///
 /// An absent field has the value 0, so that keys are equal where their fields are.
 #[derive(Clone, Copy, Debug, PartialEq, Eq, Hash)]

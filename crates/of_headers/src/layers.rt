@@ -1,4 +1,4 @@
-//! The fields of each layer: how a key gets them, and where they stand.
+//! The fields of each layer: how a key gets them, and their places.
 
 ghost use Rattle.std.specs.Prelude.{◌≡◌, ℕ, ◌+◌, ◌*◌, ◌/◌, ◌%◌, ◌^◌, ◌<◌, ◌≤◌, ◌==◌, if◌then◌else◌, List, [], ◌∷◌, length, slice_index, slice_set, Some};
 ghost use Rattle.std.specs.Option.{option_or};
@@ -31,7 +31,7 @@ const ENDS: u32 = (1 << Field::InPort as u32)
     | (1 << Field::EthSrc as u32)
     | (1 << Field::VlanVid as u32);
 
-/// Puts the addresses of a frame without tags into a key, and what is known of the port by which it came.
+/// Puts the addresses of a frame without tags into a key, and what is known of its ingress port.
 pub(crate) fn add_ends(frame: &[u8], in_port: u32, metadata: u64, key: &mut FieldKey)
     requires { 12 ≤ length frame.now }
     ensures { (f : TheField) → value key.new f ≡ option_or (look f (cells_in untagged (in_port ∷ metadata ∷ six frame.now 0 ∷ six frame.now 6 ∷ 0 ∷ []))) (value key.old f) }

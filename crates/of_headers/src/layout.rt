@@ -1,4 +1,4 @@
-//! Where the layers of a frame stand.
+//! Where the layers of a frame begin.
 
 ghost use Rattle.std.specs.Prelude.{◌≡◌, ◌+◌, ◌*◌, ◌≤◌, ◌==◌, ◌&&◌, length, drop, IsTrue};
 ghost use Rattle.of_layers.specs.Reading.{tag_count, is_tag_type, is_arp, is_ipv4, is_ipv6, ipv4_of, ipv6_of, body_of, layers_of};
@@ -16,7 +16,7 @@ pub struct Payload {
     pub at: usize,
 }
 
-/// What stands after the type of a frame.
+/// What follows the type of a frame.
 #[derive(Clone, Copy, Debug, PartialEq, Eq)]
 pub enum Network {
     /// Bytes that are not read further.
@@ -29,7 +29,7 @@ pub enum Network {
     Ipv6(usize, Payload),
 }
 
-/// Where the layers of a frame stand. The type is behind the addresses and so many tags, and the network layer is behind the type; so a tag that is put on or taken off changes the number of tags alone.
+/// Where the layers of a frame begin. The type follows the addresses and so many tags, and the network layer follows the type; so a tag that is pushed or popped changes the number of tags alone.
 #[derive(Clone, Copy, Debug, PartialEq, Eq)]
 pub struct Layout {
     /// How many VLAN tags the frame has.
@@ -44,7 +44,7 @@ pub fn is_tag(kind: u16) -> bool
     kind == 0x8100 || kind == 0x88a8
 }
 
-/// How many tags stand behind the addresses, each with four bytes after its type.
+/// How many tags follow the addresses, each with four bytes after its type.
 fn tags_in(frame: &[u8]) -> usize
     requires { 14 ≤ length frame.now }
     ensures count { result ≡ tag_count (drop 12 frame.now) }
@@ -85,7 +85,7 @@ fn has_ipv4(kind: u16, packet: &[u8]) -> bool
         && header <= word_at(packet, 2) as usize
 }
 
-/// Where the layers of an IPv4 packet stand. A later fragment carries bytes alone.
+/// Where the layers of an IPv4 packet begin. A later fragment carries bytes alone.
 fn ipv4_in(packet: &[u8]) -> Network
     requires { IsTrue (is_ipv4 packet.now) }
     ensures { result ≡ network_of (ipv4_of packet.now) }
@@ -107,7 +107,7 @@ fn has_ipv6(kind: u16, packet: &[u8]) -> bool
     kind == 0x86dd && packet.len() >= 40 && packet[0] / 16 == 6
 }
 
-/// Where the layers of an IPv6 packet stand.
+/// Where the layers of an IPv6 packet begin.
 fn ipv6_in(packet: &[u8]) -> Network
     requires { IsTrue (is_ipv6 packet.now) }
     ensures { result ≡ network_of (ipv6_of packet.now) }
@@ -116,7 +116,7 @@ fn ipv6_in(packet: &[u8]) -> Network
     chain_in(&packet[..end], packet[6])
 }
 
-/// Where the layers of the bytes after a type stand.
+/// Where the layers of the bytes after a type begin.
 fn network_in(kind: u16, packet: &[u8]) -> Network
     ensures { result ≡ network_of (body_of kind packet.now) }
 {
@@ -131,7 +131,7 @@ fn network_in(kind: u16, packet: &[u8]) -> Network
     }
 }
 
-/// Where the layers of a frame stand.
+/// Where the layers of a frame begin.
 pub fn layout_in(frame: &[u8]) -> Layout
     requires { 14 ≤ length frame.now }
     ensures { result ≡ layout_of (layers_of frame.now) }

@@ -1,4 +1,4 @@
-//! The fields of a frame, as a lookup takes them, and where its layers stand.
+//! The fields of a frame, as a lookup takes them, and where its layers begin.
 #![tactic(auto)]
 
 mod bytes;
@@ -19,4 +19,4 @@ pub use headers::{FrameFault, Headers, check_length, read, read_inside};
 pub use key::FieldKey;
 pub use layout::{Layout, Network, Payload, is_tag, layout_in};
 pub use numbers::Numbers;
-pub use of_layers::{Field, FieldRow, Need, Place, Transport, spelt_by_one};
+pub use of_layers::{Field, FieldRow, Place, Prerequisite, Transport, spelt_by_one};

@@ -1,4 +1,4 @@
-//! Where a field stands in a frame, from where its layers stand.
+//! Where a field is in a frame, from where its layers begin.
 
 ghost use Rattle.std.specs.Prelude.{◌≡◌, ℕ, ◌+◌, ◌*◌, ◌^◌, ◌<◌, ◌≤◌, List, length};
 ghost use Rattle.of_layers.specs.Fields.{number_of};
@@ -14,7 +14,7 @@ use crate::layers::{
 use crate::layout::{Layout, Network};
 use of_layers::{Field, Place};
 
-/// A place among cells that begin so many bits later.
+/// A place among cells that begin `at` bits later.
 fn behind(at: usize, place: Option<Place>) -> Option<Place>
     ensures { (n : ℕ) (cs : List Cell) → at + width cs < 2 ^ 64 → place ≡ locate_at 0 n cs → result ≡ locate_at at n cs }
 {
@@ -25,7 +25,7 @@ fn behind(at: usize, place: Option<Place>) -> Option<Place>
 }
 
 impl Network {
-    /// A field's place in what stands after a frame's type, from there on.
+    /// A field's place in what follows a frame's type, from there on.
     fn place(&self, field: Field) -> Option<Place>
         ensures { (kind : ℕ) (p : List ℕ) → 8 * length p < 2 ^ 64 → self.now ≡ network_of (body_of kind p) → result ≡ locate_at 0 (number_of field) (body_cells (body_of kind p)) }
     {
@@ -45,7 +45,7 @@ impl Network {
 }
 
 impl Layout {
-    /// Where a field stands in a frame whose layers stand so, or `None` where the frame lacks it, or where the field is no part of a frame (IN_PORT and METADATA).
+    /// Where a field is in a frame with this layout, or `None` where the frame lacks it, or where the field is no part of a frame (IN_PORT and METADATA).
     ///
     /// VLAN_VID has the 12 bits of the outermost tag. Places are counted in bits, so they fit for a frame below 2^61 bytes, and no memory holds a longer one.
     pub fn place(&self, field: Field) -> Option<Place>

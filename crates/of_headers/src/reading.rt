@@ -1,4 +1,4 @@
-//! The fields of a frame whose layers are known to stand somewhere.
+//! The fields of a frame whose layout is known.
 //!
 //! Where two layers have a field of one name, the outer one's counts. So the inner layers' fields are put into a key first.
 
@@ -37,7 +37,7 @@ fn add_ipv6_packet(packet: &[u8], named: usize, payload: Payload, key: &mut Fiel
     add_ipv6(packet, named, key);
 }
 
-/// Puts a frame's type into a key, and the fields of what stands after it.
+/// Puts a frame's type into a key, and the fields of what follows it.
 fn add_body(kind: u16, packet: &[u8], network: Network, key: &mut FieldKey)
     requires { network ≡ network_of (body_of kind packet.now) }
     ensures { (f : TheField) → value key.new f ≡ option_or (look f (cells_in ether_type (kind ∷ []) ++ body_cells (body_of kind packet.now))) (value key.old f) }
@@ -51,7 +51,7 @@ fn add_body(kind: u16, packet: &[u8], network: Network, key: &mut FieldKey)
     add_type(kind, key);
 }
 
-/// The fields of a frame whose layers stand so, which came by a port, with the metadata that a lookup sees.
+/// The fields of a frame with this layout, which was received at a port, with the metadata that a lookup sees.
 pub fn key_in(frame: &[u8], layout: Layout, in_port: u32, metadata: u64) -> FieldKey
     requires long { 14 ≤ length frame.now }
     requires places { layout ≡ layout_of (layers_of frame.now) }

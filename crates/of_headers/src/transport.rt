@@ -42,7 +42,7 @@ fn header_bytes(kind: Transport) -> usize
     }
 }
 
-/// The header that so many bytes hold where this kind is named: the whole of it, or none.
+/// The header that `room` bytes hold where this kind is named: the whole of it, or none.
 pub fn transport_in(kind: Transport, room: usize) -> Transport
     ensures { result ≡ whole_in kind room }
 {

@@ -5,7 +5,7 @@
 pub enum Word {
     /// A decimal number up to this one.
     Decimal(u64),
-    /// `0x` and two digits for each of so many bytes.
+    /// `0x` and two digits for each of this many bytes.
     Hex(usize),
     /// Bytes, two digits each, or `-`.
     Bytes,
@@ -164,7 +164,7 @@ pub const FLOW_LINES: [Form; 16] = [
     },
 ];
 
-// The words behind a name, where a line begins with it.
+// The words after a name, where a line begins with it.
 fn behind<'a>(line: &'a [u8], name: &[u8]) -> Option<Option<&'a [u8]>> {
     let rest = line.strip_prefix(name)?;
     match rest.split_first() {

@@ -12,15 +12,15 @@ use thiserror::Error;
 pub enum Hint {
     #[error("{0}")]
     Layout(LayoutFault),
-    #[error("no row is called so; rows are connect, lost, c, f, t, port add, port remove, port link")]
+    #[error("unknown row; rows are connect, lost, c, f, t, port add, port remove, port link")]
     UnknownRow,
-    #[error("no line is called so; lines are group, bucket, flow, match, apply, clear, write, metadata, goto, output, push_vlan, pop_vlan, to_group, set_nw_ttl, dec_nw_ttl, set")]
+    #[error("unknown line; lines are group, bucket, flow, match, apply, clear, write, metadata, goto, output, push_vlan, pop_vlan, to_group, set_nw_ttl, dec_nw_ttl, set")]
     UnknownLine,
     #[error("{0}")]
     Words(WordFault),
-    #[error("connect, lost and c are a controller's rows, and have no place in this file")]
+    #[error("connect, lost and c are rows of a controller, which this file may not have")]
     Controller,
-    #[error("its words are right, but it may not stand here: {0}")]
+    #[error("its words are right, but it is out of place: {0}")]
     Order(&'static str),
 }
 
@@ -50,6 +50,6 @@ pub fn flow_line_hint(line: &[u8]) -> Hint
     ensures { IsSo result line.now }
 {
     fault(line, &FLOW_LINES, Hint::UnknownLine).unwrap_or(Hint::Order(
-        "groups by rising number, each with its buckets and their actions; then flows, each with its match by the order of fields, and apply, clear, write, metadata, goto, once each; a mask that says nothing is not written",
+        "groups in ascending order of number, each with its buckets and their actions; then flows, each with its match in the order of fields, and apply, clear, write, metadata, goto, once each; a mask of all ones is left out, and so is a field whose mask is 0",
     ))
 }

@@ -1,4 +1,4 @@
-//! What is wrong with a line before its words are looked at.
+//! What is wrong with a line before its words are checked.
 ghost use Rattle.of_hints.specs.Layout.{IsFault};
 ghost use Rattle.std.specs.Prelude.{IfSome};
 
@@ -14,15 +14,15 @@ pub enum LayoutFault {
     TooLong,
     #[error("the line is not UTF-8 text")]
     NotText,
-    #[error("a CR stands in the line, as at the line ends of Windows: convert them (dos2unix)")]
+    #[error("the line has a CR, as Windows line ends do: convert them (dos2unix)")]
     CarriageReturn,
-    #[error("a tab stands in the line: words are separated by one space")]
+    #[error("the line has a tab: words are separated by one space")]
     Tab,
-    #[error("a space too many: words are separated by one space, and none stands at the ends of a line")]
+    #[error("a space too many: words are separated by one space, and a line neither begins nor ends with one")]
     Space,
 }
 
-// Whether a space stands at an end, or behind another one.
+// Whether a space is at an end, or after another one.
 fn has_space_too_many(line: &[u8]) -> bool {
     line.split(|byte| *byte == b' ').any(|word| word.is_empty())
 }

@@ -108,7 +108,7 @@ fn unless(good: bool, fault: WordFault) -> Option<WordFault> {
     if good { None } else { Some(fault) }
 }
 
-// What is wrong with a word, behind the name of this field.
+// What is wrong with a word, after the name of this field.
 fn word_fault(kind: Word, word: &[u8], place: usize, field: Option<Field>) -> Option<WordFault> {
     match kind {
         Word::Decimal(most) => decimal_fault(word, place, most),
@@ -140,7 +140,7 @@ fn count(words: Option<&[u8]>) -> usize {
     }
 }
 
-/// What is wrong with the words behind the name of a form, if anything is.
+/// What is wrong with the words after the name of a form, if anything is.
 pub fn words_fault(form: &Form, words: Option<&[u8]>) -> Option<WordFault> {
     let found = count(words);
     let least = form

@@ -74,7 +74,7 @@ append_same a c x y e h =
     let g : x ≡ y = sym (drop_at a x (length c) e) ∙ ap (drop (length c)) h ∙ drop_at c y (length c) refl in
     (f, g)
 
--- two numbers at the front of the same bits
+-- two numbers that the same bits begin with
 pub bits_front : (n v w : ℕ) (x y : List ℕ) → v < 2 ^ n → w < 2 ^ n → bits n v ++ x ≡ bits n w ++ y → (v ≡ w) × (x ≡ y)
 bits_front n v w x y p q e =
     let r = append_same (bits n v) (bits n w) x y (length-bits n v ∙ sym (length-bits n w)) e in

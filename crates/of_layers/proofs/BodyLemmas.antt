@@ -1,4 +1,4 @@
--- What stands after the type: spelt by its body, by no other, and well formed.
+-- What follows the type: spelt by its body, by no other, and well formed.
 use Rattle.std.proofs.Common.{◌≡◌, ℕ, Bool, true, false, cond, List, refl, sym, ap, ◌∙◌}
 use Rattle.std.specs.Prelude.{◌==◌, ◌&&◌, ◌||◌}
 use Rattle.std.proofs.lemmas.Bool.{eqb-true, eq-eqb}

@@ -1,4 +1,4 @@
--- What an IP packet carries: spelt by its numbers and the bytes behind them, by no others, and well formed.
+-- What an IP packet carries: spelt by its numbers and the bytes after them, by no others, and well formed.
 use Rattle.std.proofs.Common.{◌≡◌, ℕ, ◌*◌, ◌≤◌, Bool, true, false, cond, List, ◌++◌, length, get_or, drop, refl, sym, ap, ◌∙◌, arith, append_assoc}
 use Rattle.std.specs.Prelude.{nat_le}
 use Rattle.std.proofs.lemmas.Bool.{leb-true}

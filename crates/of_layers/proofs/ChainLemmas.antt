@@ -247,7 +247,7 @@ chain_next : (most kind : ℕ) (s : List ℕ) → has_extension kind s ≡ true 
 unfolding chain_of
 chain_next most kind s h l = rw (h, l) refl
 
--- an extension header at the front of bytes
+-- an extension header that bytes begin with
 record ExtensionIs (kind : ℕ) (ns : List ℕ) (x : Extension) (rest s : List ℕ) : Type 0 where
   there : has_extension kind s ≡ true
   least : 8 ≤ length s
@@ -306,7 +306,7 @@ same_behind x y es c d p q = λ j. behind (p j) (q j)
 later_is : (kind : ℕ) (s ns : List ℕ) (t : Bool) → is_fragment kind ≡ true → get_or ns 2 0 ≡ word s 2 / 8 → (get_or ns 2 0 == 0) ≡ t → is_later kind s ≡ not t
 later_is kind s ns t f o z = ap (λ (x : Bool). x && not ((word s 2 / 8) == 0)) f ∙ ap (λ (n : ℕ). not (n == 0)) (sym o) ∙ ap not z
 
--- behind a later fragment
+-- after a later fragment
 later_same : (most kind : ℕ) (ns : List ℕ) (es : List Extension) (c : Carried) (s : List ℕ) → AreBytes s → ExtensionIs kind ns (Fragment ns) (spelt (extension_cells es ++ carried_cells c)) s → is_later kind s ≡ true → es ≡ [] → IsCarried Nothing c →
     ◌≡◌ {A = Chain} (record { extensions = Fragment ns ∷ es; carried = c }) (chain_of (suc most) kind s)
 later_same most kind ns es c s b x later none h =
@@ -315,7 +315,7 @@ later_same most kind ns es c s b x later none h =
     let same : c ≡ carried_of Nothing (drop 8 s) = carried_is Nothing c (drop 8 s) h (AreBytes-drop 8 s b) bytes in
     same_behind (Fragment ns) (extension_of kind s) es c (ends_as Nothing (drop 8 s)) x.is (λ j. record { extensions = none j; carried = same j }) ∙ sym (chain_later most kind s x.there later)
 
--- behind any other extension header
+-- after any other extension header
 next_same : (most kind : ℕ) (ns : List ℕ) (e : Extension) (es : List Extension) (c : Carried) (s : List ℕ) → ExtensionIs kind ns e (spelt (extension_cells es ++ carried_cells c)) s → is_later kind s ≡ false →
     ◌≡◌ {A = Chain} (record { extensions = es; carried = c }) (chain_of most (get_or s 0 0) (drop (extension_size kind s) s)) → ◌≡◌ {A = Chain} (record { extensions = e ∷ es; carried = c }) (chain_of (suc most) kind s)
 next_same most kind ns e es c s x first i =

@@ -57,7 +57,7 @@ are_layers frame b h =
 
 -- ---- no others spell it
 
--- what the tags in front of bytes are
+-- what the tags that bytes begin with are
 record TagsAre (ts : List (List ℕ)) (type : ℕ) (rest s : List ℕ) : Type 0 where
   pub count : tag_count s ≡ length ts
   pub tags : ts ≡ tags_of (length ts) s

@@ -1,4 +1,4 @@
--- Numbers and bytes at the front of the same bits are the same.
+-- Numbers and bytes that the same bits begin with are the same.
 use Rattle.std.proofs.Common.{◌≡◌, ℕ, suc, ◌+◌, ◌*◌, ◌≤◌, List, [], ◌∷◌, ◌++◌, length, get_or, take, drop, refl, sym, ap, ◌∙◌, arith, append_assoc}
 use Rattle.std.proofs.lemmas.List.{get_or-drop, length-append, append-nil, take_all, length-take, length-take-le, take-append-drop, drop-append-le}
 use Rattle.of_layers.specs.Bits.{bits, bits_of}
@@ -50,7 +50,7 @@ bytes_same q s f g e =
 pub drop_parts : (m n : ℕ) (s : List ℕ) → m ≤ n → m ≤ length s → drop m s ≡ drop m (take n s) ++ drop n s
 drop_parts m n s h l = ap (drop m) (sym (take-append-drop n s)) ∙ drop-append-le m (take n s) (drop n s) (omega (arith, length-take n s))
 
--- so many bytes in front, and bytes behind them
+-- n bytes, and bytes after them
 pub cut_bits : (a rest s : List ℕ) (n : ℕ) → length a ≡ 8 * n → AreBytes rest → AreBytes s → a ++ bits_of rest ≡ bits_of s → (a ≡ bits_of (take n s)) × (rest ≡ drop n s)
 cut_bits a rest s n l f g e =
     let all : 8 * n + 8 * length rest ≡ 8 * length s = omega (arith, ap length e, length-append a (bits_of rest), length-bits_of rest, length-bits_of s, l) in

@@ -64,7 +64,7 @@ tag_room (a ∷ b ∷ c ∷ d ∷ e ∷ f ∷ s) h =
       | false ↦ omega arith
     ]
 
--- one tag more
+-- one more tag
 pub record HasTag (s : List ℕ) (m : ℕ) : Type 0 where
   pub is : is_tag_type (word s 0) ≡ true
   pub next : tag_count (drop 4 s) ≡ m
@@ -86,12 +86,12 @@ count_tag (a ∷ b ∷ c ∷ d ∷ f ∷ g ∷ s) m e =
     ] e in
     record { is = r.0; next = r.1 }
 
--- behind the tags no tag stands
+-- after the tags there is no tag
 pub end_count : (n : ℕ) (s : List ℕ) → tag_count s ≡ n → tag_count (drop (4 * n) s) ≡ 0
 end_count zero s e = e
 end_count (suc n) s e = let t = count_tag s n e in ap (λ (k : ℕ). tag_count (drop k s)) (omega arith) ∙ sym (ap tag_count (drop-drop (4 * n) 4 s)) ∙ end_count n (drop 4 s) t.next
 
--- where no tag stands, a tag's type is cut off
+-- where there is no tag, a tag's type is cut off
 pub few_left : (s : List ℕ) → tag_count s ≡ 0 → is_tag_type (word s 0) ≡ true → length s < 6
 few_left s e t = elim (cases_lt (length s) 6) [
   | inl lt ↦ lt

@@ -1,10 +1,10 @@
 -- The match fields (OpenFlow 1.3.5, 7.2.3.7): their numbers, their bits, the bytes of a value,
--- whether a mask may stand (7.2.3.5), whether a set-field action may set them (5.12), and what they need (7.2.3.6).
+-- whether they take a mask (7.2.3.5), whether a set-field action may set them (5.12), and their prerequisites (7.2.3.6).
 use Rattle.std.specs.Prelude.{ℕ, ◌^◌, ◌-◌, Bool, true, false, ◌==◌, List, codes, Option, find}
 use Rattle.of_layers.specs.declared.field.Field.{Field}
 use Rattle.of_layers.specs.declared.field.Field.TheVariants.{InPort, Metadata, EthDst, EthSrc, EthType, VlanVid, VlanPcp, IpDscp, IpEcn, IpProto, Ipv4Src, Ipv4Dst, TcpSrc, TcpDst, UdpSrc, UdpDst, Icmpv4Type, Icmpv4Code, ArpOp, ArpSpa, ArpTpa, ArpSha, ArpTha, Ipv6Src, Ipv6Dst, Ipv6Flabel, Icmpv6Type, Icmpv6Code}
-use Rattle.of_layers.specs.declared.field.Need.{Need}
-use Rattle.of_layers.specs.declared.field.Need.TheVariants.{Nothing, Tag, Ip, Ipv4, Ipv6, Arp, Tcp, Udp, Icmpv4, Icmpv6}
+use Rattle.of_layers.specs.declared.field.Prerequisite.{Prerequisite}
+use Rattle.of_layers.specs.declared.field.Prerequisite.TheVariants.{Nothing, Tag, Ip, Ipv4, Ipv6, Arp, Tcp, Udp, Icmpv4, Icmpv6}
 use Rattle.of_layers.specs.declared.field.FieldRow.{FieldRow}
 use Rattle.of_layers.specs.declared.field.TheConstants.Field as constants
 
@@ -22,10 +22,10 @@ abbrev pub sets : Bool
 sets = true
 
 -- a value is at most a one in each bit
-abbrev pub row : ℕ → ℕ → ℕ → Bool → Bool → Need → FieldRow
+abbrev pub row : ℕ → ℕ → ℕ → Bool → Bool → Prerequisite → FieldRow
 row number bits bytes maskable settable need = record { number = number; bits = bits; bytes = bytes; ones = 2 ^ bits - 1; maskable = maskable; settable = settable; need = need }
 
--- the table: number, bits, bytes, mask, set-field, need
+-- the table: number, bits, bytes, mask, set-field, prerequisite
 unfoldable pub row_of : Field → FieldRow
 row_of InPort = row 0 32 4 plain fixed Nothing
 row_of Metadata = row 2 64 8 masks fixed Nothing
@@ -105,10 +105,10 @@ is_maskable f = (row_of f).maskable
 abbrev pub is_settable : Field → Bool
 is_settable f = (row_of f).settable
 
-abbrev pub need_of : Field → Need
-need_of f = (row_of f).need
+abbrev pub prerequisite_of : Field → Prerequisite
+prerequisite_of f = (row_of f).need
 
--- each field once, by rising number
+-- each field once, in ascending order of number
 abbrev pub all_fields : List Field
 all_fields = constants.ALL
 

@@ -21,7 +21,7 @@ named f n = record { name = Some (number_of f); width = n }
 abbrev pub own : ℕ → ℕ → Item
 own m n = record { name = Some m; width = n }
 
--- names of numbers that are no fields: the time to live or hop limit, the checksum of the IPv4 header, and that of what it carries
+-- names of numbers that are no fields: the TTL or hop limit, the checksum of the IPv4 header, and that of what it carries
 abbrev pub ttl : ℕ
 ttl = 101
 
@@ -85,13 +85,13 @@ size_of Icmpv6 = 4
 
 -- ---- layers: the numbers of each header, and bytes that no field names
 
--- what an IP packet carries: a header and the bytes behind it
+-- what an IP packet carries: a header and the bytes after it
 pub record Carried : Type 0 where
   pub kind : Transport
   pub numbers : List ℕ
   pub rest : List ℕ
 
--- an extension header of IPv6: options or routing, with the bytes that its length tells, or that of a fragment
+-- an extension header of IPv6: options or routing, with the bytes that its length counts, or that of a fragment
 pub data Extension : Type 0 where
   Options : List ℕ → List ℕ → Extension
   Fragment : List ℕ → Extension
@@ -105,7 +105,7 @@ abbrev pub all_bytes : List Extension → ℕ
 all_bytes [] = 0
 all_bytes (e ∷ es) = extension_bytes e + all_bytes es
 
--- What stands after the type. ARP: numbers, and bytes behind them. IPv4: numbers, options, what it carries, and bytes behind its total length. IPv6: numbers, extension headers, what it carries, and bytes behind its payload.
+-- What follows the type. ARP: numbers, and bytes after them. IPv4: numbers, options, what it carries, and bytes after its total length. IPv6: numbers, extension headers, what it carries, and bytes after its payload.
 pub data Body : Type 0 where
   Plain : List ℕ → Body
   Arp : List ℕ → List ℕ → Body

@@ -1,4 +1,4 @@
--- Numbers by their names among the cells of layers: what they are, and where they stand.
+-- Numbers by their names among the cells of layers: their values, and their places.
 use Rattle.std.specs.Prelude.{ℕ, ◌+◌, Bool, false, ◌==◌, if◌then◌else◌, List, [], ◌∷◌, Option, Some, None}
 use Rattle.of_layers.specs.declared.field.Field.{Field}
 use Rattle.of_layers.specs.declared.place.Place.{Place}
@@ -14,7 +14,7 @@ abbrev pub look_up : ℕ → List Cell → Option ℕ
 look_up n [] = None
 look_up n (c ∷ cs) = if name_is n c.name then Some c.value else look_up n cs
 
--- and where it stands, the first of the cells being behind so many bits
+-- and its place, where the first of the cells begins at bit `at`
 abbrev pub locate_at : ℕ → ℕ → List Cell → Option Place
 locate_at at n [] = None
 locate_at at n (c ∷ cs) = if name_is n c.name then Some (record { first = at; bits = c.width }) else locate_at (at + c.width) n cs

@@ -27,7 +27,7 @@ sixteen s i = 18446744073709551616 * eight s i + eight s (i + 8)
 abbrev pub is_tag_type : ℕ → Bool
 is_tag_type t = t == 0x8100 || t == 0x88a8
 
--- how many tags stand in front; a tag has four bytes after its type
+-- how many tags the bytes begin with; the type of a tag has four bytes after it
 abbrev pub tag_count : List ℕ → ℕ
 tag_count (a ∷ b ∷ c ∷ d ∷ e ∷ f ∷ rest) = if is_tag_type (256 * a + b) then suc (tag_count (e ∷ f ∷ rest)) else 0
 tag_count s = 0
@@ -49,7 +49,7 @@ over_ipv4 protocol = if protocol == 6 then Tcp else if protocol == 17 then Udp e
 abbrev pub over_ipv6 : ℕ → Transport
 over_ipv6 protocol = if protocol == 6 then Tcp else if protocol == 17 then Udp else if protocol == 58 then Icmpv6 else Nothing
 
--- a header is there where so many bytes hold the whole of it
+-- there is a header where n bytes hold the whole of it
 abbrev pub whole_in : Transport → ℕ → Transport
 whole_in kind n = if nat_le (size_of kind) n then kind else Nothing
 
@@ -96,7 +96,7 @@ ipv4_numbers p = (slice_index p 0 / 16) ∷ (slice_index p 0 % 16) ∷ (slice_in
 abbrev pub kind_behind : ℕ → Transport → Transport
 kind_behind offset kind = if offset == 0 then kind else Nothing
 
--- the bytes that the total length and the frame leave
+-- the bytes after the header, within the total length and the frame
 abbrev pub ipv4_inside : List ℕ → List ℕ
 ipv4_inside p = drop (header_size p) (take (word p 2) p)
 
@@ -124,7 +124,7 @@ is_fragment kind = kind == 44
 abbrev pub extension_size : ℕ → List ℕ → ℕ
 extension_size kind s = if is_fragment kind then 8 else 8 * (slice_index s 1 + 1)
 
--- an extension header of this kind stands in front, the whole of it
+-- the bytes begin with an extension header of this kind, the whole of it
 abbrev pub has_extension : ℕ → List ℕ → Bool
 has_extension kind s = (is_fragment kind || has_options kind) && nat_le 8 (length s) && nat_le (extension_size kind s) (length s)
 
@@ -141,7 +141,7 @@ fragment_numbers s = slice_index s 0 ∷ slice_index s 1 ∷ (word s 2 / 8) ∷ 
 abbrev pub extension_of : ℕ → List ℕ → Extension
 extension_of kind s = if is_fragment kind then Fragment (fragment_numbers s) else Options (options_numbers s) (drop 2 (take (extension_size kind s) s))
 
--- extension headers, and what stands behind them
+-- extension headers, and what follows them
 pub record Chain : Type 0 where
   pub extensions : List Extension
   pub carried : Carried
@@ -153,7 +153,7 @@ behind e c = record { extensions = e ∷ c.extensions; carried = c.carried }
 abbrev pub ends_as : Transport → List ℕ → Chain
 ends_as kind s = record { extensions = []; carried = carried_of kind s }
 
--- The extension headers in front, where the first is of this kind; there are at most so many. The kind after them names what is carried; one that is cut carries bytes alone, and so does a later fragment.
+-- The extension headers that bytes begin with, the first of this kind, at most so many. The kind after them names what is carried; a header that is cut off carries bytes alone, and so does a later fragment.
 unfoldable pub chain_of : ℕ → ℕ → List ℕ → Chain
 chain_of zero kind s = ends_as (over_ipv6 kind) s
 chain_of (suc most) kind s =
@@ -162,11 +162,11 @@ chain_of (suc most) kind s =
     (if is_later kind s then ends_as Nothing (drop 8 s) else chain_of most (slice_index s 0) (drop (extension_size kind s) s))
     else ends_as (over_ipv6 kind) s
 
--- the bytes that the payload length and the frame leave
+-- the bytes after the header, within the payload length and the frame
 abbrev pub ipv6_inside : List ℕ → List ℕ
 ipv6_inside p = drop 40 (take (40 + word p 4) p)
 
--- each extension header has bytes, so there are at most as many
+-- each extension header has bytes, so there are at most as many of them
 abbrev pub ipv6_chain : List ℕ → Chain
 ipv6_chain p = chain_of (length (ipv6_inside p)) (slice_index p 6) (ipv6_inside p)
 
@@ -175,7 +175,7 @@ ipv6_of p = Ipv6 (ipv6_numbers p) (ipv6_chain p).extensions (ipv6_chain p).carri
 
 -- ---- the frame
 
--- what stands after a type
+-- what follows a type
 unfoldable pub body_of : ℕ → List ℕ → Body
 body_of type p =
     if (type == 0x0806) && is_arp p then arp_of p

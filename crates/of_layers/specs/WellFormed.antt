@@ -55,7 +55,7 @@ pub record IsIpv4 (ns opts : List ℕ) (carried : Carried) (rest : List ℕ) : T
 
 -- ---- IPv6
 
--- The first of these headers is of this kind. In the numbers: 0 is the next kind; of options 1 is the length; of a fragment 2 is the offset. Behind a later fragment no header is read.
+-- The first of these headers is of this kind. In the numbers: 0 is the next kind; of options 1 is the length; of a fragment 2 is the offset. After a later fragment no header is read.
 abbrev pub AreExtensions : ℕ → List Extension → Carried → Type 0
 AreExtensions kind [] c = IsCarried (over_ipv6 kind) c × (has_extension kind c.rest ≡ false)
 AreExtensions kind (Options ns bytes ∷ es) c =

@@ -3,9 +3,9 @@
 ghost use Rattle.std.specs.Prelude.{◌≡◌, ◌≤◌, ◌<◌};
 ghost use Rattle.of_layers.specs.Fields.{name_of, row_of, number_of, field_at};
 
-/// What a field needs elsewhere in its match (OpenFlow 1.3.5, 7.2.3.6).
+/// The prerequisite of a field, elsewhere in its match (OpenFlow 1.3.5, 7.2.3.6).
 #[derive(Clone, Copy, Debug, PartialEq, Eq)]
-pub enum Need {
+pub enum Prerequisite {
     Nothing,
     /// A VLAN_VID other than 0, which says that there is no tag.
     Tag,
@@ -71,11 +71,11 @@ pub struct FieldRow {
     pub bytes: usize,
     /// The largest value: a one in each bit.
     pub ones: u128,
-    /// Whether a mask may stand behind its value.
+    /// Whether a mask may follow its value.
     pub maskable: bool,
     /// Whether a set-field action may set it.
     pub settable: bool,
-    pub need: Need,
+    pub need: Prerequisite,
 }
 
 fn make_row(
@@ -85,7 +85,7 @@ fn make_row(
     ones: u128,
     maskable: bool,
     settable: bool,
-    need: Need,
+    need: Prerequisite,
 ) -> FieldRow
     ensures { result ≡ record { number = number; bits = bits; bytes = bytes; ones = ones; maskable = maskable; settable = settable; need = need } }
 {
@@ -151,7 +151,15 @@ impl Field {
     {
         let number = self.number();
         match self {
-            Field::InPort => make_row(number, 32, 4, 0xffffffff, false, false, Need::Nothing),
+            Field::InPort => make_row(
+                number,
+                32,
+                4,
+                0xffffffff,
+                false,
+                false,
+                Prerequisite::Nothing,
+            ),
             Field::Metadata => make_row(
                 number,
                 64,
@@ -159,29 +167,45 @@ impl Field {
                 0xffffffffffffffff,
                 true,
                 false,
-                Need::Nothing,
+                Prerequisite::Nothing,
             ),
-            Field::EthDst => make_row(number, 48, 6, 0xffffffffffff, true, true, Need::Nothing),
-            Field::EthSrc => make_row(number, 48, 6, 0xffffffffffff, true, true, Need::Nothing),
-            Field::EthType => make_row(number, 16, 2, 0xffff, false, false, Need::Nothing),
-            Field::VlanVid => make_row(number, 13, 2, 0x1fff, true, true, Need::Nothing),
-            Field::VlanPcp => make_row(number, 3, 1, 0x7, false, true, Need::Tag),
-            Field::IpDscp => make_row(number, 6, 1, 0x3f, false, true, Need::Ip),
-            Field::IpEcn => make_row(number, 2, 1, 0x3, false, true, Need::Ip),
-            Field::IpProto => make_row(number, 8, 1, 0xff, false, false, Need::Ip),
-            Field::Ipv4Src => make_row(number, 32, 4, 0xffffffff, true, true, Need::Ipv4),
-            Field::Ipv4Dst => make_row(number, 32, 4, 0xffffffff, true, true, Need::Ipv4),
-            Field::TcpSrc => make_row(number, 16, 2, 0xffff, false, true, Need::Tcp),
-            Field::TcpDst => make_row(number, 16, 2, 0xffff, false, true, Need::Tcp),
-            Field::UdpSrc => make_row(number, 16, 2, 0xffff, false, true, Need::Udp),
-            Field::UdpDst => make_row(number, 16, 2, 0xffff, false, true, Need::Udp),
-            Field::Icmpv4Type => make_row(number, 8, 1, 0xff, false, true, Need::Icmpv4),
-            Field::Icmpv4Code => make_row(number, 8, 1, 0xff, false, true, Need::Icmpv4),
-            Field::ArpOp => make_row(number, 16, 2, 0xffff, false, true, Need::Arp),
-            Field::ArpSpa => make_row(number, 32, 4, 0xffffffff, true, true, Need::Arp),
-            Field::ArpTpa => make_row(number, 32, 4, 0xffffffff, true, true, Need::Arp),
-            Field::ArpSha => make_row(number, 48, 6, 0xffffffffffff, true, true, Need::Arp),
-            Field::ArpTha => make_row(number, 48, 6, 0xffffffffffff, true, true, Need::Arp),
+            Field::EthDst => make_row(
+                number,
+                48,
+                6,
+                0xffffffffffff,
+                true,
+                true,
+                Prerequisite::Nothing,
+            ),
+            Field::EthSrc => make_row(
+                number,
+                48,
+                6,
+                0xffffffffffff,
+                true,
+                true,
+                Prerequisite::Nothing,
+            ),
+            Field::EthType => make_row(number, 16, 2, 0xffff, false, false, Prerequisite::Nothing),
+            Field::VlanVid => make_row(number, 13, 2, 0x1fff, true, true, Prerequisite::Nothing),
+            Field::VlanPcp => make_row(number, 3, 1, 0x7, false, true, Prerequisite::Tag),
+            Field::IpDscp => make_row(number, 6, 1, 0x3f, false, true, Prerequisite::Ip),
+            Field::IpEcn => make_row(number, 2, 1, 0x3, false, true, Prerequisite::Ip),
+            Field::IpProto => make_row(number, 8, 1, 0xff, false, false, Prerequisite::Ip),
+            Field::Ipv4Src => make_row(number, 32, 4, 0xffffffff, true, true, Prerequisite::Ipv4),
+            Field::Ipv4Dst => make_row(number, 32, 4, 0xffffffff, true, true, Prerequisite::Ipv4),
+            Field::TcpSrc => make_row(number, 16, 2, 0xffff, false, true, Prerequisite::Tcp),
+            Field::TcpDst => make_row(number, 16, 2, 0xffff, false, true, Prerequisite::Tcp),
+            Field::UdpSrc => make_row(number, 16, 2, 0xffff, false, true, Prerequisite::Udp),
+            Field::UdpDst => make_row(number, 16, 2, 0xffff, false, true, Prerequisite::Udp),
+            Field::Icmpv4Type => make_row(number, 8, 1, 0xff, false, true, Prerequisite::Icmpv4),
+            Field::Icmpv4Code => make_row(number, 8, 1, 0xff, false, true, Prerequisite::Icmpv4),
+            Field::ArpOp => make_row(number, 16, 2, 0xffff, false, true, Prerequisite::Arp),
+            Field::ArpSpa => make_row(number, 32, 4, 0xffffffff, true, true, Prerequisite::Arp),
+            Field::ArpTpa => make_row(number, 32, 4, 0xffffffff, true, true, Prerequisite::Arp),
+            Field::ArpSha => make_row(number, 48, 6, 0xffffffffffff, true, true, Prerequisite::Arp),
+            Field::ArpTha => make_row(number, 48, 6, 0xffffffffffff, true, true, Prerequisite::Arp),
             Field::Ipv6Src => make_row(
                 number,
                 128,
@@ -189,7 +213,7 @@ impl Field {
                 0xffffffffffffffffffffffffffffffff,
                 true,
                 true,
-                Need::Ipv6,
+                Prerequisite::Ipv6,
             ),
             Field::Ipv6Dst => make_row(
                 number,
@@ -198,11 +222,11 @@ impl Field {
                 0xffffffffffffffffffffffffffffffff,
                 true,
                 true,
-                Need::Ipv6,
+                Prerequisite::Ipv6,
             ),
-            Field::Ipv6Flabel => make_row(number, 20, 4, 0xfffff, true, true, Need::Ipv6),
-            Field::Icmpv6Type => make_row(number, 8, 1, 0xff, false, true, Need::Icmpv6),
-            Field::Icmpv6Code => make_row(number, 8, 1, 0xff, false, true, Need::Icmpv6),
+            Field::Ipv6Flabel => make_row(number, 20, 4, 0xfffff, true, true, Prerequisite::Ipv6),
+            Field::Icmpv6Type => make_row(number, 8, 1, 0xff, false, true, Prerequisite::Icmpv6),
+            Field::Icmpv6Code => make_row(number, 8, 1, 0xff, false, true, Prerequisite::Icmpv6),
         }
     }
 

@@ -6,7 +6,7 @@ mod laws;
 mod place;
 mod transport;
 
-pub use field::{Field, FieldRow, Need};
+pub use field::{Field, FieldRow, Prerequisite};
 pub use laws::{number_names_field, spelt_by_one};
 pub use place::Place;
 pub use transport::Transport;

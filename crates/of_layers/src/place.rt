@@ -1,6 +1,6 @@
-//! Where a field stands in a frame.
+//! Where a field is in a frame.
 
-/// Where a field stands in a frame: its first bit, counted from the frame's start, and how many bits it has.
+/// Where a field is in a frame: its first bit, counted from the frame's start, and how many bits it has.
 #[derive(Clone, Copy, Debug, PartialEq, Eq)]
 pub struct Place {
     pub first: usize,

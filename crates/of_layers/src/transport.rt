@@ -1,6 +1,6 @@
 //! What an IP packet carries.
 
-/// The header that stands in front of what an IP packet carries.
+/// The header at the start of what an IP packet carries.
 #[derive(Clone, Copy, Debug, PartialEq, Eq)]
 pub enum Transport {
     /// None of the others, or not the whole of one.

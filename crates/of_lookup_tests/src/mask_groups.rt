@@ -6,26 +6,60 @@ use std::alloc::Global;
 use std::process::Abort;
 use std::test::Fail;
 
-const PORT_1: [u8; 16] = [0, 1, 0, 12, 0x80, 0, 0, 4, 0, 0, 0, 1, 0, 0, 0, 0];
+mod rows;
 
-const PORT_2: [u8; 16] = [0, 1, 0, 12, 0x80, 0, 0, 4, 0, 0, 0, 2, 0, 0, 0, 0];
-
-const TYPE_88B5: [u8; 16] = [0, 1, 0, 10, 0x80, 0, 0x0a, 2, 0x88, 0xb5, 0, 0, 0, 0, 0, 0];
-
-const ANY: [u8; 8] = [0, 1, 0, 4, 0, 0, 0, 0];
-
-fn key(in_port: u32, ether_type: u8) -> Result<FieldKey, Fail> {
-    let low = ether_type;
-    let high: u8 = if low == 0xb5 { 0x88 } else { 0x08 };
-    let frame = [2, 0, 0, 0, 0, 2, 2, 0, 0, 0, 0, 1, high, low];
-    Ok(read(&frame, in_port, 0).ok().ok_or("a frame")?.key())
+/// An entry as a row writes it: its match on the wire and its priority.
+struct Entry {
+    fields: &'static [u8],
+    priority: u16,
 }
 
-fn of(alloc: Global, bytes: &[u8]) -> Result<Match, Fail> {
-    Ok(read_match(alloc, bytes).ok().ok_or("a match")?.0)
+/// A frame as a row writes it.
+struct Frame {
+    in_port: u32,
+    ether_type: u16,
 }
 
-// Takes out the oldest entry of that match and priority.
+/// What is done with a classifier, or asked of it. An answer is a place in the order in which entries were added, from 0.
+enum Step {
+    Add(Entry),
+    /// Takes out the oldest entry of that match and priority.
+    Take(Entry),
+    /// Makes the oldest entry of that match and priority the youngest.
+    Renew(Entry),
+    /// The winner, and how many masks were asked.
+    Find(Frame, Option<usize>, usize),
+    Winner(Frame, Option<usize>),
+    Peek(Frame, Option<usize>),
+    Same(Entry, Option<usize>),
+    Known,
+}
+
+/// What a step does or shows, and the step.
+type Row = (&'static str, Step);
+
+fn key_of(frame: &Frame) -> Result<FieldKey, Fail> {
+    let [high, low] = frame.ether_type.to_be_bytes();
+    let bytes = [2, 0, 0, 0, 0, 2, 2, 0, 0, 0, 0, 1, high, low];
+    Ok(read(&bytes, frame.in_port, 0).ok().ok_or("a frame")?.key())
+}
+
+fn match_of(alloc: Global, entry: &Entry) -> Result<Match, Fail> {
+    Ok(read_match(alloc, entry.fields).ok().ok_or("a match")?.0)
+}
+
+/// The number of the entry of a place.
+fn number_at(numbers: &[usize], place: Option<usize>) -> Result<Option<usize>, Fail> {
+    match place {
+        Some(place) => Ok(Some(*numbers.get(place).ok_or("an entry was added")?)),
+        None => Ok(None),
+    }
+}
+
+fn add(lookup: &mut MaskGroups, fields: Match, priority: u16) -> Result<usize, Fail> {
+    Ok(lookup.add(fields, priority)?)
+}
+
 #[tactic(auto, using(of_classifier::proofs::SameUsed::same_used))]
 fn take_same(lookup: &mut MaskGroups, fields: &Match, priority: u16) {
     if let Some(number) = lookup.same(fields, priority) {
@@ -33,46 +67,87 @@ fn take_same(lookup: &mut MaskGroups, fields: &Match, priority: u16) {
     }
 }
 
-#[test]
-fn rows_of_find(rt: HostRuntime) -> Result<(), Fail> {
-    let alloc = rt.alloc();
+#[tactic(auto, using(of_classifier::proofs::SameUsed::same_used))]
+fn renew_same(lookup: &mut MaskGroups, fields: &Match, priority: u16) {
+    if let Some(number) = lookup.same(fields, priority) {
+        lookup.renew(number);
+    }
+}
+
+/// Asserts whether a step's answer is the entry of that place.
+fn names(
+    rt: &impl Abort,
+    numbers: &[usize],
+    what: &str,
+    found: Option<usize>,
+    place: Option<usize>,
+) -> Result<(), Fail> {
+    let wanted = number_at(numbers, place)?;
+    assert_eq!(rt; found, wanted, "{what}");
+    Ok(())
+}
+
+/// Does what a row says, and asserts its answer.
+fn play(
+    rt: &impl Abort,
+    alloc: Global,
+    lookup: &mut MaskGroups,
+    numbers: &mut Vec<usize>,
+    row: &Row,
+) -> Result<(), Fail> {
+    let (what, step) = row;
+    match step {
+        Step::Add(entry) => {
+            numbers.push(add(lookup, match_of(alloc, entry)?, entry.priority)?)?;
+            Ok(())
+        }
+        Step::Take(entry) => {
+            take_same(lookup, &match_of(alloc, entry)?, entry.priority);
+            Ok(())
+        }
+        Step::Renew(entry) => {
+            renew_same(lookup, &match_of(alloc, entry)?, entry.priority);
+            Ok(())
+        }
+        Step::Find(frame, place, probes) => {
+            let (found, asked) = lookup.find(&key_of(frame)?);
+            assert_eq!(rt; asked, *probes, "{what}");
+            names(rt, numbers, what, found, *place)
+        }
+        Step::Winner(frame, place) => {
+            let found = lookup.winner(&key_of(frame)?);
+            names(rt, numbers, what, found, *place)
+        }
+        Step::Peek(frame, place) => {
+            let found = lookup.peek(&key_of(frame)?);
+            names(rt, numbers, what, found, *place)
+        }
+        Step::Same(entry, place) => {
+            let found = lookup.same(&match_of(alloc, entry)?, entry.priority);
+            names(rt, numbers, what, found, *place)
+        }
+        Step::Known => {
+            lookup.known();
+            Ok(())
+        }
+    }
+}
+
+fn play_all(rt: &impl Abort, alloc: Global, rows: &[Row]) -> Result<(), Fail> {
     let mut lookup = MaskGroups::empty(alloc)?;
-    assert_eq!(rt; lookup.find(&key(1, 0xb5)?), (None, 0));
-    let a = lookup.add(of(alloc, &PORT_1)?, 10)?;
-    let b = lookup.add(of(alloc, &TYPE_88B5)?, 5)?;
-    assert_eq!(rt; lookup.find(&key(4, 6)?), (None, 2));
-    let c = lookup.add(of(alloc, &ANY)?, 0)?;
-    assert_eq!(rt; lookup.find(&key(1, 0xb5)?), (Some(a), 1));
-    assert_eq!(rt; lookup.find(&key(4, 0xb5)?), (Some(b), 2));
-    assert_eq!(rt; lookup.find(&key(4, 6)?), (Some(c), 3));
-    lookup.add(of(alloc, &PORT_2)?, 3)?;
-    take_same(&mut lookup, &of(alloc, &PORT_1)?, 10);
-    assert_eq!(rt; lookup.find(&key(4, 0xb5)?), (Some(b), 1));
+    let mut numbers = Vec::new(alloc);
+    for row in rows {
+        play(rt, alloc, &mut lookup, &mut numbers, row)?;
+    }
     Ok(())
 }
 
 #[test]
+fn rows_of_find(rt: HostRuntime) -> Result<(), Fail> {
+    play_all(&rt, rt.alloc(), rows::FIND)
+}
+
+#[test]
 fn ties_by_age(rt: HostRuntime) -> Result<(), Fail> {
-    let alloc = rt.alloc();
-    let mut lookup = MaskGroups::empty(alloc)?;
-    let b = lookup.add(of(alloc, &TYPE_88B5)?, 10)?;
-    let a = lookup.add(of(alloc, &PORT_1)?, 10)?;
-    assert_eq!(rt; lookup.find(&key(1, 0xb5)?), (Some(b), 2));
-    lookup.renew(b);
-    assert_eq!(rt; lookup.find(&key(1, 0xb5)?), (Some(a), 2));
-    assert_eq!(rt; lookup.winner(&key(1, 0xb5)?), Some(a));
-    assert_eq!(rt; lookup.peek(&key(1, 0xb5)?), Some(a));
-    let d = lookup.add(of(alloc, &PORT_1)?, 10)?;
-    assert_eq!(rt; lookup.same(&of(alloc, &PORT_1)?, 10), Some(a));
-    assert_eq!(rt; lookup.same(&of(alloc, &PORT_1)?, 9), None);
-    assert_eq!(rt; lookup.same(&of(alloc, &PORT_2)?, 10), None);
-    take_same(&mut lookup, &of(alloc, &PORT_1)?, 10);
-    assert_eq!(rt; lookup.same(&of(alloc, &PORT_1)?, 10), Some(d));
-    lookup.known();
-    assert_eq!(rt; lookup.find(&key(1, 0xb5)?), (Some(b), 2));
-    take_same(&mut lookup, &of(alloc, &TYPE_88B5)?, 10);
-    assert_eq!(rt; lookup.find(&key(1, 0xb5)?), (Some(d), 1));
-    take_same(&mut lookup, &of(alloc, &PORT_1)?, 10);
-    assert_eq!(rt; lookup.find(&key(1, 0xb5)?), (None, 0));
-    Ok(())
+    play_all(&rt, rt.alloc(), rows::AGES)
 }

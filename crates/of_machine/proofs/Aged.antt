@@ -1,23 +1,23 @@
--- Frames whose time to live is not taken down.
+-- Frames whose TTL is not decremented.
 use Rattle.std.proofs.Common.{◌≡◌, ◌≢◌, ℕ, ◌-◌, true, false, cond, List, Option, Some, None, refl, sym, ap, ◌∙◌}
 use Rattle.std.specs.Prelude.{nat_le}
 use Rattle.of_layers.specs.Layers.{Layers, cells, ttl}
 use Rattle.of_layers.specs.Reading.{layers_of}
 use Rattle.of_layers.proofs.FrameLemmas.{frame_spelt}
 use Rattle.of_rewrite.specs.declared.frame.Ttl.TheVariants.{Done, Expired}
-use Rattle.of_rewrite.specs.Aging.{ttl_of, answer_to, aged_from}
-use Rattle.of_rewrite.specs.Frames.{IsFrame, bytes_in, frame_aged}
+use Rattle.of_rewrite.specs.TimeToLive.{ttl_of, dec_ttl_result, ttl_decremented_from}
+use Rattle.of_rewrite.specs.Frames.{IsFrame, bytes_in, frame_ttl_decremented}
 use Rattle.of_rewrite.specs.Rewriting.{number_set}
 use Rattle.of_rewrite.proofs.Framing.{bytes_are}
 
-from_same : (o : Option ℕ) (l : Layers) → answer_to o ≢ Done → aged_from o l ≡ cells l
+from_same : (o : Option ℕ) (l : Layers) → dec_ttl_result o ≢ Done → ttl_decremented_from o l ≡ cells l
 from_same None l not_done = refl
 from_same (Some t) l not_done = (elim (nat_le t 1) as (λ b. cond b Expired Done ≢ Done → cond b (cells l) (number_set ttl (t - 1) l) ≡ cells l) [
   | true ↦ λ h. refl
   | false ↦ λ h. absurd (h refl)
 ]) not_done
 
-pub aged_same : (s : List ℕ) → IsFrame s → answer_to (ttl_of (layers_of s)) ≢ Done → frame_aged s ≡ s
-unfolding frame_aged
+pub aged_same : (s : List ℕ) → IsFrame s → dec_ttl_result (ttl_of (layers_of s)) ≢ Done → frame_ttl_decremented s ≡ s
+unfolding frame_ttl_decremented
 aged_same s h not_done =
     ap bytes_in (from_same (ttl_of (layers_of s)) (layers_of s) not_done) ∙ sym (bytes_are (cells (layers_of s)) s h.1 (frame_spelt s h.1 h.0))

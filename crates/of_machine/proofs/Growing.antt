@@ -6,8 +6,8 @@ use Rattle.of_layers.specs.Reading.{layers_of}
 use Rattle.of_layers.proofs.TestLemmas.{and_true}
 use Rattle.of_rewrite.specs.declared.frame.Ttl.{Ttl}
 use Rattle.of_rewrite.specs.declared.frame.Ttl.TheVariants.{Done, Expired, Absent}
-use Rattle.of_rewrite.specs.Aging.{ttl_of, answer_to}
-use Rattle.of_rewrite.specs.Frames.{IsFrame, frame_aged}
+use Rattle.of_rewrite.specs.TimeToLive.{ttl_of, dec_ttl_result}
+use Rattle.of_rewrite.specs.Frames.{IsFrame, frame_ttl_decremented}
 use Rattle.of_rewrite.proofs.Framing.{set_frame, ttl_frame, aged_frame, pushed_frame, popped_frame}
 use Rattle.of_actions.specs.declared.action.Action.{Action}
 use Rattle.of_actions.specs.declared.action.Action.TheVariants.{Output, PushVlan, Group, DecNwTtl}
@@ -15,8 +15,8 @@ use Rattle.of_actions.specs.declared.instruction.Instruction.{Instruction}
 use Rattle.of_actions.specs.declared.instruction.Instruction.TheVariants.{Apply, Clear, Write, Metadata, Goto}
 use Rattle.of_actions.specs.InstructionLists.{run_place, is_served_body}
 use Rattle.of_actions.specs.PortNumbers.{in_port, table, flood, all, controller}
-use Rattle.of_actions.specs.Rising.{is_rising}
-use Rattle.of_actions.specs.Served.{is_served}
+use Rattle.of_actions.specs.Rising.{is_ascending}
+use Rattle.of_actions.specs.Supported.{is_supported}
 use Rattle.of_action_set.specs.Sets.{rank, with_actions, in_order}
 use Rattle.of_table.specs.declared.flow.Flow.{Flow}
 use Rattle.of_ports.specs.declared.port.Port.{Port}
@@ -26,7 +26,7 @@ use Rattle.of_machine.specs.declared.data.Item.TheVariants.{Sent}
 use Rattle.of_ports.specs.Ports.{may_send, port_at, other_ports}
 use Rattle.of_machine.specs.TheWorld.{TheWorld}
 use Rattle.of_machine.specs.Sound.{longest, IsSound, IsBelow, AllBelow, IsBucket, AllBuckets}
-use Rattle.of_machine.specs.Rows.{Work, Lookup, Do, RunSet, Act, Task, task, row, acts, works, key_of, lookup_row, entry_row, at_entry, output_row, rewritten, aged_row, group_row, copies, with_metadata, set_out, Emitted, emission, to_port}
+use Rattle.of_machine.specs.Rows.{Work, Lookup, Do, RunSet, Act, Task, task, row, acts, works, key_of, lookup_row, entry_row, at_entry, output_row, rewritten, dec_ttl_row, group_row, copies, with_metadata, set_out, Emitted, emission, to_port}
 use Rattle.of_machine.specs.Weights.{IsSet, AllFitWork, IsFit, AllFit}
 use Rattle.of_machine.specs.Runs.{Machine, step, first_step, after, starting}
 use Rattle.of_machine.specs.Growth.{table_pushes, act_pushes, list_pushes, work_pushes, IsLow, AllLow, frame_of, AllShort}
@@ -73,7 +73,7 @@ module _ (most : ℕ) (p : Packet) (low : length p.frame ≤ most) where
   output_short w rest a port true e = rw e tt
   output_short w rest a port false e = rw e (emission_short w.ports port)
 
-  aged_short : (rest : List Work) (answer : Ttl) → Shorts most (aged_row p rest answer).items
+  aged_short : (rest : List Work) (answer : Ttl) → Shorts most (dec_ttl_row p rest answer).items
   aged_short rest Done = tt
   aged_short rest Expired = (low, tt)
   aged_short rest Absent = tt
@@ -101,7 +101,7 @@ module _ (most : ℕ) (p : Packet) (low : length p.frame ≤ most) where
   row_short w (RunSet ∷ rest) = tt
   row_short w (Act (Output port max_len) ∷ rest) = output_short w rest (Output port max_len) port (port == table) refl
   row_short w (Act (Group g) ∷ rest) = group_short w rest g (w.chosen g)
-  row_short w (Act DecNwTtl ∷ rest) = aged_short rest (answer_to (ttl_of (layers_of p.frame)))
+  row_short w (Act DecNwTtl ∷ rest) = aged_short rest (dec_ttl_result (ttl_of (layers_of p.frame)))
   row_short w (Act other ∷ rest) = tt
 
 -- ---- pushes of lists
@@ -112,41 +112,41 @@ module _ (w : TheWorld) where
   acts_pushes (a ∷ l) s rest = rw (acts_pushes l s rest) refl
 
   -- an action of a flow, whose groups have chains of at most m
-  act_room : (m : ℕ) (a : Action) (later : ℕ) → IsBelow w (suc m) a → IsTrue (is_served false a) → act_pushes w a later ≤ 1 + max m later
+  act_room : (m : ℕ) (a : Action) (later : ℕ) → IsBelow w (suc m) a → IsTrue (is_supported false a) → act_pushes w a later ≤ 1 + max m later
   act_room m (Output port max_len) later h served = rw (out_of_tables port max_len served) (omega arith)
   act_room m (Group g) later h served = let le : w.chain g < suc m = h in omega arith
   act_room m other later h served = omega arith
 
-  list_room : (m : ℕ) (l : List Action) (later : ℕ) → AllBelow w (suc m) l → IsTrue (list_all (is_served false) l) → list_pushes w l later ≤ length l + max m later
+  list_room : (m : ℕ) (l : List Action) (later : ℕ) → AllBelow w (suc m) l → IsTrue (list_all (is_supported false) l) → list_pushes w l later ≤ length l + max m later
   list_room m [] later h served = omega arith
   list_room m (a ∷ l) later h served =
-      let both = and_true (is_served false a) (list_all (is_served false) l) served in
+      let both = and_true (is_supported false a) (list_all (is_supported false) l) served in
       let ih = list_room m l later h.1 both.1 in
       let x = act_room m a (list_pushes w l later) h.0 both.0 in
       omega (arith, ih, x)
 
   -- beyond PUSH_VLAN a set pushes in the copies of its group alone
-  tail_room : (m : ℕ) (s : List Action) → IsTrue (list_all (λ y. nat_lt 1 (rank y)) s) → IsTrue (list_all (is_served false) s) → AllBelow w (suc m) s → list_pushes w s 0 ≤ m
+  tail_room : (m : ℕ) (s : List Action) → IsTrue (list_all (λ y. nat_lt 1 (rank y)) s) → IsTrue (list_all (is_supported false) s) → AllBelow w (suc m) s → list_pushes w s 0 ≤ m
   tail_room m [] high served below = omega arith
   tail_room m (a ∷ s) high served below =
       let hs = and_true (nat_lt 1 (rank a)) (list_all (λ y. nat_lt 1 (rank y)) s) high in
-      let both = and_true (is_served false a) (list_all (is_served false) s) served in
+      let both = and_true (is_supported false a) (list_all (is_supported false) s) served in
       by_action a hs.0 both.0 below.0 (tail_room m s hs.1 both.1 below.1)
     where
-      by_action : (a : Action) → nat_lt 1 (rank a) ≡ true → is_served false a ≡ true → IsBelow w (suc m) a → list_pushes w s 0 ≤ m → list_pushes w (a ∷ s) 0 ≤ m
+      by_action : (a : Action) → nat_lt 1 (rank a) ≡ true → is_supported false a ≡ true → IsBelow w (suc m) a → list_pushes w s 0 ≤ m → list_pushes w (a ∷ s) 0 ≤ m
       by_action (Output port max_len) e here h ih = rw (out_of_tables port max_len here) ih
       by_action (PushVlan type) e here h ih = absurd cc
       by_action (Group g) e here h ih = let le : w.chain g < suc m = h in omega arith
       by_action other e here h ih = ih
 
-  rising_room : (m : ℕ) (s : List Action) → IsTrue (is_rising rank s) → IsTrue (list_all (is_served false) s) → AllBelow w (suc m) s → list_pushes w s 0 ≤ 1 + m
+  rising_room : (m : ℕ) (s : List Action) → IsTrue (is_ascending rank s) → IsTrue (list_all (is_supported false) s) → AllBelow w (suc m) s → list_pushes w s 0 ≤ 1 + m
   rising_room m [] rising served below = omega arith
   rising_room m (a ∷ s) rising served below =
-      let rs = and_true (list_all (λ y. nat_lt (rank a) (rank y)) s) (is_rising rank s) rising in
-      let both = and_true (is_served false a) (list_all (is_served false) s) served in
+      let rs = and_true (list_all (λ y. nat_lt (rank a) (rank y)) s) (is_ascending rank s) rising in
+      let both = and_true (is_supported false a) (list_all (is_supported false) s) served in
       by_action a rs.0 both.0 both.1 below.0 below.1 (rising_room m s rs.1 both.1 below.1)
     where
-      by_action : (a : Action) → list_all (λ y. nat_lt (rank a) (rank y)) s ≡ true → is_served false a ≡ true → list_all (is_served false) s ≡ true → IsBelow w (suc m) a → AllBelow w (suc m) s → list_pushes w s 0 ≤ 1 + m → list_pushes w (a ∷ s) 0 ≤ 1 + m
+      by_action : (a : Action) → list_all (λ y. nat_lt (rank a) (rank y)) s ≡ true → is_supported false a ≡ true → list_all (is_supported false) s ≡ true → IsBelow w (suc m) a → AllBelow w (suc m) s → list_pushes w s 0 ≤ 1 + m → list_pushes w (a ∷ s) 0 ≤ 1 + m
       by_action (Output port max_len) high here others h hs ih = rw (out_of_tables port max_len here) ih
       by_action (PushVlan type) high here others h hs ih = let x = tail_room m s high others hs in omega arith
       by_action (Group g) high here others h hs ih = let le : w.chain g < suc m = h in omega arith
@@ -202,7 +202,7 @@ module _ (w : TheWorld) where
     entry_low : (b t k : ℕ) (p : Packet) (o : Option Flow) → t < 16 → IsSet p.action_set → w.flow t k ≡ o → IsFrame p.frame → length p.frame + 4 * table_pushes t ≤ b → AllLow w b (entry_row p t k o).left
     entry_low b t k p None inside set e frame room = one_low b p [] frame (omega arith)
     entry_low b t k p (Some f) inside set e frame room =
-        let kept = and_true (is_rising run_place f.instructions) (list_all is_served_body f.instructions) (sound.kept t k f e) in
+        let kept = and_true (is_ascending run_place f.instructions) (list_all is_served_body f.instructions) (sound.kept t k f e) in
         let x = works_room t f.instructions p.action_set inside (order_is 0 f.instructions (begins_low f.instructions) kept.0) (instructions_are t f.instructions kept.1 (sound.onward t k f e)) set in
         one_low b (at_entry t f p) (works f.instructions) frame (omega (arith, x, room))
 
@@ -210,8 +210,8 @@ module _ (w : TheWorld) where
     lookup_low b t p None inside set frame room = one_low b p [] frame (omega arith)
     lookup_low b t p (Some k) inside set frame room = entry_low b t k p (w.flow t k) inside set refl frame room
 
-    aged_low : (b : ℕ) (p : Packet) (rest : List Work) (answer : Ttl) → IsFrame p.frame → length p.frame + 4 * work_pushes w p.action_set rest ≤ b → AllLow w b (aged_row p rest answer).left
-    aged_low b p rest Done frame room = let k = aged_frame p.frame frame in one_low b (record p { frame = frame_aged p.frame }) rest k.1 (let same = k.0 in omega (arith, same, room))
+    aged_low : (b : ℕ) (p : Packet) (rest : List Work) (answer : Ttl) → IsFrame p.frame → length p.frame + 4 * work_pushes w p.action_set rest ≤ b → AllLow w b (dec_ttl_row p rest answer).left
+    aged_low b p rest Done frame room = let k = aged_frame p.frame frame in one_low b (record p { frame = frame_ttl_decremented p.frame }) rest k.1 (let same = k.0 in omega (arith, same, room))
     aged_low b p rest Expired frame room = one_low b p [] frame (omega arith)
     aged_low b p rest Absent frame room = one_low b p rest frame room
 
@@ -241,7 +241,7 @@ module _ (w : TheWorld) where
         let room = low.room in
         one_low b (record p { frame = rewritten (PushVlan type) p.frame }) rest k.1 (let longer = k.0 in omega (arith, longer, room))
     row_low b p (Act (Group g) ∷ rest) set fit low = group_low b g p rest (w.chosen g) refl low.frame low.room
-    row_low b p (Act DecNwTtl ∷ rest) set fit low = aged_low b p rest (answer_to (ttl_of (layers_of p.frame))) low.frame low.room
+    row_low b p (Act DecNwTtl ∷ rest) set fit low = aged_low b p rest (dec_ttl_result (ttl_of (layers_of p.frame))) low.frame low.room
     row_low b p (Act other ∷ rest) set fit low = rewritten_low b p rest other (search (as_long, popped_frame, ttl_frame, set_frame, low.frame)) low.room
 
     -- ---- the whole run

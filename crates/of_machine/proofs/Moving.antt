@@ -5,8 +5,8 @@ use Rattle.std.proofs.lemmas.List.{append-nil}
 use Rattle.of_layers.specs.Reading.{layers_of}
 use Rattle.of_rewrite.specs.declared.frame.Ttl.{Ttl}
 use Rattle.of_rewrite.specs.declared.frame.Ttl.TheVariants.{Done, Expired, Absent}
-use Rattle.of_rewrite.specs.Aging.{ttl_of, answer_to}
-use Rattle.of_rewrite.specs.Frames.{IsFrame, frame_aged}
+use Rattle.of_rewrite.specs.TimeToLive.{ttl_of, dec_ttl_result}
+use Rattle.of_rewrite.specs.Frames.{IsFrame, frame_ttl_decremented}
 use Rattle.of_actions.specs.declared.action.Action.{Action}
 use Rattle.of_actions.specs.declared.action.Action.TheVariants.{Output, Group as ToGroup, DecNwTtl}
 use Rattle.of_actions.specs.PortNumbers.{table}
@@ -25,7 +25,7 @@ use Rattle.of_machine.specs.declared.machine.Going.TheVariants.{Continues, Ended
 use Rattle.of_machine.specs.Gained.{Gains}
 use Rattle.of_machine.specs.Outside.{is_to_tables}
 use Rattle.of_machine.specs.TheWorld.{TheWorld}
-use Rattle.of_machine.specs.Rows.{Work, Lookup, Do, RunSet, Act, lookup_row, entry_row, miss_row, at_entry, works, key_of, Task, task, Row, row, act_row, output_row, table_row, rewritten, aged_row, group_row, goes_on, emits, emission, packet_in, fresh, bucket_copy, copies, with_metadata, acts, set_out}
+use Rattle.of_machine.specs.Rows.{Work, Lookup, Do, RunSet, Act, lookup_row, entry_row, miss_row, at_entry, works, key_of, Task, task, Row, row, act_row, output_row, table_row, rewritten, dec_ttl_row, group_row, goes_on, emits, emission, packet_in, fresh, bucket_copy, copies, with_metadata, acts, set_out}
 use Rattle.of_machine.specs.Runs.{point, Moves, left_of}
 use Rattle.of_machine.proofs.Aged.{aged_same}
 use Rattle.of_machine.proofs.Reaching.{one}
@@ -68,7 +68,7 @@ module _ (w : TheWorld) (keeps : Bool) (p : Packet) (rest : List Work) (others :
       Moves w keeps (point (task p (Act a ∷ rest) ∷ others) o told) (point (task (fresh p) (Lookup 0 ∷ []) ∷ task p rest ∷ others) o told')
   dispatches a e = by_row o (Act a ∷ rest) (table_row p rest a) (tables_is a e) (sym (append-nil o.items.items)) (sym (append-nil o.counts.items))
 
-  -- neither an output nor a group nor an aging
+  -- neither an output nor a group nor a decrement of the TTL
   pub rewrites : (a : Action) → ((port max_len : ℕ) → a ≢ Output port max_len) → ((g : ℕ) → a ≢ ToGroup g) → a ≢ DecNwTtl → (frame : List ℕ) → frame ≡ rewritten a p.frame → (keeps ≡ true → told' ≡ told ++ DidAct a ∷ []) →
       Moves w keeps (point (task p (Act a ∷ rest) ∷ others) o told) (point (task (record p { frame = frame }) rest ∷ others) o told')
   rewrites (Output port max_len) not_output not_group not_dec frame e = absurd (not_output port max_len refl)
@@ -76,22 +76,22 @@ module _ (w : TheWorld) (keeps : Bool) (p : Packet) (rest : List Work) (others :
   rewrites DecNwTtl not_output not_group not_dec frame e = absurd (not_dec refl)
   rewrites other not_output not_group not_dec frame e = rw e (quiet (Act other ∷ rest) (DidAct other) (record p { frame = rewritten other p.frame }) rest refl)
 
-  aged_is : (answer : Ttl) → answer ≡ answer_to (ttl_of (layers_of p.frame)) → act_row w p rest DecNwTtl ≡ aged_row p rest answer
+  aged_is : (answer : Ttl) → answer ≡ dec_ttl_result (ttl_of (layers_of p.frame)) → act_row w p rest DecNwTtl ≡ dec_ttl_row p rest answer
   aged_is answer e = rw (← e) refl
 
-  pub expires : (o' : Outcome) (frame : List ℕ) (answer : Ttl) → answer ≡ Expired → answer ≡ answer_to (ttl_of (layers_of p.frame)) → IsFrame p.frame → frame ≡ frame_aged p.frame → Gains o (packet_in InvalidTtl (record p { frame = frame })) o' → (keeps ≡ true → told' ≡ told ++ TtlExpired ∷ []) →
+  pub expires : (o' : Outcome) (frame : List ℕ) (answer : Ttl) → answer ≡ Expired → answer ≡ dec_ttl_result (ttl_of (layers_of p.frame)) → IsFrame p.frame → frame ≡ frame_ttl_decremented p.frame → Gains o (packet_in InvalidTtl (record p { frame = frame })) o' → (keeps ≡ true → told' ≡ told ++ TtlExpired ∷ []) →
       Moves w keeps (point (task p (Act DecNwTtl ∷ rest) ∷ others) o told) (point (task (record p { frame = frame }) [] ∷ others) o' told')
   expires o' frame answer is e known same =
-      let expired : Expired ≡ answer_to (ttl_of (layers_of p.frame)) = sym is ∙ e in
+      let expired : Expired ≡ dec_ttl_result (ttl_of (layers_of p.frame)) = sym is ∙ e in
       let kept : frame ≡ p.frame = same ∙ aged_same p.frame known (λ done. let x = expired in cc) in
-      rw kept (λ gains. by_row o' (Act DecNwTtl ∷ rest) (aged_row p rest Expired) (aged_is Expired expired) gains.items gains.counts)
+      rw kept (λ gains. by_row o' (Act DecNwTtl ∷ rest) (dec_ttl_row p rest Expired) (aged_is Expired expired) gains.items gains.counts)
 
-  pub ages : (frame : List ℕ) (answer : Ttl) → (answer ≡ Done) ⊎ (answer ≡ Absent) → answer ≡ answer_to (ttl_of (layers_of p.frame)) → IsFrame p.frame → frame ≡ frame_aged p.frame → (keeps ≡ true → told' ≡ told ++ DidAct DecNwTtl ∷ []) →
+  pub ages : (frame : List ℕ) (answer : Ttl) → (answer ≡ Done) ⊎ (answer ≡ Absent) → answer ≡ dec_ttl_result (ttl_of (layers_of p.frame)) → IsFrame p.frame → frame ≡ frame_ttl_decremented p.frame → (keeps ≡ true → told' ≡ told ++ DidAct DecNwTtl ∷ []) →
       Moves w keeps (point (task p (Act DecNwTtl ∷ rest) ∷ others) o told) (point (task (record p { frame = frame }) rest ∷ others) o told')
   ages frame answer (inl done) e known same =
-      rw same (quiet (Act DecNwTtl ∷ rest) (DidAct DecNwTtl) (record p { frame = frame_aged p.frame }) rest (aged_is Done (sym done ∙ e)))
+      rw same (quiet (Act DecNwTtl ∷ rest) (DidAct DecNwTtl) (record p { frame = frame_ttl_decremented p.frame }) rest (aged_is Done (sym done ∙ e)))
   ages frame answer (inr absent) e known same =
-      let none : Absent ≡ answer_to (ttl_of (layers_of p.frame)) = sym absent ∙ e in
+      let none : Absent ≡ dec_ttl_result (ttl_of (layers_of p.frame)) = sym absent ∙ e in
       let kept : frame ≡ p.frame = same ∙ aged_same p.frame known (λ done. let x = none in cc) in
       rw kept (quiet (Act DecNwTtl ∷ rest) (DidAct DecNwTtl) p rest (aged_is Absent none))
 

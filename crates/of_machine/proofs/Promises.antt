@@ -1,4 +1,4 @@
--- What the promises say at a place.
+-- What the invariants of a world say at a place.
 use Rattle.std.proofs.Common.{◌≡◌, ◌==◌, ℕ, ◌+◌, ◌<◌, ◌≤◌, suc, zero, Bool, true, false, cond, not, List, [], ◌∷◌, ◌++◌, refl, length, get_or, arith, Some}
 use Rattle.std.specs.Prelude.{IsTrue, filter, nat_lt, nat_le}
 use Rattle.std.specs.List.{list_all, list_any}
@@ -12,8 +12,8 @@ use Rattle.of_actions.specs.declared.action.Action.TheVariants.{Output, PushVlan
 use Rattle.of_actions.specs.PortNumbers.{is_port, table}
 use Rattle.of_actions.specs.declared.instruction.Instruction.{Instruction}
 use Rattle.of_actions.specs.InstructionLists.{are_kept, is_served_body, run_place}
-use Rattle.of_actions.specs.Rising.{is_rising}
-use Rattle.of_actions.specs.Served.{is_served, are_served}
+use Rattle.of_actions.specs.Rising.{is_ascending}
+use Rattle.of_actions.specs.Supported.{is_supported, are_supported}
 use Rattle.of_action_set.specs.Sets.{is_group, is_output, rank, with_action, with_actions, in_order}
 use Rattle.of_machine.specs.TheWorld.{TheWorld}
 use Rattle.of_machine.specs.Sound.{longest, IsSound, IsBelow, AllBelow, IsBucket, AllBuckets}
@@ -21,21 +21,21 @@ use Rattle.of_machine.specs.Outside.{is_to_tables}
 
 -- ---- actions that some bytes spell
 
-pub tag_type : (t : ℕ) → IsTrue (is_served false (PushVlan t)) → IsTrue (is_tag_type t)
-unfolding is_served
+pub tag_type : (t : ℕ) → IsTrue (is_supported false (PushVlan t)) → IsTrue (is_tag_type t)
+unfolding is_supported
 tag_type t h = h
 
-pub settable : (f : Field) (v : ℕ) → IsTrue (is_served false (SetField f v)) → IsTrue (is_settable f)
-unfolding is_served
+pub settable : (f : Field) (v : ℕ) → IsTrue (is_supported false (SetField f v)) → IsTrue (is_settable f)
+unfolding is_supported
 settable f v h = (and_true (is_settable f) (nat_le v (ones_of f)) h).0
 
-pub value_fits : (f : Field) (v : ℕ) → IsTrue (is_served false (SetField f v)) → v ≤ ones_of f
-unfolding is_served
+pub value_fits : (f : Field) (v : ℕ) → IsTrue (is_supported false (SetField f v)) → v ≤ ones_of f
+unfolding is_supported
 value_fits f v h = let e = (and_true (is_settable f) (nat_le v (ones_of f)) h).1 in grind (arith, nat_tests)
 
 -- no flow sends to the tables
-pub out_of_tables : (port max_len : ℕ) → IsTrue (is_served false (Output port max_len)) → (port == table) ≡ false
-unfolding is_served
+pub out_of_tables : (port max_len : ℕ) → IsTrue (is_supported false (Output port max_len)) → (port == table) ≡ false
+unfolding is_supported
 out_of_tables port max_len h =
     let e = (and_true (is_port false port) (nat_lt max_len 0x10000) h).0 in by_test (port == table) refl e
   where
@@ -43,9 +43,9 @@ out_of_tables port max_len h =
     by_test false e p = refl
     by_test true e p = let same : port ≡ table = grind (arith, nat_tests) in let no : is_port false port ≡ false = rw same refl in cc
 
--- an action of a PACKET_OUT that is not for the tables may stand in a flow
-pub flow_serves : (a : Action) → IsTrue (is_served true a) → is_to_tables a ≡ false → IsTrue (is_served false a)
-unfolding is_served
+-- an action of a PACKET_OUT that is not for the tables is valid in a flow
+pub flow_serves : (a : Action) → IsTrue (is_supported true a) → is_to_tables a ≡ false → IsTrue (is_supported false a)
+unfolding is_supported
 flow_serves (Output port max_len) h e = rw e at h
 flow_serves other h e = h
 
@@ -104,17 +104,17 @@ pub all_are_below : (w : TheWorld) (l : List Action) → IsSound w → AllBelow 
 all_are_below w [] sound = tt
 all_are_below w (a ∷ l) sound = (action_is_below w a sound, all_are_below w l sound)
 
--- the bucket at a place is there
+-- the bucket at a place exists
 pub bucket_at : (w : TheWorld) (g : ℕ) (ks : List ℕ) (i : ℕ) → AllBuckets w g ks → i < length ks → IsBucket w g (get_or ks i 0)
 bucket_at w g [] i all lt = absurd (omega arith)
 bucket_at w g (k ∷ ks) zero all lt = all.0
 bucket_at w g (k ∷ ks) (suc i) all lt = bucket_at w g ks i all.1 (omega arith)
 
 -- its actions, as the code has them
-pub bucket_served : (w : TheWorld) (g k : ℕ) (l : List Action) → IsBucket w g k → w.bucket g k ≡ Some l → IsTrue (list_all (is_served false) l)
+pub bucket_served : (w : TheWorld) (g k : ℕ) (l : List Action) → IsBucket w g k → w.bucket g k ≡ Some l → IsTrue (list_all (is_supported false) l)
 bucket_served w g k l b there =
     let same : b.actions ≡ l = let e = b.there in cc in
-    rw same at (and_true (nat_le (length b.actions) 64) (list_all (is_served false) b.actions) b.served).1
+    rw same at (and_true (nat_le (length b.actions) 64) (list_all (is_supported false) b.actions) b.served).1
 
 pub bucket_below : (w : TheWorld) (g k n : ℕ) (l s : List Action) → IsBucket w g k → w.bucket g k ≡ Some l → w.chain g ≤ n → s ≡ [] → AllBelow w n (with_actions s l)
 bucket_below w g k n l s b there le empty =
@@ -124,16 +124,16 @@ bucket_below w g k n l s b there le empty =
 -- ---- instructions that an entry keeps
 
 -- the actions of an instruction
-pub list_served : (l : List Action) → IsTrue (are_served false l) → IsTrue (list_all (is_served false) l)
-list_served l h = (and_true (nat_le (length l) 64) (list_all (is_served false) l) h).1
+pub list_served : (l : List Action) → IsTrue (are_supported false l) → IsTrue (list_all (is_supported false) l)
+list_served l h = (and_true (nat_le (length l) 64) (list_all (is_supported false) l) h).1
 
 pub flow_served : (l : List Instruction) → IsTrue (are_kept l) → IsTrue (list_all is_served_body l)
-flow_served l h = (and_true (is_rising run_place l) (list_all is_served_body l) h).1
+flow_served l h = (and_true (is_ascending run_place l) (list_all is_served_body l) h).1
 
 -- ---- the actions of a PACKET_OUT
 
-pub all_served : (l : List Action) → IsTrue (are_served true l) → IsTrue (list_all (is_served true) l)
-all_served l h = (and_true (nat_le (length l) 64) (list_all (is_served true) l) h).1
+pub all_served : (l : List Action) → IsTrue (are_supported true l) → IsTrue (list_all (is_supported true) l)
+all_served l h = (and_true (nat_le (length l) 64) (list_all (is_supported true) l) h).1
 
-pub list_few : (l : List Action) → IsTrue (are_served true l) → length l ≤ 64
-list_few l h = let e = (and_true (nat_le (length l) 64) (list_all (is_served true) l) h).0 in grind (arith, nat_tests)
+pub list_few : (l : List Action) → IsTrue (are_supported true l) → length l ≤ 64
+list_few l h = let e = (and_true (nat_le (length l) 64) (list_all (is_supported true) l) h).0 in grind (arith, nat_tests)

@@ -8,7 +8,7 @@ use Rattle.of_machine.specs.declared.data.Step.{Step}
 use Rattle.of_machine.specs.declared.data.Outcome.{Outcome}
 use Rattle.of_machine.specs.TheWorld.{TheWorld}
 use Rattle.of_machine.specs.Rows.{Work, Task, task, row}
-use Rattle.of_machine.specs.Runs.{Machine, step, first_step, taken, after, Point, point, Reached, Stopped, Moves, Stops, starting, IsFront}
+use Rattle.of_machine.specs.Runs.{Machine, step, first_step, taken, after, Point, point, Reached, Stopped, Moves, Stops, starting, IsPrefixOfRun}
 
 -- a point of a list of packets
 abbrev pub at : List Task → List Item → List Count → List Step → Point
@@ -99,7 +99,7 @@ whole_run w keeps p work o told new h =
     ends_as m o tasks items counts = rw (← tasks, ← items, ← counts) refl
 
 pub whole_front : (w : TheWorld) (keeps : Bool) (p : Packet) (work : List Work) (told new : List Step) →
-    Stopped w keeps (begins p work told) new → IsFront w keeps p work told new
+    Stopped w keeps (begins p work told) new → IsPrefixOfRun w keeps p work told new
 whole_front w keeps p work told new h = record {
   steps = h.steps;
   tells = λ k. h.tells k ∙ ap (λ (x : Machine). x.lines) (after_behind w told h.steps (starting p work));

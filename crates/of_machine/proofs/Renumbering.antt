@@ -6,7 +6,7 @@ use Rattle.std.proofs.lemmas.List.{map-append}
 use Rattle.of_layers.specs.Reading.{layers_of}
 use Rattle.of_rewrite.specs.declared.frame.Ttl.{Ttl}
 use Rattle.of_rewrite.specs.declared.frame.Ttl.TheVariants.{Done, Expired, Absent}
-use Rattle.of_rewrite.specs.Aging.{ttl_of, answer_to}
+use Rattle.of_rewrite.specs.TimeToLive.{ttl_of, dec_ttl_result}
 use Rattle.of_actions.specs.declared.action.Action.{Action}
 use Rattle.of_actions.specs.declared.action.Action.TheVariants.{Output, Group as ToGroup, DecNwTtl}
 use Rattle.of_actions.specs.declared.instruction.Instruction.TheVariants.{Apply, Clear, Write, Metadata, Goto}
@@ -21,7 +21,7 @@ use Rattle.of_machine.specs.declared.data.Step.{Step}
 use Rattle.of_machine.specs.declared.data.Step.TheVariants.{Act as DidAct}
 use Rattle.of_ports.specs.Ports.{may_send, port_at}
 use Rattle.of_machine.specs.TheWorld.{TheWorld}
-use Rattle.of_machine.specs.Rows.{Work, Act, Do, Lookup, RunSet, lookup_row, entry_row, act_row, output_row, table_row, aged_row, group_row, copies, bucket_copy, emission, to_port, emits, Emitted, key_of, Task, task, Row, row}
+use Rattle.of_machine.specs.Rows.{Work, Act, Do, Lookup, RunSet, lookup_row, entry_row, act_row, output_row, table_row, dec_ttl_row, group_row, copies, bucket_copy, emission, to_port, emits, Emitted, key_of, Task, task, Row, row}
 use Rattle.of_machine.specs.Weights.{act_weight, acts_weight, work_weight, task_weight}
 use Rattle.of_machine.specs.Runs.{Machine, taken, step, first_step, after, starting, run_of}
 use Rattle.of_machine.proofs.Ending.{run_is_after}
@@ -87,7 +87,7 @@ module _ (number : ℕ → ℕ → ℕ) (w v : TheWorld) (h : IsRenumbered numbe
       ap (λ (ts : List Task). record (group_row v p rest g (Some ks)) { left = ts ++ task p rest ∷ [] }) (copies_are g p ks)
       ∙ ap (λ (cs : List Count). record (group_row w p rest g (Some ks)) { counts = Group g (length p.frame) ∷ cs }) (sym (bucket_counts g (length p.frame) ks))
 
-  aged_is : (p : Packet) (rest : List Work) (answer : Ttl) → aged_row p rest answer ≡ renumbered_row (aged_row p rest answer)
+  aged_is : (p : Packet) (rest : List Work) (answer : Ttl) → dec_ttl_row p rest answer ≡ renumbered_row (dec_ttl_row p rest answer)
   aged_is p rest Done = refl
   aged_is p rest Expired = refl
   aged_is p rest Absent = refl
@@ -95,7 +95,7 @@ module _ (number : ℕ → ℕ → ℕ) (w v : TheWorld) (h : IsRenumbered numbe
   act_is : (p : Packet) (rest : List Work) (a : Action) → act_row v p rest a ≡ renumbered_row (act_row w p rest a)
   act_is p rest (Output port max_len) = output_is p rest (Output port max_len) port
   act_is p rest (ToGroup g) = ap (group_row v p rest g) (h.chosen g) ∙ group_is p rest g (w.chosen g)
-  act_is p rest DecNwTtl = aged_is p rest (answer_to (ttl_of (layers_of p.frame)))
+  act_is p rest DecNwTtl = aged_is p rest (dec_ttl_result (ttl_of (layers_of p.frame)))
   act_is p rest other = refl
 
   row_is : (p : Packet) (work : List Work) → row v p work ≡ renumbered_row (row w p work)

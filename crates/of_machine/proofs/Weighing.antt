@@ -8,22 +8,22 @@ use Rattle.of_layers.specs.Reading.{layers_of}
 use Rattle.of_layers.proofs.TestLemmas.{and_true}
 use Rattle.of_rewrite.specs.declared.frame.Ttl.{Ttl}
 use Rattle.of_rewrite.specs.declared.frame.Ttl.TheVariants.{Done, Expired, Absent}
-use Rattle.of_rewrite.specs.Aging.{ttl_of, answer_to}
-use Rattle.of_rewrite.specs.Frames.{frame_aged}
+use Rattle.of_rewrite.specs.TimeToLive.{ttl_of, dec_ttl_result}
+use Rattle.of_rewrite.specs.Frames.{frame_ttl_decremented}
 use Rattle.of_actions.specs.declared.action.Action.{Action}
 use Rattle.of_actions.specs.declared.action.Action.TheVariants.{Output, Group, DecNwTtl}
 use Rattle.of_actions.specs.declared.instruction.Instruction.{Instruction}
 use Rattle.of_actions.specs.declared.instruction.Instruction.TheVariants.{Apply, Clear, Write, Metadata, Goto}
 use Rattle.of_actions.specs.InstructionLists.{run_place, are_for, is_for, is_served_body}
 use Rattle.of_actions.specs.PortNumbers.{table}
-use Rattle.of_actions.specs.Rising.{is_rising}
-use Rattle.of_actions.specs.Served.{is_served}
+use Rattle.of_actions.specs.Rising.{is_ascending}
+use Rattle.of_actions.specs.Supported.{is_supported}
 use Rattle.of_action_set.specs.Sets.{rank, with_actions, in_order}
 use Rattle.of_table.specs.declared.flow.Flow.{Flow}
 use Rattle.of_machine.specs.declared.data.Packet.{Packet}
 use Rattle.of_machine.specs.TheWorld.{TheWorld}
 use Rattle.of_machine.specs.Sound.{longest, IsSound, IsBelow, AllBelow, IsBucket, AllBuckets}
-use Rattle.of_machine.specs.Rows.{Work, Lookup, Do, RunSet, Act, Task, task, row, acts, works, key_of, lookup_row, entry_row, at_entry, output_row, rewritten, aged_row, group_row, copies, bucket_copy, with_metadata, set_out}
+use Rattle.of_machine.specs.Rows.{Work, Lookup, Do, RunSet, Act, Task, task, row, acts, works, key_of, lookup_row, entry_row, at_entry, output_row, rewritten, dec_ttl_row, group_row, copies, bucket_copy, with_metadata, set_out}
 use Rattle.of_machine.specs.Weights.{IsSet, AllFitWork, AllFit, copy_steps, action_steps, table_steps, set_steps, lookup_steps, output_weight, act_weight, acts_weight, work_weight, task_weight, weight}
 use Rattle.of_machine.specs.Runs.{Machine, step, first_step, after}
 use Rattle.of_machine.proofs.Promises.{out_of_tables, list_served, all_are_below, all_below_more, set_below, order_below}
@@ -32,9 +32,9 @@ use Rattle.of_machine.proofs.Sets.{empty_set, written_set, run_set, set_few}
 -- ---- what is known of an entry's instructions
 
 abbrev pub IsInstruction : ℕ → Instruction → Type 0
-IsInstruction t (Apply l) = IsTrue (list_all (is_served false) l) × (length l ≤ 64)
+IsInstruction t (Apply l) = IsTrue (list_all (is_supported false) l) × (length l ≤ 64)
 IsInstruction t Clear = ⊤
-IsInstruction t (Write l) = IsTrue (list_all (is_served false) l)
+IsInstruction t (Write l) = IsTrue (list_all (is_supported false) l)
 IsInstruction t (Metadata value mask) = ⊤
 IsInstruction t (Goto u) = (t < u) × (u < 16)
 
@@ -51,7 +51,7 @@ BeginsAt n [] = ⊤
 BeginsAt n (i ∷ rest) = n ≤ run_place i
 
 instruction_is : (t : ℕ) (i : Instruction) → IsTrue (is_served_body i) → IsTrue (is_for t i) → IsInstruction t i
-instruction_is t (Apply l) h k = let e = (and_true (nat_le (length l) 64) (list_all (is_served false) l) h).0 in (list_served l h, grind (arith, nat_tests))
+instruction_is t (Apply l) h k = let e = (and_true (nat_le (length l) 64) (list_all (is_supported false) l) h).0 in (list_served l h, grind (arith, nat_tests))
 instruction_is t Clear h k = tt
 instruction_is t (Write l) h k = list_served l h
 instruction_is t (Metadata value mask) h k = tt
@@ -68,10 +68,10 @@ next_place : (n : ℕ) (l : List Instruction) → IsTrue (list_all (λ y. nat_lt
 next_place n [] h = tt
 next_place n (i ∷ l) h = let e = (and_true (nat_lt n (run_place i)) (list_all (λ y. nat_lt n (run_place y)) l) h).0 in grind (arith, nat_tests)
 
-pub order_is : (n : ℕ) (l : List Instruction) → BeginsAt n l → IsTrue (is_rising run_place l) → IsInOrder n l
+pub order_is : (n : ℕ) (l : List Instruction) → BeginsAt n l → IsTrue (is_ascending run_place l) → IsInOrder n l
 order_is n [] low h = tt
 order_is n (i ∷ l) low h =
-    let hs = and_true (list_all (λ y. nat_lt (run_place i) (run_place y)) l) (is_rising run_place l) h in
+    let hs = and_true (list_all (λ y. nat_lt (run_place i) (run_place y)) l) (is_ascending run_place l) h in
     (low, order_is (run_place i + 1) l (next_place (run_place i) l hs.0) hs.1)
 
 pub begins_low : (l : List Instruction) → BeginsAt 0 l
@@ -91,7 +91,7 @@ pub frame_steps : lookup_steps longest 0 ≡ 143271552
 unfolding copy_steps action_steps table_steps set_steps lookup_steps
 frame_steps = refl
 
-output_is_one : (port max_len : ℕ) → IsTrue (is_served false (Output port max_len)) → output_weight port ≡ 1
+output_is_one : (port max_len : ℕ) → IsTrue (is_supported false (Output port max_len)) → output_weight port ≡ 1
 output_is_one port max_len served = rw (out_of_tables port max_len served) refl
 
 module _ (w : TheWorld) where
@@ -112,40 +112,40 @@ module _ (w : TheWorld) where
   acts_work (a ∷ l) s rest = let h = acts_work l s rest in omega arith
 
   -- an action whose groups have chains of at most m
-  act_bound : (m : ℕ) (a : Action) → IsBelow w (suc m) a → IsTrue (is_served false a) → act_weight w a ≤ 1 + 16 * copy_steps m
+  act_bound : (m : ℕ) (a : Action) → IsBelow w (suc m) a → IsTrue (is_supported false a) → act_weight w a ≤ 1 + 16 * copy_steps m
   act_bound m (Output port max_len) h served = let e = output_is_one port max_len served in omega arith
   act_bound m (Group g) h served = let le = copies_more (w.chain g) m (omega (arith, h)) in omega arith
   act_bound m other h served = omega arith
 
-  list_bound : (l : List Action) → AllBelow w (longest + 1) l → IsTrue (list_all (is_served false) l) → acts_weight w l ≤ action_steps longest * length l
+  list_bound : (l : List Action) → AllBelow w (longest + 1) l → IsTrue (list_all (is_supported false) l) → acts_weight w l ≤ action_steps longest * length l
   unfolding action_steps
   list_bound [] h served = omega arith
   list_bound (a ∷ l) h served =
-      let both = and_true (is_served false a) (list_all (is_served false) l) served in
+      let both = and_true (is_supported false a) (list_all (is_supported false) l) served in
       let x = act_bound longest a h.0 both.0 in let ih = list_bound l h.1 both.1 in omega arith
 
   -- beyond the group of a set an action counts once
-  tail_bound : (s : List Action) → IsTrue (list_all (λ y. nat_lt 40 (rank y)) s) → IsTrue (list_all (is_served false) s) → acts_weight w s ≤ length s
+  tail_bound : (s : List Action) → IsTrue (list_all (λ y. nat_lt 40 (rank y)) s) → IsTrue (list_all (is_supported false) s) → acts_weight w s ≤ length s
   tail_bound [] high served = omega arith
   tail_bound (a ∷ s) high served =
       let hs = and_true (nat_lt 40 (rank a)) (list_all (λ y. nat_lt 40 (rank y)) s) high in
-      let both = and_true (is_served false a) (list_all (is_served false) s) served in
+      let both = and_true (is_supported false a) (list_all (is_supported false) s) served in
       by_action a hs.0 both.0 (tail_bound s hs.1 both.1)
     where
-      by_action : (a : Action) → nat_lt 40 (rank a) ≡ true → is_served false a ≡ true → acts_weight w s ≤ length s → acts_weight w (a ∷ s) ≤ length (a ∷ s)
+      by_action : (a : Action) → nat_lt 40 (rank a) ≡ true → is_supported false a ≡ true → acts_weight w s ≤ length s → acts_weight w (a ∷ s) ≤ length (a ∷ s)
       by_action (Output port max_len) e here ih = let one = output_is_one port max_len here in omega arith
       by_action (Group g) e here ih = absurd cc
       by_action other e here ih = omega arith
 
   -- a set has one group at most
-  rising_bound : (m : ℕ) (s : List Action) → IsTrue (is_rising rank s) → IsTrue (list_all (is_served false) s) → AllBelow w (suc m) s → acts_weight w s ≤ length s + 16 * copy_steps m
+  rising_bound : (m : ℕ) (s : List Action) → IsTrue (is_ascending rank s) → IsTrue (list_all (is_supported false) s) → AllBelow w (suc m) s → acts_weight w s ≤ length s + 16 * copy_steps m
   rising_bound m [] rising served below = omega arith
   rising_bound m (a ∷ s) rising served below =
-      let rs = and_true (list_all (λ y. nat_lt (rank a) (rank y)) s) (is_rising rank s) rising in
-      let both = and_true (is_served false a) (list_all (is_served false) s) served in
+      let rs = and_true (list_all (λ y. nat_lt (rank a) (rank y)) s) (is_ascending rank s) rising in
+      let both = and_true (is_supported false a) (list_all (is_supported false) s) served in
       by_action a rs.0 both.0 both.1 below.0 (rising_bound m s rs.1 both.1 below.1)
     where
-      by_action : (a : Action) → list_all (λ y. nat_lt (rank a) (rank y)) s ≡ true → is_served false a ≡ true → list_all (is_served false) s ≡ true → IsBelow w (suc m) a → acts_weight w s ≤ length s + 16 * copy_steps m → acts_weight w (a ∷ s) ≤ length (a ∷ s) + 16 * copy_steps m
+      by_action : (a : Action) → list_all (λ y. nat_lt (rank a) (rank y)) s ≡ true → is_supported false a ≡ true → list_all (is_supported false) s ≡ true → IsBelow w (suc m) a → acts_weight w s ≤ length s + 16 * copy_steps m → acts_weight w (a ∷ s) ≤ length (a ∷ s) + 16 * copy_steps m
       by_action (Output port max_len) high here others h ih = let one = output_is_one port max_len here in omega arith
       by_action (Group g) high here others h ih = let x = tail_bound s high others in let le = copies_more (w.chain g) m (omega (arith, h)) in omega arith
       by_action other high here others h ih = omega arith
@@ -200,7 +200,7 @@ module _ (w : TheWorld) where
 
     entry_bound : (t n : ℕ) (f : Flow) (s : List Action) → t < 16 → w.flow t n ≡ Some f → IsSet s → work_weight w s (works f.instructions) + 1 ≤ lookup_steps longest t
     entry_bound t n f s inside e set =
-        let kept = and_true (is_rising run_place f.instructions) (list_all is_served_body f.instructions) (sound.kept t n f e) in
+        let kept = and_true (is_ascending run_place f.instructions) (list_all is_served_body f.instructions) (sound.kept t n f e) in
         works_bound t f.instructions s inside (order_is 0 f.instructions (begins_low f.instructions) kept.0) (instructions_are t f.instructions kept.1 (sound.onward t n f e)) set
 
     -- ---- rows
@@ -241,7 +241,7 @@ module _ (w : TheWorld) where
     lookup_lowers p t None inside set = let x = works_bound t [] p.action_set inside tt tt set in let y = positive p.action_set (works []) in omega arith
     lookup_lowers p t (Some k) inside set = entry_lowers p t k (w.flow t k) inside set refl
 
-    aged_lowers : (p : Packet) (rest : List Work) (answer : Ttl) → weight w (aged_row p rest answer).left ≤ work_weight w p.action_set rest
+    aged_lowers : (p : Packet) (rest : List Work) (answer : Ttl) → weight w (dec_ttl_row p rest answer).left ≤ work_weight w p.action_set rest
     aged_lowers p rest Done = omega arith
     aged_lowers p rest Expired = let x = positive p.action_set rest in omega arith
     aged_lowers p rest Absent = omega arith
@@ -261,7 +261,7 @@ module _ (w : TheWorld) where
     row_lowers p (RunSet ∷ rest) set fit = let x = acts_work (in_order p.action_set) [] rest in omega arith
     row_lowers p (Act (Output port max_len) ∷ rest) set fit = output_lowers p rest port max_len (port == table) refl
     row_lowers p (Act (Group g) ∷ rest) set fit = let x = group_lowers p rest g (w.chosen g) refl in omega arith
-    row_lowers p (Act DecNwTtl ∷ rest) set fit = let x = aged_lowers p rest (answer_to (ttl_of (layers_of p.frame))) in omega arith
+    row_lowers p (Act DecNwTtl ∷ rest) set fit = let x = aged_lowers p rest (dec_ttl_result (ttl_of (layers_of p.frame))) in omega arith
     row_lowers p (Act other ∷ rest) set fit = omega arith
 
     -- ---- and keeps the work fit
@@ -299,15 +299,15 @@ module _ (w : TheWorld) where
     entry_fits : (p : Packet) (t k : ℕ) (o : Option Flow) → IsSet p.action_set → w.flow t k ≡ o → AllFit (entry_row p t k o).left
     entry_fits p t k None set e = one_task p [] set tt
     entry_fits p t k (Some f) set e =
-        let kept = and_true (is_rising run_place f.instructions) (list_all is_served_body f.instructions) (sound.kept t k f e) in
+        let kept = and_true (is_ascending run_place f.instructions) (list_all is_served_body f.instructions) (sound.kept t k f e) in
         one_task (at_entry t f p) (works f.instructions) set (works_fit t f.instructions (instructions_are t f.instructions kept.1 (sound.onward t k f e)))
 
     lookup_fits : (p : Packet) (t : ℕ) (o : Option ℕ) → IsSet p.action_set → AllFit (lookup_row w p t o).left
     lookup_fits p t None set = one_task p [] set tt
     lookup_fits p t (Some k) set = entry_fits p t k (w.flow t k) set refl
 
-    aged_fits : (p : Packet) (rest : List Work) (answer : Ttl) → IsSet p.action_set → AllFitWork rest → AllFit (aged_row p rest answer).left
-    aged_fits p rest Done set fit = one_task (record p { frame = frame_aged p.frame }) rest set fit
+    aged_fits : (p : Packet) (rest : List Work) (answer : Ttl) → IsSet p.action_set → AllFitWork rest → AllFit (dec_ttl_row p rest answer).left
+    aged_fits p rest Done set fit = one_task (record p { frame = frame_ttl_decremented p.frame }) rest set fit
     aged_fits p rest Expired set fit = one_task p [] set tt
     aged_fits p rest Absent set fit = one_task p rest set fit
 
@@ -326,7 +326,7 @@ module _ (w : TheWorld) where
     row_fits p (RunSet ∷ rest) set fit = one_task (set_out p) (acts (in_order p.action_set) ++ rest) empty_set (acts_fit (in_order p.action_set) rest fit.1)
     row_fits p (Act (Output port max_len) ∷ rest) set fit = output_fits p rest port max_len (port == table) refl set fit.1
     row_fits p (Act (Group g) ∷ rest) set fit = group_fits p rest g (w.chosen g) refl set fit.1
-    row_fits p (Act DecNwTtl ∷ rest) set fit = aged_fits p rest (answer_to (ttl_of (layers_of p.frame))) set fit.1
+    row_fits p (Act DecNwTtl ∷ rest) set fit = aged_fits p rest (dec_ttl_result (ttl_of (layers_of p.frame))) set fit.1
     row_fits p (Act other ∷ rest) set fit = one_task (record p { frame = rewritten other p.frame }) rest set fit.1
 
     -- ---- the whole run

@@ -11,7 +11,7 @@ use Rattle.of_machine.specs.TheWorld.{TheWorld}
 use Rattle.of_machine.specs.Sound.{longest, IsSound}
 use Rattle.of_machine.specs.Rows.{Work, Lookup, Task, task, row, acts}
 use Rattle.of_machine.specs.Weights.{AllFitWork, IsFit, AllFit, copy_steps, action_steps, table_steps, set_steps, lookup_steps, output_weight, act_weight, work_weight, task_weight, weight}
-use Rattle.of_machine.specs.Runs.{Machine, step, first_step, after, starting, run_of, IsRun, IsFront}
+use Rattle.of_machine.specs.Runs.{Machine, step, first_step, after, starting, run_of, IsRun, IsPrefixOfRun}
 use Rattle.of_machine.proofs.Sets.{empty_set}
 use Rattle.of_machine.proofs.Reaching.{Came}
 use Rattle.of_machine.proofs.Ending.{settled, run_is_after}
@@ -118,7 +118,7 @@ module _ (w : TheWorld) where
     gained : (lines old new : List Step) (n : ℕ) → new ≡ old ++ lines → length lines ≤ n → length new ≤ length old + n
     gained lines old new n e le = let whole = length-append old lines in let same = ap length e in omega (arith, whole, same, le)
 
-    front_gains : (n : ℕ) (keeps : Bool) (p : Packet) (work : List Work) (old new : List Step) → ((k : ℕ) → length (after w k (starting p work)).lines ≤ n) → IsFront w keeps p work old new → keeps ≡ true → length new ≤ length old + n
+    front_gains : (n : ℕ) (keeps : Bool) (p : Packet) (work : List Work) (old new : List Step) → ((k : ℕ) → length (after w k (starting p work)).lines ≤ n) → IsPrefixOfRun w keeps p work old new → keeps ≡ true → length new ≤ length old + n
     front_gains n keeps p work old new few h k = gained (after w h.steps (starting p work)).lines old new n (h.tells k) (few h.steps)
 
     run_gains : (n : ℕ) (keeps : Bool) (p : Packet) (work : List Work) (o : Outcome) (old new : List Step) → ((k : ℕ) → length (after w k (starting p work)).lines ≤ n) → IsRun w keeps p work o old new → keeps ≡ true → length new ≤ length old + n
@@ -133,13 +133,13 @@ module _ (w : TheWorld) where
     actions_few : (p : Packet) (l : List Action) (k : ℕ) → p.action_set ≡ [] → length l ≤ 64 → length (after w k (starting p (acts l))).lines ≤ 9169379393
     actions_few p l k empty few = let le = action_lines p l k empty few in let steps = frame_steps in omega (arith, le, steps)
 
-    pub frame_front : (keeps : Bool) (p : Packet) (old new : List Step) → p.action_set ≡ [] → IsFront w keeps p (Lookup 0 ∷ []) old new → keeps ≡ true → length new ≤ length old + 143271552
+    pub frame_front : (keeps : Bool) (p : Packet) (old new : List Step) → p.action_set ≡ [] → IsPrefixOfRun w keeps p (Lookup 0 ∷ []) old new → keeps ≡ true → length new ≤ length old + 143271552
     frame_front keeps p old new empty h = front_gains 143271552 keeps p (Lookup 0 ∷ []) old new (λ k. frame_few p k empty) h
 
     pub frame_run : (keeps : Bool) (p : Packet) (o : Outcome) (old new : List Step) → p.action_set ≡ [] → IsRun w keeps p (Lookup 0 ∷ []) o old new → keeps ≡ true → length new ≤ length old + 143271552
     frame_run keeps p o old new empty h = run_gains 143271552 keeps p (Lookup 0 ∷ []) o old new (λ k. frame_few p k empty) h
 
-    pub actions_front : (keeps : Bool) (p : Packet) (l : List Action) (old new : List Step) → p.action_set ≡ [] → length l ≤ 64 → IsFront w keeps p (acts l) old new → keeps ≡ true → length new ≤ length old + 9169379393
+    pub actions_front : (keeps : Bool) (p : Packet) (l : List Action) (old new : List Step) → p.action_set ≡ [] → length l ≤ 64 → IsPrefixOfRun w keeps p (acts l) old new → keeps ≡ true → length new ≤ length old + 9169379393
     actions_front keeps p l old new empty few h = front_gains 9169379393 keeps p (acts l) old new (λ k. actions_few p l k empty few) h
 
     pub actions_run : (keeps : Bool) (p : Packet) (l : List Action) (o : Outcome) (old new : List Step) → p.action_set ≡ [] → length l ≤ 64 → IsRun w keeps p (acts l) o old new → keeps ≡ true → length new ≤ length old + 9169379393

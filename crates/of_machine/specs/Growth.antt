@@ -13,11 +13,11 @@ use Rattle.of_machine.specs.TheWorld.{TheWorld}
 use Rattle.of_machine.specs.Sound.{longest}
 use Rattle.of_machine.specs.Rows.{Work, Lookup, Do, RunSet, Act, Task}
 
--- 64 in the list of each table from t on, one in the last set, one in the set of each group of a chain
+-- 64 in the list of each table from t on, one in the last action set, one in the set of each group of a chain
 abbrev pub table_pushes : ℕ → ℕ
 table_pushes t = (16 - t) * 64 + (1 + longest)
 
--- the pushes of an action before so many later ones; a copy's do not add to the packet's
+-- the pushes of an action that `later` others follow; those of a copy do not add to the packet's
 abbrev pub act_pushes : TheWorld → Action → ℕ → ℕ
 act_pushes w (Output port max_len) later = if port == table then max (table_pushes 0) later else later
 act_pushes w (PushVlan type) later = 1 + later
@@ -40,7 +40,7 @@ work_pushes w set (Do (Goto t) ∷ rest) = table_pushes t
 work_pushes w set (RunSet ∷ rest) = list_pushes w (in_order set) (work_pushes w [] rest)
 work_pushes w set (Act a ∷ rest) = act_pushes w a (work_pushes w set rest)
 
--- the packet's frame is one, and stays within so many bytes
+-- the packet's frame is a frame, and stays within `most` bytes
 pub record IsLow (w : TheWorld) (most : ℕ) (t : Task) : Type 0 where
   pub frame : IsFrame t.packet.frame
   pub room : length t.packet.frame + 4 * work_pushes w t.packet.action_set t.work ≤ most
@@ -53,6 +53,6 @@ abbrev pub frame_of : Item → List ℕ
 frame_of (Sent port frame) = frame
 frame_of (PacketIn p) = p.frame
 
--- each frame that is emitted has at most so many bytes
+-- each frame that is emitted has at most `most` bytes
 abbrev pub AllShort : ℕ → List Item → Type 0
 AllShort most items = All (λ item. length (frame_of item) ≤ most) items

@@ -7,7 +7,7 @@ abbrev pub held_bytes : Held → List ℕ
 held_bytes (Lent bytes) = bytes.now
 held_bytes (Own frame) = frame
 
--- lent bytes are enough for a frame, and not too many
+-- lent bytes are long enough for a frame, and not too long
 abbrev pub IsHeld : Held → Type 0
 IsHeld (Lent bytes) = (14 ≤ length bytes.now) × (length bytes.now < 2 ^ 61)
 IsHeld (Own frame) = ⊤

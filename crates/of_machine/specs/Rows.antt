@@ -5,8 +5,8 @@ use Rattle.of_layers.specs.Reading.{layers_of}
 use Rattle.of_headers.specs.FieldMap.{field_map}
 use Rattle.of_rewrite.specs.declared.frame.Ttl.{Ttl}
 use Rattle.of_rewrite.specs.declared.frame.Ttl.TheVariants.{Done, Expired, Absent}
-use Rattle.of_rewrite.specs.Aging.{ttl_of, answer_to}
-use Rattle.of_rewrite.specs.Frames.{frame_set, frame_pushed, frame_popped, frame_ttl, frame_aged}
+use Rattle.of_rewrite.specs.TimeToLive.{ttl_of, dec_ttl_result}
+use Rattle.of_rewrite.specs.Frames.{frame_set, frame_pushed, frame_popped, frame_ttl, frame_ttl_decremented}
 use Rattle.of_actions.specs.declared.action.Action.{Action}
 use Rattle.of_actions.specs.declared.action.Action.TheVariants.{Output, PushVlan, PopVlan, Group, SetNwTtl, DecNwTtl, SetField}
 use Rattle.of_actions.specs.PortNumbers.{in_port, table, flood, all, controller}
@@ -43,7 +43,7 @@ pub record Task : Type 0 where
 abbrev pub task : Packet → List Work → Task
 task p work = record { packet = p; work = work }
 
--- what a row gives: its line, what is emitted and counted, and what stands in the packet's place
+-- what a row gives: its line, what is emitted and counted, and the packets that take the packet's place
 pub record Row : Type 0 where
   pub line : Step
   pub items : List Item
@@ -59,15 +59,15 @@ acts l = map Act l
 abbrev pub no_cookie : ℕ
 no_cookie = 2 ^ 64 - 1
 
--- a packet that comes in
+-- a packet that is received
 abbrev pub entering : List ℕ → ℕ → Packet
 entering frame ingress = record { frame = frame; ingress = ingress; metadata = 0; action_set = []; cookie = no_cookie; table = 0; miss = false }
 
--- what a look-up sees of a packet (5.3)
+-- the fields of a packet that a lookup compares (5.3)
 abbrev pub key_of : Packet → Field → Option ℕ
 key_of p = field_map (layers_of p.frame) p.ingress p.metadata
 
--- the entry for table misses has priority 0 and matches each packet (5.4)
+-- the table-miss flow entry has priority 0 and matches each packet (5.4)
 abbrev pub is_miss : Flow → Bool
 is_miss f = (f.priority == 0) && (length f.fields == 0)
 
@@ -80,15 +80,15 @@ pub record Emitted : Type 0 where
 abbrev pub nothing : Emitted
 nothing = record { items = []; counts = [] }
 
--- to the controller, with the entry and the table that the packet has (7.4.1)
+-- a PACKET_IN, with the packet's cookie and table (7.4.1)
 abbrev pub packet_in : PacketInReason → Packet → Emitted
 packet_in reason p = record { items = PacketIn (record { reason = reason; table = p.table; cookie = p.cookie; ingress = p.ingress; metadata = p.metadata; frame = p.frame }) ∷ []; counts = [] }
 
--- an output by the entry for table misses tells that none else was found
+-- an output by the table-miss flow entry has the reason NO_MATCH
 abbrev pub output_reason : Packet → PacketInReason
 output_reason p = if p.miss then NoMatch else ByAction
 
--- a port that may not send counts a drop
+-- a port that may not send counts a transmit drop
 abbrev pub to_port : Option Port → Packet → Emitted
 to_port None p = nothing
 to_port (Some q) p =
@@ -100,7 +100,7 @@ to_port (Some q) p =
 abbrev pub flooded : List Port → Packet → Emitted
 flooded ports p = record { items = map (λ q. Sent q.number p.frame) (other_ports ports p.ingress); counts = [] }
 
--- what an OUTPUT emits; the ingress port sends to IN_PORT alone
+-- what an OUTPUT emits; only IN_PORT sends out of the ingress port
 abbrev pub emission : List Port → Packet → ℕ → Emitted
 emission ports p port =
     if port == in_port then to_port (port_at ports p.ingress) p
@@ -117,7 +117,7 @@ goes_on line p rest = record { line = line; items = []; counts = []; left = task
 abbrev pub emits : Step → Emitted → List Task → Row
 emits line e left = record { line = line; items = e.items; counts = e.counts; left = left }
 
--- OUTPUT to TABLE: a copy without metadata and actions begins at the first table, before this packet goes on
+-- OUTPUT to TABLE: a copy with metadata 0 and an empty action set begins at the first table, before this packet goes on
 abbrev pub fresh : Packet → Packet
 fresh p = record p { metadata = 0; action_set = [] }
 
@@ -127,13 +127,13 @@ table_row p rest a = record { line = DidAct a; items = []; counts = []; left = t
 abbrev pub output_row : TheWorld → Packet → List Work → Action → ℕ → Row
 output_row w p rest a port = if port == table then table_row p rest a else emits (DidAct a) (emission w.ports p port) (task p rest ∷ [])
 
--- a time to live of 0 or 1 is told to the controller, and the packet's work is emptied; without one nothing changes
-abbrev pub aged_row : Packet → List Work → Ttl → Row
-aged_row p rest Expired = emits TtlExpired (packet_in InvalidTtl p) (task p [] ∷ [])
-aged_row p rest Done = goes_on (DidAct DecNwTtl) (record p { frame = frame_aged p.frame }) rest
-aged_row p rest Absent = goes_on (DidAct DecNwTtl) p rest
+-- a TTL of 0 or 1 gives a PACKET_IN with INVALID_TTL, and the packet's work is emptied; without a TTL nothing changes
+abbrev pub dec_ttl_row : Packet → List Work → Ttl → Row
+dec_ttl_row p rest Expired = emits TtlExpired (packet_in InvalidTtl p) (task p [] ∷ [])
+dec_ttl_row p rest Done = goes_on (DidAct DecNwTtl) (record p { frame = frame_ttl_decremented p.frame }) rest
+dec_ttl_row p rest Absent = goes_on (DidAct DecNwTtl) p rest
 
--- a copy with a bucket's actions as its set
+-- a copy with a bucket's actions as its action set
 abbrev pub bucket_copy : TheWorld → ℕ → Packet → ℕ → Packet
 bucket_copy w group p place = record p { action_set = with_actions [] (unwrap_or (w.bucket group place) []) }
 
@@ -165,7 +165,7 @@ rewrite_row p rest a = goes_on (DidAct a) (record p { frame = rewritten a p.fram
 abbrev pub act_row : TheWorld → Packet → List Work → Action → Row
 act_row w p rest (Output port max_len) = output_row w p rest (Output port max_len) port
 act_row w p rest (Group group) = group_row w p rest group (w.chosen group)
-act_row w p rest DecNwTtl = aged_row p rest (answer_to (ttl_of (layers_of p.frame)))
+act_row w p rest DecNwTtl = dec_ttl_row p rest (dec_ttl_result (ttl_of (layers_of p.frame)))
 act_row w p rest other = rewrite_row p rest other
 
 -- ---- instructions (5.9)
@@ -213,7 +213,7 @@ abbrev pub lookup_row : TheWorld → Packet → ℕ → Option ℕ → Row
 lookup_row w p t None = miss_row p t
 lookup_row w p t (Some n) = entry_row p t n (w.flow t n)
 
--- the packet once its action set runs: the set is empty, and what is done then is of no entry
+-- the packet once its action set runs: the set is empty, and what is done then belongs to no entry
 abbrev pub set_out : Packet → Packet
 set_out p = record p { action_set = []; cookie = no_cookie; miss = false }
 

@@ -16,7 +16,7 @@ use Rattle.of_machine.specs.TheWorld.{TheWorld}
 use Rattle.of_machine.specs.Rows.{Work, Lookup, RunSet, Task, task, Row, row, works}
 use Rattle.of_machine.specs.Weights.{task_weight}
 
--- the packets with their work, and what was given so far
+-- the packets with their work, and the items, counts and lines so far
 pub record Machine : Type 0 where
   pub tasks : List Task
   pub items : List Item
@@ -35,12 +35,12 @@ first_step w m (t ∷ others) = taken m (row w t.packet t.work) others
 unfoldable pub step : TheWorld → Machine → Machine
 step w m = first_step w m m.tasks
 
--- so many steps
+-- after n steps
 unfoldable pub after : TheWorld → ℕ → Machine → Machine
 after w zero m = m
 after w (suc n) m = step w (after w n m)
 
--- so many steps, or fewer where no packet is left before
+-- n steps, or fewer where no packet is left before
 abbrev pub or_end : TheWorld → (Machine → Machine) → Machine → List Task → Machine
 or_end w others m [] = m
 or_end w others m (t ∷ ts) = others (step w m)
@@ -53,11 +53,11 @@ until_none w (suc n) m = or_end w (until_none w n) m m.tasks
 abbrev pub starting : Packet → List Work → Machine
 starting p work = record { tasks = task p work ∷ []; items = []; counts = []; lines = [] }
 
--- THE RUN of a packet with its work: until no packet is left, which takes no more steps than it weighs
+-- THE RUN of a packet with its work: until no packet is left, which takes no more steps than its weight
 unfoldable pub run_of : TheWorld → Packet → List Work → Machine
 run_of w p work = until_none w (task_weight w (task p work)) (starting p work)
 
--- what the machine x gave after what b gave, with the packets of b behind its own
+-- what the machine x gave after what b gave, with the packets of b after its own
 abbrev pub ahead_of : Machine → Machine → Machine
 ahead_of b x = record { tasks = x.tasks ++ b.tasks; items = b.items ++ x.items; counts = b.counts ++ x.counts; lines = b.lines ++ x.lines }
 
@@ -72,19 +72,19 @@ pub record Point : Type 0 where
 abbrev pub point : List Task → Outcome → List Step → Point
 point tasks outcome told = record { tasks = tasks; items = outcome.items.items; counts = outcome.counts.items; told = told }
 
--- the machine has come from there to this point, and a log that keeps tells its steps
+-- the machine has come from `start` to this point, and a log that keeps steps has exactly these
 pub record Reached (w : TheWorld) (keeps : Bool) (start : Machine) (here : Point) : Type 0 where
   pub steps : ℕ
   pub lines : List Step
   pub tells : keeps ≡ true → here.told ≡ lines
   pub reached : after w steps start ≡ record { tasks = here.tasks; items = here.items; counts = here.counts; lines = lines }
 
--- a log that keeps tells the first steps of the machine from there
+-- a log that keeps steps has the first steps of the machine from `start`
 pub record Stopped (w : TheWorld) (keeps : Bool) (start : Machine) (told : List Step) : Type 0 where
   pub steps : ℕ
   pub tells : keeps ≡ true → told ≡ (after w steps start).lines
 
--- whatever machine has come to the one point comes to the other
+-- each machine that has come to the point `old` comes to the point `new`
 abbrev pub Moves : TheWorld → Bool → Point → Point → Type 0
 Moves w keeps old new = (start : Machine) → Reached w keeps start old → Reached w keeps start new
 
@@ -104,12 +104,12 @@ Acts w keeps p work outcome told going p' outcome' told' =
     (rest : List Work) (others : List Task) →
     Moves w keeps (point (task p (work ++ rest) ∷ others) outcome told) (point (task p' (left_of going rest) ∷ others) outcome' told')
 
--- a log that keeps tells the first steps of that
+-- a log that keeps steps has the first steps of that
 abbrev pub Breaks : TheWorld → Bool → Packet → List Work → Outcome → List Step → List Step → Type 0
 Breaks w keeps p work outcome told told' =
     (rest : List Work) (others : List Task) → Stops w keeps (point (task p (work ++ rest) ∷ others) outcome told) told'
 
--- these packets, which stand before the others, come to their ends
+-- these packets, which come before the others, run to their ends
 abbrev pub AllEnd : TheWorld → Bool → List Task → Outcome → List Step → Outcome → List Step → Type 0
 AllEnd w keeps tasks outcome told outcome' told' =
     (others : List Task) → Moves w keeps (point (tasks ++ others) outcome told) (point others outcome' told')
@@ -118,7 +118,7 @@ abbrev pub AllFail : TheWorld → Bool → List Task → Outcome → List Step �
 AllFail w keeps tasks outcome told told' =
     (others : List Task) → Stops w keeps (point (tasks ++ others) outcome told) told'
 
--- the packet has this work alone, and comes to that
+-- the packet has this work alone, and comes to the packet p' with work'
 abbrev pub Follows : TheWorld → Bool → Packet → List Work → Outcome → List Step → List Work → Packet → Outcome → List Step → Type 0
 Follows w keeps p work outcome told work' p' outcome' told' =
     (others : List Task) →
@@ -133,7 +133,7 @@ abbrev pub Fails : TheWorld → Bool → Packet → List Work → Outcome → Li
 Fails w keeps p work outcome told told' =
     (others : List Task) → Stops w keeps (point (task p work ∷ others) outcome told) told'
 
--- the work after an instruction, where these would be next
+-- the work after an instruction, where `rest` are the instructions after it
 abbrev pub next_works : Next → List Instruction → List Work
 next_works Onward rest = works rest
 next_works Over rest = []
@@ -157,13 +157,13 @@ IsLater table ThenOver = ⊤
 
 -- ---- what a run does
 
--- the run of the packet gave this outcome and left no packet, and a log that keeps gains its lines
+-- the run of the packet gave this outcome and left no packet, and a log that keeps steps gains its lines
 pub record IsRun (w : TheWorld) (keeps : Bool) (p : Packet) (work : List Work) (outcome : Outcome) (old new : List Step) : Type 0 where
   pub lines : List Step
   pub run : run_of w p work ≡ record { tasks = []; items = outcome.items.items; counts = outcome.counts.items; lines = lines }
   pub tells : keeps ≡ true → new ≡ old ++ lines
 
--- a log that keeps gains the lines of the first steps
-pub record IsFront (w : TheWorld) (keeps : Bool) (p : Packet) (work : List Work) (old new : List Step) : Type 0 where
+-- a log that keeps steps gains the lines of the first steps
+pub record IsPrefixOfRun (w : TheWorld) (keeps : Bool) (p : Packet) (work : List Work) (old new : List Step) : Type 0 where
   pub steps : ℕ
   pub tells : keeps ≡ true → new ≡ old ++ (after w steps (starting p work)).lines

@@ -10,11 +10,11 @@ pub record TheWorld : Type 0 where
   pub winner : ℕ → (Field → Option ℕ) → Option ℕ
   -- the entry of a table that has a number
   pub flow : ℕ → ℕ → Option Flow
-  -- the places of the buckets of a group that run, where the group is there (5.6)
+  -- the places of the buckets of a group that run, where the group exists (5.6)
   pub chosen : ℕ → Option (List ℕ)
   -- the actions of a bucket, by its group and its place
   pub bucket : ℕ → ℕ → Option (List Action)
-  -- the ports, by rising number
+  -- the ports, in ascending order of number
   pub ports : List Port
-  -- how many groups the longest chain has that begins at a group: no row reads it
+  -- how many groups the longest chain that begins at a group has: no row reads it
   pub chain : ℕ → ℕ

@@ -5,8 +5,8 @@ use Rattle.of_actions.specs.declared.action.Action.{Action}
 use Rattle.of_actions.specs.declared.action.Action.TheVariants.{Output, Group}
 use Rattle.of_actions.specs.declared.instruction.Instruction.TheVariants.{Apply, Clear, Write, Metadata, Goto}
 use Rattle.of_actions.specs.PortNumbers.{table}
-use Rattle.of_actions.specs.Served.{is_served}
-use Rattle.of_actions.specs.Rising.{is_rising}
+use Rattle.of_actions.specs.Supported.{is_supported}
+use Rattle.of_actions.specs.Rising.{is_ascending}
 use Rattle.of_action_set.specs.Sets.{rank, with_actions, in_order}
 use Rattle.of_machine.specs.TheWorld.{TheWorld}
 use Rattle.of_machine.specs.Sound.{longest}
@@ -23,7 +23,7 @@ copy_steps (suc n) = 32 + 16 * copy_steps n
 unfoldable pub action_steps : ℕ → ℕ
 action_steps n = 1 + 16 * copy_steps n
 
--- a table: the look-up, five instructions, 64 actions
+-- a table: the lookup, five instructions, 64 actions
 unfoldable pub table_steps : ℕ → ℕ
 table_steps n = 6 + 64 * action_steps n
 
@@ -70,16 +70,16 @@ weight w (t ∷ rest) = task_weight w t + weight w rest
 
 -- ---- what a packet may have to do
 
--- its action set is one: by rising rank, and each action may stand in a flow
+-- its action set is a set: in ascending order of rank, and each action is allowed in a flow
 pub record IsSet (set : List Action) : Type 0 where
-  pub rising : IsTrue (is_rising rank set)
-  pub served : IsTrue (list_all (is_served false) set)
+  pub rising : IsTrue (is_ascending rank set)
+  pub served : IsTrue (list_all (is_supported false) set)
 
 abbrev pub IsFitWork : Work → Type 0
 IsFitWork (Lookup t) = t < 16
 IsFitWork (Do (Apply l)) = ⊤
 IsFitWork (Do Clear) = ⊤
-IsFitWork (Do (Write l)) = IsTrue (list_all (is_served false) l)
+IsFitWork (Do (Write l)) = IsTrue (list_all (is_supported false) l)
 IsFitWork (Do (Metadata value mask)) = ⊤
 IsFitWork (Do (Goto t)) = t < 16
 IsFitWork RunSet = ⊤

@@ -17,15 +17,15 @@ use std::default::MadeWith;
 #[derive(Debug, Drop)]
 pub struct Packet<'a> {
     pub frame: PacketFrame<'a>,
-    /// The number of the port by which it came in.
+    /// The number of the port at which it was received.
     pub ingress: u32,
     pub metadata: u64,
     pub action_set: ActionSet,
     /// The cookie of the entry whose instructions are followed, and all ones where there is none.
     pub cookie: u64,
-    /// The table of the last look-up that found an entry.
+    /// The table of the last lookup that found an entry.
     pub table: u8,
-    /// Whether the entry whose instructions are followed is the one for table misses.
+    /// Whether the entry whose instructions are followed is the table-miss flow entry.
     pub miss: bool,
 }
 
@@ -42,11 +42,11 @@ pub enum Item {
 #[derive(Debug, Drop)]
 pub struct ToController {
     pub reason: PacketInReason,
-    /// The table of the last look-up that found an entry.
+    /// The table of the last lookup that found an entry.
     pub table: u8,
     /// The cookie of the entry whose instructions were followed, and all ones where there was none.
     pub cookie: u64,
-    /// The number of the port by which the packet came in.
+    /// The number of the port at which the packet was received.
     pub ingress: u32,
     pub metadata: u64,
     pub frame: Bytes,
@@ -55,9 +55,9 @@ pub struct ToController {
 /// What is counted (OpenFlow 1.3.5, 5.8).
 #[derive(Clone, Copy, Debug, PartialEq, Eq)]
 pub enum Count {
-    /// A look-up in a table.
+    /// A lookup in a table.
     Lookup(u8),
-    /// A packet of so many bytes for an entry of a table.
+    /// A packet of this many bytes for an entry of a table.
     Matched {
         table: u8,
         number: usize,
@@ -65,12 +65,12 @@ pub enum Count {
     },
     /// A packet that a port could not send.
     TxDropped(u32),
-    /// A packet of so many bytes for a group.
+    /// A packet of this many bytes for a group.
     Group {
         group: u32,
         bytes: usize,
     },
-    /// A packet of so many bytes for the bucket of a group at that place.
+    /// A packet of this many bytes for the bucket of a group at that place.
     Bucket {
         group: u32,
         place: u8,
@@ -95,19 +95,19 @@ pub enum Step {
     Metadata { value: u64, mask: u64 },
     /// The GOTO_TABLE instruction.
     Goto(u8),
-    /// The action set is taken out.
+    /// The action set runs.
     Set,
     Act(Action),
-    /// The time to live is over, and the packet's work with it.
+    /// The TTL expired, and the packet's work ends.
     TtlExpired,
     /// The packet's end.
     End,
 }
 
-/// What is emitted, in order. Two items need no memory of their own.
+/// What is emitted, in order. Up to two items need no allocation.
 pub type Items = SmallVec<Item, 2>;
 
-/// What is counted, in order. Eight counts, those of four tables, need no memory of their own.
+/// What is counted, in order. Up to eight counts, those of four tables, need no allocation.
 pub type Counts = SmallVec<Count, 8>;
 
 /// What a run gives.
@@ -117,7 +117,7 @@ pub struct Outcome {
     pub counts: Counts,
 }
 
-// What stands in unused places.
+// What fills unused places.
 impl MadeWith<Global> for Item {
     fn made_with(alloc: Global) -> Self {
         Item::Sent {
@@ -127,7 +127,7 @@ impl MadeWith<Global> for Item {
     }
 }
 
-// What stands in unused places.
+// What fills unused places.
 impl Default for Count {
     fn default() -> Self {
         Count::Lookup(0)
@@ -135,7 +135,7 @@ impl Default for Count {
 }
 
 impl<'a> Packet<'a> {
-    /// A packet that comes in.
+    /// A packet that is received.
     pub fn new(frame: PacketFrame<'a>, ingress: u32) -> Self
         ensures { result ≡ entering frame.entry ingress }
     {
@@ -150,14 +150,14 @@ impl<'a> Packet<'a> {
         }
     }
 
-    /// What a look-up sees of it (OpenFlow 1.3.5, 5.3).
+    /// The fields that a lookup compares (OpenFlow 1.3.5, 5.3).
     pub fn key(&self) -> FieldKey
         ensures { value result ≡ key_of self.now }
     {
         key_of_frame(&self.frame, self.ingress, self.metadata)
     }
 
-    /// The packet again, but with an empty action set. Its bytes are lent.
+    /// The packet again, but with an empty action set. Its bytes are borrowed.
     pub(crate) fn copy_without_actions(&self) -> Packet<'_>
         ensures { result ≡ record self.now { action_set = [] } }
     {

@@ -79,7 +79,7 @@ fn find_port(ports: &[Port], number: u32) -> Option<&Port>
     ports.iter().find(|port| port.number == number)
 }
 
-// Out of a port, where it is there and may send.
+// Out of a port, where it exists and may send.
 fn send(port: Option<&Port>, packet: &Packet<'_>, outcome: &mut Outcome) -> Result<(), AllocError>
     ensures { OnOk result (Gains outcome.old (to_port (option_copied port.entry) packet.now) outcome.new) }
 {

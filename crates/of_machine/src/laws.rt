@@ -1,6 +1,6 @@
 //! Laws of runs.
 ghost use Rattle.std.specs.Prelude.{◌≡◌, ◌≤◌, ◌+◌, ◌*◌, ◌∷◌, ℕ, List, [], true, length, IsTrue};
-ghost use Rattle.of_actions.specs.Served.{are_served};
+ghost use Rattle.of_actions.specs.Supported.{are_supported};
 ghost use Rattle.of_machine.specs.TheWorld.{TheWorld};
 ghost use Rattle.of_machine.specs.Sound.{IsSound, longest};
 ghost use Rattle.of_machine.specs.Rows.{Work, Lookup, acts, task};
@@ -20,7 +20,7 @@ pub fn every_run_ends()
     ensures lines { (w : TheWorld) (p : Packet) (work : List Work) (k : ℕ) → IsSound w → IsFit (task p work) → length (after w k (starting p work)).lines ≤ task_weight w (task p work) }
     ensures frame { (w : TheWorld) (p : Packet) (k : ℕ) → IsSound w → p.action_set ≡ [] → length (after w k (starting p (Lookup 0 ∷ []))).lines ≤ lookup_steps longest 0 }
     ensures number { lookup_steps longest 0 ≡ 143271552 }
-    ensures actions { (w : TheWorld) (p : Packet) (l : List Action) (k : ℕ) → IsSound w → p.action_set ≡ [] → IsTrue (are_served true l) → length (after w k (starting p (acts l))).lines ≤ 64 * lookup_steps longest 0 + 65 }
+    ensures actions { (w : TheWorld) (p : Packet) (l : List Action) (k : ℕ) → IsSound w → p.action_set ≡ [] → IsTrue (are_supported true l) → length (after w k (starting p (acts l))).lines ≤ 64 * lookup_steps longest 0 + 65 }
 {}
 
 /// A packet before others has its own run, and then the others are as they were.

@@ -1,7 +1,7 @@
 //! Actions, groups and action sets.
 ghost use Rattle.std.specs.Prelude.{◌≡◌, ◌≤◌, ◌+◌, ◌∷◌, ◌++◌, [], List, Some, false, IsTrue, IfOk, OnOk, OnErr, length, map};
 ghost use Rattle.std.specs.List.{list_all};
-ghost use Rattle.of_actions.specs.Served.{is_served};
+ghost use Rattle.of_actions.specs.Supported.{is_supported};
 ghost use Rattle.of_rewrite.specs.Frames.{IsFrame};
 ghost use Rattle.of_machine.specs.Rows.{Work, RunSet, Act as ActWork, acts, Task, task, copies};
 ghost use Rattle.of_machine.specs.Runs.{Moves, Acts, Ends, Breaks, AllEnd, AllFail, point};
@@ -27,7 +27,7 @@ pub(crate) enum Going {
     Ended,
 }
 
-/// One action; `levels` groups may stand in the longest chain that it begins.
+/// One action; `levels` groups may be in the longest chain that it begins.
 #[cycle(machine)]
 pub(crate) fn act<W: World, S: StepLog>(
     world: &W,
@@ -38,7 +38,7 @@ pub(crate) fn act<W: World, S: StepLog>(
     log: &mut S,
 ) -> Result<Going, AllocError>
     requires sound { IsSound (W.view world.now) }
-    requires served { IsTrue (is_served false action) }
+    requires served { IsTrue (is_supported false action) }
     requires below { IsBelow (W.view world.now) (levels + 1) action }
     ensures ok { IfOk result (λ going. Acts (W.view world.now) S.KEEPS packet.old (ActWork action ∷ []) outcome.old (S.list log.old) going packet.new outcome.new (S.list log.new)) }
     ensures err { OnErr result (Breaks (W.view world.now) S.KEEPS packet.old (ActWork action ∷ []) outcome.old (S.list log.old) (S.list log.new)) }
@@ -108,7 +108,7 @@ pub(crate) fn act_all<W: World, S: StepLog>(
     log: &mut S,
 ) -> Result<Going, AllocError>
     requires sound { IsSound (W.view world.now) }
-    requires served { IsTrue (list_all (is_served false) actions.now) }
+    requires served { IsTrue (list_all (is_supported false) actions.now) }
     requires below { AllBelow (W.view world.now) (levels + 1) actions.now }
     ensures ok { IfOk result (λ going. Acts (W.view world.now) S.KEEPS packet.old (acts actions.now) outcome.old (S.list log.old) going packet.new outcome.new (S.list log.new)) }
     ensures err { OnErr result (Breaks (W.view world.now) S.KEEPS packet.old (acts actions.now) outcome.old (S.list log.old) (S.list log.new)) }

@@ -1,9 +1,9 @@
 //! The frame of a packet.
 ghost use Rattle.std.specs.Prelude.{◌≡◌, ◌≤◌, ◌<◌, ◌^◌, length, false, IsTrue, IfOk, OnOk};
-ghost use Rattle.of_actions.specs.Served.{is_served};
+ghost use Rattle.of_actions.specs.Supported.{is_supported};
 ghost use Rattle.of_layers.specs.Reading.{layers_of};
-ghost use Rattle.of_rewrite.specs.Frames.{frame_aged};
-ghost use Rattle.of_rewrite.specs.Aging.{ttl_of, answer_to};
+ghost use Rattle.of_rewrite.specs.Frames.{frame_ttl_decremented};
+ghost use Rattle.of_rewrite.specs.TimeToLive.{ttl_of, dec_ttl_result};
 ghost use Rattle.of_machine.specs.Rows.{rewritten};
 
 use of_actions::Action;
@@ -18,7 +18,7 @@ enum Held<'a> {
     Own(Frame),
 }
 
-/// The frame of a packet: lent by whoever brought it, until an action changes it.
+/// The frame of a packet: borrowed from the caller, until an action changes it.
 #[derive(Debug, Drop)]
 pub struct PacketFrame<'a> {
     held: Held<'a>,
@@ -66,7 +66,7 @@ impl<'a> PacketFrame<'a> {
         self.bytes().len()
     }
 
-    // The same bytes, lent.
+    // The same bytes, borrowed.
     pub(crate) fn lend(&self) -> PacketFrame<'_>
         ensures { result ≡ self.now }
     {
@@ -75,7 +75,7 @@ impl<'a> PacketFrame<'a> {
 
     // Does to it what the action does to a frame.
     pub(crate) fn rewrite(&mut self, alloc: Global, action: Action) -> Result<(), AllocError>
-        requires { IsTrue (is_served false action) }
+        requires { IsTrue (is_supported false action) }
         ensures { OnOk result (self.new ≡ rewritten action self.old) }
     {
         match &mut self.held {
@@ -89,10 +89,10 @@ impl<'a> PacketFrame<'a> {
         }
     }
 
-    // Takes its time to live down by one.
+    // Decrements its TTL.
     pub(crate) fn dec_ttl(&mut self, alloc: Global) -> Result<Ttl, AllocError>
-        ensures answer { IfOk result (λ ttl. ttl ≡ answer_to (ttl_of (layers_of self.old))) }
-        ensures frame { OnOk result (self.new ≡ frame_aged self.old) }
+        ensures answer { IfOk result (λ ttl. ttl ≡ dec_ttl_result (ttl_of (layers_of self.old))) }
+        ensures frame { OnOk result (self.new ≡ frame_ttl_decremented self.old) }
     {
         match &mut self.held {
             Held::Own(frame) => Ok(frame.dec_ttl()),
@@ -108,7 +108,7 @@ impl<'a> PacketFrame<'a> {
 
 // The frame that an action makes.
 fn rewrite(action: Action, frame: &mut Frame) -> Result<(), AllocError>
-    requires { IsTrue (is_served false action) }
+    requires { IsTrue (is_supported false action) }
     ensures { OnOk result (frame.new ≡ rewritten action frame.old) }
 {
     match action {

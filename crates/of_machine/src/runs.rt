@@ -1,10 +1,10 @@
-//! Runs of frames, and of packets that bring their actions along.
+//! Runs of frames, and of the packets of PACKET_OUTs.
 ghost use Rattle.std.specs.Prelude.{◌≡◌, ◌≤◌, ◌+◌, ◌∷◌, ◌++◌, [], List, true, IsTrue, IfOk, OnOk, OnErr, length};
 ghost use Rattle.std.specs.List.{list_all};
-ghost use Rattle.of_actions.specs.Served.{is_served, are_served};
+ghost use Rattle.of_actions.specs.Supported.{is_supported, are_supported};
 ghost use Rattle.of_machine.specs.Growth.{AllShort};
 ghost use Rattle.of_machine.specs.Rows.{Work, Act as ActWork, Lookup as LookupWork, acts, Task, task};
-ghost use Rattle.of_machine.specs.Runs.{Moves, Acts, Breaks, IsRun, IsFront, run_of, point};
+ghost use Rattle.of_machine.specs.Runs.{Moves, Acts, Breaks, IsRun, IsPrefixOfRun, run_of, point};
 ghost use Rattle.of_machine.specs.Outside.{is_to_tables};
 ghost use Rattle.of_machine.specs.Sound.{IsSound};
 
@@ -17,7 +17,7 @@ use std::alloc::{AllocError, Global};
 
 /// Runs a packet from table 0 to its end (OpenFlow 1.3.5, 5.1), in at most 143,271,552 steps.
 ///
-/// Where memory is wanted, the log has the first steps, and tables, groups and ports are as before.
+/// Where memory runs out, the log has the first steps, and tables, groups and ports are as before.
 pub fn run<W: World, S: StepLog>(
     alloc: Global,
     world: &mut W,
@@ -33,7 +33,7 @@ pub fn run<W: World, S: StepLog>(
     ensures lines { OnOk result (S.KEEPS ≡ true → S.list log.new ≡ S.list log.old ++ (run_of (W.view world.old) packet.entry (LookupWork 0 ∷ [])).lines) }
     ensures grown { IfOk result (λ outcome. length packet.entry.frame ≤ 9216 → AllShort 13328 outcome.items.items) }
     ensures bound { S.KEEPS ≡ true → length (S.list log.new) ≤ length (S.list log.old) + 143271552 }
-    ensures err { OnErr result (IsFront (W.view world.old) S.KEEPS packet.entry (LookupWork 0 ∷ []) (S.list log.old) (S.list log.new)) }
+    ensures err { OnErr result (IsPrefixOfRun (W.view world.old) S.KEEPS packet.entry (LookupWork 0 ∷ []) (S.list log.old) (S.list log.new)) }
 {
     world.known();
     frame_is_known(&packet.frame);
@@ -46,7 +46,7 @@ pub fn run<W: World, S: StepLog>(
 /// Runs the actions of a PACKET_OUT (OpenFlow 1.3.5, 7.3.7). An OUTPUT to TABLE makes a copy that begins at table 0.
 /// It takes at most 9,169,379,393 steps, which are more than 32 bits count.
 ///
-/// Where memory is wanted, the log has the first steps, and tables, groups and ports are as before.
+/// Where memory runs out, the log has the first steps, and tables, groups and ports are as before.
 pub fn run_actions<W: World, S: StepLog>(
     alloc: Global,
     world: &mut W,
@@ -55,7 +55,7 @@ pub fn run_actions<W: World, S: StepLog>(
     log: &mut S,
 ) -> Result<Outcome, AllocError>
     requires empty { packet.action_set ≡ [] }
-    requires served { IsTrue (are_served true actions.now) }
+    requires served { IsTrue (are_supported true actions.now) }
     ensures kept { W.view world.new ≡ W.view world.old }
     ensures content { W.content world.new ≡ W.content world.old }
     ensures ok { IfOk result (λ outcome. IsRun (W.view world.old) S.KEEPS packet.entry (acts actions.now) outcome (S.list log.old) (S.list log.new)) }
@@ -64,7 +64,7 @@ pub fn run_actions<W: World, S: StepLog>(
     ensures lines { OnOk result (S.KEEPS ≡ true → S.list log.new ≡ S.list log.old ++ (run_of (W.view world.old) packet.entry (acts actions.now)).lines) }
     ensures grown { IfOk result (λ outcome. length packet.entry.frame ≤ 9216 → AllShort 13584 outcome.items.items) }
     ensures bound { S.KEEPS ≡ true → length (S.list log.new) ≤ length (S.list log.old) + 9169379393 }
-    ensures err { OnErr result (IsFront (W.view world.old) S.KEEPS packet.entry (acts actions.now) (S.list log.old) (S.list log.new)) }
+    ensures err { OnErr result (IsPrefixOfRun (W.view world.old) S.KEEPS packet.entry (acts actions.now) (S.list log.old) (S.list log.new)) }
 {
     world.known();
     frame_is_known(&packet.frame);
@@ -75,7 +75,7 @@ pub fn run_actions<W: World, S: StepLog>(
     Ok(outcome)
 }
 
-// Actions that stand in no flow, in their order, as far as the packet's work goes on.
+// The actions of a PACKET_OUT, in their order, as far as the packet's work goes on.
 fn act_all_outside<W: World, S: StepLog>(
     world: &mut W,
     actions: &[Action],
@@ -84,7 +84,7 @@ fn act_all_outside<W: World, S: StepLog>(
     log: &mut S,
 ) -> Result<Going, AllocError>
     requires sound { IsSound (W.view world.old) }
-    requires served { IsTrue (list_all (is_served true) actions.now) }
+    requires served { IsTrue (list_all (is_supported true) actions.now) }
     ensures kept { W.view world.new ≡ W.view world.old }
     ensures content { W.content world.new ≡ W.content world.old }
     ensures ok { IfOk result (λ going. Acts (W.view world.old) S.KEEPS packet.old (acts actions.now) outcome.old (S.list log.old) going packet.new outcome.new (S.list log.new)) }
@@ -99,7 +99,7 @@ fn act_all_outside<W: World, S: StepLog>(
     Ok(Going::Continues)
 }
 
-// One action that stands in no flow: it may give a copy of the packet to the tables.
+// One action of a PACKET_OUT: it may give a copy of the packet to the tables.
 fn act_outside<W: World, S: StepLog>(
     world: &mut W,
     action: Action,
@@ -108,7 +108,7 @@ fn act_outside<W: World, S: StepLog>(
     log: &mut S,
 ) -> Result<Going, AllocError>
     requires sound { IsSound (W.view world.old) }
-    requires served { IsTrue (is_served true action) }
+    requires served { IsTrue (is_supported true action) }
     ensures kept { W.view world.new ≡ W.view world.old }
     ensures content { W.content world.new ≡ W.content world.old }
     ensures ok { IfOk result (λ going. Acts (W.view world.old) S.KEEPS packet.old (ActWork action ∷ []) outcome.old (S.list log.old) going packet.new outcome.new (S.list log.new)) }
@@ -131,7 +131,7 @@ fn goes_to_tables(action: Action) -> bool
     }
 }
 
-// A copy without metadata and actions, from the first table on.
+// A copy with metadata 0 and an empty action set, from the first table on.
 fn to_tables<W: World, S: StepLog>(
     world: &mut W,
     action: Action,

@@ -30,7 +30,7 @@ enum Then {
     Ended,
 }
 
-/// Whether the entry is the one for table misses (OpenFlow 1.3.5, 5.4).
+/// Whether the entry is the table-miss flow entry (OpenFlow 1.3.5, 5.4).
 pub fn is_miss(flow: &Flow) -> bool
     ensures { result ≡ is_miss_entry flow.now }
 {
@@ -119,7 +119,7 @@ fn follow<W: World, S: StepLog>(
     Ok(Then::Set)
 }
 
-// One table: the look-up, and the entry's instructions.
+// One table: the lookup, and the entry's instructions.
 fn look_up<W: World, S: StepLog>(
     world: &mut W,
     table: u8,

@@ -43,11 +43,11 @@ pub trait World {
         requires { (view self.now).bucket group place ≢ None }
         ensures { (view self.now).bucket group place ≡ Some result.now };
 
-    /// The ports, by rising number.
+    /// The ports, in ascending order of number.
     fn ports(&self) -> &[Port]
         ensures { result.now ≡ (view self.now).ports };
 
-    /// What each world promises: winners are numbers of entries, instructions are as an entry keeps them, chains of groups are short, and ports stand by rising number.
+    /// What each world promises: winners are numbers of entries, instructions are as an entry keeps them, chains of groups are short, and ports are in ascending order.
     fn known(&self)
         ensures { IsSound (view self.now) };
 }
@@ -60,7 +60,7 @@ pub trait StepLog {
 
     ghost list: { Self → List Step };
 
-    /// Where the log keeps, the step is its last.
+    /// Where the log keeps steps, the step is its last.
     fn step(&mut self, step: Step) -> Result<(), AllocError>
         ensures ok { OnOk result (KEEPS ≡ true → list self.new ≡ list self.old ++ step ∷ []) }
         ensures err { OnErr result (list self.new ≡ list self.old) };

@@ -66,7 +66,7 @@ pub updates_result : {E : Type 0} (old mid new : Slab Entry) (e : Entry) (r : Re
 updates_result old mid new e (Ok n) s h = updates_slots old mid new n (Some e) s h
 updates_result old mid new e (Err x) s h = h
 
--- ---- what an addition answers
+-- ---- what an addition returns
 
 pub added_aged : {E : Type 0} (old new : Slab Entry) (age : ℕ) (e : Entry) (r : Result ℕ E) → AreAged old age → e.age ≡ age → IfOk r (λ n. Updates old new n (Some e)) → OnErr r (new.slots ≡ old.slots) → AreAged new (age + 1)
 added_aged old new age e (Ok n) h a u f = aged_more old new age n e h u a

@@ -3,7 +3,7 @@ use Rattle.std.proofs.Common.{◌≡◌, ◌≢◌, ℕ, ◌+◌, Bool, true, fa
 use Rattle.std.specs.List.{Contains, filter}
 use Rattle.std.proofs.lemmas.Bool.{cases_eq, eqb-true, eq-eqb, ne_eqb}
 use Rattle.slab.specs.Slab.{Slab, get, Updates}
-use Rattle.of_wire.specs.Numbered.{without, renewed}
+use Rattle.of_wire.specs.Numbered.{without, moved_to_end}
 use Rattle.of_classifier.specs.declared.Row.{Row}
 use Rattle.of_classifier.specs.Rows.{row_number}
 use Rattle.of_mask_groups.specs.declared.entry.Entry.{Entry}
@@ -107,7 +107,7 @@ rows_less old new next n h u =
     (λ r c. (let o = of_filter p olds r c in let x = sound_row old next r o.0 in subst (λ z. Contains (by_age next new.slots) z) (sym x.is) (complete_row new next r.number x.entry fresh (u.others r.number (λ s. kept_is r n o.1 s) ∙ x.stands))))
 
 -- an entry becomes the youngest
-pub rows_renewed : (old new : Slab Entry) (next n : ℕ) (d e : Entry) → AreAged old next → get old n ≡ Some d → Updates old new n (Some e) → e.age ≡ next → row_of n e ≡ row_of n d → by_age (next + 1) new.slots ≡ renewed row_number n (by_age next old.slots)
+pub rows_renewed : (old new : Slab Entry) (next n : ℕ) (d e : Entry) → AreAged old next → get old n ≡ Some d → Updates old new n (Some e) → e.age ≡ next → row_of n e ≡ row_of n d → by_age (next + 1) new.slots ≡ moved_to_end row_number n (by_age next old.slots)
 rows_renewed old new next n d e h stood u a same =
     let fresh = aged_more old new next n e h u a in
     let olds = by_age next old.slots in

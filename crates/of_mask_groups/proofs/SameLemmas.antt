@@ -133,7 +133,7 @@ pub record Asked (g : Group) (mask : FieldMask) (key : FieldKey) (fields : List 
   pub masked : (f : Field) → mask_at mask f ≡ looked_at fields f
   pub asks : (f : Field) → value key f ≡ value_of fields f
 
--- such an entry stands in the cell
+-- such an entry is in the cell
 in_cell : (entries : Slab Entry) (groups : List Group) (g : Group) (mask : FieldMask) (key : FieldKey) (fields : List MatchField) (p n : ℕ) (e : Entry) → AreGrouped entries groups → Contains groups g → Asked g mask key fields → get entries n ≡ Some e → is_same_entry fields p e ≡ true → Contains (cell_at g.cells key) n
 in_cell entries groups g mask key fields p n e a c q stands same =
     let s = fields_same fields p e same in

@@ -37,7 +37,7 @@ none_probed entries key = record { sound = λ f e. absurd cc; covers = λ n e g 
 same_entry : (o : Option Entry) (d e : Entry) → o ≡ Some d → o ≡ Some e → d ≡ e
 same_entry o d e h k = cc
 
--- what stands in the cell of the key that is seen matches
+-- what is in the cell of the key that is seen matches
 cell_matches : (entries : Slab Entry) (key : Field → Option ℕ) (g : Group) (k : FieldKey) (n : ℕ) (groups : List Group) → AreGrouped entries groups → ((f : Field) → value k f ≡ seen (mask_at g.mask f) (key f)) → (c : IsInCell entries g k n) → matches_map c.entry.fields key ≡ true
 cell_matches entries key g k n groups fine masked c =
     (matched_exactly c.entry.fields key (fine.normal n c.entry c.stands)).1 (λ f. ap (λ (o : Option ℕ). seen o (key f)) (sym (c.looks.bits f)) ∙ sym (masked f) ∙ c.asks.values f)

@@ -165,7 +165,7 @@ hit_probes entries groups done next p best f fine aged falls part d b is above =
   of_group = λ g c. (let r = group_row entries groups next g fine aged (part g c) in (r.0, in_filter (λ z. nat_le p z.priority) (by_age next entries.slots) r.0 r.1 (le_true p r.0.priority (omega (arith, above g c, r.3))), r.2));
 })
 
--- ---- what is answered
+-- ---- what is returned
 
 pub answer_winner : (entries : Slab Entry) (groups done : List Group) (key : Field → Option ℕ) (best : Option Found) (probes next : ℕ) → AreGrouped entries groups → AreAged entries next → AreProbed entries key done best probes → IsDone groups done best → number_of_found best ≡ number_of (winner_of (by_age next entries.slots) key)
 answer_winner entries groups done key None probes next fine aged p d = ap number_of (sym (none_wins entries groups done key probes next fine p d))

@@ -28,13 +28,13 @@ others n ns = filter (λ m. not (m == n)) ns
 abbrev pub HasCell : {S : Type 0} → HashMap MaskedKey (Vec ℕ) S → FieldKey → Type 0
 HasCell cells key = IsSome (get_by (the_key.eq-value.it (masked_key key)) cells)
 
--- there is a list under the key, with room for one number more
+-- there is a list under the key, with capacity for one more number
 pub record HasRoomAt {S : Type 0} (cells : HashMap MaskedKey (Vec ℕ) S) (key : FieldKey) : Type 0 where
   pub cell : Vec ℕ
   pub stands : get_by (the_key.eq-value.it (masked_key key)) cells ≡ Some cell
   pub room : vec_len cell < vec_capacity cell
 
--- one key's cell has one number more
+-- one key's cell has one more number
 pub record CellMore {S : Type 0} (old new : HashMap MaskedKey (Vec ℕ) S) (key : FieldKey) (n : ℕ) : Type 0 where
   pub at : cell_at new key ≡ cell_at old key ++ n ∷ []
   pub apart : (k : FieldKey) → is_key key k ≡ false → cell_at new k ≡ cell_at old k

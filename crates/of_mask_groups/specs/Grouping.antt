@@ -105,7 +105,7 @@ pub record IsPlaceFor (gs : List Group) (p k : ℕ) : Type 0 where
 
 -- ---- a group that changes
 
--- the group has one number more, of this priority and in the cell of this key
+-- the group has one more number, of this priority and in the cell of this key
 pub record HasMore (g h : Group) (k : FieldKey) (p n : ℕ) : Type 0 where
   pub mask : h.mask ≡ g.mask
   pub settled : IsHighest h.ranks h.best

@@ -10,7 +10,7 @@ use std::collections::HashMap;
 
 pub(crate) type Cells = HashMap<MaskedKey, Vec<usize>>;
 
-// Sees that there is a list under a key.
+// Makes sure that there is a list under a key.
 fn make_cell(cells: &mut Cells, alloc: Global, key: &FieldKey) -> Result<(), AllocError>
     ensures same { (k : AKey) → cell_at cells.new k ≡ cell_at cells.old k }
     ensures there { OnOk result (HasCell cells.new key.now) }
@@ -34,7 +34,7 @@ fn reserve_cell(cells: &mut Cells, key: &FieldKey) -> Result<(), AllocError>
     }
 }
 
-/// Makes room for one more number under a key.
+/// Reserves capacity for one more number under a key.
 pub(crate) fn make_room(cells: &mut Cells, alloc: Global, key: &FieldKey) -> Result<(), AllocError>
     ensures same { (k : AKey) → cell_at cells.new k ≡ cell_at cells.old k }
     ensures room { OnOk result (HasRoomAt cells.new key.now) }
@@ -80,7 +80,7 @@ fn is_vacant(cells: &Cells, key: &FieldKey) -> bool
     }
 }
 
-/// Takes a number from a key.
+/// Removes a number from under a key.
 pub(crate) fn drop_number(cells: &mut Cells, key: &FieldKey, number: usize)
     ensures { CellLess cells.old cells.new key.now number }
 {

@@ -59,7 +59,7 @@ impl Group {
         }
     }
 
-    /// Puts in an entry that asks for this key. Without memory the group stays.
+    /// Inserts an entry that asks for this key. Where memory runs out the group stays.
     pub(crate) fn insert(
         &mut self,
         alloc: Global,
@@ -76,7 +76,7 @@ impl Group {
         Ok(())
     }
 
-    /// Takes out an entry that asks for this key.
+    /// Removes an entry that asks for this key.
     pub(crate) fn remove(&mut self, key: &FieldKey, rank: Rank)
         ensures { HasLess self.old self.new key.now rank.priority rank.number }
     {

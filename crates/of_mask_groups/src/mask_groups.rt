@@ -23,12 +23,12 @@ use slab::Slab;
 use std::alloc::{AllocError, Global};
 use std::marker::Model;
 
-/// The entries in a slab, and their numbers in a group for each distinct mask, by falling best priority.
+/// The entries in a slab, and their numbers in a group for each distinct mask, in descending order of best priority.
 #[derive(Drop)]
 pub struct MaskGroups {
     entries: Slab<Entry>,
     groups: Vec<Group>,
-    /// The age that was given out last.
+    /// The age that was assigned last.
     last: u64,
     alloc: Global,
 }
@@ -119,7 +119,7 @@ impl Lookup for MaskGroups {
     }
 }
 
-// Puts in an entry, and gives its number. Without memory the entries stay.
+// Inserts an entry, and returns its number. Where memory runs out the entries stay as they were.
 fn add_entry(
     entries: &mut Slab<Entry>,
     groups: &mut Vec<Group>,
@@ -139,7 +139,7 @@ fn add_entry(
     insert_entry(entries, groups, alloc, entry)
 }
 
-// The same where there is room in both lists.
+// The same where there is capacity in both lists.
 fn insert_entry(
     entries: &mut Slab<Entry>,
     groups: &mut Vec<Group>,
@@ -178,7 +178,7 @@ fn insert_entry(
     }
 }
 
-// Takes out the entry of a number, if there is one.
+// Removes the entry of a number, if there is one.
 fn take_entry(entries: &mut Slab<Entry>, groups: &mut Vec<Group>, alloc: Global, number: usize)
     requires grouped { AreGrouped entries.old groups.old.items }
     requires held { vec_len groups.old ≤ vec_capacity groups.old }

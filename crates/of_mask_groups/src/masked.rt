@@ -13,7 +13,7 @@ pub(crate) struct MaskedKey {
     pub(crate) fields: FieldKey,
 }
 
-// One number that depends on all fields: to feed them one after another takes several times as long.
+// One number that depends on all fields: to hash them one after another takes several times as long.
 impl Hash for MaskedKey {
     ghost hash_input = { λ k. fed.u64 (digest_of k.fields.numbers) };
 
@@ -24,7 +24,7 @@ impl Hash for MaskedKey {
     }
 }
 
-// Numbers side by side in one: each place is so many times the next one.
+// Numbers side by side in one: each place is worth `place` times the next one.
 #[inline]
 #[tactic(auto, unfolding(crate::specs::Digest::side_by_side))]
 fn beside(place: u64, numbers: &[u64]) -> u64
@@ -58,7 +58,7 @@ fn high(number: u128) -> u64
     (number / 0x1_0000_0000_0000_0000) as u64
 }
 
-// The key's words, each times an odd number whose bits look random. Fields of which a frame has one at most may share a word.
+// The key's words, each multiplied by an odd number whose bits look random. Fields of which a frame has one at most may share a word.
 #[inline]
 fn digest(key: &Numbers) -> u64
     ensures { result ≡ digest_of key.now }

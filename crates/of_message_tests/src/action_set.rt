@@ -1,3 +1,4 @@
+use crate::checks::same_actions;
 use of_action_set::ActionSet;
 use of_actions::Action;
 use of_layers::Field;
@@ -18,18 +19,19 @@ const PCP: Action = Action::SetField {
 };
 
 #[test]
-#[tactic(auto, unfolding(of_actions::specs::Served::is_served, of_layers::specs::Fields::row_of))]
+#[tactic(auto, unfolding(of_actions::specs::Supported::is_supported, of_layers::specs::Fields::row_of))]
 fn tag_is_pushed_before_it_is_set_and_sent(rt: HostRuntime) {
     let mut set = ActionSet::new();
     set.write(&[OUTPUT, VID, Action::PushVlan(0x8100)]);
-    assert_eq!(rt;
+    same_actions(
+        &rt,
         set.in_order(),
-        [Action::PushVlan(0x8100), VID, OUTPUT].as_slice()
+        &[Action::PushVlan(0x8100), VID, OUTPUT],
     );
 }
 
 #[test]
-#[tactic(auto, unfolding(of_actions::specs::Served::is_served, of_layers::specs::Fields::row_of))]
+#[tactic(auto, unfolding(of_actions::specs::Supported::is_supported, of_layers::specs::Fields::row_of))]
 fn last_written_action_of_a_kind_stays(rt: HostRuntime) {
     let mut set = ActionSet::new();
     set.write(&[PCP, VID, Action::PushVlan(0x8100)]);
@@ -38,14 +40,11 @@ fn last_written_action_of_a_kind_stays(rt: HostRuntime) {
         value: 0x1007,
     };
     set.write(&[other, Action::PushVlan(0x88a8)]);
-    assert_eq!(rt;
-        set.in_order(),
-        [Action::PushVlan(0x88a8), other, PCP].as_slice()
-    );
+    same_actions(&rt, set.in_order(), &[Action::PushVlan(0x88a8), other, PCP]);
 }
 
 #[test]
-#[tactic(auto, unfolding(of_actions::specs::Served::is_served, of_layers::specs::Fields::row_of))]
+#[tactic(auto, unfolding(of_actions::specs::Supported::is_supported, of_layers::specs::Fields::row_of))]
 fn kinds_run_in_their_order(rt: HostRuntime) {
     let mut set = ActionSet::new();
     set.write(&[Action::SetNwTtl(9), Action::DecNwTtl]);
@@ -56,15 +55,15 @@ fn kinds_run_in_their_order(rt: HostRuntime) {
         Action::DecNwTtl,
         Action::SetNwTtl(9),
     ];
-    assert_eq!(rt; set.in_order(), order.as_slice());
+    same_actions(&rt, set.in_order(), &order);
 }
 
 #[test]
-#[tactic(auto, unfolding(of_actions::specs::Served::is_served, of_layers::specs::Fields::row_of))]
+#[tactic(auto, unfolding(of_actions::specs::Supported::is_supported, of_layers::specs::Fields::row_of))]
 fn output_is_left_out_beside_group(rt: HostRuntime) {
     let mut set = ActionSet::new();
     set.write(&[OUTPUT, Action::Group(7)]);
-    assert_eq!(rt; set.in_order(), [Action::Group(7)].as_slice());
+    same_actions(&rt, set.in_order(), &[Action::Group(7)]);
     set.clear();
     assert!(rt; set.in_order().is_empty());
 }

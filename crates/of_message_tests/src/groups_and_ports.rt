@@ -1,124 +1,112 @@
-use crate::actions::{code_of, wanted_code};
+use crate::checks::{Kind, are_read, are_refused, is_written, message_of, same_actions};
 use of_actions::Action;
-use of_groups::GroupKind;
+use of_groups::{Bucket, GroupKind};
 use of_messages::{
-    GroupMod, Message, NewGroup, PortDescription, PortMod, PortStatusReason, read_message,
-    write_group_mod, write_port_status,
+    GroupMod, Message, NewGroup, PortDescription, PortMod, PortStatusReason, write_group_mod,
+    write_port_status,
 };
-use of_test_rows::{bytes_of, sides};
 use std::alloc::Global;
+use std::process::Abort;
 use std::test::Fail;
 
 mod rows;
 
 #[test]
 fn refused(rt: HostRuntime) -> Result<(), Fail> {
-    let alloc = rt.alloc();
-    for line in rows::REFUSED.lines() {
-        if let Some((bytes, code)) = sides(line)? {
-            let read = read_message(alloc, &bytes_of(alloc, bytes)?);
-            assert_eq!(rt; code_of(read), wanted_code(code)?, "{line}");
-        }
-    }
-    Ok(())
+    are_refused(&rt, rt.alloc(), Kind::Message, rows::REFUSED)
 }
 
-fn group_mod_in(alloc: Global, bytes: &[u8]) -> Option<GroupMod> {
-    match read_message(alloc, bytes) {
-        Ok(Message::GroupMod(group_mod)) => Some(group_mod),
-        _ => None,
-    }
+/// A bucket with one action.
+struct WantedBucket {
+    weight: u16,
+    watch_port: u32,
+    watch_group: u32,
+    action: Action,
 }
 
-fn added_in(alloc: Global, bytes: &[u8]) -> Option<NewGroup> {
-    match group_mod_in(alloc, bytes) {
-        Some(GroupMod::Add(group)) => Some(group),
-        _ => None,
-    }
-}
-
-// An ADD of group 0x10: a bucket that goes with port 2, and one that goes with group 7.
-const ADD: [u8; 72] = [
-    4, 15, 0, 72, 0, 0, 0, 9, // header
-    0, 0, 3, 0, 0, 0, 0, 0x10, // command, type, number
-    0, 32, 0, 5, 0, 0, 0, 2, // length, weight, watched port
-    0xff, 0xff, 0xff, 0xff, 0, 0, 0, 0, // watched group, padding
-    0, 0, 0, 16, 0, 0, 0, 2, 0, 0, 0, 0, 0, 0, 0, 0, // OUTPUT
-    0, 24, 0, 0, 0xff, 0xff, 0xff, 0xff, // length, weight, watched port
-    0, 0, 0, 7, 0, 0, 0, 0, // watched group, padding
-    0, 22, 0, 8, 0, 0, 0, 7, // GROUP
+const BUCKETS: &[WantedBucket] = &[
+    WantedBucket {
+        weight: 5,
+        watch_port: 2,
+        watch_group: 0xffff_ffff,
+        action: Action::Output {
+            port: 2,
+            max_len: 0,
+        },
+    },
+    WantedBucket {
+        weight: 0,
+        watch_port: 0xffff_ffff,
+        watch_group: 7,
+        action: Action::Group(7),
+    },
 ];
+
+/// Asserts what a bucket has.
+fn has(rt: &impl Abort, found: &Bucket, wanted: &WantedBucket) {
+    assert_eq!(rt;
+        (found.weight, found.watch_port, found.watch_group),
+        (wanted.weight, wanted.watch_port, wanted.watch_group)
+    );
+    same_actions(rt, found.actions.as_slice(), &[wanted.action]);
+}
+
+/// Asserts that a group has the two buckets.
+fn has_buckets(rt: &impl Abort, group: &NewGroup) {
+    assert_eq!(rt; group.buckets.len(), BUCKETS.len());
+    for (found, wanted) in group.buckets.as_slice().iter().zip(BUCKETS) {
+        has(rt, found, wanted);
+    }
+}
+
+/// Asserts what the group has that an ADD adds, and how the ADD is written.
+fn is_added(rt: &impl Abort, alloc: Global, group: &NewGroup) -> Result<(), Fail> {
+    assert_eq!(rt; group.id, 0x10);
+    assert_eq!(rt; group.kind, GroupKind::FastFailover);
+    has_buckets(rt, group);
+    let written = write_group_mod(alloc, 9, group)?;
+    is_written(rt, alloc, written.as_slice(), rows::ADD)
+}
+
+fn is_add(rt: &impl Abort, alloc: Global, message: &Message) -> Result<(), Fail> {
+    match message {
+        Message::GroupMod(GroupMod::Add(group)) => is_added(rt, alloc, group),
+        _ => Err("an ADD".into()),
+    }
+}
 
 #[test]
 fn add_of_two_buckets(rt: HostRuntime) -> Result<(), Fail> {
-    let group = added_in(rt.alloc(), &ADD).ok_or("an ADD")?;
-    assert_eq!(rt; group.id, 0x10);
-    assert_eq!(rt; group.kind, GroupKind::FastFailover);
-    assert_eq!(rt; group.buckets.len(), 2);
-    let first = &group.buckets.as_slice()[0];
-    let output = Action::Output {
-        port: 2,
-        max_len: 0,
-    };
-    assert_eq!(rt; first.weight, 5);
-    assert_eq!(rt; first.watch_port, 2);
-    assert_eq!(rt; first.watch_group, 0xffff_ffff);
-    assert_eq!(rt; first.actions.as_slice(), [output].as_slice());
-    let second = &group.buckets.as_slice()[1];
-    assert_eq!(rt; second.watch_port, 0xffff_ffff);
-    assert_eq!(rt; second.watch_group, 7);
-    assert_eq!(rt; second.actions.as_slice(), [Action::Group(7)].as_slice());
-    let written = write_group_mod(rt.alloc(), 9, &group)?;
-    assert_eq!(rt; written.as_slice(), ADD.as_slice());
-    Ok(())
+    let message = message_of(rt.alloc(), Kind::Message, rows::ADD)?;
+    is_add(&rt, rt.alloc(), &message)
 }
 
 #[test]
 fn modify_and_delete(rt: HostRuntime) -> Result<(), Fail> {
-    let modify = group_mod_in(
-        rt.alloc(),
-        &[4, 15, 0, 16, 0, 0, 0, 9, 0, 1, 2, 0, 0, 0, 0, 1],
-    );
-    let modify = modify.ok_or("a MODIFY")?;
-    assert!(rt; matches!(modify, GroupMod::Modify(_)));
-    let one = group_mod_in(
-        rt.alloc(),
-        &[
-            4, 15, 0, 17, 0, 0, 0, 9, 0, 2, 9, 0, 0xff, 0xff, 0xff, 0, 99,
-        ],
-    );
-    let one = one.ok_or("a DELETE")?;
-    assert!(rt; matches!(one, GroupMod::Delete(Some(0xffff_ff00))));
-    let all = group_mod_in(
-        rt.alloc(),
-        &[4, 15, 0, 16, 0, 0, 0, 9, 0, 2, 0, 0, 0xff, 0xff, 0xff, 0xfc],
-    );
-    let all = all.ok_or("a DELETE")?;
-    assert!(rt; matches!(all, GroupMod::Delete(None)));
-    Ok(())
+    are_read(&rt, rt.alloc(), Kind::Message, rows::READ)
+}
+
+const WANTED_PORT_MOD: PortMod = PortMod {
+    port: 2,
+    hw: [2, 0, 0, 0, 0, 0xa2],
+    config: 1,
+    mask: 0x65,
+};
+
+fn is_port_mod(rt: &impl Abort, message: &Message) -> Result<(), Fail> {
+    match message {
+        Message::PortMod(found) => {
+            assert_eq!(rt; *found, WANTED_PORT_MOD);
+            Ok(())
+        }
+        _ => Err("a PORT_MOD".into()),
+    }
 }
 
 #[test]
 fn port_mod(rt: HostRuntime) -> Result<(), Fail> {
-    let bytes = [
-        4u8, 16, 0, 40, 0, 0, 0, 9, // header
-        0, 0, 0, 2, 1, 1, 1, 1, // number, padding
-        2, 0, 0, 0, 0, 0xa2, 1, 1, // address, padding
-        0, 0, 0, 1, 0, 0, 0, 0x65, // configuration, mask
-        0, 0, 0x20, 0x0f, 1, 1, 1, 1, // features, padding
-    ];
-    let read = match read_message(rt.alloc(), &bytes)? {
-        Message::PortMod(port_mod) => Some(port_mod),
-        _ => None,
-    };
-    let wanted = PortMod {
-        port: 2,
-        hw: [2, 0, 0, 0, 0, 0xa2],
-        config: 1,
-        mask: 0x65,
-    };
-    assert_eq!(rt; read, Some(wanted));
-    Ok(())
+    let message = message_of(rt.alloc(), Kind::Message, rows::PORT_MOD)?;
+    is_port_mod(&rt, &message)
 }
 
 #[test]
@@ -130,16 +118,6 @@ fn port_status(rt: HostRuntime) -> Result<(), Fail> {
         config: 0,
         state: 1,
     };
-    let message = write_port_status(rt.alloc(), 0, PortStatusReason::Modify, &port)?;
-    let bytes = [
-        4u8, 12, 0, 80, 0, 0, 0, 0, // header
-        2, 0, 0, 0, 0, 0, 0, 0, // reason, padding
-        0, 0, 0, 2, 0, 0, 0, 0, // number, padding
-        2, 0, 0, 0, 0, 0xa2, 0, 0, // address, padding
-        0x70, 0x32, 0, 0, 0, 0, 0, 0, 0, 0, 0, 0, 0, 0, 0, 0, // name
-        0, 0, 0, 0, 0, 0, 0, 1, // configuration, state
-        0, 0, 0, 0, 0, 0, 0, 0, 0, 0, 0, 0, 0, 0, 0, 0, 0, 0, 0, 0, 0, 0, 0, 0,
-    ];
-    assert_eq!(rt; message.as_slice(), bytes.as_slice());
-    Ok(())
+    let written = write_port_status(rt.alloc(), 0, PortStatusReason::Modify, &port)?;
+    is_written(&rt, rt.alloc(), written.as_slice(), rows::PORT_STATUS)
 }

@@ -10,6 +10,10 @@ mod actions;
 #[cfg(test)]
 mod channel;
 #[cfg(test)]
+mod checks;
+#[cfg(test)]
 mod groups_and_ports;
 #[cfg(test)]
 mod messages;
+#[cfg(test)]
+mod numbers;

@@ -5,10 +5,10 @@ use Rattle.std.specs.Prelude.{Result, Ok, Err, OnOk}
 use Rattle.of_messages.specs.declared.message.FlowRemoved.{FlowRemoved}
 use Rattle.of_messages.specs.declared.message.PacketIn.{PacketIn}
 use Rattle.of_messages.specs.declared.message.FlowMod.{FlowMod}
-use Rattle.of_messages.specs.Written.{flow_removed_front, packet_in_front, flow_mod_front, header, message}
+use Rattle.of_messages.specs.Written.{flow_removed_fixed_part, packet_in_fixed_part, flow_mod_fixed_part, header, message}
 
-pub length_front : (removed : FlowRemoved) → length (flow_removed_front removed) ≡ 40
-unfolding flow_removed_front
+pub length_front : (removed : FlowRemoved) → length (flow_removed_fixed_part removed) ≡ 40
+unfolding flow_removed_fixed_part
 length_front removed = refl
 
 -- nine parts, the last of which may fail
@@ -34,22 +34,22 @@ pub five_parts : {s1 s2 s3 s4 : List ℕ} (s0 s5 a b c d e : List ℕ) → s0 �
 five_parts s0 s5 a b c d e e0 e1 e2 e3 e4 e5 = let whole : s5 ≡ ((([] ++ a ++ b) ++ c) ++ d) ++ e = cc in whole ∙ simp append_assoc
 
 -- how long the body of a PACKET_IN is
-pub length_body : (p : PacketIn) (size : ℕ) (fields frame : List ℕ) → length (packet_in_front p size ++ (fields ++ (0 ∷ 0 ∷ frame))) ≡ 18 + length fields + length frame
-unfolding packet_in_front
+pub length_body : (p : PacketIn) (size : ℕ) (fields frame : List ℕ) → length (packet_in_fixed_part p size ++ (fields ++ (0 ∷ 0 ∷ frame))) ≡ 18 + length fields + length frame
+unfolding packet_in_fixed_part
 length_body p size fields frame = let parts = length-append fields (0 ∷ 0 ∷ frame) in omega (arith, parts)
 
 pub packet_in_is : (xid len size : ℕ) (p : PacketIn) (fields frame : List ℕ) {s1 s2 s3 s4 : List ℕ} (s0 s5 : List ℕ)
-    → s0 ≡ [] → s1 ≡ s0 ++ header 10 len xid → s2 ≡ s1 ++ packet_in_front p size → s3 ≡ s2 ++ fields → s4 ≡ s3 ++ 0 ∷ 0 ∷ [] → s5 ≡ s4 ++ frame
+    → s0 ≡ [] → s1 ≡ s0 ++ header 10 len xid → s2 ≡ s1 ++ packet_in_fixed_part p size → s3 ≡ s2 ++ fields → s4 ≡ s3 ++ 0 ∷ 0 ∷ [] → s5 ≡ s4 ++ frame
     → size ≡ length frame → len ≡ 26 + length fields + length frame
-    → s5 ≡ message 10 xid (packet_in_front p (length frame) ++ (fields ++ (0 ∷ 0 ∷ frame)))
+    → s5 ≡ message 10 xid (packet_in_fixed_part p (length frame) ++ (fields ++ (0 ∷ 0 ∷ frame)))
 packet_in_is xid len size p fields frame s0 s5 e0 e1 e2 e3 e4 e5 size_is len_is =
-    let whole = five_parts s0 s5 (header 10 len xid) (packet_in_front p size) fields (0 ∷ 0 ∷ []) frame e0 e1 e2 e3 e4 e5 in
+    let whole = five_parts s0 s5 (header 10 len xid) (packet_in_fixed_part p size) fields (0 ∷ 0 ∷ []) frame e0 e1 e2 e3 e4 e5 in
     let body = length_body p (length frame) fields frame in
-    let total : len ≡ 8 + length (packet_in_front p (length frame) ++ (fields ++ (0 ∷ 0 ∷ frame))) = omega (arith, len_is, body) in
+    let total : len ≡ 8 + length (packet_in_fixed_part p (length frame) ++ (fields ++ (0 ∷ 0 ∷ frame))) = omega (arith, len_is, body) in
     rw (← total, ← size_is) whole
 
-pub length_flow_mod : (m : FlowMod) → length (flow_mod_front m) ≡ 40
-unfolding flow_mod_front
+pub length_flow_mod : (m : FlowMod) → length (flow_mod_fixed_part m) ≡ 40
+unfolding flow_mod_fixed_part
 length_flow_mod m = refl
 
 -- five and six parts, the last of which may fail
@@ -61,18 +61,18 @@ pub six_or : {A E : Type 0} {s1 s2 s3 s4 s5 : List ℕ} (r : Result A E) (s0 s6 
 six_or (Err x) s0 s6 a b c d e f e1 e2 e3 e4 e5 last = last
 six_or (Ok x) s0 s6 a b c d e f e1 e2 e3 e4 e5 last = let whole : s6 ≡ (((((s0 ++ a) ++ b) ++ c) ++ d) ++ e) ++ f = cc in whole ∙ simp append_assoc
 
--- the two halves of what stands in front of a FLOW_MOD's match
+-- the two halves of the fields before a FLOW_MOD's match
 pub both_halves : {A E : Type 0} {s1 : List ℕ} (r : Result A E) (s0 s2 : List ℕ) (x1 x2 x3 x4 x5 rest : List ℕ) → s1 ≡ s0 ++ (x1 ++ (x2 ++ (x3 ++ (x4 ++ x5)))) → OnOk r (s2 ≡ s1 ++ rest) → OnOk r (s2 ≡ s0 ++ (x1 ++ (x2 ++ (x3 ++ (x4 ++ (x5 ++ rest))))))
 both_halves (Err x) s0 s2 x1 x2 x3 x4 x5 rest e last = last
 both_halves (Ok x) s0 s2 x1 x2 x3 x4 x5 rest e last = let whole : s2 ≡ (s0 ++ (x1 ++ (x2 ++ (x3 ++ (x4 ++ x5))))) ++ rest = cc in whole ∙ simp append_assoc
 
 -- a FLOW_MOD, part by part
 pub flow_mod_is : (xid len : ℕ) (m : FlowMod) (fields instructions : List ℕ) {s1 s2 s3 : List ℕ} (s0 s4 : List ℕ)
-    → s0 ≡ [] → s1 ≡ s0 ++ header 14 len xid → s2 ≡ s1 ++ flow_mod_front m → s3 ≡ s2 ++ fields → s4 ≡ s3 ++ instructions
+    → s0 ≡ [] → s1 ≡ s0 ++ header 14 len xid → s2 ≡ s1 ++ flow_mod_fixed_part m → s3 ≡ s2 ++ fields → s4 ≡ s3 ++ instructions
     → len ≡ 48 + length fields + length instructions
-    → s4 ≡ message 14 xid (flow_mod_front m ++ (fields ++ instructions))
+    → s4 ≡ message 14 xid (flow_mod_fixed_part m ++ (fields ++ instructions))
 flow_mod_is xid len m fields instructions s0 s4 e0 e1 e2 e3 e4 len_is =
-    let whole : s4 ≡ (((([] ++ header 14 len xid) ++ flow_mod_front m) ++ fields) ++ instructions) = cc in
-    let parts : s4 ≡ header 14 len xid ++ (flow_mod_front m ++ (fields ++ instructions)) = whole ∙ simp append_assoc in
-    let total : len ≡ 8 + length (flow_mod_front m ++ (fields ++ instructions)) = omega (arith, len_is, length-append (flow_mod_front m) (fields ++ instructions), length-append fields instructions, length_flow_mod m) in
+    let whole : s4 ≡ (((([] ++ header 14 len xid) ++ flow_mod_fixed_part m) ++ fields) ++ instructions) = cc in
+    let parts : s4 ≡ header 14 len xid ++ (flow_mod_fixed_part m ++ (fields ++ instructions)) = whole ∙ simp append_assoc in
+    let total : len ≡ 8 + length (flow_mod_fixed_part m ++ (fields ++ instructions)) = omega (arith, len_is, length-append (flow_mod_fixed_part m) (fields ++ instructions), length-append fields instructions, length_flow_mod m) in
     rw (← total) parts

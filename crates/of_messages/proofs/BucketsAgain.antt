@@ -15,7 +15,7 @@ use Rattle.of_wire.proofs.ItemsRead.{items_are}
 use Rattle.of_actions.specs.declared.action.Action.{Action}
 use Rattle.of_actions.specs.Actions.{actions_said}
 use Rattle.of_actions.specs.CanonicalActions.{canonical_actions}
-use Rattle.of_actions.specs.Served.{are_served}
+use Rattle.of_actions.specs.Supported.{are_supported}
 use Rattle.of_actions.proofs.ActionsAgain.{canonical_spelt, canonical_short}
 use Rattle.of_actions.proofs.ActionsComputed.{actions_are}
 use Rattle.of_groups.specs.declared.bucket.Bucket.{Bucket}
@@ -53,7 +53,7 @@ record Read (b : Bucket) (seen : List Bucket) (rest : List ℕ) : Type 0 where
   none : first_of (bucket_refusals seen rest) ≡ None
   at : bucket_at rest ≡ Some (fresh b)
 
-read : (b : Bucket) (seen : List Bucket) (rest behind : List ℕ) → length seen ≤ 15 → are_served false b.actions ≡ true → Says b rest behind → Read b seen rest
+read : (b : Bucket) (seen : List Bucket) (rest behind : List ℕ) → length seen ≤ 15 → are_supported false b.actions ≡ true → Says b rest behind → Read b seen rest
 read b seen rest behind few served h =
     let text = canonical_actions b.actions in
     let eights = (canonical_short false b.actions served).eights in
@@ -70,7 +70,7 @@ read b seen rest behind few served h =
       at = value_is b rest behind h said;
     }
 
-says : (b : Bucket) (x : List ℕ) → has_numbers b ≡ true → are_served false b.actions ≡ true → Says b (canonical_bucket b ++ x) x
+says : (b : Bucket) (x : List ℕ) → has_numbers b ≡ true → are_supported false b.actions ≡ true → Says b (canonical_bucket b ++ x) x
 unfolding canonical_bucket has_numbers
 says b x numbers served =
     let r = canonical_bucket b ++ x in
@@ -87,7 +87,7 @@ says b x numbers served =
       long = omega arith;
     }
 
-bucket_again : (b : Bucket) (seen : List Bucket) (x : List ℕ) → length seen ≤ 15 → has_numbers b ≡ true → are_served false b.actions ≡ true → Again buckets (canonical_bucket b) (fresh b) seen x
+bucket_again : (b : Bucket) (seen : List Bucket) (x : List ℕ) → length seen ≤ 15 → has_numbers b ≡ true → are_supported false b.actions ≡ true → Again buckets (canonical_bucket b) (fresh b) seen x
 bucket_again b seen x few numbers served =
     let s = says b x numbers served in
     let h = read b seen (canonical_bucket b ++ x) x few served s in
@@ -107,7 +107,7 @@ all_again seen [] few numbers fit = tt
 all_again seen (b ∷ bs) few numbers fit =
     let this : has_numbers b ≡ true = grind (arith, nat_tests) in
     let others : list_all has_numbers bs ≡ true = grind (arith, nat_tests) in
-    let served : are_served false b.actions ≡ true = grind (arith, nat_tests) in
+    let served : are_supported false b.actions ≡ true = grind (arith, nat_tests) in
     let fit_others : list_all is_fit bs ≡ true = grind (arith, nat_tests) in (
       λ x. subst (λ (t : List ℕ). Again buckets t (fresh b) seen x) (sym (same_text b)) (bucket_again b seen x (omega arith) this served),
       all_again (seen ++ fresh b ∷ []) bs (omega (arith, length-append seen (fresh b ∷ []))) others fit_others,

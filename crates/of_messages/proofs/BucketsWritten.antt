@@ -5,7 +5,7 @@ use Rattle.std.specs.List.{list_all}
 use Rattle.byteorder.specs.Endian.{big_bytes}
 use Rattle.std.proofs.lemmas.List.{length-append}
 use Rattle.std.proofs.lemmas.Bool.Decides.{nat_tests}
-use Rattle.of_actions.specs.Served.{are_served}
+use Rattle.of_actions.specs.Supported.{are_supported}
 use Rattle.of_actions.specs.CanonicalActions.{canonical_actions}
 use Rattle.of_actions.proofs.ActionsAgain.{canonical_short}
 use Rattle.of_groups.specs.declared.bucket.Bucket.{Bucket}
@@ -13,7 +13,7 @@ use Rattle.of_groups.specs.Buckets.{is_fit, are_fit}
 use Rattle.of_messages.specs.declared.group_mod.NewGroup.{NewGroup}
 use Rattle.of_messages.specs.Written.{header, message}
 use Rattle.of_messages.proofs.Appended.{six_or}
-use Rattle.of_messages.specs.CanonicalGroups.{canonical_bucket, canonical_buckets, group_add_front}
+use Rattle.of_messages.specs.CanonicalGroups.{canonical_bucket, canonical_buckets, group_add_fixed_part}
 
 pub length_bucket : (b : Bucket) → length (canonical_bucket b) ≡ 16 + length (canonical_actions b.actions)
 unfolding canonical_bucket
@@ -22,7 +22,7 @@ length_bucket b = omega arith
 buckets_within : (bs : List Bucket) → list_all is_fit bs ≡ true → length (canonical_buckets bs) ≤ 1552 * length bs
 buckets_within [] h = omega arith
 buckets_within (b ∷ bs) h =
-    let served : are_served false b.actions ≡ true = grind (arith, nat_tests) in
+    let served : are_supported false b.actions ≡ true = grind (arith, nat_tests) in
     let short = (canonical_short false b.actions served).short in
     let others = buckets_within bs (grind (arith, nat_tests)) in
     omega (arith, length_bucket b, length-append (canonical_bucket b) (canonical_buckets bs))
@@ -35,19 +35,19 @@ buckets_short bs h =
     let within = buckets_within bs all in
     omega arith
 
-pub length_front : (g : NewGroup) → length (group_add_front g) ≡ 8
-unfolding group_add_front
+pub length_front : (g : NewGroup) → length (group_add_fixed_part g) ≡ 8
+unfolding group_add_fixed_part
 length_front g = refl
 
 -- a GROUP_MOD, part by part
 pub group_add_is : (xid len : ℕ) (g : NewGroup) (buckets : List ℕ) {s1 s2 : List ℕ} (s0 s3 : List ℕ)
-    → s0 ≡ [] → s1 ≡ s0 ++ header 15 len xid → s2 ≡ s1 ++ group_add_front g → s3 ≡ s2 ++ buckets
+    → s0 ≡ [] → s1 ≡ s0 ++ header 15 len xid → s2 ≡ s1 ++ group_add_fixed_part g → s3 ≡ s2 ++ buckets
     → len ≡ 16 + length buckets
-    → s3 ≡ message 15 xid (group_add_front g ++ buckets)
+    → s3 ≡ message 15 xid (group_add_fixed_part g ++ buckets)
 group_add_is xid len g buckets s0 s3 e0 e1 e2 e3 len_is =
-    let whole : s3 ≡ ((([] ++ header 15 len xid) ++ group_add_front g) ++ buckets) = cc in
-    let parts : s3 ≡ header 15 len xid ++ (group_add_front g ++ buckets) = whole ∙ simp append_assoc in
-    let total : len ≡ 8 + length (group_add_front g ++ buckets) = omega (arith, len_is, length-append (group_add_front g) buckets, length_front g) in
+    let whole : s3 ≡ ((([] ++ header 15 len xid) ++ group_add_fixed_part g) ++ buckets) = cc in
+    let parts : s3 ≡ header 15 len xid ++ (group_add_fixed_part g ++ buckets) = whole ∙ simp append_assoc in
+    let total : len ≡ 8 + length (group_add_fixed_part g ++ buckets) = omega (arith, len_is, length-append (group_add_fixed_part g) buckets, length_front g) in
     rw (← total) parts
 
 -- a bucket, part by part

@@ -14,7 +14,7 @@ use Rattle.of_messages.specs.declared.group_mod.NewGroup.{NewGroup}
 use Rattle.of_messages.specs.GroupMods.{command_of, command_in, group_mod_of, group_of, kind_of, number_in}
 use Rattle.of_messages.specs.Heads.{version_of, type_of, header_length, head_refusals, size_of}
 use Rattle.of_messages.specs.Messages.{body_of, message_from, message_of}
-use Rattle.of_messages.specs.CanonicalGroups.{canonical_buckets, kind_number, group_add_front, group_add_bytes, as_written, has_numbers}
+use Rattle.of_messages.specs.CanonicalGroups.{canonical_buckets, kind_number, group_add_fixed_part, group_add_bytes, as_written, has_numbers}
 use Rattle.of_messages.proofs.BucketsWritten.{buckets_short}
 use Rattle.of_messages.proofs.BucketsAgain.{buckets_again}
 
@@ -30,10 +30,10 @@ record Says (g : NewGroup) (m : List ℕ) : Type 0 where
   buckets : drop 16 m ≡ canonical_buckets g.buckets
 
 says : (xid : ℕ) (g : NewGroup) → g.id < 256 ^ 4 → length (canonical_buckets g.buckets) ≤ 24832 → Says g (group_add_bytes xid g)
-unfolding group_add_front
+unfolding group_add_fixed_part
 says xid g number short =
     let m = group_add_bytes xid g in
-    let body = group_add_front g ++ canonical_buckets g.buckets in
+    let body = group_add_fixed_part g ++ canonical_buckets g.buckets in
     let long : length m ≡ 16 + length (canonical_buckets g.buckets) = omega arith in
     let size : 8 + length body ≡ length m = omega arith in
     record {

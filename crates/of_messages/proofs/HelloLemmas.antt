@@ -5,7 +5,7 @@ use Rattle.std.proofs.lemmas.Bool.Decides.{nat_tests}
 use Rattle.std.proofs.lemmas.List.{length-drop}
 use Rattle.of_messages.specs.Hellos.{AreElements, behind_element, element_length, elements_among, elements_of, is_bitmap, no_element}
 
--- an element takes some bytes
+-- an element has some bytes
 pub takes_some : (rest : List ℕ) → no_element rest ≡ false → length (behind_element rest) < length rest
 takes_some rest h =
     let long : 4 ≤ length rest = grind (arith, nat_tests) in
@@ -32,7 +32,7 @@ enough (suc n) (suc m) rest h k = by_test (no_element rest) refl (λ e. let less
     by_test true e again = refl
     by_test false e again = ap (λ (es : List (List ℕ)). element rest ∷ es) (again e)
 
--- so many turns are enough for all elements
+-- this many turns are enough for all elements
 pub all_elements : (n : ℕ) (rest : List ℕ) → length rest ≤ n → AreElements rest (elements_among n rest)
 unfolding element
 all_elements zero [] h = refl

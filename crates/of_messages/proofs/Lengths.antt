@@ -7,7 +7,7 @@ use Rattle.of_oxm.specs.Canonical.{canonical}
 use Rattle.of_oxm.specs.declared.match_field.MatchField.{MatchField}
 use Rattle.of_messages.specs.declared.message.FlowRemoved.{FlowRemoved}
 use Rattle.of_messages.specs.declared.message.PacketIn.{PacketIn}
-use Rattle.of_messages.specs.Written.{header, message, IsMessage, hello_bytes, error_bytes, echo_reply_bytes, barrier_reply_bytes, features_body, features_reply_bytes, flow_removed_front, flow_removed_bytes, packet_fields, packet_in_bytes}
+use Rattle.of_messages.specs.Written.{header, message, IsMessage, hello_bytes, error_bytes, echo_reply_bytes, barrier_reply_bytes, features_body, features_reply_bytes, flow_removed_fixed_part, flow_removed_bytes, packet_fields, packet_in_bytes}
 use Rattle.of_messages.proofs.Appended.{length_front, length_body}
 
 total : (kind xid : ℕ) (body : List ℕ) → length (message kind xid body) ≡ 8 + length body
@@ -46,7 +46,7 @@ features_reply_is xid dpid s0 s2 e0 e1 e2 =
     rw (length_features dpid) whole
 
 pub flow_removed_is_message : (xid : ℕ) (removed : FlowRemoved) (fields : List MatchField) → length (canonical fields) ≤ 1128 → IsMessage (flow_removed_bytes xid removed fields)
-flow_removed_is_message xid removed fields le = is_message 11 xid _ (omega (arith, le, length_front removed, length-append (flow_removed_front removed) (canonical fields)))
+flow_removed_is_message xid removed fields le = is_message 11 xid _ (omega (arith, le, length_front removed, length-append (flow_removed_fixed_part removed) (canonical fields)))
 
 pub packet_in_is_message : (xid : ℕ) (p : PacketIn) (frame : List ℕ) → length (canonical (packet_fields p.in_port p.metadata)) ≤ 24 → length frame ≤ 65485 → IsMessage (packet_in_bytes xid p frame)
 packet_in_is_message xid p frame few le = is_message 10 xid _ (omega (arith, few, le, length_body p (length frame) (canonical (packet_fields p.in_port p.metadata)) frame))

@@ -19,7 +19,7 @@ abbrev pub fault_of : Result (List Action) Code → List (Bool × Code)
 fault_of (Ok actions) = []
 fault_of (Err code) = (true, code) ∷ []
 
--- The refusals of the bucket that begins `rest`, in order, where the buckets `seen` stand before it: OFPGMFC_OUT_OF_BUCKETS of the 17th, OFPGMFC_BAD_BUCKET of a length that is none, and that of its actions.
+-- The refusals of the bucket that begins `rest`, in order, after the buckets `seen`: OFPGMFC_OUT_OF_BUCKETS for the 17th, OFPGMFC_BAD_BUCKET for a length that is none, and that of its actions.
 unfoldable pub bucket_refusals : List Bucket → List ℕ → List (Bool × Code)
 bucket_refusals seen rest =
     (nat_lt 15 (length seen), refusal 6 4)
@@ -27,7 +27,7 @@ bucket_refusals seen rest =
     ∷ (nat_lt (len_at rest) 16 || not (len_at rest % 8 == 0) || nat_lt (length rest) (len_at rest), refusal 6 12)
     ∷ fault_of (actions_said false (actions_in rest))
 
--- a bucket that was used by no packet yet
+-- a bucket whose counters are 0
 abbrev pub bucket_with : List ℕ → Result (List Action) Code → Option Bucket
 bucket_with rest (Ok actions) = Some (record { weight = big_number 2 (drop 2 rest); watch_port = big_number 4 (drop 4 rest); watch_group = big_number 4 (drop 8 rest); actions = actions; packets = 0; bytes = 0 })
 bucket_with rest (Err code) = None

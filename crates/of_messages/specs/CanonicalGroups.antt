@@ -10,7 +10,7 @@ use Rattle.of_groups.specs.Buckets.{fresh}
 use Rattle.of_messages.specs.declared.group_mod.NewGroup.{NewGroup}
 use Rattle.of_messages.specs.Written.{message}
 
--- the length of the whole bucket, what it depends on, padding, and its actions
+-- the length of the whole bucket, its weight, what it watches, padding, and its actions
 unfoldable pub canonical_bucket : Bucket → List ℕ
 canonical_bucket b =
     big_bytes 2 (16 + length (canonical_actions b.actions))
@@ -29,11 +29,11 @@ kind_number Indirect = 2
 kind_number FastFailover = 3
 
 -- the command OFPGC_ADD, the type of the group, padding, and its number
-unfoldable pub group_add_front : NewGroup → List ℕ
-group_add_front g = big_bytes 2 0 ++ ((kind_number g.kind ∷ 0 ∷ []) ++ big_bytes 4 g.id)
+unfoldable pub group_add_fixed_part : NewGroup → List ℕ
+group_add_fixed_part g = big_bytes 2 0 ++ ((kind_number g.kind ∷ 0 ∷ []) ++ big_bytes 4 g.id)
 
 abbrev pub group_add_bytes : ℕ → NewGroup → List ℕ
-group_add_bytes xid g = message 15 xid (group_add_front g ++ canonical_buckets g.buckets)
+group_add_bytes xid g = message 15 xid (group_add_fixed_part g ++ canonical_buckets g.buckets)
 
 -- the group as it is read again: counters are not written
 abbrev pub as_written : NewGroup → NewGroup

@@ -6,7 +6,7 @@ use Rattle.of_wire.specs.Refusals.{refusal}
 use Rattle.of_messages.specs.declared.config.SwitchConfig.{SwitchConfig}
 use Rattle.of_messages.specs.declared.config.TableMod.{TableMod}
 
--- OFPSCFC_BAD_FLAGS: fragments are treated as other frames are
+-- OFPSCFC_BAD_FLAGS for any flag: fragments are treated as other frames are
 abbrev pub set_config_of : List ℕ → Result SwitchConfig Code
 set_config_of m = if big_number 2 (drop 8 m) == 0 then Ok (record { miss_send_len = big_number 2 (drop 10 m) }) else Err (refusal 10 0)
 

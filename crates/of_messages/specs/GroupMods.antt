@@ -39,7 +39,7 @@ abbrev pub then_buckets : ℕ → GroupKind → Result (List Bucket) Code → Re
 then_buckets id kind (Ok buckets) = Ok (record { id = id; kind = kind; buckets = buckets })
 then_buckets id kind (Err code) = Err code
 
--- OFPGMFC_BAD_TYPE, and then what its buckets are refused for
+-- OFPGMFC_BAD_TYPE, and then the refusal of its buckets
 abbrev pub then_kind : List ℕ → Option GroupKind → Result NewGroup Code
 then_kind m None = Err (refusal 6 10)
 then_kind m (Some kind) = then_buckets (number_in m) kind (buckets_said (drop 16 m))
@@ -56,7 +56,7 @@ abbrev pub as_modify : Result NewGroup Code → Result GroupMod Code
 as_modify (Ok group) = Ok (Modify group)
 as_modify (Err code) = Err code
 
--- of one group, or of all; its type and buckets are not looked at
+-- of one group, or of all; its type and buckets are not read
 abbrev pub delete_of : ℕ → Result GroupMod Code
 delete_of number =
     if number == all_groups then Ok (Delete None)

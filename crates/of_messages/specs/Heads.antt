@@ -1,4 +1,4 @@
--- The header of a message (OpenFlow 1.3.5, 7.1), and what a message is refused for before its body is looked at (7.4.4).
+-- The header of a message (OpenFlow 1.3.5, 7.1), and the refusals before its body is read (7.4.4).
 use Rattle.std.specs.Prelude.{◌≡◌, ◌≤◌, ℕ, ◌+◌, ◌==◌, nat_lt, Bool, true, false, not, ◌&&◌, ◌||◌, List, [], ◌∷◌, length, drop, slice_index, Option, Some, None, is_some, if◌then◌else◌}
 use Rattle.byteorder.specs.Endian.{big_number}
 use Rattle.of_wire.specs.declared.code.Code.{Code}
@@ -77,7 +77,7 @@ get_async_request = 26
 abbrev pub set_async : ℕ
 set_async = 28
 
--- THE TABLE: each type that is served, with the size of its messages, which is just so many bytes, or so many at least
+-- THE TABLE: each supported type, with the size of its messages: exactly so many bytes, or so many at least
 unfoldable pub size_of : ℕ → Option Size
 size_of type =
     if type == hello then Some (Least 8)
@@ -99,8 +99,8 @@ size_of type =
     else if type == set_async then Some (Exact 32)
     else None
 
-abbrev pub is_served : ℕ → Bool
-is_served type = is_some (size_of type)
+abbrev pub is_supported : ℕ → Bool
+is_supported type = is_some (size_of type)
 
 abbrev pub is_bad_size : Option Size → ℕ → Bool
 is_bad_size None size = false
@@ -111,13 +111,13 @@ is_bad_size (Some (Least n)) size = nat_lt size n
 abbrev pub actions_length : List ℕ → ℕ
 actions_length m = big_number 2 (drop 16 m)
 
--- of the length, the version (a HELLO may have any), the type (an EXPERIMENTER has a code of its own), and the size of the type; a PACKET_OUT has its actions
+-- for the length, the version (a HELLO may have any), the type (an EXPERIMENTER has a code of its own), and the size of the type; a PACKET_OUT must hold its actions
 abbrev pub head_refusals : List ℕ → List (Bool × Code)
 head_refusals m =
     (nat_lt (length m) 8 || not (header_length m == length m), refusal 1 6)
     ∷ (not (type_of m == hello) && not (version_of m == 4), refusal 1 0)
     ∷ (type_of m == experimenter, refusal 1 3)
-    ∷ (not (is_served (type_of m)), refusal 1 1)
+    ∷ (not (is_supported (type_of m)), refusal 1 1)
     ∷ (is_bad_size (size_of (type_of m)) (length m), refusal 1 6)
     ∷ (type_of m == packet_out && nat_lt (length m) (24 + actions_length m), refusal 1 6)
     ∷ []
@@ -137,7 +137,7 @@ is_change type = type == packet_out || type == flow_mod || type == group_mod || 
 abbrev pub role_refusals : Role → List ℕ → List (Bool × Code)
 role_refusals role m = (is_slave role && is_change (type_of m), refusal 1 10) ∷ []
 
--- WHAT HOLDS OF A HEAD that is not refused
+-- WHAT HOLDS FOR A HEADER that is not refused
 
 -- a size of the table
 abbrev pub IsSized : Option Size → ℕ → Type 0

@@ -2,7 +2,7 @@
 use Rattle.std.specs.Prelude.{◌≡◌, ℕ, zero, suc, ◌+◌, ◌*◌, ◌/◌, ◌%◌, ◌==◌, nat_lt, nat_le, Bool, true, false, ◌&&◌, ◌||◌, List, [], ◌∷◌, length, take, drop, slice_index, find, Option, Some, None, if◌then◌else◌}
 use Rattle.byteorder.specs.Endian.{big_number}
 
--- ELEMENTS: a type and the length of the element whole, and zeros to a multiple of 8
+-- ELEMENTS: a type and the length of the whole element, and zeros to a multiple of 8
 
 abbrev pub element_type : List ℕ → ℕ
 element_type rest = big_number 2 rest
@@ -14,11 +14,11 @@ element_length rest = big_number 2 (drop 2 rest)
 abbrev pub no_element : List ℕ → Bool
 no_element rest = nat_lt (length rest) 4 || nat_lt (element_length rest) 4 || nat_lt (length rest) (element_length rest)
 
--- what stands behind an element and its padding, which may be missing at the end
+-- what follows an element and its padding, which may be missing at the end
 abbrev pub behind_element : List ℕ → List ℕ
 behind_element rest = drop ((element_length rest + 7) / 8 * 8) rest
 
--- the elements that bytes begin with, as far as there are elements, and so many at most
+-- the elements that bytes begin with, as far as there are elements, and at most `most` of them
 abbrev pub elements_among : ℕ → List ℕ → List (List ℕ)
 elements_among zero rest = []
 elements_among (suc most) rest = if no_element rest then [] else take (element_length rest) rest ∷ elements_among most (behind_element rest)
@@ -26,7 +26,7 @@ elements_among (suc most) rest = if no_element rest then [] else take (element_l
 unfoldable pub elements_of : List ℕ → List (List ℕ)
 elements_of body = elements_among (length body) body
 
--- what that means, without a bound: bytes begin with these elements, one behind the other, and no further element begins behind them
+-- the same as a relation, without a bound: bytes begin with these elements, one after the other, and no further element follows
 abbrev pub AreElements : List ℕ → List (List ℕ) → Type 0
 AreElements rest [] = no_element rest ≡ true
 AreElements rest (e ∷ es) = (no_element rest ≡ false) × (e ≡ take (element_length rest) rest) × AreElements (behind_element rest) es

@@ -89,16 +89,16 @@ flow_mod_with m command fields instructions = record {
   instructions = instructions;
 }
 
--- the two DELETE commands have no instructions, whatever stands behind the match
+-- the two DELETE commands have no instructions, whatever follows the match
 abbrev pub instructions_for : FlowModCommand → ℕ → List ℕ → Result (List Instruction) Code
 instructions_for command table bytes = if is_delete command then Ok [] else instructions_of table bytes
 
--- OFPBAC_MATCH_INCONSISTENT, where a field is set that the match does not ask for
+-- OFPBAC_MATCH_INCONSISTENT, where a set-field action lacks its prerequisites in the match
 abbrev pub then_instructions : List ℕ → FlowModCommand → List MatchField → Result (List Instruction) Code → Result FlowMod Code
 then_instructions m command fields (Ok instructions) = if all_go_with fields instructions then Ok (flow_mod_with m command fields instructions) else Err (refusal 2 10)
 then_instructions m command fields (Err code) = Err code
 
--- the match stands behind the fixed fields, the instructions behind the match
+-- the match follows the fixed fields, the instructions follow the match
 abbrev pub then_match : List ℕ → FlowModCommand → Result (List MatchField × ℕ) Code → Result FlowMod Code
 then_match m command (Ok r) = then_instructions m command r.0 (instructions_for command (slice_index m 24) (drop r.1 (drop 48 m)))
 then_match m command (Err code) = Err code
@@ -114,7 +114,7 @@ flow_mod_of m = flow_mod_by m (first_of (flow_mod_refusals m)) (command_of (slic
 
 -- PACKET_OUT (7.3.7)
 
--- a packet comes by a port, or is of the controller
+-- the ingress port is a port number or OFPP_CONTROLLER
 abbrev pub is_ingress : ℕ → Bool
 is_ingress port = is_number port || port == controller
 
@@ -122,7 +122,7 @@ is_ingress port = is_number port || port == controller
 abbrev pub packet_out_refusals : List ℕ → List (Bool × Code)
 packet_out_refusals m = (not (is_ingress (big_number 4 (drop 12 m))), refusal 1 11) ∷ []
 
--- the actions, and what stands behind them
+-- the actions, and what follows them
 abbrev pub actions_in : List ℕ → List ℕ
 actions_in m = take (actions_length m) (drop 24 m)
 
@@ -132,7 +132,7 @@ frame_in m = drop (actions_length m) (drop 24 m)
 abbrev pub packet_out_with : List ℕ → List Action → PacketData → PacketOut
 packet_out_with m actions packet = record { in_port = big_number 4 (drop 12 m); actions = actions; packet = packet }
 
--- without a buffer (all ones) the frame stands behind the actions: OFPBRC_BAD_PACKET where it is too short or too long; with one, what stands there is not looked at
+-- with OFP_NO_BUFFER the frame follows the actions: OFPBRC_BAD_PACKET where it is too short or too long; with a buffer, what follows is not read
 abbrev pub packet_in_data : ℕ → List ℕ → Result PacketData Code
 packet_in_data buffer frame =
     if buffer == 0xffffffff
@@ -214,7 +214,7 @@ abbrev pub message_by : List ℕ → Option Code → Result Message Code
 message_by m (Some code) = Err code
 message_by m None = body_of m
 
--- what a message says that comes from a controller of that role
+-- what a message of a controller of that role says
 unfoldable pub message_from : Role → List ℕ → Result Message Code
 message_from role m = message_by m (first_of (head_refusals m ++ role_refusals role m))
 

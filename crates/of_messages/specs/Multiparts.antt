@@ -48,7 +48,7 @@ kind_in m = kind_of (big_number 2 (drop 8 m))
 abbrev pub has_more : List ℕ → Bool
 has_more m = big_number 2 (drop 10 m) % 2 == 1
 
--- OFPBRC_BAD_MULTIPART of a type that is not served, OFPBRC_MULTIPART_BUFFER_OVERFLOW of a request in parts, OFPBRC_BAD_LEN
+-- OFPBRC_BAD_MULTIPART for an unsupported type, OFPBRC_MULTIPART_BUFFER_OVERFLOW for a request in parts, OFPBRC_BAD_LEN
 abbrev pub multipart_refusals : List ℕ → List (Bool × Code)
 multipart_refusals m =
     (is_none (kind_in m), refusal 1 2)
@@ -73,7 +73,7 @@ abbrev pub then_match : List ℕ → Result (List MatchField × ℕ) Code → Re
 then_match m (Ok r) = Ok (flow_stats_with m r.0)
 then_match m (Err code) = Err code
 
--- OFPBRC_BAD_TABLE_ID, and then what the match is refused for; what stands behind the match is not looked at
+-- OFPBRC_BAD_TABLE_ID, and then the refusal of the match; what follows the match is not read
 abbrev pub flow_stats_of : List ℕ → Result FlowStatsRequest Code
 flow_stats_of m = if names_table (slice_index m 16) then then_match m (match_of (drop 48 m)) else Err (refusal 1 9)
 
@@ -105,7 +105,7 @@ request_of m kind.GroupDescription = Ok GroupDescription
 request_of m kind.GroupFeatures = Ok GroupFeatures
 request_of m kind.PortDescription = Ok PortDescription
 
--- a type that is not served is always refused, so the last line never applies
+-- an unsupported type is always refused, so the last line never applies
 abbrev pub multipart_by : List ℕ → Option Code → Option MultipartKind → Result MultipartRequest Code
 multipart_by m (Some code) kind = Err code
 multipart_by m None (Some kind) = request_of m kind
@@ -114,7 +114,7 @@ multipart_by m None None = Err (refusal 1 2)
 unfoldable pub multipart_of : List ℕ → Result MultipartRequest Code
 multipart_of m = multipart_by m (first_of (multipart_refusals m)) (kind_in m)
 
--- WHAT HOLDS OF WHAT WAS READ: a request for flows names a table, or all
+-- WHAT HOLDS FOR WHAT WAS READ: a request for flows names a table, or all
 abbrev pub IsSoundRequest : MultipartRequest → Type 0
 IsSoundRequest (Flow r) = names_table r.table ≡ true
 IsSoundRequest (Aggregate r) = names_table r.table ≡ true

@@ -24,6 +24,6 @@ port_mod_with m = record {
   mask = mask_in m;
 }
 
--- OFPPMFC_BAD_CONFIG of a mask with another bit
+-- OFPPMFC_BAD_CONFIG for a mask with another bit
 abbrev pub port_mod_of : List ℕ → Result PortMod Code
 port_mod_of m = if bit_and (mask_in m) known_bits == mask_in m then Ok (port_mod_with m) else Err (refusal 7 2)

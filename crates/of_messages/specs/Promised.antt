@@ -1,4 +1,4 @@
--- What holds of each message that was read, beyond its fields.
+-- What holds for each message that was read, beyond its fields.
 use Rattle.std.specs.Prelude.{◌≡◌, ◌<◌, ◌≤◌, false, true, length, None, ⊤}
 use Rattle.of_actions.specs.InstructionLists.{are_for}
 use Rattle.of_actions.specs.FlowCheck.{all_go_with}
@@ -14,7 +14,7 @@ use Rattle.of_messages.specs.Messages.{is_delete}
 use Rattle.of_messages.specs.Multiparts.{IsSoundRequest}
 use Rattle.of_groups.specs.Buckets.{group_max}
 
--- an ADD or a MODIFY names a table, its instructions may stand there, and they set no field that the match does not ask for
+-- an ADD or a MODIFY names a table, its instructions are valid there, and its set-field actions have their prerequisites in the match
 pub record IsSoundFlowMod (m : FlowMod) : Type 0 where
   pub table : is_delete m.command ≡ false → m.table < 16
   pub fit : are_for m.table m.instructions ≡ true

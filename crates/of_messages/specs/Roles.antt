@@ -1,4 +1,4 @@
--- The role of a controller (OpenFlow 1.3.5, 6.3.4 and 7.3.9), as it asks for it and as it is told.
+-- The role of a controller (OpenFlow 1.3.5, 6.3.4 and 7.3.9), as it is requested and replied.
 use Rattle.std.specs.Prelude.{ℕ, ◌==◌, List, drop, Option, Some, None, Result, Ok, Err, if◌then◌else◌}
 use Rattle.byteorder.specs.Endian.{big_number}
 use Rattle.of_wire.specs.declared.code.Code.{Code}
@@ -8,7 +8,7 @@ use Rattle.of_messages.specs.declared.role.Role.TheVariants as role
 use Rattle.of_messages.specs.declared.role.RoleRequest.{RoleRequest}
 use Rattle.of_messages.specs.declared.role.RoleRequest.TheVariants.{NoChange, Equal, Master, Slave}
 
--- what a number asks for, with a generation, which is looked at of a MASTER and of a SLAVE
+-- the role that a number asks for, with a generation_id, which counts for MASTER and SLAVE
 unfoldable pub asked_by : ℕ → ℕ → Option RoleRequest
 asked_by number generation =
     if number == 0 then Some NoChange

@@ -34,7 +34,7 @@ message kind xid body = header kind (8 + length body) xid ++ body
 abbrev pub IsMessage : List ℕ → Type 0
 IsMessage bytes = (8 ≤ length bytes) × (length bytes ≤ 65535) × (version_of bytes ≡ 4) × (header_length bytes ≡ length bytes)
 
--- the HELLO of this switch: one element, the bitmap of versions, in which bit 4 stands (7.5.1)
+-- the HELLO of this switch: one element, the bitmap of versions, in which bit 4 is set (7.5.1)
 abbrev pub hello_bytes : List ℕ
 hello_bytes = message 0 0 (big_bytes 2 1 ++ (big_bytes 2 8 ++ big_bytes 4 16))
 
@@ -74,9 +74,9 @@ async_reply_bytes xid masks = message 27 xid (role_masks_bytes masks.packet_in +
 
 -- FLOW_REMOVED (7.4.2)
 
--- what stands in front of the match
-unfoldable pub flow_removed_front : FlowRemoved → List ℕ
-flow_removed_front removed =
+-- the fields before the match
+unfoldable pub flow_removed_fixed_part : FlowRemoved → List ℕ
+flow_removed_fixed_part removed =
     big_bytes 8 removed.cookie
     ++ (big_bytes 2 removed.priority
     ++ (flow_removed_number removed.reason ∷ removed.table
@@ -88,26 +88,26 @@ flow_removed_front removed =
     ++ big_bytes 8 removed.bytes)))))))
 
 abbrev pub flow_removed_bytes : ℕ → FlowRemoved → List MatchField → List ℕ
-flow_removed_bytes xid removed fields = message 11 xid (flow_removed_front removed ++ canonical fields)
+flow_removed_bytes xid removed fields = message 11 xid (flow_removed_fixed_part removed ++ canonical fields)
 
 -- PACKET_IN (7.4.1)
 
--- the match tells the ingress port, and the metadata where it is not 0
+-- the match has the ingress port, and the metadata where it is not 0
 abbrev pub packet_fields : ℕ → ℕ → List MatchField
 packet_fields in_port metadata =
     record { field = InPort; value = in_port; mask = None }
     ∷ (if metadata == 0 then [] else record { field = Metadata; value = metadata; mask = None } ∷ [])
 
--- what stands in front of the match; no buffer (all ones) has the frame, which is all there
-unfoldable pub packet_in_front : PacketIn → ℕ → List ℕ
-packet_in_front p size =
+-- the fields before the match; OFP_NO_BUFFER, since the whole frame is included
+unfoldable pub packet_in_fixed_part : PacketIn → ℕ → List ℕ
+packet_in_fixed_part p size =
     big_bytes 4 0xffffffff
     ++ (big_bytes 2 size
     ++ (packet_in_number p.reason ∷ p.table
     ∷ big_bytes 8 p.cookie))
 
 abbrev pub packet_in_bytes : ℕ → PacketIn → List ℕ → List ℕ
-packet_in_bytes xid p frame = message 10 xid (packet_in_front p (length frame) ++ (canonical (packet_fields p.in_port p.metadata) ++ (replicate 2 0 ++ frame)))
+packet_in_bytes xid p frame = message 10 xid (packet_in_fixed_part p (length frame) ++ (canonical (packet_fields p.in_port p.metadata) ++ (replicate 2 0 ++ frame)))
 
 -- FLOW_MOD (7.3.4.1), as a controller sends it
 
@@ -118,9 +118,9 @@ command_number ModifyStrict = 2
 command_number Delete = 3
 command_number DeleteStrict = 4
 
--- what stands in front of the match, with two bytes of padding
-unfoldable pub flow_mod_front : FlowMod → List ℕ
-flow_mod_front m =
+-- the fields before the match, with two bytes of padding
+unfoldable pub flow_mod_fixed_part : FlowMod → List ℕ
+flow_mod_fixed_part m =
     big_bytes 8 m.cookie
     ++ (big_bytes 8 m.cookie_mask
     ++ ((m.table ∷ command_number m.command ∷ [])
@@ -134,7 +134,7 @@ flow_mod_front m =
     ++ replicate 2 0)))))))))
 
 abbrev pub flow_mod_bytes : ℕ → FlowMod → List ℕ
-flow_mod_bytes xid m = message 14 xid (flow_mod_front m ++ (canonical m.fields ++ canonical_instructions m.instructions))
+flow_mod_bytes xid m = message 14 xid (flow_mod_fixed_part m ++ (canonical m.fields ++ canonical_instructions m.instructions))
 
 -- PORT_STATUS (7.4.3)
 

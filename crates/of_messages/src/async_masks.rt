@@ -1,4 +1,4 @@
-//! Which messages of the switch a controller is sent (OpenFlow 1.3.5, 7.3.10).
+//! Which asynchronous messages a controller is sent (OpenFlow 1.3.5, 7.3.10).
 ghost use Rattle.std.specs.Prelude.{◌≡◌, ◌≤◌, ◌++◌, length, IfOk, OnOk};
 ghost use Rattle.of_messages.specs.AsyncConfigs.{async_masks_of, role_masks_at};
 ghost use Rattle.of_messages.specs.Written.{async_reply_bytes, role_masks_bytes};
@@ -22,7 +22,7 @@ pub struct RoleMasks {
     pub slave: u32,
 }
 
-/// The reasons for which a controller is sent what it did not ask for.
+/// The reasons for which a controller is sent asynchronous messages.
 #[derive(Clone, Copy, Debug, PartialEq, Eq)]
 pub struct AsyncMasks {
     pub packet_in: RoleMasks,

@@ -2,7 +2,7 @@
 ghost use Rattle.std.specs.Prelude.{◌≡◌, ◌≤◌, false, length, IsTrue, IfOk, OnOk, IfErr, Some, None};
 ghost use Rattle.of_wire.specs.Failures.{Fails, Reads};
 ghost use Rattle.of_wire.specs.Refusals.{first_of};
-ghost use Rattle.of_actions.specs.Served.{are_served};
+ghost use Rattle.of_actions.specs.Supported.{are_supported};
 ghost use Rattle.of_messages.specs.Buckets.{bucket_at, bucket_refusals, buckets_said, len_at};
 
 use crate::reading::rest_from;
@@ -16,7 +16,7 @@ const OUT_OF_BUCKETS: Code = Code { kind: 6, code: 4 };
 
 const BAD_BUCKET: Code = Code { kind: 6, code: 12 };
 
-// The bucket at the front, and its size.
+// The bucket that the bytes begin with, and its size.
 #[tactic(auto, unfolding(crate::specs::Buckets::bucket_refusals, crate::specs::Buckets::bucket_at))]
 fn read_bucket(alloc: Global, rest: &[u8], seen: &[Bucket]) -> Result<(Bucket, usize), ReadError>
     ensures size { IfOk result (λ read. read.1 ≡ len_at rest.now) }
@@ -25,7 +25,7 @@ fn read_bucket(alloc: Global, rest: &[u8], seen: &[Bucket]) -> Result<(Bucket, u
     ensures room { OnOk result (length seen.now ≤ 15) }
     ensures none { OnOk result (first_of (bucket_refusals seen.now rest.now) ≡ None) }
     ensures bucket { IfOk result (λ read. bucket_at rest.now ≡ Some read.0) }
-    ensures served { IfOk result (λ read. IsTrue (are_served false read.0.actions)) }
+    ensures served { IfOk result (λ read. IsTrue (are_supported false read.0.actions)) }
     ensures first { IfErr result (Fails (λ code. first_of (bucket_refusals seen.now rest.now) ≡ Some code)) }
 {
     if seen.len() > 15 {

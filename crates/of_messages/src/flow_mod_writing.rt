@@ -1,7 +1,7 @@
 //! The bytes of a FLOW_MOD, as a controller sends it.
 ghost use Rattle.std.specs.Prelude.{◌≡◌, ◌++◌, ◌∷◌, [], OnOk, IfOk, replicate};
 ghost use Rattle.byteorder.specs.Endian.{big_bytes};
-ghost use Rattle.of_messages.specs.Written.{command_number, flow_mod_bytes, flow_mod_front};
+ghost use Rattle.of_messages.specs.Written.{command_number, flow_mod_bytes, flow_mod_fixed_part};
 
 use crate::message::{FlowMod, FlowModCommand};
 use crate::writing::{put_header, put_u16, put_u32, put_u64};
@@ -45,9 +45,9 @@ fn put_tail(out: &mut Vec<u8>, m: &FlowMod) -> Result<(), AllocError>
     put_u16(out, 0)
 }
 
-// What stands in front of the match, 40 bytes.
+// The fields before the match, 40 bytes.
 fn put_front(out: &mut Vec<u8>, m: &FlowMod) -> Result<(), AllocError>
-    ensures { OnOk result (out.new.items ≡ out.old.items ++ flow_mod_front m.now) }
+    ensures { OnOk result (out.new.items ≡ out.old.items ++ flow_mod_fixed_part m.now) }
 {
     put_head(out, m)?;
     put_tail(out, m)

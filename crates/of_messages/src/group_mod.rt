@@ -33,7 +33,7 @@ pub struct NewGroup {
 #[derive(Drop)]
 pub enum GroupMod {
     Add(NewGroup),
-    /// Gives the group of that number another kind and other buckets.
+    /// Gives the group of that number another type and other buckets.
     Modify(NewGroup),
     /// Of the group of a number from 0 to OFPG_MAX, or of all.
     Delete(Option<u32>),

@@ -2,7 +2,7 @@
 ghost use Rattle.std.specs.Prelude.{◌≡◌, ◌≤◌, ◌++◌, true, IsTrue, length, Ok, OnOk, IfOk};
 ghost use Rattle.std.specs.List.{list_all};
 ghost use Rattle.of_groups.specs.Buckets.{are_fit};
-ghost use Rattle.of_messages.specs.CanonicalGroups.{as_written, canonical_bucket, canonical_buckets, group_add_bytes, group_add_front, has_numbers, kind_number};
+ghost use Rattle.of_messages.specs.CanonicalGroups.{as_written, canonical_bucket, canonical_buckets, group_add_bytes, group_add_fixed_part, has_numbers, kind_number};
 ghost use Rattle.of_messages.specs.Messages.{message_of};
 ghost use Rattle.of_messages.specs.declared.message.Message.TheVariants.{GroupMod as IsGroupMod};
 ghost use Rattle.of_messages.specs.declared.group_mod.GroupMod.TheVariants.{Add};
@@ -62,9 +62,9 @@ pub fn write_buckets(alloc: Global, buckets: &Buckets) -> Result<Vec<u8>, AllocE
     Ok(out)
 }
 
-// What stands in front of the buckets, 8 bytes.
+// The fields before the buckets, 8 bytes.
 fn put_front(out: &mut Vec<u8>, group: &NewGroup) -> Result<(), AllocError>
-    ensures { OnOk result (out.new.items ≡ out.old.items ++ group_add_front group.now) }
+    ensures { OnOk result (out.new.items ≡ out.old.items ++ group_add_fixed_part group.now) }
 {
     out.extend_from_slice(&[0, 0])?;
     out.extend_from_slice(&[number_of(group.kind), 0])?;

@@ -1,4 +1,4 @@
-//! What a message can be refused for before its body is looked at.
+//! The refusals of a message before its body is read.
 ghost use Rattle.std.specs.Prelude.{◌≡◌, ◌≤◌, ◌<◌, ◌+◌, ◌++◌, length, IfSome, OnOk, MatchResult, None, Some};
 ghost use Rattle.of_wire.specs.Refusals.{first_of};
 ghost use Rattle.of_messages.specs.Heads.{HasHead, actions_length, head_refusals, is_bad_size, is_change as changes, role_refusals, size_of};
@@ -61,7 +61,7 @@ pub(crate) enum Size {
 }
 
 impl Size {
-    /// Whether no such message has so many bytes.
+    /// Whether no such message has `size` bytes.
     pub(crate) fn is_bad(self, size: usize) -> bool
         ensures { result ≡ is_bad_size (Some self) size }
     {
@@ -72,7 +72,7 @@ impl Size {
     }
 }
 
-// The size of the messages of a type that is served.
+// The size of the messages of a supported type.
 #[tactic(auto, unfolding(crate::specs::Heads::size_of))]
 fn size_of_type(kind: u8) -> Option<Size>
     ensures { result ≡ size_of kind }
@@ -111,10 +111,10 @@ pub(crate) fn actions_length_in(message: &[u8]) -> usize
 /// Refuses a message by its version, type and length alone, in that order (OpenFlow 1.3.5, 7.1 and 7.4.4).
 ///
 /// A message is refused with the first that applies: it is not as long as its header says (1/6); it is of another version,
-/// and no HELLO (1/0); it is an EXPERIMENTER (1/3); its type is not served, or one that only a switch sends (1/1); its length
-/// is not that of its type (1/6). Just so many bytes have SET_CONFIG, 12, TABLE_MOD, 16, ROLE_REQUEST, 24, SET_ASYNC, 32,
-/// PORT_MOD, 40, and the messages without a body, 8. So many at least have ERROR, 12, GROUP_MOD and MULTIPART_REQUEST, 16,
-/// FLOW_MOD, 56, and PACKET_OUT, 24 and those of its actions.
+/// and no HELLO (1/0); it is an EXPERIMENTER (1/3); its type is not supported, or one that only a switch sends (1/1); its length
+/// is not that of its type (1/6): exactly 12 bytes for SET_CONFIG, 16 for TABLE_MOD, 24 for ROLE_REQUEST, 32 for SET_ASYNC,
+/// 40 for PORT_MOD, and 8 for the messages without a body; at least 12 for ERROR, 16 for GROUP_MOD and MULTIPART_REQUEST,
+/// 56 for FLOW_MOD, and for PACKET_OUT 24 and those of its actions.
 pub fn check_head(message: &[u8]) -> Result<(), Code>
     ensures refusal { MatchResult result (λ _. first_of (head_refusals message.now) ≡ None) (λ code. first_of (head_refusals message.now) ≡ Some code) }
     ensures head { OnOk result (HasHead message.now) }
@@ -151,7 +151,7 @@ fn is_change(kind: u8) -> bool
     )
 }
 
-/// Refuses a message by its head, and then by the role of the controller that sends it.
+/// Refuses a message by its header, and then by the role of the controller that sends it.
 pub(crate) fn check_sender(role: Role, message: &[u8]) -> Result<(), Code>
     ensures refusal { MatchResult result
         (λ _. first_of (head_refusals message.now ++ role_refusals role message.now) ≡ None)

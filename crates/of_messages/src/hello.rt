@@ -32,7 +32,7 @@ fn element_at(rest: &[u8]) -> &[u8]
     element
 }
 
-// What stands behind that element and its padding.
+// What follows that element and its padding.
 fn after_element(rest: &[u8]) -> &[u8]
     requires { no_element rest.now ≡ false }
     ensures rest { result.now ≡ behind_element rest.now }
@@ -71,7 +71,7 @@ fn bitmap_in(body: &[u8]) -> Option<&[u8]>
     None
 }
 
-// Whether bit 4 stands in the first four bytes of the bitmap.
+// Whether bit 4 is set in the first four bytes of the bitmap.
 fn has_version(element: &[u8]) -> bool
     requires { 8 ≤ length element.now }
     ensures { result ≡ has_version_4 element.now }
@@ -79,7 +79,7 @@ fn has_version(element: &[u8]) -> bool
     BigEndian::read_u32(rest_from(element, 4)) / 16 % 2 == 1
 }
 
-// Whether that bitmap is there and offers version 4.
+// Whether there is that bitmap and it offers version 4.
 fn offers_version(body: &[u8]) -> bool
     ensures { result ≡ offers_version_4 (find is_bitmap (elements_of body.now)) }
 {
@@ -90,7 +90,7 @@ fn offers_version(body: &[u8]) -> bool
 }
 
 /// The version that a HELLO and this switch agree to: 4, where the first bitmap of versions among its elements has bit 4, and
-/// else the lower of 4 and its header's version. Elements of other types are passed over, and reading stops, without a fault,
+/// else the lower of 4 and its header's version. Elements of other types are skipped, and reading stops, without a fault,
 /// where no element begins.
 #[tactic(auto, unfolding(crate::specs::Hellos::version_by))]
 pub fn agreed_version(message: &[u8]) -> u8

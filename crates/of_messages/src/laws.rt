@@ -3,7 +3,7 @@ ghost use Rattle.std.specs.Prelude.{◌≤◌, length};
 ghost use Rattle.of_messages.specs.Hellos.{AreElements, elements_of};
 ghost use Rattle.of_messages.specs.Written.{IsMessage, message};
 
-/// What is written is one message, whose header says its length, as long as at most 65,527 bytes stand behind the header
+/// What is written is one message, whose header says its length, as long as at most 65,527 bytes follow the header
 /// (OpenFlow 1.3.5, 7.1). Each `write_` gives such a `message`.
 pub fn header_tells_length(kind: u8, xid: u32, body: &[u8])
     requires { length body.now ≤ 65527 }

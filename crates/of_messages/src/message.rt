@@ -59,14 +59,14 @@ pub struct FlowMod {
     /// In seconds; 0 for none.
     pub hard_timeout: u16,
     pub priority: u16,
-    /// The buffered packet that the flow is applied to; all ones for none.
+    /// The buffered packet that the flow is applied to; OFP_NO_BUFFER for none.
     pub buffer: u32,
     pub out_port: u32,
     pub out_group: u32,
     /// Of bits 0 to 4.
     pub flags: u16,
     pub fields: Match,
-    /// None of a DELETE command.
+    /// None for a DELETE command.
     pub instructions: InstructionList,
 }
 
@@ -82,7 +82,7 @@ pub enum PacketData {
 /// A PACKET_OUT (OpenFlow 1.3.5, 7.3.7).
 #[derive(Debug, Drop)]
 pub struct PacketOut {
-    /// The port by which the packet is said to have come in: that of a port of the switch, or OFPP_CONTROLLER.
+    /// The ingress port of the packet: a port of the switch, or OFPP_CONTROLLER.
     pub in_port: u32,
     pub actions: ActionList,
     pub packet: PacketData,
@@ -105,9 +105,9 @@ pub struct FlowRemoved {
     pub priority: u16,
     pub reason: FlowRemovedReason,
     pub table: u8,
-    /// How long the entry stood, in whole seconds.
+    /// How long the entry existed, in whole seconds.
     pub duration_sec: u32,
-    /// How long it stood beyond `duration_sec`, in nanoseconds.
+    /// How long it existed beyond `duration_sec`, in nanoseconds.
     pub duration_nsec: u32,
     /// In seconds; 0 for none.
     pub idle_timeout: u16,

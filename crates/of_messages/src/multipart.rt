@@ -36,7 +36,7 @@ pub struct FlowStatsRequest {
     /// The group that a GROUP action of the flow names; OFPG_ANY, all ones, for any flow.
     pub out_group: u32,
     pub cookie: u64,
-    /// The bits of the cookie that are looked at.
+    /// The bits of the cookie that are compared.
     pub cookie_mask: u64,
     pub fields: Match,
 }

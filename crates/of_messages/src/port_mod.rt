@@ -1,4 +1,4 @@
-//! PORT_MOD, and ports as PORT_STATUS tells them (OpenFlow 1.3.5, 7.2.1, 7.3.4.3 and 7.4.3).
+//! PORT_MOD, and ports as PORT_STATUS describes them (OpenFlow 1.3.5, 7.2.1, 7.3.4.3 and 7.4.3).
 ghost use Rattle.std.specs.Prelude.{◌≡◌, ◌≤◌, length};
 ghost use Rattle.of_wire.specs.Failures.{Reads};
 ghost use Rattle.of_messages.specs.PortMods.{hw_in, port_mod_of};
@@ -12,7 +12,7 @@ const BAD_CONFIG: Code = Code { kind: 7, code: 2 };
 /// OFPPC_PORT_DOWN, OFPPC_NO_RECV, OFPPC_NO_FWD and OFPPC_NO_PACKET_IN, 1, 4, 32 and 64.
 const KNOWN_BITS: u32 = 101;
 
-/// A PORT_MOD (OpenFlow 1.3.5, 7.3.4.3). The features that a port is to advertise are not looked at: ports have none.
+/// A PORT_MOD (OpenFlow 1.3.5, 7.3.4.3). The features that a port is to advertise are ignored: ports have none.
 #[derive(Clone, Copy, Debug, PartialEq, Eq)]
 pub struct PortMod {
     pub port: u32,
@@ -29,7 +29,7 @@ pub struct PortMod {
 pub struct PortDescription {
     pub number: u32,
     pub hw: [u8; 6],
-    /// Filled up by zeros.
+    /// Padded with zeros.
     pub name: [u8; 16],
     /// Bits of OFPPC_*.
     pub config: u32,

@@ -43,7 +43,7 @@ fn put_bits(out: &mut Vec<u8>, port: &PortDescription) -> Result<(), AllocError>
     out.extend_from_slice(&[0; 24])
 }
 
-/// Puts the 64 bytes of a port last (OpenFlow 1.3.5, 7.2.1).
+/// Appends the 64 bytes of a port (OpenFlow 1.3.5, 7.2.1).
 #[tactic(auto, using(crate::proofs::PortLemmas::length_port))]
 pub fn put_port(out: &mut Vec<u8>, port: &PortDescription) -> Result<(), AllocError>
     ensures text { OnOk result (out.new.items ≡ out.old.items ++ port_bytes port.now) }

@@ -38,12 +38,12 @@ const BAD_PORT: Code = Code { kind: 1, code: 11 };
 
 const BAD_PACKET: Code = Code { kind: 1, code: 12 };
 
-// The number that stands for no buffer.
+// OFP_NO_BUFFER.
 const NO_BUFFER: u32 = 0xffff_ffff;
 
 const LAST_TABLE: u8 = 15;
 
-// The number that stands for each table.
+// OFPTT_ALL.
 const ALL_TABLES: u8 = 255;
 
 // The flags that are known, each a bit.
@@ -78,7 +78,7 @@ fn check_flow_mod(message: &[u8]) -> Result<FlowModCommand, Code>
     Ok(command)
 }
 
-// The instructions behind a match. The two DELETE commands have none, whatever stands there.
+// The instructions after a match. The two DELETE commands have none, whatever follows.
 #[tactic(auto, using(crate::proofs::NoInstructions::no_instructions))]
 fn read_instructions_for(
     alloc: Global,
@@ -199,21 +199,21 @@ fn read_body(alloc: Global, message: &[u8]) -> Result<Message, ReadError>
 
 /// The message that the bytes spell, all of them, and that a controller of that role may send.
 ///
-/// Other bytes are refused with one code, by the first that applies: what `check_head` looks at; a PACKET_OUT, FLOW_MOD,
+/// Other bytes are refused with one code, by the first that applies: what `check_head` checks; a PACKET_OUT, FLOW_MOD,
 /// GROUP_MOD, PORT_MOD or TABLE_MOD of a slave (1/10); and then by the message.
 ///
 /// Of a FLOW_MOD: a command above 4 (5/6), a table above 15 (5/2; but a DELETE command may name 255, all tables) and flags
 /// above 31 (5/7), its match, and, for ADD and the MODIFY commands, its instructions with their actions, and a field that is
-/// set without its prerequisites in the match (2/10). A DELETE command has no instructions: what stands behind its match is
-/// not looked at. Of a PACKET_OUT: an ingress port that is neither 1 to OFPP_MAX nor OFPP_CONTROLLER (1/11), its actions, and,
+/// set without its prerequisites in the match (2/10). A DELETE command has no instructions: what follows its match is
+/// ignored. Of a PACKET_OUT: an ingress port that is neither 1 to OFPP_MAX nor OFPP_CONTROLLER (1/11), its actions, and,
 /// where it names no buffer, a frame below 14 or above 9,216 bytes (1/12). Of a GROUP_MOD: a command above 2 (6/11); a number
-/// above OFPG_MAX (6/1; a DELETE may name OFPG_ALL, and nothing else of it is looked at); a type that is not ALL, INDIRECT or
+/// above OFPG_MAX (6/1; a DELETE may name OFPG_ALL, and nothing else of it is read); a type that is not ALL, INDIRECT or
 /// FAST-FAILOVER (6/10); bucket by bucket, the 17th (6/4), a length below 16, not a multiple of 8 or past the end (6/12), and
 /// its actions. Of a PORT_MOD: a mask with a bit outside of PORT_DOWN, NO_RECV, NO_FWD and NO_PACKET_IN (7/2). Of a TABLE_MOD:
 /// a table that is neither 0 to 15 nor 255 (8/0). Of a SET_CONFIG: flags other than 0 (10/0). Of a ROLE_REQUEST: a role above
-/// 3 (11/2). Of a MULTIPART_REQUEST: a type that is not served (1/2), the flag for more parts (1/13), a length that is not
+/// 3 (11/2). Of a MULTIPART_REQUEST: an unsupported type (1/2), the flag for more parts (1/13), a length that is not
 /// that of its type (1/6; 24 for PORT_STATS and GROUP, 56 at least for FLOW and AGGREGATE, and 16 for the others), a table
-/// that is neither 0 to 15 nor 255 (1/9), and its match, behind which nothing is looked at.
+/// that is neither 0 to 15 nor 255 (1/9), and its match, after which nothing is read.
 #[tactic(auto, unfolding(crate::specs::Messages::message_from))]
 pub fn read_message_as(alloc: Global, role: Role, message: &[u8]) -> Result<Message, ReadError>
     ensures reads { Reads result (message_from role message.now) }

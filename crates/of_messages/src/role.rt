@@ -24,7 +24,7 @@ pub enum Role {
     Slave,
 }
 
-/// The role that a ROLE_REQUEST asks for (OpenFlow 1.3.5, 7.3.9). `generation` is the election that a master comes from.
+/// The role that a ROLE_REQUEST asks for (OpenFlow 1.3.5, 7.3.9). `generation` is its generation_id.
 #[derive(Clone, Copy, Debug, PartialEq, Eq)]
 pub enum RoleRequest {
     NoChange,
@@ -75,7 +75,7 @@ fn generation_shown(generation: Option<u64>) -> u64
     generation.unwrap_or(u64::MAX)
 }
 
-/// A ROLE_REPLY (OpenFlow 1.3.5, 7.3.9): the role that the controller has now, and the last generation, if there was one.
+/// A ROLE_REPLY (OpenFlow 1.3.5, 7.3.9): the controller's role now, and the last generation_id, if there was one.
 pub fn write_role_reply(
     alloc: Global,
     xid: u32,

@@ -1,7 +1,7 @@
 //! The bytes of messages that the switch sends.
 ghost use Rattle.std.specs.Prelude.{◌≡◌, ◌≤◌, ◌++◌, length, OnOk, IfOk};
 ghost use Rattle.byteorder.specs.Endian.{big_bytes};
-ghost use Rattle.of_messages.specs.Written.{header, hello_bytes, error_bytes, echo_reply_bytes, barrier_reply_bytes, flow_removed_front, flow_removed_bytes, packet_fields, packet_in_front, packet_in_bytes};
+ghost use Rattle.of_messages.specs.Written.{header, hello_bytes, error_bytes, echo_reply_bytes, barrier_reply_bytes, flow_removed_fixed_part, flow_removed_bytes, packet_fields, packet_in_fixed_part, packet_in_bytes};
 ghost use Rattle.of_oxm.specs.Canonical.{canonical};
 
 use crate::message::{FlowRemoved, PacketIn};
@@ -94,9 +94,9 @@ pub(crate) fn put_u64(out: &mut Vec<u8>, number: u64) -> Result<(), AllocError>
     out.extend_from_slice(&number.to_be_bytes())
 }
 
-// What stands in front of the match, 40 bytes.
+// The fields before the match, 40 bytes.
 fn put_flow_removed(out: &mut Vec<u8>, removed: &FlowRemoved) -> Result<(), AllocError>
-    ensures { OnOk result (out.new.items ≡ out.old.items ++ flow_removed_front removed.now) }
+    ensures { OnOk result (out.new.items ≡ out.old.items ++ flow_removed_fixed_part removed.now) }
 {
     put_u64(out, removed.cookie)?;
     put_u16(out, removed.priority)?;
@@ -127,9 +127,9 @@ pub fn write_flow_removed(
     Ok(MessageBytes::new(Bytes::new(out)))
 }
 
-// What stands in front of the match, 16 bytes.
+// The fields before the match, 16 bytes.
 fn put_packet_in(out: &mut Vec<u8>, packet: &PacketIn, size: u16) -> Result<(), AllocError>
-    ensures { OnOk result (out.new.items ≡ out.old.items ++ packet_in_front packet.now size) }
+    ensures { OnOk result (out.new.items ≡ out.old.items ++ packet_in_fixed_part packet.now size) }
 {
     put_u32(out, 0xffff_ffff)?;
     put_u16(out, size)?;
@@ -164,7 +164,7 @@ fn packet_fields_size(in_port: u32, metadata: u64) -> usize
 
 /// The PACKET_IN of a frame, which is whole in it (OpenFlow 1.3.5, 7.4.1).
 ///
-/// The frame has at most 65,485 bytes, so that the message's length can be told.
+/// The frame has at most 65,485 bytes, so that the message's length fits its field.
 pub fn write_packet_in(
     alloc: Global,
     xid: u32,

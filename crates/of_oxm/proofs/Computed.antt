@@ -15,7 +15,7 @@ use Rattle.of_oxm.specs.declared.match_field.MatchField.{MatchField}
 use Rattle.of_oxm.specs.MatchFieldWire.{spelling, number_at, match_field_of}
 use Rattle.of_oxm.specs.MatchGrammar.{match_len, padded, body_of, head_refusals, spellings, AreFieldsAfter, IsEnd, Fields, IsFaulty}
 use Rattle.of_oxm.specs.NormalForm.{normal}
-use Rattle.of_oxm.specs.Prerequisites.{all_met}
+use Rattle.of_oxm.specs.Prerequisites.{prerequisites_met}
 use Rattle.of_oxm.specs.MatchReading.{match_fields, then_normal, match_by, match_of}
 use Rattle.of_oxm.proofs.MatchFieldLemmas.{field_again}
 
@@ -58,13 +58,13 @@ pub fault_computed : (bytes body : List ℕ) (e : ReadError) → first_of (head_
 fault_computed bytes body errors.Memory none same h = tt
 fault_computed bytes body (errors.Refused code) none same h = fields_by bytes body h.0 (Some code) none same h.1
 
-pub need_computed : (bytes body : List ℕ) (fields kept : List MatchField) → first_of (head_refusals bytes) ≡ None → body ≡ body_of bytes → Fields [] body fields None → kept ≡ normal fields → all_met kept ≡ false → match_of bytes ≡ Err (refusal 4 9)
+pub need_computed : (bytes body : List ℕ) (fields kept : List MatchField) → first_of (head_refusals bytes) ≡ None → body ≡ body_of bytes → Fields [] body fields None → kept ≡ normal fields → prerequisites_met kept ≡ false → match_of bytes ≡ Err (refusal 4 9)
 need_computed bytes body fields kept none same h is met =
-    let unmet : all_met (normal fields) ≡ false = ap all_met (sym is) ∙ met in
+    let unmet : prerequisites_met (normal fields) ≡ false = ap prerequisites_met (sym is) ∙ met in
     fields_by bytes body fields None none same h ∙ ap (λ (t : Bool). cond t (Ok (normal fields, padded (match_len bytes))) (Err (refusal 4 9))) unmet
 
-pub found_computed : (bytes body : List ℕ) (len : ℕ) (fields kept : List MatchField) → first_of (head_refusals bytes) ≡ None → len ≡ match_len bytes → body ≡ body_of bytes → Fields [] body fields None → kept ≡ normal fields → all_met kept ≡ true → match_of bytes ≡ Ok (kept, padded len)
+pub found_computed : (bytes body : List ℕ) (len : ℕ) (fields kept : List MatchField) → first_of (head_refusals bytes) ≡ None → len ≡ match_len bytes → body ≡ body_of bytes → Fields [] body fields None → kept ≡ normal fields → prerequisites_met kept ≡ true → match_of bytes ≡ Ok (kept, padded len)
 found_computed bytes body len fields kept none len_is same h is met =
-    let met' : all_met (normal fields) ≡ true = ap all_met (sym is) ∙ met in
+    let met' : prerequisites_met (normal fields) ≡ true = ap prerequisites_met (sym is) ∙ met in
     let done : match_of bytes ≡ Ok (normal fields, padded (match_len bytes)) = fields_by bytes body fields None none same h ∙ ap (λ (t : Bool). cond t (Ok (normal fields, padded (match_len bytes))) (Err (refusal 4 9))) met' in
     rw (is, len_is) done

@@ -1,4 +1,4 @@
--- What a match needs elsewhere in it stands in each match that it covers.
+-- The prerequisites of a match are in each match that it covers.
 use Rattle.std.proofs.Common.{◌≡◌, ℕ, Bool, true, false, eqb, List, [], ◌∷◌, Option, Some, None, refl, sym, ap, ◌∙◌}
 use Rattle.std.specs.Prelude.{bit_and, not, ◌&&◌, ◌||◌, unwrap_or, IfSome}
 use Rattle.std.specs.List.{list_any, AllByRecursion}
@@ -6,8 +6,8 @@ use Rattle.std.proofs.lemmas.Bool.{eqb-true, eq-eqb}
 use Rattle.std.specs.Int.Bits.{and_zero_l}
 use Rattle.of_layers.specs.declared.field.Field.{Field}
 use Rattle.of_layers.specs.declared.field.Field.TheVariants as fields
-use Rattle.of_layers.specs.declared.field.Need.{Need}
-use Rattle.of_layers.specs.declared.field.Need.TheVariants.{Nothing, Tag, Ip, Ipv4, Ipv6, Arp, Tcp, Udp, Icmpv4, Icmpv6}
+use Rattle.of_layers.specs.declared.field.Prerequisite.{Prerequisite}
+use Rattle.of_layers.specs.declared.field.Prerequisite.TheVariants.{Nothing, Tag, Ip, Ipv4, Ipv6, Arp, Tcp, Udp, Icmpv4, Icmpv6}
 use Rattle.of_layers.specs.Fields.{row_of, number_of, ones_of, is_maskable}
 use Rattle.of_layers.proofs.Table.{same_number}
 use Rattle.of_oxm.specs.declared.match_field.MatchField.{MatchField}
@@ -102,14 +102,14 @@ or_both false b false d f g h = g h
 and_both : (a b c d : Bool) → (a ≡ true → c ≡ true) → (b ≡ true → d ≡ true) → (a && b) ≡ true → (c && d) ≡ true
 and_both a b c d f g h = let p = and_true a b h in rw (f p.0, g p.1) refl
 
-pub covered_has_needs : (d m : List MatchField) (n : Need) → IsMatch d → IsMatch m → covers_match d m ≡ true → is_met d n ≡ true → is_met m n ≡ true
-covered_has_needs d m Nothing md mm covers h = refl
-covered_has_needs d m Tag md mm covers h = any_covered (λ e. eqb (number_of e.field) (number_of fields.VlanVid) && not (eqb e.value 0)) d m md.each mm.each tag_within covers h
-covered_has_needs d m Ip md mm covers h = or_both _ _ _ _ (has_covered fields.EthType 0x0800 type_plain d m md mm covers) (has_covered fields.EthType 0x86dd type_plain d m md mm covers) h
-covered_has_needs d m Ipv4 md mm covers h = has_covered fields.EthType 0x0800 type_plain d m md mm covers h
-covered_has_needs d m Ipv6 md mm covers h = has_covered fields.EthType 0x86dd type_plain d m md mm covers h
-covered_has_needs d m Arp md mm covers h = has_covered fields.EthType 0x0806 type_plain d m md mm covers h
-covered_has_needs d m Tcp md mm covers h = has_covered fields.IpProto 6 protocol_plain d m md mm covers h
-covered_has_needs d m Udp md mm covers h = has_covered fields.IpProto 17 protocol_plain d m md mm covers h
-covered_has_needs d m Icmpv4 md mm covers h = and_both _ _ _ _ (has_covered fields.EthType 0x0800 type_plain d m md mm covers) (has_covered fields.IpProto 1 protocol_plain d m md mm covers) h
-covered_has_needs d m Icmpv6 md mm covers h = and_both _ _ _ _ (has_covered fields.EthType 0x86dd type_plain d m md mm covers) (has_covered fields.IpProto 58 protocol_plain d m md mm covers) h
+pub covered_has_prerequisites : (d m : List MatchField) (n : Prerequisite) → IsMatch d → IsMatch m → covers_match d m ≡ true → is_met d n ≡ true → is_met m n ≡ true
+covered_has_prerequisites d m Nothing md mm covers h = refl
+covered_has_prerequisites d m Tag md mm covers h = any_covered (λ e. eqb (number_of e.field) (number_of fields.VlanVid) && not (eqb e.value 0)) d m md.each mm.each tag_within covers h
+covered_has_prerequisites d m Ip md mm covers h = or_both _ _ _ _ (has_covered fields.EthType 0x0800 type_plain d m md mm covers) (has_covered fields.EthType 0x86dd type_plain d m md mm covers) h
+covered_has_prerequisites d m Ipv4 md mm covers h = has_covered fields.EthType 0x0800 type_plain d m md mm covers h
+covered_has_prerequisites d m Ipv6 md mm covers h = has_covered fields.EthType 0x86dd type_plain d m md mm covers h
+covered_has_prerequisites d m Arp md mm covers h = has_covered fields.EthType 0x0806 type_plain d m md mm covers h
+covered_has_prerequisites d m Tcp md mm covers h = has_covered fields.IpProto 6 protocol_plain d m md mm covers h
+covered_has_prerequisites d m Udp md mm covers h = has_covered fields.IpProto 17 protocol_plain d m md mm covers h
+covered_has_prerequisites d m Icmpv4 md mm covers h = and_both _ _ _ _ (has_covered fields.EthType 0x0800 type_plain d m md mm covers) (has_covered fields.IpProto 1 protocol_plain d m md mm covers) h
+covered_has_prerequisites d m Icmpv6 md mm covers h = and_both _ _ _ _ (has_covered fields.EthType 0x86dd type_plain d m md mm covers) (has_covered fields.IpProto 58 protocol_plain d m md mm covers) h

@@ -12,7 +12,7 @@ use Rattle.of_oxm.specs.declared.match_field.MatchField.{MatchField}
 use Rattle.of_wire.specs.Refusals.{first_of}
 use Rattle.of_oxm.specs.NormalForm.{normal}
 use Rattle.of_oxm.specs.MatchGrammar.{spellings, Fields, match_len, padded, body_of, head_refusals, SpellsMatch, IsRefusedMatch, ReadsAs, RefusesAs}
-use Rattle.of_oxm.specs.Prerequisites.{all_met}
+use Rattle.of_oxm.specs.Prerequisites.{prerequisites_met}
 use Rattle.of_wire.specs.Failures.{Fails}
 use Rattle.of_oxm.proofs.MatchFieldLemmas.{NoneApplies, none_first}
 use Rattle.of_oxm.proofs.Walk.{one_reading}
@@ -60,7 +60,7 @@ not_both a x m code s (IsRefusedMatch.field none fields walk) =
 not_both a x m code s (IsRefusedMatch.need none fields walk met code_is) =
     let p = begins a x m s in
     let same = one_reading [] s.fields fields (body_of (a ++ x)) None None p.walk walk in
-    let is_met : all_met (normal fields) ≡ true = ap (λ (f : List MatchField). all_met (normal f)) (sym same.0) ∙ ap all_met (sym s.normal_form) ∙ s.met in
+    let is_met : prerequisites_met (normal fields) ≡ true = ap (λ (f : List MatchField). prerequisites_met (normal f)) (sym same.0) ∙ ap prerequisites_met (sym s.normal_form) ∙ s.met in
     let h : true ≡ false = sym is_met ∙ met in
     cc
 

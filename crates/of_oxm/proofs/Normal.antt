@@ -12,11 +12,11 @@ use Rattle.of_oxm.specs.declared.match_field.MatchField.{MatchField}
 use Rattle.of_layers.specs.Fields.{number_of, bits_of, ones_of, is_maskable}
 use Rattle.of_layers.proofs.Table.{ones_is}
 use Rattle.of_oxm.specs.MatchFieldWire.{IsSpelt, IsMask}
-use Rattle.of_oxm.specs.NormalForm.{under, kept, put, put_kept, normal, IsKept, IsRising}
+use Rattle.of_oxm.specs.NormalForm.{under, kept, with_field, with_kept_field, normal, IsKept, IsAscending}
 use Rattle.of_oxm.specs.MatchGrammar.{AreFieldsAfter}
 use Rattle.of_oxm.specs.MatchFieldWire.{is_among}
 
--- ---- a field stands once
+-- ---- a field occurs once
 
 pub among_append : (f : Field) (xs ys : List MatchField) → is_among f (xs ++ ys) ≡ (is_among f xs || is_among f ys)
 among_append f [] ys = refl
@@ -33,7 +33,7 @@ pub or_false : (a b : Bool) → (a || b) ≡ false → (a ≡ false) × (b ≡ f
 or_false true b h = absurd cc
 or_false false b h = (refl, h)
 
--- what stood before stands nowhere after
+-- what came before does not occur after
 never_again : (f : Field) (seen fs : List MatchField) → AreFieldsAfter seen fs → is_among f seen ≡ true → is_among f fs ≡ false
 never_again f seen [] fine h = refl
 never_again f seen (x ∷ xs) fine h =
@@ -47,34 +47,34 @@ never_again f seen (x ∷ xs) fine h =
 
 -- ---- in its place
 
-among_put : (f : Field) (e : MatchField) (xs : List MatchField) → eqb (number_of e.field) (number_of f) ≡ false → is_among f xs ≡ false → is_among f (put e xs) ≡ false
+among_put : (f : Field) (e : MatchField) (xs : List MatchField) → eqb (number_of e.field) (number_of f) ≡ false → is_among f xs ≡ false → is_among f (with_field e xs) ≡ false
 among_put f e [] ne h = rw ne refl
 among_put f e (x ∷ xs) ne h =
     let p = or_false (eqb (number_of x.field) (number_of f)) (is_among f xs) h in
-    let split : (b : Bool) → is_among f (cond b (e ∷ x ∷ xs) (x ∷ put e xs)) ≡ false
-    = λ b. elim b as (λ b. is_among f (cond b (e ∷ x ∷ xs) (x ∷ put e xs)) ≡ false) [
+    let split : (b : Bool) → is_among f (cond b (e ∷ x ∷ xs) (x ∷ with_field e xs)) ≡ false
+    = λ b. elim b as (λ b. is_among f (cond b (e ∷ x ∷ xs) (x ∷ with_field e xs)) ≡ false) [
       | true ↦ rw ne h
       | false ↦ rw (p.0) (among_put f e xs ne p.1)
     ] in
     split (ltb (number_of e.field) (number_of x.field))
 
-all_put : (P : MatchField → Type 0) (e : MatchField) (xs : List MatchField) → P e → AllByRecursion P xs → AllByRecursion P (put e xs)
+all_put : (P : MatchField → Type 0) (e : MatchField) (xs : List MatchField) → P e → AllByRecursion P xs → AllByRecursion P (with_field e xs)
 all_put P e [] one others = (one, tt)
 all_put P e (x ∷ xs) one others =
-    let split : (b : Bool) → AllByRecursion P (cond b (e ∷ x ∷ xs) (x ∷ put e xs))
-    = λ b. elim b as (λ b. AllByRecursion P (cond b (e ∷ x ∷ xs) (x ∷ put e xs))) [ true ↦ (one, others) | false ↦ (others.0, all_put P e xs one others.1) ] in
+    let split : (b : Bool) → AllByRecursion P (cond b (e ∷ x ∷ xs) (x ∷ with_field e xs))
+    = λ b. elim b as (λ b. AllByRecursion P (cond b (e ∷ x ∷ xs) (x ∷ with_field e xs))) [ true ↦ (one, others) | false ↦ (others.0, all_put P e xs one others.1) ] in
     split (ltb (number_of e.field) (number_of x.field))
 
 all_above : (n m : ℕ) (xs : List MatchField) → n < m → AllByRecursion (λ x. m < number_of x.field) xs → AllByRecursion (λ x. n < number_of x.field) xs
 all_above n m [] lt h = tt
 all_above n m (x ∷ xs) lt h = (omega (arith, h.0), all_above n m xs lt h.1)
 
-rising_put : (e : MatchField) (xs : List MatchField) → IsRising xs → is_among e.field xs ≡ false → IsRising (put e xs)
+rising_put : (e : MatchField) (xs : List MatchField) → IsAscending xs → is_among e.field xs ≡ false → IsAscending (with_field e xs)
 rising_put e [] up h = (tt, tt)
 rising_put e (x ∷ xs) up h =
     let p = or_false (eqb (number_of x.field) (number_of e.field)) (is_among e.field xs) h in
-    let split : (b : Bool) → ltb (number_of e.field) (number_of x.field) ≡ b → IsRising (cond b (e ∷ x ∷ xs) (x ∷ put e xs))
-    = λ b. elim b as (λ b. ltb (number_of e.field) (number_of x.field) ≡ b → IsRising (cond b (e ∷ x ∷ xs) (x ∷ put e xs))) [
+    let split : (b : Bool) → ltb (number_of e.field) (number_of x.field) ≡ b → IsAscending (cond b (e ∷ x ∷ xs) (x ∷ with_field e xs))
+    = λ b. elim b as (λ b. ltb (number_of e.field) (number_of x.field) ≡ b → IsAscending (cond b (e ∷ x ∷ xs) (x ∷ with_field e xs))) [
       | true ↦ λ t. let lt = ltb-true _ _ t in ((lt, all_above _ _ xs lt up.0), up)
       | false ↦ λ t. let le = ltb-false _ _ t in let ne = eqb-false _ _ p.0 in (all_put (λ y. number_of x.field < number_of y.field) e xs (omega (arith, le, ne)) up.0, rising_put e xs up.1 p.1)
     ] in
@@ -148,21 +148,21 @@ among_normal f seen [] fine h = refl
 among_normal f seen (e ∷ es) fine h =
     let p = or_false (eqb (number_of e.field) (number_of f)) (is_among f es) h in
     let others = among_normal f (seen ++ e ∷ []) es fine.2 p.1 in
-    let split : (o : Option MatchField) → kept e ≡ o → is_among f (put_kept o (normal es)) ≡ false
-    = λ o. elim o as (λ o. kept e ≡ o → is_among f (put_kept o (normal es)) ≡ false) [
+    let split : (o : Option MatchField) → kept e ≡ o → is_among f (with_kept_field o (normal es)) ≡ false
+    = λ o. elim o as (λ o. kept e ≡ o → is_among f (with_kept_field o (normal es)) ≡ false) [
       | None ↦ λ k. others
       | Some x ↦ λ k. among_put f x (normal es) (ap (λ (g : Field). eqb (number_of g) (number_of f)) ((keeps e x fine.0 k).field) ∙ p.0) others
     ] in
     split (kept e) refl
 
-pub rising_normal : (seen fs : List MatchField) → AreFieldsAfter seen fs → IsRising (normal fs) × AllByRecursion IsKept (normal fs)
+pub rising_normal : (seen fs : List MatchField) → AreFieldsAfter seen fs → IsAscending (normal fs) × AllByRecursion IsKept (normal fs)
 rising_normal seen [] fine = (tt, tt)
 rising_normal seen (e ∷ es) fine =
     let others = rising_normal (seen ++ e ∷ []) es fine.2 in
     let once : is_among e.field es ≡ false = never_again e.field (seen ++ e ∷ []) es fine.2 (among_append e.field seen (e ∷ []) ∙ ap (λ (b : Bool). is_among e.field seen || (b || false)) (eq-eqb (number_of e.field) (number_of e.field) refl) ∙ or_true (is_among e.field seen)) in
     let none = among_normal e.field (seen ++ e ∷ []) es fine.2 once in
-    let split : (o : Option MatchField) → kept e ≡ o → IsRising (put_kept o (normal es)) × AllByRecursion IsKept (put_kept o (normal es))
-    = λ o. elim o as (λ o. kept e ≡ o → IsRising (put_kept o (normal es)) × AllByRecursion IsKept (put_kept o (normal es))) [
+    let split : (o : Option MatchField) → kept e ≡ o → IsAscending (with_kept_field o (normal es)) × AllByRecursion IsKept (with_kept_field o (normal es))
+    = λ o. elim o as (λ o. kept e ≡ o → IsAscending (with_kept_field o (normal es)) × AllByRecursion IsKept (with_kept_field o (normal es))) [
       | None ↦ λ k. others
       | Some x ↦ λ k. (rising_put x (normal es) others.0 (subst (λ (g : Field). is_among g (normal es) ≡ false) (sym ((keeps e x fine.0 k).field)) none), all_put IsKept x (normal es) ((keeps e x fine.0 k).kept) others.1)
     ] in

@@ -2,7 +2,7 @@
 use Rattle.std.proofs.Common.{ℕ, ◌^◌, ◌<◌, ◌≤◌, refl, arith}
 use Rattle.of_layers.specs.declared.field.Field.TheVariants.{InPort}
 use Rattle.of_layers.specs.Fields.{row_of, ones_of}
-use Rattle.of_oxm.specs.Prerequisites.{all_met}
+use Rattle.of_oxm.specs.Prerequisites.{prerequisites_met}
 use Rattle.of_oxm.specs.NormalForm.{IsMatch}
 use Rattle.of_oxm.specs.InPortMatch.{in_port_match}
 
@@ -11,7 +11,7 @@ unfolding row_of
 in_port_below port h = omega arith
 
 pub in_port_is_match : (port : ℕ) → port < 2 ^ 32 → IsMatch (in_port_match port)
-unfolding row_of all_met
+unfolding row_of prerequisites_met
 in_port_is_match port h = record {
   each = (record { value = in_port_below port h; mask = tt }, tt);
   rising = (tt, tt);

@@ -9,7 +9,7 @@ use Rattle.of_layers.specs.Fields.{number_of}
 use Rattle.of_layers.proofs.Table.{same_number}
 use Rattle.of_headers.specs.FieldMap.{seen}
 use Rattle.of_oxm.specs.declared.match_field.MatchField.{MatchField}
-use Rattle.of_oxm.specs.NormalForm.{IsRising, IsMatch}
+use Rattle.of_oxm.specs.NormalForm.{IsAscending, IsMatch}
 use Rattle.of_oxm.specs.Relations.{bits_looked_at, agrees, matches_map}
 use Rattle.of_oxm.specs.Masks.{first_at, looked_at, value_of, Agree}
 use Rattle.of_oxm.proofs.Related.{and_true}
@@ -21,8 +21,8 @@ all_at P [] i d h lt = absurd (omega arith)
 all_at P (x ∷ xs) zero d h lt = h.0
 all_at P (x ∷ xs) (suc i) d h lt = all_at P xs i d h.1 (omega arith)
 
--- of rising numbers the next is that of no field before it
-first_more : (g : MatchField → ℕ) (m : List MatchField) (i : ℕ) (d : MatchField) (f : Field) → IsRising m → i < length m
+-- of ascending numbers the next is that of no field before it
+first_more : (g : MatchField → ℕ) (m : List MatchField) (i : ℕ) (d : MatchField) (f : Field) → IsAscending m → i < length m
     → cond (eqb (number_of f) (number_of (get_or m i d).field)) (Some (g (get_or m i d))) (option_map g (first_at (take i m) f)) ≡ option_map g (first_at (take (suc i) m) f)
 first_more g [] i d f up lt = absurd (omega arith)
 first_more g (x ∷ xs) zero d f up lt =
@@ -45,7 +45,7 @@ first_more g (x ∷ xs) (suc i) d f up lt =
     ] in
     split (eqb (number_of x.field) (number_of f)) refl
 
-pub one_more : (g : MatchField → ℕ) (m : List MatchField) (i n : ℕ) (d : MatchField) (old new : Field → Option ℕ) → IsRising m → i < length m → ((f : Field) → old f ≡ option_map g (first_at (take i m) f))
+pub one_more : (g : MatchField → ℕ) (m : List MatchField) (i n : ℕ) (d : MatchField) (old new : Field → Option ℕ) → IsAscending m → i < length m → ((f : Field) → old f ≡ option_map g (first_at (take i m) f))
     → n ≡ g (get_or m i d) → ((f : Field) → new f ≡ cond (eqb (number_of f) (number_of (get_or m i d).field)) (Some n) (old f)) → (f : Field) → new f ≡ option_map g (first_at (take (i + 1) m) f)
 one_more g m i n d old new up lt before is made f =
     let next : i + 1 ≡ suc i = omega arith in
@@ -54,14 +54,14 @@ one_more g m i n d old new up lt before is made f =
     ∙ ap (λ (o : Option ℕ). cond (eqb (number_of f) (number_of (get_or m i d).field)) (Some (g (get_or m i d))) o) (before f)
     ∙ first_more g m i d f up lt)
 
--- ---- where each field stands
+-- ---- the place of each field
 
 found_after : (x : MatchField) (xs ys : List MatchField) → AllByRecursion (λ y. number_of x.field < number_of y.field) ys → AllByRecursion (λ y. first_at xs y.field ≡ Some y) ys → AllByRecursion (λ y. first_at (x ∷ xs) y.field ≡ Some y) ys
 found_after x xs [] up h = tt
 found_after x xs (y ∷ ys) up h = (rw (ne_eqb (number_of x.field) (number_of y.field) (λ s. omega (arith, s, up.0))) h.0, found_after x xs ys up.1 h.1)
 
 -- each field is the first with its number
-each_found : (m : List MatchField) → IsRising m → AllByRecursion (λ e. first_at m e.field ≡ Some e) m
+each_found : (m : List MatchField) → IsAscending m → AllByRecursion (λ e. first_at m e.field ≡ Some e) m
 each_found [] up = tt
 each_found (x ∷ xs) up = (rw (eq-eqb (number_of x.field) (number_of x.field) refl) refl, found_after x xs xs up.0 (each_found xs up.1))
 

@@ -8,9 +8,9 @@ use Rattle.of_wire.specs.declared.code.ReadError.{ReadError}
 use Rattle.of_wire.specs.declared.code.ReadError.TheVariants as errors
 use Rattle.of_oxm.specs.declared.match_field.MatchField.{MatchField}
 use Rattle.of_wire.specs.Refusals.{first_of, refusal}
-use Rattle.of_oxm.specs.NormalForm.{normal, IsMatch, IsKept, IsRising}
+use Rattle.of_oxm.specs.NormalForm.{normal, IsMatch, IsKept, IsAscending}
 use Rattle.of_oxm.specs.MatchGrammar.{spellings, IsEnd, Fields, IsFaulty, match_len, padded, body_of, head_refusals, SpellsMatch, IsRefusedMatch}
-use Rattle.of_oxm.specs.Prerequisites.{all_met}
+use Rattle.of_oxm.specs.Prerequisites.{prerequisites_met}
 use Rattle.of_wire.specs.Failures.{Fails}
 use Rattle.std.specs.List.{AllByRecursion}
 use Rattle.of_oxm.proofs.Normal.{rising_normal, or_false}
@@ -21,16 +21,16 @@ pub field_refused : (bytes body : List ℕ) (e : ReadError) → first_of (head_r
 field_refused bytes body errors.Memory none body_is h = tt
 field_refused bytes body (errors.Refused code) none body_is h = IsRefusedMatch.field none h.0 (subst (λ (b : List ℕ). Fields [] b h.0 (Some code)) body_is h.1)
 
-pub need_refused : (bytes body : List ℕ) (fields kept_fields : List MatchField) → first_of (head_refusals bytes) ≡ None → body ≡ body_of bytes → Fields [] body fields None → kept_fields ≡ normal fields → all_met kept_fields ≡ false → IsRefusedMatch bytes (refusal 4 9)
+pub need_refused : (bytes body : List ℕ) (fields kept_fields : List MatchField) → first_of (head_refusals bytes) ≡ None → body ≡ body_of bytes → Fields [] body fields None → kept_fields ≡ normal fields → prerequisites_met kept_fields ≡ false → IsRefusedMatch bytes (refusal 4 9)
 need_refused bytes body fields kept_fields none body_is walk normal_is met =
-    IsRefusedMatch.need none fields (subst (λ (b : List ℕ). Fields [] b fields None) body_is walk) (subst (λ (m : List MatchField). all_met m ≡ false) normal_is met) refl
+    IsRefusedMatch.need none fields (subst (λ (b : List ℕ). Fields [] b fields None) body_is walk) (subst (λ (m : List MatchField). prerequisites_met m ≡ false) normal_is met) refl
 
 no_rest : (seen : List MatchField) (rest : List ℕ) → IsEnd seen rest None → rest ≡ []
 no_rest seen [] h = refl
 no_rest seen (b ∷ bs) h = let none : false ≡ true = h.1 in absurd cc
 
 pub spelt : (bytes : List ℕ) (fields : List MatchField) (m : List MatchField) → IsBytes bytes → 4 ≤ length bytes → big_number 2 bytes ≡ 1 → 4 ≤ match_len bytes → padded (match_len bytes) ≤ length bytes
-    → Fields [] (body_of bytes) fields None → m ≡ normal fields → all_met m ≡ true → SpellsMatch (take (padded (match_len bytes)) bytes) m
+    → Fields [] (body_of bytes) fields None → m ≡ normal fields → prerequisites_met m ≡ true → SpellsMatch (take (padded (match_len bytes)) bytes) m
 spelt (a ∷ b ∷ c ∷ d ∷ tail) fields m fits h4 kind low high walk normal_is met =
     let bytes = a ∷ b ∷ c ∷ d ∷ tail in
     let len = match_len bytes in
@@ -63,17 +63,17 @@ spelt (a ∷ []) fields m fits h4 kind low high walk normal_is met = absurd (ome
 spelt (a ∷ b ∷ []) fields m fits h4 kind low high walk normal_is met = absurd (omega arith)
 spelt (a ∷ b ∷ c ∷ []) fields m fits h4 kind low high walk normal_is met = absurd (omega arith)
 
-pub is_match : (bytes : List ℕ) (fields : List MatchField) (m : List MatchField) → Fields [] bytes fields None → m ≡ normal fields → all_met m ≡ true → IsMatch m
+pub is_match : (bytes : List ℕ) (fields : List MatchField) (m : List MatchField) → Fields [] bytes fields None → m ≡ normal fields → prerequisites_met m ≡ true → IsMatch m
 is_match bytes fields m walk normal_is met =
     let up = rising_normal [] fields walk.fine in
     record {
       each = subst (λ (x : List MatchField). AllByRecursion IsKept x) (sym normal_is) up.1;
-      rising = subst IsRising (sym normal_is) up.0;
+      rising = subst IsAscending (sym normal_is) up.0;
       met = rw met refl;
     }
 
 pub whole_spelt : (bytes body : List ℕ) (len : ℕ) (fields m : List MatchField) → IsBytes bytes → first_of (head_refusals bytes) ≡ None → len ≡ match_len bytes → body ≡ body_of bytes
-    → Fields [] body fields None → m ≡ normal fields → all_met m ≡ true → SpellsMatch (take (padded len) bytes) m
+    → Fields [] body fields None → m ≡ normal fields → prerequisites_met m ≡ true → SpellsMatch (take (padded len) bytes) m
 whole_spelt bytes body len fields m fits none len_is body_is walk normal_is met =
     let t = none_applies (head_refusals bytes) none in
     let p = or_false _ _ t.1.1.0 in

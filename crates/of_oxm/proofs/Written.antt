@@ -10,7 +10,7 @@ use Rattle.of_layers.specs.declared.field.Field.{Field}
 use Rattle.of_oxm.specs.declared.match_field.MatchField.{MatchField}
 use Rattle.of_layers.specs.Fields.{number_of, bytes_of, ones_of}
 use Rattle.of_oxm.specs.MatchFieldWire.{IsSpelt, IsMask, spelling}
-use Rattle.of_oxm.specs.NormalForm.{kept, put, put_kept, normal, IsKept, IsKeptMask, IsRising, IsMatch}
+use Rattle.of_oxm.specs.NormalForm.{kept, with_field, with_kept_field, normal, IsKept, IsKeptMask, IsAscending, IsMatch}
 use Rattle.of_oxm.specs.MatchGrammar.{AreFieldsAfter, spellings, padded, SpellsMatch}
 use Rattle.of_oxm.specs.MatchFieldWire.{is_among}
 use Rattle.of_oxm.specs.Canonical.{written_len, canonical}
@@ -46,15 +46,15 @@ kept_by f v (Some m) h = rw (h.within, eqb-zero m h.some, ne_eqb m (ones_of f) (
 kept_same : (e : MatchField) → IsKept e → kept e ≡ Some e
 kept_same e h = kept_by e.field e.value e.mask h.mask
 
-put_first : (e : MatchField) (es : List MatchField) → AllByRecursion (λ x. number_of e.field < number_of x.field) es → put e es ≡ e ∷ es
+put_first : (e : MatchField) (es : List MatchField) → AllByRecursion (λ x. number_of e.field < number_of x.field) es → with_field e es ≡ e ∷ es
 put_first e [] h = refl
 put_first e (x ∷ xs) h = rw (lt-ltb _ _ h.0) refl
 
-normal_same : (m : List MatchField) → AllByRecursion IsKept m → IsRising m → normal m ≡ m
+normal_same : (m : List MatchField) → AllByRecursion IsKept m → IsAscending m → normal m ≡ m
 normal_same [] each up = refl
-normal_same (e ∷ es) each up = ap (λ (o : Option MatchField). put_kept o (normal es)) (kept_same e each.0) ∙ ap (put e) (normal_same es each.1 up.1) ∙ put_first e es up.0
+normal_same (e ∷ es) each up = ap (λ (o : Option MatchField). with_kept_field o (normal es)) (kept_same e each.0) ∙ ap (with_field e) (normal_same es each.1 up.1) ∙ put_first e es up.0
 
--- ---- each field stands once
+-- ---- each field occurs once
 
 not_among : (e : MatchField) (seen es : List MatchField) → AllByRecursion (λ x. is_among x.field seen ≡ false) es → AllByRecursion (λ x. number_of e.field < number_of x.field) es → AllByRecursion (λ x. is_among x.field (seen ++ e ∷ []) ≡ false) es
 not_among e seen [] h up = tt
@@ -62,7 +62,7 @@ not_among e seen (x ∷ xs) h up =
     let ne : eqb (number_of e.field) (number_of x.field) ≡ false = ne_eqb _ _ (λ s. omega (arith, s, up.0)) in
     (among_append x.field seen (e ∷ []) ∙ ap (λ (b : Bool). b || (eqb (number_of e.field) (number_of x.field) || false)) h.0 ∙ ap (λ (b : Bool). b || false) ne, not_among e seen xs h.1 up.1)
 
-fine_rising : (seen m : List MatchField) → AllByRecursion IsKept m → IsRising m → AllByRecursion (λ x. is_among x.field seen ≡ false) m → AreFieldsAfter seen m
+fine_rising : (seen m : List MatchField) → AllByRecursion IsKept m → IsAscending m → AllByRecursion (λ x. is_among x.field seen ≡ false) m → AreFieldsAfter seen m
 fine_rising seen [] each up h = tt
 fine_rising seen (e ∷ es) each up h = (kept_spelt e each.0, h.0, fine_rising (seen ++ e ∷ []) es each.1 up.1 (not_among e seen es h.1 up.0))
 
@@ -76,7 +76,7 @@ all_from : (n m : ℕ) (xs : List MatchField) → n ≤ m → AllByRecursion (λ
 all_from n m [] le h = tt
 all_from n m (x ∷ xs) le h = (omega (arith, h.0), all_from n m xs le h.1)
 
-count : (m : List MatchField) (n : ℕ) → IsRising m → AllByRecursion (λ x. n ≤ number_of x.field) m → n ≤ 31 → length m + n ≤ 31
+count : (m : List MatchField) (n : ℕ) → IsAscending m → AllByRecursion (λ x. n ≤ number_of x.field) m → n ≤ 31 → length m + n ≤ 31
 count [] n up h le = omega arith
 count (e ∷ es) n up h le =
     let here = number_below e.field in
@@ -96,10 +96,10 @@ none_low : (m : List MatchField) → AllByRecursion (λ x. 0 ≤ number_of x.fie
 none_low [] = tt
 none_low (e ∷ es) = (omega arith, none_low es)
 
-pub written_fits : (m : List MatchField) → IsRising m → written_len m < 2 ^ 16
+pub written_fits : (m : List MatchField) → IsAscending m → written_len m < 2 ^ 16
 written_fits m up = omega (arith, length-spellings m, count m 0 up (none_low m) (omega arith))
 
-pub canonical_short : (m : List MatchField) → IsRising m → length (canonical m) ≤ 1128
+pub canonical_short : (m : List MatchField) → IsAscending m → length (canonical m) ≤ 1128
 unfolding canonical
 canonical_short m up =
     let len = written_len m in

@@ -1,4 +1,4 @@
--- The one spelling of a match that is written: the fields by rising number, and zeros for padding (OpenFlow 1.3.5, 7.2.3).
+-- The one spelling of a match that is written: fields in ascending order, and zeros for padding (OpenFlow 1.3.5, 7.2.3).
 use Rattle.std.specs.Prelude.{ℕ, ◌+◌, ◌-◌, List, ◌∷◌, ◌++◌, length, replicate}
 use Rattle.byteorder.specs.Endian.{big_bytes}
 use Rattle.of_oxm.specs.declared.match_field.MatchField.{MatchField}

@@ -1,4 +1,4 @@
--- The match of a frame that came by a port, as a PACKET_IN carries it (OpenFlow 1.3.5, 7.4.1).
+-- The match of a frame received at a port, as a PACKET_IN carries it (OpenFlow 1.3.5, 7.4.1).
 use Rattle.std.specs.Prelude.{ℕ, List, [], ◌∷◌, None}
 use Rattle.of_layers.specs.declared.field.Field.TheVariants.{InPort}
 use Rattle.of_oxm.specs.declared.match_field.MatchField.{MatchField}

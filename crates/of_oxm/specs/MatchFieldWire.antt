@@ -26,7 +26,7 @@ mask_bytes n (Some m) = big_bytes n m
 unfoldable pub spelling : MatchField → List ℕ
 spelling e = 128 ∷ 0 ∷ (2 * number_of e.field + flag e.mask) ∷ body_len e.field (is_some e.mask) ∷ (big_bytes (bytes_of e.field) e.value ++ mask_bytes (bytes_of e.field) e.mask)
 
--- what a mask may be: all ones where the field takes no mask, and no bit of the value stands where the mask has a 0 (7.2.3.5)
+-- what a mask may be: all ones where the field takes no mask, and no bit of the value is set where the mask has a 0 (7.2.3.5)
 pub record IsMask (f : Field) (value mask : ℕ) : Type 0 where
   pub fits : mask < 256 ^ bytes_of f
   pub allowed : (is_maskable f ≡ true) ⊎ (bit_and mask (ones_of f) ≡ ones_of f)
@@ -37,7 +37,7 @@ pub record IsSpelt (e : MatchField) : Type 0 where
   pub value : e.value ≤ ones_of e.field
   pub mask : IfSome e.mask (IsMask e.field e.value)
 
--- ---- what stands at the front of bytes
+-- ---- what bytes begin with
 
 abbrev pub number_at : List ℕ → ℕ
 number_at rest = slice_index rest 2 / 2
@@ -68,7 +68,7 @@ value_refusals f masked value mask =
     ∷ (masked && not (bit_and value mask == value), refusal 4 5)
     ∷ []
 
--- the refusals of a known field, where the fields `seen` stand before it
+-- the refusals of a known field, after the fields `seen`
 abbrev pub known_field_refusals : Field → List MatchField → List ℕ → List (Bool × Code)
 known_field_refusals f seen rest =
     let masked = is_masked_at rest in
@@ -76,7 +76,7 @@ known_field_refusals f seen rest =
     ∷ (is_among f seen, refusal 4 10)
     ∷ value_refusals f masked (value_at f rest) (mask_at f rest)
 
--- the refusals of what stands at the front, where the fields `seen` stand before it
+-- the refusals of the field that bytes begin with, after the fields `seen`
 abbrev pub field_refusals : List MatchField → List ℕ → List (Bool × Code)
 field_refusals seen rest =
     (nat_lt (length rest) 4, refusal 4 1)

@@ -9,7 +9,7 @@ use Rattle.of_wire.specs.Failures.{Fails}
 use Rattle.of_wire.specs.Refusals.{refusal, first_of}
 use Rattle.of_oxm.specs.declared.match_field.MatchField.{MatchField}
 use Rattle.of_oxm.specs.MatchFieldWire.{IsSpelt, spelling, is_among, field_refusals}
-use Rattle.of_oxm.specs.Prerequisites.{all_met}
+use Rattle.of_oxm.specs.Prerequisites.{prerequisites_met}
 use Rattle.of_oxm.specs.NormalForm.{normal}
 
 -- ---- the fields, in any order
@@ -17,7 +17,7 @@ use Rattle.of_oxm.specs.NormalForm.{normal}
 abbrev pub spellings : List MatchField → List ℕ
 spellings fields = flat_map spelling fields
 
--- after the fields `seen`, each of these is well spelt and stands for the first time
+-- after the fields `seen`, each of these is well spelt and occurs for the first time
 abbrev pub AreFieldsAfter : List MatchField → List MatchField → Type 0
 AreFieldsAfter seen [] = Unit {0}
 AreFieldsAfter seen (e ∷ es) = IsSpelt e × (is_among e.field seen ≡ false) × AreFieldsAfter (seen ++ e ∷ []) es
@@ -58,7 +58,7 @@ head_refusals bytes =
     ∷ (nat_lt (match_len bytes) 4 || nat_lt (length bytes) (padded (match_len bytes)), refusal 4 1)
     ∷ []
 
--- The bytes are: type 1 (OFPMT_OXM), the length, the fields in some order, each once, and padding that the length leaves out; and the match is the normal form of the fields, which has all that they need.
+-- The bytes are: type 1 (OFPMT_OXM), the length, the fields in some order, each once, and padding that the length leaves out; and the match is the normal form of the fields, with all prerequisites.
 pub record SpellsMatch (bytes : List ℕ) (m : List MatchField) : Type 0 where
   pub fields : List MatchField
   pub padding : List ℕ
@@ -69,17 +69,17 @@ pub record SpellsMatch (bytes : List ℕ) (m : List MatchField) : Type 0 where
   pub whole : bytes ≡ 0 ∷ 1 ∷ (big_bytes 2 len ++ (spellings fields ++ padding))
   pub size : length bytes ≡ padded len
   pub normal_form : m ≡ normal fields
-  pub met : all_met m ≡ true
+  pub met : prerequisites_met m ≡ true
 
--- Bytes that begin with no spelling of a match have one code: of the head, of the first field that has a fault, or of what a field needs.
+-- Bytes that begin with no spelling of a match have one code: of the head, of the first field that has a fault, or of a missing prerequisite.
 pub data IsRefusedMatch (bytes : List ℕ) (code : Code) : Type 0 where
   head : first_of (head_refusals bytes) ≡ Some code → IsRefusedMatch bytes code
   field : first_of (head_refusals bytes) ≡ None → (fields : List MatchField) → Fields [] (body_of bytes) fields (Some code) → IsRefusedMatch bytes code
-  need : first_of (head_refusals bytes) ≡ None → (fields : List MatchField) → Fields [] (body_of bytes) fields None → all_met (normal fields) ≡ false → code ≡ refusal 4 9 → IsRefusedMatch bytes code
+  need : first_of (head_refusals bytes) ≡ None → (fields : List MatchField) → Fields [] (body_of bytes) fields None → prerequisites_met (normal fields) ≡ false → code ≡ refusal 4 9 → IsRefusedMatch bytes code
 
--- ---- what a reader answers
+-- ---- what a reader returns
 
--- this match was read, in so many bytes, unless memory ran out
+-- this match was read, in n bytes, unless memory ran out
 abbrev pub ReadsAs : List MatchField → ℕ → Result (List MatchField × ℕ) ReadError → Type 0
 ReadsAs m n (Ok r) = (r.0 ≡ m) × (r.1 ≡ n)
 ReadsAs m n (Err e) = e ≡ errors.Memory

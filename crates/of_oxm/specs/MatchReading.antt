@@ -1,4 +1,4 @@
--- What the bytes of a match say, as a function: the match in front and its padded size, or the code of the first refusal (OpenFlow 1.3.5, 7.2.3 and 7.4.4).
+-- What the bytes of a match say, as a function: the match that they begin with and its padded size, or the code of the first refusal (OpenFlow 1.3.5, 7.2.3 and 7.4.4).
 use Rattle.std.specs.Prelude.{ℕ, ◌+◌, List, [], length, slice_index, Option, Some, None, Result, Ok, Err, if◌then◌else◌}
 use Rattle.std.specs.Option.{option_map}
 use Rattle.of_wire.specs.declared.code.Code.{Code}
@@ -9,15 +9,15 @@ use Rattle.of_oxm.specs.declared.match_field.MatchField.{MatchField}
 use Rattle.of_oxm.specs.MatchFieldWire.{number_at, match_field_of, field_refusals}
 use Rattle.of_oxm.specs.MatchGrammar.{match_len, padded, body_of, head_refusals}
 use Rattle.of_oxm.specs.NormalForm.{normal}
-use Rattle.of_oxm.specs.Prerequisites.{all_met}
+use Rattle.of_oxm.specs.Prerequisites.{prerequisites_met}
 
 -- fields as items on the wire
 abbrev pub match_fields : Items MatchField
 match_fields = record { refusals = field_refusals; value_at = λ rest. option_map (λ f. match_field_of f rest) (field_at (number_at rest)); size_at = λ rest. 4 + slice_index rest 3 }
 
--- the normal form of fields, if all that they need stands in it
+-- the normal form of fields, if it has all their prerequisites
 abbrev pub normal_match : ℕ → List MatchField → Result (List MatchField × ℕ) Code
-normal_match size fields = if all_met (normal fields) then Ok (normal fields, size) else Err (refusal 4 9)
+normal_match size fields = if prerequisites_met (normal fields) then Ok (normal fields, size) else Err (refusal 4 9)
 
 abbrev pub then_normal : ℕ → Result (List MatchField) Code → Result (List MatchField × ℕ) Code
 then_normal size (Ok fields) = normal_match size fields

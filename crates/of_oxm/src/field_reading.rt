@@ -63,7 +63,7 @@ fn read_known_field(field: Field, rest: &[u8], seen: &[MatchField]) -> Result<Ma
     })
 }
 
-/// The field at the front of the bytes, where the fields `seen` stand before it.
+/// The field that the bytes begin with, after the fields `seen`.
 pub fn read_match_field(rest: &[u8], seen: &[MatchField]) -> Result<MatchField, Code>
     ensures { MatchResult result
         (λ e. (first_of (field_refusals seen.now rest.now) ≡ None) × (field_at (number_at rest.now) ≡ Some e.field) × (e ≡ match_field_of e.field rest.now))

@@ -12,8 +12,8 @@ use std::marker::Model;
 
 /// What the match of a flow asks of a frame (OpenFlow 1.3.5, 7.2.3).
 ///
-/// It is a normal form: no mask of zeros alone or of ones alone, each field once and by rising
-/// number, and all that its fields need stands in it.
+/// It is a normal form: no mask of zeros alone or of ones alone, each field once, in ascending order
+/// of number, and the prerequisites of its fields are in it.
 #[derive(Debug, Drop)]
 pub struct Match {
     pub(crate) fields: Vec<MatchField>,
@@ -39,7 +39,7 @@ fn same_fields(xs: &[MatchField], ys: &[MatchField]) -> bool
 }
 
 impl Match {
-    /// The match of these fields: a normal form, and what they need stands among them.
+    /// The match of these fields: a normal form, with their prerequisites among them.
     pub fn new(fields: Vec<MatchField>) -> Match
         requires { IsMatch fields.items }
         ensures { result ≡ fields.items }
@@ -47,7 +47,7 @@ impl Match {
         Match { fields }
     }
 
-    /// The match of a frame that came by this port, as a PACKET_IN carries it (OpenFlow 1.3.5, 7.4.1).
+    /// The match of a frame that was received at this port, as a PACKET_IN carries it (OpenFlow 1.3.5, 7.4.1).
     pub fn of_in_port(alloc: Global, port: u32) -> Result<Match, AllocError>
         ensures { IfOk result (λ m. m ≡ in_port_match port) }
     {
@@ -60,7 +60,7 @@ impl Match {
         Ok(Match { fields })
     }
 
-    /// The fields that it looks at, by rising number.
+    /// The fields that it looks at, in ascending order of number.
     pub fn fields(&self) -> &[MatchField]
         ensures { result.now ≡ self.now }
     {
@@ -90,14 +90,14 @@ impl Match {
         })
     }
 
-    /// Its fields are a normal form, and what they need stands among them (OpenFlow 1.3.5, 7.2.3.5 and 7.2.3.6).
+    /// Its fields are a normal form, with their prerequisites among them (OpenFlow 1.3.5, 7.2.3.5 and 7.2.3.6).
     pub fn known(&self)
         ensures { IsMatch self.now }
     {
         let _fields = &self.fields;
     }
 
-    /// Whether the two are one match.
+    /// Whether the two are the same match.
     pub fn equals(&self, other: &Match) -> bool
         ensures same { IsTrue result ↔ (self.now ≡ other.now) }
         ensures value { result ≡ is_same_match self.now other.now }

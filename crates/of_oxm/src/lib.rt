@@ -16,10 +16,10 @@ pub use flow_match::Match;
 pub use masks::{FieldMask, agreeing_match_alike, key_of, mask_of, matched_is_seen};
 pub use match_field::MatchField;
 pub use of_wire::{Code, ReadError};
-pub use prerequisites::{all_met, is_met};
+pub use prerequisites::{is_met, prerequisites_met};
 pub use reading::{one_code, one_spelling, read_match};
 pub use relations::{
-    covered_has_needs, covered_is_matched, covers, matched_is_covered, matches,
+    covered_has_prerequisites, covered_is_matched, covers, matched_is_covered, matches,
     normal_form_is_meant, overlap_is_common_match, overlaps,
 };
 pub use writing::write_match;

@@ -5,7 +5,7 @@ ghost use Rattle.std.specs.List.{AllByRecursion};
 ghost use Rattle.of_layers.specs.declared.field.Field.{Field};
 ghost use Rattle.of_headers.specs.FieldMap.{value, seen};
 ghost use Rattle.of_oxm.specs.declared.match_field.MatchField.{MatchField};
-ghost use Rattle.of_oxm.specs.NormalForm.{IsKept, IsRising, IsMatch};
+ghost use Rattle.of_oxm.specs.NormalForm.{IsKept, IsAscending, IsMatch};
 ghost use Rattle.of_oxm.specs.Relations.{matches_map};
 ghost use Rattle.of_oxm.specs.Masks.{looked_at, value_of, mask_at, Agree};
 
@@ -31,7 +31,7 @@ impl FieldMask {
 
 fn masks_in(fields: &[MatchField]) -> FieldKey
     requires each { AllByRecursion IsKept fields.now }
-    requires rising { IsRising fields.now }
+    requires rising { IsAscending fields.now }
     ensures { (f : Field) → value result f ≡ looked_at fields.now f }
 {
     let mut masks = FieldKey::empty();
@@ -43,7 +43,7 @@ fn masks_in(fields: &[MatchField]) -> FieldKey
 
 fn values_in(fields: &[MatchField]) -> FieldKey
     requires each { AllByRecursion IsKept fields.now }
-    requires rising { IsRising fields.now }
+    requires rising { IsAscending fields.now }
     ensures { (f : Field) → value result f ≡ value_of fields.now f }
 {
     let mut values = FieldKey::empty();

@@ -13,7 +13,7 @@ use crate::field_reading::read_match_field;
 use crate::flow_match::Match;
 use crate::match_field::MatchField;
 use crate::normal_form::normal_form;
-use crate::prerequisites::all_met;
+use crate::prerequisites::prerequisites_met;
 use byteorder::{BigEndian, ByteOrder};
 use of_wire::{Code, ReadError};
 use std::alloc::Global;
@@ -37,7 +37,7 @@ fn read_fields(alloc: Global, body: &[u8]) -> Result<Vec<MatchField>, ReadError>
     Ok(fields)
 }
 
-// The length of the match at the front, without its padding.
+// The length of the match that the bytes begin with, without its padding.
 fn read_head(bytes: &[u8]) -> Result<usize, Code>
     ensures low { IfOk result (λ len. 4 ≤ len) }
     ensures high { IfOk result (λ len. padded len ≤ length bytes.now) }
@@ -83,13 +83,13 @@ fn parse(alloc: Global, bytes: &[u8]) -> Result<(Match, usize), ReadError>
     let body = fields_of(bytes, len);
     let read = read_fields(alloc, body)?;
     let fields = normal_form(alloc, read)?;
-    if !all_met(&fields) {
+    if !prerequisites_met(&fields) {
         return Err(ReadError::Refused(BAD_PREREQ));
     }
     Ok((Match { fields }, (len + 7) / 8 * 8))
 }
 
-/// The match at the front of the bytes, and how many bytes it takes with its padding (OpenFlow 1.3.5, 7.2.3).
+/// The match that the bytes begin with, and how many bytes it takes with its padding (OpenFlow 1.3.5, 7.2.3).
 pub fn read_match(alloc: Global, bytes: &[u8]) -> Result<(Match, usize), ReadError>
     // What is read is spelled so.
     ensures size { IfOk result (λ r. r.1 ≤ length bytes.now) }

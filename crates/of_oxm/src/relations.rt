@@ -9,7 +9,7 @@ ghost use Rattle.of_oxm.specs.Meaning.{are_met};
 ghost use Rattle.of_oxm.specs.Prerequisites.{is_met};
 ghost use Rattle.of_oxm.specs.declared.match_field.MatchField.{MatchField};
 ghost use Rattle.of_layers.specs.declared.field.Field.{Field};
-ghost use Rattle.of_layers.specs.declared.field.Need.{Need};
+ghost use Rattle.of_layers.specs.declared.field.Prerequisite.{Prerequisite};
 
 use crate::flow_match::Match;
 use crate::match_field::MatchField;
@@ -105,15 +105,15 @@ pub fn covered_is_matched()
         covers_match d m ≡ true → matches_map m map ≡ true → matches_map d map ≡ true }
 {}
 
-/// What is matched wherever another match matches covers it, so that `covers` answers yes wherever it may.
+/// What is matched wherever another match matches covers it, so that `covers` returns true wherever it may.
 pub fn matched_is_covered()
     ensures { (d m : List MatchField) → IsMatch d → IsMatch m →
         ((map : Field → Option ℕ) → IsWithinBits map → matches_map m map ≡ true → matches_map d map ≡ true) → covers_match d m ≡ true }
 {}
 
 /// What a match covers has what the match has of the prerequisites of a field (OpenFlow 1.3.5, 7.2.3.6).
-pub fn covered_has_needs()
-    ensures { (d m : List MatchField) (need : Need) → IsMatch d → IsMatch m →
+pub fn covered_has_prerequisites()
+    ensures { (d m : List MatchField) (need : Prerequisite) → IsMatch d → IsMatch m →
         covers_match d m ≡ true → is_met d need ≡ true → is_met m need ≡ true }
 {}
 

@@ -54,7 +54,7 @@ fn put_fields(out: &mut Vec<u8>, fields: &[MatchField]) -> Result<(), AllocError
     Ok(())
 }
 
-/// The one spelling of a match that is written: its fields by rising number, and zeros for padding (OpenFlow 1.3.5, 7.2.3).
+/// The one spelling of a match that is written: fields in ascending order, and zeros for padding (OpenFlow 1.3.5, 7.2.3).
 pub fn write_match(alloc: Global, m: &Match) -> Result<Vec<u8>, AllocError>
     ensures canonical { IfOk result (λ v. v.items ≡ canonical m.now) }
     ensures spells { IfOk result (λ v. SpellsMatch v.items m.now) }

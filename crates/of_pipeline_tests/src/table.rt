@@ -1,47 +1,64 @@
 ghost use Rattle.std.specs.Prelude.{◌≡◌, ℕ, true, IfOk};
 ghost use Rattle.of_actions.specs.InstructionLists.{are_for};
 
+mod scripts;
+
 use of_actions::{Action, ActionList, Instruction, InstructionList, check_flow};
-use of_classifier::{Lookup, Scan};
+use of_classifier::Scan;
 use of_headers::{FieldKey, read};
 use of_oxm::Match;
-use of_table::{Cause, Flow, FlowFlags, FlowRemovedReason, FlowTables, TableFault, Which};
+use of_table::{Cause, Entry, Flow, FlowTables, Removed, Selector, TableFault};
+use scripts::{
+    Change, EntryRow, FlowRow, GROUPS, Gone, MODIFIED, NOT_ADDED, Notice, Sight, Step, TIMEOUTS,
+    TWO_FLOWS,
+};
 use std::alloc::Global;
 use std::process::Abort;
 use std::test::Fail;
 
-const NO_FLAGS: FlowFlags = FlowFlags {
-    send_removed: false,
-    check_overlap: false,
-    reset_counts: false,
-    no_packet_counts: false,
-    no_byte_counts: false,
-};
-
-const SECOND: u64 = 1_000_000_000;
+type Tables = FlowTables<Scan>;
 
 fn key_of_port(in_port: u32) -> Result<FieldKey, Fail> {
     Ok(read(&[0; 14], in_port, 0).ok().ok_or("a frame")?.key())
 }
 
-fn flow_of_port(alloc: Global, in_port: u32, cookie: u64) -> Result<Flow, Fail> {
+fn list_of(alloc: Global, instruction: Instruction) -> Result<InstructionList, Fail> {
+    let mut instructions = Vec::new(alloc);
+    instructions.push(instruction)?;
+    Ok(InstructionList::new(instructions).ok_or("one instruction is a list")?)
+}
+
+fn actions_of(alloc: Global, action: Action) -> Result<ActionList, Fail> {
+    let mut actions = Vec::new(alloc);
+    actions.push(action)?;
+    Ok(ActionList::new(actions).ok_or("one action is a list")?)
+}
+
+fn instructions_of(alloc: Global, flow: &FlowRow) -> Result<InstructionList, Fail> {
+    match flow.group {
+        None => Ok(InstructionList::new(Vec::new(alloc)).ok_or("no type stands twice")?),
+        Some(group) => {
+            let actions = actions_of(alloc, Action::Group(group))?;
+            list_of(alloc, Instruction::Write(actions))
+        }
+    }
+}
+
+fn flow_of(alloc: Global, row: &FlowRow) -> Result<Flow, Fail> {
+    let instructions = instructions_of(alloc, row)?;
     Ok(Flow {
-        fields: Match::of_in_port(alloc, in_port)?,
+        fields: Match::of_in_port(alloc, row.in_port)?,
         priority: 5,
-        cookie,
-        idle_timeout: 0,
-        hard_timeout: 0,
-        flags: NO_FLAGS,
-        instructions: InstructionList::new(Vec::new(alloc)).ok_or("no type stands twice")?,
+        cookie: row.cookie,
+        idle_timeout: row.idle_timeout,
+        hard_timeout: row.hard_timeout,
+        flags: row.flags,
+        instructions,
     })
 }
 
 // Adds a flow whose instructions are fit and go with its match.
-fn add<L: Lookup>(
-    tables: &mut FlowTables<L>,
-    table: u8,
-    flow: Flow,
-) -> Result<Result<(), TableFault>, Fail> {
+fn add(tables: &mut Tables, table: u8, flow: Flow) -> Result<Result<(), TableFault>, Fail> {
     if !flow.instructions.are_for(table) {
         return Err(Fail::from("GOTO_TABLE leads back"));
     }
@@ -51,17 +68,25 @@ fn add<L: Lookup>(
     Ok(tables.add(table, flow))
 }
 
-// All entries of port 1 in table 2.
-fn which_of_port_one(alloc: Global) -> Result<Which, Fail> {
-    Ok(Which {
+// All entries of port 1 in table 2 that send to a port.
+fn which_of_port_one(alloc: Global, out_port: Option<u32>) -> Result<Selector, Fail> {
+    Ok(Selector {
         table: Some(2),
         fields: Match::of_in_port(alloc, 1)?,
         priority: None,
         cookie: 0,
         cookie_mask: 0,
-        out_port: None,
+        out_port,
         out_group: None,
     })
+}
+
+fn cause_of(alloc: Global, gone: Gone) -> Result<Cause, Fail> {
+    match gone {
+        Gone::Delete { out_port } => Ok(Cause::Delete(which_of_port_one(alloc, Some(out_port))?)),
+        Gone::Group(group) => Ok(Cause::Group(group)),
+        Gone::Moment(moment) => Ok(Cause::Moment(moment)),
+    }
 }
 
 fn output_to(alloc: Global, port: u32) -> Result<InstructionList, Fail>
@@ -75,174 +100,210 @@ fn output_to(alloc: Global, port: u32) -> Result<InstructionList, Fail>
     Ok(InstructionList::new(instructions).ok_or("one instruction is a list")?)
 }
 
-// The flow of port 1 counts a packet, and is then replaced.
-fn two_flows<L: Lookup>(rt: &impl Abort, alloc: Global) -> Result<(), Fail> {
-    let key = key_of_port(1)?;
-    let mut tables = FlowTables::<L>::new(alloc)?;
-    assert_eq!(rt; tables.lookup(2, &key), None);
-    add(&mut tables, 2, flow_of_port(alloc, 1, 10)?)??;
-    add(&mut tables, 2, flow_of_port(alloc, 2, 20)?)??;
+fn modify(alloc: Global, tables: &mut Tables, output: u32) -> Result<(), Fail> {
+    let outputs = output_to(alloc, output)?;
+    let which = which_of_port_one(alloc, None)?;
+    if check_flow(&which.fields, outputs.as_slice()).is_err() {
+        return Err(Fail::from("an OUTPUT sets no field"));
+    }
+    Ok(tables.modify(&which, &outputs, true)?)
+}
+
+fn looked(rt: &impl Abort, tables: &mut Tables, table: u8) {
+    assert!(rt; table < 16);
+    tables.looked(table);
+}
+
+// The cookie of the entry that a packet hits, which then counts so many bytes.
+fn hit(
+    rt: &impl Abort,
+    tables: &mut Tables,
+    table: u8,
+    in_port: u32,
+    bytes: usize,
+) -> Result<Option<u64>, Fail> {
+    assert!(rt; table < 16);
+    let key = key_of_port(in_port)?;
+    let Some(number) = tables.lookup(table, &key) else {
+        return Ok(None);
+    };
+    let cookie = tables.flow(table, number).cookie;
+    tables.count(table, number, bytes);
+    Ok(Some(cookie))
+}
+
+fn is_missed(rt: &impl Abort, tables: &mut Tables, table: u8, in_port: u32) -> Result<bool, Fail> {
+    assert!(rt; table < 16);
+    let key = key_of_port(in_port)?;
+    Ok(tables.lookup(table, &key).is_none())
+}
+
+fn peeked(rt: &impl Abort, tables: &Tables, table: u8, in_port: u32) -> Result<Option<u64>, Fail> {
+    assert!(rt; table < 16);
+    let key = key_of_port(in_port)?;
+    let Some(number) = tables.peek(table, &key) else {
+        return Ok(None);
+    };
+    Ok(Some(tables.flow(table, number).cookie))
+}
+
+// How many packets were looked up in a table, and how many hit an entry.
+fn counters(rt: &impl Abort, tables: &Tables, table: u8) -> (u64, u64) {
+    assert!(rt; table < 16);
+    (tables.lookups(table), tables.matched(table))
+}
+
+fn entry_count(rt: &impl Abort, tables: &Tables, table: u8) -> usize {
+    assert!(rt; table < 16);
+    tables.entries(table).count()
+}
+
+fn is_entry(rt: &impl Abort, place: usize, entry: &Entry, wanted: &EntryRow) {
+    assert_eq!(rt; entry.flow.cookie, wanted.cookie, "step {place}");
+    assert_eq!(rt; entry.packets, wanted.packets, "step {place}");
+    assert_eq!(rt; entry.bytes, wanted.bytes, "step {place}");
+    assert_eq!(rt; entry.last, wanted.last, "step {place}");
+    assert_eq!(rt;
+        entry.flow.instructions.len(),
+        wanted.instructions,
+        "step {place}"
+    );
+}
+
+fn are_entries(rt: &impl Abort, place: usize, tables: &Tables, table: u8, wanted: &[EntryRow]) {
+    assert!(rt; table < 16);
+    let mut entries = tables.entries(table);
+    for row in wanted {
+        match entries.next() {
+            Some(entry) => is_entry(rt, place, entry, row),
+            None => assert!(rt; false, "step {place}: too few entries"),
+        }
+    }
+    assert!(rt; entries.next().is_none(), "step {place}: too many entries");
+}
+
+fn is_notice(rt: &impl Abort, place: usize, removed: &Removed<'_>, wanted: &Notice) {
+    assert_eq!(rt; removed.table, wanted.table, "step {place}");
+    assert_eq!(rt; removed.reason, wanted.reason, "step {place}");
+    assert_eq!(rt; removed.entry.flow.cookie, wanted.cookie, "step {place}");
+}
+
+fn are_listed(
+    rt: &impl Abort,
+    place: usize,
+    tables: &Tables,
+    cause: &Cause,
+    wanted: &[Notice],
+) -> Result<(), Fail> {
+    let removed = tables.listed(cause)?;
+    assert_eq!(rt; removed.len(), wanted.len(), "step {place}");
+    for (notice, row) in removed.iter().zip(wanted) {
+        is_notice(rt, place, notice, row);
+    }
+    Ok(())
+}
+
+fn change(
+    rt: &impl Abort,
+    alloc: Global,
+    place: usize,
+    tables: &mut Tables,
+    change: Change,
+) -> Result<(), Fail> {
+    match change {
+        Change::Add { table, flow } => add(tables, table, flow_of(alloc, &flow)?)??,
+        Change::Refuse { table, flow, fault } => {
+            let given = add(tables, table, flow_of(alloc, &flow)?)?;
+            assert_eq!(rt; given, Err(fault), "step {place}");
+        }
+        Change::Modify { output } => modify(alloc, tables, output)?,
+        Change::Remove(gone) => tables.remove(&cause_of(alloc, gone)?),
+        Change::Looked(table) => looked(rt, tables, table),
+        Change::Hit {
+            table,
+            in_port,
+            cookie,
+            bytes,
+        } => {
+            let found = hit(rt, tables, table, in_port, bytes)?;
+            assert_eq!(rt; found, Some(cookie), "step {place}");
+        }
+        Change::Miss { table, in_port } => {
+            assert!(rt; is_missed(rt, tables, table, in_port)?, "step {place}");
+        }
+    }
+    Ok(())
+}
+
+fn see(
+    rt: &impl Abort,
+    alloc: Global,
+    place: usize,
+    tables: &Tables,
+    sight: Sight,
+) -> Result<(), Fail> {
+    match sight {
+        Sight::Peek {
+            table,
+            in_port,
+            cookie,
+        } => {
+            let found = peeked(rt, tables, table, in_port)?;
+            assert_eq!(rt; found, cookie, "step {place}");
+        }
+        Sight::Counters {
+            table,
+            lookups,
+            matched,
+        } => {
+            let counters = counters(rt, tables, table);
+            assert_eq!(rt; counters, (lookups, matched), "step {place}");
+        }
+        Sight::Entries { table, entries } => are_entries(rt, place, tables, table, entries),
+        Sight::EntryCount { table, count } => {
+            assert_eq!(rt; entry_count(rt, tables, table), count, "step {place}");
+        }
+        Sight::Listed { cause, notices } => {
+            are_listed(rt, place, tables, &cause_of(alloc, cause)?, notices)?;
+        }
+        Sight::Latest(moment) => assert_eq!(rt; tables.latest(), moment, "step {place}"),
+    }
+    Ok(())
+}
+
+fn play(rt: &impl Abort, alloc: Global, steps: &[Step]) -> Result<(), Fail> {
+    let mut tables = Tables::new(alloc)?;
     tables.known();
-    tables.looked(2);
-    match tables.lookup(2, &key) {
-        Some(number) => {
-            assert_eq!(rt; tables.flow(2, number).cookie, 10);
-            tables.count(2, number, 60);
+    for (place, step) in steps.iter().enumerate() {
+        match *step {
+            Step::Do(it) => change(rt, alloc, place, &mut tables, it)?,
+            Step::See(it) => see(rt, alloc, place, &tables, it)?,
         }
-        None => assert!(rt; false, "port 1 hits"),
     }
-    match tables.peek(2, &key) {
-        Some(number) => assert_eq!(rt; tables.flow(2, number).cookie, 10),
-        None => assert!(rt; false, "port 1 hits"),
-    }
-    add(&mut tables, 2, flow_of_port(alloc, 1, 11)?)??;
-    assert_eq!(rt; tables.lookups(2), 1);
-    assert_eq!(rt; tables.matched(2), 1);
-    let mut entries = tables.entries(2);
-    match (entries.next(), entries.next(), entries.next()) {
-        (Some(first), Some(second), None) => {
-            assert_eq!(rt; first.flow.cookie, 20);
-            assert_eq!(rt; first.packets, 0);
-            assert_eq!(rt; second.flow.cookie, 11);
-            assert_eq!(rt; second.packets, 1);
-            assert_eq!(rt; second.bytes, 60);
-            assert_eq!(rt; second.last, None);
-        }
-        _ => assert!(rt; false, "there are two entries"),
-    }
-    assert_eq!(rt; tables.peek(2, &key_of_port(3)?), None);
-    assert_eq!(rt; tables.peek(3, &key), None);
     Ok(())
 }
 
 #[test]
 fn scan_of_two_flows(rt: HostRuntime) -> Result<(), Fail> {
-    two_flows::<Scan>(&rt, rt.alloc())
+    play(&rt, rt.alloc(), TWO_FLOWS)
 }
 
 #[test]
 fn why_a_flow_is_not_added(rt: HostRuntime) -> Result<(), Fail> {
-    let mut tables = FlowTables::<Scan>::new(rt.alloc())?;
-    add(&mut tables, 0, flow_of_port(rt.alloc(), 1, 10)?)??;
-    let mut flow = flow_of_port(rt.alloc(), 1, 11)?;
-    flow.flags.check_overlap = true;
-    assert_eq!(rt; add(&mut tables, 0, flow)?, Err(TableFault::Overlap));
-    let flow = flow_of_port(rt.alloc(), 1, 12)?;
-    assert_eq!(rt; add(&mut tables, 16, flow)?, Err(TableFault::BadTable));
-    assert_eq!(rt; tables.entries(0).count(), 1);
-    Ok(())
-}
-
-// There is one notice, of the entry of a cookie.
-fn one_notice<L: Lookup>(
-    rt: &impl Abort,
-    tables: &FlowTables<L>,
-    cause: &Cause,
-    table: u8,
-    reason: FlowRemovedReason,
-    cookie: u64,
-) -> Result<(), Fail> {
-    let removed = tables.listed(cause)?;
-    match removed.as_slice() {
-        [notice] => {
-            assert_eq!(rt; notice.table, table);
-            assert_eq!(rt; notice.reason, reason);
-            assert_eq!(rt; notice.entry.flow.cookie, cookie);
-        }
-        _ => assert!(rt; false, "there is one notice"),
-    }
-    Ok(())
+    play(&rt, rt.alloc(), NOT_ADDED)
 }
 
 #[test]
 fn modified_and_deleted(rt: HostRuntime) -> Result<(), Fail> {
-    let mut tables = FlowTables::<Scan>::new(rt.alloc())?;
-    let mut flow = flow_of_port(rt.alloc(), 1, 10)?;
-    flow.flags.send_removed = true;
-    add(&mut tables, 2, flow)??;
-    add(&mut tables, 2, flow_of_port(rt.alloc(), 2, 20)?)??;
-    let outputs = output_to(rt.alloc(), 7)?;
-    let which = which_of_port_one(rt.alloc())?;
-    if check_flow(&which.fields, outputs.as_slice()).is_err() {
-        return Err(Fail::from("an OUTPUT sets no field"));
-    }
-    tables.modify(&which, &outputs, true)?;
-    let mut entries = tables.entries(2);
-    match (entries.next(), entries.next(), entries.next()) {
-        (Some(first), Some(second), None) => {
-            assert_eq!(rt; first.flow.instructions.len(), 1);
-            assert_eq!(rt; second.flow.instructions.len(), 0);
-        }
-        _ => assert!(rt; false, "there are two entries"),
-    }
-    let mut which = which_of_port_one(rt.alloc())?;
-    which.out_port = Some(8);
-    assert_eq!(rt; tables.listed(&Cause::Delete(which))?.len(), 0);
-    let mut which = which_of_port_one(rt.alloc())?;
-    which.out_port = Some(7);
-    let cause = Cause::Delete(which);
-    one_notice(&rt, &tables, &cause, 2, FlowRemovedReason::Delete, 10)?;
-    tables.remove(&cause);
-    assert_eq!(rt; tables.listed(&cause)?.len(), 0);
-    assert_eq!(rt; tables.entries(2).count(), 1);
-    Ok(())
-}
-
-// A flow that sends to a group, and asks for a notice.
-fn flow_to_group(alloc: Global, in_port: u32, group: u32) -> Result<Flow, Fail> {
-    let mut actions = Vec::new(alloc);
-    actions.push(Action::Group(group))?;
-    let actions = ActionList::new(actions).ok_or("one action is a list")?;
-    let mut instructions = Vec::new(alloc);
-    instructions.push(Instruction::Write(actions))?;
-    let mut flow = flow_of_port(alloc, in_port, u64::from(group))?;
-    flow.flags.send_removed = true;
-    flow.instructions = InstructionList::new(instructions).ok_or("one instruction is a list")?;
-    Ok(flow)
+    play(&rt, rt.alloc(), MODIFIED)
 }
 
 #[test]
 fn flows_of_a_group(rt: HostRuntime) -> Result<(), Fail> {
-    let mut tables = FlowTables::<Scan>::new(rt.alloc())?;
-    add(&mut tables, 0, flow_to_group(rt.alloc(), 1, 7)?)??;
-    add(&mut tables, 1, flow_to_group(rt.alloc(), 1, 8)?)??;
-    add(&mut tables, 1, flow_of_port(rt.alloc(), 2, 20)?)??;
-    one_notice(
-        &rt,
-        &tables,
-        &Cause::Group(Some(8)),
-        1,
-        FlowRemovedReason::GroupDelete,
-        8,
-    )?;
-    tables.remove(&Cause::Group(Some(8)));
-    assert_eq!(rt; tables.listed(&Cause::Group(None))?.len(), 1);
-    tables.remove(&Cause::Group(None));
-    assert_eq!(rt; tables.entries(0).count(), 0);
-    assert_eq!(rt; tables.entries(1).count(), 1);
-    Ok(())
+    play(&rt, rt.alloc(), GROUPS)
 }
 
 #[test]
 fn hard_before_idle(rt: HostRuntime) -> Result<(), Fail> {
-    let mut tables = FlowTables::<Scan>::new(rt.alloc())?;
-    let mut flow = flow_of_port(rt.alloc(), 1, 10)?;
-    flow.idle_timeout = 5;
-    flow.hard_timeout = 10;
-    flow.flags.send_removed = true;
-    add(&mut tables, 0, flow)??;
-    tables.remove(&Cause::Moment(4 * SECOND));
-    match tables.lookup(0, &key_of_port(1)?) {
-        Some(number) => tables.count(0, number, 60),
-        None => assert!(rt; false, "port 1 hits"),
-    }
-    tables.remove(&Cause::Moment(8 * SECOND));
-    assert_eq!(rt; tables.listed(&Cause::Moment(0))?.len(), 0);
-    let cause = Cause::Moment(10 * SECOND);
-    one_notice(&rt, &tables, &cause, 0, FlowRemovedReason::HardTimeout, 10)?;
-    assert_eq!(rt; tables.latest(), 8 * SECOND);
-    tables.remove(&cause);
-    assert_eq!(rt; tables.entries(0).count(), 0);
-    assert_eq!(rt; tables.latest(), 10 * SECOND);
-    Ok(())
+    play(&rt, rt.alloc(), TIMEOUTS)
 }

@@ -22,7 +22,7 @@ no_config = record { is_down = false; no_receive = false; no_forward = false; no
 abbrev pub bit_if : Bool → ℕ → ℕ
 bit_if is_set bit = if is_set then bit else 0
 
--- the word of bits that tells it
+-- its bits as a word
 abbrev pub config_bits : PortConfig → ℕ
 config_bits c = bit_if c.is_down port_down + bit_if c.no_receive no_recv + bit_if c.no_forward no_fwd + bit_if c.no_packet_in no_packet_in
 

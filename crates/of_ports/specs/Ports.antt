@@ -1,4 +1,4 @@
--- The ports of a switch, by rising number (OpenFlow 1.3.5, 4.1 and 7.2.1).
+-- The ports of a switch, in ascending order of number (OpenFlow 1.3.5, 4.1 and 7.2.1).
 use Rattle.std.specs.Prelude.{ℕ, ◌+◌, ◌==◌, nat_lt, Bool, false, not, ◌&&◌, List, ◌∷◌, ◌++◌, Option, map, find, filter, if◌then◌else◌}
 use Rattle.std.specs.Option.{option_map_or}
 use Rattle.of_wire.specs.Numbered.{is_used, without as without_number}
@@ -40,7 +40,7 @@ port_at ports n = find (λ q. q.number == n) ports
 abbrev pub has_port : ℕ → List Port → Bool
 has_port n ports = is_used number_of n ports
 
--- the port of that number is there, and live
+-- the port of that number exists and is live
 abbrev pub is_live_at : List Port → ℕ → Bool
 is_live_at ports n = option_map_or is_live (port_at ports n) false
 
@@ -50,7 +50,7 @@ other_ports ports n = filter (λ q. may_send q && not (q.number == n)) ports
 
 -- ---- changes
 
--- a port more stands between those of lower and those of higher numbers
+-- a port is inserted in order of number
 abbrev pub with_port : Port → List Port → List Port
 with_port p ports = filter (λ q. nat_lt q.number p.number) ports ++ p ∷ filter (λ q. nat_lt p.number q.number) ports
 

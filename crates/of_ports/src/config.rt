@@ -14,16 +14,16 @@ const NO_FORWARD: u32 = 32;
 /// OFPPC_NO_PACKET_IN.
 const NO_PACKET_IN: u32 = 64;
 
-/// What a controller sets of a port (OpenFlow 1.3.5, 7.2.1).
+/// What a controller sets in a port (OpenFlow 1.3.5, 7.2.1).
 #[derive(Clone, Copy, Debug, Default, PartialEq, Eq)]
 pub struct PortConfig {
-    /// OFPPC_PORT_DOWN: the port is taken down.
+    /// OFPPC_PORT_DOWN: the port is administratively down.
     pub is_down: bool,
-    /// OFPPC_NO_RECV: frames that come in are dropped.
+    /// OFPPC_NO_RECV: received frames are dropped.
     pub no_receive: bool,
-    /// OFPPC_NO_FWD: no frame goes out.
+    /// OFPPC_NO_FWD: no frame is sent.
     pub no_forward: bool,
-    /// OFPPC_NO_PACKET_IN: a frame that no entry is found for is not told to the controller.
+    /// OFPPC_NO_PACKET_IN: a frame that no entry is found for is not sent to the controller.
     pub no_packet_in: bool,
 }
 
@@ -51,7 +51,7 @@ fn bit_under(bit: u32, config: u32, mask: u32, old: bool) -> bool
 }
 
 impl PortConfig {
-    /// The word of bits that tells it.
+    /// Its bits as a word.
     pub fn bits(self) -> u32
         ensures { result ≡ config_bits self }
     {

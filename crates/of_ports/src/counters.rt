@@ -2,7 +2,7 @@
 ghost use Rattle.std.specs.Prelude.{◌≡◌};
 ghost use Rattle.of_ports.specs.Counters.{no_counters, plus, tally};
 
-/// What a port has counted since it was there (OpenFlow 1.3.5, 5.8). Counters wrap.
+/// What a port has counted since it was added (OpenFlow 1.3.5, 5.8). Counters wrap.
 #[derive(Clone, Copy, Debug, PartialEq, Eq)]
 pub struct PortCounters {
     pub rx_packets: u64,
@@ -17,19 +17,19 @@ pub struct PortCounters {
 /// What a port counts (OpenFlow 1.3.5, 5.8).
 #[derive(Clone, Copy, Debug, PartialEq, Eq)]
 pub enum PortCount {
-    /// A frame of so many bytes came in.
+    /// A frame of this many bytes was received.
     Received(usize),
-    /// A frame came in that the port may not receive.
+    /// A frame arrived that the port may not receive.
     ReceiveDropped,
-    /// Too short or too long a frame came in.
+    /// A frame arrived that was too short or too long.
     ReceiveError,
-    /// A frame of so many bytes went out.
+    /// A frame of this many bytes was sent.
     Sent(usize),
-    /// A frame could not go out.
+    /// A frame could not be sent.
     SendDropped,
 }
 
-// The counter after so many more.
+// The counter plus `more`.
 fn plus_bytes(counter: u64, more: usize) -> u64
     ensures { result ≡ plus counter more }
 {

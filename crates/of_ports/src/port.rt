@@ -18,7 +18,7 @@ pub struct Port {
     pub number: u32,
     /// Its hardware address.
     pub hw: [u8; 6],
-    /// Its name, filled up by zeros.
+    /// Its name, padded with zeros.
     pub name: [u8; 16],
     pub config: PortConfig,
     pub is_link_up: bool,
@@ -57,14 +57,14 @@ impl Port {
         self.is_live() && !self.config.no_forward
     }
 
-    /// Whether frames that come in by the port are taken in.
+    /// Whether frames that arrive at the port are received.
     pub fn may_receive(&self) -> bool
         ensures { result ≡ may_receive self.now }
     {
         self.is_live() && !self.config.no_receive
     }
 
-    /// The word of bits that tells its state.
+    /// The bits of its state as a word.
     pub fn state_bits(&self) -> u32
         ensures { result ≡ state_bits self.now }
     {

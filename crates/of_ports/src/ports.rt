@@ -15,7 +15,7 @@ use std::marker::Model;
 /// How many ports there are at most.
 pub const MOST_PORTS: usize = 64;
 
-/// The ports of a switch, by rising number: at most 64 (OpenFlow 1.3.5, 4.1 and 7.2.1).
+/// The ports of a switch, in ascending order of number: at most 64 (OpenFlow 1.3.5, 4.1 and 7.2.1).
 #[derive(Drop)]
 pub struct Ports {
     ports: Vec<Port>,
@@ -70,7 +70,7 @@ impl Ports {
         self.ports.iter().find(|port| port.number == number)
     }
 
-    /// A port more. A call that fails changes nothing.
+    /// One more port. A call that fails changes nothing.
     pub fn add(&mut self, port: Port) -> Result<(), AllocError>
         requires new { has_port port.number self.old ≡ false }
         requires room { length self.old < 64 }
@@ -80,14 +80,14 @@ impl Ports {
         insert_port(&mut self.ports, port)
     }
 
-    /// Takes the port of that number out; where there is none, nothing changes. It wants no memory.
+    /// Removes the port of that number; where there is none, nothing changes. It needs no memory.
     pub fn remove(&mut self, number: u32)
         ensures { self.new ≡ without_port number self.old }
     {
         remove_port(&mut self.ports, number);
     }
 
-    /// The link of the port of that number is up from now on, or down; where there is none, nothing changes.
+    /// The link of the port of that number goes up or down; where there is none, nothing changes.
     pub fn set_link(&mut self, number: u32, is_up: bool)
         ensures { self.new ≡ at_port number (linked is_up) self.old }
     {

@@ -64,7 +64,7 @@ pub parts : (line bytes : List ℕ) → Parts line bytes (first_end bytes)
 parts line [] = (refl, sym (append-nil line))
 parts line (b ∷ bs) = parts_by line b bs (is_lf b) refl (λ more. parts more bs)
 
--- more bytes behind bytes
+-- more bytes after bytes
 whole_by : (line : List ℕ) (x : ℕ) (a b : List ℕ) (t : Bool) → is_lf x ≡ t → ((more : List ℕ) → whole_from more (a ++ b) ≡ whole_from more a ++ whole_from (last_from more a) b)
     → whole_from line ((x ∷ a) ++ b) ≡ whole_from line (x ∷ a) ++ whole_from (last_from line (x ∷ a)) b
 whole_by line x a b true e ih = rw e (ap (λ (ls : List (List ℕ)). line ∷ ls) (ih []))
@@ -83,7 +83,7 @@ pub last_join : (line a b : List ℕ) → last_from line (a ++ b) ≡ last_from 
 last_join line [] b = refl
 last_join line (x ∷ a) b = last_by line x a b (is_lf x) refl (λ more. last_join more a b)
 
--- what there is room for
+-- what fits
 pub kept_part : (n : ℕ) (a b : List ℕ) → length a ≤ n → a ++ take (n - length a) b ≡ take n (a ++ b)
 kept_part n [] b le = ap (λ (k : ℕ). take k b) (omega arith)
 kept_part zero (x ∷ a) b le = absurd (omega (arith, le))

@@ -12,7 +12,7 @@ pub grown : (limit v : ℕ) (ds : List ℕ) → limit ≤ v → below limit (dig
 grown limit v [] h = rw (le-ltb v limit h) refl
 grown limit v (d ∷ ds) h = grown_by limit v ds d (is_digit d) (grown limit (10 * v + (d - 48)) ds (omega (arith, h)))
 
--- one digit more
+-- one more digit
 pub digit_more : (v i : ℕ) (ds : List ℕ) → i < length ds → is_digit (get_or ds i 0) ≡ true → digits_value v (drop i ds) ≡ digits_value (10 * v + (get_or ds i 0 - 48)) (drop (i + 1) ds)
 digit_more v i ds h t = rw (add-one, drop-cons ds i 0, t) refl
 

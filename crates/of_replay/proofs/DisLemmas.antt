@@ -7,7 +7,7 @@ use Rattle.of_replay.specs.declared.halt.Halt.TheVariants.{Bad, Memory, Read, Wr
 use Rattle.of_replay.specs.declared.event_file.Ended.{Ended}
 use Rattle.of_replay.specs.declared.event_file.Ended.TheVariants.{Done, BadRow, Text, NoMemory, ReadFault, WriteFault}
 use Rattle.of_replay.specs.Told.{Answer}
-use Rattle.of_replay.specs.Tales.{Tale, Tells}
+use Rattle.of_replay.specs.RowTexts.{RowText, Tells}
 use Rattle.of_replay.specs.Stepping.{PlayedAll, ReadsFail, WritesFail, ended_so}
 use Rattle.of_replay.specs.Assembling.{Faults, Writes}
 use Rattle.of_replay.specs.Disassembling.{Disassembles, IsTextOf, Played}
@@ -28,7 +28,7 @@ written Memory w e = cc
 written Read w e = cc
 written Write w e = omega (arith, w)
 
-pub played_not : (tale : Tale) (h : Halt) (answers answers' : Option (List Answer)) (ends ends' : ℕ) (taken taken' : Option (List ℕ)) → Tells tale (ended_so (Err h)) answers answers' ends ends' taken taken' → WritesFail (Err h) 0 → Played (Err (ended_so (Err h))) answers answers' ends ends'
+pub played_not : (tale : RowText) (h : Halt) (answers answers' : Option (List Answer)) (ends ends' : ℕ) (taken taken' : Option (List ℕ)) → Tells tale (ended_so (Err h)) answers answers' ends ends' taken taken' → WritesFail (Err h) 0 → Played (Err (ended_so (Err h))) answers answers' ends ends'
 played_not tale (Bad n) answers answers' ends ends' taken taken' r w = record { more = r.more; answers_are = r.answers_are; is = r.ends_so.0 }
 played_not tale Memory answers answers' ends ends' taken taken' r w = record { more = r.more; answers_are = r.answers_are; is = tt }
 played_not tale Read answers answers' ends ends' taken taken' r w = record { more = r.more; answers_are = r.answers_are; is = (r.ends_so.0, r.ends_so.1) }

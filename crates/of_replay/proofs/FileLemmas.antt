@@ -7,7 +7,7 @@ use Rattle.of_replay.specs.declared.halt.Halt.TheVariants.{Bad, Memory, Read, Wr
 use Rattle.of_replay.specs.declared.event_file.Ended.{Ended}
 use Rattle.of_replay.specs.declared.event_file.Ended.TheVariants.{Done, BadRow, Text, NoMemory, ReadFault, WriteFault}
 use Rattle.of_replay.specs.Told.{Answer, Gave, then_bytes, then_answer, bytes_of, given}
-use Rattle.of_replay.specs.Transfer.{then_answers, WroteFront}
+use Rattle.of_replay.specs.Transfer.{then_answers, WrotePrefix}
 use Rattle.of_replay.specs.Stepping.{ReadsFail, ended_so}
 use Rattle.of_text.specs.Lines.{lines_of, before, behind}
 use Rattle.of_text.proofs.TextLemmas.{first_line}
@@ -95,7 +95,7 @@ asm_done text answers answers' ends ends' file taken taken' r b w = record {
   ends_so = (text.items, r.is.0, subst (λ (x : List ℕ). IsBuilt x text.items) r.is.1 b, w);
 }
 
-pub asm_unwritten : (text : Vec ℕ) (answers answers' : Option (List Answer)) (ends ends' : ℕ) (file : List ℕ) (taken taken' : Option (List ℕ)) → ReadsFile (Ok tt) answers answers' ends ends' file → Builds (Ok text) file → WroteFront taken text.items taken' → Assembles WriteFault answers answers' ends ends' taken taken'
+pub asm_unwritten : (text : Vec ℕ) (answers answers' : Option (List Answer)) (ends ends' : ℕ) (file : List ℕ) (taken taken' : Option (List ℕ)) → ReadsFile (Ok tt) answers answers' ends ends' file → Builds (Ok text) file → WrotePrefix taken text.items taken' → Assembles WriteFault answers answers' ends ends' taken taken'
 asm_unwritten text answers answers' ends ends' file taken taken' r b w = record {
   more = r.more;
   answers_are = r.answers_are;

@@ -10,12 +10,12 @@ use Rattle.of_switch.specs.Runs.{happened, run}
 use Rattle.of_replay.specs.declared.halt.Halt.{Halt}
 use Rattle.of_replay.specs.declared.halt.Halt.TheVariants.{Bad, Memory, Read, Write}
 use Rattle.of_replay.specs.Told.{then_bytes}
-use Rattle.of_replay.specs.Transfer.{WroteFront}
+use Rattle.of_replay.specs.Transfer.{WrotePrefix}
 use Rattle.of_replay.specs.Lexing.{whole_from, whole_lines, last_from}
 use Rattle.of_replay.specs.Rows.{EventRow, Passed, Connect, Lost, Piece, Frame, Moment, Ports, Rows, row_of, row_and, rows_of, events_in}
 use Rattle.of_replay.specs.Output.{report_text, printed_from}
 use Rattle.of_replay.specs.Play.{lines_read}
-use Rattle.of_replay.specs.Tales.{Tale, plain, row_happened, told, told_and, told_from}
+use Rattle.of_replay.specs.RowTexts.{RowText, plain, row_happened, told, told_and, told_from}
 use Rattle.of_replay.specs.Stepping.{LineTells, LineGoes, Prints, Going, Within, Halts, PieceGoes, WritesFail}
 use Rattle.of_replay.proofs.TellingLemmas.{then-then, then-nil}
 use Rattle.of_replay.proofs.Cutting.{kept_more, Parts, parts, first_end, whole_join, last_join}
@@ -42,22 +42,22 @@ row_state (Moment nanos) s = refl
 row_state (Ports change) s = refl
 
 -- nothing was written yet
-pub line_kept : (tale : Tale) (row : Option EventRow) (n : ℕ) (line : List ℕ) (s held : State) (out out' : List ℕ) (taken : Option (List ℕ)) → LineTells tale (Ok tt) n line row s held out out' → LineGoes tale (Ok tt) n line row s held out out' taken taken
+pub line_kept : (tale : RowText) (row : Option EventRow) (n : ℕ) (line : List ℕ) (s held : State) (out out' : List ℕ) (taken : Option (List ℕ)) → LineTells tale (Ok tt) n line row s held out out' → LineGoes tale (Ok tt) n line row s held out out' taken taken
 line_kept tale (Some row) n line s held out out' taken h = ([], sym (then-nil taken), h.0, h.1)
 line_kept tale None n line s held out out' taken h = absurd h
 
 -- all was written
-pub line_flushed : (tale : Tale) (row : Option EventRow) (n : ℕ) (line : List ℕ) (s held : State) (out full out' : List ℕ) (taken taken' : Option (List ℕ)) → LineTells tale (Ok tt) n line row s held out full → out' ≡ [] → taken' ≡ then_bytes taken full → LineGoes tale (Ok tt) n line row s held out out' taken taken'
+pub line_flushed : (tale : RowText) (row : Option EventRow) (n : ℕ) (line : List ℕ) (s held : State) (out full out' : List ℕ) (taken taken' : Option (List ℕ)) → LineTells tale (Ok tt) n line row s held out full → out' ≡ [] → taken' ≡ then_bytes taken full → LineGoes tale (Ok tt) n line row s held out out' taken taken'
 line_flushed tale (Some row) n line s held out full out' taken taken' h o t = (full, t, ap (λ (x : List ℕ). full ++ x) o ∙ (append-nil full ∙ h.0), h.1)
 line_flushed tale None n line s held out full out' taken taken' h o t = absurd h
 
 -- the write failed
-pub line_unwritten : (tale : Tale) (row : Option EventRow) (n : ℕ) (line : List ℕ) (s told_to held : State) (out full out' : List ℕ) (taken taken' : Option (List ℕ)) → LineTells tale (Ok tt) n line row s told_to out full → WroteFront taken full taken' → LineGoes tale (Err Write) n line row s held out out' taken taken'
-line_unwritten tale (Some row) n line s told_to held out full out' taken taken' h w = subst (λ (x : List ℕ). WroteFront taken x taken') h.0 w
+pub line_unwritten : (tale : RowText) (row : Option EventRow) (n : ℕ) (line : List ℕ) (s told_to held : State) (out full out' : List ℕ) (taken taken' : Option (List ℕ)) → LineTells tale (Ok tt) n line row s told_to out full → WrotePrefix taken full taken' → LineGoes tale (Err Write) n line row s held out out' taken taken'
+line_unwritten tale (Some row) n line s told_to held out full out' taken taken' h w = subst (λ (x : List ℕ). WrotePrefix taken x taken') h.0 w
 line_unwritten tale None n line s told_to held out full out' taken taken' h w = absurd h
 
 -- the run halts at it
-pub line_halts : (tale : Tale) (h : Halt) (row : Option EventRow) (n : ℕ) (line : List ℕ) (s told_to held : State) (out out' : List ℕ) (taken : Option (List ℕ)) → LineTells tale (Err h) n line row s told_to out out' → LineGoes tale (Err h) n line row s held out out' taken taken
+pub line_halts : (tale : RowText) (h : Halt) (row : Option EventRow) (n : ℕ) (line : List ℕ) (s told_to held : State) (out out' : List ℕ) (taken : Option (List ℕ)) → LineTells tale (Err h) n line row s told_to out out' → LineGoes tale (Err h) n line row s held out out' taken taken
 line_halts tale (Bad m) (Some row) n line s told_to held out out' taken h = absurd h
 line_halts tale (Bad m) None n line s told_to held out out' taken h = (h.0, h.1, refl)
 line_halts tale Memory row n line s told_to held out out' taken h = (h, refl)
@@ -65,14 +65,14 @@ line_halts tale Read row n line s told_to held out out' taken h = absurd h
 line_halts tale Write row n line s told_to held out out' taken h = absurd h
 
 -- before a line is printed no write fails
-pub told_well : (tale : Tale) (h : Halt) (row : Option EventRow) (n failures : ℕ) (line : List ℕ) (s told_to : State) (out out' : List ℕ) → LineTells tale (Err h) n line row s told_to out out' → failures ≡ 0 → WritesFail (Err h) failures
+pub told_well : (tale : RowText) (h : Halt) (row : Option EventRow) (n failures : ℕ) (line : List ℕ) (s told_to : State) (out out' : List ℕ) → LineTells tale (Err h) n line row s told_to out out' → failures ≡ 0 → WritesFail (Err h) failures
 told_well tale (Bad m) row n failures line s told_to out out' h e = e
 told_well tale Memory row n failures line s told_to out out' h e = e
 told_well tale Read row n failures line s told_to out out' h e = e
 told_well tale Write row n failures line s told_to out out' h e = absurd h
 
 -- a line that is no row may be another one
-bad_goes : (tale : Tale) (r : Result (Unit {0}) Halt) (n : ℕ) (line line' : List ℕ) (s held : State) (out out' : List ℕ) (taken taken' : Option (List ℕ)) → LineGoes tale r n line None s held out out' taken taken' → LineGoes tale r n line' None s held out out' taken taken'
+bad_goes : (tale : RowText) (r : Result (Unit {0}) Halt) (n : ℕ) (line line' : List ℕ) (s held : State) (out out' : List ℕ) (taken taken' : Option (List ℕ)) → LineGoes tale r n line None s held out out' taken taken' → LineGoes tale r n line' None s held out out' taken taken'
 bad_goes tale (Ok u) n line line' s held out out' taken taken' h = h
 bad_goes tale (Err (Bad m)) n line line' s held out out' taken taken' h = h
 bad_goes tale (Err Memory) n line line' s held out out' taken taken' h = h
@@ -128,9 +128,9 @@ run_text (e ∷ es) fs s =
     ap (λ (x : List ℕ). report_text (happened e s).report ++ x) (run_text es fs (happened e s).state)
     ∙ sym (append_assoc (report_text (happened e s).report) (printed_from (happened e s).state es) (printed_from (run es (happened e s).state).state fs))
 
--- WHAT IS TOLD, line after line
+-- WHAT IS PRINTED, line after line
 
-tale_joined : (tale : Tale) (r : Option EventRow) (line : List ℕ) (lines more : List (List ℕ)) (s : State)
+tale_joined : (tale : RowText) (r : Option EventRow) (line : List ℕ) (lines more : List (List ℕ)) (s : State)
     → ((t : State) → (rows_of lines).bad ≡ None → told_from tale (lines ++ more) t ≡ told_from tale lines t ++ told_from tale more (run (rows_of lines).events t).state)
     → (row_and r (rows_of lines)).bad ≡ None
     → told_and tale s line r (told_from tale (lines ++ more)) ≡ told_and tale s line r (told_from tale lines) ++ told_from tale more (run (row_and r (rows_of lines)).events s).state
@@ -144,14 +144,14 @@ tale_joined tale (Some row) line lines more s ih good =
     ∙ ap (λ (x : State). (tale s line row ++ told_from tale lines t) ++ told_from tale more x) same)
 
 -- of lines of which none is bad, and then of others
-pub tale_join : (tale : Tale) (lines more : List (List ℕ)) (s : State) → (rows_of lines).bad ≡ None → told_from tale (lines ++ more) s ≡ told_from tale lines s ++ told_from tale more (run (rows_of lines).events s).state
+pub tale_join : (tale : RowText) (lines more : List (List ℕ)) (s : State) → (rows_of lines).bad ≡ None → told_from tale (lines ++ more) s ≡ told_from tale lines s ++ told_from tale more (run (rows_of lines).events s).state
 tale_join tale [] more s good = refl
 tale_join tale (line ∷ lines) more s good = tale_joined tale (row_of line) line lines more s (λ t. tale_join tale lines more t) good
 
-tale_first : (tale : Tale) (line : List ℕ) (row : EventRow) (more : List (List ℕ)) (s : State) → row_of line ≡ Some row → told_from tale (line ∷ more) s ≡ tale s line row ++ told_from tale more (row_happened s row).state
+tale_first : (tale : RowText) (line : List ℕ) (row : EventRow) (more : List (List ℕ)) (s : State) → row_of line ≡ Some row → told_from tale (line ∷ more) s ≡ tale s line row ++ told_from tale more (row_happened s row).state
 tale_first tale line row more s is = ap (λ (r : Option EventRow). told_and tale s line r (told_from tale more)) is
 
-tale_bad : (tale : Tale) (line : List ℕ) (more : List (List ℕ)) (s : State) → row_of line ≡ None → told_from tale (line ∷ more) s ≡ []
+tale_bad : (tale : RowText) (line : List ℕ) (more : List (List ℕ)) (s : State) → row_of line ≡ None → told_from tale (line ∷ more) s ≡ []
 tale_bad tale line more s is = ap (λ (r : Option EventRow). told_and tale s line r (told_from tale more)) is
 
 -- what `replay` prints
@@ -174,7 +174,7 @@ plain_is (line ∷ lines) s = plain_and (row_of line) line lines s (λ t. plain_
 -- A RUN
 
 -- what was written, and more
-prints_more : (tale : Tale) (lines lines' : List (List ℕ)) (out wrote out' text : List ℕ) (first taken taken' : Option (List ℕ)) → Prints tale lines out first taken → told tale lines' ≡ told tale lines ++ text → taken' ≡ then_bytes taken wrote → wrote ++ out' ≡ out ++ text
+prints_more : (tale : RowText) (lines lines' : List (List ℕ)) (out wrote out' text : List ℕ) (first taken taken' : Option (List ℕ)) → Prints tale lines out first taken → told tale lines' ≡ told tale lines ++ text → taken' ≡ then_bytes taken wrote → wrote ++ out' ≡ out ++ text
     → Prints tale lines' out' first taken'
 prints_more tale lines lines' out wrote out' text first taken taken' p e t o = record {
   wrote = p.wrote ++ wrote;
@@ -185,12 +185,12 @@ prints_more tale lines lines' out wrote out' text first taken taken' p e t o = r
       ∙ (ap (λ (x : List ℕ). x ++ text) p.text_is ∙ sym e)));
 }
 
-prints_kept : (tale : Tale) (lines lines' : List (List ℕ)) (out out' : List ℕ) (first taken taken' : Option (List ℕ)) → out' ≡ out → taken' ≡ taken → told tale lines' ≡ told tale lines → Prints tale lines out first taken → Prints tale lines' out' first taken'
+prints_kept : (tale : RowText) (lines lines' : List (List ℕ)) (out out' : List ℕ) (first taken taken' : Option (List ℕ)) → out' ≡ out → taken' ≡ taken → told tale lines' ≡ told tale lines → Prints tale lines out first taken → Prints tale lines' out' first taken'
 prints_kept tale lines lines' out out' first taken taken' o t e p = record { wrote = p.wrote; taken_is = t ∙ p.taken_is; text_is = ap (λ (x : List ℕ). p.wrote ++ x) o ∙ (p.text_is ∙ sym e) }
 
--- a front of what was to be written
-pub prints_front : (tale : Tale) (lines lines' : List (List ℕ)) (out more : List ℕ) (first taken taken' : Option (List ℕ)) → Prints tale lines out first taken → told tale lines' ≡ told tale lines ++ more → (text : List ℕ) (after : List ℕ) → text ++ after ≡ out ++ more
-    → WroteFront taken text taken' → WroteFront first (told tale lines') taken'
+-- a prefix of what was to be written
+pub prints_front : (tale : RowText) (lines lines' : List (List ℕ)) (out more : List ℕ) (first taken taken' : Option (List ℕ)) → Prints tale lines out first taken → told tale lines' ≡ told tale lines ++ more → (text : List ℕ) (after : List ℕ) → text ++ after ≡ out ++ more
+    → WrotePrefix taken text taken' → WrotePrefix first (told tale lines') taken'
 prints_front tale lines lines' out more first taken taken' p e text after is w = (
   p.wrote ++ w.0,
   w.1 ++ after,
@@ -200,7 +200,7 @@ prints_front tale lines lines' out more first taken taken' p e text after is w =
   w.3 ∙ (ap (λ (k : Option (List ℕ)). then_bytes k w.0) p.taken_is ∙ then-then first p.wrote w.0),
 )
 
--- a good line more
+-- one more good line
 good_rows : (lines : List (List ℕ)) (line : List ℕ) (row : EventRow) → (rows_of lines).bad ≡ None → row_of line ≡ Some row → rows_of (lines ++ line ∷ []) ≡ record { events = (rows_of lines).events ++ events_in row; bad = None }
 good_rows lines line row good is =
     rows_join lines (line ∷ []) good
@@ -211,7 +211,7 @@ good_rows lines line row good is =
 pub rows_more : (lines more : List (List ℕ)) → (rows_of lines).bad ≡ None → (rows_of (lines ++ more)).events ≡ (rows_of lines).events ++ (rows_of more).events
 rows_more lines more good = ap (λ (r : Rows). r.events) (rows_join lines more good)
 
-going_by : (tale : Tale) (r : Option EventRow) (lines : List (List ℕ)) (line : List ℕ) (n n' : ℕ) (s held : State) (out out' : List ℕ) (first taken taken' : Option (List ℕ)) → row_of line ≡ r
+going_by : (tale : RowText) (r : Option EventRow) (lines : List (List ℕ)) (line : List ℕ) (n n' : ℕ) (s held : State) (out out' : List ℕ) (first taken taken' : Option (List ℕ)) → row_of line ≡ r
     → Going tale lines n s out first taken → LineGoes tale (Ok tt) n line r s held out out' taken taken' → n' ≡ n + 1 → Going tale (lines ++ line ∷ []) n' held out' first taken'
 going_by tale None lines line n n' s held out out' first taken taken' is going h e = absurd h
 going_by tale (Some row) lines line n n' s held out out' first taken taken' is going h e =
@@ -228,7 +228,7 @@ going_by tale (Some row) lines line n n' s held out out' first taken taken' is g
       prints = prints_more tale lines (lines ++ line ∷ []) out h.0 out' (tale now line row) first taken taken' going.prints all h.1 text;
     }
 
-halts_by : (tale : Tale) (h : Halt) (r : Option EventRow) (lines : List (List ℕ)) (line : List ℕ) (more : List (List ℕ)) (n : ℕ) (s held : State) (out out' : List ℕ) (first taken taken' : Option (List ℕ)) → row_of line ≡ r
+halts_by : (tale : RowText) (h : Halt) (r : Option EventRow) (lines : List (List ℕ)) (line : List ℕ) (more : List (List ℕ)) (n : ℕ) (s held : State) (out out' : List ℕ) (first taken taken' : Option (List ℕ)) → row_of line ≡ r
     → Going tale lines n s out first taken → LineGoes tale (Err h) n line r s held out out' taken taken' → Halts tale h (lines ++ line ∷ more) out' first taken'
 halts_by tale (Bad m) (Some row) lines line more n s held out out' first taken taken' is going h = absurd h
 halts_by tale (Bad m) None lines line more n s held out out' first taken taken' is going h =
@@ -253,12 +253,12 @@ halts_by tale Write (Some row) lines line more n s held out out' first taken tak
     let later = told_from tale more (row_happened now row).state in
     let text = out ++ tale now line row in
     let all : told_from tale (line ∷ more) now ≡ tale now line row ++ later = tale_first tale line row more now is in
-    let here : WroteFront taken text taken' = subst (λ (x : State). WroteFront taken (out ++ tale x line row) taken') going.state h in
+    let here : WrotePrefix taken text taken' = subst (λ (x : State). WrotePrefix taken (out ++ tale x line row) taken') going.state h in
     prints_front tale lines (lines ++ line ∷ more) out (told_from tale (line ∷ more) now) first taken taken' going.prints (tale_join tale lines (line ∷ more) (start 1) going.good) text later
     (append_assoc out (tale now line row) later ∙ ap (λ (x : List ℕ). out ++ x) (sym all)) here
 
 -- memory ran out before a line
-halts_waiting : (tale : Tale) (lines more : List (List ℕ)) (n : ℕ) (s : State) (out : List ℕ) (first taken : Option (List ℕ)) → Going tale lines n s out first taken → Halts tale Memory (lines ++ more) out first taken
+halts_waiting : (tale : RowText) (lines more : List (List ℕ)) (n : ℕ) (s : State) (out : List ℕ) (first taken : Option (List ℕ)) → Going tale lines n s out first taken → Halts tale Memory (lines ++ more) out first taken
 halts_waiting tale lines more n s out first taken going = record {
   front = lines;
   others = more;
@@ -283,8 +283,8 @@ row_kept_by line false e =
 row_kept : (line : List ℕ) → row_of (take 1048577 line) ≡ row_of line
 row_kept line = row_kept_by line (nat_le (length line) 1048576) refl
 
--- so does what is told of it
-goes_by : (tale : Tale) (r : Result (Unit {0}) Halt) (line kept : List ℕ) (t : Bool) (n : ℕ) (s held : State) (out out' : List ℕ) (taken taken' : Option (List ℕ)) → nat_le (length line) 1048576 ≡ t → kept ≡ take 1048577 line
+-- so does what is printed for it
+goes_by : (tale : RowText) (r : Result (Unit {0}) Halt) (line kept : List ℕ) (t : Bool) (n : ℕ) (s held : State) (out out' : List ℕ) (taken taken' : Option (List ℕ)) → nat_le (length line) 1048576 ≡ t → kept ≡ take 1048577 line
     → LineGoes tale r n kept (row_of kept) s held out out' taken taken' → LineGoes tale r n line (row_of line) s held out out' taken taken'
 goes_by tale r line kept true n s held out out' taken taken' e k h =
     let same : kept ≡ line = k ∙ take_all 1048577 line (grind (arith, nat_tests, e)) in
@@ -295,14 +295,14 @@ goes_by tale r line kept false n s held out out' taken taken' e k h =
     let goes : LineGoes tale r n kept None s held out out' taken taken' = subst (λ (x : Option EventRow). LineGoes tale r n kept x s held out out' taken taken') here h in
     subst (λ (x : Option EventRow). LineGoes tale r n line x s held out out' taken taken') (sym bad) (bad_goes tale r n kept line s held out out' taken taken' goes)
 
-goes_whole : (tale : Tale) (r : Result (Unit {0}) Halt) (line kept : List ℕ) (n : ℕ) (s held : State) (out out' : List ℕ) (taken taken' : Option (List ℕ)) → kept ≡ take 1048577 line
+goes_whole : (tale : RowText) (r : Result (Unit {0}) Halt) (line kept : List ℕ) (n : ℕ) (s held : State) (out out' : List ℕ) (taken taken' : Option (List ℕ)) → kept ≡ take 1048577 line
     → LineGoes tale r n kept (row_of kept) s held out out' taken taken' → LineGoes tale r n line (row_of line) s held out out' taken taken'
 goes_whole tale r line kept n s held out out' taken taken' k h = goes_by tale r line kept (nat_le (length line) 1048576) n s held out out' taken taken' refl k h
 
 -- LINES OF A PIECE
 
 -- nothing was read
-pub within_start : (tale : Tale) (first : Option (List ℕ)) → Within tale [] [] [] 1 (start 1) [] first first
+pub within_start : (tale : RowText) (first : Option (List ℕ)) → Within tale [] [] [] 1 (start 1) [] first first
 within_start tale first = record {
   lines = [];
   line = [];
@@ -318,7 +318,7 @@ within_start tale first = record {
 }
 
 -- more bytes are there
-pub within_more : (tale : Tale) (bytes piece kept : List ℕ) (n : ℕ) (s : State) (out : List ℕ) (first taken : Option (List ℕ)) → Within tale bytes [] kept n s out first taken → Within tale (bytes ++ piece) piece kept n s out first taken
+pub within_more : (tale : RowText) (bytes piece kept : List ℕ) (n : ℕ) (s : State) (out : List ℕ) (first taken : Option (List ℕ)) → Within tale bytes [] kept n s out first taken → Within tale (bytes ++ piece) piece kept n s out first taken
 within_more tale bytes piece kept n s out first taken w = record {
   lines = w.lines;
   line = w.line;
@@ -331,7 +331,7 @@ within_more tale bytes piece kept n s out first taken w = record {
 }
 
 -- all lines that are whole are behind
-pub within_rest : (tale : Tale) (bytes rest part kept kept' : List ℕ) (n n' : ℕ) (s s' : State) (out out' : List ℕ) (first taken : Option (List ℕ)) → Within tale bytes rest kept n s out first taken
+pub within_rest : (tale : RowText) (bytes rest part kept kept' : List ℕ) (n n' : ℕ) (s s' : State) (out out' : List ℕ) (first taken : Option (List ℕ)) → Within tale bytes rest kept n s out first taken
     → None ≡ first_end rest → part ≡ rest → kept' ≡ take 1048577 (kept ++ part) → n' ≡ n → s' ≡ s → out' ≡ out → Within tale bytes [] kept' n' s' out' first taken
 within_rest tale bytes rest part kept kept' n n' s s' out out' first taken w none same k e f o =
     let p : Parts w.line rest None = subst (Parts w.line rest) (sym none) (parts w.line rest) in
@@ -351,7 +351,7 @@ kept_line line part kept kept' k e =
     e ∙ (ap (λ (x : List ℕ). take 1048577 (x ++ part)) k ∙ kept_more 1048577 line part)
 
 -- a line of the piece was played
-pub within_line : (tale : Tale) (bytes rest rest' part kept kept' kept'' : List ℕ) (k n n' : ℕ) (s held : State) (out out' : List ℕ) (first taken taken' : Option (List ℕ)) → Within tale bytes rest kept n s out first taken
+pub within_line : (tale : RowText) (bytes rest rest' part kept kept' kept'' : List ℕ) (k n n' : ℕ) (s held : State) (out out' : List ℕ) (first taken taken' : Option (List ℕ)) → Within tale bytes rest kept n s out first taken
     → Some k ≡ first_end rest → part ≡ take k rest → rest' ≡ drop (suc k) rest → kept' ≡ take 1048577 (kept ++ part) → LineGoes tale (Ok tt) n kept' (row_of kept') s held out out' taken taken' → kept'' ≡ [] → n' ≡ n + 1
     → Within tale bytes rest' kept'' n' held out' first taken'
 within_line tale bytes rest rest' part kept kept' kept'' k n n' s held out out' first taken taken' w some same left kept_is goes empty e =
@@ -374,7 +374,7 @@ open_lines : (bytes : List ℕ) → lines_read false bytes ≡ whole_lines bytes
 open_lines bytes = append-nil (whole_lines bytes)
 
 -- the run halts at a line of the piece
-pub within_halts : (tale : Tale) (h : Halt) (bytes rest part kept kept' : List ℕ) (k n : ℕ) (s held : State) (out out' : List ℕ) (first taken taken' : Option (List ℕ)) → Within tale bytes rest kept n s out first taken
+pub within_halts : (tale : RowText) (h : Halt) (bytes rest part kept kept' : List ℕ) (k n : ℕ) (s held : State) (out out' : List ℕ) (first taken taken' : Option (List ℕ)) → Within tale bytes rest kept n s out first taken
     → Some k ≡ first_end rest → part ≡ take k rest → kept' ≡ take 1048577 (kept ++ part) → LineGoes tale (Err h) n kept' (row_of kept') s held out out' taken taken'
     → Halts tale h (lines_read false bytes) out' first taken'
 within_halts tale h bytes rest part kept kept' k n s held out out' first taken taken' w some same kept_is goes =
@@ -387,7 +387,7 @@ within_halts tale h bytes rest part kept kept' k n s held out out' first taken t
     subst (λ (ls : List (List ℕ)). Halts tale h ls out' first taken') (sym lines) (halts_by tale h (row_of line) w.lines line more n s held out out' first taken taken' refl w.going played)
 
 -- memory ran out before the line was kept
-pub within_waits : (tale : Tale) (bytes rest kept : List ℕ) (n : ℕ) (s : State) (out out' : List ℕ) (first taken : Option (List ℕ)) → Within tale bytes rest kept n s out first taken → out' ≡ out
+pub within_waits : (tale : RowText) (bytes rest kept : List ℕ) (n : ℕ) (s : State) (out out' : List ℕ) (first taken : Option (List ℕ)) → Within tale bytes rest kept n s out first taken → out' ≡ out
     → Halts tale Memory (lines_read false bytes) out' first taken
 within_waits tale bytes rest kept n s out out' first taken w o =
     let lines : lines_read false bytes ≡ w.lines ++ whole_from w.line rest = open_lines bytes ∙ w.whole in
@@ -396,7 +396,7 @@ within_waits tale bytes rest kept n s out out' first taken w o =
 -- THE END
 
 -- the file ends, and its last line was played
-pub within_ends : (tale : Tale) (bytes kept : List ℕ) (n : ℕ) (s held : State) (out out' : List ℕ) (first taken taken' : Option (List ℕ)) → Within tale bytes [] kept n s out first taken
+pub within_ends : (tale : RowText) (bytes kept : List ℕ) (n : ℕ) (s held : State) (out out' : List ℕ) (first taken taken' : Option (List ℕ)) → Within tale bytes [] kept n s out first taken
     → LineGoes tale (Ok tt) n kept (row_of kept) s held out out' taken taken' → ((rows_of (lines_read true bytes)).bad ≡ None) × Prints tale (lines_read true bytes) out' first taken'
 within_ends tale bytes kept n s held out out' first taken taken' w goes =
     let played : LineGoes tale (Ok tt) n w.line (row_of w.line) s held out out' taken taken' = goes_whole tale (Ok tt) w.line kept n s held out out' taken taken' w.kept_is goes in
@@ -405,7 +405,7 @@ within_ends tale bytes kept n s held out out' first taken taken' w goes =
     subst (λ (ls : List (List ℕ)). ((rows_of ls).bad ≡ None) × Prints tale ls out' first taken') (sym lines) (going.good, going.prints)
 
 -- and the switch is as its lines left it
-pub within_played : (tale : Tale) (bytes kept : List ℕ) (n : ℕ) (s held : State) (out out' : List ℕ) (first taken taken' : Option (List ℕ)) → Within tale bytes [] kept n s out first taken
+pub within_played : (tale : RowText) (bytes kept : List ℕ) (n : ℕ) (s held : State) (out out' : List ℕ) (first taken taken' : Option (List ℕ)) → Within tale bytes [] kept n s out first taken
     → LineGoes tale (Ok tt) n kept (row_of kept) s held out out' taken taken' → ((rows_of (lines_read true bytes)).bad ≡ None) × (held ≡ (run (rows_of (lines_read true bytes)).events (start 1)).state)
 within_played tale bytes kept n s held out out' first taken taken' w goes =
     let played : LineGoes tale (Ok tt) n w.line (row_of w.line) s held out out' taken taken' = goes_whole tale (Ok tt) w.line kept n s held out out' taken taken' w.kept_is goes in
@@ -413,7 +413,7 @@ within_played tale bytes kept n s held out out' first taken taken' w goes =
     let lines : lines_read true bytes ≡ w.lines ++ w.line ∷ [] = ap (λ (ls : List (List ℕ)). ls ++ last_from [] bytes ∷ []) (w.whole ∙ append-nil w.lines) ∙ ap (λ (x : List ℕ). w.lines ++ x ∷ []) w.last in
     subst (λ (ls : List (List ℕ)). ((rows_of ls).bad ≡ None) × (held ≡ (run (rows_of ls).events (start 1)).state)) (sym lines) (going.good, going.state)
 
-pub within_end_halts : (tale : Tale) (h : Halt) (bytes kept : List ℕ) (n : ℕ) (s held : State) (out out' : List ℕ) (first taken taken' : Option (List ℕ)) → Within tale bytes [] kept n s out first taken
+pub within_end_halts : (tale : RowText) (h : Halt) (bytes kept : List ℕ) (n : ℕ) (s held : State) (out out' : List ℕ) (first taken taken' : Option (List ℕ)) → Within tale bytes [] kept n s out first taken
     → LineGoes tale (Err h) n kept (row_of kept) s held out out' taken taken' → Halts tale h (lines_read true bytes) out' first taken'
 within_end_halts tale h bytes kept n s held out out' first taken taken' w goes =
     let played : LineGoes tale (Err h) n w.line (row_of w.line) s held out out' taken taken' = goes_whole tale (Err h) w.line kept n s held out out' taken taken' w.kept_is goes in
@@ -421,7 +421,7 @@ within_end_halts tale h bytes kept n s held out out' first taken taken' w goes =
     subst (λ (ls : List (List ℕ)). Halts tale h ls out' first taken') (sym lines) (halts_by tale h (row_of w.line) w.lines w.line [] n s held out out' first taken taken' refl w.going played)
 
 -- the source tells no end: the line that has begun is none
-pub within_open : (tale : Tale) (bytes kept : List ℕ) (n : ℕ) (s : State) (out : List ℕ) (first taken : Option (List ℕ)) → Within tale bytes [] kept n s out first taken
+pub within_open : (tale : RowText) (bytes kept : List ℕ) (n : ℕ) (s : State) (out : List ℕ) (first taken : Option (List ℕ)) → Within tale bytes [] kept n s out first taken
     → ((rows_of (lines_read false bytes)).bad ≡ None) × Prints tale (lines_read false bytes) out first taken
 within_open tale bytes kept n s out first taken w =
     let lines : lines_read false bytes ≡ w.lines = open_lines bytes ∙ (w.whole ∙ append-nil w.lines) in
@@ -430,7 +430,7 @@ within_open tale bytes kept n s out first taken w =
 -- STEPS OF A PIECE
 
 -- no line ends in what is left
-pub piece_over : (tale : Tale) (r : Result (Unit {0}) Halt) (bytes rest part kept kept' : List ℕ) (n n' : ℕ) (s s' : State) (out out' : List ℕ) (first taken : Option (List ℕ)) → Within tale bytes rest kept n s out first taken
+pub piece_over : (tale : RowText) (r : Result (Unit {0}) Halt) (bytes rest part kept kept' : List ℕ) (n n' : ℕ) (s s' : State) (out out' : List ℕ) (first taken : Option (List ℕ)) → Within tale bytes rest kept n s out first taken
     → None ≡ first_end part → part ≡ rest → OnOk r (kept' ≡ take 1048577 (kept ++ part)) → IfErr r (λ halt. halt ≡ Memory) → (n' ≡ n) × (s' ≡ s) × (out' ≡ out) → PieceGoes tale r bytes kept' n' s' out' first taken
 piece_over tale (Ok u) bytes rest part kept kept' n n' s s' out out' first taken w none same ok err e =
     within_rest tale bytes rest part kept kept' n n' s s' out out' first taken w (none ∙ ap first_end same) same ok e.0 e.1 e.2
@@ -443,7 +443,7 @@ piece_place piece rest at k le is some =
     let size : length rest ≡ length piece - at = ap length is ∙ length-drop at piece in
     omega (arith, p.0, size, le)
 
-pub piece_line : (tale : Tale) (bytes piece rest part kept kept' kept'' : List ℕ) (at k n n' n'' : ℕ) (s s' held : State) (out out' out'' : List ℕ) (first taken taken' : Option (List ℕ)) → Within tale bytes (drop at piece) kept n s out first taken
+pub piece_line : (tale : RowText) (bytes piece rest part kept kept' kept'' : List ℕ) (at k n n' n'' : ℕ) (s s' held : State) (out out' out'' : List ℕ) (first taken taken' : Option (List ℕ)) → Within tale bytes (drop at piece) kept n s out first taken
     → rest ≡ drop at piece → Some k ≡ first_end rest → part ≡ take k rest → kept' ≡ take 1048577 (kept ++ part) → (n' ≡ n) × (s' ≡ s) × (out' ≡ out)
     → LineGoes tale (Ok tt) n' kept' (row_of kept') s' held out' out'' taken taken' → kept'' ≡ [] → n'' ≡ n' + 1 → Within tale bytes (drop (at + (k + 1)) piece) kept'' n'' held out'' first taken'
 piece_line tale bytes piece rest part kept kept' kept'' at k n n' n'' s s' held out out' out'' first taken taken' w is some same kept_is e goes empty number =
@@ -451,7 +451,7 @@ piece_line tale bytes piece rest part kept kept' kept'' at k n n' n'' s s' held 
     let left : drop (at + (k + 1)) piece ≡ drop (suc k) (drop at piece) = sym (drop-drop (suc k) at piece ∙ ap (λ (m : ℕ). drop m piece) (omega arith)) in
     within_line tale bytes (drop at piece) (drop (at + (k + 1)) piece) part kept kept' kept'' k n' n'' s' held out' out'' first taken taken' here (some ∙ ap first_end is) (same ∙ ap (take k) is) left kept_is goes empty number
 
-pub piece_halts : (tale : Tale) (h : Halt) (bytes piece rest part kept kept' : List ℕ) (at k n n' : ℕ) (s s' held : State) (out out' out'' : List ℕ) (first taken taken' : Option (List ℕ)) → Within tale bytes (drop at piece) kept n s out first taken
+pub piece_halts : (tale : RowText) (h : Halt) (bytes piece rest part kept kept' : List ℕ) (at k n n' : ℕ) (s s' held : State) (out out' out'' : List ℕ) (first taken taken' : Option (List ℕ)) → Within tale bytes (drop at piece) kept n s out first taken
     → rest ≡ drop at piece → Some k ≡ first_end rest → part ≡ take k rest → kept' ≡ take 1048577 (kept ++ part) → (n' ≡ n) × (s' ≡ s) × (out' ≡ out)
     → LineGoes tale (Err h) n' kept' (row_of kept') s' held out' out'' taken taken' → Halts tale h (lines_read false bytes) out'' first taken'
 piece_halts tale h bytes piece rest part kept kept' at k n n' s s' held out out' out'' first taken taken' w is some same kept_is e goes =

@@ -16,7 +16,7 @@ pieces-more bs (m ∷ ns) n =
     ap (λ (rest : List Answer). Gave (take m bs) ∷ rest) (pieces-more (drop m bs) ns n
     ∙ ap (λ (piece : List ℕ). pieces_of (drop m bs) ns ++ Gave (take n piece) ∷ []) (drop-drop (sum ns) m bs ∙ ap (λ (k : ℕ). drop k bs) (sym (sum_by-cons (λ x. x) m ns))))
 
--- together they are the front of the bytes
+-- together they are a prefix of the bytes
 given-pieces : (bs ns : List ℕ) → given (pieces_of bs ns) ≡ take (sum ns) bs
 given-pieces bs [] = refl
 given-pieces bs (m ∷ ns) =
@@ -35,19 +35,19 @@ given-faults (suc n) = given-faults n
 pub given-told : (bs ns : List ℕ) (at ends failures : ℕ) → at ≡ sum ns → given (pieces_of bs ns ++ (replicate ends Ended ++ replicate failures Failed)) ≡ take at bs
 given-told bs ns at ends failures e = rw (flat_map-append bytes_of (pieces_of bs ns), flat_map-append bytes_of (replicate ends Ended), given-ends, given-faults, append-nil, given-pieces bs ns, e) refl
 
--- a piece is told before there is an end or a fault
+-- a piece is recorded before there is an end or a fault
 pub told-more : (bs ns : List ℕ) (n ends failures : ℕ) (piece : List ℕ) → ends ≡ 0 → failures ≡ 0 → piece ≡ take n (drop (sum ns) bs)
     → pieces_of bs (ns ++ n ∷ []) ++ (replicate ends Ended ++ replicate failures Failed) ≡ (pieces_of bs ns ++ (replicate ends Ended ++ replicate failures Failed)) ++ Gave piece ∷ []
 told-more bs ns n ends failures piece e f p =
     rw (e, f, p, append-nil (pieces_of bs (ns ++ n ∷ [])), append-nil (pieces_of bs ns)) (pieces-more bs ns n)
 
--- the front of a buffer, after a piece was copied there
+-- the start of a buffer, after a piece was copied there
 pub read-front : (copied rest from bs : List ℕ) (at n place : ℕ) → copied ≡ take (at + n - at) (drop at from) → from ≡ bs → at ≡ place → length copied ≡ n
     → take n (copied ++ rest) ≡ take n (drop place bs)
 read-front copied rest from bs at n place h f p l =
     ap (λ (k : ℕ). take k (copied ++ rest)) (sym l) ∙ (take-append_seam copied rest ∙ (h ∙ rw (← f, ← p) (ap (λ (k : ℕ). take k (drop at from)) (omega arith))))
 
--- what a source gave is the front of its bytes
+-- what a source gave is a prefix of its bytes
 pub given-source : (s : MemorySource) → given (told s) ≡ take s.at s.bytes.items
 given-source s = given-told s.bytes.items s.lengths.items s.at s.ends s.failures s.place
 

@@ -1,4 +1,4 @@
--- Bytes and answers that are told, one part after another.
+-- Bytes and answers that are recorded, one part after another.
 use Rattle.std.proofs.Common.{◌≡◌, ℕ, List, [], ◌∷◌, ◌++◌, Option, Some, None, refl, sym, ◌∙◌, ap, append_assoc}
 use Rattle.std.proofs.lemmas.List.{append-nil}
 use Rattle.of_replay.specs.Told.{Answer, then_bytes, then_answer, bytes_of, given}

@@ -9,20 +9,20 @@ use Rattle.of_replay.specs.declared.halt.Halt.TheVariants.{Bad, Memory, Read, Wr
 use Rattle.of_replay.specs.declared.event_file.Ended.{Ended}
 use Rattle.of_replay.specs.declared.event_file.Ended.TheVariants.{Done, BadRow, Text, NoMemory, ReadFault, WriteFault}
 use Rattle.of_replay.specs.Told.{Answer, Gave, then_bytes, then_answer, bytes_of, given}
-use Rattle.of_replay.specs.Transfer.{then_answers, WroteFront}
+use Rattle.of_replay.specs.Transfer.{then_answers, WrotePrefix}
 use Rattle.of_replay.specs.Rows.{row_of, rows_of}
 use Rattle.of_replay.specs.Play.{lines_read, Wrote, Replays, Ends}
-use Rattle.of_replay.specs.Tales.{Tale, Tells, EndsTelling, plain, told}
+use Rattle.of_replay.specs.RowTexts.{RowText, Tells, EndsPrinting, plain, told}
 use Rattle.of_replay.specs.Stepping.{LineGoes, Prints, Within, Halts, PieceGoes, Plays, PlayedAll, PlaysRead, ReadSoFar, WritesFail, ReadsFail, ended_so}
 use Rattle.of_replay.proofs.Lines.{within_start, within_ends, within_played, within_end_halts, within_open, prints_front, tale_join, plain_is, rows_more}
 use Rattle.of_replay.proofs.TellingLemmas.{then-then, then-nil, answers-nil, answers-more, given-more}
 
 -- READING
 
-pub read_nothing : (tale : Tale) (answers : Option (List Answer)) (first : Option (List ℕ)) → ReadSoFar tale answers answers [] 1 (start 1) [] first first
+pub read_nothing : (tale : RowText) (answers : Option (List Answer)) (first : Option (List ℕ)) → ReadSoFar tale answers answers [] 1 (start 1) [] first first
 read_nothing tale answers first = record { more = []; answers_are = sym (answers-nil answers); within = within_start tale first }
 
-pub read_begun : (tale : Tale) (answers : Option (List Answer)) (kept : List ℕ) (n : ℕ) (s : State) (out : List ℕ) (first : Option (List ℕ)) → (kept ≡ []) × (n ≡ 1) × (s ≡ start 1) × (out ≡ []) → ReadSoFar tale answers answers kept n s out first first
+pub read_begun : (tale : RowText) (answers : Option (List Answer)) (kept : List ℕ) (n : ℕ) (s : State) (out : List ℕ) (first : Option (List ℕ)) → (kept ≡ []) × (n ≡ 1) × (s ≡ start 1) × (out ≡ []) → ReadSoFar tale answers answers kept n s out first first
 read_begun tale answers kept n s out first e = rw (e.0, e.1, e.2, e.3) (read_nothing tale answers first)
 
 pub piece_size : (n : ℕ) (buffer piece : List ℕ) → piece ≡ take n buffer → n ≤ length buffer → length buffer ≡ 65536 → length piece ≤ 65536
@@ -31,7 +31,7 @@ piece_size n buffer piece is le size =
     omega (arith, same, le, size)
 
 -- no read fails in a piece
-pub piece_reads : (tale : Tale) (h : Halt) (lines : List (List ℕ)) (out : List ℕ) (first taken : Option (List ℕ)) (reads ends ends' failures failures' : ℕ) → Halts tale h lines out first taken → failures' ≡ failures → ReadsFail (Err h) reads ends ends' failures failures'
+pub piece_reads : (tale : RowText) (h : Halt) (lines : List (List ℕ)) (out : List ℕ) (first taken : Option (List ℕ)) (reads ends ends' failures failures' : ℕ) → Halts tale h lines out first taken → failures' ≡ failures → ReadsFail (Err h) reads ends ends' failures failures'
 piece_reads tale (Bad n) lines out first taken reads ends ends' failures failures' h e = e
 piece_reads tale Memory lines out first taken reads ends ends' failures failures' h e = e
 piece_reads tale Read lines out first taken reads ends ends' failures failures' h e = absurd h
@@ -45,7 +45,7 @@ told_more answers now next more one is e = e ∙ (ap (λ (t : Option (List Answe
 pub given_same : (more : List Answer) (one : Answer) → bytes_of one ≡ [] → given (more ++ one ∷ []) ≡ given more
 given_same more one e = given-more more one ∙ (ap (λ (x : List ℕ). given more ++ x) e ∙ append-nil (given more))
 
-pub read_idle : (tale : Tale) (answers now next : Option (List Answer)) (one : Answer) (kept : List ℕ) (n : ℕ) (s : State) (out : List ℕ) (first taken : Option (List ℕ)) → ReadSoFar tale answers now kept n s out first taken
+pub read_idle : (tale : RowText) (answers now next : Option (List Answer)) (one : Answer) (kept : List ℕ) (n : ℕ) (s : State) (out : List ℕ) (first taken : Option (List ℕ)) → ReadSoFar tale answers now kept n s out first taken
     → next ≡ then_answer now one → bytes_of one ≡ [] → ReadSoFar tale answers next kept n s out first taken
 read_idle tale answers now next one kept n s out first taken r e none = record {
   more = r.more ++ one ∷ [];
@@ -54,7 +54,7 @@ read_idle tale answers now next one kept n s out first taken r e none = record {
 }
 
 -- a piece was read and played
-pub read_piece : (tale : Tale) (answers now next : Option (List Answer)) (piece kept kept' : List ℕ) (n n' : ℕ) (s s' : State) (out out' : List ℕ) (first taken taken' : Option (List ℕ)) → (r : ReadSoFar tale answers now kept n s out first taken)
+pub read_piece : (tale : RowText) (answers now next : Option (List Answer)) (piece kept kept' : List ℕ) (n n' : ℕ) (s s' : State) (out out' : List ℕ) (first taken taken' : Option (List ℕ)) → (r : ReadSoFar tale answers now kept n s out first taken)
     → next ≡ then_answer now (Gave piece) → PieceGoes tale (Ok tt) (given r.more ++ piece) kept' n' s' out' first taken' → ReadSoFar tale answers next kept' n' s' out' first taken'
 read_piece tale answers now next piece kept kept' n n' s s' out out' first taken taken' r e goes = record {
   more = r.more ++ Gave piece ∷ [];
@@ -68,13 +68,13 @@ not_ended ends ends' e = grind (arith, nat_tests, e)
 pub is_ended : (ends ends' : ℕ) → ends' ≡ ends + 1 → nat_lt ends ends' ≡ true
 is_ended ends ends' e = grind (arith, nat_tests, e)
 
-plays_halt : (tale : Tale) (h : Halt) (ended : Bool) (lines : List (List ℕ)) (out : List ℕ) (first taken : Option (List ℕ)) → Halts tale h lines out first taken → Plays tale (Err h) ended lines out first taken
+plays_halt : (tale : RowText) (h : Halt) (ended : Bool) (lines : List (List ℕ)) (out : List ℕ) (first taken : Option (List ℕ)) → Halts tale h lines out first taken → Plays tale (Err h) ended lines out first taken
 plays_halt tale (Bad n) ended lines out first taken h = h
 plays_halt tale Memory ended lines out first taken h = h
 plays_halt tale Read ended lines out first taken h = absurd h
 plays_halt tale Write ended lines out first taken h = h
 
-plays_read : (tale : Tale) (result : Result (Unit {0}) Halt) (answers answers' : Option (List Answer)) (ends ends' : ℕ) (more : List Answer) (bytes out : List ℕ) (first taken : Option (List ℕ)) (ended : Bool) → answers' ≡ then_answers answers more → nat_lt ends ends' ≡ ended
+plays_read : (tale : RowText) (result : Result (Unit {0}) Halt) (answers answers' : Option (List Answer)) (ends ends' : ℕ) (more : List Answer) (bytes out : List ℕ) (first taken : Option (List ℕ)) (ended : Bool) → answers' ≡ then_answers answers more → nat_lt ends ends' ≡ ended
     → given more ≡ bytes → Plays tale result ended (lines_read ended bytes) out first taken → PlaysRead tale result answers answers' ends ends' out first taken
 plays_read tale result answers answers' ends ends' more bytes out first taken ended is e g plays = record {
   more = more;
@@ -84,27 +84,27 @@ plays_read tale result answers answers' ends ends' more bytes out first taken en
 }
 
 -- the run halts in a piece
-pub read_halts : (tale : Tale) (h : Halt) (answers now next : Option (List Answer)) (ends ends' : ℕ) (piece kept kept' : List ℕ) (n n' : ℕ) (s s' : State) (out out' : List ℕ) (first taken taken' : Option (List ℕ)) → (r : ReadSoFar tale answers now kept n s out first taken)
+pub read_halts : (tale : RowText) (h : Halt) (answers now next : Option (List Answer)) (ends ends' : ℕ) (piece kept kept' : List ℕ) (n n' : ℕ) (s s' : State) (out out' : List ℕ) (first taken taken' : Option (List ℕ)) → (r : ReadSoFar tale answers now kept n s out first taken)
     → next ≡ then_answer now (Gave piece) → ends' ≡ ends → PieceGoes tale (Err h) (given r.more ++ piece) kept' n' s' out' first taken' → PlaysRead tale (Err h) answers next ends ends' out' first taken'
 read_halts tale h answers now next ends ends' piece kept kept' n n' s s' out out' first taken taken' r e same halts =
     plays_read tale (Err h) answers next ends ends' (r.more ++ Gave piece ∷ []) (given r.more ++ piece) out' first taken' false (told_more answers now next r.more (Gave piece) r.answers_are e) (not_ended ends ends' same)
     (given-more r.more (Gave piece)) (plays_halt tale h false (lines_read false (given r.more ++ piece)) out' first taken' halts)
 
--- the source told its end
-ends_by : (tale : Tale) (result : Result (Unit {0}) Halt) (bytes kept : List ℕ) (n : ℕ) (s held : State) (out out' : List ℕ) (first taken taken' : Option (List ℕ)) → Within tale bytes [] kept n s out first taken
+-- the source's end was read
+ends_by : (tale : RowText) (result : Result (Unit {0}) Halt) (bytes kept : List ℕ) (n : ℕ) (s held : State) (out out' : List ℕ) (first taken taken' : Option (List ℕ)) → Within tale bytes [] kept n s out first taken
     → LineGoes tale result n kept (row_of kept) s held out out' taken taken' → Plays tale result true (lines_read true bytes) out' first taken'
 ends_by tale (Ok u) bytes kept n s held out out' first taken taken' w goes = let h = within_ends tale bytes kept n s held out out' first taken taken' w goes in (refl, h.0, h.1)
 ends_by tale (Err h) bytes kept n s held out out' first taken taken' w goes =
     plays_halt tale h true (lines_read true bytes) out' first taken' (within_end_halts tale h bytes kept n s held out out' first taken taken' w goes)
 
-pub read_ends : (tale : Tale) (result : Result (Unit {0}) Halt) (answers now next : Option (List Answer)) (one : Answer) (ends ends' : ℕ) (kept : List ℕ) (n : ℕ) (s held : State) (out out' : List ℕ) (first taken taken' : Option (List ℕ)) → ReadSoFar tale answers now kept n s out first taken
+pub read_ends : (tale : RowText) (result : Result (Unit {0}) Halt) (answers now next : Option (List Answer)) (one : Answer) (ends ends' : ℕ) (kept : List ℕ) (n : ℕ) (s held : State) (out out' : List ℕ) (first taken taken' : Option (List ℕ)) → ReadSoFar tale answers now kept n s out first taken
     → next ≡ then_answer now one → bytes_of one ≡ [] → ends' ≡ ends + 1 → LineGoes tale result n kept (row_of kept) s held out out' taken taken' → PlaysRead tale result answers next ends ends' out' first taken'
 read_ends tale result answers now next one ends ends' kept n s held out out' first taken taken' r e none ended goes =
     plays_read tale result answers next ends ends' (r.more ++ one ∷ []) (given r.more) out' first taken' true (told_more answers now next r.more one r.answers_are e) (is_ended ends ends' ended)
     (given_same r.more one none) (ends_by tale result (given r.more) kept n s held out out' first taken taken' r.within goes)
 
 -- all lines were played
-pub read_played : (tale : Tale) (result : Result (Unit {0}) Halt) (answers now next : Option (List Answer)) (one : Answer) (kept : List ℕ) (n : ℕ) (s held : State) (out out' : List ℕ) (first taken taken' : Option (List ℕ)) → ReadSoFar tale answers now kept n s out first taken
+pub read_played : (tale : RowText) (result : Result (Unit {0}) Halt) (answers now next : Option (List Answer)) (one : Answer) (kept : List ℕ) (n : ℕ) (s held : State) (out out' : List ℕ) (first taken taken' : Option (List ℕ)) → ReadSoFar tale answers now kept n s out first taken
     → next ≡ then_answer now one → bytes_of one ≡ [] → LineGoes tale result n kept (row_of kept) s held out out' taken taken' → OnOk result (PlayedAll answers next held)
 read_played tale (Ok u) answers now next one kept n s held out out' first taken taken' r e none goes =
     let h = within_played tale (given r.more) kept n s held out out' first taken taken' r.within goes in
@@ -113,7 +113,7 @@ read_played tale (Ok u) answers now next one kept n s held out out' first taken 
 read_played tale (Err h) answers now next one kept n s held out out' first taken taken' r e none goes = tt
 
 -- it did not
-pub read_stops : (tale : Tale) (answers now : Option (List Answer)) (ends ends' : ℕ) (kept : List ℕ) (n : ℕ) (s : State) (out : List ℕ) (first taken : Option (List ℕ)) → ReadSoFar tale answers now kept n s out first taken
+pub read_stops : (tale : RowText) (answers now : Option (List Answer)) (ends ends' : ℕ) (kept : List ℕ) (n : ℕ) (s : State) (out : List ℕ) (first taken : Option (List ℕ)) → ReadSoFar tale answers now kept n s out first taken
     → ends' ≡ ends → PlaysRead tale (Err Read) answers now ends ends' out first taken
 read_stops tale answers now ends ends' kept n s out first taken r same =
     let h = within_open tale (given r.more) kept n s out first taken r.within in
@@ -121,36 +121,36 @@ read_stops tale answers now ends ends' kept n s out first taken r same =
 
 -- WRITING
 
-wrote_all : (tale : Tale) (lines : List (List ℕ)) (out : List ℕ) (first taken taken' : Option (List ℕ)) → Prints tale lines out first taken → taken' ≡ then_bytes taken out → taken' ≡ then_bytes first (told tale lines)
+wrote_all : (tale : RowText) (lines : List (List ℕ)) (out : List ℕ) (first taken taken' : Option (List ℕ)) → Prints tale lines out first taken → taken' ≡ then_bytes taken out → taken' ≡ then_bytes first (told tale lines)
 wrote_all tale lines out first taken taken' p e =
     e ∙ (ap (λ (k : Option (List ℕ)). then_bytes k out) p.taken_is ∙ (then-then first p.wrote out ∙ ap (then_bytes first) p.text_is))
 
-ends_wrote : (tale : Tale) (result : Result (Unit {0}) Halt) (ended : Bool) (lines : List (List ℕ)) (out : List ℕ) (first taken taken' : Option (List ℕ)) → Plays tale result ended lines out first taken → (result ≡ Err Write → ⊥) → taken' ≡ then_bytes taken out
-    → EndsTelling tale (ended_so result) ended lines first taken'
+ends_wrote : (tale : RowText) (result : Result (Unit {0}) Halt) (ended : Bool) (lines : List (List ℕ)) (out : List ℕ) (first taken taken' : Option (List ℕ)) → Plays tale result ended lines out first taken → (result ≡ Err Write → ⊥) → taken' ≡ then_bytes taken out
+    → EndsPrinting tale (ended_so result) ended lines first taken'
 ends_wrote tale (Ok u) ended lines out first taken taken' p not e = (p.0, p.1, wrote_all tale lines out first taken taken' p.2 e)
 ends_wrote tale (Err (Bad n)) ended lines out first taken taken' p not e = (p.0, wrote_all tale lines out first taken taken' p.1 e)
 ends_wrote tale (Err Memory) ended lines out first taken taken' p not e = record { first = p.front; others = p.others; lines_are = p.lines_are; good = p.good; wrote = wrote_all tale p.front out first taken taken' p.prints e }
 ends_wrote tale (Err Read) ended lines out first taken taken' p not e = (p.0, p.1, wrote_all tale lines out first taken taken' p.2 e)
 ends_wrote tale (Err Write) ended lines out first taken taken' p not e = absurd (not refl)
 
-unwritten_all : (tale : Tale) (lines : List (List ℕ)) (out : List ℕ) (first taken taken' : Option (List ℕ)) → Prints tale lines out first taken → WroteFront taken out taken' → WroteFront first (told tale lines) taken'
+unwritten_all : (tale : RowText) (lines : List (List ℕ)) (out : List ℕ) (first taken taken' : Option (List ℕ)) → Prints tale lines out first taken → WrotePrefix taken out taken' → WrotePrefix first (told tale lines) taken'
 unwritten_all tale lines out first taken taken' p w =
     prints_front tale lines lines out [] first taken taken' p (sym (append-nil (told tale lines))) out [] refl w
 
-unwritten : (tale : Tale) (lines others : List (List ℕ)) (out : List ℕ) (first taken taken' : Option (List ℕ)) → (rows_of lines).bad ≡ None → Prints tale lines out first taken → WroteFront taken out taken' → WroteFront first (told tale (lines ++ others)) taken'
+unwritten : (tale : RowText) (lines others : List (List ℕ)) (out : List ℕ) (first taken taken' : Option (List ℕ)) → (rows_of lines).bad ≡ None → Prints tale lines out first taken → WrotePrefix taken out taken' → WrotePrefix first (told tale (lines ++ others)) taken'
 unwritten tale lines others out first taken taken' good p w =
     prints_front tale lines (lines ++ others) out _ first taken taken' p (tale_join tale lines others (start 1) good) out _ refl w
 
-ends_unwritten : (tale : Tale) (result : Result (Unit {0}) Halt) (ended : Bool) (lines : List (List ℕ)) (out : List ℕ) (first taken taken' : Option (List ℕ)) → Plays tale result ended lines out first taken → (result ≡ Err Write → ⊥) → WroteFront taken out taken'
-    → WroteFront first (told tale lines) taken'
+ends_unwritten : (tale : RowText) (result : Result (Unit {0}) Halt) (ended : Bool) (lines : List (List ℕ)) (out : List ℕ) (first taken taken' : Option (List ℕ)) → Plays tale result ended lines out first taken → (result ≡ Err Write → ⊥) → WrotePrefix taken out taken'
+    → WrotePrefix first (told tale lines) taken'
 ends_unwritten tale (Ok u) ended lines out first taken taken' p not w = unwritten_all tale lines out first taken taken' p.2 w
 ends_unwritten tale (Err (Bad n)) ended lines out first taken taken' p not w = unwritten_all tale lines out first taken taken' p.1 w
-ends_unwritten tale (Err Memory) ended lines out first taken taken' p not w = subst (λ (x : List (List ℕ)). WroteFront first (told tale x) taken') (sym p.lines_are) (unwritten tale p.front p.others out first taken taken' p.good p.prints w)
+ends_unwritten tale (Err Memory) ended lines out first taken taken' p not w = subst (λ (x : List (List ℕ)). WrotePrefix first (told tale x) taken') (sym p.lines_are) (unwritten tale p.front p.others out first taken taken' p.good p.prints w)
 ends_unwritten tale (Err Read) ended lines out first taken taken' p not w = unwritten_all tale lines out first taken taken' p.2 w
 ends_unwritten tale (Err Write) ended lines out first taken taken' p not w = absurd (not refl)
 
 -- what was still to be written was written
-pub tells_wrote : (tale : Tale) (result : Result (Unit {0}) Halt) (answers answers' : Option (List Answer)) (ends ends' : ℕ) (out : List ℕ) (first taken taken' : Option (List ℕ)) → PlaysRead tale result answers answers' ends ends' out first taken → (result ≡ Err Write → ⊥)
+pub tells_wrote : (tale : RowText) (result : Result (Unit {0}) Halt) (answers answers' : Option (List Answer)) (ends ends' : ℕ) (out : List ℕ) (first taken taken' : Option (List ℕ)) → PlaysRead tale result answers answers' ends ends' out first taken → (result ≡ Err Write → ⊥)
     → taken' ≡ then_bytes taken out → Tells tale (ended_so result) answers answers' ends ends' first taken'
 tells_wrote tale result answers answers' ends ends' out first taken taken' p not e = record {
   more = p.more;
@@ -159,8 +159,8 @@ tells_wrote tale result answers answers' ends ends' out first taken taken' p not
 }
 
 -- a write of it failed
-pub tells_unwritten : (tale : Tale) (result : Result (Unit {0}) Halt) (answers answers' : Option (List Answer)) (ends ends' : ℕ) (out : List ℕ) (first taken taken' : Option (List ℕ)) → PlaysRead tale result answers answers' ends ends' out first taken → (result ≡ Err Write → ⊥)
-    → WroteFront taken out taken' → Tells tale WriteFault answers answers' ends ends' first taken'
+pub tells_unwritten : (tale : RowText) (result : Result (Unit {0}) Halt) (answers answers' : Option (List Answer)) (ends ends' : ℕ) (out : List ℕ) (first taken taken' : Option (List ℕ)) → PlaysRead tale result answers answers' ends ends' out first taken → (result ≡ Err Write → ⊥)
+    → WrotePrefix taken out taken' → Tells tale WriteFault answers answers' ends ends' first taken'
 tells_unwritten tale result answers answers' ends ends' out first taken taken' p not w = record {
   more = p.more;
   answers_are = p.answers_are;
@@ -168,28 +168,28 @@ tells_unwritten tale result answers answers' ends ends' out first taken taken' p
 }
 
 -- an earlier write failed
-pub tells_stopped : (tale : Tale) (answers answers' : Option (List Answer)) (ends ends' : ℕ) (out : List ℕ) (first taken : Option (List ℕ)) → PlaysRead tale (Err Write) answers answers' ends ends' out first taken → Tells tale WriteFault answers answers' ends ends' first taken
+pub tells_stopped : (tale : RowText) (answers answers' : Option (List Answer)) (ends ends' : ℕ) (out : List ℕ) (first taken : Option (List ℕ)) → PlaysRead tale (Err Write) answers answers' ends ends' out first taken → Tells tale WriteFault answers answers' ends ends' first taken
 tells_stopped tale answers answers' ends ends' out first taken p = record { more = p.more; answers_are = p.answers_are; ends_so = p.plays }
 
 -- nothing was read or written
-pub nothing_read : (tale : Tale) (answers : Option (List Answer)) (ends : ℕ) (taken : Option (List ℕ)) → Tells tale NoMemory answers answers ends ends taken taken
+pub nothing_read : (tale : RowText) (answers : Option (List Answer)) (ends : ℕ) (taken : Option (List ℕ)) → Tells tale NoMemory answers answers ends ends taken taken
 nothing_read tale answers ends taken = record {
   more = [];
   answers_are = sym (answers-nil answers);
   ends_so = record { first = []; others = lines_read (nat_lt ends ends) []; lines_are = refl; good = refl; wrote = sym (then-nil taken) };
 }
 
--- WHAT `replay` TELLS is what the events print
+-- WHAT `replay` PRINTS is what the events print
 
 wrote_plain : (lines : List (List ℕ)) (old new : Option (List ℕ)) → new ≡ then_bytes old (told plain lines) → Wrote (rows_of lines).events old new
 wrote_plain lines old new e = e ∙ ap (then_bytes old) (plain_is lines (start 1))
 
-ends_plain : (e : Ended) (ended : Bool) (lines : List (List ℕ)) (old new : Option (List ℕ)) → EndsTelling plain e ended lines old new → Ends e ended (rows_of lines) old new
+ends_plain : (e : Ended) (ended : Bool) (lines : List (List ℕ)) (old new : Option (List ℕ)) → EndsPrinting plain e ended lines old new → Ends e ended (rows_of lines) old new
 ends_plain Done ended lines old new h = (h.0, h.1, wrote_plain lines old new h.2)
 ends_plain (BadRow n) ended lines old new h = (h.0, wrote_plain lines old new h.1)
 ends_plain (Text f) ended lines old new h = absurd h
 ends_plain ReadFault ended lines old new h = (h.0, h.1, wrote_plain lines old new h.2)
-ends_plain WriteFault ended lines old new h = subst (λ (x : List ℕ). WroteFront old x new) (plain_is lines (start 1)) h
+ends_plain WriteFault ended lines old new h = subst (λ (x : List ℕ). WrotePrefix old x new) (plain_is lines (start 1)) h
 ends_plain NoMemory ended lines old new h = record {
   first = (rows_of h.first).events;
   others = (rows_of h.others).events;

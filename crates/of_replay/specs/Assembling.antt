@@ -11,7 +11,7 @@ use Rattle.of_text.specs.Lines.{lines_of}
 use Rattle.of_text.specs.Texts.{IsSyntax}
 use Rattle.of_text.specs.First.{IsRefused}
 use Rattle.of_replay.specs.Told.{Answer, then_bytes, given}
-use Rattle.of_replay.specs.Transfer.{then_answers, WroteFront}
+use Rattle.of_replay.specs.Transfer.{then_answers, WrotePrefix}
 use Rattle.of_replay.specs.Lexing.{is_line}
 use Rattle.of_build.specs.Building.{BuildsOf}
 
@@ -32,7 +32,7 @@ pub record ReadsFile (result : Result (Unit {0}) Halt) (answers answers' : Optio
 
 -- LINES
 
--- the first line that no file may have, where n lines stand before these
+-- the first line that no file may have, where n lines come before these
 abbrev pub unreadable : ℕ → List (List ℕ) → Option ℕ
 unreadable n [] = None
 unreadable n (line ∷ lines) = if is_line line then unreadable (n + 1) lines else Some (n + 1)
@@ -63,9 +63,9 @@ Builds (Err ReadFault) file = ⊥
 Builds (Err WriteFault) file = ⊥
 Builds (Err NoMemory) file = Unit {0}
 
--- a text is written, or a front of it
+-- a text is written, or a prefix of it
 abbrev pub WritesText : Ended → List ℕ → Option (List ℕ) → Option (List ℕ) → ℕ → Type 0
-WritesText ended text old new failures = ((ended ≡ Done) × (new ≡ then_bytes old text) × (failures ≡ 0)) ⊎ ((ended ≡ WriteFault) × WroteFront old text new × (0 < failures))
+WritesText ended text old new failures = ((ended ≡ Done) × (new ≡ then_bytes old text) × (failures ≡ 0)) ⊎ ((ended ≡ WriteFault) × WrotePrefix old text new × (0 < failures))
 
 -- a text, if there is one
 abbrev pub Writes : Ended → Result (Vec ℕ) Ended → Option (List ℕ) → Option (List ℕ) → ℕ → Type 0
@@ -78,7 +78,7 @@ EndsAsm Done ended file old new = (text : List ℕ) × (ended ≡ true) × IsBui
 EndsAsm (BadRow n) ended file old new = (ended ≡ true) × (bad_line file ≡ Some n) × (new ≡ old)
 EndsAsm (Text f) ended file old new = (ended ≡ true) × (bad_line file ≡ None) × HasFault file f × (new ≡ old)
 EndsAsm ReadFault ended file old new = (ended ≡ false) × (new ≡ old)
-EndsAsm WriteFault ended file old new = (text : List ℕ) × (ended ≡ true) × IsBuilt file text × WroteFront old text new
+EndsAsm WriteFault ended file old new = (text : List ℕ) × (ended ≡ true) × IsBuilt file text × WrotePrefix old text new
 EndsAsm NoMemory ended file old new = new ≡ old
 
 -- from what a source answered to what a sink took

@@ -24,7 +24,7 @@ abbrev pub IsConfigOf : Result Configuration Ended → List ℕ → Type 0
 IsConfigOf (Ok config) file = Spells file config
 IsConfigOf (Err e) file = LacksConfig e file
 
--- how a run ends that wants a configuration and has none, by the bytes that were read
+-- how a run ends that needs a configuration and has none, by the bytes that were read
 abbrev pub EndsWithout : Ended → Bool → List ℕ → Type 0
 EndsWithout Done ended file = ⊥
 EndsWithout (BadRow n) ended file = (ended ≡ true) × (bad_line file ≡ Some n)
@@ -43,7 +43,7 @@ pub record Configures (result : Result Configuration Ended) (answers answers' : 
   pub answers_are : answers' ≡ then_answers answers more
   pub is : IsRead result (nat_lt ends ends') (given more)
 
--- what was read or played ends nothing
+-- Done where something was read or played
 abbrev pub ended_as : {A : Type 0} → Result A Ended → Ended
 ended_as (Ok a) = Done
 ended_as (Err e) = e

@@ -8,11 +8,11 @@ use Rattle.of_switch.specs.Loading.{config_of}
 use Rattle.of_replay.specs.declared.event_file.Ended.{Ended}
 use Rattle.of_replay.specs.declared.event_file.Ended.TheVariants.{Done, BadRow, Text, ReadFault, WriteFault, NoMemory}
 use Rattle.of_replay.specs.Told.{Answer, then_bytes, given}
-use Rattle.of_replay.specs.Transfer.{then_answers, WroteFront}
+use Rattle.of_replay.specs.Transfer.{then_answers, WrotePrefix}
 use Rattle.of_replay.specs.Rows.{Rows, rows_of}
 use Rattle.of_replay.specs.Play.{lines_read}
 
--- THE SWITCH after rows: a new one of number 1, on which their events happened
+-- THE SWITCH after rows: a new one with datapath_id 1, on which their events happened
 abbrev pub after : Rows → State
 after rows = (run rows.events (start 1)).state
 
@@ -26,7 +26,7 @@ EndsDis Done ended rows old new = (ended ≡ true) × (rows.bad ≡ None) × (ne
 EndsDis (BadRow n) ended rows old new = (rows.bad ≡ Some n) × (new ≡ old)
 EndsDis (Text f) ended rows old new = ⊥
 EndsDis ReadFault ended rows old new = (ended ≡ false) × (rows.bad ≡ None) × (new ≡ old)
-EndsDis WriteFault ended rows old new = (ended ≡ true) × (rows.bad ≡ None) × WroteFront old (text_after rows) new
+EndsDis WriteFault ended rows old new = (ended ≡ true) × (rows.bad ≡ None) × WrotePrefix old (text_after rows) new
 EndsDis NoMemory ended rows old new = new ≡ old
 
 -- from what a source answered to what a sink took

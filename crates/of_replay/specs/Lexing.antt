@@ -20,7 +20,7 @@ last_from line (b ∷ bs) = if b == 10 then last_from [] bs else last_from (line
 abbrev pub whole_lines : List ℕ → List (List ℕ)
 whole_lines file = whole_from [] file
 
--- all lines: the last one may also end by the file's end (it may be empty, and an empty line is passed over)
+-- all lines: the last one may also end by the file's end (it may be empty, and an empty line is skipped)
 abbrev pub lines_of : List ℕ → List (List ℕ)
 lines_of file = whole_lines file ++ last_from [] file ∷ []
 
@@ -33,7 +33,7 @@ abbrev pub is_passed : List ℕ → Bool
 is_passed [] = true
 is_passed (b ∷ bs) = b == 35
 
--- WORDS, parted by one space
+-- WORDS, separated by one space
 
 abbrev pub first_at : List ℕ → Option ℕ → List ℕ
 first_at line None = line
@@ -46,7 +46,7 @@ after_at line (Some k) = Some (drop (k + 1) line)
 abbrev pub first_word : List ℕ → List ℕ
 first_word line = first_at line (position (λ b. b == 32) line)
 
--- what follows the space behind the first word
+-- what follows the space after the first word
 abbrev pub after_word : List ℕ → Option (List ℕ)
 after_word line = after_at line (position (λ b. b == 32) line)
 
@@ -55,7 +55,7 @@ after_word line = after_at line (position (λ b. b == 32) line)
 abbrev pub is_digit : ℕ → Bool
 is_digit b = nat_le 48 b && nat_le b 57
 
--- the value of digits, behind digits of this value
+-- the value of digits that follow digits of the value v
 abbrev pub digits_value : ℕ → List ℕ → Option ℕ
 digits_value v [] = Some v
 digits_value v (d ∷ ds) = if is_digit d then digits_value (10 * v + (d - 48)) ds else None

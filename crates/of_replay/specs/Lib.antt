@@ -5,7 +5,7 @@ pub mod Rows
 pub mod Memory
 pub mod Output
 pub mod Play
-pub mod Tales
+pub mod RowTexts
 pub mod Stepping
 pub mod Ended
 pub mod Assembling

@@ -25,14 +25,14 @@ reads_of s = vec_len s.lengths + s.ends + s.failures
 abbrev pub Fails : ℕ → ℕ → Type 0
 Fails fails_at call = (0 < fails_at) × (fails_at ≤ call)
 
--- a read fails where it is told to, and only there; before that it gives a piece of what is left, then the end
+-- a read fails where `fails_at` says so, and only there; before that it gives a piece of what is left, then the end
 abbrev pub IsNext : MemorySource → ℕ → Reading → Type 0
 IsNext s room (reading.Bytes n) = (¬ Fails s.fails_at (reads_of s + 1)) × (n ≡ min s.piece (min room (length s.bytes.items - s.at)))
 IsNext s room reading.Nothing = ⊥
 IsNext s room reading.End = (¬ Fails s.fails_at (reads_of s + 1)) × (s.at ≡ length s.bytes.items)
 IsNext s room reading.Fault = Fails s.fails_at (reads_of s + 1)
 
--- a write takes a piece; it fails where it is told to, and where memory is refused
+-- a write takes a piece; it fails where `fails_at` says so, and where memory runs out
 abbrev pub IsTaking : MemorySink → ℕ → Writing → Type 0
 IsTaking s len (writing.Wrote n) = (¬ Fails s.fails_at (s.writes + 1)) × (n ≡ min s.piece len)
 IsTaking s len writing.Fault = Fails s.fails_at (s.writes + 1) ⊎ (vec_capacity s.bytes < vec_len s.bytes + min s.piece len)

@@ -31,6 +31,6 @@ report_text (IsRefused refusal) = refused_line refusal
 abbrev pub printed_from : State → List Event → List ℕ
 printed_from s events = flat_map report_text (run events s).reports
 
--- THE OUTPUT of events: the text of the reports of the abstract switch's run of them, on a new switch of number 1
+-- THE OUTPUT of events: the text of the reports of the abstract switch's run, on a new switch with datapath_id 1
 abbrev pub printed : List Event → List ℕ
 printed events = printed_from (start 1) events

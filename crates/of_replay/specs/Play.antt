@@ -4,16 +4,16 @@ use Rattle.of_switch.specs.declared.event.Event.{Event}
 use Rattle.of_replay.specs.declared.event_file.Ended.{Ended}
 use Rattle.of_replay.specs.declared.event_file.Ended.TheVariants.{Done, BadRow, Text, ReadFault, WriteFault, NoMemory}
 use Rattle.of_replay.specs.Told.{Answer, then_bytes, given}
-use Rattle.of_replay.specs.Transfer.{then_answers, WroteFront}
+use Rattle.of_replay.specs.Transfer.{then_answers, WrotePrefix}
 use Rattle.of_replay.specs.Lexing.{whole_lines, last_from}
 use Rattle.of_replay.specs.Rows.{Rows, rows_of}
 use Rattle.of_replay.specs.Output.{printed}
 
--- the line that is left open: it is one where the file ends
+-- the line that no LF ends yet: it is a line where the file ends
 abbrev pub open_line : Bool → List ℕ → List (List ℕ)
 open_line ended line = if ended then line ∷ [] else []
 
--- the lines of what was read: the whole ones, and where the source told its end the last one
+-- the lines of what was read: the whole ones, and where the end was read the last one
 abbrev pub lines_read : Bool → List ℕ → List (List ℕ)
 lines_read ended file = whole_lines file ++ open_line ended (last_from [] file)
 
@@ -34,7 +34,7 @@ Ends Done ended rows old new = (ended ≡ true) × (rows.bad ≡ None) × Wrote 
 Ends (BadRow n) ended rows old new = (rows.bad ≡ Some n) × Wrote rows.events old new
 Ends (Text f) ended rows old new = ⊥
 Ends ReadFault ended rows old new = (ended ≡ false) × (rows.bad ≡ None) × Wrote rows.events old new
-Ends WriteFault ended rows old new = WroteFront old (printed rows.events) new
+Ends WriteFault ended rows old new = WrotePrefix old (printed rows.events) new
 Ends NoMemory ended rows old new = WroteFirst rows.events old new
 
 -- from what a source answered to what a sink took

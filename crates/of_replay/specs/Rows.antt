@@ -1,4 +1,4 @@
--- The rows of event files: words parted by one space, as
+-- The rows of event files: words separated by one space, as
 --   connect
 --   lost
 --   c HEX
@@ -46,7 +46,7 @@ frame_row words = do
   bytes ← bytes_of word
   Some (Frame port bytes)
 
--- behind `port add`
+-- after `port add`
 abbrev pub added_port : List ℕ → Option PortChange
 added_port words = do
   number ← number_of (first_word words)
@@ -58,13 +58,13 @@ added_port words = do
   up ← state_of word
   Some (Add number hw name up)
 
--- behind `port remove`
+-- after `port remove`
 abbrev pub removed_port : List ℕ → Option PortChange
 removed_port word = do
   number ← number_of word
   Some (Remove number)
 
--- behind `port link`
+-- after `port link`
 abbrev pub linked_port : List ℕ → Option PortChange
 linked_port words = do
   number ← number_of (first_word words)
@@ -80,7 +80,7 @@ change_of name words =
     else (if bytes_eq name (codes "link") then linked_port words
     else None))
 
--- behind `port`
+-- after `port`
 abbrev pub port_of : List ℕ → Option PortChange
 port_of words = do
   more ← after_word words

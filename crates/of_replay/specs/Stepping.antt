@@ -11,13 +11,13 @@ use Rattle.of_replay.specs.declared.halt.Halt.TheVariants as halt
 use Rattle.of_replay.specs.declared.event_file.Ended.{Ended}
 use Rattle.of_replay.specs.declared.event_file.Ended.TheVariants.{Done, BadRow, ReadFault, WriteFault, NoMemory}
 use Rattle.of_replay.specs.Told.{Answer, then_bytes, given}
-use Rattle.of_replay.specs.Transfer.{then_answers, WroteFront}
+use Rattle.of_replay.specs.Transfer.{then_answers, WrotePrefix}
 use Rattle.of_replay.specs.Lexing.{whole_lines, whole_from, last_from}
 use Rattle.of_replay.specs.Rows.{EventRow, rows_of}
 use Rattle.of_replay.specs.Output.{text_of, refused_line}
 use Rattle.of_replay.specs.Play.{lines_read}
-pub use Rattle.of_replay.specs.Tales.{row_happened}
-use Rattle.of_replay.specs.Tales.{Tale, told}
+pub use Rattle.of_replay.specs.RowTexts.{row_happened}
+use Rattle.of_replay.specs.RowTexts.{RowText, told}
 
 -- A ROW
 
@@ -28,7 +28,7 @@ IsReport (Ok es) (IsRefused refusal) = ⊥
 IsReport (Err e) (Gives effects) = ⊥
 IsReport (Err e) (IsRefused refusal) = e ≡ refusal
 
--- what a row's call answers: its report, unless memory ran out
+-- what a row's call returns: its report, unless memory ran out
 abbrev pub RowGives : Result (SmallVec Effect) SwitchError → Happened → State → Type 0
 RowGives result h new = (result ≡ Err error.NoMemory) ⊎ (IsReport result h.report × (new ≡ h.state))
 
@@ -40,8 +40,8 @@ PrintsReport called (Err e) out out' = e ≡ error.NoMemory
 
 -- A LINE
 
--- what is told of a line, or why the run halts at it
-abbrev pub LineTells : Tale → Result (Unit {0}) Halt → ℕ → List ℕ → Option EventRow → State → State → List ℕ → List ℕ → Type 0
+-- what is printed for a line, or why the run halts at it
+abbrev pub LineTells : RowText → Result (Unit {0}) Halt → ℕ → List ℕ → Option EventRow → State → State → List ℕ → List ℕ → Type 0
 LineTells tale (Ok u) n line (Some row) s new out out' = (out' ≡ out ++ tale s line row) × (new ≡ (row_happened s row).state)
 LineTells tale (Ok u) n line None s new out out' = ⊥
 LineTells tale (Err (halt.Bad m)) n line (Some row) s new out out' = ⊥
@@ -50,8 +50,8 @@ LineTells tale (Err halt.Memory) n line row s new out out' = out' ≡ out
 LineTells tale (Err halt.Read) n line row s new out out' = ⊥
 LineTells tale (Err halt.Write) n line row s new out out' = ⊥
 
--- what is told of a row is written or still to be written, behind what was to be written before
-abbrev pub LineGoes : Tale → Result (Unit {0}) Halt → ℕ → List ℕ → Option EventRow → State → State → List ℕ → List ℕ → Option (List ℕ) → Option (List ℕ) → Type 0
+-- the text of a row is written or still to be written, after what was to be written before
+abbrev pub LineGoes : RowText → Result (Unit {0}) Halt → ℕ → List ℕ → Option EventRow → State → State → List ℕ → List ℕ → Option (List ℕ) → Option (List ℕ) → Type 0
 LineGoes tale (Ok u) n line (Some row) s new out out' taken taken' =
     (wrote : List ℕ) × (taken' ≡ then_bytes taken wrote) × (wrote ++ out' ≡ out ++ tale s line row) × (new ≡ (row_happened s row).state)
 LineGoes tale (Ok u) n line None s new out out' taken taken' = ⊥
@@ -59,19 +59,19 @@ LineGoes tale (Err (halt.Bad m)) n line (Some row) s new out out' taken taken' =
 LineGoes tale (Err (halt.Bad m)) n line None s new out out' taken taken' = (m ≡ n) × (out' ≡ out) × (taken' ≡ taken)
 LineGoes tale (Err halt.Memory) n line row s new out out' taken taken' = (out' ≡ out) × (taken' ≡ taken)
 LineGoes tale (Err halt.Read) n line row s new out out' taken taken' = ⊥
-LineGoes tale (Err halt.Write) n line (Some row) s new out out' taken taken' = WroteFront taken (out ++ tale s line row) taken'
+LineGoes tale (Err halt.Write) n line (Some row) s new out out' taken taken' = WrotePrefix taken (out ++ tale s line row) taken'
 LineGoes tale (Err halt.Write) n line None s new out out' taken taken' = ⊥
 
 -- A RUN
 
--- what is told of these lines was written, but for the end that is still to be written
-pub record Prints (tale : Tale) (lines : List (List ℕ)) (out : List ℕ) (first taken : Option (List ℕ)) : Type 0 where
+-- the text of these lines was written, but for the end that is still to be written
+pub record Prints (tale : RowText) (lines : List (List ℕ)) (out : List ℕ) (first taken : Option (List ℕ)) : Type 0 where
   pub wrote : List ℕ
   pub taken_is : taken ≡ then_bytes first wrote
   pub text_is : wrote ++ out ≡ told tale lines
 
--- so it is with some first lines, none of which is bad
-pub record PrintsFirst (tale : Tale) (lines : List (List ℕ)) (out : List ℕ) (first taken : Option (List ℕ)) : Type 0 where
+-- the same for some first lines, none of which is bad
+pub record PrintsFirst (tale : RowText) (lines : List (List ℕ)) (out : List ℕ) (first taken : Option (List ℕ)) : Type 0 where
   pub front : List (List ℕ)
   pub others : List (List ℕ)
   pub lines_are : lines ≡ front ++ others
@@ -79,14 +79,14 @@ pub record PrintsFirst (tale : Tale) (lines : List (List ℕ)) (out : List ℕ) 
   pub prints : Prints tale front out first taken
 
 -- these lines were played, and none of them is bad
-pub record Going (tale : Tale) (lines : List (List ℕ)) (n : ℕ) (s : State) (out : List ℕ) (first taken : Option (List ℕ)) : Type 0 where
+pub record Going (tale : RowText) (lines : List (List ℕ)) (n : ℕ) (s : State) (out : List ℕ) (first taken : Option (List ℕ)) : Type 0 where
   pub good : (rows_of lines).bad ≡ None
   pub number : n ≡ length lines + 1
   pub state : s ≡ (run (rows_of lines).events (start 1)).state
   pub prints : Prints tale lines out first taken
 
--- of these bytes the rest is not looked at yet; of the line that has begun no more is kept than shows that it is too long
-pub record Within (tale : Tale) (bytes rest kept : List ℕ) (n : ℕ) (s : State) (out : List ℕ) (first taken : Option (List ℕ)) : Type 0 where
+-- of these bytes `rest` is not read yet; of the line that has begun no more is kept than shows that it is too long
+pub record Within (tale : RowText) (bytes rest kept : List ℕ) (n : ℕ) (s : State) (out : List ℕ) (first taken : Option (List ℕ)) : Type 0 where
   pub lines : List (List ℕ)
   pub line : List ℕ
   pub going : Going tale lines n s out first taken
@@ -95,32 +95,32 @@ pub record Within (tale : Tale) (bytes rest kept : List ℕ) (n : ℕ) (s : Stat
   pub last : last_from [] bytes ≡ last_from line rest
 
 -- why a run halts at a line, by the lines that were read
-abbrev pub Halts : Tale → Halt → List (List ℕ) → List ℕ → Option (List ℕ) → Option (List ℕ) → Type 0
+abbrev pub Halts : RowText → Halt → List (List ℕ) → List ℕ → Option (List ℕ) → Option (List ℕ) → Type 0
 Halts tale (halt.Bad n) lines out first taken = ((rows_of lines).bad ≡ Some n) × Prints tale lines out first taken
 Halts tale halt.Memory lines out first taken = PrintsFirst tale lines out first taken
 Halts tale halt.Read lines out first taken = ⊥
-Halts tale halt.Write lines out first taken = WroteFront first (told tale lines) taken
+Halts tale halt.Write lines out first taken = WrotePrefix first (told tale lines) taken
 
--- more bytes come: their whole lines are played, or the run halts
-abbrev pub PieceGoes : Tale → Result (Unit {0}) Halt → List ℕ → List ℕ → ℕ → State → List ℕ → Option (List ℕ) → Option (List ℕ) → Type 0
+-- more bytes are read: their whole lines are played, or the run halts
+abbrev pub PieceGoes : RowText → Result (Unit {0}) Halt → List ℕ → List ℕ → ℕ → State → List ℕ → Option (List ℕ) → Option (List ℕ) → Type 0
 PieceGoes tale (Ok u) bytes kept n s out first taken = Within tale bytes [] kept n s out first taken
 PieceGoes tale (Err h) bytes kept n s out first taken = Halts tale h (lines_read false bytes) out first taken
 
 -- the lines of a source are played to the end, or the run halts
-abbrev pub Plays : Tale → Result (Unit {0}) Halt → Bool → List (List ℕ) → List ℕ → Option (List ℕ) → Option (List ℕ) → Type 0
+abbrev pub Plays : RowText → Result (Unit {0}) Halt → Bool → List (List ℕ) → List ℕ → Option (List ℕ) → Option (List ℕ) → Type 0
 Plays tale (Ok u) ended lines out first taken = (ended ≡ true) × ((rows_of lines).bad ≡ None) × Prints tale lines out first taken
 Plays tale (Err (halt.Bad n)) ended lines out first taken = Halts tale (halt.Bad n) lines out first taken
 Plays tale (Err halt.Memory) ended lines out first taken = Halts tale halt.Memory lines out first taken
 Plays tale (Err halt.Read) ended lines out first taken = (ended ≡ false) × ((rows_of lines).bad ≡ None) × Prints tale lines out first taken
 Plays tale (Err halt.Write) ended lines out first taken = Halts tale halt.Write lines out first taken
 
-pub record PlaysRead (tale : Tale) (result : Result (Unit {0}) Halt) (answers answers' : Option (List Answer)) (ends ends' : ℕ) (out : List ℕ) (first taken : Option (List ℕ)) : Type 0 where
+pub record PlaysRead (tale : RowText) (result : Result (Unit {0}) Halt) (answers answers' : Option (List Answer)) (ends ends' : ℕ) (out : List ℕ) (first taken : Option (List ℕ)) : Type 0 where
   pub more : List Answer
   pub answers_are : answers' ≡ then_answers answers more
   pub plays : Plays tale result (nat_lt ends ends') (lines_read (nat_lt ends ends') (given more)) out first taken
 
--- so many reads gave bytes, and their whole lines were played
-pub record ReadSoFar (tale : Tale) (answers answers' : Option (List Answer)) (kept : List ℕ) (n : ℕ) (s : State) (out : List ℕ) (first taken : Option (List ℕ)) : Type 0 where
+-- the reads so far gave bytes, and their whole lines were played
+pub record ReadSoFar (tale : RowText) (answers answers' : Option (List Answer)) (kept : List ℕ) (n : ℕ) (s : State) (out : List ℕ) (first taken : Option (List ℕ)) : Type 0 where
   pub more : List Answer
   pub answers_are : answers' ≡ then_answers answers more
   pub within : Within tale (given more) [] kept n s out first taken
@@ -143,7 +143,7 @@ ReadsFail (Err halt.Memory) reads ends ends' failures failures' = failures' ≡ 
 ReadsFail (Err halt.Read) reads ends ends' failures failures' = (ends' ≡ ends) × ((failures' ≡ failures + 1) ⊎ ((failures' ≡ failures) × (reads ≡ 1000000)))
 ReadsFail (Err halt.Write) reads ends ends' failures failures' = failures' ≤ failures + 1
 
--- how the run ended that halted so
+-- how a run ends that halted so
 abbrev pub ended_so : Result (Unit {0}) Halt → Ended
 ended_so (Ok u) = Done
 ended_so (Err (halt.Bad n)) = BadRow n
@@ -151,7 +151,7 @@ ended_so (Err halt.Memory) = NoMemory
 ended_so (Err halt.Read) = ReadFault
 ended_so (Err halt.Write) = WriteFault
 
--- the source told its end, and all lines were played, none of which is bad
+-- the source's end was read, and all lines were played, none of which is bad
 pub record PlayedAll (answers answers' : Option (List Answer)) (s : State) : Type 0 where
   pub more : List Answer
   pub answers_are : answers' ≡ then_answers answers more

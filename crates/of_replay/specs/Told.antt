@@ -1,4 +1,4 @@
--- What a source answered and what a sink took, where they tell it.
+-- What a source answered and what a sink took, where they record it.
 use Rattle.std.specs.Prelude.{ℕ, ◌<◌, ◌≤◌, ◌++◌, List, [], ◌∷◌, take, Option}
 use Rattle.std.specs.Option.{option_map}
 use Rattle.std.specs.List.{flat_map}
@@ -49,7 +49,7 @@ abbrev pub read_faults : Reading → ℕ
 read_faults reading.Fault = 1
 read_faults other = 0
 
--- a read gives one byte at least, and no more than there is room for
+-- a read gives one byte at least, and no more than fit
 abbrev pub IsReading : Reading → ℕ → Type 0
 IsReading (reading.Bytes n) room = (0 < n) × (n ≤ room)
 IsReading other room = Unit {0}

@@ -6,6 +6,6 @@ use Rattle.of_replay.specs.Told.{Answer, then_bytes}
 abbrev pub then_answers : Option (List Answer) → List Answer → Option (List Answer)
 then_answers known more = option_map (λ told. told ++ more) known
 
--- a front of the text was written
-abbrev pub WroteFront : Option (List ℕ) → List ℕ → Option (List ℕ) → Type 0
-WroteFront old text new = (front : List ℕ) × (rest : List ℕ) × (front ++ rest ≡ text) × (new ≡ then_bytes old front)
+-- a prefix of the text was written
+abbrev pub WrotePrefix : Option (List ℕ) → List ℕ → Option (List ℕ) → Type 0
+WrotePrefix old text new = (front : List ℕ) × (rest : List ℕ) × (front ++ rest ≡ text) × (new ≡ then_bytes old front)

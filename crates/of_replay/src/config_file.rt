@@ -26,7 +26,7 @@ fn configured(alloc: Global, file: &[u8]) -> Result<Config, Ended>
     }
 }
 
-/// Reads a flow text (docs/FLOWTEXT.md) whole, and answers its configuration; or how a run ends that wants one.
+/// Reads a whole flow text (docs/FLOWTEXT.md), and returns its configuration; or how a run ends that needs one.
 pub fn read_config<S: Source>(alloc: Global, reader: &mut S) -> Result<Config, Ended>
     requires { S.reads reader.old ≡ 0 }
     ensures config { Configures result (S.answers reader.old) (S.answers reader.new) (S.ends reader.old) (S.ends reader.new) }

@@ -28,7 +28,7 @@ impl Sink for Nowhere {
     }
 }
 
-// A new switch after the rows of a source. What they give goes nowhere.
+// A new switch after the rows of a source. What they give is dropped.
 fn played<L: Lookup, S: Source>(alloc: Global, reader: &mut S) -> Result<Switch<L>, Ended>
     requires { S.reads reader.old ≡ 0 }
     ensures played { Played result (S.answers reader.old) (S.answers reader.new) (S.ends reader.old) (S.ends reader.new) }

@@ -1,7 +1,7 @@
 //! Event files from a source, played on a new switch, and what it gives to a sink.
 ghost use Rattle.std.specs.Prelude.{◌≡◌, ◌⊎◌, ◌↔◌, ◌<◌, ◌≤◌, ◌+◌, IfOk, replicate};
 ghost use Rattle.of_replay.specs.Play.{Replays};
-ghost use Rattle.of_replay.specs.Tales.{Tells};
+ghost use Rattle.of_replay.specs.RowTexts.{Tells};
 ghost use Rattle.of_replay.specs.Ended.{status_of};
 ghost use Rattle.of_replay.specs.Stepping.{ended_so};
 
@@ -9,20 +9,20 @@ use crate::halt::Halt;
 use crate::io::{Sink, Source};
 use crate::plain::Plain;
 use crate::replaying::Replaying;
-use crate::telling::Teller;
+use crate::telling::RowPrinter;
 use of_classifier::Lookup;
 use of_switch::Switch;
 use of_text::TextFault;
 use std::alloc::{AllocError, Global};
 use thiserror::Error;
 
-/// A read asks for so many bytes.
+/// How many bytes a read asks for.
 pub const READ_SIZE: usize = 65_536;
 
-/// The number of the switch that rows are played on (OpenFlow 1.3.5, 7.3.1).
+/// The datapath_id of the switch that rows are played on (OpenFlow 1.3.5, 7.3.1).
 pub const DPID: u64 = 1;
 
-/// How a run ended. What it shows is the line that stands on standard error.
+/// How a run ended. Displayed, it is the line on standard error.
 #[derive(Clone, Copy, Debug, PartialEq, Eq, Error)]
 pub enum Ended {
     /// All rows were played, and what they print was written.
@@ -37,7 +37,7 @@ pub enum Ended {
     /// A read failed, or a million reads found no end; what the whole lines that were read print was written.
     #[error("read fault")]
     ReadFault,
-    /// A write failed; a front of what the rows print was written.
+    /// A write failed; a prefix of what the rows print was written.
     #[error("write fault")]
     WriteFault,
     /// Memory ran out; what the rows before that print was written.
@@ -69,7 +69,7 @@ pub fn ended_by(played: Result<(), Halt>) -> Ended
     }
 }
 
-/// So many zeros.
+/// `len` zeros.
 pub fn zeros(alloc: Global, len: usize) -> Result<Vec<u8>, AllocError>
     ensures { IfOk result (λ bytes. bytes.items ≡ replicate len 0) }
 {
@@ -78,10 +78,10 @@ pub fn zeros(alloc: Global, len: usize) -> Result<Vec<u8>, AllocError>
     Ok(bytes)
 }
 
-/// Plays the rows of a source on a new switch without a connection, flows and ports, whose number is 1, and writes what is told of them.
+/// Plays the rows of a source on a new switch without a connection, flows and ports, with datapath_id 1, and writes what the teller says of them.
 ///
 /// Rows are played as they are read. Of the file no more is kept than one read and the line that has begun, up to 1,048,577 bytes.
-pub fn tell_file<L: Lookup, T: Teller<L>, S: Source, W: Sink>(
+pub fn print_file<L: Lookup, T: RowPrinter<L>, S: Source, W: Sink>(
     alloc: Global,
     teller: &T,
     reader: &mut S,
@@ -107,7 +107,7 @@ pub fn tell_file<L: Lookup, T: Teller<L>, S: Source, W: Sink>(
     ended_by(replaying.play(teller, reader, &mut buffer, writer))
 }
 
-/// Plays the rows of a source on a new switch without a connection, flows and ports, whose number is 1, and writes what it gives.
+/// Plays the rows of a source on a new switch without a connection, flows and ports, with datapath_id 1, and writes what it gives.
 ///
 /// Rows are played as they are read. Of the file no more is kept than one read and the line that has begun, up to 1,048,577 bytes.
 pub fn replay<L: Lookup, S: Source, W: Sink>(alloc: Global, reader: &mut S, writer: &mut W) -> Ended
@@ -121,5 +121,5 @@ pub fn replay<L: Lookup, S: Source, W: Sink>(alloc: Global, reader: &mut S, writ
     ensures failed_read { S.failures reader.old < S.failures reader.new → (result ≡ Ended.ReadFault) ⊎ (result ≡ Ended.WriteFault) }
     ensures write_fault { (result ≡ Ended.WriteFault) ↔ (0 < W.failures writer.new) }
 {
-    tell_file::<L, _, _, _>(alloc, &Plain, reader, writer)
+    print_file::<L, _, _, _>(alloc, &Plain, reader, writer)
 }

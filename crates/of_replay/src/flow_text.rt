@@ -38,7 +38,7 @@ fn write_text<W: Sink>(text: &[u8], writer: &mut W) -> Ended
     }
 }
 
-/// Writes what was built, if that was.
+/// Writes what was built, if anything was.
 pub fn write_built<W: Sink>(text: Result<Vec<u8>, Ended>, writer: &mut W) -> Ended
     requires { W.failures writer.old ≡ 0 }
     ensures { Writes result text (W.taken writer.old) (W.taken writer.new) (W.failures writer.new) }
@@ -50,7 +50,7 @@ pub fn write_built<W: Sink>(text: Result<Vec<u8>, Ended>, writer: &mut W) -> End
 }
 
 /// Reads a flow text (docs/FLOWTEXT.md) and writes an event file that builds its configuration on a new switch: a
-/// controller connects, says HELLO, adds each group by a GROUP_MOD, by rising length of its chains, then by number, and
+/// controller connects, says HELLO, adds each group by a GROUP_MOD, by ascending length of its chains, then by number, and
 /// each flow by a FLOW_MOD, by table, then by age.
 ///
 /// The file is read whole, and nothing is written of one that is no configuration.

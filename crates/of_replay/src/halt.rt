@@ -5,7 +5,7 @@ pub enum Halt {
     Bad(u64),
     /// Memory ran out.
     Memory,
-    /// A read failed, or so many reads as are made found no end.
+    /// A read failed, or a million reads found no end.
     Read,
     /// A write failed.
     Write,

@@ -5,11 +5,11 @@ ghost use Rattle.of_replay.specs.Told.{then_bytes, then_answer, answer_of, read_
 /// What a read answered.
 #[derive(Clone, Copy, Debug, PartialEq, Eq)]
 pub enum Reading {
-    /// So many bytes, one at least, at the front of the buffer.
+    /// This many bytes, one at least, at the start of the buffer.
     Bytes(usize),
-    /// Nothing came this time.
+    /// No bytes this time.
     Nothing,
-    /// No more bytes come.
+    /// There are no more bytes.
     End,
     /// The read failed.
     Fault,
@@ -18,7 +18,7 @@ pub enum Reading {
 /// What a write answered.
 #[derive(Clone, Copy, Debug, PartialEq, Eq)]
 pub enum Writing {
-    /// So many bytes, one at least, were taken from the front.
+    /// This many bytes, one at least, were taken from the start.
     Wrote(usize),
     /// The write failed, or took nothing.
     Fault,
@@ -26,7 +26,7 @@ pub enum Writing {
 
 /// Where bytes come from.
 pub trait Source {
-    /// What its reads answered, in order, where it tells that.
+    /// What its reads answered, in order, where it records that.
     ghost answers: { Self → Option (List Answer) };
 
     /// How many reads there were, how many of them found the end, and how many failed.
@@ -36,7 +36,7 @@ pub trait Source {
 
     ghost failures: { Self → ℕ };
 
-    /// Reads bytes into the front of the buffer.
+    /// Reads bytes into the start of the buffer.
     fn read(&mut self, buffer: &mut [u8]) -> Reading
         requires room { 0 < length buffer.old }
         requires few { reads self.old < 2 ^ 63 }
@@ -49,13 +49,13 @@ pub trait Source {
 
 /// Where bytes go to.
 pub trait Sink {
-    /// The bytes that its writes took, in order, where it tells them.
+    /// The bytes that its writes took, in order, where it records them.
     ghost taken: { Self → Option (List ℕ) };
 
     /// How many writes failed.
     ghost failures: { Self → ℕ };
 
-    /// Writes some of the bytes, from the front.
+    /// Writes some of the bytes, from the start.
     fn write(&mut self, bytes: &[u8]) -> Writing
         requires some { 0 < length bytes.now }
         requires few { failures self.old < 2 ^ 63 }

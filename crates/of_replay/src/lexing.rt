@@ -41,7 +41,7 @@ fn space_in(line: &[u8]) -> Option<usize>
     line.iter().position(|b| *b == b' ')
 }
 
-/// The first word of a line, and what follows the space behind it.
+/// The first word of a line, and what follows the space after it.
 pub fn cut_word(line: &[u8]) -> (&[u8], Option<&[u8]>)
     ensures word { result.0.now ≡ first_word line.now }
     ensures rest { option_copied result.1 ≡ after_word line.now }
@@ -131,7 +131,7 @@ fn read_digits(word: &[u8], limit: u128) -> Option<u128>
     Some(value)
 }
 
-/// Decodes a word of hex digits, or `-` for no bytes, into the buffer; answers whether it is one.
+/// Decodes a word of hex digits, or `-` for no bytes, into the buffer; returns whether it is one.
 pub fn read_bytes(word: &[u8], bytes: &mut Vec<u8>) -> Result<bool, AllocError>
     ensures { IfOk result (λ found. bytes_of word.now ≡ (if found then Some bytes.new.items else None)) }
 {
@@ -171,7 +171,7 @@ fn is_name_text(word: &[u8]) -> bool
         .all(|b| *b >= b'a' && *b <= b'z' || *b >= b'0' && *b <= b'9')
 }
 
-/// A port's name: 1 to 15 of a to z and 0 to 9, filled up with zeros.
+/// A port's name: 1 to 15 of a to z and 0 to 9, padded with zeros.
 pub fn read_name(word: &[u8]) -> Option<[u8; 16]>
     ensures { result ≡ name_of word.now }
 {

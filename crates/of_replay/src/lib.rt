@@ -22,13 +22,13 @@ mod whole_file;
 
 pub use config_file::read_config;
 pub use disassembling::dis;
-pub use event_file::{Ended, READ_SIZE, ended_by, replay, status, tell_file, zeros};
+pub use event_file::{Ended, READ_SIZE, ended_by, print_file, replay, status, zeros};
 pub use flow_text::asm;
 pub use halt::Halt;
 pub use io::{Reading, Sink, Source, Writing};
 pub use output::push_effects;
 pub use play::play_row;
 pub use rows::{Row, read_row};
-pub use telling::Teller;
+pub use telling::RowPrinter;
 pub use transfer::write_all;
 pub use whole_file::read_file;

@@ -35,7 +35,7 @@ impl MemorySource {
     ghost use Rattle.of_replay.specs.Memory.{told, reads_of, Fails};
 
     /// A source of these bytes, in pieces of `piece` bytes at most. From the read `fails_at` on, counted from 1, each
-    /// read fails; 0: none does. Fails only where memory is refused.
+    /// read fails; 0: none does. Fails only where memory runs out.
     pub fn new(
         alloc: Global,
         bytes: &[u8],
@@ -68,7 +68,7 @@ impl MemorySource {
         self.fails_at != 0 && self.fails_at <= reads + 1
     }
 
-    /// Gives the next piece, and answers its length.
+    /// Gives the next piece, and returns its length.
     fn give(&mut self, buffer: &mut [u8]) -> usize
         requires room { 0 < length buffer.old }
         requires left { self.old.at < length self.old.bytes.items }
@@ -106,7 +106,7 @@ impl Source for MemorySource {
 
     ghost failures = { λ s. s.failures };
 
-    /// Reads bytes into the front of the buffer: a piece of what is left, or all that there is room for.
+    /// Reads bytes into the start of the buffer: a piece of what is left, or as much of it as fits.
     fn read(&mut self, buffer: &mut [u8]) -> Reading
         requires room { 0 < length buffer.old }
         requires few { reads_of self.old < 2 ^ 63 }
@@ -134,8 +134,8 @@ impl Source for MemorySource {
 
 /// A sink into memory.
 ///
-/// A write takes some bytes from the front. From a chosen write on each write is `Fault`, and so is a write for which
-/// memory is refused: nothing of it is taken.
+/// A write takes some bytes from the start. From a chosen write on each write is `Fault`, and so is a write for which
+/// there is no memory: nothing of it is taken.
 #[derive(Drop)]
 pub struct MemorySink {
     bytes: Vec<u8>,

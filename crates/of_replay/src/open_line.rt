@@ -4,10 +4,10 @@ ghost use Rattle.std.specs.Prelude.{◌≡◌, ◌≤◌, ◌++◌, [], OnOk, le
 use std::alloc::{AllocError, Global};
 use std::marker::Model;
 
-/// So many bytes of a line are kept: one more than the longest line has.
+/// How many bytes of a line are kept: one more than the longest line has.
 const MOST_KEPT: usize = 1_048_577;
 
-/// The first bytes of a line, so many at most that a line that is too long is seen to be.
+/// The first bytes of a line, at most as many as show that a line is too long.
 #[derive(Drop)]
 pub struct OpenLine {
     bytes: Vec<u8>,
@@ -44,7 +44,7 @@ impl OpenLine {
         self.bytes.clear();
     }
 
-    /// The line goes on by these bytes.
+    /// Appends these bytes to the line.
     pub fn extend(&mut self, part: &[u8]) -> Result<(), AllocError>
         ensures { OnOk result (self.new ≡ take 1048577 (self.old ++ part.now)) }
     {
@@ -53,7 +53,7 @@ impl OpenLine {
     }
 }
 
-// The first bytes, so many at most.
+// The first bytes, at most `most`.
 fn front_part(bytes: &[u8], most: usize) -> &[u8]
     ensures { result.now ≡ take most bytes.now }
 {

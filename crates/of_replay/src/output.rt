@@ -2,7 +2,7 @@
 ghost use Rattle.std.specs.Prelude.{◌≡◌, ◌++◌, ◌∷◌, ◌<◌, [], IfOk, IfErr, OnOk, OnErr, codes, decimal};
 ghost use Rattle.hex.specs.Hex.{encode_lower};
 ghost use Rattle.of_replay.specs.Told.{then_bytes};
-ghost use Rattle.of_replay.specs.Transfer.{WroteFront};
+ghost use Rattle.of_replay.specs.Transfer.{WrotePrefix};
 ghost use Rattle.of_replay.specs.Output.{line_of, refused_line, text_of};
 ghost use Rattle.of_replay.specs.Stepping.{PrintsReport};
 
@@ -13,7 +13,7 @@ use of_switch::{Effect, Effects, SwitchError};
 use std::alloc::{AllocError, Global};
 use std::marker::Model;
 
-/// What is printed is written in parts of so many bytes at least.
+/// What is printed is written in parts of at least this many bytes.
 const PART: usize = 65_536;
 
 /// Appends bytes as hex digits in lower case.
@@ -131,7 +131,7 @@ impl Printer {
         ensures before { W.failures writer.old ≡ 0 }
         ensures all { OnOk result ((W.taken writer.new ≡ then_bytes (W.taken writer.old) self.old) × (self.new ≡ [])) }
         ensures well { OnOk result (W.failures writer.new ≡ 0) }
-        ensures front { OnErr result (WroteFront (W.taken writer.old) self.old (W.taken writer.new)) }
+        ensures front { OnErr result (WrotePrefix (W.taken writer.old) self.old (W.taken writer.new)) }
         ensures failed { OnErr result (0 < W.failures writer.new) }
         ensures write { IfErr result (λ halt. halt ≡ Halt.Write) }
     {

@@ -1,19 +1,19 @@
 //! What `replay` prints of a row: what the switch gives.
-ghost use Rattle.of_replay.specs.Tales.{plain};
+ghost use Rattle.of_replay.specs.RowTexts.{plain};
 
 use crate::output::push_report;
 use crate::play::play_row;
 use crate::rows::Row;
-use crate::telling::Teller;
+use crate::telling::RowPrinter;
 use of_classifier::Lookup;
 use of_switch::{Switch, SwitchError};
 use std::alloc::Global;
 
-/// Tells of a row the lines of what it gives.
+/// Prints for a row the lines of what it gives.
 #[derive(Drop)]
 pub struct Plain;
 
-impl<L: Lookup> Teller<L> for Plain {
+impl<L: Lookup> RowPrinter<L> for Plain {
     ghost tale = { plain };
 
     fn tell(

@@ -34,7 +34,7 @@ pub fn play_row<L: Lookup>(
     }
 }
 
-// Bytes of the controller come, and each whole message is handled.
+// Receives bytes of the controller, and handles each whole message.
 fn play_piece<L: Lookup>(
     alloc: Global,
     switch: &mut Switch<L>,

@@ -1,8 +1,8 @@
-//! Rows as they are read, played on a switch, and what is told of them.
+//! Rows as they are read, played on a switch, and what is printed for them.
 ghost use Rattle.std.specs.Prelude.{◌≡◌, ◌+◌, ◌<◌, ◌≤◌, ◌^◌, ◌++◌, ℕ, List, [], Option, IfErr, OnOk, length, take, drop, position, ◌==◌};
 ghost use Rattle.of_switch.specs.State.{start};
 ghost use Rattle.of_replay.specs.Rows.{row_of};
-ghost use Rattle.of_replay.specs.Tales.{Tells};
+ghost use Rattle.of_replay.specs.RowTexts.{Tells};
 ghost use Rattle.of_replay.specs.Stepping.{LineTells, LineGoes, Within, PieceGoes, PlayedAll, PlaysRead, WritesFail, ReadsFail, ended_so};
 
 use crate::halt::Halt;
@@ -10,12 +10,12 @@ use crate::io::{Reading, Sink, Source};
 use crate::open_line::OpenLine;
 use crate::output::Printer;
 use crate::rows::read_row;
-use crate::telling::Teller;
+use crate::telling::RowPrinter;
 use of_classifier::Lookup;
 use of_switch::Switch;
 use std::alloc::{AllocError, Global};
 
-/// A reader is read so many times at most.
+/// How often a reader is read at most.
 const MOST_READS: u32 = 1_000_000;
 
 /// A run of a file's rows, which are played as they are read: of the file, only the line that has begun is kept.
@@ -27,7 +27,7 @@ pub struct Replaying<L: Lookup> {
     // the bytes of a row
     bytes: Vec<u8>,
     switch: Switch<L>,
-    // what is told of a row
+    // the text of a row
     text: Vec<u8>,
     printer: Printer,
     alloc: Global,
@@ -76,8 +76,8 @@ impl<L: Lookup> Replaying<L> {
         self.switch
     }
 
-    // Plays the open line, and prints what is told of it.
-    fn tell<T: Teller<L>>(&mut self, teller: &T) -> Result<(), Halt>
+    // Plays the open line, and prints its text.
+    fn tell<T: RowPrinter<L>>(&mut self, teller: &T) -> Result<(), Halt>
         ensures tells { LineTells T.tale result self.old.number self.old.open (row_of self.old.open) self.old.switch self.new.switch self.old.printer self.new.printer }
         ensures number { self.new.number ≡ self.old.number }
     {
@@ -105,7 +105,7 @@ impl<L: Lookup> Replaying<L> {
     }
 
     // Plays the open line, and begins another.
-    fn line<T: Teller<L>, W: Sink>(&mut self, teller: &T, writer: &mut W) -> Result<(), Halt>
+    fn line<T: RowPrinter<L>, W: Sink>(&mut self, teller: &T, writer: &mut W) -> Result<(), Halt>
         requires few { self.old.number < 2 ^ 63 }
         requires well { W.failures writer.old ≡ 0 }
         ensures goes { LineGoes T.tale result self.old.number self.old.open (row_of self.old.open) self.old.switch self.new.switch self.old.printer self.new.printer (W.taken writer.old) (W.taken writer.new) }
@@ -122,7 +122,7 @@ impl<L: Lookup> Replaying<L> {
         Ok(())
     }
 
-    // The open line goes on by these bytes.
+    // Appends these bytes to the open line.
     fn keep(&mut self, part: &[u8]) -> Result<(), Halt>
         ensures open { OnOk result (self.new.open ≡ take 1048577 (self.old.open ++ part.now)) }
         ensures memory { IfErr result (λ halt. halt ≡ Halt.Memory) }
@@ -134,8 +134,8 @@ impl<L: Lookup> Replaying<L> {
         }
     }
 
-    // Bytes come: plays the lines that they end.
-    fn piece<T: Teller<L>, W: Sink>(
+    // Bytes are read: plays the lines that they end.
+    fn piece<T: RowPrinter<L>, W: Sink>(
         &mut self,
         teller: &T,
         piece: &[u8],
@@ -160,8 +160,8 @@ impl<L: Lookup> Replaying<L> {
         }
     }
 
-    // Plays the lines of a source as they are read. What is told last is still to be written.
-    fn read<T: Teller<L>, S: Source, W: Sink>(
+    // Plays the lines of a source as they are read. The last text is still to be written.
+    fn read<T: RowPrinter<L>, S: Source, W: Sink>(
         &mut self,
         teller: &T,
         reader: &mut S,
@@ -189,8 +189,8 @@ impl<L: Lookup> Replaying<L> {
         Err(Halt::Read)
     }
 
-    /// Plays the lines of a source as they are read, and writes what is told of them.
-    pub fn play<T: Teller<L>, S: Source, W: Sink>(
+    /// Plays the lines of a source as they are read, and writes what the teller says of them.
+    pub fn play<T: RowPrinter<L>, S: Source, W: Sink>(
         &mut self,
         teller: &T,
         reader: &mut S,

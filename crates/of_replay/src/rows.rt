@@ -10,7 +10,7 @@ use crate::lexing::{
 use of_switch::PortChange;
 use std::alloc::AllocError;
 
-/// A row of an event file. The bytes of a piece or a frame stand in the buffer that it was read with.
+/// A row of an event file. The bytes of a piece or a frame are in the buffer that it was read with.
 #[derive(Clone, Copy, Debug, PartialEq, Eq)]
 pub enum Row {
     /// An empty line or a comment.
@@ -21,9 +21,9 @@ pub enum Row {
     Lost,
     /// Bytes of the controller.
     Piece,
-    /// A frame comes in by a port.
+    /// A frame is received at a port.
     Frame { port: u32 },
-    /// It is so many nanoseconds.
+    /// The time is this many nanoseconds.
     Moment { nanos: u64 },
     /// The ports change.
     Ports(PortChange),
@@ -119,7 +119,7 @@ fn read_port(words: &[u8]) -> Option<PortChange>
     read_change(change, rest?)
 }
 
-// A row of more words than one.
+// A row of more than one word.
 fn read_named(name: &[u8], words: &[u8], bytes: &mut Vec<u8>) -> Result<Option<Row>, AllocError>
     ensures { IfOk result (λ row. named_row name.now words.now ≡ option_map (with_bytes bytes.new.items) row) }
 {

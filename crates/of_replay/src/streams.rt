@@ -4,7 +4,7 @@ ghost use Rattle.std.specs.Prelude.{◌≡◌, ◌≤◌, None};
 use crate::io::{Reading, Sink, Source, Writing};
 use std::io::{ErrorKind, Read, Write};
 
-/// A source over a reader. It does not tell what it read.
+/// A source over a reader. It does not record what it read.
 #[derive(Drop)]
 pub struct ReaderSource<R: Read + Drop> {
     reader: R,
@@ -58,7 +58,7 @@ impl<R: Read + Drop> Source for ReaderSource<R> {
     }
 }
 
-/// A sink over a writer. It does not tell what it wrote.
+/// A sink over a writer. It does not record what it wrote.
 #[derive(Drop)]
 pub struct WriterSink<W: Write + Drop> {
     writer: W,

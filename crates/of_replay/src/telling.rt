@@ -1,23 +1,23 @@
-//! What is told of the rows of a file.
+//! What is printed for the rows of a file.
 ghost use Rattle.std.specs.Prelude.{◌≡◌, ◌++◌, ℕ, List, IfErr, OnOk};
 ghost use Rattle.of_switch.specs.State.{State};
 ghost use Rattle.of_switch.specs.declared.switch_error.SwitchError.TheVariants.{NoMemory};
 ghost use Rattle.of_replay.specs.Rows.{EventRow, with_bytes};
-ghost use Rattle.of_replay.specs.Tales.{row_happened};
+ghost use Rattle.of_replay.specs.RowTexts.{row_happened};
 
 use crate::rows::Row;
 use of_classifier::Lookup;
 use of_switch::{Switch, SwitchError};
 use std::alloc::Global;
 
-/// Who tells what rows do, one after the other.
-pub trait Teller<L: Lookup> {
-    /// What is told of a row that happens to a switch in this state, by its line and itself.
+/// Prints what rows do, one after the other.
+pub trait RowPrinter<L: Lookup> {
+    /// What is printed for a row that happens to a switch in this state, by its line and itself.
     ghost tale: { State → List ℕ → EventRow → List ℕ };
 
-    /// Plays a row, whose bytes stand beside it, and appends what is told of it.
+    /// Plays a row, whose bytes are given beside it, and appends what is printed for it.
     ///
-    /// It fails where memory runs out, and else never. Then some of that may stand there.
+    /// It fails only where memory runs out. Then some of that may have been appended.
     fn tell(
         &self,
         alloc: Global,

@@ -2,7 +2,7 @@
 ghost use Rattle.std.specs.Prelude.{◌≡◌, ◌<◌, ◌≤◌, length, drop};
 ghost use Rattle.std.specs.Bool.{OnTrue, OnFalse};
 ghost use Rattle.of_replay.specs.Told.{then_bytes};
-ghost use Rattle.of_replay.specs.Transfer.{WroteFront};
+ghost use Rattle.of_replay.specs.Transfer.{WrotePrefix};
 
 use crate::io::{Sink, Writing};
 
@@ -13,12 +13,12 @@ fn rest_from(bytes: &[u8], at: usize) -> &[u8]
     &bytes[at..]
 }
 
-/// Writes all of the bytes and answers true, unless a write fails: then a front of them was written.
+/// Writes all of the bytes and returns true, unless a write fails: then a prefix was written.
 pub fn write_all<W: Sink>(writer: &mut W, bytes: &[u8]) -> bool
     requires { W.failures writer.old ≡ 0 }
     ensures all { OnTrue result (W.taken writer.new ≡ then_bytes (W.taken writer.old) bytes.now) }
     ensures well { OnTrue result (W.failures writer.new ≡ 0) }
-    ensures front { OnFalse result (WroteFront (W.taken writer.old) bytes.now (W.taken writer.new)) }
+    ensures front { OnFalse result (WrotePrefix (W.taken writer.old) bytes.now (W.taken writer.new)) }
     ensures failed { OnFalse result (0 < W.failures writer.new) }
 {
     let mut at = 0;

@@ -8,7 +8,7 @@ use crate::io::{Reading, Source};
 use crate::lexing::is_readable;
 use of_text::cut;
 
-/// A reader is read so many times at most.
+/// How often a reader is read at most.
 const MOST_READS: u32 = 1_000_000;
 
 fn front_of(bytes: &[u8], len: usize) -> &[u8]
@@ -18,7 +18,7 @@ fn front_of(bytes: &[u8], len: usize) -> &[u8]
     &bytes[..len]
 }
 
-// The file goes on by these bytes.
+// Appends these bytes to the file.
 fn keep(file: &mut Vec<u8>, part: &[u8]) -> Result<(), Halt>
     ensures kept { OnOk result (file.new.items ≡ file.old.items ++ part.now) }
     ensures memory { IfErr result (λ halt. halt ≡ Halt.Memory) }

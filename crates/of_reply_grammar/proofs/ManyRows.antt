@@ -1,4 +1,4 @@
--- Rows one behind the other, and replies that hold some of them each.
+-- Rows one after the other, and replies that hold some of them each.
 use Rattle.std.proofs.Common.{◌≡◌, ◌≤◌, ℕ, ◌+◌, Bool, true, false, List, [], ◌∷◌, ◌++◌, length, map, refl, sym, ap, subst, ◌∙◌, arith}
 use Rattle.std.specs.List.{All, concat, flat_map, AllByRecursion as ByRecursion}
 use Rattle.std.proofs.lemmas.List.Elements.{recursion_from_All, All-from_recursion}
@@ -40,7 +40,7 @@ one_more {X} row x xs r front behind first s =
     let here : row x ∷ map row s.these ≡ r ∷ front = rw (first, s.here) refl in
     record { these = x ∷ s.these; others = s.others; whole = ap (λ (t : List X). x ∷ t) s.whole; here = here; there = s.there }
 
--- rows are parted as what they are rows of
+-- rows are separated as what they are rows of
 split : {X : Type 0} (row : X → List ℕ) (xs : List X) (front behind : List (List ℕ)) → map row xs ≡ front ++ behind → Split row xs front behind
 split row xs [] behind e = record { these = []; others = xs; whole = refl; here = refl; there = e }
 split row [] (r ∷ front) behind e = absurd cc
@@ -49,15 +49,15 @@ split row (x ∷ xs) (r ∷ front) behind e =
     let rest : map row xs ≡ front ++ behind = cc in
     one_more row x xs r front behind first (split row xs front behind rest)
 
-in_front : {X : Type 0} (Holds : X → Type 0) (xs ys : List X) → ByRecursion Holds (xs ++ ys) → ByRecursion Holds xs
-in_front Holds [] ys all = tt
-in_front Holds (x ∷ xs) ys all = (all.0, in_front Holds xs ys all.1)
+prepended : {X : Type 0} (Holds : X → Type 0) (xs ys : List X) → ByRecursion Holds (xs ++ ys) → ByRecursion Holds xs
+prepended Holds [] ys all = tt
+prepended Holds (x ∷ xs) ys all = (all.0, prepended Holds xs ys all.1)
 
 behind : {X : Type 0} (Holds : X → Type 0) (xs ys : List X) → ByRecursion Holds (xs ++ ys) → ByRecursion Holds ys
 behind Holds [] ys all = all
 behind Holds (x ∷ xs) ys all = behind Holds xs ys all.1
 
--- one reply with all the rows is spelt, where they have room in it
+-- one reply with all the rows is spelt, where they fit in it
 abbrev pub IsSpelt : {X : Type 0} → ℕ → ℕ → (List X → Reply) → (X → List ℕ) → (X → Type 0) → Type 0
 IsSpelt {X} xid kind told row Holds = (more : Bool) (xs : List X) → ByRecursion Holds xs → length (concat (map row xs)) ≤ most → SpellsReply xid more (told xs) (reply xid kind (flags more) (concat (map row xs)))
 
@@ -78,7 +78,7 @@ all_spelt {X} xid kind told row Holds spelt (m ∷ n ∷ ms) xs rows same all fi
       s.these,
       s.others,
       s.whole,
-      one_spelt xid kind told row Holds spelt true s.these are.0 m s.here (in_front Holds s.these s.others each) are.4.holds fits.0,
+      one_spelt xid kind told row Holds spelt true s.these are.0 m s.here (prepended Holds s.these s.others each) are.4.holds fits.0,
       all_spelt xid kind told row Holds spelt (n ∷ ms) s.others (are.1 ∷ are.2) s.there (behind Holds s.these s.others each) fits.1 are.5,
     )
 
@@ -86,7 +86,7 @@ short_rows : {X : Type 0} (row : X → List ℕ) (Holds : X → Type 0) → ((x 
 short_rows row Holds short [] all = tt
 short_rows row Holds short (x ∷ xs) all = (short x all.0, short_rows row Holds short xs all.1)
 
--- where each row has room, so has each reply
+-- where each row fits, so does each reply
 pub spell_all : {X : Type 0} (xid kind : ℕ) (told : List X → Reply) (row : X → List ℕ) (Holds : X → Type 0) → IsSpelt xid kind told row Holds → ((x : X) → Holds x → length (row x) ≤ most)
     → (xs : List X) → All Holds xs → SpellAll xid told xs (replies xid kind (map row xs))
 spell_all xid kind told row Holds spelt short xs all =

@@ -18,7 +18,7 @@ use Rattle.of_reply_grammar.proofs.OneRow.{HasBytes, IsOne, rows_one}
 use Rattle.of_grammar.proofs.Places.{says, rest_is, size_is}
 use Rattle.of_reply_grammar.specs.Rows.{AreRows, BucketStats, GroupStats, IsGroup, bucket_stats_cells, group_stats_cells, IsDescribed, group_cells}
 
--- what stands in front of the same bytes, and has the same length, is the same
+-- what the same bytes begin with, and has the same length, is the same
 parted : (a b x y : List ℕ) (n : ℕ) → a ++ x ≡ b ++ y → length a ≡ n → length b ≡ n → (a ≡ b) × (x ≡ y)
 parted a b x y n e long short =
     (sym (take_at a x n long) ∙ ap (take n) e ∙ take_at b y n short, sym (drop_at a x n long) ∙ ap (drop n) e ∙ drop_at b y n short)
@@ -96,7 +96,7 @@ same_written : (s : Bucket) (a b c d e : ℕ) (actions : List Action) → a ≡ 
     → record { weight = a; watch_port = b; watch_group = c; actions = actions; packets = d; bytes = e } ≡ s
 same_written s a b c d e actions pa pb pc are pd pe = rw (pa, pb, pc, are, ← pd, ← pe) refl
 
--- behind the first 16 bytes stand the actions, of which the length tells how many bytes they have
+-- after the first 16 bytes come the actions, of which the length says how many bytes they have
 record BucketRead (b : Bucket) (m rest : List ℕ) : Type 0 where
   actions : List ℕ
   value : bucket_at m (actions_in (actions_said false actions)) ≡ b

@@ -1,4 +1,4 @@
--- No bytes spell two replies: type and flags stand in their places, and behind the fields no bytes are two lists of rows.
+-- No bytes spell two replies: type and flags are in their places, and after the fields no bytes are two lists of rows.
 use Rattle.std.proofs.Common.{◌≡◌, ◌≤◌, ℕ, ◌+◌, Bool, true, false, List, [], ◌++◌, length, drop, refl, sym, ap, subst, ◌∙◌, arith}
 use Rattle.byteorder.specs.Endian.{big_number}
 use Rattle.of_reply_grammar.proofs.OneGroup.{group_one, group_some, described_one as described_group_one, described_some as described_group_some}
@@ -6,10 +6,10 @@ use Rattle.of_reply_grammar.proofs.OneRow.{IsOne, HasBytes, rows_one, flow_one, 
 use Rattle.of_messages.specs.Heads.{header_length}
 use Rattle.of_grammar.proofs.OneMessage.{ends_it}
 use Rattle.of_grammar.proofs.Places.{Says, says, size, rest_is, size_is}
-use Rattle.of_reply_grammar.specs.Replied.{Reply, SpellsReply, ReplyTail, aggregate, described_groups, described_ports, description, flags, flows, group_features, groups, ports, reply_cells, reply_front, reply_type, tables}
+use Rattle.of_reply_grammar.specs.Replied.{Reply, SpellsReply, ReplyTail, aggregate, described_groups, described_ports, description, flags, flows, group_features, groups, ports, reply_cells, reply_fixed_part, reply_type, tables}
 use Rattle.of_reply_grammar.specs.Rows.{AggregateStats, AreRows, IsDescribed, IsDescribedPort, IsFlow, IsGroup, IsPort, IsTable}
 
--- what stands where: behind the fields, which say what they say, stands the rest
+-- what is where: after the fields, which say what they say, comes the rest
 record Laid (r : Reply) (m tail : List ℕ) : Type 0 where
   fields : Says 16 (reply_cells r) m
   there : tail ≡ drop (16 + size (reply_cells r)) m
@@ -23,7 +23,7 @@ record Head (x : ℕ) (more : Bool) (r : Reply) (m tail : List ℕ) : Type 0 whe
 
 head : (x : ℕ) (more : Bool) (r : Reply) (m : List ℕ) (s : SpellsReply x more r m) → Head x more r m s.tail
 head x more r m s =
-    let cells = reply_front r more (length m) x in
+    let cells = reply_fixed_part r more (length m) x in
     let y = says 0 cells m m s.tail refl s.front in
     let a = y.1.1.1 in
     record {
@@ -33,7 +33,7 @@ head x more r m s =
       laid = record { fields = a.1.1.1; there = rest_is cells m s.tail s.front ∙ ap (λ (n : ℕ). drop n m) place; behind = s.behind };
     }
   where
-    place : size (reply_front r more (length m) x) ≡ 16 + size (reply_cells r)
+    place : size (reply_fixed_part r more (length m) x) ≡ 16 + size (reply_cells r)
     place = omega arith
 
 one_flag : (more again : Bool) → flags more ≡ flags again → more ≡ again
@@ -82,7 +82,7 @@ record Sized (bytes : List ℕ) : Type 0 where
 
 sized : (x : ℕ) (more : Bool) (r : Reply) (bytes : List ℕ) → SpellsReply x more r bytes → Sized bytes
 sized x more r bytes s =
-    let cells = reply_front r more (length bytes) x in
+    let cells = reply_fixed_part r more (length bytes) x in
     let y = says 0 cells bytes bytes s.tail refl s.front in
     let long = size_is cells bytes s.tail s.front in
     record { long = omega (arith, long); len = y.1.1.0 }

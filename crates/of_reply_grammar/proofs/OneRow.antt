@@ -56,7 +56,7 @@ abbrev instructions_in : Result (List Instruction) Code → List Instruction
 instructions_in (Ok is) = is
 instructions_in (Err code) = []
 
--- behind the first 48 bytes of a row of so many: the bytes behind the match, and those behind the row
+-- after the first 48 bytes of a row of so many: the bytes after the match, and those after the row
 abbrev instruction_bytes : ℕ → List ℕ → List ℕ
 instruction_bytes len tail = take (len - 48 - size_in (match_of tail)) (drop (size_in (match_of tail)) tail)
 

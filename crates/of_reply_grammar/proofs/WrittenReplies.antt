@@ -8,7 +8,7 @@ use Rattle.byteorder.specs.Endian.{big_bytes}
 use Rattle.of_groups.specs.declared.group.Group.{Group}
 use Rattle.of_messages.specs.Written.{port_bytes}
 use Rattle.of_ports.specs.declared.port.Port.{Port}
-use Rattle.of_table.specs.declared.selection.Which.{Which}
+use Rattle.of_table.specs.declared.selection.Selector.{Selector}
 use Rattle.of_table.specs.Tables.{Tables}
 use Rattle.of_statistics.specs.Descriptions.{description as description_body, description_bytes, padded}
 use Rattle.of_statistics.specs.Flows.{aggregate as aggregate_body, aggregate_bytes, asked, flow_bytes, flow_row, from_tables, listed, table_bytes, table_row, totals}
@@ -80,11 +80,11 @@ description_text = five (padded 256 (codes "ofswitch")) (padded 256 (codes "soft
 pub description_spelt : (xid : ℕ) → xid < 256 ^ 4 → SpellsReply xid false description (description_bytes xid)
 description_spelt xid x = replied description false xid description_body [] description_text x description_fits (omega (arith, length_description)) refl
 
-aggregate_text : (w : Which) (ts : Tables) → aggregate_body (totals (asked w ts)) ≡ spelling (reply_cells (aggregate (aggregate_shown (asked w ts)))) ++ []
+aggregate_text : (w : Selector) (ts : Tables) → aggregate_body (totals (asked w ts)) ≡ spelling (reply_cells (aggregate (aggregate_shown (asked w ts)))) ++ []
 unfolding aggregate_body
 aggregate_text w ts = refl
 
-pub aggregate_spelt : (xid : ℕ) (which : Which) (ts : Tables) → xid < 256 ^ 4 → Fits (reply_cells (aggregate (aggregate_shown (asked which ts))))
+pub aggregate_spelt : (xid : ℕ) (which : Selector) (ts : Tables) → xid < 256 ^ 4 → Fits (reply_cells (aggregate (aggregate_shown (asked which ts))))
     → SpellsReply xid false (aggregate (aggregate_shown (asked which ts))) (aggregate_bytes xid which ts)
 aggregate_spelt xid which ts x fits =
     let t = totals (asked which ts) in
@@ -134,7 +134,7 @@ flows_spelt xid now x more part all short =
     let rows = concat (map (flow_row now) part) in
     replied (flows (map (flow_shown now) part)) more xid rows rows refl x tt short (rows_written IsFlow (flow_shown now) (flow_row now) (IsShownFlow now) (flow_written now) part all)
 
-pub flow_spelt : (xid : ℕ) (which : Which) (ts : Tables) → xid < 256 ^ 4 → All (IsShownFlow ts.latest) (listed which ts) → SpellAll xid (λ part. flows (map (flow_shown ts.latest) part)) (listed which ts) (flow_bytes xid which ts)
+pub flow_spelt : (xid : ℕ) (which : Selector) (ts : Tables) → xid < 256 ^ 4 → All (IsShownFlow ts.latest) (listed which ts) → SpellAll xid (λ part. flows (map (flow_shown ts.latest) part)) (listed which ts) (flow_bytes xid which ts)
 flow_spelt xid which ts x all =
     let now = ts.latest in
     spell_all xid 1 (λ part. flows (map (flow_shown now) part)) (flow_row now) (IsShownFlow now) (flows_spelt xid now x) (flow_short now) (listed which ts) all

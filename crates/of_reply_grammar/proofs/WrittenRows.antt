@@ -76,7 +76,7 @@ port_written now p rest fits = rw (port_text now p rest) (written (port_stats_ce
 
 -- ---- PORT_DESC
 
--- what stands behind the number of a port
+-- what follows the number of a port
 behind_number : (hw name bits : List ℕ) → (hw ++ (replicate 2 0 ++ name)) ++ bits ≡ hw ++ (replicate 2 0 ++ (name ++ bits))
 behind_number hw name bits = append_assoc hw (replicate 2 0 ++ name) bits
 

@@ -31,7 +31,7 @@ reply_type (described_groups rows) = 7
 reply_type group_features = 8
 reply_type (described_ports rows) = 13
 
--- a text, and zeros
+-- a text, padded with zeros
 abbrev pub text : ℕ → List ℕ → Cell
 text size letters = plain size (letters ++ replicate (size - length letters) 0)
 
@@ -47,7 +47,7 @@ bucket_actions = sum_by (λ n. 2 ^ n) action_types
 abbrev pub features_cells : List Cell
 features_cells = u32 0x0d ∷ u32 0x0c ∷ u32 256 ∷ u32 0 ∷ u32 256 ∷ u32 256 ∷ u32 bucket_actions ∷ u32 0 ∷ u32 bucket_actions ∷ u32 bucket_actions ∷ []
 
--- fields in front of the rows; struct ofp_aggregate_stats_reply (7.3.5.3)
+-- fields before the rows; struct ofp_aggregate_stats_reply (7.3.5.3)
 abbrev pub reply_cells : Reply → List Cell
 reply_cells description = description_cells
 reply_cells (flows rows) = []
@@ -75,14 +75,14 @@ abbrev pub flags : Bool → ℕ
 flags false = 0
 flags true = 1
 
--- version 4, type 19, length, transaction id, what is replied to, flags, padding, and the fields of the reply
-abbrev pub reply_front : Reply → Bool → ℕ → ℕ → List Cell
-reply_front r more size xid = byte 4 ∷ byte 19 ∷ u16 size ∷ u32 xid ∷ u16 (reply_type r) ∷ u16 (flags more) ∷ pad 4 ∷ reply_cells r
+-- version 4, type 19, length, transaction id, the type of the request, flags, padding, and the fields of the reply
+abbrev pub reply_fixed_part : Reply → Bool → ℕ → ℕ → List Cell
+reply_fixed_part r more size xid = byte 4 ∷ byte 19 ∷ u16 size ∷ u32 xid ∷ u16 (reply_type r) ∷ u16 (flags more) ∷ pad 4 ∷ reply_cells r
 
 -- these bytes, all of them, spell the reply with this transaction id
 pub record SpellsReply (xid : ℕ) (more : Bool) (r : Reply) (bytes : List ℕ) : Type 0 where
   pub tail : List ℕ
-  pub front : Begins (reply_front r more (length bytes) xid) bytes tail
+  pub front : Begins (reply_fixed_part r more (length bytes) xid) bytes tail
   pub behind : ReplyTail r tail
 
 -- these messages spell all the rows, in their order: each some of them, and each but the last says that more follow

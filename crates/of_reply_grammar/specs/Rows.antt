@@ -12,12 +12,12 @@ use Rattle.of_grammar.specs.Cells.{Cell, byte, u16, u32, u64, pad, Begins}
 use Rattle.of_grammar.specs.Grammar.{kind_number}
 use Rattle.of_grammar.specs.Told.{port_cells}
 
--- bytes are these rows, one behind the other
+-- bytes are these rows, one after the other
 abbrev pub AreRows : {X : Type 0} → (X → List ℕ → List ℕ → Type 0) → List X → List ℕ → Type 0
 AreRows IsRow [] bytes = bytes ≡ []
 AreRows IsRow (x ∷ xs) bytes = (rest : List ℕ) × IsRow x bytes rest × AreRows IsRow xs rest
 
--- FLOW (7.3.5.2, struct ofp_flow_stats): an entry, how long it has been there, and what it has counted
+-- FLOW (7.3.5.2, struct ofp_flow_stats): an entry, how long it has existed, and what it has counted
 
 pub record FlowStats : Type 0 where
   pub table : ℕ
@@ -33,7 +33,7 @@ pub record FlowStats : Type 0 where
   pub fields : List MatchField
   pub instructions : List Instruction
 
--- behind the length of the row
+-- after the length of the row
 abbrev pub flow_cells : FlowStats → List Cell
 flow_cells s =
     byte s.table ∷ pad 1 ∷ u32 s.duration_sec ∷ u32 s.duration_nsec ∷ u16 s.priority ∷ u16 s.idle_timeout ∷ u16 s.hard_timeout ∷ u16 s.flags ∷ pad 4
@@ -68,7 +68,7 @@ table_cells s = byte s.table ∷ pad 3 ∷ u32 s.active ∷ u64 s.lookups ∷ u6
 abbrev pub IsTable : TableStats → List ℕ → List ℕ → Type 0
 IsTable s = Begins (table_cells s)
 
--- PORT_STATS (7.3.5.6, struct ofp_port_stats): what a port has counted, and how long it has been there
+-- PORT_STATS (7.3.5.6, struct ofp_port_stats): what a port has counted, and how long it has existed
 
 pub record PortStats : Type 0 where
   pub port : ℕ
@@ -76,7 +76,7 @@ pub record PortStats : Type 0 where
   pub duration_sec : ℕ
   pub duration_nsec : ℕ
 
--- this switch has no errors of sending, and tells no kinds of errors (frames, overruns, CRC) and no collisions
+-- this switch has no transmit errors, and reports no kinds of errors (frames, overruns, CRC) and no collisions
 abbrev pub port_stats_cells : PortStats → List Cell
 port_stats_cells s =
     u32 s.port ∷ pad 4 ∷ u64 s.counters.rx_packets ∷ u64 s.counters.tx_packets ∷ u64 s.counters.rx_bytes ∷ u64 s.counters.tx_bytes
@@ -101,7 +101,7 @@ pub record GroupStats : Type 0 where
   pub duration_nsec : ℕ
   pub buckets : List BucketStats
 
--- behind the length of the row
+-- after the length of the row
 abbrev pub group_stats_cells : GroupStats → List Cell
 group_stats_cells s = pad 2 ∷ u32 s.id ∷ u32 s.references ∷ pad 4 ∷ u64 s.packets ∷ u64 s.bytes ∷ u32 s.duration_sec ∷ u32 s.duration_nsec ∷ []
 
@@ -118,7 +118,7 @@ pub record IsGroup (s : GroupStats) (bytes rest : List ℕ) : Type 0 where
 
 -- GROUP_DESC (7.3.5.10, struct ofp_group_desc_stats): what a group is
 
--- behind the length of the row
+-- after the length of the row
 abbrev pub group_cells : NewGroup → List Cell
 group_cells g = byte (kind_number g.kind) ∷ pad 1 ∷ u32 g.id ∷ []
 

@@ -4,7 +4,7 @@ ghost use Rattle.std.specs.Prelude.{◌≡◌, ◌≤◌, ◌<◌, ◌*◌, ◌^
 ghost use Rattle.std.specs.List.{All};
 ghost use Rattle.of_groups.specs.declared.group.Group.{Group};
 ghost use Rattle.of_ports.specs.declared.port.Port.{Port};
-ghost use Rattle.of_table.specs.declared.selection.Which.{Which};
+ghost use Rattle.of_table.specs.declared.selection.Selector.{Selector};
 ghost use Rattle.of_table.specs.Tables.{Tables};
 ghost use Rattle.of_statistics.specs.Descriptions.{description_bytes};
 ghost use Rattle.of_statistics.specs.Flows.{aggregate_bytes, asked, flow_bytes, listed, table_bytes};
@@ -31,8 +31,8 @@ pub fn no_reply_begins_another()
 /// rows, in their order.
 pub fn written_replies_are_spelt()
     ensures description { (xid : ℕ) → xid < 256 ^ 4 → SpellsReply xid false description (description_bytes xid) }
-    ensures flow { (xid : ℕ) (which : Which) (ts : Tables) → xid < 256 ^ 4 → All (IsShownFlow ts.latest) (listed which ts) → SpellAll xid (λ part. flows (map (flow_shown ts.latest) part)) (listed which ts) (flow_bytes xid which ts) }
-    ensures aggregate { (xid : ℕ) (which : Which) (ts : Tables) → xid < 256 ^ 4 → Fits (reply_cells (aggregate (aggregate_shown (asked which ts)))) → SpellsReply xid false (aggregate (aggregate_shown (asked which ts))) (aggregate_bytes xid which ts) }
+    ensures flow { (xid : ℕ) (which : Selector) (ts : Tables) → xid < 256 ^ 4 → All (IsShownFlow ts.latest) (listed which ts) → SpellAll xid (λ part. flows (map (flow_shown ts.latest) part)) (listed which ts) (flow_bytes xid which ts) }
+    ensures aggregate { (xid : ℕ) (which : Selector) (ts : Tables) → xid < 256 ^ 4 → Fits (reply_cells (aggregate (aggregate_shown (asked which ts)))) → SpellsReply xid false (aggregate (aggregate_shown (asked which ts))) (aggregate_bytes xid which ts) }
     ensures table { (xid : ℕ) (ts : Tables) → xid < 256 ^ 4 → length ts.tables ≤ 16 → All (λ s. Fits (table_cells s)) (tables_shown ts) → SpellsReply xid false (tables (tables_shown ts)) (table_bytes xid ts) }
     ensures port_stats { (xid now : ℕ) (which : Option ℕ) (all : List Port) → xid < 256 ^ 4 → length all ≤ 64 → All (λ p. Fits (port_stats_cells (port_shown now p))) (asked_ports which all) → SpellsReply xid false (ports (map (port_shown now) (asked_ports which all))) (port_stats_bytes xid now which all) }
     ensures group { (xid : ℕ) (which : Option ℕ) (all : List Group) (ts : Tables) → xid < 256 ^ 4 → All (λ g. IsShownGroup (group_shown all ts g)) (asked_groups which all) → SpellAll xid (λ part. groups (map (group_shown all ts) part)) (asked_groups which all) (group_bytes xid which all ts) }

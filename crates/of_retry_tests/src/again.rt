@@ -44,7 +44,7 @@ fn events_of(alloc: Global, text: &str) -> Result<Vec<Event>, Fail> {
     Ok(events)
 }
 
-// Plays an event, and once more where there was no memory: of a piece that was broken off, what is left.
+// Plays an event, and once more where there was no memory: of a piece that was interrupted, what is left.
 fn play(
     alloc: Global,
     switch: &mut Switch<Scan>,
@@ -80,7 +80,7 @@ fn push_effects(out: &mut Vec<u8>, effects: &[Effect]) -> Result<(), AllocError>
     Ok(())
 }
 
-// All that was given, one byte behind the other.
+// All that was given, one byte after the other.
 fn given(alloc: Global, reports: &[Report]) -> Result<Vec<u8>, AllocError> {
     let mut out = Vec::new(alloc);
     for report in reports {

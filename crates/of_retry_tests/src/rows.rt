@@ -1,6 +1,6 @@
-//! Events as rows of a text: those of a run that meets each part of the switch which wants memory.
+//! Events as rows of a text: those of a run that meets each part of the switch which needs memory.
 
-/// `c` are bytes of the controller, `f` a frame by a port, `t` a moment in nanoseconds; the bytes are those of OpenFlow 1.3.5.
+/// `c` are bytes of the controller, `f` a frame at a port, `t` a moment in nanoseconds; the bytes are those of OpenFlow 1.3.5.
 pub const ROWS: &str = "\
 # HELLO, and the head of a FLOW_MOD
 c | 0400000800000001 040e0058000000

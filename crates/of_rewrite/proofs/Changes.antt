@@ -3,7 +3,7 @@ use Rattle.std.proofs.Common.{◌≡◌, ℕ, suc, ◌+◌, ◌-◌, ◌*◌, �
 use Rattle.std.specs.Prelude.{◌==◌, not, ◌||◌}
 use Rattle.std.proofs.lemmas.Bool.{cases_eq, ne_eqb}
 use Rattle.std.proofs.lemmas.List.Sums.{sum_by-cons}
-use Rattle.of_rewrite.specs.Checksum.{fold, change, differ, renewed, AreWords}
+use Rattle.of_rewrite.specs.Checksum.{fold, change, differ, updated, AreWords}
 use Rattle.of_rewrite.proofs.Folding.{fold_is, fold_small}
 
 -- ---- one change after another
@@ -24,7 +24,7 @@ fold_below x = elim (cases_eq x 0) [
   | inr ne ↦ let f : fold x ≡ 1 + (x - 1) % 65535 = fold_is x (omega arith) in omega arith
 ]
 
-pub renewed_below : (c : ℕ) (old new : List ℕ) → renewed c old new ≤ 65535
+pub renewed_below : (c : ℕ) (old new : List ℕ) → updated c old new ≤ 65535
 renewed_below c old new = omega arith
 
 -- a change in two steps
@@ -51,7 +51,7 @@ or_false true = refl
 or_false false = refl
 
 -- without a change
-pub renewed_same : (c : ℕ) (a : List ℕ) → c ≤ 65535 → renewed c a a ≡ c
+pub renewed_same : (c : ℕ) (a : List ℕ) → c ≤ 65535 → updated c a a ≡ c
 renewed_same c a h =
     let z : 65535 - c + change a a ≡ 65535 - c = ap (λ (k : ℕ). 65535 - c + k) (change_none a) ∙ omega arith in
     let f : fold (65535 - c + change a a) ≡ 65535 - c = ap fold z ∙ fold_small (65535 - c) (omega arith) in
@@ -143,11 +143,11 @@ off_by c s t x k h e = elim (cases_eq (65535 - c + x) 0) [
 ]
 
 -- a checksum that is off stays off by as much
-pub off_again : (c : ℕ) (old new : List ℕ) → c < 65536 → AreWords old → length old ≡ length new → (renewed c old new + sum new) % 65535 ≡ (c + sum old) % 65535
+pub off_again : (c : ℕ) (old new : List ℕ) → c < 65536 → AreWords old → length old ≡ length new → (updated c old new + sum new) % 65535 ≡ (c + sum old) % 65535
 off_again c old new h w l = off_by c (sum old) (sum new) (change old new) (changes old new) (omega arith) (sum_changed old new w l)
 
 -- a word that stays makes no difference
-pub without_word : (c w : ℕ) (a x b y : List ℕ) → length a ≡ length x → renewed c (a ++ (w ∷ b)) (x ++ (w ∷ y)) ≡ renewed c (a ++ b) (x ++ y)
+pub without_word : (c w : ℕ) (a x b y : List ℕ) → length a ≡ length x → updated c (a ++ (w ∷ b)) (x ++ (w ∷ y)) ≡ updated c (a ++ b) (x ++ y)
 without_word c w a x b y h =
     let one : change (w ∷ b) (w ∷ y) ≡ change b y = rw (same_word w) (zero-add (change b y)) in
     let sums : change (a ++ (w ∷ b)) (x ++ (w ∷ y)) ≡ change (a ++ b) (x ++ y) = change_append a x (w ∷ b) (w ∷ y) h ∙ ap (λ (k : ℕ). change a x + k) one ∙ sym (change_append a x b y h) in

@@ -4,7 +4,7 @@ use Rattle.of_headers.specs.declared.layout.Layout.{Layout}
 use Rattle.of_headers.specs.declared.layout.Network.{Network}
 use Rattle.of_headers.specs.declared.layout.Network.TheVariants.{Plain, Arp, Ipv4, Ipv6}
 use Rattle.of_rewrite.specs.declared.sums.Span.{Span}
-use Rattle.of_rewrite.specs.Checksum.{words_of, renewed, carried_renewed}
+use Rattle.of_rewrite.specs.Checksum.{words_of, updated, carried_updated}
 use Rattle.of_rewrite.specs.Renewal.{packet_at, header_span, address_span, carried_span}
 
 -- a span's words in the bits of a frame
@@ -17,9 +17,9 @@ header_words l s = words_in (header_span (packet_at l) l.network) s
 abbrev pub carried_words : Layout → List ℕ → List ℕ
 carried_words l s = words_in (address_span (packet_at l) l.network) s ++ words_in (carried_span (packet_at l) l.network) s
 
--- how the checksum of what is carried is renewed: over IPv4 UDP's may be left out
+-- how the checksum of what is carried is updated: over IPv4 that of UDP is optional
 abbrev pub carried_rule : Network → ℕ → List ℕ → List ℕ → ℕ
-carried_rule Plain = renewed
-carried_rule Arp = renewed
-carried_rule (Ipv4 p) = carried_renewed true p.transport
-carried_rule (Ipv6 named p) = carried_renewed false p.transport
+carried_rule Plain = updated
+carried_rule Arp = updated
+carried_rule (Ipv4 p) = carried_updated true p.transport
+carried_rule (Ipv6 named p) = carried_updated false p.transport

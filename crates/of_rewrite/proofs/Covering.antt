@@ -13,7 +13,7 @@ use Rattle.of_headers.proofs.LocateLemmas.{width-append, width_bytes}
 use Rattle.of_layers.specs.Looking.{name_is}
 use Rattle.of_headers.specs.declared.layout.Layout.{Layout}
 use Rattle.of_rewrite.specs.declared.sums.Span.{Span}
-use Rattle.of_rewrite.specs.Checksum.{words_of, renewed}
+use Rattle.of_rewrite.specs.Checksum.{words_of, updated}
 use Rattle.of_rewrite.specs.Rewriting.{change_at, replace_at, number_set, rule_in, words, without_addresses, header_cover, address_cover, carried_cover}
 use Rattle.of_rewrite.specs.Renewal.{packet_at, header_span, address_span, carried_span}
 use Rattle.of_rewrite.proofs.CoveredWords.{words_in, header_words, carried_words, carried_rule}
@@ -251,7 +251,7 @@ covers_at ends tags type (Ipv6 ns es c rest) h n f = covers_ipv6 ends tags type 
 pub covers : (l : Layers) → IsLayers l → (n : ℕ) (f : ℕ → ℕ) → Covers l n f
 covers l h n f = covers_at l.ends l.tags l.type l.body h n f
 
--- ---- the same by where layers stand
+-- ---- the same by where layers begin
 
 pub change_id : (n : ℕ) (cs : List Cell) → change_at n (λ x. x) cs ≡ cs
 change_id n [] = refl
@@ -265,7 +265,7 @@ change_id n (c ∷ cs) =
 abbrev pub renew_in : Layout → List ℕ → List ℕ → List Cell → List Cell
 renew_in l old new cs =
     change_at checksum (λ c. carried_rule l.network c (carried_words l old) (carried_words l new))
-    (change_at header_checksum (λ c. renewed c (header_words l old) (header_words l new)) cs)
+    (change_at header_checksum (λ c. updated c (header_words l old) (header_words l new)) cs)
 
 abbrev pub set_in_place : ℕ → ℕ → Layers → List Cell
 set_in_place n v l = renew_in (layout_of l) (spelt (cells l)) (spelt (replace_at n v (cells l))) (replace_at n v (cells l))
@@ -293,4 +293,4 @@ set_where n v l h =
     let na = sym w.in_addresses in
     let nc = sym w.in_carried in
     let rule = rule_is_that b in
-    λ j. change_at checksum (λ c. rule j c (oa j ++ oc j) (na j ++ nc j)) (change_at header_checksum (λ c. renewed c (oh j) (nh j)) (replace_at n v (cells l)))
+    λ j. change_at checksum (λ c. rule j c (oa j ++ oc j) (na j ++ nc j)) (change_at header_checksum (λ c. updated c (oh j) (nh j)) (replace_at n v (cells l)))

@@ -10,7 +10,7 @@ use Rattle.of_layers.specs.Reading.{word}
 use Rattle.of_layers.specs.WellFormed.{AreBytes}
 use Rattle.of_layers.proofs.BitLemmas.{length-bits, length-bits_of, bits_front, append_same}
 use Rattle.of_rewrite.specs.Rewriting.{change_at}
-use Rattle.of_rewrite.specs.Spans.{put, with_word}
+use Rattle.of_rewrite.specs.Spans.{over_bits, with_word}
 use Rattle.of_rewrite.proofs.Putting.{put_after, word_bits_of, frame_parts}
 
 -- each number is within its bits
@@ -79,10 +79,10 @@ not_found n at (c ∷ cs) f e =
       | false ↦ λ h. let r = not_found n (at + c.width) cs f h in (λ j. c ∷ r.0 j, r.1)
     ] e
 
-pub put_changed : (n : ℕ) (cs : List Cell) (p : Place) (f : ℕ → ℕ) (r : Found n 0 cs p) → spelt (change_at n f cs) ≡ put p.first p.bits (f r.value) (spelt cs)
+pub put_changed : (n : ℕ) (cs : List Cell) (p : Place) (f : ℕ → ℕ) (r : Found n 0 cs p) → spelt (change_at n f cs) ≡ over_bits p.first p.bits (f r.value) (spelt cs)
 put_changed n cs p f r =
     let l : length r.front ≡ p.first = omega (arith, r.below) in
-    r.changed f ∙ sym (ap (put p.first p.bits (f r.value)) r.is ∙ put_after r.front p.first p.bits (f r.value) r.value r.back l)
+    r.changed f ∙ sym (ap (over_bits p.first p.bits (f r.value)) r.is ∙ put_after r.front p.first p.bits (f r.value) r.value r.back l)
 
 -- ---- other numbers
 
@@ -101,10 +101,10 @@ others m n at f (c ∷ cs) ne =
 
 -- ---- words of bytes
 
-pub word_put : (at w : ℕ) (s : List ℕ) → AreBytes s → at + 2 ≤ length s → w < 65536 → bits_of (with_word at w s) ≡ put (8 * at) 16 w (bits_of s)
+pub word_put : (at w : ℕ) (s : List ℕ) → AreBytes s → at + 2 ≤ length s → w < 65536 → bits_of (with_word at w s) ≡ over_bits (8 * at) 16 w (bits_of s)
 word_put at w s b h small =
     let l : length (bits_of (take at s)) ≡ 8 * at = length-bits_of (take at s) ∙ ap (λ (k : ℕ). 8 * k) (length-take-le at s (omega arith)) in
-    word_bits_of at w s h small ∙ sym (ap (put (8 * at) 16 w) (frame_parts at s b h) ∙ put_after (bits_of (take at s)) (8 * at) 16 w (word s at) (bits_of (drop (at + 2) s)) l)
+    word_bits_of at w s h small ∙ sym (ap (over_bits (8 * at) 16 w) (frame_parts at s b h) ∙ put_after (bits_of (take at s)) (8 * at) 16 w (word s at) (bits_of (drop (at + 2) s)) l)
 
 pub word_found : (n at : ℕ) (cs : List Cell) (s : List ℕ) (p : Place) (r : Found n 0 cs p) → p ≡ record { first = 8 * at; bits = 16 } → AreBytes s → at + 2 ≤ length s → bits_of s ≡ spelt cs → r.value < 65536 → r.value ≡ word s at
 word_found n at cs s p r e b h is small =

@@ -6,7 +6,7 @@ use Rattle.std.proofs.lemmas.List.{get_or-set_same, get_or-set_other}
 use Rattle.std.proofs.Math.ListN.{length-set}
 use Rattle.of_layers.specs.Reading.{word}
 use Rattle.of_rewrite.specs.declared.sums.Sum.{Sum}
-use Rattle.of_rewrite.specs.Checksum.{fold, change, differ, renewed}
+use Rattle.of_rewrite.specs.Checksum.{fold, change, differ, updated}
 use Rattle.of_rewrite.specs.Spans.{words_at, span_words, followed, stepped, with_word}
 use Rattle.of_rewrite.proofs.Folding.{fold_small}
 use Rattle.of_rewrite.proofs.Changes.{same_word, change_none, differ_none, or_false, change_append, differ_append, renewed_then}
@@ -92,7 +92,7 @@ adds n a at w s h e f = elim (cases_lt at a) [
 
 -- ---- the checksum
 
-value_step : (t : Bool) (v o w d : ℕ) → v ≤ 65535 → d ≡ cond t (change (o ∷ []) (w ∷ [])) 0 → cond t (renewed v (o ∷ []) (w ∷ [])) v ≡ 65535 - fold (65535 - v + d)
+value_step : (t : Bool) (v o w d : ℕ) → v ≤ 65535 → d ≡ cond t (change (o ∷ []) (w ∷ [])) 0 → cond t (updated v (o ∷ []) (w ∷ [])) v ≡ 65535 - fold (65535 - v + d)
 value_step true v o w d h e = rw e refl
 value_step false v o w d h e =
     let z : 65535 - v + d ≡ 65535 - v = omega arith in
@@ -103,7 +103,7 @@ differ_step : (t m x d : Bool) → d ≡ cond t x false → cond t (m || x) m �
 differ_step true m x d e = rw e refl
 differ_step false m x d e = rw e (sym (or_false m))
 
-stepped_is : (t : Bool) (o w : ℕ) (m : Sum) → stepped t o w m ≡ record m { value = cond t (renewed m.value (o ∷ []) (w ∷ [])) m.value; differs = cond t (m.differs || not (o == w)) m.differs }
+stepped_is : (t : Bool) (o w : ℕ) (m : Sum) → stepped t o w m ≡ record m { value = cond t (updated m.value (o ∷ []) (w ∷ [])) m.value; differs = cond t (m.differs || not (o == w)) m.differs }
 stepped_is true o w m = refl
 stepped_is false o w m = refl
 
@@ -115,13 +115,13 @@ with_both : (m : Sum) (v v' : ℕ) (d d' : Bool) → v ≡ v' → d ≡ d' → �
 with_both m v v' d d' e f = λ j. record m { value = e j; differs = f j }
 
 follow_pair : (m : Sum) (t u : Bool) (o w : ℕ) (a a' b b' : List ℕ) → m.value ≤ 65535 → Adds t o w a a' → Adds u o w b b' →
-    stepped u o w (stepped t o w m) ≡ record m { value = renewed m.value (a ++ b) (a' ++ b'); differs = m.differs || differ (a ++ b) (a' ++ b') }
+    stepped u o w (stepped t o w m) ≡ record m { value = updated m.value (a ++ b) (a' ++ b'); differs = m.differs || differ (a ++ b) (a' ++ b') }
 follow_pair m t u o w a a' b b' small x y =
-    let v : ℕ = cond t (renewed m.value (o ∷ []) (w ∷ [])) m.value in
-    let first : cond t (renewed m.value (o ∷ []) (w ∷ [])) m.value ≡ 65535 - fold (65535 - m.value + change a a') = value_step t m.value o w (change a a') small x.change_is in
+    let v : ℕ = cond t (updated m.value (o ∷ []) (w ∷ [])) m.value in
+    let first : cond t (updated m.value (o ∷ []) (w ∷ [])) m.value ≡ 65535 - fold (65535 - m.value + change a a') = value_step t m.value o w (change a a') small x.change_is in
     let low : v ≤ 65535 = omega arith in
-    let second : cond u (renewed v (o ∷ []) (w ∷ [])) v ≡ 65535 - fold (65535 - v + change b b') = value_step u v o w (change b b') low y.change_is in
-    let value : cond u (renewed v (o ∷ []) (w ∷ [])) v ≡ renewed m.value (a ++ b) (a' ++ b') =
+    let second : cond u (updated v (o ∷ []) (w ∷ [])) v ≡ 65535 - fold (65535 - v + change b b') = value_step u v o w (change b b') low y.change_is in
+    let value : cond u (updated v (o ∷ []) (w ∷ [])) v ≡ updated m.value (a ++ b) (a' ++ b') =
     second ∙ ap (λ (k : ℕ). 65535 - fold (65535 - k + change b b')) first ∙ renewed_then m.value (change a a') (change b b')
     ∙ ap (λ (k : ℕ). 65535 - fold (65535 - m.value + k)) (sym (change_append a a' b b' x.long)) in
     let d : Bool = cond t (m.differs || not (o == w)) m.differs in

@@ -17,8 +17,8 @@ use Rattle.of_headers.proofs.LocateLemmas.{width-append}
 use Rattle.of_rewrite.specs.Checksum.{number}
 use Rattle.of_rewrite.specs.Rewriting.{number_set, field_set}
 use Rattle.of_rewrite.specs.Tags.{tag_before, pushed, inner_tags, popped}
-use Rattle.of_rewrite.specs.Aging.{ttl_of, aged_from}
-use Rattle.of_rewrite.specs.Frames.{IsFrame, octets_of, bytes_in, frame_set, frame_pushed, frame_popped, frame_ttl, frame_aged}
+use Rattle.of_rewrite.specs.TimeToLive.{ttl_of, ttl_decremented_from}
+use Rattle.of_rewrite.specs.Frames.{IsFrame, octets_of, bytes_in, frame_set, frame_pushed, frame_popped, frame_ttl, frame_ttl_decremented}
 use Rattle.of_rewrite.proofs.Parts.{length_changed}
 use Rattle.of_rewrite.proofs.Renewing.{number-bits}
 use Rattle.of_rewrite.proofs.Standing.{length_spelt}
@@ -175,18 +175,18 @@ ttl_frame v s h =
     let l = set_is ttl v s h in
     (l, (omega (arith, l, h.0), bytes_below (number_set ttl v (layers_of s))))
 
-aged_wide : (o : Option ℕ) (l : Layers) → width (aged_from o l) ≡ width (cells l)
+aged_wide : (o : Option ℕ) (l : Layers) → width (ttl_decremented_from o l) ≡ width (cells l)
 aged_wide None l = refl
 aged_wide (Some t) l = elim (nat_le t 1) as (λ b. width (cond b (cells l) (number_set ttl (t - 1) l)) ≡ width (cells l)) [
   | true ↦ refl
   | false ↦ width_set ttl (t - 1) l
 ]
 
-pub aged_frame : (s : List ℕ) → IsFrame s → (length (frame_aged s) ≡ length s) × IsFrame (frame_aged s)
-unfolding frame_aged
+pub aged_frame : (s : List ℕ) → IsFrame s → (length (frame_ttl_decremented s) ≡ length s) × IsFrame (frame_ttl_decremented s)
+unfolding frame_ttl_decremented
 aged_frame s h =
-    let cs : List Cell = aged_from (ttl_of (layers_of s)) (layers_of s) in
-    let l : length (bytes_in (aged_from (ttl_of (layers_of s)) (layers_of s))) ≡ length s = length_in cs ∙ omega (arith, aged_wide (ttl_of (layers_of s)) (layers_of s), frame_width s h) in
+    let cs : List Cell = ttl_decremented_from (ttl_of (layers_of s)) (layers_of s) in
+    let l : length (bytes_in (ttl_decremented_from (ttl_of (layers_of s)) (layers_of s))) ≡ length s = length_in cs ∙ omega (arith, aged_wide (ttl_of (layers_of s)) (layers_of s), frame_width s h) in
     (l, (omega (arith, l, h.0), bytes_below cs))
 
 pub pushed_frame : (type : ℕ) (s : List ℕ) → IsFrame s → (length (frame_pushed type s) ≡ length s + 4) × IsFrame (frame_pushed type s)
@@ -213,14 +213,14 @@ pub is_ttl : (v : ℕ) (s t : List ℕ) → AreBytes t → bits_of t ≡ spelt (
 unfolding frame_ttl
 is_ttl v s t b e = bytes_are (number_set ttl v (layers_of s)) t b e
 
-pub is_aged : (s t : List ℕ) (o : Option ℕ) → o ≡ ttl_of (layers_of s) → t ≡ bytes_in (aged_from o (layers_of s)) → t ≡ frame_aged s
-unfolding frame_aged
-is_aged s t o e f = f ∙ ap (λ (o : Option ℕ). bytes_in (aged_from o (layers_of s))) e
+pub is_aged : (s t : List ℕ) (o : Option ℕ) → o ≡ ttl_of (layers_of s) → t ≡ bytes_in (ttl_decremented_from o (layers_of s)) → t ≡ frame_ttl_decremented s
+unfolding frame_ttl_decremented
+is_aged s t o e f = f ∙ ap (λ (o : Option ℕ). bytes_in (ttl_decremented_from o (layers_of s))) e
 
-pub is_last : (s : List ℕ) (v : ℕ) → Some v ≡ ttl_of (layers_of s) → v ≤ 1 → s ≡ bytes_in (cells (layers_of s)) → s ≡ frame_aged s
+pub is_last : (s : List ℕ) (v : ℕ) → Some v ≡ ttl_of (layers_of s) → v ≤ 1 → s ≡ bytes_in (cells (layers_of s)) → s ≡ frame_ttl_decremented s
 is_last s v e h f = is_aged s s (Some v) e (f ∙ ap (λ (b : Bool). bytes_in (cond b (cells (layers_of s)) (number_set ttl (v - 1) (layers_of s)))) (sym (le-leb v 1 h)))
 
-pub is_less : (s t : List ℕ) (v : ℕ) → Some v ≡ ttl_of (layers_of s) → 1 < v → t ≡ frame_ttl (v - 1) s → t ≡ frame_aged s
+pub is_less : (s t : List ℕ) (v : ℕ) → Some v ≡ ttl_of (layers_of s) → 1 < v → t ≡ frame_ttl (v - 1) s → t ≡ frame_ttl_decremented s
 unfolding frame_ttl
 is_less s t v e h f = is_aged s t (Some v) e (f ∙ ap (λ (b : Bool). bytes_in (cond b (cells (layers_of s)) (number_set ttl (v - 1) (layers_of s)))) (sym (lt-leb v 1 h)))
 

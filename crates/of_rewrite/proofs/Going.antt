@@ -8,8 +8,8 @@ use Rattle.of_layers.specs.Reading.{word}
 use Rattle.of_layers.proofs.BitLemmas.{length-bits_of}
 use Rattle.of_rewrite.specs.declared.sums.Sum.{Sum}
 use Rattle.of_rewrite.specs.declared.sums.Sums.{Sums}
-use Rattle.of_rewrite.specs.Checksum.{fold, change, differ, renewed}
-use Rattle.of_rewrite.specs.Spans.{put, words_at, span_words, covered, followed, both_followed, AreEven, IsEven}
+use Rattle.of_rewrite.specs.Checksum.{fold, change, differ, updated}
+use Rattle.of_rewrite.specs.Spans.{over_bits, words_at, span_words, covered, followed, both_followed, AreEven, IsEven}
 use Rattle.of_rewrite.proofs.Changes.{Apart, change_over, renewed_then, renewed_same, differ_none, or_false, or_right}
 use Rattle.of_rewrite.proofs.Putting.{put_parts, bits_lower}
 
@@ -37,7 +37,7 @@ covered_apart m a b c e h =
 followed_then : (m : Sum) (a b c : List ℕ) → IsEven m → Steps a b c → followed (followed m a b) b c ≡ followed m a c
 followed_then m a b c e h =
     let o = change_over (covered m a) (covered m b) (covered m c) (covered_apart m a b c e h) in
-    let value : renewed (renewed m.value (covered m a) (covered m b)) (covered m b) (covered m c) ≡ renewed m.value (covered m a) (covered m c) =
+    let value : updated (updated m.value (covered m a) (covered m b)) (covered m b) (covered m c) ≡ updated m.value (covered m a) (covered m c) =
     renewed_then m.value (change (covered m a) (covered m b)) (change (covered m b) (covered m c)) ∙ ap (λ (k : ℕ). 65535 - fold (65535 - m.value + k)) (sym o.0) in
     let differs : ((m.differs || differ (covered m a) (covered m b)) || differ (covered m b) (covered m c)) ≡ (m.differs || differ (covered m a) (covered m c)) =
     or_right m.differs (differ (covered m a) (covered m b)) (differ (covered m b) (covered m c)) ∙ ap (λ (t : Bool). m.differs || t) (sym o.1) in
@@ -52,19 +52,19 @@ both_then m a b c e h =
 -- ---- how far it has come
 
 pub record Going (p n v : ℕ) (s : List ℕ) (m : Sums) (first left : ℕ) (t : List ℕ) (k : Sums) : Type 0 where
-  pub bits_are : put first left v (bits_of t) ≡ put p n v (bits_of s)
+  pub bits_are : over_bits first left v (bits_of t) ≡ over_bits p n v (bits_of s)
   pub sums_are : k ≡ both_followed m s t
   pub ahead : (i : ℕ) → 0 < left → i % 2 ≡ 0 → first < 8 * i + 16 → word s i ≡ word t i
   pub end_is : first + left ≡ p + n
   pub long : length t ≡ length s
 
-ends_bits : (first v : ℕ) (b : List ℕ) → b ≡ put first 0 v b
+ends_bits : (first v : ℕ) (b : List ℕ) → b ≡ over_bits first 0 v b
 unfolding bits
 ends_bits first v b = let e : first + 0 ≡ first = omega arith in rw e (sym (take-append-drop first b))
 
 pub goes_on : (p n v : ℕ) (s : List ℕ) (m : Sums) (first left width : ℕ) (t u : List ℕ) (k q : Sums) → Going p n v s m first left t k → AreEven m →
     (p + n + 15) / 16 * 2 ≤ length s → 0 < left → width ≡ min left (16 - first % 16) → length u ≡ length t →
-    bits_of u ≡ put first width (v / 2 ^ (left - width) % 65536) (bits_of t) → q ≡ both_followed k t u → ((i : ℕ) → i % 2 ≡ 0 → i ≢ first / 16 * 2 → word u i ≡ word t i) →
+    bits_of u ≡ over_bits first width (v / 2 ^ (left - width) % 65536) (bits_of t) → q ≡ both_followed k t u → ((i : ℕ) → i % 2 ≡ 0 → i ≢ first / 16 * 2 → word u i ≡ word t i) →
     Going p n v s m (first + width) (left - width) u q
 goes_on p n v s m first left width t u k q g even room some w long bs qs kept =
     let most : width ≤ 16 = omega arith in
@@ -73,13 +73,13 @@ goes_on p n v s m first left width t u k q g even room some w long bs qs kept =
     let same : length t ≡ length s = g.long in
     let split : width + (left - width) ≡ left = omega arith in
     let inside : first + (width + (left - width)) ≤ length (bits_of t) = omega (arith, length-bits_of t) in
-    let low : bits_of u ≡ put first width (v / 2 ^ (left - width)) (bits_of t) = bs ∙ ap (λ (x : List ℕ). take first (bits_of t) ++ (x ++ drop (first + width) (bits_of t))) (bits_lower width 16 (v / 2 ^ (left - width)) most) in
+    let low : bits_of u ≡ over_bits first width (v / 2 ^ (left - width)) (bits_of t) = bs ∙ ap (λ (x : List ℕ). take first (bits_of t) ++ (x ++ drop (first + width) (bits_of t))) (bits_lower width 16 (v / 2 ^ (left - width)) most) in
     let steps : Steps s t u = λ i e. elim (cases_eq i (first / 16 * 2)) [
       | inl here ↦ inl (g.ahead i some e (omega arith))
       | inr ne ↦ inr (sym (kept i e ne))
     ] in
     record {
-      bits_are = ap (put (first + width) (left - width) v) low ∙ sym (put_parts first width (left - width) v (bits_of t) inside) ∙ ap (λ (x : ℕ). put first x v (bits_of t)) split ∙ g.bits_are;
+      bits_are = ap (over_bits (first + width) (left - width) v) low ∙ sym (put_parts first width (left - width) v (bits_of t) inside) ∙ ap (λ (x : ℕ). over_bits first x v (bits_of t)) split ∙ g.bits_are;
       sums_are = qs ∙ ap (λ (x : Sums). both_followed x t u) g.sums_are ∙ both_then m s t u even steps;
       ahead = λ i more e before. g.ahead i some e (omega arith) ∙ sym (kept i e (omega arith));
       end_is = omega arith;
@@ -88,7 +88,7 @@ goes_on p n v s m first left width t u k q g even room some w long bs qs kept =
 
 followed_none : (m : Sum) (s : List ℕ) → m.value ≤ 65535 → m ≡ followed m s s
 followed_none m s h =
-    let v : m.value ≡ renewed m.value (covered m s) (covered m s) = sym (renewed_same m.value (covered m s) h) in
+    let v : m.value ≡ updated m.value (covered m s) (covered m s) = sym (renewed_same m.value (covered m s) h) in
     let d : m.differs ≡ (m.differs || differ (covered m s) (covered m s)) = sym (ap (λ (t : Bool). m.differs || t) (differ_none (covered m s)) ∙ or_false m.differs) in
     λ j. record m { value = v j; differs = d j }
 
@@ -99,5 +99,5 @@ starts p n v s m f g =
     record { bits_are = refl; sums_are = λ j. record { header = x j; carried = y j }; ahead = λ i more even before. refl; end_is = refl; long = refl }
 
 -- nothing is left
-pub ends : (p n v : ℕ) (s : List ℕ) (m : Sums) (first : ℕ) (t : List ℕ) (k : Sums) → Going p n v s m first 0 t k → (bits_of t ≡ put p n v (bits_of s)) × (k ≡ both_followed m s t)
+pub ends : (p n v : ℕ) (s : List ℕ) (m : Sums) (first : ℕ) (t : List ℕ) (k : Sums) → Going p n v s m first 0 t k → (bits_of t ≡ over_bits p n v (bits_of s)) × (k ≡ both_followed m s t)
 ends p n v s m first t k g = (ends_bits first v (bits_of t) ∙ g.bits_are, g.sums_are)

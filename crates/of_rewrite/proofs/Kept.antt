@@ -83,7 +83,7 @@ has_both n (c ∷ a) b h k = elim (name_is n c.name) as (λ t. (t || has n a) �
   | false ↦ λ g. has_both n a b g k
 ] h
 
--- behind a part the others have no such name
+-- after a part the others have no such name
 pub cut_named : (n : ℕ) (f : ℕ → ℕ) (a b : List Cell) → has n b ≡ false → cut_at n f (a ++ b) ≡ cut_at n f a ++ b
 cut_named n f a b h = cut_parts n f a b (λ _. h) ∙ ap (λ (x : List Cell). cut_at n f a ++ x) (cut_none n f b h)
 
@@ -108,7 +108,7 @@ extensions_named (Fragment ns ∷ (e ∷ es)) = all_append (λ n. n == 10) (cell
 extensions_nameless : (n : ℕ) (es : List Extension) → n ≢ 10 → has n (extension_cells es) ≡ false
 extensions_nameless n es h = absent_by (λ n. n == 10) n (extension_cells es) (extensions_named es) (ne_eqb n 10 h)
 
--- ---- what stands behind the type
+-- ---- what follows the type
 
 assoc_last : (h o c r z : List Cell) → h ++ (o ++ ((c ++ r) ++ z)) ≡ (h ++ o) ++ (c ++ (r ++ z))
 assoc_last h o c r z = simp append_assoc

@@ -15,7 +15,7 @@ use Rattle.of_layers.specs.WellFormed.{AreBytes, Fits, AreTags, IsCarried, IsArp
 use Rattle.of_layers.specs.declared.transport.Transport.{Transport}
 use Rattle.of_layers.proofs.FrameLemmas.{are_layers, only_layers}
 use Rattle.of_headers.specs.Places.{width}
-use Rattle.of_rewrite.specs.Rewriting.{change_at, number_set, header_renewed, carried_after}
+use Rattle.of_rewrite.specs.Rewriting.{change_at, number_set, header_updated, carried_after}
 use Rattle.of_rewrite.specs.Replaced.{Replaceable, LeavesLayers, numbers_with, tags_with, carried_with, body_with, layers_with, layers_set}
 use Rattle.of_rewrite.proofs.Finding.{Sound, names_apart}
 use Rattle.of_rewrite.proofs.Kept.{cut_at, cut_body, cut_layers}
@@ -197,23 +197,23 @@ trim_changed k g (c ∷ cs) h =
 
 -- ---- the layers of the new frame
 
-trim_set : (n v : ℕ) (l : Layers) → Sound (cells l) → Replaceable n → trim (number_set n v l) ≡ cut_at 103 (carried_after l.body n v) (cut_at 102 (header_renewed l.body n v) (cut_at n (λ x. v) (cells l)))
+trim_set : (n v : ℕ) (l : Layers) → Sound (cells l) → Replaceable n → trim (number_set n v l) ≡ cut_at 103 (carried_after l.body n v) (cut_at 102 (header_updated l.body n v) (cut_at n (λ x. v) (cells l)))
 unfolding number_set
 trim_set n v l h free =
     let cs : List Cell = cells l in
-    let g : ℕ → ℕ = header_renewed l.body n v in
+    let g : ℕ → ℕ = header_updated l.body n v in
     let k : ℕ → ℕ = carried_after l.body n v in
     let one : List Cell = change_at n (λ x. v) (cells l) in
-    let two : List Cell = change_at 102 (header_renewed l.body n v) (change_at n (λ x. v) (cells l)) in
+    let two : List Cell = change_at 102 (header_updated l.body n v) (change_at n (λ x. v) (cells l)) in
     let sound_one : SoundAt 102 (change_at n (λ x. v) (cells l)) = sound_changed 102 n (λ x. v) cs (λ e. free.0 (sym e)) (sound_at 102 cs h) in
-    let sound_two : SoundAt 103 (change_at 102 (header_renewed l.body n v) (change_at n (λ x. v) (cells l))) = sound_changed 103 102 g one (omega arith) (sound_changed 103 n (λ x. v) cs (λ e. free.1 (sym e)) (sound_at 103 cs h)) in
+    let sound_two : SoundAt 103 (change_at 102 (header_updated l.body n v) (change_at n (λ x. v) (cells l))) = sound_changed 103 102 g one (omega arith) (sound_changed 103 n (λ x. v) cs (λ e. free.1 (sym e)) (sound_at 103 cs h)) in
     trim_changed 103 k two sound_two
     ∙ ap (cut_at 103 k) (trim_changed 102 g one sound_one ∙ ap (cut_at 102 g) (trim_changed n (λ x. v) cs (sound_at n cs h) ∙ ap (cut_at n (λ x. v)) (trim_sound cs h)))
 
-set_cells : (n v : ℕ) (l : Layers) → Replaceable n → LeavesLayers n → cut_at 103 (carried_after l.body n v) (cut_at 102 (header_renewed l.body n v) (cut_at n (λ x. v) (cells l))) ≡ cells (layers_set n v l)
+set_cells : (n v : ℕ) (l : Layers) → Replaceable n → LeavesLayers n → cut_at 103 (carried_after l.body n v) (cut_at 102 (header_updated l.body n v) (cut_at n (λ x. v) (cells l))) ≡ cells (layers_set n v l)
 unfolding layers_set row_of
 set_cells n v l free leaves =
-    let g : ℕ → ℕ = header_renewed l.body n v in
+    let g : ℕ → ℕ = header_updated l.body n v in
     let k : ℕ → ℕ = carried_after l.body n v in
     let one : Layers = layers_with n (λ x. v) l in
     ap (λ (x : List Cell). cut_at 103 k (cut_at 102 g x)) (cut_layers n (λ x. v) l leaves.0 leaves.1)
@@ -224,8 +224,8 @@ set_layers : (n v : ℕ) (l : Layers) → LeavesLayers n → IsLayers l → IsLa
 unfolding layers_set row_of
 set_layers n v l leaves h =
     let one : IsLayers (layers_with n (λ x. v) l) = layers_kept n (λ x. v) l leaves.1 h in
-    let two = layers_kept 102 (header_renewed l.body n v) (layers_with n (λ x. v) l) (omega arith) one in
-    layers_kept 103 (carried_after l.body n v) (layers_with 102 (header_renewed l.body n v) (layers_with n (λ x. v) l)) (omega arith) two
+    let two = layers_kept 102 (header_updated l.body n v) (layers_with n (λ x. v) l) (omega arith) one in
+    layers_kept 103 (carried_after l.body n v) (layers_with 102 (header_updated l.body n v) (layers_with n (λ x. v) l)) (omega arith) two
 
 pub layers_are : (n v : ℕ) (s t : List ℕ) → Replaceable n → LeavesLayers n → AreBytes s → 14 ≤ length s → AreBytes t → bits_of t ≡ spelt (number_set n v (layers_of s)) → layers_of t ≡ layers_set n v (layers_of s)
 layers_are n v s t free leaves b h c e =

@@ -1,4 +1,4 @@
--- Checksums that followed are those that renew.
+-- Checksums that followed are those that are updated.
 use Rattle.std.proofs.Common.{◌≡◌, ℕ, zero, suc, ◌+◌, ◌*◌, ◌/◌, ◌%◌, ◌^◌, ◌<◌, ◌≤◌, ◌≢◌, Bool, true, false, cond, List, ◌∷◌, ◌++◌, length, take, drop, set, subst, Option, Some, None, refl, sym, ap, ◌∙◌, arith}
 use Rattle.std.specs.Prelude.{◌==◌, ◌&&◌, ◌||◌, not}
 use Rattle.std.proofs.lemmas.List.{append-nil, take_at, drop_at, length-take-le, take-append-drop, drop-drop}
@@ -22,9 +22,9 @@ use Rattle.of_headers.specs.Places.{layout_of}
 use Rattle.of_rewrite.specs.declared.sums.Span.{Span}
 use Rattle.of_rewrite.specs.declared.sums.Sum.{Sum}
 use Rattle.of_rewrite.specs.declared.sums.Sums.{Sums}
-use Rattle.of_rewrite.specs.Checksum.{number, words_of, differ, renewed, never_zero, carried_renewed}
+use Rattle.of_rewrite.specs.Checksum.{number, words_of, differ, updated, never_zero, carried_updated}
 use Rattle.of_rewrite.specs.Rewriting.{change_at, replace_at, without_addresses}
-use Rattle.of_rewrite.specs.Spans.{put, words_at, span_words, covered, both_followed, AreEven}
+use Rattle.of_rewrite.specs.Spans.{over_bits, words_at, span_words, covered, both_followed, AreEven}
 use Rattle.of_rewrite.specs.Renewal.{checksum_byte, word_or_zero, moved, header_at, carried_at, sums_of, settled, settled_in, written_at, with_header, with_carried, HasRoomIn, HasRoom, no_words, packet_at, header_span, address_span, carried_span}
 use Rattle.of_rewrite.proofs.CoveredWords.{words_in, header_words, carried_words, carried_rule}
 use Rattle.of_rewrite.specs.Replaced.{Replaceable}
@@ -124,8 +124,8 @@ step k cs t None f w h b is e room g small = is ∙ ap spelt (sym (not_found k 0
 step k cs t (Some at) f w h b is e room g small =
     let r : Found k 0 cs (word_place at) = found k 0 cs (word_place at) e in
     let value : r.value ≡ word t at = word_found k at cs t (word_place at) r refl b room is (h r.value r.look) in
-    word_put at w t b room small ∙ ap (put (8 * at) 16 w) is
-    ∙ sym (put_changed k cs (word_place at) f r ∙ ap (λ (z : ℕ). put (8 * at) 16 z (spelt cs)) (ap f value ∙ g))
+    word_put at w t b room small ∙ ap (over_bits (8 * at) 16 w) is
+    ∙ sym (put_changed k cs (word_place at) f r ∙ ap (λ (z : ℕ). over_bits (8 * at) 16 z (spelt cs)) (ap f value ∙ g))
 
 -- the same number in other bytes
 same_value : (k : ℕ) (cs ds : List Cell) (t u : List ℕ) (o : Option ℕ) → Small k cs → Small k ds → AreBytes t → AreBytes u → bits_of t ≡ spelt cs → bits_of u ≡ spelt ds →
@@ -149,12 +149,12 @@ in_carried n q Udp h = omega arith
 in_carried n q Icmpv4 h = omega arith
 in_carried n q Icmpv6 h = omega arith
 
-kind_rule : (t : Bool) (k : Transport) (z x : ℕ) (a b : List ℕ) (f g : Span) → z ≡ x → carried_renewed t k z a b ≡ settled t k z (record { value = renewed x a b; differs = false || differ a b; front = f; back = g })
-kind_rule t Nothing z x a b f g e = ap (λ (k : ℕ). renewed k a b) e
-kind_rule t Tcp z x a b f g e = ap (λ (k : ℕ). renewed k a b) e
-kind_rule t Udp z x a b f g e = ap (λ (k : ℕ). cond ((t && (z == 0)) || not (differ a b)) z (never_zero (renewed k a b))) e
-kind_rule t Icmpv4 z x a b f g e = ap (λ (k : ℕ). renewed k a b) e
-kind_rule t Icmpv6 z x a b f g e = ap (λ (k : ℕ). renewed k a b) e
+kind_rule : (t : Bool) (k : Transport) (z x : ℕ) (a b : List ℕ) (f g : Span) → z ≡ x → carried_updated t k z a b ≡ settled t k z (record { value = updated x a b; differs = false || differ a b; front = f; back = g })
+kind_rule t Nothing z x a b f g e = ap (λ (k : ℕ). updated k a b) e
+kind_rule t Tcp z x a b f g e = ap (λ (k : ℕ). updated k a b) e
+kind_rule t Udp z x a b f g e = ap (λ (k : ℕ). cond ((t && (z == 0)) || not (differ a b)) z (never_zero (updated k a b))) e
+kind_rule t Icmpv4 z x a b f g e = ap (λ (k : ℕ). updated k a b) e
+kind_rule t Icmpv6 z x a b f g e = ap (λ (k : ℕ). updated k a b) e
 
 never_below : (k : ℕ) → k < 65536 → never_zero k < 65536
 never_below k h = elim (k == 0) as (λ t. cond t 65535 k < 65536) [ true ↦ omega arith | false ↦ h ]
@@ -176,9 +176,9 @@ rooms n q network.Arp h = (tt, tt)
 rooms n q (network.Ipv4 p) h = let a : 20 ≤ p.at = h.0 in let b : q + p.at + size_of p.transport ≤ n = h.1 in (omega arith, in_carried n (q + p.at) p.transport b)
 rooms n q (network.Ipv6 named p) h = (tt, in_carried n (q + p.at) p.transport h.1)
 
-rule_is : (net : Network) (z x : ℕ) (a b : List ℕ) (f g : Span) → z ≡ x → carried_rule net z a b ≡ settled_in net z (record { value = renewed x a b; differs = false || differ a b; front = f; back = g })
-rule_is network.Plain z x a b f g e = ap (λ (k : ℕ). renewed k a b) e
-rule_is network.Arp z x a b f g e = ap (λ (k : ℕ). renewed k a b) e
+rule_is : (net : Network) (z x : ℕ) (a b : List ℕ) (f g : Span) → z ≡ x → carried_rule net z a b ≡ settled_in net z (record { value = updated x a b; differs = false || differ a b; front = f; back = g })
+rule_is network.Plain z x a b f g e = ap (λ (k : ℕ). updated k a b) e
+rule_is network.Arp z x a b f g e = ap (λ (k : ℕ). updated k a b) e
 rule_is (network.Ipv4 p) z x a b f g e = kind_rule true p.transport z x a b f g e
 rule_is (network.Ipv6 named p) z x a b f g e = kind_rule false p.transport z x a b f g e
 
@@ -226,7 +226,7 @@ room_for l y s n st e f =
     subst P (sym e) (subst Q (sym f) st.room)
 
 pub renewed_all : (n v : ℕ) (p : Place) (l : Layers) (s t : List ℕ) → Stands l s → bits_of s ≡ spelt (cells l) → AreBytes s → AreBytes t → length t ≡ length s → Replaceable n → locate_at 0 n (cells l) ≡ Some p →
-    bits_of t ≡ put p.first p.bits v (bits_of s) → (m : Sums) → m ≡ both_followed (sums_of (layout_of l) s) s t →
+    bits_of t ≡ over_bits p.first p.bits v (bits_of s) → (m : Sums) → m ≡ both_followed (sums_of (layout_of l) s) s t →
     bits_of (with_carried (layout_of l) m (with_header (layout_of l) m t)) ≡ spelt (set_in_place n v l)
 renewed_all n v p l s t st is b c long free place put_is m e =
     let y : Layout = layout_of l in
@@ -234,7 +234,7 @@ renewed_all n v p l s t st is b c long free place put_is m e =
     let oc : Option ℕ = carried_at (packet_at (layout_of l)) (layout_of l).network in
     let cs : List Cell = cells l in
     let ds : List Cell = replace_at n v (cells l) in
-    let js : bits_of t ≡ spelt (replace_at n v (cells l)) = put_is ∙ ap (put p.first p.bits v) is ∙ sym (put_changed n (cells l) p (λ x. v) (found n 0 (cells l) p place)) in
+    let js : bits_of t ≡ spelt (replace_at n v (cells l)) = put_is ∙ ap (over_bits p.first p.bits v) is ∙ sym (put_changed n (cells l) p (λ x. v) (found n 0 (cells l) p place)) in
     let room_t : HasRoom (layout_of l) (length t) = let P : ℕ → Type 0 = λ k. HasRoom (layout_of l) k in subst P (sym long) st.room in
     let in_s = rooms (length s) (packet_at (layout_of l)) (layout_of l).network st.room.1 in
     let in_t = rooms (length t) (packet_at (layout_of l)) (layout_of l).network room_t.1 in
@@ -242,14 +242,14 @@ renewed_all n v p l s t st is b c long free place put_is m e =
     let there : locate_at 0 102 (replace_at n v (cells l)) ≡ number_place 16 oh = oth.0 ∙ st.header in
     let small_h : Small 102 (cells l) = small_at 102 (cells l) oh st.is_sound st.header in
     let small_d : Small 102 (replace_at n v (cells l)) = λ x g. small_h x (sym oth.1 ∙ g) in
-    let f : ℕ → ℕ = λ k. renewed k (header_words (layout_of l) (spelt (cells l))) (header_words (layout_of l) (spelt (replace_at n v (cells l)))) in
+    let f : ℕ → ℕ = λ k. updated k (header_words (layout_of l) (spelt (cells l))) (header_words (layout_of l) (spelt (replace_at n v (cells l)))) in
     let w : ℕ = m.header.value in
     let same : word_or_zero t oh ≡ word_or_zero s oh = same_value 102 ds cs t s oh small_d small_h c b js is there st.header oth.1 in_t.0 in_s.0 in
     let old_h : header_words y (spelt cs) ≡ covered (sums_of y s).header s = ap (header_words y) (sym is) ∙ header_covered y s b st.room s in
     let new_h : header_words y (spelt ds) ≡ covered (sums_of y s).header t = ap (header_words y) (sym js) ∙ header_covered y t c room_t s in
-    let value_h : m.header.value ≡ renewed (word_or_zero s oh) (covered (sums_of y s).header s) (covered (sums_of y s).header t) = ap (λ (k : Sums). k.header.value) e in
-    let gives : f (word_or_zero t oh) ≡ m.header.value = (λ j. renewed (same j) (old_h j) (new_h j)) ∙ sym value_h in
-    let below : renewed (word_or_zero s oh) (covered (sums_of y s).header s) (covered (sums_of y s).header t) ≤ 65535 = renewed_below (word_or_zero s oh) (covered (sums_of y s).header s) (covered (sums_of y s).header t) in
+    let value_h : m.header.value ≡ updated (word_or_zero s oh) (covered (sums_of y s).header s) (covered (sums_of y s).header t) = ap (λ (k : Sums). k.header.value) e in
+    let gives : f (word_or_zero t oh) ≡ m.header.value = (λ j. updated (same j) (old_h j) (new_h j)) ∙ sym value_h in
+    let below : updated (word_or_zero s oh) (covered (sums_of y s).header s) (covered (sums_of y s).header t) ≤ 65535 = renewed_below (word_or_zero s oh) (covered (sums_of y s).header s) (covered (sums_of y s).header t) in
     let small_w : m.header.value < 65536 = omega arith in
     let u : List ℕ = with_header y m t in
     let ks : bits_of (with_header y m t) ≡ spelt (change_at 102 f ds) = step 102 ds t oh f m.header.value small_d c js there in_t.0 gives small_w in
@@ -273,8 +273,8 @@ renewed_all n v p l s t st is b c long free place put_is m e =
     (λ j. carried_rule y.network z (old_c j) (new_c j))
     ∙ rule_is y.network z (word_or_zero s oc) (covered (sums_of y s).carried s) (covered (sums_of y s).carried t) (address_span (packet_at y) y.network) (carried_span (packet_at y) y.network) same_c
     ∙ ap (λ (k : Sums). settled_in y.network z k.carried) carried_is in
-    let value_c : m.carried.value ≡ renewed (word_or_zero s oc) (covered (sums_of y s).carried s) (covered (sums_of y s).carried t) = ap (λ (k : Sums). k.carried.value) e in
-    let low : renewed (word_or_zero s oc) (covered (sums_of y s).carried s) (covered (sums_of y s).carried t) ≤ 65535 = renewed_below (word_or_zero s oc) (covered (sums_of y s).carried s) (covered (sums_of y s).carried t) in
+    let value_c : m.carried.value ≡ updated (word_or_zero s oc) (covered (sums_of y s).carried s) (covered (sums_of y s).carried t) = ap (λ (k : Sums). k.carried.value) e in
+    let low : updated (word_or_zero s oc) (covered (sums_of y s).carried s) (covered (sums_of y s).carried t) ≤ 65535 = renewed_below (word_or_zero s oc) (covered (sums_of y s).carried s) (covered (sums_of y s).carried t) in
     let small_v : m.carried.value < 65536 = omega arith in
     let small_z : settled_in y.network z m.carried < 65536 = settled_below y.network z m.carried (word_below (with_header y m t) oc d) small_v in
     step 103 (change_at 102 f ds) (with_header y m t) oc h (settled_in y.network z m.carried) small_e d ks there_c in_u.1 gives_c small_z

@@ -15,7 +15,7 @@ use Rattle.of_layers.specs.Looking.{name_is, look_up, locate_at}
 use Rattle.of_layers.specs.WellFormed.{Fits, IsIpv4, IsLayers}
 use Rattle.of_headers.specs.Places.{width, network_of, layout_of}
 use Rattle.of_headers.proofs.LocateLemmas.{width-append, width_bytes, locate_front}
-use Rattle.of_rewrite.specs.Checksum.{fold, words_of, number, differ, renewed, never_zero, udp_renewed, carried_renewed, AreWords, sums_to_ones}
+use Rattle.of_rewrite.specs.Checksum.{fold, words_of, number, differ, updated, never_zero, udp_updated, carried_updated, AreWords, sums_to_ones}
 use Rattle.of_rewrite.specs.Rewriting.{change_at, words, without_addresses, header_cover, address_cover, carried_cover}
 use Rattle.of_rewrite.specs.Renewal.{packet_at, header_span, address_span, carried_span}
 use Rattle.of_rewrite.proofs.CoveredWords.{words_in}
@@ -100,7 +100,7 @@ pub header_same : (k : ℕ → ℕ) (ms o : List ℕ) → cells_in ipv4 (numbers
 unfolding row_of
 header_same k ms o = ap (λ (x : List Cell). x ++ byte_cells o) (sym (cut_cells 103 k ipv4 ms) ∙ cut_none 103 k (cells_in ipv4 ms) (absent_by (λ n. not (n == 103)) 103 (cells_in ipv4 ms) (all_in (λ n. not (n == 103)) ipv4 ms refl) refl))
 
--- where the header's checksum stands among its words
+-- the place of the header's checksum among its words
 header_split : (ns o : List ℕ) (c : Carried) (rest : List ℕ) (v : ℕ) → IsIpv4 ns o c rest → look_up 102 (cells_in ipv4 ns ++ byte_cells o) ≡ Some v → Split 102 (cells_in ipv4 ns ++ byte_cells o) v 5 (4 + length o / 2)
 unfolding row_of
 header_split ns o c rest v h e =
@@ -152,7 +152,7 @@ without_one (x ∷ a) b c h zero = h 0
 without_one (x ∷ a) b c h (suc i) = without_one a b c (λ i. h (suc i)) i
 
 pub header_step : (ns o ms p : List ℕ) (c d : Carried) (rest more : List ℕ) (g : ℕ → ℕ) → IsIpv4 ns o c rest → IsIpv4 ms p d more → length p ≡ length o → look_up 102 (cells_in ipv4 ms ++ byte_cells p) ≡ look_up 102 (cells_in ipv4 ns ++ byte_cells o) →
-    ((x : ℕ) → g x ≡ renewed x (words (cells_in ipv4 ns ++ byte_cells o)) (words (cells_in ipv4 ms ++ byte_cells p))) →
+    ((x : ℕ) → g x ≡ updated x (words (cells_in ipv4 ns ++ byte_cells o)) (words (cells_in ipv4 ms ++ byte_cells p))) →
     sums_to_ones (words (cells_in ipv4 ns ++ byte_cells o)) ≡ true → sums_to_ones (words (change_at 102 g (cells_in ipv4 ms ++ byte_cells p))) ≡ true
 unfolding row_of
 header_step ns o ms p c d rest more g h i same_long same e right =
@@ -168,10 +168,10 @@ header_step ns o ms p c d rest more g h i same_long same e right =
     let are : AreWords (s.front ++ s.back) = without_one s.front s.back v (subst AreWords s.is (words_below (length (spelt old) / 16) (spelt old) (spelt_bits old))) in
     let was : Ones (sum (words (cells_in ipv4 ns ++ byte_cells o))) = ones (sum (words old)) right in
     let was_so : Ones (0 + sum (s.front ++ (v ∷ s.back))) = subst Ones (ap sum s.is ∙ sym (zero-add (sum (s.front ++ (v ∷ s.back))))) was in
-    let put : g v ≡ renewed v (s.front ++ (v ∷ s.back)) (t.front ++ (v ∷ t.back)) = e v ∙ (λ j. renewed v (s.is j) (t.is j)) in
-    let low : g v ≤ 65535 = subst (λ (k : ℕ). k ≤ 65535) (sym put) (renewed_below v (s.front ++ (v ∷ s.back)) (t.front ++ (v ∷ t.back))) in
+    let over_bits : g v ≡ updated v (s.front ++ (v ∷ s.back)) (t.front ++ (v ∷ t.back)) = e v ∙ (λ j. updated v (s.is j) (t.is j)) in
+    let low : g v ≤ 65535 = subst (λ (k : ℕ). k ≤ 65535) (sym over_bits) (renewed_below v (s.front ++ (v ∷ s.back)) (t.front ++ (v ∷ t.back))) in
     let now : Ones (0 + sum (t.front ++ (g v ∷ t.back))) =
-    renewed_ones 0 v (g v) s.front s.back t.front t.back small are (s.front_long ∙ sym t.front_long) (s.back_long ∙ ap (λ (k : ℕ). 4 + k / 2) (sym same_long) ∙ sym t.back_long) (omega arith) was_so put in
+    renewed_ones 0 v (g v) s.front s.back t.front t.back small are (s.front_long ∙ sym t.front_long) (s.back_long ∙ ap (λ (k : ℕ). 4 + k / 2) (sym same_long) ∙ sym t.back_long) (omega arith) was_so over_bits in
     let all : sum (words (change_at 102 g (cells_in ipv4 ms ++ byte_cells p))) ≡ 0 + sum (t.front ++ (g v ∷ t.back)) =
     ap sum (t.changed g ∙ ap (λ (k : ℕ). t.front ++ (k ∷ t.back)) (mod-eq_of_lt (omega arith))) ∙ sym (zero-add (sum (t.front ++ (g v ∷ t.back)))) in
     folded (sum (words (change_at 102 g new))) (subst Ones (sym all) now)
@@ -199,7 +199,7 @@ abbrev RightAt : Bool → Transport → ℕ → ℕ → List ℕ → List ℕ �
 RightAt lack t m c a b = ((lack && is_left_out t (Some c)) || (fold (m + sum (a ++ (c ∷ b))) == 65535)) ≡ true
 
 plain_step : (lack : Bool) (t : Transport) (m c w : ℕ) (a b x y : List ℕ) → is_left_out t (Some c) ≡ false → c < 65536 → AreWords (a ++ b) → length a ≡ length x → length b ≡ length y → 0 < m + sum (x ++ y) →
-    w ≡ renewed c (a ++ (c ∷ b)) (x ++ (c ∷ y)) → RightAt lack t m c a b → RightAt lack t m w x y
+    w ≡ updated c (a ++ (c ∷ b)) (x ++ (c ∷ y)) → RightAt lack t m c a b → RightAt lack t m w x y
 plain_step lack t m c w a b x y none small are f g some e h =
     let right : (fold (m + sum (a ++ (c ∷ b))) == 65535) ≡ true = or_false_left (lack && is_left_out t (Some c)) (fold (m + sum (a ++ (c ∷ b))) == 65535) (ap (λ (k : Bool). lack && k) none ∙ and_none lack) h in
     let now : Ones (m + sum (x ++ (w ∷ y))) = renewed_ones m c w a b x y small are f g some (ones (m + sum (a ++ (c ∷ b))) right) e in
@@ -207,14 +207,14 @@ plain_step lack t m c w a b x y none small are f g some e h =
 
 -- a UDP checksum that was computed
 udp_done : (lack : Bool) (m c w : ℕ) (a b x y : List ℕ) → c < 65536 → AreWords (a ++ b) → length a ≡ length x → length b ≡ length y → 0 < m + sum (x ++ y) →
-    (fold (m + sum (a ++ (c ∷ b))) == 65535) ≡ true → w ≡ cond (not (differ (a ++ (c ∷ b)) (x ++ (c ∷ y)))) c (never_zero (renewed c (a ++ (c ∷ b)) (x ++ (c ∷ y)))) → RightAt lack Udp m w x y
+    (fold (m + sum (a ++ (c ∷ b))) == 65535) ≡ true → w ≡ cond (not (differ (a ++ (c ∷ b)) (x ++ (c ∷ y)))) c (never_zero (updated c (a ++ (c ∷ b)) (x ++ (c ∷ y)))) → RightAt lack Udp m w x y
 udp_done lack m c w a b x y small are f g some right e =
     let l : length (a ++ (c ∷ b)) ≡ length (x ++ (c ∷ y)) = omega (arith, length-append a (c ∷ b), length-append x (c ∷ y)) in
     or_right (lack && is_left_out Udp (Some w)) (fold (m + sum (x ++ (w ∷ y))) == 65535)
-    (elim (differ (a ++ (c ∷ b)) (x ++ (c ∷ y))) as (λ t. differ (a ++ (c ∷ b)) (x ++ (c ∷ y)) ≡ t → w ≡ cond (not t) c (never_zero (renewed c (a ++ (c ∷ b)) (x ++ (c ∷ y)))) → (fold (m + sum (x ++ (w ∷ y))) == 65535) ≡ true) [
+    (elim (differ (a ++ (c ∷ b)) (x ++ (c ∷ y))) as (λ t. differ (a ++ (c ∷ b)) (x ++ (c ∷ y)) ≡ t → w ≡ cond (not t) c (never_zero (updated c (a ++ (c ∷ b)) (x ++ (c ∷ y)))) → (fold (m + sum (x ++ (w ∷ y))) == 65535) ≡ true) [
       | true ↦ λ d k.
-          let n : ℕ = renewed c (a ++ (c ∷ b)) (x ++ (c ∷ y)) in
-          let now : Ones (m + sum (x ++ (renewed c (a ++ (c ∷ b)) (x ++ (c ∷ y)) ∷ y))) = renewed_ones m c n a b x y small are f g some (ones (m + sum (a ++ (c ∷ b))) right) refl in
+          let n : ℕ = updated c (a ++ (c ∷ b)) (x ++ (c ∷ y)) in
+          let now : Ones (m + sum (x ++ (updated c (a ++ (c ∷ b)) (x ++ (c ∷ y)) ∷ y))) = renewed_ones m c n a b x y small are f g some (ones (m + sum (a ++ (c ∷ b))) right) refl in
           folded (m + sum (x ++ (w ∷ y))) (subst (λ (z : ℕ). Ones (m + sum (x ++ (z ∷ y)))) (sym k) (never_zero_ones m n x y now))
       | false ↦ λ d k.
           let same : a ++ (c ∷ b) ≡ x ++ (c ∷ y) = differ_same (a ++ (c ∷ b)) (x ++ (c ∷ y)) l d in
@@ -223,22 +223,22 @@ udp_done lack m c w a b x y small are f g some right e =
     ] refl e)
 
 udp_step : (lack : Bool) (m c w : ℕ) (a b x y : List ℕ) → c < 65536 → AreWords (a ++ b) → length a ≡ length x → length b ≡ length y → 0 < m + sum (x ++ y) →
-    w ≡ udp_renewed lack c (a ++ (c ∷ b)) (x ++ (c ∷ y)) → RightAt lack Udp m c a b → RightAt lack Udp m w x y
+    w ≡ udp_updated lack c (a ++ (c ∷ b)) (x ++ (c ∷ y)) → RightAt lack Udp m c a b → RightAt lack Udp m w x y
 udp_step lack m c w a b x y small are f g some e h =
-    elim (lack && (c == 0)) as (λ t. (lack && (c == 0)) ≡ t → w ≡ cond (t || not (differ (a ++ (c ∷ b)) (x ++ (c ∷ y)))) c (never_zero (renewed c (a ++ (c ∷ b)) (x ++ (c ∷ y)))) → (t || (fold (m + sum (a ++ (c ∷ b))) == 65535)) ≡ true → RightAt lack Udp m w x y) [
+    elim (lack && (c == 0)) as (λ t. (lack && (c == 0)) ≡ t → w ≡ cond (t || not (differ (a ++ (c ∷ b)) (x ++ (c ∷ y)))) c (never_zero (updated c (a ++ (c ∷ b)) (x ++ (c ∷ y)))) → (t || (fold (m + sum (a ++ (c ∷ b))) == 65535)) ≡ true → RightAt lack Udp m w x y) [
       | true ↦ λ z k right. or_left (lack && (w == 0)) (fold (m + sum (x ++ (w ∷ y))) == 65535) (ap (λ (n : ℕ). lack && (n == 0)) k ∙ z)
       | false ↦ λ z k right. udp_done lack m c w a b x y small are f g some right k
     ] refl e h
 
 kind_step : (lack : Bool) (t : Transport) (m c w : ℕ) (a b x y : List ℕ) → c < 65536 → AreWords (a ++ b) → length a ≡ length x → length b ≡ length y → 0 < m + sum (x ++ y) →
-    w ≡ carried_renewed lack t c (a ++ (c ∷ b)) (x ++ (c ∷ y)) → RightAt lack t m c a b → RightAt lack t m w x y
+    w ≡ carried_updated lack t c (a ++ (c ∷ b)) (x ++ (c ∷ y)) → RightAt lack t m c a b → RightAt lack t m w x y
 kind_step lack Nothing m c w a b x y small are f g some e h = plain_step lack Nothing m c w a b x y refl small are f g some e h
 kind_step lack Tcp m c w a b x y small are f g some e h = plain_step lack Tcp m c w a b x y refl small are f g some e h
 kind_step lack Udp m c w a b x y small are f g some e h = udp_step lack m c w a b x y small are f g some e h
 kind_step lack Icmpv4 m c w a b x y small are f g some e h = plain_step lack Icmpv4 m c w a b x y refl small are f g some e h
 kind_step lack Icmpv6 m c w a b x y small are f g some e h = plain_step lack Icmpv6 m c w a b x y refl small are f g some e h
 
--- a renewed checksum fits a word
+-- an updated checksum fits a word
 either_low : (t : Bool) (a b : ℕ) → a < 65536 → b < 65536 → cond t a b < 65536
 either_low true a b h k = h
 either_low false a b h k = k
@@ -246,12 +246,12 @@ either_low false a b h k = k
 never_low : (k : ℕ) → k < 65536 → never_zero k < 65536
 never_low k h = either_low (k == 0) 65535 k (omega arith) h
 
-kind_low : (lack : Bool) (t : Transport) (c : ℕ) (old new : List ℕ) → c < 65536 → carried_renewed lack t c old new < 65536
-kind_low lack Nothing c old new h = let r : renewed c old new ≤ 65535 = renewed_below c old new in omega arith
-kind_low lack Tcp c old new h = let r : renewed c old new ≤ 65535 = renewed_below c old new in omega arith
-kind_low lack Udp c old new h = let r : renewed c old new ≤ 65535 = renewed_below c old new in either_low ((lack && (c == 0)) || not (differ old new)) c (never_zero (renewed c old new)) h (never_low (renewed c old new) (omega arith))
-kind_low lack Icmpv4 c old new h = let r : renewed c old new ≤ 65535 = renewed_below c old new in omega arith
-kind_low lack Icmpv6 c old new h = let r : renewed c old new ≤ 65535 = renewed_below c old new in omega arith
+kind_low : (lack : Bool) (t : Transport) (c : ℕ) (old new : List ℕ) → c < 65536 → carried_updated lack t c old new < 65536
+kind_low lack Nothing c old new h = let r : updated c old new ≤ 65535 = renewed_below c old new in omega arith
+kind_low lack Tcp c old new h = let r : updated c old new ≤ 65535 = renewed_below c old new in omega arith
+kind_low lack Udp c old new h = let r : updated c old new ≤ 65535 = renewed_below c old new in either_low ((lack && (c == 0)) || not (differ old new)) c (never_zero (updated c old new)) h (never_low (updated c old new) (omega arith))
+kind_low lack Icmpv4 c old new h = let r : updated c old new ≤ 65535 = renewed_below c old new in omega arith
+kind_low lack Icmpv6 c old new h = let r : updated c old new ≤ 65535 = renewed_below c old new in omega arith
 
 -- ---- one packet
 
@@ -272,7 +272,7 @@ all_sum more p a b c = sum_by-append (λ (k : ℕ). k) more (p ++ (a ++ (c ∷ b
 
 packet_step : (lack : Bool) (t : Transport) (ns ms : List ℕ) (p q more : List ℕ) (k : ℕ → ℕ) (a m : ℕ) → Fits (items_of t) ns → Fits (items_of t) ms → placed 0 103 (items_of t) ≡ Some (record { first = 16 * a; bits = 16 }) → 8 * size_of t ≡ 16 * (a + (1 + m)) →
     look_up 103 (cells_in (items_of t) ms) ≡ look_up 103 (cells_in (items_of t) ns) → length p ≡ length q → AreWords p → 0 < sum more →
-    ((z : ℕ) → k z ≡ carried_renewed lack t z (p ++ words (cells_in (items_of t) ns)) (q ++ words (cells_in (items_of t) ms))) →
+    ((z : ℕ) → k z ≡ carried_updated lack t z (p ++ words (cells_in (items_of t) ns)) (q ++ words (cells_in (items_of t) ms))) →
     ((lack && is_left_out t (look_up 103 (cells_in (items_of t) ns))) || sums_to_ones (more ++ (p ++ words (cells_in (items_of t) ns)))) ≡ true →
     ((lack && is_left_out t (look_up 103 (cut_at 103 k (cells_in (items_of t) ms)))) || sums_to_ones (more ++ (q ++ words (change_at 103 k (cells_in (items_of t) ms))))) ≡ true
 packet_step lack t ns ms p q more k a m fn fm at size same long are some rule h =
@@ -290,14 +290,14 @@ packet_step lack t ns ms p q more k a m fn fm at size same long are some rule h 
     let x : Split 103 (cells_in (items_of t) ns) r.value a m = split 103 a m old r.value so eo lo r.look in
     let y : Split 103 (cells_in (items_of t) ms) r.value a m = split 103 a m new r.value sn en ln (same ∙ r.look) in
     let words_are : AreWords ((p ++ x.front) ++ x.back) = without_one (p ++ x.front) x.back v (subst AreWords (sym (append_assoc p x.front (v ∷ x.back))) (words_append p (x.front ++ (v ∷ x.back)) are (subst AreWords x.is (are_words old)))) in
-    let put : k v ≡ carried_renewed lack t v ((p ++ x.front) ++ (v ∷ x.back)) ((q ++ y.front) ++ (v ∷ y.back)) =
-    rule v ∙ (λ j. carried_renewed lack t v ((ap (λ (z : List ℕ). p ++ z) x.is ∙ sym (append_assoc p x.front (v ∷ x.back))) j) ((ap (λ (z : List ℕ). q ++ z) y.is ∙ sym (append_assoc q y.front (v ∷ y.back))) j)) in
-    let low : k v < 65536 = subst (λ (z : ℕ). z < 65536) (sym put) (kind_low lack t v ((p ++ x.front) ++ (v ∷ x.back)) ((q ++ y.front) ++ (v ∷ y.back)) small) in
+    let over_bits : k v ≡ carried_updated lack t v ((p ++ x.front) ++ (v ∷ x.back)) ((q ++ y.front) ++ (v ∷ y.back)) =
+    rule v ∙ (λ j. carried_updated lack t v ((ap (λ (z : List ℕ). p ++ z) x.is ∙ sym (append_assoc p x.front (v ∷ x.back))) j) ((ap (λ (z : List ℕ). q ++ z) y.is ∙ sym (append_assoc q y.front (v ∷ y.back))) j)) in
+    let low : k v < 65536 = subst (λ (z : ℕ). z < 65536) (sym over_bits) (kind_low lack t v ((p ++ x.front) ++ (v ∷ x.back)) ((q ++ y.front) ++ (v ∷ y.back)) small) in
     let was : RightAt lack t (sum more) v (p ++ x.front) x.back =
     (λ j. (lack && is_left_out t (sym r.look j)) || (fold (sym (ap (λ (z : List ℕ). sum (more ++ (p ++ z))) x.is ∙ all_sum more p x.front x.back v) j) == 65535)) ∙ h in
     let now : RightAt lack t (sum more) (k v) (q ++ y.front) y.back =
     kind_step lack t (sum more) v (k v) (p ++ x.front) x.back (q ++ y.front) y.back small words_are
-    (omega (arith, length-append p x.front, length-append q y.front, x.front_long, y.front_long, long)) (x.back_long ∙ sym y.back_long) (omega arith) put was in
+    (omega (arith, length-append p x.front, length-append q y.front, x.front_long, y.front_long, long)) (x.back_long ∙ sym y.back_long) (omega arith) over_bits was in
     let whole : words (change_at 103 k (cells_in (items_of t) ms)) ≡ y.front ++ (k v ∷ y.back) = y.changed k ∙ ap (λ (z : ℕ). y.front ++ (z ∷ y.back)) (mod-eq_of_lt low) in
     let looked : look_up 103 (cut_at 103 k (cells_in (items_of t) ms)) ≡ Some (k v) = look_cut 103 0 (16 * a) 16 v k new en (same ∙ r.look) ∙ ap (λ (z : ℕ). Some z) (mod-eq_of_lt low) in
     (λ j. (lack && is_left_out t (looked j)) || (fold ((ap (λ (z : List ℕ). sum (more ++ (q ++ z))) whole ∙ all_sum more q y.front y.back (k v)) j) == 65535)) ∙ now
@@ -305,7 +305,7 @@ packet_step lack t ns ms p q more k a m fn fm at size same long are some rule h 
 -- for each kind
 pub kinds_step : (lack : Bool) (t : Transport) (ns ms : List ℕ) (p q more : List ℕ) (k : ℕ → ℕ) → (t ≡ Nothing → p ≡ q) → Fits (items_of t) ns → Fits (items_of t) ms →
     look_up 103 (cells_in (items_of t) ms) ≡ look_up 103 (cells_in (items_of t) ns) → length p ≡ length q → AreWords p → 0 < sum more →
-    ((z : ℕ) → k z ≡ carried_renewed lack t z (p ++ words (cells_in (items_of t) ns)) (q ++ words (cells_in (items_of t) ms))) →
+    ((z : ℕ) → k z ≡ carried_updated lack t z (p ++ words (cells_in (items_of t) ns)) (q ++ words (cells_in (items_of t) ms))) →
     ((lack && is_left_out t (look_up 103 (cells_in (items_of t) ns))) || sums_to_ones (more ++ (p ++ words (cells_in (items_of t) ns)))) ≡ true →
     ((lack && is_left_out t (look_up 103 (cut_at 103 k (cells_in (items_of t) ms)))) || sums_to_ones (more ++ (q ++ words (change_at 103 k (cells_in (items_of t) ms))))) ≡ true
 unfolding row_of
@@ -315,7 +315,7 @@ kinds_step lack Udp ns ms p q more k none fn fm same long are some rule h = pack
 kinds_step lack Icmpv4 ns ms p q more k none fn fm same long are some rule h = packet_step lack Icmpv4 ns ms p q more k 1 0 fn fm refl refl same long are some rule h
 kinds_step lack Icmpv6 ns ms p q more k none fn fm same long are some rule h = packet_step lack Icmpv6 ns ms p q more k 1 0 fn fm refl refl same long are some rule h
 
--- ---- numbers that are not there
+-- ---- numbers that do not occur
 
 below_100 : (k : ℕ) (cs : List Cell) → All (λ n. nat_lt n 100) cs → nat_lt k 100 ≡ false → has k cs ≡ false
 below_100 k cs h e = absent_by (λ n. nat_lt n 100) k cs h e

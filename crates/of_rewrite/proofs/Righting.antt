@@ -1,4 +1,4 @@
--- Checksums that were right are right after they are renewed.
+-- Checksums that were right are right after they are updated.
 use Rattle.std.proofs.Common.{◌≡◌, ℕ, zero, suc, ◌+◌, ◌-◌, ◌*◌, ◌/◌, ◌%◌, ◌^◌, ◌<◌, ◌≤◌, true, false, List, [], ◌∷◌, ◌++◌, length, take, drop, sum, Some, refl, sym, ap, ◌∙◌, arith, subst, inl, inr}
 use Rattle.std.specs.Prelude.{◌==◌, IsTrue}
 use Rattle.std.proofs.lemmas.Bool.{cases_eq, ne_eqb, eqb-true, eq-eqb}
@@ -9,7 +9,7 @@ use Rattle.of_layers.specs.Bits.{bits}
 use Rattle.of_layers.specs.Layers.{Cell, spelt}
 use Rattle.of_layers.specs.Looking.{look_up, locate_at}
 use Rattle.of_layers.proofs.BitLemmas.{length-bits}
-use Rattle.of_rewrite.specs.Checksum.{fold, number, words_of, change, differ, renewed, never_zero, sums_to_ones, AreWords}
+use Rattle.of_rewrite.specs.Checksum.{fold, number, words_of, change, differ, updated, never_zero, sums_to_ones, AreWords}
 use Rattle.of_rewrite.specs.Rewriting.{change_at, words}
 use Rattle.of_rewrite.proofs.Changes.{changes, sum_changed, right_by, without_word}
 use Rattle.of_rewrite.proofs.Finding.{Sound, Found, found}
@@ -17,7 +17,7 @@ use Rattle.of_rewrite.proofs.Folding.{fold_is}
 use Rattle.of_rewrite.proofs.Framing.{AreBits, bits_take, bits_drop, number_below}
 use Rattle.of_rewrite.proofs.Renewing.{number-bits}
 
--- ---- a sum of ones
+-- ---- a sum of all ones
 
 abbrev pub Ones : ℕ → Type 0
 Ones s = (0 < s) × (s % 65535 ≡ 0)
@@ -32,15 +32,15 @@ pub folded : (s : ℕ) → Ones s → (fold s == 65535) ≡ true
 folded s h = let f : fold s ≡ 1 + (s - 1) % 65535 = fold_is s h.0 in let a : 0 < s = h.0 in let m : s % 65535 ≡ 0 = h.1 in eq-eqb (fold s) 65535 (omega arith)
 
 -- a checksum that is right stays so
-pub right_again : (c : ℕ) (old new : List ℕ) → c < 65536 → AreWords old → length old ≡ length new → 0 < sum new → IsTrue (sums_to_ones (c ∷ old)) → IsTrue (sums_to_ones (renewed c old new ∷ new))
+pub right_again : (c : ℕ) (old new : List ℕ) → c < 65536 → AreWords old → length old ≡ length new → 0 < sum new → IsTrue (sums_to_ones (c ∷ old)) → IsTrue (sums_to_ones (updated c old new ∷ new))
 right_again c old new h w l p r =
     let before : sum (c ∷ old) ≡ c + sum old = sum_by-cons (λ (k : ℕ). k) c old in
-    let after : sum (renewed c old new ∷ new) ≡ renewed c old new + sum new = sum_by-cons (λ (k : ℕ). k) (renewed c old new) new in
+    let after : sum (updated c old new ∷ new) ≡ updated c old new + sum new = sum_by-cons (λ (k : ℕ). k) (updated c old new) new in
     let o : Ones (sum (c ∷ old)) = ones (sum (c ∷ old)) r in
     let some : 0 < sum (c ∷ old) = o.0 in
     let kept = right_by c (sum old) (sum new) (change old new) (changes old new) (omega arith) (sum_changed old new w l) p (omega arith) (ap (λ (n : ℕ). n % 65535) (sym before) ∙ o.1) in
-    let more : 0 < renewed c old new + sum new = kept.0 in
-    folded (sum (renewed c old new ∷ new)) (omega arith, ap (λ (n : ℕ). n % 65535) after ∙ kept.1)
+    let more : 0 < updated c old new + sum new = kept.0 in
+    folded (sum (updated c old new ∷ new)) (omega arith, ap (λ (n : ℕ). n % 65535) after ∙ kept.1)
 
 pub never_wrong : (c : ℕ) (new : List ℕ) → IsTrue (sums_to_ones (c ∷ new)) → IsTrue (sums_to_ones (never_zero c ∷ new))
 never_wrong c new r = elim (cases_eq c 0) [
@@ -63,9 +63,9 @@ sum_mid (y ∷ a) b x = sum_by-cons (λ (k : ℕ). k) y (a ++ (x ∷ b)) ∙ ome
 
 -- the sum of all others is m more
 pub renewed_ones : (m c w : ℕ) (a b x y : List ℕ) → c < 65536 → AreWords (a ++ b) → length a ≡ length x → length b ≡ length y → 0 < m + sum (x ++ y) → Ones (m + sum (a ++ (c ∷ b))) →
-    w ≡ renewed c (a ++ (c ∷ b)) (x ++ (c ∷ y)) → Ones (m + sum (x ++ (w ∷ y)))
+    w ≡ updated c (a ++ (c ∷ b)) (x ++ (c ∷ y)) → Ones (m + sum (x ++ (w ∷ y)))
 renewed_ones m c w a b x y small are f g some h e =
-    let z : w ≡ renewed c (a ++ b) (x ++ y) = e ∙ without_word c c a x b y f in
+    let z : w ≡ updated c (a ++ b) (x ++ y) = e ∙ without_word c c a x b y f in
     let s : sum (a ++ (c ∷ b)) ≡ c + sum (a ++ b) = sum_mid a b c in
     let t : sum (x ++ (w ∷ y)) ≡ w + sum (x ++ y) = sum_mid x y w in
     let l : length (a ++ b) ≡ length (x ++ y) = omega (arith, length-append a b, length-append x y) in
@@ -73,9 +73,9 @@ renewed_ones m c w a b x y small are f g some h e =
     let h0 : 0 < m + sum (a ++ (c ∷ b)) = h.0 in
     let h1 : (m + sum (a ++ (c ∷ b))) % 65535 ≡ 0 = h.1 in
     let r = right_by c (m + sum (a ++ b)) (m + sum (x ++ y)) (change (a ++ b) (x ++ y)) (changes (a ++ b) (x ++ y)) (omega arith) (omega arith) some (omega arith) (let k : c + (m + sum (a ++ b)) ≡ m + sum (a ++ (c ∷ b)) = omega arith in ap (λ (n : ℕ). n % 65535) k ∙ h1) in
-    let r0 : 0 < renewed c (a ++ b) (x ++ y) + (m + sum (x ++ y)) = r.0 in
-    let r1 : (renewed c (a ++ b) (x ++ y) + (m + sum (x ++ y))) % 65535 ≡ 0 = r.1 in
-    let k : m + sum (x ++ (w ∷ y)) ≡ renewed c (a ++ b) (x ++ y) + (m + sum (x ++ y)) = omega arith in
+    let r0 : 0 < updated c (a ++ b) (x ++ y) + (m + sum (x ++ y)) = r.0 in
+    let r1 : (updated c (a ++ b) (x ++ y) + (m + sum (x ++ y))) % 65535 ≡ 0 = r.1 in
+    let k : m + sum (x ++ (w ∷ y)) ≡ updated c (a ++ b) (x ++ y) + (m + sum (x ++ y)) = omega arith in
     (omega arith, ap (λ (n : ℕ). n % 65535) k ∙ r1)
 
 -- 65535 in the place of 0
@@ -152,13 +152,13 @@ split n k m cs v h e l look =
     let all : length (r.front ++ (bits 16 r.value ++ r.back)) ≡ 16 * (k + (1 + m)) = ap length (sym r.is) ∙ l in
     let count : (x : ℕ) → length (r.front ++ (bits 16 x ++ r.back)) / 16 ≡ k + (1 + m) = λ x.
     omega (arith, all, length-append r.front (bits 16 r.value ++ r.back), length-append (bits 16 r.value) r.back, length-append r.front (bits 16 x ++ r.back), length-append (bits 16 x) r.back, length-bits 16 x, length-bits 16 r.value) in
-    let put : (x : ℕ) → words_of (length (r.front ++ (bits 16 x ++ r.back)) / 16) (r.front ++ (bits 16 x ++ r.back)) ≡ words_of k r.front ++ ((x % 65536) ∷ words_of m r.back) = λ x.
+    let over_bits : (x : ℕ) → words_of (length (r.front ++ (bits 16 x ++ r.back)) / 16) (r.front ++ (bits 16 x ++ r.back)) ≡ words_of k r.front ++ ((x % 65536) ∷ words_of m r.back) = λ x.
     words_mid k m (length (r.front ++ (bits 16 x ++ r.back)) / 16) r.front r.back x long (count x) in
     record {
       front = words_of k r.front;
       back = words_of m r.back;
-      is = ap (λ (s : List ℕ). words_of (length s / 16) s) r.is ∙ put r.value ∙ ap (λ (x : ℕ). words_of k r.front ++ (x ∷ words_of m r.back)) (mod-eq_of_lt small ∙ value);
-      changed = λ g. ap (λ (s : List ℕ). words_of (length s / 16) s) (r.changed g) ∙ put (g r.value) ∙ ap (λ (x : ℕ). words_of k r.front ++ ((g x % 65536) ∷ words_of m r.back)) value;
+      is = ap (λ (s : List ℕ). words_of (length s / 16) s) r.is ∙ over_bits r.value ∙ ap (λ (x : ℕ). words_of k r.front ++ (x ∷ words_of m r.back)) (mod-eq_of_lt small ∙ value);
+      changed = λ g. ap (λ (s : List ℕ). words_of (length s / 16) s) (r.changed g) ∙ over_bits (g r.value) ∙ ap (λ (x : ℕ). words_of k r.front ++ ((g x % 65536) ∷ words_of m r.back)) value;
       front_long = length_words k r.front;
       back_long = length_words m r.back;
     }

@@ -1,4 +1,4 @@
--- Where the checksums and the time to live of a frame stand, that its layers are in it, and that its numbers are in whole words.
+-- The places of the checksums and the TTL of a frame, that its layers are in it, and that its numbers are in whole words.
 use Rattle.std.proofs.Common.{◌≡◌, ℕ, ◌+◌, ◌*◌, ◌/◌, ◌%◌, ◌≤◌, List, [], ◌∷◌, ◌++◌, length, Option, Some, None, refl, sym, ap, ◌∙◌, arith, slice_index}
 use Rattle.std.specs.Option.{option_or}
 use Rattle.std.proofs.lemmas.List.{length-append}
@@ -56,7 +56,7 @@ own_ttl : Own 101
 unfolding row_of
 own_ttl = record { addr = refl; outer = λ at. refl; inner = λ at. refl; type = λ at. refl; in_arp = λ at. refl; extension = no_ttl }
 
--- ---- the frame in front of what stands behind its type
+-- ---- the frame before what follows its type
 
 record Front (l : Layers) (m : ℕ) : Type 0 where
   pub there : locate_at 0 m (cells l) ≡ locate_at (112 + 32 * length l.tags) m (body_cells l.body)
@@ -197,7 +197,7 @@ whole_append at a b h k n p e =
 pub size_even : (k : Transport) → size_of k % 2 ≡ 0
 size_even k = elim k as (λ k. size_of k % 2 ≡ 0) [ Nothing ↦ refl | _ ↦ refl ]
 
--- what is carried, with bytes behind it
+-- what is carried, with bytes after it
 whole_carried : (at : ℕ) (c : Carried) (rest : List ℕ) → at % 16 ≡ 0 → Fits (items_of c.kind) c.numbers → Whole at (carried_cells c ++ byte_cells rest)
 whole_carried at c rest e f =
     let items : List Cell = cells_in (items_of c.kind) c.numbers in

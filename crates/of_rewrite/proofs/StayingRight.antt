@@ -9,8 +9,8 @@ use Rattle.of_layers.specs.Looking.{look_up}
 use Rattle.of_layers.specs.Reading.{layers_of}
 use Rattle.of_layers.specs.WellFormed.{AreBytes, Fits, IsIpv4, IsLayers}
 use Rattle.of_layers.proofs.FrameLemmas.{are_layers}
-use Rattle.of_rewrite.specs.Checksum.{renewed, carried_renewed, sums_to_ones}
-use Rattle.of_rewrite.specs.Rewriting.{change_at, replace_at, words, without_addresses, address_cover, carried_cover, header_renewed, carried_after}
+use Rattle.of_rewrite.specs.Checksum.{updated, carried_updated, sums_to_ones}
+use Rattle.of_rewrite.specs.Rewriting.{change_at, replace_at, words, without_addresses, address_cover, carried_cover, header_updated, carried_after}
 use Rattle.of_rewrite.specs.Replaced.{Replaceable, LeavesLayers, numbers_with, carried_with, body_with, layers_with, layers_set}
 use Rattle.of_rewrite.specs.Right.{header_is_right, is_left_out, carried_is_right, StayRight}
 use Rattle.of_rewrite.proofs.Kept.{cut_at, cut_cells, cut_named, bytes_nameless}
@@ -24,32 +24,32 @@ abbrev frame_with : List ℕ → List (List ℕ) → ℕ → Body → Layers
 frame_with ends tags type body = record { ends = ends; tags = tags; type = type; body = body }
 
 abbrev body_set : ℕ → ℕ → Body → Body
-body_set n v b = body_with 103 (carried_after b n v) (body_with 102 (header_renewed b n v) (body_with n (λ x. v) b))
+body_set n v b = body_with 103 (carried_after b n v) (body_with 102 (header_updated b n v) (body_with n (λ x. v) b))
 
 -- what the checksums of the new layers cover
 record Covered (n v : ℕ) (l : Layers) : Type 0 where
   pub first : CoversWith n (λ x. v) l.body
-  pub second : CoversWith 102 (header_renewed l.body n v) (body_with n (λ x. v) l.body)
-  pub third : CoversWith 103 (carried_after l.body n v) (body_with 102 (header_renewed l.body n v) (body_with n (λ x. v) l.body))
+  pub second : CoversWith 102 (header_updated l.body n v) (body_with n (λ x. v) l.body)
+  pub third : CoversWith 103 (carried_after l.body n v) (body_with 102 (header_updated l.body n v) (body_with n (λ x. v) l.body))
 
 covered : (n v : ℕ) (l : Layers) → LeavesLayers n → IsLayers l → Covered n v l
 unfolding row_of
 covered n v l leaves h =
     let one : Layers = layers_with n (λ x. v) l in
-    let g : ℕ → ℕ = header_renewed l.body n v in
+    let g : ℕ → ℕ = header_updated l.body n v in
     let h1 : IsLayers (layers_with n (λ x. v) l) = layers_kept n (λ x. v) l leaves.1 h in
-    let h2 : IsLayers (layers_with 102 (header_renewed l.body n v) (layers_with n (λ x. v) l)) = layers_kept 102 g one (omega arith) h1 in
+    let h2 : IsLayers (layers_with 102 (header_updated l.body n v) (layers_with n (λ x. v) l)) = layers_kept 102 g one (omega arith) h1 in
     record {
       first = covers_with n (λ x. v) l leaves.0 leaves.1 h;
       second = covers_with 102 g one (omega arith) (omega arith) h1;
       third = covers_with 103 (carried_after l.body n v) (layers_with 102 g one) (omega arith) (omega arith) h2;
     }
 
--- the addresses: no checksum stands among them
+-- the addresses: no checksum is among them
 addresses_set : (n v : ℕ) (l : Layers) → Covered n v l → words (address_cover (body_set n v l.body)) ≡ words (replace_at n v (address_cover l.body))
 addresses_set n v l c =
     let one : Body = body_with n (λ x. v) l.body in
-    let g : ℕ → ℕ = header_renewed l.body n v in
+    let g : ℕ → ℕ = header_updated l.body n v in
     c.third.addresses ∙ addresses_kept 103 (carried_after l.body n v) (body_with 102 g one) refl ∙ c.second.addresses ∙ addresses_kept 102 g one refl ∙ c.first.addresses
 
 -- ---- the IPv4 header
@@ -62,14 +62,14 @@ header_stays ends tags type (Ipv6 ns es c rest) n v h free leaves r = r
 header_stays ends tags type (Ipv4 ns o c rest) n v h free leaves r =
     let b : Body = Ipv4 ns o c rest in
     let f : ℕ → ℕ = λ x. v in
-    let g : ℕ → ℕ = header_renewed (Ipv4 ns o c rest) n v in
+    let g : ℕ → ℕ = header_updated (Ipv4 ns o c rest) n v in
     let k : Covered n v (frame_with ends tags type (Ipv4 ns o c rest)) = covered n v (frame_with ends tags type b) leaves h in
     let i : IsIpv4 ns o c rest = h.body.1 in
     let ms : List ℕ = numbers_with n (λ x. v) ipv4 ns in
     let j : IsIpv4 (numbers_with n (λ x. v) ipv4 ns) o (carried_with n (λ x. v) c) rest = ipv4_kept n f ns o c rest leaves.1 i in
     let cut : cells_in ipv4 (numbers_with n (λ x. v) ipv4 ns) ++ byte_cells o ≡ cut_at n (λ x. v) (cells_in ipv4 ns ++ byte_cells o) = sym (cut_named n f (cells_in ipv4 ns) (byte_cells o) (bytes_nameless n o) ∙ ap (λ (x : List Cell). x ++ byte_cells o) (cut_cells n f ipv4 ns)) in
     let same : look_up 102 (cells_in ipv4 (numbers_with n (λ x. v) ipv4 ns) ++ byte_cells o) ≡ look_up 102 (cells_in ipv4 ns ++ byte_cells o) = ap (look_up 102) cut ∙ look_other 102 n f (cells_in ipv4 ns ++ byte_cells o) (λ e. free.0 (sym e)) in
-    let rule : (x : ℕ) → header_renewed (Ipv4 ns o c rest) n v x ≡ renewed x (words (cells_in ipv4 ns ++ byte_cells o)) (words (cells_in ipv4 (numbers_with n (λ x. v) ipv4 ns) ++ byte_cells o)) = λ x. ap (renewed x (words (cells_in ipv4 ns ++ byte_cells o))) (sym k.first.header) in
+    let rule : (x : ℕ) → header_updated (Ipv4 ns o c rest) n v x ≡ updated x (words (cells_in ipv4 ns ++ byte_cells o)) (words (cells_in ipv4 (numbers_with n (λ x. v) ipv4 ns) ++ byte_cells o)) = λ x. ap (updated x (words (cells_in ipv4 ns ++ byte_cells o))) (sym k.first.header) in
     let step = header_step ns o ms o c (carried_with n f c) rest rest g i j refl same rule r in
     ap (λ (x : List Cell). sums_to_ones (words x)) (header_same (carried_after b n v) (numbers_with 102 g ipv4 ms) o) ∙ ap sums_to_ones k.second.header ∙ step
 
@@ -77,7 +77,7 @@ header_stays ends tags type (Ipv4 ns o c rest) n v h free leaves r =
 
 -- over either network: `lack` says whether a checksum may be left out
 stays : (lack : Bool) (c : Carried) (a : List Cell) (n v : ℕ) (g k : ℕ → ℕ) (more : List ℕ) → Replaceable n → Fits (items_of c.kind) c.numbers → (c.kind ≡ Nothing → a ≡ []) →
-    ((z : ℕ) → k z ≡ carried_renewed lack c.kind z (words a ++ words (cells_in (items_of c.kind) c.numbers)) (words (replace_at n v a) ++ words (replace_at n v (cells_in (items_of c.kind) c.numbers)))) →
+    ((z : ℕ) → k z ≡ carried_updated lack c.kind z (words a ++ words (cells_in (items_of c.kind) c.numbers)) (words (replace_at n v a) ++ words (replace_at n v (cells_in (items_of c.kind) c.numbers)))) →
     words (cells_in (items_of c.kind) (numbers_with n (λ x. v) (items_of c.kind) c.numbers)) ≡ words (replace_at n v (cells_in (items_of c.kind) c.numbers)) → 0 < sum more → (p q : List ℕ) → p ≡ words (replace_at n v a) →
     q ≡ words (change_at 103 k (cells_in (items_of c.kind) (numbers_with 102 g (items_of c.kind) (numbers_with n (λ x. v) (items_of c.kind) c.numbers)))) →
     ((lack && is_left_out c.kind (look_up 103 (cells_in (items_of c.kind) c.numbers))) || sums_to_ones (more ++ (words a ++ words (cells_in (items_of c.kind) c.numbers)))) ≡ true →
@@ -92,7 +92,7 @@ stays lack c a n v g k more free fits none rule first some p q pe qe r =
     let long : length (words a) ≡ length (words (replace_at n v a)) = words_long a (replace_at n v a) (sym (length_changed n f a)) in
     let empty : c.kind ≡ Nothing → words a ≡ words (replace_at n v a) = λ e. (λ j. words (none e j)) ∙ (λ j. words (replace_at n v (sym (none e) j))) in
     let step = kinds_step lack c.kind ns ms (words a) (words (replace_at n v a)) more k empty fits (fits_with n f is ns fits) same long (are_words a) some
-    (λ z. rule z ∙ ap (λ (x : List ℕ). carried_renewed lack c.kind z (words a ++ words (cells_in (items_of c.kind) c.numbers)) (words (replace_at n v a) ++ x)) (sym first)) r in
+    (λ z. rule z ∙ ap (λ (x : List ℕ). carried_updated lack c.kind z (words a ++ words (cells_in (items_of c.kind) c.numbers)) (words (replace_at n v a) ++ x)) (sym first)) r in
     let looked : cells_in (items_of c.kind) (numbers_with 103 k (items_of c.kind) (numbers_with 102 g (items_of c.kind) (numbers_with n (λ x. v) (items_of c.kind) c.numbers))) ≡ cut_at 103 k (cells_in (items_of c.kind) (numbers_with n (λ x. v) (items_of c.kind) c.numbers)) =
     sym (cut_cells 103 k is (numbers_with 102 g is ms)) ∙ ap (cut_at 103 k) two in
     (λ j. (lack && is_left_out c.kind (look_up 103 (looked j))) || sums_to_ones (more ++ (pe j ++ (qe ∙ ap (λ (x : List Cell). words (change_at 103 k x)) two) j))) ∙ step
@@ -105,14 +105,14 @@ carried_stays ends tags type (Ipv4 ns o c rest) n v h free leaves more some r =
     let b : Body = Ipv4 ns o c rest in
     let l : Layers = frame_with ends tags type (Ipv4 ns o c rest) in
     let k : Covered n v (frame_with ends tags type (Ipv4 ns o c rest)) = covered n v (frame_with ends tags type b) leaves h in
-    stays true c (address_cover b) n v (header_renewed b n v) (carried_after b n v) more free h.body.1.carries.numbers
+    stays true c (address_cover b) n v (header_updated b n v) (carried_after b n v) more free h.body.1.carries.numbers
     (λ e. ap (λ (t : Transport). cond (without_addresses t) [] (drop 11 (cells_in ipv4 ns))) e) (λ z. refl) k.first.carried some (words (address_cover (body_set n v b))) (words (carried_cover (body_set n v b))) (addresses_set n v l k) k.third.carried r
 carried_stays ends tags type (Ipv6 ns es c rest) n v h free leaves more some r =
     let b : Body = Ipv6 ns es c rest in
     let l : Layers = frame_with ends tags type (Ipv6 ns es c rest) in
     let k : Covered n v (frame_with ends tags type (Ipv6 ns es c rest)) = covered n v (frame_with ends tags type b) leaves h in
     let q : Chained es c 102 = chained 102 no_header _ es c h.body.1.chain in
-    stays false c (address_cover b) n v (header_renewed b n v) (carried_after b n v) more free q.fits
+    stays false c (address_cover b) n v (header_updated b n v) (carried_after b n v) more free q.fits
     (λ e. ap (λ (t : Transport). cond (without_addresses t) [] (drop 7 (cells_in (ipv6 (plain 8)) ns))) e) (λ z. refl) k.first.carried some (words (address_cover (body_set n v b))) (words (carried_cover (body_set n v b))) (addresses_set n v l k) k.third.carried r
 
 -- ---- frames

@@ -1,4 +1,4 @@
--- Where the layers of a frame stand, and which words are whole.
+-- Where the layers of a frame begin, and which words are whole.
 use Rattle.std.proofs.Common.{◌≡◌, ℕ, suc, ◌+◌, ◌*◌, ◌%◌, true, false, cond, List, [], ◌∷◌, ◌++◌, length, Option, Some, None, refl, sym, ap, ◌∙◌, arith, slice_index, subst}
 use Rattle.std.specs.Prelude.{◌==◌, if◌then◌else◌}
 use Rattle.std.specs.Option.{option_or}
@@ -15,7 +15,7 @@ use Rattle.of_rewrite.proofs.Finding.{Sound}
 
 -- ---- formats
 
--- where a name stands in a format
+-- the place of a name in a format
 abbrev pub placed : ℕ → ℕ → List Item → Option Place
 placed at n [] = None
 placed at n (i ∷ is) = if name_is n i.name then Some (record { first = at; bits = i.width }) else placed (at + i.width) n is
@@ -82,7 +82,7 @@ tags_part m (t ∷ ts) l k h =
       none = λ at. locate-append at m (cells_in outer_tag t) (inner_cells ts) ∙ (λ j. option_or ((located at m outer_tag t f ∙ k at) j) (r.none (at + width (cells_in outer_tag t)) j));
     }
 
--- extension headers, and what stands behind them
+-- extension headers, and what follows them
 pub record Chained (es : List Extension) (c : Carried) (m : ℕ) : Type 0 where
   pub part : Part (extension_cells es) (8 * all_bytes es) m
   pub even : all_bytes es % 8 ≡ 0
@@ -146,7 +146,7 @@ chained m l kind (Fragment ns ∷ es) c h =
       rest = r.rest;
     }
 
--- ---- what an IP packet carries, with bytes behind it
+-- ---- what an IP packet carries, with bytes after it
 
 pub items_total : (k : Transport) → total (items_of k) ≡ 8 * size_of k
 items_total k = elim k as (λ k. total (items_of k) ≡ 8 * size_of k) [ Nothing ↦ refl | _ ↦ refl ]

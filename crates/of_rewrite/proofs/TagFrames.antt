@@ -1,4 +1,4 @@
--- A frame with a tag put on or taken off, as bytes.
+-- A frame with a tag pushed or popped, as bytes.
 use Rattle.std.proofs.Common.{◌≡◌, ℕ, zero, suc, ◌+◌, ◌/◌, ◌%◌, ◌<◌, ◌≤◌, true, false, List, [], ◌∷◌, ◌++◌, length, take, drop, ap, ◌∙◌, arith}
 use Rattle.std.proofs.lemmas.List.{length-take-le, length-drop, length-append}
 use Rattle.of_layers.specs.Reading.{is_tag_type}

@@ -1,4 +1,4 @@
--- A tag that is put behind the addresses is the outermost of the frame's, and all else is as before.
+-- A tag that is put after the addresses is the outermost of the frame's, and all else is as before.
 use Rattle.std.proofs.Common.{◌≡◌, ℕ, suc, ◌+◌, ◌*◌, ◌/◌, ◌%◌, ◌<◌, ◌≤◌, true, false, cond, List, [], ◌∷◌, ◌++◌, length, get_or, take, drop, refl, sym, ap, ◌∙◌, arith}
 use Rattle.std.specs.Prelude.{nat_le, ◌&&◌}
 use Rattle.std.proofs.lemmas.List.{drop_at, take_at, drop-drop, length-drop, length-take-le, get_or-take, get_or_append_left, length-append, drop_more, take-append-drop}
@@ -11,7 +11,7 @@ use Rattle.of_layers.proofs.TagLemmas.{tag_step, tag_count_more, tag_count_none,
 use Rattle.of_rewrite.specs.Tags.{tag_before, pushed, inner_tags, popped}
 use Rattle.of_rewrite.specs.Tagging.{has_tag, control_in}
 
--- a frame with four bytes behind the addresses
+-- a frame with four bytes after the addresses
 abbrev pub tagged : List ℕ → List ℕ → List ℕ
 tagged x s = take 12 s ++ (x ++ drop 12 s)
 
@@ -157,5 +157,5 @@ pop_is s r has is =
     let x : List ℕ = four (get_or s 12 0) (get_or s 13 0) (get_or s 14 0) (get_or s 15 0) in
     let back : tagged (four (get_or s 12 0) (get_or s 13 0) (get_or s 14 0) (get_or s 15 0)) (take 12 s ++ drop 16 s) ≡ s =
     rw (take_at (take 12 s) (drop 16 s) 12 front, drop_at (take 12 s) (drop 16 s) 12 front) (ap (λ (y : List ℕ). take 12 s ++ y) (sym (four_behind s (omega arith))) ∙ take-append-drop 12 s) in
-    let put = tag_put (get_or s 12 0) (get_or s 13 0) (get_or s 14 0) (get_or s 15 0) (take 12 s ++ drop 16 s) (omega arith) t.is in
-    ap layers_of is ∙ sym (ap popped (sym (ap layers_of back) ∙ put))
+    let over_bits = tag_put (get_or s 12 0) (get_or s 13 0) (get_or s 14 0) (get_or s 15 0) (take 12 s ++ drop 16 s) (omega arith) t.is in
+    ap layers_of is ∙ sym (ap popped (sym (ap layers_of back) ∙ over_bits))

@@ -1,4 +1,4 @@
--- Numbers that are not there, and numbers of one byte.
+-- Numbers that do not occur, and numbers of one byte.
 use Rattle.std.proofs.Common.{◌≡◌, ℕ, ◌+◌, ◌*◌, ◌/◌, ◌^◌, ◌<◌, ◌≤◌, Bool, true, false, cond, List, [], ◌∷◌, ◌++◌, length, take, drop, get_or, Option, Some, None, refl, sym, ap, ◌∙◌, arith}
 use Rattle.std.specs.Prelude.{◌==◌, ◌&&◌, ◌||◌}
 use Rattle.of_layers.specs.declared.place.Place.{Place}
@@ -17,7 +17,7 @@ use Rattle.of_headers.specs.declared.layout.Layout.{Layout}
 use Rattle.of_headers.specs.declared.layout.Network.{Network}
 use Rattle.of_headers.specs.declared.layout.Network.TheVariants as network
 use Rattle.of_headers.specs.Places.{layout_of}
-use Rattle.of_rewrite.specs.Checksum.{renewed, carried_renewed}
+use Rattle.of_rewrite.specs.Checksum.{updated, carried_updated}
 use Rattle.of_rewrite.specs.Rewriting.{change_at, replace_at, number_set}
 use Rattle.of_rewrite.specs.Renewal.{header_at, carried_at, ttl_at, HasRoomIn, packet_at}
 use Rattle.of_rewrite.proofs.CoveredWords.{header_words, carried_words, carried_rule}
@@ -44,7 +44,7 @@ or_true : (a : Bool) → (a || true) ≡ true
 or_true true = refl
 or_true false = refl
 
-kind_same : (t : Bool) (k : Transport) (x : ℕ) (a : List ℕ) → x ≤ 65535 → carried_renewed t k x a a ≡ x
+kind_same : (t : Bool) (k : Transport) (x : ℕ) (a : List ℕ) → x ≤ 65535 → carried_updated t k x a a ≡ x
 kind_same t Nothing x a h = renewed_same x a h
 kind_same t Tcp x a h = renewed_same x a h
 kind_same t Udp x a h = rw (differ_none a, or_true (t && (x == 0))) refl
@@ -67,7 +67,7 @@ unset n v l s st none =
     let same : replace_at n v cs ≡ cs = (not_found n 0 cs (λ x. v) none).0 in
     let small_h : Small 102 cs = small_at 102 cs oh st.is_sound st.header in
     let small_c : Small 103 cs = small_at 103 cs oc st.is_sound st.carried in
-    let rule : List Cell → ℕ → ℕ = λ ds k. renewed k (header_words y (spelt cs)) (header_words y (spelt ds)) in
+    let rule : List Cell → ℕ → ℕ = λ ds k. updated k (header_words y (spelt cs)) (header_words y (spelt ds)) in
     let last : List Cell → ℕ → ℕ = λ ds k. carried_rule y.network k (carried_words y (spelt cs)) (carried_words y (spelt ds)) in
     let head : change_at 102 (rule cs) cs ≡ cs = fixed 102 cs (rule cs) (λ x e. let b : x < 65536 = small_h x e in renewed_same x (header_words y (spelt cs)) (omega arith)) in
     let tail : change_at 103 (last cs) cs ≡ cs = fixed 103 cs (last cs) (λ x e. let b : x < 65536 = small_c x e in rule_same y.network x (carried_words y (spelt cs)) (omega arith)) in
@@ -92,7 +92,7 @@ byte_is n at cs s h b room is e =
 pub frame_stands : (s : List ℕ) → AreBytes s → 14 ≤ length s → Stands (layers_of s) s
 frame_stands s b h = stands (layers_of s) s (are_layers s b h) (frame_spelt s b h)
 
--- the byte of the time to live is in the frame
+-- the byte of the TTL is in the frame
 pub ttl_room : (n q : ℕ) (net : Network) (at : ℕ) → HasRoomIn n q net → ttl_at q net ≡ Some at → at < n
 ttl_room n q network.Plain at h e = absurd cc
 ttl_room n q network.Arp at h e = absurd cc

@@ -13,21 +13,21 @@ unfoldable pub words_of : ℕ → List ℕ → List ℕ
 words_of zero s = []
 words_of (suc n) s = number (take 16 s) ∷ words_of n (drop 16 s)
 
--- ---- sums in ones' complement
+-- ---- sums in one's complement
 
 -- a sum folded to 16 bits, its carries added until none is left
 abbrev pub fold : ℕ → ℕ
 fold s = if s == 0 then 0 else 1 + (s - 1) % 65535
 
--- what a change of words adds: words that stay do not count
+-- what a change of words adds: words that do not change do not count
 abbrev pub change : List ℕ → List ℕ → ℕ
 change [] new = 0
 change (o ∷ old) [] = 0
 change (o ∷ old) (n ∷ new) = (if o == n then 0 else 65535 - o + n) + change old new
 
 -- the checksum after the change
-abbrev pub renewed : ℕ → List ℕ → List ℕ → ℕ
-renewed c old new = 65535 - fold (65535 - c + change old new)
+abbrev pub updated : ℕ → List ℕ → List ℕ → ℕ
+updated c old new = 65535 - fold (65535 - c + change old new)
 
 -- ---- UDP
 
@@ -36,20 +36,20 @@ differ [] new = false
 differ (o ∷ old) [] = false
 differ (o ∷ old) (n ∷ new) = not (o == n) || differ old new
 
--- a computed 0 is written 65535
+-- a computed 0 is written as 65535
 abbrev pub never_zero : ℕ → ℕ
 never_zero c = if c == 0 then 65535 else c
 
--- where it may be left out, as over IPv4, a checksum of 0 was not computed
-abbrev pub udp_renewed : Bool → ℕ → List ℕ → List ℕ → ℕ
-udp_renewed may_lack c old new = if (may_lack && (c == 0)) || not (differ old new) then c else never_zero (renewed c old new)
+-- where it may be left out, as over IPv4, a checksum of 0 says that none was computed
+abbrev pub udp_updated : Bool → ℕ → List ℕ → List ℕ → ℕ
+udp_updated may_lack c old new = if (may_lack && (c == 0)) || not (differ old new) then c else never_zero (updated c old new)
 
 -- the checksum in the header of what an IP packet carries
-abbrev pub carried_renewed : Bool → Transport → ℕ → List ℕ → List ℕ → ℕ
-carried_renewed may_lack Udp = udp_renewed may_lack
-carried_renewed may_lack other = renewed
+abbrev pub carried_updated : Bool → Transport → ℕ → List ℕ → List ℕ → ℕ
+carried_updated may_lack Udp = udp_updated may_lack
+carried_updated may_lack other = updated
 
--- ---- what a checksum is for: words, it one of them, sum up to ones (RFC 1071, 1)
+-- ---- the purpose of a checksum: the words, itself among them, sum up to all ones (RFC 1071, 1)
 abbrev pub sums_to_ones : List ℕ → Bool
 sums_to_ones ws = fold (sum ws) == 65535
 

@@ -7,7 +7,7 @@ use Rattle.of_layers.specs.WellFormed.{AreBytes}
 use Rattle.of_rewrite.specs.Checksum.{number}
 use Rattle.of_rewrite.specs.Rewriting.{number_set, field_set}
 use Rattle.of_rewrite.specs.Tags.{pushed, popped}
-use Rattle.of_rewrite.specs.Aging.{ttl_of, aged_from}
+use Rattle.of_rewrite.specs.TimeToLive.{ttl_of, ttl_decremented_from}
 
 -- bytes that are a frame: at least two addresses and a type (IEEE 802.3, 3.1.1)
 abbrev pub IsFrame : List ℕ → Type 0
@@ -28,7 +28,7 @@ bytes_in cs = octets_of (length (spelt cs) / 8) (spelt cs)
 unfoldable pub frame_set : Field → ℕ → List ℕ → List ℕ
 frame_set f v frame = bytes_in (field_set f v (layers_of frame))
 
--- with a VLAN tag of a type put on
+-- with a VLAN tag of a type pushed
 unfoldable pub frame_pushed : ℕ → List ℕ → List ℕ
 frame_pushed type frame = bytes_in (cells (pushed type (layers_of frame)))
 
@@ -36,10 +36,10 @@ frame_pushed type frame = bytes_in (cells (pushed type (layers_of frame)))
 unfoldable pub frame_popped : List ℕ → List ℕ
 frame_popped frame = bytes_in (cells (popped (layers_of frame)))
 
--- with another time to live
+-- with another TTL
 unfoldable pub frame_ttl : ℕ → List ℕ → List ℕ
 frame_ttl v frame = bytes_in (number_set ttl v (layers_of frame))
 
--- with a time to live that is one less
-unfoldable pub frame_aged : List ℕ → List ℕ
-frame_aged frame = bytes_in (aged_from (ttl_of (layers_of frame)) (layers_of frame))
+-- with the TTL decremented by one
+unfoldable pub frame_ttl_decremented : List ℕ → List ℕ
+frame_ttl_decremented frame = bytes_in (ttl_decremented_from (ttl_of (layers_of frame)) (layers_of frame))

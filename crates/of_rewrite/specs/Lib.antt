@@ -2,7 +2,7 @@ pub mod Checksum
 pub mod Rewriting
 pub mod Tags
 pub mod Replaced
-pub mod Aging
+pub mod TimeToLive
 pub mod Frames
 pub mod Right
 pub mod Loans

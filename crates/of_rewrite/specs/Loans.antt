@@ -1,4 +1,4 @@
--- The bytes of a field, lent to be written. No checksum is renewed.
+-- The bytes of a field, borrowed mutably. No checksum is updated.
 use Rattle.std.specs.Prelude.{ℕ, ◌+◌, ◌/◌, ◌%◌, ◌==◌, Bool, ◌&&◌, if◌then◌else◌, List, ◌++◌, length, take, drop, Option, Some, None}
 use Rattle.std.specs.Borrow.{Lends, MutBor, Fml, Array, u8}
 use Rattle.of_layers.specs.declared.field.Field.{Field}
@@ -12,7 +12,7 @@ use Rattle.of_rewrite.specs.contracts.frame.Frame.{the_row}
 abbrev pub is_whole : Place → Bool
 is_whole p = (p.first % 8 == 0) && (p.bits % 8 == 0)
 
--- the first byte of a place, and that behind its last, where it is one of whole bytes; else no bytes
+-- the first byte of a place, and the one after its last, where it is one of whole bytes; else no bytes
 abbrev pub bytes_at : Option Place → ℕ × ℕ
 bytes_at None = (0, 0)
 bytes_at (Some p) = if is_whole p then (p.first / 8, (p.first + p.bits) / 8) else (0, 0)
@@ -25,6 +25,6 @@ lent f frame = bytes_at (locate f (cells (layers_of frame)))
 abbrev pub with_bytes : ℕ → List ℕ → List ℕ → List ℕ
 with_bytes i frame w = take (length frame) (take i frame ++ (w ++ drop (i + length w) frame))
 
--- after the loan the frame has its last bytes in that place, and all others as before
+-- after the loan the frame has the loan's last bytes in that place, and all others as before
 abbrev pub LendsField : MutBor (List ℕ) → Field → MutBor (List ℕ) → Fml
 LendsField frame f loan = Lends the_row (Array u8 0) frame loan (with_bytes (lent f frame.now).0 frame.now)

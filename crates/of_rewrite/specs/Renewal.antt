@@ -1,4 +1,4 @@
--- For contracts inside this crate: the checksums of a frame, with where they stand and what they cover, as they are read and written back.
+-- For contracts inside this crate: the checksums of a frame, with their places and what they cover, as they are read and written back.
 use Rattle.std.specs.Prelude.{ℕ, ◌+◌, ◌*◌, ◌/◌, ◌≤◌, Bool, true, false, not, ◌&&◌, ◌||◌, ◌==◌, if◌then◌else◌, List, Option, Some, None}
 use Rattle.of_layers.specs.declared.transport.Transport.{Transport}
 use Rattle.of_layers.specs.declared.transport.Transport.TheVariants.{Nothing, Tcp, Udp, Icmpv4, Icmpv6}
@@ -14,7 +14,7 @@ use Rattle.of_rewrite.specs.Checksum.{never_zero}
 use Rattle.of_rewrite.specs.Rewriting.{without_addresses}
 use Rattle.of_rewrite.specs.Spans.{with_word}
 
--- ---- spans of a frame's words, by where its layers stand
+-- ---- spans of a frame's words, by where its layers begin
 
 abbrev pub span : ℕ → ℕ → Span
 span at n = record { at = at; words = n }
@@ -22,7 +22,7 @@ span at n = record { at = at; words = n }
 abbrev pub no_words : Span
 no_words = span 0 0
 
--- behind two addresses, the tags and a type
+-- after two addresses, the tags and a type
 abbrev pub packet_at : Layout → ℕ
 packet_at l = 14 + 4 * l.tags
 
@@ -31,7 +31,7 @@ abbrev pub header_span : ℕ → Network → Span
 header_span at (Ipv4 p) = span at (p.at / 2)
 header_span at other = no_words
 
--- they begin at byte 12 of an IPv4 header, and at byte 8 of an IPv6 header
+-- the addresses begin at byte 12 of an IPv4 header, and at byte 8 of an IPv6 header
 abbrev pub address_span : ℕ → Network → Span
 address_span at Plain = no_words
 address_span at Arp = no_words
@@ -72,7 +72,7 @@ carried_at at Arp = None
 carried_at at (Ipv4 p) = moved (at + p.at) (checksum_byte p.transport)
 carried_at at (Ipv6 named p) = moved (at + p.at) (checksum_byte p.transport)
 
--- the byte of IPv4's time to live or of IPv6's hop limit
+-- the byte of IPv4's TTL or of IPv6's hop limit
 abbrev pub ttl_at : ℕ → Network → Option ℕ
 ttl_at at Plain = None
 ttl_at at Arp = None
@@ -110,7 +110,7 @@ with_header l m s = written_at (header_at (packet_at l) l.network) m.header.valu
 abbrev pub with_carried : Layout → Sums → List ℕ → List ℕ
 with_carried l m s = written_at (carried_at (packet_at l) l.network) (settled_in l.network (word_or_zero s (carried_at (packet_at l) l.network)) m.carried) s
 
--- the IP layers of a frame of so many bytes are in it
+-- the IP layers of a frame of n bytes are within it
 abbrev pub HasRoomIn : ℕ → ℕ → Network → Type 0
 HasRoomIn n at Plain = Unit {0}
 HasRoomIn n at Arp = Unit {0}

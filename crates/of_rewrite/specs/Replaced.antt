@@ -4,7 +4,7 @@ use Rattle.of_layers.specs.declared.field.Field.TheVariants.{EthType, IpProto}
 use Rattle.of_layers.specs.Fields.{number_of}
 use Rattle.of_layers.specs.Layers.{Item, Carried, Body, Plain, Arp, Ipv4, Ipv6, Layers, addresses, outer_tag, arp, ipv4, ipv6, next_before, items_of, header_checksum, checksum}
 use Rattle.of_layers.specs.Looking.{name_is}
-use Rattle.of_rewrite.specs.Rewriting.{header_renewed, carried_after}
+use Rattle.of_rewrite.specs.Rewriting.{header_updated, carried_after}
 
 -- numbers that can be replaced: all but the checksums
 abbrev pub Replaceable : ℕ → Type 0
@@ -38,4 +38,4 @@ layers_with n f l = record { ends = numbers_with n f addresses l.ends; tags = ta
 
 -- the layers where the number of that name becomes v
 unfoldable pub layers_set : ℕ → ℕ → Layers → Layers
-layers_set n v l = layers_with checksum (carried_after l.body n v) (layers_with header_checksum (header_renewed l.body n v) (layers_with n (λ x. v) l))
+layers_set n v l = layers_with checksum (carried_after l.body n v) (layers_with header_checksum (header_updated l.body n v) (layers_with n (λ x. v) l))

@@ -6,7 +6,7 @@ use Rattle.of_layers.specs.declared.transport.Transport.TheVariants.{Nothing, Ic
 use Rattle.of_layers.specs.Fields.{number_of}
 use Rattle.of_layers.specs.Layers.{Body, Plain, Arp, Ipv4, Ipv6, Layers, Cell, ipv4, ipv6, plain, items_of, cells_in, byte_cells, cells, spelt, header_checksum, checksum}
 use Rattle.of_layers.specs.Looking.{name_is}
-use Rattle.of_rewrite.specs.Checksum.{words_of, renewed, carried_renewed}
+use Rattle.of_rewrite.specs.Checksum.{words_of, updated, carried_updated}
 
 -- ---- the same cells with one number changed: that in the first cell of the name
 
@@ -34,7 +34,7 @@ without_addresses Nothing = true
 without_addresses Icmpv4 = true
 without_addresses other = false
 
--- they are the numbers from 11 on of an IPv4 header, and from 7 on of an IPv6 header
+-- the addresses are the numbers from 11 on of an IPv4 header, and from 7 on of an IPv6 header
 abbrev pub address_cover : Body → List Cell
 address_cover (Plain rest) = []
 address_cover (Arp ns rest) = []
@@ -48,18 +48,18 @@ carried_cover (Arp ns rest) = []
 carried_cover (Ipv4 ns opts carried rest) = cells_in (items_of carried.kind) carried.numbers
 carried_cover (Ipv6 ns extensions carried rest) = cells_in (items_of carried.kind) carried.numbers
 
--- how the checksum of what is carried is renewed: over IPv4 UDP's may be left out
+-- how the checksum of what is carried is updated: over IPv4 that of UDP is optional
 abbrev pub rule_in : Body → ℕ → List ℕ → List ℕ → ℕ
-rule_in (Plain rest) = renewed
-rule_in (Arp ns rest) = renewed
-rule_in (Ipv4 ns opts carried rest) = carried_renewed true carried.kind
-rule_in (Ipv6 ns extensions carried rest) = carried_renewed false carried.kind
+rule_in (Plain rest) = updated
+rule_in (Arp ns rest) = updated
+rule_in (Ipv4 ns opts carried rest) = carried_updated true carried.kind
+rule_in (Ipv6 ns extensions carried rest) = carried_updated false carried.kind
 
 -- ---- the whole
 
 -- the checksum of the IPv4 header, where the number n in it becomes v
-abbrev pub header_renewed : Body → ℕ → ℕ → ℕ → ℕ
-header_renewed b n v c = renewed c (words (header_cover b)) (words (replace_at n v (header_cover b)))
+abbrev pub header_updated : Body → ℕ → ℕ → ℕ → ℕ
+header_updated b n v c = updated c (words (header_cover b)) (words (replace_at n v (header_cover b)))
 
 -- that of what an IP packet carries
 abbrev pub carried_after : Body → ℕ → ℕ → ℕ → ℕ
@@ -67,7 +67,7 @@ carried_after b n v c = rule_in b c (words (address_cover b) ++ words (carried_c
 
 -- the cells of layers where the number of that name becomes v: without such a number they stay
 unfoldable pub number_set : ℕ → ℕ → Layers → List Cell
-number_set n v l = change_at checksum (carried_after l.body n v) (change_at header_checksum (header_renewed l.body n v) (replace_at n v (cells l)))
+number_set n v l = change_at checksum (carried_after l.body n v) (change_at header_checksum (header_updated l.body n v) (replace_at n v (cells l)))
 
 -- A cell has the low bits of its number: that of VLAN_VID, a field of 13 bits, the low 12.
 abbrev pub field_set : Field → ℕ → Layers → List Cell

@@ -1,4 +1,4 @@
--- Checksums that are right: with all the words that they cover they sum up to ones (RFC 1071, 1).
+-- Correct checksums: with all the words that they cover they sum up to all ones (RFC 1071, 1).
 use Rattle.std.specs.Prelude.{ℕ, ◌<◌, Bool, false, IsTrue, ◌||◌, ◌==◌, List, ◌++◌, sum, Option, Some, None}
 use Rattle.of_layers.specs.declared.transport.Transport.{Transport}
 use Rattle.of_layers.specs.declared.transport.Transport.TheVariants.{Nothing, Tcp, Udp, Icmpv4, Icmpv6}
@@ -25,7 +25,7 @@ abbrev pub left_out : Body → Bool
 left_out (Ipv4 ns opts carried rest) = is_left_out carried.kind (look_up checksum (carried_cover (Ipv4 ns opts carried rest)))
 left_out other = false
 
--- That of what an IP packet carries. Beside the addresses and its header it covers more words, which no action changes: the protocol and the length (RFC 768; RFC 8200, 8.1; RFC 9293, 3.1), and the bytes behind its header.
+-- That of what an IP packet carries. Beside the addresses and its header it covers more words, which no action changes: the protocol and the length (RFC 768; RFC 8200, 8.1; RFC 9293, 3.1), and the bytes after its header. The addresses are the header's own, also where an IPv6 routing header names another destination.
 abbrev pub carried_is_right : List ℕ → Body → Bool
 carried_is_right more b = left_out b || sums_to_ones (more ++ (words (address_cover b) ++ words (carried_cover b)))
 

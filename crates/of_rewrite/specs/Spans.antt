@@ -2,12 +2,12 @@
 use Rattle.std.specs.Prelude.{◌≡◌, ℕ, zero, suc, ◌+◌, ◌*◌, ◌/◌, ◌%◌, ◌^◌, Bool, not, ◌||◌, ◌==◌, if◌then◌else◌, List, [], ◌∷◌, ◌++◌, slice_set, take, drop}
 use Rattle.of_layers.specs.Bits.{bits}
 use Rattle.of_layers.specs.Reading.{word}
-use Rattle.of_rewrite.specs.Checksum.{renewed, differ}
+use Rattle.of_rewrite.specs.Checksum.{updated, differ}
 use Rattle.of_rewrite.specs.declared.sums.Span.{Span}
 use Rattle.of_rewrite.specs.declared.sums.Sum.{Sum}
 use Rattle.of_rewrite.specs.declared.sums.Sums.{Sums}
 
--- so many words from byte i on
+-- n words from byte i on
 abbrev pub words_at : ℕ → ℕ → List ℕ → List ℕ
 words_at zero i s = []
 words_at (suc n) i s = word s i ∷ words_at n (i + 2) s
@@ -19,14 +19,14 @@ abbrev pub covered : Sum → List ℕ → List ℕ
 covered m s = span_words m.front s ++ span_words m.back s
 
 abbrev pub followed : Sum → List ℕ → List ℕ → Sum
-followed m old new = record m { value = renewed m.value (covered m old) (covered m new); differs = m.differs || differ (covered m old) (covered m new) }
+followed m old new = record m { value = updated m.value (covered m old) (covered m new); differs = m.differs || differ (covered m old) (covered m new) }
 
 abbrev pub both_followed : Sums → List ℕ → List ℕ → Sums
 both_followed m old new = record { header = followed m.header old new; carried = followed m.carried old new }
 
 -- after the change of one word, if it is covered
 abbrev pub stepped : Bool → ℕ → ℕ → Sum → Sum
-stepped there old new m = if there then record m { value = renewed m.value (old ∷ []) (new ∷ []); differs = m.differs || not (old == new) } else m
+stepped there old new m = if there then record m { value = updated m.value (old ∷ []) (new ∷ []); differs = m.differs || not (old == new) } else m
 
 -- words begin at even bytes
 abbrev pub IsEven : Sum → Type 0
@@ -39,10 +39,10 @@ AreEven m = IsEven m.header × IsEven m.carried
 abbrev pub with_word : ℕ → ℕ → List ℕ → List ℕ
 with_word i w s = slice_set (slice_set s i (w / 256)) (i + 1) (w % 256)
 
--- bits with n of them, from place p on, written over
-abbrev pub put : ℕ → ℕ → ℕ → List ℕ → List ℕ
-put p n v s = take p s ++ (bits n v ++ drop (p + n) s)
+-- bits with n of them, from place p on, overwritten
+abbrev pub over_bits : ℕ → ℕ → ℕ → List ℕ → List ℕ
+over_bits p n v s = take p s ++ (bits n v ++ drop (p + n) s)
 
 -- a word with the low bits of a value in its middle, with so many bits of it below
-abbrev pub part_put : ℕ → ℕ → ℕ → ℕ → ℕ
-part_put width below v w = (w / 2 ^ below / 2 ^ width * 2 ^ width + v % 2 ^ width) * 2 ^ below + w % 2 ^ below
+abbrev pub part_over_bits : ℕ → ℕ → ℕ → ℕ → ℕ
+part_over_bits width below v w = (w / 2 ^ below / 2 ^ width * 2 ^ width + v % 2 ^ width) * 2 ^ below + w % 2 ^ below

@@ -1,4 +1,4 @@
--- For contracts inside this crate: the outermost tag in a frame's bytes, behind two addresses of six bytes.
+-- For contracts inside this crate: the outermost tag in a frame's bytes, after two addresses of six bytes.
 use Rattle.std.specs.Prelude.{ℕ, ◌+◌, ◌*◌, ◌/◌, ◌%◌, Bool, ◌&&◌, nat_le, if◌then◌else◌, List, length}
 use Rattle.of_layers.specs.Reading.{word, is_tag_type}
 

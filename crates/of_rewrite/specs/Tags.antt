@@ -1,8 +1,8 @@
--- Layers with a VLAN tag put on or taken off (OpenFlow 1.3.5, 5.12).
+-- Layers with a VLAN tag pushed or popped (OpenFlow 1.3.5, 5.12).
 use Rattle.std.specs.Prelude.{ℕ, List, [], ◌∷◌, slice_index}
 use Rattle.of_layers.specs.Layers.{Layers}
 
--- The tag that is put on, in front of these: type, PCP, DEI, VID. PCP and VID are those of the outermost tag (5.12.1); DEI is 0.
+-- The tag that is pushed before these: type, PCP, DEI, VID. PCP and VID are those of the outermost tag (5.12.1); DEI is 0.
 abbrev pub tag_before : ℕ → List (List ℕ) → List ℕ
 tag_before type [] = type ∷ 0 ∷ 0 ∷ 0 ∷ []
 tag_before type (t ∷ ts) = type ∷ slice_index t 1 ∷ 0 ∷ slice_index t 3 ∷ []

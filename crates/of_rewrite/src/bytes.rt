@@ -1,4 +1,4 @@
-//! Words of 16 bits in bytes, the highest byte first.
+//! Words of 16 bits in bytes, big-endian.
 
 ghost use Rattle.std.specs.Prelude.{◌≡◌, ◌+◌, ◌*◌, ◌/◌, ◌%◌, ◌^◌, ◌-◌, ◌≤◌, ◌<◌, length};
 ghost use Rattle.of_rewrite.specs.Spans.{with_word};

@@ -1,4 +1,4 @@
-//! Checksums in ones' complement (RFC 1624, 3).
+//! Checksums in one's complement (RFC 1624, 3).
 
 ghost use Rattle.std.specs.Prelude.{◌≡◌, ◌+◌, ◌-◌, ◌<◌, ◌≤◌, ◌^◌, ◌∷◌, []};
 ghost use Rattle.of_rewrite.specs.Checksum.{fold, change};

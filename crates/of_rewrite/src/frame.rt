@@ -7,12 +7,12 @@ ghost use Rattle.of_layers.specs.Fields.{number_of, is_settable, ones_of};
 ghost use Rattle.of_layers.specs.Layers.{spelt, ttl};
 ghost use Rattle.of_layers.specs.Reading.{layers_of, is_tag_type};
 ghost use Rattle.of_rewrite.specs.Rewriting.{field_set, number_set};
-ghost use Rattle.of_rewrite.specs.Frames.{frame_set, frame_pushed, frame_popped, frame_ttl, frame_aged};
+ghost use Rattle.of_rewrite.specs.Frames.{frame_set, frame_pushed, frame_popped, frame_ttl, frame_ttl_decremented};
 ghost use Rattle.of_rewrite.specs.Loans.{lent, LendsField};
 ghost use Rattle.of_rewrite.specs.Replaced.{layers_set};
 ghost use Rattle.of_rewrite.specs.Right.{StayRight};
 ghost use Rattle.of_rewrite.specs.Tags.{pushed, popped};
-ghost use Rattle.of_rewrite.specs.Aging.{ttl_of, answer_to, aged_from, layers_aged};
+ghost use Rattle.of_rewrite.specs.TimeToLive.{ttl_of, dec_ttl_result, ttl_decremented_from, layers_ttl_decremented};
 
 use crate::bytes::all_bytes;
 use crate::rewrite;
@@ -21,7 +21,7 @@ use of_layers::Field;
 use std::alloc::{AllocError, Global};
 use std::marker::Model;
 
-/// What became of a time to live that was to be taken down by one.
+/// What became of a TTL that was to be decremented.
 #[derive(Clone, Copy, Debug, PartialEq, Eq)]
 pub enum Ttl {
     /// It is one less.
@@ -38,10 +38,10 @@ pub struct Frame {
     bytes: Vec<u8>,
 }
 
-/// From here on a tag more would make a frame of 2^61 bytes.
+/// From here on one more tag would make a frame of 2^61 bytes.
 const LONGEST: usize = (1 << 61) - 4;
 
-/// Asks for more memory than an address space has, where a tag more would make a frame of 2^61 bytes: the allocator refuses that.
+/// Asks for more memory than an address space has, where one more tag would make a frame of 2^61 bytes: the allocator refuses that.
 fn stay_countable(bytes: &mut Vec<u8>) -> Result<(), AllocError>
     ensures items { bytes.new.items ≡ bytes.old.items }
     ensures short { OnOk result (length bytes.new.items + 4 < 2 ^ 61) }
@@ -92,7 +92,7 @@ impl Frame {
         self.bytes.len()
     }
 
-    /// Puts a VLAN tag of this type, 0x8100 or 0x88a8, behind the source address (OpenFlow 1.3.5, 5.12).
+    /// Pushes a VLAN tag of this type, 0x8100 or 0x88a8, after the source address (OpenFlow 1.3.5, 5.12).
     ///
     /// PCP and VID are those of the outermost tag, or 0; DEI is 0. Without memory for the four bytes nothing changes.
     pub fn push_vlan(&mut self, tpid: u16) -> Result<(), AllocError>
@@ -109,7 +109,7 @@ impl Frame {
         insert_tag(&mut self.bytes, &tag)
     }
 
-    /// Takes the outermost VLAN tag off (OpenFlow 1.3.5, 5.12). Without a tag nothing changes.
+    /// Pops the outermost VLAN tag (OpenFlow 1.3.5, 5.12). Without a tag nothing changes.
     pub fn pop_vlan(&mut self)
         ensures frame { self.new ≡ frame_popped self.old }
         ensures layers { layers_of self.new ≡ popped (layers_of self.old) }
@@ -121,7 +121,7 @@ impl Frame {
         }
     }
 
-    /// Replaces a field, and renews each checksum that covers it (OpenFlow 1.3.5, 5.12; RFC 1624, 3).
+    /// Replaces a field, and updates each checksum that covers it (OpenFlow 1.3.5, 5.12; RFC 1624, 3).
     ///
     /// Of VLAN_VID the low 12 bits are written, to the outermost tag. Where the frame has no such field nothing changes.
     pub fn set(&mut self, field: Field, value: u128)
@@ -136,14 +136,14 @@ impl Frame {
         rewrite::set_field(&mut self.bytes, field, value);
     }
 
-    /// IPv4's time to live or IPv6's hop limit, if the frame has an IP layer (RFC 791, 3.1; RFC 8200, 3).
+    /// IPv4's TTL or IPv6's hop limit, if the frame has an IP layer (RFC 791, 3.1; RFC 8200, 3).
     pub fn ttl(&self) -> Option<u8>
         ensures { result ≡ ttl_of (layers_of self.now) }
     {
         rewrite::ttl_in(&self.bytes)
     }
 
-    /// Replaces IPv4's time to live or IPv6's hop limit, and renews the checksum of an IPv4 header. Without an IP layer nothing changes.
+    /// Replaces IPv4's TTL or IPv6's hop limit, and updates the checksum of an IPv4 header. Without an IP layer nothing changes.
     pub fn set_ttl(&mut self, value: u8)
         ensures frame { self.new ≡ frame_ttl value self.old }
         ensures layers { layers_of self.new ≡ layers_set ttl value (layers_of self.old) }
@@ -154,14 +154,14 @@ impl Frame {
         rewrite::set_ttl(&mut self.bytes, value);
     }
 
-    /// Takes IPv4's time to live or IPv6's hop limit down by one, and renews the checksum of an IPv4 header.
+    /// Decrements IPv4's TTL or IPv6's hop limit, and updates the checksum of an IPv4 header.
     ///
     /// Nothing changes where it is 0 or 1, nor without an IP layer.
     pub fn dec_ttl(&mut self) -> Ttl
-        ensures answer { result ≡ answer_to (ttl_of (layers_of self.old)) }
-        ensures frame { self.new ≡ frame_aged self.old }
-        ensures layers { layers_of self.new ≡ layers_aged (ttl_of (layers_of self.old)) (layers_of self.old) }
-        ensures bytes { bits_of self.new ≡ spelt (aged_from (ttl_of (layers_of self.old)) (layers_of self.old)) }
+        ensures answer { result ≡ dec_ttl_result (ttl_of (layers_of self.old)) }
+        ensures frame { self.new ≡ frame_ttl_decremented self.old }
+        ensures layers { layers_of self.new ≡ layers_ttl_decremented (ttl_of (layers_of self.old)) (layers_of self.old) }
+        ensures bytes { bits_of self.new ≡ spelt (ttl_decremented_from (ttl_of (layers_of self.old)) (layers_of self.old)) }
         ensures length { length self.new ≡ length self.old }
         ensures checksums { StayRight self.old self.new }
     {
@@ -177,9 +177,9 @@ impl Frame {
         !rewrite::field_range(&self.bytes, field).is_empty()
     }
 
-    /// Lends the bytes of a field that fills whole bytes, to be written, and no bytes for another field ([`Frame::lends`]).
+    /// Borrows the bytes of a field that fills whole bytes, mutably, and no bytes for another field ([`Frame::lends`]).
     ///
-    /// No checksum is renewed.
+    /// No checksum is updated.
     pub fn field_mut(&mut self, field: Field) -> &mut [u8]
         ensures* lends { sem 𝓛 (LendsField self.entry field result) }
         ensures bytes { result.now ≡ slice_range self.old (lent field self.old).0 (lent field self.old).1 }

@@ -1,17 +1,17 @@
-//! What the renewal of a checksum keeps.
+//! What the update of a checksum keeps.
 
 ghost use Rattle.std.specs.Prelude.{ℕ, ◌≡◌, ◌<◌, ◌+◌, ◌%◌, ◌∷◌, ◌++◌, IsTrue, List, length, sum};
-ghost use Rattle.of_rewrite.specs.Checksum.{renewed, never_zero, sums_to_ones, AreWords};
+ghost use Rattle.of_rewrite.specs.Checksum.{updated, never_zero, sums_to_ones, AreWords};
 
-/// A checksum that was right is right after it is renewed: with all the words that it covers it sums up to ones (RFC 1071, 1).
+/// A checksum that was right is right after it is updated: with all the words that it covers it sums up to all ones (RFC 1071, 1).
 ///
 /// `kept`: where some word is not 0 afterwards. Headers of IP are never all 0, nor are the words that TCP, UDP and ICMPv6 cover.
 /// `staying`: a word that stays makes no difference, so that it does not matter whether it is counted among those covered.
-/// `udp`: writing a computed 0 as ones changes nothing of that.
+/// `udp`: writing a computed 0 as all ones changes nothing of that.
 /// `off`: what it sums up to otherwise stays the same too, so that a checksum that was wrong stays wrong by as much.
 pub fn stays_right()
-    ensures kept { (c : ℕ) (old new : List ℕ) → c < 65536 → AreWords old → length old ≡ length new → 0 < sum new → IsTrue (sums_to_ones (c ∷ old)) → IsTrue (sums_to_ones (renewed c old new ∷ new)) }
-    ensures staying { (c w : ℕ) (a x b y : List ℕ) → length a ≡ length x → renewed c (a ++ (w ∷ b)) (x ++ (w ∷ y)) ≡ renewed c (a ++ b) (x ++ y) }
-    ensures off { (c : ℕ) (old new : List ℕ) → c < 65536 → AreWords old → length old ≡ length new → (renewed c old new + sum new) % 65535 ≡ (c + sum old) % 65535 }
+    ensures kept { (c : ℕ) (old new : List ℕ) → c < 65536 → AreWords old → length old ≡ length new → 0 < sum new → IsTrue (sums_to_ones (c ∷ old)) → IsTrue (sums_to_ones (updated c old new ∷ new)) }
+    ensures staying { (c w : ℕ) (a x b y : List ℕ) → length a ≡ length x → updated c (a ++ (w ∷ b)) (x ++ (w ∷ y)) ≡ updated c (a ++ b) (x ++ y) }
+    ensures off { (c : ℕ) (old new : List ℕ) → c < 65536 → AreWords old → length old ≡ length new → (updated c old new + sum new) % 65535 ≡ (c + sum old) % 65535 }
     ensures udp { (c : ℕ) (new : List ℕ) → IsTrue (sums_to_ones (c ∷ new)) → IsTrue (sums_to_ones (never_zero c ∷ new)) }
 {}

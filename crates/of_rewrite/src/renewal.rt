@@ -1,4 +1,4 @@
-//! The checksums of a frame: where they stand, what they cover, and how they are written back.
+//! The checksums of a frame: their places, what they cover, and how they are written back.
 
 ghost use Rattle.std.specs.Prelude.{◌≡◌, ◌+◌, ◌*◌, ◌/◌, ◌≤◌, ◌<◌, ◌^◌, false, if◌then◌else◌, length, IfSome};
 ghost use Rattle.of_rewrite.specs.Rewriting.{without_addresses};
@@ -46,7 +46,7 @@ fn words_of(kind: Transport) -> usize
     }
 }
 
-/// The checksum of what an IP packet carries, under which the addresses begin at a byte, with so many words.
+/// The checksum of what an IP packet carries, which covers these words of addresses where it covers any.
 fn carried_in(bytes: &[u8], packet: usize, payload: Payload, addresses: Span) -> Sum
     requires { packet + payload.at + size_of payload.transport ≤ length bytes.now }
     ensures { result ≡ record {
@@ -87,7 +87,7 @@ fn no_sum() -> Sum
     }
 }
 
-/// The checksums of a frame whose layers stand so.
+/// The checksums of a frame with this layout.
 pub fn sums_in(bytes: &[u8], layout: Layout) -> Sums
     requires { HasRoom layout (length bytes.now) }
     ensures { result ≡ sums_of layout bytes.now }
@@ -129,7 +129,7 @@ pub fn sums_in(bytes: &[u8], layout: Layout) -> Sums
     }
 }
 
-/// What is written for the checksum of what an IP packet carries: UDP's may be left out over IPv4, and is never 0 once it is computed (RFC 768).
+/// What is written for the checksum of what an IP packet carries: UDP's is optional over IPv4, and is never 0 once it is computed (RFC 768).
 fn settle(may_lack: bool, kind: Transport, old: u16, sum: Sum) -> u16
     ensures { result ≡ settled may_lack kind old sum }
 {
@@ -156,7 +156,7 @@ fn put_carried(bytes: &mut [u8], packet: usize, payload: Payload, may_lack: bool
     }
 }
 
-/// Writes the checksums of a frame whose layers stand so.
+/// Writes the checksums of a frame with this layout.
 pub fn put_sums(bytes: &mut [u8], layout: Layout, sums: Sums)
     requires { HasRoom layout (length bytes.old) }
     ensures { bytes.new ≡ with_carried layout sums (with_header layout sums bytes.old) }

@@ -1,4 +1,4 @@
-//! A number of a frame replaced, and its checksums renewed.
+//! A number of a frame replaced, and its checksums updated.
 
 ghost use Rattle.std.specs.Prelude.{ℕ, ◌≡◌, ◌≢◌, ◌+◌, ◌*◌, ◌/◌, ◌≤◌, ◌<◌, ◌^◌, length, Some, IsTrue};
 ghost use Rattle.of_layers.specs.Bits.{bits_of};
@@ -8,10 +8,10 @@ ghost use Rattle.of_layers.specs.Looking.{locate_at};
 ghost use Rattle.of_layers.specs.Reading.{layers_of};
 ghost use Rattle.of_headers.specs.Places.{layout_of};
 ghost use Rattle.of_rewrite.specs.Rewriting.{number_set, field_set};
-ghost use Rattle.of_rewrite.specs.Frames.{bytes_in, frame_set, frame_ttl, frame_aged};
+ghost use Rattle.of_rewrite.specs.Frames.{bytes_in, frame_set, frame_ttl, frame_ttl_decremented};
 ghost use Rattle.of_rewrite.specs.Loans.{lent};
 ghost use Rattle.of_rewrite.specs.Right.{StayRight};
-ghost use Rattle.of_rewrite.specs.Aging.{ttl_of, answer_to, aged_from, layers_aged};
+ghost use Rattle.of_rewrite.specs.TimeToLive.{ttl_of, dec_ttl_result, ttl_decremented_from, layers_ttl_decremented};
 ghost use Rattle.of_rewrite.specs.Renewal.{ttl_at, packet_at};
 ghost use Rattle.of_rewrite.specs.Replaced.{Replaceable, layers_set};
 
@@ -23,7 +23,7 @@ use of_headers::{Layout, Network, layout_in};
 use of_layers::{Field, Place};
 use std::ops::Range;
 
-/// Replaces the number of a place, and renews each checksum that covers it.
+/// Replaces the number of a place, and updates each checksum that covers it.
 pub fn set_number(bytes: &mut [u8], layout: Layout, place: Place, value: u128)
     requires long { 14 ≤ length bytes.old }
     requires layout { layout ≡ layout_of (layers_of bytes.old) }
@@ -39,7 +39,7 @@ pub fn set_number(bytes: &mut [u8], layout: Layout, place: Place, value: u128)
     put_sums(bytes, layout, sums);
 }
 
-/// Replaces a field, and renews each checksum that covers it. Where the frame has no such field nothing changes.
+/// Replaces a field, and updates each checksum that covers it. Where the frame has no such field nothing changes.
 pub fn set_field(bytes: &mut [u8], field: Field, value: u128)
     requires settable { IsTrue (is_settable field) }
     requires long { 14 ≤ length bytes.old }
@@ -56,7 +56,7 @@ pub fn set_field(bytes: &mut [u8], field: Field, value: u128)
     }
 }
 
-/// The byte of IPv4's time to live or of IPv6's hop limit.
+/// The byte of IPv4's TTL or of IPv6's hop limit.
 fn ttl_byte(layout: Layout) -> Option<usize>
     requires { packet_at layout < 2 ^ 62 }
     ensures { result ≡ ttl_at (packet_at layout) layout.network }
@@ -69,7 +69,7 @@ fn ttl_byte(layout: Layout) -> Option<usize>
     }
 }
 
-/// Replaces IPv4's time to live or IPv6's hop limit, and renews the checksum of an IPv4 header. Without an IP layer nothing changes.
+/// Replaces IPv4's TTL or IPv6's hop limit, and updates the checksum of an IPv4 header. Without an IP layer nothing changes.
 pub fn set_ttl(bytes: &mut [u8], value: u8)
     requires long { 14 ≤ length bytes.old }
     requires short { length bytes.old < 2 ^ 61 }
@@ -89,7 +89,7 @@ pub fn set_ttl(bytes: &mut [u8], value: u8)
     }
 }
 
-/// IPv4's time to live or IPv6's hop limit, if the frame has an IP layer.
+/// IPv4's TTL or IPv6's hop limit, if the frame has an IP layer.
 pub fn ttl_in(bytes: &[u8]) -> Option<u8>
     requires long { 14 ≤ length bytes.now }
     requires short { length bytes.now < 2 ^ 61 }
@@ -105,14 +105,14 @@ pub fn ttl_in(bytes: &[u8]) -> Option<u8>
     }
 }
 
-/// Takes IPv4's time to live or IPv6's hop limit down by one, and renews the checksum of an IPv4 header.
+/// Decrements IPv4's TTL or IPv6's hop limit, and updates the checksum of an IPv4 header.
 pub fn dec_ttl(bytes: &mut [u8]) -> Ttl
     requires long { 14 ≤ length bytes.old }
     requires short { length bytes.old < 2 ^ 61 }
-    ensures answer { result ≡ answer_to (ttl_of (layers_of bytes.old)) }
-    ensures bits { bits_of bytes.new ≡ spelt (aged_from (ttl_of (layers_of bytes.old)) (layers_of bytes.old)) }
-    ensures frame { bytes.new ≡ frame_aged bytes.old }
-    ensures layers { layers_of bytes.new ≡ layers_aged (ttl_of (layers_of bytes.old)) (layers_of bytes.old) }
+    ensures answer { result ≡ dec_ttl_result (ttl_of (layers_of bytes.old)) }
+    ensures bits { bits_of bytes.new ≡ spelt (ttl_decremented_from (ttl_of (layers_of bytes.old)) (layers_of bytes.old)) }
+    ensures frame { bytes.new ≡ frame_ttl_decremented bytes.old }
+    ensures layers { layers_of bytes.new ≡ layers_ttl_decremented (ttl_of (layers_of bytes.old)) (layers_of bytes.old) }
     ensures checksums { StayRight bytes.old bytes.new }
 {
     match ttl_in(bytes) {

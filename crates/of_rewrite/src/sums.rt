@@ -1,4 +1,4 @@
-//! Checksums that follow the words that they cover (RFC 1624, 3).
+//! Checksums that are updated with the words that they cover (RFC 1624, 3).
 
 ghost use Rattle.std.specs.Prelude.{ℕ, ◌≡◌, ◌+◌, ◌*◌, ◌%◌, ◌≤◌, ◌<◌, ◌&&◌, Bool, nat_le, nat_lt, List, length};
 ghost use Rattle.of_layers.specs.Reading.{word};

@@ -1,4 +1,4 @@
-//! VLAN tags put on and taken off (IEEE 802.1Q, 9.3).
+//! VLAN tags pushed and popped (IEEE 802.1Q, 9.3).
 
 ghost use Rattle.std.specs.Prelude.{◌≡◌, ◌≤◌, ◌+◌, ◌*◌, ◌/◌, ◌%◌, ◌∷◌, [], ◌++◌, ◌&&◌, nat_le, length, take, drop, OnOk, OnErr, if◌then◌else◌, IsTrue};
 ghost use Rattle.of_rewrite.specs.Tagging.{has_tag, control_in};
@@ -6,10 +6,10 @@ ghost use Rattle.of_rewrite.specs.Tagging.{has_tag, control_in};
 use of_headers::{is_tag, word_at};
 use std::alloc::AllocError;
 
-/// Where the outermost tag stands, behind two addresses of six bytes.
+/// Where the outermost tag begins, after two addresses of six bytes.
 const TAG_AT: usize = 12;
 
-/// Whether a frame has a tag: two bytes behind its own four hold what comes next.
+/// Whether a frame has a tag: two bytes after its own four hold what comes next.
 pub fn is_tagged(frame: &[u8]) -> bool
     ensures { result ≡ has_tag frame.now }
 {
@@ -39,7 +39,7 @@ pub fn tag_bytes(tpid: u16, control: u16) -> [u8; 4]
     ]
 }
 
-/// Puts four bytes behind the addresses. Without memory for them nothing changes.
+/// Inserts four bytes after the addresses. Without memory for them nothing changes.
 pub fn insert_tag(bytes: &mut Vec<u8>, tag: &[u8; 4]) -> Result<(), AllocError>
     requires { 12 ≤ length bytes.old.items }
     ensures ok { OnOk result (bytes.new.items ≡ take 12 bytes.old.items ++ (tag.now ++ drop 12 bytes.old.items)) }
@@ -50,7 +50,7 @@ pub fn insert_tag(bytes: &mut Vec<u8>, tag: &[u8; 4]) -> Result<(), AllocError>
     Ok(())
 }
 
-/// Takes the four bytes behind the addresses out.
+/// Removes the four bytes after the addresses.
 pub fn remove_tag(bytes: &mut Vec<u8>)
     requires { 16 ≤ length bytes.old.items }
     ensures { bytes.new.items ≡ take 12 bytes.old.items ++ drop 16 bytes.old.items }

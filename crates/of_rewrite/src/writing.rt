@@ -3,7 +3,7 @@
 ghost use Rattle.std.specs.Prelude.{ℕ, ◌≡◌, ◌≢◌, ◌+◌, ◌*◌, ◌/◌, ◌%◌, ◌^◌, ◌-◌, ◌≤◌, ◌<◌, length};
 ghost use Rattle.of_layers.specs.Bits.{bits_of};
 ghost use Rattle.of_layers.specs.Reading.{word};
-ghost use Rattle.of_rewrite.specs.Spans.{put, both_followed, AreEven, part_put};
+ghost use Rattle.of_rewrite.specs.Spans.{over_bits, both_followed, AreEven, part_over_bits};
 
 use crate::bytes::{all_bytes, put_word};
 use crate::sums::Sums;
@@ -21,7 +21,7 @@ fn power(n: usize) -> u32
 /// A word with the low bits of a value in its middle: so many of them, with so many bits of the word below.
 fn with_part(word: u16, width: usize, below: usize, value: u16) -> u16
     requires { width + below ≤ 16 }
-    ensures { result ≡ part_put width below value word }
+    ensures { result ≡ part_over_bits width below value word }
 {
     let unit = power(below);
     let span = power(width);
@@ -30,12 +30,12 @@ fn with_part(word: u16, width: usize, below: usize, value: u16) -> u16
     (middle * unit + word % unit) as u16
 }
 
-/// Writes the low bits of a value into one word of a frame, from a bit on; the checksums follow.
+/// Writes the low bits of a value into one word of a frame, from a bit on; the checksums are updated.
 fn put_piece(bytes: &mut [u8], first: usize, width: usize, value: u16, sums: Sums) -> Sums
     requires word { first % 16 + width ≤ 16 }
     requires room { first / 16 * 2 + 2 ≤ length bytes.old }
     requires even { AreEven sums }
-    ensures bits { bits_of bytes.new ≡ put first width value (bits_of bytes.old) }
+    ensures bits { bits_of bytes.new ≡ over_bits first width value (bits_of bytes.old) }
     ensures sums { result ≡ both_followed sums bytes.old bytes.new }
     ensures kept { (i : ℕ) → i % 2 ≡ 0 → i ≢ first / 16 * 2 → word bytes.new i ≡ word bytes.old i }
 {
@@ -47,13 +47,13 @@ fn put_piece(bytes: &mut [u8], first: usize, width: usize, value: u16, sums: Sum
     sums.follow(at, old, new)
 }
 
-/// Writes the low bits of a value over a place, word by word; the checksums follow.
+/// Writes the low bits of a value over a place, word by word; the checksums are updated.
 pub fn put_number(bytes: &mut [u8], place: Place, value: u128, sums: Sums) -> Sums
     requires most { place.bits ≤ 128 }
     requires fits { place.first + place.bits < 2 ^ 64 }
     requires room { (place.first + place.bits + 15) / 16 * 2 ≤ length bytes.old }
     requires even { AreEven sums }
-    ensures bits { bits_of bytes.new ≡ put place.first place.bits value (bits_of bytes.old) }
+    ensures bits { bits_of bytes.new ≡ over_bits place.first place.bits value (bits_of bytes.old) }
     ensures sums { result ≡ both_followed sums bytes.old bytes.new }
 {
     let mut sums = sums;

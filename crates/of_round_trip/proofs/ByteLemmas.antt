@@ -18,7 +18,7 @@ use Rattle.of_actions.specs.declared.action.Action.{Action}
 use Rattle.of_actions.specs.declared.action.Action.TheVariants.{SetField}
 use Rattle.of_actions.specs.declared.instruction.Instruction.{Instruction}
 use Rattle.of_actions.specs.declared.instruction.Instruction.TheVariants.{Apply, Clear, Write, Metadata, Goto}
-use Rattle.of_actions.specs.Served.{is_served, are_served}
+use Rattle.of_actions.specs.Supported.{is_supported, are_supported}
 use Rattle.of_actions.specs.InstructionLists.{are_kept, is_served_body}
 use Rattle.of_actions.specs.SetField.{set_len}
 use Rattle.of_actions.specs.CanonicalActions.{canonical_action, canonical_actions, canonical_set_field}
@@ -32,8 +32,8 @@ use Rattle.of_messages.specs.declared.message.FlowMod.{FlowMod}
 use Rattle.of_messages.specs.declared.message.FlowModCommand.{FlowModCommand}
 use Rattle.of_messages.specs.declared.message.FlowModCommand.TheVariants.{Add, Modify, ModifyStrict, Delete, DeleteStrict}
 use Rattle.of_messages.specs.declared.group_mod.NewGroup.{NewGroup}
-use Rattle.of_messages.specs.Written.{command_number, flow_mod_bytes, flow_mod_front, message}
-use Rattle.of_messages.specs.CanonicalGroups.{canonical_bucket, canonical_buckets, group_add_bytes, group_add_front, kind_number}
+use Rattle.of_messages.specs.Written.{command_number, flow_mod_bytes, flow_mod_fixed_part, message}
+use Rattle.of_messages.specs.CanonicalGroups.{canonical_bucket, canonical_buckets, group_add_bytes, group_add_fixed_part, kind_number}
 
 -- each is below 256
 pub record Bytes (bytes : List ℕ) : Type 0 where
@@ -98,19 +98,19 @@ match_bytes m = next (omega arith) (next (omega arith) (both (big 2 (written_len
 
 -- ---- actions
 
-action_bytes : (a : Action) → is_served false a ≡ true → Bytes (canonical_action a)
-unfolding canonical_action canonical_set_field is_served
+action_bytes : (a : Action) → is_supported false a ≡ true → Bytes (canonical_action a)
+unfolding canonical_action canonical_set_field is_supported
 action_bytes (SetField f v) h =
     let number = number_below f in
     let size = bytes_most f in
     four (omega arith) (omega arith) (omega arith) (omega (arith, size)) (four (omega arith) (omega arith) (omega (arith, number)) (omega (arith, size)) (both (big (bytes_of f) v) (zeros (set_len f - (8 + bytes_of f)))))
 action_bytes other h = search (rules, next, big)
 
-all_actions : (xs : List Action) → list_all (is_served false) xs ≡ true → AllByRecursion (λ a. Bytes (canonical_action a)) xs
+all_actions : (xs : List Action) → list_all (is_supported false) xs ≡ true → AllByRecursion (λ a. Bytes (canonical_action a)) xs
 all_actions [] h = tt
 all_actions (a ∷ xs) h = (action_bytes a (grind (arith, nat_tests)), all_actions xs (grind (arith, nat_tests)))
 
-actions_bytes : (xs : List Action) → are_served false xs ≡ true → Bytes (canonical_actions xs)
+actions_bytes : (xs : List Action) → are_supported false xs ≡ true → Bytes (canonical_actions xs)
 actions_bytes xs h = each_bytes canonical_action xs (all_actions xs (grind (arith, nat_tests)))
 
 -- ---- instructions
@@ -145,8 +145,8 @@ command_byte ModifyStrict = omega arith
 command_byte Delete = omega arith
 command_byte DeleteStrict = omega arith
 
-front_bytes : (m : FlowMod) → m.table < 256 → Bytes (flow_mod_front m)
-unfolding flow_mod_front
+front_bytes : (m : FlowMod) → m.table < 256 → Bytes (flow_mod_fixed_part m)
+unfolding flow_mod_fixed_part
 front_bytes m table =
     both (big 8 m.cookie) (both (big 8 m.cookie_mask) (both (next table (next (command_byte m.command) none))
     (both (big 2 m.idle_timeout) (both (big 2 m.hard_timeout) (both (big 2 m.priority)
@@ -154,18 +154,18 @@ front_bytes m table =
 
 pub flow_mod_are_bytes : (xid : ℕ) (m : FlowMod) → m.table < 256 → are_kept m.instructions ≡ true → IsBytes (flow_mod_bytes xid m)
 flow_mod_are_bytes xid m table kept =
-    are_bytes (flow_mod_bytes xid m) (message_bytes 14 xid (flow_mod_front m ++ (canonical m.fields ++ canonical_instructions m.instructions)) (omega arith) (both (front_bytes m table) (both (match_bytes m.fields) (instructions_bytes m.instructions kept))))
+    are_bytes (flow_mod_bytes xid m) (message_bytes 14 xid (flow_mod_fixed_part m ++ (canonical m.fields ++ canonical_instructions m.instructions)) (omega arith) (both (front_bytes m table) (both (match_bytes m.fields) (instructions_bytes m.instructions kept))))
 
 kind_byte : (kind : GroupKind) → kind_number kind < 256
 kind_byte All = omega arith
 kind_byte Indirect = omega arith
 kind_byte FastFailover = omega arith
 
-group_front_bytes : (g : NewGroup) → Bytes (group_add_front g)
-unfolding group_add_front
+group_front_bytes : (g : NewGroup) → Bytes (group_add_fixed_part g)
+unfolding group_add_fixed_part
 group_front_bytes g = both (big 2 0) (both (next (kind_byte g.kind) (next (omega arith) none)) (big 4 g.id))
 
-bucket_bytes : (b : Bucket) → are_served false b.actions ≡ true → Bytes (canonical_bucket b)
+bucket_bytes : (b : Bucket) → are_supported false b.actions ≡ true → Bytes (canonical_bucket b)
 unfolding canonical_bucket
 bucket_bytes b h =
     both (big 2 (16 + length (canonical_actions b.actions)))
@@ -177,4 +177,4 @@ all_buckets (b ∷ bs) h = (bucket_bytes b (grind (arith, nat_tests)), all_bucke
 
 pub group_add_are_bytes : (xid : ℕ) (g : NewGroup) → are_fit g.buckets ≡ true → IsBytes (group_add_bytes xid g)
 group_add_are_bytes xid g fit =
-    are_bytes (group_add_bytes xid g) (message_bytes 15 xid (group_add_front g ++ canonical_buckets g.buckets) (omega arith) (both (group_front_bytes g) (each_bytes canonical_bucket g.buckets (all_buckets g.buckets (grind (arith, nat_tests))))))
+    are_bytes (group_add_bytes xid g) (message_bytes 15 xid (group_add_fixed_part g ++ canonical_buckets g.buckets) (omega arith) (both (group_front_bytes g) (each_bytes canonical_bucket g.buckets (all_buckets g.buckets (grind (arith, nat_tests))))))

@@ -131,7 +131,7 @@ all_sent c k =
 
 -- ---- the file
 
--- what comes behind the HELLO
+-- what follows the HELLO
 later : Configuration → List Event
 later c = group_events 1 (in_turn c.groups) (flow_events (1 + length (in_turn c.groups)) (all_flows c.tables))
 

@@ -28,7 +28,7 @@ use Rattle.of_messages.specs.declared.message.FlowModCommand.TheVariants.{Add}
 use Rattle.of_messages.specs.declared.message.Message.TheVariants.{FlowMod as IsFlowMod}
 use Rattle.of_messages.specs.Heads.{head_refusals, header_length, size_of, type_of, version_of}
 use Rattle.of_messages.specs.Messages.{body_of, flow_mod_by, flow_mod_of, flow_mod_refusals, flow_mod_with, message_from, message_of, then_instructions, then_match, command_of}
-use Rattle.of_messages.specs.Written.{flow_mod_bytes, flow_mod_front, command_number}
+use Rattle.of_messages.specs.Written.{flow_mod_bytes, flow_mod_fixed_part, command_number}
 
 -- ---- a match that is spelt is read, whatever follows it
 
@@ -94,11 +94,11 @@ record Says (m : FlowMod) (b : List ℕ) : Type 0 where
   rest_is : drop 48 b ≡ canonical m.fields ++ canonical_instructions m.instructions
 
 says : (xid : ℕ) (m : FlowMod) → IsAdd m → Says m (flow_mod_bytes xid m)
-unfolding flow_mod_front
+unfolding flow_mod_fixed_part
 says xid m a =
     let b = flow_mod_bytes xid m in
     let tail = canonical m.fields ++ canonical_instructions m.instructions in
-    let body = flow_mod_front m ++ tail in
+    let body = flow_mod_fixed_part m ++ tail in
     let long : length b ≡ 48 + length tail = omega arith in
     let size : 8 + length body ≡ length b = omega arith in
     let parts = length-append (canonical m.fields) (canonical_instructions m.instructions) in

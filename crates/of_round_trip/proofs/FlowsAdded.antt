@@ -1,4 +1,4 @@
--- Flows that are added, each behind those before it.
+-- Flows that are added, each after those before it.
 use Rattle.std.proofs.Common.{◌≡◌, ℕ, zero, suc, ◌+◌, ◌<◌, ◌≤◌, eqb, Bool, true, false, not, List, [], ◌∷◌, ◌++◌, length, drop, get_or, set, None, refl, sym, ◌∙◌, ap, subst, append_assoc, arith}
 use Rattle.std.specs.Prelude.{◌&&◌, ◌||◌, map, nat_le, bit_and, replicate}
 use Rattle.std.specs.List.{AllByRecursion, list_any}
@@ -24,7 +24,7 @@ use Rattle.of_text.specs.Refusals.{names_absent, is_same as is_same_text}
 use Rattle.of_text.specs.Configs.{all_flows}
 use Rattle.of_text.specs.Rows.{HeadFits}
 use Rattle.of_messages.specs.declared.message.Message.TheVariants.{FlowMod as IsFlowMod}
-use Rattle.of_messages.specs.Written.{flow_mod_bytes, flow_mod_front}
+use Rattle.of_messages.specs.Written.{flow_mod_bytes, flow_mod_fixed_part}
 use Rattle.of_messages.proofs.Appended.{length_flow_mod}
 use Rattle.of_build.specs.Building.{add_of, add_lines}
 use Rattle.of_switch.specs.declared.event.Event.{Event}
@@ -78,7 +78,7 @@ unchecked n h =
 
 -- ---- a flow that may be added
 
--- it may stand in its table, and its numbers fit
+-- it is valid in its table, and its numbers fit
 pub record IsSent (table : ℕ) (f : TextFlow) : Type 0 where
   pub low : table < 16
   pub own : f.head.table ≡ table
@@ -131,9 +131,9 @@ not_refused gs ts f low flags there room =
     let full : is_full (flow_of (add_of f)) (table_at f.head.table ts).flows ≡ false = and_low (not (list_any (is_same (flow_of (add_of f))) (table_at f.head.table ts).flows)) _ some in
     rw (named, high, check, full) refl
 
-message_size : (xid : ℕ) (f : TextFlow) (table : ℕ) → IsSent table f → length (flow_mod_front (add_of f) ++ (canonical f.fields ++ canonical_instructions (instructions_of f))) ≤ 4296
+message_size : (xid : ℕ) (f : TextFlow) (table : ℕ) → IsSent table f → length (flow_mod_fixed_part (add_of f) ++ (canonical f.fields ++ canonical_instructions (instructions_of f))) ≤ 4296
 message_size xid f table s =
-    omega (arith, length_flow_mod (add_of f), length-append (flow_mod_front (add_of f)) (canonical f.fields ++ canonical_instructions (instructions_of f)), length-append (canonical f.fields) (canonical_instructions (instructions_of f)), canonical_short f.fields s.entry.fields.rising, instructions_short (instructions_of f) s.entry.kept)
+    omega (arith, length_flow_mod (add_of f), length-append (flow_mod_fixed_part (add_of f)) (canonical f.fields ++ canonical_instructions (instructions_of f)), length-append (canonical f.fields) (canonical_instructions (instructions_of f)), canonical_short f.fields s.entry.fields.rising, instructions_short (instructions_of f) s.entry.kept)
 
 -- its FLOW_MOD is handled
 handled_flow : (dpid xid table : ℕ) (gs : List TextGroup) (ts : Tables) (f : TextFlow) → IsSent table f → bit_and f.head.flags 25 ≡ f.head.flags → list_any (names_absent gs) f.steps ≡ false → length (table_at f.head.table ts).flows < 4096
@@ -141,7 +141,7 @@ handled_flow : (dpid xid table : ℕ) (gs : List TextGroup) (ts : Tables) (f : T
 handled_flow dpid xid table gs ts f s flags there room =
     let few = message_size xid f table s in
     handles (flow_mod_bytes xid (add_of f)) (built dpid (groups_at 0 gs) ts) (built dpid (groups_at 0 gs) (added_to f.head.table (flow_of (add_of f)) ts)) (IsFlowMod (add_of f))
-    (one_message 14 xid (flow_mod_front (add_of f) ++ (canonical f.fields ++ canonical_instructions (instructions_of f))) (omega (arith, few)))
+    (one_message 14 xid (flow_mod_fixed_part (add_of f) ++ (canonical f.fields ++ canonical_instructions (instructions_of f))) (omega (arith, few)))
     refl
     (flow_mod_again xid (add_of f) (is_add table f s flags))
     (not_refused gs ts f (omega (arith, s.own, s.low)) flags there room)
@@ -260,7 +260,7 @@ tables_lead dpid gs ts k (fs ∷ rest) left sent xid =
     subst (λ (vs : List Table). Leads (flow_events xid (fs ++ all_flows rest)) (ready (built dpid (groups_at 0 gs) (record { tables = vs; latest = 0 }))) end) empty
     (table_leads dpid gs us k [] fs (all_flows rest) end within sent.0.sent sent.0.stand later xid)
 
--- ALL FLOWS are added, where the groups that they name are there
+-- ALL FLOWS are added, where the groups that they name exist
 pub flows_lead : (dpid xid : ℕ) (gs : List TextGroup) (ts : List (List TextFlow)) → length ts ≡ 16 → AreSent gs 0 ts
     → Leads (flow_events xid (all_flows ts)) (ready (built dpid (groups_at 0 gs) (tables_of no_tables))) (ready (built dpid (groups_at 0 gs) (loaded_tables 0 ts)))
 flows_lead dpid xid gs ts n sent =

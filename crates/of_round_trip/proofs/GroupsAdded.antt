@@ -8,7 +8,7 @@ use Rattle.std.proofs.lemmas.Bool.Decides.{nat_tests}
 use Rattle.std.proofs.lemmas.List.{append-nil, length-append, length-map}
 use Rattle.of_wire.specs.Refusals.{first_of}
 use Rattle.of_wire.proofs.FirstLemmas.{first_false}
-use Rattle.of_actions.specs.Rising.{is_rising}
+use Rattle.of_actions.specs.Rising.{is_ascending}
 use Rattle.of_groups.specs.declared.bucket.Bucket.{Bucket}
 use Rattle.of_groups.specs.declared.group.Group.{Group}
 use Rattle.of_groups.specs.declared.group_fault.GroupFault.{GroupFault}
@@ -25,7 +25,7 @@ use Rattle.of_text.specs.Groups.{TextBucket, TextGroup, bucket_of, buckets_of, g
 use Rattle.of_text.proofs.TextLemmas.{all_both}
 use Rattle.of_messages.specs.declared.group_mod.GroupMod.TheVariants.{Add}
 use Rattle.of_messages.specs.declared.message.Message.TheVariants.{GroupMod as IsGroupMod}
-use Rattle.of_messages.specs.CanonicalGroups.{as_written, canonical_buckets, group_add_bytes, group_add_front, has_numbers}
+use Rattle.of_messages.specs.CanonicalGroups.{as_written, canonical_buckets, group_add_bytes, group_add_fixed_part, has_numbers}
 use Rattle.of_messages.proofs.BucketsWritten.{buckets_short, length_front}
 use Rattle.of_messages.proofs.GroupAgain.{group_add_again}
 use Rattle.of_build.specs.Building.{group_lines, in_turn, new_of, of_length, piece_line}
@@ -53,7 +53,7 @@ pub record IsSentGroup (all : List Group) (g : TextGroup) : Type 0 where
 -- groups that may be sent in turn
 pub record AreSentGroups (gs : List TextGroup) : Type 0 where
   pub each : AllByRecursion (IsSentGroup (groups_at 0 gs)) gs
-  pub rising : is_rising number_of (groups_at 0 gs) ≡ true
+  pub rising : is_ascending number_of (groups_at 0 gs) ≡ true
   pub few : length gs ≤ 256
   pub short : AreShort (groups_at 0 gs)
 
@@ -76,7 +76,7 @@ second_false : (a b : Bool) → (a || b) ≡ false → b ≡ false
 second_false true b h = absurd cc
 second_false false b h = h
 
--- ---- the groups that are there
+-- ---- the groups that exist
 
 abbrev pub len_in : List TextGroup → ℕ → ℕ
 len_in gs m = chain (groups_at 0 gs) m
@@ -93,7 +93,7 @@ record Next (gs before rest : List TextGroup) (g : TextGroup) (n : ℕ) : Type 0
 
 comes : (gs before rest : List TextGroup) (g : TextGroup) (n : ℕ) → Next gs before rest g n → with_group (group_at 0 g) (there gs n before (g ∷ rest)) ≡ there gs n (before ++ g ∷ []) rest
 comes gs before rest g n x =
-    let rising : is_rising number_of (groups_at 0 (before ++ g ∷ rest)) ≡ true = subst (λ (l : List TextGroup). is_rising number_of (groups_at 0 l) ≡ true) x.parted x.all.rising in
+    let rising : is_ascending number_of (groups_at 0 (before ++ g ∷ rest)) ≡ true = subst (λ (l : List TextGroup). is_ascending number_of (groups_at 0 l) ≡ true) x.parted x.all.rising in
     let parts = rising_parts before rest g rising in
     let low = all_kept (λ (h : TextGroup). h.head.id < g.head.id) (λ (h : TextGroup). nat_lt (len_in gs h.head.id) (suc n)) before parts.0 in
     let high = all_kept (λ (h : TextGroup). g.head.id < h.head.id) (λ (h : TextGroup). nat_lt (len_in gs h.head.id) n) rest parts.1 in
@@ -103,7 +103,7 @@ comes gs before rest g n x =
 
 none_before : (gs before rest : List TextGroup) (g : TextGroup) (n : ℕ) → Next gs before rest g n → find_group g.head.id (groups_at 0 before) ≡ None
 none_before gs before rest g n x =
-    let rising : is_rising number_of (groups_at 0 (before ++ g ∷ rest)) ≡ true = subst (λ (l : List TextGroup). is_rising number_of (groups_at 0 l) ≡ true) x.parted x.all.rising in
+    let rising : is_ascending number_of (groups_at 0 (before ++ g ∷ rest)) ≡ true = subst (λ (l : List TextGroup). is_ascending number_of (groups_at 0 l) ≡ true) x.parted x.all.rising in
     none_as_high g before (rising_parts before rest g rising).0
 
 is_new : (gs before rest : List TextGroup) (g : TextGroup) (n : ℕ) → Next gs before rest g n → is_there g.head.id (there gs n before (g ∷ rest)) ≡ false
@@ -131,7 +131,7 @@ found_here gs before rest g n x =
     ap (λ (l : List TextGroup). find_group g.head.id (groups_at 0 l)) x.parted
     ∙ (find_both g.head.id before (g ∷ rest) ∙ rw (none_before gs before rest g n x, same) refl)
 
--- all, with the group in front of those that are left
+-- all, with the group before those that are left
 whole_list : (gs before rest : List TextGroup) (g : TextGroup) (n : ℕ) → Next gs before rest g n → (before ++ g ∷ []) ++ rest ≡ gs
 whole_list gs before rest g n x = append_assoc before (g ∷ []) rest ∙ sym x.parted
 
@@ -196,8 +196,8 @@ fresh_twice (b ∷ bs) = ap (λ (x : List Bucket). bucket_of b ∷ x) (fresh_twi
 as_new : (g : TextGroup) → new_group g.head.id g.head.kind (as_written (new_of g)).buckets 0 ≡ group_at 0 g
 as_new g = ap (λ (bs : List Bucket). record { id = g.head.id; kind = g.head.kind; buckets = bs; packets = 0; bytes = 0; created = 0 }) (fresh_twice g.buckets)
 
-group_size : (g : TextGroup) → are_fit (buckets_of g) ≡ true → length (group_add_front (new_of g) ++ canonical_buckets (buckets_of g)) ≤ 24840
-group_size g fit = omega (arith, length_front (new_of g), length-append (group_add_front (new_of g)) (canonical_buckets (buckets_of g)), buckets_short (buckets_of g) fit)
+group_size : (g : TextGroup) → are_fit (buckets_of g) ≡ true → length (group_add_fixed_part (new_of g) ++ canonical_buckets (buckets_of g)) ≤ 24840
+group_size g fit = omega (arith, length_front (new_of g), length-append (group_add_fixed_part (new_of g)) (canonical_buckets (buckets_of g)), buckets_short (buckets_of g) fit)
 
 handled_group : (dpid xid : ℕ) (all groups : List Group) (ts : Tables) (g : TextGroup) → ts.latest ≡ 0 → IsSentGroup all g → add_fault (group_at 0 g) groups ≡ None
     → happened (Piece (group_add_bytes xid (new_of g))) (ready (built dpid groups ts)) ≡ record { report = Gives []; state = ready (built dpid (with_group (group_at 0 g) groups) ts) }
@@ -207,7 +207,7 @@ handled_group dpid xid all groups ts g now s none =
     let refused : first_of (refused_for (add_fault (new_group g.head.id g.head.kind (as_written (new_of g)).buckets ts.latest) groups)) ≡ None = ap (λ (h : Group). first_of (refused_for (add_fault h groups))) new ∙ ap (λ (f : Option GroupFault). first_of (refused_for f)) none in
     let size = group_size g fit.buckets in
     handles (group_add_bytes xid (new_of g)) (built dpid groups ts) (built dpid (with_group (group_at 0 g) groups) ts) (IsGroupMod (Add (as_written (new_of g))))
-    (one_message 15 xid (group_add_front (new_of g) ++ canonical_buckets (buckets_of g)) (omega (arith, size)))
+    (one_message 15 xid (group_add_fixed_part (new_of g) ++ canonical_buckets (buckets_of g)) (omega (arith, size)))
     refl
     (group_add_again xid (new_of g) s.number s.numbers fit.buckets)
     refused

@@ -15,6 +15,6 @@ one_message kind xid body few =
     let same : length_of (message kind xid body) ≡ header_length (message kind xid body) = omega arith in
     record { header = parts.0; whole = same ∙ parts.3 }
 
--- a switch of that number, with these groups and tables
+-- a switch with that datapath_id, with these groups and tables
 abbrev pub built : ℕ → List Group → Tables → Core
 built dpid groups tables = record { dpid = dpid; control = new_control; forwarding = record { tables = tables; groups = groups; ports = [] } }

@@ -12,7 +12,7 @@ use Rattle.of_messages.specs.Written.{hello_bytes}
 use Rattle.of_session.specs.declared.session.Phase.TheVariants.{Open}
 use Rattle.of_session.specs.declared.session.Next.{Next}
 use Rattle.of_session.specs.declared.session.Next.TheVariants.{Read}
-use Rattle.of_session.specs.Stream.{Whole, IsMessage, front_of}
+use Rattle.of_session.specs.Stream.{Whole, IsMessage, beginning_of}
 use Rattle.of_session.specs.Session.{greeting}
 use Rattle.of_session.proofs.Fronts.{message_front}
 use Rattle.of_build.specs.Building.{hello}
@@ -29,13 +29,13 @@ use Rattle.of_switch.proofs.Joining.{drained_more, drained_none}
 abbrev pub ready : Core → State
 ready k = record { connection = record { phase = Open; pending = [] }; core = k }
 
--- the message has come
+-- the message was received
 abbrev having : List ℕ → Core → State
 having m k = record { connection = record { phase = Open; pending = m }; core = k }
 
 next_read : (m : List ℕ) (k : Core) (message : Message) → IsMessage m → k.control.role ≡ Equal → message_of m ≡ Ok message → coming (having m k) ≡ Read (xid_of m) (length m) message
 next_read m k message one role is =
-    let whole : front_of m ≡ Whole m [] = ap front_of (sym (append-nil m)) ∙ message_front m [] one in
+    let whole : beginning_of m ≡ Whole m [] = ap beginning_of (sym (append-nil m)) ∙ message_front m [] one in
     rw (whole, role, is) refl
 
 none_waits : (k : Core) → next_of (ready k) ≡ None

@@ -1,4 +1,4 @@
--- Groups that are there so far: of the groups that stand by rising number, those of shorter chains, and in front those of chains as long.
+-- Groups that exist so far: of the groups in ascending order, those of shorter chains, and before the next those of chains as long.
 use Rattle.std.proofs.Common.{◌≡◌, ℕ, suc, ◌<◌, ◌≤◌, eqb, ltb, Bool, true, false, cond, List, [], ◌∷◌, ◌++◌, length, Option, Some, None, refl, sym, ◌∙◌, ap, append_assoc, arith}
 use Rattle.std.specs.Prelude.{filter, nat_lt}
 use Rattle.std.specs.List.{AllByRecursion, list_all}
@@ -7,7 +7,7 @@ use Rattle.std.proofs.lemmas.Bool.{and_parts, eq-eqb, eqb-true, ne_eqb, le-ltb, 
 use Rattle.std.proofs.lemmas.Bool.Decides.{nat_tests}
 use Rattle.std.proofs.lemmas.List.{append-nil, map-append}
 use Rattle.std.proofs.lemmas.List.Elements.{filter-append}
-use Rattle.of_actions.specs.Rising.{is_rising}
+use Rattle.of_actions.specs.Rising.{is_ascending}
 use Rattle.of_groups.specs.declared.group.Group.{Group}
 use Rattle.of_groups.specs.Groups.{find_group, names, number_of, with_group}
 use Rattle.of_groups.specs.Chains.{is_chain, names_next}
@@ -55,7 +55,7 @@ module _ (len : ℕ → ℕ) where
   abbrev pub under : ℕ → TextGroup → Bool
   under n g = nat_lt (len g.head.id) n
 
-  -- of those in front the ones of length n too
+  -- of those before it the ones of length n too
   abbrev pub present : ℕ → List TextGroup → List TextGroup → List TextGroup
   present n before rest = filter (upto n) before ++ filter (under n) rest
 
@@ -122,7 +122,7 @@ module _ (len : ℕ → ℕ) where
       let low : nat_lt (len g.head.id) (suc n) ≡ true = lt-ltb (len g.head.id) (suc n) (omega (arith, same)) in
       find_present n g.head.id before (g ∷ rest) ∙ rw (low, high, none) refl
 
-  -- ---- before the first, and behind the last
+  -- ---- before the first, and after the last
 
   pub none_present : (gs : List TextGroup) → AllByRecursion (λ (g : TextGroup). 0 < len g.head.id) gs → present 1 [] gs ≡ []
   none_present [] h = refl
@@ -140,7 +140,7 @@ module _ (len : ℕ → ℕ) where
 
 -- ---- numbers
 
--- those in front have lower numbers, and those behind higher ones
+-- those before it have lower numbers, and those after it higher ones
 abbrev pub AreLower : TextGroup → List TextGroup → Type 0
 AreLower g gs = AllByRecursion (λ (h : TextGroup). h.head.id < g.head.id) gs
 
@@ -155,10 +155,10 @@ at_place : (p : Group → Bool) (before rest : List TextGroup) (g : TextGroup) �
 at_place p [] rest g h = (and_parts (p (group_at 0 g)) (list_all p (groups_at 0 rest)) h).0
 at_place p (x ∷ xs) rest g h = at_place p xs rest g (and_parts (p (group_at 0 x)) (list_all p (groups_at 0 (xs ++ g ∷ rest))) h).1
 
-pub rising_parts : (before rest : List TextGroup) (g : TextGroup) → is_rising number_of (groups_at 0 (before ++ g ∷ rest)) ≡ true → AreLower g before × AreHigher g rest
-rising_parts [] rest g h = (tt, higher g rest (and_parts (list_all (λ (y : Group). ltb g.head.id y.id) (groups_at 0 rest)) (is_rising number_of (groups_at 0 rest)) h).0)
+pub rising_parts : (before rest : List TextGroup) (g : TextGroup) → is_ascending number_of (groups_at 0 (before ++ g ∷ rest)) ≡ true → AreLower g before × AreHigher g rest
+rising_parts [] rest g h = (tt, higher g rest (and_parts (list_all (λ (y : Group). ltb g.head.id y.id) (groups_at 0 rest)) (is_ascending number_of (groups_at 0 rest)) h).0)
 rising_parts (x ∷ xs) rest g h =
-    let parts = and_parts (list_all (λ (y : Group). ltb x.head.id y.id) (groups_at 0 (xs ++ g ∷ rest))) (is_rising number_of (groups_at 0 (xs ++ g ∷ rest))) h in
+    let parts = and_parts (list_all (λ (y : Group). ltb x.head.id y.id) (groups_at 0 (xs ++ g ∷ rest))) (is_ascending number_of (groups_at 0 (xs ++ g ∷ rest))) h in
     let others = rising_parts xs rest g parts.1 in
     ((ltb-true _ _ (at_place (λ (y : Group). ltb x.head.id y.id) xs rest g parts.0), others.0), others.1)
 

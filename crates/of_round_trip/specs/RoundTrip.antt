@@ -9,7 +9,7 @@ use Rattle.of_switch.specs.Loading.{config_of, loaded}
 use Rattle.of_replay.specs.Lexing.{lines_of}
 use Rattle.of_replay.specs.Rows.{rows_of}
 
--- the run of a file's events on a new switch of that number
+-- the run of a file's events on a new switch with that datapath_id
 abbrev pub run_of : ℕ → List ℕ → Run
 run_of dpid file = run (rows_of (lines_of file)).events (start dpid)
 

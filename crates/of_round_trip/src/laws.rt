@@ -8,9 +8,9 @@ ghost use Rattle.of_replay.specs.Play.{lines_read};
 ghost use Rattle.of_replay.specs.Rows.{rows_of};
 ghost use Rattle.of_round_trip.specs.RoundTrip.{ComesBack};
 
-/// The file that is built of a flow text, run on a new switch of any number, ends with the configuration that the text spells.
+/// The file that is built of a flow text, run on a new switch with any datapath_id, ends with the configuration that the text spells.
 ///
-/// No row of the file is bad, no event is refused, and no message is answered: the switch says its own HELLO alone. But for its
+/// No row of the file is bad, no event is refused, and no message is answered: the switch sends its own HELLO alone. But for its
 /// connection it is then a new switch that the configuration was loaded into: groups and flows in their order, counters of 0.
 pub fn text_comes_back()
     ensures { (text : List ℕ) (config : Configuration) (dpid : ℕ) → SpellConfig (lines_of text) config → ComesBack dpid (build_text config) config }

@@ -137,7 +137,7 @@ cut_now e others g g' same = record {
   lines_are = text_same line_in g.lines g'.lines (part_of 0 e g.state) same.1 (no_part e g.state);
 }
 
--- behind events that were done
+-- after events that were done
 pub cut_later : (es fs : List Event) (g h g' : Gathered) → h ≡ gathered es g → CutIn fs h g' → CutIn (es ++ fs) g g'
 cut_later es fs g h g' e c =
     let same : gathered c.cut.done h ≡ gathered (es ++ c.cut.done) g = ap (gathered c.cut.done) e ∙ sym (gathered_more es c.cut.done g) in
@@ -187,7 +187,7 @@ stands_by : (b : Bool) (piece : List ℕ) (s t : State) → Feeds b piece (Ok tt
 stands_by false piece s t call = refl
 stands_by true piece s t call = let e : Ok tt ≡ Err NotConnected = call.0 in absurd cc
 
--- bytes that are taken come to a connection
+-- bytes that are received come over a connection
 stands : (piece : List ℕ) (s t : State) → Feeds (is_disconnected s.connection.phase) piece (Ok tt) s t → is_disconnected s.connection.phase ≡ false
 stands piece s t call = stands_by (is_disconnected s.connection.phase) piece s t call
 

@@ -1,4 +1,4 @@
--- What peers in memory tell, a fault more.
+-- What peers in memory record, one more fault.
 use Rattle.std.proofs.Common.{◌≡◌, ℕ, ◌+◌, suc, zero, add-one, List, [], ◌∷◌, ◌++◌, replicate, refl, sym, ◌∙◌, ap, append_assoc, arith}
 use Rattle.of_serve.specs.Told.{Came}
 

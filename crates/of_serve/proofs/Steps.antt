@@ -12,10 +12,10 @@ use Rattle.of_replay.specs.declared.event_file.Ended.{Ended}
 use Rattle.of_replay.specs.declared.halt.Halt.{Halt}
 use Rattle.of_replay.specs.declared.halt.Halt.TheVariants.{Bad, Memory, Read as ReadHalt, Write}
 use Rattle.of_replay.specs.Told.{Answer, then_bytes}
-use Rattle.of_replay.specs.Transfer.{WroteFront}
+use Rattle.of_replay.specs.Transfer.{WrotePrefix}
 use Rattle.of_serve.specs.declared.peers.Accepted.TheVariants as accepted
 use Rattle.of_serve.specs.Told.{Came, accept_came, Answered, then_told, then_begun, then_onto}
-use Rattle.of_serve.specs.Turns.{Gathered, gather, gathered, empty_handed, broken, given, due, left, heard, events_of, Stand, standing, Turn, IsTaken, IsTurn, Accepts, Reads, came_in, time_in, then_in, Time, All, known_came, known_times, then_known, CutTurn, cut_given, Turns, stand, came, times, took, sent}
+use Rattle.of_serve.specs.Turns.{Gathered, gather, gathered, nothing_pending, broken, given, due, left, heard, events_of, ServeState, standing, Turn, IsTaken, IsTurn, Accepts, Reads, came_in, time_in, then_in, Time, All, known_came, known_times, then_known, CutTurn, cut_given, Turns, stand, came, times, took, sent}
 use Rattle.of_serve.specs.Turns.Turns.{None as NoTurns, Then}
 use Rattle.of_serve.specs.Serves.{Tells, tells, CutShort, Serves}
 use Rattle.of_serve.specs.Gathering.{CutIn, Hears, TellsReads, CutsReads, Opens, OrMemory, Learns, Cuts, Inputs, IsAnswered, GoesOn, Stops, StopsShort, StopsShorter, Goes, Counts, Fails, WriteFails, SoFar}
@@ -67,7 +67,7 @@ opens (Err x) result g g' came came' took took' is e k ok err = subst (λ (x : R
 
 -- memory ran out in a turn with a connection
 read_inputs : (g0 g g' : Gathered) (rows rest : List Event) (came came' : Option (List Came)) (times times' : Option (List ℕ)) (took took' : Option (List (List ℕ))) (wrote : Option (List ℕ)) (now : ℕ)
-    → g ≡ empty_handed g0.state → is_disconnected g0.state.connection.phase ≡ false → times' ≡ then_told times (now ∷ []) → took' ≡ took
+    → g ≡ nothing_pending g0.state → is_disconnected g0.state.connection.phase ≡ false → times' ≡ then_told times (now ∷ []) → took' ≡ took
     → ((came' ≡ came) × CutIn (Moment now ∷ due now rows) g g') ⊎ ((answer : Answer) × (came' ≡ then_told came (Answered answer ∷ [])) × CutIn (events_of (Reads now answer) rows) g g')
     → Inputs (Err Memory) (standing g0.state rows) g' rest (tells came times took wrote) (tells came' times' took' wrote)
 read_inputs g0 g g' rows rest came came' times times' took took' wrote now e stands t k (inl c) = record {
@@ -90,7 +90,7 @@ read_inputs g0 g g' rows rest came came' times times' took took' wrote now e sta
 }
 
 pub inputs_read : (done : Result (Unit {0}) AllocError) (result : Result (Unit {0}) Halt) (g0 g' : Gathered) (rows rest : List Event) (came came' : Option (List Came)) (times times' : Option (List ℕ)) (took took' : Option (List (List ℕ))) (wrote : Option (List ℕ))
-    → OrMemory done result → g0 ≡ empty_handed g0.state → is_disconnected g0.state.connection.phase ≡ false
+    → OrMemory done result → g0 ≡ nothing_pending g0.state → is_disconnected g0.state.connection.phase ≡ false
     → OnOk done (TellsReads g0 g' rows rest came came' times times') → OnErr done (CutsReads g0 g' rows came came' times times') → took' ≡ took
     → Inputs result (standing g0.state rows) g' rest (tells came times took wrote) (tells came' times' took' wrote)
 inputs_read (Ok u) result g0 g' rows rest came came' times times' took took' wrote is empty stands t r k =
@@ -109,7 +109,7 @@ inputs_read (Err e) result g0 g' rows rest came came' times times' took took' wr
     (read_inputs g0 g0 g' rows rest came came' times times' took took' wrote r.now empty stands r.times_are k r.cut)
 
 pub inputs_accept : (result : Result (Unit {0}) Halt) (g0 g' : Gathered) (rows : List Event) (came came' : Option (List Came)) (times : Option (List ℕ)) (took took' : Option (List (List ℕ))) (wrote : Option (List ℕ))
-    → g0 ≡ empty_handed g0.state → is_disconnected g0.state.connection.phase ≡ true → Opens result g0 g' came came' took took'
+    → g0 ≡ nothing_pending g0.state → is_disconnected g0.state.connection.phase ≡ true → Opens result g0 g' came came' took took'
     → Inputs result (standing g0.state rows) g' rows (tells came times took wrote) (tells came' times took' wrote)
 inputs_accept (Ok u) g0 g' rows came came' times took took' wrote empty stands o = record {
   input = Accepts o.0;
@@ -150,20 +150,20 @@ lost_lines false g = refl
 same_lines : (g g' : Gathered) (took took' : Option (List (List ℕ))) → IsAnswered g g' took took' → g'.lines ≡ g.lines
 same_lines g g' took took' a = ap (λ (x : Gathered). x.lines) a.lost_is ∙ lost_lines a.broke g
 
-is_turn : (s : Stand) (g g' : Gathered) (rest : List Event) (old now : Tells) (took took' : Option (List (List ℕ))) (l : Learns s g rest old now) (a : IsAnswered g g' took took')
+is_turn : (s : ServeState) (g g' : Gathered) (rest : List Event) (old now : Tells) (took took' : Option (List (List ℕ))) (l : Learns s g rest old now) (a : IsAnswered g g' took took')
     → IsTurn (record { input = l.input; taken = a.taken; broke = a.broke }) s
 is_turn s g g' rest old now took took' l a = record {
   input = l.is_input;
   taken = subst (λ (x : Gathered). IsTaken a.broke a.taken x.answers) l.handled a.is_taken;
 }
 
-goes_on : (s : Stand) (g g1 g2 : Gathered) (rest : List Event) (old : Tells) (came came' : Option (List Came)) (times : Option (List ℕ)) (took took' : Option (List (List ℕ))) (wrote wrote' : Option (List ℕ))
-    → Learns s g rest old (tells came times took wrote) → came' ≡ came → IsAnswered g g1 took took' → wrote' ≡ then_bytes wrote g1.lines → g2 ≡ empty_handed g1.state
+goes_on : (s : ServeState) (g g1 g2 : Gathered) (rest : List Event) (old : Tells) (came came' : Option (List Came)) (times : Option (List ℕ)) (took took' : Option (List (List ℕ))) (wrote wrote' : Option (List ℕ))
+    → Learns s g rest old (tells came times took wrote) → came' ≡ came → IsAnswered g g1 took took' → wrote' ≡ then_bytes wrote g1.lines → g2 ≡ nothing_pending g1.state
     → GoesOn s g2 rest old (tells came' times took' wrote')
 goes_on s g g1 g2 rest old came came' times took took' wrote wrote' l e a w cleared = record {
   turn = record { input = l.input; taken = a.taken; broke = a.broke };
   is_turn = is_turn s g g1 rest old (tells came times took wrote) took took' l a;
-  handed = cleared ∙ ap (λ (x : Gathered). empty_handed x.state) (a.lost_is ∙ ap (gathered (broken a.broke)) l.handled);
+  handed = cleared ∙ ap (λ (x : Gathered). nothing_pending x.state) (a.lost_is ∙ ap (gathered (broken a.broke)) l.handled);
   rest_is = l.rest_is;
   came_is = e ∙ l.came_is;
   times_are = l.times_are;
@@ -171,11 +171,11 @@ goes_on s g g1 g2 rest old came came' times took took' wrote wrote' l e a w clea
   wrote_is = w ∙ (ap (λ (x : Option (List ℕ)). then_bytes x g1.lines) l.wrote_is ∙ ap (then_bytes old.wrote) (same_lines g g1 took took' a ∙ ap (λ (x : Gathered). x.lines) l.handled));
 }
 
-front_same : (old old' : Option (List ℕ)) (text text' : List ℕ) (new : Option (List ℕ)) → old ≡ old' → text ≡ text' → WroteFront old text new → WroteFront old' text' new
+front_same : (old old' : Option (List ℕ)) (text text' : List ℕ) (new : Option (List ℕ)) → old ≡ old' → text ≡ text' → WrotePrefix old text new → WrotePrefix old' text' new
 front_same old old' text text' new e t w = (w.0, w.1, w.2 ∙ t, w.3 ∙ ap (λ (x : Option (List ℕ)). then_bytes x w.0) e)
 
-stops : (s : Stand) (g g1 : Gathered) (rest : List Event) (old : Tells) (came came' : Option (List Came)) (times : Option (List ℕ)) (took took' : Option (List (List ℕ))) (wrote wrote' : Option (List ℕ))
-    → Learns s g rest old (tells came times took wrote) → came' ≡ came → IsAnswered g g1 took took' → WroteFront wrote g1.lines wrote' → Stops s old (tells came' times took' wrote')
+stops : (s : ServeState) (g g1 : Gathered) (rest : List Event) (old : Tells) (came came' : Option (List Came)) (times : Option (List ℕ)) (took took' : Option (List (List ℕ))) (wrote wrote' : Option (List ℕ))
+    → Learns s g rest old (tells came times took wrote) → came' ≡ came → IsAnswered g g1 took took' → WrotePrefix wrote g1.lines wrote' → Stops s old (tells came' times took' wrote')
 stops s g g1 rest old came came' times took took' wrote wrote' l e a w = record {
   turn = record { input = l.input; taken = a.taken; broke = a.broke };
   is_turn = is_turn s g g1 rest old (tells came times took wrote) took took' l a;
@@ -185,9 +185,9 @@ stops s g g1 rest old came came' times took took' wrote wrote' l e a w = record 
   wrote_is = front_same wrote old.wrote g1.lines (given l.input s).lines wrote' l.wrote_is (same_lines g g1 took took' a ∙ ap (λ (x : Gathered). x.lines) l.handled) w;
 }
 
--- A TURN THAT MEMORY CUT SHORT
+-- A TURN THAT RUNNING OUT OF MEMORY CUT SHORT
 
-cut_turn : (s : Stand) (g g1 : Gathered) (old : Tells) (came came' : Option (List Came)) (times : Option (List ℕ)) (took took' : Option (List (List ℕ))) (wrote wrote' : Option (List ℕ))
+cut_turn : (s : ServeState) (g g1 : Gathered) (old : Tells) (came came' : Option (List Came)) (times : Option (List ℕ)) (took took' : Option (List (List ℕ))) (wrote wrote' : Option (List ℕ))
     (c : Cuts s g old (tells came times took wrote)) (a : IsAnswered g g1 took took') → came' ≡ came
     → CutShort (record { known = c.known; cut = c.cut.cut; taken = a.taken; broke = a.broke }) s NoTurns old (tells came' times took' wrote')
 cut_turn s g g1 old came came' times took took' wrote wrote' c a e = record {
@@ -201,7 +201,7 @@ cut_turn s g g1 old came came' times took took' wrote wrote' c a e = record {
   took_is = a.took_is ∙ ap (λ (x : Option (List (List ℕ))). then_onto x a.taken) c.took_is;
 }
 
-stops_short : (s : Stand) (g g1 : Gathered) (old : Tells) (came came' : Option (List Came)) (times : Option (List ℕ)) (took took' : Option (List (List ℕ))) (wrote wrote' : Option (List ℕ))
+stops_short : (s : ServeState) (g g1 : Gathered) (old : Tells) (came came' : Option (List Came)) (times : Option (List ℕ)) (took took' : Option (List (List ℕ))) (wrote wrote' : Option (List ℕ))
     → Cuts s g old (tells came times took wrote) → came' ≡ came → IsAnswered g g1 took took' → wrote' ≡ then_bytes wrote g1.lines → StopsShort s old (tells came' times took' wrote')
 stops_short s g g1 old came came' times took took' wrote wrote' c e a w = (
   record { known = c.known; cut = c.cut.cut; taken = a.taken; broke = a.broke },
@@ -209,8 +209,8 @@ stops_short s g g1 old came came' times took took' wrote wrote' c e a w = (
   w ∙ (ap (λ (x : Option (List ℕ)). then_bytes x g1.lines) c.wrote_is ∙ ap (then_bytes old.wrote) (same_lines g g1 took took' a ∙ c.cut.lines_are)),
 )
 
-stops_shorter : (s : Stand) (g g1 : Gathered) (old : Tells) (came came' : Option (List Came)) (times : Option (List ℕ)) (took took' : Option (List (List ℕ))) (wrote wrote' : Option (List ℕ))
-    → Cuts s g old (tells came times took wrote) → came' ≡ came → IsAnswered g g1 took took' → WroteFront wrote g1.lines wrote' → StopsShorter s old (tells came' times took' wrote')
+stops_shorter : (s : ServeState) (g g1 : Gathered) (old : Tells) (came came' : Option (List Came)) (times : Option (List ℕ)) (took took' : Option (List (List ℕ))) (wrote wrote' : Option (List ℕ))
+    → Cuts s g old (tells came times took wrote) → came' ≡ came → IsAnswered g g1 took took' → WrotePrefix wrote g1.lines wrote' → StopsShorter s old (tells came' times took' wrote')
 stops_shorter s g g1 old came came' times took took' wrote wrote' c e a w = (
   record { known = c.known; cut = c.cut.cut; taken = a.taken; broke = a.broke },
   cut_turn s g g1 old came came' times took took' wrote wrote' c a e,
@@ -222,8 +222,8 @@ stops_shorter s g g1 old came came' times took took' wrote wrote' c e a w = (
 abbrev pub NotRead : Result (Unit {0}) Halt → Type 0
 NotRead r = r ≡ Err ReadHalt → ⊥
 
-pub turn_goes : (r : Result (Unit {0}) Halt) (s : Stand) (g g1 g2 : Gathered) (rest : List Event) (old : Tells) (came came' : Option (List Came)) (times : Option (List ℕ)) (took took' : Option (List (List ℕ))) (wrote wrote' : Option (List ℕ))
-    → NotRead r → Inputs r s g rest old (tells came times took wrote) → came' ≡ came → IsAnswered g g1 took took' → wrote' ≡ then_bytes wrote g1.lines → g2 ≡ empty_handed g1.state
+pub turn_goes : (r : Result (Unit {0}) Halt) (s : ServeState) (g g1 g2 : Gathered) (rest : List Event) (old : Tells) (came came' : Option (List Came)) (times : Option (List ℕ)) (took took' : Option (List (List ℕ))) (wrote wrote' : Option (List ℕ))
+    → NotRead r → Inputs r s g rest old (tells came times took wrote) → came' ≡ came → IsAnswered g g1 took took' → wrote' ≡ then_bytes wrote g1.lines → g2 ≡ nothing_pending g1.state
     → Goes r s g2 rest old (tells came' times took' wrote')
 turn_goes (Ok u) s g g1 g2 rest old came came' times took took' wrote wrote' not i e a w cleared = goes_on s g g1 g2 rest old came came' times took took' wrote wrote' i e a w cleared
 turn_goes (Err (Bad n)) s g g1 g2 rest old came came' times took took' wrote wrote' not i e a w cleared = i
@@ -231,8 +231,8 @@ turn_goes (Err Memory) s g g1 g2 rest old came came' times took took' wrote wrot
 turn_goes (Err ReadHalt) s g g1 g2 rest old came came' times took took' wrote wrote' not i e a w cleared = absurd (not refl)
 turn_goes (Err Write) s g g1 g2 rest old came came' times took took' wrote wrote' not i e a w cleared = absurd i
 
-pub turn_stops : (r : Result (Unit {0}) Halt) (s : Stand) (g g1 g2 : Gathered) (rest rest' : List Event) (old : Tells) (came came' : Option (List Came)) (times : Option (List ℕ)) (took took' : Option (List (List ℕ))) (wrote wrote' : Option (List ℕ))
-    → NotRead r → Inputs r s g rest old (tells came times took wrote) → came' ≡ came → IsAnswered g g1 took took' → WroteFront wrote g1.lines wrote'
+pub turn_stops : (r : Result (Unit {0}) Halt) (s : ServeState) (g g1 g2 : Gathered) (rest rest' : List Event) (old : Tells) (came came' : Option (List Came)) (times : Option (List ℕ)) (took took' : Option (List (List ℕ))) (wrote wrote' : Option (List ℕ))
+    → NotRead r → Inputs r s g rest old (tells came times took wrote) → came' ≡ came → IsAnswered g g1 took took' → WrotePrefix wrote g1.lines wrote'
     → Goes (Err Write) s g2 rest' old (tells came' times took' wrote')
 turn_stops (Ok u) s g g1 g2 rest rest' old came came' times took took' wrote wrote' not i e a w = inl (stops s g g1 rest old came came' times took took' wrote wrote' i e a w)
 turn_stops (Err (Bad n)) s g g1 g2 rest rest' old came came' times took took' wrote wrote' not i e a w = absurd i
@@ -254,7 +254,7 @@ fails_write (Err Memory) n n' not f = f
 fails_write (Err ReadHalt) n n' not f = absurd (not refl)
 fails_write (Err Write) n n' not f = f
 
-pub turn_writes : (r : Result (Unit {0}) Halt) (s : Stand) (g : Gathered) (rest : List Event) (old new : Tells) (failures : ℕ) → Inputs r s g rest old new → failures ≡ 0 → WriteFails r failures
+pub turn_writes : (r : Result (Unit {0}) Halt) (s : ServeState) (g : Gathered) (rest : List Event) (old new : Tells) (failures : ℕ) → Inputs r s g rest old new → failures ≡ 0 → WriteFails r failures
 turn_writes (Ok u) s g rest old new failures i e = e
 turn_writes (Err (Bad n)) s g rest old new failures i e = i
 turn_writes (Err Memory) s g rest old new failures i e = e
@@ -271,10 +271,10 @@ stands_not false c e t = sym t ∙ e
 
 -- TURNS
 
-pub is_empty : (g : Gathered) (s : State) → g ≡ empty_handed s → g ≡ empty_handed g.state
-is_empty g s e = e ∙ ap (λ (x : Gathered). empty_handed x.state) (sym e)
+pub is_empty : (g : Gathered) (s : State) → g ≡ nothing_pending s → g ≡ nothing_pending g.state
+is_empty g s e = e ∙ ap (λ (x : Gathered). nothing_pending x.state) (sym e)
 
-pub so_far_begun : (n : ℕ) (s : Stand) (g : Gathered) (rest : List Event) (t : Tells) → n ≡ 0 → g ≡ empty_handed s.state → rest ≡ s.rows → SoFar n s g rest t t
+pub so_far_begun : (n : ℕ) (s : ServeState) (g : Gathered) (rest : List Event) (t : Tells) → n ≡ 0 → g ≡ nothing_pending s.state → rest ≡ s.rows → SoFar n s g rest t t
 so_far_begun n s g rest t zero e r = record {
   ts = NoTurns;
   are = tt;
@@ -287,7 +287,7 @@ so_far_begun n s g rest t zero e r = record {
   wrote_is = sym (then-nil t.wrote);
 }
 
-stands_same : (s x : Stand) (g : Gathered) (rest : List Event) → g ≡ empty_handed x.state → rest ≡ x.rows → standing g.state rest ≡ x
+stands_same : (s x : ServeState) (g : Gathered) (rest : List Event) → g ≡ nothing_pending x.state → rest ≡ x.rows → standing g.state rest ≡ x
 stands_same s x g rest e r = ap (λ (y : Gathered). standing y.state rest) e ∙ ap (standing x.state) r
 
 told_more : {A : Type 0} → (old now new : Option (List A)) (a b : List A) → now ≡ then_told old a → new ≡ then_told now b → new ≡ then_told old (a ++ b)
@@ -296,10 +296,10 @@ told_more old now new a b e f = f ∙ (ap (λ (x : Option (List _)). then_told x
 took_more : (old now new : Option (List (List ℕ))) (ts : Turns) (t : Turn) → now ≡ took old ts → new ≡ then_onto (then_in now t.input) t.taken → new ≡ took old (Then ts t)
 took_more old now new ts t e f = f ∙ ap (λ (x : Option (List (List ℕ))). then_onto (then_in x t.input) t.taken) e
 
-pub so_far_more : (n n' : ℕ) (s : Stand) (g g' : Gathered) (rest rest' : List Event) (old now new : Tells) → SoFar n s g rest old now → GoesOn (standing g.state rest) g' rest' now new → n' ≡ n + 1 → SoFar n' s g' rest' old new
+pub so_far_more : (n n' : ℕ) (s : ServeState) (g g' : Gathered) (rest rest' : List Event) (old now new : Tells) → SoFar n s g rest old now → GoesOn (standing g.state rest) g' rest' now new → n' ≡ n + 1 → SoFar n' s g' rest' old new
 so_far_more n n' s g g' rest rest' old now new f go e =
     let x = stand s f.ts in
-    let t : GoesOn x g' rest' now new = subst (λ (y : Stand). GoesOn y g' rest' now new) (stands_same s x g rest f.handed f.rest_is) go in
+    let t : GoesOn x g' rest' now new = subst (λ (y : ServeState). GoesOn y g' rest' now new) (stands_same s x g rest f.handed f.rest_is) go in
     record {
       ts = Then f.ts t.turn;
       are = (f.are, t.is_turn);
@@ -314,7 +314,7 @@ so_far_more n n' s g g' rest rest' old now new f go e =
 
 -- HOW SERVING ENDS
 
-front_more : (old now new : Option (List ℕ)) (a b : List ℕ) → now ≡ then_bytes old a → WroteFront now b new → WroteFront old (a ++ b) new
+front_more : (old now new : Option (List ℕ)) (a b : List ℕ) → now ≡ then_bytes old a → WrotePrefix now b new → WrotePrefix old (a ++ b) new
 front_more old now new a b e w = (
   a ++ w.0,
   w.1,
@@ -322,14 +322,14 @@ front_more old now new a b e w = (
   w.3 ∙ (ap (λ (x : Option (List ℕ)). then_bytes x w.0) e ∙ then-then old a w.0),
 )
 
-pub serves_all : (n turns : ℕ) (s : Stand) (g : Gathered) (rest : List Event) (old new : Tells) → SoFar n s g rest old new → n ≡ turns → Serves (ended_so (Ok tt)) turns s old new
+pub serves_all : (n turns : ℕ) (s : ServeState) (g : Gathered) (rest : List Event) (old new : Tells) → SoFar n s g rest old new → n ≡ turns → Serves (ended_so (Ok tt)) turns s old new
 serves_all n turns s g rest old new f e = record {
   ts = f.ts;
   are = f.are;
   ends = (f.count_is ∙ e, f.came_is, f.times_are, f.took_is, f.wrote_is);
 }
 
-cut_behind : (n : ℕ) (s : Stand) (g : Gathered) (rest : List Event) (old now new : Tells) (t : CutTurn) (f : SoFar n s g rest old now) → CutShort t (stand s f.ts) NoTurns now new → CutShort t s f.ts old new
+cut_behind : (n : ℕ) (s : ServeState) (g : Gathered) (rest : List Event) (old now new : Tells) (t : CutTurn) (f : SoFar n s g rest old now) → CutShort t (stand s f.ts) NoTurns now new → CutShort t s f.ts old new
 cut_behind n s g rest old now new t f c = record {
   is = c.is;
   came_is = told_more old.came now.came new.came (came f.ts) (known_came t.known) f.came_is c.came_is;
@@ -337,7 +337,7 @@ cut_behind n s g rest old now new t f c = record {
   took_is = c.took_is ∙ ap (λ (x : Option (List (List ℕ))). then_onto (then_known x t.known) t.taken) f.took_is;
 }
 
-until_memory : (n turns : ℕ) (s : Stand) (g : Gathered) (rest : List Event) (old now new : Tells) (f : SoFar n s g rest old now) → n < turns → StopsShort (stand s f.ts) now new → Serves NoMemory turns s old new
+until_memory : (n turns : ℕ) (s : ServeState) (g : Gathered) (rest : List Event) (old now new : Tells) (f : SoFar n s g rest old now) → n < turns → StopsShort (stand s f.ts) now new → Serves NoMemory turns s old new
 until_memory n turns s g rest old now new f lt go =
     let lines = (cut_given go.0.cut (stand s f.ts)).lines in
     record {
@@ -351,7 +351,7 @@ until_memory n turns s g rest old now new f lt go =
       );
     }
 
-until_write : (n turns : ℕ) (s : Stand) (g : Gathered) (rest : List Event) (old now new : Tells) (f : SoFar n s g rest old now) → n < turns → Stops (stand s f.ts) now new ⊎ StopsShorter (stand s f.ts) now new → Serves WriteFault turns s old new
+until_write : (n turns : ℕ) (s : ServeState) (g : Gathered) (rest : List Event) (old now new : Tells) (f : SoFar n s g rest old now) → n < turns → Stops (stand s f.ts) now new ⊎ StopsShorter (stand s f.ts) now new → Serves WriteFault turns s old new
 until_write n turns s g rest old now new f lt (inl t) = record {
   ts = Then f.ts t.turn;
   are = (f.are, t.is_turn);
@@ -374,19 +374,19 @@ until_write n turns s g rest old now new f lt (inr go) = record {
   );
 }
 
-pub serves_until : (h : Halt) (n turns : ℕ) (s : Stand) (g g' : Gathered) (rest rest' : List Event) (old now new : Tells) → SoFar n s g rest old now → n < turns → Goes (Err h) (standing g.state rest) g' rest' now new → Serves (ended_so (Err h)) turns s old new
+pub serves_until : (h : Halt) (n turns : ℕ) (s : ServeState) (g g' : Gathered) (rest rest' : List Event) (old now new : Tells) → SoFar n s g rest old now → n < turns → Goes (Err h) (standing g.state rest) g' rest' now new → Serves (ended_so (Err h)) turns s old new
 serves_until (Bad k) n turns s g g' rest rest' old now new f lt go = absurd go
 serves_until Memory n turns s g g' rest rest' old now new f lt go =
-    until_memory n turns s g rest old now new f lt (subst (λ (y : Stand). StopsShort y now new) (stands_same s (stand s f.ts) g rest f.handed f.rest_is) go)
+    until_memory n turns s g rest old now new f lt (subst (λ (y : ServeState). StopsShort y now new) (stands_same s (stand s f.ts) g rest f.handed f.rest_is) go)
 serves_until ReadHalt n turns s g g' rest rest' old now new f lt go = record {
   ts = f.ts;
   are = f.are;
   ends = (omega (arith, lt, f.count_is), told_more old.came now.came new.came (came f.ts) (accept_came accepted.Fault ∷ []) f.came_is go.came_is, go.times_are ∙ f.times_are, go.took_is ∙ f.took_is, go.wrote_is ∙ f.wrote_is);
 }
 serves_until Write n turns s g g' rest rest' old now new f lt go =
-    until_write n turns s g rest old now new f lt (subst (λ (y : Stand). Stops y now new ⊎ StopsShorter y now new) (stands_same s (stand s f.ts) g rest f.handed f.rest_is) go)
+    until_write n turns s g rest old now new f lt (subst (λ (y : ServeState). Stops y now new ⊎ StopsShorter y now new) (stands_same s (stand s f.ts) g rest f.handed f.rest_is) go)
 
-pub serves_nothing : (turns : ℕ) (s : Stand) (t : Tells) → Serves NoMemory turns s t t
+pub serves_nothing : (turns : ℕ) (s : ServeState) (t : Tells) → Serves NoMemory turns s t t
 serves_nothing turns s t = record { ts = NoTurns; are = tt; ends = inr (refl, refl) }
 
 pub counts_on : (h : Halt) (n n' turns counter : ℕ) → n ≡ counter → counter < turns → Counts (Err h) n n' → n' ≤ turns
@@ -419,7 +419,7 @@ done_counts (Err Memory) n turns e d = let h : NoMemory ≡ Done = d in cc
 done_counts (Err ReadHalt) n turns e d = let h : ReadFault ≡ Done = d in cc
 done_counts (Err Write) n turns e d = let h : WriteFault ≡ Done = d in cc
 
-pub serves_from : (e e' : Ended) (turns : ℕ) (g : Gathered) (rest rows : List Event) (state state' : State) (old new : Tells) → e' ≡ e → g ≡ empty_handed state → state ≡ state' → rest ≡ rows → Serves e turns (standing g.state rest) old new → Serves e' turns (standing state' rows) old new
+pub serves_from : (e e' : Ended) (turns : ℕ) (g : Gathered) (rest rows : List Event) (state state' : State) (old new : Tells) → e' ≡ e → g ≡ nothing_pending state → state ≡ state' → rest ≡ rows → Serves e turns (standing g.state rest) old new → Serves e' turns (standing state' rows) old new
 serves_from e e' turns g rest rows state state' old new is same begun r serves =
     let s : standing g.state rest ≡ standing state' rows = ap (λ (y : Gathered). standing y.state rest) same ∙ (ap (λ (y : State). standing y rest) begun ∙ ap (standing state') r) in
-    subst (λ (x : Stand). Serves e' turns x old new) s (subst (λ (x : Ended). Serves x turns (standing g.state rest) old new) (sym is) serves)
+    subst (λ (x : ServeState). Serves e' turns x old new) s (subst (λ (x : Ended). Serves x turns (standing g.state rest) old new) (sym is) serves)

@@ -2,7 +2,7 @@
 use Rattle.std.specs.Prelude.{ℕ, Bool, false, ◌||◌, List, [], ◌∷◌, ◌++◌}
 use Rattle.std.specs.List.{AllByRecursion}
 use Rattle.of_serve.specs.declared.peers.Accepted.TheVariants as accepted
-use Rattle.of_serve.specs.Turns.{Input, Accepts, Reads, Stand, IsTaken, given, Known, Time, All, CutTurn, cut_given, Turns, None, Then, stand}
+use Rattle.of_serve.specs.Turns.{Input, Accepts, Reads, ServeState, IsTaken, given, Known, Time, All, CutTurn, cut_given, Turns, None, Then, stand}
 
 pub record Connection : Type 0 where
   -- the bytes of all messages that the switch gave it, in order
@@ -25,21 +25,21 @@ answered answers taken broke [] = []
 answered answers taken broke (c ∷ cs) = record { answered = c.answered ++ answers; taken = c.taken ++ taken; broke = c.broke || broke } ∷ cs
 
 -- the connections of turns, the newest first
-abbrev pub connections : Stand → Turns → List Connection
+abbrev pub connections : ServeState → Turns → List Connection
 connections s None = []
 connections s (Then ts t) = answered (given t.input (stand s ts)).answers t.taken t.broke (begun t.input (connections s ts))
 
--- and of turns behind which came one that memory cut short
+-- and of turns after which came one that running out of memory cut short
 abbrev pub begun_known : Known → List Connection → List Connection
 begun_known (Time now) cs = cs
 begun_known (All input) cs = begun input cs
 
-abbrev pub cut_connections : Stand → Turns → CutTurn → List Connection
+abbrev pub cut_connections : ServeState → Turns → CutTurn → List Connection
 cut_connections s ts t = answered (cut_given t.cut (stand s ts)).answers t.taken t.broke (begun_known t.known (connections s ts))
 
--- all answers were taken, or a write failed and first bytes of them were
-abbrev pub TookFront : Connection → Type 0
-TookFront c = IsTaken c.broke c.taken c.answered
+-- all answers were taken, or a write failed and a prefix of them was
+abbrev pub TookPrefix : Connection → Type 0
+TookPrefix c = IsTaken c.broke c.taken c.answered
 
-abbrev pub AllTookFronts : List Connection → Type 0
-AllTookFronts cs = AllByRecursion TookFront cs
+abbrev pub AllTookPrefixes : List Connection → Type 0
+AllTookPrefixes cs = AllByRecursion TookPrefix cs

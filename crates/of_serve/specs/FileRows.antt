@@ -11,7 +11,7 @@ use Rattle.of_replay.specs.Told.{Answer, given}
 use Rattle.of_replay.specs.Transfer.{then_answers}
 use Rattle.of_replay.specs.Rows.{EventRow, Passed, Connect, Lost, Piece, Frame, Moment, Ports, Rows, row_of}
 
--- what happens at a row; those of a controller (`connect`, `lost`, `c`) may not stand in the file
+-- what happens at a row; those of a controller (`connect`, `lost`, `c`) are not allowed in the file
 abbrev pub file_row : Option EventRow → Option (List Event)
 file_row None = None
 file_row (Some Passed) = Some []
@@ -58,7 +58,7 @@ pub record ReadsRows (result : Result (Vec Event) Ended) (answers answers' : Opt
   pub answers_are : answers' ≡ then_answers answers more
   pub is : IsFile result (nat_lt ends ends') (given more)
 
--- a read failed, or so many reads as are made found no end
+-- a read failed, or a million reads found no end
 abbrev pub RowsFault : Result (Vec Event) Ended → (reads ends ends' failures failures' : ℕ) → Type 0
 RowsFault (Ok events) reads ends ends' failures failures' = failures' ≡ failures
 RowsFault (Err Done) reads ends ends' failures failures' = ⊥
@@ -68,7 +68,7 @@ RowsFault (Err ReadFault) reads ends ends' failures failures' = (ends' ≡ ends)
 RowsFault (Err WriteFault) reads ends ends' failures failures' = ⊥
 RowsFault (Err NoMemory) reads ends ends' failures failures' = failures' ≡ failures
 
--- a row that may stand in the file is appended
+-- a row that is allowed in the file is appended
 abbrev pub Pushes : Bool → Option (List Event) → List Event → List Event → Type 0
 Pushes true (Some events) old new = new ≡ old ++ events
 Pushes true None old new = ⊥

@@ -9,14 +9,14 @@ use Rattle.of_switch.specs.Runs.{unless, drain, drained}
 use Rattle.of_replay.specs.declared.halt.Halt.{Halt}
 use Rattle.of_replay.specs.declared.halt.Halt.TheVariants.{Bad, Memory, Read as ReadHalt, Write}
 use Rattle.of_replay.specs.Told.{Answer, then_bytes}
-use Rattle.of_replay.specs.Transfer.{WroteFront}
+use Rattle.of_replay.specs.Transfer.{WrotePrefix}
 use Rattle.of_serve.specs.declared.peers.Accepted.{Accepted}
 use Rattle.of_serve.specs.declared.peers.Accepted.TheVariants as accepted
 use Rattle.of_serve.specs.Told.{Came, accept_came, Answered, then_told, then_begun, then_onto}
-use Rattle.of_serve.specs.Turns.{Gathered, gather, gathered, answer_in, line_in, empty_handed, broken, heard, opened, due, left, events_of, Reads, Stand, Turn, IsTaken, IsTurn, given, after, Input, IsInput, rows_after, came_in, time_in, then_in, Cut, cut_events, cut_from, Known, IsKnown, known_events, known_came, known_times, then_known, CutTurn, Turns, None, AreTurns, count, stand, came, times, took, sent}
+use Rattle.of_serve.specs.Turns.{Gathered, gather, gathered, answer_in, line_in, nothing_pending, broken, heard, opened, due, left, events_of, Reads, ServeState, Turn, IsTaken, IsTurn, given, after, Input, IsInput, rows_after, came_in, time_in, then_in, Cut, cut_events, cut_from, Known, IsKnown, known_events, known_came, known_times, then_known, CutTurn, Turns, None, AreTurns, count, stand, came, times, took, sent}
 use Rattle.of_serve.specs.Serves.{Tells, CutShort, cut_sent}
 
--- memory ran out in these events, behind which this is gathered
+-- memory ran out in these events, after which this is gathered
 pub record CutIn (events : List Event) (g g' : Gathered) : Type 0 where
   pub cut : Cut
   pub events_are : cut_events cut ≡ events
@@ -32,7 +32,7 @@ HandlesNext false g g' = (next_of g.state ≡ Never) × (g' ≡ g)
 abbrev pub HandlesAll : Gathered → Gathered → Type 0
 HandlesAll g g' = g' ≡ gather (unless Never g.state (drained g.state)) g
 
--- so many messages were handled
+-- some messages were handled, `messages` of them
 pub record HandlesSome (g g' : Gathered) : Type 0 where
   pub messages : ℕ
   pub answers_are : g'.answers ≡ g.answers ++ flat_map answer_in (drain messages g.state).effects
@@ -54,7 +54,7 @@ pub record TellsReads (g g' : Gathered) (rows rest : List Event) (came came' : O
   pub handled : g' ≡ gathered (events_of (Reads now answer) rows) g
   pub rest_is : rest ≡ left now rows
 
--- memory ran out in such a turn, before the read or behind it
+-- memory ran out in such a turn, before the read or after it
 pub record CutsReads (g g' : Gathered) (rows : List Event) (came came' : Option (List Came)) (times times' : Option (List ℕ)) : Type 0 where
   pub now : ℕ
   pub times_are : times' ≡ then_told times (now ∷ [])
@@ -84,7 +84,7 @@ failed_writes true = 0
 failed_writes false = 1
 
 -- the accept or the read of a turn was made, and what it gave was handled
-pub record Learns (s : Stand) (g : Gathered) (rest : List Event) (old new : Tells) : Type 0 where
+pub record Learns (s : ServeState) (g : Gathered) (rest : List Event) (old new : Tells) : Type 0 where
   pub input : Input
   pub is_input : IsInput input s.state
   pub handled : g ≡ given input s
@@ -95,10 +95,10 @@ pub record Learns (s : Stand) (g : Gathered) (rest : List Event) (old new : Tell
   pub wrote_is : new.wrote ≡ old.wrote
 
 -- memory ran out in a turn
-pub record Cuts (s : Stand) (g : Gathered) (old new : Tells) : Type 0 where
+pub record Cuts (s : ServeState) (g : Gathered) (old new : Tells) : Type 0 where
   pub known : Known
   pub is_known : IsKnown known s.state
-  pub cut : CutIn (known_events known s.rows) (empty_handed s.state) g
+  pub cut : CutIn (known_events known s.rows) (nothing_pending s.state) g
   pub came_is : new.came ≡ then_told old.came (known_came known)
   pub times_are : new.times ≡ then_told old.times (known_times known)
   pub took_is : new.took ≡ then_known old.took known
@@ -111,7 +111,7 @@ pub record Refuses (old new : Tells) : Type 0 where
   pub took_is : new.took ≡ old.took
   pub wrote_is : new.wrote ≡ old.wrote
 
-abbrev pub Inputs : Result (Unit {0}) Halt → Stand → Gathered → List Event → Tells → Tells → Type 0
+abbrev pub Inputs : Result (Unit {0}) Halt → ServeState → Gathered → List Event → Tells → Tells → Type 0
 Inputs (Ok u) s g rest old new = Learns s g rest old new
 Inputs (Err (Bad n)) s g rest old new = ⊥
 Inputs (Err Memory) s g rest old new = Cuts s g old new
@@ -142,7 +142,7 @@ WriteFails (Err Memory) failures = failures ≡ 0
 WriteFails (Err ReadHalt) failures = failures ≡ 0
 WriteFails (Err Write) failures = 0 < failures
 
--- the answers were written, all of them or first bytes of them; where a write failed, the connection is lost
+-- the answers were written, all of them or a prefix; where a write failed, the connection is lost
 pub record IsAnswered (g g' : Gathered) (took took' : Option (List (List ℕ))) : Type 0 where
   pub taken : List ℕ
   pub broke : Bool
@@ -151,10 +151,10 @@ pub record IsAnswered (g g' : Gathered) (took took' : Option (List (List ℕ))) 
   pub took_is : took' ≡ then_onto took taken
 
 -- a turn, of which all was written
-pub record GoesOn (s : Stand) (g : Gathered) (rest : List Event) (old new : Tells) : Type 0 where
+pub record GoesOn (s : ServeState) (g : Gathered) (rest : List Event) (old new : Tells) : Type 0 where
   pub turn : Turn
   pub is_turn : IsTurn turn s
-  pub handed : g ≡ empty_handed (after turn s).state
+  pub handed : g ≡ nothing_pending (after turn s).state
   pub rest_is : rest ≡ rows_after turn.input s.rows
   pub came_is : new.came ≡ then_told old.came (came_in turn.input)
   pub times_are : new.times ≡ then_told old.times (time_in turn.input)
@@ -162,36 +162,36 @@ pub record GoesOn (s : Stand) (g : Gathered) (rest : List Event) (old new : Tell
   pub wrote_is : new.wrote ≡ then_bytes old.wrote (given turn.input s).lines
 
 -- a turn, of whose lines a write failed
-pub record Stops (s : Stand) (old new : Tells) : Type 0 where
+pub record Stops (s : ServeState) (old new : Tells) : Type 0 where
   pub turn : Turn
   pub is_turn : IsTurn turn s
   pub came_is : new.came ≡ then_told old.came (came_in turn.input)
   pub times_are : new.times ≡ then_told old.times (time_in turn.input)
   pub took_is : new.took ≡ then_onto (then_in old.took turn.input) turn.taken
-  pub wrote_is : WroteFront old.wrote (given turn.input s).lines new.wrote
+  pub wrote_is : WrotePrefix old.wrote (given turn.input s).lines new.wrote
 
 -- a turn that memory cut short, all of whose lines were written
-abbrev pub StopsShort : Stand → Tells → Tells → Type 0
+abbrev pub StopsShort : ServeState → Tells → Tells → Type 0
 StopsShort s old new = (t : CutTurn) × CutShort t s None old new × (new.wrote ≡ then_bytes old.wrote (cut_sent t s None))
 
 -- or of whose lines a write failed
-abbrev pub StopsShorter : Stand → Tells → Tells → Type 0
-StopsShorter s old new = (t : CutTurn) × CutShort t s None old new × WroteFront old.wrote (cut_sent t s None) new.wrote
+abbrev pub StopsShorter : ServeState → Tells → Tells → Type 0
+StopsShorter s old new = (t : CutTurn) × CutShort t s None old new × WrotePrefix old.wrote (cut_sent t s None) new.wrote
 
 -- A TURN: all is written, or serving halts
-abbrev pub Goes : Result (Unit {0}) Halt → Stand → Gathered → List Event → Tells → Tells → Type 0
+abbrev pub Goes : Result (Unit {0}) Halt → ServeState → Gathered → List Event → Tells → Tells → Type 0
 Goes (Ok u) s g rest old new = GoesOn s g rest old new
 Goes (Err (Bad n)) s g rest old new = ⊥
 Goes (Err Memory) s g rest old new = StopsShort s old new
 Goes (Err ReadHalt) s g rest old new = Refuses old new
 Goes (Err Write) s g rest old new = Stops s old new ⊎ StopsShorter s old new
 
--- so many turns went by
-pub record SoFar (n : ℕ) (s : Stand) (g : Gathered) (rest : List Event) (old new : Tells) : Type 0 where
+-- this many turns passed
+pub record SoFar (n : ℕ) (s : ServeState) (g : Gathered) (rest : List Event) (old new : Tells) : Type 0 where
   pub ts : Turns
   pub are : AreTurns s ts
   pub count_is : count ts ≡ n
-  pub handed : g ≡ empty_handed (stand s ts).state
+  pub handed : g ≡ nothing_pending (stand s ts).state
   pub rest_is : rest ≡ (stand s ts).rows
   pub came_is : new.came ≡ then_told old.came (came ts)
   pub times_are : new.times ≡ then_told old.times (times ts)

@@ -3,12 +3,12 @@ use Rattle.std.specs.Prelude.{◌≡◌, ◌⊎◌, ◌<◌, ◌≤◌, ℕ, Lis
 use Rattle.of_replay.specs.declared.event_file.Ended.{Ended}
 use Rattle.of_replay.specs.declared.event_file.Ended.TheVariants.{Done, BadRow, Text, ReadFault, WriteFault, NoMemory}
 use Rattle.of_replay.specs.Told.{then_bytes}
-use Rattle.of_replay.specs.Transfer.{WroteFront}
+use Rattle.of_replay.specs.Transfer.{WrotePrefix}
 use Rattle.of_serve.specs.declared.peers.Accepted.TheVariants as accepted
 use Rattle.of_serve.specs.Told.{Came, accept_came, then_told, then_onto}
-use Rattle.of_serve.specs.Turns.{Stand, CutTurn, IsCutTurn, cut_given, known_came, known_times, then_known, Turns, None, AreTurns, count, stand, came, times, took, sent}
+use Rattle.of_serve.specs.Turns.{ServeState, CutTurn, IsCutTurn, cut_given, known_came, known_times, then_known, Turns, None, AreTurns, count, stand, came, times, took, sent}
 
--- what peers, clock and output told at one time
+-- what peers, clock and output recorded at one time
 pub record Tells : Type 0 where
   pub came : Option (List Came)
   pub times : Option (List ℕ)
@@ -18,20 +18,20 @@ pub record Tells : Type 0 where
 abbrev pub tells : Option (List Came) → Option (List ℕ) → Option (List (List ℕ)) → Option (List ℕ) → Tells
 tells came times took wrote = record { came = came; times = times; took = took; wrote = wrote }
 
--- behind these turns came one that memory cut short
-pub record CutShort (t : CutTurn) (s : Stand) (ts : Turns) (old new : Tells) : Type 0 where
+-- after these turns came one that running out of memory cut short
+pub record CutShort (t : CutTurn) (s : ServeState) (ts : Turns) (old new : Tells) : Type 0 where
   pub is : IsCutTurn t (stand s ts)
   pub came_is : new.came ≡ then_told old.came (came ts ++ known_came t.known)
   pub times_are : new.times ≡ then_told old.times (times ts ++ known_times t.known)
   pub took_is : new.took ≡ then_onto (then_known (took old.took ts) t.known) t.taken
 
 -- the lines of the frames that were sent in all of them
-abbrev pub cut_sent : CutTurn → Stand → Turns → List ℕ
+abbrev pub cut_sent : CutTurn → ServeState → Turns → List ℕ
 cut_sent t s ts = sent s ts ++ (cut_given t.cut (stand s ts)).lines
 
--- HOW SERVING ENDS behind these turns. A write to the output may fail behind whole turns, or in one that memory cut
+-- HOW SERVING ENDS after these turns. A write to the output may fail after whole turns, or in one that memory cut
 -- short; memory may also run out before the first turn.
-abbrev pub EndsSo : Ended → ℕ → Stand → Turns → Tells → Tells → Type 0
+abbrev pub EndsSo : Ended → ℕ → ServeState → Turns → Tells → Tells → Type 0
 EndsSo Done turns s ts old new =
     (count ts ≡ turns) × (new.came ≡ then_told old.came (came ts)) × (new.times ≡ then_told old.times (times ts))
     × (new.took ≡ took old.took ts) × (new.wrote ≡ then_bytes old.wrote (sent s ts))
@@ -42,13 +42,13 @@ EndsSo ReadFault turns s ts old new =
     × (new.took ≡ took old.took ts) × (new.wrote ≡ then_bytes old.wrote (sent s ts))
 EndsSo WriteFault turns s ts old new =
     ((count ts ≤ turns) × (new.came ≡ then_told old.came (came ts)) × (new.times ≡ then_told old.times (times ts))
-    × (new.took ≡ took old.took ts) × WroteFront old.wrote (sent s ts) new.wrote)
-    ⊎ ((t : CutTurn) × (count ts < turns) × CutShort t s ts old new × WroteFront old.wrote (cut_sent t s ts) new.wrote)
+    × (new.took ≡ took old.took ts) × WrotePrefix old.wrote (sent s ts) new.wrote)
+    ⊎ ((t : CutTurn) × (count ts < turns) × CutShort t s ts old new × WrotePrefix old.wrote (cut_sent t s ts) new.wrote)
 EndsSo NoMemory turns s ts old new =
     ((t : CutTurn) × (count ts < turns) × CutShort t s ts old new × (new.wrote ≡ then_bytes old.wrote (cut_sent t s ts)))
     ⊎ ((ts ≡ None) × (new ≡ old))
 
-pub record Serves (ended : Ended) (turns : ℕ) (s : Stand) (old new : Tells) : Type 0 where
+pub record Serves (ended : Ended) (turns : ℕ) (s : ServeState) (old new : Tells) : Type 0 where
   pub ts : Turns
   pub are : AreTurns s ts
   pub ends : EndsSo ended turns s ts old new

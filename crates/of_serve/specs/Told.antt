@@ -1,11 +1,11 @@
--- What peers and a clock answered, where they tell it.
+-- What peers and a clock answered, where they record it.
 use Rattle.std.specs.Prelude.{ℕ, List, [], ◌∷◌, ◌++◌, Option}
 use Rattle.std.specs.Option.{option_map}
 use Rattle.of_replay.specs.Told.{Answer, Idle, Failed}
 use Rattle.of_serve.specs.declared.peers.Accepted.{Accepted}
 use Rattle.of_serve.specs.declared.peers.Accepted.TheVariants as accepted
 
--- what an accept answered, or a read of the connection that stands: a connection is opened, or the answer of a read, or
+-- what an accept answered, or a read of the open connection: a connection is opened, or the answer of a read, or
 -- of an accept that found nobody or failed
 pub data Came : Type 0 where
   Opened : Came
@@ -16,7 +16,7 @@ accept_came accepted.Open = Opened
 accept_came accepted.Nothing = Answered Idle
 accept_came accepted.Fault = Answered Failed
 
--- what was told, and then this
+-- what was recorded, and then this
 abbrev pub then_told : {A : Type 0} → Option (List A) → List A → Option (List A)
 then_told known more = option_map (λ told. told ++ more) known
 

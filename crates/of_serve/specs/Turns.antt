@@ -21,7 +21,7 @@ abbrev pub waits : ℕ → Event → Bool
 waits now (Moment nanos) = nat_lt now nanos
 waits now other = false
 
--- a `t` row itself does nothing: it is the clock that tells moments
+-- a `t` row itself does nothing: moments come from the clock
 abbrev pub acts : Event → List Event
 acts (Moment nanos) = []
 acts Connect = Connect ∷ []
@@ -95,8 +95,8 @@ pub record Gathered : Type 0 where
   pub answers : List ℕ
   pub lines : List ℕ
 
-abbrev pub empty_handed : State → Gathered
-empty_handed s = record { state = s; answers = []; lines = [] }
+abbrev pub nothing_pending : State → Gathered
+nothing_pending s = record { state = s; answers = []; lines = [] }
 
 abbrev pub gather : Happened → Gathered → Gathered
 gather h g = record {
@@ -113,11 +113,11 @@ gathered (e ∷ es) g = gathered es (gather (happened e g.state) g)
 -- A TURN
 
 -- the switch, and the rows of the file that are still to come
-pub record Stand : Type 0 where
+pub record ServeState : Type 0 where
   pub state : State
   pub rows : List Event
 
-abbrev pub standing : State → List Event → Stand
+abbrev pub standing : State → List Event → ServeState
 standing state rows = record { state = state; rows = rows }
 
 -- what a turn learns, what the connection took in it, and whether a write failed
@@ -126,10 +126,10 @@ pub record Turn : Type 0 where
   pub taken : List ℕ
   pub broke : Bool
 
-abbrev pub given : Input → Stand → Gathered
-given input s = gathered (events_of input s.rows) (empty_handed s.state)
+abbrev pub given : Input → ServeState → Gathered
+given input s = gathered (events_of input s.rows) (nothing_pending s.state)
 
-abbrev pub after : Turn → Stand → Stand
+abbrev pub after : Turn → ServeState → ServeState
 after t s = record { state = (gathered (broken t.broke) (given t.input s)).state; rows = rows_after t.input s.rows }
 
 -- a turn without a connection accepts, and one with a connection reads
@@ -137,18 +137,18 @@ abbrev pub IsInput : Input → State → Type 0
 IsInput (Accepts accepted) s = is_disconnected s.connection.phase ≡ true
 IsInput (Reads now answer) s = is_disconnected s.connection.phase ≡ false
 
--- all answers were taken, or a write failed and some of the first bytes were
+-- all answers were taken, or a write failed and a prefix of them was
 abbrev pub IsTaken : Bool → List ℕ → List ℕ → Type 0
 IsTaken false taken answers = taken ≡ answers
 IsTaken true taken answers = (rest : List ℕ) × (taken ++ rest ≡ answers)
 
-pub record IsTurn (t : Turn) (s : Stand) : Type 0 where
+pub record IsTurn (t : Turn) (s : ServeState) : Type 0 where
   pub input : IsInput t.input s.state
   pub taken : IsTaken t.broke t.taken (given t.input s).answers
 
 -- A TURN THAT MEMORY CUT SHORT
 
--- Memory ran out in one of some events: those before it were done, and of a piece so many messages were handled.
+-- Memory ran out in one of some events: those before it were done, and of a piece some messages were handled.
 pub record Cut : Type 0 where
   pub done : List Event
   pub event : Event
@@ -159,7 +159,7 @@ pub record Cut : Type 0 where
 abbrev pub cut_events : Cut → List Event
 cut_events c = c.done ++ c.event ∷ c.others
 
--- what so many messages of an event give: only a piece has any
+-- what the first n messages of an event give: only a piece has any
 abbrev pub part_of : ℕ → Event → State → List Effect
 part_of n (Piece bytes) s = (drain n (come bytes s)).effects
 part_of n other s = []
@@ -195,10 +195,10 @@ pub record CutTurn : Type 0 where
   pub taken : List ℕ
   pub broke : Bool
 
-abbrev pub cut_given : Cut → Stand → Gathered
-cut_given c s = cut_from c (empty_handed s.state)
+abbrev pub cut_given : Cut → ServeState → Gathered
+cut_given c s = cut_from c (nothing_pending s.state)
 
-pub record IsCutTurn (t : CutTurn) (s : Stand) : Type 0 where
+pub record IsCutTurn (t : CutTurn) (s : ServeState) : Type 0 where
   pub known : IsKnown t.known s.state
   pub events : cut_events t.cut ≡ known_events t.known s.rows
   pub taken : IsTaken t.broke t.taken (cut_given t.cut s).answers
@@ -213,11 +213,11 @@ abbrev pub count : Turns → ℕ
 count None = 0
 count (Then ts t) = count ts + 1
 
-abbrev pub stand : Stand → Turns → Stand
+abbrev pub stand : ServeState → Turns → ServeState
 stand s None = s
 stand s (Then ts t) = after t (stand s ts)
 
-abbrev pub AreTurns : Stand → Turns → Type 0
+abbrev pub AreTurns : ServeState → Turns → Type 0
 AreTurns s None = Unit {0}
 AreTurns s (Then ts t) = AreTurns s ts × IsTurn t (stand s ts)
 
@@ -234,7 +234,7 @@ abbrev pub known_came : Known → List Came
 known_came (Time now) = []
 known_came (All input) = came_in input
 
--- what the clock told
+-- what the clock said
 abbrev pub time_in : Input → List ℕ
 time_in (Accepts accepted) = []
 time_in (Reads now answer) = now ∷ []
@@ -261,6 +261,6 @@ took known None = known
 took known (Then ts t) = then_onto (then_in (took known ts) t.input) t.taken
 
 -- the lines of the frames that the switch sent
-abbrev pub sent : Stand → Turns → List ℕ
+abbrev pub sent : ServeState → Turns → List ℕ
 sent s None = []
 sent s (Then ts t) = sent s ts ++ (given t.input (stand s ts)).lines

@@ -11,7 +11,7 @@ use of_text::cut;
 use of_wire::Bytes;
 use std::alloc::{AllocError, Global};
 
-// Appends what happens at a row; false where it may not stand in the file.
+// Appends what happens at a row; false where it is not allowed in the file.
 fn push_row(
     alloc: Global,
     row: Row,
@@ -75,7 +75,7 @@ fn rows_in(alloc: Global, file: &[u8]) -> Result<Vec<Event>, Ended>
     Ok(events)
 }
 
-/// Reads an event file whole, and answers its events; or how a run ends that wants them: the first line that is a bad row,
+/// Reads a whole event file, and returns its events; or how a run ends that needs them: the first line that is a bad row,
 /// as are `connect`, `lost` and `c`, a read fault, or no memory.
 pub fn read_rows<S: Source>(alloc: Global, reader: &mut S) -> Result<Vec<Event>, Ended>
     requires { S.reads reader.old ≡ 0 }

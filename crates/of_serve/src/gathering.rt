@@ -2,11 +2,11 @@
 ghost use Rattle.std.specs.Prelude.{◌≡◌, ◌⊎◌, ◌≤◌, ◌++◌, ◌∷◌, [], Err as Failed, length, take, drop, OnOk, OnErr, IfOk, IfErr, not};
 ghost use Rattle.std.specs.List.{flat_map};
 ghost use Rattle.of_session.specs.Session.{is_disconnected};
-ghost use Rattle.of_switch.specs.declared.event.Event.TheVariants.{Lost as Loss, Piece as Heard};
+ghost use Rattle.of_switch.specs.declared.event.Event.TheVariants.{Lost as Loss, Piece as ReasonMasks};
 ghost use Rattle.of_switch.specs.declared.switch_error.SwitchError.TheVariants.{NoMemory};
 ghost use Rattle.of_replay.specs.Rows.{with_bytes};
 ghost use Rattle.of_replay.specs.Stepping.{row_happened};
-ghost use Rattle.of_serve.specs.Turns.{acts, answer_in, due as rows_due, empty_handed, gather, gathered, left, line_in, waits as has_to_wait};
+ghost use Rattle.of_serve.specs.Turns.{acts, answer_in, due as rows_due, nothing_pending, gather, gathered, left, line_in, waits as has_to_wait};
 ghost use Rattle.of_serve.specs.Gathering.{CutIn, HandlesAll, HandlesNext, HandlesSome};
 
 use crate::rows::Rows;
@@ -93,7 +93,7 @@ fn waits(row: &Event, now: u64) -> bool
 
 impl<L: Lookup> Gathering<L> {
     pub fn new(alloc: Global, switch: Switch<L>) -> Self
-        ensures { result ≡ empty_handed switch }
+        ensures { result ≡ nothing_pending switch }
     {
         Gathering {
             switch,
@@ -120,13 +120,13 @@ impl<L: Lookup> Gathering<L> {
 
     /// All of it was written.
     pub fn clear(&mut self)
-        ensures { self.new ≡ empty_handed self.old.state }
+        ensures { self.new ≡ nothing_pending self.old.state }
     {
         self.answers.clear();
         self.lines.clear();
     }
 
-    /// Whether a connection stands.
+    /// Whether there is a connection.
     pub fn is_connected(&self) -> bool
         ensures { result ≡ not (is_disconnected self.now.state.connection.phase) }
     {
@@ -159,7 +159,7 @@ impl<L: Lookup> Gathering<L> {
         }
     }
 
-    // Handles the message that comes next, and answers whether there is one.
+    // Handles the next message, and returns whether there is one.
     fn handle_next(&mut self) -> Result<bool, SwitchError>
         ensures ok { IfOk result (λ found. HandlesNext found self.old self.new) }
         ensures memory { IfErr result (λ error. error ≡ NoMemory) }
@@ -187,19 +187,19 @@ impl<L: Lookup> Gathering<L> {
         }
     }
 
-    // Bytes of the controller come, unless they are refused.
+    // Receives bytes of the controller, unless they are refused.
     fn take(&mut self, piece: &[u8]) -> Result<(), SwitchError>
-        ensures heard { (result ≡ Failed NoMemory) ⊎ (self.new ≡ gathered (Heard piece.now ∷ []) self.old) }
-        ensures memory { result ≡ Failed NoMemory → CutIn (Heard piece.now ∷ []) self.old self.new }
+        ensures heard { (result ≡ Failed NoMemory) ⊎ (self.new ≡ gathered (ReasonMasks piece.now ∷ []) self.old) }
+        ensures memory { result ≡ Failed NoMemory → CutIn (ReasonMasks piece.now ∷ []) self.old self.new }
     {
         self.switch.feed(piece)?;
         self.handle_all()
     }
 
-    /// Bytes of the controller come, and each whole message is handled; without a connection they are lost.
+    /// Receives bytes of the controller, and handles each whole message; without a connection they are lost.
     pub fn hear(&mut self, piece: &[u8]) -> Result<(), AllocError>
-        ensures ok { OnOk result (self.new ≡ gathered (Heard piece.now ∷ []) self.old) }
-        ensures err { OnErr result (CutIn (Heard piece.now ∷ []) self.old self.new) }
+        ensures ok { OnOk result (self.new ≡ gathered (ReasonMasks piece.now ∷ []) self.old) }
+        ensures err { OnErr result (CutIn (ReasonMasks piece.now ∷ []) self.old self.new) }
     {
         match self.take(piece) {
             Ok(()) => Ok(()),

@@ -11,6 +11,6 @@ mod serving;
 mod turns;
 
 pub use event_rows::read_rows;
-pub use laws::connections_take_fronts;
+pub use laws::connections_take_prefixes;
 pub use peers::{Accepted, Clock, Peers};
 pub use serving::serve;

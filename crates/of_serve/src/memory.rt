@@ -13,11 +13,11 @@ use std::marker::Model;
 pub enum Line {
     /// A peer connects.
     Open,
-    /// Nobody connects, or nothing comes.
+    /// Nobody connects, or nothing is received.
     Idle,
-    /// These bytes come, one at least.
+    /// These bytes are received, one at least.
     Gives(Bytes),
-    /// No more bytes come.
+    /// There are no more bytes.
     End,
 }
 
@@ -27,7 +27,7 @@ struct Taken {
     bytes: Vec<u8>,
 }
 
-// Puts bytes to the front of a buffer, where there are some and it has room for them.
+// Puts bytes at the start of a buffer, where there are some and they fit.
 fn fill(buffer: &mut [u8], bytes: &[u8]) -> bool
     ensures fits { OnTrue result ((0 < length bytes.now) × (length bytes.now ≤ length buffer.old)) }
     ensures filled { OnTrue result (take (length bytes.now) buffer.new ≡ bytes.now) }
@@ -47,11 +47,11 @@ impl Model for Taken {
     ghost view = { λ t. t.bytes.items };
 }
 
-/// Peers whose accepts and reads answer the lines of a script, one after the other. It tells what they answered, and
+/// Peers whose accepts and reads answer the lines of a script, one after the other. It records what they answered, and
 /// what each connection took.
 ///
 /// A call that the next line does not fit, as a read where a peer connects, is a Fault, and so is each accept and read
-/// after it, and one for which memory is refused.
+/// after it, and one for which there is no memory.
 #[derive(Drop)]
 pub struct MemoryPeers {
     script: Vec<Line>,
@@ -138,7 +138,7 @@ impl MemoryPeers {
     ghost use Rattle.of_replay.specs.Told.{Failed};
     ghost use Rattle.of_serve.specs.Memory.{told};
 
-    // The newest connection takes bytes, unless there is none or memory is refused.
+    // The newest connection takes bytes, unless there is none or memory runs out.
     fn take(&mut self, bytes: &[u8]) -> bool
         ensures took { OnTrue result (self.new.taken.items ≡ onto bytes.now self.old.taken.items) }
         ensures some { OnTrue result (0 < length self.old.taken.items) }
@@ -173,7 +173,7 @@ impl MemoryPeers {
         Reading::Fault
     }
 
-    // A connection begins, unless memory is refused.
+    // A connection begins, unless memory runs out.
     fn begin(&mut self) -> bool
         ensures took { OnTrue result (self.new.taken.items ≡ [] ∷ self.old.taken.items) }
         ensures not { OnFalse result (self.new.taken.items ≡ self.old.taken.items) }
@@ -262,7 +262,7 @@ impl Peers for MemoryPeers {
     }
 }
 
-/// A clock in memory: it tells the times of a list, and then the last of them again and again (0 where there is none).
+/// A clock in memory: it gives the times of a list, and then the last of them again and again (0 where there is none).
 #[derive(Drop)]
 pub struct MemoryClock {
     times: Vec<u64>,

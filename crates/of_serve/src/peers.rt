@@ -8,7 +8,7 @@ use of_replay::{Reading, Writing};
 /// What an accept answered.
 #[derive(Clone, Copy, Debug, PartialEq, Eq)]
 pub enum Accepted {
-    /// A peer connected: its connection stands from now on.
+    /// A peer connected: its connection is open from now on.
     Open,
     /// Nobody connected this time.
     Nothing,
@@ -18,10 +18,10 @@ pub enum Accepted {
 
 /// Peers, one connection at a time.
 pub trait Peers {
-    /// What accepts and reads answered, in order, where it tells that.
+    /// What accepts and reads answered, in order, where it records that.
     ghost came: { Self → Option (List Came) };
 
-    /// The bytes that its writes took, a list a connection, the newest first, where it tells them.
+    /// The bytes that its writes took, a list a connection, the newest first, where it records them.
     ghost took: { Self → Option (List (List ℕ)) };
 
     /// How many accepts and reads there were, and how many accepts and writes failed.
@@ -33,7 +33,7 @@ pub trait Peers {
 
     ghost write_failures: { Self → ℕ };
 
-    /// Looks whether a peer connects. The connection before it is given up.
+    /// Checks whether a peer connects. The connection before it is given up.
     fn accept(&mut self) -> Accepted
         requires few { accepts self.old < 2 ^ 63 }
         ensures came { came self.new ≡ then_told (came self.old) (accept_came result ∷ []) }
@@ -42,7 +42,7 @@ pub trait Peers {
         ensures failures { accept_failures self.new ≡ accept_failures self.old + accept_faults result }
         ensures same { (reads self.new ≡ reads self.old) × (write_failures self.new ≡ write_failures self.old) };
 
-    /// Reads bytes of the connection that stands into the front of the buffer.
+    /// Reads bytes of the open connection into the start of the buffer.
     fn read(&mut self, buffer: &mut [u8]) -> Reading
         requires room { 0 < length buffer.old }
         requires few { reads self.old < 2 ^ 63 }
@@ -52,7 +52,7 @@ pub trait Peers {
         ensures reads { reads self.new ≡ reads self.old + 1 }
         ensures same { (accepts self.new ≡ accepts self.old) × (accept_failures self.new ≡ accept_failures self.old) × (write_failures self.new ≡ write_failures self.old) };
 
-    /// Writes some of the bytes, from the front, to the connection that stands.
+    /// Writes some of the bytes, from the start, to the open connection.
     fn write(&mut self, bytes: &[u8]) -> Writing
         requires some { 0 < length bytes.now }
         requires few { write_failures self.old < 2 ^ 63 }
@@ -65,7 +65,7 @@ pub trait Peers {
 
 /// A clock.
 pub trait Clock {
-    /// What it told, in order, where it tells that.
+    /// What it said, in order, where it records that.
     ghost times: { Self → Option (List ℕ) };
 
     /// How many nanoseconds have passed since the start.

@@ -1,7 +1,7 @@
 //! Serving controllers.
 ghost use Rattle.std.specs.Prelude.{◌≡◌, ◌<◌, ◌≤◌, ◌↔◌, ◌+◌, length, OnOk};
 ghost use Rattle.of_switch.specs.State.{start};
-ghost use Rattle.of_serve.specs.Turns.{empty_handed, standing};
+ghost use Rattle.of_serve.specs.Turns.{nothing_pending, standing};
 ghost use Rattle.of_serve.specs.Serves.{Serves, tells};
 ghost use Rattle.of_replay.specs.Stepping.{ended_so};
 ghost use Rattle.of_serve.specs.Gathering.{Fails, WriteFails};
@@ -15,7 +15,7 @@ use of_replay::{Ended, Halt, READ_SIZE, Sink, ended_by, zeros};
 use of_switch::{Event, Switch};
 use std::alloc::Global;
 
-// So many turns, one after the other.
+// This many turns, one after the other.
 fn take_turns<L: Lookup, P: Peers, C: Clock, K: Sink>(
     gathering: &mut Gathering<L>,
     rows: &mut Rows,
@@ -25,7 +25,7 @@ fn take_turns<L: Lookup, P: Peers, C: Clock, K: Sink>(
     buffer: &mut [u8],
     out: &mut K,
 ) -> Result<(), Halt>
-    requires empty { gathering.old ≡ empty_handed gathering.old.state }
+    requires empty { gathering.old ≡ nothing_pending gathering.old.state }
     requires room { length buffer.old ≡ 65536 }
     requires fresh { (P.accepts peers.old ≡ 0) × (P.reads peers.old ≡ 0) }
     requires whole { (P.accept_failures peers.old ≡ 0) × (P.write_failures peers.old ≡ 0) }
@@ -42,7 +42,7 @@ fn take_turns<L: Lookup, P: Peers, C: Clock, K: Sink>(
     Ok(())
 }
 
-/// Serves controllers on a new switch of this number, one at a time, for so many turns (OpenFlow 1.3.5, 6.3).
+/// Serves controllers on a new switch with this datapath_id, one at a time, for this many turns (OpenFlow 1.3.5, 6.3).
 ///
 /// A turn without a connection is an accept; where a peer connected, the switch says HELLO. Any other turn asks the
 /// clock, which gives a moment, plays the rows that are due, reads once and handles what came; all answers then go

@@ -1,7 +1,7 @@
 //! Turns: an accept or a read, what it gives, and that written.
 ghost use Rattle.std.specs.Prelude.{◌≡◌, ◌≤◌, ◌<◌, ◌^◌, ◌+◌, ◌∷◌, [], length, take, drop, OnOk, OnErr};
 ghost use Rattle.std.specs.Prelude.{ℕ, List, Option};
-ghost use Rattle.of_serve.specs.Turns.{empty_handed, standing};
+ghost use Rattle.of_serve.specs.Turns.{nothing_pending, standing};
 ghost use Rattle.of_serve.specs.Serves.{tells};
 ghost use Rattle.of_serve.specs.Gathering.{failed_writes, Counts, CutsReads, Fails, Goes, Hears, Inputs, IsAnswered, Opens, OrMemory, Takes, TellsReads, WriteFails};
 
@@ -26,7 +26,7 @@ fn rest_from(bytes: &[u8], at: usize) -> &[u8]
     &bytes[at..]
 }
 
-/// Writes all of the bytes to the connection that stands, and answers true; or a write fails, and nothing more is written.
+/// Writes all of the bytes to the open connection, and returns true; or a write fails, and nothing more is written.
 pub fn write_answers<P: Peers>(peers: &mut P, bytes: &[u8]) -> bool
     requires few { P.write_failures peers.old < 2 ^ 63 }
     ensures takes { Takes result bytes.now (P.took peers.old) (P.took peers.new) }
@@ -122,7 +122,7 @@ fn input<L: Lookup, P: Peers, C: Clock>(
     clock: &mut C,
     buffer: &mut [u8],
 ) -> Result<(), Halt>
-    requires empty { gathering.old ≡ empty_handed gathering.old.state }
+    requires empty { gathering.old ≡ nothing_pending gathering.old.state }
     requires room { 0 < length buffer.old }
     requires few { P.accepts peers.old + P.reads peers.old < 2 ^ 63 }
     ensures inputs { (wrote : Option (List ℕ)) → Inputs result (standing gathering.old.state rows.old) gathering.new rows.new
@@ -151,7 +151,7 @@ fn answer<L: Lookup, P: Peers>(gathering: &mut Gathering<L>, peers: &mut P)
     }
 }
 
-/// A turn: an accept where no connection stands, and else a read; what it gives is written, also where memory runs out.
+/// A turn: an accept where there is no connection, and else a read; what it gives is written, also where memory runs out.
 pub fn turn<L: Lookup, P: Peers, C: Clock, K: Sink>(
     gathering: &mut Gathering<L>,
     rows: &mut Rows,
@@ -160,7 +160,7 @@ pub fn turn<L: Lookup, P: Peers, C: Clock, K: Sink>(
     buffer: &mut [u8],
     out: &mut K,
 ) -> Result<(), Halt>
-    requires empty { gathering.old ≡ empty_handed gathering.old.state }
+    requires empty { gathering.old ≡ nothing_pending gathering.old.state }
     requires room { 0 < length buffer.old }
     requires few { P.accepts peers.old + P.reads peers.old < 2 ^ 63 }
     requires few_failures { P.write_failures peers.old < 2 ^ 63 }

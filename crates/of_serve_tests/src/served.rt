@@ -100,7 +100,7 @@ fn rows_in_time(rt: HostRuntime) -> Result<(), Fail> {
     Ok(())
 }
 
-// Each accept and read fails in turn: what was taken is a front of the answers.
+// Each accept and read fails in turn: what was taken is a prefix of the answers.
 #[test]
 fn faults(rt: HostRuntime) -> Result<(), Fail> {
     let alloc = rt.alloc();

@@ -1,4 +1,4 @@
--- A list whose front was taken.
+-- A list whose first elements were taken.
 use Rattle.std.proofs.Common.{◌≡◌, ℕ, ◌+◌, ◌-◌, ◌*◌, ◌≤◌, List, ◌++◌, length, take, drop, sym, ◌∙◌, ap, arith}
 use Rattle.std.specs.List.{copy_within}
 use Rattle.std.proofs.lemmas.List.{take_all, drop-drop, length-drop, drop-append-le}
@@ -7,7 +7,7 @@ use Rattle.std.proofs.lemmas.List.Edits.{take-paste}
 pub drop_append : (n : ℕ) (xs ys : List ℕ) → 2 * n ≤ length xs → drop n (xs ++ ys) ≡ drop n xs ++ ys
 drop_append n xs ys h = drop-append-le n xs ys (omega (arith, h))
 
--- what was moved to the front
+-- what was moved to the start
 pub moved : (n : ℕ) (xs : List ℕ) → n ≤ length xs → take (length xs - n) (copy_within xs n (length xs) 0) ≡ drop n xs
 moved n xs h =
     let left = length xs - n in

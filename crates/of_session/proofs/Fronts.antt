@@ -5,7 +5,7 @@ use Rattle.std.specs.Prelude.{nat_lt}
 use Rattle.std.proofs.lemmas.Bool.{le-ltb, lt-ltb}
 use Rattle.std.proofs.lemmas.Bool.Decides.{nat_tests}
 use Rattle.std.proofs.lemmas.List.{take_at, drop_at}
-use Rattle.of_session.specs.Stream.{First, Whole, Bad, Partial, front_of, length_of, IsMessage, IsMalformed, IsPartial}
+use Rattle.of_session.specs.Stream.{First, Whole, Bad, Partial, beginning_of, length_of, IsMessage, IsMalformed, IsPartial}
 
 -- what each beginning says of the bytes
 abbrev pub Looks : List ℕ → First → Type 0
@@ -19,7 +19,7 @@ looks_by bytes false true c p q r = (grind (arith, nat_tests), grind (arith, nat
 looks_by bytes false false true p q r = inr (grind (arith, nat_tests), grind (arith, nat_tests))
 looks_by bytes false false false p q r = (grind (arith, nat_tests), grind (arith, nat_tests), refl, refl)
 
-pub looks : (bytes : List ℕ) → Looks bytes (front_of bytes)
+pub looks : (bytes : List ℕ) → Looks bytes (beginning_of bytes)
 looks bytes = looks_by bytes _ _ _ refl refl refl
 
 -- a header's length, whatever follows the header
@@ -29,7 +29,7 @@ length_of-append a b h =
     let three : get_or (a ++ b) 3 0 ≡ get_or a 3 0 = get_or-append a b 0 3 (omega (arith, h)) in
     ap (λ (x : ℕ). 256 * x + get_or (a ++ b) 3 0) two ∙ ap (λ (x : ℕ). 256 * get_or a 2 0 + x) three
 
-pub message_front : (m x : List ℕ) → IsMessage m → front_of (m ++ x) ≡ Whole m x
+pub message_front : (m x : List ℕ) → IsMessage m → beginning_of (m ++ x) ≡ Whole m x
 message_front m x h =
     let size : length_of (m ++ x) ≡ length m = length_of-append m x h.header ∙ h.whole in
     let all : length (m ++ x) ≡ length m + length x = length-append m x in
@@ -40,22 +40,22 @@ message_front m x h =
     let back : drop (length m) (m ++ x) ≡ x = drop_at m x (length m) refl in
     rw (size, one, two, three, front, back) refl
 
-pub malformed_front : (r : List ℕ) → IsMalformed r → front_of r ≡ Bad
+pub malformed_front : (r : List ℕ) → IsMalformed r → beginning_of r ≡ Bad
 malformed_front r h =
     let one : ltb (length r) 8 ≡ false = le-ltb _ _ h.header in
     let two : ltb (length_of r) 8 ≡ true = lt-ltb _ _ h.short in
     rw (one, two) refl
 
-pub partial_front : (r : List ℕ) → IsPartial r → front_of r ≡ Partial
+pub partial_front : (r : List ℕ) → IsPartial r → beginning_of r ≡ Partial
 partial_front r h = by_shorter h.shorter
   where
-    long : (t : Bool) → ltb (length r) 8 ≡ t → 8 ≤ length_of r → length r < length_of r → front_of r ≡ Partial
+    long : (t : Bool) → ltb (length r) 8 ≡ t → 8 ≤ length_of r → length r < length_of r → beginning_of r ≡ Partial
     long true e low less = rw e refl
     long false e low less =
         let two : ltb (length_of r) 8 ≡ false = le-ltb _ _ low in
         let three : ltb (length r) (length_of r) ≡ true = lt-ltb _ _ less in
         rw (e, two, three) refl
 
-    by_shorter : (length r < 8) ⊎ ((8 ≤ length_of r) × (length r < length_of r)) → front_of r ≡ Partial
+    by_shorter : (length r < 8) ⊎ ((8 ≤ length_of r) × (length r < length_of r)) → beginning_of r ≡ Partial
     by_shorter (inl short) = let one : ltb (length r) 8 ≡ true = lt-ltb _ _ short in rw one refl
     by_shorter (inr less) = long (ltb (length r) 8) refl less.0 less.1

@@ -1,4 +1,4 @@
--- What comes next of a connection: its size, and that it stays where more bytes come.
+-- What comes next in a connection: its size, and that it stays where more bytes are received.
 use Rattle.std.proofs.Common.{◌≡◌, ℕ, ◌≤◌, Bool, true, false, cond, List, ◌++◌, length, take, Result, Ok, Err, sym, ◌∙◌, ap, arith, append_assoc, length-append}
 use Rattle.std.proofs.lemmas.List.{take-append-drop, take-append-le, length-take}
 use Rattle.of_wire.specs.declared.code.Code.{Code}
@@ -10,12 +10,12 @@ use Rattle.of_session.specs.declared.session.Phase.{Phase}
 use Rattle.of_session.specs.declared.session.Phase.TheVariants.{Disconnected, Greeting, Open}
 use Rattle.of_session.specs.declared.session.Next.{Next}
 use Rattle.of_session.specs.declared.session.Next.TheVariants.{Nothing, BadStream, NotHello, Opened, Read, Refused}
-use Rattle.of_session.specs.Stream.{First, Whole, Bad, Partial, front_of, length_of, IsMessage}
+use Rattle.of_session.specs.Stream.{First, Whole, Bad, Partial, beginning_of, length_of, IsMessage}
 use Rattle.of_session.specs.Session.{Connection, is_disconnected, fed, is_first_hello, read_as, judged, next_by, next_of}
 use Rattle.of_session.proofs.Fronts.{Looks, looks, length_of-append, message_front, malformed_front}
 use Rattle.of_session.proofs.Splitting.{front_message}
 
--- a message that comes next has a header and is there whole; a malformed header is there
+-- a message that comes next has a header and was received whole; so was a malformed header
 abbrev pub IsSizedIn : Next → List ℕ → Type 0
 IsSizedIn Nothing bytes = Unit {0}
 IsSizedIn (BadStream xid) bytes = 8 ≤ length bytes
@@ -44,9 +44,9 @@ by_front role c (Whole m rest) look =
     let size : length m ≡ length_of c.pending = rw look.2 (omega (arith, length-take (length_of c.pending) c.pending, look.1)) in
     judged_sized role c.phase m c.pending (omega (arith, size, look.0)) (omega (arith, size, look.1))
 
-by_phase : (role : Role) (c : Connection) (t : Bool) → IsSizedIn (cond t Nothing (next_by role c (front_of c.pending))) c.pending
+by_phase : (role : Role) (c : Connection) (t : Bool) → IsSizedIn (cond t Nothing (next_by role c (beginning_of c.pending))) c.pending
 by_phase role c true = tt
-by_phase role c false = by_front role c (front_of c.pending) (looks c.pending)
+by_phase role c false = by_front role c (beginning_of c.pending) (looks c.pending)
 
 pub next_sized : (role : Role) (c : Connection) → IsSizedIn (next_of role c) c.pending
 next_sized role c = by_phase role c (is_disconnected c.phase)
@@ -60,21 +60,21 @@ IsSomething (Opened size) = Unit {0}
 IsSomething (Read xid size message) = Unit {0}
 IsSomething (Refused xid size code) = Unit {0}
 
-front_more : (role : Role) (c : Connection) (q : List ℕ) (f : First) → Looks c.pending f → IsSomething (next_by role c f) → next_by role (fed q c) (front_of (c.pending ++ q)) ≡ next_by role c f
+front_more : (role : Role) (c : Connection) (q : List ℕ) (f : First) → Looks c.pending f → IsSomething (next_by role c f) → next_by role (fed q c) (beginning_of (c.pending ++ q)) ≡ next_by role c f
 front_more role c q Partial look some = absurd some
 front_more role c q Bad look some =
-    let bad : front_of (c.pending ++ q) ≡ Bad = malformed_front (c.pending ++ q) (record { header = omega (arith, length-append c.pending q, look.0); short = rw (length_of-append c.pending q look.0) look.1 }) in
+    let bad : beginning_of (c.pending ++ q) ≡ Bad = malformed_front (c.pending ++ q) (record { header = omega (arith, length-append c.pending q, look.0); short = rw (length_of-append c.pending q look.0) look.1 }) in
     let front : take 8 (c.pending ++ q) ≡ take 8 c.pending = take-append-le 8 c.pending q look.0 in
     ap (next_by role (fed q c)) bad ∙ ap (λ (h : List ℕ). BadStream (xid_of h)) front
 front_more role c q (Whole m rest) look some =
     let is : IsMessage m = rw look.2 (front_message c.pending look.0 look.1) in
     let joined : m ++ rest ≡ c.pending = rw (look.2, look.3) (take-append-drop (length_of c.pending) c.pending) in
     let all : c.pending ++ q ≡ m ++ (rest ++ q) = ap (λ (x : List ℕ). x ++ q) (sym joined) ∙ append_assoc m rest q in
-    ap (λ (f : First). next_by role (fed q c) f) (ap front_of all ∙ message_front m (rest ++ q) is)
+    ap (λ (f : First). next_by role (fed q c) f) (ap beginning_of all ∙ message_front m (rest ++ q) is)
 
-more_by : (role : Role) (c : Connection) (q : List ℕ) (t : Bool) → IsSomething (cond t Nothing (next_by role c (front_of c.pending))) → cond t Nothing (next_by role (fed q c) (front_of (c.pending ++ q))) ≡ cond t Nothing (next_by role c (front_of c.pending))
+more_by : (role : Role) (c : Connection) (q : List ℕ) (t : Bool) → IsSomething (cond t Nothing (next_by role c (beginning_of c.pending))) → cond t Nothing (next_by role (fed q c) (beginning_of (c.pending ++ q))) ≡ cond t Nothing (next_by role c (beginning_of c.pending))
 more_by role c q true some = absurd some
-more_by role c q false some = front_more role c q (front_of c.pending) (looks c.pending) some
+more_by role c q false some = front_more role c q (beginning_of c.pending) (looks c.pending) some
 
 -- more bytes change nothing of what comes next
 pub next_more : (role : Role) (c : Connection) (q : List ℕ) → IsSomething (next_of role c) → next_of role (fed q c) ≡ next_of role c

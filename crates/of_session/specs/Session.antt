@@ -1,4 +1,4 @@
--- A controller's connection (OpenFlow 1.3.5, 6.3.1): where it stands, and what comes next.
+-- A controller's connection (OpenFlow 1.3.5, 6.3.1): its phase, and what comes next.
 use Rattle.std.specs.Prelude.{◌≡◌, ℕ, ◌==◌, ◌&&◌, Bool, true, false, ◌≤◌, List, [], ◌++◌, length, take, drop, Result, Ok, Err, if◌then◌else◌}
 use Rattle.of_wire.specs.declared.code.Code.{Code}
 use Rattle.of_messages.specs.declared.message.Message.{Message}
@@ -11,9 +11,9 @@ use Rattle.of_session.specs.declared.session.Phase.{Phase}
 use Rattle.of_session.specs.declared.session.Phase.TheVariants.{Disconnected, Greeting, Open}
 use Rattle.of_session.specs.declared.session.Next.{Next}
 use Rattle.of_session.specs.declared.session.Next.TheVariants.{Nothing, BadStream, NotHello, Opened, Read, Refused}
-use Rattle.of_session.specs.Stream.{First, Whole, Bad, Partial, front_of}
+use Rattle.of_session.specs.Stream.{First, Whole, Bad, Partial, beginning_of}
 
--- where it stands, and the bytes that came and were not yet handled
+-- its phase, and the bytes that were received and not yet handled
 pub record Connection : Type 0 where
   pub phase : Phase
   pub pending : List ℕ
@@ -30,11 +30,11 @@ alone = record { phase = Disconnected; pending = [] }
 abbrev pub greeting : Connection
 greeting = record { phase = Greeting; pending = [] }
 
--- bytes come
+-- bytes are received
 abbrev pub fed : List ℕ → Connection → Connection
 fed piece c = record c { pending = c.pending ++ piece }
 
--- a first message is accepted that is a HELLO by which version 4 is agreed to
+-- the first message is accepted if it is a HELLO that agrees to version 4
 abbrev pub is_first_hello : List ℕ → Bool
 is_first_hello m = type_of m == hello && version_by m == 4
 
@@ -58,13 +58,13 @@ next_by role c (Whole m rest) = judged role c.phase m
 
 -- WHAT COMES NEXT of a controller of that role: the first whole message, or a malformed header, or neither; without a connection nothing does
 abbrev pub next_of : Role → Connection → Next
-next_of role c = if is_disconnected c.phase then Nothing else next_by role c (front_of c.pending)
+next_of role c = if is_disconnected c.phase then Nothing else next_by role c (beginning_of c.pending)
 
 -- without its first message
 abbrev pub taken : ℕ → Connection → Connection
 taken size c = record c { pending = drop size c.pending }
 
--- by its HELLO
+-- its HELLO opens it
 abbrev pub opened : ℕ → Connection → Connection
 opened size c = record { phase = Open; pending = drop size c.pending }
 
@@ -77,7 +77,7 @@ entered (Opened size) c = opened size c
 entered (Read xid size message) c = taken size c
 entered (Refused xid size code) c = taken size c
 
--- so many bytes are there
+-- the bytes that it covers were received
 abbrev pub IsWithin : Next → Connection → Type 0
 IsWithin Nothing c = Unit {0}
 IsWithin (BadStream xid) c = 8 ≤ length c.pending
@@ -86,7 +86,7 @@ IsWithin (Opened size) c = size ≤ length c.pending
 IsWithin (Read xid size message) c = size ≤ length c.pending
 IsWithin (Refused xid size code) c = size ≤ length c.pending
 
--- a message of so many bytes, or what ends the connection
+-- a message of n bytes, or what ends the connection
 abbrev pub IsSized : Next → ℕ → Type 0
 IsSized Nothing n = ⊥
 IsSized (BadStream xid) n = ⊥
@@ -95,7 +95,7 @@ IsSized (Opened size) n = size ≡ n
 IsSized (Read xid size message) n = size ≡ n
 IsSized (Refused xid size code) n = size ≡ n
 
--- what holds of each message that was read
+-- what holds for each message that was read
 abbrev pub IsSound : Next → Type 0
 IsSound (Read xid size message) = IsSoundMessage message
 IsSound other = Unit {0}

@@ -1,7 +1,7 @@
--- The messages of a stream of bytes (OpenFlow 1.3.5, 6.3.2 and 7.1: a header's length counts its message whole).
+-- The messages of a stream of bytes (OpenFlow 1.3.5, 6.3.2 and 7.1: the length in a header is that of the whole message).
 use Rattle.std.specs.Prelude.{◌≡◌, ℕ, ◌+◌, ◌*◌, ◌<◌, ◌≤◌, ◌⊎◌, List, [], ◌∷◌, ◌++◌, length, slice_index, take, drop, nat_lt, if◌then◌else◌}
-use Rattle.of_session.specs.declared.stream.Front.{Front}
-use Rattle.of_session.specs.declared.stream.Front.TheVariants as front
+use Rattle.of_session.specs.declared.stream.Beginning.{Beginning}
+use Rattle.of_session.specs.declared.stream.Beginning.TheVariants as front
 
 -- what a header says of its message's length
 abbrev pub length_of : List ℕ → ℕ
@@ -45,21 +45,21 @@ pub data First : Type 0 where
   Bad : First
   Partial : First
 
-abbrev pub front_of : List ℕ → First
-front_of bytes =
+abbrev pub beginning_of : List ℕ → First
+beginning_of bytes =
     if nat_lt (length bytes) 8 then Partial
     else (if nat_lt (length_of bytes) 8 then Bad
     else (if nat_lt (length bytes) (length_of bytes) then Partial
     else Whole (take (length_of bytes) bytes) (drop (length_of bytes) bytes)))
 
--- the beginning, where only the message's size is told
-abbrev pub front_is : Front → List ℕ → First
-front_is (front.Message n) bytes = Whole (take n bytes) (drop n bytes)
-front_is front.Malformed bytes = Bad
-front_is front.Waiting bytes = Partial
+-- the same, where only the message's size is given
+abbrev pub beginning_is : Beginning → List ℕ → First
+beginning_is (front.Message n) bytes = Whole (take n bytes) (drop n bytes)
+beginning_is front.Malformed bytes = Bad
+beginning_is front.Waiting bytes = Partial
 
--- a message is there whole, with its header; so is a header that no message has
-abbrev pub IsThere : Front → List ℕ → Type 0
+-- a message was received whole, with its header; so was a header that no message has
+abbrev pub IsThere : Beginning → List ℕ → Type 0
 IsThere (front.Message n) bytes = (8 ≤ n) × (n ≤ length bytes)
 IsThere front.Malformed bytes = 8 ≤ length bytes
 IsThere front.Waiting bytes = Unit {0}

@@ -1,8 +1,8 @@
-//! The controller's side of a switch: the stream of its messages, and where its connection stands.
+//! The controller's side of a switch: the stream of its messages, and the phase of its connection.
 #![tactic(auto)]
 
 mod session;
 mod stream;
 
 pub use session::{Next, Phase, Session};
-pub use stream::{Front, Stream, splits_once};
+pub use stream::{Beginning, Stream, splits_once};

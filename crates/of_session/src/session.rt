@@ -4,7 +4,7 @@ ghost use Rattle.of_messages.specs.Heads.{xid_of};
 ghost use Rattle.of_messages.specs.declared.role.Role.{Role as ARole};
 ghost use Rattle.of_session.specs.Session.{next_of, fed, is_first_hello, judged, greeted as greeting_of, entered, IsWithin, IsSound, IsSized};
 
-use crate::stream::{Front, HEADER, Stream};
+use crate::stream::{Beginning, HEADER, Stream};
 use byteorder::{BigEndian, ByteOrder};
 use of_messages::{Message, Role, agreed_version, read_message_as};
 use of_wire::{Code, ReadError};
@@ -14,18 +14,18 @@ use std::marker::Model;
 /// The type of a HELLO (OpenFlow 1.3.5, 7.5.1).
 const HELLO: u8 = 0;
 
-/// Where a connection stands (OpenFlow 1.3.5, 6.3.1).
+/// The phase of a connection (OpenFlow 1.3.5, 6.3.1).
 #[derive(Clone, Copy, Debug, PartialEq, Eq)]
 pub enum Phase {
     /// There is no connection.
     Disconnected,
-    /// The first message, a HELLO, is waited for.
+    /// The first message, a HELLO, is awaited.
     Greeting,
     /// A HELLO was accepted.
     Open,
 }
 
-/// What comes next of a connection.
+/// What comes next in a connection.
 #[derive(Drop)]
 pub enum Next {
     /// Neither a whole message nor a malformed header is there.
@@ -34,21 +34,21 @@ pub enum Next {
     BadStream {
         xid: u32,
     },
-    /// A first message that is no HELLO by which version 4 is agreed to: the connection is to be closed.
+    /// A first message that is no HELLO that agrees to version 4: the connection is to be closed.
     NotHello {
         xid: u32,
     },
-    /// The HELLO that opens the connection, of so many bytes.
+    /// The HELLO that opens the connection, of this many bytes.
     Opened {
         size: usize,
     },
-    /// A message of so many bytes.
+    /// A message of this many bytes.
     Read {
         xid: u32,
         size: usize,
         message: Message,
     },
-    /// A message of so many bytes, which is refused.
+    /// A message of this many bytes, which is refused.
     Refused {
         xid: u32,
         size: usize,
@@ -86,21 +86,21 @@ impl Session {
         }
     }
 
-    /// Where the connection stands.
+    /// The phase of the connection.
     pub fn phase(&self) -> Phase
         ensures { result ≡ self.now.phase }
     {
         self.phase
     }
 
-    /// The bytes that came and were not yet handled.
+    /// The bytes that were received and not yet handled.
     pub fn pending(&self) -> &[u8]
         ensures { result.now ≡ self.now.pending }
     {
         self.stream.left()
     }
 
-    /// A connection begins: its first message is waited for.
+    /// A connection begins: its first message is awaited.
     pub fn connect(&mut self)
         ensures { self.new ≡ greeting }
     {
@@ -108,7 +108,7 @@ impl Session {
         self.stream.clear();
     }
 
-    /// The connection ends, and what came and was not handled is forgotten.
+    /// The connection ends, and the bytes that were received and not handled are dropped.
     pub fn close(&mut self)
         ensures { self.new ≡ alone }
     {
@@ -116,7 +116,7 @@ impl Session {
         self.stream.clear();
     }
 
-    /// These bytes came next. Where memory is wanted none of them did.
+    /// Receives these bytes. Where memory runs out none of them was received.
     pub fn feed(&mut self, piece: &[u8]) -> Result<(), AllocError>
         ensures ok { OnOk result (self.new ≡ fed piece.now self.old) }
         ensures err { OnErr result (self.new ≡ self.old) }
@@ -124,7 +124,7 @@ impl Session {
         self.stream.feed(piece)
     }
 
-    /// What comes next of a controller of that role. It is the same until it is `taken`.
+    /// What comes next from a controller of that role. It is the same until it is `taken`.
     pub fn next(&self, role: Role) -> Result<Next, AllocError>
         ensures next { IfOk result (λ next. next ≡ next_of role self.now) }
         ensures there { IfOk result (λ next. IsWithin next self.now) }
@@ -134,15 +134,20 @@ impl Session {
             return Ok(Next::Nothing);
         }
         match self.stream.front() {
-            Front::Waiting => Ok(Next::Nothing),
-            Front::Malformed => Ok(Next::BadStream {
+            Beginning::Waiting => Ok(Next::Nothing),
+            Beginning::Malformed => Ok(Next::BadStream {
                 xid: xid_at(self.stream.first(HEADER)),
             }),
-            Front::Message(size) => judge(self.alloc, role, self.phase, self.stream.first(size)),
+            Beginning::Message(size) => judge(
+                self.alloc,
+                role,
+                self.phase,
+                self.stream.first(size),
+            ),
         }
     }
 
-    /// The first bytes that came and were not yet handled.
+    /// The first bytes that were received and not yet handled.
     pub fn first(&self, size: usize) -> &[u8]
         requires { size ≤ length self.now.pending }
         ensures { result.now ≡ take size self.now.pending }
@@ -158,14 +163,14 @@ impl Session {
             return;
         }
         match self.stream.front() {
-            Front::Waiting => {}
-            Front::Malformed => self.close(),
-            Front::Message(size) if self.phase == Phase::Open => self.stream.take(size),
-            Front::Message(size) => self.greeted(size),
+            Beginning::Waiting => {}
+            Beginning::Malformed => self.close(),
+            Beginning::Message(size) if self.phase == Phase::Open => self.stream.take(size),
+            Beginning::Message(size) => self.greeted(size),
         }
     }
 
-    // The first message, of so many bytes, opens the connection, or ends it.
+    // The first message, of this many bytes, opens the connection, or ends it.
     fn greeted(&mut self, size: usize)
         requires header { 8 ≤ size }
         requires there { size ≤ length self.old.pending }
@@ -188,7 +193,7 @@ fn xid_at(message: &[u8]) -> u32
     BigEndian::read_u32(rest)
 }
 
-// Whether a first message is a HELLO by which version 4 is agreed to.
+// Whether a first message is a HELLO that agrees to version 4.
 fn is_accepted(message: &[u8]) -> bool
     requires { 8 ≤ length message.now }
     ensures { result ≡ is_first_hello message.now }
@@ -196,7 +201,7 @@ fn is_accepted(message: &[u8]) -> bool
     message[1] == HELLO && agreed_version(message) == 4
 }
 
-// What a whole message is to a connection that stands there.
+// What a whole message is to a connection in that phase.
 fn judge(alloc: Global, role: Role, phase: Phase, message: &[u8]) -> Result<Next, AllocError>
     requires { 8 ≤ length message.now }
     ensures next { IfOk result (λ next. next ≡ judged role phase message.now) }

@@ -1,6 +1,6 @@
 //! The bytes of a controller, as messages.
 ghost use Rattle.std.specs.Prelude.{◌≡◌, ◌++◌, ◌*◌, ◌≤◌, ℕ, List, [], length, take, drop, OnOk, OnErr};
-ghost use Rattle.of_session.specs.Stream.{front_of, front_is, IsThere, Splits};
+ghost use Rattle.of_session.specs.Stream.{beginning_of, beginning_is, IsThere, Splits};
 
 use std::alloc::{AllocError, Global};
 use std::marker::Model;
@@ -10,7 +10,7 @@ pub const HEADER: usize = 8;
 
 /// How the bytes that are left begin.
 #[derive(Clone, Copy, Debug, PartialEq, Eq)]
-pub enum Front {
+pub enum Beginning {
     /// With a whole message of that many bytes.
     Message(usize),
     /// With a header whose length is below its own 8 bytes.
@@ -19,9 +19,9 @@ pub enum Front {
     Waiting,
 }
 
-/// The bytes that came and were not yet taken.
+/// The bytes that were received and not yet taken.
 ///
-/// Bytes that were taken are forgotten where they are more than those that are left.
+/// Bytes that were taken are dropped where they are more than those that are left.
 #[derive(Debug, Drop)]
 pub struct Stream {
     bytes: Vec<u8>,
@@ -39,7 +39,7 @@ impl Model for Stream {
 }
 
 impl Stream {
-    /// A stream from which nothing came.
+    /// A stream from which nothing was received.
     pub fn new(alloc: Global) -> Stream
         ensures { result ≡ [] }
     {
@@ -49,7 +49,7 @@ impl Stream {
         }
     }
 
-    /// These bytes came next. Where memory is wanted none of them did.
+    /// Receives these bytes. Where memory runs out none of them was received.
     #[tactic(auto, using(crate::proofs::Compacting::drop_append))]
     pub fn feed(&mut self, piece: &[u8]) -> Result<(), AllocError>
         ensures ok { OnOk result (self.new ≡ self.old ++ piece.now) }
@@ -67,8 +67,8 @@ impl Stream {
     }
 
     /// How the bytes begin.
-    pub fn front(&self) -> Front
-        ensures front { front_of self.now ≡ front_is result self.now }
+    pub fn front(&self) -> Beginning
+        ensures front { beginning_of self.now ≡ beginning_is result self.now }
         ensures there { IsThere result self.now }
     {
         front_in(self.left())
@@ -104,7 +104,7 @@ impl Stream {
         }
     }
 
-    /// Forgets all bytes.
+    /// Drops all bytes.
     pub fn clear(&mut self)
         ensures { self.new ≡ [] }
     {
@@ -113,7 +113,7 @@ impl Stream {
     }
 }
 
-// The first bytes go, and the others take their place.
+// The first bytes are dropped, and the others take their place.
 #[tactic(auto, using(crate::proofs::Compacting::moved))]
 fn drop_front(bytes: &mut Vec<u8>, count: usize)
     requires { count ≤ length bytes.old.items }
@@ -138,24 +138,24 @@ fn front_part(bytes: &[u8], size: usize) -> &[u8]
     &bytes[..size]
 }
 
-fn front_in(bytes: &[u8]) -> Front
-    ensures front { front_of bytes.now ≡ front_is result bytes.now }
+fn front_in(bytes: &[u8]) -> Beginning
+    ensures front { beginning_of bytes.now ≡ beginning_is result bytes.now }
     ensures there { IsThere result bytes.now }
 {
     if bytes.len() < HEADER {
-        return Front::Waiting;
+        return Beginning::Waiting;
     }
     let size = usize::from(bytes[2]) * 256 + usize::from(bytes[3]);
     if size < HEADER {
-        return Front::Malformed;
+        return Beginning::Malformed;
     }
     if bytes.len() < size {
-        return Front::Waiting;
+        return Beginning::Waiting;
     }
-    Front::Message(size)
+    Beginning::Message(size)
 }
 
-/// A stream is whole messages and a rest that is malformed or too short, in one way; and bytes that come later change
+/// A stream is whole messages and a rest that is malformed or too short, in one way; and bytes that are received later change
 /// none of its messages.
 pub fn splits_once()
     ensures one { (stream : List ℕ) → (messages : List (List ℕ)) × (rest : List ℕ) × Splits stream messages rest }

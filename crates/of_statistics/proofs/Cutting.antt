@@ -1,4 +1,4 @@
--- Rows that are cut into replies.
+-- Rows that are packed into replies.
 use Rattle.std.proofs.Common.{◌≡◌, ◌≤◌, ◌<◌, ℕ, ◌+◌, Bool, true, false, cond, List, [], ◌∷◌, ◌++◌, length, drop, take, map, get_or, refl, sym, ap, subst, ◌∙◌, arith}
 use Rattle.std.specs.Prelude.{nat_le, Result, Ok, Err, OnOk}
 use Rattle.std.specs.List.{concat, AllByRecursion as ByRecursion}
@@ -27,7 +27,7 @@ pub none_put : (d : Draft) (rows : List (List ℕ)) → rows ≡ [] → d ≡ wi
 unfolding with_rows
 none_put d rows is = let none : with_rows d [] ≡ d = refl in sym (ap (with_rows d) is ∙ none)
 
--- a row more of a list
+-- one more row of a list
 pub row_more : {X : Type 0} (row : X → List ℕ) (xs : List X) (i : ℕ) (x d : X) (start before after : Draft) → i < length xs → x ≡ get_or xs i d → before ≡ with_rows start (map row (take i xs)) → after ≡ with_row before (row x)
     → after ≡ with_rows start (map row (take (i + 1) xs))
 row_more row xs i x d start before after lt at was is =
@@ -70,11 +70,11 @@ joined xid kind rows = joined_rows (blank xid kind) rows
 
 -- ---- cut
 
--- the replies behind those that are full, where the open one has the rows in front
+-- the replies after those that are full, where the open one begins with the rows
 abbrev Behind : Draft → List (List ℕ) → List (List ℕ) → List (List ℕ) → Type 0
 Behind d front rows all = (ms : List (List ℕ)) × (all ≡ d.full ++ ms) × AreReplies d.xid d.kind (front ++ rows) ms
 
--- it holds of these rows, whatever is in front
+-- it holds for these rows, whatever comes before
 abbrev HoldsOf : List (List ℕ) → Type 0
 HoldsOf rows = (d : Draft) (front : List (List ℕ)) → d.rows ≡ concat front → Behind d front rows (closed (with_rows d rows))
 

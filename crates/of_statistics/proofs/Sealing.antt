@@ -1,4 +1,4 @@
--- Replies as bytes: a head that is written in front of a body, and rows that are put behind it.
+-- Replies as bytes: a head that is written before a body, and rows that are put after it.
 use Rattle.std.proofs.Common.{◌≡◌, ◌≤◌, ◌<◌, ℕ, ◌+◌, true, false, List, [], ◌∷◌, ◌++◌, length, take, drop, refl, ap, ◌∙◌, arith, Result, Ok, Err}
 use Rattle.std.specs.Prelude.{OnOk, nat_le, is_ok, replicate, if◌then◌else◌}
 use Rattle.std.proofs.lemmas.List.{length-drop, drop-append-le, take-append-le, take_all}

@@ -14,7 +14,7 @@ use Rattle.of_statistics.specs.Flows.{aggregate, from_tables, table_row}
 use Rattle.of_statistics.specs.Groups.{group_features}
 use Rattle.of_statistics.specs.Ports.{asked_ports, port_counts, port_row}
 
--- a body behind a head fits a message
+-- a body after a head fits a message
 pub room : (head body out : List ℕ) → head ≡ replicate 16 0 → out ≡ head ++ body → length body ≤ 65519 → length out ≤ 65535
 room head body out head_is is le = omega (arith, le, ap length is, ap length head_is, length-append head body)
 

@@ -6,7 +6,7 @@ use Rattle.std.proofs.Math.Nat.{mod-add-mod}
 use Rattle.std.proofs.lemmas.List.{map-append}
 use Rattle.std.proofs.lemmas.List.Sums.{sum_by-cons}
 use Rattle.of_table.specs.declared.entry.Entry.{Entry}
-use Rattle.of_table.specs.declared.selection.Which.{Which}
+use Rattle.of_table.specs.declared.selection.Selector.{Selector}
 use Rattle.of_table.specs.Table.{FlowEntry, Table, empty_table}
 use Rattle.of_table.specs.Entries.{entry_of, flows_of}
 use Rattle.of_table.specs.Tables.{Tables, is_in}
@@ -25,9 +25,9 @@ pub plus_none : (t : Totals) → plus_all t [] ≡ t
 unfolding plus_all
 plus_none t = refl
 
--- ---- an entry more
+-- ---- one more entry
 
-plus_first : (w : Which) (t : Totals) (e : FlowEntry) (es : List FlowEntry) → plus_all t (filter (selects w) (e ∷ es)) ≡ plus_all (plus_asked w t e) (filter (selects w) es)
+plus_first : (w : Selector) (t : Totals) (e : FlowEntry) (es : List FlowEntry) → plus_all t (filter (selects w) (e ∷ es)) ≡ plus_all (plus_asked w t e) (filter (selects w) es)
 unfolding plus_all
 plus_first w t e es = by_test (selects w e)
   where
@@ -35,15 +35,15 @@ plus_first w t e es = by_test (selects w e)
     by_test true = refl
     by_test false = refl
 
-pub entry_added : (w : Which) (before after all : Totals) (e : Entry) (left others : List Entry) → left ≡ e ∷ others → after ≡ plus_asked w before (entry_of e)
+pub entry_added : (w : Selector) (before after all : Totals) (e : Entry) (left others : List Entry) → left ≡ e ∷ others → after ≡ plus_asked w before (entry_of e)
     → plus_all before (filter (selects w) (flows_of left)) ≡ all → plus_all after (filter (selects w) (flows_of others)) ≡ all
 entry_added w before after all e left others first is whole =
     let rest = filter (selects w) (flows_of others) in
     ap (λ (t : Totals). plus_all t rest) is ∙ sym (plus_first w before (entry_of e) (flows_of others)) ∙ ap (λ (es : List Entry). plus_all before (filter (selects w) (flows_of es))) (sym first) ∙ whole
 
--- ---- a table more
+-- ---- one more table
 
-pub table_added : (w : Which) (k : ℕ) (ts : List Table) (before after : Totals) → k < length ts → before ≡ plus_all nothing (from_tables (asked_of w) 0 (take k ts)) → after ≡ plus_all before (asked_of w k (get_or ts k empty_table))
+pub table_added : (w : Selector) (k : ℕ) (ts : List Table) (before after : Totals) → k < length ts → before ≡ plus_all nothing (from_tables (asked_of w) 0 (take k ts)) → after ≡ plus_all before (asked_of w k (get_or ts k empty_table))
     → after ≡ plus_all nothing (from_tables (asked_of w) 0 (take (k + 1) ts))
 table_added w k ts before after lt was is =
     let these = from_tables (asked_of w) 0 (take k ts) in
@@ -56,14 +56,14 @@ entries_of_listed : (k : ℕ) (es : List FlowEntry) → es ≡ map (λ l. l.entr
 entries_of_listed k [] = refl
 entries_of_listed k (e ∷ es) = ap (λ (fs : List FlowEntry). e ∷ fs) (entries_of_listed k es)
 
-one_table : (w : Which) (k : ℕ) (t : Table) → asked_of w k t ≡ map (λ l. l.entry) (listed_in w k t)
+one_table : (w : Selector) (k : ℕ) (t : Table) → asked_of w k t ≡ map (λ l. l.entry) (listed_in w k t)
 one_table w k t = by_test (is_in w.table k)
   where
     by_test : (b : Bool) → cond b (filter (selects w) t.flows) [] ≡ map (λ l. l.entry) (cond b (map (λ e. let l : Listed = record { table = k; entry = e } in l) (filter (selects w) t.flows)) [])
     by_test true = entries_of_listed k (filter (selects w) t.flows)
     by_test false = refl
 
-all_tables : (w : Which) (k : ℕ) (ts : List Table) → from_tables (asked_of w) k ts ≡ map (λ l. l.entry) (from_tables (listed_in w) k ts)
+all_tables : (w : Selector) (k : ℕ) (ts : List Table) → from_tables (asked_of w) k ts ≡ map (λ l. l.entry) (from_tables (listed_in w) k ts)
 all_tables w k [] = refl
 all_tables w k (t ∷ ts) =
     ap (λ (es : List FlowEntry). es ++ from_tables (asked_of w) (suc k) ts) (one_table w k t)
@@ -88,7 +88,7 @@ sums a b n (e ∷ es) =
     ∙ sums (a + e.packets) (b + e.bytes) (n + 1) es
     ∙ (λ i. record { packets = a_is i % m; bytes = b_is i % m; flows = n_is i })
 
-pub totals_are : (w : Which) (ts : Tables) (t : Totals) → t ≡ plus_all nothing (from_tables (asked_of w) 0 ts.tables) → t ≡ totals (asked w ts)
+pub totals_are : (w : Selector) (ts : Tables) (t : Totals) → t ≡ plus_all nothing (from_tables (asked_of w) 0 ts.tables) → t ≡ totals (asked w ts)
 totals_are w ts t is =
     let es = asked w ts in
     let packets : 0 + sum_by (λ e. e.packets) es ≡ sum_by (λ e. e.packets) es = omega arith in

@@ -4,7 +4,7 @@ use Rattle.std.specs.Prelude.{map, filter}
 use Rattle.std.proofs.lemmas.List.{append-nil, length-map, map-append}
 use Rattle.std.proofs.Math.ListN.{get_or-map}
 use Rattle.of_table.specs.Table.{FlowEntry, Table, empty_table}
-use Rattle.of_table.specs.declared.selection.Which.{Which}
+use Rattle.of_table.specs.declared.selection.Selector.{Selector}
 use Rattle.of_table.specs.declared.entry.Entry.{Entry}
 use Rattle.of_table.specs.Entries.{entry_of, flows_of, no_entries, table_of}
 use Rattle.of_table.specs.Tables.{NumberedTables, numbered_at, table_at, tables_of}
@@ -54,14 +54,14 @@ bytes_of_more f k ts head before after lt was is =
 
 -- ---- rows of one entry more
 
-pub rows_of_first : (now : ℕ) (w : Which) (k : ℕ) (e : FlowEntry) (flows : List FlowEntry) → rows_of_entries now w k (e ∷ flows) ≡ rows_of_one now w k e ++ rows_of_entries now w k flows
+pub rows_of_first : (now : ℕ) (w : Selector) (k : ℕ) (e : FlowEntry) (flows : List FlowEntry) → rows_of_entries now w k (e ∷ flows) ≡ rows_of_one now w k e ++ rows_of_entries now w k flows
 rows_of_first now w k e flows = by_test (selects w e)
   where
     by_test : (b : Bool) → map (flow_row now) (map (λ e. record { table = k; entry = e }) (cond b (e ∷ filter (selects w) flows) (filter (selects w) flows))) ≡ cond b (flow_row now (record { table = k; entry = e }) ∷ []) [] ++ rows_of_entries now w k flows
     by_test true = refl
     by_test false = refl
 
-pub entry_put : (now : ℕ) (w : Which) (k : ℕ) (before after all : Draft) (e : Entry) (left others : List Entry) → left ≡ e ∷ others → after ≡ with_rows before (rows_of_one now w k (entry_of e))
+pub entry_put : (now : ℕ) (w : Selector) (k : ℕ) (before after all : Draft) (e : Entry) (left others : List Entry) → left ≡ e ∷ others → after ≡ with_rows before (rows_of_one now w k (entry_of e))
     → with_rows before (rows_of_entries now w k (flows_of left)) ≡ all → with_rows after (rows_of_entries now w k (flows_of others)) ≡ all
 entry_put now w k before after all e left others first put whole =
     let rest = rows_of_entries now w k (flows_of others) in

@@ -2,7 +2,7 @@
 use Rattle.std.specs.Prelude.{ℕ, ◌-◌, List, ◌++◌, length, replicate, codes}
 use Rattle.of_statistics.specs.Replies.{reply}
 
--- a text, filled up by zeros
+-- a text, padded with zeros
 abbrev pub padded : ℕ → List ℕ → List ℕ
 padded size text = text ++ replicate (size - length text) 0
 

@@ -1,4 +1,4 @@
--- How long something has been there (OpenFlow 1.3.5, 7.3.5.2): eight bytes.
+-- How long something has existed (OpenFlow 1.3.5, 7.3.5.2): eight bytes.
 use Rattle.std.specs.Prelude.{ℕ, ◌-◌, ◌/◌, ◌%◌, ◌^◌, List, ◌++◌}
 use Rattle.byteorder.specs.Endian.{big_bytes}
 use Rattle.of_table.specs.Selecting.{seconds_since, nanoseconds_since}

@@ -5,7 +5,7 @@ use Rattle.byteorder.specs.Endian.{big_bytes}
 use Rattle.of_oxm.specs.Canonical.{canonical}
 use Rattle.of_actions.specs.CanonicalInstructions.{canonical_instructions}
 use Rattle.of_table.specs.declared.flow.FlowFlags.{FlowFlags}
-use Rattle.of_table.specs.declared.selection.Which.{Which}
+use Rattle.of_table.specs.declared.selection.Selector.{Selector}
 use Rattle.of_table.specs.Table.{FlowEntry, Table}
 use Rattle.of_table.specs.Tables.{Tables, is_in}
 use Rattle.of_table.specs.Selecting.{selects}
@@ -13,22 +13,22 @@ use Rattle.of_statistics.specs.declared.aggregate.Totals.{Totals}
 use Rattle.of_statistics.specs.Replies.{reply, replies}
 use Rattle.of_statistics.specs.Durations.{duration}
 
--- what is listed of each table by its number, from number k on
+-- what is listed for each table by its number, from number k on
 abbrev pub from_tables : {X : Type 0} → (ℕ → Table → List X) → ℕ → List Table → List X
 from_tables f k [] = []
 from_tables f k (t ∷ ts) = f k t ++ from_tables f (suc k) ts
 
--- ---- the entries that a request asks for: those that a DELETE would be for, by table and then by age
+-- ---- the entries that a request asks for: those that a DELETE would select, by table and then by age
 
 -- an entry, and the number of its table
 pub record Listed : Type 0 where
   pub table : ℕ
   pub entry : FlowEntry
 
-abbrev pub listed_in : Which → ℕ → Table → List Listed
+abbrev pub listed_in : Selector → ℕ → Table → List Listed
 listed_in w k t = if is_in w.table k then map (λ e. record { table = k; entry = e }) (filter (selects w) t.flows) else []
 
-abbrev pub listed : Which → Tables → List Listed
+abbrev pub listed : Selector → Tables → List Listed
 listed w ts = from_tables (listed_in w) 0 ts.tables
 
 -- ---- FLOW
@@ -40,11 +40,11 @@ bit value on = if on then value else 0
 abbrev pub flags_number : FlowFlags → ℕ
 flags_number f = bit 1 f.send_removed + bit 8 f.no_packet_counts + bit 16 f.no_byte_counts
 
--- the length of the whole row: what stands in front of the match has 48 bytes
+-- the length of the whole row: the fields before the match have 48 bytes
 abbrev pub flow_row_size : FlowEntry → ℕ
 flow_row_size e = 48 + length (canonical e.flow.fields) + length (canonical_instructions e.flow.instructions)
 
--- behind the length and the table: how long the entry is there, priority, timeouts and flags
+-- after the length and the table: how long the entry has existed, priority, timeouts and flags
 unfoldable pub flow_times : ℕ → FlowEntry → List ℕ
 flow_times now e =
     duration now e.created
@@ -67,25 +67,25 @@ flow_row now l =
     ++ (canonical l.entry.flow.fields
     ++ canonical_instructions l.entry.flow.instructions))))
 
-abbrev pub flow_rows : Which → Tables → List (List ℕ)
+abbrev pub flow_rows : Selector → Tables → List (List ℕ)
 flow_rows w ts = map (flow_row ts.latest) (listed w ts)
 
 -- those of one entry of a table, and of several
-abbrev pub rows_of_one : ℕ → Which → ℕ → FlowEntry → List (List ℕ)
+abbrev pub rows_of_one : ℕ → Selector → ℕ → FlowEntry → List (List ℕ)
 rows_of_one now w k e = if selects w e then flow_row now (record { table = k; entry = e }) ∷ [] else []
 
-abbrev pub rows_of_entries : ℕ → Which → ℕ → List FlowEntry → List (List ℕ)
+abbrev pub rows_of_entries : ℕ → Selector → ℕ → List FlowEntry → List (List ℕ)
 rows_of_entries now w k flows = map (flow_row now) (map (λ e. record { table = k; entry = e }) (filter (selects w) flows))
 
-abbrev pub flow_bytes : ℕ → Which → Tables → List (List ℕ)
+abbrev pub flow_bytes : ℕ → Selector → Tables → List (List ℕ)
 flow_bytes xid w ts = replies xid 1 (flow_rows w ts)
 
 -- ---- AGGREGATE
 
-abbrev pub asked : Which → Tables → List FlowEntry
+abbrev pub asked : Selector → Tables → List FlowEntry
 asked w ts = map (λ l. l.entry) (listed w ts)
 
--- what entries have counted in all, which wraps, and how many they are
+-- the sums of the counters of entries, which wrap, and how many entries there are
 abbrev pub totals : List FlowEntry → Totals
 totals es = record { packets = sum_by (λ e. e.packets) es % 2 ^ 64; bytes = sum_by (λ e. e.bytes) es % 2 ^ 64; flows = length es }
 
@@ -93,7 +93,7 @@ totals es = record { packets = sum_by (λ e. e.packets) es % 2 ^ 64; bytes = sum
 unfoldable pub aggregate : Totals → List ℕ
 aggregate t = big_bytes 8 t.packets ++ (big_bytes 8 t.bytes ++ (big_bytes 4 t.flows ++ replicate 4 0))
 
-abbrev pub aggregate_bytes : ℕ → Which → Tables → List ℕ
+abbrev pub aggregate_bytes : ℕ → Selector → Tables → List ℕ
 aggregate_bytes xid w ts = reply xid 2 0 (aggregate (totals (asked w ts)))
 
 -- ---- TABLE
@@ -102,7 +102,7 @@ aggregate_bytes xid w ts = reply xid 2 0 (aggregate (totals (asked w ts)))
 unfoldable pub table_row : ℕ → Table → List ℕ
 table_row k t = (k ∷ replicate 3 0) ++ (big_bytes 4 (length t.flows) ++ (big_bytes 8 t.lookups ++ big_bytes 8 t.matched))
 
--- one behind the other
+-- one after the other
 abbrev pub table_rows : Tables → List ℕ
 table_rows ts = from_tables table_row 0 ts.tables
 

@@ -14,7 +14,7 @@ use Rattle.of_statistics.specs.Replies.{reply, replies}
 use Rattle.of_statistics.specs.Durations.{duration}
 use Rattle.of_statistics.specs.Flows.{from_tables}
 
--- a group by its number, where it is there, or all of them
+-- a group by its number, where it exists, or all of them
 abbrev pub asked_groups : Option ℕ → List Group → List Group
 asked_groups None groups = groups
 asked_groups (Some n) groups = option_to_list (find_group n groups)
@@ -32,8 +32,8 @@ unfoldable pub bucket_row : Bucket → List ℕ
 bucket_row b = big_bytes 8 b.packets ++ big_bytes 8 b.bytes
 
 -- the length of the whole row, padding, the number, how many refer to it, padding, and counters
-unfoldable pub group_front : ℕ → Group → List ℕ
-group_front count g =
+unfoldable pub group_fixed_part : ℕ → Group → List ℕ
+group_fixed_part count g =
     big_bytes 2 (40 + 16 * length g.buckets)
     ++ (replicate 2 0
     ++ (big_bytes 4 g.id
@@ -42,9 +42,9 @@ group_front count g =
     ++ (big_bytes 8 g.packets
     ++ big_bytes 8 g.bytes)))))
 
--- how long it has been there, and counters of its buckets
+-- how long it has existed, and counters of its buckets
 unfoldable pub group_row : ℕ → ℕ → Group → List ℕ
-group_row now count g = group_front count g ++ (duration now g.created ++ flat_map bucket_row g.buckets)
+group_row now count g = group_fixed_part count g ++ (duration now g.created ++ flat_map bucket_row g.buckets)
 
 -- a group among these, and with these tables
 abbrev pub row_among : List Group → Tables → Group → List ℕ
@@ -58,7 +58,7 @@ group_bytes xid which groups ts = replies xid 6 (group_rows which groups ts)
 
 -- ---- GROUP_DESC
 
--- the length of the whole row, the kind, padding, the number, and the buckets
+-- the length of the whole row, the type, padding, the number, and the buckets
 unfoldable pub group_description : Group → List ℕ
 group_description g =
     big_bytes 2 (8 + length (canonical_buckets g.buckets))

@@ -12,7 +12,7 @@ use Rattle.of_ports.specs.Ports.{port_at, state_bits}
 use Rattle.of_statistics.specs.Replies.{reply}
 use Rattle.of_statistics.specs.Durations.{duration}
 
--- packets, bytes and drops, of both ways, and errors of reception
+-- packets, bytes and drops, in both directions, and receive errors
 unfoldable pub port_counts : PortCounters → List ℕ
 port_counts c =
     big_bytes 8 c.rx_packets
@@ -23,7 +23,7 @@ port_counts c =
     ++ (big_bytes 8 c.tx_dropped
     ++ big_bytes 8 c.rx_errors)))))
 
--- the port's number, padding, its counters, five that are always 0 (errors of sending, and kinds of errors), and how long it has been there
+-- the port's number, padding, its counters, five that are always 0 (tx_errors to collisions), and how long it has existed
 unfoldable pub port_row : ℕ → Port → List ℕ
 port_row now p =
     big_bytes 4 p.number

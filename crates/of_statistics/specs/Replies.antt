@@ -1,14 +1,14 @@
--- MULTIPART_REPLY (OpenFlow 1.3.5, 7.3.5), and rows that are cut, between whole rows, into as few replies as greedily hold them.
+-- MULTIPART_REPLY (OpenFlow 1.3.5, 7.3.5), and rows that are packed greedily, each row whole, into replies.
 use Rattle.std.specs.Prelude.{◌≡◌, ◌<◌, ◌≤◌, ℕ, ◌+◌, nat_le, List, [], ◌∷◌, ◌++◌, length, drop, replicate, if◌then◌else◌}
 use Rattle.std.specs.List.{All, concat, flat_map}
 use Rattle.byteorder.specs.Endian.{big_bytes}
 use Rattle.of_messages.specs.Written.{header, message}
 
--- the 16 bytes in front of the body: of the message, and what is replied to, flags, padding
+-- the 16 bytes before the body: the header, the type of the request, flags, padding
 unfoldable pub head_bytes : ℕ → ℕ → ℕ → ℕ → List ℕ
 head_bytes size xid kind flags = header 19 size xid ++ (big_bytes 2 kind ++ (big_bytes 2 flags ++ replicate 4 0))
 
--- what is replied to, flags, padding, and the body
+-- the type of the request, flags, padding, and the body
 unfoldable pub reply : ℕ → ℕ → ℕ → List ℕ → List ℕ
 reply xid kind flags body = message 19 xid (big_bytes 2 kind ++ (big_bytes 2 flags ++ (replicate 4 0 ++ body)))
 
@@ -16,7 +16,7 @@ reply xid kind flags body = message 19 xid (big_bytes 2 kind ++ (big_bytes 2 fla
 abbrev pub more : ℕ
 more = 1
 
--- how many bytes of rows a reply has at most: those of a message, 65,535, less the 16 in front of the rows
+-- how many bytes of rows a reply has at most: those of a message, 65,535, less the 16 before the rows
 abbrev pub most : ℕ
 most = 65519
 
@@ -48,13 +48,13 @@ with_rows d (row ∷ rows) = with_rows (with_row d row) rows
 abbrev pub closed : Draft → List (List ℕ)
 closed d = d.full ++ reply d.xid d.kind 0 d.rows ∷ []
 
--- THE REPLIES OF ROWS: no rows are one reply without rows
+-- THE REPLIES OF ROWS: no rows give one reply without rows
 abbrev pub replies : ℕ → ℕ → List (List ℕ) → List (List ℕ)
 replies xid kind rows = closed (with_rows (blank xid kind) rows)
 
 -- ---- what that means
 
--- a reply that holds the rows in front, and could not hold the next one too
+-- a reply that holds the rows `front`, and could not hold the next one too
 pub record IsFull (xid kind : ℕ) (front : List (List ℕ)) (next reply_bytes : List ℕ) : Type 0 where
   pub holds : reply_bytes ≡ reply xid kind more (concat front)
   pub full : most < length (concat front) + length next
@@ -66,10 +66,10 @@ AreReplies xid kind rows (m ∷ []) = m ≡ reply xid kind 0 (concat rows)
 AreReplies xid kind rows (m ∷ n ∷ ms) =
     (front : List (List ℕ)) × (next : List ℕ) × (behind : List (List ℕ)) × (rows ≡ front ++ next ∷ behind) × IsFull xid kind front next m × AreReplies xid kind (next ∷ behind) (n ∷ ms)
 
--- the rows of replies, one behind the other
+-- the rows of replies, one after the other
 abbrev pub rows_in : List (List ℕ) → List ℕ
 rows_in messages = flat_map (λ m. drop 16 m) messages
 
--- each has at most so many bytes
+-- each has at most `size` bytes
 abbrev pub AreWithin : ℕ → List (List ℕ) → Type 0
 AreWithin size = All (λ bytes. length bytes ≤ size)

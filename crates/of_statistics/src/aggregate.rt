@@ -11,13 +11,13 @@ use crate::tables::{TABLES, is_in};
 use crate::writing::{put_u32, put_u64};
 use of_classifier::Lookup;
 use of_messages::MessageBytes;
-use of_table::{Entries, Entry, FlowTables, Which, selects};
+use of_table::{Entries, Entry, FlowTables, Selector, selects};
 use std::alloc::{AllocError, Global};
 
 /// OFPMP_AGGREGATE.
 const AGGREGATE: u16 = 2;
 
-/// What entries have counted in all. The sums wrap.
+/// The sums of the counters of entries. The sums wrap.
 #[derive(Clone, Copy)]
 pub(crate) struct Totals {
     packets: u64,
@@ -26,7 +26,7 @@ pub(crate) struct Totals {
 }
 
 // Adds what an entry has counted, if it is asked for.
-fn add_entry(totals: &mut Totals, entry: &Entry, which: &Which)
+fn add_entry(totals: &mut Totals, entry: &Entry, which: &Selector)
     requires { totals.old.flows < 65536 }
     ensures totals { totals.new ≡ plus_asked which.now totals.old (entry_of entry.now) }
     ensures few { totals.new.flows ≤ totals.old.flows + 1 }
@@ -38,7 +38,7 @@ fn add_entry(totals: &mut Totals, entry: &Entry, which: &Which)
     }
 }
 
-fn add_entries(totals: &mut Totals, entries: Entries<'_>, which: &Which)
+fn add_entries(totals: &mut Totals, entries: Entries<'_>, which: &Selector)
     requires { totals.old.flows + length entries ≤ 65536 }
     ensures totals { totals.new ≡ plus_all totals.old (filter (selected which.now) (flows_of entries.entry)) }
     ensures few { totals.new.flows ≤ totals.old.flows + length entries.entry }
@@ -49,7 +49,7 @@ fn add_entries(totals: &mut Totals, entries: Entries<'_>, which: &Which)
 }
 
 // Adds those of a table, if it is asked for.
-fn add_table<L: Lookup>(totals: &mut Totals, tables: &FlowTables<L>, table: u8, which: &Which)
+fn add_table<L: Lookup>(totals: &mut Totals, tables: &FlowTables<L>, table: u8, which: &Selector)
     requires table { table < 16 }
     requires few { totals.old.flows ≤ 61440 }
     ensures totals { totals.new ≡ plus_all totals.old (asked_of which.now table (table_at table (tables_of tables.now))) }
@@ -61,7 +61,7 @@ fn add_table<L: Lookup>(totals: &mut Totals, tables: &FlowTables<L>, table: u8, 
     }
 }
 
-fn totals_in<L: Lookup>(tables: &FlowTables<L>, which: &Which) -> Totals
+fn totals_in<L: Lookup>(tables: &FlowTables<L>, which: &Selector) -> Totals
     ensures { result ≡ totals_of (asked which.now (tables_of tables.now)) }
 {
     tables.known();
@@ -85,13 +85,13 @@ fn put_totals(out: &mut Vec<u8>, totals: Totals) -> Result<(), AllocError>
     out.extend_from_slice(&[0; 4])
 }
 
-/// How many entries a DELETE of these would be for, and their packets and bytes in all (OpenFlow 1.3.5, 7.3.5.3). The sums
+/// How many entries a DELETE of these would select, and their packets and bytes in all (OpenFlow 1.3.5, 7.3.5.3). The sums
 /// wrap.
 pub fn aggregate_reply<L: Lookup>(
     alloc: Global,
     xid: u32,
     tables: &FlowTables<L>,
-    which: &Which,
+    which: &Selector,
 ) -> Result<MessageBytes, AllocError>
     ensures { IfOk result (λ r. r ≡ aggregate_bytes xid which.now (tables_of tables.now)) }
 {

@@ -9,7 +9,7 @@ use std::alloc::{AllocError, Global};
 /// OFPMP_DESC.
 const DESC: u16 = 0;
 
-// A text, filled up by zeros.
+// A text, padded with zeros.
 fn put_padded(out: &mut Vec<u8>, text: &[u8], size: usize) -> Result<(), AllocError>
     requires short { length text.now ≤ size }
     requires fits { size ≤ 256 }

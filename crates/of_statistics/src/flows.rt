@@ -12,7 +12,7 @@ use of_actions::write_instructions;
 use of_classifier::Lookup;
 use of_messages::MessageBytes;
 use of_oxm::write_match;
-use of_table::{Entries, Entry, FlowFlags, FlowTables, Which, selects};
+use of_table::{Entries, Entry, FlowFlags, FlowTables, Selector, selects};
 use std::alloc::{AllocError, Global};
 
 /// OFPMP_FLOW.
@@ -27,7 +27,7 @@ fn flags_of(flags: FlowFlags) -> u16
     removed + packets + bytes
 }
 
-// How long the entry is there, its priority, timeouts and flags, 20 bytes.
+// How long the entry has existed, its priority, timeouts and flags, 20 bytes.
 fn put_times(out: &mut Vec<u8>, now: u64, entry: &Entry) -> Result<(), AllocError>
     ensures { OnOk result (out.new.items ≡ out.old.items ++ flow_times now (entry_of entry.now)) }
 {
@@ -73,7 +73,7 @@ fn put_entry(
     now: u64,
     table: u8,
     entry: &Entry,
-    which: &Which,
+    which: &Selector,
 ) -> Result<(), AllocError>
     ensures { OnOk result (out.new ≡ with_rows out.old (rows_of_one now which.now table (entry_of entry.now))) }
 {
@@ -90,7 +90,7 @@ fn put_entries(
     now: u64,
     table: u8,
     entries: Entries<'_>,
-    which: &Which,
+    which: &Selector,
 ) -> Result<(), AllocError>
     ensures { OnOk result (out.new ≡ with_rows out.old (rows_of_entries now which.now table (flows_of entries.entry))) }
 {
@@ -106,7 +106,7 @@ fn put_table<L: Lookup>(
     alloc: Global,
     tables: &FlowTables<L>,
     table: u8,
-    which: &Which,
+    which: &Selector,
 ) -> Result<(), AllocError>
     requires { table < 16 }
     ensures { OnOk result (out.new ≡ with_rows out.old (map (row_of tables.now.latest) (listed_in which.now table (table_at table (tables_of tables.now))))) }
@@ -125,12 +125,12 @@ fn put_table<L: Lookup>(
     }
 }
 
-/// The statistics of each entry that a DELETE of these would be for, by table and then by age (OpenFlow 1.3.5, 7.3.5.2).
+/// The statistics of each entry that a DELETE of these would select, by table and then by age (OpenFlow 1.3.5, 7.3.5.2).
 pub fn flow_replies<L: Lookup>(
     alloc: Global,
     xid: u32,
     tables: &FlowTables<L>,
-    which: &Which,
+    which: &Selector,
 ) -> Result<Vec<MessageBytes>, AllocError>
     ensures { IfOk result (λ r. r.items ≡ flow_bytes xid which.now (tables_of tables.now)) }
 {

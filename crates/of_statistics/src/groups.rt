@@ -4,7 +4,7 @@ ghost use Rattle.std.specs.List.{flat_map};
 ghost use Rattle.of_table.specs.Tables.{tables_of};
 ghost use Rattle.of_messages.specs.CanonicalGroups.{kind_number};
 ghost use Rattle.of_statistics.specs.Replies.{with_row, with_rows};
-ghost use Rattle.of_statistics.specs.Groups.{bucket_row, group_bytes, group_description, group_description_bytes, group_features, group_features_bytes, group_front, group_row, group_rows, row_among};
+ghost use Rattle.of_statistics.specs.Groups.{bucket_row, group_bytes, group_description, group_description_bytes, group_features, group_features_bytes, group_fixed_part, group_row, group_rows, row_among};
 
 use crate::references::references;
 use crate::replies::{Replies, begun, sealed};
@@ -24,8 +24,8 @@ const GROUP_DESC: u16 = 7;
 /// OFPMP_GROUP_FEATURES.
 const GROUP_FEATURES: u16 = 8;
 
-/// ALL, INDIRECT and FAST-FAILOVER; chains, which are checked; 256 groups at most of each kind that there is; and for each
-/// kind OUTPUT, PUSH_VLAN, POP_VLAN, GROUP, SET_NW_TTL, DEC_NW_TTL and SET_FIELD.
+/// ALL, INDIRECT and FAST-FAILOVER; chains, which are checked; 256 groups at most of each type that there is; and for each
+/// type OUTPUT, PUSH_VLAN, POP_VLAN, GROUP, SET_NW_TTL, DEC_NW_TTL and SET_FIELD.
 const FEATURES: [u8; 40] = [
     0, 0, 0, 0x0d, 0, 0, 0, 0x0c, 0, 0, 1, 0, 0, 0, 0, 0, 0, 0, 1, 0, 0, 0, 1, 0, 0x03, 0xc6, 0, 1,
     0, 0, 0, 0, 0x03, 0xc6, 0, 1, 0x03, 0xc6, 0, 1,
@@ -41,7 +41,7 @@ fn size_of(group: &Group) -> usize
 
 // The length of the whole row, the group's number, how many refer to it, and its counters, 32 bytes.
 fn put_front(row: &mut Vec<u8>, references: u32, group: &Group) -> Result<(), AllocError>
-    ensures { OnOk result (row.new.items ≡ row.old.items ++ group_front references group.now) }
+    ensures { OnOk result (row.new.items ≡ row.old.items ++ group_fixed_part references group.now) }
 {
     put_u16(row, size_of(group) as u16)?;
     row.extend_from_slice(&[0; 2])?;
@@ -126,8 +126,8 @@ fn put_asked<L: Lookup>(
     }
 }
 
-/// What a group has counted, or each group by rising number, how many entries and groups send to it, and how long it has
-/// been there (OpenFlow 1.3.5, 7.3.5.9). `None` is all groups; of a group that is not there nothing is told.
+/// What a group has counted, or each group in ascending order, how many entries and groups send to it, and how long it has
+/// existed (OpenFlow 1.3.5, 7.3.5.9). `None` is all groups; a group that does not exist has no row.
 pub fn group_replies<L: Lookup>(
     alloc: Global,
     xid: u32,
@@ -176,7 +176,7 @@ fn put_descriptions(out: &mut Replies, alloc: Global, groups: &[Group]) -> Resul
     Ok(())
 }
 
-/// What each group is, by rising number (OpenFlow 1.3.5, 7.3.5.10).
+/// What each group is, in ascending order of number (OpenFlow 1.3.5, 7.3.5.10).
 pub fn group_description_replies(
     alloc: Global,
     xid: u32,

@@ -70,8 +70,8 @@ fn put_asked_stats(
     }
 }
 
-/// What a port has counted, or each port by rising number, and how long it has been there at that moment in nanoseconds
-/// (OpenFlow 1.3.5, 7.3.5.6). `None` is all ports; of a port that is not there nothing is told.
+/// What a port has counted, or each port in ascending order, and how long it has existed at that moment in nanoseconds
+/// (OpenFlow 1.3.5, 7.3.5.6). `None` is all ports; a port that does not exist has no row.
 pub fn port_stats_reply(
     alloc: Global,
     xid: u32,
@@ -110,7 +110,7 @@ fn put_descriptions(out: &mut Vec<u8>, ports: &[Port]) -> Result<(), AllocError>
     Ok(())
 }
 
-/// What each port is, by rising number (OpenFlow 1.3.5, 7.3.5.7).
+/// What each port is, in ascending order of number (OpenFlow 1.3.5, 7.3.5.7).
 pub fn port_description_reply(
     alloc: Global,
     xid: u32,

@@ -1,4 +1,4 @@
-//! Replies to multipart requests, and rows that are cut into them.
+//! Replies to multipart requests, and rows that are packed into them.
 ghost use Rattle.std.specs.Prelude.{◌≡◌, ◌≤◌, ◌++◌, drop, length, replicate, OnOk, IfOk};
 ghost use Rattle.of_statistics.specs.Replies.{blank, closed, head_bytes, reply, with_row};
 
@@ -8,7 +8,7 @@ use std::alloc::{AllocError, Global};
 use std::marker::Model;
 use std::mem;
 
-/// How many bytes stand in front of what is replied.
+/// How many bytes are before the body of a reply.
 const HEAD: usize = 16;
 
 /// How many bytes a message has at most.
@@ -17,7 +17,7 @@ const MOST: usize = 65535;
 /// OFPMPF_REPLY_MORE: more replies follow.
 const MORE: u16 = 1;
 
-/// The bytes of a reply, as long as nothing stands behind its head, which `sealed` writes.
+/// The bytes of a reply, as long as nothing follows its head, which `sealed` writes.
 pub(crate) fn begun(alloc: Global) -> Result<Vec<u8>, AllocError>
     ensures { IfOk result (λ v. v.items ≡ replicate 16 0) }
 {
@@ -26,7 +26,7 @@ pub(crate) fn begun(alloc: Global) -> Result<Vec<u8>, AllocError>
     Ok(bytes)
 }
 
-// What stands in front of the body: version 4, type 19, the length, the transaction id, what is replied to, flags, padding.
+// What comes before the body: version 4, type 19, the length, the transaction id, the type of the request, flags, padding.
 #[tactic(auto, unfolding(crate::specs::Replies::head_bytes))]
 fn head_of(length: u16, xid: u32, kind: u16, flags: u16) -> [u8; HEAD]
     ensures { result ≡ head_bytes length xid kind flags }
@@ -50,7 +50,7 @@ fn put_front(bytes: &mut [u8], front: &[u8])
     bytes[..front.len()].copy_from_slice(front);
 }
 
-/// The reply whose body these bytes have behind a head that is written now (OpenFlow 1.3.5, 7.1 and 7.3.5).
+/// The reply whose body these bytes have after a head that is written now (OpenFlow 1.3.5, 7.1 and 7.3.5).
 pub(crate) fn sealed(mut bytes: Vec<u8>, xid: u32, kind: u16, flags: u16) -> MessageBytes
     requires head { 16 ≤ length bytes.items }
     requires short { length bytes.items ≤ 65535 }
@@ -96,7 +96,7 @@ impl Replies {
         })
     }
 
-    /// A row more.
+    /// One more row.
     pub(crate) fn push(&mut self, row: &[u8]) -> Result<(), AllocError>
         requires { length row.now ≤ 65519 }
         ensures { OnOk result (self.new ≡ with_row self.old row.now) }

@@ -7,14 +7,14 @@ use crate::replies::{begun, sealed};
 use crate::writing::{put_u32, put_u64};
 use of_classifier::Lookup;
 use of_messages::MessageBytes;
-use of_table::{Entries, FlowTables, Which};
+use of_table::{Entries, FlowTables, Selector};
 use std::alloc::{AllocError, Global};
 
 /// How many tables there are.
 pub(crate) const TABLES: u8 = 16;
 
 /// Whether a table is asked for.
-pub(crate) fn is_in(which: &Which, table: u8) -> bool
+pub(crate) fn is_in(which: &Selector, table: u8) -> bool
     ensures { result ≡ is_within which.now.table table }
 {
     match which.table {

@@ -24,7 +24,7 @@ pub(crate) fn put_u64(out: &mut Vec<u8>, number: u64) -> Result<(), AllocError>
     out.extend_from_slice(&number.to_be_bytes())
 }
 
-/// How long it is since a moment: seconds, cut to 32 bits, and the nanoseconds beyond them.
+/// The time since a moment: seconds, cut to 32 bits, and the nanoseconds beyond them.
 pub(crate) fn put_duration(out: &mut Vec<u8>, now: u64, since: u64) -> Result<(), AllocError>
     ensures { OnOk result (out.new.items ≡ out.old.items ++ duration now since) }
 {

@@ -1,4 +1,4 @@
--- What a switch keeps is a configuration, and one that was loaded is told again.
+-- What a switch keeps is a configuration, and one that was loaded is returned again.
 use Rattle.std.proofs.Common.{◌≡◌, ℕ, zero, suc, ◌+◌, ◌<◌, ◌≤◌, eqb, ltb, Bool, true, false, not, cond, List, [], ◌∷◌, ◌++◌, length, take, get_or, Option, Some, None, refl, sym, ◌∙◌, ap, subst, append_assoc, add-one, arith}
 use Rattle.std.specs.Prelude.{◌&&◌, ◌||◌, map, nat_le, bit_and, slice_index_or}
 use Rattle.std.specs.List.{AllByRecursion, list_all, list_any}
@@ -12,7 +12,7 @@ use Rattle.std.specs.Global.{Vec}
 use Rattle.of_actions.specs.declared.instruction.Instruction.{Instruction}
 use Rattle.of_actions.specs.declared.instruction.Instruction.TheVariants as instructions
 use Rattle.of_actions.specs.InstructionLists.{are_kept, are_for}
-use Rattle.of_actions.specs.Rising.{is_rising}
+use Rattle.of_actions.specs.Rising.{is_ascending}
 use Rattle.of_oxm.specs.SameMatch.{is_same_match}
 use Rattle.of_groups.specs.declared.bucket.Bucket.{Bucket}
 use Rattle.of_groups.specs.declared.group.Group.{Group}
@@ -50,7 +50,7 @@ use Rattle.of_switch.specs.Commands.{flags_of, names_absent_group}
 use Rattle.of_switch.specs.Configuring.{AreKeptEntries, AreKeptFrom}
 use Rattle.of_switch.specs.Loading.{loaded, loaded_entry, loaded_table, flow_kept, entry_text, table_text, texts_from, config_of}
 use Rattle.of_switch.specs.Numbers.{forwarding_of}
-use Rattle.of_switch.specs.Standing.{is_standing, are_standing, is_numbered, IsStanding}
+use Rattle.of_switch.specs.Standing.{names_existing_groups, all_name_existing_groups, is_numbered, GroupsExist}
 use Rattle.of_switch.specs.State.{State}
 use Rattle.of_switch.proofs.StandingLemmas.{absent_mapped}
 
@@ -104,7 +104,7 @@ flags_known f = by_flags f.send_removed f.no_packet_counts f.no_byte_counts
     by_flags false false true = refl
     by_flags false false false = refl
 
--- ---- what was loaded is told
+-- ---- what was loaded is returned
 
 flow_told : (now table : ℕ) (f : TextFlow) → f.head.table ≡ table → bit_and f.head.flags 25 ≡ f.head.flags → entry_text table (loaded_entry now f) ≡ f
 flow_told now table f t k = rw (sym t, flags_again f.head.flags k) (flow_again f)
@@ -194,7 +194,7 @@ above_bare : (n : ℕ) (gs : List Group) → list_all (λ (h : Group). ltb n h.i
 above_bare n [] = refl
 above_bare n (g ∷ gs) = ap (λ (b : Bool). ltb n g.id && b) (above_bare n gs)
 
-rising_bare : (gs : List Group) → is_rising number_of (map bare gs) ≡ is_rising number_of gs
+rising_bare : (gs : List Group) → is_ascending number_of (map bare gs) ≡ is_ascending number_of gs
 rising_bare [] = refl
 rising_bare (g ∷ gs) = rw (above_bare g.id gs, rising_bare gs) refl
 
@@ -267,7 +267,7 @@ not_true : (b : Bool) → not b ≡ true → b ≡ false
 not_true true h = absurd cc
 not_true false h = refl
 
-groups_there : (gs : List Group) (e : FlowEntry) → is_standing gs e ≡ true → list_any (names_absent (map group_text gs)) (map step_of e.flow.instructions) ≡ false
+groups_there : (gs : List Group) (e : FlowEntry) → names_existing_groups gs e ≡ true → list_any (names_absent (map group_text gs)) (map step_of e.flow.instructions) ≡ false
 groups_there gs e h =
     steps_named (map group_text gs) e.flow.instructions
     ∙ (ap (λ (x : List Group). list_any (has_action (sends (is_absent x))) e.flow.instructions) (bares gs)
@@ -316,11 +316,11 @@ before_unlike table (b ∷ bs) e after h =
     let one : is_same_key (key_of e) (key_of b) ≡ false = turned_key (key_of b) (key_of e) (none_in (is_same_key (key_of b)) (map key_of bs) (key_of e) (map key_of after) none) in
     rw (one, before_unlike table bs e after parts.1) refl
 
-entries_stand : (gs : List Group) (table : ℕ) (before flows : List FlowEntry) → are_unlike (map key_of (before ++ flows)) ≡ true → length before + length flows ≤ 4096 → list_all (is_standing gs) flows ≡ true
+entries_stand : (gs : List Group) (table : ℕ) (before flows : List FlowEntry) → are_unlike (map key_of (before ++ flows)) ≡ true → length before + length flows ≤ 4096 → list_all (names_existing_groups gs) flows ≡ true
     → AllStandBehind (map group_text gs) (map (entry_text table) before) (map (entry_text table) flows)
 entries_stand gs table before [] u l h = tt
 entries_stand gs table before (e ∷ flows) u l h =
-    let parts = and_parts (is_standing gs e) (list_all (is_standing gs) flows) h in
+    let parts = and_parts (names_existing_groups gs e) (list_all (names_existing_groups gs) flows) h in
     let more : (before ++ e ∷ []) ++ flows ≡ before ++ e ∷ flows = append_one before in
     let count = length-append before (e ∷ []) in
     let others = entries_stand gs table (before ++ e ∷ []) flows (rw more u) (omega (arith, l, count)) parts.1 in (
@@ -350,17 +350,17 @@ entries_are table (e ∷ flows) h f c =
     let again = instructions_again e.flow.instructions in
     (record { fields = h.0.fields; kept = rw again leads.0; leads_on = rw again leads.1; checked = rw again checks.0 }, entries_are table flows h.1 fits.1 checks.1)
 
-table_kept : (gs : List Group) (table : ℕ) (flows : List FlowEntry) → AreSound table flows → AllByRecursion (λ (e : FlowEntry). IsKeptFlow (flow_kept table e.flow)) flows → list_all (is_standing gs) flows ≡ true → AreKeptFlows (map group_text gs) table (map (entry_text table) flows)
+table_kept : (gs : List Group) (table : ℕ) (flows : List FlowEntry) → AreSound table flows → AllByRecursion (λ (e : FlowEntry). IsKeptFlow (flow_kept table e.flow)) flows → list_all (names_existing_groups gs) flows ≡ true → AreKeptFlows (map group_text gs) table (map (entry_text table) flows)
 table_kept gs table flows s k h = record {
   heads = entries_headed table flows k;
   entries = entries_are table flows k s.fit s.checked;
   stand = entries_stand gs table [] flows s.unlike (omega (arith, s.few)) h;
 }
 
-tables_kept : (gs : List Group) (k : ℕ) (ts : List Table) → ((j : ℕ) → j < length ts → AreSound (k + j) (slice_index_or ts j empty_table).flows) → AreKeptFrom k ts → list_all (are_standing gs) ts ≡ true → AreKeptTables (map group_text gs) k (texts_from k ts)
+tables_kept : (gs : List Group) (k : ℕ) (ts : List Table) → ((j : ℕ) → j < length ts → AreSound (k + j) (slice_index_or ts j empty_table).flows) → AreKeptFrom k ts → list_all (all_name_existing_groups gs) ts ≡ true → AreKeptTables (map group_text gs) k (texts_from k ts)
 tables_kept gs k [] s h n = tt
 tables_kept gs k (t ∷ ts) s h n =
-    let parts = and_parts (are_standing gs t) (list_all (are_standing gs) ts) n in
+    let parts = and_parts (all_name_existing_groups gs t) (list_all (all_name_existing_groups gs) ts) n in
     let zero_is : k + 0 ≡ k = omega arith in
     let here : AreSound k t.flows = subst (λ (m : ℕ). AreSound m t.flows) zero_is (s 0 (omega arith)) in
     (table_kept gs k t.flows here h.0 parts.0, tables_kept gs (suc k) ts (λ j l. let is : k + suc j ≡ suc k + j = omega arith in subst (λ (m : ℕ). AreSound m (slice_index_or ts j empty_table).flows) is (s (suc j) (omega (arith, l)))) h.1 parts.1)
@@ -369,7 +369,7 @@ texts_length : (k : ℕ) (ts : List Table) → length (texts_from k ts) ≡ leng
 texts_length k [] = refl
 texts_length k (t ∷ ts) = ap suc (texts_length (suc k) ts)
 
-pub kept_config : (n : NumberedTables) (gs : List Group) (ports : List Port) (groups : List TextGroup) (tables : List (List TextFlow)) → length n.tables ≡ 16 → ((k : ℕ) → AreSound k (table_at k (tables_of n)).flows) → AreSoundGroups gs → IsStanding (forwarding_of n gs ports)
+pub kept_config : (n : NumberedTables) (gs : List Group) (ports : List Port) (groups : List TextGroup) (tables : List (List TextFlow)) → length n.tables ≡ 16 → ((k : ℕ) → AreSound k (table_at k (tables_of n)).flows) → AreSoundGroups gs → GroupsExist (forwarding_of n gs ports)
     → groups ≡ map group_text gs → AllByRecursion Fits (rows_of_groups groups) → tables ≡ texts_from 0 (tables_of n).tables → AreKeptFrom 0 (tables_of n).tables → IsKeptConfig (record { groups = groups; tables = tables })
 kept_config n gs ports groups tables many sound groups_sound standing g fits t kept =
     let count : length (texts_from 0 (tables_of n).tables) ≡ 16 = texts_length 0 (tables_of n).tables ∙ (length-map n.tables table_of ∙ many) in

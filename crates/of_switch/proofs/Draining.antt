@@ -33,7 +33,7 @@ shorter_by (Opened size) s o sized h = taken_short size s o _ (same_Some _ _ h) 
 shorter_by (Refused xid size code) s o sized h = taken_short size s o _ (same_Some _ _ h) refl sized.0 sized.1
 shorter_by (Read xid size m) s o sized h = taken_short size s o _ (same_Some _ _ h) refl sized.0 sized.1
 
--- a message takes some bytes
+-- a message has some bytes
 pub next_shorter : (s : State) (o : Outcome) → next_of s ≡ Some o → length o.state.connection.pending < length s.connection.pending
 next_shorter s o h = shorter_by (coming s) s o (next_sized s.core.control.role s.connection) h
 

@@ -122,7 +122,7 @@ pub flow_forwards_frame : reports_of (three_ports ++ Connect ∷ Piece hello ∷
 unfolding switch_on_literals
 flow_forwards_frame = refl
 
--- so it does where the FLOW_MOD comes in three pieces, and not before the last of them
+-- so it does where the FLOW_MOD is received in three pieces, and not before the last of them
 pub pieces_do_the_same : reports_of (three_ports ++ Connect ∷ Piece hello
     ∷ Piece (take 7 flow_mod) ∷ Frame 1 frame
     ∷ Piece (take 43 (drop 7 flow_mod)) ∷ Frame 1 frame
@@ -134,13 +134,13 @@ pub pieces_do_the_same : reports_of (three_ports ++ Connect ∷ Piece hello
 unfolding switch_on_literals
 pieces_do_the_same = refl
 
--- a flow that gives frames of port 1 to a group sends them out of the port of its bucket
+-- a flow that sends frames of port 1 to a group sends them out of the port of its bucket
 pub group_forwards_frame : reports_of (three_ports ++ Connect ∷ Piece hello ∷ Piece group_mod ∷ Piece group_flow ∷ Frame 1 frame ∷ [])
     ≡ replicate 3 (Gives []) ++ Gives (Answer own_hello ∷ []) ∷ Gives [] ∷ Gives [] ∷ Gives [] ∷ Gives (Sent 2 frame ∷ []) ∷ []
 unfolding switch_on_literals
 group_forwards_frame = refl
 
--- the flow goes with its group, and the controller is told; then there is no group to delete, which is no fault, and no flow
+-- the flow is removed with its group, and the controller is notified; then there is no group to delete, which is no fault, and no flow
 pub flow_goes_with_group : reports_of (three_ports ++ Connect ∷ Piece hello ∷ Piece group_mod ∷ Piece group_flow ∷ Piece group_delete ∷ Piece group_delete ∷ Frame 1 frame ∷ [])
     ≡ replicate 3 (Gives []) ++ Gives (Answer own_hello ∷ []) ∷ Gives [] ∷ Gives [] ∷ Gives [] ∷ Gives (Answer flow_removed ∷ []) ∷ Gives [] ∷ Gives [] ∷ []
 unfolding switch_on_literals

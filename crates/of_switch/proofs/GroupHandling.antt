@@ -21,7 +21,7 @@ fault_told LongChain found d old new e same = (ap (λ f. first_of (refused_for f
 fault_told Named found d old new e same = (ap (λ f. first_of (refused_for f)) (sym e), same)
 fault_told NoMemory found d old new e same = same
 
--- where want of memory is no fault
+-- where running out of memory is no fault
 pub fault_or_memory : (A : Type 0) (fault : GroupFault) (found : Option GroupFault) (d : Done) (old new : Core) → fault_in {A = A} (Err fault) ≡ found → new ≡ old → Handles (first_of (refused_for found)) d old (Err (fault_of fault)) new
 fault_or_memory A BadWatch found d old new e same = fault_told BadWatch found d old new e same
 fault_or_memory A NotOneBucket found d old new e same = fault_told NotOneBucket found d old new e same

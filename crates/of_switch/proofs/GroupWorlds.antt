@@ -17,7 +17,7 @@ use Rattle.of_groups.proofs.WorldLemmas.{IsServed, AllServed}
 use Rattle.of_machine.specs.TheWorld.{TheWorld}
 use Rattle.of_machine.specs.Sound.{IsBelow, AllBelow, IsBucket, AllBuckets}
 
--- a group that is not found is not there
+-- a group that is not found does not exist
 pub none_absent : (n : ℕ) (groups : List Group) (found : Option (Bor Group)) (none : Bool) → is_some found ≡ not none → option_copied found ≡ find_group n groups → none ≡ is_absent groups n
 none_absent n groups None true told e = rw (there_found n groups, ← e) refl
 none_absent n groups None false told e = absurd cc
@@ -44,7 +44,7 @@ module _ (w : TheWorld) (groups : List Group) (chains : (g : ℕ) → w.chain g 
     below = all_below n s.actions s.below;
   }
 
-  -- what groups serve is what a world promises
+  -- the groups satisfy the invariants of a world
   pub are_buckets : (n : ℕ) (places : List ℕ) → AllServed groups n places → AllBuckets w n places
   are_buckets n [] s = tt
   are_buckets n (place ∷ rest) s = (is_bucket n place s.0, are_buckets n rest s.1)

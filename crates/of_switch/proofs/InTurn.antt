@@ -5,7 +5,7 @@ use Rattle.of_session.specs.declared.session.Phase.{Phase}
 use Rattle.of_session.specs.declared.session.Phase.TheVariants.{Disconnected, Greeting, Open}
 use Rattle.of_session.specs.declared.session.Next.{Next}
 use Rattle.of_session.specs.declared.session.Next.TheVariants.{Nothing, BadStream, NotHello, Opened, Read, Refused}
-use Rattle.of_session.specs.Stream.{First, Whole, Bad, Partial, front_of, IsMessage, IsMalformed, IsPartial, concat, AreMessages, Splits}
+use Rattle.of_session.specs.Stream.{First, Whole, Bad, Partial, beginning_of, IsMessage, IsMalformed, IsPartial, concat, AreMessages, Splits}
 use Rattle.of_session.specs.Session.{is_disconnected, is_first_hello, read_as, judged, next_by as next_at, IsSized}
 use Rattle.of_session.proofs.Fronts.{message_front, malformed_front, partial_front}
 use Rattle.of_messages.specs.declared.message.Message.{Message}
@@ -49,12 +49,12 @@ alone_by (Read xid size message) m s h = (_, refl, nothing_more size m h)
 alone_by (Refused xid size code) m s h = (_, refl, nothing_more size m h)
 
 -- what comes next of bytes that a connection has alone
-next_held : (f : First) (bytes : List ℕ) (s : State) → is_disconnected s.connection.phase ≡ false → front_of bytes ≡ f → coming (holding bytes s) ≡ next_at s.core.control.role (holding bytes s).connection f
+next_held : (f : First) (bytes : List ℕ) (s : State) → is_disconnected s.connection.phase ≡ false → beginning_of bytes ≡ f → coming (holding bytes s) ≡ next_at s.core.control.role (holding bytes s).connection f
 next_held f bytes s open_ e = rw open_ (ap (next_at s.core.control.role (holding bytes s).connection) e)
 
 alone_message : (m : List ℕ) (s : State) → IsMessage m → is_disconnected s.connection.phase ≡ false → Alone (coming (holding m s)) (holding m s)
 alone_message m s is open_ =
-    let front : front_of m ≡ Whole m [] = ap front_of (sym (append-nil m)) ∙ message_front m [] is in
+    let front : beginning_of m ≡ Whole m [] = ap beginning_of (sym (append-nil m)) ∙ message_front m [] is in
     subst (λ (n : Next). Alone n (holding m s)) (sym (next_held (Whole m []) m s open_ front)) (alone_by (judged s.core.control.role s.connection.phase m) m s (judged_size s.core.control.role s.connection.phase m))
 
 -- what is left is handled where its header is malformed, or waits
@@ -91,7 +91,7 @@ last_in_turn rest s ends open_ =
     let closed : cond (is_disconnected first.state.connection.phase) (gives [] first.state) (gives [] first.state) ≡ gives [] first.state = closed_or (is_disconnected first.state.connection.phase) first.state in
     rest_ends rest s ends open_ ∙ sym (ap (behind first.effects) closed ∙ ap (λ (es : List Effect). gives es first.state) (append-nil first.effects))
 
--- behind a message that came alone
+-- after a message that came alone
 abbrev Then : List (List ℕ) → List ℕ → State → Bool → Type 0
 Then ms rest t gone = drained (come (concat ms ++ rest) t) ≡ cond gone (gives [] t) (handled_in_turn (ms ++ rest ∷ []) t)
 

@@ -40,7 +40,7 @@ failed_fed size q c h = ap (take 64) (take-append-le size c.pending q h)
 abbrev Follows : List ℕ → State → Next → Outcome → Type 0
 Follows q s n o = next_by n (fed q s) ≡ Some (gives o.effects (come q o.state))
 
--- the message is taken from the front
+-- the message is taken from the start
 taken_front : (size : ℕ) (q : List ℕ) (s : State) (phase : Phase) (d : List ℕ → Done) → size ≤ length s.connection.pending → is_disconnected phase ≡ false
     → beside (record { phase = phase; pending = drop size (s.connection.pending ++ q) }) (d (take 64 (take size (s.connection.pending ++ q))))
     ≡ gives (d (failed_of size s.connection)).effects (come q (record { connection = record { phase = phase; pending = drop size s.connection.pending }; core = (d (failed_of size s.connection)).core }))

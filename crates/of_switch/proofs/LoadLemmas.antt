@@ -17,7 +17,7 @@ use Rattle.of_table.specs.declared.selection.Cause.TheVariants.{Moment}
 use Rattle.of_table.proofs.PlaceLemmas.{find_none, filter_others}
 use Rattle.of_switch.specs.Loading.{flow_in, loaded_entry, loaded_table, loaded_tables}
 
--- ---- one flow more
+-- ---- one more flow
 
 same_any : (now : ℕ) (f : TextFlow) (before : List TextFlow) → list_any (is_same (flow_in f)) (map (loaded_entry now) before) ≡ list_any (is_same_text f) before
 same_any now f [] = refl
@@ -65,7 +65,7 @@ at_moment latest old e =
     let same : max 0 latest ≡ latest = omega arith in
     ap (λ (n : NumberedTables). left_in (Moment latest) (tables_of n)) e ∙ ap (λ (m : ℕ). record (tables_of no_tables) { latest = m }) same
 
--- ---- a table, of which the flows that are left stand behind those that are loaded
+-- ---- a table, of which the flows that are left come after those that are loaded
 
 pub record Loading (table : ℕ) (all : List TextFlow) (left : List FlowText) (old new : Tables) : Type 0 where
   pub before : List TextFlow

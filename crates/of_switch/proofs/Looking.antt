@@ -21,7 +21,7 @@ use Rattle.of_groups.proofs.WorldLemmas.{groups_serve}
 use Rattle.of_ports.specs.declared.port.Port.{Port}
 use Rattle.of_machine.specs.Sound.{IsSound}
 use Rattle.of_ports.specs.Ports.{is_live_at, number_of}
-use Rattle.of_actions.specs.Rising.{is_rising}
+use Rattle.of_actions.specs.Rising.{is_ascending}
 use Rattle.of_switch.specs.Plane.{world_of, winner_in, flow_in}
 use Rattle.of_switch.specs.Numbers.{forwarding_of, entries_at}
 use Rattle.of_switch.proofs.GroupWorlds.{are_buckets}
@@ -44,8 +44,8 @@ module _ (n : NumberedTables) (groups : List Group) (ports : List Port) where
   fit_here : AreFit n → (t place : ℕ) (f : Flow) → flow_in (forwarding_of n groups ports) t place ≡ Some f → (are_kept f.instructions ≡ true) × (are_for t f.instructions ≡ true)
   fit_here fit t place f e = both (are_kept f.instructions) (are_for t f.instructions) (flow_fit t place (table_at t (tables_of n)).flows f (fit t).fit e)
 
-  -- what the world by places promises
-  pub sound_by_places : AreFit n → AreSoundGroups groups → is_rising number_of ports ≡ true → IsSound (world_of (forwarding_of n groups ports))
+  -- the invariants of the world by places
+  pub sound_by_places : AreFit n → AreSoundGroups groups → is_ascending number_of ports ≡ true → IsSound (world_of (forwarding_of n groups ports))
   sound_by_places fit sound rising = record {
     rising = rising;
     found = λ t fields place h. there t fields place h;
@@ -57,7 +57,7 @@ module _ (n : NumberedTables) (groups : List Group) (ports : List Port) where
     buckets = λ g places e. are_buckets (world_of (forwarding_of n groups ports)) groups (λ g. refl) (λ g place. refl) g places (groups_serve groups (is_live_at ports) g places sound e).buckets;
   }
 
-  -- a flow that is there stands in one of the sixteen tables
+  -- a flow that exists is in one of the sixteen tables
   pub is_table_by_place : (t place : ℕ) → length n.tables ≡ 16 → flow_in (forwarding_of n groups ports) t place ≢ None → t < 16
   is_table_by_place t place sixteen h = elim (cases_lt t 16) [
     | inl lt ↦ lt
@@ -85,7 +85,7 @@ pub entry_without : (n : NumberedTables) (t place : ℕ) (found : Option (Bor En
 entry_without n t place None e = by_places n t place None e
 entry_without n t place (Some x) e = by_places n t place (Some x.now) e
 
--- the entries behind the first ones
+-- the entries after the first ones
 pub skip_one : (xs ys : List Entry) (x : Entry) (n m : ℕ) → xs ≡ x ∷ ys → n ≡ suc m → slice_get xs n ≡ slice_get ys m
 skip_one xs ys x n m e same = rw (e, same) refl
 

@@ -1,4 +1,4 @@
--- Numbers and the places where they stand.
+-- Numbers and their places.
 use Rattle.std.proofs.Common.{◌≡◌, ℕ, zero, suc, ◌<◌, Bool, true, false, eqb, List, [], ◌∷◌, length, get_or, refl, sym, ap, ◌∙◌, arith}
 use Rattle.std.specs.Prelude.{not, ◌||◌, ◌&&◌}
 use Rattle.std.specs.List.{list_any, position_or_len}
@@ -14,7 +14,7 @@ same_zero n ns = let same : eqb n n ≡ true = eq-eqb n n refl in rw same refl
 one_later : (m n : ℕ) (ns : List ℕ) → eqb m n ≡ false → position_or_len (λ k. eqb k n) (m ∷ ns) ≡ suc (position_or_len (λ k. eqb k n) ns)
 one_later m n ns differ = rw differ (omega arith)
 
--- at the place of a number that is there stands the number
+-- at the place of a number that occurs is the number
 number_by : (m n : ℕ) (ns : List ℕ) (t : Bool) → eqb m n ≡ t → (t || list_any (λ k. eqb k n) ns) ≡ true → (list_any (λ k. eqb k n) ns ≡ true → get_or ns (position_or_len (λ k. eqb k n) ns) 0 ≡ n)
     → get_or (m ∷ ns) (position_or_len (λ k. eqb k n) (m ∷ ns)) 0 ≡ n
 number_by m n ns true e there ih =
@@ -37,7 +37,7 @@ and_parts false b h = (refl, h)
 eqb_swap : (m n : ℕ) → eqb m n ≡ false → eqb n m ≡ false
 eqb_swap m n e = ne_eqb n m (λ same. let bad : eqb m n ≡ true = eq-eqb m n (sym same) in let no_way : false ≡ true = sym e ∙ bad in cc)
 
--- a number that is not there stands at no place
+-- a number that does not occur is at no place
 not_there : (n : ℕ) (ns : List ℕ) (k : ℕ) → list_any (λ m. eqb m n) ns ≡ false → k < length ns → eqb n (get_or ns k 0) ≡ false
 not_there n [] k h lt = absurd (omega (arith, lt))
 not_there n (m ∷ ns) zero h lt = eqb_swap m n (or_parts (eqb m n) (list_any (λ x. eqb x n) ns) h).0

@@ -1,4 +1,4 @@
--- What a PORT_MOD is refused for, by the port that is found.
+-- The refusals of a PORT_MOD, by the port that is found.
 use Rattle.std.proofs.Common.{◌≡◌, true, false, not, List, Some, None, refl}
 use Rattle.std.specs.Str.{bytes_eq}
 use Rattle.of_wire.specs.Refusals.{refusal, first_of}

@@ -1,4 +1,4 @@
--- The steps before a run that was broken off.
+-- The steps before a run that was interrupted.
 use Rattle.std.proofs.Common.{◌≡◌, ℕ, ◌+◌, ◌-◌, ◌≤◌, suc, zero, Bool, true, List, [], ◌∷◌, ◌++◌, refl, sym, ◌∙◌, ap, append_assoc, arith, zero-add, inl, inr}
 use Rattle.std.proofs.lemmas.List.{append-nil}
 use Rattle.std.proofs.lemmas.Bool.{cases_lt}
@@ -8,7 +8,7 @@ use Rattle.of_machine.specs.TheWorld.{TheWorld}
 use Rattle.of_machine.specs.Sound.{IsSound}
 use Rattle.of_machine.specs.Rows.{Work, Lookup, Task, task}
 use Rattle.of_machine.specs.Weights.{IsFit, task_weight}
-use Rattle.of_machine.specs.Runs.{Machine, step, first_step, after, starting, run_of, IsFront}
+use Rattle.of_machine.specs.Runs.{Machine, step, first_step, after, starting, run_of, IsPrefixOfRun}
 use Rattle.of_machine.proofs.Ending.{settled, run_is_after}
 use Rattle.of_machine.proofs.Whole.{run_ends, frame_fits}
 use Rattle.of_switch.specs.DryRun.{GainsPrefix}
@@ -61,8 +61,8 @@ module _ (w : TheWorld) where
     | inr le ↦ at_least p work k sound fit le
   ]
 
-  -- a frame's run that was broken off
-  pub front_is_prefix : (keeps : Bool) (p : Packet) (old new : List Step) → IsSound w → p.action_set ≡ [] → IsFront w keeps p (Lookup 0 ∷ []) old new → keeps ≡ true → GainsPrefix (run_of w p (Lookup 0 ∷ [])).lines old new
+  -- a frame's run that was interrupted
+  pub front_is_prefix : (keeps : Bool) (p : Packet) (old new : List Step) → IsSound w → p.action_set ≡ [] → IsPrefixOfRun w keeps p (Lookup 0 ∷ []) old new → keeps ≡ true → GainsPrefix (run_of w p (Lookup 0 ∷ [])).lines old new
   front_is_prefix keeps p old new sound empty h k =
       let more = begins p (Lookup 0 ∷ []) h.steps sound (frame_fits w sound p empty) in
       record { front = (after w h.steps (starting p (Lookup 0 ∷ []))).lines; rest = more.rest; parts = more.is; gained = h.tells k }

@@ -21,7 +21,7 @@ left_told : (first s : State) (effects : List Effect) → Left first s effects �
 left_told first s effects left =
     left.told ∙ ap (behind effects) (drain_same left.turns (length s.connection.pending + 1) s left.enough (omega arith))
 
--- a report more
+-- one more report
 pub reports_more : (reports reports' : List Reported) (report : Reported) → reports' ≡ reports ++ report ∷ [] → reports_of reports' ≡ reports_of reports ++ report_of report ∷ []
 reports_more reports reports' report e = ap reports_of e ∙ map-append report_of reports (report ∷ [])
 
@@ -30,7 +30,7 @@ drains_all first s effects reports reports' none left e =
     let all : drained first ≡ gives effects s = left_all first s effects none left in
     (ap (λ (o : Outcome). o.state) (sym all), e ∙ ap (λ (o : Outcome). reports ++ Gives o.effects ∷ []) (sym all))
 
--- memory was wanted for a message, and what was given is one report
+-- memory ran out for a message, and what was given is one report
 pub drains_one : (first s : State) (effects : List Effect) (x : AllocError) (reports reports' : List Report) → Left first s effects → reports' ≡ reports ++ Gives effects ∷ [] → Drains (Err x) first s reports reports'
 drains_one first s effects x reports reports' left e =
     (Gives effects ∷ [], e, left_told first s effects left ∙ ap (λ (es : List Effect). behind es (drained s)) (sym (append-nil effects)))
@@ -46,7 +46,7 @@ drains_two first s effects more x reports reports' reports'' left e f = (
 
 -- EVENTS
 
--- an event more
+-- one more event
 run-more : (es : List Event) (e : Event) (s : State) → run (es ++ e ∷ []) s ≡ record { reports = (run es s).reports ++ (happened e (run es s).state).report ∷ []; state = (happened e (run es s).state).state }
 run-more [] e s = refl
 run-more (f ∷ es) e s = ap (λ (r : Run). record { reports = (happened f s).report ∷ r.reports; state = r.state }) (run-more es e (happened f s).state)
@@ -88,7 +88,7 @@ runs_stop es i e x s t u reports reports' reports'' lt is ran h = record {
   interrupted = subst (λ (y : State). IsInterrupted e y u h.0) ran.state h.2;
 }
 
--- without room for the reports
+-- without capacity for the reports
 pub runs_wait : (es : List Event) (i : ℕ) (e : Event) (s t : State) (reports reports' : List Report) → i < length es → e ≡ get_or es i e → RunsAll (take i es) s t reports reports' → StopsWithin es s t reports reports'
 runs_wait es i e s t reports reports' lt is ran = record {
   first = take i es;

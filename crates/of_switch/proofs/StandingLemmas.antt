@@ -1,4 +1,4 @@
--- Each group that an entry names is there, whatever happens.
+-- Each group that an entry names exists, whatever happens.
 use Rattle.std.proofs.Common.{◌≡◌, ℕ, zero, suc, ◌+◌, ◌<◌, ◌≤◌, eqb, ltb, Bool, true, false, not, cond, List, [], ◌∷◌, ◌++◌, length, get_or, set, Option, Some, None, refl, sym, ◌∙◌, ap, subst, arith}
 use Rattle.std.specs.Prelude.{◌&&◌, ◌||◌, map, filter, find, nat_le, slice_index_or}
 use Rattle.std.specs.List.{AllByRecursion, list_all, list_any}
@@ -15,7 +15,7 @@ use Rattle.of_groups.specs.Groups.{number_of, is_there, with_group, left, at_gro
 use Rattle.of_groups.specs.Faults.{is_absent}
 use Rattle.of_groups.proofs.PutLemmas.{there_with}
 use Rattle.of_table.specs.declared.flow.Flow.{Flow}
-use Rattle.of_table.specs.declared.selection.Which.{Which}
+use Rattle.of_table.specs.declared.selection.Selector.{Selector}
 use Rattle.of_table.specs.declared.selection.Cause.{Cause}
 use Rattle.of_table.specs.declared.selection.Cause.TheVariants.{Delete, Moment, Group as OfGroup}
 use Rattle.of_table.specs.Table.{FlowEntry, Table, empty_table, is_same, with_flow, added, counted, counted_at, looked, matched_at}
@@ -45,7 +45,7 @@ use Rattle.of_switch.specs.Loading.{loaded_entry, loaded_table, loaded_tables}
 use Rattle.of_switch.specs.Numbers.{forwarding_of, all_placed}
 use Rattle.of_switch.specs.Plane.{Forwarding, idle, count_port, tallied, all_tallied, sent, all_sent}
 use Rattle.of_switch.specs.Plans.{with_reception, changed, planned}
-use Rattle.of_switch.specs.Standing.{is_standing, are_standing, is_numbered, IsStanding}
+use Rattle.of_switch.specs.Standing.{names_existing_groups, all_name_existing_groups, is_numbered, GroupsExist}
 
 -- ---- tests
 
@@ -102,62 +102,62 @@ all_at p (x ∷ xs) (suc k) d h e = all_at p xs k d (and_parts (p x) (list_all p
 -- ---- tables
 
 abbrev Stand : List Group → Tables → Type 0
-Stand gs ts = list_all (are_standing gs) ts.tables ≡ true
+Stand gs ts = list_all (all_name_existing_groups gs) ts.tables ≡ true
 
-set_stands : (gs : List Group) (k : ℕ) (t : Table) (ts : Tables) → Stand gs ts → are_standing gs t ≡ true → Stand gs (with_table k t ts)
-set_stands gs k t ts h e = all-set (are_standing gs) ts.tables k t h e
+set_stands : (gs : List Group) (k : ℕ) (t : Table) (ts : Tables) → Stand gs ts → all_name_existing_groups gs t ≡ true → Stand gs (with_table k t ts)
+set_stands gs k t ts h e = all-set (all_name_existing_groups gs) ts.tables k t h e
 
-at_stands : (gs : List Group) (k : ℕ) (ts : Tables) → Stand gs ts → are_standing gs (table_at k ts) ≡ true
-at_stands gs k ts h = all_at (are_standing gs) ts.tables k empty_table h refl
+at_stands : (gs : List Group) (k : ℕ) (ts : Tables) → Stand gs ts → all_name_existing_groups gs (table_at k ts) ≡ true
+at_stands gs k ts h = all_at (all_name_existing_groups gs) ts.tables k empty_table h refl
 
 looked_stands : (gs : List Group) (k : ℕ) (ts : Tables) → Stand gs ts → Stand gs (looked_in k ts)
 looked_stands gs k ts h = set_stands gs k (looked (table_at k ts)) ts h (at_stands gs k ts h)
 
-counted_stands : (gs : List Group) (now place bytes : ℕ) (flows : List FlowEntry) → list_all (is_standing gs) flows ≡ true → list_all (is_standing gs) (counted_at now place bytes flows) ≡ true
+counted_stands : (gs : List Group) (now place bytes : ℕ) (flows : List FlowEntry) → list_all (names_existing_groups gs) flows ≡ true → list_all (names_existing_groups gs) (counted_at now place bytes flows) ≡ true
 counted_stands gs now place bytes [] h = refl
 counted_stands gs now zero bytes (e ∷ flows) h = h
-counted_stands gs now (suc place) bytes (e ∷ flows) h = let parts = and_parts (is_standing gs e) (list_all (is_standing gs) flows) h in and_from _ _ parts.0 (counted_stands gs now place bytes flows parts.1)
+counted_stands gs now (suc place) bytes (e ∷ flows) h = let parts = and_parts (names_existing_groups gs e) (list_all (names_existing_groups gs) flows) h in and_from _ _ parts.0 (counted_stands gs now place bytes flows parts.1)
 
 matched_stands : (gs : List Group) (k place bytes : ℕ) (ts : Tables) → Stand gs ts → Stand gs (matched_in k place bytes ts)
 matched_stands gs k place bytes ts h = set_stands gs k (matched_at ts.latest place bytes (table_at k ts)) ts h (counted_stands gs ts.latest place bytes (table_at k ts).flows (at_stands gs k ts h))
 
-entry_stands : (gs : List Group) (now : ℕ) (flow : Flow) (o : Option FlowEntry) → names_absent_group gs flow.instructions ≡ false → is_standing gs (with_flow now flow o) ≡ true
+entry_stands : (gs : List Group) (now : ℕ) (flow : Flow) (o : Option FlowEntry) → names_absent_group gs flow.instructions ≡ false → names_existing_groups gs (with_flow now flow o) ≡ true
 entry_stands gs now flow None h = not_false _ h
 entry_stands gs now flow (Some e) h = not_false _ h
 
 added_stands : (gs : List Group) (k : ℕ) (flow : Flow) (ts : Tables) → names_absent_group gs flow.instructions ≡ false → Stand gs ts → Stand gs (added_to k flow ts)
 added_stands gs k flow ts h s =
     let flows = (table_at k ts).flows in
-    let others = all-filter (is_standing gs) (λ (e : FlowEntry). not (is_same flow e)) flows (at_stands gs k ts s) in
-    let one : list_all (is_standing gs) (with_flow ts.latest flow (find (is_same flow) flows) ∷ []) ≡ true = and_from _ _ (entry_stands gs ts.latest flow (find (is_same flow) flows) h) refl in
-    set_stands gs k (record (table_at k ts) { flows = added ts.latest flow flows }) ts s (all_joined (is_standing gs) (filter (λ (e : FlowEntry). not (is_same flow e)) flows) _ others one)
+    let others = all-filter (names_existing_groups gs) (λ (e : FlowEntry). not (is_same flow e)) flows (at_stands gs k ts s) in
+    let one : list_all (names_existing_groups gs) (with_flow ts.latest flow (find (is_same flow) flows) ∷ []) ≡ true = and_from _ _ (entry_stands gs ts.latest flow (find (is_same flow) flows) h) refl in
+    set_stands gs k (record (table_at k ts) { flows = added ts.latest flow flows }) ts s (all_joined (names_existing_groups gs) (filter (λ (e : FlowEntry). not (is_same flow e)) flows) _ others one)
 
-each_stands : (gs hs : List Group) (f : ℕ → Table → Table) → ((k : ℕ) (t : Table) → are_standing gs t ≡ true → are_standing hs (f k t) ≡ true) → (k : ℕ) (ts : List Table) → list_all (are_standing gs) ts ≡ true → list_all (are_standing hs) (each_from f k ts) ≡ true
+each_stands : (gs hs : List Group) (f : ℕ → Table → Table) → ((k : ℕ) (t : Table) → all_name_existing_groups gs t ≡ true → all_name_existing_groups hs (f k t) ≡ true) → (k : ℕ) (ts : List Table) → list_all (all_name_existing_groups gs) ts ≡ true → list_all (all_name_existing_groups hs) (each_from f k ts) ≡ true
 each_stands gs hs f step k [] h = refl
-each_stands gs hs f step k (t ∷ ts) h = let parts = and_parts (are_standing gs t) (list_all (are_standing gs) ts) h in and_from _ _ (step k t parts.0) (each_stands gs hs f step (suc k) ts parts.1)
+each_stands gs hs f step k (t ∷ ts) h = let parts = and_parts (all_name_existing_groups gs t) (list_all (all_name_existing_groups gs) ts) h in and_from _ _ (step k t parts.0) (each_stands gs hs f step (suc k) ts parts.1)
 
-modified_one : (gs : List Group) (w : Which) (is : List Instruction) (reset : Bool) → names_absent_group gs is ≡ false → (e : FlowEntry) → is_standing gs e ≡ true → is_standing gs (modified_by w is reset e) ≡ true
+modified_one : (gs : List Group) (w : Selector) (is : List Instruction) (reset : Bool) → names_absent_group gs is ≡ false → (e : FlowEntry) → names_existing_groups gs e ≡ true → names_existing_groups gs (modified_by w is reset e) ≡ true
 modified_one gs w is reset h e s = by_test (modifies w e) refl
   where
-    by_test : (b : Bool) → modifies w e ≡ b → is_standing gs (modified_by w is reset e) ≡ true
+    by_test : (b : Bool) → modifies w e ≡ b → names_existing_groups gs (modified_by w is reset e) ≡ true
     by_test true t = rw t (not_false _ h)
     by_test false t = rw t s
 
-modified_stands : (gs : List Group) (w : Which) (is : List Instruction) (reset : Bool) (ts : Tables) → names_absent_group gs is ≡ false → Stand gs ts → Stand gs (modified_in w is reset ts)
+modified_stands : (gs : List Group) (w : Selector) (is : List Instruction) (reset : Bool) (ts : Tables) → names_absent_group gs is ≡ false → Stand gs ts → Stand gs (modified_in w is reset ts)
 modified_stands gs w is reset ts h s = each_stands gs gs (modified_table w is reset) one 0 ts.tables s
   where
-    one : (k : ℕ) (t : Table) → are_standing gs t ≡ true → are_standing gs (modified_table w is reset k t) ≡ true
+    one : (k : ℕ) (t : Table) → all_name_existing_groups gs t ≡ true → all_name_existing_groups gs (modified_table w is reset k t) ≡ true
     one k t e = by_test (is_in w.table k) refl
       where
-        by_test : (b : Bool) → is_in w.table k ≡ b → are_standing gs (modified_table w is reset k t) ≡ true
-        by_test true i = rw i (all_mapped (is_standing gs) (is_standing gs) (modified_by w is reset) (modified_one gs w is reset h) t.flows e)
+        by_test : (b : Bool) → is_in w.table k ≡ b → all_name_existing_groups gs (modified_table w is reset k t) ≡ true
+        by_test true i = rw i (all_mapped (names_existing_groups gs) (names_existing_groups gs) (modified_by w is reset) (modified_one gs w is reset h) t.flows e)
         by_test false i = rw i e
 
-left_one : (gs : List Group) (cause : Cause) (k : ℕ) (t : Table) → are_standing gs t ≡ true → are_standing gs (left_table cause k t) ≡ true
+left_one : (gs : List Group) (cause : Cause) (k : ℕ) (t : Table) → all_name_existing_groups gs t ≡ true → all_name_existing_groups gs (left_table cause k t) ≡ true
 left_one gs cause k t h = by_test (concerns cause k) refl
   where
-    by_test : (b : Bool) → concerns cause k ≡ b → are_standing gs (left_table cause k t) ≡ true
-    by_test true i = rw i (all-filter (is_standing gs) (stays cause) t.flows h)
+    by_test : (b : Bool) → concerns cause k ≡ b → all_name_existing_groups gs (left_table cause k t) ≡ true
+    by_test true i = rw i (all-filter (names_existing_groups gs) (stays cause) t.flows h)
     by_test false i = rw i h
 
 left_stands : (gs : List Group) (cause : Cause) (ts : Tables) → Stand gs ts → Stand gs (left_in cause ts)
@@ -165,7 +165,7 @@ left_stands gs cause ts h = each_stands gs gs (left_table (cause_at ts.latest ca
 
 -- ---- groups
 
--- a group of another group's number is there as that is
+-- a group of another group's number exists as that does
 there_mapped : (f : Group → Group) → ((g : Group) → (f g).id ≡ g.id) → (n : ℕ) (gs : List Group) → is_there n (map f gs) ≡ is_there n gs
 there_mapped f same n [] = refl
 there_mapped f same n (g ∷ gs) = rw (same g, there_mapped f same n gs) refl
@@ -185,13 +185,13 @@ at_same n change same g = by_test (eqb g.id n)
     by_test false = refl
 
 -- groups of the same numbers
-swapped : (hs : List Group) (f : Forwarding) → is_absent hs ≡ is_absent f.groups → list_all is_numbered hs ≡ list_all is_numbered f.groups → IsStanding f → IsStanding (record f { groups = hs })
+swapped : (hs : List Group) (f : Forwarding) → is_absent hs ≡ is_absent f.groups → list_all is_numbered hs ≡ list_all is_numbered f.groups → GroupsExist f → GroupsExist (record f { groups = hs })
 swapped hs f a n k = record {
   entries = ap (λ (p : ℕ → Bool). list_all (λ (t : Table). list_all (λ (e : FlowEntry). not (list_any (has_action (sends p)) e.flow.instructions)) t.flows) f.tables.tables) a ∙ k.entries;
   numbers = n ∙ k.numbers;
 }
 
-changed_at : (n : ℕ) (change : Group → Group) → ((g : Group) → (change g).id ≡ g.id) → (f : Forwarding) → IsStanding f → IsStanding (record f { groups = at_group n change f.groups })
+changed_at : (n : ℕ) (change : Group → Group) → ((g : Group) → (change g).id ≡ g.id) → (f : Forwarding) → GroupsExist f → GroupsExist (record f { groups = at_group n change f.groups })
 changed_at n change same f k =
     let g : Group → Group = λ (x : Group). cond (eqb x.id n) (change x) x in
     swapped (at_group n change f.groups) f (absent_mapped g (at_same n change same) f.groups) (numbers_mapped g (at_same n change same) f.groups) k
@@ -200,7 +200,7 @@ sends_less : (p q : ℕ → Bool) → ((n : ℕ) → p n ≡ false → q n ≡ f
 sends_less p q f (ToGroup n) h k = f n h
 sends_less p q f other h k = refl
 
-entry_less : (gs hs : List Group) → ((n : ℕ) → is_absent gs n ≡ false → is_absent hs n ≡ false) → (e : FlowEntry) → is_standing gs e ≡ true → is_standing hs e ≡ true
+entry_less : (gs hs : List Group) → ((n : ℕ) → is_absent gs n ≡ false → is_absent hs n ≡ false) → (e : FlowEntry) → names_existing_groups gs e ≡ true → names_existing_groups hs e ≡ true
 entry_less gs hs f e h =
     let p = sends (is_absent gs) in
     let q = sends (is_absent hs) in
@@ -208,9 +208,9 @@ entry_less gs hs f e h =
     not_false _ (any_either (has_action p) (has_action q) (has_action p) (has_either p q p (sends_less (is_absent gs) (is_absent hs) f)) e.flow.instructions none none)
 
 -- more groups
-pub put_stands : (g : Group) (f : Forwarding) → g.id ≤ 0xffffff00 → IsStanding f → IsStanding (record f { groups = with_group g f.groups })
+pub put_stands : (g : Group) (f : Forwarding) → g.id ≤ 0xffffff00 → GroupsExist f → GroupsExist (record f { groups = with_group g f.groups })
 put_stands g f small k = record {
-  entries = all_so (are_standing f.groups) (are_standing (with_group g f.groups)) (λ t. all_so (is_standing f.groups) (is_standing (with_group g f.groups)) (entry_less f.groups (with_group g f.groups) here) t.flows) f.tables.tables k.entries;
+  entries = all_so (all_name_existing_groups f.groups) (all_name_existing_groups (with_group g f.groups)) (λ t. all_so (names_existing_groups f.groups) (names_existing_groups (with_group g f.groups)) (entry_less f.groups (with_group g f.groups) here) t.flows) f.tables.tables k.entries;
   numbers = all_joined is_numbered (filter (λ (h : Group). ltb h.id g.id) f.groups) _ (all-filter is_numbered (λ (h : Group). ltb h.id g.id) f.groups k.numbers)
       (and_from _ _ (le-leb g.id 0xffffff00 small) (all-filter is_numbered (λ (h : Group). ltb g.id h.id) f.groups k.numbers));
 }
@@ -262,7 +262,7 @@ unnamed which e h = by_test (names_group which e) refl
         let never : stays (OfGroup which) e ≡ false = rw t refl in
         absurd cc
 
-entry_left : (which : Option ℕ) (gs : List Group) (e : FlowEntry) → is_standing gs e ≡ true → stays (OfGroup which) e ≡ true → is_standing (left which gs) e ≡ true
+entry_left : (which : Option ℕ) (gs : List Group) (e : FlowEntry) → names_existing_groups gs e ≡ true → stays (OfGroup which) e ≡ true → names_existing_groups (left which gs) e ≡ true
 entry_left which gs e h s =
     let p = sends (is_absent gs) in
     let q = sends (is_absent (left which gs)) in
@@ -272,59 +272,59 @@ numbers_left : (which : Option ℕ) (gs : List Group) → list_all is_numbered g
 numbers_left None gs h = refl
 numbers_left (Some n) gs h = all-filter is_numbered (λ (g : Group). not (eqb g.id n)) gs h
 
-pub groups_left_stand : (which : Option ℕ) (f : Forwarding) → IsStanding f → IsStanding (record f { tables = left_in (OfGroup which) f.tables; groups = left which f.groups })
+pub groups_left_stand : (which : Option ℕ) (f : Forwarding) → GroupsExist f → GroupsExist (record f { tables = left_in (OfGroup which) f.tables; groups = left which f.groups })
 groups_left_stand which f k = record {
-  entries = each_stands f.groups (left which f.groups) (left_table (OfGroup which)) (λ n t h. all_left (is_standing f.groups) (stays (OfGroup which)) (is_standing (left which f.groups)) (entry_left which f.groups) t.flows h) 0 f.tables.tables k.entries;
+  entries = each_stands f.groups (left which f.groups) (left_table (OfGroup which)) (λ n t h. all_left (names_existing_groups f.groups) (stays (OfGroup which)) (names_existing_groups (left which f.groups)) (entry_left which f.groups) t.flows h) 0 f.tables.tables k.entries;
   numbers = numbers_left which f.groups k.numbers;
 }
 
 -- ---- what is counted
 
-pub tables_stand : (ts : Tables) (f : Forwarding) → Stand f.groups ts → IsStanding f → IsStanding (record f { tables = ts })
+pub tables_stand : (ts : Tables) (f : Forwarding) → Stand f.groups ts → GroupsExist f → GroupsExist (record f { tables = ts })
 tables_stand ts f h k = record { entries = h; numbers = k.numbers }
 
-pub ports_stand : (ports : List Port) (f : Forwarding) → IsStanding f → IsStanding (record f { ports = ports })
+pub ports_stand : (ports : List Port) (f : Forwarding) → GroupsExist f → GroupsExist (record f { ports = ports })
 ports_stand ports f k = record { entries = k.entries; numbers = k.numbers }
 
-tallied_stands : (c : Count) (f : Forwarding) → IsStanding f → IsStanding (tallied c f)
+tallied_stands : (c : Count) (f : Forwarding) → GroupsExist f → GroupsExist (tallied c f)
 tallied_stands (Lookup t) f k = tables_stand (looked_in t f.tables) f (looked_stands f.groups t f.tables k.entries) k
 tallied_stands (Matched t place bytes) f k = tables_stand (matched_in t place bytes f.tables) f (matched_stands f.groups t place bytes f.tables k.entries) k
 tallied_stands (TxDropped port) f k = ports_stand _ f k
 tallied_stands (GroupUse n bytes) f k = changed_at n _ (λ g. refl) f k
 tallied_stands (Bucket n place bytes) f k = changed_at n _ (λ g. refl) f k
 
-all_tallied_stand : (cs : List Count) (f : Forwarding) → IsStanding f → IsStanding (all_tallied cs f)
+all_tallied_stand : (cs : List Count) (f : Forwarding) → GroupsExist f → GroupsExist (all_tallied cs f)
 all_tallied_stand [] f k = k
 all_tallied_stand (c ∷ cs) f k = all_tallied_stand cs (tallied c f) (tallied_stands c f k)
 
-sent_stands : (e : Effect) (f : Forwarding) → IsStanding f → IsStanding (sent e f)
+sent_stands : (e : Effect) (f : Forwarding) → GroupsExist f → GroupsExist (sent e f)
 sent_stands (Sent port frame) f k = ports_stand _ f k
 sent_stands (Answer bytes) f k = k
 sent_stands Closed f k = k
 
-all_sent_stand : (es : List Effect) (f : Forwarding) → IsStanding f → IsStanding (all_sent es f)
+all_sent_stand : (es : List Effect) (f : Forwarding) → GroupsExist f → GroupsExist (all_sent es f)
 all_sent_stand [] f k = k
 all_sent_stand (e ∷ es) f k = all_sent_stand es (sent e f) (sent_stands e f k)
 
-reception_stands : (r : Option Reception) (f : Forwarding) → IsStanding f → IsStanding (with_reception r f)
+reception_stands : (r : Option Reception) (f : Forwarding) → GroupsExist f → GroupsExist (with_reception r f)
 reception_stands None f k = k
 reception_stands (Some r) f k = ports_stand _ f k
 
-changed_stands : (c : Change) (es : List Effect) (n : NumberedTables) (f : Forwarding) → IsStanding f → IsStanding (changed c es n f)
+changed_stands : (c : Change) (es : List Effect) (n : NumberedTables) (f : Forwarding) → GroupsExist f → GroupsExist (changed c es n f)
 changed_stands Nothing es n f k = k
 changed_stands (Counts reception counts) es n f k = all_sent_stand es _ (all_tallied_stand (all_placed n counts.items) _ (reception_stands reception f k))
 changed_stands (Removal cause) es n f k = tables_stand (left_in cause f.tables) f (left_stands f.groups cause f.tables k.entries) k
 
 -- a plan is carried out
-pub plan_stands : (plan : Plan) (n : NumberedTables) (groups : List Group) (ports : List Port) (new : Forwarding) → new ≡ (planned plan n groups ports).forwarding → IsStanding (forwarding_of n groups ports) → IsStanding new
-plan_stands plan n groups ports new e k = subst IsStanding (sym e) (changed_stands plan.change plan.effects.items n (forwarding_of n groups ports) k)
+pub plan_stands : (plan : Plan) (n : NumberedTables) (groups : List Group) (ports : List Port) (new : Forwarding) → new ≡ (planned plan n groups ports).forwarding → GroupsExist (forwarding_of n groups ports) → GroupsExist new
+plan_stands plan n groups ports new e k = subst GroupsExist (sym e) (changed_stands plan.change plan.effects.items n (forwarding_of n groups ports) k)
 
 -- ---- what a FLOW_MOD adds and modifies
 
-pub flow_stands : (k : ℕ) (flow : Flow) (f : Forwarding) (ts : Tables) → ts ≡ added_to k flow f.tables → names_absent_group f.groups flow.instructions ≡ false → IsStanding f → IsStanding (record f { tables = ts })
+pub flow_stands : (k : ℕ) (flow : Flow) (f : Forwarding) (ts : Tables) → ts ≡ added_to k flow f.tables → names_absent_group f.groups flow.instructions ≡ false → GroupsExist f → GroupsExist (record f { tables = ts })
 flow_stands k flow f ts e h s = tables_stand ts f (subst (Stand f.groups) (sym e) (added_stands f.groups k flow f.tables h s.entries)) s
 
-pub modify_stands : (w : Which) (is : List Instruction) (reset : Bool) (f : Forwarding) (ts : Tables) → ts ≡ modified_in w is reset f.tables → names_absent_group f.groups is ≡ false → IsStanding f → IsStanding (record f { tables = ts })
+pub modify_stands : (w : Selector) (is : List Instruction) (reset : Bool) (f : Forwarding) (ts : Tables) → ts ≡ modified_in w is reset f.tables → names_absent_group f.groups is ≡ false → GroupsExist f → GroupsExist (record f { tables = ts })
 modify_stands w is reset f ts e h s = tables_stand ts f (subst (Stand f.groups) (sym e) (modified_stands f.groups w is reset f.tables h s.entries)) s
 
 -- ---- what is loaded
@@ -337,14 +337,14 @@ steps_named gs (Write xs ∷ ss) = ap (λ (b : Bool). list_any (sends (is_absent
 steps_named gs (Metadata v m ∷ ss) = steps_named gs ss
 steps_named gs (Goto t ∷ ss) = steps_named gs ss
 
-flows_loaded : (now : ℕ) (gs : List TextGroup) (before fs : List TextFlow) → AllStandBehind gs before fs → list_all (is_standing (groups_at now gs)) (map (loaded_entry now) fs) ≡ true
+flows_loaded : (now : ℕ) (gs : List TextGroup) (before fs : List TextFlow) → AllStandBehind gs before fs → list_all (names_existing_groups (groups_at now gs)) (map (loaded_entry now) fs) ≡ true
 flows_loaded now gs before [] h = refl
 flows_loaded now gs before (f ∷ fs) h =
     let named : names_absent_group (groups_at now gs) (instructions_of f) ≡ false =
     ap (λ (p : ℕ → Bool). list_any (has_action (sends p)) (instructions_of f)) (absent_same now 0 gs) ∙ (steps_named gs f.steps ∙ h.0.groups_there) in
     and_from _ _ (not_false _ named) (flows_loaded now gs (before ++ f ∷ []) fs h.1)
 
-tables_loaded : (now : ℕ) (gs : List TextGroup) (ts : List (List TextFlow)) → ((k : ℕ) → k < length ts → AllStandBehind gs [] (slice_index_or ts k [])) → list_all (are_standing (groups_at now gs)) (map (loaded_table now) ts) ≡ true
+tables_loaded : (now : ℕ) (gs : List TextGroup) (ts : List (List TextFlow)) → ((k : ℕ) → k < length ts → AllStandBehind gs [] (slice_index_or ts k [])) → list_all (all_name_existing_groups (groups_at now gs)) (map (loaded_table now) ts) ≡ true
 tables_loaded now gs [] h = refl
 tables_loaded now gs (t ∷ ts) h = and_from _ _ (flows_loaded now gs [] t (h 0 (omega arith))) (tables_loaded now gs ts (λ k l. h (suc k) (omega (arith, l))))
 
@@ -352,7 +352,7 @@ numbers_loaded : (now : ℕ) (gs : List TextGroup) → AllByRecursion (λ (g : T
 numbers_loaded now [] h = refl
 numbers_loaded now (g ∷ gs) h = and_from _ _ (le-leb g.head.id 0xffffff00 h.0) (numbers_loaded now gs h.1)
 
-pub loaded_stands : (now : ℕ) (c : Configuration) (groups : List Group) (tables : Tables) (ports : List Port) → IsConfig c → groups ≡ groups_at now c.groups → tables ≡ loaded_tables now c.tables → IsStanding (record { tables = tables; groups = groups; ports = ports })
+pub loaded_stands : (now : ℕ) (c : Configuration) (groups : List Group) (tables : Tables) (ports : List Port) → IsConfig c → groups ≡ groups_at now c.groups → tables ≡ loaded_tables now c.tables → GroupsExist (record { tables = tables; groups = groups; ports = ports })
 loaded_stands now c groups tables ports k g t =
     let many : length c.tables ≡ 16 = ap length k.filled ∙ sixteen k.flows in
     rw (g, t) (record {
@@ -360,5 +360,5 @@ loaded_stands now c groups tables ports k g t =
       numbers = numbers_loaded now c.groups (config_groups c k).numbers;
     })
 
-pub idle_stands : IsStanding idle
+pub idle_stands : GroupsExist idle
 idle_stands = record { entries = refl; numbers = refl }

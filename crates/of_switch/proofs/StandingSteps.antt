@@ -1,4 +1,4 @@
--- What holds of tables and groups beside each other is kept by each call.
+-- The invariants that join tables and groups are kept by each call.
 use Rattle.std.proofs.Common.{◌≡◌, ℕ, ◌≤◌, Bool, false, List, Option, Result, Ok, Err, refl, sym, ◌∙◌, ap, subst}
 use Rattle.std.specs.Prelude.{OnOk, OnErr}
 use Rattle.of_actions.specs.declared.instruction.Instruction.{Instruction}
@@ -6,7 +6,7 @@ use Rattle.of_groups.specs.declared.group.Group.{Group}
 use Rattle.of_groups.specs.Groups.{with_group, left}
 use Rattle.of_ports.specs.declared.port.Port.{Port}
 use Rattle.of_table.specs.declared.flow.Flow.{Flow}
-use Rattle.of_table.specs.declared.selection.Which.{Which}
+use Rattle.of_table.specs.declared.selection.Selector.{Selector}
 use Rattle.of_table.specs.declared.selection.Cause.TheVariants.{Group as OfGroup}
 use Rattle.of_table.specs.Tables.{Tables, NumberedTables, tables_of, added_to, modified_in, left_in}
 use Rattle.of_switch.specs.declared.plan.Plan.{Plan}
@@ -15,27 +15,27 @@ use Rattle.of_switch.specs.Commands.{names_absent_group}
 use Rattle.of_switch.specs.Numbers.{Contents, contents, forwarding_of}
 use Rattle.of_switch.specs.Plane.{Forwarding}
 use Rattle.of_switch.specs.Plans.{changed, planned}
-use Rattle.of_switch.specs.Standing.{IsStanding}
+use Rattle.of_switch.specs.Standing.{GroupsExist}
 use Rattle.of_switch.proofs.StandingLemmas.{plan_stands, flow_stands, modify_stands, put_stands, groups_left_stand}
 
 -- a plan that was made of these is carried out
-pub carried_stands : (plan : Plan) (n m : NumberedTables) (gs hs : List Group) (ps qs : List Port) (new : Forwarding) → contents m hs qs ≡ contents n gs ps → new ≡ (planned plan m hs qs).forwarding → IsStanding (forwarding_of n gs ps) → IsStanding new
-carried_stands plan n m gs hs ps qs new same e k = plan_stands plan m hs qs new e (subst (λ (x : Contents). IsStanding (forwarding_of x.tables x.groups x.ports)) (sym same) k)
+pub carried_stands : (plan : Plan) (n m : NumberedTables) (gs hs : List Group) (ps qs : List Port) (new : Forwarding) → contents m hs qs ≡ contents n gs ps → new ≡ (planned plan m hs qs).forwarding → GroupsExist (forwarding_of n gs ps) → GroupsExist new
+carried_stands plan n m gs hs ps qs new same e k = plan_stands plan m hs qs new e (subst (λ (x : Contents). GroupsExist (forwarding_of x.tables x.groups x.ports)) (sym same) k)
 
-pub flow_put : {A E : Type 0} (r : Result A E) (k : ℕ) (flow : Flow) (n m : NumberedTables) (gs : List Group) (ps : List Port) → OnOk r (tables_of m ≡ added_to k flow (tables_of n)) → OnErr r (m ≡ n) → names_absent_group gs flow.instructions ≡ false → IsStanding (forwarding_of n gs ps) → IsStanding (forwarding_of m gs ps)
+pub flow_put : {A E : Type 0} (r : Result A E) (k : ℕ) (flow : Flow) (n m : NumberedTables) (gs : List Group) (ps : List Port) → OnOk r (tables_of m ≡ added_to k flow (tables_of n)) → OnErr r (m ≡ n) → names_absent_group gs flow.instructions ≡ false → GroupsExist (forwarding_of n gs ps) → GroupsExist (forwarding_of m gs ps)
 flow_put (Ok a) k flow n m gs ps ok err h s = flow_stands k flow (forwarding_of n gs ps) (tables_of m) ok h s
-flow_put (Err x) k flow n m gs ps ok err h s = subst (λ (x : NumberedTables). IsStanding (forwarding_of x gs ps)) (sym err) s
+flow_put (Err x) k flow n m gs ps ok err h s = subst (λ (x : NumberedTables). GroupsExist (forwarding_of x gs ps)) (sym err) s
 
-pub flows_changed : {A E : Type 0} (r : Result A E) (w : Which) (is : List Instruction) (reset : Bool) (n m : NumberedTables) (gs : List Group) (ps : List Port) → OnOk r (tables_of m ≡ modified_in w is reset (tables_of n)) → OnErr r (m ≡ n) → names_absent_group gs is ≡ false → IsStanding (forwarding_of n gs ps) → IsStanding (forwarding_of m gs ps)
+pub flows_changed : {A E : Type 0} (r : Result A E) (w : Selector) (is : List Instruction) (reset : Bool) (n m : NumberedTables) (gs : List Group) (ps : List Port) → OnOk r (tables_of m ≡ modified_in w is reset (tables_of n)) → OnErr r (m ≡ n) → names_absent_group gs is ≡ false → GroupsExist (forwarding_of n gs ps) → GroupsExist (forwarding_of m gs ps)
 flows_changed (Ok a) w is reset n m gs ps ok err h s = modify_stands w is reset (forwarding_of n gs ps) (tables_of m) ok h s
-flows_changed (Err x) w is reset n m gs ps ok err h s = subst (λ (x : NumberedTables). IsStanding (forwarding_of x gs ps)) (sym err) s
+flows_changed (Err x) w is reset n m gs ps ok err h s = subst (λ (x : NumberedTables). GroupsExist (forwarding_of x gs ps)) (sym err) s
 
-pub group_put : (g : Group) (n : NumberedTables) (gs hs : List Group) (ps : List Port) → g.id ≤ 0xffffff00 → hs ≡ with_group g gs → IsStanding (forwarding_of n gs ps) → IsStanding (forwarding_of n hs ps)
-group_put g n gs hs ps small e s = subst (λ (x : List Group). IsStanding (forwarding_of n x ps)) (sym e) (put_stands g (forwarding_of n gs ps) small s)
+pub group_put : (g : Group) (n : NumberedTables) (gs hs : List Group) (ps : List Port) → g.id ≤ 0xffffff00 → hs ≡ with_group g gs → GroupsExist (forwarding_of n gs ps) → GroupsExist (forwarding_of n hs ps)
+group_put g n gs hs ps small e s = subst (λ (x : List Group). GroupsExist (forwarding_of n x ps)) (sym e) (put_stands g (forwarding_of n gs ps) small s)
 
--- groups go, and then the entries that name them
-pub groups_gone : (which : Option ℕ) (plan : Plan) (n : NumberedTables) (gs hs : List Group) (ps : List Port) (new : Forwarding) → plan.change ≡ Removal (OfGroup which) → hs ≡ left which gs → new ≡ (planned plan n hs ps).forwarding → IsStanding (forwarding_of n gs ps) → IsStanding new
+-- groups are removed, and then the entries that name them
+pub groups_gone : (which : Option ℕ) (plan : Plan) (n : NumberedTables) (gs hs : List Group) (ps : List Port) (new : Forwarding) → plan.change ≡ Removal (OfGroup which) → hs ≡ left which gs → new ≡ (planned plan n hs ps).forwarding → GroupsExist (forwarding_of n gs ps) → GroupsExist new
 groups_gone which plan n gs hs ps new c e f s =
     let is : new ≡ record (forwarding_of n gs ps) { tables = left_in (OfGroup which) (tables_of n); groups = left which gs } =
     f ∙ (ap (λ x. changed x plan.effects.items n (forwarding_of n hs ps)) c ∙ ap (λ (x : List Group). record (forwarding_of n x ps) { tables = left_in (OfGroup which) (tables_of n) }) e) in
-    subst IsStanding (sym is) (groups_left_stand which (forwarding_of n gs ps) s)
+    subst GroupsExist (sym is) (groups_left_stand which (forwarding_of n gs ps) s)

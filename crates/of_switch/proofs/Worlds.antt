@@ -27,18 +27,18 @@ use Rattle.std.specs.List.{list_all}
 use Rattle.of_machine.specs.Sound.{IsSound}
 use Rattle.of_machine.specs.Renumbering.{IsRenumbered}
 use Rattle.of_ports.specs.Ports.{is_live_at, number_of}
-use Rattle.of_actions.specs.Rising.{is_rising}
+use Rattle.of_actions.specs.Rising.{is_ascending}
 use Rattle.of_switch.specs.Plane.{world_of}
 use Rattle.of_switch.specs.Numbers.{forwarding_of, entries_at, number_at, numbered_winner, numbered_flow, numbered_world, place_in}
 use Rattle.of_switch.proofs.GroupWorlds.{are_buckets}
 use Rattle.of_switch.proofs.PlaceNumbers.{itself, number_at_place, place_of_number}
 
--- the number that a look-up answered is that of the winner's place
+-- the number that a lookup returned is that of the winner's place
 pub answer_is : (es : List Entry) (w r : Option ℕ) → w ≡ option_map (λ n. place_of n es) r → IfSome r (λ n. IsTrue (is_there n es)) → r ≡ option_map (number_at es) w
 answer_is es w None e there = rw e refl
 answer_is es w (Some n) e there = rw e (ap Some (sym (number_at_place n (numbers_of es) there)))
 
--- where a winner stands there is an entry
+-- where there is a winner there is an entry
 place_within : (fields : Field → Option ℕ) (es : List Entry) (k : ℕ) → winner_place fields (flows_of es) ≡ Some k → k < length (numbers_of es)
 place_within fields es k h =
     let within = winner_within fields es k h in
@@ -70,7 +70,7 @@ renumbered_world n groups ports distinct = record {
   chain = λ g. refl;
 }
 
--- an entry that is there has a flow
+-- an entry that exists has a flow
 pub flow_some : (k : ℕ) (flows : List FlowEntry) → k < length flows → flow_at k flows ≡ None → ⊥
 flow_some k [] lt e = absurd (omega (arith, lt))
 flow_some zero (f ∷ flows) lt e = absurd cc
@@ -110,7 +110,7 @@ pub both : (a b : Bool) → (a && b) ≡ true → (a ≡ true) × (b ≡ true)
 both true b h = (refl, h)
 both false b h = absurd cc
 
--- the instructions of an entry may stand in its table
+-- the instructions of an entry are valid in its table
 abbrev pub AreFit : NumberedTables → Type 0
 AreFit n = (t : ℕ) → AreSound t (table_at t (tables_of n)).flows
 
@@ -119,8 +119,8 @@ fit_here n t number f fit e =
     let flows : list_all (is_fit t) (flows_of (entries_at n t)) ≡ true = rw (table_is n t) at (fit t).fit in
     both (are_kept f.instructions) (are_for t f.instructions) (flow_fit t (place_of number (entries_at n t)) (flows_of (entries_at n t)) f flows e)
 
--- what a world promises: each winner is the number of an entry, its instructions may stand there, and the groups serve
-pub sound_world : (n : NumberedTables) (groups : List Group) (ports : List Port) → AreDistinct n → AreFit n → AreSoundGroups groups → is_rising number_of ports ≡ true → IsSound (numbered_world n groups ports)
+-- the invariants of a world: each winner is the number of an entry, its instructions are valid there, and so are the groups
+pub sound_world : (n : NumberedTables) (groups : List Group) (ports : List Port) → AreDistinct n → AreFit n → AreSoundGroups groups → is_ascending number_of ports ≡ true → IsSound (numbered_world n groups ports)
 sound_world n groups ports distinct fit sound rising = record {
   rising = rising;
   kept = λ t number f e. (fit_here n t number f fit e).0;
@@ -138,7 +138,7 @@ there_by es n false e some =
     let far : ltb (place_of n es) (length (numbers_of es)) ≡ false = sym (any-place (λ m. eqb m n) (numbers_of es)) ∙ e in
     absurd (some (flow_none (place_of n es) (flows_of es) (omega (arith, ltb-false _ _ far, length-map es entry_of, length-map es entry_number))))
 
--- a flow that is there has the number of an entry
+-- a flow that exists has the number of an entry
 pub is_there_by : (n : NumberedTables) (t number : ℕ) → numbered_flow n t number ≢ None → IsTrue (is_there number (entries_at n t))
 is_there_by n t number h = there_by (entries_at n t) number (is_there number (entries_at n t)) refl h
 

@@ -1,4 +1,4 @@
--- Calls on a switch: each is refused by the first refusal of its written order, or does what the abstract switch does; and one that meets want of memory leaves the switch as it was.
+-- Calls on a switch: each is refused by the first refusal of its written order, or does what the abstract switch does; and one that runs out of memory leaves the switch as it was.
 use Rattle.std.specs.Prelude.{◌≡◌, ℕ, nat_le, Bool, not, List, [], ◌∷◌, length, Option, Some, None, Result, Ok, Err, if◌then◌else◌}
 use Rattle.of_session.specs.Session.{is_disconnected}
 use Rattle.of_switch.specs.declared.switch_error.SwitchError.{SwitchError}
@@ -19,7 +19,7 @@ number_of NoSuchPort = 6
 number_of TooManyPorts = 7
 number_of BadPortNumber = 8
 
--- What a call does: the refusal that applies, and nothing else; or what `does` says; or memory is wanted, and nothing else.
+-- What a call does: the refusal that applies, and nothing else; or what `does` says; or it runs out of memory, and does nothing else.
 abbrev pub Call : {A : Type 0} → Option SwitchError → (A → State → Type 0) → State → Result A SwitchError → State → Type 0
 Call (Some e) does old result new = (result ≡ Err e) × (new ≡ old)
 Call None does old (Ok x) new = does x new
@@ -36,7 +36,7 @@ connect_refusal s = first_refusal ((not (is_disconnected s.connection.phase), Co
 abbrev pub feed_refusal : State → Option SwitchError
 feed_refusal s = first_refusal ((is_disconnected s.connection.phase, NotConnected) ∷ [])
 
--- the number is looked at first; a port that is added is not there, and there are 64 ports at most; one that goes or whose link changes is there
+-- the number is checked first; a port that is added must not exist, and there are 64 ports at most; one that is removed or whose link changes must exist
 abbrev pub absent_refusal : ℕ → State → Option SwitchError
 absent_refusal number s =
     first_refusal ((not (is_number number), BadPortNumber)

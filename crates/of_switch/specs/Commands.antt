@@ -1,4 +1,4 @@
--- What a FLOW_MOD does to the flow tables (OpenFlow 1.3.5, 6.4 and 7.3.4.1), and the notices of entries that went (7.4.2).
+-- What a FLOW_MOD does to the flow tables (OpenFlow 1.3.5, 6.4 and 7.3.4.1), and the notices of removed entries (7.4.2).
 use Rattle.std.specs.Prelude.{ℕ, ◌-◌, ◌/◌, ◌%◌, ◌^◌, ◌==◌, ◌&&◌, nat_le, bit_and, Bool, true, false, not, List, [], ◌∷◌, map, filter, Option, Some, None, if◌then◌else◌}
 use Rattle.std.specs.List.{list_any}
 use Rattle.of_wire.specs.Reasons.{flow_removed_number}
@@ -12,7 +12,7 @@ use Rattle.of_messages.specs.Messages.{is_delete}
 use Rattle.of_messages.specs.Written.{flow_removed_bytes}
 use Rattle.of_table.specs.declared.flow.Flow.{Flow}
 use Rattle.of_table.specs.declared.flow.FlowFlags.{FlowFlags}
-use Rattle.of_table.specs.declared.selection.Which.{Which}
+use Rattle.of_table.specs.declared.selection.Selector.{Selector}
 use Rattle.of_table.specs.declared.selection.Cause.TheVariants as cause
 use Rattle.of_table.specs.Table.{is_overlapped, is_full}
 use Rattle.of_table.specs.Selecting.{Notice, has_action, seconds_since, nanoseconds_since}
@@ -25,12 +25,12 @@ use Rattle.of_messages.specs.declared.message.PacketOut.{PacketOut}
 use Rattle.of_messages.specs.declared.message.PacketData.{PacketData}
 use Rattle.of_messages.specs.declared.message.PacketData.TheVariants.{Buffered, Frame}
 use Rattle.of_table.specs.Tables.{Tables, table_at, added_to, modified_in, left_in, notices_in}
-use Rattle.of_switch.specs.declared.control.Heard.{Heard}
+use Rattle.of_switch.specs.declared.control.ReasonMasks.{ReasonMasks}
 use Rattle.of_switch.specs.Control.{lets_pass}
 use Rattle.of_switch.specs.declared.effect.Effect.{Effect}
 use Rattle.of_switch.specs.declared.effect.Effect.TheVariants.{Answer}
 
--- ---- the flow, and the entries that a command is for
+-- ---- the flow, and the entries that a command selects
 
 -- the flags of a FLOW_MOD, bit by bit
 abbrev pub has_flag : ℕ → ℕ → Bool
@@ -51,16 +51,16 @@ is_strict ModifyStrict = true
 is_strict DeleteStrict = true
 is_strict other = false
 
--- a number that may stand for any: OFPTT_ALL, OFPP_ANY and OFPG_ANY are all ones
+-- a number that may mean any: OFPTT_ALL, OFPP_ANY and OFPG_ANY are all ones
 abbrev pub unless_any : ℕ → ℕ → Option ℕ
 unless_any any n = if n == any then None else Some n
 
--- DELETE alone looks at out_port and out_group
+-- DELETE alone filters by out_port and out_group
 abbrev pub out_of : FlowModCommand → ℕ → Option ℕ
 out_of command n = if is_delete command then unless_any 0xffffffff n else None
 
-abbrev pub which_of : FlowMod → Which
-which_of m = record {
+abbrev pub selector_of : FlowMod → Selector
+selector_of m = record {
   table = unless_any 255 m.table;
   fields = m.fields;
   priority = if is_strict m.command then Some m.priority else None;
@@ -72,7 +72,7 @@ which_of m = record {
 
 -- ---- what is refused, in order
 
--- an action gives the packet to a group that is not there
+-- an action sends the packet to a group that does not exist
 abbrev pub is_to_absent_group : List Group → Action → Bool
 is_to_absent_group groups = sends (is_absent groups)
 
@@ -80,7 +80,7 @@ is_to_absent_group groups = sends (is_absent groups)
 abbrev pub names_absent_group : List Group → List Instruction → Bool
 names_absent_group groups instructions = list_any (has_action (is_to_absent_group groups)) instructions
 
--- an action names a group that is not there (7.4.4: 2/9); no packet is buffered, so each buffer but none (all ones) is unknown (1/8); DELETE does not look at them; of an ADD: the table is not there (5/2), an entry overlaps the flow (5/3), the table is full (5/1)
+-- an action names a group that does not exist (7.4.4: 2/9); no packet is buffered, so each buffer but OFP_NO_BUFFER is unknown (1/8); DELETE ignores both; of an ADD: BAD_TABLE_ID (5/2), OVERLAP with an entry (5/3), TABLE_FULL (5/1)
 abbrev pub flow_mod_refusals : FlowMod → Tables → List Group → List (Bool × Code)
 flow_mod_refusals m ts groups =
     (not (is_delete m.command) && names_absent_group groups m.instructions, refusal 2 9)
@@ -95,21 +95,21 @@ flow_mod_refusals m ts groups =
 -- the tables after a command
 abbrev pub commanded_by : FlowModCommand → FlowMod → Tables → Tables
 commanded_by Add m ts = added_to m.table (flow_of m) ts
-commanded_by Modify m ts = modified_in (which_of m) m.instructions (has_flag m.flags 4) ts
-commanded_by ModifyStrict m ts = modified_in (which_of m) m.instructions (has_flag m.flags 4) ts
-commanded_by Delete m ts = left_in (cause.Delete (which_of m)) ts
-commanded_by DeleteStrict m ts = left_in (cause.Delete (which_of m)) ts
+commanded_by Modify m ts = modified_in (selector_of m) m.instructions (has_flag m.flags 4) ts
+commanded_by ModifyStrict m ts = modified_in (selector_of m) m.instructions (has_flag m.flags 4) ts
+commanded_by Delete m ts = left_in (cause.Delete (selector_of m)) ts
+commanded_by DeleteStrict m ts = left_in (cause.Delete (selector_of m)) ts
 
 abbrev pub commanded : FlowMod → Tables → Tables
 commanded m ts = commanded_by m.command m ts
 
 -- the notices that a command gives
 abbrev pub command_notices : FlowMod → Tables → List Notice
-command_notices m ts = if is_delete m.command then notices_in (cause.Delete (which_of m)) ts else []
+command_notices m ts = if is_delete m.command then notices_in (cause.Delete (selector_of m)) ts else []
 
 -- ---- FLOW_REMOVED
 
--- of an entry that went now; the seconds are cut to 32 bits
+-- of an entry that is removed now; the seconds are cut to 32 bits
 abbrev pub removed_of : ℕ → Notice → FlowRemoved
 removed_of now n = record {
   cookie = n.entry.flow.cookie;
@@ -124,16 +124,16 @@ removed_of now n = record {
   bytes = n.entry.bytes;
 }
 
--- a message that the switch begins has the transaction id 0
+-- an asynchronous message has the transaction id 0
 abbrev pub notice_effect : ℕ → Notice → Effect
 notice_effect now n = Answer (flow_removed_bytes 0 (removed_of now n) n.entry.flow.fields)
 
-abbrev pub is_notice_heard : Heard → Notice → Bool
-is_notice_heard heard n = lets_pass heard.flow_removed (2 ^ flow_removed_number n.reason)
+abbrev pub is_notice_admitted : ReasonMasks → Notice → Bool
+is_notice_admitted reason_masks n = lets_pass reason_masks.flow_removed (2 ^ flow_removed_number n.reason)
 
--- of those that the controller is told of
-abbrev pub notice_effects : Heard → ℕ → List Notice → List Effect
-notice_effects heard now ns = map (notice_effect now) (filter (is_notice_heard heard) ns)
+-- of those notices that the controller's mask lets pass
+abbrev pub notice_effects : ReasonMasks → ℕ → List Notice → List Effect
+notice_effects reason_masks now ns = map (notice_effect now) (filter (is_notice_admitted reason_masks) ns)
 
 -- ---- PACKET_OUT (7.3.7)
 
@@ -145,7 +145,7 @@ abbrev pub frame_of : PacketData → List ℕ
 frame_of (Buffered number) = []
 frame_of (Frame bytes) = bytes
 
--- each buffer is unknown (1/8); an action names a group that is not there (2/9)
+-- each buffer is unknown (1/8); an action names a group that does not exist (2/9)
 abbrev pub packet_out_refusals : PacketOut → List Group → List (Bool × Code)
 packet_out_refusals m groups =
     (is_buffered m.packet, refusal 1 8)

@@ -1,4 +1,4 @@
--- What the handling of a message answers.
+-- What the handling of a message returns.
 use Rattle.std.specs.Prelude.{◌≡◌, Option, Some, None, Result, Ok, Err}
 use Rattle.smallvec.specs.SmallVec.{SmallVec}
 use Rattle.of_wire.specs.declared.code.Code.{Code}
@@ -11,11 +11,11 @@ use Rattle.of_switch.specs.declared.engine.Fault.TheVariants.{Memory, Refused}
 use Rattle.of_switch.specs.State.{Core}
 use Rattle.of_switch.specs.Steps.{Done, does}
 
--- a change of groups that is refused, or for which there was no memory
+-- a change of groups that is refused, or that ran out of memory
 abbrev pub fault_of : GroupFault → Fault
 fault_of fault = option_map_or Refused (code_of fault) Memory
 
--- the message is done where nothing refuses it; else it is refused so, and nothing else; or memory is wanted, and nothing else
+-- carried out where nothing refuses it; else refused with this code, and nothing else; or out of memory, and nothing else
 abbrev pub Handles : Option Code → Done → Core → Result (SmallVec Effect) Fault → Core → Type 0
 Handles refusal d old (Ok effects) new = (refusal ≡ None) × (d ≡ does effects.items new)
 Handles refusal d old (Err (Refused code)) new = (refusal ≡ Some code) × (new ≡ old)

@@ -17,7 +17,7 @@ use Rattle.of_switch.specs.State.{Core, State}
 abbrev pub flow_in : TextFlow → Flow
 flow_in f = record { fields = f.fields; priority = f.head.priority; cookie = f.head.cookie; idle_timeout = f.head.idle; hard_timeout = f.head.hard; flags = kept_flags (flags_of f.head.flags); instructions = instructions_of f }
 
--- LOADING: the flows are entries that are added now, with counters of 0, and so are those of their table
+-- LOADING: the flows become entries that are added now, and their counters and those of their tables are 0
 
 abbrev pub loaded_entry : ℕ → TextFlow → FlowEntry
 loaded_entry now f = with_flow now (flow_in f) None
@@ -28,7 +28,7 @@ loaded_table now flows = record { lookups = 0; matched = 0; flows = map (loaded_
 abbrev pub loaded_tables : ℕ → List (List TextFlow) → Tables
 loaded_tables now tables = record { tables = map (loaded_table now) tables; latest = now }
 
--- the groups and the tables, and all else of the core stays
+-- the groups and the tables are replaced, and all else of the core stays
 abbrev pub loaded_core : Configuration → Core → Core
 loaded_core c k =
     let now = k.forwarding.tables.latest in
@@ -38,7 +38,7 @@ loaded_core c k =
 abbrev pub loaded : Configuration → State → State
 loaded c s = record s { core = loaded_core c s.core }
 
--- THE WAY BACK: the groups by number, and the entries of each table by age
+-- BACK TO A CONFIGURATION: the groups by number, and the entries of each table by age
 
 abbrev pub flow_kept : ℕ → Flow → KeptFlow
 flow_kept table f = record {

@@ -1,4 +1,4 @@
--- The tables as the code keeps them: their classifiers give entries numbers, which need not be their places by age.
+-- The tables as the code keeps them: their classifiers give entries numbers, which need not be their index by age.
 use Rattle.std.specs.Prelude.{ℕ, List, map, slice_index, Option}
 use Rattle.std.specs.Option.{option_map}
 use Rattle.of_layers.specs.declared.field.Field.{Field}
@@ -35,7 +35,7 @@ contents n groups ports = record { tables = n; groups = groups; ports = ports }
 abbrev pub entries_at : NumberedTables → ℕ → List Entry
 entries_at n t = (numbered_at t n).entries
 
--- the number of the entry at a place
+-- the number of the entry at a place by age
 abbrev pub number_at : List Entry → ℕ → ℕ
 number_at entries place = slice_index (numbers_of entries) place
 
@@ -49,11 +49,11 @@ numbered_flow n t number = flow_at (place_of number (entries_at n t)) (flows_of 
 abbrev pub numbered_world : NumberedTables → List Group → List Port → TheWorld
 numbered_world n groups ports = record { winner = numbered_winner n; flow = numbered_flow n; chosen = chosen groups (is_live_at ports); bucket = bucket_at groups; ports = ports; chain = chain groups }
 
--- the place of a number in a table
+-- the place by age of a number in a table
 abbrev pub place_in : NumberedTables → ℕ → ℕ → ℕ
 place_in n t number = place_of number (entries_at n t)
 
--- counts with the places for the numbers
+-- counts with these places for the numbers
 abbrev pub placed : NumberedTables → Count → Count
 placed n = renumbered_count (place_in n)
 

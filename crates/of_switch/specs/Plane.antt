@@ -20,12 +20,12 @@ use Rattle.of_machine.specs.Runs.{Machine, run_of}
 use Rattle.of_ports.specs.declared.counters.PortCount.{PortCount}
 use Rattle.of_ports.specs.declared.counters.PortCount.TheVariants.{Received, ReceiveDropped, ReceiveError, Sent as SentBytes, SendDropped}
 use Rattle.of_ports.specs.Ports.{all_counted, is_live_at, may_receive, port_at}
-use Rattle.of_switch.specs.declared.control.Heard.{Heard}
+use Rattle.of_switch.specs.declared.control.ReasonMasks.{ReasonMasks}
 use Rattle.of_switch.specs.declared.effect.Effect.{Effect}
 use Rattle.of_switch.specs.declared.effect.Effect.TheVariants.{Answer, Sent, Closed}
 use Rattle.of_switch.specs.Told.{effects_of}
 
--- the flow tables; the groups, by rising number; and the ports, by rising number
+-- the flow tables; the groups and the ports, each in ascending order of number
 pub record Forwarding : Type 0 where
   pub tables : Tables
   pub groups : List Group
@@ -39,7 +39,7 @@ idle = record { tables = tables_of no_tables; groups = []; ports = [] }
 abbrev pub count_port : ℕ → PortCount → Forwarding → Forwarding
 count_port number what f = record f { ports = all_counted number what f.ports }
 
--- WHAT THE MACHINE SEES: entries are named by their place by age, from 0
+-- WHAT THE MACHINE SEES: entries are named by their index by age, from 0
 
 abbrev pub winner_in : Forwarding → ℕ → (Field → Option ℕ) → Option ℕ
 winner_in f t fields = winner_place fields (table_at t f.tables).flows
@@ -84,29 +84,29 @@ pub record Forwarded : Type 0 where
 abbrev pub forwards : List Effect → Forwarding → Forwarded
 forwards effects f = record { effects = effects; forwarding = f }
 
--- what a run emitted is sent where the controller is told this and the ports are so, and what it counted is counted
-abbrev pub applied : Heard → List Port → Machine → Forwarding → Forwarded
-applied heard ports m f = let effects = effects_of heard ports m.items in forwards effects (all_sent effects (all_tallied m.counts f))
+-- the items of a run are sent, where the controller's masks and the ports allow it, and its counts are counted
+abbrev pub applied : ReasonMasks → List Port → Machine → Forwarding → Forwarded
+applied reason_masks ports m f = let effects = effects_of reason_masks ports m.items in forwards effects (all_sent effects (all_tallied m.counts f))
 
 -- a packet does its work
-abbrev pub through : Heard → Packet → List Work → Forwarding → Forwarded
-through heard p work f = applied heard f.ports (run_of (world_of f) p work) f
+abbrev pub through : ReasonMasks → Packet → List Work → Forwarding → Forwarded
+through reason_masks p work f = applied reason_masks f.ports (run_of (world_of f) p work) f
 
 -- A FRAME
 
 -- a frame is received, and looked up in the first table
-abbrev pub received : Heard → ℕ → List ℕ → Forwarding → Forwarded
-received heard number bytes f = applied heard f.ports (run_of (world_of f) (entering bytes number) (LookUp 0 ∷ [])) (count_port number (Received (length bytes)) f)
+abbrev pub received : ReasonMasks → ℕ → List ℕ → Forwarding → Forwarded
+received reason_masks number bytes f = applied reason_masks f.ports (run_of (world_of f) (entering bytes number) (LookUp 0 ∷ [])) (count_port number (Received (length bytes)) f)
 
--- too short or too long a frame is an error of its port
-abbrev pub taken_in : Heard → ℕ → List ℕ → Forwarding → Option FrameFault → Forwarded
-taken_in heard number bytes f (Some fault) = forwards [] (count_port number ReceiveError f)
-taken_in heard number bytes f None = received heard number bytes f
+-- a frame that is too short or too long is a receive error of its port
+abbrev pub taken_in : ReasonMasks → ℕ → List ℕ → Forwarding → Option FrameFault → Forwarded
+taken_in reason_masks number bytes f (Some fault) = forwards [] (count_port number ReceiveError f)
+taken_in reason_masks number bytes f None = received reason_masks number bytes f
 
--- at a port that is not there nothing happens; at one that may not receive the frame is dropped
-abbrev pub arriving : Heard → ℕ → List ℕ → Forwarding → Option Port → Forwarded
-arriving heard number bytes f None = forwards [] f
-arriving heard number bytes f (Some p) = if may_receive p then taken_in heard number bytes f (frame_fault bytes) else forwards [] (count_port number ReceiveDropped f)
+-- at a port that does not exist nothing happens; at one that may not receive the frame is dropped
+abbrev pub arriving : ReasonMasks → ℕ → List ℕ → Forwarding → Option Port → Forwarded
+arriving reason_masks number bytes f None = forwards [] f
+arriving reason_masks number bytes f (Some p) = if may_receive p then taken_in reason_masks number bytes f (frame_fault bytes) else forwards [] (count_port number ReceiveDropped f)
 
-abbrev pub framed : Heard → ℕ → List ℕ → Forwarding → Forwarded
-framed heard number bytes f = arriving heard number bytes f (port_at f.ports number)
+abbrev pub framed : ReasonMasks → ℕ → List ℕ → Forwarding → Forwarded
+framed reason_masks number bytes f = arriving reason_masks number bytes f (port_at f.ports number)

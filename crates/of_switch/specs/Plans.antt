@@ -15,7 +15,7 @@ abbrev pub with_reception : Option Reception → Forwarding → Forwarding
 with_reception None f = f
 with_reception (Some r) f = count_port r.port r.what f
 
--- where the entries have the numbers of these tables
+-- where the entries of the plan are named by the numbers of these tables
 abbrev pub changed : Change → List Effect → NumberedTables → Forwarding → Forwarding
 changed Nothing effects n f = f
 changed (Counts reception counts) effects n f = all_sent effects (all_tallied (all_placed n counts.items) (with_reception reception f))

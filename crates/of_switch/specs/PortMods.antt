@@ -1,4 +1,4 @@
--- What a PORT_MOD is refused for by the ports that are there (OpenFlow 1.3.5, 7.3.4.3 and 7.4.4).
+-- Why a PORT_MOD is refused, by the ports that exist (OpenFlow 1.3.5, 7.3.4.3 and 7.4.4).
 use Rattle.std.specs.Prelude.{Bool, false, not, List, [], ◌∷◌}
 use Rattle.std.specs.Option.{is_some, option_map_or}
 use Rattle.std.specs.Str.{bytes_eq}
@@ -9,11 +9,11 @@ use Rattle.of_ports.specs.declared.port.Port.{Port}
 use Rattle.of_ports.specs.Config.{configured}
 use Rattle.of_ports.specs.Ports.{port_at, with_config}
 
--- the port is there, with another address
+-- the port exists, with another hardware address
 abbrev pub has_other_address : PortMod → List Port → Bool
 has_other_address m ports = option_map_or (λ p. not (bytes_eq p.hw m.hw)) (port_at ports m.port) false
 
--- there is no such port (7/0); it has another address (7/1)
+-- there is no such port (7/0, BAD_PORT); it has another hardware address (7/1, BAD_HW_ADDR)
 abbrev pub port_mod_refusals : PortMod → List Port → List (Bool × Code)
 port_mod_refusals m ports = (not (is_some (port_at ports m.port)), refusal 7 0) ∷ (has_other_address m ports, refusal 7 1) ∷ []
 

@@ -1,4 +1,4 @@
--- What the controller is told of ports (OpenFlow 1.3.5, 7.2.1 and 7.4.3).
+-- Which PORT_STATUS messages the controller receives (OpenFlow 1.3.5, 7.2.1 and 7.4.3).
 use Rattle.std.specs.Prelude.{ℕ, ◌==◌, Bool, ◌&&◌, List, [], ◌∷◌, if◌then◌else◌}
 use Rattle.of_messages.specs.declared.port_mod.PortStatusReason.{PortStatusReason}
 use Rattle.of_messages.specs.declared.port_mod.PortStatusReason.TheVariants.{Add, Delete, Modify}
@@ -7,16 +7,16 @@ use Rattle.of_ports.specs.declared.port.Port.{Port}
 use Rattle.of_ports.specs.Config.{config_bits}
 use Rattle.of_ports.specs.Ports.{state_bits}
 use Rattle.of_statistics.specs.Ports.{described}
-use Rattle.of_switch.specs.declared.control.Heard.{Heard}
+use Rattle.of_switch.specs.declared.control.ReasonMasks.{ReasonMasks}
 use Rattle.of_switch.specs.Told.{told}
 use Rattle.of_switch.specs.declared.effect.Effect.{Effect}
 use Rattle.of_switch.specs.declared.effect.Effect.TheVariants.{Answer}
 
--- a message that the switch begins has the transaction id 0
+-- an asynchronous message has the transaction id 0
 abbrev pub status : PortStatusReason → Port → Effect
 status reason p = Answer (port_status_bytes 0 reason (described p))
 
--- a port keeps its number, its address and its name; so of a change its configuration and its state are shown, or nothing
+-- a port's number, address and name never change, so its descriptions differ in its configuration and its state alone
 abbrev pub is_shown_alike : Port → Port → Bool
 is_shown_alike old new = (config_bits old.config == config_bits new.config) && (state_bits old == state_bits new)
 
@@ -25,10 +25,10 @@ status_bit Add = 1
 status_bit Delete = 2
 status_bit Modify = 4
 
--- where the controller is told of that
-abbrev pub status_told : Heard → PortStatusReason → Port → List Effect
-status_told heard reason p = told heard.port_status (status_bit reason) (status reason p ∷ [])
+-- sent where the controller's mask has this reason
+abbrev pub status_told : ReasonMasks → PortStatusReason → Port → List Effect
+status_told reason_masks reason p = told reason_masks.port_status (status_bit reason) (status reason p ∷ [])
 
--- a change is told where the 64 bytes change
-abbrev pub change_told : Heard → Port → Port → List Effect
-change_told heard old new = if is_shown_alike old new then [] else status_told heard Modify new
+-- a change is sent where the 64 bytes of the port's description change
+abbrev pub change_told : ReasonMasks → Port → Port → List Effect
+change_told reason_masks old new = if is_shown_alike old new then [] else status_told reason_masks Modify new

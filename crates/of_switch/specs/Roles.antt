@@ -7,23 +7,23 @@ use Rattle.of_messages.specs.declared.role.RoleRequest.{RoleRequest}
 use Rattle.of_messages.specs.declared.role.RoleRequest.TheVariants.{NoChange, Equal, Master, Slave}
 use Rattle.of_switch.specs.declared.control.Control.{Control}
 
--- an election is stale where its distance from the last one, as a signed number of 64 bits, is below 0; elections wrap
+-- a generation_id is stale where its distance from the last, as a signed 64-bit number, is below 0; it wraps
 abbrev pub is_stale : ℕ → Option ℕ → Bool
 is_stale generation None = false
 is_stale generation (Some last) = nat_le (2 ^ 63) ((generation + (2 ^ 64 - last)) % 2 ^ 64)
 
--- the election that a controller comes from which wants to be master or slave
-abbrev pub has_stale_election : RoleRequest → Control → Bool
-has_stale_election NoChange c = false
-has_stale_election Equal c = false
-has_stale_election (Master generation) c = is_stale generation c.generation
-has_stale_election (Slave generation) c = is_stale generation c.generation
+-- the generation_id of a request to become master or slave is stale
+abbrev pub has_stale_generation : RoleRequest → Control → Bool
+has_stale_generation NoChange c = false
+has_stale_generation Equal c = false
+has_stale_generation (Master generation) c = is_stale generation c.generation
+has_stale_generation (Slave generation) c = is_stale generation c.generation
 
 -- OFPRRFC_STALE (11/0)
-abbrev pub election_refusals : RoleRequest → Control → List (Bool × Code)
-election_refusals request c = (has_stale_election request c, refusal 11 0) ∷ []
+abbrev pub generation_refusals : RoleRequest → Control → List (Bool × Code)
+generation_refusals request c = (has_stale_generation request c, refusal 11 0) ∷ []
 
--- a role is taken, with the election of a master or a slave
+-- the role is set, and for a master or a slave the generation_id
 abbrev pub with_role : RoleRequest → Control → Control
 with_role NoChange c = c
 with_role Equal c = record c { role = role.Equal }

@@ -1,4 +1,4 @@
--- Messages until there is none, and the system run of any events.
+-- Messages until there is none, and the run of any list of events.
 use Rattle.std.specs.Prelude.{◌≡◌, ◌⊎◌, ℕ, ◌+◌, suc, zero, List, [], ◌∷◌, ◌++◌, length, map, Option, Some, None, if◌then◌else◌}
 use Rattle.std.specs.Prelude.{unwrap_or}
 use Rattle.of_session.specs.Session.{is_disconnected}
@@ -21,12 +21,12 @@ abbrev pub then_more : (State → Outcome) → State → Option Outcome → Outc
 then_more rest s None = gives [] s
 then_more rest s (Some o) = behind o.effects (rest o.state)
 
--- so many messages at most
+-- at most n messages
 unfoldable pub drain : ℕ → State → Outcome
 drain zero s = gives [] s
 drain (suc n) s = then_more (drain n) s (next_of s)
 
--- all that are there: each takes some bytes
+-- all messages that are there: each takes at least one byte
 abbrev pub drained : State → Outcome
 drained s = drain (length s.connection.pending + 1) s
 
@@ -34,7 +34,7 @@ drained s = drain (length s.connection.pending + 1) s
 abbrev pub piece_in : List ℕ → State → Outcome
 piece_in piece s = drained (fed piece s)
 
--- bytes that come while there is a connection; without one they are lost
+-- bytes that are received while there is a connection; without one they are lost
 abbrev pub come : List ℕ → State → State
 come piece s = if is_disconnected s.connection.phase then s else fed piece s
 
@@ -44,7 +44,7 @@ come piece s = if is_disconnected s.connection.phase then s else fed piece s
 abbrev pub holding : List ℕ → State → State
 holding bytes s = record s { connection = record s.connection { pending = bytes } }
 
--- these bytes come alone: their first message is handled, or their malformed header; or they wait
+-- these bytes alone are received: their first message is handled, or their malformed header; or they wait
 abbrev pub handled_alone : List ℕ → State → Outcome
 handled_alone bytes s = unwrap_or (next_of (holding bytes s)) (gives [] (holding bytes s))
 
@@ -55,7 +55,7 @@ handled_in_turn (m ∷ ms) s =
     let first = handled_alone m s in
     behind first.effects (if is_disconnected first.state.connection.phase then gives [] first.state else handled_in_turn ms first.state)
 
--- THE SYSTEM RUN
+-- THE RUN OF A LIST OF EVENTS
 
 -- an event gives effects, or is refused and changes nothing
 pub data Report : Type 0 where
@@ -95,21 +95,21 @@ abbrev pub run : List Event → State → Run
 run [] s = record { reports = []; state = s }
 run (e ∷ es) s = let h = happened e s in let others = run es h.state in record { reports = h.report ∷ others.reports; state = others.state }
 
--- WHERE MEMORY IS WANTED
+-- WHERE MEMORY RUNS OUT
 
 abbrev pub effects_in : List Report → List Effect
 effects_in [] = []
 effects_in (Gives effects ∷ reports) = effects ++ effects_in reports
 effects_in (IsRefused refusal ∷ reports) = effects_in reports
 
--- a piece was broken off between two of its messages: those before gave what is reported, and what is left gives the rest
+-- a piece was interrupted between two of its messages: those before gave what is reported, and what is left gives the rest
 pub record IsBrokenOff (event : Event) (s t : State) (more : List Report) : Type 0 where
   pub bytes : List ℕ
   pub piece : event ≡ Piece bytes
   pub taken : feed_refusal s ≡ None
   pub left : piece_in bytes s ≡ behind (effects_in more) (drained t)
 
--- an event for which there was no memory did nothing, or is a piece that was broken off
+-- an event for which there was no memory did nothing, or is a piece that was interrupted so
 abbrev pub IsInterrupted : Event → State → State → List Report → Type 0
 IsInterrupted event s t more = ((t ≡ s) × (more ≡ [])) ⊎ IsBrokenOff event s t more
 

@@ -7,7 +7,7 @@ use Rattle.of_switch.specs.Plane.{Forwarding, idle}
 
 -- what messages, frames and moments act on: they neither read nor write the connection
 pub record Core : Type 0 where
-  -- the switch's own number (OpenFlow 1.3.5, 7.3.1)
+  -- the switch's datapath_id (OpenFlow 1.3.5, 7.3.1)
   pub dpid : ℕ
   -- what the controller has set
   pub control : Control

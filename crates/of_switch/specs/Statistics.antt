@@ -1,11 +1,11 @@
--- What a MULTIPART_REQUEST is refused for and answered, from the state of the switch (OpenFlow 1.3.5, 7.3.5).
+-- Why a MULTIPART_REQUEST is refused and what it is answered, by the state of the switch (OpenFlow 1.3.5, 7.3.5).
 use Rattle.std.specs.Prelude.{ℕ, Bool, false, not, List, [], ◌∷◌, map, Option, Some, None}
 use Rattle.of_wire.specs.declared.code.Code.{Code}
 use Rattle.of_wire.specs.Refusals.{refusal}
 use Rattle.of_messages.specs.declared.multipart.FlowStatsRequest.{FlowStatsRequest}
 use Rattle.of_messages.specs.declared.multipart.MultipartRequest.{MultipartRequest}
 use Rattle.of_messages.specs.declared.multipart.MultipartRequest.TheVariants.{Description, Flow, Aggregate, Table, PortStats, Group, GroupDescription, GroupFeatures, PortDescription}
-use Rattle.of_table.specs.declared.selection.Which.{Which}
+use Rattle.of_table.specs.declared.selection.Selector.{Selector}
 use Rattle.of_ports.specs.declared.port.Port.{Port}
 use Rattle.of_ports.specs.Ports.{has_port}
 use Rattle.of_statistics.specs.Descriptions.{description_bytes}
@@ -15,8 +15,8 @@ use Rattle.of_statistics.specs.Ports.{port_description_bytes, port_stats_bytes}
 use Rattle.of_switch.specs.Commands.{unless_any}
 use Rattle.of_switch.specs.Plane.{Forwarding}
 
--- the entries that are asked for: those that a DELETE of the same words would be for
-abbrev pub asked : FlowStatsRequest → Which
+-- the entries that are asked for: those that a DELETE with the same values would select
+abbrev pub asked : FlowStatsRequest → Selector
 asked r = record {
   table = unless_any 255 r.table;
   fields = r.fields;
@@ -27,7 +27,7 @@ asked r = record {
   out_group = unless_any 0xffffffff r.out_group;
 }
 
--- one port is asked for, and it is not there
+-- one port is asked for, and it does not exist
 abbrev pub asks_absent_port : MultipartRequest → List Port → Bool
 asks_absent_port Description ports = false
 asks_absent_port (Flow r) ports = false

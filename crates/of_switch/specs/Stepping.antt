@@ -9,7 +9,7 @@ use Rattle.of_switch.specs.declared.switch_error.SwitchError.TheVariants.{NoMemo
 use Rattle.of_switch.specs.State.{State}
 use Rattle.of_switch.specs.Runs.{Report, Gives, IsRefused, happened, drained, behind, effects_in, IsInterrupted}
 
--- the report of a refusal; want of memory has none
+-- the report of a refusal; running out of memory has none
 abbrev pub TellsRefusal : SwitchError → List Report → Result (Unit {0}) AllocError → List Report → Type 0
 TellsRefusal NoMemory old (Ok u) new = ⊥
 TellsRefusal NoMemory old (Err x) new = new ≡ old
@@ -37,7 +37,7 @@ abbrev pub Happens : Result (Unit {0}) AllocError → Event → State → State 
 Happens (Ok u) event s t old new = (t ≡ (happened event s).state) × (new ≡ old ++ (happened event s).report ∷ [])
 Happens (Err x) event s t old new = (more : List Report) × (new ≡ old ++ more) × IsInterrupted event s t more
 
--- all messages are handled, or those before one for which there was no memory
+-- all messages are handled, or those before one that ran out of memory
 abbrev pub Drains : Result (Unit {0}) AllocError → State → State → List Report → List Report → Type 0
 Drains (Ok u) s t old new = (t ≡ (drained s).state) × (new ≡ old ++ Gives (drained s).effects ∷ [])
 Drains (Err x) s t old new = (more : List Report) × (new ≡ old ++ more) × (drained s ≡ behind (effects_in more) (drained t))

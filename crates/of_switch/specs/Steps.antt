@@ -27,8 +27,8 @@ use Rattle.of_groups.specs.Groups.{left, modified_group, new_group, with_group}
 use Rattle.of_machine.specs.Rows.{acts, entering}
 use Rattle.of_switch.specs.Commands.{flow_mod_refusals, commanded, command_notices, notice_effects, packet_out_refusals, frame_of}
 use Rattle.of_switch.specs.GroupMods.{group_mod_fault, refused_for}
-use Rattle.of_switch.specs.declared.control.Heard.{Heard}
-use Rattle.of_switch.specs.Control.{heard_by, heard_in, released}
+use Rattle.of_switch.specs.declared.control.ReasonMasks.{ReasonMasks}
+use Rattle.of_switch.specs.Control.{masks_of, masks_while, released}
 use Rattle.of_switch.specs.declared.effect.Effect.{Effect}
 use Rattle.of_switch.specs.declared.effect.Effect.TheVariants.{Answer, Closed}
 use Rattle.of_switch.specs.declared.port_change.PortChange.{PortChange}
@@ -37,12 +37,12 @@ use Rattle.of_ports.specs.declared.port.Port.{Port}
 use Rattle.of_ports.specs.Ports.{new_port, port_at, with_port, without_port, at_port, linked, with_config}
 use Rattle.of_switch.specs.PortStatus.{status_told, change_told}
 use Rattle.of_switch.specs.PortMods.{port_mod_refusals, modified_port}
-use Rattle.of_switch.specs.Roles.{election_refusals, with_role}
+use Rattle.of_switch.specs.Roles.{generation_refusals, with_role}
 use Rattle.of_switch.specs.Statistics.{multipart_refusals, multipart_bytes}
 use Rattle.of_switch.specs.Plane.{Forwarded, framed, through}
 use Rattle.of_switch.specs.State.{Core, State}
 
--- A MESSAGE (7.3): what it gives and the core after it, whatever the connection
+-- A MESSAGE (7.3): its effects and the core after it, whatever the connection
 
 pub record Done : Type 0 where
   pub effects : List Effect
@@ -60,55 +60,55 @@ with_ports ports k = record k { forwarding = record k.forwarding { ports = ports
 abbrev pub with_groups : List AGroup → Core → Core
 with_groups groups k = record k { forwarding = record k.forwarding { groups = groups } }
 
--- what goes by the tables, the groups and the ports
+-- the effects of forwarding, and the core with the tables, groups and ports after it
 abbrev pub forwarded : Forwarded → Core → Done
 forwarded f k = does f.effects (record k { forwarding = f.forwarding })
 
--- what a message is refused for that was read, in the written order
+-- the refusals of a message that was read, in the written order
 abbrev pub state_refusals : Message → Core → List (Bool × Code)
 state_refusals (Multipart request) k = multipart_refusals request k.forwarding.ports
-state_refusals (IsRoleRequest request) k = election_refusals request k.control
+state_refusals (IsRoleRequest request) k = generation_refusals request k.control
 state_refusals (IsPacketOut m) k = packet_out_refusals m k.forwarding.groups
 state_refusals (IsPortMod m) k = port_mod_refusals m k.forwarding.ports
 state_refusals (IsFlowMod m) k = flow_mod_refusals m k.forwarding.tables k.forwarding.groups
 state_refusals (IsGroupMod m) k = refused_for (group_mod_fault m k.forwarding.tables.latest k.forwarding.groups)
 state_refusals other k = []
 
--- a FLOW_MOD does its command, with a notice of each entry that went
-abbrev pub flow_modded : FlowMod → Core → Done
-flow_modded m k = does (notice_effects (heard_by k.control) k.forwarding.tables.latest (command_notices m k.forwarding.tables)) (with_tables (commanded m k.forwarding.tables) k)
+-- a FLOW_MOD carries out its command, with the notices of the removed entries
+abbrev pub after_flow_mod : FlowMod → Core → Done
+after_flow_mod m k = does (notice_effects (masks_of k.control) k.forwarding.tables.latest (command_notices m k.forwarding.tables)) (with_tables (commanded m k.forwarding.tables) k)
 
--- a GROUP_MOD adds a group, which was added at the latest moment, or gives one another kind and other buckets
+-- a GROUP_MOD adds a group, whose time of creation is the latest moment, or gives one another type and other buckets
 abbrev pub group_added : ℕ → GroupKind → List Bucket → Core → Done
 group_added id kind buckets k = does [] (with_groups (with_group (new_group id kind buckets k.forwarding.tables.latest) k.forwarding.groups) k)
 
 abbrev pub group_modified : ℕ → GroupKind → List Bucket → Core → Done
 group_modified id kind buckets k = does [] (with_groups (with_group (modified_group id kind buckets k.forwarding.groups) k.forwarding.groups) k)
 
--- or deletes one or all, and the entries that name them, with a notice of each of these (6.5)
+-- or deletes one or all, and the entries that name them, with the notices of these entries (6.5)
 abbrev pub groups_deleted : Option ℕ → Core → Done
 groups_deleted which k =
-    does (notice_effects (heard_by k.control) k.forwarding.tables.latest (notices_in (Group which) k.forwarding.tables))
+    does (notice_effects (masks_of k.control) k.forwarding.tables.latest (notices_in (Group which) k.forwarding.tables))
     (with_groups (left which k.forwarding.groups) (with_tables (left_in (Group which) k.forwarding.tables) k))
 
-abbrev pub group_modded : GroupMod → Core → Done
-group_modded (group_mod.Add g) k = group_added g.id g.kind g.buckets k
-group_modded (group_mod.Modify g) k = group_modified g.id g.kind g.buckets k
-group_modded (group_mod.Delete which) k = groups_deleted which k
+abbrev pub after_group_mod : GroupMod → Core → Done
+after_group_mod (group_mod.Add g) k = group_added g.id g.kind g.buckets k
+after_group_mod (group_mod.Modify g) k = group_modified g.id g.kind g.buckets k
+after_group_mod (group_mod.Delete which) k = groups_deleted which k
 
--- a packet of the controller does its actions; it came in by no look-up
-abbrev pub packet_outed : PacketOut → Core → Done
-packet_outed m k = forwarded (through (heard_by k.control) (entering (frame_of m.packet) m.in_port) (acts m.actions) k.forwarding) k
+-- a PACKET_OUT runs its actions on its packet, with no lookup before
+abbrev pub after_packet_out : PacketOut → Core → Done
+after_packet_out m k = forwarded (through (masks_of k.control) (entering (frame_of m.packet) m.in_port) (acts m.actions) k.forwarding) k
 
--- a port gets its new configuration, and that is told where it shows
+-- a port gets its new configuration, with a PORT_STATUS where its description changes
 abbrev pub port_modded_at : PortMod → Core → Option Port → Done
 port_modded_at m k None = does [] k
-port_modded_at m k (Some p) = does (change_told (heard_by k.control) p (modified_port m p)) (with_ports (at_port m.port (with_config (modified_port m p).config) k.forwarding.ports) k)
+port_modded_at m k (Some p) = does (change_told (masks_of k.control) p (modified_port m p)) (with_ports (at_port m.port (with_config (modified_port m p).config) k.forwarding.ports) k)
 
-abbrev pub port_modded : PortMod → Core → Done
-port_modded m k = port_modded_at m k (port_at k.forwarding.ports m.port)
+abbrev pub after_port_mod : PortMod → Core → Done
+after_port_mod m k = port_modded_at m k (port_at k.forwarding.ports m.port)
 
--- what a controller sets: the configuration (7.3.2), its role, which it is told (7.3.9), and which messages it is told unasked (7.3.10)
+-- what a controller sets: the configuration (7.3.2), its role, with a ROLE_REPLY (7.3.9), and the masks of asynchronous messages (7.3.10)
 abbrev pub configured : SwitchConfig → Core → Done
 configured config k = does [] (record k { control = record k.control { config = config } })
 
@@ -124,7 +124,7 @@ replied xid request k = does (map Answer (multipart_bytes xid request k.forwardi
 abbrev pub masked : AsyncMasks → Core → Done
 masked masks k = does [] (record k { control = record k.control { masks = masks } })
 
--- what is done where nothing is refused: a later HELLO, an ERROR, an ECHO_REPLY and a TABLE_MOD do nothing
+-- what a message that is not refused does: a later HELLO, an ERROR, an ECHO_REPLY and a TABLE_MOD do nothing
 abbrev pub done : ℕ → Message → Core → Done
 done xid (EchoRequest echoed) k = does (Answer (echo_reply_bytes xid echoed) ∷ []) k
 done xid FeaturesRequest k = does (Answer (features_reply_bytes xid k.dpid) ∷ []) k
@@ -135,10 +135,10 @@ done xid (Multipart request) k = replied xid request k
 done xid (IsRoleRequest request) k = role_asked xid request k
 done xid GetAsyncRequest k = does (Answer (async_reply_bytes xid k.control.masks) ∷ []) k
 done xid (SetAsync masks) k = masked masks k
-done xid (IsPacketOut m) k = packet_outed m k
-done xid (IsPortMod m) k = port_modded m k
-done xid (IsFlowMod m) k = flow_modded m k
-done xid (IsGroupMod m) k = group_modded m k
+done xid (IsPacketOut m) k = after_packet_out m k
+done xid (IsPortMod m) k = after_port_mod m k
+done xid (IsFlowMod m) k = after_flow_mod m k
+done xid (IsGroupMod m) k = after_group_mod m k
 done xid other k = does [] k
 
 -- a refused message is answered by an ERROR with its first bytes (7.4.4), and does nothing else
@@ -154,7 +154,7 @@ handled xid m failed k = unless_refused (first_of (state_refusals m k)) xid fail
 
 -- THE SWITCH
 
--- what an event gives, and the switch after it
+-- the effects of an event, and the switch after it
 pub record Outcome : Type 0 where
   pub effects : List Effect
   pub state : State
@@ -162,7 +162,7 @@ pub record Outcome : Type 0 where
 abbrev pub gives : List Effect → State → Outcome
 gives effects s = record { effects = effects; state = s }
 
--- the connection stands there, and the core has done that
+-- this connection, beside what the core has done
 abbrev pub beside : Connection → Done → Outcome
 beside c d = gives d.effects (record { connection = c; core = d.core })
 
@@ -171,25 +171,25 @@ beside c d = gives d.effects (record { connection = c; core = d.core })
 abbrev pub connected : State → Outcome
 connected s = gives (Answer hello_bytes ∷ []) (record s { connection = greeting })
 
--- what a controller set for itself goes with its connection
+-- what a controller set for itself ends with its connection
 abbrev pub without_connection : Core → Core
 without_connection k = record k { control = released k.control }
 
--- the connection is gone, and what came and was not handled; without one nothing happens
+-- the connection is lost, with the bytes that were received and not handled; without a connection nothing happens
 abbrev pub lost : State → State
 lost s = if is_disconnected s.connection.phase then s else record { connection = alone; core = without_connection s.core }
 
--- bytes of the controller come
+-- bytes of the controller are received
 abbrev pub fed : List ℕ → State → State
 fed piece s = record s { connection = fed_connection piece s.connection }
 
--- WHAT COMES NEXT OF THE CONTROLLER'S STREAM
+-- WHAT COMES NEXT IN THE CONTROLLER'S STREAM
 
--- the first 64 bytes of the message that comes next
+-- the first 64 bytes of the next message
 abbrev pub failed_of : ℕ → Connection → List ℕ
 failed_of size c = take 64 (take size c.pending)
 
--- an error without the message, and the end of the connection
+-- an ERROR, and the end of the connection
 abbrev pub closing : List ℕ → Core → Done
 closing error k = does (Answer error ∷ Closed ∷ []) (without_connection k)
 
@@ -210,7 +210,7 @@ then_beside c (Some d) = Some (beside c d)
 abbrev pub next_by : Next → State → Option Outcome
 next_by next s = then_beside (entered next s.connection) (came next s.connection s.core)
 
--- what comes next of the controller, whose role decides which messages it may send
+-- what comes next from the controller, whose role decides which messages it may send
 abbrev pub coming : State → Next
 coming s = next_in s.core.control.role s.connection
 
@@ -224,45 +224,45 @@ IsRefusedWith (Refused x n c) k xid size code = (x ≡ xid) × (n ≡ size) × (
 IsRefusedWith (Read x n m) k xid size code = (x ≡ xid) × (n ≡ size) × (first_of (state_refusals m k) ≡ Some code)
 IsRefusedWith other k xid size code = ⊥
 
--- WHAT THE CONTROLLER IS TOLD UNASKED
+-- THE ASYNCHRONOUS MESSAGES THAT THE CONTROLLER RECEIVES
 
-abbrev pub heard_of : State → Heard
-heard_of s = heard_in s.connection.phase s.core.control
+abbrev pub masks_of_state : State → ReasonMasks
+masks_of_state s = masks_while s.connection.phase s.core.control
 
 -- A FRAME
 
 abbrev pub frame_in : ℕ → List ℕ → State → Outcome
-frame_in port bytes s = beside s.connection (forwarded (framed (heard_of s) port bytes s.core.forwarding) s.core)
+frame_in port bytes s = beside s.connection (forwarded (framed (masks_of_state s) port bytes s.core.forwarding) s.core)
 
--- A MOMENT: entries whose time is over go (5.5), with a notice of each whose flags ask for one
+-- A MOMENT: expired entries are removed (5.5), with a notice of each whose flags ask for one
 
-abbrev pub moment_done : Heard → ℕ → Core → Done
-moment_done heard now k =
+abbrev pub moment_done : ReasonMasks → ℕ → Core → Done
+moment_done reason_masks now k =
     let ts = k.forwarding.tables in
-    does (notice_effects heard (max ts.latest now) (expiry_notices now ts)) (with_tables (expired now ts) k)
+    does (notice_effects reason_masks (max ts.latest now) (expiry_notices now ts)) (with_tables (expired now ts) k)
 
 abbrev pub moment_in : ℕ → State → Outcome
-moment_in now s = beside s.connection (moment_done (heard_of s) now s.core)
+moment_in now s = beside s.connection (moment_done (masks_of_state s) now s.core)
 
--- A PORT (7.2.1): it comes, goes, or its link changes, which is told where it shows; no flow and no group changes
+-- A PORT (7.2.1): it is added or removed, or its link changes, with a PORT_STATUS where that shows; no flow and no group changes
 
 -- a port is added at the latest moment
-abbrev pub port_added : Heard → Port → Core → Done
-port_added heard p k = does (status_told heard port.Add p) (with_ports (with_port p k.forwarding.ports) k)
+abbrev pub port_added : ReasonMasks → Port → Core → Done
+port_added reason_masks p k = does (status_told reason_masks port.Add p) (with_ports (with_port p k.forwarding.ports) k)
 
--- a port that goes is told as it was
-abbrev pub removed_at : Heard → ℕ → Core → Option Port → Done
-removed_at heard n k None = does [] k
-removed_at heard n k (Some p) = does (status_told heard port.Delete p) (with_ports (without_port n k.forwarding.ports) k)
+-- the PORT_STATUS of a removed port describes it as it was
+abbrev pub removed_at : ReasonMasks → ℕ → Core → Option Port → Done
+removed_at reason_masks n k None = does [] k
+removed_at reason_masks n k (Some p) = does (status_told reason_masks port.Delete p) (with_ports (without_port n k.forwarding.ports) k)
 
-abbrev pub linked_at : Heard → ℕ → Bool → Core → Option Port → Done
-linked_at heard n up k None = does [] k
-linked_at heard n up k (Some p) = does (change_told heard p (linked up p)) (with_ports (at_port n (linked up) k.forwarding.ports) k)
+abbrev pub linked_at : ReasonMasks → ℕ → Bool → Core → Option Port → Done
+linked_at reason_masks n up k None = does [] k
+linked_at reason_masks n up k (Some p) = does (change_told reason_masks p (linked up p)) (with_ports (at_port n (linked up) k.forwarding.ports) k)
 
-abbrev pub port_done : Heard → PortChange → Core → Done
-port_done heard (Add number hw name up) k = port_added heard (new_port number hw name up k.forwarding.tables.latest) k
-port_done heard (Remove n) k = removed_at heard n k (port_at k.forwarding.ports n)
-port_done heard (Link n up) k = linked_at heard n up k (port_at k.forwarding.ports n)
+abbrev pub port_done : ReasonMasks → PortChange → Core → Done
+port_done reason_masks (Add number hw name up) k = port_added reason_masks (new_port number hw name up k.forwarding.tables.latest) k
+port_done reason_masks (Remove n) k = removed_at reason_masks n k (port_at k.forwarding.ports n)
+port_done reason_masks (Link n up) k = linked_at reason_masks n up k (port_at k.forwarding.ports n)
 
 abbrev pub port_changed : PortChange → State → Outcome
-port_changed change s = beside s.connection (port_done (heard_of s) change s.core)
+port_changed change s = beside s.connection (port_done (masks_of_state s) change s.core)

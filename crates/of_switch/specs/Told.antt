@@ -1,4 +1,4 @@
--- What a switch sends of what a packet's run emitted: frames out of ports, and PACKET_INs to the controller (OpenFlow 1.3.5, 7.4.1).
+-- What a switch sends of the items that a packet's run gave: frames out of ports, and PACKET_INs to the controller (OpenFlow 1.3.5, 7.4.1).
 use Rattle.std.specs.Prelude.{ℕ, ◌^◌, Bool, true, false, not, ◌&&◌, List, [], map, filter, if◌then◌else◌}
 use Rattle.std.specs.Option.{option_map_or}
 use Rattle.of_wire.specs.Reasons.{packet_in_number}
@@ -10,17 +10,17 @@ use Rattle.of_machine.specs.declared.data.Item.{Item}
 use Rattle.of_machine.specs.declared.data.Item.TheVariants as item
 use Rattle.of_ports.specs.declared.port.Port.{Port}
 use Rattle.of_ports.specs.Ports.{port_at}
-use Rattle.of_switch.specs.declared.control.Heard.{Heard}
+use Rattle.of_switch.specs.declared.control.ReasonMasks.{ReasonMasks}
 use Rattle.of_switch.specs.Control.{lets_pass}
 use Rattle.of_switch.specs.declared.effect.Effect.{Effect}
 use Rattle.of_switch.specs.declared.effect.Effect.TheVariants.{Answer, Sent}
 
--- WHAT IS TOLD UNASKED goes by the reason: each is a bit of the mask of its message (7.3.10)
+-- ASYNCHRONOUS MESSAGES are filtered by reason: each is a bit of the mask of its message (7.3.10)
 
 abbrev pub told : ℕ → ℕ → List Effect → List Effect
 told mask reason effects = if lets_pass mask reason then effects else []
 
--- a message that the switch begins has the transaction id 0
+-- an asynchronous message has the transaction id 0
 abbrev pub effect_of : Item → Effect
 effect_of (item.Sent port frame) = Sent port frame
 effect_of (item.PacketIn p) =
@@ -31,14 +31,14 @@ is_no_match reason.NoMatch = true
 is_no_match reason.Action = false
 is_no_match reason.InvalidTtl = false
 
--- OFPPC_NO_PACKET_IN of the ingress port, where it is there, silences what the entry for table misses sends, and that alone (7.2.1)
-abbrev pub is_silenced : List Port → ToController → Bool
-is_silenced ports p = is_no_match p.reason && option_map_or (λ q. q.config.no_packet_in) (port_at ports p.ingress) false
+-- OFPPC_NO_PACKET_IN of the ingress port, where that exists, suppresses what the table-miss flow entry sends, and that alone (7.2.1)
+abbrev pub is_suppressed : List Port → ToController → Bool
+is_suppressed ports p = is_no_match p.reason && option_map_or (λ q. q.config.no_packet_in) (port_at ports p.ingress) false
 
--- a frame always leaves
-abbrev pub is_given : Heard → List Port → Item → Bool
-is_given heard ports (item.Sent port frame) = true
-is_given heard ports (item.PacketIn p) = lets_pass heard.packet_in (2 ^ packet_in_number p.reason) && not (is_silenced ports p)
+-- a frame is always sent
+abbrev pub is_given : ReasonMasks → List Port → Item → Bool
+is_given reason_masks ports (item.Sent port frame) = true
+is_given reason_masks ports (item.PacketIn p) = lets_pass reason_masks.packet_in (2 ^ packet_in_number p.reason) && not (is_suppressed ports p)
 
-abbrev pub effects_of : Heard → List Port → List Item → List Effect
-effects_of heard ports items = map effect_of (filter (is_given heard ports) items)
+abbrev pub effects_of : ReasonMasks → List Port → List Item → List Effect
+effects_of reason_masks ports items = map effect_of (filter (is_given reason_masks ports) items)

@@ -1,17 +1,17 @@
-//! FLOW_MOD commands in terms of the flow tables (OpenFlow 1.3.5, 6.4), and notices of entries that went (7.4.2).
+//! FLOW_MOD commands in terms of the flow tables (OpenFlow 1.3.5, 6.4), and notices of removed entries (7.4.2).
 
 ghost use Rattle.std.specs.Prelude.{◌≡◌, OnOk, IfOk};
 ghost use Rattle.of_table.specs.Selecting.{notice_of, notices_of};
-ghost use Rattle.of_switch.specs.Commands.{flags_of, flow_of, has_flag as with_flag, is_strict as strict, notice_effect, notice_effects, out_of, removed_of, unless_any as none_for, which_of, is_to_absent_group as to_absent_group, names_absent_group as naming_absent_group};
+ghost use Rattle.of_switch.specs.Commands.{flags_of, flow_of, has_flag as with_flag, is_strict as strict, notice_effect, notice_effects, out_of, removed_of, unless_any as none_for, selector_of, is_to_absent_group as to_absent_group, names_absent_group as naming_absent_group};
 ghost use Rattle.std.specs.List.{list_any};
 ghost use Rattle.of_table.specs.Selecting.{has_action};
 
-use crate::control::{Heard, lets_through};
+use crate::control::{ReasonMasks, lets_through};
 use crate::effect::{Effect, Effects};
 use of_actions::{Action, Instruction};
 use of_groups::Groups;
 use of_messages::{FlowMod, FlowModCommand, FlowRemoved, write_flow_removed};
-use of_table::{Flow, FlowFlags, NANOS, Removed, Which};
+use of_table::{Flow, FlowFlags, NANOS, Removed, Selector};
 use std::alloc::{AllocError, Global};
 
 /// OFPTT_ALL: all tables.
@@ -47,7 +47,7 @@ fn is_to_absent_group(action: Action, groups: &Groups) -> bool
     }
 }
 
-/// Whether some action gives the packet to a group that is not there.
+/// Whether some action sends the packet to a group that does not exist.
 pub fn any_to_absent_group(actions: &[Action], groups: &Groups) -> bool
     ensures { result ≡ list_any (to_absent_group groups.now) actions.now }
 {
@@ -67,7 +67,7 @@ fn instruction_names_absent_group(instruction: &Instruction, groups: &Groups) ->
     }
 }
 
-/// Whether some action of the instructions gives the packet to a group that is not there.
+/// Whether some action of the instructions sends the packet to a group that does not exist.
 pub fn names_absent_group(instructions: &[Instruction], groups: &Groups) -> bool
     ensures { result ≡ naming_absent_group groups.now instructions.now }
 {
@@ -108,11 +108,11 @@ fn out_from(command: FlowModCommand, number: u32) -> Option<u32>
     }
 }
 
-/// The entries that a MODIFY or DELETE command is for.
-pub fn which_from(flow_mod: FlowMod) -> Which
-    ensures { result ≡ which_of flow_mod }
+/// The entries that a MODIFY or DELETE command selects.
+pub fn which_from(flow_mod: FlowMod) -> Selector
+    ensures { result ≡ selector_of flow_mod }
 {
-    Which {
+    Selector {
         table: if flow_mod.table == ALL_TABLES {
             None
         } else {
@@ -157,18 +157,18 @@ fn notice(alloc: Global, removed: &Removed<'_>, now: u64) -> Result<Effect, Allo
     Ok(Effect::Answer(write_flow_removed(alloc, 0, &told, &removed.entry.flow.fields)?))
 }
 
-/// The FLOW_REMOVED messages of entries that went, in their order: those of which the controller is told.
+/// The FLOW_REMOVED messages of removed entries, in their order: those that the controller's mask lets pass.
 pub fn notices(
     alloc: Global,
-    heard: Heard,
+    reason_masks: ReasonMasks,
     removed: &[Removed<'_>],
     now: u64,
 ) -> Result<Effects, AllocError>
-    ensures { IfOk result (λ effects. effects.items ≡ notice_effects heard now (notices_of removed.now)) }
+    ensures { IfOk result (λ effects. effects.items ≡ notice_effects reason_masks now (notices_of removed.now)) }
 {
     let mut effects = Effects::new(alloc);
     for one in removed {
-        if lets_through(heard.flow_removed, one.reason.bit()) {
+        if lets_through(reason_masks.flow_removed, one.reason.bit()) {
             effects.push(notice(alloc, one, now)?)?;
         }
     }

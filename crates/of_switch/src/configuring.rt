@@ -12,7 +12,7 @@ ghost use Rattle.of_text.specs.Views.{view, view_flows, view_groups};
 ghost use Rattle.of_switch.specs.Loading.{configuration_of, entry_text, flow_kept, texts_from};
 ghost use Rattle.of_switch.specs.Configuring.{AreKeptFrom};
 ghost use Rattle.of_switch.specs.Numbers.{forwarding_of};
-ghost use Rattle.of_switch.specs.Standing.{IsStanding};
+ghost use Rattle.of_switch.specs.Standing.{GroupsExist};
 
 use of_classifier::Lookup;
 use of_groups::{Group, Groups};
@@ -87,14 +87,14 @@ fn groups_text(alloc: Global, groups: &[Group]) -> Result<Vec<GroupText>, AllocE
     Ok(made)
 }
 
-/// The configuration of tables and groups that stand beside each other.
+/// The configuration of tables and groups: each group that an entry names has to exist.
 pub fn config_from<L: Lookup>(
     alloc: Global,
     tables: &FlowTables<L>,
     groups: &Groups,
     ports: &Ports,
 ) -> Result<Config, AllocError>
-    requires { IsStanding (forwarding_of tables.now groups.now ports.now) }
+    requires { GroupsExist (forwarding_of tables.now groups.now ports.now) }
     ensures { IfOk result (λ config. config ≡ configuration_of (forwarding_of tables.now groups.now ports.now)) }
 {
     tables.known();

@@ -1,27 +1,27 @@
-//! What a controller has set, and what it is told unasked.
+//! What a controller has set, and which asynchronous messages it receives.
 ghost use Rattle.std.specs.Prelude.{◌≡◌};
-ghost use Rattle.of_switch.specs.Roles.{has_stale_election as is_from_stale, is_stale as is_stale_after, with_role};
-ghost use Rattle.of_switch.specs.Control.{first_masks, heard_by, heard_in, lets_pass, new_control, released};
+ghost use Rattle.of_switch.specs.Roles.{has_stale_generation as is_from_stale, is_stale as is_stale_after, with_role};
+ghost use Rattle.of_switch.specs.Control.{first_masks, masks_of, masks_while, lets_pass, new_control, released};
 
 use of_messages::{AsyncMasks, Role, RoleMasks, RoleRequest, SwitchConfig};
 use of_session::Phase;
 
-/// What a controller has set of a switch.
+/// What a controller has set in a switch.
 #[derive(Clone, Copy, Debug, PartialEq, Eq)]
 pub struct Control {
     /// Its role (OpenFlow 1.3.5, 7.3.9).
     pub role: Role,
-    /// The last election by which a controller became master or slave.
+    /// The generation_id with which a controller last became master or slave.
     pub generation: Option<u64>,
-    /// Which messages it is told that it does not ask for (7.3.10).
+    /// Which asynchronous messages it receives (7.3.10).
     pub masks: AsyncMasks,
     /// The configuration of the switch (7.3.2).
     pub config: SwitchConfig,
 }
 
-/// The reasons for which a controller is told something that it did not ask for, as bits.
+/// The reasons for which a controller receives asynchronous messages, as bits.
 #[derive(Clone, Copy, Debug, PartialEq, Eq)]
-pub struct Heard {
+pub struct ReasonMasks {
     pub packet_in: u32,
     pub port_status: u32,
     pub flow_removed: u32,
@@ -59,7 +59,7 @@ impl Control {
         }
     }
 
-    /// Without what goes with the connection.
+    /// Without what ends with the connection.
     pub fn released(self) -> Control
         ensures { result ≡ released self }
     {
@@ -70,18 +70,18 @@ impl Control {
         }
     }
 
-    /// What the controller of an open connection is told.
-    pub fn heard_open(&self) -> Heard
-        ensures { result ≡ heard_by self.now }
+    /// The asynchronous messages for the controller of an open connection.
+    pub fn heard_open(&self) -> ReasonMasks
+        ensures { result ≡ masks_of self.now }
     {
         let masks = &self.masks;
         match self.role {
-            Role::Equal | Role::Master => Heard {
+            Role::Equal | Role::Master => ReasonMasks {
                 packet_in: masks.packet_in.master,
                 port_status: masks.port_status.master,
                 flow_removed: masks.flow_removed.master,
             },
-            Role::Slave => Heard {
+            Role::Slave => ReasonMasks {
                 packet_in: masks.packet_in.slave,
                 port_status: masks.port_status.slave,
                 flow_removed: masks.flow_removed.slave,
@@ -89,14 +89,14 @@ impl Control {
         }
     }
 
-    /// What the controller is told, where its connection stands there.
-    pub fn heard(&self, phase: Phase) -> Heard
-        ensures { result ≡ heard_in phase self.now }
+    /// The asynchronous messages for the controller, by the phase of its connection.
+    pub fn reason_masks(&self, phase: Phase) -> ReasonMasks
+        ensures { result ≡ masks_while phase self.now }
     {
         if phase == Phase::Open {
             self.heard_open()
         } else {
-            Heard {
+            ReasonMasks {
                 packet_in: 0,
                 port_status: 0,
                 flow_removed: 0,
@@ -105,7 +105,7 @@ impl Control {
     }
 }
 
-// Whether an election comes before the last one: their distance as a signed number is below 0.
+// Whether a generation_id is older than the last one: their distance as a signed number is below 0.
 fn is_stale(generation: u64, last: Option<u64>) -> bool
     ensures { result ≡ is_stale_after generation last }
 {
@@ -116,8 +116,8 @@ fn is_stale(generation: u64, last: Option<u64>) -> bool
 }
 
 impl Control {
-    /// Whether the election by which a role is asked for comes before the last one.
-    pub fn has_stale_election(&self, request: RoleRequest) -> bool
+    /// Whether the generation_id of a role request is older than the last one.
+    pub fn has_stale_generation(&self, request: RoleRequest) -> bool
         ensures { result ≡ is_from_stale request self.now }
     {
         match request {

@@ -1,4 +1,4 @@
-//! What a frame would do, found by looking alone.
+//! What a frame would do, found without changing anything.
 ghost use Rattle.std.specs.Prelude.{◌≡◌, ◌<◌, ◌≤◌, ◌++◌, ◌∷◌, [], true, IfOk, OnOk, OnErr, length, slice_get};
 ghost use Rattle.std.specs.Option.{option_copied, option_map};
 ghost use Rattle.of_headers.specs.FieldMap.{value};
@@ -12,7 +12,7 @@ ghost use Rattle.of_machine.specs.Rows.{Lookup as LookUp, entering};
 ghost use Rattle.of_machine.specs.Runs.{run_of};
 ghost use Rattle.of_switch.specs.Told.{effects_of};
 
-use crate::control::Heard;
+use crate::control::ReasonMasks;
 use crate::effect::Effects;
 use crate::plane::{Plane, TABLES, known_groups};
 use crate::told::effects_from;
@@ -25,7 +25,7 @@ use of_ports::Port;
 use of_table::{Entries, Entry, Flow};
 use std::alloc::{AllocError, Global};
 
-/// The tables, the groups and the ports, only lent: entries are found by `peek`, and named by their places by age.
+/// The tables, the groups and the ports, only borrowed: entries are found by `peek`, and named by their index by age.
 #[derive(Drop)]
 struct Looking<'a, L: Lookup> {
     plane: &'a Plane<L>,
@@ -105,14 +105,14 @@ impl<L: Lookup> World for Looking<'_, L> {
 }
 
 impl<L: Lookup> Plane<L> {
-    /// The tables and the groups keep what the machine is promised.
+    /// The tables and the groups have the invariants that the machine needs.
     pub fn known_world(&self)
         ensures { IsSound (world_of (forwarding_of self.now.tables self.now.groups self.now.ports)) }
     {
         Looking { plane: self }.known();
     }
 
-    /// The place by age of the entry of a table that wins for these fields (OpenFlow 1.3.5, 5.3).
+    /// The index by age of the entry of a table that wins for these fields (OpenFlow 1.3.5, 5.3).
     pub fn winner(&self, table: u8, key: &FieldKey) -> Option<usize>
         ensures { result ≡ winner_in (forwarding_of self.now.tables self.now.groups self.now.ports) table (value key.now) }
     {
@@ -120,7 +120,7 @@ impl<L: Lookup> Plane<L> {
         world.find(table, key)
     }
 
-    /// The entry of a table at a place by age, from 0.
+    /// The entry of a table at an index by age, from 0.
     pub fn entry(&self, table: u8, place: usize) -> Option<&Entry>
         requires { table < 16 }
         ensures { option_map (λ e. entry_of e.now) result ≡ slice_get (table_at table (tables_of self.now.tables)).flows place }
@@ -145,16 +145,16 @@ impl<L: Lookup> Plane<L> {
         self.groups.buckets_for(group, &self.ports)
     }
 
-    /// What a frame that comes in by a port would give, and its steps (OpenFlow 1.3.5, 5.1), where the controller is told this.
+    /// What a frame that is received at a port would give, and its steps (OpenFlow 1.3.5, 5.1), with these asynchronous messages.
     pub fn dry_run<S: StepLog>(
         &self,
         alloc: Global,
-        heard: Heard,
+        reason_masks: ReasonMasks,
         number: u32,
         bytes: &[u8],
         log: &mut S,
     ) -> Result<Effects, AllocError>
-        ensures effects { IfOk result (λ effects. effects.items ≡ (framed heard number bytes.now (forwarding_of self.now.tables self.now.groups self.now.ports)).effects) }
+        ensures effects { IfOk result (λ effects. effects.items ≡ (framed reason_masks number bytes.now (forwarding_of self.now.tables self.now.groups self.now.ports)).effects) }
         ensures steps { OnOk result (S.KEEPS ≡ true → S.list log.new ≡ S.list log.old ++ steps_in number bytes.now (forwarding_of self.now.tables self.now.groups self.now.ports)) }
         ensures err { OnErr result (S.KEEPS ≡ true → GainsPrefix (steps_in number bytes.now (forwarding_of self.now.tables self.now.groups self.now.ports)) (S.list log.old) (S.list log.new)) }
     {
@@ -164,21 +164,21 @@ impl<L: Lookup> Plane<L> {
         if !port.may_receive() || check_length(bytes).is_err() {
             return Ok(Effects::new(alloc));
         }
-        self.dry_run_received(alloc, heard, number, bytes, log)
+        self.dry_run_received(alloc, reason_masks, number, bytes, log)
     }
 
-    // A frame that is received.
+    // A received frame.
     fn dry_run_received<S: StepLog>(
         &self,
         alloc: Global,
-        heard: Heard,
+        reason_masks: ReasonMasks,
         number: u32,
         bytes: &[u8],
         log: &mut S,
     ) -> Result<Effects, AllocError>
         requires long { 14 ≤ length bytes.now }
         requires most { length bytes.now ≤ 9216 }
-        ensures effects { IfOk result (λ effects. effects.items ≡ effects_of heard self.now.ports (run_of (world_of (forwarding_of self.now.tables self.now.groups self.now.ports)) (entering bytes.now number) (LookUp 0 ∷ [])).items) }
+        ensures effects { IfOk result (λ effects. effects.items ≡ effects_of reason_masks self.now.ports (run_of (world_of (forwarding_of self.now.tables self.now.groups self.now.ports)) (entering bytes.now number) (LookUp 0 ∷ [])).items) }
         ensures steps { OnOk result (S.KEEPS ≡ true → S.list log.new ≡ S.list log.old ++ received_steps number bytes.now (forwarding_of self.now.tables self.now.groups self.now.ports)) }
         ensures err { OnErr result (S.KEEPS ≡ true → GainsPrefix (received_steps number bytes.now (forwarding_of self.now.tables self.now.groups self.now.ports)) (S.list log.old) (S.list log.new)) }
     {
@@ -186,6 +186,6 @@ impl<L: Lookup> Plane<L> {
         world.known();
         let packet = Packet::new(PacketFrame::new(bytes), number);
         let outcome = run(alloc, &mut world, packet, log)?;
-        effects_from(alloc, heard, &self.ports, outcome.items)
+        effects_from(alloc, reason_masks, &self.ports, outcome.items)
     }
 }

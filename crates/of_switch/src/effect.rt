@@ -2,7 +2,7 @@ use of_messages::MessageBytes;
 use of_wire::Bytes;
 use smallvec::SmallVec;
 
-/// What a call of the switch gives, in order. Two effects need no memory of their own.
+/// What a call of the switch gives, in order. Up to two effects need no allocation.
 pub type Effects = SmallVec<Effect, 2>;
 
 /// One thing that a call of the switch gives.

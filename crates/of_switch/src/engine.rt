@@ -12,23 +12,23 @@ ghost use Rattle.of_table.specs.Tables.{modified_in, left_in, notices_in, table_
 ghost use Rattle.of_actions.specs.FlowCheck.{all_go_with};
 ghost use Rattle.of_actions.specs.InstructionLists.{are_for};
 ghost use Rattle.of_messages.specs.Promised.{IsSoundFlowMod, IsSoundGroupMod, IsSoundMessage, IsSoundPacket};
-ghost use Rattle.of_switch.specs.Commands.{names_absent_group as naming_absent_group, packet_out_refusals, flow_mod_refusals, has_flag as with_flag, notice_effects, which_of};
+ghost use Rattle.of_switch.specs.Commands.{names_absent_group as naming_absent_group, packet_out_refusals, flow_mod_refusals, has_flag as with_flag, notice_effects, selector_of};
 ghost use Rattle.of_machine.specs.Sound.{IsSound};
 ghost use Rattle.of_switch.specs.Plane.{framed, winner_in, world_of};
 ghost use Rattle.of_switch.specs.DryRun.{GainsPrefix, steps_in};
 ghost use Rattle.of_groups.specs.Groups.{modified_group, new_group};
 ghost use Rattle.of_groups.specs.Faults.{add_fault, delete_fault, modify_fault};
 ghost use Rattle.of_switch.specs.GroupMods.{group_mod_fault, refused_for};
-ghost use Rattle.of_switch.specs.Control.{heard_by, heard_in};
-ghost use Rattle.of_switch.specs.Roles.{election_refusals};
+ghost use Rattle.of_switch.specs.Control.{masks_of, masks_while};
+ghost use Rattle.of_switch.specs.Roles.{generation_refusals};
 ghost use Rattle.of_switch.specs.Statistics.{multipart_bytes, multipart_refusals};
 ghost use Rattle.of_switch.specs.Handling.{Handles};
 ghost use Rattle.of_switch.specs.Loading.{configuration_of, loaded_core};
-ghost use Rattle.of_switch.specs.Steps.{does, done, flow_modded, forwarded, group_added, group_modded, group_modified, groups_deleted, linked_at, packet_outed, port_added, port_modded, removed_at, replied, role_asked, state_refusals, with_tables, without_connection, moment_done};
+ghost use Rattle.of_switch.specs.Steps.{does, done, after_flow_mod, forwarded, group_added, after_group_mod, group_modified, groups_deleted, linked_at, after_packet_out, port_added, after_port_mod, removed_at, replied, role_asked, state_refusals, with_tables, without_connection, moment_done};
 
 use crate::commands::{any_to_absent_group, flow_from, has_flag, names_absent_group, which_from};
 use crate::configuring::config_from;
-use crate::control::{Control, Heard};
+use crate::control::{Control, ReasonMasks};
 use crate::effect::{Effect, Effects};
 use crate::loading::load_tables;
 use crate::plane::Plane;
@@ -78,7 +78,7 @@ const BAD_REQUESTED_PORT: Code = Code { kind: 1, code: 11 };
 
 const STALE: Code = Code { kind: 11, code: 0 };
 
-/// Why a message was not done.
+/// Why a message was not carried out.
 #[derive(Clone, Copy, Debug, PartialEq, Eq)]
 pub enum Fault {
     Memory,
@@ -113,7 +113,7 @@ impl From<GroupFault> for Fault {
 
 /// The core of a switch: its flow tables, groups and ports.
 ///
-/// Each group that an entry names is there, and none has a number above OFPG_MAX.
+/// Each group that an entry names exists, and none has a number above OFPG_MAX.
 #[derive(Drop)]
 pub struct Engine<L: Lookup> {
     dpid: u64,
@@ -125,13 +125,13 @@ pub struct Engine<L: Lookup> {
 impl<L: Lookup> Model for Engine<L> {
     ghost use Rattle.of_switch.specs.State.{Core};
     ghost use Rattle.of_switch.specs.Numbers.{forwarding_of};
-    ghost use Rattle.of_switch.specs.Standing.{IsStanding};
+    ghost use Rattle.of_switch.specs.Standing.{GroupsExist};
 
     ghost Value = { Core };
 
     ghost view = { λ e. record { dpid = e.dpid; control = e.control; forwarding = forwarding_of e.plane.tables e.plane.groups e.plane.ports } };
 
-    ghost invariant = { λ e. IsStanding (forwarding_of e.plane.tables e.plane.groups e.plane.ports) };
+    ghost invariant = { λ e. GroupsExist (forwarding_of e.plane.tables e.plane.groups e.plane.ports) };
 }
 
 impl<L: Lookup> Engine<L> {
@@ -146,11 +146,11 @@ impl<L: Lookup> Engine<L> {
         })
     }
 
-    /// What the controller is told unasked, where its connection stands there.
-    pub fn heard(&self, phase: Phase) -> Heard
-        ensures { result ≡ heard_in phase self.now.control }
+    /// The asynchronous messages for the controller, by the phase of its connection.
+    pub fn reason_masks(&self, phase: Phase) -> ReasonMasks
+        ensures { result ≡ masks_while phase self.now.control }
     {
-        self.control.heard(phase)
+        self.control.reason_masks(phase)
     }
 
     /// The role of the controller.
@@ -160,7 +160,7 @@ impl<L: Lookup> Engine<L> {
         self.control.role
     }
 
-    /// The connection is gone, and what the controller set for itself.
+    /// The connection is lost, and with it what the controller set for itself.
     pub fn release(&mut self)
         ensures { self.new ≡ without_connection self.old }
     {
@@ -179,10 +179,10 @@ impl<L: Lookup> Engine<L> {
         self.plane.ports.len()
     }
 
-    /// A port is added at the latest moment, while the controller is told this.
+    /// Adds a port at the latest moment. The controller receives the asynchronous messages `heard`.
     pub fn add_port(
         &mut self,
-        heard: Heard,
+        reason_masks: ReasonMasks,
         number: u32,
         hw: [u8; 6],
         name: [u8; 16],
@@ -190,37 +190,41 @@ impl<L: Lookup> Engine<L> {
     ) -> Result<Effects, AllocError>
         requires new { has_port number self.old.forwarding.ports ≡ false }
         requires room { length self.old.forwarding.ports < 64 }
-        ensures ok { IfOk result (λ effects. port_added heard (new_port number hw name is_up self.old.forwarding.tables.latest) self.old ≡ does effects.items self.new) }
+        ensures ok { IfOk result (λ effects. port_added reason_masks (new_port number hw name is_up self.old.forwarding.tables.latest) self.old ≡ does effects.items self.new) }
         ensures err { OnErr result (self.new ≡ self.old) }
     {
         let created = self.plane.tables.latest();
         let port = Port::new(number, hw, name, is_up, created);
-        let effects = write_status(self.alloc, heard, PortStatusReason::Add, &port)?;
+        let effects = write_status(self.alloc, reason_masks, PortStatusReason::Add, &port)?;
         self.plane.ports.add(port)?;
         Ok(effects)
     }
 
-    /// A port is gone, while the controller is told this.
-    pub fn remove_port(&mut self, heard: Heard, number: u32) -> Result<Effects, AllocError>
-        ensures ok { IfOk result (λ effects. removed_at heard number self.old (port_at self.old.forwarding.ports number) ≡ does effects.items self.new) }
+    /// Removes a port. The controller receives the asynchronous messages `heard`.
+    pub fn remove_port(
+        &mut self,
+        reason_masks: ReasonMasks,
+        number: u32,
+    ) -> Result<Effects, AllocError>
+        ensures ok { IfOk result (λ effects. removed_at reason_masks number self.old (port_at self.old.forwarding.ports number) ≡ does effects.items self.new) }
         ensures err { OnErr result (self.new ≡ self.old) }
     {
         let Some(port) = self.plane.ports.port(number) else {
             return Ok(Effects::new(self.alloc));
         };
-        let effects = write_status(self.alloc, heard, PortStatusReason::Delete, port)?;
+        let effects = write_status(self.alloc, reason_masks, PortStatusReason::Delete, port)?;
         self.plane.ports.remove(number);
         Ok(effects)
     }
 
-    /// A port's link is up from now on, or down, while the controller is told this.
+    /// Sets whether a port's link is up. The controller receives the asynchronous messages `heard`.
     pub fn set_link(
         &mut self,
-        heard: Heard,
+        reason_masks: ReasonMasks,
         number: u32,
         is_link_up: bool,
     ) -> Result<Effects, AllocError>
-        ensures ok { IfOk result (λ effects. linked_at heard number is_link_up self.old (port_at self.old.forwarding.ports number) ≡ does effects.items self.new) }
+        ensures ok { IfOk result (λ effects. linked_at reason_masks number is_link_up self.old (port_at self.old.forwarding.ports number) ≡ does effects.items self.new) }
         ensures err { OnErr result (self.new ≡ self.old) }
     {
         let Some(port) = self.plane.ports.port(number) else {
@@ -230,50 +234,58 @@ impl<L: Lookup> Engine<L> {
             is_link_up,
             ..*port
         };
-        let effects = write_change(self.alloc, heard, port, &linked)?;
+        let effects = write_change(self.alloc, reason_masks, port, &linked)?;
         self.plane.ports.set_link(number, is_link_up);
         Ok(effects)
     }
 
-    /// A frame comes in by a port, while the controller is told this.
-    pub fn frame(&mut self, heard: Heard, number: u32, bytes: &[u8]) -> Result<Effects, AllocError>
-        ensures ok { IfOk result (λ effects. forwarded (framed heard number bytes.now self.old.forwarding) self.old ≡ does effects.items self.new) }
+    /// Receives a frame at a port. The controller receives the asynchronous messages `heard`.
+    pub fn frame(
+        &mut self,
+        reason_masks: ReasonMasks,
+        number: u32,
+        bytes: &[u8],
+    ) -> Result<Effects, AllocError>
+        ensures ok { IfOk result (λ effects. forwarded (framed reason_masks number bytes.now self.old.forwarding) self.old ≡ does effects.items self.new) }
         ensures err { OnErr result (self.new ≡ self.old) }
     {
-        let plan = self.plane.plan_frame(self.alloc, heard, number, bytes)?;
+        let plan = self
+            .plane
+            .plan_frame(self.alloc, reason_masks, number, bytes)?;
         Ok(self.plane.carry_out(plan))
     }
 
-    /// What a frame that comes in by a port would give, and its steps, while the controller is told this. Nothing changes.
+    /// What a frame that is received at a port would give, and its steps, with the asynchronous messages `heard`. Nothing changes.
     pub fn dry_run<S: StepLog>(
         &self,
-        heard: Heard,
+        reason_masks: ReasonMasks,
         number: u32,
         bytes: &[u8],
         log: &mut S,
     ) -> Result<Effects, AllocError>
-        ensures effects { IfOk result (λ effects. effects.items ≡ (framed heard number bytes.now self.now.forwarding).effects) }
+        ensures effects { IfOk result (λ effects. effects.items ≡ (framed reason_masks number bytes.now self.now.forwarding).effects) }
         ensures steps { OnOk result (S.KEEPS ≡ true → S.list log.new ≡ S.list log.old ++ steps_in number bytes.now self.now.forwarding) }
         ensures err { OnErr result (S.KEEPS ≡ true → GainsPrefix (steps_in number bytes.now self.now.forwarding) (S.list log.old) (S.list log.new)) }
     {
-        self.plane.dry_run(self.alloc, heard, number, bytes, log)
+        self.plane
+            .dry_run(self.alloc, reason_masks, number, bytes, log)
     }
 
-    /// The tables and the groups keep what the machine is promised.
+    /// The tables and the groups have the invariants that the machine needs.
     pub fn known_world(&self)
         ensures { IsSound (world_of self.now.forwarding) }
     {
         self.plane.known_world();
     }
 
-    /// The place by age of the entry of a table that wins for these fields.
+    /// The index by age of the entry of a table that wins for these fields.
     pub fn winner(&self, table: u8, key: &FieldKey) -> Option<usize>
         ensures { result ≡ winner_in self.now.forwarding table (value key.now) }
     {
         self.plane.winner(table, key)
     }
 
-    /// The entry of a table at a place by age, from 0.
+    /// The entry of a table at an index by age, from 0.
     pub fn entry(&self, table: u8, place: usize) -> Option<&Entry>
         requires { table < 16 }
         ensures { option_map (λ e. entry_of e.now) result ≡ slice_get (table_at table self.now.forwarding.tables).flows place }
@@ -297,14 +309,14 @@ impl<L: Lookup> Engine<L> {
         self.plane.buckets_for(group)
     }
 
-    /// The ports, by rising number.
+    /// The ports, in ascending order of number.
     pub fn ports(&self) -> &[Port]
         ensures { result.now ≡ self.now.forwarding.ports }
     {
         self.plane.ports.as_slice()
     }
 
-    /// Does a message of that transaction id, unless it is refused.
+    /// Carries out a message of that transaction id, unless it is refused.
     pub fn handle(&mut self, xid: u32, message: Message) -> Result<Effects, Fault>
         requires { IsSoundMessage message }
         ensures { Handles (first_of (state_refusals message self.old)) (done xid message self.old) self.old result self.new }
@@ -350,11 +362,11 @@ impl<L: Lookup> Engine<L> {
         one(self.alloc, Effect::Answer(message))
     }
 
-    // The controller takes the role that it asks for, and is told the one that it has.
+    // The controller takes the role that it asks for, and gets a ROLE_REPLY with the one that it has.
     fn take_role(&mut self, xid: u32, request: RoleRequest) -> Result<Effects, Fault>
-        ensures { Handles (first_of (election_refusals request self.old.control)) (role_asked xid request self.old) self.old result self.new }
+        ensures { Handles (first_of (generation_refusals request self.old.control)) (role_asked xid request self.old) self.old result self.new }
     {
-        if self.control.has_stale_election(request) {
+        if self.control.has_stale_generation(request) {
             return Err(Fault::Refused(STALE));
         }
         let control = self.control.with_role(request);
@@ -411,7 +423,7 @@ impl<L: Lookup> Engine<L> {
 
     fn packet_out(&mut self, packet_out: PacketOut) -> Result<Effects, Fault>
         requires { IsSoundPacket packet_out.packet }
-        ensures { Handles (first_of (packet_out_refusals packet_out self.old.forwarding.groups)) (packet_outed packet_out self.old) self.old result self.new }
+        ensures { Handles (first_of (packet_out_refusals packet_out self.old.forwarding.groups)) (after_packet_out packet_out self.old) self.old result self.new }
     {
         let PacketData::Frame(frame) = &packet_out.packet else {
             return Err(Fault::Refused(BUFFER_UNKNOWN));
@@ -432,7 +444,7 @@ impl<L: Lookup> Engine<L> {
 
     fn flow_mod(&mut self, flow_mod: FlowMod) -> Result<Effects, Fault>
         requires { IsSoundFlowMod flow_mod }
-        ensures { Handles (first_of (flow_mod_refusals flow_mod self.old.forwarding.tables self.old.forwarding.groups)) (flow_modded flow_mod self.old) self.old result self.new }
+        ensures { Handles (first_of (flow_mod_refusals flow_mod self.old.forwarding.tables self.old.forwarding.groups)) (after_flow_mod flow_mod self.old) self.old result self.new }
     {
         if !flow_mod.command.is_delete() {
             if self.names_absent_group(&flow_mod.instructions) {
@@ -454,7 +466,7 @@ impl<L: Lookup> Engine<L> {
         }
     }
 
-    // Whether some action of the instructions gives the packet to a group that is not there.
+    // Whether some action of the instructions sends the packet to a group that does not exist.
     fn names_absent_group(&self, instructions: &InstructionList) -> bool
         ensures { result ≡ naming_absent_group self.now.forwarding.groups instructions.now }
     {
@@ -467,7 +479,7 @@ impl<L: Lookup> Engine<L> {
         requires group { naming_absent_group self.old.forwarding.groups flow_mod.instructions ≡ false }
         requires fit { are_for flow_mod.table flow_mod.instructions ≡ true }
         requires checked { all_go_with flow_mod.fields flow_mod.instructions ≡ true }
-        ensures { Handles (first_of (flow_mod_refusals flow_mod self.old.forwarding.tables self.old.forwarding.groups)) (flow_modded flow_mod self.old) self.old result self.new }
+        ensures { Handles (first_of (flow_mod_refusals flow_mod self.old.forwarding.tables self.old.forwarding.groups)) (after_flow_mod flow_mod self.old) self.old result self.new }
     {
         match self.plane.tables.add(flow_mod.table, flow_from(flow_mod)) {
             Ok(()) => Ok(Effects::new(self.alloc)),
@@ -483,7 +495,7 @@ impl<L: Lookup> Engine<L> {
         requires group { naming_absent_group self.old.forwarding.groups flow_mod.instructions ≡ false }
         requires fit { are_for flow_mod.table flow_mod.instructions ≡ true }
         requires checked { all_go_with flow_mod.fields flow_mod.instructions ≡ true }
-        ensures ok { OnOk result (self.new ≡ with_tables (modified_in (which_of flow_mod) flow_mod.instructions (with_flag flow_mod.flags 4) self.old.forwarding.tables) self.old) }
+        ensures ok { OnOk result (self.new ≡ with_tables (modified_in (selector_of flow_mod) flow_mod.instructions (with_flag flow_mod.flags 4) self.old.forwarding.tables) self.old) }
         ensures err { OnErr result (self.new ≡ self.old) }
     {
         let reset = has_flag(flow_mod.flags, 4);
@@ -493,7 +505,7 @@ impl<L: Lookup> Engine<L> {
     }
 
     fn delete_flows(&mut self, flow_mod: FlowMod) -> Result<Effects, AllocError>
-        ensures ok { IfOk result (λ effects. does (notice_effects (heard_by self.old.control) self.old.forwarding.tables.latest (notices_in (Cause.Delete (which_of flow_mod)) self.old.forwarding.tables)) (with_tables (left_in (Cause.Delete (which_of flow_mod)) self.old.forwarding.tables) self.old) ≡ does effects.items self.new) }
+        ensures ok { IfOk result (λ effects. does (notice_effects (masks_of self.old.control) self.old.forwarding.tables.latest (notices_in (Cause.Delete (selector_of flow_mod)) self.old.forwarding.tables)) (with_tables (left_in (Cause.Delete (selector_of flow_mod)) self.old.forwarding.tables) self.old) ≡ does effects.items self.new) }
         ensures err { OnErr result (self.new ≡ self.old) }
     {
         let now = self.plane.tables.latest();
@@ -505,7 +517,7 @@ impl<L: Lookup> Engine<L> {
     }
 
     fn port_mod(&mut self, port_mod: PortMod) -> Result<Effects, Fault>
-        ensures { Handles (first_of (port_mod_refusals port_mod self.old.forwarding.ports)) (port_modded port_mod self.old) self.old result self.new }
+        ensures { Handles (first_of (port_mod_refusals port_mod self.old.forwarding.ports)) (after_port_mod port_mod self.old) self.old result self.new }
     {
         let Some(port) = self.plane.ports.port(port_mod.port) else {
             return Err(Fault::Refused(BAD_PORT));
@@ -522,7 +534,7 @@ impl<L: Lookup> Engine<L> {
 
     fn group_mod(&mut self, group_mod: GroupMod) -> Result<Effects, Fault>
         requires { IsSoundGroupMod group_mod }
-        ensures { Handles (first_of (refused_for (group_mod_fault group_mod self.old.forwarding.tables.latest self.old.forwarding.groups))) (group_modded group_mod self.old) self.old result self.new }
+        ensures { Handles (first_of (refused_for (group_mod_fault group_mod self.old.forwarding.tables.latest self.old.forwarding.groups))) (after_group_mod group_mod self.old) self.old result self.new }
     {
         match group_mod {
             GroupMod::Add(NewGroup { id, kind, buckets }) => self.add_group(id, kind, buckets),
@@ -566,7 +578,7 @@ impl<L: Lookup> Engine<L> {
         Ok(self.plane.carry_out(plan))
     }
 
-    /// The groups and flows of a configuration take the place of those that are there.
+    /// The groups and flows of a configuration replace those that are there.
     pub fn load(&mut self, config: &Config) -> Result<(), AllocError>
         ensures ok { OnOk result (self.new ≡ loaded_core config.now self.old) }
         ensures err { OnErr result (self.new ≡ self.old) }
@@ -591,15 +603,15 @@ impl<L: Lookup> Engine<L> {
         config_from(self.alloc, tables, groups, ports)
     }
 
-    /// It is so many nanoseconds, while the controller is told this.
-    pub fn moment(&mut self, heard: Heard, nanos: u64) -> Result<Effects, AllocError>
-        ensures ok { IfOk result (λ effects. moment_done heard nanos self.old ≡ does effects.items self.new) }
+    /// The time is this many nanoseconds. The controller receives the asynchronous messages `heard`.
+    pub fn moment(&mut self, reason_masks: ReasonMasks, nanos: u64) -> Result<Effects, AllocError>
+        ensures ok { IfOk result (λ effects. moment_done reason_masks nanos self.old ≡ does effects.items self.new) }
         ensures err { OnErr result (self.new ≡ self.old) }
     {
         let now = self.plane.tables.latest().max(nanos);
         let plan = self
             .plane
-            .plan_removal(self.alloc, heard, Cause::Moment(nanos), now)?;
+            .plan_removal(self.alloc, reason_masks, Cause::Moment(nanos), now)?;
         Ok(self.plane.carry_out(plan))
     }
 }

@@ -10,11 +10,11 @@ pub enum Event {
     Connect,
     /// The connection is lost, or closed by the controller.
     Lost,
-    /// Bytes of the controller come, cut anywhere.
+    /// Bytes of the controller are received, cut anywhere.
     Piece(Bytes),
-    /// A frame comes in by a port.
+    /// A frame is received at a port.
     Frame { port: u32, frame: Bytes },
-    /// It is so many nanoseconds.
+    /// The time is this many nanoseconds.
     Moment(u64),
     /// The ports change.
     Ports(PortChange),

@@ -13,12 +13,12 @@ ghost use Rattle.of_switch.specs.Runs.{behind, come, drained, handled_in_turn, p
 
 /// Bytes that come in two pieces do what they do in one.
 ///
-/// What the first piece gives stands before what the second gives; where the first ends the connection, the second is lost.
+/// What the first piece gives comes before what the second gives; where the first ends the connection, the second is lost.
 pub fn two_pieces()
     ensures { (first second : List ℕ) (s : State) → is_disconnected s.connection.phase ≡ false → piece_in (first ++ second) s ≡ behind (piece_in first s).effects (drained (come second (piece_in first s).state)) }
 {}
 
-/// A piece handles the messages that the bytes before it and its own are, one after the other, up to the one that ends the connection.
+/// A piece handles the messages in the bytes that waited and its own, one after the other, up to the one that ends the connection.
 ///
 /// What is left at the end is malformed and ends the connection, or it waits. After a piece nothing is left to handle.
 pub fn piece_handles_its_messages()

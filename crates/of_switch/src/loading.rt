@@ -48,7 +48,7 @@ fn flow_from(flow: &FlowText) -> Result<Flow, AllocError>
     })
 }
 
-// A flow more, of another match or priority than the entries that are there.
+// One more flow, of another match or priority than the entries that are there.
 #[tactic(auto, using(crate::proofs::LoadLemmas::no_fault))]
 fn load_flow<L: Lookup>(
     tables: &mut FlowTables<L>,

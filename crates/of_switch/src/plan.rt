@@ -3,7 +3,7 @@ use of_machine::Counts;
 use of_ports::PortCount;
 use of_table::Cause;
 
-/// What an event will do: what it gives, ready to be sent, and what it changes. Doing it needs no memory.
+/// What an event will do: its effects, ready to be sent, and what it changes. Doing it needs no memory.
 #[derive(Drop)]
 pub struct Plan {
     pub effects: Effects,
@@ -19,11 +19,11 @@ pub enum Change {
         reception: Option<Reception>,
         counts: Counts,
     },
-    /// Entries go.
+    /// Entries are removed.
     Removal(Cause),
 }
 
-/// What a port counts of a frame that came in by it.
+/// What a port counts of a frame that it received.
 #[derive(Clone, Copy, Debug, PartialEq, Eq)]
 pub struct Reception {
     pub port: u32,

@@ -3,7 +3,7 @@ ghost use Rattle.std.specs.Prelude.{◌≡◌, ◌≤◌, IfOk, OnOk, OnErr, len
 ghost use Rattle.of_table.specs.Tables.{all_numbers, tables_of, looked_in, matched_in};
 ghost use Rattle.of_groups.specs.Sound.{AreSound};
 ghost use Rattle.std.specs.Prelude.{IsTrue, true, [], ◌∷◌};
-ghost use Rattle.of_actions.specs.Served.{are_served};
+ghost use Rattle.of_actions.specs.Supported.{are_supported};
 ghost use Rattle.of_machine.specs.Growth.{AllShort};
 ghost use Rattle.of_machine.specs.Rows.{acts, entering};
 ghost use Rattle.of_table.specs.Tables.{NumberedTables, left_in, notices_in};
@@ -14,7 +14,7 @@ ghost use Rattle.of_switch.specs.Plane.{Forwarding, all_sent, all_tallied, count
 ghost use Rattle.of_switch.specs.Numbers.{Contents, all_placed, contents, forwarding_of, numbered_world, place_in, placed};
 
 use crate::commands::notices;
-use crate::control::Heard;
+use crate::control::ReasonMasks;
 use crate::effect::{Effect, Effects};
 use crate::plan::{Change, Plan, Reception};
 use crate::told::effects_from;
@@ -38,7 +38,7 @@ pub struct Plane<L: Lookup> {
     pub ports: Ports,
 }
 
-/// What holds of the groups at all times.
+/// The invariants of the groups.
 pub fn known_groups(groups: &Groups)
     ensures { AreSound groups.now }
 {
@@ -97,16 +97,16 @@ impl<L: Lookup> Plane<L> {
         })
     }
 
-    /// What a frame that comes in by a port will do (OpenFlow 1.3.5, 5.1), where the controller is told this.
+    /// What a frame that is received at a port will do (OpenFlow 1.3.5, 5.1), with these asynchronous messages.
     pub fn plan_frame(
         &mut self,
         alloc: Global,
-        heard: Heard,
+        reason_masks: ReasonMasks,
         number: u32,
         bytes: &[u8],
     ) -> Result<Plan, AllocError>
         ensures kept { contents self.new.tables self.new.groups self.new.ports ≡ contents self.old.tables self.old.groups self.old.ports }
-        ensures plan { IfOk result (λ plan. framed heard number bytes.now (forwarding_of self.old.tables self.old.groups self.old.ports) ≡ planned plan self.old.tables self.old.groups self.old.ports) }
+        ensures plan { IfOk result (λ plan. framed reason_masks number bytes.now (forwarding_of self.old.tables self.old.groups self.old.ports) ≡ planned plan self.old.tables self.old.groups self.old.ports) }
     {
         let Some(port) = self.ports.port(number) else {
             return Ok(no_change(alloc));
@@ -117,21 +117,21 @@ impl<L: Lookup> Plane<L> {
         if check_length(bytes).is_err() {
             return Ok(reception_alone(alloc, number, PortCount::ReceiveError));
         }
-        self.plan_received(alloc, heard, number, bytes)
+        self.plan_received(alloc, reason_masks, number, bytes)
     }
 
-    // What a frame will do that is received.
+    // What a received frame will do.
     fn plan_received(
         &mut self,
         alloc: Global,
-        heard: Heard,
+        reason_masks: ReasonMasks,
         number: u32,
         bytes: &[u8],
     ) -> Result<Plan, AllocError>
         requires long { 14 ≤ length bytes.now }
         requires most { length bytes.now ≤ 9216 }
         ensures kept { contents self.new.tables self.new.groups self.new.ports ≡ contents self.old.tables self.old.groups self.old.ports }
-        ensures plan { IfOk result (λ plan. received heard number bytes.now (forwarding_of self.old.tables self.old.groups self.old.ports) ≡ planned plan self.old.tables self.old.groups self.old.ports) }
+        ensures plan { IfOk result (λ plan. received reason_masks number bytes.now (forwarding_of self.old.tables self.old.groups self.old.ports) ≡ planned plan self.old.tables self.old.groups self.old.ports) }
     {
         self.tables.known();
         let packet = Packet::new(PacketFrame::new(bytes), number);
@@ -140,64 +140,64 @@ impl<L: Lookup> Plane<L> {
             port: number,
             what: PortCount::Received(bytes.len()),
         };
-        plan_of(alloc, heard, &self.ports, Some(reception), outcome)
+        plan_of(alloc, reason_masks, &self.ports, Some(reception), outcome)
     }
 
-    /// What a packet of the controller will do by its actions (OpenFlow 1.3.5, 7.3.7).
+    /// What the packet of a PACKET_OUT will do by its actions (OpenFlow 1.3.5, 7.3.7).
     pub fn plan_packet_out(
         &mut self,
         alloc: Global,
-        heard: Heard,
+        reason_masks: ReasonMasks,
         in_port: u32,
         bytes: &[u8],
         actions: &[Action],
     ) -> Result<Plan, AllocError>
         requires long { 14 ≤ length bytes.now }
         requires most { length bytes.now ≤ 9216 }
-        requires served { IsTrue (are_served true actions.now) }
+        requires served { IsTrue (are_supported true actions.now) }
         ensures kept { contents self.new.tables self.new.groups self.new.ports ≡ contents self.old.tables self.old.groups self.old.ports }
-        ensures plan { IfOk result (λ plan. through heard (entering bytes.now in_port) (acts actions.now) (forwarding_of self.old.tables self.old.groups self.old.ports) ≡ planned plan self.old.tables self.old.groups self.old.ports) }
+        ensures plan { IfOk result (λ plan. through reason_masks (entering bytes.now in_port) (acts actions.now) (forwarding_of self.old.tables self.old.groups self.old.ports) ≡ planned plan self.old.tables self.old.groups self.old.ports) }
     {
         self.tables.known();
         let packet = Packet::new(PacketFrame::new(bytes), in_port);
         let outcome = run_actions(alloc, self, packet, actions, &mut NoLog)?;
-        plan_of(alloc, heard, &self.ports, None, outcome)
+        plan_of(alloc, reason_masks, &self.ports, None, outcome)
     }
 
-    /// The removal of entries, with the notices of those of which the controller is told: they went now.
+    /// The removal of entries, with the notices that the controller's mask lets pass: they are removed now.
     pub fn plan_removal(
         &self,
         alloc: Global,
-        heard: Heard,
+        reason_masks: ReasonMasks,
         cause: Cause,
         now: u64,
     ) -> Result<Plan, AllocError>
         ensures change { IfOk result (λ plan. plan.change ≡ Change.Removal cause) }
-        ensures plan { IfOk result (λ plan. planned plan self.now.tables self.now.groups self.now.ports ≡ forwards (notice_effects heard now (notices_in cause (tables_of self.now.tables))) (record (forwarding_of self.now.tables self.now.groups self.now.ports) { tables = left_in cause (tables_of self.now.tables) })) }
+        ensures plan { IfOk result (λ plan. planned plan self.now.tables self.now.groups self.now.ports ≡ forwards (notice_effects reason_masks now (notices_in cause (tables_of self.now.tables))) (record (forwarding_of self.now.tables self.now.groups self.now.ports) { tables = left_in cause (tables_of self.now.tables) })) }
     {
         Ok(Plan {
-            effects: self.removal_notices(alloc, heard, &cause, now)?,
+            effects: self.removal_notices(alloc, reason_masks, &cause, now)?,
             change: Change::Removal(cause),
         })
     }
 
-    // No entry is looked for where the controller is told of none.
+    // No entry is looked for where the controller's mask lets no notice pass.
     fn removal_notices(
         &self,
         alloc: Global,
-        heard: Heard,
+        reason_masks: ReasonMasks,
         cause: &Cause,
         now: u64,
     ) -> Result<Effects, AllocError>
-        ensures { IfOk result (λ effects. effects.items ≡ notice_effects heard now (notices_in cause.now (tables_of self.now.tables))) }
+        ensures { IfOk result (λ effects. effects.items ≡ notice_effects reason_masks now (notices_in cause.now (tables_of self.now.tables))) }
     {
-        if heard.flow_removed == 0 {
+        if reason_masks.flow_removed == 0 {
             return Ok(Effects::new(alloc));
         }
-        notices(alloc, heard, &self.tables.listed(cause)?, now)
+        notices(alloc, reason_masks, &self.tables.listed(cause)?, now)
     }
 
-    /// Does what was planned, and answers what it gives.
+    /// Carries out a plan, and returns its effects.
     pub fn carry_out(&mut self, plan: Plan) -> Effects
         ensures effects { result.items ≡ plan.effects.items }
         ensures forwarding { forwarding_of self.new.tables self.new.groups self.new.ports ≡ (planned plan self.old.tables self.old.groups self.old.ports).forwarding }
@@ -293,7 +293,7 @@ impl<L: Lookup> Plane<L> {
     }
 }
 
-// Nothing is given, and nothing changes.
+// No effect, and nothing changes.
 fn no_change(alloc: Global) -> Plan
     ensures { (result.effects.items ≡ []) × (result.change ≡ Change.Nothing) }
 {
@@ -303,7 +303,7 @@ fn no_change(alloc: Global) -> Plan
     }
 }
 
-// A port counts what came in, and nothing is given.
+// A port counts a reception, and there is no effect.
 fn reception_alone(alloc: Global, port: u32, what: PortCount) -> Plan
     ensures { (n : NumberedTables) (f : Forwarding) → (result.effects.items ≡ []) × (changed result.change result.effects.items n f ≡ count_port port what f) }
 {
@@ -319,17 +319,17 @@ fn reception_alone(alloc: Global, port: u32, what: PortCount) -> Plan
 // What a run gives and counts, as a plan.
 fn plan_of(
     alloc: Global,
-    heard: Heard,
+    reason_masks: ReasonMasks,
     ports: &Ports,
     reception: Option<Reception>,
     outcome: Outcome,
 ) -> Result<Plan, AllocError>
     requires { AllShort 65485 outcome.items.items }
-    ensures { IfOk result (λ plan. (n : NumberedTables) (f : Forwarding) → (plan.effects.items ≡ effects_of heard ports.now outcome.items.items) × (changed plan.change plan.effects.items n f ≡ all_sent plan.effects.items (all_tallied (all_placed n outcome.counts.items) (with_reception reception f)))) }
+    ensures { IfOk result (λ plan. (n : NumberedTables) (f : Forwarding) → (plan.effects.items ≡ effects_of reason_masks ports.now outcome.items.items) × (changed plan.change plan.effects.items n f ≡ all_sent plan.effects.items (all_tallied (all_placed n outcome.counts.items) (with_reception reception f)))) }
 {
     let Outcome { items, counts } = outcome;
     Ok(Plan {
-        effects: effects_from(alloc, heard, ports, items)?,
+        effects: effects_from(alloc, reason_masks, ports, items)?,
         change: Change::Counts { reception, counts },
     })
 }

@@ -1,7 +1,7 @@
 /// A change of the switch's ports (OpenFlow 1.3.5, 7.2.1).
 #[derive(Clone, Copy, Debug, PartialEq, Eq)]
 pub enum PortChange {
-    /// A port is there from now on.
+    /// A port is added.
     Add {
         /// 1 to 0xffffff00.
         number: u32,
@@ -12,11 +12,11 @@ pub enum PortChange {
         /// Whether its link is up.
         up: bool,
     },
-    /// A port is gone.
+    /// A port is removed.
     Remove {
         number: u32,
     },
-    /// A port's link is up from now on, or down.
+    /// A port's link goes up or down.
     Link {
         number: u32,
         up: bool,

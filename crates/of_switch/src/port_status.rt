@@ -1,8 +1,8 @@
-//! What the controller is told of ports (OpenFlow 1.3.5, 7.4.3).
+//! PORT_STATUS messages (OpenFlow 1.3.5, 7.4.3).
 ghost use Rattle.std.specs.Prelude.{◌≡◌, ◌∷◌, [], IfOk};
 ghost use Rattle.of_switch.specs.PortStatus.{change_told, is_shown_alike as shows_alike, status_bit, status_told};
 
-use crate::control::{Heard, lets_through};
+use crate::control::{ReasonMasks, lets_through};
 use crate::effect::{Effect, Effects};
 use of_messages::{PortStatusReason, write_port_status};
 use of_ports::Port;
@@ -19,17 +19,17 @@ fn reason_bit(reason: PortStatusReason) -> u32
     }
 }
 
-/// The PORT_STATUS of a port, where the controller is told of that.
+/// The PORT_STATUS of a port, where the controller's mask has its reason.
 pub fn write_status(
     alloc: Global,
-    heard: Heard,
+    reason_masks: ReasonMasks,
     reason: PortStatusReason,
     port: &Port,
 ) -> Result<Effects, AllocError>
-    ensures { IfOk result (λ effects. effects.items ≡ status_told heard reason port.now) }
+    ensures { IfOk result (λ effects. effects.items ≡ status_told reason_masks reason port.now) }
 {
     let mut effects = Effects::new(alloc);
-    if lets_through(heard.port_status, reason_bit(reason)) {
+    if lets_through(reason_masks.port_status, reason_bit(reason)) {
         let message = write_port_status(alloc, 0, reason, &description_of(port))?;
         effects.push(Effect::Answer(message))?;
     }
@@ -42,18 +42,18 @@ fn is_shown_alike(old: &Port, new: &Port) -> bool
     old.config.bits() == new.config.bits() && old.state_bits() == new.state_bits()
 }
 
-/// The PORT_STATUS of a port that becomes another one, where the controller is told of that.
-/// There is none where nothing changes that it shows.
+/// The PORT_STATUS of a port that becomes another one, where the controller's mask has its reason.
+/// There is none where the port's description does not change.
 pub fn write_change(
     alloc: Global,
-    heard: Heard,
+    reason_masks: ReasonMasks,
     old: &Port,
     new: &Port,
 ) -> Result<Effects, AllocError>
-    ensures { IfOk result (λ effects. effects.items ≡ change_told heard old.now new.now) }
+    ensures { IfOk result (λ effects. effects.items ≡ change_told reason_masks old.now new.now) }
 {
     if is_shown_alike(old, new) {
         return Ok(Effects::new(alloc));
     }
-    write_status(alloc, heard, PortStatusReason::Modify, new)
+    write_status(alloc, reason_masks, PortStatusReason::Modify, new)
 }

@@ -8,21 +8,21 @@ use crate::commands::{ALL_TABLES, ANY};
 use crate::effect::{Effect, Effects};
 use of_messages::{FlowStatsRequest, MessageBytes, MultipartRequest};
 use of_ports::Ports;
-use of_table::Which;
+use of_table::Selector;
 use std::alloc::{AllocError, Global};
 
-// A number that may stand for any.
+// A number that may mean any.
 fn unless_any(number: u32) -> Option<u32>
     ensures { result ≡ none_for 0xffffffff number }
 {
     if number == ANY { None } else { Some(number) }
 }
 
-/// The entries that a request is for.
-pub fn asked_by(request: FlowStatsRequest) -> Which
+/// The entries that a request selects.
+pub fn asked_by(request: FlowStatsRequest) -> Selector
     ensures { result ≡ asked request }
 {
-    Which {
+    Selector {
         table: if request.table == ALL_TABLES {
             None
         } else {
@@ -37,7 +37,7 @@ pub fn asked_by(request: FlowStatsRequest) -> Which
     }
 }
 
-/// Whether the request is for a port that is not there.
+/// Whether the request is for a port that does not exist.
 pub fn asks_absent_port(request: &MultipartRequest, ports: &Ports) -> bool
     ensures { result ≡ asks_for_absent request.now ports.now }
 {
@@ -47,7 +47,7 @@ pub fn asks_absent_port(request: &MultipartRequest, ports: &Ports) -> bool
     }
 }
 
-/// The effects that these messages are.
+/// These messages as effects.
 pub fn answers(alloc: Global, messages: Vec<MessageBytes>) -> Result<Effects, AllocError>
     ensures { IfOk result (λ effects. effects.items ≡ map Answer messages.items) }
 {

@@ -12,7 +12,7 @@ ghost use Rattle.of_machine.specs.Sound.{IsSound as IsSoundWorld};
 ghost use Rattle.of_switch.specs.Plane.{winner_in, world_of};
 ghost use Rattle.of_table.specs.Entries.{entry_of, flows_of};
 ghost use Rattle.of_table.specs.Tables.{table_at};
-ghost use Rattle.of_switch.specs.Steps.{came, closing as closing_with, connected, does, failed_of, fed, frame_in, heard_of, lost as lost_from, moment_in, gives, next_of, port_changed, refused as refused_by};
+ghost use Rattle.of_switch.specs.Steps.{came, closing as closing_with, connected, does, failed_of, fed, frame_in, masks_of_state, lost as lost_from, moment_in, gives, next_of, port_changed, refused as refused_by};
 ghost use Rattle.of_switch.specs.Calls.{Call, absent_refusal, connect_refusal, feed_refusal, new_refusal, port_refusal};
 ghost use Rattle.of_switch.specs.Loading.{config_of, loaded};
 ghost use Rattle.of_switch.specs.Runs.{RunsAll, StopsWithin, reports_of};
@@ -20,7 +20,7 @@ ghost use Rattle.of_switch.specs.Stepping.{Drains, Happens, Tells};
 ghost use Rattle.std.specs.Prelude.{not};
 ghost use Rattle.of_session.specs.Session.{is_disconnected};
 
-use crate::control::Heard;
+use crate::control::ReasonMasks;
 use crate::effect::{Effect, Effects};
 use crate::engine::{Engine, Fault, one};
 use crate::event::{Event, Report};
@@ -40,7 +40,7 @@ use of_wire::Code;
 use std::alloc::{AllocError, Global};
 use std::marker::Model;
 
-/// How many bytes of a message an ERROR gives back at most (OpenFlow 1.3.5, 7.4.4).
+/// How many bytes of a refused message an ERROR has at most (OpenFlow 1.3.5, 7.4.4).
 const ERROR_DATA: usize = 64;
 
 const HELLO_INCOMPATIBLE: Code = Code { kind: 0, code: 0 };
@@ -49,8 +49,8 @@ const BAD_LEN: Code = Code { kind: 1, code: 6 };
 
 /// An OpenFlow 1.3 switch, whose lookups go by the classifier `L`.
 ///
-/// Each call does what the abstract switch does. A call that is refused changes nothing, and one for which there is no
-/// memory changes nothing either and can be made again.
+/// Each call does what the abstract switch does. A call that is refused changes nothing, and one that runs out of memory
+/// changes nothing either and can be made again.
 #[derive(Drop)]
 pub struct Switch<L: Lookup> {
     session: Session,
@@ -67,7 +67,7 @@ impl<L: Lookup> Model for Switch<L> {
 }
 
 impl<L: Lookup> Switch<L> {
-    /// A switch of that number (OpenFlow 1.3.5, 7.3.1), without a connection, flows, groups and ports.
+    /// A switch with that datapath_id (OpenFlow 1.3.5, 7.3.1), without a connection, flows, groups and ports.
     pub fn new(alloc: Global, dpid: u64) -> Result<Self, AllocError>
         ensures { IfOk result (λ s. s ≡ start dpid) }
     {
@@ -78,7 +78,7 @@ impl<L: Lookup> Switch<L> {
         })
     }
 
-    /// A controller connects (OpenFlow 1.3.5, 6.3.1): the switch says HELLO.
+    /// A controller connects (OpenFlow 1.3.5, 6.3.1): the switch sends a HELLO.
     ///
     /// Refused: `Connected`.
     pub fn connected(&mut self) -> Result<Effects, SwitchError>
@@ -94,8 +94,8 @@ impl<L: Lookup> Switch<L> {
 
     /// The connection is lost, or closed by the controller (OpenFlow 1.3.5, 6.3.2). Without a connection nothing happens.
     ///
-    /// Flows, groups and ports stay, and so do the configuration and the last election; the role and the masks of what is told
-    /// unasked are those of the start again, and bytes that came and were not handled are forgotten.
+    /// Flows, groups and ports stay, and so do the configuration and the last generation_id; the role and the masks of
+    /// asynchronous messages are those of the start again, and bytes that were received and not handled are dropped.
     pub fn lost(&mut self)
         ensures { self.new ≡ lost_from self.old }
     {
@@ -105,21 +105,21 @@ impl<L: Lookup> Switch<L> {
         }
     }
 
-    /// Whether a connection stands (OpenFlow 1.3.5, 6.3.1).
+    /// Whether there is a connection (OpenFlow 1.3.5, 6.3.1).
     pub fn is_connected(&self) -> bool
         ensures { result ≡ not (is_disconnected self.now.connection.phase) }
     {
         self.session.phase() != Phase::Disconnected
     }
 
-    /// The bytes of the controller that came and were not yet handled.
+    /// The bytes of the controller that were received and not yet handled.
     pub fn pending(&self) -> &[u8]
         ensures { result.now ≡ self.now.connection.pending }
     {
         self.session.pending()
     }
 
-    /// Bytes of the controller come, cut anywhere. They are handled by `next`.
+    /// Receives bytes of the controller, cut anywhere. They are handled by `next`.
     ///
     /// Refused: `NotConnected`.
     pub fn feed(&mut self, piece: &[u8]) -> Result<(), SwitchError>
@@ -193,14 +193,14 @@ impl<L: Lookup> Switch<L> {
         Ok(effects)
     }
 
-    // What the controller is told unasked.
-    fn heard(&self) -> Heard
-        ensures { result ≡ heard_of self.now }
+    // The asynchronous messages that the controller receives.
+    fn reason_masks(&self) -> ReasonMasks
+        ensures { result ≡ masks_of_state self.now }
     {
-        self.engine.heard(self.session.phase())
+        self.engine.reason_masks(self.session.phase())
     }
 
-    // The ERROR that answers the message that comes next, with its first bytes.
+    // The ERROR that answers the next message, with its first bytes.
     fn refused(&self, xid: u32, size: usize, code: Code) -> Result<Effects, AllocError>
         requires { size ≤ length self.now.connection.pending }
         ensures { IfOk result (λ effects. effects.items ≡ Effect.Answer (error_bytes xid code (failed_of size self.now.connection)) ∷ []) }
@@ -212,18 +212,18 @@ impl<L: Lookup> Switch<L> {
         )
     }
 
-    /// A frame comes in by a port.
+    /// Receives a frame at a port.
     pub fn frame(&mut self, port: u32, frame: &[u8]) -> Result<Effects, SwitchError>
         ensures { Call None (λ effects new. frame_in port frame.now self.old ≡ gives effects.items new) self.old result self.new }
     {
-        let heard = self.heard();
-        Ok(self.engine.frame(heard, port, frame)?)
+        let reason_masks = self.reason_masks();
+        Ok(self.engine.frame(reason_masks, port, frame)?)
     }
 
     /// The effects that `frame` would give next, and the steps of the frame's run, which are put into the log (OpenFlow 1.3.5, 5.1).
     ///
-    /// Nothing changes: no counter, no moment. In the steps an entry is named by its place in its table by age, from 0. A frame
-    /// at a port that is not there or may not receive, or one that is too short or too long, takes no steps. Where memory
+    /// Nothing changes: no counter, no moment. In the steps an entry is named by its index in its table by age, from 0. A frame
+    /// at a port that does not exist or may not receive, or one that is too short or too long, takes no steps. Where memory
     /// runs out, the log has the first steps, or all.
     pub fn dry_run<S: StepLog>(
         &self,
@@ -235,25 +235,25 @@ impl<L: Lookup> Switch<L> {
         ensures steps { OnOk result (S.KEEPS ≡ true → S.list log.new ≡ S.list log.old ++ steps_in port frame.now self.now.core.forwarding) }
         ensures err { IfErr result (λ e. (e ≡ SwitchError.NoMemory) × (S.KEEPS ≡ true → GainsPrefix (steps_in port frame.now self.now.core.forwarding) (S.list log.old) (S.list log.new))) }
     {
-        Ok(self.engine.dry_run(self.heard(), port, frame, log)?)
+        Ok(self.engine.dry_run(self.reason_masks(), port, frame, log)?)
     }
 
-    /// At all times the tables and the groups are as the machine wants them: the instructions of entries may stand in their tables,
-    /// each winner is there, and no chain of groups has more than three (OpenFlow 1.3.5, 5.6 and 5.9).
+    /// The tables and the groups have the invariants that the machine needs: the instructions of entries are valid in their tables,
+    /// each winner exists, and no chain of groups has more than three (OpenFlow 1.3.5, 5.6 and 5.9).
     pub fn known_world(&self)
         ensures { IsSoundWorld (world_of self.now.core.forwarding) }
     {
         self.engine.known_world();
     }
 
-    /// The entry of a table that a packet of these fields would hit, by its place by age, from 0 (OpenFlow 1.3.5, 5.3). Nothing changes.
+    /// The entry of a table that a packet of these fields would hit, by its index by age, from 0 (OpenFlow 1.3.5, 5.3). Nothing changes.
     pub fn winner(&self, table: u8, key: &FieldKey) -> Option<usize>
         ensures { result ≡ winner_in self.now.core.forwarding table (value key.now) }
     {
         self.engine.winner(table, key)
     }
 
-    /// The entry of a table at a place by age, from 0 (OpenFlow 1.3.5, 5.2). None where there are no more than so many.
+    /// The entry of a table at an index by age, from 0 (OpenFlow 1.3.5, 5.2). None where there is no such entry.
     pub fn entry(&self, table: u8, place: usize) -> Option<&Entry>
         requires { table < 16 }
         ensures { option_map (λ e. entry_of e.now) result ≡ slice_get (table_at table self.now.core.forwarding.tables).flows place }
@@ -278,31 +278,31 @@ impl<L: Lookup> Switch<L> {
         self.engine.buckets_for(group)
     }
 
-    /// The ports, by rising number (OpenFlow 1.3.5, 7.2.1).
+    /// The ports, in ascending order of number (OpenFlow 1.3.5, 7.2.1).
     pub fn ports(&self) -> &[Port]
         ensures { result.now ≡ self.now.core.forwarding.ports }
     {
         self.engine.ports()
     }
 
-    /// It is so many nanoseconds, or the latest moment if that is later: entries whose time is over go (OpenFlow 1.3.5, 5.5).
+    /// The time is this many nanoseconds, or the latest moment if that is later: expired entries are removed (OpenFlow 1.3.5, 5.5).
     ///
     /// An open connection gets a FLOW_REMOVED of each whose flags ask for one, by table, then by age.
     pub fn moment(&mut self, nanos: u64) -> Result<Effects, SwitchError>
         ensures { Call None (λ effects new. moment_in nanos self.old ≡ gives effects.items new) self.old result self.new }
     {
-        let heard = self.heard();
-        Ok(self.engine.moment(heard, nanos)?)
+        let reason_masks = self.reason_masks();
+        Ok(self.engine.moment(reason_masks, nanos)?)
     }
 
     /// The ports change (OpenFlow 1.3.5, 7.2.1). No flow and no group does.
     ///
-    /// An open connection gets a PORT_STATUS, unless nothing changes that it shows.
+    /// An open connection gets a PORT_STATUS, unless the port's description does not change.
     /// Refused, in this order: `BadPortNumber`; of `Add`: `PortExists`; `TooManyPorts`; of the others: `NoSuchPort`.
     pub fn port_change(&mut self, change: PortChange) -> Result<Effects, SwitchError>
         ensures { Call (port_refusal change self.old) (λ effects new. port_changed change self.old ≡ gives effects.items new) self.old result self.new }
     {
-        let heard = self.heard();
+        let reason_masks = self.reason_masks();
         match change {
             PortChange::Add {
                 number,
@@ -311,15 +311,15 @@ impl<L: Lookup> Switch<L> {
                 up,
             } => {
                 self.check_new_port(number)?;
-                Ok(self.engine.add_port(heard, number, hw, name, up)?)
+                Ok(self.engine.add_port(reason_masks, number, hw, name, up)?)
             }
             PortChange::Remove { number } => {
                 self.check_port(number)?;
-                Ok(self.engine.remove_port(heard, number)?)
+                Ok(self.engine.remove_port(reason_masks, number)?)
             }
             PortChange::Link { number, up } => {
                 self.check_port(number)?;
-                Ok(self.engine.set_link(heard, number, up)?)
+                Ok(self.engine.set_link(reason_masks, number, up)?)
             }
         }
     }
@@ -353,7 +353,7 @@ impl<L: Lookup> Switch<L> {
         Ok(())
     }
 
-    /// The groups and flows of a configuration take the place of those that are there, without notices.
+    /// The groups and flows of a configuration replace those that are there, without notices.
     ///
     /// They are added at the latest moment, and their counters and those of the tables are 0. All else stays.
     pub fn load(&mut self, config: &Config) -> Result<(), SwitchError>
@@ -369,9 +369,9 @@ impl<L: Lookup> Switch<L> {
         self.engine.config()
     }
 
-    /// Events in any order, whose reports are appended: one an event.
+    /// Events in any order, whose reports are appended: one for each event.
     ///
-    /// Where memory runs out, the reports of the events before stand, and the switch is as they left it. Only of a piece
+    /// Where memory runs out, the reports of the events before are there, and the switch is as they left it. Only of a piece
     /// may some messages have been handled: then what they gave is reported too, in one or two reports more, and `next` goes on.
     pub fn run(&mut self, events: &[Event], reports: &mut Vec<Report>) -> Result<(), AllocError>
         ensures ok { OnOk result (RunsAll events.now self.old self.new (reports_of reports.old.items) (reports_of reports.new.items)) }
@@ -384,7 +384,7 @@ impl<L: Lookup> Switch<L> {
         Ok(())
     }
 
-    // There is room for two reports.
+    // There is capacity for two reports.
     fn happen(&mut self, event: &Event, reports: &mut Vec<Report>) -> Result<(), AllocError>
         requires { vec_len reports.old + 2 ≤ vec_capacity reports.old }
         ensures { Happens result event.now self.old self.new (reports_of reports.old.items) (reports_of reports.new.items) }
@@ -403,7 +403,7 @@ impl<L: Lookup> Switch<L> {
         }
     }
 
-    // Bytes of the controller come, and each whole message is handled.
+    // Receives bytes of the controller, and handles each whole message.
     fn piece(&mut self, piece: &[u8], reports: &mut Vec<Report>) -> Result<(), AllocError>
         requires { vec_len reports.old + 2 ≤ vec_capacity reports.old }
         ensures { Happens result (Event.Piece piece.now) self.old self.new (reports_of reports.old.items) (reports_of reports.new.items) }
@@ -443,7 +443,7 @@ impl<L: Lookup> Switch<L> {
     }
 }
 
-// Appends the report of a call, unless it met want of memory.
+// Appends the report of a call, unless it ran out of memory.
 fn tell(called: Result<Effects, SwitchError>, reports: &mut Vec<Report>) -> Result<(), AllocError>
     requires { vec_len reports.old < vec_capacity reports.old }
     ensures { Tells called (reports_of reports.old.items) result (reports_of reports.new.items) }
@@ -467,7 +467,7 @@ fn closing(alloc: Global, error: MessageBytes) -> Result<Effects, AllocError>
     Ok(effects)
 }
 
-// The first bytes, so many at most.
+// The first bytes, at most `most`.
 fn front_part(bytes: &[u8], most: usize) -> &[u8]
     ensures front { result.now ≡ take most bytes.now }
     ensures short { length result.now ≤ most }

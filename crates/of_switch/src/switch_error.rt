@@ -18,8 +18,8 @@ pub enum SwitchError {
     /// There is a connection already.
     #[error("already connected")]
     Connected = 4,
-    /// A port of that number is there.
-    #[error("a port of that number is there already")]
+    /// A port of that number exists already.
+    #[error("there is a port of that number already")]
     PortExists = 5,
     /// There is no port of that number.
     #[error("there is no port of that number")]

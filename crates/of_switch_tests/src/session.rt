@@ -1,48 +1,142 @@
 use of_messages::{Message, Role};
-use of_session::{Front, Next, Phase, Session, Stream, splits_once};
+use of_session::{Beginning, Next, Phase, Session, Stream, splits_once};
+use std::process::Abort;
 use std::test::Fail;
+
+/// What is done to a stream, and what it then gives.
+#[derive(Clone, Copy)]
+enum Piece {
+    Feed(&'static [u8]),
+    Beginning(Beginning),
+    /// The bytes in front, which are then taken.
+    Take(&'static [u8]),
+    /// What is left: so many bytes are kept.
+    Left(&'static [u8]),
+    Clear,
+}
+
+const PIECES: &[Piece] = &[
+    Piece::Feed(&[4, 20, 0]),
+    Piece::Beginning(Beginning::Waiting),
+    Piece::Feed(&[8, 0, 0, 0, 7, 4]),
+    Piece::Beginning(Beginning::Message(8)),
+    Piece::Take(&[4, 20, 0, 8, 0, 0, 0, 7]),
+    Piece::Left(&[4]),
+    Piece::Clear,
+    Piece::Left(&[]),
+];
+
+fn take(rt: &impl Abort, place: usize, stream: &mut Stream, wanted: &[u8]) {
+    let size = wanted.len();
+    assert!(rt; size <= stream.left().len(), "piece {place}");
+    assert_eq!(rt; stream.first(size), wanted, "piece {place}");
+    stream.take(size);
+}
+
+fn play(rt: &impl Abort, place: usize, stream: &mut Stream, piece: Piece) -> Result<(), Fail> {
+    match piece {
+        Piece::Feed(bytes) => stream.feed(bytes)?,
+        Piece::Beginning(front) => assert_eq!(rt; stream.front(), front, "piece {place}"),
+        Piece::Take(bytes) => take(rt, place, stream, bytes),
+        Piece::Left(bytes) => {
+            assert_eq!(rt; stream.left(), bytes, "piece {place}");
+            assert_eq!(rt; stream.kept(), bytes.len(), "piece {place}");
+        }
+        Piece::Clear => stream.clear(),
+    }
+    Ok(())
+}
 
 #[test]
 fn message_in_two_pieces(rt: HostRuntime) -> Result<(), Fail> {
     let mut stream = Stream::new(rt.alloc());
-    stream.feed(&[4, 20, 0])?;
-    assert_eq!(rt; stream.front(), Front::Waiting);
-    stream.feed(&[8, 0, 0, 0, 7, 4])?;
-    let front = stream.front();
-    assert_eq!(rt; front, Front::Message(8));
-    if let Front::Message(size) = front {
-        assert_eq!(rt; stream.first(size), [4u8, 20, 0, 8, 0, 0, 0, 7].as_slice());
-        stream.take(size);
+    for (place, piece) in PIECES.iter().enumerate() {
+        play(&rt, place, &mut stream, *piece)?;
     }
-    assert_eq!(rt; stream.left(), [4u8].as_slice());
-    assert_eq!(rt; stream.kept(), 1);
-    stream.clear();
-    assert!(rt; stream.left().is_empty());
     splits_once();
+    Ok(())
+}
+
+/// What comes next of a session.
+#[derive(Clone, Copy, Debug, PartialEq, Eq)]
+enum Seen {
+    Nothing,
+    /// The HELLO, of so many bytes.
+    Opened(usize),
+    /// An ECHO_REQUEST.
+    Echo { xid: u32, size: usize },
+    Other,
+}
+
+/// What is done to a session, and what it then gives.
+#[derive(Clone, Copy)]
+enum Step {
+    Connect,
+    Feed(&'static [u8]),
+    Next(Seen),
+    /// The bytes in front.
+    First(&'static [u8]),
+    Taken,
+    Phase(Phase),
+    Close,
+}
+
+const STEPS: &[Step] = &[
+    Step::Connect,
+    Step::Feed(&[4, 0, 0, 8, 0, 0, 0, 1, 4, 2, 0, 9, 0, 0, 0, 2, 0xab]),
+    Step::Next(Seen::Opened(8)),
+    Step::Taken,
+    Step::Phase(Phase::Open),
+    Step::Next(Seen::Echo { xid: 2, size: 9 }),
+    Step::First(&[4, 2, 0, 9, 0, 0, 0, 2, 0xab]),
+    Step::Next(Seen::Echo { xid: 2, size: 9 }),
+    Step::Taken,
+    Step::Next(Seen::Nothing),
+    Step::Close,
+    Step::Phase(Phase::Disconnected),
+];
+
+fn next_of(session: &Session) -> Result<Seen, Fail> {
+    let next = session.next(Role::Equal)?;
+    Ok(match &next {
+        Next::Nothing => Seen::Nothing,
+        Next::Opened { size } => Seen::Opened(*size),
+        Next::Read {
+            xid,
+            size,
+            message: Message::EchoRequest(_),
+        } => Seen::Echo {
+            xid: *xid,
+            size: *size,
+        },
+        _ => Seen::Other,
+    })
+}
+
+fn is_first(rt: &impl Abort, place: usize, session: &Session, bytes: &[u8]) {
+    let size = bytes.len();
+    assert!(rt; size <= session.pending().len(), "step {place}");
+    assert_eq!(rt; session.first(size), bytes, "step {place}");
+}
+
+fn go_on(rt: &impl Abort, place: usize, session: &mut Session, step: Step) -> Result<(), Fail> {
+    match step {
+        Step::Connect => session.connect(),
+        Step::Feed(bytes) => session.feed(bytes)?,
+        Step::Next(wanted) => assert_eq!(rt; next_of(session)?, wanted, "step {place}"),
+        Step::First(bytes) => is_first(rt, place, session, bytes),
+        Step::Taken => session.taken(),
+        Step::Phase(phase) => assert_eq!(rt; session.phase(), phase, "step {place}"),
+        Step::Close => session.close(),
+    }
     Ok(())
 }
 
 #[test]
 fn greeting_and_echo(rt: HostRuntime) -> Result<(), Fail> {
     let mut session = Session::new(rt.alloc());
-    session.connect();
-    session.feed(&[4, 0, 0, 8, 0, 0, 0, 1, 4, 2, 0, 9, 0, 0, 0, 2, 0xab])?;
-    let next = session.next(Role::Equal)?;
-    assert!(rt; matches!(next, Next::Opened { size: 8 }));
-    session.taken();
-    assert_eq!(rt; session.phase(), Phase::Open);
-    if let Next::Read { xid, size, message } = session.next(Role::Equal)? {
-        assert_eq!(rt; xid, 2);
-        assert_eq!(rt;
-            session.first(size),
-            [4u8, 2, 0, 9, 0, 0, 0, 2, 0xab].as_slice()
-        );
-        assert!(rt; matches!(message, Message::EchoRequest(_)));
-        assert!(rt; matches!(session.next(Role::Equal)?, Next::Read { xid: 2, .. }));
-        session.taken();
+    for (place, step) in STEPS.iter().enumerate() {
+        go_on(&rt, place, &mut session, *step)?;
     }
-    assert!(rt; matches!(session.next(Role::Equal)?, Next::Nothing));
-    session.close();
-    assert_eq!(rt; session.phase(), Phase::Disconnected);
     Ok(())
 }

@@ -17,74 +17,173 @@ fn added(number: u32) -> PortChange {
     }
 }
 
-// Bytes that are one message.
-fn handled(rt: &impl Abort, switch: &mut Switch<Scan>, message: &[u8]) -> Result<Effects, Fail> {
-    switch.feed(message)?;
-    let effects = switch.next()?.ok_or("a message")?;
-    assert!(rt; switch.next()?.is_none());
-    Ok(effects)
+/// What a switch gives.
+#[derive(Clone, Copy)]
+enum Given {
+    /// Nothing that is compared.
+    Any,
+    Nothing,
+    /// One answer.
+    Answer(&'static [u8]),
+    Refused(SwitchError),
 }
 
-// A switch of two ports, and a controller that said HELLO.
-fn opened(rt: &impl Abort, alloc: Global) -> Result<Switch<Scan>, Fail> {
-    let mut switch = Switch::<Scan>::new(alloc, 1)?;
-    switch.port_change(added(1))?;
-    switch.port_change(added(2))?;
-    let effects = switch.connected()?;
-    assert_eq!(rt; effects.len(), 1);
-    assert!(rt; matches!(&effects[0], Effect::Answer(_)));
-    if let Effect::Answer(hello) = &effects[0] {
-        let bytes = [4u8, 0, 0, 16, 0, 0, 0, 0, 0, 1, 0, 8, 0, 0, 0, 0x10];
-        assert_eq!(rt; hello.as_slice(), bytes.as_slice());
+// One effect, which is an answer of these bytes.
+fn is_answer(rt: &impl Abort, place: usize, effects: &[Effect], bytes: &[u8]) {
+    match effects {
+        [Effect::Answer(answer)] => {
+            assert_eq!(rt; answer.as_slice(), bytes, "step {place}");
+        }
+        _ => assert!(rt; false, "step {place} gives one answer"),
     }
-    let effects = handled(rt, &mut switch, &[4, 0, 0, 8, 0, 0, 0, 1])?;
-    assert!(rt; effects.is_empty());
-    Ok(switch)
+}
+
+fn are_given(rt: &impl Abort, place: usize, effects: &[Effect], given: Given) {
+    match given {
+        Given::Any => {}
+        Given::Nothing => assert!(rt; effects.is_empty(), "step {place}"),
+        Given::Answer(bytes) => is_answer(rt, place, effects, bytes),
+        Given::Refused(_) => assert!(rt; false, "step {place} is refused"),
+    }
+}
+
+/// What is done to a switch.
+#[derive(Clone, Copy)]
+enum Step {
+    Port(u32),
+    Connect,
+    /// The bytes of one message.
+    Message(&'static [u8]),
+}
+
+/// A switch of two ports, and a controller that says HELLO and asks for an echo.
+const ECHO: &[(Step, Given)] = &[
+    (Step::Port(1), Given::Any),
+    (Step::Port(2), Given::Any),
+    (
+        Step::Connect,
+        Given::Answer(&[4, 0, 0, 16, 0, 0, 0, 0, 0, 1, 0, 8, 0, 0, 0, 0x10]),
+    ),
+    (Step::Message(&[4, 0, 0, 8, 0, 0, 0, 1]), Given::Nothing),
+    (
+        Step::Message(&[4, 2, 0, 10, 0, 0, 0, 9, 0xab, 0xcd]),
+        Given::Answer(&[4, 3, 0, 10, 0, 0, 0, 9, 0xab, 0xcd]),
+    ),
+];
+
+fn handle(switch: &mut Switch<Scan>, message: &[u8]) -> Result<Effects, Fail> {
+    switch.feed(message)?;
+    Ok(switch.next()?.ok_or("a message")?)
+}
+
+fn happen(switch: &mut Switch<Scan>, step: Step) -> Result<Effects, Fail> {
+    match step {
+        Step::Port(number) => Ok(switch.port_change(added(number))?),
+        Step::Connect => Ok(switch.connected()?),
+        Step::Message(bytes) => handle(switch, bytes),
+    }
+}
+
+fn is_all_handled(switch: &mut Switch<Scan>) -> Result<bool, Fail> {
+    Ok(switch.next()?.is_none())
+}
+
+fn play(
+    rt: &impl Abort,
+    place: usize,
+    switch: &mut Switch<Scan>,
+    step: Step,
+    given: Given,
+) -> Result<(), Fail> {
+    let effects = happen(switch, step)?;
+    are_given(rt, place, effects.as_slice(), given);
+    if let Step::Message(_) = step {
+        assert!(rt; is_all_handled(switch)?, "step {place} is one message");
+    }
+    Ok(())
 }
 
 #[test]
 fn echo(rt: HostRuntime) -> Result<(), Fail> {
-    let mut switch = opened(&rt, rt.alloc())?;
-    switch.feed(&[4, 2, 0, 10, 0, 0, 0, 9, 0xab, 0xcd])?;
-    let effects = switch.next()?.ok_or("a message")?;
-    assert_eq!(rt; effects.len(), 1);
-    assert!(rt; matches!(&effects[0], Effect::Answer(_)));
-    if let Effect::Answer(reply) = &effects[0] {
-        let bytes = [4u8, 3, 0, 10, 0, 0, 0, 9, 0xab, 0xcd];
-        assert_eq!(rt; reply.as_slice(), bytes.as_slice());
+    let mut switch = Switch::<Scan>::new(rt.alloc(), 1)?;
+    for (place, (step, given)) in ECHO.iter().enumerate() {
+        play(&rt, place, &mut switch, *step, *given)?;
     }
-    assert!(rt; switch.next()?.is_none());
-    two_pieces();
-    piece_handles_its_messages();
-    refusal_changes_nothing();
     Ok(())
 }
 
-// A switch that a controller greets, asks for an echo in two pieces, and greets wrongly again.
+#[test]
+fn laws() {
+    two_pieces();
+    piece_handles_its_messages();
+    refusal_changes_nothing();
+}
+
+/// What happens to a switch.
+#[derive(Clone, Copy)]
+enum Happening {
+    Port(u32),
+    Connect,
+    Piece(&'static [u8]),
+    Moment(u64),
+}
+
+/// A switch that a controller greets, asks for an echo in two pieces, and greets wrongly again.
+const EVENTS: &[(Happening, Given)] = &[
+    (Happening::Port(1), Given::Any),
+    (Happening::Connect, Given::Any),
+    (Happening::Connect, Given::Refused(SwitchError::Connected)),
+    (
+        Happening::Piece(&[4, 0, 0, 8, 0, 0, 0, 1, 4, 2, 0, 8]),
+        Given::Any,
+    ),
+    (
+        Happening::Piece(&[0, 0, 0, 9]),
+        Given::Answer(&[4, 3, 0, 8, 0, 0, 0, 9]),
+    ),
+    (Happening::Moment(1), Given::Any),
+];
+
+fn event_of(alloc: Global, happening: Happening) -> Result<Event, Fail> {
+    Ok(match happening {
+        Happening::Port(number) => Event::Ports(added(number)),
+        Happening::Connect => Event::Connect,
+        Happening::Piece(bytes) => Event::Piece(Bytes::from_slice(alloc, bytes)?),
+        Happening::Moment(moment) => Event::Moment(moment),
+    })
+}
+
+fn events_of(alloc: Global, rows: &[(Happening, Given)]) -> Result<Vec<Event>, Fail> {
+    let mut events = Vec::new(alloc);
+    for (happening, _) in rows {
+        events.push(event_of(alloc, *happening)?)?;
+    }
+    Ok(events)
+}
+
+fn is_reported(rt: &impl Abort, place: usize, report: &Report, given: Given) {
+    match (report, given) {
+        (Report::Gives(effects), _) => are_given(rt, place, effects.as_slice(), given),
+        (Report::Refused(why), Given::Refused(wanted)) => {
+            assert_eq!(rt; *why, wanted, "event {place}");
+        }
+        (Report::Refused(_), _) => assert!(rt; matches!(given, Given::Any), "event {place}"),
+    }
+}
+
+fn are_reported(rt: &impl Abort, reports: &[Report], rows: &[(Happening, Given)]) {
+    assert_eq!(rt; reports.len(), rows.len());
+    for (place, (report, (_, given))) in reports.iter().zip(rows).enumerate() {
+        is_reported(rt, place, report, *given);
+    }
+}
+
 #[test]
 fn events(rt: HostRuntime) -> Result<(), Fail> {
     let mut switch = Switch::<Scan>::new(rt.alloc(), 1)?;
-    let mut events = Vec::new(rt.alloc());
-    events.push(Event::Ports(added(1)))?;
-    events.push(Event::Connect)?;
-    events.push(Event::Connect)?;
-    events.push(Event::Piece(Bytes::from_slice(
-        rt.alloc(),
-        &[4, 0, 0, 8, 0, 0, 0, 1, 4, 2, 0, 8],
-    )?))?;
-    events.push(Event::Piece(Bytes::from_slice(rt.alloc(), &[0, 0, 0, 9])?))?;
-    events.push(Event::Moment(1))?;
+    let events = events_of(rt.alloc(), EVENTS)?;
     let mut reports = Vec::new(rt.alloc());
     switch.run(&events, &mut reports)?;
-    assert_eq!(rt; reports.len(), 6);
-    assert!(rt; matches!(&reports[2], Report::Refused(SwitchError::Connected)));
-    assert!(rt; matches!(&reports[4], Report::Gives(_)));
-    if let Report::Gives(effects) = &reports[4] {
-        assert_eq!(rt; effects.len(), 1);
-        assert!(rt; matches!(&effects[0], Effect::Answer(_)));
-        if let Effect::Answer(reply) = &effects[0] {
-            assert_eq!(rt; reply.as_slice(), [4u8, 3, 0, 8, 0, 0, 0, 9].as_slice());
-        }
-    }
+    are_reported(&rt, &reports, EVENTS);
     Ok(())
 }

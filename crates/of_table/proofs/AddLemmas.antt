@@ -10,7 +10,7 @@ use Rattle.std.proofs.lemmas.List.{map-append, take-map, drop-map, length-map}
 use Rattle.std.proofs.lemmas.List.Quantifiers.{position-Some}
 use Rattle.std.proofs.lemmas.List.Folds.{find_at}
 use Rattle.std.proofs.lemmas.Option.{slice_get-get_or}
-use Rattle.of_wire.specs.Numbered.{is_used, is_distinct, without, renewed}
+use Rattle.of_wire.specs.Numbered.{is_used, is_distinct, without, moved_to_end}
 use Rattle.of_wire.proofs.NumberedLemmas as low
 use Rattle.of_oxm.specs.SameMatch.{is_same_match}
 use Rattle.of_oxm.specs.declared.match_field.MatchField.{MatchField}
@@ -35,11 +35,11 @@ is_itself xs =
     let test = pointwise the_match_field.eq-value.it xs xs in
     sym (same_match xs xs test refl) ∙ (same_fields xs xs test refl).1 refl
 
--- a table of so many look-ups and hits
+-- a table of so many lookups and hits
 abbrev pub with_entries : ℕ → ℕ → List Entry → Numbered
 with_entries lookups matched es = record { lookups = lookups; matched = matched; entries = es }
 
--- the flow comes last, and no entry goes
+-- the flow comes last, and no entry is removed
 added_new : (now : ℕ) (flow : Flow) (es : List Entry) (e : Entry) → list_any (is_same flow) (flows_of es) ≡ false → entry_of e ≡ with_flow now flow None → es ++ e ∷ [] ≡ added_entries e.number now flow es
 added_new now flow es e new is =
     let none : list_any (λ x. is_same flow (entry_of x)) es ≡ false = sym (any-map entry_of (is_same flow) es) ∙ new in
@@ -96,7 +96,7 @@ flow_is now flow f e is = ap (λ (x : FlowEntry). x.flow) is
 pub used_again : (es : List Entry) (k : ℕ) (e : Entry) → k < length es → e ≡ get_or es k e → is_used row_number e.number (rows_of es) ≡ true
 used_again es k e lt is = rw (get_or-map row_of es k e, ← is) at (low.used_at row_number (rows_of es) k (row_of e) (rw length-map lt))
 
-pub rows_again : (es : List Entry) (k : ℕ) (e f : Entry) → is_distinct row_number (rows_of es) ≡ true → k < length es → e ≡ get_or es k e → row_of f ≡ row_of e → rows_of (remove es k ++ f ∷ []) ≡ renewed row_number e.number (rows_of es)
+pub rows_again : (es : List Entry) (k : ℕ) (e f : Entry) → is_distinct row_number (rows_of es) ≡ true → k < length es → e ≡ get_or es k e → row_of f ≡ row_of e → rows_of (remove es k ++ f ∷ []) ≡ moved_to_end row_number e.number (rows_of es)
 rows_again es k e f distinct lt is same =
     let value : get_or (rows_of es) k (row_of e) ≡ row_of e = get_or-map row_of es k e ∙ ap row_of (sym is) in
     let r = low.renewed_at row_number (rows_of es) k (row_of e) e.number distinct (rw length-map lt) (rw value refl) in

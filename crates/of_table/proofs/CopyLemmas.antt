@@ -3,7 +3,7 @@ use Rattle.std.proofs.Common.{◌≡◌, ℕ, zero, suc, ◌+◌, ◌-◌, ◌<�
 use Rattle.std.specs.Prelude.{replicate}
 use Rattle.std.proofs.lemmas.List.Sums.{sum_by_more, sum_by-take-le}
 use Rattle.of_wire.proofs.Changing.{changed_to}
-use Rattle.of_table.specs.declared.selection.Which.{Which}
+use Rattle.of_table.specs.declared.selection.Selector.{Selector}
 use Rattle.of_table.specs.declared.entry.Entry.{Entry}
 use Rattle.of_table.specs.Copies.{Supply, is_modified, wanted}
 
@@ -22,11 +22,11 @@ take-replicate zero (suc k) x le = absurd (omega (arith, le))
 take-replicate {X} (suc n) (suc k) x le = ap (λ (xs : List X). x ∷ xs) (take-replicate n k x (omega (arith, le)))
 
 -- one more entry
-pub wanted_next : (w : Which) (es : List Entry) (i : ℕ) (d : Entry) → i < length es → wanted w (take (i + 1) es) ≡ wanted w (take i es) + cond (is_modified w (get_or es i d)) 1 0
+pub wanted_next : (w : Selector) (es : List Entry) (i : ℕ) (d : Entry) → i < length es → wanted w (take (i + 1) es) ≡ wanted w (take i es) + cond (is_modified w (get_or es i d)) 1 0
 wanted_next w es i d lt = sum_by_more (λ e. cond (is_modified w e) 1 0) es i d lt
 
--- a part wants no more than all
-pub wanted_some : (w : Which) (es : List Entry) (i : ℕ) → wanted w (take i es) ≤ wanted w es
+-- a part needs no more than all
+pub wanted_some : (w : Selector) (es : List Entry) (i : ℕ) → wanted w (take i es) ≤ wanted w es
 wanted_some w es i = sum_by-take-le (λ e. cond (is_modified w e) 1 0) es i
 
 -- ---- so many copies are there, after more are made or some are taken
@@ -60,8 +60,8 @@ changed_at f i [] d lt = absurd (omega (arith, lt))
 changed_at f zero (x ∷ xs) d lt = refl
 changed_at f (suc i) (x ∷ xs) d lt = changed_at f i xs d (omega (arith, lt))
 
--- the entry that comes next wants what it wanted before
-pub wanted_now : (w : Which) (f : Entry → Entry) (all es : List Entry) (i : ℕ) (d : Entry) → i < length all → es ≡ changed_to f i all → wanted w (take (i + 1) all) ≡ wanted w (take i all) + cond (is_modified w (get_or es i d)) 1 0
+-- the entry that comes next needs what it needed before
+pub wanted_now : (w : Selector) (f : Entry → Entry) (all es : List Entry) (i : ℕ) (d : Entry) → i < length all → es ≡ changed_to f i all → wanted w (take (i + 1) all) ≡ wanted w (take i all) + cond (is_modified w (get_or es i d)) 1 0
 wanted_now w f all es i d lt so =
     let at : get_or es i d ≡ get_or all i d = ap (λ (xs : List Entry). get_or xs i d) so ∙ changed_at f i all d lt in
     rw at (wanted_next w all i d lt)

@@ -1,4 +1,4 @@
--- Before which moment no entry's time is over, as entries come, change and go.
+-- Before which moment no entry expires, as entries are added, change and are removed.
 use Rattle.std.proofs.Common.{◌≡◌, ℕ, ◌+◌, ◌*◌, ◌<◌, Bool, true, false, not, cond, ◌&&◌, min, List, [], ◌∷◌, ◌++◌, Option, Some, None, set, refl, ap, ◌∙◌, arith}
 use Rattle.std.specs.Prelude.{filter, is_none, unwrap_or}
 use Rattle.std.proofs.lemmas.Bool.Decides.{nat_tests}
@@ -6,7 +6,7 @@ use Rattle.std.proofs.lemmas.List.Folds.{list_all-append}
 use Rattle.of_actions.specs.declared.instruction.Instruction.{Instruction}
 use Rattle.of_table.specs.declared.entry.Entry.{Entry}
 use Rattle.of_table.specs.declared.flow.Flow.{Flow}
-use Rattle.of_table.specs.declared.selection.Which.{Which}
+use Rattle.of_table.specs.declared.selection.Selector.{Selector}
 use Rattle.of_table.specs.declared.selection.Cause.{Cause}
 use Rattle.of_table.specs.declared.selection.Cause.TheVariants.{Moment}
 use Rattle.of_table.specs.Table.{FlowEntry, is_same, with_flow}
@@ -35,24 +35,24 @@ added_none_over due until number now flow es none new at lt =
     let kept = all-filter (λ e. stays (Moment at) (entry_of e)) (λ e. not (is_same flow (entry_of e))) es before in
     rw (list_all-append (λ e. stays (Moment at) (entry_of e)) (filter (λ e. not (is_same flow (entry_of e))) es) _, kept, last) refl
 
-same_time : (at : ℕ) (w : Which) (is : List Instruction) (reset : Bool) (e : FlowEntry) → stays (Moment at) (modified_by w is reset e) ≡ stays (Moment at) e
+same_time : (at : ℕ) (w : Selector) (is : List Instruction) (reset : Bool) (e : FlowEntry) → stays (Moment at) (modified_by w is reset e) ≡ stays (Moment at) e
 same_time at w is reset e = by_test (modifies w e)
   where
     by_test : (b : Bool) → stays (Moment at) (cond b (modified_entry is reset e) e) ≡ stays (Moment at) e
     by_test true = refl
     by_test false = refl
 
-modified_stay : (at : ℕ) (w : Which) (is : List Instruction) (reset : Bool) (es : List Entry) → all_stay (Moment at) (modified_entries w is reset es) ≡ all_stay (Moment at) es
+modified_stay : (at : ℕ) (w : Selector) (is : List Instruction) (reset : Bool) (es : List Entry) → all_stay (Moment at) (modified_entries w is reset es) ≡ all_stay (Moment at) es
 modified_stay at w is reset [] = refl
 modified_stay at w is reset (e ∷ es) = λ j. same_time at w is reset (entry_of e) j && modified_stay at w is reset es j
 
-pub modified_none_over : (due : ℕ) (w : Which) (is : List Instruction) (reset : Bool) (es : List Entry) → NoneOver due es → NoneOver due (modified_entries w is reset es)
+pub modified_none_over : (due : ℕ) (w : Selector) (is : List Instruction) (reset : Bool) (es : List Entry) → NoneOver due es → NoneOver due (modified_entries w is reset es)
 modified_none_over due w is reset es none at lt = modified_stay at w is reset es ∙ none at lt
 
 pub kept_none_over : (due : ℕ) (cause : Cause) (es zs : List Entry) → zs ≡ kept_of cause es → NoneOver due es → NoneOver due zs
 kept_none_over due cause es zs is none at lt = ap (all_stay (Moment at)) is ∙ all-filter (λ e. stays (Moment at) (entry_of e)) (λ e. stays cause (entry_of e)) es (none at lt)
 
--- where all stay, nothing goes and nothing is told
+-- where all stay, nothing is removed and there is no notice
 pub all_kept : (cause : Cause) (es : List Entry) → all_stay cause es ≡ true → kept_of cause es ≡ es
 all_kept cause [] h = refl
 all_kept cause (e ∷ es) h = by_test (stays cause (entry_of e)) h (all_kept cause es)

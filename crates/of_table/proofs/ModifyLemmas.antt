@@ -6,7 +6,7 @@ use Rattle.of_actions.specs.declared.instruction.Instruction.{Instruction}
 use Rattle.of_table.specs.Table.{FlowEntry}
 use Rattle.of_table.specs.Entries.{entry_of, flows_of, row_of, rows_of}
 use Rattle.of_table.specs.Selecting.{modified_by, modified, modified_entries}
-use Rattle.of_table.specs.declared.selection.Which.{Which}
+use Rattle.of_table.specs.declared.selection.Selector.{Selector}
 use Rattle.of_table.specs.declared.entry.Entry.{Entry}
 
 pub set_same : {X Y : Type 0} (f : X → Y) (xs : List X) (k : ℕ) (x d : X) → k < length xs → f x ≡ f (get_or xs k d) → map f (set xs k x) ≡ map f xs
@@ -22,6 +22,6 @@ pub rows_kept : (es zs : List Entry) (k : ℕ) (e d : Entry) → k < length zs �
 rows_kept es zs k e d lt same is = set_same row_of es k e d (omega (arith, lt, same_length es zs same)) is ∙ same
 
 -- the same without the numbers
-pub flows_modified : (w : Which) (is : List Instruction) (reset : Bool) (es : List Entry) → flows_of (modified_entries w is reset es) ≡ modified w is reset (flows_of es)
+pub flows_modified : (w : Selector) (is : List Instruction) (reset : Bool) (es : List Entry) → flows_of (modified_entries w is reset es) ≡ modified w is reset (flows_of es)
 flows_modified w is reset [] = refl
 flows_modified w is reset (e ∷ es) = ap (λ (fs : List FlowEntry). modified_by w is reset (entry_of e) ∷ fs) (flows_modified w is reset es)

@@ -27,11 +27,11 @@ used-rows number es = any-map row_of (λ r. eqb r.number number) es ∙ sym (any
 place-number : (number : ℕ) (es : List Entry) → place_of number es ≡ position_or_len (λ e. eqb e.number number) es
 place-number number es = place-map entry_number (λ n. eqb n number) es
 
--- an entry is there exactly where it is found
+-- an entry exists exactly where it is found
 pub found_number : (number : ℕ) (es : List Entry) → find_number number es ≡ slice_get es (place_of number es)
 found_number number es = rw (place-number number es) (find_at (λ e. eqb e.number number) es)
 
--- what stands at the place of a number is the entry of that number
+-- what is at the place of a number is the entry of that number
 pub entry_at_place : (number : ℕ) (es : List Entry) → slice_get (flows_of es) (place_of number es) ≡ option_map entry_of (find_number number es)
 entry_at_place number es = slice_get-map entry_of es (place_of number es) ∙ ap (option_map entry_of) (sym (found_number number es))
 
@@ -82,7 +82,7 @@ found_place p (e ∷ es) distinct = by_test (p e) refl (found_place p es (grind 
         let same : find p (e ∷ es) ≡ find p es = rw fails refl in
         by_rest (find p es) refl fails ih ∙ ap (option_map (λ x. place_of x.number (e ∷ es))) (sym same)
 
--- ---- where the entry of a number stands
+-- ---- the place of the entry of a number
 
 pub stands : (es : List Entry) (k number : ℕ) (d : Entry) → is_distinct entry_number es ≡ true → k < length es → (get_or es k d).number ≡ number → position (λ e. eqb e.number number) es ≡ Some k
 stands [] k number d distinct lt is = absurd (omega (arith, lt))
@@ -133,7 +133,7 @@ same_none fields priority es distinct is = by_case (find (λ e. is_same_row fiel
     by_case None found h = rw found at (found_place (λ x. is_same_row fields priority (row_of x)) es distinct)
     by_case (Some e) found h = absurd cc
 
--- what stands at the place of a number
+-- what is at the place of a number
 pub number_at : (number : ℕ) (es : List Entry) (k : ℕ) (e : Entry) → position (λ x. eqb x.number number) es ≡ Some k → e ≡ get_or es k e → find_number number es ≡ Some e
 number_at number es k e h is =
     let s = position_some (λ x. eqb x.number number) es k h in

@@ -1,4 +1,4 @@
--- Entries after one more of them was looked at, and taken if it goes.
+-- Entries after one more of them was checked, and removed if the cause applies to it.
 use Rattle.std.proofs.Common.{◌≡◌, ℕ, ◌+◌, ◌<◌, Bool, true, false, cond, eqb, List, [], ◌∷◌, ◌++◌, length, get_or, take, drop, Option, Some, None, refl, sym, ap, ◌∙◌, arith, append_assoc}
 use Rattle.std.specs.Prelude.{map, is_some, is_none}
 use Rattle.std.specs.Option.{option_map, option_to_list}
@@ -42,11 +42,11 @@ without_between {X} f (y ∷ xs) ys x h =
         never
     apart_by false e d = refl
 
--- the entries of which so many were looked at: those of them that stay, and the others
+-- the entries of which so many were checked: those of them that stay, and the others
 abbrev pub looked_to : Cause → ℕ → List Entry → List Entry
 looked_to cause i es = kept_of cause (take i es) ++ drop i es
 
--- among entries k and r, the one between them stays or goes
+-- among entries k and r, the one between them stays or is removed
 between : (b : Bool) (k r : List Entry) (e : Entry) → is_distinct row_number (rows_of (k ++ e ∷ r)) ≡ true →
     cond b (rows_of (k ++ e ∷ r)) (without row_number e.number (rows_of (k ++ e ∷ r))) ≡ rows_of ((k ++ cond b (e ∷ []) []) ++ r)
 between true k r e distinct = ap rows_of (sym (append_assoc k (e ∷ []) r))
@@ -56,7 +56,7 @@ between false k r e distinct =
     ap (without row_number e.number) parts ∙ without_between row_number (rows_of k) (rows_of r) (row_of e) apart ∙ sym (map-append row_of k r)
     ∙ ap (λ (zs : List Entry). rows_of (zs ++ r)) (sym (append-nil k))
 
--- the entry that stands next is taken if it goes
+-- the entry that comes next is removed if the cause applies to it
 looked_more : (cause : Cause) (es : List Entry) (i : ℕ) (e d : Entry) → i < length es → e ≡ get_or es i d → is_distinct row_number (rows_of (looked_to cause i es)) ≡ true →
     cond (stays cause (entry_of e)) (rows_of (looked_to cause i es)) (without row_number e.number (rows_of (looked_to cause i es))) ≡ rows_of (looked_to cause (i + 1) es)
 looked_more cause es i e d lt at distinct =

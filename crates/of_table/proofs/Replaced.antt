@@ -1,17 +1,17 @@
--- Entries behind some that were replaced.
+-- Entries after some that were replaced.
 use Rattle.std.proofs.Common.{◌≡◌, ℕ, Bool, zero, suc, ◌+◌, ◌-◌, ◌<◌, ◌≤◌, List, [], ◌∷◌, ◌++◌, Some, length, get_or, take, drop, refl, sym, ap, ◌∙◌, arith}
 use Rattle.std.specs.Prelude.{position, remove}
 use Rattle.std.proofs.lemmas.List.{length-drop, length-take-le, length-append, drop-drop, drop-append-le, get_or-drop, drop_at, drop_all, take_all, append-nil}
 use Rattle.of_table.proofs.PlaceLemmas.{position_some}
 
--- the first entry behind them is there
+-- the first entry after them exists
 pub is_behind : {X : Type 0} (p : X → Bool) (xs : List X) (r k : ℕ) → position p (drop r xs) ≡ Some k → r + k < length xs
 is_behind p xs r k h =
     let s = position_some p (drop r xs) k h in
     let long : length (drop r xs) ≡ length xs - r = length-drop r xs in
     omega (arith, s.1, long)
 
--- one that stands behind them
+-- one that comes after them
 pub at_behind : {X : Type 0} (xs : List X) (r k : ℕ) (x : X) → x ≡ get_or xs (r + k) x → x ≡ get_or (drop r xs) k x
 at_behind xs r k x is = is ∙ sym (get_or-drop r xs k x)
 
@@ -42,7 +42,7 @@ one_behind {X} xs ys zs r x le same last = ap (drop r) (last ∙ ap (λ (ws : Li
 pub one_longer : {X : Type 0} (xs ys zs : List X) (x : X) → ys ≡ xs → zs ≡ ys ++ x ∷ [] → length zs ≡ length xs + 1
 one_longer {X} xs ys zs x same last = ap length (last ∙ ap (λ (ws : List X). ws ++ x ∷ []) same) ∙ length-append xs (x ∷ [])
 
--- one that stands behind them goes
+-- one that comes after them is removed
 pub one_gone : {X : Type 0} (xs : List X) (r k n : ℕ) → n ≡ r + k → n < length xs → drop r (remove xs n) ≡ remove (drop r xs) k
 one_gone {X} xs zero k n is lt = let same : n ≡ k = omega (arith, is) in ap (remove xs) same
 one_gone [] (suc r) k n is lt = absurd (omega (arith, lt))
@@ -55,7 +55,7 @@ written {X} xs ys len same long =
     let none : drop (length xs) ys ≡ [] = drop_all (length xs) ys (omega arith) in
     ap (λ (zs : List X). take len (xs ++ zs)) none ∙ ap (take len) (append-nil xs) ∙ take_all len xs (omega arith)
 
--- those behind them are written anew
+-- those after them are written anew
 pub written_behind : {X : Type 0} (xs ys zs : List X) (r len : ℕ) → xs ≡ zs → length zs ≡ len → r ≤ len → length ys ≡ len - r →
     (drop r (take len ((take r xs ++ (ys ++ drop (length xs - r) (drop r xs))) ++ drop (length (take r xs ++ (ys ++ drop (length xs - r) (drop r xs)))) zs)) ≡ ys)
     × (r ≤ length (take len ((take r xs ++ (ys ++ drop (length xs - r) (drop r xs))) ++ drop (length (take r xs ++ (ys ++ drop (length xs - r) (drop r xs)))) zs)))

@@ -1,4 +1,4 @@
--- What holds of the entries of each table stays so.
+-- The invariants of the entries of each table are kept.
 use Rattle.std.proofs.Common.{◌≡◌, ℕ, zero, suc, ◌+◌, ◌<◌, ◌≤◌, Bool, true, false, not, cond, ltb, ltb-true, List, [], ◌∷◌, ◌&&◌, length, set, get_or, refl, sym, ap, arith, ◌∙◌}
 use Rattle.std.specs.Prelude.{filter, map, find, replicate, Option, Some, None, slice_index_or}
 use Rattle.std.specs.List.{list_all}
@@ -116,7 +116,7 @@ left_all_sound : (cause : Cause) (k : ℕ) (ts : List Table) → AllSound k ts �
 left_all_sound cause k [] s = tt
 left_all_sound cause k (t ∷ ts) s = (left_one_sound cause k t s.0, left_all_sound cause (suc k) ts s.1)
 
--- all tables stay sound where entries go
+-- all tables stay sound where entries are removed
 pub kept_all_sound : (cause : Cause) (ns new : List Numbered) → new ≡ each_from (kept_table cause) 0 ns → AllSound 0 (map table_of ns) → AllSound 0 (map table_of new)
 kept_all_sound cause ns new is s =
     let tables : map table_of new ≡ each_from (left_table cause) 0 (map table_of ns) = ap (map table_of) is ∙ each-map (kept_table cause) (left_table cause) (kept_one cause) 0 ns in

@@ -1,4 +1,4 @@
--- What stands outside a span, where none passes, does not count.
+-- What is outside a span, where none passes, does not count.
 use Rattle.std.proofs.Common.{◌≡◌, ℕ, suc, zero, ◌+◌, ◌-◌, ◌<◌, ◌≤◌, Bool, true, false, not, cond, ◌&&◌, ◌||◌, List, [], ◌∷◌, ◌++◌, Option, Some, None, Result, Ok, Err, length, get_or, take, drop, refl, sym, ap, subst, ◌∙◌, arith, add-one}
 use Rattle.std.specs.Prelude.{OnOk, count_by, filter, map, position, remove}
 use Rattle.std.specs.Option.{option_to_list}
@@ -13,7 +13,7 @@ use Rattle.of_actions.specs.declared.instruction.Instruction.{Instruction}
 use Rattle.of_oxm.specs.declared.match_field.MatchField.{MatchField}
 use Rattle.of_classifier.specs.Rows.{is_same_row}
 use Rattle.of_table.specs.declared.entry.Entry.{Entry}
-use Rattle.of_table.specs.declared.selection.Which.{Which}
+use Rattle.of_table.specs.declared.selection.Selector.{Selector}
 use Rattle.of_table.specs.declared.selection.Cause.{Cause}
 use Rattle.of_table.specs.declared.selection.Cause.TheVariants.{Delete}
 use Rattle.of_wire.proofs.Changing.{changed_to}
@@ -75,7 +75,7 @@ none_before p xs zero d le h = refl
 none_before p [] (suc k) d le h = refl
 none_before p (x ∷ xs) (suc k) d le h = rw (h 0 (omega arith), none_before p xs k d (omega (arith, le)) (λ j lt. h (suc j) (omega (arith, lt)))) refl
 
--- where it stands, there is no other of them outside
+-- where it exists, there is no other of them outside
 inside_at : (fields : List MatchField) (priority : ℕ) (es : List Entry) (k : ℕ) (d : Entry) → are_unlike (map key_of (flows_of es)) ≡ true → position (λ e. is_same_row fields priority (row_of e)) es ≡ Some k →
     Outside (λ e. is_same_row fields priority (row_of e)) es k (k + 1)
 inside_at fields priority es k d unlike h =
@@ -93,12 +93,12 @@ pub one_inside : (fields : List MatchField) (priority : ℕ) (es : List Entry) (
 one_inside fields priority [] k unlike h = absurd cc
 one_inside fields priority (e ∷ es) k unlike h = inside_at fields priority (e ∷ es) k e unlike h
 
--- a strict command is for that entry alone
-pub meant_inside : (w : Which) (priority : ℕ) (es : List Entry) (k : ℕ) → w.priority ≡ Some priority → are_unlike (map key_of (flows_of es)) ≡ true → position (λ e. is_same_row w.fields priority (row_of e)) es ≡ Some k →
+-- a strict command selects that entry alone
+pub meant_inside : (w : Selector) (priority : ℕ) (es : List Entry) (k : ℕ) → w.priority ≡ Some priority → are_unlike (map key_of (flows_of es)) ≡ true → position (λ e. is_same_row w.fields priority (row_of e)) es ≡ Some k →
     Outside (λ e. is_meant w (entry_of e)) es k (k + 1)
 meant_inside w priority es k is unlike h = subst (λ (o : Option ℕ). Outside (λ e. is_meant_by o w (entry_of e)) es k (k + 1)) (sym is) (one_inside w.fields priority es k unlike h)
 
-pub meant_nowhere : (w : Which) (priority : ℕ) (es : List Entry) → w.priority ≡ Some priority → position (λ e. is_same_row w.fields priority (row_of e)) es ≡ None → Outside (λ e. is_meant w (entry_of e)) es 0 0
+pub meant_nowhere : (w : Selector) (priority : ℕ) (es : List Entry) → w.priority ≡ Some priority → position (λ e. is_same_row w.fields priority (row_of e)) es ≡ None → Outside (λ e. is_meant w (entry_of e)) es 0 0
 meant_nowhere w priority es is h =
     subst (λ (o : Option ℕ). Outside (λ e. is_meant_by o w (entry_of e)) es 0 0) (sym is) (none_inside (λ e. is_same_row w.fields priority (row_of e)) es (position_none (λ e. is_same_row w.fields priority (row_of e)) es h))
 
@@ -115,8 +115,8 @@ filter_inside {X} p xs a b o =
     ∙ ap (λ (ys : List X). filter p (slice_range xs a b) ++ ys) (none_filtered p (drop b xs) o.behind)
     ∙ append-nil (filter p (slice_range xs a b))
 
--- the copies that a MODIFY wants
-none_wanted : (w : Which) (es : List Entry) → list_any (λ e. is_meant w (entry_of e)) es ≡ false → wanted w es ≡ 0
+-- the copies that a MODIFY needs
+none_wanted : (w : Selector) (es : List Entry) → list_any (λ e. is_meant w (entry_of e)) es ≡ false → wanted w es ≡ 0
 none_wanted w es h = count_none (is_modified w) es (none_less (λ e. is_meant w (entry_of e)) (is_modified w) (λ e n. rw n refl) es h)
   where
     count_none : (p : Entry → Bool) (xs : List Entry) → list_any p xs ≡ false → count_by p xs ≡ 0
@@ -125,42 +125,42 @@ none_wanted w es h = count_none (is_modified w) es (none_less (λ e. is_meant w 
         let first : p x ≡ false = none_first (p x) (list_any p xs) g in
         sum_by-cons (λ y. cond (p y) 1 0) x xs ∙ rw (first, count_none p xs (none_second (p x) (list_any p xs) g)) refl
 
-pub wanted_inside : (w : Which) (es : List Entry) (a b : ℕ) → Outside (λ e. is_meant w (entry_of e)) es a b → wanted w (slice_range es a b) ≡ wanted w es
+pub wanted_inside : (w : Selector) (es : List Entry) (a b : ℕ) → Outside (λ e. is_meant w (entry_of e)) es a b → wanted w (slice_range es a b) ≡ wanted w es
 wanted_inside w es a b o =
     let f : Entry → ℕ = (λ (e : Entry). cond (is_modified w e) 1 0) in
     let parts : wanted w es ≡ wanted w (take a es) + (wanted w (slice_range es a b) + wanted w (drop b es)) =
     ap (wanted w) (in_parts es a b o.order) ∙ sum_by-append f (take a es) (slice_range es a b ++ drop b es) ∙ ap (λ (n : ℕ). wanted w (take a es) + n) (sum_by-append f (slice_range es a b) (drop b es)) in
     omega (arith, parts, none_wanted w (take a es) o.before, none_wanted w (drop b es) o.behind)
 
-pub wanted_none_before : (w : Which) (es : List Entry) (a b : ℕ) → Outside (λ e. is_meant w (entry_of e)) es a b → wanted w (take a es) ≡ 0
+pub wanted_none_before : (w : Selector) (es : List Entry) (a b : ℕ) → Outside (λ e. is_meant w (entry_of e)) es a b → wanted w (take a es) ≡ 0
 wanted_none_before w es a b o = none_wanted w (take a es) o.before
 
-pub wanted_to_end : (w : Which) (es : List Entry) (a b n : ℕ) → Outside (λ e. is_meant w (entry_of e)) es a b → b ≤ n → n ≤ b → wanted w (take n es) ≡ wanted w es
+pub wanted_to_end : (w : Selector) (es : List Entry) (a b n : ℕ) → Outside (λ e. is_meant w (entry_of e)) es a b → b ≤ n → n ≤ b → wanted w (take n es) ≡ wanted w es
 wanted_to_end w es a b n o le ge =
     let f : Entry → ℕ = (λ (e : Entry). cond (is_modified w e) 1 0) in
     let same : n ≡ b = omega (arith, le, ge) in
     let parts : wanted w es ≡ wanted w (take b es) + wanted w (drop b es) = sym (sum_by-take-drop f es b) in
     rw same (omega (arith, parts, none_wanted w (drop b es) o.behind))
 
-pub copies_inside : {A E : Type 0} (r : Result A E) (w : Which) (k : ℕ) (t : Numbered) (es : List Entry) (a b : ℕ) (before after : Supply) → is_in w.table k ≡ true → es ≡ t.entries → Outside (λ e. is_meant w (entry_of e)) t.entries a b →
+pub copies_inside : {A E : Type 0} (r : Result A E) (w : Selector) (k : ℕ) (t : Numbered) (es : List Entry) (a b : ℕ) (before after : Supply) → is_in w.table k ≡ true → es ≡ t.entries → Outside (λ e. is_meant w (entry_of e)) t.entries a b →
     OnOk r (after ≡ record before { count = before.count + wanted w (slice_range es a b) }) → OnOk r (after ≡ record before { count = before.count + wanted_in w k t })
 copies_inside (Ok x) w k t es a b before after for same o made =
     let all : wanted w (slice_range es a b) ≡ wanted_in w k t = ap (λ (xs : List Entry). wanted w (slice_range xs a b)) same ∙ wanted_inside w t.entries a b o ∙ rw for refl in
     made ∙ ap (λ (n : ℕ). record before { count = before.count + n }) all
 copies_inside (Err e) w k t es a b before after for same o made = made
 
--- entries that a MODIFY is not for stay as they are
-same_entries : (w : Which) (is : List Instruction) (reset : Bool) (es : List Entry) → list_any (λ e. is_meant w (entry_of e)) es ≡ false → modified_entries w is reset es ≡ es
+-- entries that a MODIFY does not select stay as they are
+same_entries : (w : Selector) (is : List Instruction) (reset : Bool) (es : List Entry) → list_any (λ e. is_meant w (entry_of e)) es ≡ false → modified_entries w is reset es ≡ es
 same_entries w is reset [] h = refl
 same_entries w is reset (e ∷ es) h =
     let unmeant : modifies w (entry_of e) ≡ false = rw (none_first (is_meant w (entry_of e)) (list_any (λ x. is_meant w (entry_of x)) es) h) refl in
     let first : on_entry (modified_by w is reset) e ≡ e = rw unmeant refl in
     λ i. first i ∷ same_entries w is reset es (none_second (is_meant w (entry_of e)) (list_any (λ x. is_meant w (entry_of x)) es) h) i
 
-pub same_before : (w : Which) (is : List Instruction) (reset : Bool) (es : List Entry) (a b : ℕ) → Outside (λ e. is_meant w (entry_of e)) es a b → es ≡ changed_to (on_entry (modified_by w is reset)) a es
+pub same_before : (w : Selector) (is : List Instruction) (reset : Bool) (es : List Entry) (a b : ℕ) → Outside (λ e. is_meant w (entry_of e)) es a b → es ≡ changed_to (on_entry (modified_by w is reset)) a es
 same_before w is reset es a b o = sym (ap (λ (xs : List Entry). xs ++ drop a es) (same_entries w is reset (take a es) o.before) ∙ take-append-drop a es)
 
-pub same_behind : (w : Which) (is : List Instruction) (reset : Bool) (es : List Entry) (a b n : ℕ) → Outside (λ e. is_meant w (entry_of e)) es a b → b ≤ n → n ≤ b → changed_to (on_entry (modified_by w is reset)) n es ≡ modified_entries w is reset es
+pub same_behind : (w : Selector) (is : List Instruction) (reset : Bool) (es : List Entry) (a b n : ℕ) → Outside (λ e. is_meant w (entry_of e)) es a b → b ≤ n → n ≤ b → changed_to (on_entry (modified_by w is reset)) n es ≡ modified_entries w is reset es
 same_behind w is reset es a b n o le ge =
     let same : n ≡ b = omega (arith, le, ge) in
     let f = on_entry (modified_by w is reset) in
@@ -168,15 +168,15 @@ same_behind w is reset es a b n o le ge =
     (ap (λ (xs : List Entry). map f (take b es) ++ xs) (sym (same_entries w is reset (drop b es) o.behind))
     ∙ sym (map-append f (take b es) (drop b es)) ∙ ap (map f) (take-append-drop b es))
 
--- ---- what may go
+-- ---- what may be removed
 
-unmeant_stays : (w : Which) (e : FlowEntry) → is_meant w e ≡ false → not (stays (Delete w) e) ≡ false
+unmeant_stays : (w : Selector) (e : FlowEntry) → is_meant w e ≡ false → not (stays (Delete w) e) ≡ false
 unmeant_stays w e h =
     let unselected : selects w e ≡ false = rw h refl in
     rw unselected refl
 
--- none goes but that a DELETE is meant for
-pub going_inside : (w : Which) (cause : Cause) (es : List Entry) (a b : ℕ) → cause ≡ Delete w → Outside (λ e. is_meant w (entry_of e)) es a b → Outside (λ e. not (stays cause (entry_of e))) es a b
+-- none is removed but that a DELETE selects by its match
+pub going_inside : (w : Selector) (cause : Cause) (es : List Entry) (a b : ℕ) → cause ≡ Delete w → Outside (λ e. is_meant w (entry_of e)) es a b → Outside (λ e. not (stays cause (entry_of e))) es a b
 going_inside w cause es a b is o =
     subst (λ (c : Cause). Outside (λ e. not (stays c (entry_of e))) es a b) (sym is) (outside_less (λ e. is_meant w (entry_of e)) (λ e. not (stays (Delete w) (entry_of e))) es a b (λ e h. unmeant_stays w (entry_of e) h) o)
 
@@ -219,7 +219,7 @@ told_by_span (Ok x) cause k t es a b before after for same o made =
     made ∙ ap (λ (ts : List Told). before ++ ts) all
 told_by_span (Err e) cause k t es a b before after for same o made = made
 
--- nothing goes from an empty span
+-- nothing is removed from an empty span
 pub kept_empty : (cause : Cause) (es : List Entry) (a b : ℕ) → a ≡ b → Outside (λ e. not (stays cause (entry_of e))) es a b → kept_of cause es ≡ es
 kept_empty cause es a b is o =
     let s = λ (e : Entry). stays cause (entry_of e) in
@@ -242,7 +242,7 @@ one_split cause es k d o =
     ∙ (λ i. front i ++ kept_of cause (next i))
     ∙ ap (λ (xs : List Entry). take k es ++ cond (s (get_or es k d)) (get_or es k d ∷ xs) xs) rest
 
--- of a span of one, that one stays or goes
+-- of a span of one, that one stays or is removed
 pub one_stays : (cause : Cause) (es : List Entry) (k : ℕ) (d : Entry) → Outside (λ e. not (stays cause (entry_of e))) es k (k + 1) → stays cause (entry_of (get_or es k d)) ≡ true → kept_of cause es ≡ es
 one_stays cause es k d o is =
     let next : drop k es ≡ get_or es k d ∷ drop (k + 1) es = drop_more es k d (omega (arith, o.within)) in

@@ -15,7 +15,7 @@ use Rattle.of_table.specs.Selecting.{Told, left, kept_of, modified, modified_ent
 use Rattle.of_table.specs.Copies.{wanted_in, wanted_from}
 use Rattle.of_table.specs.declared.selection.Cause.{Cause}
 use Rattle.of_table.specs.declared.selection.Cause.TheVariants.{Delete, Group}
-use Rattle.of_table.specs.declared.selection.Which.{Which}
+use Rattle.of_table.specs.declared.selection.Selector.{Selector}
 use Rattle.of_table.specs.declared.selection.Removed.{Removed}
 use Rattle.of_table.specs.Tables.{NumberedTables, AddsFlow, numbered_at, added_to, is_in, concerns, table_at, with_table, tables_of, all_numbers, each_from, cause_at, latest_after, left_table, left_in, modified_table, modified_in, table_notices, notices_from, notices_in, modified_numbered, all_modified, kept_table, all_kept, told_table, told_from, told_in}
 
@@ -24,7 +24,7 @@ any_default [] k c d lt = absurd (omega (arith, lt))
 any_default (x ∷ xs) zero c d lt = refl
 any_default (x ∷ xs) (suc k) c d lt = any_default xs k c d (omega (arith, lt))
 
--- beyond the end stands the default
+-- beyond the end is the default
 pub get_or_past : {X : Type 0} (xs : List X) (k : ℕ) (d : X) → length xs ≤ k → get_or xs k d ≡ d
 get_or_past [] k d le = refl
 get_or_past (x ∷ xs) zero d le = absurd (omega (arith, le))
@@ -36,7 +36,7 @@ set_past [] k x le = refl
 set_past (y ∷ xs) zero x le = absurd (omega (arith, le))
 set_past {X} (y ∷ xs) (suc k) x le = ap (λ (ys : List X). y ∷ ys) (set_past xs k x (omega (arith, le)))
 
--- the table that stands there
+-- the table that is there
 pub table_is : (ns : List Numbered) (k : ℕ) (old d : Numbered) → k < length ns → old ≡ get_or ns k d → old ≡ slice_index_or ns k no_entries
 table_is ns k old d lt is = is ∙ any_default ns k d no_entries lt
 
@@ -101,8 +101,8 @@ told_more cause k ts d before now now' lt at was is =
     is ∙ ap (λ (t : Numbered). now ++ told_table cause k t) at ∙ ap (λ (ns : List Told). ns ++ told_table cause k (get_or ts k d)) was ∙ append_assoc before (told_from cause 0 (take k ts)) (told_table cause k (get_or ts k d))
     ∙ ap (λ (ns : List Told). before ++ ns) (ap (λ (i : ℕ). told_from cause 0 (take k ts) ++ told_table cause i (get_or ts k d)) zero_more ∙ rw add-one (told_more_from cause 0 k ts d lt))
 
--- the copies that one more table wants
-wanted_more_from : (w : Which) (j k : ℕ) (ts : List Numbered) (d : Numbered) → k < length ts → wanted_from w j (take (suc k) ts) ≡ wanted_from w j (take k ts) + wanted_in w (j + k) (get_or ts k d)
+-- the copies that one more table needs
+wanted_more_from : (w : Selector) (j k : ℕ) (ts : List Numbered) (d : Numbered) → k < length ts → wanted_from w j (take (suc k) ts) ≡ wanted_from w j (take k ts) + wanted_in w (j + k) (get_or ts k d)
 wanted_more_from w j k [] d lt = absurd (omega (arith, lt))
 wanted_more_from w j zero (t ∷ ts) d lt = let same : j + 0 ≡ j = omega arith in rw same (omega arith)
 wanted_more_from w j (suc k) (t ∷ ts) d lt =
@@ -110,21 +110,21 @@ wanted_more_from w j (suc k) (t ∷ ts) d lt =
     let rest = wanted_more_from w (suc j) k ts d (omega (arith, lt)) in
     rw (same, rest) (omega arith)
 
-pub wanted_more : (w : Which) (k : ℕ) (ts : List Numbered) (d : Numbered) → k < length ts → wanted_from w 0 (take (k + 1) ts) ≡ wanted_from w 0 (take k ts) + wanted_in w k (get_or ts k d)
+pub wanted_more : (w : Selector) (k : ℕ) (ts : List Numbered) (d : Numbered) → k < length ts → wanted_from w 0 (take (k + 1) ts) ≡ wanted_from w 0 (take k ts) + wanted_in w k (get_or ts k d)
 wanted_more w k ts d lt =
     let zero_more : 0 + k ≡ k = omega arith in
     rw (add-one k) (rw zero_more at (wanted_more_from w 0 k ts d lt))
 
--- a part wants no more than all
-wanted_part_from : (w : Which) (j k : ℕ) (ts : List Numbered) → wanted_from w j (take k ts) ≤ wanted_from w j ts
+-- a part needs no more than all
+wanted_part_from : (w : Selector) (j k : ℕ) (ts : List Numbered) → wanted_from w j (take k ts) ≤ wanted_from w j ts
 wanted_part_from w j zero ts = omega arith
 wanted_part_from w j (suc k) [] = omega arith
 wanted_part_from w j (suc k) (t ∷ ts) = let rest = wanted_part_from w (suc j) k ts in omega (arith, rest)
 
-pub wanted_part : (w : Which) (k : ℕ) (ts : List Numbered) → wanted_from w 0 (take k ts) ≤ wanted_from w 0 ts
+pub wanted_part : (w : Selector) (k : ℕ) (ts : List Numbered) → wanted_from w 0 (take k ts) ≤ wanted_from w 0 ts
 wanted_part w k ts = wanted_part_from w 0 k ts
 
-pub wanted_then : (w : Which) (f : ℕ → Numbered → Numbered) (k : ℕ) (ns all : List Numbered) (d : Numbered) → k < length all → ns ≡ each_to f 0 k all → wanted_from w 0 (take (k + 1) all) ≡ wanted_from w 0 (take k all) + wanted_in w k (get_or ns k d)
+pub wanted_then : (w : Selector) (f : ℕ → Numbered → Numbered) (k : ℕ) (ns all : List Numbered) (d : Numbered) → k < length all → ns ≡ each_to f 0 k all → wanted_from w 0 (take (k + 1) all) ≡ wanted_from w 0 (take k all) + wanted_in w k (get_or ns k d)
 wanted_then w f k ns all d lt so = rw (next_is f k ns all d lt so) (wanted_more w k all d lt)
 
 -- ---- the same without the numbers
@@ -143,14 +143,14 @@ kept_one cause k t = by_test (concerns cause k)
 pub tables_kept : (cause : Cause) (n : NumberedTables) → tables_of (all_kept cause n) ≡ left_in cause (tables_of n)
 tables_kept cause n = ap (λ (ts : List Table). record { tables = ts; latest = latest_after cause n.latest }) (each-map (kept_table (cause_at n.latest cause)) (left_table (cause_at n.latest cause)) (kept_one (cause_at n.latest cause)) 0 n.tables)
 
-modified_one : (w : Which) (is : List Instruction) (reset : Bool) (k : ℕ) (t : Numbered) → table_of (modified_numbered w is reset k t) ≡ modified_table w is reset k (table_of t)
+modified_one : (w : Selector) (is : List Instruction) (reset : Bool) (k : ℕ) (t : Numbered) → table_of (modified_numbered w is reset k t) ≡ modified_table w is reset k (table_of t)
 modified_one w is reset k t = by_test (is_in w.table k)
   where
     by_test : (b : Bool) → table_of (cond b (record t { entries = modified_entries w is reset t.entries }) t) ≡ cond b (record (table_of t) { flows = modified w is reset (flows_of t.entries) }) (table_of t)
     by_test true = ap (λ (fs : List FlowEntry). record (table_of t) { flows = fs }) (flows_modified w is reset t.entries)
     by_test false = refl
 
-pub tables_modified : (w : Which) (is : List Instruction) (reset : Bool) (n : NumberedTables) → tables_of (all_modified w is reset n) ≡ modified_in w is reset (tables_of n)
+pub tables_modified : (w : Selector) (is : List Instruction) (reset : Bool) (n : NumberedTables) → tables_of (all_modified w is reset n) ≡ modified_in w is reset (tables_of n)
 tables_modified w is reset n = ap (λ (ts : List Table). record { tables = ts; latest = n.latest }) (each-map (modified_numbered w is reset) (modified_table w is reset) (modified_one w is reset) 0 n.tables)
 
 notices_one : (cause : Cause) (k : ℕ) (t : Numbered) → map untold (told_table cause k t) ≡ table_notices cause k (table_of t)
@@ -164,7 +164,7 @@ pub notices_from_told : (cause : Cause) (j : ℕ) (ns : List Numbered) → map u
 notices_from_told cause j [] = refl
 notices_from_told cause j (t ∷ ns) = map-append untold (told_table cause j t) (told_from cause (suc j) ns) ∙ (λ i. notices_one cause j t i ++ notices_from_told cause (suc j) ns i)
 
--- a list that tells what is told gives the notices
+-- a list of removed entries gives the notices
 pub notices_listed : (cause : Cause) (n : NumberedTables) (removed : List Removed) → all_told removed ≡ told_in cause n → notices_of removed ≡ notices_in cause (tables_of n)
 notices_listed cause n removed is = notices_all removed ∙ ap (map untold) is ∙ notices_from_told (cause_at n.latest cause) 0 n.tables
 
@@ -200,7 +200,7 @@ pub left_by : (cause at : Cause) (later : ℕ) (old new : NumberedTables) → ne
 left_by cause at later old new is when then = ap tables_of (kept_by cause at later old new is when then) ∙ tables_kept cause old
 
 -- a command is no moment
-pub command_at : (cause : Cause) (latest : ℕ) → ((w : Which) × (cause ≡ Delete w)) ⊎ ((group : Option ℕ) × (cause ≡ Group group)) → (cause ≡ cause_at latest cause) × (latest ≡ latest_after cause latest)
+pub command_at : (cause : Cause) (latest : ℕ) → ((w : Selector) × (cause ≡ Delete w)) ⊎ ((group : Option ℕ) × (cause ≡ Group group)) → (cause ≡ cause_at latest cause) × (latest ≡ latest_after cause latest)
 command_at cause latest (inl d) = rw d.1 (refl, refl)
 command_at cause latest (inr g) = rw g.1 (refl, refl)
 

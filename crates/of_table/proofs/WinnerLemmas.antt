@@ -34,7 +34,7 @@ number-row : (o : Option Entry) → rows.number_of (option_map row_of o) ≡ opt
 number-row None = refl
 number-row (Some e) = refl
 
--- the number that a classifier answers is that of the entry
+-- the number that a classifier returns is that of the entry
 answered : (map : Field → Option ℕ) (es : List Entry) → rows.number_of (rows.winner_of (rows_of es) map) ≡ option_map entry_number (best_entry map es)
 answered map es = ap rows.number_of (winner_entry map es) ∙ number-row (best_entry map es)
 
@@ -79,7 +79,7 @@ place_best map es =
     ∙ found_row (is_best map (rows_from 0 (flows_of es))) (λ e. is_best map (rows_of es) (row_of e)) (λ j e. ap (λ b. matches_map e.flow.fields map && b) (highest_same map e.flow.priority 0 es)) 0 es
     ∙ zero_more (position (λ e. is_best map (rows_of es) (row_of e)) es)
 
--- where a winner stands there is an entry
+-- where there is a winner there is an entry
 pub winner_within : (map : Field → Option ℕ) (es : List Entry) (k : ℕ) → winner_place map (flows_of es) ≡ Some k → k < length es
 winner_within map es k h = (position_some (λ e. is_best map (rows_of es) (row_of e)) es k (sym (place_best map es) ∙ h)).1
 
@@ -87,7 +87,7 @@ map-map : (f : ℕ → ℕ) (o : Option Entry) → option_map (λ e. f e.number)
 map-map f None = refl
 map-map f (Some e) = refl
 
--- the place of the number that a classifier answers is that of the winner
+-- the place of the number that a classifier returns is that of the winner
 pub answer_place : (map : Field → Option ℕ) (es : List Entry) (answer : Option ℕ) → is_distinct entry_number es ≡ true → answer ≡ rows.number_of (rows.winner_of (rows_of es) map)
     → winner_place map (flows_of es) ≡ option_map (λ number. place_of number es) answer
 answer_place map es answer distinct h =
@@ -96,7 +96,7 @@ answer_place map es answer distinct h =
     ∙ map-map (λ number. place_of number es) (best_entry map es)
     ∙ ap (option_map (λ number. place_of number es)) (sym (h ∙ answered map es))
 
--- and it is there
+-- and it exists
 pub answer_there : (map : Field → Option ℕ) (es : List Entry) (answer : Option ℕ) → answer ≡ rows.number_of (rows.winner_of (rows_of es) map) → IfSome answer (λ number. IsTrue (is_there number es))
 answer_there map es answer h = rw (h ∙ answered map es) (by_entry (best_entry map es) refl)
   where

@@ -1,4 +1,4 @@
--- Before which moment no entry's time is over: inner definitions, which no public contract cites.
+-- Before which moment no entry expires: inner definitions, which no public contract cites.
 use Rattle.std.specs.Prelude.{◌≡◌, ◌<◌, ℕ, Bool, true, List}
 use Rattle.std.specs.List.{list_all}
 use Rattle.of_table.specs.declared.entry.Entry.{Entry}
@@ -7,10 +7,10 @@ use Rattle.of_table.specs.declared.selection.Cause.TheVariants.{Moment}
 use Rattle.of_table.specs.Entries.{entry_of}
 use Rattle.of_table.specs.Selecting.{stays}
 
--- none of the entries goes
+-- none of the entries is removed
 abbrev pub all_stay : Cause → List Entry → Bool
 all_stay cause entries = list_all (λ e. stays cause (entry_of e)) entries
 
--- no entry's time is over before the moment
+-- no entry expires before the moment
 abbrev pub NoneOver : ℕ → List Entry → Type 0
 NoneOver due entries = (now : ℕ) → now < due → all_stay (Moment now) entries ≡ true

@@ -57,7 +57,7 @@ same_entry flow entries = find (λ e. is_same flow (entry_of e)) entries
 abbrev pub IsNumberFor : Flow → List Entry → ℕ → Type 0
 IsNumberFor flow entries number = MatchOption (same_entry flow entries) (is_there number entries ≡ false) (λ e. number ≡ e.number)
 
--- under a number
+-- with the new entry under a number
 abbrev pub added_entries : ℕ → ℕ → Flow → List Entry → List Entry
 added_entries number now flow entries = filter (λ e. not (is_same flow (entry_of e))) entries ++ numbered number (with_flow now flow (option_map entry_of (same_entry flow entries))) ∷ []
 

@@ -3,7 +3,7 @@ use Rattle.std.specs.Prelude.{Option, Some, None, Result, Ok, Err}
 use Rattle.of_table.specs.declared.table_fault.TableFault.{TableFault}
 use Rattle.of_table.specs.declared.table_fault.TableFault.TheVariants.{BadTable, Overlap, Full, NoMemory}
 
--- the fault of the flow that an answer tells, want of memory being none
+-- the fault of the flow in a result; running out of memory is none
 abbrev pub fault_in : {A : Type 0} → Result A TableFault → Option TableFault
 fault_in (Ok x) = None
 fault_in (Err NoMemory) = None

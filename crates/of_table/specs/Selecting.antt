@@ -1,4 +1,4 @@
--- Which entries a command is for, and which go at a moment or with a group (OpenFlow 1.3.5, 5.5, 6.4 and 6.5).
+-- Which entries a command selects, and which are removed at a moment or with a group (OpenFlow 1.3.5, 5.5, 6.4 and 6.5).
 use Rattle.std.specs.Prelude.{ℕ, ◌-◌, ◌*◌, ◌/◌, ◌%◌, ◌==◌, ◌&&◌, nat_le, not, Bool, true, false, List, map, filter, Option, Some, None, is_none, unwrap_or, bit_and, if◌then◌else◌}
 use Rattle.std.specs.List.{list_any, flat_map}
 use Rattle.std.specs.Option.{option_map, option_map_or, option_to_list}
@@ -8,7 +8,7 @@ use Rattle.of_actions.specs.declared.instruction.Instruction.{Instruction}
 use Rattle.of_actions.specs.declared.instruction.Instruction.TheVariants.{Apply, Write}
 use Rattle.of_oxm.specs.Relations.{covers_match}
 use Rattle.of_oxm.specs.SameMatch.{is_same_match}
-use Rattle.of_table.specs.declared.selection.Which.{Which}
+use Rattle.of_table.specs.declared.selection.Selector.{Selector}
 use Rattle.of_table.specs.declared.selection.Cause.{Cause}
 use Rattle.of_table.specs.declared.selection.Cause.TheVariants as causes
 use Rattle.of_wire.specs.declared.reasons.FlowRemovedReason.{FlowRemovedReason}
@@ -20,25 +20,25 @@ use Rattle.of_table.specs.declared.entry.Entry.{Entry}
 use Rattle.of_table.specs.Table.{FlowEntry, unless_reset}
 use Rattle.of_table.specs.Entries.{entry_of, on_entry}
 
--- ---- which entries a command is for (6.4)
+-- ---- which entries a command selects (6.4)
 
--- the match covers the entry's; or, of a strict command, match and priority are the entry's
-abbrev pub is_meant_by : Option ℕ → Which → FlowEntry → Bool
+-- the match covers the entry's; or, for a strict command, match and priority are the entry's
+abbrev pub is_meant_by : Option ℕ → Selector → FlowEntry → Bool
 is_meant_by None w e = covers_match w.fields e.flow.fields
 is_meant_by (Some priority) w e = e.flow.priority == priority && is_same_match e.flow.fields w.fields
 
-abbrev pub is_meant : Which → FlowEntry → Bool
+abbrev pub is_meant : Selector → FlowEntry → Bool
 is_meant w e = is_meant_by w.priority w e
 
 -- the cookies agree in the bits of the mask
-abbrev pub has_cookie : Which → FlowEntry → Bool
+abbrev pub has_cookie : Selector → FlowEntry → Bool
 has_cookie w e = bit_and e.flow.cookie w.cookie_mask == bit_and w.cookie w.cookie_mask
 
 abbrev pub is_output_to : ℕ → Action → Bool
 is_output_to port (Output to max_len) = to == port
 is_output_to port other = false
 
--- some action that is done at once or written into the action set is so
+-- some action of an APPLY_ACTIONS or a WRITE_ACTIONS is so
 abbrev pub has_action : (Action → Bool) → Instruction → Bool
 has_action is_so (Apply actions) = list_any is_so actions
 has_action is_so (Write actions) = list_any is_so actions
@@ -48,7 +48,7 @@ abbrev pub sends_to : ℕ → Instruction → Bool
 sends_to port = has_action (is_output_to port)
 
 -- no port is asked for, or some action sends to it
-abbrev pub passes_port : Which → FlowEntry → Bool
+abbrev pub passes_port : Selector → FlowEntry → Bool
 passes_port w e = option_map_or (λ port. list_any (sends_to port) e.flow.instructions) w.out_port true
 
 -- to this group; where none is named, to any
@@ -66,15 +66,15 @@ leads_to (Port port) = is_output_to port
 leads_to (ToGroup group) = is_to group
 
 -- no group is asked for, or some action sends to it
-abbrev pub passes_group : Which → FlowEntry → Bool
+abbrev pub passes_group : Selector → FlowEntry → Bool
 passes_group w e = option_map_or (λ group. names_group (Some group) e) w.out_group true
 
--- of a MODIFY, which looks at no port and no group
-abbrev pub modifies : Which → FlowEntry → Bool
+-- by a MODIFY, which filters by no port and no group
+abbrev pub modifies : Selector → FlowEntry → Bool
 modifies w e = is_meant w e && has_cookie w e
 
--- of a DELETE
-abbrev pub selects : Which → FlowEntry → Bool
+-- by a DELETE
+abbrev pub selects : Selector → FlowEntry → Bool
 selects w e = modifies w e && passes_port w e && passes_group w e
 
 -- ---- MODIFY
@@ -82,18 +82,18 @@ selects w e = modifies w e && passes_port w e && passes_group w e
 abbrev pub modified_entry : List Instruction → Bool → FlowEntry → FlowEntry
 modified_entry instructions reset e = record e { flow = record e.flow { instructions = instructions }; packets = unless_reset reset e.packets; bytes = unless_reset reset e.bytes }
 
--- the entries that it is for get the instructions; all else stays
-abbrev pub modified_by : Which → List Instruction → Bool → FlowEntry → FlowEntry
+-- the selected entries get the instructions; all else stays
+abbrev pub modified_by : Selector → List Instruction → Bool → FlowEntry → FlowEntry
 modified_by w instructions reset e = if modifies w e then modified_entry instructions reset e else e
 
-abbrev pub modified : Which → List Instruction → Bool → List FlowEntry → List FlowEntry
+abbrev pub modified : Selector → List Instruction → Bool → List FlowEntry → List FlowEntry
 modified w instructions reset flows = map (modified_by w instructions reset) flows
 
 -- with the numbers, which stay
-abbrev pub modified_entries : Which → List Instruction → Bool → List Entry → List Entry
+abbrev pub modified_entries : Selector → List Instruction → Bool → List Entry → List Entry
 modified_entries w instructions reset entries = map (on_entry (modified_by w instructions reset)) entries
 
--- ---- what goes (5.5 and 6.5)
+-- ---- what is removed (5.5 and 6.5)
 
 -- MOMENTS are in nanoseconds
 
@@ -108,7 +108,7 @@ seconds_since now since = (now - since) / second
 abbrev pub nanoseconds_since : ℕ → ℕ → ℕ
 nanoseconds_since now since = (now - since) % second
 
--- so many seconds passed since a moment
+-- this many seconds passed since a moment
 abbrev pub has_passed : ℕ → ℕ → ℕ → Bool
 has_passed now since seconds = nat_le (second * seconds) (now - since)
 
@@ -123,7 +123,7 @@ timeout_reason now e =
     else if is_over now (unwrap_or e.last e.created) e.flow.idle_timeout then Some IdleTimeout
     else None
 
--- why an entry goes, or that it stays
+-- why an entry is removed; None where it stays
 abbrev pub reason_of : Cause → FlowEntry → Option FlowRemovedReason
 reason_of (causes.Delete w) e = if selects w e then Some Delete else None
 reason_of (causes.Moment now) e = timeout_reason now e
@@ -136,13 +136,13 @@ stays cause e = is_none (reason_of cause e)
 abbrev pub left : Cause → List FlowEntry → List FlowEntry
 left cause flows = filter (stays cause) flows
 
--- a notice of an entry that went
+-- a notice of a removed entry
 pub record Notice : Type 0 where
   pub table : ℕ
   pub reason : FlowRemovedReason
   pub entry : FlowEntry
 
--- it is given where the entry's flags ask for it
+-- given where the entry's flags ask for it (OFPFF_SEND_FLOW_REM)
 abbrev pub notice_by : ℕ → FlowEntry → Option FlowRemovedReason → Option Notice
 notice_by table e None = None
 notice_by table e (Some reason) = if e.flow.flags.send_removed then Some (record { table = table; reason = reason; entry = e }) else None
@@ -154,7 +154,7 @@ notices cause table flows = flat_map (λ e. option_to_list (notice_by table e (r
 abbrev pub kept_of : Cause → List Entry → List Entry
 kept_of cause entries = filter (λ e. stays cause (entry_of e)) entries
 
--- a notice of an entry that went, with its number
+-- a notice of a removed entry, with its number
 pub record Told : Type 0 where
   pub table : ℕ
   pub reason : FlowRemovedReason
@@ -169,7 +169,7 @@ told_by table e reason = option_map (with_number e) (notice_by table (entry_of e
 abbrev pub told : Cause → ℕ → List Entry → List Told
 told cause table entries = flat_map (λ e. option_to_list (told_by table e (reason_of cause (entry_of e)))) entries
 
--- what a list of notices tells, with the numbers of the entries and without
+-- the notices of a list, with the numbers of the entries and without
 abbrev pub told_of : Removed → Told
 told_of r = record { table = r.table; reason = r.reason; entry = r.entry.now }
 

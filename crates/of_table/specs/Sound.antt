@@ -1,4 +1,4 @@
--- What holds of the entries of each table at all times (OpenFlow 1.3.5, 5.2 and 5.9).
+-- The invariants of the entries of each table (OpenFlow 1.3.5, 5.2 and 5.9).
 use Rattle.std.specs.Prelude.{◌≡◌, ◌≤◌, ℕ, suc, Bool, true, not, ◌&&◌, ◌==◌, List, [], ◌∷◌, map, length, IsTrue, ⊤}
 use Rattle.std.specs.List.{list_any, list_all}
 use Rattle.of_oxm.specs.declared.match_field.MatchField.{MatchField}
@@ -6,22 +6,22 @@ use Rattle.of_oxm.specs.SameMatch.{is_same_match}
 use Rattle.of_actions.specs.declared.instruction.Instruction.{Instruction}
 use Rattle.of_actions.specs.InstructionLists.{are_kept, are_for}
 use Rattle.of_actions.specs.FlowCheck.{all_go_with}
-use Rattle.of_table.specs.declared.selection.Which.{Which}
+use Rattle.of_table.specs.declared.selection.Selector.{Selector}
 use Rattle.of_table.specs.Table.{FlowEntry, Table}
 use Rattle.of_table.specs.Tables.{is_in}
 
--- the instructions may stand in an entry of the table: in the order of running, one of a type, and GOTO_TABLE leads to a later table
+-- the instructions are valid in an entry of the table: in execution order, one of a type, and GOTO_TABLE leads to a later table
 abbrev pub are_fit : ℕ → List Instruction → Bool
 are_fit k instructions = are_kept instructions && are_for k instructions
 
 abbrev pub is_fit : ℕ → FlowEntry → Bool
 is_fit k e = are_fit k e.flow.instructions
 
--- the fields that they set are sure to be there
+-- their set-field actions have their prerequisites in the match
 abbrev pub is_checked : FlowEntry → Bool
 is_checked e = all_go_with e.flow.fields e.flow.instructions
 
--- priority and match, by which a table knows an entry
+-- priority and match, which identify an entry in its table
 pub record Key : Type 0 where
   pub priority : ℕ
   pub fields : List MatchField
@@ -37,7 +37,7 @@ abbrev pub are_unlike : List Key → Bool
 are_unlike [] = true
 are_unlike (k ∷ ks) = not (list_any (is_same_key k) ks) && are_unlike ks
 
--- at most 4,096 entries, no two of the same priority and match, and the instructions of each may stand in it
+-- at most 4,096 entries, no two of the same priority and match, and the instructions of each are valid in it
 pub record AreSound (k : ℕ) (flows : List FlowEntry) : Type 0 where
   pub few : length flows ≤ 4096
   pub unlike : IsTrue (are_unlike (map key_of flows))
@@ -49,6 +49,6 @@ abbrev pub AllSound : ℕ → List Table → Type 0
 AllSound k [] = ⊤
 AllSound k (t ∷ ts) = AreSound k t.flows × AllSound (suc k) ts
 
--- the instructions of a MODIFY may stand in each table that it is for
-abbrev pub AreForAll : Which → List Instruction → Type 0
+-- the instructions of a MODIFY are valid in each table that it selects
+abbrev pub AreForAll : Selector → List Instruction → Type 0
 AreForAll w instructions = (k : ℕ) → is_in w.table k ≡ true → are_for k instructions ≡ true

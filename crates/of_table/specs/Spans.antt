@@ -1,4 +1,4 @@
--- From which place to which those stand that may pass a test: inner definitions, which no public contract cites.
+-- The range of places outside which no element passes a test: inner definitions, which no public contract cites.
 use Rattle.std.specs.Prelude.{◌≡◌, ◌≤◌, ℕ, Bool, false, List, length, take, drop}
 use Rattle.std.specs.List.{list_any}
 

@@ -36,7 +36,7 @@ empty_table = record { lookups = 0; matched = 0; flows = [] }
 abbrev pub is_same : Flow → FlowEntry → Bool
 is_same flow e = e.flow.priority == flow.priority && is_same_match e.flow.fields flow.fields
 
--- an entry keeps no flag that is for the adding alone
+-- an entry does not keep the flags that concern its adding alone
 abbrev pub kept_flags : FlowFlags → FlowFlags
 kept_flags flags = record flags { check_overlap = false; reset_counts = false }
 
@@ -85,24 +85,24 @@ flow_at place flows = option_map (λ e. e.flow) (slice_get flows place)
 
 -- ---- counting (5.8)
 
--- a counter after so many more, where they are counted; it wraps
-abbrev pub risen : Bool → ℕ → ℕ → ℕ
-risen uncounted counter n = if uncounted then counter else (counter + n) % 2 ^ 64
+-- a counter plus n, where this is counted; it wraps
+abbrev pub incremented : Bool → ℕ → ℕ → ℕ
+incremented uncounted counter n = if uncounted then counter else (counter + n) % 2 ^ 64
 
--- a packet of so many bytes more, now
+-- one more packet of this many bytes, now
 abbrev pub counted : ℕ → ℕ → FlowEntry → FlowEntry
-counted now bytes e = record e { packets = risen e.flow.flags.no_packet_counts e.packets 1; bytes = risen e.flow.flags.no_byte_counts e.bytes bytes; last = Some now }
+counted now bytes e = record e { packets = incremented e.flow.flags.no_packet_counts e.packets 1; bytes = incremented e.flow.flags.no_byte_counts e.bytes bytes; last = Some now }
 
--- at the entry of a place
+-- at the entry at a place
 abbrev pub counted_at : ℕ → ℕ → ℕ → List FlowEntry → List FlowEntry
 counted_at now place bytes [] = []
 counted_at now zero bytes (e ∷ flows) = counted now bytes e ∷ flows
 counted_at now (suc place) bytes (e ∷ flows) = e ∷ counted_at now place bytes flows
 
--- a packet more was looked up
+-- one more packet was looked up
 abbrev pub looked : Table → Table
 looked t = record t { lookups = (t.lookups + 1) % 2 ^ 64 }
 
--- a packet of so many bytes hit the entry at a place, now
+-- a packet of this many bytes hit the entry at a place, now
 abbrev pub matched_at : ℕ → ℕ → ℕ → Table → Table
 matched_at now place bytes t = record t { matched = (t.matched + 1) % 2 ^ 64; flows = counted_at now place bytes t.flows }

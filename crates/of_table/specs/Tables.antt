@@ -5,7 +5,7 @@ use Rattle.of_actions.specs.declared.instruction.Instruction.{Instruction}
 use Rattle.of_table.specs.declared.flow.Flow.{Flow}
 use Rattle.of_table.specs.declared.table_fault.TableFault.{TableFault}
 use Rattle.of_table.specs.declared.table_fault.TableFault.TheVariants.{BadTable}
-use Rattle.of_table.specs.declared.selection.Which.{Which}
+use Rattle.of_table.specs.declared.selection.Selector.{Selector}
 use Rattle.of_table.specs.declared.selection.Cause.{Cause}
 use Rattle.of_table.specs.declared.selection.Cause.TheVariants.{Delete, Moment, Group}
 use Rattle.of_table.specs.Table.{Table, empty_table, added, add_fault, looked, matched_at}
@@ -25,14 +25,14 @@ table_at k ts = slice_index_or ts.tables k empty_table
 abbrev pub with_table : ℕ → Table → Tables → Tables
 with_table k t ts = record ts { tables = slice_set ts.tables k t }
 
--- ADD: the number is looked at first
+-- ADD: the table's number is checked first
 abbrev pub tables_fault : ℕ → Flow → Tables → Option TableFault
 tables_fault k flow ts = if nat_le 16 k then Some BadTable else add_fault flow (table_at k ts).flows
 
 abbrev pub added_to : ℕ → Flow → Tables → Tables
 added_to k flow ts = with_table k (record (table_at k ts) { flows = added ts.latest flow (table_at k ts).flows }) ts
 
--- a command is for one table, or for all
+-- a command concerns one table, or all
 abbrev pub is_in : Option ℕ → ℕ → Bool
 is_in table k = option_map_or (λ t. t == k) table true
 
@@ -41,13 +41,13 @@ abbrev pub each_from : {X : Type 0} → (ℕ → X → X) → ℕ → List X →
 each_from f k [] = []
 each_from f k (t ∷ ts) = f k t ∷ each_from f (suc k) ts
 
-abbrev pub modified_table : Which → List Instruction → Bool → ℕ → Table → Table
+abbrev pub modified_table : Selector → List Instruction → Bool → ℕ → Table → Table
 modified_table w instructions reset k t = if is_in w.table k then record t { flows = modified w instructions reset t.flows } else t
 
-abbrev pub modified_in : Which → List Instruction → Bool → Tables → Tables
+abbrev pub modified_in : Selector → List Instruction → Bool → Tables → Tables
 modified_in w instructions reset ts = record ts { tables = each_from (modified_table w instructions reset) 0 ts.tables }
 
--- a moment is for all tables, and so is a group
+-- a moment concerns all tables, and so does a group
 abbrev pub concerns : Cause → ℕ → Bool
 concerns (Delete w) k = is_in w.table k
 concerns (Moment now) k = true
@@ -82,7 +82,7 @@ notices_from cause k (t ∷ ts) = table_notices cause k t ++ notices_from cause 
 abbrev pub notices_in : Cause → Tables → List Notice
 notices_in cause ts = notices_from (cause_at ts.latest cause) 0 ts.tables
 
--- a moment: entries whose time is over go
+-- a moment: expired entries are removed
 abbrev pub expired : ℕ → Tables → Tables
 expired now ts = left_in (Moment now) ts
 
@@ -93,7 +93,7 @@ expiry_notices now ts = notices_in (Moment now) ts
 abbrev pub looked_in : ℕ → Tables → Tables
 looked_in k ts = with_table k (looked (table_at k ts)) ts
 
--- a packet of so many bytes hit the entry at a place of a table
+-- a packet of this many bytes hit the entry at a place of a table
 abbrev pub matched_in : ℕ → ℕ → ℕ → Tables → Tables
 matched_in k place bytes ts = with_table k (matched_at ts.latest place bytes (table_at k ts)) ts
 
@@ -127,10 +127,10 @@ pub record AddsFlow (k : ℕ) (flow : Flow) (old new : NumberedTables) : Type 0 
   pub named : IsNumberFor flow (numbered_at k old).entries number
   pub tables : new ≡ added_numbered number k flow old
 
-abbrev pub modified_numbered : Which → List Instruction → Bool → ℕ → Numbered → Numbered
+abbrev pub modified_numbered : Selector → List Instruction → Bool → ℕ → Numbered → Numbered
 modified_numbered w instructions reset k t = if is_in w.table k then record t { entries = modified_entries w instructions reset t.entries } else t
 
-abbrev pub all_modified : Which → List Instruction → Bool → NumberedTables → NumberedTables
+abbrev pub all_modified : Selector → List Instruction → Bool → NumberedTables → NumberedTables
 all_modified w instructions reset n = record n { tables = each_from (modified_numbered w instructions reset) 0 n.tables }
 
 abbrev pub kept_table : Cause → ℕ → Numbered → Numbered

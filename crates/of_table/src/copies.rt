@@ -1,4 +1,4 @@
-//! Copies of instructions that are made before the first is wanted.
+//! Copies of instructions that are made before the first is needed.
 
 ghost use Rattle.std.specs.Prelude.{◌≡◌, ◌<◌, ◌+◌, ◌-◌, OnOk};
 
@@ -6,7 +6,7 @@ use of_actions::InstructionList;
 use std::alloc::{AllocError, Global};
 use std::marker::Model;
 
-/// So many copies of the instructions of a MODIFY command.
+/// Copies of the instructions of a MODIFY command.
 #[derive(Drop)]
 pub(crate) struct Copies<'a> {
     pub instructions: &'a InstructionList,

@@ -1,4 +1,4 @@
-//! Before which moment no entry's time is over.
+//! Before which moment no entry expires.
 
 ghost use Rattle.std.specs.Prelude.{◌≡◌, ◌<◌, ℕ, Option, true, false};
 ghost use Rattle.of_table.specs.Table.{FlowEntry, with_flow};
@@ -10,7 +10,7 @@ use crate::entry::Entry;
 use crate::flow::Flow;
 use crate::selection::{Cause, NANOS};
 
-// Before this moment a timeout of so many seconds is not over.
+// Before this moment a timeout of this many seconds is not over.
 fn deadline(since: u64, seconds: u16) -> u64
     ensures { (now : ℕ) → now < result → over now since seconds ≡ false }
 {
@@ -21,7 +21,7 @@ fn deadline(since: u64, seconds: u16) -> u64
     }
 }
 
-/// Before this moment the entry's time is not over.
+/// Before this moment the entry does not expire.
 pub(crate) fn entry_deadline(entry: &Entry) -> u64
     ensures { (now : ℕ) → now < result → stays (Cause.Moment now) (entry_of entry.now) ≡ true }
 {

@@ -10,14 +10,14 @@ ghost use Rattle.of_actions.specs.FlowCheck.{all_go_with};
 
 use crate::copies::Copies;
 use crate::flow_table::FlowTable;
-use crate::selection::{Cause, Removed, Which};
+use crate::selection::{Cause, Removed, Selector};
 use of_classifier::Lookup;
 use std::alloc::{AllocError, Global};
 
-/// Makes a copy for each entry of the tables that a MODIFY command is for.
+/// Makes a copy for each entry of the tables that a MODIFY command selects.
 pub(crate) fn copies_for_all<L: Lookup>(
     tables: &[FlowTable<L>],
-    which: &Which,
+    which: &Selector,
     copies: &mut Copies<'_>,
 ) -> Result<(), AllocError>
     requires { length tables.now ≤ 16 }
@@ -32,7 +32,7 @@ pub(crate) fn copies_for_all<L: Lookup>(
 /// Changes the entries of each table by a MODIFY command.
 pub(crate) fn modify_tables<L: Lookup>(
     tables: &mut [FlowTable<L>],
-    which: &Which,
+    which: &Selector,
     copies: &mut Copies<'_>,
     reset: bool,
 )
@@ -47,7 +47,7 @@ pub(crate) fn modify_tables<L: Lookup>(
     }
 }
 
-/// Notices of the entries of each table that go.
+/// Notices of the entries of each table to which the cause applies.
 pub(crate) fn list_all<'a, L: Lookup>(
     alloc: Global,
     tables: &'a [FlowTable<L>],
@@ -63,7 +63,7 @@ pub(crate) fn list_all<'a, L: Lookup>(
     Ok(removed)
 }
 
-/// Removes the entries of each table that go.
+/// Removes the entries of each table to which the cause applies.
 pub(crate) fn remove_all<L: Lookup>(tables: &mut [FlowTable<L>], cause: &Cause)
     requires { length tables.old ≤ 16 }
     ensures tables { tables.new ≡ each_from (kept_table cause.now) 0 tables.old }

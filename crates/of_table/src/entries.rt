@@ -2,10 +2,10 @@
 
 ghost use Rattle.std.specs.Prelude.{◌≡◌, ◌==◌, ◌&&◌, ◌<◌, ◌≤◌, ◌+◌, ◌++◌, ◌∷◌, [], ℕ, drop, Some, None, true, IsTrue, map, position, length, vec_len, vec_capacity};
 ghost use Rattle.std.specs.List.{list_any};
-ghost use Rattle.of_wire.specs.Numbered.{is_used, is_distinct, renewed};
+ghost use Rattle.of_wire.specs.Numbered.{is_used, is_distinct, moved_to_end};
 ghost use Rattle.of_classifier.specs.Rows.{row_number};
 ghost use Rattle.of_oxm.specs.Relations.{overlaps_match};
-ghost use Rattle.of_table.specs.Table.{is_same, is_overlapped as overlapped, with_flow, risen as with_more, counted_at};
+ghost use Rattle.of_table.specs.Table.{is_same, is_overlapped as overlapped, with_flow, incremented as with_more, counted_at};
 ghost use Rattle.of_table.specs.Entries.{entry_of, flows_of, rows_of, numbers_of, place_of, is_there, IsNumberFor, added_entries};
 ghost use Rattle.of_table.specs.Sound.{key_of, are_unlike};
 ghost use Rattle.of_table.specs.Deadlines.{all_stay};
@@ -16,7 +16,7 @@ use crate::flow::{Flow, FlowFlags};
 use crate::selection::Cause;
 use of_oxm::overlaps;
 
-/// So many replaced entries stay in any case.
+/// Up to this many replaced entries are kept in any case.
 const FEW: usize = 16;
 
 /// Whether the flow asks to be checked, and an entry of its priority overlaps it.
@@ -35,7 +35,7 @@ fn has_rival(entries: &[Entry], flow: &Flow) -> bool
     })
 }
 
-/// The entry of a flow that is added now. It keeps no flag that is for the adding alone.
+/// The entry of a flow that is added now. It does not keep the flags that concern its adding alone.
 pub(crate) fn new_entry(number: usize, flow: Flow, now: u64) -> Entry
     ensures number { result.number ≡ number }
     ensures entry { entry_of result ≡ with_flow now flow None }
@@ -73,10 +73,10 @@ fn replaced_entry(entry: &Entry, flow: Flow, now: u64) -> Entry
     }
 }
 
-/// The entry at that place gets the flow and comes last. Its number.
+/// The entry at that place gets the flow and moves to the end. Its number.
 ///
-/// `replaced` entries stand before the others, which were replaced. The oldest entry becomes one of them, so
-/// that no other is moved; where another gets the flow, those behind it move up.
+/// The first `replaced` entries were replaced, and the others follow. The oldest entry becomes one of them, so
+/// that no other is moved; where another gets the flow, those after it move up.
 pub(crate) fn put_last(
     entries: &mut Vec<Entry>,
     replaced: &mut usize,
@@ -89,7 +89,7 @@ pub(crate) fn put_last(
     requires unlike { are_unlike (map key_of (flows_of (drop replaced.old entries.old.items))) ≡ true }
     requires distinct { IsTrue (is_distinct row_number (rows_of (drop replaced.old entries.old.items))) }
     ensures used { IsTrue (is_used row_number result (rows_of (drop replaced.old entries.old.items))) }
-    ensures rows { rows_of (drop replaced.new entries.new.items) ≡ renewed row_number result (rows_of (drop replaced.old entries.old.items)) }
+    ensures rows { rows_of (drop replaced.new entries.new.items) ≡ moved_to_end row_number result (rows_of (drop replaced.old entries.old.items)) }
     ensures named { IsNumberFor flow (drop replaced.old entries.old.items) result }
     ensures entries { drop replaced.new entries.new.items ≡ added_entries result now flow (drop replaced.old entries.old.items) }
     ensures within { replaced.new ≤ length entries.new.items }
@@ -109,7 +109,7 @@ pub(crate) fn put_last(
     }
 }
 
-/// Lets the replaced entries go.
+/// Drops the replaced entries.
 pub(crate) fn settle(entries: &mut Vec<Entry>, replaced: &mut usize)
     requires { replaced.old ≤ length entries.old.items }
     ensures entries { entries.new.items ≡ drop replaced.old entries.old.items }
@@ -123,7 +123,7 @@ pub(crate) fn settle(entries: &mut Vec<Entry>, replaced: &mut usize)
     }
 }
 
-// The oldest of the others gets the flow and comes last, where there is room. Its number.
+// The oldest of the others gets the flow and moves to the end, where there is capacity. Its number.
 fn push_again(entries: &mut Vec<Entry>, replaced: usize, flow: Flow, now: u64) -> usize
     requires within { replaced < length entries.old.items }
     requires room { vec_len entries.old < vec_capacity entries.old }
@@ -131,7 +131,7 @@ fn push_again(entries: &mut Vec<Entry>, replaced: usize, flow: Flow, now: u64) -
     requires unlike { are_unlike (map key_of (flows_of (drop replaced entries.old.items))) ≡ true }
     requires distinct { IsTrue (is_distinct row_number (rows_of (drop replaced entries.old.items))) }
     ensures used { IsTrue (is_used row_number result (rows_of (drop replaced entries.old.items))) }
-    ensures rows { rows_of (drop (replaced + 1) entries.new.items) ≡ renewed row_number result (rows_of (drop replaced entries.old.items)) }
+    ensures rows { rows_of (drop (replaced + 1) entries.new.items) ≡ moved_to_end row_number result (rows_of (drop replaced entries.old.items)) }
     ensures named { IsNumberFor flow (drop replaced entries.old.items) result }
     ensures entries { drop (replaced + 1) entries.new.items ≡ added_entries result now flow (drop replaced entries.old.items) }
     ensures within { replaced + 1 ≤ length entries.new.items }
@@ -142,13 +142,13 @@ fn push_again(entries: &mut Vec<Entry>, replaced: usize, flow: Flow, now: u64) -
     number
 }
 
-// The entry at that place gets the flow and comes last; those behind it move up. Its number.
+// The entry at that place gets the flow and moves to the end; those after it move up. Its number.
 fn move_last(entries: &mut Vec<Entry>, place: usize, flow: Flow, now: u64) -> usize
     requires same { position (λ e. is_same flow (entry_of e)) entries.old.items ≡ Some place }
     requires unlike { are_unlike (map key_of (flows_of entries.old.items)) ≡ true }
     requires distinct { IsTrue (is_distinct row_number (rows_of entries.old.items)) }
     ensures used { IsTrue (is_used row_number result (rows_of entries.old.items)) }
-    ensures rows { rows_of entries.new.items ≡ renewed row_number result (rows_of entries.old.items) }
+    ensures rows { rows_of entries.new.items ≡ moved_to_end row_number result (rows_of entries.old.items) }
     ensures named { IsNumberFor flow entries.old.items result }
     ensures entries { entries.new.items ≡ added_entries result now flow entries.old.items }
 {
@@ -159,7 +159,7 @@ fn move_last(entries: &mut Vec<Entry>, place: usize, flow: Flow, now: u64) -> us
     number
 }
 
-/// Puts an entry last, where there is room.
+/// Appends an entry, where there is capacity.
 pub(crate) fn push_reserved(entries: &mut Vec<Entry>, entry: Entry)
     requires { vec_len entries.old < vec_capacity entries.old }
     ensures items { entries.new.items ≡ entries.old.items ++ entry ∷ [] }
@@ -172,9 +172,9 @@ pub(crate) fn push_reserved(entries: &mut Vec<Entry>, entry: Entry)
     }
 }
 
-/// The entry at that place behind the replaced ones counts a packet of so many bytes, now.
+/// The entry at that place after the replaced ones counts a packet of this many bytes, now.
 ///
-/// Before the moment that is answered its time is not over.
+/// Before the moment that is returned it does not expire.
 pub(crate) fn count_at(
     entries: &mut Vec<Entry>,
     replaced: usize,
@@ -191,14 +191,14 @@ pub(crate) fn count_at(
 {
     let entry = &mut entries[replaced + place];
     let flags = entry.flow.flags;
-    entry.packets = risen(flags.no_packet_counts, entry.packets, 1);
-    entry.bytes = risen(flags.no_byte_counts, entry.bytes, bytes as u64);
+    entry.packets = incremented(flags.no_packet_counts, entry.packets, 1);
+    entry.bytes = incremented(flags.no_byte_counts, entry.bytes, bytes as u64);
     entry.last = Some(now);
     entry_deadline(entry)
 }
 
-// A counter after so many more, where they are counted.
-fn risen(uncounted: bool, counter: u64, more: u64) -> u64
+// A counter plus `more`, where this is counted.
+fn incremented(uncounted: bool, counter: u64, more: u64) -> u64
     ensures { result ≡ with_more uncounted counter more }
 {
     if uncounted {

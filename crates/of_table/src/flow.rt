@@ -6,7 +6,7 @@ use of_oxm::Match;
 /// The flags of a flow (OpenFlow 1.3.5, 7.3.4.1).
 #[derive(Clone, Copy)]
 pub struct FlowFlags {
-    /// OFPFF_SEND_FLOW_REM: a notice is wanted when the entry goes.
+    /// OFPFF_SEND_FLOW_REM: a notice is asked for when the entry is removed.
     pub send_removed: bool,
     /// OFPFF_CHECK_OVERLAP: it is not to be added where one of its priority overlaps it.
     pub check_overlap: bool,

@@ -24,7 +24,7 @@ use crate::flow::Flow;
 use crate::modifying::{make_copies, modify_all};
 use crate::places::note_places;
 use crate::removing::{list_gone, take_gone};
-use crate::selection::{Cause, Removed, Which, concerns, is_in, reason};
+use crate::selection::{Cause, Removed, Selector, concerns, is_in, reason};
 use crate::span::Span;
 use crate::table_fault::TableFault;
 use of_classifier::Lookup;
@@ -42,12 +42,12 @@ const MOST_ENTRIES: usize = 4096;
 #[derive(Drop)]
 pub struct FlowTable<L: Lookup> {
     lookup: L,
-    /// Its entries behind some that were replaced.
+    /// Its entries, after some that were replaced.
     entries: Vec<Entry>,
     replaced: usize,
-    /// By the numbers of the entries, where they stood when that was noted last, the replaced ones counted.
+    /// By the numbers of the entries, their places when these were noted last, the replaced ones counted.
     places: Vec<usize>,
-    /// Before this moment no entry's time is over.
+    /// Before this moment no entry expires.
     due: u64,
     lookups: u64,
     matched: u64,
@@ -143,9 +143,9 @@ impl<L: Lookup> FlowTable<L> {
         }
     }
 
-    // The place of the entry of that number, if it is there.
+    // The place of the entry of that number, if it exists.
     //
-    // An entry that moved since its place was noted is looked for.
+    // An entry that moved since its place was noted is searched for.
     fn place(&self, number: usize) -> Option<usize>
         ensures { result ≡ position (λ e. e.number == number) self.now.entries }
     {
@@ -177,8 +177,8 @@ impl<L: Lookup> FlowTable<L> {
         Ok(())
     }
 
-    // Where the entries stand that the command may be for: of a strict one, that of its match and priority.
-    fn span_of(&self, which: &Which) -> Span
+    // The span of the entries that the command may select: for a strict one, that of its match and priority.
+    fn span_of(&self, which: &Selector) -> Span
         ensures { Outside (λ e. is_meant which.now (entry_of e)) self.now.entries result.first result.end }
     {
         self.known();
@@ -198,7 +198,7 @@ impl<L: Lookup> FlowTable<L> {
         }
     }
 
-    // Where the entries stand that may go.
+    // The span of the entries to which the cause may apply.
     fn span_going(&self, cause: &Cause) -> Span
         ensures { Outside (λ e. not (stays cause.now (entry_of e))) self.now.entries result.first result.end }
     {
@@ -212,13 +212,13 @@ impl<L: Lookup> FlowTable<L> {
         }
     }
 
-    /// Makes a copy for each entry that a MODIFY command is for.
+    /// Makes a copy for each entry that a MODIFY command selects.
     ///
     /// `table` is the number of this table.
     pub fn copy_for(
         &self,
         table: u8,
-        which: &Which,
+        which: &Selector,
         copies: &mut Copies<'_>,
     ) -> Result<(), AllocError>
         ensures { OnOk result (copies.new ≡ record copies.old { count = copies.old.count + wanted_in which.now table self.now }) }
@@ -231,10 +231,10 @@ impl<L: Lookup> FlowTable<L> {
         }
     }
 
-    /// Gives each entry that a MODIFY command is for such a copy, and counters of 0 where they are to be reset (OpenFlow 1.3.5, 6.4).
+    /// Gives each entry that a MODIFY command selects such a copy, and counters of 0 where they are to be reset (OpenFlow 1.3.5, 6.4).
     ///
     /// All else of an entry stays, and none is added. `table` is the number of this table.
-    pub fn modify(&mut self, table: u8, which: &Which, copies: &mut Copies<'_>, reset: bool)
+    pub fn modify(&mut self, table: u8, which: &Selector, copies: &mut Copies<'_>, reset: bool)
         requires { wanted_in which.now table self.old ≤ copies.old.count }
         ensures table { self.new ≡ modified_numbered which.now copies.old.instructions reset table self.old }
         ensures copies { copies.new ≡ record copies.old { count = copies.old.count - wanted_in which.now table self.old } }
@@ -247,7 +247,7 @@ impl<L: Lookup> FlowTable<L> {
         }
     }
 
-    /// Puts notices of the entries that go last, of those whose flags ask for one (OpenFlow 1.3.5, 5.5, 6.4 and 6.5).
+    /// Appends notices of the entries to which the cause applies, of those whose flags ask for one (OpenFlow 1.3.5, 5.5, 6.4 and 6.5).
     ///
     /// `table` is the number of this table.
     pub fn list<'a>(
@@ -267,7 +267,7 @@ impl<L: Lookup> FlowTable<L> {
         }
     }
 
-    /// Removes the entries that go (OpenFlow 1.3.5, 5.5, 6.4 and 6.5).
+    /// Removes the entries to which the cause applies (OpenFlow 1.3.5, 5.5, 6.4 and 6.5).
     ///
     /// `table` is the number of this table.
     pub fn remove(&mut self, table: u8, cause: &Cause)
@@ -287,7 +287,7 @@ impl<L: Lookup> FlowTable<L> {
         }
     }
 
-    // Removes the entry at that place, if it goes; the others stay.
+    // Removes the entry at that place, if the cause applies to it; the others stay.
     fn remove_one(&mut self, place: usize, cause: &Cause)
         requires { Outside (λ e. not (stays cause.now (entry_of e))) self.old.entries place (place + 1) }
         ensures { self.new ≡ record self.old { entries = kept_of cause.now self.old.entries } }
@@ -301,7 +301,7 @@ impl<L: Lookup> FlowTable<L> {
         }
     }
 
-    // Looks at each entry, and removes those that go.
+    // Looks at each entry, and removes those to which the cause applies.
     fn remove_all(&mut self, cause: &Cause)
         ensures { self.new ≡ record self.old { entries = kept_of cause.now self.old.entries } }
     {
@@ -314,7 +314,7 @@ impl<L: Lookup> FlowTable<L> {
 
     /// The number of the entry that a packet of this key hits, or `None` where it misses (OpenFlow 1.3.5, 5.3).
     ///
-    /// It raises no counter.
+    /// No counter changes.
     pub fn lookup(&mut self, key: &FieldKey) -> Option<usize>
         ensures place { winner_place (value key.now) (flows_of self.old.entries) ≡ option_map (λ number. place_of number self.old.entries) result }
         ensures there { IfSome result (λ number. IsTrue (is_there number self.old.entries)) }
@@ -324,7 +324,7 @@ impl<L: Lookup> FlowTable<L> {
         self.lookup.winner(key)
     }
 
-    /// As `lookup`, for a table that only lends itself.
+    /// As `lookup`, for a table that is only borrowed.
     pub fn peek(&self, key: &FieldKey) -> Option<usize>
         ensures place { winner_place (value key.now) (flows_of self.now.entries) ≡ option_map (λ number. place_of number self.now.entries) result }
         ensures there { IfSome result (λ number. IsTrue (is_there number self.now.entries)) }
@@ -341,7 +341,7 @@ impl<L: Lookup> FlowTable<L> {
         self.lookups = self.lookups.wrapping_add(1);
     }
 
-    /// A packet of so many bytes hit the entry of that number, now; where none is there, the table alone counts it.
+    /// A packet of this many bytes hit the entry of that number, now; where there is none, the table alone counts it.
     pub fn count(&mut self, number: usize, bytes: usize, now: u64)
         ensures table { table_of self.new ≡ matched_at now (place_of number self.old.entries) bytes (table_of self.old) }
         ensures numbers { numbers_of self.new.entries ≡ numbers_of self.old.entries }
@@ -357,7 +357,7 @@ impl<L: Lookup> FlowTable<L> {
         }
     }
 
-    /// The entry of that number, if it is there.
+    /// The entry of that number, if it exists.
     pub fn entry(&self, number: usize) -> Option<&Entry>
         ensures { option_copied result ≡ find_number number self.now.entries }
     {
@@ -381,7 +381,7 @@ impl<L: Lookup> FlowTable<L> {
         (self.lookups, self.matched)
     }
 
-    /// No two entries have one number, and no two one priority and match.
+    /// No two entries have the same number, and no two the same priority and match.
     pub fn known(&self)
         ensures distinct { IsTrue (is_distinct entry_number self.now.entries) }
         ensures unlike { are_unlike (map key_of (flows_of self.now.entries)) ≡ true }

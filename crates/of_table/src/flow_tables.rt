@@ -18,7 +18,7 @@ use crate::each_table::{copies_for_all, list_all, modify_tables, remove_all};
 use crate::entry::Entry;
 use crate::flow::Flow;
 use crate::flow_table::FlowTable;
-use crate::selection::{Cause, Removed, Which};
+use crate::selection::{Cause, Removed, Selector};
 use crate::table_fault::TableFault;
 use crate::walk::Entries;
 use of_actions::InstructionList;
@@ -90,13 +90,13 @@ impl<L: Lookup> FlowTables<L> {
         self.tables[table as usize].add(flow, now)
     }
 
-    /// Gives the instructions to each entry that a MODIFY command is for, and counters of 0 where they are to be reset (OpenFlow 1.3.5, 6.4).
+    /// Gives the instructions to each entry that a MODIFY command selects, and counters of 0 where they are to be reset (OpenFlow 1.3.5, 6.4).
     ///
-    /// The command looks at match, priority and cookie, and at no port or group. All else of an entry
+    /// The command selects by match, priority and cookie, not by port or group. All else of an entry
     /// stays, and none is added. A call that fails changes nothing.
     pub fn modify(
         &mut self,
-        which: &Which,
+        which: &Selector,
         instructions: &InstructionList,
         reset: bool,
     ) -> Result<(), AllocError>
@@ -132,7 +132,7 @@ impl<L: Lookup> FlowTables<L> {
         }
     }
 
-    /// Removes the entries that a command deletes, whose group is deleted or whose time is over; a later moment becomes the latest one (OpenFlow 1.3.5, 5.5, 6.4 and 6.5).
+    /// Removes the entries that a command deletes, whose group is deleted or that expired; a later moment becomes the latest one (OpenFlow 1.3.5, 5.5, 6.4 and 6.5).
     ///
     /// It takes no memory. The entries that stay keep their numbers and their order.
     pub fn remove(&mut self, cause: &Cause)
@@ -151,7 +151,7 @@ impl<L: Lookup> FlowTables<L> {
         }
     }
 
-    // Removes the entries that go; the moment becomes the latest one.
+    // Removes the entries to which the cause applies; the moment becomes the latest one.
     fn remove_at(&mut self, latest: u64, cause: &Cause)
         ensures { self.new ≡ record { tables = each_from (kept_table cause.now) 0 self.old.tables; latest = latest } }
     {
@@ -161,7 +161,7 @@ impl<L: Lookup> FlowTables<L> {
 
     /// The number of the entry of a table that a packet of this key hits, or `None` where it misses (OpenFlow 1.3.5, 5.3).
     ///
-    /// It raises no counter.
+    /// No counter changes.
     pub fn lookup(&mut self, table: u8, key: &FieldKey) -> Option<usize>
         requires { table < 16 }
         ensures place { winner_place (value key.now) (flows_of (numbered_at table self.old).entries) ≡ option_map (λ number. place_of number (numbered_at table self.old).entries) result }
@@ -171,7 +171,7 @@ impl<L: Lookup> FlowTables<L> {
         self.tables[table as usize].lookup(key)
     }
 
-    /// As `lookup`, for tables that only lend themselves.
+    /// As `lookup`, for tables that are only borrowed.
     pub fn peek(&self, table: u8, key: &FieldKey) -> Option<usize>
         requires { table < 16 }
         ensures place { winner_place (value key.now) (flows_of (numbered_at table self.now).entries) ≡ option_map (λ number. place_of number (numbered_at table self.now).entries) result }
@@ -189,7 +189,7 @@ impl<L: Lookup> FlowTables<L> {
         self.tables[table as usize].looked();
     }
 
-    /// A packet of so many bytes hit the entry of that number of a table, at the latest moment; where none is there, the table alone counts it.
+    /// A packet of this many bytes hit the entry of that number of a table, at the latest moment; where there is none, the table alone counts it.
     pub fn count(&mut self, table: u8, number: usize, bytes: usize)
         requires { table < 16 }
         ensures tables { tables_of self.new ≡ matched_in table (place_of number (numbered_at table self.old).entries) bytes (tables_of self.old) }
@@ -211,7 +211,7 @@ impl<L: Lookup> FlowTables<L> {
         }
     }
 
-    /// The entry of that number of a table, if it is there.
+    /// The entry of that number of a table, if it exists.
     pub fn entry(&self, table: u8, number: usize) -> Option<&Entry>
         requires { table < 16 }
         ensures { option_copied result ≡ find_number number (numbered_at table self.now).entries }
@@ -245,7 +245,7 @@ impl<L: Lookup> FlowTables<L> {
         self.tables[table as usize].counters().1
     }
 
-    /// There are sixteen tables; in each there are at most 4,096 entries, no two of one number or of one priority and match, and the instructions of each may stand in it.
+    /// There are sixteen tables; in each there are at most 4,096 entries, no two of the same number or of the same priority and match, and the instructions of each are valid in it.
     pub fn known(&self)
         ensures sixteen { length self.now.tables ≡ 16 }
         ensures sound { (k : ℕ) → AreSound k (table_at k (tables_of self.now)).flows }

@@ -10,14 +10,14 @@ ghost use Rattle.of_actions.specs.FlowCheck.{all_go_with};
 
 use crate::copies::Copies;
 use crate::entry::Entry;
-use crate::selection::{Which, modifies};
+use crate::selection::{Selector, modifies};
 use crate::span::Span;
 use std::alloc::AllocError;
 
-/// Makes a copy for each entry that the command is for.
+/// Makes a copy for each entry that the command selects.
 pub(crate) fn make_copies(
     entries: &[Entry],
-    which: &Which,
+    which: &Selector,
     copies: &mut Copies<'_>,
 ) -> Result<(), AllocError>
     ensures { OnOk result (copies.new ≡ record copies.old { count = copies.old.count + wanted which.now entries.now }) }
@@ -30,8 +30,8 @@ pub(crate) fn make_copies(
     Ok(())
 }
 
-// The entry gets the instructions, if the command is for it.
-fn modify_entry(entry: &mut Entry, which: &Which, copies: &mut Copies<'_>, reset: bool)
+// The entry gets the instructions, if the command selects it.
+fn modify_entry(entry: &mut Entry, which: &Selector, copies: &mut Copies<'_>, reset: bool)
     requires { (if is_modified which.now entry.old then 1 else 0) ≤ copies.old.count }
     ensures row { row_of entry.new ≡ row_of entry.old }
     ensures checked { all_go_with which.now.fields copies.old.instructions ≡ true → is_checked (entry_of entry.old) ≡ true → is_checked (entry_of entry.new) ≡ true }
@@ -50,13 +50,13 @@ fn modify_entry(entry: &mut Entry, which: &Which, copies: &mut Copies<'_>, reset
     }
 }
 
-/// Each entry that the command is for gets a copy, and counters of 0 where they are to be reset.
+/// Each entry that the command selects gets a copy, and counters of 0 where they are to be reset.
 ///
-/// None outside the span is one that it is for.
+/// It selects none outside the span.
 pub(crate) fn modify_all(
     entries: &mut [Entry],
     span: Span,
-    which: &Which,
+    which: &Selector,
     copies: &mut Copies<'_>,
     reset: bool,
 )

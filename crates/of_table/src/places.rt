@@ -1,8 +1,8 @@
-//! Where the entries of a table stand, by their numbers.
+//! The places of the entries of a table, by their numbers.
 
 use crate::entry::Entry;
 
-/// Notes where the entries from that place on stand. One for which there is no memory has to be looked for.
+/// Notes the places of the entries from that place on. One for which there is no memory is searched for.
 pub(crate) fn note_places(places: &mut Vec<usize>, entries: &[Entry], from: usize) {
     for place in from..entries.len() {
         let number = entries[place].number;

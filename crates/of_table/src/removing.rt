@@ -1,4 +1,4 @@
-//! Entries that go, and the notices of them.
+//! Removed entries, and the notices of them.
 
 ghost use Rattle.std.specs.Prelude.{IsTrue, if◌then◌else◌, ◌≡◌, ◌++◌, OnOk};
 ghost use Rattle.std.specs.Option.{option_map};
@@ -12,7 +12,7 @@ use crate::selection::{Cause, Removed, reason};
 use of_classifier::Lookup;
 use std::alloc::AllocError;
 
-/// Takes each entry that goes from the classifier.
+/// Removes each entry to which the cause applies from the classifier.
 pub(crate) fn take_gone<L: Lookup>(lookup: &mut L, entries: &[Entry], cause: &Cause)
     requires { L.content lookup.old ≡ rows_of entries.now }
     ensures { L.content lookup.new ≡ rows_of (kept_of cause.now entries.now) }
@@ -25,7 +25,7 @@ pub(crate) fn take_gone<L: Lookup>(lookup: &mut L, entries: &[Entry], cause: &Ca
     }
 }
 
-/// Puts notices of the entries that go last.
+/// Appends notices of the entries to which the cause applies.
 pub(crate) fn list_gone<'a>(
     entries: &'a [Entry],
     table: u8,

@@ -1,4 +1,4 @@
-//! Which entries a command is for, or go at a moment or with a group.
+//! Which entries a command selects, or are removed at a moment or with a group.
 
 ghost use Rattle.std.specs.Prelude.{◌≡◌};
 ghost use Rattle.of_table.specs.Entries.{entry_of};
@@ -11,13 +11,13 @@ use of_actions::{Action, Instruction};
 use of_oxm::{Match, covers};
 use of_wire::FlowRemovedReason;
 
-/// The entries that a MODIFY or DELETE command is for (OpenFlow 1.3.5, 6.4).
+/// The entries that a MODIFY or DELETE command selects (OpenFlow 1.3.5, 6.4).
 #[derive(Drop)]
-pub struct Which {
+pub struct Selector {
     /// The number of a table; `None` for all.
     pub table: Option<u8>,
     pub fields: Match,
-    /// That of a strict command, which is for the entry of this match and priority; `None` for all that the match covers.
+    /// That of a strict command, which selects the entry of this match and priority; `None` for all that the match covers.
     pub priority: Option<u16>,
     pub cookie: u64,
     /// The bits of the cookie that are to agree.
@@ -28,18 +28,18 @@ pub struct Which {
     pub out_group: Option<u32>,
 }
 
-/// What makes entries go (OpenFlow 1.3.5, 5.5, 6.4 and 6.5).
+/// Why entries are removed (OpenFlow 1.3.5, 5.5, 6.4 and 6.5).
 #[derive(Drop)]
 pub enum Cause {
     /// A DELETE command.
-    Delete(Which),
+    Delete(Selector),
     /// This group was deleted; `None` for all groups.
     Group(Option<u32>),
-    /// It is so many nanoseconds, or the latest moment if that is later.
+    /// The time is this many nanoseconds, or the latest moment if that is later.
     Moment(u64),
 }
 
-/// An entry that goes, and why.
+/// An entry that is to be removed, and why.
 #[derive(Drop)]
 pub struct Removed<'a> {
     pub table: u8,
@@ -91,7 +91,7 @@ fn any_sends_to(instructions: &[Instruction], target: Target) -> bool
         .any(|instruction| sends_to(instruction, target))
 }
 
-fn passes_port(which: &Which, entry: &Entry) -> bool
+fn passes_port(which: &Selector, entry: &Entry) -> bool
     ensures { result ≡ passing_port which.now (entry_of entry.now) }
 {
     match which.out_port {
@@ -107,7 +107,7 @@ pub fn names_group(entry: &Entry, group: Option<u32>) -> bool
     any_sends_to(entry.flow.instructions.as_slice(), Target::Group(group))
 }
 
-fn passes_group(which: &Which, entry: &Entry) -> bool
+fn passes_group(which: &Selector, entry: &Entry) -> bool
     ensures { result ≡ passing_group which.now (entry_of entry.now) }
 {
     match which.out_group {
@@ -116,8 +116,8 @@ fn passes_group(which: &Which, entry: &Entry) -> bool
     }
 }
 
-/// Whether a MODIFY is for the entry: it looks at no port and no group.
-pub(crate) fn modifies(which: &Which, entry: &Entry) -> bool
+/// Whether a MODIFY selects the entry: it filters by no port and no group.
+pub(crate) fn modifies(which: &Selector, entry: &Entry) -> bool
     ensures { result ≡ modified_by_it which.now (entry_of entry.now) }
 {
     let meant = match which.priority {
@@ -129,10 +129,10 @@ pub(crate) fn modifies(which: &Which, entry: &Entry) -> bool
     meant && entry.flow.cookie & which.cookie_mask == which.cookie & which.cookie_mask
 }
 
-/// Whether a DELETE, or a request for statistics, is for the entry: its match, or match and priority of a strict one, its cookie, and what its actions send to (OpenFlow 1.3.5, 6.4).
+/// Whether a DELETE, or a request for statistics, selects the entry: by its match, or match and priority of a strict one, its cookie, and what its actions send to (OpenFlow 1.3.5, 6.4).
 ///
-/// It does not look at the number of the table.
-pub fn selects(which: &Which, entry: &Entry) -> bool
+/// It does not check the number of the table.
+pub fn selects(which: &Selector, entry: &Entry) -> bool
     ensures { result ≡ selected which.now (entry_of entry.now) }
 {
     modifies(which, entry) && passes_port(which, entry) && passes_group(which, entry)
@@ -141,14 +141,14 @@ pub fn selects(which: &Which, entry: &Entry) -> bool
 /// Nanoseconds in a second.
 pub const NANOS: u64 = 1_000_000_000;
 
-// Whether a timeout of so many seconds is over; 0 is none.
+// Whether a timeout of this many seconds is over; 0 is none.
 fn is_over(now: u64, since: u64, seconds: u16) -> bool
     ensures { result ≡ over now since seconds }
 {
     seconds != 0 && NANOS * u64::from(seconds) <= now.saturating_sub(since)
 }
 
-/// Why the entry goes, or that it stays.
+/// Why the entry is removed; None where it stays.
 pub(crate) fn reason(cause: &Cause, entry: &Entry) -> Option<FlowRemovedReason>
     ensures { result ≡ reason_of cause.now (entry_of entry.now) }
 {
@@ -168,8 +168,8 @@ pub(crate) fn reason(cause: &Cause, entry: &Entry) -> Option<FlowRemovedReason>
     }
 }
 
-/// Whether the command is for the table of that number.
-pub(crate) fn is_in(which: &Which, table: u8) -> bool
+/// Whether the command concerns the table of that number.
+pub(crate) fn is_in(which: &Selector, table: u8) -> bool
     ensures { result ≡ is_within which.now.table table }
 {
     match which.table {
@@ -178,7 +178,7 @@ pub(crate) fn is_in(which: &Which, table: u8) -> bool
     }
 }
 
-/// Whether something may go from the table of that number.
+/// Whether the cause concerns the table of that number.
 pub(crate) fn concerns(cause: &Cause, table: u8) -> bool
     ensures { result ≡ concerning cause.now table }
 {

@@ -153,7 +153,7 @@ flows_stand gs fs h = (none_refused (refused_group (all_there gs) 0 gs) (refused
 pub both_stand : (gs : List TextGroup) (fs : List Flow) → refused_group (all_there gs) 0 gs ≡ None → refused_from gs [] fs ≡ None → first_refusal gs fs ≡ None
 both_stand gs fs a b = ap (λ (o : Option (ℕ × Code)). option_map_or Some o (refused_from gs [] fs)) a ∙ b
 
--- ---- they stand in order
+-- ---- they are in order
 
 abbrev pub body : Flow → List Row
 body f = map rows.Match f.fields ++ flat_map step_rows f.steps
@@ -196,7 +196,7 @@ tables_whole : (n t : ℕ) (fs : List Flow) → AllByRecursion IsWhole fs → Al
 tables_whole zero t fs h = tt
 tables_whole (suc n) t fs h = all_both IsWhole (flows_for t fs) (all_flows (tables_from n (suc t) fs)) (kept_whole t fs h) (tables_whole n (suc t) fs h)
 
--- behind groups
+-- after groups
 
 flow_begins : (place : Place) (h : FlowHead) → following place (rows.Flow h) ≡ Some (InFlow 0)
 unfolding following flow_next
@@ -225,7 +225,7 @@ unfolding flow_next
 whole_placed place [] h = refl
 whole_placed place (x ∷ xs) h = rw (flow_begins place x.head, all_in_flow 0 (body x ++ rows_of xs)) (mapped_some InFlow (flow_standing 0 (body x ++ rows_of xs)) (whole_stands 0 (x ∷ xs) h))
 
--- groups that stand in order, with flows behind them
+-- groups that are in order, with flows after them
 pub record Parts (gs : List TextGroup) (fs : List Flow) : Type 0 where
   pub fits : AllByRecursion Fits (rows_of_groups gs)
   pub place : Place

@@ -1,4 +1,4 @@
--- Each flow of a configuration may stand in its table.
+-- Each flow of a configuration is valid in its table.
 use Rattle.std.proofs.Common.{◌≡◌, ℕ, ◌+◌, ◌^◌, ◌<◌, ◌≤◌, eqb, Bool, true, false, cond, List, [], ◌∷◌, ◌++◌, length, take, Option, Some, None, refl, sym, ◌∙◌, ap, subst, arith}
 use Rattle.std.specs.Prelude.{map, not, ◌&&◌, nat_lt, nat_le, bit_and, is_some, IsSome, IfSome, slice_index_or}
 use Rattle.std.specs.List.{AllByRecursion, flat_map, list_all}
@@ -14,15 +14,15 @@ use Rattle.of_layers.specs.declared.field.Field.{Field}
 use Rattle.of_layers.specs.Fields.{number_of, bits_of, ones_of, is_maskable, is_settable}
 use Rattle.of_layers.proofs.Table.{ones_is}
 use Rattle.of_oxm.specs.declared.match_field.MatchField.{MatchField}
-use Rattle.of_oxm.specs.NormalForm.{IsKept, IsKeptMask, IsRising, IsMatch}
-use Rattle.of_oxm.specs.Prerequisites.{all_met}
+use Rattle.of_oxm.specs.NormalForm.{IsKept, IsKeptMask, IsAscending, IsMatch}
+use Rattle.of_oxm.specs.Prerequisites.{prerequisites_met}
 use Rattle.of_actions.specs.declared.action.Action.{Action}
 use Rattle.of_actions.specs.declared.action.Action.TheVariants.{Output, PushVlan, SetField}
 use Rattle.of_actions.specs.declared.instruction.Instruction.{Instruction}
 use Rattle.of_actions.specs.PortNumbers.{is_port}
 use Rattle.of_actions.specs.Headers.{is_next}
-use Rattle.of_actions.specs.Served.{is_served, are_served}
-use Rattle.of_actions.specs.Rising.{is_rising}
+use Rattle.of_actions.specs.Supported.{is_supported, are_supported}
+use Rattle.of_actions.specs.Rising.{is_ascending}
 use Rattle.of_actions.specs.InstructionLists.{is_served_body, is_for, are_for, run_place}
 use Rattle.of_actions.specs.FlowCheck.{all_go_with}
 use Rattle.of_text.specs.declared.row.Row.{Row}
@@ -94,7 +94,7 @@ some_bind : (t : Bool) (n : ℕ) (k : ℕ → Option ℕ) → IsSome (cond t (So
 some_bind true n k h = (refl, h)
 some_bind false n k h = absurd cc
 
-fields_rise : (p : ℕ) (m : List MatchField) (rest : List Row) → IsSome (flow_standing p (map rows.Match m ++ rest)) → AllByRecursion (λ e. p ≤ number_of e.field) m × IsRising m
+fields_rise : (p : ℕ) (m : List MatchField) (rest : List Row) → IsSome (flow_standing p (map rows.Match m ++ rest)) → AllByRecursion (λ e. p ≤ number_of e.field) m × IsAscending m
 unfolding flow_next
 fields_rise p [] rest h = (tt, tt)
 fields_rise p (e ∷ es) rest h =
@@ -126,7 +126,7 @@ step_after p (Write xs) rest h =
 step_after p (Metadata v m) rest h = let parts = some_bind (nat_le p 43) 44 (λ q. flow_standing q rest) h in (leb-true p 43 parts.0, parts.1)
 step_after p (Goto t) rest h = let parts = some_bind (nat_le p 44) 45 (λ q. flow_standing q rest) h in (leb-true p 44 parts.0, parts.1)
 
-steps_rise : (p : ℕ) (ss : List Step) → IsSome (flow_standing p (flat_map step_rows ss)) → AllByRecursion (λ i. p ≤ 40 + run_place i) (map instruction_of ss) × (is_rising run_place (map instruction_of ss) ≡ true)
+steps_rise : (p : ℕ) (ss : List Step) → IsSome (flow_standing p (flat_map step_rows ss)) → AllByRecursion (λ i. p ≤ 40 + run_place i) (map instruction_of ss) × (is_ascending run_place (map instruction_of ss) ≡ true)
 steps_rise p [] h = (tt, refl)
 steps_rise p (s ∷ ss) h =
     let n = run_place (instruction_of s) in
@@ -143,8 +143,8 @@ steps_rise p (s ∷ ss) h =
     above n [] h = refl
     above n (x ∷ xs) h = let k : 41 + n ≤ 40 + run_place x = h.0 in and_from _ _ (lt-ltb n (run_place x) (omega (arith, k))) (above n xs h.1)
 
-action_served : (a : Action) → ActionFits a → first_of (action_refusals a) ≡ None → is_served false a ≡ true
-unfolding is_served
+action_served : (a : Action) → ActionFits a → first_of (action_refusals a) ≡ None → is_supported false a ≡ true
+unfolding is_supported
 action_served (Output p m) k h = let none = none_applies (action_refusals (Output p m)) h in and_from (is_port false p) (nat_lt m 0x10000) (not-false _ none.0) (lt-ltb m 0x10000 k.1)
 action_served (PushVlan t) k h = let none = none_applies (action_refusals (PushVlan t)) h in not-false _ none.0
 action_served (SetField f v) k h =
@@ -152,17 +152,17 @@ action_served (SetField f v) k h =
     and_from (is_settable f) (nat_le v (ones_of f)) (not-false _ none.0) (le-leb v (ones_of f) (ltb-false (ones_of f) v none.1.0))
 action_served other k h = grind (arith, nat_tests)
 
-each_served : (xs : List Action) → AllByRecursion Fits (map rows.Do xs) → AllByRecursion (λ a. first_of (action_refusals a) ≡ None) xs → list_all (is_served false) xs ≡ true
+each_served : (xs : List Action) → AllByRecursion Fits (map rows.Do xs) → AllByRecursion (λ a. first_of (action_refusals a) ≡ None) xs → list_all (is_supported false) xs ≡ true
 each_served [] k h = refl
 each_served (a ∷ xs) k h = and_from _ _ (action_served a k.0 h.0) (each_served xs k.1 h.1)
 
-pub list_served : (xs : List Action) → AllByRecursion Fits (map rows.Do xs) → first_of (list_refusals xs) ≡ None → are_served false xs ≡ true
+pub list_served : (xs : List Action) → AllByRecursion Fits (map rows.Do xs) → first_of (list_refusals xs) ≡ None → are_supported false xs ≡ true
 unfolding list_refusals
 list_served xs k h =
     let parts = none_both (flat_map action_refusals (take 64 xs)) _ h in
     let few : length xs ≤ 64 = ltb-false 64 (length xs) (none_next _ [] parts.1).0 in
     let all : first_of (flat_map action_refusals xs) ≡ None = ap (λ (ys : List Action). first_of (flat_map action_refusals ys)) (sym (take_all 64 xs few)) ∙ parts.0 in
-    and_from (nat_le (length xs) 64) (list_all (is_served false) xs) (le-leb (length xs) 64 few) (each_served xs k (none_each action_refusals xs all))
+    and_from (nat_le (length xs) 64) (list_all (is_supported false) xs) (le-leb (length xs) 64 few) (each_served xs k (none_each action_refusals xs all))
 
 step_served : (table : ℕ) (s : Step) → AllByRecursion Fits (step_rows s) → first_of (step_refusals s) ≡ None → first_of (goto_refusals table s) ≡ None → (is_served_body (instruction_of s) ≡ true) × (is_for table (instruction_of s) ≡ true)
 unfolding step_refusals
@@ -199,10 +199,10 @@ match_is m rest k o h =
     record {
       each = fields_kept m k (none_each field_refusals m parts.0);
       rising = (fields_rise 0 m rest o).1;
-      met = not-false (all_met m) (none_next _ [] parts.1).0;
+      met = not-false (prerequisites_met m) (none_next _ [] parts.1).0;
     }
 
-behind_fields : (m : List MatchField) (ss : List Step) → IsSome (flow_standing 0 (map rows.Match m ++ flat_map step_rows ss)) → is_rising run_place (map instruction_of ss) ≡ true
+behind_fields : (m : List MatchField) (ss : List Step) → IsSome (flow_standing 0 (map rows.Match m ++ flat_map step_rows ss)) → is_ascending run_place (map instruction_of ss) ≡ true
 behind_fields m ss o =
     let both = flow_both 0 (map rows.Match m) (flat_map step_rows ss) in
     let next = some_front (flow_standing 0 (map rows.Match m)) (λ q. flow_standing q (flat_map step_rows ss)) (subst IsSome both o) in

@@ -16,7 +16,7 @@ use Rattle.of_text.specs.Views.{view, view_flows}
 use Rattle.of_text.specs.First.{flows_for, refusals_behind, refused_from}
 use Rattle.of_text.specs.Configs.{tables_from, tables_of, IsConfig, with_flow, view_table, view_tables, view_config}
 
--- ---- one flow more
+-- ---- one more flow
 
 abbrev is_for : ℕ → Flow → Bool
 is_for table f = eqb f.head.table table
@@ -64,7 +64,7 @@ pub sixteen : (fs : List Flow) → length (tables_of fs) ≡ 16
 unfolding tables_of
 sixteen fs = length_tables 16 0 fs
 
--- what is refused behind the flows in tables
+-- what is refused after the flows in tables
 pub refusal_same : (gs : List TextGroup) (before : List Flow) (f : Flow) → first_of (flow_refusals f ++ table_refusals gs (slice_index_or (tables_of before) f.head.table []) f) ≡ first_of (refusals_behind gs before f)
 unfolding flow_refusals
 refusal_same gs before f = by_test (nat_lt 15 f.head.table) refl
@@ -131,7 +131,7 @@ filling_done gs all left tables g e =
     let whole : all ≡ g.before = g.whole ∙ (ap (λ (l : List FlowText). g.before ++ view_flows (reverse l)) e ∙ append-nil g.before) in
     (g.filled ∙ ap tables_of (sym whole), g.so_far ∙ ap (λ (l : List FlowText). refused_from gs g.before (view_flows (reverse l))) e)
 
--- ---- as tables lie in memory
+-- ---- as tables are in memory
 
 pub put_there : (tables : List (Vec FlowText)) (old new d : Vec FlowText) (x : FlowText) → (view x).head.table < length tables → old ≡ get_or tables (view x).head.table d → new.items ≡ old.items ++ x ∷ [] → view_tables (set tables (view x).head.table new) ≡ with_flow (view x) (view_tables tables)
 put_there tables old new d x lt is put =

@@ -1,4 +1,4 @@
--- The groups of a configuration are ones that a switch may have, and those that it may have stand in order.
+-- The groups of a configuration are ones that a switch may have, and those that it may have are in order.
 use Rattle.std.proofs.Common.{◌≡◌, ℕ, ◌+◌, ◌<◌, ◌≤◌, Bool, true, false, cond, List, [], ◌∷◌, ◌++◌, length, take, Option, Some, None, refl, sym, ◌∙◌, ap, append_assoc, arith}
 use Rattle.std.specs.Prelude.{map, not, ◌&&◌, nat_lt, nat_le}
 use Rattle.std.specs.List.{AllByRecursion, flat_map, list_all, list_any}
@@ -9,7 +9,7 @@ use Rattle.of_wire.specs.declared.code.Code.{Code}
 use Rattle.of_wire.specs.Refusals.{first_of, refusal}
 use Rattle.of_wire.proofs.FirstLemmas.{none_applies}
 use Rattle.of_actions.specs.declared.action.Action.{Action}
-use Rattle.of_actions.specs.Rising.{is_rising}
+use Rattle.of_actions.specs.Rising.{is_ascending}
 use Rattle.of_groups.specs.declared.group.Group.{Group}
 use Rattle.of_groups.specs.Buckets.{any_sends, are_fit, is_fit}
 use Rattle.of_groups.specs.Groups.{number_of, any_watches}
@@ -144,7 +144,7 @@ short_from there place (g ∷ gs) h =
     let n = named there g h.1 in
     rw (not_led there g.head.id n.short) (short_from there (place + 1) gs h.2)
 
--- ---- by rising number
+-- ---- in ascending order of number
 
 actions_placed : (n : ℕ) (xs : List Action) (rest : List Row) → standing (InBucket n) (map rows.Do xs ++ rest) ≡ standing (InBucket n) rest
 unfolding following
@@ -162,7 +162,7 @@ buckets_placed n b (x ∷ bs) rest =
     let others = buckets_placed n true bs rest in
     (others.0, ap (standing (in_group n b)) (append_assoc (bucket_rows x) (flat_map bucket_rows bs) rest) ∙ (bucket_placed n b x (flat_map bucket_rows bs ++ rest) ∙ others.1))
 
--- behind the line of the next group
+-- after the line of the next group
 begun : (n : ℕ) (b : Bool) (g : TextGroup) (rest : List Row) → standing (in_group n b) (group_rows g ++ rest) ≡ (cond (nat_lt n g.head.id) (Some (InGroup g.head.id)) None >>= λ p. standing p (flat_map bucket_rows g.buckets ++ rest))
 begun n b g rest = ap (λ (o : Option Place). o >>= λ p. standing p (flat_map bucket_rows g.buckets ++ rest)) (next_in n b (rows.Group g.head))
 
@@ -175,7 +175,7 @@ higher n m l (g ∷ gs) h =
     let parts = and_parts (nat_lt m g.head.id) (above m gs) h in
     and_from _ _ (lt-ltb n g.head.id (omega (arith, ltb-true n m l, ltb-true m g.head.id parts.0))) (higher n m l gs parts.1)
 
-groups_rise : (n : ℕ) (b : Bool) (gs : List TextGroup) (q : Place) → standing (in_group n b) (rows_of_groups gs) ≡ Some q → (above n gs ≡ true) × (is_rising number_of (groups_at 0 gs) ≡ true)
+groups_rise : (n : ℕ) (b : Bool) (gs : List TextGroup) (q : Place) → standing (in_group n b) (rows_of_groups gs) ≡ Some q → (above n gs ≡ true) × (is_ascending number_of (groups_at 0 gs) ≡ true)
 groups_rise n b [] q h = (refl, refl)
 groups_rise n b (g ∷ gs) q h =
     let parts = bind_cond (nat_lt n g.head.id) (InGroup g.head.id) (λ p. standing p (flat_map bucket_rows g.buckets ++ rows_of_groups gs)) q (sym (begun n b g (rows_of_groups gs)) ∙ h) in
@@ -183,7 +183,7 @@ groups_rise n b (g ∷ gs) q h =
     let others = groups_rise g.head.id next.0 gs q (sym next.1 ∙ parts.1) in
     (and_from _ _ parts.0 (higher n g.head.id parts.0 gs others.0), and_from _ _ others.0 others.1)
 
-all_rise : (gs : List TextGroup) (q : Place) → standing start (rows_of_groups gs) ≡ Some q → is_rising number_of (groups_at 0 gs) ≡ true
+all_rise : (gs : List TextGroup) (q : Place) → standing start (rows_of_groups gs) ≡ Some q → is_ascending number_of (groups_at 0 gs) ≡ true
 unfolding following
 all_rise [] q h = refl
 all_rise (g ∷ gs) q h =
@@ -191,20 +191,20 @@ all_rise (g ∷ gs) q h =
     let others = groups_rise g.head.id next.0 gs q (sym next.1 ∙ h) in
     and_from _ _ others.0 others.1
 
-risen_placed : (n : ℕ) (b : Bool) (gs : List TextGroup) → above n gs ≡ true → is_rising number_of (groups_at 0 gs) ≡ true → (q : Place) × (standing (in_group n b) (rows_of_groups gs) ≡ Some q)
+risen_placed : (n : ℕ) (b : Bool) (gs : List TextGroup) → above n gs ≡ true → is_ascending number_of (groups_at 0 gs) ≡ true → (q : Place) × (standing (in_group n b) (rows_of_groups gs) ≡ Some q)
 risen_placed n b [] h k = (in_group n b, refl)
 risen_placed n b (g ∷ gs) h k =
     let parts = and_parts (nat_lt n g.head.id) (above n gs) h in
-    let rise = and_parts (above g.head.id gs) (is_rising number_of (groups_at 0 gs)) k in
+    let rise = and_parts (above g.head.id gs) (is_ascending number_of (groups_at 0 gs)) k in
     let next = buckets_placed g.head.id false g.buckets (rows_of_groups gs) in
     let others = risen_placed g.head.id next.0 gs rise.0 rise.1 in
     (others.0, begun n b g (rows_of_groups gs) ∙ rw parts.0 (next.1 ∙ others.1))
 
-all_placed : (gs : List TextGroup) → is_rising number_of (groups_at 0 gs) ≡ true → (q : Place) × (standing start (rows_of_groups gs) ≡ Some q)
+all_placed : (gs : List TextGroup) → is_ascending number_of (groups_at 0 gs) ≡ true → (q : Place) × (standing start (rows_of_groups gs) ≡ Some q)
 unfolding following
 all_placed [] k = (start, refl)
 all_placed (g ∷ gs) k =
-    let rise = and_parts (above g.head.id gs) (is_rising number_of (groups_at 0 gs)) k in
+    let rise = and_parts (above g.head.id gs) (is_ascending number_of (groups_at 0 gs)) k in
     let next = buckets_placed g.head.id false g.buckets (rows_of_groups gs) in
     let others = risen_placed g.head.id next.0 gs rise.0 rise.1 in
     (others.0, next.1 ∙ others.1)

@@ -1,4 +1,4 @@
--- Groups that are judged one after the other.
+-- Groups that are checked one after the other.
 use Rattle.std.proofs.Common.{◌≡◌, ℕ, zero, suc, ◌+◌, ◌<◌, Bool, true, List, [], ◌∷◌, ◌++◌, length, take, drop, get_or, Option, Some, None, refl, sym, ◌∙◌, ap, append_assoc, arith}
 use Rattle.std.specs.Prelude.{map, nat_lt}
 use Rattle.std.specs.List.{AllByRecursion, flat_map}
@@ -114,7 +114,7 @@ judged_same place g there x n code named r xs ns cs ms h = h ∙ (by_code code c
         let whole : x ≡ group_at 0 g = xs ∙ rw (sym e) refl in
         rw (sym e) (ms ∙ rw (ns, whole) refl)
 
--- the next group, and what it is refused for
+-- the next group, and its refusal
 pub record Next (gs : List TextGroup) (place : ℕ) (r : Option Code) : Type 0 where
   pub stops : (code : Code) → r ≡ Some code → refused_group (all_there gs) place (drop place gs) ≡ Some (place, code)
   pub goes_on : r ≡ None → refused_group (all_there gs) place (drop place gs) ≡ refused_group (all_there gs) (place + 1) (drop (place + 1) gs)

@@ -10,7 +10,7 @@ use Rattle.of_text.specs.declared.row.Row.{Row}
 use Rattle.of_text.specs.Rows.{Fits}
 use Rattle.of_text.proofs.TextLemmas.{all_front, all_back, all_both}
 
--- one element more, which is seen as the next one is
+-- one more element, which is seen as the next one is
 pub mapped_more : {X Y Z : Type 0} (f : X → Z) (g : Y → Z) (ys : List Y) (i : ℕ) (d : Y) (x : X) (old new : List X) (all : List Z) → i < length ys → d ≡ get_or ys i d → f x ≡ g d → new ≡ old ++ x ∷ []
     → map f old ++ map g (drop i ys) ≡ all → map f new ++ map g (drop (i + 1) ys) ≡ all
 mapped_more {X} {Y} {Z} f g ys i d x old new all lt is e n h =

@@ -6,7 +6,7 @@ use Rattle.std.specs.Option.{option_map_or}
 use Rattle.std.proofs.lemmas.Bool.{and_parts}
 use Rattle.std.proofs.lemmas.List.{length-map}
 use Rattle.std.proofs.Math.Path.{fun_ext}
-use Rattle.of_actions.specs.Rising.{is_rising}
+use Rattle.of_actions.specs.Rising.{is_ascending}
 use Rattle.of_groups.specs.declared.group.Group.{Group}
 use Rattle.of_groups.specs.Buckets.{are_fit}
 use Rattle.of_groups.specs.Groups.{number_of, is_there, find_group, names, any_named}
@@ -22,7 +22,7 @@ above_same : (c d n : ℕ) (gs : List TextGroup) → list_all (λ (y : Group). n
 above_same c d n [] = refl
 above_same c d n (g ∷ gs) = ap (λ (b : Bool). nat_lt n g.head.id && b) (above_same c d n gs)
 
-rising_same : (c d : ℕ) (gs : List TextGroup) → is_rising number_of (groups_at c gs) ≡ is_rising number_of (groups_at d gs)
+rising_same : (c d : ℕ) (gs : List TextGroup) → is_ascending number_of (groups_at c gs) ≡ is_ascending number_of (groups_at d gs)
 rising_same c d [] = refl
 rising_same c d (g ∷ gs) = rw (above_same c d g.head.id gs, rising_same c d gs) refl
 

@@ -16,8 +16,8 @@ use Rattle.of_oxm.specs.NormalForm.{IsKept, IsKeptMask, IsMatch}
 use Rattle.of_actions.specs.declared.action.Action.{Action}
 use Rattle.of_actions.specs.declared.action.Action.TheVariants.{Output, PushVlan, SetField}
 use Rattle.of_actions.specs.PortNumbers.{is_port}
-use Rattle.of_actions.specs.Rising.{is_rising}
-use Rattle.of_actions.specs.Served.{is_served, are_served}
+use Rattle.of_actions.specs.Rising.{is_ascending}
+use Rattle.of_actions.specs.Supported.{is_supported, are_supported}
 use Rattle.of_actions.specs.InstructionLists.{is_served_body, is_for, run_place}
 use Rattle.of_groups.specs.declared.group.Group.{Group}
 use Rattle.of_groups.specs.Buckets.{any_sends, are_fit, is_fit}
@@ -77,8 +77,8 @@ match_stands m h = none_joined (flat_map field_refusals m) _ (none_all field_ref
 
 -- ---- instructions
 
-action_stands : (a : Action) → is_served false a ≡ true → first_of (action_refusals a) ≡ None
-unfolding is_served
+action_stands : (a : Action) → is_supported false a ≡ true → first_of (action_refusals a) ≡ None
+unfolding is_supported
 action_stands (Output p m) h = rw (and_parts (is_port false p) (nat_lt m 0x10000) h).0 refl
 action_stands (PushVlan t) h = rw h refl
 action_stands (SetField f v) h =
@@ -86,14 +86,14 @@ action_stands (SetField f v) h =
     rw (parts.0, not_above (ones_of f) v (leb-true v (ones_of f) parts.1)) refl
 action_stands other h = refl
 
-list_stands : (xs : List Action) → are_served false xs ≡ true → first_of (list_refusals xs) ≡ None
+list_stands : (xs : List Action) → are_supported false xs ≡ true → first_of (list_refusals xs) ≡ None
 unfolding list_refusals
 list_stands xs h =
-    let parts = and_parts (nat_le (length xs) 64) (list_all (is_served false) xs) h in
+    let parts = and_parts (nat_le (length xs) 64) (list_all (is_supported false) xs) h in
     let few : length xs ≤ 64 = leb-true (length xs) 64 parts.0 in
     let each : first_of (flat_map action_refusals (take 64 xs)) ≡ None =
     ap (λ (ys : List Action). first_of (flat_map action_refusals ys)) (take_all 64 xs few)
-    ∙ none_all action_refusals xs (all_true (λ a. first_of (action_refusals a) ≡ None) (is_served false) action_stands xs parts.1) in
+    ∙ none_all action_refusals xs (all_true (λ a. first_of (action_refusals a) ≡ None) (is_supported false) action_stands xs parts.1) in
     none_joined (flat_map action_refusals (take 64 xs)) _ each (rw (not_above 64 (length xs) few) refl)
 
 step_stands : (s : Step) → is_served_body (instruction_of s) ≡ true → first_of (step_refusals s) ≡ None
@@ -127,7 +127,7 @@ gotos_stand table (s ∷ ss) h k =
 flow_stands : (table : ℕ) (f : Flow) → f.head.table ≡ table → table < 16 → IsEntry table f → bit_and f.head.flags 25 ≡ f.head.flags → first_of (flow_refusals f) ≡ None
 unfolding flow_refusals steps_refusals
 flow_stands table f t l h flags =
-    let served = (and_parts (is_rising run_place (instructions_of f)) (list_all is_served_body (instructions_of f)) h.kept).1 in
+    let served = (and_parts (is_ascending run_place (instructions_of f)) (list_all is_served_body (instructions_of f)) h.kept).1 in
     let low : nat_lt 15 f.head.table ≡ false = not_above 15 f.head.table (omega (arith, t, l)) in
     let known : eqb (bit_and f.head.flags 25) f.head.flags ≡ true = eq-eqb (bit_and f.head.flags 25) f.head.flags flags in
     let gotos : first_of (flat_map (goto_refusals f.head.table) f.steps) ≡ None = rw t (none_all (goto_refusals table) f.steps (gotos_stand table f.steps served h.leads_on)) in
@@ -225,7 +225,7 @@ kept_lines c k = rw (flows_again (all_flows c.tables)) at (kept_rows c.groups (m
 
 each_list : (bs : List TextBucket) → list_all is_fit (map bucket_of bs) ≡ true → AllByRecursion (λ (b : TextBucket). first_of (list_refusals b.actions) ≡ None) bs
 each_list [] h = tt
-each_list (b ∷ bs) h = let parts = and_parts (are_served false b.actions) (list_all is_fit (map bucket_of bs)) h in (list_stands b.actions parts.0, each_list bs parts.1)
+each_list (b ∷ bs) h = let parts = and_parts (are_supported false b.actions) (list_all is_fit (map bucket_of bs)) h in (list_stands b.actions parts.0, each_list bs parts.1)
 
 buckets_stand : (bs : List TextBucket) → are_fit (map bucket_of bs) ≡ true → first_of (buckets_refusals bs) ≡ None
 unfolding buckets_refusals

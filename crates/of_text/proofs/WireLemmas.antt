@@ -1,4 +1,4 @@
--- What is refused of a field and of an action is what their spelling on the wire is refused for.
+-- The refusals of a field and of an action are those of their spelling on the wire.
 use Rattle.std.proofs.Common.{◌≡◌, ℕ, ◌+◌, ◌-◌, ◌*◌, ◌/◌, ◌%◌, ◌^◌, ◌<◌, ◌≤◌, Bool, true, false, ltb, eqb, List, [], ◌++◌, length, get_or, drop, replicate, Option, Some, None, refl, ap, ◌∙◌, arith}
 use Rattle.std.specs.Prelude.{slice_index, IfSome}
 use Rattle.std.proofs.lemmas.Bool.{le-ltb, eq-eqb}

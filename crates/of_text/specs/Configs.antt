@@ -1,4 +1,4 @@
--- CONFIGURATIONS: groups by rising number, and the flows of sixteen tables, each table's oldest first (OpenFlow 1.3.5, 5.1, 5.2 and 5.6).
+-- CONFIGURATIONS: groups in ascending order of number, and the flows of sixteen tables, oldest first (OpenFlow 1.3.5, 5.1, 5.2 and 5.6).
 use Rattle.std.specs.Prelude.{◌≡◌, ℕ, suc, zero, ◌++◌, List, [], ◌∷◌, None, map, slice_set, slice_index_or}
 use Rattle.std.specs.List.{flat_map}
 use Rattle.std.specs.Global.{Vec}
@@ -10,7 +10,7 @@ use Rattle.of_text.specs.Texts.{SpellItems, AreRows, text_of}
 use Rattle.of_text.specs.Views.{view_flows, view_groups}
 use Rattle.of_text.specs.First.{flows_for, first_refusal}
 
--- so many tables, from this one on, each with the flows that are for it, in their order
+-- n tables, from this one on, each with its flows, in their order
 abbrev pub tables_from : ℕ → ℕ → List Flow → List (List Flow)
 tables_from zero table flows = []
 tables_from (suc n) table flows = flows_for table flows ∷ tables_from n (suc table) flows
@@ -18,7 +18,7 @@ tables_from (suc n) table flows = flows_for table flows ∷ tables_from n (suc t
 unfoldable pub tables_of : List Flow → List (List Flow)
 tables_of flows = tables_from 16 0 flows
 
--- one flow more, behind those of its table
+-- one more flow, after those of its table
 abbrev pub with_flow : Flow → List (List Flow) → List (List Flow)
 with_flow f tables = slice_set tables f.head.table (slice_index_or tables f.head.table [] ++ f ∷ [])
 
@@ -26,14 +26,14 @@ pub record Configuration : Type 0 where
   pub groups : List TextGroup
   pub tables : List (List Flow)
 
--- A CONFIGURATION: groups, and tables that are filled by flows, of which none is refused, and which stand in order
+-- A CONFIGURATION: groups, and tables that are filled by flows, of which none is refused, and which are in order
 pub record IsConfig (c : Configuration) : Type 0 where
   pub flows : List Flow
   pub rows : AreRows (text_rows c.groups flows)
   pub stand : first_refusal c.groups flows ≡ None
   pub filled : c.tables ≡ tables_of flows
 
--- THE LINES SPELL THE CONFIGURATION: they spell its groups and flows, none of which is refused, and each flow is in its table, behind those that stand before it
+-- THE LINES SPELL THE CONFIGURATION: they spell its groups and flows, none of which is refused, and each flow is in its table, after those that come before it
 pub record SpellConfig (lines : List (List ℕ)) (c : Configuration) : Type 0 where
   pub flows : List Flow
   pub spelt : SpellItems lines c.groups flows
@@ -44,7 +44,7 @@ pub record SpellConfig (lines : List (List ℕ)) (c : Configuration) : Type 0 wh
 abbrev pub all_flows : List (List Flow) → List Flow
 all_flows tables = flat_map (λ flows. flows) tables
 
--- THE CANONICAL TEXT: the groups by rising number, then the flows by table, and in a table the oldest first
+-- THE CANONICAL TEXT: the groups in ascending order of number, then the flows by table, and in a table the oldest first
 abbrev pub config_text : Configuration → List ℕ
 config_text c = text_of c.groups (all_flows c.tables)
 

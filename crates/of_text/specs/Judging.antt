@@ -1,4 +1,4 @@
--- What is kept of groups while they are judged. No public clause cites this module.
+-- What is kept of groups while they are checked. No public clause cites this module.
 use Rattle.std.specs.Prelude.{ℕ, ◌+◌, ◌∷◌, nat_le, nat_lt, Bool, List, [], Option}
 use Rattle.of_wire.specs.declared.code.Code.{Code}
 use Rattle.of_wire.specs.Refusals.{first_of, refusal}
@@ -8,11 +8,11 @@ use Rattle.of_text.specs.Groups.{TextGroup}
 use Rattle.of_text.specs.Refusals.{buckets_refusals, group_refusals}
 use Rattle.of_groups.specs.Buckets.{group_max}
 
--- what looks at the message alone
+-- what the message alone decides
 abbrev pub told_refusals : TextGroup → List (Bool × Code)
 told_refusals g = (nat_lt group_max g.head.id, refusal 6 1) ∷ buckets_refusals g.buckets
 
--- what looks at the group behind so many others
+-- what is checked of the group after so many others
 abbrev pub kept_refusals : ℕ → Group → List (Bool × Code)
 kept_refusals place g = (is_bad_watch g.kind g.buckets, refusal 6 13) ∷ (is_not_one g.kind g.buckets, refusal 6 1) ∷ (nat_le 256 place, refusal 6 3) ∷ []
 

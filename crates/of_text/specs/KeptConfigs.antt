@@ -1,4 +1,4 @@
--- CONFIGURATIONS AS A SWITCH KEEPS THEM: by what holds of its groups and its flow tables at all times (OpenFlow 1.3.5, 5.1, 5.2 and 5.6).
+-- CONFIGURATIONS AS A SWITCH KEEPS THEM: by the invariants of its groups and its flow tables (OpenFlow 1.3.5, 5.1, 5.2 and 5.6).
 use Rattle.std.specs.Prelude.{◌≡◌, ℕ, suc, List, [], ◌∷◌, length}
 use Rattle.std.specs.List.{AllByRecursion}
 use Rattle.of_text.specs.Rows.{HeadFits}
@@ -11,7 +11,7 @@ use Rattle.of_text.specs.Configs.{Configuration}
 abbrev pub IsHeaded : ℕ → Flow → Type 0
 IsHeaded table f = (f.head.table ≡ table) × HeadFits f.head
 
--- the flows of a table beside these groups: each may stand in it, behind those before it
+-- the flows of a table beside these groups: each is valid in it, after those before it
 pub record AreKeptFlows (groups : List TextGroup) (table : ℕ) (flows : List Flow) : Type 0 where
   pub heads : AllByRecursion (IsHeaded table) flows
   pub entries : AllByRecursion (IsEntry table) flows

@@ -13,7 +13,7 @@ use std::marker::Model;
 /// How many tables a switch has.
 const TABLES: usize = 16;
 
-/// Groups by rising number, and the flows of sixteen tables, each table's oldest first (OpenFlow 1.3.5, 5.1, 5.2 and 5.6).
+/// Groups in ascending order of number, and the flows of sixteen tables, oldest first (OpenFlow 1.3.5, 5.1, 5.2 and 5.6).
 ///
 /// They are groups and flows that some text spells, and none of them is refused.
 #[derive(Debug, Drop)]
@@ -33,7 +33,7 @@ impl Model for Config {
 }
 
 impl Config {
-    /// The groups, by rising number.
+    /// The groups, in ascending order of number.
     pub fn groups(&self) -> &[GroupText]
         ensures { view_groups result.now ≡ self.now.groups }
     {
@@ -48,11 +48,11 @@ impl Config {
         self.tables[usize::from(table)].as_slice()
     }
 
-    /// Its groups and flows are those of a text of which none is refused. A switch may have the groups: they stand by
-    /// rising number, up to OFPG_MAX and at most 256, each names groups that are there, and no chain has more than
-    /// three (OpenFlow 1.3.5, 5.6 and 6.5). Each flow may stand in its table: its match is one,
+    /// Its groups and flows are those of a text of which none is refused. A switch may have the groups: they are in
+    /// ascending order of number, up to OFPG_MAX and at most 256, each names groups that exist, and no chain has more than
+    /// three (OpenFlow 1.3.5, 5.6 and 6.5). Each flow is valid in its table: its match is one,
     /// and its instructions are those that an entry of the table may have (5.2, 5.9 and 7.2.3).
-    /// In a table there are at most 4,096 of them, no two of one priority and match.
+    /// In a table there are at most 4,096 of them, no two of the same priority and match.
     pub fn known(&self)
         ensures config { IsConfig self.now }
         ensures groups { AreKeptGroups self.now.groups }
@@ -76,7 +76,7 @@ pub fn empty_tables(alloc: Global) -> Result<Vec<Vec<FlowText>>, AllocError>
     Ok(tables)
 }
 
-/// Puts the flow behind those of its table.
+/// Puts the flow after those of its table.
 pub fn put_flow(tables: &mut Vec<Vec<FlowText>>, flow: FlowText) -> Result<(), AllocError>
     requires { flow.head.table < length tables.old.items }
     ensures { OnOk result (view_tables tables.new.items ≡ with_flow (view flow) (view_tables tables.old.items)) }

@@ -73,7 +73,7 @@ fn write_tables(out: &mut Vec<u8>, tables: &[Vec<FlowText>]) -> Result<(), Alloc
     Ok(())
 }
 
-/// The canonical text of a configuration: its groups by rising number, then its flows by table, and in a table the oldest first.
+/// The canonical text of a configuration: its groups by number, then its flows by table, and in a table the oldest first.
 pub fn disassemble(alloc: Global, config: &Config) -> Result<Vec<u8>, AllocError>
     ensures { IfOk result (λ text. text.items ≡ config_text config.now) }
 {

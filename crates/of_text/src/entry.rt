@@ -3,7 +3,7 @@ ghost use Rattle.std.specs.Prelude.{◌≡◌, true, false, IsTrue, IfOk, map};
 ghost use Rattle.std.specs.List.{list_all};
 ghost use Rattle.of_oxm.specs.NormalForm.{IsMatch};
 ghost use Rattle.of_actions.specs.InstructionLists.{are_kept, is_served_body};
-ghost use Rattle.of_actions.specs.Served.{are_served};
+ghost use Rattle.of_actions.specs.Supported.{are_supported};
 ghost use Rattle.of_text.specs.Kept.{instruction_of, instructions_of};
 ghost use Rattle.of_text.specs.Views.{view, view_step};
 
@@ -19,7 +19,7 @@ fn copy_of(actions: &Vec<Action>) -> Result<Vec<Action>, AllocError>
 }
 
 fn action_list(actions: Vec<Action>) -> ActionList
-    requires { are_served true actions.items ≡ true }
+    requires { are_supported true actions.items ≡ true }
     ensures { result ≡ actions.items }
 {
     match ActionList::new(actions) {
@@ -29,7 +29,7 @@ fn action_list(actions: Vec<Action>) -> ActionList
 }
 
 pub(crate) fn list_of(actions: &Vec<Action>) -> Result<ActionList, AllocError>
-    requires { are_served false actions.now.items ≡ true }
+    requires { are_supported false actions.now.items ≡ true }
     ensures { IfOk result (λ list. list ≡ actions.now.items) }
 {
     let copy = copy_of(actions)?;

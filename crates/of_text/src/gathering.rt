@@ -10,7 +10,7 @@ use of_actions::Action;
 use of_oxm::MatchField;
 use std::alloc::{AllocError, Global};
 
-// What the lines behind give, each list from its end on: what stands in front of any `group` or `flow` line, and the groups and flows behind.
+// What the later lines give, each list in reverse order: what comes before any `group` or `flow` line, and the groups and flows after that.
 #[derive(Drop)]
 struct Gathering {
     actions: Vec<Action>,
@@ -21,7 +21,7 @@ struct Gathering {
     flows: Vec<FlowText>,
 }
 
-// Takes a list that stands from its end on.
+// Takes a list that is in reverse order.
 fn take_turned<T: Drop>(alloc: Global, list: &mut Vec<T>) -> Vec<T>
     ensures taken { result.items ≡ reverse list.old.items }
     ensures left { list.new.items ≡ [] }
@@ -31,7 +31,7 @@ fn take_turned<T: Drop>(alloc: Global, list: &mut Vec<T>) -> Vec<T>
     taken
 }
 
-// The line goes in front.
+// Puts the line first.
 fn gather(alloc: Global, g: &mut Gathering, row: Row) -> Result<(), AllocError>
     ensures { OnOk result (seen g.new ≡ gather_row row (seen g.old)) }
 {
@@ -79,7 +79,7 @@ pub struct Items {
     pub flows: Vec<FlowText>,
 }
 
-/// The groups and flows that lines are, where the lines stand in order.
+/// The groups and flows that lines are, where the lines are in order.
 pub fn items_of(alloc: Global, rows: Vec<Row>) -> Result<Items, AllocError>
     ensures groups { IfOk result (λ items. view_groups items.groups.items ≡ (gathered nothing rows.items).groups) }
     ensures flows { IfOk result (λ items. view_flows items.flows.items ≡ (gathered nothing rows.items).flows) }

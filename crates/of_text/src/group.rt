@@ -1,7 +1,7 @@
 //! Groups in text.
 ghost use Rattle.std.specs.Prelude.{◌≡◌, ◌++◌, true, false, IfOk, OnOk, map};
 ghost use Rattle.std.specs.List.{flat_map};
-ghost use Rattle.of_actions.specs.Served.{are_served};
+ghost use Rattle.of_actions.specs.Supported.{are_supported};
 ghost use Rattle.of_groups.specs.Buckets.{are_fit};
 ghost use Rattle.of_text.specs.Groups.{bucket_of, bucket_rows, buckets_of, group_at, group_rows};
 ghost use Rattle.of_text.specs.Views.{view_bucket, view_group};
@@ -13,7 +13,7 @@ use of_actions::Action;
 use of_groups::{Bucket, Buckets, Group};
 use std::alloc::{AllocError, Global};
 
-/// A bucket of a group in text. Its actions need not be ones that a switch serves.
+/// A bucket of a group in text. Its actions need not be ones that a switch supports.
 #[derive(Debug, Drop)]
 pub struct BucketText {
     pub head: BucketHead,
@@ -53,7 +53,7 @@ pub fn push_group(rows: &mut Vec<Row>, group: &GroupText) -> Result<(), AllocErr
 }
 
 fn bucket_from(bucket: &BucketText) -> Result<Bucket, AllocError>
-    requires { are_served false bucket.now.actions.items ≡ true }
+    requires { are_supported false bucket.now.actions.items ≡ true }
     ensures { IfOk result (λ b. b ≡ bucket_of (view_bucket bucket.now)) }
 {
     Ok(Bucket {

@@ -1,4 +1,4 @@
-//! What of a group is refused.
+//! The refusals of a group.
 ghost use Rattle.std.specs.Prelude.{◌≡◌, ◌++◌, ◌∷◌, [], ℕ, List, true, false, length, nat_le, nat_lt, not, map, take, IfOk, slice_index_or};
 ghost use Rattle.std.specs.List.{AllByRecursion, flat_map};
 ghost use Rattle.of_wire.specs.declared.code.Code.{Code as ACode};
@@ -59,7 +59,7 @@ fn buckets_refusal(buckets: &[BucketText]) -> Option<Code>
     first(each, many)
 }
 
-// What the message that would add the group is refused for.
+// The refusal of the message that would add the group.
 fn told_refusal(group: &GroupText) -> Option<Code>
     ensures { result ≡ first_of (told_refusals (view_group group.now)) }
 {
@@ -69,7 +69,7 @@ fn told_refusal(group: &GroupText) -> Option<Code>
     buckets_refusal(&group.buckets)
 }
 
-// What a group is refused for behind so many others, apart from what it names.
+// The refusal of a group after so many others, apart from what it names.
 fn kept_refusal(place: usize, group: &Group) -> Option<Code>
     ensures { result ≡ first_of (kept_refusals place group.now) }
 {
@@ -99,7 +99,7 @@ fn bare(alloc: Global, group: &GroupText) -> Group
     }
 }
 
-// As the group counts for the others, and what it is refused for alone.
+// The group as it counts for the others, and its refusal by itself.
 fn judge(
     alloc: Global,
     place: usize,
@@ -119,7 +119,7 @@ fn judge(
     Ok((made, None))
 }
 
-// Groups as they count for each other, and what each is refused for alone.
+// Groups as they count for each other, and the refusal of each by itself.
 #[derive(Drop)]
 struct Judged {
     there: Vec<Group>,
@@ -141,7 +141,7 @@ fn judge_all(alloc: Global, groups: &[GroupText]) -> Result<Judged, AllocError>
     Ok(Judged { there, codes })
 }
 
-// What a group is refused for that names others, of which these are there, and that begins a chain of this length.
+// The refusal of a group that names others, of which these exist, and that begins a chain of this length.
 fn naming_refusal(there: &[Group], group: &Group, length: u8) -> Option<Code>
     ensures { result ≡ first_of ((any_sends (is_absent there.now) group.now.buckets, as_refusal 2 9) ∷ (any_watches (is_absent there.now) group.now.kind group.now.buckets, as_refusal 6 13) ∷ (nat_lt 3 length, as_refusal 6 7) ∷ []) }
 {

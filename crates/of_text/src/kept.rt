@@ -2,7 +2,7 @@
 ghost use Rattle.std.specs.Prelude.{◌≡◌, ◌<◌, ◌^◌, true, false, IsTrue, IfOk, map};
 ghost use Rattle.std.specs.List.{AllByRecursion, flat_map};
 ghost use Rattle.of_actions.specs.InstructionLists.{are_kept};
-ghost use Rattle.of_actions.specs.Served.{are_served};
+ghost use Rattle.of_actions.specs.Supported.{are_supported};
 ghost use Rattle.of_groups.specs.Buckets.{are_fit};
 ghost use Rattle.of_text.specs.Configs.{Configuration, IsConfig, view_config};
 ghost use Rattle.of_text.specs.Groups.{bucket_rows, bucket_text as text_of_bucket, group_rows, group_text};
@@ -40,7 +40,7 @@ fn bucket_head(weight: u16, watch_port: u32, watch_group: u32) -> BucketHead
 }
 
 fn bucket_text(alloc: Global, bucket: &Bucket) -> Result<BucketText, AllocError>
-    requires { are_served false bucket.now.actions ≡ true }
+    requires { are_supported false bucket.now.actions ≡ true }
     ensures text { IfOk result (λ b. view_bucket b ≡ text_of_bucket bucket.now) }
     ensures fits { IfOk result (λ b. AllByRecursion Fits (bucket_rows (view_bucket b))) }
 {

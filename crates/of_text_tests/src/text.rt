@@ -127,7 +127,7 @@ fn faults_of_groups(rt: HostRuntime) {
         (b"group 1 all\nbucket 0 0 0\nto_group 2", 1, 2, 9),
         (b"group 1 ff\nbucket 0 4294967295 2", 1, 6, 13),
         (b"group 1 all\nbucket 0 0 0\nto_group 1", 1, 6, 7),
-        // A group that is refused alone is there, and names none: so 2 is the first of those that are refused.
+        // A group that is refused alone exists, and names none: so 2 is the first of those that are refused.
         (
             b"group 1 all\nbucket 0 0 0\nto_group 2\ngroup 2 indirect\ngroup 3 all",
             4,

@@ -4,8 +4,8 @@ use Rattle.std.specs.Prelude.{replicate, length}
 use Rattle.of_layers.specs.Reading.{layers_of}
 use Rattle.of_rewrite.specs.declared.frame.Ttl.{Ttl}
 use Rattle.of_rewrite.specs.declared.frame.Ttl.TheVariants.{Done, Expired, Absent}
-use Rattle.of_rewrite.specs.Aging.{ttl_of, answer_to}
-use Rattle.of_rewrite.specs.Frames.{IsFrame, frame_aged}
+use Rattle.of_rewrite.specs.TimeToLive.{ttl_of, dec_ttl_result}
+use Rattle.of_rewrite.specs.Frames.{IsFrame, frame_ttl_decremented}
 use Rattle.of_actions.specs.declared.action.Action.{Action}
 use Rattle.of_actions.specs.declared.action.Action.TheVariants.{Output, Group, DecNwTtl}
 use Rattle.of_actions.specs.declared.instruction.Instruction.{Instruction}
@@ -15,7 +15,7 @@ use Rattle.of_table.specs.declared.flow.Flow.{Flow}
 use Rattle.of_machine.specs.declared.data.Packet.{Packet}
 use Rattle.of_machine.specs.declared.data.Step.{Step}
 use Rattle.of_machine.specs.TheWorld.{TheWorld}
-use Rattle.of_machine.specs.Rows.{Work, Lookup, Do, RunSet, Act, Task, task, Row, row, key_of, entering, lookup_row, entry_row, output_row, group_row, aged_row, copies}
+use Rattle.of_machine.specs.Rows.{Work, Lookup, Do, RunSet, Act, Task, task, Row, row, key_of, entering, lookup_row, entry_row, output_row, group_row, dec_ttl_row, copies}
 use Rattle.of_machine.specs.Runs.{Machine, step, first_step, after, starting}
 use Rattle.of_machine.specs.Sound.{IsSound}
 use Rattle.of_machine.specs.Weights.{AllFit}
@@ -60,15 +60,15 @@ module _ (w : TheWorld) (p : Packet) (rest : List Work) where
   same_frame : (frame : List ℕ) → frame ≡ p.frame → (sight_of p ∷ []) ≡ (record (sight_of p) { frame = frame } ∷ [])
   same_frame frame e = rw e refl
 
-  aged_told : (answer : Ttl) → answer_to (ttl_of (layers_of p.frame)) ≡ answer → IsFrame p.frame → IsTold w p (aged_row p rest answer)
+  aged_told : (answer : Ttl) → dec_ttl_result (ttl_of (layers_of p.frame)) ≡ answer → IsFrame p.frame → IsTold w p (dec_ttl_row p rest answer)
   aged_told Expired e h = refl
   aged_told Done e h = refl
-  aged_told Absent e h = same_frame (frame_aged p.frame) (aged_same p.frame h (λ done. let x : Absent ≡ Done = sym e ∙ done in cc))
+  aged_told Absent e h = same_frame (frame_ttl_decremented p.frame) (aged_same p.frame h (λ done. let x : Absent ≡ Done = sym e ∙ done in cc))
 
   act_told : (a : Action) → IsFrame p.frame → IsTold w p (row w p (Act a ∷ rest))
   act_told (Output port max_len) h = output_told port max_len (port == table) refl
   act_told (Group group) h = group_told group (w.chosen group) refl
-  act_told DecNwTtl h = aged_told (answer_to (ttl_of (layers_of p.frame))) refl h
+  act_told DecNwTtl h = aged_told (dec_ttl_result (ttl_of (layers_of p.frame))) refl h
   act_told other h = refl
 
   do_told : (i : Instruction) → IsTold w p (row w p (Do i ∷ rest))

@@ -8,13 +8,13 @@ use Rattle.of_headers.specs.declared.headers.FrameFault.{FrameFault}
 use Rattle.of_headers.specs.Faults.{frame_fault}
 use Rattle.of_rewrite.specs.declared.frame.Ttl.{Ttl}
 use Rattle.of_rewrite.specs.declared.frame.Ttl.TheVariants.{Done, Expired, Absent}
-use Rattle.of_rewrite.specs.Aging.{ttl_of, answer_to}
+use Rattle.of_rewrite.specs.TimeToLive.{ttl_of, dec_ttl_result}
 use Rattle.of_actions.specs.declared.action.Action.{Action}
 use Rattle.of_actions.specs.declared.action.Action.TheVariants.{Output, Group, DecNwTtl}
 use Rattle.of_actions.specs.declared.instruction.Instruction.{Instruction}
 use Rattle.of_actions.specs.declared.instruction.Instruction.TheVariants.{Apply, Clear, Write, Metadata, Goto}
 use Rattle.of_actions.specs.PortNumbers.{table}
-use Rattle.of_actions.specs.Served.{is_served}
+use Rattle.of_actions.specs.Supported.{is_supported}
 use Rattle.of_actions.specs.InstructionLists.{is_served_body}
 use Rattle.of_action_set.specs.Sets.{in_order}
 use Rattle.of_table.specs.declared.flow.Flow.{Flow}
@@ -24,7 +24,7 @@ use Rattle.of_machine.specs.declared.data.Step.{Step}
 use Rattle.of_ports.specs.Ports.{may_receive, port_at}
 use Rattle.of_machine.specs.TheWorld.{TheWorld}
 use Rattle.of_machine.specs.Sound.{IsSound}
-use Rattle.of_machine.specs.Rows.{Work, Lookup, Do, RunSet, Act, Task, task, Row, row, acts, works, key_of, lookup_row, entry_row, output_row, group_row, aged_row, copies, entering}
+use Rattle.of_machine.specs.Rows.{Work, Lookup, Do, RunSet, Act, Task, task, Row, row, acts, works, key_of, lookup_row, entry_row, output_row, group_row, dec_ttl_row, copies, entering}
 use Rattle.of_machine.specs.Weights.{IsSet, AllFit}
 use Rattle.of_machine.specs.Runs.{Machine, step, first_step, after, starting, run_of}
 use Rattle.of_machine.proofs.Promises.{flow_served, list_served}
@@ -41,7 +41,7 @@ abbrev IsSpeltWork : Work → Type 0
 IsSpeltWork (Lookup t) = ⊤
 IsSpeltWork (Do i) = IsTrue (is_served_body i)
 IsSpeltWork RunSet = ⊤
-IsSpeltWork (Act a) = IsTrue (is_served false a)
+IsSpeltWork (Act a) = IsTrue (is_supported false a)
 
 abbrev AllSpeltWork : List Work → Type 0
 AllSpeltWork [] = ⊤
@@ -59,9 +59,9 @@ tasks_more : (xs ys : List Task) → AllSpeltTasks xs → AllSpeltTasks ys → A
 tasks_more [] ys h k = k
 tasks_more (x ∷ xs) ys h k = (h.0, tasks_more xs ys h.1 k)
 
-acts_spelt : (l : List Action) → IsTrue (list_all (is_served false) l) → AllSpeltWork (acts l)
+acts_spelt : (l : List Action) → IsTrue (list_all (is_supported false) l) → AllSpeltWork (acts l)
 acts_spelt [] h = tt
-acts_spelt (a ∷ l) h = let both = and_true (is_served false a) (list_all (is_served false) l) h in (both.0, acts_spelt l both.1)
+acts_spelt (a ∷ l) h = let both = and_true (is_supported false a) (list_all (is_supported false) l) h in (both.0, acts_spelt l both.1)
 
 works_spelt : (l : List Instruction) → IsTrue (list_all is_served_body l) → AllSpeltWork (works l)
 works_spelt [] h = (tt, tt)
@@ -77,8 +77,8 @@ works_spelt (Goto t ∷ l) h = let both = and_true (is_served_body (Goto t)) (li
 abbrev IsSpeltRow : Row → Type 0
 IsSpeltRow r = IsTrue (is_spelt r.line) × AllSpeltTasks r.left
 
-dec_served : IsTrue (is_served false DecNwTtl)
-unfolding is_served
+dec_served : IsTrue (is_supported false DecNwTtl)
+unfolding is_supported
 dec_served = refl
 
 module _ (w : TheWorld) (sound : IsSound w) (p : Packet) (rest : List Work) where
@@ -90,11 +90,11 @@ module _ (w : TheWorld) (sound : IsSound w) (p : Packet) (rest : List Work) wher
   lookup_spelt t None = (refl, (tt, tt))
   lookup_spelt t (Some n) = entry_spelt t n (w.flow t n) refl
 
-  output_spelt : (port max_len : ℕ) (tables : Bool) → (port == table) ≡ tables → IsTrue (is_served false (Output port max_len)) → AllSpeltWork rest → IsSpeltRow (output_row w p rest (Output port max_len) port)
+  output_spelt : (port max_len : ℕ) (tables : Bool) → (port == table) ≡ tables → IsTrue (is_supported false (Output port max_len)) → AllSpeltWork rest → IsSpeltRow (output_row w p rest (Output port max_len) port)
   output_spelt port max_len true e h k = rw e (h, ((tt, tt), (k, tt)))
   output_spelt port max_len false e h k = rw e (h, (k, tt))
 
-  aged_spelt : (answer : Ttl) → AllSpeltWork rest → IsSpeltRow (aged_row p rest answer)
+  aged_spelt : (answer : Ttl) → AllSpeltWork rest → IsSpeltRow (dec_ttl_row p rest answer)
   aged_spelt Expired k = (refl, (tt, tt))
   aged_spelt Done k = (dec_served, (k, tt))
   aged_spelt Absent k = (dec_served, (k, tt))
@@ -103,14 +103,14 @@ module _ (w : TheWorld) (sound : IsSound w) (p : Packet) (rest : List Work) wher
   copies_spelt group [] = tt
   copies_spelt group (k ∷ places) = ((tt, tt), copies_spelt group places)
 
-  group_spelt : (group : ℕ) (chosen : Option (List ℕ)) → IsTrue (is_served false (Group group)) → AllSpeltWork rest → IsSpeltRow (group_row w p rest group chosen)
+  group_spelt : (group : ℕ) (chosen : Option (List ℕ)) → IsTrue (is_supported false (Group group)) → AllSpeltWork rest → IsSpeltRow (group_row w p rest group chosen)
   group_spelt group None h k = (h, (k, tt))
   group_spelt group (Some places) h k = (h, tasks_more (copies w group p places) (task p rest ∷ []) (copies_spelt group places) (k, tt))
 
-  act_spelt : (a : Action) → IsTrue (is_served false a) → AllSpeltWork rest → IsSpeltRow (row w p (Act a ∷ rest))
+  act_spelt : (a : Action) → IsTrue (is_supported false a) → AllSpeltWork rest → IsSpeltRow (row w p (Act a ∷ rest))
   act_spelt (Output port max_len) h k = output_spelt port max_len (port == table) refl h k
   act_spelt (Group group) h k = group_spelt group (w.chosen group) h k
-  act_spelt DecNwTtl h k = aged_spelt (answer_to (ttl_of (layers_of p.frame))) k
+  act_spelt DecNwTtl h k = aged_spelt (dec_ttl_result (ttl_of (layers_of p.frame))) k
   act_spelt other h k = (h, (k, tt))
 
   do_spelt : (i : Instruction) → IsTrue (is_served_body i) → AllSpeltWork rest → IsSpeltRow (row w p (Do i ∷ rest))

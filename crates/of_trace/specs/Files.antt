@@ -10,7 +10,7 @@ use Rattle.of_switch.specs.Steps.{frame_in}
 use Rattle.of_switch.specs.DryRun.{steps_in}
 use Rattle.of_switch.specs.Loading.{loaded}
 use Rattle.of_replay.specs.Told.{Answer, then_bytes, given}
-use Rattle.of_replay.specs.Transfer.{then_answers, WroteFront}
+use Rattle.of_replay.specs.Transfer.{then_answers, WrotePrefix}
 use Rattle.of_replay.specs.Assembling.{bad_line, HasFault}
 use Rattle.of_replay.specs.ConfigFiles.{Spells}
 use Rattle.of_replay.specs.declared.event_file.Ended.{Ended}
@@ -22,7 +22,7 @@ use Rattle.of_trace.specs.Notes.{said}
 abbrev pub port_up : ℕ → Event
 port_up number = Ports (Add number (2 ∷ 0 ∷ 0 ∷ 0 ∷ 0 ∷ number ∷ []) (replicate 16 0) true)
 
--- ports from 1 on, so many
+-- ports 1 to n
 abbrev pub ports_up : ℕ → List Event
 ports_up zero = []
 ports_up (suc n) = ports_up n ++ port_up (suc n) ∷ []
@@ -40,7 +40,7 @@ EndsTracing form port frame Done ended file old new = (config : Configuration) �
 EndsTracing form port frame (BadRow n) ended file old new = (ended ≡ true) × (bad_line file ≡ Some n) × (new ≡ old)
 EndsTracing form port frame (Text f) ended file old new = (ended ≡ true) × (bad_line file ≡ None) × HasFault file f × (new ≡ old)
 EndsTracing form port frame ReadFault ended file old new = (ended ≡ false) × (new ≡ old)
-EndsTracing form port frame WriteFault ended file old new = (config : Configuration) × (ended ≡ true) × Spells file config × WroteFront old (trace_of form port frame config) new
+EndsTracing form port frame WriteFault ended file old new = (config : Configuration) × (ended ≡ true) × Spells file config × WrotePrefix old (trace_of form port frame config) new
 EndsTracing form port frame NoMemory ended file old new = new ≡ old
 
 -- from what a source answered to what a sink took

@@ -1,4 +1,4 @@
--- A TRACE FOR PEOPLE: below a line stand notes, each behind four spaces. Without them it is the text of the trace.
+-- A TRACE FOR PEOPLE: below a line there are notes, each after four spaces. Without them it is the text of the trace.
 use Rattle.std.specs.Prelude.{ℕ, ◌+◌, ◌==◌, ◌&&◌, ◌||◌, Bool, true, false, not, nat_lt, bit_and, List, [], ◌∷◌, ◌++◌, Option, Some, None, codes, decimal, suc, if◌then◌else◌}
 use Rattle.std.specs.List.{flat_map, list_any}
 use Rattle.of_layers.specs.declared.field.Field.{Field}
@@ -7,7 +7,7 @@ use Rattle.of_layers.specs.Fields.{name_of, number_of, ones_of}
 use Rattle.of_layers.specs.Reading.{layers_of}
 use Rattle.of_headers.specs.declared.headers.FrameFault.{FrameFault}
 use Rattle.of_headers.specs.Faults.{frame_fault}
-use Rattle.of_rewrite.specs.Aging.{ttl_of}
+use Rattle.of_rewrite.specs.TimeToLive.{ttl_of}
 use Rattle.of_actions.specs.PortNumbers.{in_port, table as to_tables, flood, all, controller}
 use Rattle.of_actions.specs.declared.action.Action.{Action}
 use Rattle.of_actions.specs.declared.action.Action.TheVariants.{Output, Group}
@@ -120,7 +120,7 @@ table_notes asked t map flows = seen_notes flows map ++ reasons_from asked t map
 abbrev pub look_notes : Forwarding → Asked → ℕ → (Field → Option ℕ) → List ℕ
 look_notes f asked t map = if nat_lt t 16 then table_notes asked t map (table_at t f.tables).flows else []
 
--- ---- what an action changed: each field that has another value then, or is there only before or after
+-- ---- what an action changed: each field that has another value then, or is present only before or after
 
 abbrev pub same_value : Option ℕ → Option ℕ → Bool
 same_value None None = true
@@ -134,7 +134,7 @@ change_note old new f = if same_value (old f) (new f) then [] else note (name_of
 abbrev pub change_notes : (Field → Option ℕ) → (Field → Option ℕ) → List ℕ
 change_notes old new = flat_map (change_note old new) constants.ALL
 
--- ---- whether it changed the time to live of IPv4 or the hop limit of IPv6 (RFC 791, 3.1; RFC 8200, 3)
+-- ---- whether it changed the TTL of IPv4 or the hop limit of IPv6 (RFC 791, 3.1; RFC 8200, 3)
 
 abbrev pub ttl_seen : Sight → Option ℕ
 ttl_seen s = ttl_of (layers_of s.frame)
@@ -200,7 +200,7 @@ sends (Output port max_len) = true
 sends (Group group) = true
 sends other = false
 
--- of a step, where this is so of those behind it
+-- of a step, where this is so of those after it
 abbrev pub is_unsent_from : Step → Bool → Bool
 is_unsent_from (Act action) behind = not (sends action) && behind
 is_unsent_from End behind = true
@@ -228,7 +228,7 @@ abbrev pub explained_from : Forwarding → Asked → List Sight → List Step �
 explained_from f asked sights [] = []
 explained_from f asked sights (step ∷ steps) = ended (step_line step) ++ first_notes f asked sights step ++ set_notes step steps ++ explained_from f asked (stepped (world_of f) step sights) steps
 
--- a frame that comes in; one that is too short or too long does not
+-- a frame that is received; one that is too short or too long is not
 abbrev pub unless_fault : ℕ → List ℕ → Option FrameFault → List Sight
 unless_fault port frame (Some fault) = []
 unless_fault port frame None = record { frame = frame; ingress = port; metadata = 0 } ∷ []

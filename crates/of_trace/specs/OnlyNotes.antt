@@ -1,4 +1,4 @@
--- NOTES ARE ADDED AND NOTHING ELSE: a text that is another one with notes put in, each behind one of its lines.
+-- NOTES ARE ADDED AND NOTHING ELSE: a text that is another with notes inserted, each after one of its lines.
 use Rattle.std.specs.Prelude.{◌≡◌, ℕ, List, ◌++◌}
 use Rattle.std.specs.List.{flat_map}
 use Rattle.of_text.specs.Lines.{ended}
@@ -9,7 +9,7 @@ pub record NotedLine : Type 0 where
   pub line : List ℕ
   pub notes : List (List ℕ)
 
--- the lines of the plain text, then what stands behind the last line with notes
+-- the lines of the plain text, then what follows the last line with notes
 pub record OnlyNotesAdded (plain noted : List ℕ) : Type 0 where
   pub lines : List NotedLine
   pub rest : List ℕ

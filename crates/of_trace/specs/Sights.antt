@@ -3,7 +3,7 @@ use Rattle.std.specs.Prelude.{ℕ, ◌==◌, List, [], ◌∷◌, ◌++◌, leng
 use Rattle.of_layers.specs.declared.field.Field.{Field}
 use Rattle.of_layers.specs.Reading.{layers_of}
 use Rattle.of_headers.specs.FieldMap.{field_map}
-use Rattle.of_rewrite.specs.Frames.{frame_aged}
+use Rattle.of_rewrite.specs.Frames.{frame_ttl_decremented}
 use Rattle.of_actions.specs.PortNumbers.{table}
 use Rattle.of_actions.specs.declared.action.Action.{Action}
 use Rattle.of_actions.specs.declared.action.Action.TheVariants.{Output, Group, DecNwTtl}
@@ -14,21 +14,21 @@ use Rattle.of_machine.specs.TheWorld.{TheWorld}
 use Rattle.of_machine.specs.Rows.{Task, rewritten, with_metadata}
 use Rattle.of_trace.specs.declared.sight.Sight.{Sight}
 
--- what of a packet changes and is seen by tables
+-- what tables see of a packet
 abbrev pub sight_of : Packet → Sight
 sight_of p = record { frame = p.frame; ingress = p.ingress; metadata = p.metadata }
 
 abbrev pub sights_of : List Task → List Sight
 sights_of tasks = map (λ t. sight_of t.packet) tasks
 
--- what a look-up sees (5.3)
+-- the fields that a lookup compares (5.3)
 abbrev pub key_seen : Sight → Field → Option ℕ
 key_seen s = field_map (layers_of s.frame) s.ingress s.metadata
 
 -- ---- the packet itself after a step
 
 abbrev pub frame_after : Action → List ℕ → List ℕ
-frame_after DecNwTtl frame = frame_aged frame
+frame_after DecNwTtl frame = frame_ttl_decremented frame
 frame_after other frame = rewritten other frame
 
 abbrev pub sight_after : Step → Sight → Sight
@@ -36,7 +36,7 @@ sight_after (Metadata value mask) s = record s { metadata = with_metadata value 
 sight_after (Act action) s = record s { frame = frame_after action s.frame }
 sight_after other s = s
 
--- ---- the copies that take steps before it: a group makes one for each bucket that runs, and TABLE one without metadata
+-- ---- the copies that take steps before it: a group makes one for each bucket that runs, and TABLE one with metadata 0
 
 abbrev pub group_copies : Sight → Option (List ℕ) → List Sight
 group_copies s None = []
@@ -50,7 +50,7 @@ action_copies w (Output port max_len) s = output_copies port s
 action_copies w (Group group) s = group_copies s (w.chosen group)
 action_copies w other s = []
 
--- ---- all that stand in its place
+-- ---- the packets that take its place
 
 abbrev pub after_step : TheWorld → Step → Sight → List Sight
 after_step w (Metadata value mask) s = sight_after (Metadata value mask) s ∷ []

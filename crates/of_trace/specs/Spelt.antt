@@ -1,12 +1,12 @@
 -- Steps that have a line: what is done is an action of a flow, so its numbers fit the bytes in which flow text writes them.
 use Rattle.std.specs.Prelude.{Bool, true, false, List}
 use Rattle.std.specs.List.{list_all}
-use Rattle.of_actions.specs.Served.{is_served}
+use Rattle.of_actions.specs.Supported.{is_supported}
 use Rattle.of_machine.specs.declared.data.Step.{Step}
 use Rattle.of_machine.specs.declared.data.Step.TheVariants.{Act}
 
 abbrev pub is_spelt : Step → Bool
-is_spelt (Act action) = is_served false action
+is_spelt (Act action) = is_supported false action
 is_spelt other = true
 
 abbrev pub are_spelt : List Step → Bool

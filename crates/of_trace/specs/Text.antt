@@ -10,7 +10,7 @@ use Rattle.of_text.specs.declared.row.Row.TheVariants as rows
 use Rattle.of_switch.specs.declared.effect.Effect.{Effect}
 use Rattle.of_replay.specs.Output.{text_of}
 
--- the entry of a table is named by its place by age, from 0
+-- the entry of a table is named by its index by age, from 0
 abbrev pub step_line : Step → List ℕ
 step_line (Miss table) = joined (codes "lookup" ∷ decimal table ∷ codes "miss" ∷ [])
 step_line (Entry table place) = joined (codes "lookup" ∷ decimal table ∷ codes "entry" ∷ decimal place ∷ [])

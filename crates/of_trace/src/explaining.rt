@@ -58,10 +58,10 @@ fn why_matching<L: Lookup>(
     }
 }
 
-/// Why the entry of a table at a place by age, from 0, won or did not, for a packet of these fields (OpenFlow 1.3.5, 5.3). None
+/// Why the entry of a table at an index by age, from 0, won or did not, for a packet of these fields (OpenFlow 1.3.5, 5.3). None
 /// where there is no such entry.
 ///
-/// A field that is named stands in the entry's match and does not agree with the packet's, and each field before it does. An entry
+/// A field that is named is in the entry's match and does not agree with the packet's, and each field before it does. An entry
 /// of which no field is named matches; where it did not win, the entry that is named did.
 pub fn why<L: Lookup>(switch: &Switch<L>, table: u8, key: &FieldKey, place: usize) -> Option<Reason>
     requires { table < 16 }

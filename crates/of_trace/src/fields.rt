@@ -125,7 +125,7 @@ fn is_same(old: Option<u128>, new: Option<u128>) -> bool
     }
 }
 
-// Appends the note of a field, if it is another one then.
+// Appends the note of a field, if its value changed.
 fn push_change(
     out: &mut Vec<u8>,
     old: &FieldKey,
@@ -145,7 +145,7 @@ fn push_change(
     end_note(out)
 }
 
-// Appends those of these fields that are other ones in the second key.
+// Appends those of these fields whose values differ in the second key.
 fn push_changes_of(
     out: &mut Vec<u8>,
     old: &FieldKey,
@@ -160,14 +160,14 @@ fn push_changes_of(
     Ok(())
 }
 
-/// Appends each field that is another one in the second key.
+/// Appends each field whose value differs in the second key.
 pub fn push_changes(out: &mut Vec<u8>, old: &FieldKey, new: &FieldKey) -> Result<(), AllocError>
     ensures { OnOk result (out.new.items ≡ out.old.items ++ change_notes (value old.now) (value new.now)) }
 {
     push_changes_of(out, old, new, &Field::ALL)
 }
 
-// A time to live as a wider number.
+// A TTL as a wider number.
 fn widened(ttl: Option<u8>) -> Option<u128>
     ensures { result ≡ ttl }
 {
@@ -177,7 +177,7 @@ fn widened(ttl: Option<u8>) -> Option<u128>
     }
 }
 
-// Appends a time to live, or that there is none.
+// Appends a TTL, or that there is none.
 fn push_ttl(out: &mut Vec<u8>, ttl: Option<u8>) -> Result<(), AllocError>
     ensures { OnOk result (out.new.items ≡ out.old.items ++ ttl_words ttl) }
 {
@@ -187,7 +187,7 @@ fn push_ttl(out: &mut Vec<u8>, ttl: Option<u8>) -> Result<(), AllocError>
     }
 }
 
-/// Appends the time to live, if it is another one then.
+/// Appends the TTL, if it changed.
 pub fn push_ttl_change(
     out: &mut Vec<u8>,
     old: Option<u8>,

@@ -21,7 +21,7 @@ pub fn steps_tell_packets()
         sights_of (after w k (starting (entering frame port) (Lookup 0 ∷ []))).tasks ≡ all_stepped w (after w k (starting (entering frame port) (Lookup 0 ∷ []))).lines (sight_of (entering frame port) ∷ []) }
 {}
 
-/// The text of a trace in any of its forms is the plain text with notes put in below its lines: nothing else is added, and nothing
+/// The text of a trace in any of its forms is the plain text with notes inserted below its lines: nothing else is added, and nothing
 /// is left out.
 pub fn notes_only_add()
     ensures { (form : Form) (f : Forwarding) (port : ℕ) (frame : List ℕ) (steps : List Step) (effects : List Effect) →

@@ -1,4 +1,4 @@
-//! Notes: lines behind four spaces.
+//! Notes: lines after four spaces.
 ghost use Rattle.std.specs.Prelude.{◌≡◌, ◌++◌, ◌∷◌, [], OnOk, codes, decimal};
 ghost use Rattle.of_trace.specs.Notes.{note};
 

@@ -180,7 +180,7 @@ fn push_miss_note(out: &mut Vec<u8>, table: u8) -> Result<(), AllocError>
     push_number_note(out, b"no entry matches in table", u32::from(table))
 }
 
-// Appends the notes of a step of a packet, which is another one after it.
+// Appends the notes of a step of a packet; `after` is the packet after it.
 fn push_notes<L: Lookup>(
     out: &mut Vec<u8>,
     switch: &Switch<L>,
@@ -288,11 +288,11 @@ fn push_explained<L: Lookup>(
     Ok(())
 }
 
-/// The text of a trace with notes, each on a line of its own behind four spaces. Without them it is the text that `print` gives.
+/// The text of a trace with notes, each on a line of its own after four spaces. Without them it is the text that `print` gives.
 ///
-/// Below a look-up stand the winning entry's `flow` line and `match` lines, as flow text writes them, or that no entry matches;
+/// Below a lookup come the winning entry's `flow` line and `match` lines, as flow text writes them, or that no entry matches;
 /// each field that the match of some entry of the table has, as the packet has it; and why entries won or did not, as far as it
-/// is asked. Below an action stand the fields that it changed and the time to live, why an output sends nothing, or which buckets
+/// is asked. Below an action come the fields that it changed and the TTL, why an output sends nothing, or which buckets
 /// of a group run; below the action set, that it has no output.
 /// `port` and `frame` are those of the trace.
 pub fn explain<L: Lookup>(

@@ -17,7 +17,7 @@ use std::collections::VecDeque;
 /// The packets: the first takes the next step.
 pub type Packets = VecDeque<Sight>;
 
-/// The packet of a frame that comes in by a port; none where the frame is too short or too long.
+/// The packet of a frame that is received at a port; none where the frame is too short or too long.
 pub fn enter(alloc: Global, port: u32, frame: &[u8]) -> Result<Packets, AllocError>
     ensures { IfOk result (λ packets. packets.items ≡ entered port frame.now) }
 {
@@ -32,7 +32,7 @@ pub fn enter(alloc: Global, port: u32, frame: &[u8]) -> Result<Packets, AllocErr
     Ok(packets)
 }
 
-// Puts as many copies in front.
+// Puts this many copies first.
 fn put_copies(
     alloc: Global,
     packets: &mut Packets,
@@ -49,7 +49,7 @@ fn put_copies(
     Ok(())
 }
 
-// Puts the copy in front that goes to the first table.
+// Puts the copy first that goes to the first table.
 fn put_fresh(
     alloc: Global,
     packets: &mut Packets,
@@ -66,7 +66,7 @@ fn put_fresh(
     Ok(())
 }
 
-// Puts the copies in front that an action makes.
+// Puts the copies first that an action makes.
 fn put_action_copies<L: Lookup>(
     alloc: Global,
     packets: &mut Packets,
@@ -86,7 +86,7 @@ fn put_action_copies<L: Lookup>(
     }
 }
 
-/// Puts in front what stands in a packet's place once it took a step: `after` is the packet then.
+/// Puts first what takes a packet's place once it took a step: `after` is the packet then.
 pub fn put_back<L: Lookup>(
     alloc: Global,
     packets: &mut Packets,

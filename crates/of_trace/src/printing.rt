@@ -11,7 +11,7 @@ use of_replay::push_effects;
 use of_text::{Row, push_number, push_row};
 use std::alloc::{AllocError, Global};
 
-// Appends the line of a look-up: the table, what was found, and what stands behind that.
+// Appends the line of a lookup: the table, what was found, and what follows that.
 fn push_lookup(out: &mut Vec<u8>, table: u8) -> Result<(), AllocError>
     ensures { OnOk result (out.new.items ≡ out.old.items ++ joined (codes "lookup" ∷ decimal table ∷ [])) }
 {
@@ -61,8 +61,8 @@ fn push_steps(out: &mut Vec<u8>, steps: &[Step]) -> Result<(), AllocError>
     Ok(())
 }
 
-/// The text of a trace: a line for each step, `lookup T miss`, `lookup T entry K` (the entry's place by age, from 0), `set`
-/// (the action set is taken out), `dec_nw_ttl expired`, `end`, or an instruction or an action as flow text writes it; and then
+/// The text of a trace: a line for each step, `lookup T miss`, `lookup T entry K` (the entry's index by age, from 0), `set`
+/// (the action set runs), `dec_nw_ttl expired`, `end`, or an instruction or an action as flow text writes it; and then
 /// the effects as the output of an event file, `s PORT HEX` and `a HEX`. Each line ends by LF.
 pub fn print(alloc: Global, trace: &Trace) -> Result<Vec<u8>, AllocError>
     ensures { IfOk result (λ text. text.items ≡ trace_text trace.now.steps.items trace.now.effects.items) }

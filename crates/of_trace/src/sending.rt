@@ -19,7 +19,7 @@ fn find_port(ports: &[Port], number: u32) -> Option<&Port>
     ports.iter().find(|port| port.number == number)
 }
 
-// Why a port that is there sends nothing.
+// Why a port that exists sends nothing.
 fn state_words(port: &Port) -> &'static [u8]
     ensures { result.now ≡ port_words port.now }
 {

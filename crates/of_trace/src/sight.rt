@@ -1,6 +1,6 @@
 //! What tables see of a packet, step by step.
 ghost use Rattle.std.specs.Prelude.{◌≡◌, IfOk, OnOk, IsTrue, false};
-ghost use Rattle.of_actions.specs.Served.{is_served};
+ghost use Rattle.of_actions.specs.Supported.{is_supported};
 ghost use Rattle.of_headers.specs.FieldMap.{value, field_map};
 ghost use Rattle.of_layers.specs.Reading.{layers_of};
 ghost use Rattle.of_trace.specs.Notes.{ttl_seen};
@@ -17,20 +17,20 @@ use std::alloc::{AllocError, Global};
 #[derive(Debug, Drop)]
 pub struct Sight {
     pub frame: Frame,
-    /// The number of the port by which it came in.
+    /// The number of the port at which it was received.
     pub ingress: u32,
     pub metadata: u64,
 }
 
 impl Sight {
-    /// The fields that a look-up sees.
+    /// The fields that a lookup sees.
     pub fn key(&self) -> FieldKey
         ensures { value result ≡ key_seen self.now }
     {
         key_of_frame(&self.frame, self.ingress, self.metadata)
     }
 
-    /// The time to live, if the frame has an IP layer.
+    /// The TTL, if the frame has an IP layer.
     pub fn ttl(&self) -> Option<u8>
         ensures { result ≡ ttl_seen self.now }
     {
@@ -76,7 +76,7 @@ fn key_of_frame(frame: &Frame, ingress: u32, metadata: u64) -> FieldKey
 
 // The frame that an action leaves.
 fn act_on(frame: &mut Frame, action: Action) -> Result<(), AllocError>
-    requires { IsTrue (is_served false action) }
+    requires { IsTrue (is_supported false action) }
     ensures { OnOk result (frame.new ≡ frame_after action frame.old) }
 {
     match action {

@@ -8,7 +8,7 @@ use of_switch::Effects;
 /// What a frame does, step by step, and what it gives.
 #[derive(Drop)]
 pub struct Trace {
-    /// An entry is named by its place in its table by age, from 0.
+    /// An entry is named by its index in its table by age, from 0.
     pub steps: Vec<Step>,
     pub effects: Effects,
     // each action is one of a flow

@@ -9,9 +9,9 @@ use of_machine::Steps;
 use of_switch::{Switch, SwitchError};
 use std::alloc::Global;
 
-/// The steps of a frame that comes in by a port, and the effects that `frame` would give next. Nothing changes.
+/// The steps of a frame that is received at a port, and the effects that `frame` would give next. Nothing changes.
 ///
-/// It fails where memory runs out, and else never.
+/// It fails only where memory runs out.
 pub fn trace<L: Lookup>(
     alloc: Global,
     switch: &Switch<L>,

@@ -11,7 +11,7 @@ use of_switch::{Event, PortChange, Switch, SwitchError};
 use of_text::Config;
 use std::alloc::{AllocError, Global};
 
-/// The number of the switch that frames are traced on (OpenFlow 1.3.5, 7.3.1).
+/// The datapath_id of the switch that frames are traced on (OpenFlow 1.3.5, 7.3.1).
 const DPID: u64 = 1;
 
 /// It has ports 1 to this one.
@@ -51,7 +51,7 @@ fn switch_with<L: Lookup>(alloc: Global, config: &Config) -> Result<Switch<L>, S
     Ok(switch)
 }
 
-/// Reads a flow text (docs/FLOWTEXT.md) and writes the trace of a frame that comes in by a port, in one of its forms, on a new switch with ports 1 to
+/// Reads a flow text (docs/FLOWTEXT.md) and writes the trace of a frame received at a port, in one of its forms, on a new switch with ports 1 to
 /// 64, whose links are up, and with the groups and flows of the text.
 ///
 /// The file is read whole, and nothing is written of one that is no configuration.

@@ -14,7 +14,7 @@ use of_replay::{Ended, Sink, write_all};
 use of_switch::Switch;
 use std::alloc::Global;
 
-/// Writes the text of the trace of a frame that comes in by a port, in one of its forms. Nothing changes.
+/// Writes the text of the trace of a frame received at a port, in one of its forms. Nothing changes.
 ///
 /// It ends as `Done`; as `WriteFault`, where a write failed and a prefix of the text was written; or as `NoMemory`, where nothing was.
 pub fn write_trace<L: Lookup, W: Sink>(

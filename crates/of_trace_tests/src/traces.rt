@@ -1,10 +1,11 @@
 use of_classifier::Scan;
-use of_headers::read;
+use of_headers::{FieldKey, read};
 use of_replay::memory::MemorySink;
 use of_replay::{Ended, push_effects};
-use of_switch::{PortChange, Switch};
+use of_switch::{Effect, PortChange, Switch};
 use of_trace::{Asked, Form, Reason, explain, print, trace, why, write_trace};
 use std::alloc::Global;
+use std::process::Abort;
 use std::test::Fail;
 
 /// A FLOW_MOD that adds a flow to table 0: of priority 10, for IN_PORT 1, with APPLY of OUTPUT 2.
@@ -70,77 +71,144 @@ fn opened(alloc: Global) -> Result<Switch<Scan>, Fail> {
     Ok(switch)
 }
 
-#[test]
-fn miss(rt: HostRuntime) -> Result<(), Fail> {
-    let switch = opened(rt.alloc())?;
-    let traced = trace(rt.alloc(), &switch, 1, &FRAME)?;
-    let text = print(rt.alloc(), &traced)?;
-    assert_eq!(rt; text.as_slice(), b"lookup 0 miss\nend\n".as_slice());
+/// How a trace becomes a text.
+#[derive(Clone, Copy)]
+enum Text {
+    Printed,
+    Explained,
+    Written(Form),
+}
+
+/// Why an entry won or did not.
+#[derive(Clone, Copy)]
+enum Why {
+    NoEntry,
+    Won,
+    /// A field of its match differs, of which the packet has this value.
+    Has(u128),
+}
+
+/// What is done to a switch, and what is seen of it.
+#[derive(Clone, Copy)]
+enum Step {
+    /// The flow to port 2 is added.
+    Flow,
+    /// A trace of the frame by a port.
+    Trace(u32, Text, &'static [u8]),
+    /// Why the entry of that place in table 0 won or did not, of the frame by a port.
+    Reason(u32, usize, Why),
+    /// The frame comes by a port, and has so many effects.
+    Frame(u32, usize),
+}
+
+/// The reasons of table 0 and priority 10.
+const WHY: Form = Form::Why(Asked::Priority {
+    table: 0,
+    priority: 10,
+});
+
+// A trace changes nothing: the second text is the first, and then the frame leaves as they say.
+const STEPS: &[Step] = &[
+    Step::Trace(1, Text::Printed, b"lookup 0 miss\nend\n"),
+    Step::Flow,
+    Step::Trace(1, Text::Printed, TRACED),
+    Step::Trace(1, Text::Printed, TRACED),
+    Step::Trace(1, Text::Explained, EXPLAINED),
+    Step::Trace(1, Text::Written(Form::Plain), TRACED),
+    Step::Trace(2, Text::Written(WHY), REASONED),
+    Step::Reason(1, 0, Why::Won),
+    Step::Reason(1, 1, Why::NoEntry),
+    Step::Reason(2, 0, Why::Has(2)),
+    Step::Frame(1, 1),
+];
+
+fn printed(alloc: Global, switch: &Switch<Scan>, port: u32) -> Result<Vec<u8>, Fail> {
+    let traced = trace(alloc, switch, port, &FRAME)?;
+    Ok(print(alloc, &traced)?)
+}
+
+fn explained(alloc: Global, switch: &Switch<Scan>, port: u32) -> Result<Vec<u8>, Fail> {
+    let traced = trace(alloc, switch, port, &FRAME)?;
+    Ok(explain(alloc, switch, Asked::Nothing, port, &FRAME, &traced)?)
+}
+
+fn is_written(
+    rt: &impl Abort,
+    alloc: Global,
+    place: usize,
+    switch: &Switch<Scan>,
+    port: u32,
+    form: Form,
+    text: &[u8],
+) {
+    let mut sink = MemorySink::new(alloc, 100, 0);
+    let ended = write_trace(alloc, switch, port, &FRAME, form, &mut sink);
+    assert_eq!(rt; ended, Ended::Done, "step {place}");
+    assert_eq!(rt; sink.bytes(), text, "step {place}");
+}
+
+fn is_reason(rt: &impl Abort, place: usize, reason: Option<Reason>, why: Why) {
+    match (reason, why) {
+        (None, Why::NoEntry) | (Some(Reason::Won), Why::Won) => {}
+        (Some(Reason::Differs { found, .. }), Why::Has(value)) => {
+            assert_eq!(rt; found, Some(value), "step {place}");
+        }
+        _ => assert!(rt; false, "step {place}: {reason:?}"),
+    }
+}
+
+fn key_of(port: u32) -> Result<FieldKey, Fail> {
+    Ok(read(&FRAME, port, 0).ok().ok_or("a frame")?.key())
+}
+
+fn add_flow(switch: &mut Switch<Scan>) -> Result<(), Fail> {
+    switch.feed(&TO_PORT_2)?;
+    switch.next()?;
     Ok(())
 }
 
-// The same text twice, since nothing changes, and then the frame leaves as the trace says.
-#[test]
-fn hit(rt: HostRuntime) -> Result<(), Fail> {
-    let mut switch = opened(rt.alloc())?;
-    switch.feed(&TO_PORT_2)?;
-    switch.next()?;
-    let first = trace(rt.alloc(), &switch, 1, &FRAME)?;
-    assert_eq!(rt; print(rt.alloc(), &first)?.as_slice(), TRACED);
-    let again = trace(rt.alloc(), &switch, 1, &FRAME)?;
-    assert_eq!(rt; print(rt.alloc(), &again)?.as_slice(), TRACED);
-    let effects = switch.frame(1, &FRAME)?;
-    assert_eq!(rt; effects.len(), 1);
+fn play(
+    rt: &impl Abort,
+    alloc: Global,
+    place: usize,
+    switch: &mut Switch<Scan>,
+    step: Step,
+) -> Result<(), Fail> {
+    match step {
+        Step::Flow => add_flow(switch)?,
+        Step::Trace(port, Text::Printed, text) => {
+            assert_eq!(rt;
+                printed(alloc, switch, port)?.as_slice(),
+                text,
+                "step {place}"
+            );
+        }
+        Step::Trace(port, Text::Explained, text) => {
+            assert_eq!(rt;
+                explained(alloc, switch, port)?.as_slice(),
+                text,
+                "step {place}"
+            );
+        }
+        Step::Trace(port, Text::Written(form), text) => {
+            is_written(rt, alloc, place, switch, port, form, text);
+        }
+        Step::Reason(port, entry, reason) => {
+            is_reason(rt, place, why(switch, 0, &key_of(port)?, entry), reason);
+        }
+        Step::Frame(port, count) => {
+            assert_eq!(rt; switch.frame(port, &FRAME)?.len(), count, "step {place}");
+        }
+    }
     Ok(())
 }
 
 #[test]
-fn with_notes_and_to_a_sink(rt: HostRuntime) -> Result<(), Fail> {
+fn steps(rt: HostRuntime) -> Result<(), Fail> {
     let mut switch = opened(rt.alloc())?;
-    switch.feed(&TO_PORT_2)?;
-    switch.next()?;
-    let traced = trace(rt.alloc(), &switch, 1, &FRAME)?;
-    let text = explain(rt.alloc(), &switch, Asked::Nothing, 1, &FRAME, &traced)?;
-    assert_eq!(rt; text.as_slice(), EXPLAINED);
-    let mut sink = MemorySink::new(rt.alloc(), 100, 0);
-    assert_eq!(rt;
-        write_trace(rt.alloc(), &switch, 1, &FRAME, Form::Plain, &mut sink),
-        Ended::Done
-    );
-    assert_eq!(rt; sink.bytes(), TRACED);
-    Ok(())
-}
-
-// By port 1 the entry wins, and by port 2 its field IN_PORT differs.
-#[test]
-fn reasons(rt: HostRuntime) -> Result<(), Fail> {
-    let mut switch = opened(rt.alloc())?;
-    switch.feed(&TO_PORT_2)?;
-    switch.next()?;
-    let by_1 = read(&FRAME, 1, 0).ok().ok_or("a frame")?.key();
-    assert_eq!(rt; why(&switch, 0, &by_1, 0), Some(Reason::Won));
-    assert_eq!(rt; why(&switch, 0, &by_1, 1), None);
-    let by_2 = read(&FRAME, 2, 0).ok().ok_or("a frame")?.key();
-    let reason = why(&switch, 0, &by_2, 0);
-    assert!(rt; matches!(reason, Some(Reason::Differs { found: Some(2), .. })));
-    Ok(())
-}
-
-#[test]
-fn reasons_in_words(rt: HostRuntime) -> Result<(), Fail> {
-    let mut switch = opened(rt.alloc())?;
-    switch.feed(&TO_PORT_2)?;
-    switch.next()?;
-    let asked = Asked::Priority {
-        table: 0,
-        priority: 10,
-    };
-    let mut sink = MemorySink::new(rt.alloc(), 100, 0);
-    assert_eq!(rt;
-        write_trace(rt.alloc(), &switch, 2, &FRAME, Form::Why(asked), &mut sink),
-        Ended::Done
-    );
-    assert_eq!(rt; sink.bytes(), REASONED);
+    for (place, step) in STEPS.iter().enumerate() {
+        play(&rt, rt.alloc(), place, &mut switch, *step)?;
+    }
     Ok(())
 }
 
@@ -160,24 +228,39 @@ impl Numbers {
     }
 }
 
-// Frames by any of three ports, of which the third is not there: what a trace says is what the frame does next.
+fn text_of(alloc: Global, effects: &[Effect]) -> Result<Vec<u8>, Fail> {
+    let mut text = Vec::new(alloc);
+    push_effects(alloc, &mut text, effects)?;
+    Ok(text)
+}
+
+// What a trace says is what the frame does next.
+fn tells(
+    rt: &impl Abort,
+    alloc: Global,
+    switch: &mut Switch<Scan>,
+    port: u32,
+    frame: &[u8],
+) -> Result<(), Fail> {
+    let told = trace(alloc, switch, port, frame)?;
+    let told = text_of(alloc, &told.effects)?;
+    let done = switch.frame(port, frame)?;
+    let done = text_of(alloc, &done)?;
+    assert_eq!(rt; told.as_slice(), done.as_slice(), "port {port}");
+    Ok(())
+}
+
+// Frames by any of three ports, of which the third is not there.
 #[test]
 fn traces_tell_what_frames_do(rt: HostRuntime) -> Result<(), Fail> {
     let mut switch = opened(rt.alloc())?;
-    switch.feed(&TO_PORT_2)?;
-    switch.next()?;
+    add_flow(&mut switch)?;
     let mut numbers = Numbers { state: 1 };
     for _ in 0..50 {
         let port = (numbers.next() % 3) as u32 + 1;
         let mut frame = FRAME;
         frame[13] = (numbers.next() % 256) as u8;
-        let told = trace(rt.alloc(), &switch, port, &frame)?;
-        let done = switch.frame(port, &frame)?;
-        let mut told_text = Vec::new(rt.alloc());
-        push_effects(rt.alloc(), &mut told_text, &told.effects)?;
-        let mut done_text = Vec::new(rt.alloc());
-        push_effects(rt.alloc(), &mut done_text, &done)?;
-        assert_eq!(rt; told_text.as_slice(), done_text.as_slice());
+        tells(&rt, rt.alloc(), &mut switch, port, &frame)?;
     }
     Ok(())
 }

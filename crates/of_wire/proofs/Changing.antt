@@ -2,7 +2,7 @@
 use Rattle.std.proofs.Common.{◌≡◌, ℕ, zero, suc, ◌+◌, ◌<◌, List, [], ◌∷◌, ◌++◌, length, get_or, set, take, drop, refl, ◌∙◌, ap, arith, add-one}
 use Rattle.std.specs.Prelude.{map}
 
--- the first so many were changed
+-- the first n were changed
 abbrev pub changed_to : {X : Type 0} → (X → X) → ℕ → List X → List X
 changed_to f i xs = map f (take i xs) ++ drop i xs
 

@@ -1,10 +1,10 @@
--- Lists whose elements have numbers, after elements come, go and move.
+-- Lists whose elements have numbers, after elements are added, removed and moved.
 use Rattle.std.proofs.Common.{◌≡◌, ℕ, ◌<◌, suc, zero, Bool, true, false, not, cond, eqb, List, [], ◌∷◌, ◌++◌, length, get_or, refl, sym, ap, arith}
 use Rattle.std.specs.Prelude.{remove, map, filter}
 use Rattle.std.proofs.lemmas.Bool.Decides.{nat_tests, eqb_tells}
 use Rattle.std.proofs.lemmas.List.Folds.{list_any-append}
 use Rattle.std.proofs.lemmas.List.{append-nil, map-append}
-use Rattle.of_wire.specs.Numbered.{is_used, is_distinct, without, only, renewed}
+use Rattle.of_wire.specs.Numbered.{is_used, is_distinct, without, only, moved_to_end}
 
 -- ---- one more element
 
@@ -68,27 +68,27 @@ moved f (x ∷ xs) (suc k) d distinct lt =
 
 -- ---- renewed
 
-pub renewed_at : {X : Type 0} (f : X → ℕ) (xs : List X) (k : ℕ) (d : X) (n : ℕ) → is_distinct f xs ≡ true → k < length xs → f (get_or xs k d) ≡ n → remove xs k ++ get_or xs k d ∷ [] ≡ renewed f n xs
+pub renewed_at : {X : Type 0} (f : X → ℕ) (xs : List X) (k : ℕ) (d : X) (n : ℕ) → is_distinct f xs ≡ true → k < length xs → f (get_or xs k d) ≡ n → remove xs k ++ get_or xs k d ∷ [] ≡ moved_to_end f n xs
 renewed_at f xs k d n distinct lt e =
     let m = moved f xs k d distinct lt in
     rw (m.0, m.1, e) refl
 
-pub renewed_unused : {X : Type 0} (f : X → ℕ) (xs : List X) (n : ℕ) → is_used f n xs ≡ false → xs ≡ renewed f n xs
+pub renewed_unused : {X : Type 0} (f : X → ℕ) (xs : List X) (n : ℕ) → is_used f n xs ≡ false → xs ≡ moved_to_end f n xs
 renewed_unused f xs n u = rw (without_unused f n xs u, only_unused f n xs u) (sym (append-nil xs))
 
-distinct_by : {X : Type 0} (f : X → ℕ) (x : X) (xs : List X) (n : ℕ) (b : Bool) → eqb (f x) n ≡ b → is_distinct f (x ∷ xs) ≡ true → is_distinct f (renewed f n xs) ≡ true → is_distinct f (renewed f n (x ∷ xs)) ≡ true
+distinct_by : {X : Type 0} (f : X → ℕ) (x : X) (xs : List X) (n : ℕ) (b : Bool) → eqb (f x) n ≡ b → is_distinct f (x ∷ xs) ≡ true → is_distinct f (moved_to_end f n xs) ≡ true → is_distinct f (moved_to_end f n (x ∷ xs)) ≡ true
 distinct_by f x xs n true e d h =
     let same : f x ≡ n = grind (arith, nat_tests) in
     let unused : is_used f n xs ≡ false = grind (arith, nat_tests) in
     rw (e, only_unused f n xs unused) (distinct-push f (without f n xs) x (distinct-without f n xs (grind (arith, nat_tests))) (rw same (unused_itself-without f n xs)))
 distinct_by f x xs n false e d h =
     let unused : is_used f (f x) xs ≡ false = grind (arith, nat_tests) in
-    let nowhere : is_used f (f x) (renewed f n xs) ≡ false = rw (list_any-append (λ y. eqb (f y) (f x)) (without f n xs) (only f n xs), unused-without f (f x) n xs unused) (unused-only f (f x) n xs unused) in
+    let nowhere : is_used f (f x) (moved_to_end f n xs) ≡ false = rw (list_any-append (λ y. eqb (f y) (f x)) (without f n xs) (only f n xs), unused-without f (f x) n xs unused) (unused-only f (f x) n xs unused) in
     rw (e, nowhere) h
 
-pub distinct-renewed : {X : Type 0} (f : X → ℕ) (n : ℕ) (xs : List X) → is_distinct f xs ≡ true → is_distinct f (renewed f n xs) ≡ true
-distinct-renewed f n [] d = refl
-distinct-renewed f n (x ∷ xs) d = distinct_by f x xs n (eqb (f x) n) refl d (distinct-renewed f n xs (grind (arith, nat_tests)))
+pub distinct-moved_to_end : {X : Type 0} (f : X → ℕ) (n : ℕ) (xs : List X) → is_distinct f xs ≡ true → is_distinct f (moved_to_end f n xs) ≡ true
+distinct-moved_to_end f n [] d = refl
+distinct-moved_to_end f n (x ∷ xs) d = distinct_by f x xs n (eqb (f x) n) refl d (distinct-moved_to_end f n xs (grind (arith, nat_tests)))
 
 -- ---- a list seen through a function that keeps the numbers
 
@@ -114,5 +114,5 @@ without-map g f n xs = filter-map g (λ y. not (eqb (f y) n)) xs
 pub only-map : {X Y : Type 0} (g : X → Y) (f : Y → ℕ) (n : ℕ) (xs : List X) → only f n (map g xs) ≡ map g (only (λ x. f (g x)) n xs)
 only-map g f n xs = filter-map g (λ y. eqb (f y) n) xs
 
-pub renewed-map : {X Y : Type 0} (g : X → Y) (f : Y → ℕ) (n : ℕ) (xs : List X) → renewed f n (map g xs) ≡ map g (renewed (λ x. f (g x)) n xs)
-renewed-map g f n xs = rw (without-map g f n xs, only-map g f n xs) (sym (map-append g (without (λ x. f (g x)) n xs) (only (λ x. f (g x)) n xs)))
+pub moved_to_end-map : {X Y : Type 0} (g : X → Y) (f : Y → ℕ) (n : ℕ) (xs : List X) → moved_to_end f n (map g xs) ≡ map g (moved_to_end (λ x. f (g x)) n xs)
+moved_to_end-map g f n xs = rw (without-map g f n xs, only-map g f n xs) (sym (map-append g (without (λ x. f (g x)) n xs) (only (λ x. f (g x)) n xs)))

@@ -1,9 +1,9 @@
--- Items one after the other, each in the place where it stands, until the bytes end or an item is refused.
+-- Items one after the other, each judged by those before it, until the bytes end or an item is refused.
 use Rattle.std.specs.Prelude.{◌≡◌, ◌<◌, ℕ, zero, suc, Bool, List, [], ◌∷◌, ◌++◌, length, drop, Option, Some, None, IsSome, Result, Ok, Err}
 use Rattle.of_wire.specs.declared.code.Code.{Code}
 use Rattle.of_wire.specs.Refusals.{first_of}
 
--- What a kind of items is: the refusals of what stands at the front where these values stand before it, what an item that is not refused stands for, and its size.
+-- A kind of items: the refusals of the item that bytes begin with, after given values; the value of an item that is not refused; and its size.
 pub record Items (V : Type 0) : Type 0 where
   pub refusals : List V → List ℕ → List (Bool × Code)
   pub value_at : List ℕ → Option V
@@ -14,13 +14,13 @@ abbrev pub IsEnd : {V : Type 0} → Items V → List V → List ℕ → Option C
 IsEnd kind seen [] fault = fault ≡ None
 IsEnd kind seen (b ∷ bs) fault = (first_of (kind.refusals seen (b ∷ bs)) ≡ fault) × IsSome fault
 
--- after the values `seen`, bytes are these values, and then they end or have a fault: at the front stands the first, no refusal applies there, and what follows it is the others
+-- after the values `seen`, bytes are these values, and then they end or have a fault: bytes begin with the first, which is not refused, and what follows it is the others
 abbrev pub AreItems : {V : Type 0} → Items V → List V → List ℕ → List V → Option Code → Type 0
 AreItems kind seen bytes [] fault = IsEnd kind seen bytes fault
 AreItems kind seen bytes (v ∷ vs) fault =
     (0 < length bytes) × (first_of (kind.refusals seen bytes) ≡ None) × (kind.value_at bytes ≡ Some v) × AreItems kind (seen ++ v ∷ []) (drop (kind.size_at bytes) bytes) vs fault
 
--- The same as a function, at most so many items: the values, or the code of the first item that is refused.
+-- The same as a function, at most n items: the values, or the code of the first item that is refused.
 abbrev pub item_then : {V : Type 0} → Items V → (List V → List ℕ → Result (List V) Code) → List V → List ℕ → Option Code → Option V → Result (List V) Code
 item_then kind others seen bytes (Some code) value = Err code
 item_then kind others seen bytes None (Some v) = others (seen ++ v ∷ []) (drop (kind.size_at bytes) bytes)

@@ -6,7 +6,7 @@ use Rattle.std.specs.List.{list_any}
 abbrev pub is_used : {X : Type 0} → (X → ℕ) → ℕ → List X → Bool
 is_used number_of number xs = list_any (λ x. number_of x == number) xs
 
--- no two elements have one number
+-- no two elements have the same number
 abbrev pub is_distinct : {X : Type 0} → (X → ℕ) → List X → Bool
 is_distinct number_of [] = true
 is_distinct number_of (x ∷ xs) = not (is_used number_of (number_of x) xs) && is_distinct number_of xs
@@ -18,6 +18,6 @@ without number_of number xs = filter (λ x. not (number_of x == number)) xs
 abbrev pub only : {X : Type 0} → (X → ℕ) → ℕ → List X → List X
 only number_of number xs = filter (λ x. number_of x == number) xs
 
--- the element of that number comes last
-abbrev pub renewed : {X : Type 0} → (X → ℕ) → ℕ → List X → List X
-renewed number_of number xs = without number_of number xs ++ only number_of number xs
+-- the element of that number moves to the end
+abbrev pub moved_to_end : {X : Type 0} → (X → ℕ) → ℕ → List X → List X
+moved_to_end number_of number xs = without number_of number xs ++ only number_of number xs

@@ -1,4 +1,4 @@
--- The numbers of the reasons that the switch tells (OpenFlow 1.3.5, 7.4.1 and 7.4.2). In a mask of what a controller wants to hear, a reason is the bit of its number (7.3.10).
+-- The numbers of the reasons of asynchronous messages (OpenFlow 1.3.5, 7.4.1 and 7.4.2). In a controller's mask, a reason is the bit of its number (7.3.10).
 use Rattle.std.specs.Prelude.{ℕ}
 use Rattle.of_wire.specs.declared.reasons.PacketInReason.{PacketInReason}
 use Rattle.of_wire.specs.declared.reasons.PacketInReason.TheVariants.{NoMatch, Action, InvalidTtl}

@@ -1,15 +1,15 @@
-//! Why the switch tells a controller what it did not ask for.
+//! The reasons of asynchronous messages.
 ghost use Rattle.std.specs.Prelude.{◌≡◌, ◌^◌};
 ghost use Rattle.of_wire.specs.Reasons.{flow_removed_number, packet_in_number};
 
 /// Why a packet is sent to the controller (OpenFlow 1.3.5, 7.4.1).
 #[derive(Clone, Copy, Debug, PartialEq, Eq)]
 pub enum PacketInReason {
-    /// OFPR_NO_MATCH: the table-miss entry sent it.
+    /// OFPR_NO_MATCH: the table-miss flow entry sent it.
     NoMatch,
     /// OFPR_ACTION: another OUTPUT to the controller sent it.
     Action,
-    /// OFPR_INVALID_TTL: its time to live is over.
+    /// OFPR_INVALID_TTL: its TTL expired.
     InvalidTtl,
 }
 
@@ -25,7 +25,7 @@ impl PacketInReason {
         }
     }
 
-    /// Its bit in the mask of the PACKET_INs that a controller wants (OpenFlow 1.3.5, 7.3.10).
+    /// Its bit in a controller's mask of PACKET_INs (OpenFlow 1.3.5, 7.3.10).
     pub fn bit(self) -> u32
         ensures { result ≡ 2 ^ packet_in_number self }
     {
@@ -63,7 +63,7 @@ impl FlowRemovedReason {
         }
     }
 
-    /// Its bit in the mask of the FLOW_REMOVEDs that a controller wants (OpenFlow 1.3.5, 7.3.10).
+    /// Its bit in a controller's mask of FLOW_REMOVEDs (OpenFlow 1.3.5, 7.3.10).
     pub fn bit(self) -> u32
         ensures { result ≡ 2 ^ flow_removed_number self }
     {

@@ -18,7 +18,7 @@ struct Refused {
 #[derive(Drop)]
 pub struct Refusals {
     rows: Vec<Refused>,
-    // so many of them were said
+    // how many of them were printed
     said: usize,
 }
 
@@ -75,7 +75,7 @@ impl Refusals {
         Some(Refusals { rows, said: 0 })
     }
 
-    /// The clock tells this time: says the rows that are due by now.
+    /// The clock says this time: prints the rows that are due by now.
     pub fn say(&mut self, rt: &HostRuntime, now: u64) {
         let mut said = self.said;
         for row in self.rows.iter().skip(self.said) {

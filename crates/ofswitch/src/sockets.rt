@@ -10,10 +10,10 @@ use std::net::{SocketAddr, TcpListener, TcpStream};
 use std::thread;
 use std::time::{Duration, Instant};
 
-/// A read waits so many milliseconds, so that flows expire and frames of the event file come in time.
+/// How many milliseconds a read waits, so that flows expire and frames of the event file are received in time.
 const READ_WAIT: u64 = 10;
 
-/// A call of a controller waits so many milliseconds for its answer.
+/// How many milliseconds a call of a controller waits for its answer.
 const DIAL_WAIT: u64 = 5_000;
 
 /// The first pause between two calls, in milliseconds, which doubles up to the longest.
@@ -59,7 +59,7 @@ impl Door {
     }
 }
 
-/// Controllers that connect by TCP, or one that is dialed. What they sent and took is not told.
+/// Controllers that connect by TCP, or one that is dialed. What they sent and took is not recorded.
 #[derive(Drop)]
 pub struct Sockets<'r> {
     rt: &'r HostRuntime,
@@ -208,12 +208,12 @@ impl Peers for Sockets<'_> {
     }
 }
 
-/// The machine's clock, from its making on. What it told is not kept.
+/// The machine's clock, from its creation on. What it said is not kept.
 #[derive(Drop)]
 pub struct MachineClock<'r> {
     rt: &'r HostRuntime,
     start: Option<Instant>,
-    // what it told last
+    // what it said last
     last: u64,
     // those of the event file, to be said when their time has come
     refusals: Option<Refusals>,

@@ -1,7 +1,7 @@
 //! A second classifier, for the tests alone: its list is the other way round.
 ghost use Rattle.std.specs.Prelude.{◌≡◌, ◌==◌, IsTrue, Some, MatchOption, nat_lt, reverse, position, if◌then◌else◌};
 ghost use Rattle.of_headers.specs.FieldMap.{value};
-ghost use Rattle.of_wire.specs.Numbered.{is_distinct, without, renewed};
+ghost use Rattle.of_wire.specs.Numbered.{is_distinct, without, moved_to_end};
 ghost use Rattle.of_classifier.specs.declared.Row.{Row};
 ghost use Rattle.of_classifier.specs.Rows.{row_number};
 ghost use Rattle.of_classifier.specs.Winner.{winner_of, number_of};
@@ -14,7 +14,7 @@ use slab::Slab;
 use std::alloc::{AllocError, Global};
 use std::marker::Model;
 
-/// The entries in a list, youngest first. A slab gives out their numbers.
+/// The entries in a list, youngest first. A slab assigns their numbers.
 #[derive(Drop)]
 pub struct Backwards {
     rows: Vec<Row>,
@@ -123,7 +123,7 @@ fn remove_row(rows: &mut Vec<Row>, number: usize)
 
 fn renew_row(rows: &mut Vec<Row>, number: usize)
     requires { IsTrue (is_distinct row_number (reverse rows.old.items)) }
-    ensures { reverse rows.new.items ≡ renewed row_number number (reverse rows.old.items) }
+    ensures { reverse rows.new.items ≡ moved_to_end row_number number (reverse rows.old.items) }
 {
     match place_of(rows, number) {
         Some(place) => {

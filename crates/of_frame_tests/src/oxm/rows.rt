@@ -25,6 +25,8 @@ pub const REFUSED: &str = "
 
 /// The bytes, and what is written of the match that is read from them.
 pub const WRITTEN: &str = "
+# port 1
+0001000c 80000004 00000001 00000000 | 0001000c 80000004 00000001 00000000
 # priority of what may have no tag
 00010011 80000d0410001000 80000e0105 00000000000000 | 00010011 80000d0410001000 80000e0105 00000000000000
 # fields are written by number

@@ -135,3 +135,19 @@ pub const REFUSED_SLAVE: &str = "
 # what a slave may send is refused as for others
 0409000c00000009 0001 ffff | 10 0
 ";
+
+/// Datapath id, no buffers, 16 tables, no auxiliary id, and capabilities.
+pub const FEATURES_REPLY: &str =
+    "0406002000000004 0102030405060708 00000000 10 00 0000 0000000f 00000000";
+
+pub const CONFIG_REPLY: &str = "0408000c00000005 0000 0080";
+
+/// Of a master, with a generation.
+pub const MASTER_REPLY: &str = "0419001800000006 00000002 00000000 0000000000000007";
+
+/// Of an equal, where there is no generation.
+pub const EQUAL_REPLY: &str = "0419001800000006 00000001 00000000 ffffffffffffffff";
+
+/// Of PACKET_IN, PORT_STATUS and FLOW_REMOVED, each for a master and a slave.
+pub const ASYNC_REPLY: &str =
+    "041b002000000008 00000007 00000000 00000006 00000005 0000000f 00000001";

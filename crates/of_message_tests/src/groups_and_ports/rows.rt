@@ -1,4 +1,4 @@
-//! GROUP_MOD and PORT_MOD on the wire (OpenFlow 1.3.5, 7.3.4.2 and 7.3.4.3): what is refused with which type and code.
+//! GROUP_MOD and PORT_MOD on the wire (OpenFlow 1.3.5, 7.3.4.2 and 7.3.4.3): what is refused with which type and code, and what is read.
 
 /// Whole messages, and the type and code with which they are refused.
 pub const REFUSED: &str = "
@@ -38,4 +38,34 @@ pub const REFUSED: &str = "
 0410002800000009 00000002 00000000 0200000000a2 0000 00000000 00000002 00000000 00000000 | 7 2
 # mask of a known and an unknown bit
 0410002800000009 00000002 00000000 0200000000a2 0000 00000000 80000001 00000000 00000000 | 7 2
+";
+
+/// Whole messages, and what they say: the type, the command and the number of the group.
+pub const READ: &str = "
+# modify of a group that selects by its type
+040f001000000009 0001 0200 00000001 | 15 1 1
+# delete of a group, whose type does not count, with a byte behind it
+040f001100000009 0002 0900 ffffff00 63 | 15 2 4294967040
+# delete of all
+040f001000000009 0002 0000 fffffffc | 15 2
+";
+
+/// An add of group 16: a bucket of weight 5 that goes with port 2, and one that goes with group 7.
+pub const ADD: &str = "
+040f004800000009 0000 0300 00000010
+0020 0005 00000002 ffffffff 00000000
+00000010000000020000000000000000
+0018 0000 ffffffff 00000007 00000000
+0016000800000007
+";
+
+/// A port mod: the port, its address, configuration, mask and features.
+pub const PORT_MOD: &str =
+    "0410002800000009 00000002 01010101 0200000000a2 0101 00000001 00000065 0000200f 01010101";
+
+/// A port status: the reason, the port, its address, name, configuration, state, features and speeds.
+pub const PORT_STATUS: &str = "
+040c005000000000 02 00000000000000 00000002 00000000 0200000000a2 0000
+70320000000000000000000000000000 00000000 00000001
+00000000 00000000 00000000 00000000 00000000 00000000
 ";

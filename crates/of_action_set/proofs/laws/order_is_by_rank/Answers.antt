@@ -2,13 +2,13 @@ use Rattle.std.proofs.Common.{◌≡◌, ℕ, Bool, true, false, cond, eqb, List
 use Rattle.std.specs.Prelude.{Option, None}
 use Rattle.std.specs.List.{list_any}
 use Rattle.of_actions.specs.declared.action.Action.{Action}
-use Rattle.of_actions.specs.Rising.{is_rising}
+use Rattle.of_actions.specs.Rising.{is_ascending}
 use Rattle.of_action_set.specs.Sets.{rank, is_group, is_output, in_order, held}
 use Rattle.of_action_set.proofs.Ranked.{rising-filter}
 use Rattle.of_action_set.proofs.Kinded.{few, find_not_output}
 use Rattle.of_action_set.proofs.laws.order_is_by_rank.Goals as goal
 
-rising_by : (set : List Action) (b : Bool) → list_any is_group set ≡ b → is_rising rank set ≡ true → is_rising rank (in_order set) ≡ true
+rising_by : (set : List Action) (b : Bool) → list_any is_group set ≡ b → is_ascending rank set ≡ true → is_ascending rank (in_order set) ≡ true
 rising_by set true is r = rw is (rising-filter rank (λ a. not (is_output a)) set r)
 rising_by set false is r = rw is r
 

@@ -3,7 +3,7 @@ use Rattle.std.specs.Prelude.{IsTrue}
 use Rattle.std.proofs.lemmas.List.{drop_all}
 use Rattle.std.proofs.lemmas.Result.{err_from_is_err_and, on_ok_weaker, on_err_weaker}
 use Rattle.of_actions.specs.declared.action.Action.TheVariants.{Output}
-use Rattle.of_actions.specs.Served.{is_served}
+use Rattle.of_actions.specs.Supported.{is_supported}
 use Rattle.of_action_set.specs.Sets.{in_order}
 use Rattle.of_machine.specs.declared.data.Packet.{Packet}
 use Rattle.of_machine.specs.Sound.{IsBelow, AllBelow}
@@ -36,8 +36,8 @@ act-returns-in_ok-step-in_default g t c =
 
 pub act_all-act-requires : goal.act_all-act-requires
 act_all-act-requires g t c κs lives =
-    let served : IsTrue (is_served false (get_or c.args.actions.now c.loop-action.action-index (Output 0 0))) =
-    all_at (is_served false) c.args.actions.now c.loop-action.action-index (Output 0 0) c.requires.served c.loop-action-test.true in
+    let served : IsTrue (is_supported false (get_or c.args.actions.now c.loop-action.action-index (Output 0 0))) =
+    all_at (is_supported false) c.args.actions.now c.loop-action.action-index (Output 0 0) c.requires.served c.loop-action-test.true in
     let below : IsBelow (g.W.World.view c.args.world.now) (c.args.levels + 1) (get_or c.args.actions.now c.loop-action.action-index (Output 0 0)) =
     below_at (g.W.World.view c.args.world.now) (c.args.levels + 1) c.args.actions.now c.loop-action.action-index (Output 0 0) c.requires.below c.loop-action-test.true in
     search rules

@@ -1,7 +1,7 @@
 use Rattle.std.proofs.Common.{◌+◌, ◌++◌, true, drop}
 use Rattle.std.proofs.lemmas.Result.{err_from_is_err_and}
 use Rattle.of_actions.specs.declared.action.Action.TheVariants.{Output}
-use Rattle.of_actions.specs.Served.{is_served}
+use Rattle.of_actions.specs.Supported.{is_supported}
 use Rattle.of_machine.specs.Rows.{acts}
 use Rattle.of_machine.proofs.Promises.{all_at}
 use Rattle.of_machine.proofs.Moving.{acts_at}
@@ -9,7 +9,7 @@ use Rattle.of_machine.proofs.runs.act_all_outside.Goals as goal
 
 pub act_outside-requires-clause-served : goal.act_outside-requires-clause-served
 act_outside-requires-clause-served g c =
-    all_at (is_served true) c.args.actions.now c.loop-action.action-index (Output 0 0) c.requires.served c.loop-action-test.true
+    all_at (is_supported true) c.args.actions.now c.loop-action.action-index (Output 0 0) c.requires.served c.loop-action-test.true
 
 pub returns-in_err-act_outside-clause-err : goal.returns-in_err-act_outside-clause-err
 returns-in_err-act_outside-clause-err g c =

@@ -1,12 +1,12 @@
 use Rattle.std.proofs.Common.{[], ◌∷◌, ◌++◌}
 use Rattle.std.specs.Prelude.{replicate}
 use Rattle.byteorder.specs.Endian.{big_bytes}
-use Rattle.of_messages.specs.Written.{command_number, flow_mod_front}
+use Rattle.of_messages.specs.Written.{command_number, flow_mod_fixed_part}
 use Rattle.of_messages.proofs.Appended.{both_halves}
 use Rattle.of_messages.proofs.flow_mod_writing.put_front.Goals as goal
 
 pub returns : goal.returns
-unfolding flow_mod_front
+unfolding flow_mod_fixed_part
 returns c =
     let m = c.args.m.now in
     both_halves c.put_tail.result c.args.out.now.items c.put_tail.new.out.items (big_bytes 8 m.cookie) (big_bytes 8 m.cookie_mask) (m.table ∷ command_number m.command ∷ []) (big_bytes 2 m.idle_timeout) (big_bytes 2 m.hard_timeout)

@@ -1,10 +1,10 @@
 -- The parts are written in the order of the definition.
-use Rattle.of_messages.specs.Written.{flow_removed_front}
+use Rattle.of_messages.specs.Written.{flow_removed_fixed_part}
 use Rattle.of_messages.proofs.Appended.{nine_parts}
 use Rattle.of_messages.proofs.writing.put_flow_removed.Goals as goal
 
 pub returns : goal.returns
-unfolding flow_removed_front
+unfolding flow_removed_fixed_part
 returns c =
     rw (← c.number.ensures)
     (nine_parts c.put_u64-3.result _ _ _ _ _ _ _ _ _ _ _

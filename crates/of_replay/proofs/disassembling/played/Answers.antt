@@ -1,7 +1,7 @@
 use Rattle.std.proofs.Common.{refl}
 use Rattle.of_replay.proofs.FileLemmas.{faults_nothing}
 use Rattle.of_replay.proofs.DisLemmas.{played_nothing, played_not, faults_unplayed}
-use Rattle.of_replay.specs.Tales.{plain}
+use Rattle.of_replay.specs.RowTexts.{plain}
 use Rattle.of_replay.proofs.disassembling.played.Goals as goal
 
 pub returns-in_default-clause-played : goal.returns-in_default-clause-played

@@ -1,5 +1,5 @@
 use Rattle.std.proofs.Common.{◌≡◌, ◌≤◌, ◌+◌}
-use Rattle.of_serve.specs.Turns.{empty_handed, standing}
+use Rattle.of_serve.specs.Turns.{nothing_pending, standing}
 use Rattle.of_serve.specs.Serves.{tells}
 use Rattle.of_serve.specs.Gathering.{SoFar}
 use Rattle.of_serve.proofs.serving.take_turns.Given as goal
@@ -10,7 +10,7 @@ invariant-loop g l = record {
   accept_failures : g.P.Peers.accept_failures l.peers ≡ 0;
   write_failures : g.P.Peers.write_failures l.peers ≤ l.counter;
   writes : g.K.Sink.failures l.out ≡ 0;
-  empty : l.gathering ≡ empty_handed l.gathering.state;
+  empty : l.gathering ≡ nothing_pending l.gathering.state;
   so_far : SoFar l.counter (standing l.fn.gathering.state l.fn.rows) l.gathering l.rows (tells (g.P.Peers.came l.fn.peers) (g.C.Clock.times l.fn.clock) (g.P.Peers.took l.fn.peers) (g.K.Sink.taken l.fn.out))
       (tells (g.P.Peers.came l.peers) (g.C.Clock.times l.clock) (g.P.Peers.took l.peers) (g.K.Sink.taken l.out));
 }

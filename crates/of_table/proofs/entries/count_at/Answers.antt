@@ -18,7 +18,7 @@ returns-clause-flows c =
     let long : length (drop r xs) ≡ length xs - r = length-drop r xs in
     let within : c.args.place < length (drop r xs) = omega (arith, long, c.requires) in
     let there = at_behind xs r c.args.place c.index_mut-entry.result.now c.index_mut-entry.ensures.value in
-    rw (c.risen-entry.ensures, c.risen-entry-2.ensures)
+    rw (c.incremented-entry.ensures, c.incremented-entry-2.ensures)
     (ap flows_of (drop-set-add r xs c.args.place _) ∙ counted-set c.args.now c.args.bytes (drop r xs) c.args.place _ c.index_mut-entry.result.now within (ap (λ (e : Entry). counted c.args.now c.args.bytes (entry_of e)) there))
 
 pub returns-clause-numbers : goal.returns-clause-numbers

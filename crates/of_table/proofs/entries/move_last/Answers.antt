@@ -1,5 +1,5 @@
 use Rattle.std.proofs.Common.{ℕ, ◌∙◌, sym, ap}
-use Rattle.of_wire.specs.Numbered.{renewed}
+use Rattle.of_wire.specs.Numbered.{moved_to_end}
 use Rattle.of_classifier.specs.Rows.{row_number}
 use Rattle.of_table.specs.Entries.{entry_of, rows_of}
 use Rattle.of_table.proofs.PlaceLemmas.{position_some}
@@ -21,7 +21,7 @@ returns-clause-rows c =
     let f = c.replaced_entry-entry.result in
     let s = position_some (λ x. is_same c.args.flow (entry_of x)) es c.args.place c.requires.same in
     let same = row_again c.args.flow es c.args.place e f c.requires.same c.remove-old.ensures.value c.replaced_entry-entry.ensures.number (flow_is c.args.now c.args.flow f (entry_of e) c.replaced_entry-entry.ensures.entry) in
-    rw (c.push_reserved.ensures.items, c.remove-old.ensures.items) (rows_again es c.args.place e f c.requires.distinct s.1 c.remove-old.ensures.value same ∙ ap (λ (n : ℕ). renewed row_number n (rows_of es)) (sym c.replaced_entry-entry.ensures.number))
+    rw (c.push_reserved.ensures.items, c.remove-old.ensures.items) (rows_again es c.args.place e f c.requires.distinct s.1 c.remove-old.ensures.value same ∙ ap (λ (n : ℕ). moved_to_end row_number n (rows_of es)) (sym c.replaced_entry-entry.ensures.number))
 
 pub returns-clause-named : goal.returns-clause-named
 returns-clause-named c = same_number c.args.flow c.args.entries.now.items c.args.place c.remove-old.result c.replaced_entry-entry.result.number c.requires.same c.remove-old.ensures.value c.replaced_entry-entry.ensures.number

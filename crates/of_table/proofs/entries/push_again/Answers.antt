@@ -1,6 +1,6 @@
 use Rattle.std.proofs.Common.{◌≡◌, ℕ, ◌+◌, ◌∙◌, List, [], ◌∷◌, ◌++◌, length, sym, ap, drop, arith}
 use Rattle.std.proofs.lemmas.List.{length-append}
-use Rattle.of_wire.specs.Numbered.{renewed}
+use Rattle.of_wire.specs.Numbered.{moved_to_end}
 use Rattle.of_classifier.specs.Rows.{row_number}
 use Rattle.of_table.specs.declared.entry.Entry.{Entry}
 use Rattle.of_table.specs.Entries.{entry_of, rows_of}
@@ -29,7 +29,7 @@ returns-clause-rows c =
     let same = row_again c.args.flow es 0 e f c.requires.same there c.replaced_entry-again.ensures.number (flow_is c.args.now c.args.flow f (entry_of e) c.replaced_entry-again.ensures.entry) in
     ap (λ (ys : List Entry). rows_of (drop (c.args.replaced + 1) ys)) c.push_reserved.ensures.items
     ∙ ap rows_of (one_replaced xs c.args.replaced f c.requires.within)
-    ∙ rows_again es 0 e f c.requires.distinct s.1 there same ∙ ap (λ (n : ℕ). renewed row_number n (rows_of es)) (sym c.replaced_entry-again.ensures.number)
+    ∙ rows_again es 0 e f c.requires.distinct s.1 there same ∙ ap (λ (n : ℕ). moved_to_end row_number n (rows_of es)) (sym c.replaced_entry-again.ensures.number)
 
 pub returns-clause-named : goal.returns-clause-named
 returns-clause-named c =

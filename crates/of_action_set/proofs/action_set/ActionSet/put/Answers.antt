@@ -1,5 +1,5 @@
 use Rattle.std.proofs.Common.{◌≡◌, refl, false}
-use Rattle.of_actions.specs.Served.{is_served}
+use Rattle.of_actions.specs.Supported.{is_supported}
 use Rattle.of_action_set.specs.Sets.{rank, with_action}
 use Rattle.of_action_set.specs.Storage.{stored}
 use Rattle.of_action_set.proofs.Ranked.{rising_put, all_put}
@@ -20,7 +20,7 @@ invariant_of-self c =
     let now : c.put_in.new.actions.items ≡ with_action (stored c.self.inside.actions) c.args.action = rw (← c.self.view_is) at (is_put c) in
     rw now (
       rising_put rank c.args.action (stored c.self.inside.actions) c.self.invariant.0,
-      all_put rank (is_served false) c.args.action (stored c.self.inside.actions) c.requires c.self.invariant.1,
+      all_put rank (is_supported false) c.args.action (stored c.self.inside.actions) c.requires c.self.invariant.1,
     )
 
 pub returns : goal.returns

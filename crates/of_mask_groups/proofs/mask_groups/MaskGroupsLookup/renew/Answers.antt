@@ -1,6 +1,6 @@
 use Rattle.std.proofs.Common.{◌≡◌, true, List, Some, refl, sym, ◌∙◌, ap, subst}
 use Rattle.slab.specs.Slab.{Slab, Updates}
-use Rattle.of_wire.specs.Numbered.{is_used, renewed}
+use Rattle.of_wire.specs.Numbered.{is_used, moved_to_end}
 use Rattle.of_classifier.specs.declared.Row.{Row}
 use Rattle.of_classifier.specs.Rows.{row_number}
 use Rattle.of_mask_groups.specs.declared.entry.Entry.{Entry}
@@ -37,4 +37,4 @@ returns c =
     let e = aged_entry age d.0 in
     let u : Updates mid c.set_age.new.entries n (Some e) = subst (λ (s : Slab Entry). Updates mid s n (Some e)) (sym (c.set_age.ensures d.0 d.1)) (updates_with mid n d.0 e d.1) in
     rows_renewed mid c.set_age.new.entries age n d.0 e x.aged d.1 u refl refl
-    ∙ ap (λ (rs : List Row). renewed row_number n rs) (x.rows ∙ c.self.view_is)
+    ∙ ap (λ (rs : List Row). moved_to_end row_number n rs) (x.rows ∙ c.self.view_is)

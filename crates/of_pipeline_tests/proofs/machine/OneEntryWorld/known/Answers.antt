@@ -3,16 +3,16 @@ use Rattle.std.specs.Prelude.{IsTrue}
 use Rattle.std.proofs.lemmas.Bool.Decides.{nat_tests}
 use Rattle.of_actions.specs.declared.action.Action.TheVariants.{Output}
 use Rattle.of_actions.specs.InstructionLists.{are_kept, are_for}
-use Rattle.of_actions.specs.Served.{is_served, are_served}
+use Rattle.of_actions.specs.Supported.{is_supported, are_supported}
 use Rattle.of_table.specs.declared.flow.Flow.{Flow}
 use Rattle.of_pipeline_tests.proofs.machine.OneEntryWorld.known.Goals as goal
 
-two_served : IsTrue (are_served false (Output 2 0 ∷ []))
-unfolding is_served
+two_served : IsTrue (are_supported false (Output 2 0 ∷ []))
+unfolding is_supported
 two_served = refl
 
-three_served : IsTrue (are_served false (Output 3 0 ∷ []))
-unfolding is_served
+three_served : IsTrue (are_supported false (Output 3 0 ∷ []))
+unfolding is_supported
 three_served = refl
 
 found : (f : Flow) (n : ℕ) (b : Bool) → cond b (Some 0) None ≡ Some n → cond b (Some f) None ≢ None

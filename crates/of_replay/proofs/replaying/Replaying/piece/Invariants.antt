@@ -7,8 +7,8 @@ invariant-loop-len g l = record {
   place : l.at ≤ length l.piece;
   few : l.self.number ≤ l.fn.self.number + l.at;
   failures : g.W.Sink.failures l.writer ≡ 0;
-  within : (bytes : List ℕ) (first : Option (List ℕ)) → Within g.T.Teller.tale bytes [] l.fn.self.open l.fn.self.number l.fn.self.switch l.fn.self.printer first (g.W.Sink.taken l.fn.writer)
-      → Within g.T.Teller.tale (bytes ++ l.piece) (drop l.at l.piece) l.self.open l.self.number l.self.switch l.self.printer first (g.W.Sink.taken l.writer);
+  within : (bytes : List ℕ) (first : Option (List ℕ)) → Within g.T.RowPrinter.tale bytes [] l.fn.self.open l.fn.self.number l.fn.self.switch l.fn.self.printer first (g.W.Sink.taken l.fn.writer)
+      → Within g.T.RowPrinter.tale (bytes ++ l.piece) (drop l.at l.piece) l.self.open l.self.number l.self.switch l.self.printer first (g.W.Sink.taken l.writer);
 }
 
 abbrev pub decreases-loop-len : goal.decreases-loop-len

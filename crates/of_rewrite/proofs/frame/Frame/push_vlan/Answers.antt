@@ -11,8 +11,8 @@ use Rattle.of_rewrite.proofs.frame.Frame.push_vlan.Goals.{After-insert_tag}
 there : (c : After-insert_tag) → c.stay_countable.new.bytes.items ≡ c.args.self.now
 there c = c.stay_countable.ensures.items ∙ c.self.view_is
 
-put : (c : After-insert_tag) → c.insert_tag.new.bytes.items ≡ take 12 c.stay_countable.new.bytes.items ++ (c.tag_bytes-tag.result ++ drop 12 c.stay_countable.new.bytes.items) → Pushed c.args.tpid c.args.self.now c.insert_tag.new.bytes.items
-put c e =
+over_bits : (c : After-insert_tag) → c.insert_tag.new.bytes.items ≡ take 12 c.stay_countable.new.bytes.items ++ (c.tag_bytes-tag.result ++ drop 12 c.stay_countable.new.bytes.items) → Pushed c.args.tpid c.args.self.now c.insert_tag.new.bytes.items
+over_bits c e =
     let v : c.deref.result.now ≡ c.args.self.now = c.deref.ensures.value ∙ there c in
     let w : c.deref-2.result.now ≡ c.args.self.now = c.deref-2.ensures.value ∙ there c in
     let long : 14 ≤ length c.args.self.now = rw (← c.self.view_is) c.self.invariant.0 in
@@ -30,7 +30,7 @@ returns-clause-layers c =
     c.insert_tag.ensures.ok
 
 pub returns-clause-ok : goal.returns-clause-ok
-returns-clause-ok c = on_ok_weaker c.insert_tag.result (λ e. (put c e).frame) c.insert_tag.ensures.ok
+returns-clause-ok c = on_ok_weaker c.insert_tag.result (λ e. (over_bits c e).frame) c.insert_tag.ensures.ok
 
 pub returns-clause-length : goal.returns-clause-length
-returns-clause-length c = on_ok_weaker c.insert_tag.result (λ e. (put c e).long) c.insert_tag.ensures.ok
+returns-clause-length c = on_ok_weaker c.insert_tag.result (λ e. (over_bits c e).long) c.insert_tag.ensures.ok

@@ -1,5 +1,5 @@
 use Rattle.of_replay.proofs.WholeRuns.{done_by, nothing_read, once_by, failed_by, unwritten_by}
-use Rattle.of_replay.proofs.event_file.tell_file.Goals as goal
+use Rattle.of_replay.proofs.event_file.print_file.Goals as goal
 
 pub returns-clause-output : goal.returns-clause-output
 returns-clause-output g c = rw c.ended_by.ensures c.play.ensures.plays
@@ -21,4 +21,4 @@ pub returns-clause-write_fault : goal.returns-clause-write_fault
 returns-clause-write_fault g c = rw c.ended_by.ensures (unwritten_by c.play.result (g.W.Sink.failures c.play.new.writer) c.play.ensures.writes)
 
 pub returns-in_default-new-clause-output : goal.returns-in_default-new-clause-output
-returns-in_default-new-clause-output g c = nothing_read g.T.Teller.tale (g.S.Source.answers c.args.reader.now) (g.S.Source.ends c.args.reader.now) (g.W.Sink.taken c.args.writer.now)
+returns-in_default-new-clause-output g c = nothing_read g.T.RowPrinter.tale (g.S.Source.answers c.args.reader.now) (g.S.Source.ends c.args.reader.now) (g.W.Sink.taken c.args.writer.now)

@@ -1,9 +1,9 @@
 use Rattle.std.proofs.Common.{◌++◌, ◌∙◌, ap, List, ℕ}
 use Rattle.of_replay.specs.Rows.{with_bytes}
-use Rattle.of_replay.specs.Tales.{row_happened}
+use Rattle.of_replay.specs.RowTexts.{row_happened}
 use Rattle.of_explain.specs.Explained.{echoed, row_notes}
 use Rattle.of_explain.proofs.ReportLemmas.{row_told}
-use Rattle.of_explain.proofs.rows.ExplainingTeller.tell.Goals as goal
+use Rattle.of_explain.proofs.rows.ExplainingRowPrinter.tell.Goals as goal
 
 pub returns-clause-text : goal.returns-clause-text
 returns-clause-text g c =

@@ -1,0 +1,114 @@
+//! A frame that is changed step by step.
+ghost use Rattle.std.specs.Prelude.{◌≡◌, ◌≤◌, ◌<◌, ◌^◌, length};
+
+use crate::checks::{same_bytes, same_number};
+use of_layers::Field;
+use of_rewrite::{Frame, Ttl};
+use std::alloc::{AllocError, Global};
+use std::process::Abort;
+use std::test::Fail;
+
+/// What is done with a frame, or asked of it.
+pub(super) enum Step {
+    /// Pushes a tag of this type.
+    Push(u16),
+    Pop,
+    Set(Field, u128),
+    SetTtl(u8),
+    /// Takes one from the hops, and answers so.
+    Age(Ttl),
+    /// Whether a field is lent.
+    Lends(Field, bool),
+    /// How many bytes are lent of a field.
+    Lent(Field, usize),
+    /// Writes this byte over the source address, which is lent.
+    FillSource(u8),
+    /// How many bytes the frame has.
+    Length(usize),
+    /// What the frame is.
+    Is(&'static [u8]),
+    /// How it begins.
+    Begins(&'static [u8]),
+    /// How it ends.
+    Ends(&'static [u8]),
+}
+
+/// What a step does or shows, and the step.
+pub(super) type Row = (&'static str, Step);
+
+pub(super) fn frame_of(alloc: Global, bytes: &[u8]) -> Result<Frame, AllocError>
+    requires long { 14 ≤ length bytes.now }
+    requires most { length bytes.now < 2 ^ 61 }
+{
+    let mut copy = Vec::new(alloc);
+    copy.extend_from_slice(bytes)?;
+    Ok(Frame::new(copy))
+}
+
+fn push(rt: &impl Abort, frame: &mut Frame, what: &str, tag: u16) -> Result<(), Fail> {
+    assert!(rt; tag == 0x8100 || tag == 0x88a8, "{what}");
+    frame.push_vlan(tag)?;
+    Ok(())
+}
+
+fn set(rt: &impl Abort, frame: &mut Frame, what: &str, field: Field, value: u128) {
+    let row = field.row();
+    assert!(rt; row.settable && value <= row.ones, "{what}");
+    frame.set(field, value);
+}
+
+fn age(rt: &impl Abort, frame: &mut Frame, what: &str, wanted: Ttl) {
+    let answer = frame.dec_ttl();
+    assert_eq!(rt; answer, wanted, "{what}");
+}
+
+/// Writes over the source address. What the loan's contract says of the bytes behind it is enough for this one.
+#[tactic(auto, using(of_rewrite::proofs::Lending::length_with))]
+fn fill_source(frame: &mut Frame, byte: u8)
+    ensures { length frame.new ≡ length frame.old }
+{
+    frame.field_mut(Field::EthSrc).fill(byte);
+}
+
+/// Asserts what a step shows that changes nothing.
+fn shows(rt: &impl Abort, frame: &Frame, what: &str, step: &Step) {
+    match step {
+        Step::Lends(field, wanted) => assert!(rt; frame.lends(*field) == *wanted, "{what}"),
+        Step::Length(wanted) => same_number(rt, what, frame.len(), *wanted),
+        Step::Is(wanted) => same_bytes(rt, what, frame.bytes(), wanted),
+        Step::Begins(wanted) => assert!(rt; frame.bytes().starts_with(wanted), "{what}"),
+        Step::Ends(wanted) => assert!(rt; frame.bytes().ends_with(wanted), "{what}"),
+        _ => {}
+    }
+}
+
+/// Does what a row says, and asserts its answer.
+fn play(rt: &impl Abort, frame: &mut Frame, row: &Row) -> Result<(), Fail> {
+    let (what, step) = row;
+    match step {
+        Step::Push(tag) => return push(rt, frame, what, *tag),
+        Step::Pop => frame.pop_vlan(),
+        Step::Set(field, value) => set(rt, frame, what, *field, *value),
+        Step::SetTtl(value) => frame.set_ttl(*value),
+        Step::Age(wanted) => age(rt, frame, what, *wanted),
+        Step::Lent(field, wanted) => same_number(rt, what, frame.field_mut(*field).len(), *wanted),
+        Step::FillSource(byte) => fill_source(frame, *byte),
+        _ => shows(rt, frame, what, step),
+    }
+    Ok(())
+}
+
+/// Plays rows from a frame of these bytes on.
+pub(super) fn play_all(
+    rt: &impl Abort,
+    alloc: Global,
+    bytes: &[u8],
+    rows: &[Row],
+) -> Result<(), Fail> {
+    assert!(rt; bytes.len() >= 14 && bytes.len() < 1000);
+    let mut frame = frame_of(alloc, bytes)?;
+    for row in rows {
+        play(rt, &mut frame, row)?;
+    }
+    Ok(())
+}

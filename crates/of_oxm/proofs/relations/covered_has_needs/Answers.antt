@@ -1,5 +1,0 @@
-use Rattle.of_oxm.proofs.Covered.{covered_has_needs as by_needs}
-use Rattle.of_oxm.proofs.relations.covered_has_needs.Goals as goal
-
-pub returns : goal.returns
-returns c = by_needs

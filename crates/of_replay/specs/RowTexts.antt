@@ -1,0 +1,67 @@
+-- WHAT IS PRINTED FOR A FILE, line by line: for each row a text, which the row, its line and the switch before it decide.
+use Rattle.std.specs.Prelude.{◌≡◌, ℕ, Bool, true, false, nat_lt, List, [], ◌∷◌, ◌++◌, Option, Some, None}
+use Rattle.of_switch.specs.declared.event.Event.TheVariants as event
+use Rattle.of_switch.specs.State.{State, start}
+use Rattle.of_switch.specs.Runs.{Happened, Gives, happened}
+use Rattle.of_replay.specs.declared.event_file.Ended.{Ended}
+use Rattle.of_replay.specs.declared.event_file.Ended.TheVariants.{Done, BadRow, Text, ReadFault, WriteFault, NoMemory}
+use Rattle.of_replay.specs.Told.{Answer, then_bytes, given}
+use Rattle.of_replay.specs.Transfer.{then_answers, WrotePrefix}
+use Rattle.of_replay.specs.Rows.{EventRow, Passed, Connect, Lost, Piece, Frame, Moment, Ports, row_of, rows_of}
+use Rattle.of_replay.specs.Output.{report_text}
+use Rattle.of_replay.specs.Play.{lines_read}
+
+-- what happens at a row; an empty line and a comment report nothing
+abbrev pub row_happened : State → EventRow → Happened
+row_happened s Passed = record { report = Gives []; state = s }
+row_happened s Connect = happened event.Connect s
+row_happened s Lost = happened event.Lost s
+row_happened s (Piece bytes) = happened (event.Piece bytes) s
+row_happened s (Frame port bytes) = happened (event.Frame port bytes) s
+row_happened s (Moment nanos) = happened (event.Moment nanos) s
+row_happened s (Ports change) = happened (event.Ports change) s
+
+-- what is printed for a row: by the switch before it, its line, and the row
+abbrev pub RowText : Type 0
+RowText = State → List ℕ → EventRow → List ℕ
+
+-- what `replay` prints: the text of the report
+abbrev pub plain : RowText
+plain s line row = report_text (row_happened s row).report
+
+-- for a line, and then for others on the switch after it; nothing for a bad line and for those after it
+abbrev pub told_and : RowText → State → List ℕ → Option EventRow → (State → List ℕ) → List ℕ
+told_and tale s line None rest = []
+told_and tale s line (Some row) rest = tale s line row ++ rest (row_happened s row).state
+
+-- for lines, from a state of the switch on
+abbrev pub told_from : RowText → List (List ℕ) → State → List ℕ
+told_from tale [] s = []
+told_from tale (line ∷ lines) s = told_and tale s line (row_of line) (told_from tale lines)
+
+-- for lines, on a new switch with datapath_id 1
+abbrev pub told : RowText → List (List ℕ) → List ℕ
+told tale lines = told_from tale lines (start 1)
+
+-- the text of some first lines, none of which is bad, was written
+pub record PrintedFirst (tale : RowText) (lines : List (List ℕ)) (old new : Option (List ℕ)) : Type 0 where
+  pub first : List (List ℕ)
+  pub others : List (List ℕ)
+  pub lines_are : lines ≡ first ++ others
+  pub good : (rows_of first).bad ≡ None
+  pub wrote : new ≡ then_bytes old (told tale first)
+
+-- HOW SUCH A RUN ENDS, by the lines that were read
+abbrev pub EndsPrinting : RowText → Ended → Bool → List (List ℕ) → Option (List ℕ) → Option (List ℕ) → Type 0
+EndsPrinting tale Done ended lines old new = (ended ≡ true) × ((rows_of lines).bad ≡ None) × (new ≡ then_bytes old (told tale lines))
+EndsPrinting tale (BadRow n) ended lines old new = ((rows_of lines).bad ≡ Some n) × (new ≡ then_bytes old (told tale lines))
+EndsPrinting tale (Text f) ended lines old new = ⊥
+EndsPrinting tale ReadFault ended lines old new = (ended ≡ false) × ((rows_of lines).bad ≡ None) × (new ≡ then_bytes old (told tale lines))
+EndsPrinting tale WriteFault ended lines old new = WrotePrefix old (told tale lines) new
+EndsPrinting tale NoMemory ended lines old new = PrintedFirst tale lines old new
+
+-- from what a source answered to what a sink took
+pub record Tells (tale : RowText) (ended : Ended) (answers answers' : Option (List Answer)) (ends ends' : ℕ) (taken taken' : Option (List ℕ)) : Type 0 where
+  pub more : List Answer
+  pub answers_are : answers' ≡ then_answers answers more
+  pub ends_so : EndsPrinting tale ended (nat_lt ends ends') (lines_read (nat_lt ends ends') (given more)) taken taken'
