@@ -43,7 +43,7 @@ abbrev pub refusal_words : SwitchError → List ℕ
 refusal_words refusals.NoMemory = codes "refused: no memory"
 refusal_words refusals.NotConnected = codes "refused: there is no connection"
 refusal_words refusals.Connected = codes "refused: there is a connection already"
-refusal_words refusals.PortExists = codes "refused: a port of that number is there already"
+refusal_words refusals.PortExists = codes "refused: there is a port of that number already"
 refusal_words refusals.NoSuchPort = codes "refused: there is no port of that number"
 refusal_words refusals.TooManyPorts = codes "refused: there are 64 ports already"
 refusal_words refusals.BadPortNumber = codes "refused: a port's number is 1 to 4294967040"

@@ -44,7 +44,7 @@ fn refusal_words(refusal: SwitchError) -> &'static [u8]
         SwitchError::NoMemory => b"refused: no memory",
         SwitchError::NotConnected => b"refused: there is no connection",
         SwitchError::Connected => b"refused: there is a connection already",
-        SwitchError::PortExists => b"refused: a port of that number is there already",
+        SwitchError::PortExists => b"refused: there is a port of that number already",
         SwitchError::NoSuchPort => b"refused: there is no port of that number",
         SwitchError::TooManyPorts => b"refused: there are 64 ports already",
         SwitchError::BadPortNumber => b"refused: a port's number is 1 to 4294967040",

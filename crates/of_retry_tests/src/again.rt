@@ -91,23 +91,32 @@ fn given(alloc: Global, reports: &[Report]) -> Result<Vec<u8>, AllocError> {
     Ok(out)
 }
 
+// What all calls give, where each that finds no memory is made again.
+fn given_again(alloc: Global) -> Result<Vec<u8>, Fail> {
+    let mut switch = Switch::<Scan>::new(alloc, 1)?;
+    let mut reports = Vec::new(alloc);
+    for event in events_of(alloc, ROWS)? {
+        play(alloc, &mut switch, event, &mut reports)?;
+    }
+    Ok(given(alloc, &reports)?)
+}
+
+// What one call of all events gives.
+fn given_at_once(alloc: Global) -> Result<Vec<u8>, Fail> {
+    let mut switch = Switch::<Scan>::new(alloc, 1)?;
+    let mut reports = Vec::new(alloc);
+    switch.run(&events_of(alloc, ROWS)?, &mut reports)?;
+    Ok(given(alloc, &reports)?)
+}
+
 // Under `tools/fail-alloc --again` each allocation is refused in turn: what was refused is done again, and nothing is lost.
 #[test]
 fn events_again(rt: HostRuntime) -> Result<(), Fail> {
-    let events = events_of(rt.alloc(), ROWS)?;
-    let mut switch = Switch::<Scan>::new(rt.alloc(), 1)?;
-    let mut reports = Vec::new(rt.alloc());
-    for event in events {
-        play(rt.alloc(), &mut switch, event, &mut reports)?;
-    }
-    let events = events_of(rt.alloc(), ROWS)?;
-    let mut undisturbed = Switch::<Scan>::new(rt.alloc(), 1)?;
-    let mut wanted = Vec::new(rt.alloc());
-    undisturbed.run(&events, &mut wanted)?;
-    let wanted = given(rt.alloc(), &wanted)?;
+    let again = given_again(rt.alloc())?;
+    let wanted = given_at_once(rt.alloc())?;
     // HELLO 16, BARRIER_REPLY 8, frames 22 and 26, PACKET_IN 60, ECHO_REPLY 10, ERROR 20, three frames 60, FLOW_REMOVED 64, a frame 22;
     // two frames of the tie 44, FLOW_REMOVED 64; two frames behind misses 44; a frame of 60 bytes 64, PACKET_IN 102
     assert_eq!(rt; wanted.len(), 626);
-    assert_eq!(rt; given(rt.alloc(), &reports)?.as_slice(), wanted.as_slice());
+    assert_eq!(rt; again.as_slice(), wanted.as_slice());
     Ok(())
 }

@@ -74,29 +74,31 @@ fn barrier(rt: HostRuntime) -> Result<(), Fail> {
     Ok(())
 }
 
+// Serves a controller that stays, with rows, at three moments; gives what was written of the rows, and what the controller took.
+fn served_rows(alloc: Global, out: &mut MemorySink) -> Result<MemoryPeers, Fail> {
+    let mut script = Vec::new(alloc);
+    for line in [Line::Open, gives(alloc, &[HELLO, FLOW])?, Line::Idle, Line::Idle] {
+        script.push(line)?;
+    }
+    let mut file = MemorySource::new(alloc, ROWS, 50, 0)?;
+    let rows = read_rows(alloc, &mut file).ok().ok_or("rows")?;
+    let mut peers = MemoryPeers::new(alloc, script, 65536, 0, 0);
+    let mut clock = MemoryClock::new(Vec::from_slice(alloc, &[0, 1000, 2000])?);
+    match serve::<Scan, _, _, _>(alloc, 1, &mut peers, &mut clock, rows, 4, out) {
+        Ended::Done => Ok(peers),
+        _ => Err("a fault")?,
+    }
+}
+
 // Rows happen when the clock has reached the moments before them.
 #[test]
 fn rows_in_time(rt: HostRuntime) -> Result<(), Fail> {
     let alloc = rt.alloc();
-    let mut script = Vec::new(alloc);
-    script.push(Line::Open)?;
-    script.push(gives(alloc, &[HELLO, FLOW])?)?;
-    script.push(Line::Idle)?;
-    script.push(Line::Idle)?;
-    let mut peers = MemoryPeers::new(alloc, script, 65536, 0, 0);
-    let mut clock = MemoryClock::new(Vec::from_slice(alloc, &[0, 1000, 2000])?);
     let mut out = MemorySink::new(alloc, 7, 0);
-    let mut file = MemorySource::new(alloc, ROWS, 50, 0)?;
-    let rows = read_rows(alloc, &mut file).ok().ok_or("rows")?;
-    assert_eq!(rt;
-        serve::<Scan, _, _, _>(alloc, 1, &mut peers, &mut clock, rows, 4, &mut out),
-        Ended::Done
-    );
-    assert_eq!(rt;
-        peers.taken(0).ok_or("a connection")?,
-        bytes_of(alloc, &[GREETING])?.as_slice()
-    );
+    let peers = served_rows(alloc, &mut out)?;
     assert_eq!(rt; out.bytes(), SENT);
+    let taken = peers.taken(0).ok_or("a connection")?;
+    assert_eq!(rt; taken, bytes_of(alloc, &[GREETING])?.as_slice());
     Ok(())
 }
 

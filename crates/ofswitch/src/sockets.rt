@@ -13,6 +13,9 @@ use std::time::{Duration, Instant};
 /// How many milliseconds a read waits, so that flows expire and frames of the event file are received in time.
 const READ_WAIT: u64 = 10;
 
+/// How many milliseconds a write waits for a controller that reads nothing, before the connection counts as lost.
+const WRITE_WAIT: u64 = 10_000;
+
 /// How many milliseconds a call of a controller waits for its answer.
 const DIAL_WAIT: u64 = 5_000;
 
@@ -83,9 +86,10 @@ fn is_passing(error: &io::Error) -> bool {
     )
 }
 
-// Answers go out at once, and a read does not wait for long.
+// Answers go out at once, a read does not wait for long, and a write not forever.
 fn prepare(stream: &TcpStream) -> io::Result<()> {
     stream.set_nodelay(true)?;
+    stream.set_write_timeout(Some(Duration::from_millis(WRITE_WAIT)))?;
     stream.set_read_timeout(Some(Duration::from_millis(READ_WAIT)))
 }
 
@@ -200,6 +204,7 @@ impl Peers for Sockets<'_> {
         if let Some(stream) = &mut self.stream {
             match stream.write(bytes) {
                 Ok(n) if n > 0 => return Writing::Wrote(n),
+                Err(error) if is_passing(&error) => self.say_end("it reads no answers"),
                 _ => self.say_end("a write failed"),
             }
         }
