@@ -1,6 +1,5 @@
 //! A set-field action from bytes and as bytes (OpenFlow 1.3.5, 7.2.5).
-ghost use Rattle.std.specs.Prelude.{◌≡◌, ◌≤◌, ◌<◌, ◌^◌, ◌++◌, Bool, length, replicate, IsTrue, IfOk, OnOk, IfErr, Some, None};
-ghost use Rattle.byteorder.specs.Endian.{big_bytes};
+ghost use Rattle.std.specs.Prelude.{◌≡◌, ◌≤◌, ◌<◌, ◌++◌, Bool, length, replicate, IsTrue, IfOk, OnOk, IfErr, Some, None};
 ghost use Rattle.of_wire.specs.Refusals.{first_of};
 ghost use Rattle.of_actions.specs.Beginnings.{type_at, len_at};
 ghost use Rattle.of_actions.specs.SetField.{set_field_at, set_refusals};
@@ -13,7 +12,7 @@ use crate::action::Action;
 use crate::codes::{BAD_SET_ARGUMENT, BAD_SET_LEN, BAD_SET_TYPE};
 use byteorder::{BigEndian, ByteOrder};
 use of_layers::Field;
-use of_wire::Code;
+use of_wire::{Code, put_number};
 use std::alloc::AllocError;
 
 fn field_to_set(rest: &[u8]) -> Option<Field>
@@ -54,19 +53,6 @@ pub(crate) fn read_set_field(rest: &[u8], len: usize) -> Result<Action, Code>
         return Err(BAD_SET_ARGUMENT);
     }
     Ok(Action::SetField { field, value })
-}
-
-#[tactic(auto, using(of_oxm::proofs::Written::front_of))]
-fn put_number(out: &mut Vec<u8>, len: usize, number: u128) -> Result<(), AllocError>
-    requires some { 1 ≤ len }
-    requires most { len ≤ 16 }
-    requires fits { number < 256 ^ len }
-    ensures { OnOk result (out.new.items ≡ out.old.items ++ big_bytes len number) }
-{
-    let mut bytes = [0u8; 16];
-    BigEndian::write_uint128(&mut bytes, number, len);
-    let (front, _) = bytes.split_at(len);
-    out.extend_from_slice(front)
 }
 
 #[tactic(auto, using(crate::proofs::SetFieldText::front_zeros))]

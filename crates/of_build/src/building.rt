@@ -28,8 +28,8 @@ const ANY: u32 = 0xffff_ffff;
 /// A HELLO of version 4 without elements (OpenFlow 1.3.5, 7.5.1).
 const HELLO: [u8; 8] = [4, 0, 0, 8, 0, 0, 0, 0];
 
-// Appends bytes as hex digits in lower case.
-fn push_hex(alloc: Global, out: &mut Vec<u8>, bytes: &[u8]) -> Result<(), AllocError>
+/// Appends bytes as hex digits in lower case.
+pub fn push_hex(alloc: Global, out: &mut Vec<u8>, bytes: &[u8]) -> Result<(), AllocError>
     ensures { OnOk result (out.new.items ≡ out.old.items ++ encode_lower bytes.now) }
 {
     let text = hex::encode(alloc, bytes)?;

@@ -3,4 +3,4 @@
 
 mod building;
 
-pub use building::{build, build_of};
+pub use building::{build, build_of, push_hex};

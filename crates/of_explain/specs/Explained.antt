@@ -16,9 +16,10 @@ use Rattle.of_switch.specs.DryRun.{steps_in}
 use Rattle.of_switch.specs.Plane.{Forwarding}
 use Rattle.of_switch.specs.State.{State}
 use Rattle.of_switch.specs.Runs.{Report, Gives, IsRefused}
-use Rattle.of_replay.specs.Rows.{EventRow, Passed, Connect, Lost, Piece, Frame, Moment, Ports}
+use Rattle.of_replay.specs.Rows.{EventRow, Piece, Frame}
 use Rattle.of_replay.specs.RowTexts.{RowText, row_happened}
-use Rattle.of_explain.specs.Notes.{ended, note, number_note, port_and_size, with_number}
+use Rattle.of_text.specs.Lines.{ended, note}
+use Rattle.of_explain.specs.Notes.{number_note, port_and_size, with_number}
 use Rattle.of_explain.specs.Messages.{message_words}
 use Rattle.of_explain.specs.Requests.{piece_notes}
 

@@ -1,11 +1,6 @@
 -- NOTES: lines after four spaces, below a row.
-use Rattle.std.specs.Prelude.{ℕ, List, [], ◌∷◌, ◌++◌, length, codes, decimal}
-
-abbrev pub ended : List ℕ → List ℕ
-ended line = line ++ 10 ∷ []
-
-abbrev pub note : List ℕ → List ℕ
-note words = codes "    " ++ ended words
+use Rattle.std.specs.Prelude.{ℕ, List, ◌∷◌, ◌++◌, length, codes, decimal}
+use Rattle.of_text.specs.Lines.{note}
 
 -- words and a number
 abbrev pub with_number : List ℕ → ℕ → List ℕ

@@ -18,7 +18,7 @@ use Rattle.of_text.specs.Rows.{spelling}
 use Rattle.of_text.specs.Flows.{step_rows}
 use Rattle.of_text.specs.Groups.{TextGroup, bucket_text, group_rows}
 use Rattle.of_text.specs.Kept.{step_of}
-use Rattle.of_explain.specs.Notes.{ended, note}
+use Rattle.of_text.specs.Lines.{ended, note}
 use Rattle.of_explain.specs.Messages.{message_words}
 
 -- ---- a message as flow text

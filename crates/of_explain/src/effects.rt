@@ -1,11 +1,12 @@
 //! What a switch gives, in words.
 ghost use Rattle.std.specs.Prelude.{◌≡◌, ◌++◌, OnOk};
-ghost use Rattle.of_explain.specs.Notes.{note};
+ghost use Rattle.of_text.specs.Lines.{note};
 ghost use Rattle.of_explain.specs.Explained.{effect_notes, effect_words, refusal_words as words_of_refusal};
 
 use crate::messages::push_message;
-use crate::notes::{begin_note, end_note, push_note, push_port_and_size};
+use crate::notes::push_port_and_size;
 use of_switch::{Effect, SwitchError};
+use of_text::{begin_note, end_note, push_note};
 use std::alloc::{AllocError, Global};
 
 // Appends an effect in words.

@@ -4,25 +4,18 @@ ghost use Rattle.of_switch.specs.declared.switch_error.SwitchError.TheVariants.{
 ghost use Rattle.std.specs.List.{flat_map};
 ghost use Rattle.std.specs.Option.{option_copied};
 ghost use Rattle.of_headers.specs.Faults.{frame_fault};
-ghost use Rattle.of_ports.specs.Ports.{port_at};
-ghost use Rattle.of_explain.specs.Notes.{note, number_note, port_and_size, with_number};
+ghost use Rattle.of_text.specs.Lines.{note};
+ghost use Rattle.of_explain.specs.Notes.{number_note, port_and_size, with_number};
 ghost use Rattle.of_explain.specs.Explained.{arrival_notes, length_notes, not_received, nothing_leaves, port_notes, step_notes, way_notes};
 
-use crate::notes::{
-    begin_note, end_note, push_note, push_number_note, push_port_and_size, push_with_number,
-};
+use crate::notes::{push_number_note, push_port_and_size, push_with_number};
 use of_classifier::Lookup;
 use of_headers::check_length;
 use of_machine::{Step, Steps};
-use of_ports::Port;
+use of_ports::{Port, find_port};
 use of_switch::{Effect, Switch, SwitchError};
+use of_text::{begin_note, end_note, push_note};
 use std::alloc::{AllocError, Global};
-
-fn find_port(ports: &[Port], number: u32) -> Option<&Port>
-    ensures { option_copied result ≡ port_at ports.now number }
-{
-    ports.iter().find(|port| port.number == number)
-}
 
 // Why a port that exists receives no frame.
 fn not_received_words(port: &Port) -> &'static [u8]

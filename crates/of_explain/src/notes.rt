@@ -1,33 +1,10 @@
 //! Notes: lines after four spaces.
-ghost use Rattle.std.specs.Prelude.{◌≡◌, ◌++◌, ◌∷◌, [], OnOk, codes};
-ghost use Rattle.of_explain.specs.Notes.{note, number_note, port_and_size, size_words, with_number};
+ghost use Rattle.std.specs.Prelude.{◌≡◌, ◌++◌, OnOk};
+ghost use Rattle.of_text.specs.Lines.{note};
+ghost use Rattle.of_explain.specs.Notes.{number_note, port_and_size, size_words, with_number};
 
-use of_text::push_number;
+use of_text::{begin_note, end_note, push_number};
 use std::alloc::AllocError;
-
-/// What a note begins with.
-pub fn begin_note(out: &mut Vec<u8>) -> Result<(), AllocError>
-    ensures { OnOk result (out.new.items ≡ out.old.items ++ codes "    ") }
-{
-    out.extend_from_slice(b"    ")
-}
-
-/// What a note ends with.
-pub fn end_note(out: &mut Vec<u8>) -> Result<(), AllocError>
-    ensures { OnOk result (out.new.items ≡ out.old.items ++ 10 ∷ []) }
-{
-    out.push(b'\n')?;
-    Ok(())
-}
-
-/// Appends a note.
-pub fn push_note(out: &mut Vec<u8>, words: &[u8]) -> Result<(), AllocError>
-    ensures { OnOk result (out.new.items ≡ out.old.items ++ note words.now) }
-{
-    begin_note(out)?;
-    out.extend_from_slice(words)?;
-    end_note(out)
-}
 
 /// Appends words and a number.
 pub fn push_with_number(out: &mut Vec<u8>, words: &[u8], number: u64) -> Result<(), AllocError>

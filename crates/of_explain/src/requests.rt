@@ -2,14 +2,13 @@
 ghost use Rattle.std.specs.Prelude.{◌≡◌, ◌++◌, OnOk};
 ghost use Rattle.std.specs.List.{AllByRecursion, flat_map};
 ghost use Rattle.of_text.specs.Rows.{Fits};
-ghost use Rattle.of_explain.specs.Notes.{note};
+ghost use Rattle.of_text.specs.Lines.{note};
 ghost use Rattle.of_explain.specs.Requests.{messages_of, piece_notes, request_notes, row_line, row_lines, said_words};
 
 use crate::messages::push_message;
-use crate::notes::{begin_note, end_note};
 use crate::said::lines_said;
 use of_session::{Beginning, Stream};
-use of_text::{Row, push_row};
+use of_text::{Row, begin_note, end_note, push_row};
 use std::alloc::{AllocError, Global};
 
 // Appends a line of flow text after eight spaces.

@@ -1,5 +1,5 @@
 //! What a message says as lines of flow text.
-ghost use Rattle.std.specs.Prelude.{◌≡◌, ◌++◌, [], IfOk, OnOk, map};
+ghost use Rattle.std.specs.Prelude.{◌≡◌, ◌++◌, IfOk, OnOk, map};
 ghost use Rattle.std.specs.List.{AllByRecursion, flat_map};
 ghost use Rattle.of_messages.specs.Messages.{message_of};
 ghost use Rattle.of_text.specs.Flows.{step_rows};
@@ -9,33 +9,15 @@ ghost use Rattle.of_text.specs.Rows.{Fits};
 ghost use Rattle.of_text.specs.Views.{view_bucket, view_group};
 ghost use Rattle.of_explain.specs.Requests.{asked_rows, flow_mod_rows, group_mod_rows, group_said, rows_in, rows_said};
 
-use of_actions::{Action, Instruction};
+use of_actions::Instruction;
 use of_groups::Group;
 use of_messages::{
     FlowMod, GroupMod, Message, MultipartRequest, NewGroup, PacketOut, read_message,
 };
-use of_oxm::{Match, MatchField};
-use of_text::{BucketText, GroupText, Row};
+use of_oxm::Match;
+use of_text::{BucketText, GroupText, Row, push_actions, push_fields};
 use of_wire::ReadError;
 use std::alloc::{AllocError, Global};
-
-fn push_actions(rows: &mut Vec<Row>, actions: &[Action]) -> Result<(), AllocError>
-    ensures { OnOk result (rows.new.items ≡ rows.old.items ++ map Row.Do actions.now) }
-{
-    for action in actions {
-        rows.push(Row::Do(*action))?;
-    }
-    Ok(())
-}
-
-fn push_fields(rows: &mut Vec<Row>, fields: &[MatchField]) -> Result<(), AllocError>
-    ensures { OnOk result (rows.new.items ≡ rows.old.items ++ map Row.Match fields.now) }
-{
-    for field in fields {
-        rows.push(Row::Match(*field))?;
-    }
-    Ok(())
-}
 
 fn push_instruction(rows: &mut Vec<Row>, instruction: &Instruction) -> Result<(), AllocError>
     ensures { OnOk result (rows.new.items ≡ rows.old.items ++ step_rows (step_of instruction.now)) }

@@ -17,7 +17,8 @@ use Rattle.of_groups.specs.Buckets.{are_fit, fresh, is_fit}
 use Rattle.of_groups.specs.declared.bucket.Bucket.{Bucket}
 use Rattle.of_groups.specs.declared.group.GroupKind.{GroupKind}
 use Rattle.of_groups.specs.declared.group.GroupKind.TheVariants.{All, Indirect, FastFailover}
-use Rattle.of_messages.specs.CanonicalGroups.{as_written, canonical_bucket, canonical_buckets, group_add_bytes, group_add_fixed_part, has_numbers, kind_number as number_of}
+use Rattle.of_groups.specs.Groups.{kind_number as number_of}
+use Rattle.of_messages.specs.CanonicalGroups.{as_written, canonical_bucket, canonical_buckets, group_add_bytes, group_add_fixed_part, has_numbers}
 use Rattle.of_messages.specs.Written.{command_number as number_of_command, flow_mod_bytes, flow_mod_fixed_part}
 use Rattle.of_messages.specs.declared.group_mod.GroupMod.TheVariants as group
 use Rattle.of_messages.specs.declared.group_mod.NewGroup.{NewGroup}

@@ -10,6 +10,12 @@ use Rattle.of_groups.specs.declared.group.GroupKind.{GroupKind}
 use Rattle.of_groups.specs.declared.group.GroupKind.TheVariants.{All, Indirect, FastFailover}
 use Rattle.of_groups.specs.Buckets.{fresh, used_at, any_sends, watches}
 
+-- the number of a type (7.3.4.2)
+abbrev pub kind_number : GroupKind → ℕ
+kind_number All = 0
+kind_number Indirect = 2
+kind_number FastFailover = 3
+
 abbrev pub number_of : Group → ℕ
 number_of g = g.id
 

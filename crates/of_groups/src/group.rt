@@ -1,4 +1,6 @@
 //! Groups.
+ghost use Rattle.std.specs.Prelude.{◌≡◌};
+ghost use Rattle.of_groups.specs.Groups.{kind_number};
 
 use crate::buckets::Buckets;
 
@@ -14,6 +16,19 @@ pub enum GroupKind {
     Indirect,
     /// OFPGT_FF: the first live bucket runs.
     FastFailover,
+}
+
+impl GroupKind {
+    /// Its number (OpenFlow 1.3.5, 7.3.4.2).
+    pub fn number(self) -> u8
+        ensures { result ≡ kind_number self }
+    {
+        match self {
+            GroupKind::All => 0,
+            GroupKind::Indirect => 2,
+            GroupKind::FastFailover => 3,
+        }
+    }
 }
 
 /// A group (OpenFlow 1.3.5, 5.6).

@@ -2,13 +2,12 @@
 ghost use Rattle.std.specs.Prelude.{◌≡◌, IfOk, OnOk};
 ghost use Rattle.std.specs.Option.{option_copied};
 ghost use Rattle.of_machine.specs.Rows.{emission, to_port, packet_in, flooded, output_reason};
-ghost use Rattle.of_ports.specs.Ports.{port_at};
 ghost use Rattle.of_machine.specs.Gained.{Gains};
 
 use crate::data::{Count, Item, Outcome, Packet, ToController};
 use crate::packet_frame::PacketFrame;
 use of_actions::{PORT_ALL, PORT_CONTROLLER, PORT_FLOOD, PORT_IN_PORT};
-use of_ports::Port;
+use of_ports::{Port, find_port};
 use of_wire::{Bytes, PacketInReason};
 use std::alloc::{AllocError, Global};
 
@@ -71,12 +70,6 @@ fn bytes_of(alloc: Global, frame: &PacketFrame<'_>) -> Result<Bytes, AllocError>
     ensures { IfOk result (λ bytes. bytes ≡ frame.now) }
 {
     Bytes::from_slice(alloc, frame.bytes())
-}
-
-fn find_port(ports: &[Port], number: u32) -> Option<&Port>
-    ensures { option_copied result ≡ port_at ports.now number }
-{
-    ports.iter().find(|port| port.number == number)
 }
 
 // Out of a port, where it exists and may send.

@@ -14,7 +14,8 @@ use Rattle.of_messages.specs.declared.group_mod.NewGroup.{NewGroup}
 use Rattle.of_messages.specs.GroupMods.{command_of, command_in, group_mod_of, group_of, kind_of, number_in}
 use Rattle.of_messages.specs.Heads.{version_of, type_of, header_length, head_refusals, size_of}
 use Rattle.of_messages.specs.Messages.{body_of, message_from, message_of}
-use Rattle.of_messages.specs.CanonicalGroups.{canonical_buckets, kind_number, group_add_fixed_part, group_add_bytes, as_written, has_numbers}
+use Rattle.of_groups.specs.Groups.{kind_number}
+use Rattle.of_messages.specs.CanonicalGroups.{canonical_buckets, group_add_fixed_part, group_add_bytes, as_written, has_numbers}
 use Rattle.of_messages.proofs.BucketsWritten.{buckets_short}
 use Rattle.of_messages.proofs.BucketsAgain.{buckets_again}
 

@@ -4,9 +4,8 @@ use Rattle.std.specs.List.{flat_map}
 use Rattle.byteorder.specs.Endian.{big_bytes}
 use Rattle.of_actions.specs.CanonicalActions.{canonical_actions}
 use Rattle.of_groups.specs.declared.bucket.Bucket.{Bucket}
-use Rattle.of_groups.specs.declared.group.GroupKind.{GroupKind}
-use Rattle.of_groups.specs.declared.group.GroupKind.TheVariants.{All, Indirect, FastFailover}
 use Rattle.of_groups.specs.Buckets.{fresh}
+use Rattle.of_groups.specs.Groups.{kind_number}
 use Rattle.of_messages.specs.declared.group_mod.NewGroup.{NewGroup}
 use Rattle.of_messages.specs.Written.{message}
 
@@ -22,11 +21,6 @@ canonical_bucket b =
 
 abbrev pub canonical_buckets : List Bucket → List ℕ
 canonical_buckets buckets = flat_map canonical_bucket buckets
-
-abbrev pub kind_number : GroupKind → ℕ
-kind_number All = 0
-kind_number Indirect = 2
-kind_number FastFailover = 3
 
 -- the command OFPGC_ADD, the type of the group, padding, and its number
 unfoldable pub group_add_fixed_part : NewGroup → List ℕ

@@ -5,9 +5,9 @@ ghost use Rattle.of_messages.specs.Written.{async_reply_bytes, role_masks_bytes}
 
 use crate::message_bytes::MessageBytes;
 use crate::reading::rest_from;
-use crate::writing::{put_header, put_u32};
+use crate::writing::put_header;
 use byteorder::{BigEndian, ByteOrder};
-use of_wire::Bytes;
+use of_wire::{Bytes, put_u32};
 use std::alloc::{AllocError, Global};
 
 /// The size of a GET_ASYNC_REPLY.

@@ -6,9 +6,9 @@ ghost use Rattle.of_messages.specs.Written.{config_reply_bytes};
 
 use crate::message_bytes::MessageBytes;
 use crate::reading::rest_from;
-use crate::writing::{put_header, put_u16};
+use crate::writing::put_header;
 use byteorder::{BigEndian, ByteOrder};
-use of_wire::{Bytes, Code, ReadError};
+use of_wire::{Bytes, Code, ReadError, put_u16};
 use std::alloc::{AllocError, Global};
 
 const BAD_FLAGS: Code = Code { kind: 10, code: 0 };

@@ -3,8 +3,8 @@ ghost use Rattle.std.specs.Prelude.{◌≡◌, ◌++◌, IfOk, OnOk};
 ghost use Rattle.of_messages.specs.Written.{features_body, features_reply_bytes};
 
 use crate::message_bytes::MessageBytes;
-use crate::writing::{put_header, put_u32, put_u64};
-use of_wire::Bytes;
+use crate::writing::put_header;
+use of_wire::{Bytes, put_u32, put_u64};
 use std::alloc::{AllocError, Global};
 
 /// The size of a FEATURES_REPLY.

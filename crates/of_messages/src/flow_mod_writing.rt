@@ -4,10 +4,10 @@ ghost use Rattle.byteorder.specs.Endian.{big_bytes};
 ghost use Rattle.of_messages.specs.Written.{command_number, flow_mod_bytes, flow_mod_fixed_part};
 
 use crate::message::{FlowMod, FlowModCommand};
-use crate::writing::{put_header, put_u16, put_u32, put_u64};
+use crate::writing::put_header;
 use of_actions::write_instructions;
 use of_oxm::write_match;
-use of_wire::Bytes;
+use of_wire::{Bytes, put_u16, put_u32, put_u64};
 use std::alloc::{AllocError, Global};
 
 fn number_of(command: FlowModCommand) -> u8

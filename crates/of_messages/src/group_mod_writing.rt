@@ -2,27 +2,17 @@
 ghost use Rattle.std.specs.Prelude.{◌≡◌, ◌≤◌, ◌++◌, true, IsTrue, length, Ok, OnOk, IfOk};
 ghost use Rattle.std.specs.List.{list_all};
 ghost use Rattle.of_groups.specs.Buckets.{are_fit};
-ghost use Rattle.of_messages.specs.CanonicalGroups.{as_written, canonical_bucket, canonical_buckets, group_add_bytes, group_add_fixed_part, has_numbers, kind_number};
+ghost use Rattle.of_messages.specs.CanonicalGroups.{as_written, canonical_bucket, canonical_buckets, group_add_bytes, group_add_fixed_part, has_numbers};
 ghost use Rattle.of_messages.specs.Messages.{message_of};
 ghost use Rattle.of_messages.specs.declared.message.Message.TheVariants.{GroupMod as IsGroupMod};
 ghost use Rattle.of_messages.specs.declared.group_mod.GroupMod.TheVariants.{Add};
 
 use crate::group_mod::NewGroup;
-use crate::writing::{put_header, put_u16, put_u32};
+use crate::writing::put_header;
 use of_actions::write_actions;
-use of_groups::{Bucket, Buckets, GroupKind};
-use of_wire::Bytes;
+use of_groups::{Bucket, Buckets};
+use of_wire::{Bytes, put_u16, put_u32};
 use std::alloc::{AllocError, Global};
-
-fn number_of(kind: GroupKind) -> u8
-    ensures { result ≡ kind_number kind }
-{
-    match kind {
-        GroupKind::All => 0,
-        GroupKind::Indirect => 2,
-        GroupKind::FastFailover => 3,
-    }
-}
 
 #[tactic(auto, unfolding(crate::specs::CanonicalGroups::has_numbers))]
 fn put_bucket(out: &mut Vec<u8>, alloc: Global, bucket: &Bucket) -> Result<(), AllocError>
@@ -67,7 +57,7 @@ fn put_front(out: &mut Vec<u8>, group: &NewGroup) -> Result<(), AllocError>
     ensures { OnOk result (out.new.items ≡ out.old.items ++ group_add_fixed_part group.now) }
 {
     out.extend_from_slice(&[0, 0])?;
-    out.extend_from_slice(&[number_of(group.kind), 0])?;
+    out.extend_from_slice(&[group.kind.number(), 0])?;
     put_u32(out, group.id)
 }
 

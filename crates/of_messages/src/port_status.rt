@@ -4,8 +4,8 @@ ghost use Rattle.of_messages.specs.Written.{port_bits, port_bytes, port_names, p
 
 use crate::message_bytes::MessageBytes;
 use crate::port_mod::{PortDescription, PortStatusReason};
-use crate::writing::{put_header, put_u32};
-use of_wire::Bytes;
+use crate::writing::put_header;
+use of_wire::{Bytes, put_u32};
 use std::alloc::{AllocError, Global};
 
 /// The size of a PORT_STATUS: its header, the reason with its padding, and the port.

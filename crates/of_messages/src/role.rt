@@ -6,9 +6,9 @@ ghost use Rattle.of_messages.specs.Written.{role_reply_bytes};
 
 use crate::message_bytes::MessageBytes;
 use crate::reading::rest_from;
-use crate::writing::{put_header, put_u32, put_u64};
+use crate::writing::put_header;
 use byteorder::{BigEndian, ByteOrder};
-use of_wire::{Bytes, Code, ReadError};
+use of_wire::{Bytes, Code, ReadError, put_u32, put_u64};
 use std::alloc::{AllocError, Global};
 
 const BAD_ROLE: Code = Code { kind: 11, code: 2 };

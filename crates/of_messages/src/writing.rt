@@ -1,13 +1,12 @@
 //! The bytes of messages that the switch sends.
 ghost use Rattle.std.specs.Prelude.{◌≡◌, ◌≤◌, ◌++◌, length, OnOk, IfOk};
-ghost use Rattle.byteorder.specs.Endian.{big_bytes};
 ghost use Rattle.of_messages.specs.Written.{header, hello_bytes, error_bytes, echo_reply_bytes, barrier_reply_bytes, flow_removed_fixed_part, flow_removed_bytes, packet_fields, packet_in_fixed_part, packet_in_bytes};
 ghost use Rattle.of_oxm.specs.Canonical.{canonical};
 
 use crate::message::{FlowRemoved, PacketIn};
 use crate::message_bytes::MessageBytes;
 use of_oxm::{Match, write_match};
-use of_wire::{Bytes, Code};
+use of_wire::{Bytes, Code, put_u16, put_u32, put_u64};
 use std::alloc::{AllocError, Global};
 
 // A header: version 4, type, length and transaction id.
@@ -74,24 +73,6 @@ pub fn write_barrier_reply(alloc: Global, xid: u32) -> Result<MessageBytes, Allo
     let mut out = Vec::new(alloc);
     put_header(&mut out, 21, 8, xid)?;
     Ok(MessageBytes::new(Bytes::new(out)))
-}
-
-pub(crate) fn put_u16(out: &mut Vec<u8>, number: u16) -> Result<(), AllocError>
-    ensures { OnOk result (out.new.items ≡ out.old.items ++ big_bytes 2 number) }
-{
-    out.extend_from_slice(&number.to_be_bytes())
-}
-
-pub(crate) fn put_u32(out: &mut Vec<u8>, number: u32) -> Result<(), AllocError>
-    ensures { OnOk result (out.new.items ≡ out.old.items ++ big_bytes 4 number) }
-{
-    out.extend_from_slice(&number.to_be_bytes())
-}
-
-pub(crate) fn put_u64(out: &mut Vec<u8>, number: u64) -> Result<(), AllocError>
-    ensures { OnOk result (out.new.items ≡ out.old.items ++ big_bytes 8 number) }
-{
-    out.extend_from_slice(&number.to_be_bytes())
 }
 
 // The fields before the match, 40 bytes.

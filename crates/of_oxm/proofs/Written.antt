@@ -3,7 +3,7 @@ use Rattle.std.proofs.Common.{◌≡◌, ℕ, suc, ◌+◌, ◌-◌, ◌*◌, �
 use Rattle.std.specs.Prelude.{IfSome, ◌||◌}
 use Rattle.std.specs.List.{AllByRecursion}
 use Rattle.std.proofs.lemmas.Bool.{lt-ltb, ne_eqb}
-use Rattle.std.proofs.lemmas.List.{append_assoc, length-append, take_at, length-replicate, take-replicate}
+use Rattle.std.proofs.lemmas.List.{append_assoc, length-append, length-replicate, take-replicate}
 use Rattle.byteorder.specs.Endian.{big_bytes}
 use Rattle.byteorder.specs.Numbers.{length-bytes_high_first}
 use Rattle.of_layers.specs.declared.field.Field.{Field}
@@ -16,9 +16,6 @@ use Rattle.of_oxm.specs.MatchFieldWire.{is_among}
 use Rattle.of_oxm.specs.Canonical.{written_len, canonical}
 use Rattle.of_layers.proofs.Table.{number_below, bytes_most, value_below}
 use Rattle.of_oxm.proofs.Normal.{among_append}
-
-pub front_of : (n x : ℕ) (rest : List ℕ) → take n (big_bytes n x ++ rest) ≡ big_bytes n x
-front_of n x rest = take_at (big_bytes n x) rest n (length-bytes_high_first n x)
 
 -- ---- a field of a match has a spelling
 

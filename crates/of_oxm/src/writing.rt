@@ -1,29 +1,15 @@
 //! Matches as bytes.
 
-ghost use Rattle.std.specs.Prelude.{◌≡◌, ◌≤◌, ◌<◌, ◌^◌, ◌++◌, length, OnOk, IfOk};
+ghost use Rattle.std.specs.Prelude.{◌≡◌, ◌≤◌, ◌<◌, ◌++◌, length, OnOk, IfOk};
 ghost use Rattle.std.specs.List.{AllByRecursion};
-ghost use Rattle.byteorder.specs.Endian.{big_bytes};
 ghost use Rattle.of_oxm.specs.MatchFieldWire.{IsSpelt, spelling};
 ghost use Rattle.of_oxm.specs.MatchGrammar.{SpellsMatch, spellings};
 ghost use Rattle.of_oxm.specs.Canonical.{canonical};
 
 use crate::flow_match::Match;
 use crate::match_field::MatchField;
-use byteorder::{BigEndian, ByteOrder};
+use of_wire::put_number;
 use std::alloc::{AllocError, Global};
-
-#[tactic(auto, using(crate::proofs::Written::front_of))]
-fn put_number(out: &mut Vec<u8>, len: usize, number: u128) -> Result<(), AllocError>
-    requires some { 1 ≤ len }
-    requires most { len ≤ 16 }
-    requires fits { number < 256 ^ len }
-    ensures { OnOk result (out.new.items ≡ out.old.items ++ big_bytes len number) }
-{
-    let mut bytes = [0u8; 16];
-    BigEndian::write_uint128(&mut bytes, number, len);
-    let (front, _) = bytes.split_at(len);
-    out.extend_from_slice(front)
-}
 
 #[tactic(auto, using(of_layers::proofs::Table::value_below), unfolding(crate::specs::MatchFieldWire::spelling))]
 fn put_field(out: &mut Vec<u8>, e: &MatchField) -> Result<(), AllocError>

@@ -9,5 +9,5 @@ mod ports;
 
 pub use config::PortConfig;
 pub use counters::{PortCount, PortCounters};
-pub use port::Port;
+pub use port::{Port, find_port};
 pub use ports::{MOST_PORTS, Ports};

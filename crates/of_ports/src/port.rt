@@ -1,6 +1,7 @@
 //! Ports (OpenFlow 1.3.5, 7.2.1).
 ghost use Rattle.std.specs.Prelude.{◌≡◌};
-ghost use Rattle.of_ports.specs.Ports.{is_live as lives, may_receive, may_send, new_port, state_bits};
+ghost use Rattle.of_ports.specs.Ports.{is_live as lives, may_receive, may_send, new_port, state_bits, port_at};
+ghost use Rattle.std.specs.Option.{option_copied};
 
 use crate::config::PortConfig;
 use crate::counters::PortCounters;
@@ -72,4 +73,11 @@ impl Port {
         let live = if self.is_live() { LIVE } else { 0 };
         link + live
     }
+}
+
+/// The port of that number.
+pub fn find_port(ports: &[Port], number: u32) -> Option<&Port>
+    ensures { option_copied result ≡ port_at ports.now number }
+{
+    ports.iter().find(|port| port.number == number)
 }

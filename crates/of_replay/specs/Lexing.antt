@@ -28,11 +28,6 @@ lines_of file = whole_lines file ++ last_from [] file ∷ []
 abbrev pub is_line : List ℕ → Bool
 is_line line = nat_le (length line) 1048576 && is_utf8 line
 
--- an empty line or a comment
-abbrev pub is_passed : List ℕ → Bool
-is_passed [] = true
-is_passed (b ∷ bs) = b == 35
-
 -- WORDS, separated by one space
 
 abbrev pub first_at : List ℕ → Option ℕ → List ℕ

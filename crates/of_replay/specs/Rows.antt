@@ -16,7 +16,8 @@ use Rattle.of_switch.specs.declared.port_change.PortChange.{PortChange}
 use Rattle.of_switch.specs.declared.port_change.PortChange.TheVariants.{Add, Remove, Link}
 use Rattle.of_replay.specs.declared.rows.Row.{Row}
 use Rattle.of_replay.specs.declared.rows.Row.TheVariants as row
-use Rattle.of_replay.specs.Lexing.{is_line, is_passed, first_word, after_word, number_of, moment_of, bytes_of, hw_of, name_of, state_of}
+use Rattle.of_text.specs.Lines.{is_passed}
+use Rattle.of_replay.specs.Lexing.{is_line, first_word, after_word, number_of, moment_of, bytes_of, hw_of, name_of, state_of}
 
 -- a row with its bytes
 pub data EventRow : Type 0 where

@@ -1,37 +1,17 @@
 //! Words, numbers and bytes of event files.
-ghost use Rattle.std.specs.Prelude.{◌≡◌, ◌==◌, ◌&&◌, ◌<◌, ◌≤◌, ◌^◌, ◌+◌, ◌*◌, ◌++◌, ◌-◌, if◌then◌else◌, length, take, drop, replicate, Some, None, IfOk, IfSome, position, vec_len};
+ghost use Rattle.std.specs.Prelude.{◌≡◌, ◌==◌, ◌&&◌, ◌<◌, ◌≤◌, ◌^◌, ◌+◌, ◌*◌, ◌++◌, ◌-◌, if◌then◌else◌, length, replicate, Some, None, IfOk, IfSome, position, vec_len};
 ghost use Rattle.std.specs.Option.{option_copied};
 ghost use Rattle.std.specs.Result.{result_ok};
 ghost use Rattle.hex.specs.Hex.{decode_of};
 ghost use Rattle.std.specs.List.{list_all};
-ghost use Rattle.std.specs.Str.{bytes_eq, is_utf8};
-ghost use Rattle.of_replay.specs.Lexing.{first_word, after_word, is_line, is_passed, number_of, moment_of, decimal, below, digits_value, bytes_of, hw_of, name_of, state_of, is_name_byte};
+ghost use Rattle.std.specs.Str.{is_utf8};
+ghost use Rattle.of_replay.specs.Lexing.{first_word, after_word, is_line, number_of, moment_of, decimal, below, digits_value, bytes_of, hw_of, name_of, state_of, is_name_byte};
 
+use of_wire::{front_of, rest_from};
 use std::alloc::AllocError;
 
 /// How many bytes a line has at most, without its end.
 const LONGEST_LINE: usize = 1_048_576;
-
-/// Whether the two are the same bytes.
-pub fn is(word: &[u8], text: &[u8]) -> bool
-    ensures { result ≡ bytes_eq word.now text.now }
-{
-    word == text
-}
-
-fn rest_from(bytes: &[u8], at: usize) -> &[u8]
-    requires { at ≤ length bytes.now }
-    ensures { result.now ≡ drop at bytes.now }
-{
-    &bytes[at..]
-}
-
-fn front_part(bytes: &[u8], size: usize) -> &[u8]
-    requires { size ≤ length bytes.now }
-    ensures { result.now ≡ take size bytes.now }
-{
-    &bytes[..size]
-}
 
 // The place of the first space.
 fn space_in(line: &[u8]) -> Option<usize>
@@ -48,7 +28,7 @@ pub fn cut_word(line: &[u8]) -> (&[u8], Option<&[u8]>)
 {
     match space_in(line) {
         None => (line, None),
-        Some(at) => (front_part(line, at), Some(rest_from(line, at + 1))),
+        Some(at) => (front_of(line, at), Some(rest_from(line, at + 1))),
     }
 }
 
@@ -65,16 +45,6 @@ fn is_text(line: &[u8]) -> bool
     match std::str::from_utf8(line) {
         Ok(_) => true,
         Err(_) => false,
-    }
-}
-
-/// Whether a line is empty or a comment.
-pub fn is_passed_over(line: &[u8]) -> bool
-    ensures { result ≡ is_passed line.now }
-{
-    match line {
-        [] => true,
-        [first, ..] => *first == b'#',
     }
 }
 

@@ -1,6 +1,5 @@
 //! The lines that are printed, and their way to a sink.
-ghost use Rattle.std.specs.Prelude.{◌≡◌, ◌++◌, ◌∷◌, ◌<◌, [], IfOk, IfErr, OnOk, OnErr, codes, decimal};
-ghost use Rattle.hex.specs.Hex.{encode_lower};
+ghost use Rattle.std.specs.Prelude.{◌≡◌, ◌++◌, ◌<◌, [], IfErr, OnOk, OnErr, decimal};
 ghost use Rattle.of_replay.specs.Told.{then_bytes};
 ghost use Rattle.of_replay.specs.Transfer.{WrotePrefix};
 ghost use Rattle.of_replay.specs.Output.{line_of, refused_line, text_of};
@@ -9,20 +8,13 @@ ghost use Rattle.of_replay.specs.Stepping.{PrintsReport};
 use crate::halt::Halt;
 use crate::io::Sink;
 use crate::transfer::write_all;
+use of_build::push_hex;
 use of_switch::{Effect, Effects, SwitchError};
 use std::alloc::{AllocError, Global};
 use std::marker::Model;
 
 /// What is printed is written in parts of at least this many bytes.
 const PART: usize = 65_536;
-
-/// Appends bytes as hex digits in lower case.
-fn push_hex(alloc: Global, out: &mut Vec<u8>, bytes: &[u8]) -> Result<(), AllocError>
-    ensures { OnOk result (out.new.items ≡ out.old.items ++ encode_lower bytes.now) }
-{
-    let text = hex::encode(alloc, bytes)?;
-    out.extend_from_slice(text.as_bytes())
-}
 
 /// Appends a number in decimal.
 fn push_number(alloc: Global, out: &mut Vec<u8>, number: u32) -> Result<(), AllocError>

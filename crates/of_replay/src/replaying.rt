@@ -1,5 +1,5 @@
 //! Rows as they are read, played on a switch, and what is printed for them.
-ghost use Rattle.std.specs.Prelude.{◌≡◌, ◌+◌, ◌<◌, ◌≤◌, ◌^◌, ◌++◌, ℕ, List, [], Option, IfErr, OnOk, length, take, drop, position, ◌==◌};
+ghost use Rattle.std.specs.Prelude.{◌≡◌, ◌+◌, ◌<◌, ◌≤◌, ◌^◌, ◌++◌, ℕ, List, [], Option, IfErr, OnOk, length, take, position, ◌==◌};
 ghost use Rattle.of_switch.specs.State.{start};
 ghost use Rattle.of_replay.specs.Rows.{row_of};
 ghost use Rattle.of_replay.specs.RowTexts.{Tells};
@@ -13,6 +13,7 @@ use crate::rows::read_row;
 use crate::telling::RowPrinter;
 use of_classifier::Lookup;
 use of_switch::Switch;
+use of_wire::{front_of, rest_from};
 use std::alloc::{AllocError, Global};
 
 /// How often a reader is read at most.
@@ -31,20 +32,6 @@ pub struct Replaying<L: Lookup> {
     text: Vec<u8>,
     printer: Printer,
     alloc: Global,
-}
-
-fn rest_from(bytes: &[u8], at: usize) -> &[u8]
-    requires { at ≤ length bytes.now }
-    ensures { result.now ≡ drop at bytes.now }
-{
-    &bytes[at..]
-}
-
-fn front_of(bytes: &[u8], len: usize) -> &[u8]
-    requires { len ≤ length bytes.now }
-    ensures { result.now ≡ take len bytes.now }
-{
-    &bytes[..len]
 }
 
 fn line_len(bytes: &[u8]) -> Option<usize>

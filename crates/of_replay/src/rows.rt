@@ -4,10 +4,10 @@ ghost use Rattle.std.specs.Option.{option_map};
 ghost use Rattle.of_replay.specs.Rows.{row_of, with_bytes, piece_row, frame_row, port_of, change_of, added_port, removed_port, linked_port, named_row};
 
 use crate::lexing::{
-    cut_word, is, is_passed_over, is_readable, read_bytes, read_hw, read_moment, read_name,
-    read_number, read_state,
+    cut_word, is_readable, read_bytes, read_hw, read_moment, read_name, read_number, read_state,
 };
 use of_switch::PortChange;
+use of_text::{is, is_passed_over};
 use std::alloc::AllocError;
 
 /// A row of an event file. The bytes of a piece or a frame are in the buffer that it was read with.

@@ -1,17 +1,11 @@
 //! Whole texts to a sink.
-ghost use Rattle.std.specs.Prelude.{◌≡◌, ◌<◌, ◌≤◌, length, drop};
+ghost use Rattle.std.specs.Prelude.{◌≡◌, ◌<◌};
 ghost use Rattle.std.specs.Bool.{OnTrue, OnFalse};
 ghost use Rattle.of_replay.specs.Told.{then_bytes};
 ghost use Rattle.of_replay.specs.Transfer.{WrotePrefix};
 
 use crate::io::{Sink, Writing};
-
-fn rest_from(bytes: &[u8], at: usize) -> &[u8]
-    requires { at ≤ length bytes.now }
-    ensures { result.now ≡ drop at bytes.now }
-{
-    &bytes[at..]
-}
+use of_wire::rest_from;
 
 /// Writes all of the bytes and returns true, unless a write fails: then a prefix was written.
 pub fn write_all<W: Sink>(writer: &mut W, bytes: &[u8]) -> bool

@@ -1,5 +1,5 @@
 //! A file that is read whole.
-ghost use Rattle.std.specs.Prelude.{◌≡◌, ◌≤◌, ◌<◌, ◌++◌, [], length, take, OnOk, IfErr};
+ghost use Rattle.std.specs.Prelude.{◌≡◌, ◌≤◌, ◌<◌, ◌++◌, [], length, OnOk, IfErr};
 ghost use Rattle.of_replay.specs.Assembling.{ReadsFile, bad_line as first_bad_line};
 ghost use Rattle.of_replay.specs.Stepping.{ReadsFail};
 
@@ -7,16 +7,10 @@ use crate::halt::Halt;
 use crate::io::{Reading, Source};
 use crate::lexing::is_readable;
 use of_text::cut;
+use of_wire::front_of;
 
 /// How often a reader is read at most.
 const MOST_READS: u32 = 1_000_000;
-
-fn front_of(bytes: &[u8], len: usize) -> &[u8]
-    requires { len ≤ length bytes.now }
-    ensures { result.now ≡ take len bytes.now }
-{
-    &bytes[..len]
-}
 
 // Appends these bytes to the file.
 fn keep(file: &mut Vec<u8>, part: &[u8]) -> Result<(), Halt>

@@ -9,9 +9,9 @@ use Rattle.of_messages.specs.CanonicalGroups.{as_written, has_numbers}
 use Rattle.of_messages.specs.declared.group_mod.NewGroup.{NewGroup}
 use Rattle.of_ports.specs.declared.port.Port.{Port}
 use Rattle.of_table.specs.Selecting.{seconds_since, nanoseconds_since}
-use Rattle.of_table.specs.Table.{FlowEntry}
+use Rattle.of_table.specs.Table.{FlowEntry, flags_number}
 use Rattle.of_table.specs.Tables.{Tables}
-use Rattle.of_statistics.specs.Flows.{Listed, flags_number, from_tables, totals}
+use Rattle.of_statistics.specs.Flows.{Listed, from_tables, totals}
 use Rattle.of_statistics.specs.Groups.{references}
 use Rattle.of_grammar.specs.Cells.{Fits}
 use Rattle.of_reply_grammar.specs.Rows.{FlowStats, flow_cells, AggregateStats, TableStats, PortStats, GroupStats, group_stats_cells, bucket_stats_cells}

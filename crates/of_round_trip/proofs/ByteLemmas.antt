@@ -33,7 +33,8 @@ use Rattle.of_messages.specs.declared.message.FlowModCommand.{FlowModCommand}
 use Rattle.of_messages.specs.declared.message.FlowModCommand.TheVariants.{Add, Modify, ModifyStrict, Delete, DeleteStrict}
 use Rattle.of_messages.specs.declared.group_mod.NewGroup.{NewGroup}
 use Rattle.of_messages.specs.Written.{command_number, flow_mod_bytes, flow_mod_fixed_part, message}
-use Rattle.of_messages.specs.CanonicalGroups.{canonical_bucket, canonical_buckets, group_add_bytes, group_add_fixed_part, kind_number}
+use Rattle.of_groups.specs.Groups.{kind_number}
+use Rattle.of_messages.specs.CanonicalGroups.{canonical_bucket, canonical_buckets, group_add_bytes, group_add_fixed_part}
 
 -- each is below 256
 pub record Bytes (bytes : List ℕ) : Type 0 where

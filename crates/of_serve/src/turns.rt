@@ -1,5 +1,5 @@
 //! Turns: an accept or a read, what it gives, and that written.
-ghost use Rattle.std.specs.Prelude.{◌≡◌, ◌≤◌, ◌<◌, ◌^◌, ◌+◌, ◌∷◌, [], length, take, drop, OnOk, OnErr};
+ghost use Rattle.std.specs.Prelude.{◌≡◌, ◌≤◌, ◌<◌, ◌^◌, ◌+◌, [], length, OnOk, OnErr};
 ghost use Rattle.std.specs.Prelude.{ℕ, List, Option};
 ghost use Rattle.of_serve.specs.Turns.{nothing_pending, standing};
 ghost use Rattle.of_serve.specs.Serves.{tells};
@@ -10,21 +10,8 @@ use crate::peers::{Accepted, Clock, Peers};
 use crate::rows::Rows;
 use of_classifier::Lookup;
 use of_replay::{Halt, Reading, Row, Sink, Writing, write_all};
+use of_wire::{front_of, rest_from};
 use std::alloc::AllocError;
-
-fn front_of(bytes: &[u8], len: usize) -> &[u8]
-    requires { len ≤ length bytes.now }
-    ensures { result.now ≡ take len bytes.now }
-{
-    &bytes[..len]
-}
-
-fn rest_from(bytes: &[u8], at: usize) -> &[u8]
-    requires { at ≤ length bytes.now }
-    ensures { result.now ≡ drop at bytes.now }
-{
-    &bytes[at..]
-}
 
 /// Writes all of the bytes to the open connection, and returns true; or a write fails, and nothing more is written.
 pub fn write_answers<P: Peers>(peers: &mut P, bytes: &[u8]) -> bool

@@ -77,7 +77,12 @@ fn barrier(rt: HostRuntime) -> Result<(), Fail> {
 // Serves a controller that stays, with rows, at three moments; gives what was written of the rows, and what the controller took.
 fn served_rows(alloc: Global, out: &mut MemorySink) -> Result<MemoryPeers, Fail> {
     let mut script = Vec::new(alloc);
-    for line in [Line::Open, gives(alloc, &[HELLO, FLOW])?, Line::Idle, Line::Idle] {
+    for line in [
+        Line::Open,
+        gives(alloc, &[HELLO, FLOW])?,
+        Line::Idle,
+        Line::Idle,
+    ] {
         script.push(line)?;
     }
     let mut file = MemorySource::new(alloc, ROWS, 50, 0)?;

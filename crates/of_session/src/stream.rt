@@ -2,6 +2,7 @@
 ghost use Rattle.std.specs.Prelude.{◌≡◌, ◌++◌, ◌*◌, ◌≤◌, ℕ, List, [], length, take, drop, OnOk, OnErr};
 ghost use Rattle.of_session.specs.Stream.{beginning_of, beginning_is, IsThere, Splits};
 
+use of_wire::{front_of, rest_from};
 use std::alloc::{AllocError, Global};
 use std::marker::Model;
 
@@ -86,7 +87,7 @@ impl Stream {
         requires { size ≤ length self.now }
         ensures { result.now ≡ take size self.now }
     {
-        front_part(self.left(), size)
+        front_of(self.left(), size)
     }
 
     /// Takes the first bytes. No more bytes move than were taken since the last time that some moved.
@@ -122,20 +123,6 @@ fn drop_front(bytes: &mut Vec<u8>, count: usize)
     let left = bytes.len() - count;
     bytes.as_mut_slice().copy_within(count.., 0);
     bytes.truncate(left);
-}
-
-fn rest_from(bytes: &[u8], start: usize) -> &[u8]
-    requires { start ≤ length bytes.now }
-    ensures { result.now ≡ drop start bytes.now }
-{
-    &bytes[start..]
-}
-
-fn front_part(bytes: &[u8], size: usize) -> &[u8]
-    requires { size ≤ length bytes.now }
-    ensures { result.now ≡ take size bytes.now }
-{
-    &bytes[..size]
 }
 
 fn front_in(bytes: &[u8]) -> Beginning

@@ -3,7 +3,8 @@ use Rattle.std.proofs.Common.{◌≡◌, ◌≤◌, ℕ, ◌+◌, ◌*◌, List,
 use Rattle.std.specs.List.{flat_map}
 use Rattle.std.proofs.lemmas.List.{length-append}
 use Rattle.byteorder.specs.Endian.{big_bytes}
-use Rattle.of_messages.specs.CanonicalGroups.{canonical_buckets, kind_number}
+use Rattle.of_groups.specs.Groups.{kind_number}
+use Rattle.of_messages.specs.CanonicalGroups.{canonical_buckets}
 use Rattle.of_groups.specs.declared.bucket.Bucket.{Bucket}
 use Rattle.of_groups.specs.declared.group.Group.{Group}
 use Rattle.of_statistics.specs.Durations.{duration}

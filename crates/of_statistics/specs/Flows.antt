@@ -1,12 +1,11 @@
 -- FLOW, AGGREGATE and TABLE (OpenFlow 1.3.5, 7.3.5.2, 7.3.5.3 and 7.3.5.4): statistics of entries and tables.
-use Rattle.std.specs.Prelude.{ℕ, suc, ◌+◌, ◌%◌, ◌^◌, Bool, List, [], ◌∷◌, ◌++◌, length, map, filter, replicate, if◌then◌else◌}
+use Rattle.std.specs.Prelude.{ℕ, suc, ◌+◌, ◌%◌, ◌^◌, List, [], ◌∷◌, ◌++◌, length, map, filter, replicate, if◌then◌else◌}
 use Rattle.std.specs.List.{sum_by}
 use Rattle.byteorder.specs.Endian.{big_bytes}
 use Rattle.of_oxm.specs.Canonical.{canonical}
 use Rattle.of_actions.specs.CanonicalInstructions.{canonical_instructions}
-use Rattle.of_table.specs.declared.flow.FlowFlags.{FlowFlags}
 use Rattle.of_table.specs.declared.selection.Selector.{Selector}
-use Rattle.of_table.specs.Table.{FlowEntry, Table}
+use Rattle.of_table.specs.Table.{FlowEntry, Table, flags_number}
 use Rattle.of_table.specs.Tables.{Tables, is_in}
 use Rattle.of_table.specs.Selecting.{selects}
 use Rattle.of_statistics.specs.declared.aggregate.Totals.{Totals}
@@ -32,13 +31,6 @@ abbrev pub listed : Selector → Tables → List Listed
 listed w ts = from_tables (listed_in w) 0 ts.tables
 
 -- ---- FLOW
-
-abbrev pub bit : ℕ → Bool → ℕ
-bit value on = if on then value else 0
-
--- OFPFF_SEND_FLOW_REM, OFPFF_NO_PKT_COUNTS and OFPFF_NO_BYT_COUNTS: an entry keeps no other
-abbrev pub flags_number : FlowFlags → ℕ
-flags_number f = bit 1 f.send_removed + bit 8 f.no_packet_counts + bit 16 f.no_byte_counts
 
 -- the length of the whole row: the fields before the match have 48 bytes
 abbrev pub flow_row_size : FlowEntry → ℕ

@@ -3,10 +3,10 @@ use Rattle.std.specs.Prelude.{ℕ, ◌+◌, ◌*◌, List, [], ◌∷◌, ◌++�
 use Rattle.std.specs.List.{count_by, flat_map}
 use Rattle.std.specs.Option.{option_to_list}
 use Rattle.byteorder.specs.Endian.{big_bytes}
-use Rattle.of_messages.specs.CanonicalGroups.{canonical_buckets, kind_number}
+use Rattle.of_messages.specs.CanonicalGroups.{canonical_buckets}
 use Rattle.of_groups.specs.declared.bucket.Bucket.{Bucket}
 use Rattle.of_groups.specs.declared.group.Group.{Group}
-use Rattle.of_groups.specs.Groups.{find_group, sends_to}
+use Rattle.of_groups.specs.Groups.{find_group, sends_to, kind_number}
 use Rattle.of_table.specs.Table.{FlowEntry}
 use Rattle.of_table.specs.Tables.{Tables}
 use Rattle.of_table.specs.Selecting.{names_group}

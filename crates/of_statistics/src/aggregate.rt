@@ -4,14 +4,14 @@ ghost use Rattle.of_table.specs.Entries.{entry_of, flows_of};
 ghost use Rattle.of_table.specs.Tables.{table_at, tables_of};
 ghost use Rattle.of_table.specs.Selecting.{selects as selected};
 ghost use Rattle.of_statistics.specs.Flows.{aggregate, aggregate_bytes, asked, totals as totals_of};
-ghost use Rattle.of_statistics.specs.Adding.{asked_of, nothing, plus_all, plus_asked};
+ghost use Rattle.of_statistics.specs.Adding.{asked_of, plus_all, plus_asked};
 
 use crate::replies::{begun, sealed};
-use crate::tables::{TABLES, is_in};
-use crate::writing::{put_u32, put_u64};
+use crate::tables::TABLES;
 use of_classifier::Lookup;
 use of_messages::MessageBytes;
-use of_table::{Entries, Entry, FlowTables, Selector, selects};
+use of_table::{Entries, Entry, FlowTables, Selector, is_in, selects};
+use of_wire::{put_u32, put_u64};
 use std::alloc::{AllocError, Global};
 
 /// OFPMP_AGGREGATE.

@@ -3,29 +3,21 @@ ghost use Rattle.std.specs.Prelude.{◌≡◌, ◌<◌, ◌≤◌, ◌++◌, len
 ghost use Rattle.of_table.specs.Entries.{entry_of, flows_of};
 ghost use Rattle.of_table.specs.Tables.{table_at, tables_of};
 ghost use Rattle.of_statistics.specs.Replies.{with_rows};
-ghost use Rattle.of_statistics.specs.Flows.{flow_bytes, flow_counts, flow_row as row_of, flow_times, flags_number, listed_in, rows_of_entries, rows_of_one};
+ghost use Rattle.of_statistics.specs.Flows.{flow_bytes, flow_counts, flow_row as row_of, flow_times, listed_in, rows_of_entries, rows_of_one};
 
 use crate::replies::Replies;
-use crate::tables::{TABLES, is_in};
-use crate::writing::{put_duration, put_u16, put_u64};
+use crate::tables::TABLES;
+use crate::writing::put_duration;
 use of_actions::write_instructions;
 use of_classifier::Lookup;
 use of_messages::MessageBytes;
 use of_oxm::write_match;
-use of_table::{Entries, Entry, FlowFlags, FlowTables, Selector, selects};
+use of_table::{Entries, Entry, FlowTables, Selector, is_in, selects};
+use of_wire::{put_u16, put_u64};
 use std::alloc::{AllocError, Global};
 
 /// OFPMP_FLOW.
 const FLOW: u16 = 1;
-
-fn flags_of(flags: FlowFlags) -> u16
-    ensures { result ≡ flags_number flags }
-{
-    let removed = if flags.send_removed { 1 } else { 0 };
-    let packets = if flags.no_packet_counts { 8 } else { 0 };
-    let bytes = if flags.no_byte_counts { 16 } else { 0 };
-    removed + packets + bytes
-}
 
 // How long the entry has existed, its priority, timeouts and flags, 20 bytes.
 fn put_times(out: &mut Vec<u8>, now: u64, entry: &Entry) -> Result<(), AllocError>
@@ -35,7 +27,7 @@ fn put_times(out: &mut Vec<u8>, now: u64, entry: &Entry) -> Result<(), AllocErro
     put_u16(out, entry.flow.priority)?;
     put_u16(out, entry.flow.idle_timeout)?;
     put_u16(out, entry.flow.hard_timeout)?;
-    put_u16(out, flags_of(entry.flow.flags))?;
+    put_u16(out, entry.flow.flags.number())?;
     out.extend_from_slice(&[0; 4])
 }
 

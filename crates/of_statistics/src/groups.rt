@@ -2,17 +2,17 @@
 ghost use Rattle.std.specs.Prelude.{◌≡◌, ◌<◌, ◌≤◌, ◌+◌, ◌*◌, ◌++◌, length, map, OnOk, IfOk};
 ghost use Rattle.std.specs.List.{flat_map};
 ghost use Rattle.of_table.specs.Tables.{tables_of};
-ghost use Rattle.of_messages.specs.CanonicalGroups.{kind_number};
 ghost use Rattle.of_statistics.specs.Replies.{with_row, with_rows};
 ghost use Rattle.of_statistics.specs.Groups.{bucket_row, group_bytes, group_description, group_description_bytes, group_features, group_features_bytes, group_fixed_part, group_row, group_rows, row_among};
 
 use crate::references::references;
 use crate::replies::{Replies, begun, sealed};
-use crate::writing::{put_duration, put_u16, put_u32, put_u64};
+use crate::writing::put_duration;
 use of_classifier::Lookup;
-use of_groups::{Bucket, Group, GroupKind, Groups};
+use of_groups::{Bucket, Group, Groups};
 use of_messages::{MessageBytes, write_buckets};
 use of_table::FlowTables;
+use of_wire::{put_u16, put_u32, put_u64};
 use std::alloc::{AllocError, Global};
 
 /// OFPMP_GROUP.
@@ -142,16 +142,6 @@ pub fn group_replies<L: Lookup>(
     out.close()
 }
 
-fn number_of(kind: GroupKind) -> u8
-    ensures { result ≡ kind_number kind }
-{
-    match kind {
-        GroupKind::All => 0,
-        GroupKind::Indirect => 2,
-        GroupKind::FastFailover => 3,
-    }
-}
-
 // What a group is: 8 bytes, and its buckets.
 fn description_row(alloc: Global, group: &Group) -> Result<Vec<u8>, AllocError>
     ensures row { IfOk result (λ v. v.items ≡ group_description group.now) }
@@ -161,7 +151,7 @@ fn description_row(alloc: Global, group: &Group) -> Result<Vec<u8>, AllocError>
     let size = 8 + buckets.len();
     let mut row = Vec::with_capacity(alloc, size)?;
     put_u16(&mut row, size as u16)?;
-    row.extend_from_slice(&[number_of(group.kind), 0])?;
+    row.extend_from_slice(&[group.kind.number(), 0])?;
     put_u32(&mut row, group.id)?;
     row.extend_from_slice(&buckets)?;
     Ok(row)

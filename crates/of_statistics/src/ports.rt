@@ -5,9 +5,10 @@ ghost use Rattle.of_messages.specs.Written.{port_bytes};
 ghost use Rattle.of_statistics.specs.Ports.{asked_ports, described, port_counts, port_description_bytes, port_row, port_stats_bytes};
 
 use crate::replies::{begun, sealed};
-use crate::writing::{put_duration, put_u32, put_u64};
+use crate::writing::put_duration;
 use of_messages::{MessageBytes, PortDescription, put_port};
 use of_ports::{Port, PortCounters, Ports};
+use of_wire::{put_u32, put_u64};
 use std::alloc::{AllocError, Global};
 
 /// OFPMP_PORT_STATS.

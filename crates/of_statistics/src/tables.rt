@@ -1,27 +1,17 @@
 //! TABLE (OpenFlow 1.3.5, 7.3.5.4).
 ghost use Rattle.std.specs.Prelude.{◌≡◌, ◌<◌, ◌++◌, length, OnOk, IfOk};
-ghost use Rattle.of_table.specs.Tables.{is_in as is_within, table_at, tables_of};
+ghost use Rattle.of_table.specs.Tables.{table_at, tables_of};
 ghost use Rattle.of_statistics.specs.Flows.{table_bytes, table_row};
 
 use crate::replies::{begun, sealed};
-use crate::writing::{put_u32, put_u64};
 use of_classifier::Lookup;
 use of_messages::MessageBytes;
-use of_table::{Entries, FlowTables, Selector};
+use of_table::{Entries, FlowTables};
+use of_wire::{put_u32, put_u64};
 use std::alloc::{AllocError, Global};
 
 /// How many tables there are.
 pub(crate) const TABLES: u8 = 16;
-
-/// Whether a table is asked for.
-pub(crate) fn is_in(which: &Selector, table: u8) -> bool
-    ensures { result ≡ is_within which.now.table table }
-{
-    match which.table {
-        None => true,
-        Some(number) => number == table,
-    }
-}
 
 /// OFPMP_TABLE.
 const TABLE: u16 = 3;

@@ -1,9 +1,9 @@
 -- What a switch keeps is a configuration, and one that was loaded is returned again.
-use Rattle.std.proofs.Common.{◌≡◌, ℕ, zero, suc, ◌+◌, ◌<◌, ◌≤◌, eqb, ltb, Bool, true, false, not, cond, List, [], ◌∷◌, ◌++◌, length, take, get_or, Option, Some, None, refl, sym, ◌∙◌, ap, subst, append_assoc, add-one, arith}
-use Rattle.std.specs.Prelude.{◌&&◌, ◌||◌, map, nat_le, bit_and, slice_index_or}
+use Rattle.std.proofs.Common.{◌≡◌, ℕ, zero, suc, ◌+◌, ◌<◌, ◌≤◌, eqb, ltb, Bool, true, false, not, cond, List, [], ◌∷◌, ◌++◌, length, take, get_or, Some, refl, sym, ◌∙◌, ap, subst, append_assoc, add-one, arith}
+use Rattle.std.specs.Prelude.{◌&&◌, ◌||◌, map, bit_and, slice_index_or}
 use Rattle.std.specs.List.{AllByRecursion, list_all, list_any}
-use Rattle.std.specs.Option.{option_map, option_map_or}
-use Rattle.std.proofs.lemmas.Bool.{and_parts, and_from, eq-eqb, eqb-true, leb-true, lt-ltb}
+use Rattle.std.specs.Option.{option_map_or}
+use Rattle.std.proofs.lemmas.Bool.{and_parts, eq-eqb, eqb-true, leb-true}
 use Rattle.std.proofs.lemmas.Bool.Decides.{nat_tests}
 use Rattle.std.proofs.lemmas.Nat.{and_le_r}
 use Rattle.std.proofs.lemmas.List.{append-nil, length-map, length-append, map-append}
@@ -24,7 +24,7 @@ use Rattle.of_groups.specs.Chains.{names_next, is_chain}
 use Rattle.of_groups.specs.Faults.{is_absent, is_bad_watch, is_not_one}
 use Rattle.of_groups.specs.Sound.{is_fit_group, AreSound as AreSoundGroups}
 use Rattle.of_table.specs.declared.flow.FlowFlags.{FlowFlags}
-use Rattle.of_table.specs.Table.{FlowEntry, Table, empty_table, kept_flags}
+use Rattle.of_table.specs.Table.{FlowEntry, Table, empty_table, kept_flags, flags_number, bit}
 use Rattle.of_table.specs.Tables.{NumberedTables, tables_of, table_at}
 use Rattle.of_table.specs.declared.entry.Entry.{Entry}
 use Rattle.of_table.specs.Entries.{Numbered, no_entries, flows_of, table_of}
@@ -32,12 +32,11 @@ use Rattle.of_table.specs.Sound.{AreSound, Key, key_of, is_same_key, are_unlike,
 use Rattle.of_table.specs.Selecting.{has_action}
 use Rattle.of_table.proofs.AddLemmas.{same_is, is_itself}
 use Rattle.of_ports.specs.declared.port.Port.{Port}
-use Rattle.of_statistics.specs.Flows.{flags_number, bit}
-use Rattle.of_text.specs.Flows.{Flow as TextFlow, Step}
+use Rattle.of_text.specs.Flows.{Flow as TextFlow}
 use Rattle.of_text.specs.Groups.{TextBucket, TextGroup, bucket_of, bucket_text, group_at, groups_at, group_text, rows_of_groups}
 use Rattle.of_text.specs.Refusals.{names_absent, is_same as is_same_text}
 use Rattle.of_text.specs.Rows.{Fits}
-use Rattle.of_text.specs.Kept.{AllStandBehind, AreKeptGroups, IsEntry, IsKeptFlow, in_text, step_of, instruction_of, instructions_of}
+use Rattle.of_text.specs.Kept.{AllStandBehind, AreKeptGroups, IsEntry, IsKeptFlow, in_text, step_of, instruction_of}
 use Rattle.of_text.specs.KeptConfigs.{IsHeaded, AreKeptFlows, AreKeptTables, IsKeptConfig}
 use Rattle.of_text.specs.Configs.{Configuration, IsConfig, view_table, view_tables}
 use Rattle.of_text.specs.declared.flow.FlowText.{FlowText}
@@ -46,7 +45,7 @@ use Rattle.of_text.proofs.ConfigLemmas.{AllFor, all_for}
 use Rattle.of_text.proofs.EntryLemmas.{config_stands}
 use Rattle.of_text.proofs.FillLemmas.{sixteen, table_at as text_table_at}
 use Rattle.of_text.proofs.StandLemmas.{flow_again}
-use Rattle.of_switch.specs.Commands.{flags_of, names_absent_group}
+use Rattle.of_switch.specs.Commands.{flags_of}
 use Rattle.of_switch.specs.Configuring.{AreKeptEntries, AreKeptFrom}
 use Rattle.of_switch.specs.Loading.{loaded, loaded_entry, loaded_table, flow_kept, entry_text, table_text, texts_from, config_of}
 use Rattle.of_switch.specs.Numbers.{forwarding_of}

@@ -5,9 +5,8 @@ use Rattle.of_text.specs.Groups.{groups_at, group_text}
 use Rattle.of_text.specs.Configs.{Configuration}
 use Rattle.of_text.specs.Kept.{KeptFlow, in_text, instructions_of}
 use Rattle.of_table.specs.declared.flow.Flow.{Flow}
-use Rattle.of_table.specs.Table.{FlowEntry, Table, kept_flags, with_flow}
+use Rattle.of_table.specs.Table.{FlowEntry, Table, kept_flags, with_flow, flags_number}
 use Rattle.of_table.specs.Tables.{Tables}
-use Rattle.of_statistics.specs.Flows.{flags_number}
 use Rattle.of_switch.specs.Commands.{flags_of}
 use Rattle.of_switch.specs.Steps.{with_groups, with_tables}
 use Rattle.of_switch.specs.Plane.{Forwarding}

@@ -1,7 +1,6 @@
 //! Configurations from the tables and groups of a switch.
 ghost use Rattle.std.specs.Prelude.{◌≡◌, IfOk, map};
 ghost use Rattle.std.specs.List.{AllByRecursion};
-ghost use Rattle.of_statistics.specs.Flows.{flags_number};
 ghost use Rattle.of_table.specs.Entries.{flows_of};
 ghost use Rattle.of_table.specs.Tables.{tables_of};
 ghost use Rattle.of_text.specs.Configs.{view_tables};
@@ -17,22 +16,12 @@ ghost use Rattle.of_switch.specs.Standing.{GroupsExist};
 use of_classifier::Lookup;
 use of_groups::{Group, Groups};
 use of_ports::Ports;
-use of_table::{Entries, Flow, FlowFlags, FlowTables};
+use of_table::{Entries, Flow, FlowTables};
 use of_text::{Config, FlowHead, FlowText, GroupText};
 use std::alloc::{AllocError, Global};
 
 /// How many flow tables there are.
 const TABLES: u8 = 16;
-
-// The flags that an entry keeps, as a number.
-fn flags_of(flags: FlowFlags) -> u16
-    ensures { result ≡ flags_number flags }
-{
-    let removed = if flags.send_removed { 1 } else { 0 };
-    let packets = if flags.no_packet_counts { 8 } else { 0 };
-    let bytes = if flags.no_byte_counts { 16 } else { 0 };
-    removed + packets + bytes
-}
 
 fn flow_text(alloc: Global, table: u8, flow: &Flow) -> Result<FlowText, AllocError>
     ensures text { IfOk result (λ text. view text ≡ in_text (flow_kept table flow.now)) }
@@ -44,7 +33,7 @@ fn flow_text(alloc: Global, table: u8, flow: &Flow) -> Result<FlowText, AllocErr
         cookie: flow.cookie,
         idle: flow.idle_timeout,
         hard: flow.hard_timeout,
-        flags: flags_of(flow.flags),
+        flags: flow.flags.number(),
     };
     FlowText::of(alloc, head, &flow.fields, &flow.instructions)
 }

@@ -40,6 +40,14 @@ is_same flow e = e.flow.priority == flow.priority && is_same_match e.flow.fields
 abbrev pub kept_flags : FlowFlags → FlowFlags
 kept_flags flags = record flags { check_overlap = false; reset_counts = false }
 
+-- the number of flags (7.3.4.1)
+abbrev pub bit : ℕ → Bool → ℕ
+bit value on = if on then value else 0
+
+-- OFPFF_SEND_FLOW_REM, OFPFF_NO_PKT_COUNTS and OFPFF_NO_BYT_COUNTS: an entry keeps no other
+abbrev pub flags_number : FlowFlags → ℕ
+flags_number f = bit 1 f.send_removed + bit 8 f.no_packet_counts + bit 16 f.no_byte_counts
+
 abbrev pub kept_flow : Flow → Flow
 kept_flow flow = record flow { flags = kept_flags flow.flags }
 

@@ -1,4 +1,6 @@
 //! Flows, as a FLOW_MOD gives them.
+ghost use Rattle.std.specs.Prelude.{◌≡◌};
+ghost use Rattle.of_table.specs.Table.{flags_number};
 
 use of_actions::InstructionList;
 use of_oxm::Match;
@@ -16,6 +18,18 @@ pub struct FlowFlags {
     pub no_packet_counts: bool,
     /// OFPFF_NO_BYT_COUNTS: bytes are not counted.
     pub no_byte_counts: bool,
+}
+
+impl FlowFlags {
+    /// The number of those that an entry keeps.
+    pub fn number(self) -> u16
+        ensures { result ≡ flags_number self }
+    {
+        let removed = if self.send_removed { 1 } else { 0 };
+        let packets = if self.no_packet_counts { 8 } else { 0 };
+        let bytes = if self.no_byte_counts { 16 } else { 0 };
+        removed + packets + bytes
+    }
 }
 
 /// A flow entry's fixed parts (OpenFlow 1.3.5, 5.2).

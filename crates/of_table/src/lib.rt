@@ -21,6 +21,6 @@ pub use entry::Entry;
 pub use flow::{Flow, FlowFlags};
 pub use flow_tables::FlowTables;
 pub use of_wire::FlowRemovedReason;
-pub use selection::{Cause, NANOS, Removed, Selector, names_group, selects};
+pub use selection::{Cause, NANOS, Removed, Selector, is_in, names_group, selects};
 pub use table_fault::TableFault;
 pub use walk::Entries;

@@ -169,7 +169,7 @@ pub(crate) fn reason(cause: &Cause, entry: &Entry) -> Option<FlowRemovedReason>
 }
 
 /// Whether the command concerns the table of that number.
-pub(crate) fn is_in(which: &Selector, table: u8) -> bool
+pub fn is_in(which: &Selector, table: u8) -> bool
     ensures { result ≡ is_within which.now.table table }
 {
     match which.table {

@@ -17,7 +17,7 @@ use Rattle.of_table.specs.Table.{FlowEntry}
 use Rattle.of_table.specs.Tables.{table_at}
 use Rattle.of_machine.specs.declared.data.Step.{Step}
 use Rattle.of_machine.specs.declared.data.Step.TheVariants.{Miss, Entry, Apply, Clear, Write, Metadata, Goto, Set, Act, TtlExpired, End}
-use Rattle.of_text.specs.Lines.{ended}
+use Rattle.of_text.specs.Lines.{ended, note}
 use Rattle.of_layers.specs.Fields.{name_of}
 use Rattle.of_text.specs.Rows.{spelling}
 use Rattle.of_text.specs.declared.row.Row.TheVariants as rows
@@ -34,7 +34,7 @@ use Rattle.of_trace.specs.Sights.{key_seen, sight_after, stepped}
 use Rattle.of_trace.specs.Text.{step_line, steps_text, trace_text}
 use Rattle.of_trace.specs.Why.{reason_in}
 use Rattle.of_trace.specs.OnlyNotes.{NotedLine, OnlyNotesAdded}
-use Rattle.of_trace.specs.Notes.{changes, entered, entry_notes, explained, explained_from, first_notes, flow_there, group_notes, head_in, is_asked, is_many, is_set, is_unsent, look_notes, looks_at, match_notes, note, notes, output_note, port_note, port_words, reason_note, reasons_from, said, same_value, seen_notes, sending_notes, set_notes, ttl_seen, ttl_words, reason_words, value_or_absent}
+use Rattle.of_trace.specs.Notes.{changes, entered, entry_notes, explained, explained_from, first_notes, flow_there, group_notes, head_in, is_asked, is_many, is_set, is_unsent, look_notes, looks_at, match_notes, notes, output_note, port_note, port_words, reason_note, reasons_from, said, same_value, seen_notes, sending_notes, set_notes, ttl_seen, ttl_words, reason_words, value_or_absent}
 
 pub record AreNotes (text : List ℕ) : Type 0 where
   pub notes : List (List ℕ)

@@ -14,13 +14,12 @@ use Rattle.of_actions.specs.declared.action.Action.TheVariants.{Output, Group}
 use Rattle.of_ports.specs.declared.port.Port.{Port}
 use Rattle.of_ports.specs.Ports.{is_live, may_send, port_at}
 use Rattle.of_table.specs.declared.flow.Flow.{Flow}
-use Rattle.of_table.specs.declared.flow.FlowFlags.{FlowFlags}
-use Rattle.of_table.specs.Table.{FlowEntry}
+use Rattle.of_table.specs.Table.{FlowEntry, flags_number}
 use Rattle.of_table.specs.Tables.{table_at}
 use Rattle.of_machine.specs.declared.data.Step.{Step}
 use Rattle.of_machine.specs.declared.data.Step.TheVariants.{Miss, Entry, Metadata, Set, Act, TtlExpired, End}
 use Rattle.of_oxm.specs.declared.match_field.MatchField.{MatchField}
-use Rattle.of_text.specs.Lines.{ended}
+use Rattle.of_text.specs.Lines.{ended, note}
 use Rattle.of_text.specs.declared.row.FlowHead.{FlowHead}
 use Rattle.of_text.specs.Rows.{spelling, value_word}
 use Rattle.of_text.specs.declared.row.Row.TheVariants as rows
@@ -38,9 +37,6 @@ use Rattle.of_trace.specs.Sights.{key_seen, sight_after, stepped}
 use Rattle.of_trace.specs.Text.{step_line, trace_text}
 use Rattle.of_trace.specs.Why.{reason_in}
 
-abbrev pub note : List ℕ → List ℕ
-note line = codes "    " ++ ended line
-
 -- ---- values
 
 -- a space and a value in the digits of its field's bytes; no value has a bit above the field's width
@@ -55,13 +51,6 @@ value_or_absent f (Some v) = digits f v
 
 abbrev pub match_notes : List MatchField → List ℕ
 match_notes fields = flat_map (λ e. note (spelling (rows.Match e))) fields
-
--- the flags of a flow, summed (7.3.4.1)
-abbrev pub flag_of : Bool → ℕ → ℕ
-flag_of b n = if b then n else 0
-
-abbrev pub flags_number : FlowFlags → ℕ
-flags_number f = flag_of f.send_removed 1 + flag_of f.check_overlap 2 + flag_of f.reset_counts 4 + flag_of f.no_packet_counts 8 + flag_of f.no_byte_counts 16
 
 abbrev pub head_in : ℕ → Flow → FlowHead
 head_in table f = record { table = table; priority = f.priority; cookie = f.cookie; idle = f.idle_timeout; hard = f.hard_timeout; flags = flags_number f.flags }

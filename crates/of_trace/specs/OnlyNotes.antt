@@ -1,8 +1,7 @@
 -- NOTES ARE ADDED AND NOTHING ELSE: a text that is another with notes inserted, each after one of its lines.
 use Rattle.std.specs.Prelude.{◌≡◌, ℕ, List, ◌++◌}
 use Rattle.std.specs.List.{flat_map}
-use Rattle.of_text.specs.Lines.{ended}
-use Rattle.of_trace.specs.Notes.{note}
+use Rattle.of_text.specs.Lines.{ended, note}
 
 -- a line, and the notes below it
 pub record NotedLine : Type 0 where

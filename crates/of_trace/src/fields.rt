@@ -1,19 +1,17 @@
 //! Fields of packets in notes.
-ghost use Rattle.std.specs.Prelude.{◌≡◌, ◌++◌, ◌<◌, ◌≤◌, OnOk, bit_and};
-ghost use Rattle.std.specs.List.{flat_map, list_any};
+ghost use Rattle.std.specs.Prelude.{◌≡◌, ◌++◌, ◌<◌, OnOk};
+ghost use Rattle.std.specs.List.{flat_map};
 ghost use Rattle.of_headers.specs.FieldMap.{value};
-ghost use Rattle.of_layers.specs.Fields.{number_of};
 ghost use Rattle.of_table.specs.Entries.{flows_of};
 ghost use Rattle.of_table.specs.Tables.{table_at};
 ghost use Rattle.of_trace.specs.Notes.{change_note, change_notes, digits, has_field, looks_at as is_looked_at, mask_digits, same_value, seen_note, seen_notes, ttl_note, ttl_words, value_or_absent};
 
-use crate::notes::{begin_note, end_note};
 use of_classifier::Lookup;
 use of_headers::{Field, FieldKey};
 use of_oxm::MatchField;
 use of_switch::Switch;
 use of_table::Entries;
-use of_text::{push_number, push_value};
+use of_text::{begin_note, end_note, push_number, push_value};
 use std::alloc::AllocError;
 
 // Whether the match has the field.

@@ -1,5 +1,5 @@
 //! Traces for people.
-ghost use Rattle.std.specs.Prelude.{◌≡◌, ◌≤◌, ◌<◌, ◌++◌, ◌∷◌, IfOk, OnOk, Some, IsTrue, codes, decimal};
+ghost use Rattle.std.specs.Prelude.{◌≡◌, ◌<◌, ◌++◌, ◌∷◌, IfOk, OnOk, Some, IsTrue, codes, decimal};
 ghost use Rattle.std.specs.List.{AllByRecursion};
 ghost use Rattle.of_oxm.specs.NormalForm.{IsKept};
 ghost use Rattle.of_text.specs.Rows.{Fits, spelling};
@@ -8,11 +8,12 @@ ghost use Rattle.of_switch.specs.Plane.{world_of};
 ghost use Rattle.of_table.specs.Tables.{table_at};
 ghost use Rattle.of_trace.specs.Spelt.{are_spelt, is_spelt};
 ghost use Rattle.of_trace.specs.Sights.{key_seen, sight_after, stepped};
-ghost use Rattle.of_trace.specs.Notes.{changes, entry_notes, explained, explained_from, first_notes, flag_of, flags_number, flow_there, head_in, is_unsent as is_unsent_by, look_notes, match_notes, note, notes as notes_of, sending_notes, sends as is_sending, set_notes, table_notes};
+ghost use Rattle.of_text.specs.Lines.{note};
+ghost use Rattle.of_trace.specs.Notes.{changes, entry_notes, explained, explained_from, first_notes, flow_there, head_in, is_unsent as is_unsent_by, look_notes, match_notes, notes as notes_of, sending_notes, sends as is_sending, set_notes, table_notes};
 
 use crate::fields::{push_changes, push_seen, push_ttl_change};
 use crate::form::Asked;
-use crate::notes::{begin_note, end_note, push_note, push_number_note};
+use crate::notes::push_number_note;
 use crate::packets::{Packets, enter, put_back};
 use crate::printing::push_step;
 use crate::reasons::push_reasons;
@@ -26,8 +27,8 @@ use of_machine::Step;
 use of_oxm::MatchField;
 use of_replay::push_effects;
 use of_switch::Switch;
-use of_table::{Flow, FlowFlags};
-use of_text::{FlowHead, Row, push_row};
+use of_table::Flow;
+use of_text::{FlowHead, Row, begin_note, end_note, push_note, push_row};
 use std::alloc::{AllocError, Global};
 
 /// How many flow tables there are.
@@ -43,24 +44,6 @@ fn push_row_note(out: &mut Vec<u8>, row: Row) -> Result<(), AllocError>
     end_note(out)
 }
 
-// The number of a flag, where it is set.
-fn flag(is_set: bool, number: u16) -> u16
-    ensures value { result ≡ flag_of is_set number }
-    ensures most { result ≤ number }
-{
-    if is_set { number } else { 0 }
-}
-
-fn flags_sum(flags: FlowFlags) -> u16
-    ensures { result ≡ flags_number flags }
-{
-    flag(flags.send_removed, 1)
-        + flag(flags.check_overlap, 2)
-        + flag(flags.reset_counts, 4)
-        + flag(flags.no_packet_counts, 8)
-        + flag(flags.no_byte_counts, 16)
-}
-
 fn head_of(table: u8, flow: &Flow) -> FlowHead
     ensures { result ≡ head_in table flow.now }
 {
@@ -70,7 +53,7 @@ fn head_of(table: u8, flow: &Flow) -> FlowHead
         cookie: flow.cookie,
         idle: flow.idle_timeout,
         hard: flow.hard_timeout,
-        flags: flags_sum(flow.flags),
+        flags: flow.flags.number(),
     }
 }
 

@@ -8,13 +8,12 @@ ghost use Rattle.of_trace.specs.Notes.{is_asked, reason_note, reason_words, reas
 use crate::explaining::why;
 use crate::fields::{push_digits, push_found, push_mask};
 use crate::form::Asked;
-use crate::notes::{begin_note, end_note};
 use crate::reason::Reason;
 use of_classifier::Lookup;
 use of_headers::FieldKey;
 use of_switch::Switch;
 use of_table::Entry;
-use of_text::push_number;
+use of_text::{begin_note, end_note, push_number};
 use std::alloc::AllocError;
 
 // Appends that another entry wins, and why.

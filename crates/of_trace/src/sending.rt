@@ -1,23 +1,16 @@
 //! Notes on outputs and groups.
-ghost use Rattle.std.specs.Prelude.{◌≡◌, ◌++◌, ◌∷◌, OnOk, decimal};
+ghost use Rattle.std.specs.Prelude.{◌≡◌, ◌++◌, OnOk};
 ghost use Rattle.std.specs.Option.{option_copied};
-ghost use Rattle.of_ports.specs.Ports.{port_at};
 ghost use Rattle.of_switch.specs.Plane.{world_of};
-ghost use Rattle.of_trace.specs.Notes.{bucket_notes, group_notes, is_many as goes_to_many, note, output_note, port_note, port_words};
+ghost use Rattle.of_trace.specs.Notes.{bucket_notes, group_notes, is_many as goes_to_many, output_note, port_note, port_words};
 
-use crate::notes::{begin_note, end_note, push_note, push_number_note};
+use crate::notes::push_number_note;
 use of_actions::{PORT_ALL, PORT_CONTROLLER, PORT_FLOOD, PORT_IN_PORT, PORT_TABLE};
 use of_classifier::Lookup;
-use of_ports::Port;
+use of_ports::{Port, find_port};
 use of_switch::Switch;
-use of_text::push_number;
+use of_text::{begin_note, end_note, push_note, push_number};
 use std::alloc::AllocError;
-
-fn find_port(ports: &[Port], number: u32) -> Option<&Port>
-    ensures { option_copied result ≡ port_at ports.now number }
-{
-    ports.iter().find(|port| port.number == number)
-}
 
 // Why a port that exists sends nothing.
 fn state_words(port: &Port) -> &'static [u8]

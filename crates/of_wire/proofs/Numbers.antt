@@ -1,9 +1,9 @@
 -- Bytes and the number that they make stand for one another.
-use Rattle.std.proofs.Common.{◌≡◌, ℕ, zero, suc, ◌+◌, ◌*◌, ◌/◌, ◌%◌, ◌^◌, ◌<◌, ◌≤◌, List, [], ◌∷◌, length, get_or, take, drop, refl, sym, ap, ◌∙◌, arith, inl, inr}
+use Rattle.std.proofs.Common.{◌≡◌, ℕ, zero, suc, ◌+◌, ◌*◌, ◌/◌, ◌%◌, ◌^◌, ◌<◌, ◌≤◌, List, [], ◌∷◌, ◌++◌, length, get_or, take, drop, refl, sym, ap, ◌∙◌, arith, inl, inr}
 use Rattle.std.proofs.Math.Nat.{mod-lt}
 use Rattle.std.proofs.lemmas.Bool.{cases_lt}
 use Rattle.std.proofs.lemmas.Nat.{div-mul-add, mod-mul-add}
-use Rattle.std.proofs.lemmas.List.{length-take, get_or-take, get_or-drop, get_or_past, append-nil}
+use Rattle.std.proofs.lemmas.List.{length-take, get_or-take, get_or-drop, get_or_past, append-nil, take_at}
 use Rattle.std.specs.Int.{byte_at}
 use Rattle.byteorder.specs.Endian.{big_from, big_number, big_bytes}
 use Rattle.byteorder.specs.Numbers.{big_from-cons, big_from-lt, big_from-take, big_number-reads_back, length-bytes_high_first}
@@ -60,3 +60,7 @@ big_bytes-big_number n xs h f =
     let back : big_number n (big_bytes n (big_number n xs)) ≡ big_number n xs = ap (big_number n) (sym (append-nil (big_bytes n (big_number n xs)))) ∙ big_number-reads_back n (big_number n xs) [] lt in
     let cut : big_number n (take n xs) ≡ big_number n xs = big_from-take 0 n n xs (omega arith) in
     same_bytes n (big_bytes n (big_number n xs)) (take n xs) (length-bytes_high_first n (big_number n xs)) (omega (arith, length-take n xs)) (IsBytes-big_bytes n (big_number n xs)) (IsBytes-take n xs f) (back ∙ sym cut)
+
+-- a number in n bytes is what n bytes begin with
+pub take_number : (n x : ℕ) (rest : List ℕ) → take n (big_bytes n x ++ rest) ≡ big_bytes n x
+take_number n x rest = take_at (big_bytes n x) rest n (length-bytes_high_first n x)

@@ -5,7 +5,11 @@ mod bytes;
 mod code;
 mod code_name;
 mod reasons;
+mod slices;
+mod writing;
 
 pub use bytes::Bytes;
 pub use code::{Code, ReadError};
 pub use reasons::{FlowRemovedReason, PacketInReason};
+pub use slices::{front_of, rest_from};
+pub use writing::{put_number, put_u16, put_u32, put_u64};

@@ -5,4 +5,4 @@ use Rattle.of_statistics.proofs.flows.put_times.Goals as goal
 
 pub returns : goal.returns
 unfolding flow_times
-returns c = six_or c.extend_from_slice.result _ _ _ _ _ _ _ _ c.in_ok-put_duration.ensures c.in_ok-put_u16.ensures c.in_ok-put_u16-2.ensures c.in_ok-put_u16-3.ensures (rw c.flags_of.ensures at c.in_ok-put_u16-4.ensures) (search rules)
+returns c = six_or c.extend_from_slice.result _ _ _ _ _ _ _ _ c.in_ok-put_duration.ensures c.in_ok-put_u16.ensures c.in_ok-put_u16-2.ensures c.in_ok-put_u16-3.ensures (rw c.number.ensures at c.in_ok-put_u16-4.ensures) (search rules)

@@ -1,5 +1,6 @@
 use Rattle.std.specs.Prelude.{◌++◌, ◌∷◌, codes, decimal}
-use Rattle.of_trace.specs.Notes.{look_notes, note}
+use Rattle.of_text.specs.Lines.{note}
+use Rattle.of_trace.specs.Notes.{look_notes}
 use Rattle.of_trace.specs.Sights.{key_seen}
 use Rattle.of_trace.proofs.NotingLemmas.{both}
 use Rattle.of_trace.proofs.noting.push_notes.Goals as goal

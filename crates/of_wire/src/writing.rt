@@ -1,0 +1,41 @@
+//! Numbers as bytes, the most significant first (OpenFlow 1.3.5, 7).
+ghost use Rattle.std.specs.Prelude.{◌≡◌, ◌≤◌, ◌<◌, ◌^◌, ◌++◌, OnOk};
+ghost use Rattle.byteorder.specs.Endian.{big_bytes};
+
+use byteorder::{BigEndian, ByteOrder};
+use std::alloc::AllocError;
+
+/// Appends a number in two bytes.
+pub fn put_u16(out: &mut Vec<u8>, number: u16) -> Result<(), AllocError>
+    ensures { OnOk result (out.new.items ≡ out.old.items ++ big_bytes 2 number) }
+{
+    out.extend_from_slice(&number.to_be_bytes())
+}
+
+/// Appends a number in four bytes.
+pub fn put_u32(out: &mut Vec<u8>, number: u32) -> Result<(), AllocError>
+    ensures { OnOk result (out.new.items ≡ out.old.items ++ big_bytes 4 number) }
+{
+    out.extend_from_slice(&number.to_be_bytes())
+}
+
+/// Appends a number in eight bytes.
+pub fn put_u64(out: &mut Vec<u8>, number: u64) -> Result<(), AllocError>
+    ensures { OnOk result (out.new.items ≡ out.old.items ++ big_bytes 8 number) }
+{
+    out.extend_from_slice(&number.to_be_bytes())
+}
+
+/// Appends a number in `len` bytes, 1 to 16, that hold it.
+#[tactic(auto, using(crate::proofs::Numbers::take_number))]
+pub fn put_number(out: &mut Vec<u8>, len: usize, number: u128) -> Result<(), AllocError>
+    requires some { 1 ≤ len }
+    requires most { len ≤ 16 }
+    requires fits { number < 256 ^ len }
+    ensures { OnOk result (out.new.items ≡ out.old.items ++ big_bytes len number) }
+{
+    let mut bytes = [0u8; 16];
+    BigEndian::write_uint128(&mut bytes, number, len);
+    let (front, _) = bytes.split_at(len);
+    out.extend_from_slice(front)
+}
