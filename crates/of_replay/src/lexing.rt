@@ -7,6 +7,7 @@ ghost use Rattle.std.specs.List.{list_all};
 ghost use Rattle.std.specs.Str.{is_utf8};
 ghost use Rattle.of_replay.specs.Lexing.{first_word, after_word, is_line, number_of, moment_of, decimal, below, digits_value, bytes_of, hw_of, name_of, state_of, is_name_byte};
 
+use of_text::is;
 use of_wire::{front_of, rest_from};
 use std::alloc::AllocError;
 
