@@ -3,6 +3,7 @@ use of_replay::Ended;
 use of_replay::memory::{MemorySink, MemorySource};
 use of_serve::memory::{Line, MemoryClock, MemoryPeers};
 use of_serve::{read_rows, serve};
+use of_switch::Event;
 use of_wire::Bytes;
 use std::alloc::Global;
 use std::test::Fail;
@@ -74,36 +75,40 @@ fn barrier(rt: HostRuntime) -> Result<(), Fail> {
     Ok(())
 }
 
-// Serves a controller that stays, with rows, at three moments; gives what was written of the rows, and what the controller took.
-fn served_rows(alloc: Global, out: &mut MemorySink) -> Result<MemoryPeers, Fail> {
+// A controller that says HELLO, adds a flow and stays.
+fn staying(alloc: Global) -> Result<Vec<Line>, Fail> {
     let mut script = Vec::new(alloc);
-    for line in [
-        Line::Open,
-        gives(alloc, &[HELLO, FLOW])?,
-        Line::Idle,
-        Line::Idle,
-    ] {
-        script.push(line)?;
-    }
+    script.push(Line::Open)?;
+    script.push(gives(alloc, &[HELLO, FLOW])?)?;
+    script.push(Line::Idle)?;
+    script.push(Line::Idle)?;
+    Ok(script)
+}
+
+fn rows(alloc: Global) -> Result<Vec<Event>, Fail> {
     let mut file = MemorySource::new(alloc, ROWS, 50, 0)?;
-    let rows = read_rows(alloc, &mut file).ok().ok_or("rows")?;
-    let mut peers = MemoryPeers::new(alloc, script, 65536, 0, 0);
+    Ok(read_rows(alloc, &mut file).ok().ok_or("rows")?)
+}
+
+// Serves that controller, with the rows, at three moments.
+fn served_rows(alloc: Global) -> Result<(Ended, MemoryPeers, MemorySink), Fail> {
+    let mut peers = MemoryPeers::new(alloc, staying(alloc)?, 65536, 0, 0);
     let mut clock = MemoryClock::new(Vec::from_slice(alloc, &[0, 1000, 2000])?);
-    match serve::<Scan, _, _, _>(alloc, 1, &mut peers, &mut clock, rows, 4, out) {
-        Ended::Done => Ok(peers),
-        _ => Err("a fault")?,
-    }
+    let mut out = MemorySink::new(alloc, 7, 0);
+    let rows = rows(alloc)?;
+    let ended = serve::<Scan, _, _, _>(alloc, 1, &mut peers, &mut clock, rows, 4, &mut out);
+    Ok((ended, peers, out))
 }
 
 // Rows happen when the clock has reached the moments before them.
 #[test]
 fn rows_in_time(rt: HostRuntime) -> Result<(), Fail> {
     let alloc = rt.alloc();
-    let mut out = MemorySink::new(alloc, 7, 0);
-    let peers = served_rows(alloc, &mut out)?;
-    assert_eq!(rt; out.bytes(), SENT);
+    let (ended, peers, out) = served_rows(alloc)?;
+    assert_eq!(rt; ended, Ended::Done);
     let taken = peers.taken(0).ok_or("a connection")?;
     assert_eq!(rt; taken, bytes_of(alloc, &[GREETING])?.as_slice());
+    assert_eq!(rt; out.bytes(), SENT);
     Ok(())
 }
 
