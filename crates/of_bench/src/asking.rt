@@ -1,7 +1,7 @@
 //! Requests of a controller on a switch, from bytes to bytes.
 
 use crate::clock::{Timed, time};
-use crate::switching::{add, open_switch, piece, switch_with};
+use crate::switching::{add, adds, piece, switch_after};
 use of_mask_groups::MaskGroups;
 use of_switch::Switch;
 use std::alloc::{AllocError, Global};
@@ -25,8 +25,9 @@ const FLOWS: [u8; 56] = [
 /// How many FLOW_MODs a stream has.
 const STREAM: u16 = 10_000;
 
+/// A switch, and a request to it.
 #[derive(Drop)]
-struct Asking {
+pub struct Asking {
     switch: Switch<MaskGroups>,
     request: Vec<u8>,
 }
@@ -37,40 +38,46 @@ impl Timed for Asking {
     }
 }
 
+/// A request that a switch receives again and again after these messages; `None` where one is answered or memory runs out.
+pub fn asking(
+    alloc: Global,
+    messages: Result<Vec<u8>, AllocError>,
+    request: Result<Vec<u8>, AllocError>,
+) -> Option<Asking> {
+    let request = request.ok()?;
+    let switch = switch_after(alloc, 2, messages)?;
+    Some(Asking { switch, request })
+}
+
+// Times a request to a switch that has these flows in table 0.
 fn time_asking(
     rt: &HostRuntime,
     name: &str,
-    switch: Option<Switch<MaskGroups>>,
+    flows: u16,
     request: Result<Vec<u8>, AllocError>,
 ) -> io::Result<()> {
-    match (switch, request) {
-        (Some(switch), Ok(request)) => time(rt, name, &mut Asking { switch, request }),
-        _ => println!(rt; "{name}: no memory"),
+    match asking(rt.alloc(), adds(rt.alloc(), 1, flows, 0), request) {
+        Some(mut timed) => time(rt, name, &mut timed),
+        None => println!(rt; "{name}: no memory"),
     }
-}
-
-fn bytes_of(alloc: Global, bytes: &[u8]) -> Result<Vec<u8>, AllocError> {
-    let mut copy = Vec::with_capacity(alloc, bytes.len())?;
-    copy.extend_from_slice(bytes)?;
-    Ok(copy)
 }
 
 /// A BARRIER_REQUEST and its reply.
 pub fn time_barrier(rt: &HostRuntime) -> io::Result<()> {
-    let request = bytes_of(rt.alloc(), &BARRIER);
-    time_asking(rt, "barrier", open_switch(rt.alloc()), request)
+    let request = Vec::from_slice(rt.alloc(), &BARRIER);
+    time_asking(rt, "barrier", 0, request)
 }
 
 /// A FEATURES_REQUEST and its reply.
 pub fn time_features(rt: &HostRuntime) -> io::Result<()> {
-    let request = bytes_of(rt.alloc(), &FEATURES);
-    time_asking(rt, "features", open_switch(rt.alloc()), request)
+    let request = Vec::from_slice(rt.alloc(), &FEATURES);
+    time_asking(rt, "features", 0, request)
 }
 
 /// FLOW statistics of 4,096 entries.
 pub fn time_flow_stats(rt: &HostRuntime) -> io::Result<()> {
-    let request = bytes_of(rt.alloc(), &FLOWS);
-    time_asking(rt, "flow_stats", switch_with(rt, 1, 4096, 0), request)
+    let request = Vec::from_slice(rt.alloc(), &FLOWS);
+    time_asking(rt, "flow_stats", 4096, request)
 }
 
 // ADDs into 16 tables in turn.
@@ -84,6 +91,5 @@ fn stream(alloc: Global) -> Result<Vec<u8>, AllocError> {
 
 /// 10,000 ADDs in one piece, of which each replaces an entry but in the first turn.
 pub fn time_flow_mod_stream(rt: &HostRuntime) -> io::Result<()> {
-    let request = stream(rt.alloc());
-    time_asking(rt, "flow_mod_stream", open_switch(rt.alloc()), request)
+    time_asking(rt, "flow_mod_stream", 0, stream(rt.alloc()))
 }

@@ -1,7 +1,7 @@
 //! FLOW_MODs of the tables that frames go through (OpenFlow 1.3.5, 7.3.4.1).
 
 use crate::frames::WEB_MATCH;
-use std::alloc::{AllocError, Global};
+use std::alloc::AllocError;
 
 /// A match of IN_PORT 1.
 pub const PORT_MATCH: [u8; 16] = [0, 1, 0, 12, 0x80, 0, 0, 4, 0, 0, 0, 1, 0, 0, 0, 0];
@@ -48,24 +48,22 @@ pub fn web_match(port: u16) -> [u8; 24] {
     fields
 }
 
-/// ADD of a flow of priority 10: the bytes of its match, with their padding, and those of its instructions.
-pub fn add(
-    alloc: Global,
+/// Appends an ADD of a flow of priority 10: the bytes of its match, with their padding, and those of its instructions.
+pub fn push_flow(
+    messages: &mut Vec<u8>,
     table: u8,
     fields: &[u8],
     instructions: &[u8],
-) -> Result<Vec<u8>, AllocError> {
+) -> Result<(), AllocError> {
     let length = 48usize
         .saturating_add(fields.len())
         .saturating_add(instructions.len());
     let length = ((length % 0x1_0000) as u16).to_be_bytes();
-    let mut message = Vec::new(alloc);
-    message.extend_from_slice(&[4, 14, length[0], length[1], 0, 0, 0, 2])?;
-    message.extend_from_slice(&[0; 16])?; // cookie and its mask
-    message.extend_from_slice(&[table, 0, 0, 0, 0, 0, 0, 10])?; // command, timeouts, priority
-    message.extend_from_slice(&[0xff; 12])?; // buffer, out port and out group
-    message.extend_from_slice(&[0; 4])?; // flags and padding
-    message.extend_from_slice(fields)?;
-    message.extend_from_slice(instructions)?;
-    Ok(message)
+    messages.extend_from_slice(&[4, 14, length[0], length[1], 0, 0, 0, 2])?;
+    messages.extend_from_slice(&[0; 16])?; // cookie and its mask
+    messages.extend_from_slice(&[table, 0, 0, 0, 0, 0, 0, 10])?; // command, timeouts, priority
+    messages.extend_from_slice(&[0xff; 12])?; // buffer, out port and out group
+    messages.extend_from_slice(&[0; 4])?; // flags and padding
+    messages.extend_from_slice(fields)?;
+    messages.extend_from_slice(instructions)
 }

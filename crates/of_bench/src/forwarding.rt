@@ -3,12 +3,12 @@
 use crate::classifying::numbered_fields;
 use crate::clock::{Timed, time};
 use crate::flows;
-use crate::flows::add;
+use crate::flows::push_flow;
 use crate::frames::TCP;
-use crate::switching::{open_switch, piece};
+use crate::switching::switch_after;
 use of_mask_groups::MaskGroups;
 use of_switch::{Effect, Switch};
-use std::alloc::Global;
+use std::alloc::{AllocError, Global};
 use std::io;
 
 #[derive(Drop)]
@@ -36,13 +36,14 @@ fn sent(effects: &[Effect]) -> u64 {
     }
 }
 
-/// Times a frame that is received at port 1 and sent.
+/// Times a frame that a switch of these ports receives at port 1 and sends, after these messages.
 pub fn time_forward(
     rt: &HostRuntime,
     name: &str,
-    made: Option<Switch<MaskGroups>>,
+    ports: u32,
+    messages: Result<Vec<u8>, AllocError>,
 ) -> io::Result<()> {
-    let Some(switch) = made else {
+    let Some(switch) = switch_after(rt.alloc(), ports, messages) else {
         return println!(rt; "{name}: no memory");
     };
     let mut timed = Forward { switch, bytes: TCP };
@@ -52,54 +53,49 @@ pub fn time_forward(
     time(rt, name, &mut timed)
 }
 
-/// Eight flows in table 0, for the TCP ports 73 to 80; `None` where memory runs out.
-pub fn eight_flows(alloc: Global) -> Option<Switch<MaskGroups>> {
-    let mut switch = open_switch(alloc)?;
+/// Eight flows in table 0, for the TCP ports 73 to 80.
+pub fn eight_flows(alloc: Global) -> Result<Vec<u8>, AllocError> {
+    let mut messages = Vec::new(alloc);
     for port in 73..81 {
-        let flow = add(alloc, 0, &flows::web_match(port), &flows::OUTPUT).ok()?;
-        piece(&mut switch, flow.as_slice())?;
+        push_flow(&mut messages, 0, &flows::web_match(port), &flows::OUTPUT)?;
     }
-    Some(switch)
+    Ok(messages)
 }
 
 /// A frame that the last of eight flows matches, and that is sent out of one port.
 pub fn time_frame(rt: &HostRuntime) -> io::Result<()> {
-    time_forward(rt, "frame", eight_flows(rt.alloc()))
+    time_forward(rt, "frame", 2, eight_flows(rt.alloc()))
 }
 
-// 4,096 flows over four masks; None where memory runs out.
-fn four_masks(alloc: Global) -> Option<Switch<MaskGroups>> {
-    let mut switch = open_switch(alloc)?;
+// 4,096 flows over four masks.
+fn four_masks(alloc: Global) -> Result<Vec<u8>, AllocError> {
+    let mut messages = Vec::new(alloc);
     for value in 0..4096u16 {
         let fields = numbered_fields((value % 4) as u8, value);
-        let flow = add(alloc, 0, &fields, &flows::OUTPUT).ok()?;
-        piece(&mut switch, flow.as_slice())?;
+        push_flow(&mut messages, 0, &fields, &flows::OUTPUT)?;
     }
-    Some(switch)
+    Ok(messages)
 }
 
 /// A frame that one of 4,096 flows over four masks matches, and that is sent out of one port. All have one priority, so all masks are asked.
 pub fn time_frame_full(rt: &HostRuntime) -> io::Result<()> {
-    time_forward(rt, "frame_full", four_masks(rt.alloc()))
+    time_forward(rt, "frame_full", 2, four_masks(rt.alloc()))
 }
 
-// Four tables of one flow; None where memory runs out.
-fn four_tables(alloc: Global) -> Option<Switch<MaskGroups>> {
-    let mut switch = open_switch(alloc)?;
-    let flow = add(alloc, 0, &flows::PORT_MATCH, &flows::SET_ETHERNET).ok()?;
-    piece(&mut switch, flow.as_slice())?;
-    let flow = add(alloc, 1, &flows::IPV4_MATCH, &flows::WRITE_OUTPUT).ok()?;
-    piece(&mut switch, flow.as_slice())?;
-    let flow = add(alloc, 2, &flows::web_match(80), &flows::SET_TRANSPORT).ok()?;
-    piece(&mut switch, flow.as_slice())?;
-    let flow = add(alloc, 3, &flows::web_match(8080), &flows::WRITE_AGING).ok()?;
-    piece(&mut switch, flow.as_slice())?;
-    Some(switch)
+// Four tables of one flow.
+fn four_tables(alloc: Global) -> Result<Vec<u8>, AllocError> {
+    let (web, moved) = (flows::web_match(80), flows::web_match(8080));
+    let mut messages = Vec::new(alloc);
+    push_flow(&mut messages, 0, &flows::PORT_MATCH, &flows::SET_ETHERNET)?;
+    push_flow(&mut messages, 1, &flows::IPV4_MATCH, &flows::WRITE_OUTPUT)?;
+    push_flow(&mut messages, 2, &web, &flows::SET_TRANSPORT)?;
+    push_flow(&mut messages, 3, &moved, &flows::WRITE_AGING)?;
+    Ok(messages)
 }
 
 /// A frame through four tables by GOTO_TABLE: a SET_FIELD in the first and the third, the action set in the second and the fourth.
 ///
 /// The set has SET_FIELD, DEC_NW_TTL and OUTPUT, and the frame is sent out of one port.
 pub fn time_pipeline(rt: &HostRuntime) -> io::Result<()> {
-    time_forward(rt, "pipeline", four_tables(rt.alloc()))
+    time_forward(rt, "pipeline", 2, four_tables(rt.alloc()))
 }

@@ -1,12 +1,10 @@
 //! Groups, and frames to many ports.
 
+use crate::asking::asking;
 use crate::clock::{Timed, time_slow};
 use crate::flows;
-use crate::flows::add;
+use crate::flows::push_flow;
 use crate::forwarding::time_forward;
-use crate::switching::{open_switch, piece, port};
-use of_mask_groups::MaskGroups;
-use of_switch::Switch;
 use std::alloc::{AllocError, Global};
 use std::io;
 
@@ -71,89 +69,68 @@ fn push_bucket(message: &mut Vec<u8>, behind: Option<u32>, bucket: u32) -> Resul
 }
 
 // A GROUP_MOD of a group of type ALL with all buckets and actions that it may have: 8,464 bytes.
-fn group_mod(alloc: Global, command: u8, id: u32) -> Result<Vec<u8>, AllocError> {
-    let number = id.to_be_bytes();
-    let mut message = Vec::new(alloc);
+fn push_group_mod(message: &mut Vec<u8>, command: u8, id: u32) -> Result<(), AllocError> {
     message.extend_from_slice(&[4, 15, 0x21, 0x10, 0, 0, 0, 2, 0, command, 0, 0])?;
-    message.extend_from_slice(&number)?;
+    message.extend_from_slice(&id.to_be_bytes())?;
     for bucket in 0..BUCKETS {
-        push_bucket(&mut message, layer_behind(id), bucket)?;
+        push_bucket(message, layer_behind(id), bucket)?;
     }
-    Ok(message)
+    Ok(())
 }
 
-// All groups that a switch may have, in three layers, each of which names the next; None where memory runs out.
-fn full_groups(alloc: Global) -> Option<Switch<MaskGroups>> {
-    let mut switch = open_switch(alloc)?;
+// All groups that a switch may have, in three layers, each of which names the next.
+fn full_groups(alloc: Global) -> Result<Vec<u8>, AllocError> {
+    let mut messages = Vec::new(alloc);
     for behind in 1..=GROUPS {
-        let message = group_mod(alloc, ADD, GROUPS.wrapping_sub(behind)).ok()?;
-        if piece(&mut switch, message.as_slice())? != 0 {
-            return None;
-        }
+        push_group_mod(&mut messages, ADD, GROUPS.wrapping_sub(behind))?;
     }
-    Some(switch)
+    Ok(messages)
 }
 
-#[derive(Drop)]
-struct GroupMod {
-    switch: Switch<MaskGroups>,
-    message: Vec<u8>,
-}
-
-impl Timed for GroupMod {
-    fn call(&mut self, turn: u64) -> u64 {
-        piece(&mut self.switch, &self.message)
-            .unwrap_or(turn)
-            .wrapping_add(1)
-    }
+// A MODIFY of the first of them.
+fn modify_first(alloc: Global) -> Result<Vec<u8>, AllocError> {
+    let mut message = Vec::new(alloc);
+    push_group_mod(&mut message, MODIFY, 0)?;
+    Ok(message)
 }
 
 /// A MODIFY of one of 256 groups of 16 buckets of 64 actions, in chains of three.
 pub fn time_group_mod(rt: &HostRuntime) -> io::Result<()> {
-    let Some(switch) = full_groups(rt.alloc()) else {
+    let alloc = rt.alloc();
+    let Some(mut timed) = asking(alloc, full_groups(alloc), modify_first(alloc)) else {
         return println!(rt; "group_mod: no memory");
     };
-    let Ok(message) = group_mod(rt.alloc(), MODIFY, 0) else {
-        return println!(rt; "group_mod: no memory");
-    };
-    let mut timed = GroupMod { switch, message };
-    if timed.call(0) != 1 {
+    if timed.call(0) != 0 {
         return println!(rt; "group_mod: refused");
     }
     time_slow(rt, "group_mod", &mut timed)
 }
 
-// A switch of 64 ports, and a flow to FLOOD; None where memory runs out.
-fn flooding(alloc: Global) -> Option<Switch<MaskGroups>> {
-    let mut switch = open_switch(alloc)?;
-    for number in 3..=64 {
-        switch.port_change(port(number)).ok()?;
-    }
-    let flow = add(alloc, 0, &flows::PORT_MATCH, &TO_FLOOD).ok()?;
-    piece(&mut switch, flow.as_slice())?;
-    Some(switch)
+// A flow to FLOOD.
+fn flooding(alloc: Global) -> Result<Vec<u8>, AllocError> {
+    let mut messages = Vec::new(alloc);
+    push_flow(&mut messages, 0, &flows::PORT_MATCH, &TO_FLOOD)?;
+    Ok(messages)
 }
 
 /// A frame that is sent out of 63 ports.
 pub fn time_flood(rt: &HostRuntime) -> io::Result<()> {
-    time_forward(rt, "flood", flooding(rt.alloc()))
+    time_forward(rt, "flood", 64, flooding(rt.alloc()))
 }
 
 // An ADD of a group of type ALL with 16 buckets, each of which sends its packets to the next group.
-fn link(alloc: Global, id: u8) -> Result<Vec<u8>, AllocError> {
-    let mut message = Vec::new(alloc);
+fn push_link(message: &mut Vec<u8>, id: u8) -> Result<(), AllocError> {
     message.extend_from_slice(&[4, 15, 0x01, 0x90, 0, 0, 0, 2, 0, ADD, 0, 0, 0, 0, 0, id])?;
     for _ in 0..BUCKETS {
         message.extend_from_slice(&[0, 24, 0, 0])?;
         message.extend_from_slice(&[0xff; 8])?;
         message.extend_from_slice(&[0, 0, 0, 0, 0, 22, 0, 8, 0, 0, 0, id.wrapping_add(1)])?;
     }
-    Ok(message)
+    Ok(())
 }
 
 // The last of a chain: its 16 buckets send out of port 2.
-fn last_link(alloc: Global, id: u8) -> Result<Vec<u8>, AllocError> {
-    let mut message = Vec::new(alloc);
+fn push_last_link(message: &mut Vec<u8>, id: u8) -> Result<(), AllocError> {
     message.extend_from_slice(&[4, 15, 0x02, 0x10, 0, 0, 0, 2, 0, ADD, 0, 0, 0, 0, 0, id])?;
     for _ in 0..BUCKETS {
         message.extend_from_slice(&[0, 32, 0, 0])?;
@@ -161,21 +138,20 @@ fn last_link(alloc: Global, id: u8) -> Result<Vec<u8>, AllocError> {
         message.extend_from_slice(&[0, 0, 0, 0, 0, 0, 0, 16, 0, 0, 0, 2])?;
         message.extend_from_slice(&[0; 8])?;
     }
-    Ok(message)
+    Ok(())
 }
 
-// A chain of three groups of 16 buckets, and a flow to it; None where memory runs out.
-fn chained(alloc: Global) -> Option<Switch<MaskGroups>> {
-    let mut switch = open_switch(alloc)?;
-    piece(&mut switch, last_link(alloc, 3).ok()?.as_slice())?;
-    piece(&mut switch, link(alloc, 2).ok()?.as_slice())?;
-    piece(&mut switch, link(alloc, 1).ok()?.as_slice())?;
-    let flow = add(alloc, 0, &flows::PORT_MATCH, &TO_GROUP).ok()?;
-    piece(&mut switch, flow.as_slice())?;
-    Some(switch)
+// A chain of three groups of 16 buckets, and a flow to it.
+fn chained(alloc: Global) -> Result<Vec<u8>, AllocError> {
+    let mut messages = Vec::new(alloc);
+    push_last_link(&mut messages, 3)?;
+    push_link(&mut messages, 2)?;
+    push_link(&mut messages, 1)?;
+    push_flow(&mut messages, 0, &flows::PORT_MATCH, &TO_GROUP)?;
+    Ok(messages)
 }
 
 /// A frame through a chain of three groups of 16 buckets each: 4,096 frames are sent.
 pub fn time_group_chain(rt: &HostRuntime) -> io::Result<()> {
-    time_forward(rt, "group_chain", chained(rt.alloc()))
+    time_forward(rt, "group_chain", 2, chained(rt.alloc()))
 }

@@ -1,9 +1,9 @@
-//! FLOW_MODs and frames on a switch.
+//! Switches, and FLOW_MODs and points in time for them.
 
 use crate::clock::{Timed, time};
 use of_mask_groups::MaskGroups;
 use of_switch::{PortChange, Switch};
-use std::alloc::Global;
+use std::alloc::{AllocError, Global};
 use std::io;
 
 const HELLO: [u8; 8] = [4, 0, 0, 8, 0, 0, 0, 1];
@@ -33,7 +33,7 @@ pub fn add(table: u8, number: u16, seconds: u16) -> [u8; 64] {
 }
 
 /// A port that is added, whose link is up.
-pub fn port(number: u32) -> PortChange {
+fn port(number: u32) -> PortChange {
     PortChange::Add {
         number,
         hw: [2, 0, 0, 0, 0, 1],
@@ -55,30 +55,40 @@ pub fn piece(switch: &mut Switch<MaskGroups>, bytes: &[u8]) -> Option<u64> {
     Some(effects)
 }
 
-/// A switch of the ports 1 and 2, with a controller that said HELLO; `None` where memory runs out.
-pub fn open_switch(alloc: Global) -> Option<Switch<MaskGroups>> {
-    let mut switch = Switch::<MaskGroups>::new(alloc, 1).ok()?;
-    switch.port_change(port(1)).ok()?;
-    switch.port_change(port(2)).ok()?;
+// Opens a channel and sends these messages; None where one is answered or memory runs out.
+fn prepare(switch: &mut Switch<MaskGroups>, ports: u32, messages: &[u8]) -> Option<()> {
+    for number in 1..=ports {
+        switch.port_change(port(number)).ok()?;
+    }
     switch.connected().ok()?;
-    piece(&mut switch, &HELLO)?;
+    piece(switch, &HELLO)?;
+    match piece(switch, messages)? {
+        0 => Some(()),
+        _ => None,
+    }
+}
+
+/// A switch of the ports from 1, whose controller said HELLO and sent these messages; `None` where one is answered or memory runs out.
+pub fn switch_after(
+    alloc: Global,
+    ports: u32,
+    messages: Result<Vec<u8>, AllocError>,
+) -> Option<Switch<MaskGroups>> {
+    let messages = messages.ok()?;
+    let mut switch = Switch::<MaskGroups>::new(alloc, 1).ok()?;
+    prepare(&mut switch, ports, &messages)?;
     Some(switch)
 }
 
-/// A switch with `flows` flows in each of `tables` tables, with this hard timeout; `None` where memory runs out.
-pub fn switch_with(
-    rt: &HostRuntime,
-    tables: u8,
-    flows: u16,
-    seconds: u16,
-) -> Option<Switch<MaskGroups>> {
-    let mut switch = open_switch(rt.alloc())?;
+/// ADDs of `flows` flows into each of `tables` tables, with this hard timeout.
+pub fn adds(alloc: Global, tables: u8, flows: u16, seconds: u16) -> Result<Vec<u8>, AllocError> {
+    let mut messages = Vec::new(alloc);
     for table in 0..tables {
         for number in 0..flows {
-            piece(&mut switch, &add(table, number, seconds))?;
+            messages.extend_from_slice(&add(table, number, seconds))?;
         }
     }
-    Some(switch)
+    Ok(messages)
 }
 
 #[derive(Drop)]
@@ -93,7 +103,7 @@ impl Timed for FlowMod {
 }
 
 fn time_flow_mod_of(rt: &HostRuntime, name: &str, flows: u16) -> io::Result<()> {
-    match switch_with(rt, 1, flows, 0) {
+    match switch_after(rt.alloc(), 2, adds(rt.alloc(), 1, flows, 0)) {
         Some(switch) => time(rt, name, &mut FlowMod { switch }),
         None => println!(rt; "{name}: no memory"),
     }
@@ -122,7 +132,7 @@ impl Timed for Moment {
 
 /// A moment at which no entry expires, of 16 tables of 4,096 entries with a hard timeout.
 pub fn time_moment(rt: &HostRuntime) -> io::Result<()> {
-    match switch_with(rt, 16, 4096, 0xffff) {
+    match switch_after(rt.alloc(), 2, adds(rt.alloc(), 16, 4096, 0xffff)) {
         Some(switch) => time(rt, "moment", &mut Moment { switch }),
         None => println!(rt; "moment: no memory"),
     }

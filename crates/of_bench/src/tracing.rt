@@ -3,6 +3,7 @@
 use crate::clock::{Timed, time};
 use crate::forwarding::eight_flows;
 use crate::frames::TCP;
+use crate::switching::switch_after;
 use of_mask_groups::MaskGroups;
 use of_switch::Switch;
 use of_trace::{print, trace};
@@ -32,7 +33,7 @@ impl Timed for Traced {
 }
 
 fn time_traced(rt: &HostRuntime, name: &str, is_printed: bool) -> io::Result<()> {
-    let Some(switch) = eight_flows(rt.alloc()) else {
+    let Some(switch) = switch_after(rt.alloc(), 2, eight_flows(rt.alloc())) else {
         return println!(rt; "{name}: no memory");
     };
     let mut timed = Traced {

@@ -1,4 +1,5 @@
 pub mod Appended
+pub mod ReplyLemmas
 pub mod ReportLemmas
 pub mod RequestLemmas
 pub mod SaidLemmas

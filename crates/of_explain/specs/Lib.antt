@@ -2,4 +2,5 @@ pub mod Names
 pub mod Notes
 pub mod Messages
 pub mod Requests
+pub mod Replies
 pub mod Explained

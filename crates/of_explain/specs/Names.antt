@@ -1,7 +1,7 @@
 -- THE TABLE OF NAMES: what the standard calls the types of messages and their reasons, each list from number 0 on.
 use Rattle.std.specs.Prelude.{ℕ, List, [], ◌∷◌, codes, decimal, Option, Some, None, slice_get}
 use Rattle.of_explain.specs.declared.names.Names.{Names}
-use Rattle.of_explain.specs.declared.names.Names.TheVariants.{Types, ErrorTypes, PacketInReasons, FlowRemovedReasons, PortStatusReasons, FlowCommands, GroupCommands, Multiparts, Roles}
+use Rattle.of_explain.specs.declared.names.Names.TheVariants.{Types, ErrorTypes, PacketInReasons, FlowRemovedReasons, PortStatusReasons, FlowCommands, GroupCommands, GroupTypes, Multiparts, Roles}
 
 -- the types of messages (OpenFlow 1.3.5, 7.1)
 abbrev pub types : List (List ℕ)
@@ -77,6 +77,10 @@ flow_commands = codes "ADD" ∷ codes "MODIFY" ∷ codes "MODIFY_STRICT" ∷ cod
 abbrev pub group_commands : List (List ℕ)
 group_commands = codes "ADD" ∷ codes "MODIFY" ∷ codes "DELETE" ∷ []
 
+-- 7.3.4.2
+abbrev pub group_types : List (List ℕ)
+group_types = codes "ALL" ∷ codes "SELECT" ∷ codes "INDIRECT" ∷ codes "FF" ∷ []
+
 -- 7.3.5
 abbrev pub multiparts : List (List ℕ)
 multiparts =
@@ -108,6 +112,7 @@ names_in FlowRemovedReasons = flow_removed_reasons
 names_in PortStatusReasons = port_status_reasons
 names_in FlowCommands = flow_commands
 names_in GroupCommands = group_commands
+names_in GroupTypes = group_types
 names_in Multiparts = multiparts
 names_in Roles = roles
 

@@ -1,10 +1,11 @@
 //! What a switch gives, in words.
 ghost use Rattle.std.specs.Prelude.{◌≡◌, ◌++◌, OnOk};
 ghost use Rattle.of_text.specs.Lines.{note};
-ghost use Rattle.of_explain.specs.Explained.{effect_notes, effect_words, refusal_words as words_of_refusal};
+ghost use Rattle.of_explain.specs.Explained.{effect_notes, effect_rows, effect_words, refusal_words as words_of_refusal};
 
 use crate::messages::push_message;
 use crate::notes::push_port_and_size;
+use crate::replies::push_reply_rows;
 use of_switch::{Effect, SwitchError};
 use of_text::{begin_note, end_note, push_note};
 use std::alloc::{AllocError, Global};
@@ -26,14 +27,32 @@ fn push_effect(alloc: Global, out: &mut Vec<u8>, effect: &Effect) -> Result<(), 
     Ok(())
 }
 
-/// Appends a note for each effect.
+// Appends the note of an effect.
+fn push_effect_note(alloc: Global, out: &mut Vec<u8>, effect: &Effect) -> Result<(), AllocError>
+    ensures { OnOk result (out.new.items ≡ out.old.items ++ note (effect_words effect.now)) }
+{
+    begin_note(out)?;
+    push_effect(alloc, out, effect)?;
+    end_note(out)
+}
+
+// Appends what stands below the note of an effect.
+fn push_below(alloc: Global, out: &mut Vec<u8>, effect: &Effect) -> Result<(), AllocError>
+    ensures { OnOk result (out.new.items ≡ out.old.items ++ effect_rows effect.now) }
+{
+    match effect {
+        Effect::Answer(bytes) => push_reply_rows(alloc, out, bytes.as_slice()),
+        Effect::Sent { .. } | Effect::Closed => Ok(()),
+    }
+}
+
+/// Appends a note for each effect, and below an answer its rows.
 pub fn push_effects(alloc: Global, out: &mut Vec<u8>, effects: &[Effect]) -> Result<(), AllocError>
     ensures { OnOk result (out.new.items ≡ out.old.items ++ effect_notes effects.now) }
 {
     for effect in effects {
-        begin_note(out)?;
-        push_effect(alloc, out, effect)?;
-        end_note(out)?;
+        push_effect_note(alloc, out, effect)?;
+        push_below(alloc, out, effect)?;
     }
     Ok(())
 }

@@ -9,6 +9,7 @@ mod laws;
 mod messages;
 mod names;
 mod notes;
+mod replies;
 mod requests;
 mod rows;
 mod said;

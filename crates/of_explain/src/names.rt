@@ -23,6 +23,8 @@ pub enum Names {
     FlowCommands,
     /// The commands of a GROUP_MOD (7.3.4.2).
     GroupCommands,
+    /// The types of groups (7.3.4.2).
+    GroupTypes,
     /// The kinds of multipart messages (7.3.5).
     Multiparts,
     /// The roles of controllers (7.3.9).
@@ -89,6 +91,8 @@ const FLOW_COMMANDS: &[&str] = &["ADD", "MODIFY", "MODIFY_STRICT", "DELETE", "DE
 
 const GROUP_COMMANDS: &[&str] = &["ADD", "MODIFY", "DELETE"];
 
+const GROUP_TYPES: &[&str] = &["ALL", "SELECT", "INDIRECT", "FF"];
+
 const MULTIPARTS: &[&str] = &[
     "DESC",
     "FLOW",
@@ -121,6 +125,7 @@ impl Names {
             Names::PortStatusReasons => PORT_STATUS_REASONS,
             Names::FlowCommands => FLOW_COMMANDS,
             Names::GroupCommands => GROUP_COMMANDS,
+            Names::GroupTypes => GROUP_TYPES,
             Names::Multiparts => MULTIPARTS,
             Names::Roles => ROLES,
         }

@@ -11,8 +11,8 @@ use of_session::{Beginning, Stream};
 use of_text::{Row, begin_note, end_note, push_row};
 use std::alloc::{AllocError, Global};
 
-// Appends a line of flow text after eight spaces.
-fn push_line(out: &mut Vec<u8>, row: Row) -> Result<(), AllocError>
+/// Appends a line of flow text after eight spaces.
+pub fn push_line(out: &mut Vec<u8>, row: Row) -> Result<(), AllocError>
     requires { Fits row }
     ensures { OnOk result (out.new.items ≡ out.old.items ++ row_line row) }
 {

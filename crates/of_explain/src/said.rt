@@ -2,11 +2,13 @@
 ghost use Rattle.std.specs.Prelude.{◌≡◌, ◌++◌, IfOk, OnOk, map};
 ghost use Rattle.std.specs.List.{AllByRecursion, flat_map};
 ghost use Rattle.of_messages.specs.Messages.{message_of};
+ghost use Rattle.of_oxm.specs.MatchReading.{match_of};
 ghost use Rattle.of_text.specs.Flows.{step_rows};
 ghost use Rattle.of_text.specs.Groups.{bucket_rows, group_rows};
 ghost use Rattle.of_text.specs.Kept.{step_of};
 ghost use Rattle.of_text.specs.Rows.{Fits};
 ghost use Rattle.of_text.specs.Views.{view_bucket, view_group};
+ghost use Rattle.of_explain.specs.Replies.{match_rows};
 ghost use Rattle.of_explain.specs.Requests.{asked_rows, flow_mod_rows, group_mod_rows, group_said, rows_in, rows_said};
 
 use of_actions::Instruction;
@@ -14,7 +16,7 @@ use of_groups::Group;
 use of_messages::{
     FlowMod, GroupMod, Message, MultipartRequest, NewGroup, PacketOut, read_message,
 };
-use of_oxm::Match;
+use of_oxm::{Match, read_match};
 use of_text::{BucketText, GroupText, Row, push_actions, push_fields};
 use of_wire::ReadError;
 use std::alloc::{AllocError, Global};
@@ -129,6 +131,18 @@ fn match_lines(alloc: Global, fields: &Match) -> Result<Vec<Row>, AllocError>
     let mut rows = Vec::new(alloc);
     push_fields(&mut rows, fields.fields())?;
     Ok(rows)
+}
+
+/// The lines of the match at the front of these bytes; a match that is refused has none.
+pub fn match_said(alloc: Global, bytes: &[u8]) -> Result<Vec<Row>, AllocError>
+    ensures text { IfOk result (λ rows. rows.items ≡ match_rows (match_of bytes.now)) }
+    ensures fits { IfOk result (λ rows. AllByRecursion Fits rows.items) }
+{
+    match read_match(alloc, bytes) {
+        Ok((fields, _)) => match_lines(alloc, &fields),
+        Err(ReadError::Refused(_)) => Ok(Vec::new(alloc)),
+        Err(ReadError::Memory) => Err(AllocError),
+    }
 }
 
 // The lines of the match that a multipart request asks for.

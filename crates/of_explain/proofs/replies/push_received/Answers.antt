@@ -1,0 +1,14 @@
+use Rattle.of_explain.specs.Replies.{port_received}
+use Rattle.of_explain.proofs.Appended.{both, then}
+use Rattle.of_explain.proofs.replies.push_received.Goals as goal
+
+pub returns : goal.returns
+unfolding port_received
+returns c =
+    let out = c.args.out.now.items in
+    let one = c.push_number_field.new.out.items in
+    let two = c.push_number_field-2.new.out.items in
+    let three = c.push_number_field-3.new.out.items in
+    let at_two = both out one two _ _ c.in_ok-push_number_field.ensures c.in_ok-push_number_field-2.ensures in
+    let at_three = both out two three _ _ at_two c.in_ok-push_number_field-3.ensures in
+    then c.push_number_field-4.result out three c.push_number_field-4.new.out.items _ _ at_three c.push_number_field-4.ensures
