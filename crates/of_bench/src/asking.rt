@@ -39,7 +39,7 @@ impl Timed for Asking {
 }
 
 /// A request that a switch receives again and again after these messages; `None` where one is answered or memory runs out.
-pub fn asking(
+pub fn ask_again(
     alloc: Global,
     messages: Result<Vec<u8>, AllocError>,
     request: Result<Vec<u8>, AllocError>,
@@ -56,7 +56,7 @@ fn time_asking(
     flows: u16,
     request: Result<Vec<u8>, AllocError>,
 ) -> io::Result<()> {
-    match asking(rt.alloc(), adds(rt.alloc(), 1, flows, 0), request) {
+    match ask_again(rt.alloc(), adds(rt.alloc(), 1, flows, 0), request) {
         Some(mut timed) => time(rt, name, &mut timed),
         None => println!(rt; "{name}: no memory"),
     }

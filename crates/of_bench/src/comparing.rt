@@ -10,6 +10,14 @@ use std::io;
 /// How many steps are made on both.
 const STEPS: u64 = 100_000;
 
+// What the steps came to.
+enum Answers {
+    /// How many found an entry.
+    Equal(u64),
+    /// The first whose answers differ.
+    Differ(u64),
+}
+
 // Removes the oldest entry of that match and priority, and returns its number.
 #[tactic(auto, using(of_classifier::proofs::SameUsed::same_used))]
 fn take_same<L: Lookup>(lookup: &mut L, fields: &Match, priority: u16) -> Option<usize> {
@@ -50,28 +58,49 @@ fn step<L: Lookup>(lookup: &mut L, alloc: Global, number: u64) -> Result<Option<
     }
 }
 
-/// 100,000 random calls of `add`, `take`, `renew`, `same` and `winner` on both, and whether each had one answer.
-pub fn compare(rt: &HostRuntime) -> io::Result<()> {
-    let alloc = rt.alloc();
-    let (Ok(mut scan), Ok(mut groups)) = (Scan::empty(alloc), MaskGroups::empty(alloc)) else {
-        return println!(rt; "compare: no memory");
-    };
+// One step on both, and whether it found an entry; None where the answers differ.
+fn step_both(
+    scan: &mut Scan,
+    groups: &mut MaskGroups,
+    alloc: Global,
+    number: u64,
+) -> Result<Option<bool>, ReadError> {
+    let one = step(scan, alloc, number)?;
+    let other = step(groups, alloc, number)?;
+    if one == other {
+        Ok(Some(one.is_some()))
+    } else {
+        Ok(None)
+    }
+}
+
+// All steps: how many found an entry, or the first whose answers differ.
+fn steps(scan: &mut Scan, groups: &mut MaskGroups, alloc: Global) -> Result<Answers, ReadError> {
     let mut number = 1u64;
-    let mut entries = 0u64;
+    let mut found = 0u64;
     for turn in 0..STEPS {
         number = following(number);
-        let (Ok(one), Ok(other)) = (
-            step(&mut scan, alloc, number >> 24),
-            step(&mut groups, alloc, number >> 24),
-        ) else {
-            return println!(rt; "compare: no memory");
-        };
-        if one != other {
-            return println!(rt; "compare: step {turn} answers {one:?} and {other:?}");
-        }
-        if one.is_some() {
-            entries = entries.wrapping_add(1);
+        match step_both(scan, groups, alloc, number >> 24)? {
+            None => return Ok(Answers::Differ(turn)),
+            Some(is_found) => found = found.wrapping_add(u64::from(is_found)),
         }
     }
-    println!(rt; "compare: {STEPS} steps, of which {entries} found an entry; equal answers")
+    Ok(Answers::Equal(found))
+}
+
+fn compared(alloc: Global) -> Result<Answers, ReadError> {
+    let mut scan = Scan::empty(alloc)?;
+    let mut groups = MaskGroups::empty(alloc)?;
+    steps(&mut scan, &mut groups, alloc)
+}
+
+/// 100,000 random calls of `add`, `take`, `renew`, `same` and `winner` on both, and whether each had one answer.
+pub fn compare(rt: &HostRuntime) -> io::Result<()> {
+    match compared(rt.alloc()) {
+        Ok(Answers::Equal(found)) => {
+            println!(rt; "compare: {STEPS} steps, of which {found} found an entry; equal answers")
+        }
+        Ok(Answers::Differ(turn)) => println!(rt; "compare: the answers to step {turn} differ"),
+        Err(_) => println!(rt; "compare: no memory"),
+    }
 }

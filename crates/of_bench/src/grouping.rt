@@ -1,6 +1,6 @@
 //! Groups, and frames to many ports.
 
-use crate::asking::asking;
+use crate::asking::ask_again;
 use crate::clock::{Timed, time_slow};
 use crate::flows;
 use crate::flows::push_flow;
@@ -97,7 +97,7 @@ fn modify_first(alloc: Global) -> Result<Vec<u8>, AllocError> {
 /// A MODIFY of one of 256 groups of 16 buckets of 64 actions, in chains of three.
 pub fn time_group_mod(rt: &HostRuntime) -> io::Result<()> {
     let alloc = rt.alloc();
-    let Some(mut timed) = asking(alloc, full_groups(alloc), modify_first(alloc)) else {
+    let Some(mut timed) = ask_again(alloc, full_groups(alloc), modify_first(alloc)) else {
         return println!(rt; "group_mod: no memory");
     };
     if timed.call(0) != 0 {

@@ -132,7 +132,7 @@ asked_by (Some kind) m =
 unfoldable pub multipart_fields : List ℕ → List ℕ
 multipart_fields m = name_field [] Multiparts 8 2 m ++ asked_by (number_at 8 2 m) m
 
--- of AGGREGATE what the entries have counted (7.3.5.3); the rows of the other replies are left out
+-- of AGGREGATE what the entries have counted (7.3.5.3); other replies have rows, which stand below
 unfoldable pub counted : List ℕ → List ℕ
 counted m = number_field (codes " packets") 16 8 m ++ number_field (codes " bytes") 24 8 m ++ number_field (codes " flows") 32 4 m
 

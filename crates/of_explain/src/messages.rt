@@ -230,7 +230,7 @@ fn push_counted(out: &mut Vec<u8>, message: &[u8]) -> Result<(), AllocError>
     push_number_field(out, message, b" flows", 32, 4)
 }
 
-// MULTIPART_REPLY (7.3.5): its kind, and of AGGREGATE what it says.
+// MULTIPART_REPLY (7.3.5): its type, and of AGGREGATE what it says; rows stand below.
 #[tactic(auto, unfolding(crate::specs::Messages::multipart_reply_fields, crate::specs::Messages::counted_by))]
 fn push_multipart_reply(out: &mut Vec<u8>, message: &[u8]) -> Result<(), AllocError>
     ensures { OnOk result (out.new.items ≡ out.old.items ++ multipart_reply_fields message.now) }

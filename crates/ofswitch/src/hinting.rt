@@ -5,11 +5,17 @@ use of_text::TextFault;
 use std::fs::File;
 use std::io::Read;
 
-// The line of that number, counted from 1; None where the file does not give it again.
-fn line_of(rt: &HostRuntime, path: &str, number: usize) -> Option<Vec<u8>> {
+/// A file that was read before; `None` where it does not give its bytes again.
+pub fn bytes_of(rt: &HostRuntime, path: &str) -> Option<Vec<u8>> {
     let mut file = File::open(rt, path).ok()?;
     let mut bytes = Vec::new(rt.alloc());
     file.read_to_end(&mut bytes).ok()?;
+    Some(bytes)
+}
+
+// The line of that number, counted from 1; None where the file does not give it again.
+fn line_of(rt: &HostRuntime, path: &str, number: usize) -> Option<Vec<u8>> {
+    let bytes = bytes_of(rt, path)?;
     let line = bytes
         .split(|byte| *byte == b'\n')
         .nth(number.checked_sub(1)?)?;

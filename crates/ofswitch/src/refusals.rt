@@ -1,8 +1,7 @@
 //! Rows of an event file that the switch refuses, on standard error.
+use crate::hinting::bytes_of;
 use of_mask_groups::MaskGroups;
-use of_switch::{Event, Switch, SwitchError};
-use std::fs::File;
-use std::io::Read;
+use of_switch::{Event, PortChange, Switch, SwitchError};
 
 // A row that is refused when the clock reaches it.
 #[derive(Drop)]
@@ -24,9 +23,7 @@ pub struct Refusals {
 
 // The numbers of the lines that are neither empty nor comments, from 1; None where the file does not give them again.
 fn row_lines(rt: &HostRuntime, path: &str) -> Option<Vec<usize>> {
-    let mut file = File::open(rt, path).ok()?;
-    let mut bytes = Vec::new(rt.alloc());
-    file.read_to_end(&mut bytes).ok()?;
+    let bytes = bytes_of(rt, path)?;
     let mut lines = Vec::new(rt.alloc());
     let mut number: usize = 0;
     for line in bytes.split(|byte| *byte == b'\n') {
@@ -38,29 +35,42 @@ fn row_lines(rt: &HostRuntime, path: &str) -> Option<Vec<usize>> {
     Some(lines)
 }
 
+// Why a change of ports is refused, if it is.
+fn refusal(switch: &mut Switch<MaskGroups>, change: PortChange) -> Option<SwitchError> {
+    switch.port_change(change).err()
+}
+
+// Appends the rows that a switch refuses; None where memory runs out.
+fn push_refused(
+    switch: &mut Switch<MaskGroups>,
+    events: &[Event],
+    lines: &[usize],
+    rows: &mut Vec<Refused>,
+) -> Option<()> {
+    let mut due: u64 = 0;
+    for (event, line) in events.iter().zip(lines) {
+        match event {
+            Event::Moment(nanos) => due = due.max(*nanos),
+            Event::Ports(change) => match refusal(switch, *change) {
+                None => {}
+                Some(SwitchError::NoMemory) => return None,
+                Some(why) => {
+                    let line = *line;
+                    rows.push(Refused { due, line, why }).ok()?;
+                }
+            },
+            _ => {}
+        }
+    }
+    Some(())
+}
+
 // Only rows of ports can be refused, and which ports there are is for these rows alone to say. So a switch on which nothing
 // else happens refuses the same rows as the one that serves.
 fn refused_rows(rt: &HostRuntime, events: &[Event], lines: &[usize]) -> Option<Vec<Refused>> {
     let mut switch = Switch::<MaskGroups>::new(rt.alloc(), 1).ok()?;
     let mut rows = Vec::new(rt.alloc());
-    let mut due: u64 = 0;
-    for (event, line) in events.iter().zip(lines) {
-        match event {
-            Event::Moment(nanos) => due = due.max(*nanos),
-            Event::Ports(change) => match switch.port_change(*change) {
-                Ok(_) => {}
-                Err(SwitchError::NoMemory) => return None,
-                Err(why) => rows
-                    .push(Refused {
-                        due,
-                        line: *line,
-                        why,
-                    })
-                    .ok()?,
-            },
-            _ => {}
-        }
-    }
+    push_refused(&mut switch, events, lines, &mut rows)?;
     Some(rows)
 }
 
