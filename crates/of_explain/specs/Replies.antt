@@ -16,12 +16,12 @@ use Rattle.of_explain.specs.Requests.{row_line}
 -- the length of the row at the front: of some types it is its first number, of others it is always the same, and others have no rows
 unfoldable pub length_by : ℕ → Option ℕ → Option ℕ
 length_by type first =
-    if type == 1 then first         -- FLOW (7.3.5.2)
+    if type == 1 then first  -- FLOW (7.3.5.2)
     else if type == 3 then Some 24  -- TABLE (7.3.5.4)
-    else if type == 4 then Some 112 -- PORT_STATS (7.3.5.6)
-    else if type == 6 then first    -- GROUP (7.3.5.9)
-    else if type == 7 then first    -- GROUP_DESC (7.3.5.10)
-    else if type == 13 then Some 64 -- PORT_DESC (7.3.5.7)
+    else if type == 4 then Some 112  -- PORT_STATS (7.3.5.6)
+    else if type == 6 then first  -- GROUP (7.3.5.9)
+    else if type == 7 then first  -- GROUP_DESC (7.3.5.10)
+    else if type == 13 then Some 64  -- PORT_DESC (7.3.5.7)
     else None
 
 -- a row has some bytes, and ends before the message does

@@ -139,11 +139,7 @@ fn push_group_description(out: &mut Vec<u8>, row: &[u8]) -> Result<(), AllocErro
 
 // What a port is (7.3.5.7 and 7.2.1).
 #[tactic(auto, unfolding(crate::specs::Replies::port_desc_row))]
-fn push_port_description(
-    alloc: Global,
-    out: &mut Vec<u8>,
-    row: &[u8],
-) -> Result<(), AllocError>
+fn push_port_description(alloc: Global, out: &mut Vec<u8>, row: &[u8]) -> Result<(), AllocError>
     ensures { OnOk result (out.new.items ≡ out.old.items ++ port_desc_row row.now) }
 {
     push_number_field(out, row, b"port", 0, 4)?;
@@ -153,12 +149,7 @@ fn push_port_description(
 }
 
 #[tactic(auto, unfolding(crate::specs::Replies::row_said))]
-fn push_words(
-    alloc: Global,
-    out: &mut Vec<u8>,
-    kind: u16,
-    row: &[u8],
-) -> Result<(), AllocError>
+fn push_words(alloc: Global, out: &mut Vec<u8>, kind: u16, row: &[u8]) -> Result<(), AllocError>
     ensures { OnOk result (out.new.items ≡ out.old.items ++ row_said kind row.now) }
 {
     match kind {
@@ -185,12 +176,7 @@ fn match_of_row(alloc: Global, kind: u16, row: &[u8]) -> Result<Vec<Row>, AllocE
 }
 
 // Appends a row in words as a line after eight spaces.
-fn push_row_line(
-    alloc: Global,
-    out: &mut Vec<u8>,
-    kind: u16,
-    row: &[u8],
-) -> Result<(), AllocError>
+fn push_row_line(alloc: Global, out: &mut Vec<u8>, kind: u16, row: &[u8]) -> Result<(), AllocError>
     ensures { OnOk result (out.new.items ≡ out.old.items ++ (codes "        " ++ ended (row_said kind row.now))) }
 {
     out.extend_from_slice(b"        ")?;

@@ -6,6 +6,7 @@ use of_serve::{read_rows, serve};
 use of_switch::Event;
 use of_wire::Bytes;
 use std::alloc::Global;
+use std::process::Abort;
 use std::test::Fail;
 
 /// HELLO; a FLOW_MOD that adds a flow of priority 10 for IN_PORT 1, with APPLY of OUTPUT 2; BARRIER_REQUEST of xid 3.
@@ -63,16 +64,23 @@ fn served(alloc: Global, fails_at: u64, write_fails_at: u64) -> Result<(Ended, M
     Ok((ended, peers))
 }
 
+// What the first connection took.
+fn is_taken(
+    rt: &impl Abort,
+    alloc: Global,
+    peers: &MemoryPeers,
+    parts: &[&str],
+) -> Result<(), Fail> {
+    let wanted = bytes_of(alloc, parts)?;
+    assert_eq!(rt; peers.taken(0).ok_or("a connection")?, wanted.as_slice());
+    Ok(())
+}
+
 #[test]
 fn barrier(rt: HostRuntime) -> Result<(), Fail> {
-    let alloc = rt.alloc();
-    let (ended, peers) = served(alloc, 0, 0)?;
+    let (ended, peers) = served(rt.alloc(), 0, 0)?;
     assert_eq!(rt; ended, Ended::Done);
-    assert_eq!(rt;
-        peers.taken(0).ok_or("a connection")?,
-        bytes_of(alloc, &[GREETING, REPLY])?.as_slice()
-    );
-    Ok(())
+    is_taken(&rt, rt.alloc(), &peers, &[GREETING, REPLY])
 }
 
 // A controller that says HELLO, adds a flow and stays.
@@ -100,16 +108,17 @@ fn served_rows(alloc: Global) -> Result<(Ended, MemoryPeers, MemorySink), Fail> 
     Ok((ended, peers, out))
 }
 
+fn are_in_time(rt: &impl Abort, ended: Ended, sent: &[u8]) {
+    assert_eq!(rt; ended, Ended::Done);
+    assert_eq!(rt; sent, SENT);
+}
+
 // Rows happen when the clock has reached the moments before them.
 #[test]
 fn rows_in_time(rt: HostRuntime) -> Result<(), Fail> {
-    let alloc = rt.alloc();
-    let (ended, peers, out) = served_rows(alloc)?;
-    assert_eq!(rt; ended, Ended::Done);
-    let taken = peers.taken(0).ok_or("a connection")?;
-    assert_eq!(rt; taken, bytes_of(alloc, &[GREETING])?.as_slice());
-    assert_eq!(rt; out.bytes(), SENT);
-    Ok(())
+    let (ended, peers, out) = served_rows(rt.alloc())?;
+    are_in_time(&rt, ended, out.bytes());
+    is_taken(&rt, rt.alloc(), &peers, &[GREETING])
 }
 
 // Each accept and read fails in turn: what was taken is a prefix of the answers.
@@ -124,16 +133,18 @@ fn faults(rt: HostRuntime) -> Result<(), Fail> {
     Ok(())
 }
 
+fn is_front(rt: &impl Abort, taken: &[u8], all: &[u8], count: u64) {
+    assert!(rt; all.starts_with(taken));
+    assert_eq!(rt; taken.len() as u64, count);
+}
+
 // The write of a byte fails, for each of the answers' first bytes: what went out before it is all that went out.
 #[test]
 fn failed_writes(rt: HostRuntime) -> Result<(), Fail> {
-    let alloc = rt.alloc();
-    let all = bytes_of(alloc, &[GREETING, REPLY])?;
+    let all = bytes_of(rt.alloc(), &[GREETING, REPLY])?;
     for k in 1..25_u64 {
-        let (_ended, peers) = served(alloc, 0, k)?;
-        let taken = peers.taken(0).ok_or("a connection")?;
-        assert!(rt; all.as_slice().starts_with(taken));
-        assert_eq!(rt; taken.len() as u64, k - 1);
+        let (_ended, peers) = served(rt.alloc(), 0, k)?;
+        is_front(&rt, peers.taken(0).ok_or("a connection")?, &all, k - 1);
     }
     Ok(())
 }

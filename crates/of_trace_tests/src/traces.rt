@@ -60,15 +60,14 @@ fn added(number: u32) -> PortChange {
     }
 }
 
-// A switch of two ports, and a controller that said HELLO.
-fn opened(alloc: Global) -> Result<Switch<Scan>, Fail> {
-    let mut switch = Switch::<Scan>::new(alloc, 1)?;
+// Two ports are added, and a controller says HELLO.
+fn open(switch: &mut Switch<Scan>) -> Result<(), Fail> {
     switch.port_change(added(1))?;
     switch.port_change(added(2))?;
     switch.connected()?;
     switch.feed(&[4, 0, 0, 8, 0, 0, 0, 1])?;
     switch.next()?;
-    Ok(switch)
+    Ok(())
 }
 
 /// How a trace becomes a text.
@@ -132,19 +131,31 @@ fn explained(alloc: Global, switch: &Switch<Scan>, port: u32) -> Result<Vec<u8>,
     Ok(explain(alloc, switch, Asked::Nothing, port, &FRAME, &traced)?)
 }
 
-fn is_written(
-    rt: &impl Abort,
-    alloc: Global,
-    place: usize,
-    switch: &Switch<Scan>,
-    port: u32,
-    form: Form,
-    text: &[u8],
-) {
+fn written(alloc: Global, switch: &Switch<Scan>, port: u32, form: Form) -> Result<Vec<u8>, Fail> {
     let mut sink = MemorySink::new(alloc, 100, 0);
     let ended = write_trace(alloc, switch, port, &FRAME, form, &mut sink);
-    assert_eq!(rt; ended, Ended::Done, "step {place}");
-    assert_eq!(rt; sink.bytes(), text, "step {place}");
+    let text = if ended == Ended::Done {
+        sink.bytes()
+    } else {
+        b"not written"
+    };
+    Ok(Vec::from_slice(alloc, text)?)
+}
+
+fn text_of(alloc: Global, switch: &Switch<Scan>, port: u32, text: Text) -> Result<Vec<u8>, Fail> {
+    match text {
+        Text::Printed => printed(alloc, switch, port),
+        Text::Explained => explained(alloc, switch, port),
+        Text::Written(form) => written(alloc, switch, port, form),
+    }
+}
+
+fn is_text(rt: &impl Abort, place: usize, text: &[u8], wanted: &[u8]) {
+    assert_eq!(rt; text, wanted, "step {place}");
+}
+
+fn is_count(rt: &impl Abort, place: usize, count: usize, wanted: usize) {
+    assert_eq!(rt; count, wanted, "step {place}");
 }
 
 fn is_reason(rt: &impl Abort, place: usize, reason: Option<Reason>, why: Why) {
@@ -176,40 +187,29 @@ fn play(
 ) -> Result<(), Fail> {
     match step {
         Step::Flow => add_flow(switch)?,
-        Step::Trace(port, Text::Printed, text) => {
-            assert_eq!(rt;
-                printed(alloc, switch, port)?.as_slice(),
-                text,
-                "step {place}"
-            );
-        }
-        Step::Trace(port, Text::Explained, text) => {
-            assert_eq!(rt;
-                explained(alloc, switch, port)?.as_slice(),
-                text,
-                "step {place}"
-            );
-        }
-        Step::Trace(port, Text::Written(form), text) => {
-            is_written(rt, alloc, place, switch, port, form, text);
+        Step::Trace(port, text, wanted) => {
+            is_text(rt, place, &text_of(alloc, switch, port, text)?, wanted);
         }
         Step::Reason(port, entry, reason) => {
             is_reason(rt, place, why(switch, 0, &key_of(port)?, entry), reason);
         }
-        Step::Frame(port, count) => {
-            assert_eq!(rt; switch.frame(port, &FRAME)?.len(), count, "step {place}");
-        }
+        Step::Frame(port, count) => is_count(rt, place, switch.frame(port, &FRAME)?.len(), count),
+    }
+    Ok(())
+}
+
+fn play_all(rt: &impl Abort, alloc: Global, switch: &mut Switch<Scan>) -> Result<(), Fail> {
+    open(switch)?;
+    for (place, step) in STEPS.iter().enumerate() {
+        play(rt, alloc, place, switch, *step)?;
     }
     Ok(())
 }
 
 #[test]
 fn steps(rt: HostRuntime) -> Result<(), Fail> {
-    let mut switch = opened(rt.alloc())?;
-    for (place, step) in STEPS.iter().enumerate() {
-        play(&rt, rt.alloc(), place, &mut switch, *step)?;
-    }
-    Ok(())
+    let mut switch = Switch::<Scan>::new(rt.alloc(), 1)?;
+    play_all(&rt, rt.alloc(), &mut switch)
 }
 
 /// Numbers of 31 bits by a linear congruence (Knuth, The Art of Computer Programming 2, 3.3.4).
@@ -228,39 +228,44 @@ impl Numbers {
     }
 }
 
-fn text_of(alloc: Global, effects: &[Effect]) -> Result<Vec<u8>, Fail> {
+fn effects_text(alloc: Global, effects: &[Effect]) -> Result<Vec<u8>, Fail> {
     let mut text = Vec::new(alloc);
     push_effects(alloc, &mut text, effects)?;
     Ok(text)
 }
 
-// What a trace says is what the frame does next.
-fn tells(
-    rt: &impl Abort,
+// What a trace says that a frame does.
+fn told(alloc: Global, switch: &Switch<Scan>, port: u32, frame: &[u8]) -> Result<Vec<u8>, Fail> {
+    effects_text(alloc, &trace(alloc, switch, port, frame)?.effects)
+}
+
+// What it does.
+fn done(
     alloc: Global,
     switch: &mut Switch<Scan>,
     port: u32,
     frame: &[u8],
-) -> Result<(), Fail> {
-    let told = trace(alloc, switch, port, frame)?;
-    let told = text_of(alloc, &told.effects)?;
-    let done = switch.frame(port, frame)?;
-    let done = text_of(alloc, &done)?;
-    assert_eq!(rt; told.as_slice(), done.as_slice(), "port {port}");
-    Ok(())
+) -> Result<Vec<u8>, Fail> {
+    effects_text(alloc, &switch.frame(port, frame)?)
 }
 
 // Frames by any of three ports, of which the third is not there.
-#[test]
-fn traces_tell_what_frames_do(rt: HostRuntime) -> Result<(), Fail> {
-    let mut switch = opened(rt.alloc())?;
-    add_flow(&mut switch)?;
+fn tells_all(rt: &impl Abort, alloc: Global, switch: &mut Switch<Scan>) -> Result<(), Fail> {
+    open(switch)?;
+    add_flow(switch)?;
     let mut numbers = Numbers { state: 1 };
-    for _ in 0..50 {
+    for turn in 0..50 {
         let port = (numbers.next() % 3) as u32 + 1;
         let mut frame = FRAME;
         frame[13] = (numbers.next() % 256) as u8;
-        tells(&rt, rt.alloc(), &mut switch, port, &frame)?;
+        let told = told(alloc, switch, port, &frame)?;
+        is_text(rt, turn, &told, &done(alloc, switch, port, &frame)?);
     }
     Ok(())
+}
+
+#[test]
+fn traces_tell_what_frames_do(rt: HostRuntime) -> Result<(), Fail> {
+    let mut switch = Switch::<Scan>::new(rt.alloc(), 1)?;
+    tells_all(&rt, rt.alloc(), &mut switch)
 }
