@@ -16,7 +16,7 @@ mod stream_tests;
 mod tests;
 
 /// The event files, each beside the text that it is to print.
-const NAMES: [&str; 67] = [
+const NAMES: &[&str] = &[
     "hello",
     "wrong-version",
     "first-path",

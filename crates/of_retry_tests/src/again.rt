@@ -91,21 +91,38 @@ fn given(alloc: Global, reports: &[Report]) -> Result<Vec<u8>, AllocError> {
     Ok(out)
 }
 
+fn play_events(
+    alloc: Global,
+    switch: &mut Switch<Scan>,
+    reports: &mut Vec<Report>,
+) -> Result<(), Fail> {
+    for event in events_of(alloc, ROWS)? {
+        play(alloc, switch, event, reports)?;
+    }
+    Ok(())
+}
+
+fn play_all(alloc: Global, reports: &mut Vec<Report>) -> Result<(), Fail> {
+    let mut switch = Switch::<Scan>::new(alloc, 1)?;
+    play_events(alloc, &mut switch, reports)
+}
+
 // What all calls give, where each that finds no memory is made again.
 fn given_again(alloc: Global) -> Result<Vec<u8>, Fail> {
-    let mut switch = Switch::<Scan>::new(alloc, 1)?;
     let mut reports = Vec::new(alloc);
-    for event in events_of(alloc, ROWS)? {
-        play(alloc, &mut switch, event, &mut reports)?;
-    }
+    play_all(alloc, &mut reports)?;
     Ok(given(alloc, &reports)?)
+}
+
+fn run_all(alloc: Global, reports: &mut Vec<Report>) -> Result<(), Fail> {
+    let mut switch = Switch::<Scan>::new(alloc, 1)?;
+    Ok(switch.run(&events_of(alloc, ROWS)?, reports)?)
 }
 
 // What one call of all events gives.
 fn given_at_once(alloc: Global) -> Result<Vec<u8>, Fail> {
-    let mut switch = Switch::<Scan>::new(alloc, 1)?;
     let mut reports = Vec::new(alloc);
-    switch.run(&events_of(alloc, ROWS)?, &mut reports)?;
+    run_all(alloc, &mut reports)?;
     Ok(given(alloc, &reports)?)
 }
 

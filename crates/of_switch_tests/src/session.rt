@@ -26,22 +26,32 @@ const PIECES: &[Piece] = &[
     Piece::Left(&[]),
 ];
 
+fn are_bytes(rt: &impl Abort, place: usize, bytes: &[u8], wanted: &[u8]) {
+    assert_eq!(rt; bytes, wanted, "place {place}");
+}
+
 fn take(rt: &impl Abort, place: usize, stream: &mut Stream, wanted: &[u8]) {
     let size = wanted.len();
     assert!(rt; size <= stream.left().len(), "piece {place}");
-    assert_eq!(rt; stream.first(size), wanted, "piece {place}");
+    are_bytes(rt, place, stream.first(size), wanted);
     stream.take(size);
+}
+
+fn are_left(rt: &impl Abort, place: usize, stream: &Stream, wanted: &[u8]) {
+    are_bytes(rt, place, stream.left(), wanted);
+    assert_eq!(rt; stream.kept(), wanted.len(), "piece {place}");
+}
+
+fn is_front(rt: &impl Abort, place: usize, front: Beginning, wanted: Beginning) {
+    assert_eq!(rt; front, wanted, "piece {place}");
 }
 
 fn play(rt: &impl Abort, place: usize, stream: &mut Stream, piece: Piece) -> Result<(), Fail> {
     match piece {
         Piece::Feed(bytes) => stream.feed(bytes)?,
-        Piece::Beginning(front) => assert_eq!(rt; stream.front(), front, "piece {place}"),
+        Piece::Beginning(front) => is_front(rt, place, stream.front(), front),
         Piece::Take(bytes) => take(rt, place, stream, bytes),
-        Piece::Left(bytes) => {
-            assert_eq!(rt; stream.left(), bytes, "piece {place}");
-            assert_eq!(rt; stream.kept(), bytes.len(), "piece {place}");
-        }
+        Piece::Left(bytes) => are_left(rt, place, stream, bytes),
         Piece::Clear => stream.clear(),
     }
     Ok(())
@@ -116,17 +126,25 @@ fn next_of(session: &Session) -> Result<Seen, Fail> {
 fn is_first(rt: &impl Abort, place: usize, session: &Session, bytes: &[u8]) {
     let size = bytes.len();
     assert!(rt; size <= session.pending().len(), "step {place}");
-    assert_eq!(rt; session.first(size), bytes, "step {place}");
+    are_bytes(rt, place, session.first(size), bytes);
+}
+
+fn is_seen(rt: &impl Abort, place: usize, seen: Seen, wanted: Seen) {
+    assert_eq!(rt; seen, wanted, "step {place}");
+}
+
+fn is_phase(rt: &impl Abort, place: usize, phase: Phase, wanted: Phase) {
+    assert_eq!(rt; phase, wanted, "step {place}");
 }
 
 fn go_on(rt: &impl Abort, place: usize, session: &mut Session, step: Step) -> Result<(), Fail> {
     match step {
         Step::Connect => session.connect(),
         Step::Feed(bytes) => session.feed(bytes)?,
-        Step::Next(wanted) => assert_eq!(rt; next_of(session)?, wanted, "step {place}"),
+        Step::Next(wanted) => is_seen(rt, place, next_of(session)?, wanted),
         Step::First(bytes) => is_first(rt, place, session, bytes),
         Step::Taken => session.taken(),
-        Step::Phase(phase) => assert_eq!(rt; session.phase(), phase, "step {place}"),
+        Step::Phase(phase) => is_phase(rt, place, session.phase(), phase),
         Step::Close => session.close(),
     }
     Ok(())
