@@ -21,7 +21,7 @@ pub struct FlowFlags {
 }
 
 impl FlowFlags {
-    /// The number of those that an entry keeps.
+    /// The number of those that an entry keeps (OpenFlow 1.3.5, 7.3.4.1).
     pub fn number(self) -> u16
         ensures { result ≡ flags_number self }
     {
