@@ -1,8 +1,8 @@
 //! Requests of a controller on a switch, from bytes to bytes.
 
 use crate::clock::{Timed, time};
+use crate::lookups::Lookups;
 use crate::switching::{add, adds, piece, switch_after};
-use of_mask_groups::MaskGroups;
 use of_switch::Switch;
 use std::alloc::{AllocError, Global};
 use std::io;
@@ -28,7 +28,7 @@ const STREAM: u16 = 10_000;
 /// A switch, and a request to it.
 #[derive(Drop)]
 pub struct Asking {
-    switch: Switch<MaskGroups>,
+    switch: Switch<Lookups>,
     request: Vec<u8>,
 }
 

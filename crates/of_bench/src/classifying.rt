@@ -13,7 +13,7 @@ use std::io;
 const ENTRIES: u64 = 4096;
 
 /// How many keys there are, in turns.
-const KEYS: u64 = 256;
+pub const KEYS: u64 = 256;
 
 /// A match of METADATA under a mask, ETH_TYPE 0x0800, IP_PROTO 6 and TCP_DST 80.
 const MATCH: [u8; 48] = [
@@ -69,8 +69,8 @@ impl Timed for Classify {
     }
 }
 
-// The keys of frames whose low 16 bits of METADATA are those of some entry.
-fn keys(alloc: Global) -> Result<Vec<FieldKey>, AllocError> {
+/// The keys of frames whose low 16 bits of METADATA are those of some entry.
+pub fn keys(alloc: Global) -> Result<Vec<FieldKey>, AllocError> {
     let mut keys = Vec::new(alloc);
     let mut number = 1u64;
     for _ in 0..KEYS {
@@ -82,9 +82,9 @@ fn keys(alloc: Global) -> Result<Vec<FieldKey>, AllocError> {
     Ok(keys)
 }
 
-// Entries over `masks` masks, of the same priority, or of a lower one for each mask.
-fn entries(alloc: Global, masks: u8, falling: bool) -> Option<MaskGroups> {
-    let mut lookup = MaskGroups::empty(alloc).ok()?;
+/// 4,096 entries over some masks, of the same priority, or of a lower one for each mask.
+pub fn entries<L: Lookup>(alloc: Global, masks: u8, falling: bool) -> Option<L> {
+    let mut lookup = L::empty(alloc).ok()?;
     for value in 0..4096u16 {
         let mask = (value % u16::from(masks.max(1)) % 256) as u8;
         let priority = if falling {
@@ -100,7 +100,10 @@ fn entries(alloc: Global, masks: u8, falling: bool) -> Option<MaskGroups> {
 }
 
 fn time_masks(rt: &HostRuntime, name: &str, masks: u8, falling: bool) -> io::Result<()> {
-    let (Some(lookup), Ok(keys)) = (entries(rt.alloc(), masks, falling), keys(rt.alloc())) else {
+    let (Some(lookup), Ok(keys)) = (
+        entries::<MaskGroups>(rt.alloc(), masks, falling),
+        keys(rt.alloc()),
+    ) else {
         return println!(rt; "{name}: no memory");
     };
     time(rt, name, &mut Classify { lookup, keys })

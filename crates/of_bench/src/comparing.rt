@@ -1,6 +1,7 @@
-//! Two classifiers side by side: the list, and the groups of masks.
+//! Three classifiers side by side: the list, the groups of masks, and a small cache over these.
 
 use crate::classifying::{following, key_with, numbered_match};
+use of_cache::Cached;
 use of_classifier::{Lookup, Scan};
 use of_mask_groups::MaskGroups;
 use of_oxm::{Match, ReadError};
@@ -58,16 +59,23 @@ fn step<L: Lookup>(lookup: &mut L, alloc: Global, number: u64) -> Result<Option<
     }
 }
 
-// One step on both, and whether it found an entry; None where the answers differ.
-fn step_both(
-    scan: &mut Scan,
-    groups: &mut MaskGroups,
-    alloc: Global,
-    number: u64,
-) -> Result<Option<bool>, ReadError> {
-    let one = step(scan, alloc, number)?;
-    let other = step(groups, alloc, number)?;
-    if one == other {
+// The three.
+#[derive(Drop)]
+struct Three {
+    scan: Scan,
+    groups: MaskGroups,
+    cached: Cached<MaskGroups>,
+}
+
+/// How many rows the cache keeps: few, so that some go.
+const ROWS: usize = 8;
+
+// One step on each, and whether it found an entry; None where the answers differ.
+fn step_each(three: &mut Three, alloc: Global, number: u64) -> Result<Option<bool>, ReadError> {
+    let one = step(&mut three.scan, alloc, number)?;
+    let other = step(&mut three.groups, alloc, number)?;
+    let third = step(&mut three.cached, alloc, number)?;
+    if one == other && one == third {
         Ok(Some(one.is_some()))
     } else {
         Ok(None)
@@ -75,12 +83,12 @@ fn step_both(
 }
 
 // All steps: how many found an entry, or the first whose answers differ.
-fn steps(scan: &mut Scan, groups: &mut MaskGroups, alloc: Global) -> Result<Answers, ReadError> {
+fn steps(three: &mut Three, alloc: Global) -> Result<Answers, ReadError> {
     let mut number = 1u64;
     let mut found = 0u64;
     for turn in 0..STEPS {
         number = following(number);
-        match step_both(scan, groups, alloc, number >> 24)? {
+        match step_each(three, alloc, number >> 24)? {
             None => return Ok(Answers::Differ(turn)),
             Some(is_found) => found = found.wrapping_add(u64::from(is_found)),
         }
@@ -89,12 +97,15 @@ fn steps(scan: &mut Scan, groups: &mut MaskGroups, alloc: Global) -> Result<Answ
 }
 
 fn compared(alloc: Global) -> Result<Answers, ReadError> {
-    let mut scan = Scan::empty(alloc)?;
-    let mut groups = MaskGroups::empty(alloc)?;
-    steps(&mut scan, &mut groups, alloc)
+    let mut three = Three {
+        scan: Scan::empty(alloc)?,
+        groups: MaskGroups::empty(alloc)?,
+        cached: Cached::with_rows(alloc, MaskGroups::empty(alloc)?, ROWS)?,
+    };
+    steps(&mut three, alloc)
 }
 
-/// 100,000 random calls of `add`, `take`, `renew`, `same` and `winner` on both, and whether each had one answer.
+/// 100,000 random calls of `add`, `take`, `renew`, `same` and `winner` on each, and whether each call had one answer.
 pub fn compare(rt: &HostRuntime) -> io::Result<()> {
     match compared(rt.alloc()) {
         Ok(Answers::Equal(found)) => {

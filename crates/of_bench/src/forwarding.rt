@@ -5,15 +5,15 @@ use crate::clock::{Timed, time};
 use crate::flows;
 use crate::flows::push_flow;
 use crate::frames::TCP;
+use crate::lookups::Lookups;
 use crate::switching::switch_after;
-use of_mask_groups::MaskGroups;
 use of_switch::{Effect, Switch};
 use std::alloc::{AllocError, Global};
 use std::io;
 
 #[derive(Drop)]
 struct Forward {
-    switch: Switch<MaskGroups>,
+    switch: Switch<Lookups>,
     bytes: [u8; 60],
 }
 

@@ -3,6 +3,7 @@
 
 mod acting;
 mod asking;
+mod caching;
 mod classifying;
 mod clock;
 mod comparing;
@@ -11,6 +12,7 @@ mod forwarding;
 mod frames;
 mod grouping;
 mod headers;
+mod lookups;
 mod matching;
 mod rewriting;
 mod switching;
@@ -34,6 +36,7 @@ fn run(rt: &HostRuntime, name: &str) -> io::Result<()> {
         "matches" => matching::time_matches(rt),
         "read_match" => matching::time_read_match(rt),
         "classify" => classifying::time_classify(rt),
+        "cached" => caching::time_cached(rt),
         "compare" => comparing::compare(rt),
         "flow_mod" => switching::time_flow_mod(rt),
         "barrier" => asking::time_barrier(rt),

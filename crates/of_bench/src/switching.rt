@@ -1,7 +1,7 @@
 //! Switches, and FLOW_MODs and points in time for them.
 
 use crate::clock::{Timed, time};
-use of_mask_groups::MaskGroups;
+use crate::lookups::Lookups;
 use of_switch::{PortChange, Switch};
 use std::alloc::{AllocError, Global};
 use std::io;
@@ -43,7 +43,7 @@ fn port(number: u32) -> PortChange {
 }
 
 /// Receives bytes of the controller, and handles each whole message; `None` where that was refused or out of memory.
-pub fn piece(switch: &mut Switch<MaskGroups>, bytes: &[u8]) -> Option<u64> {
+pub fn piece(switch: &mut Switch<Lookups>, bytes: &[u8]) -> Option<u64> {
     switch.feed(bytes).ok()?;
     let mut effects: u64 = 0;
     for _ in 0..=bytes.len() {
@@ -56,7 +56,7 @@ pub fn piece(switch: &mut Switch<MaskGroups>, bytes: &[u8]) -> Option<u64> {
 }
 
 // Opens a channel and sends these messages; None where one is answered or memory runs out.
-fn prepare(switch: &mut Switch<MaskGroups>, ports: u32, messages: &[u8]) -> Option<()> {
+fn prepare(switch: &mut Switch<Lookups>, ports: u32, messages: &[u8]) -> Option<()> {
     for number in 1..=ports {
         switch.port_change(port(number)).ok()?;
     }
@@ -73,9 +73,9 @@ pub fn switch_after(
     alloc: Global,
     ports: u32,
     messages: Result<Vec<u8>, AllocError>,
-) -> Option<Switch<MaskGroups>> {
+) -> Option<Switch<Lookups>> {
     let messages = messages.ok()?;
-    let mut switch = Switch::<MaskGroups>::new(alloc, 1).ok()?;
+    let mut switch = Switch::<Lookups>::new(alloc, 1).ok()?;
     prepare(&mut switch, ports, &messages)?;
     Some(switch)
 }
@@ -93,7 +93,7 @@ pub fn adds(alloc: Global, tables: u8, flows: u16, seconds: u16) -> Result<Vec<u
 
 #[derive(Drop)]
 struct FlowMod {
-    switch: Switch<MaskGroups>,
+    switch: Switch<Lookups>,
 }
 
 impl Timed for FlowMod {
@@ -118,7 +118,7 @@ pub fn time_flow_mod(rt: &HostRuntime) -> io::Result<()> {
 
 #[derive(Drop)]
 struct Moment {
-    switch: Switch<MaskGroups>,
+    switch: Switch<Lookups>,
 }
 
 impl Timed for Moment {

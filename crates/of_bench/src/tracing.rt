@@ -3,8 +3,8 @@
 use crate::clock::{Timed, time};
 use crate::forwarding::eight_flows;
 use crate::frames::TCP;
+use crate::lookups::Lookups;
 use crate::switching::switch_after;
-use of_mask_groups::MaskGroups;
 use of_switch::Switch;
 use of_trace::{print, trace};
 use std::alloc::Global;
@@ -13,7 +13,7 @@ use std::io;
 #[derive(Drop)]
 struct Traced {
     alloc: Global,
-    switch: Switch<MaskGroups>,
+    switch: Switch<Lookups>,
     is_printed: bool,
 }
 

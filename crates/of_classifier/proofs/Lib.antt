@@ -3,3 +3,4 @@ pub mod Given
 pub mod Finding
 pub mod WinnerLaw
 pub mod SameUsed
+pub mod Alike

@@ -1,3 +1,4 @@
 pub mod Rows
 pub mod Winner
 pub mod Scanning
+pub mod Looking

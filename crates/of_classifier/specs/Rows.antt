@@ -1,5 +1,5 @@
 -- The entries of a classifier, oldest first, by their numbers and priorities.
-use Rattle.std.specs.Prelude.{ℕ, Bool, ◌==◌, ◌&&◌, List, Option, find}
+use Rattle.std.specs.Prelude.{ℕ, Bool, ◌==◌, ◌&&◌, List, Option, find, option_map}
 use Rattle.of_oxm.specs.declared.match_field.MatchField.{MatchField}
 use Rattle.of_oxm.specs.SameMatch.{is_same_match}
 use Rattle.of_classifier.specs.declared.Row.{Row}
@@ -20,3 +20,7 @@ is_same_row fields priority r = r.priority == priority && is_same_match r.fields
 -- the oldest entry of that match and priority
 abbrev pub same_of : List Row → List MatchField → ℕ → Option Row
 same_of rows fields priority = find (is_same_row fields priority) rows
+
+-- the priority of the entry of that number, if there is one
+abbrev pub priority_of : ℕ → List Row → Option ℕ
+priority_of number rows = option_map row_priority (find (λ r. r.number == number) rows)

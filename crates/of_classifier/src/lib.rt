@@ -4,16 +4,18 @@
 mod laws;
 mod scan;
 
-ghost use Rattle.std.specs.Prelude.{◌≡◌, ◌++◌, List, [], ◌∷◌, IsTrue, false, IfOk, OnErr};
+ghost use Rattle.std.specs.Prelude.{◌≡◌, ◌++◌, ℕ, List, [], ◌∷◌, Option, IsTrue, false, IfOk, OnErr};
+ghost use Rattle.of_layers.specs.declared.field.Field.{Field};
 ghost use Rattle.of_headers.specs.FieldMap.{value};
 ghost use Rattle.of_wire.specs.Numbered.{is_used, is_distinct, without, moved_to_end};
 ghost use Rattle.of_classifier.specs.declared.Row.{Row};
-ghost use Rattle.of_classifier.specs.Rows.{made_row, row_number, same_of};
+ghost use Rattle.of_oxm.specs.Masks.{mask_at, Agree};
+ghost use Rattle.of_classifier.specs.Rows.{made_row, row_number, same_of, priority_of};
 ghost use Rattle.of_classifier.specs.Winner.{winner_of, number_of};
 
 pub use laws::one_winner;
 use of_headers::FieldKey;
-use of_oxm::Match;
+use of_oxm::{FieldMask, Match};
 pub use scan::Scan;
 use std::alloc::{AllocError, Global};
 
@@ -32,6 +34,9 @@ pub trait Lookup: Sized + Drop {
     /// The entries, oldest first.
     ghost content: { Self → List Row };
 
+    /// In each field the bits on which it depends which of the entries wins, or none.
+    ghost looked: { List Row → (Field → Option ℕ) → Field → Option ℕ };
+
     /// Without entries.
     fn empty(alloc: Global) -> Result<Self, AllocError>
         ensures { IfOk result (λ lookup. content lookup ≡ []) };
@@ -44,6 +49,17 @@ pub trait Lookup: Sized + Drop {
     /// The number of the entry that wins.
     fn peek(&self, key: &FieldKey) -> Option<usize>
         ensures { result ≡ number_of (winner_of (content self.now) (value key.now)) };
+
+    /// The number of the entry that wins, and the bits on which that depends: it wins for whatever
+    /// agrees with the key in them.
+    fn region(&self, key: &FieldKey) -> (Option<usize>, FieldMask)
+        ensures answer { result.0 ≡ number_of (winner_of (content self.now) (value key.now)) }
+        ensures alike { (map : Field → Option ℕ) → Agree (mask_at result.1) map (value key.now) → winner_of (content self.now) map ≡ winner_of (content self.now) (value key.now) }
+        ensures mask { (f : Field) → mask_at result.1 f ≡ looked (content self.now) (value key.now) f };
+
+    /// The priority of the entry of that number.
+    fn priority(&self, number: usize) -> Option<u16>
+        ensures { result ≡ priority_of number (content self.now) };
 
     /// Appends an entry, under a number that was not in use, and returns the number.
     fn add(&mut self, fields: Match, priority: u16) -> Result<usize, AllocError>

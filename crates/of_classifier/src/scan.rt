@@ -1,15 +1,18 @@
 //! A classifier that walks a list.
-ghost use Rattle.std.specs.Prelude.{◌≡◌, ◌<◌, IsTrue, false, IfSome, IfNone, length, slice_index_or};
+ghost use Rattle.std.specs.Prelude.{◌≡◌, ◌<◌, ℕ, Option, IsTrue, false, IfSome, IfNone, length, slice_index_or};
+ghost use Rattle.of_layers.specs.declared.field.Field.{Field};
 ghost use Rattle.of_headers.specs.FieldMap.{value};
+ghost use Rattle.of_oxm.specs.Masks.{mask_at, Agree};
 ghost use Rattle.of_wire.specs.Numbered.{is_used, is_distinct, without, moved_to_end};
 ghost use Rattle.of_classifier.specs.declared.Row.{Row};
 ghost use Rattle.of_classifier.specs.Rows.{row_number, is_same_row};
-ghost use Rattle.of_classifier.specs.Winner.{winner_of, number_of};
+ghost use Rattle.of_classifier.specs.Winner.{matching, winner_of, number_of};
 ghost use Rattle.of_classifier.specs.Scanning.{better_of};
+ghost use Rattle.of_classifier.specs.Looking.{looked_by};
 
 use crate::{Lookup, Row};
 use of_headers::FieldKey;
-use of_oxm::{Match, matches};
+use of_oxm::{FieldMask, Match, mask_of, matches};
 use slab::Slab;
 use std::alloc::{AllocError, Global};
 use std::marker::Model;
@@ -38,6 +41,8 @@ impl Model for Scan {
 impl Lookup for Scan {
     ghost content = { λ s. s };
 
+    ghost looked = { λ rows key. looked_by rows };
+
     fn empty(alloc: Global) -> Result<Self, AllocError> {
         Ok(Scan {
             rows: Vec::new(alloc),
@@ -51,6 +56,17 @@ impl Lookup for Scan {
 
     fn peek(&self, key: &FieldKey) -> Option<usize> {
         best_of(&self.rows, key)
+    }
+
+    fn region(&self, key: &FieldKey) -> (Option<usize>, FieldMask) {
+        (best_of(&self.rows, key), mask_of_all(&self.rows))
+    }
+
+    fn priority(&self, number: usize) -> Option<u16> {
+        self.rows
+            .iter()
+            .find(|row| row.number == number)
+            .map(|row| row.priority)
     }
 
     fn add(&mut self, fields: Match, priority: u16) -> Result<usize, AllocError> {
@@ -99,6 +115,19 @@ fn best_of(rows: &[Row], key: &FieldKey) -> Option<usize>
         Some((number, _)) => Some(number),
         None => None,
     }
+}
+
+/// The bits that the rows look at: the same ones match field maps that agree in them.
+pub(crate) fn mask_of_all(rows: &[Row]) -> FieldMask
+    ensures mask { (f : Field) → mask_at result f ≡ looked_by rows.now f }
+    ensures alike { (map key : Field → Option ℕ) → Agree (mask_at result) map key → matching rows.now map ≡ matching rows.now key }
+{
+    let mut mask = FieldMask::empty();
+    for row in rows {
+        row.fields.known();
+        mask = mask.or(&mask_of(&row.fields));
+    }
+    mask
 }
 
 // The best so far after one more row.

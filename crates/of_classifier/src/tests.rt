@@ -21,6 +21,10 @@ fn two_entries<L: Lookup>(rt: &impl Abort, alloc: Global) -> Result<(), Fail> {
     let second = lookup.add(Match::of_in_port(alloc, 1)?, 5)?;
     assert_eq!(rt; lookup.winner(&key), Some(first));
     assert_eq!(rt; lookup.winner(&key_of_port(2)?), None);
+    let (found, mask) = lookup.region(&key);
+    assert_eq!(rt; found, Some(first));
+    assert_eq!(rt; mask.masked(&key).numbers.in_port, 1);
+    assert_eq!(rt; lookup.priority(second), Some(5));
     assert_eq!(rt; lookup.same(&Match::of_in_port(alloc, 1)?, 5), Some(first));
     assert_eq!(rt; lookup.same(&Match::of_in_port(alloc, 1)?, 6), None);
     lookup.renew(first);

@@ -22,10 +22,12 @@ Printed are the messages to the controller (`a HEX`), the frames that leave (`s 
 ends the connection, and `refused N` where an event is not possible: 3 not connected, 4 already connected, 5 the port
 exists, 6 there is no such port, 7 too many ports, 8 bad port number. With --explain the rows are printed instead, and
 below each row what it did, in words: answers by name with their fields, errors by the standard's names, and the path
-of each frame.
+of each frame. What the rows read so far give is printed before the next read, so that a program can send row by row to
+`replay -`, and read.
 
   ofswitch replay examples/first-path.events
-  ofswitch replay --explain examples/first-path.events";
+  ofswitch replay --explain examples/first-path.events
+  ofswitch replay --dpid 0x2a examples/first-path.events";
 
 const FLOW_TEXT: &str =
     "Flow text has groups and then flows, each in some lines, and words are separated by one space:
@@ -104,11 +106,16 @@ enum Kind {
     Flag(&'static str),
 }
 
-const REPLAY: [Argument; 2] = [
+const REPLAY: [Argument; 3] = [
     Argument {
         name: "FILE",
         kind: Kind::Positional,
         help: "The event file to run; - is standard input",
+    },
+    Argument {
+        name: "dpid",
+        kind: Kind::Optional("dpid", "N"),
+        help: "The datapath_id, decimal or 0x and hexadecimal digits (by default 1)",
     },
     Argument {
         name: "explain",

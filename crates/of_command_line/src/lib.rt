@@ -32,6 +32,8 @@ pub enum Request {
     /// To run an event file on a new switch and print what it gives; `-` is standard input.
     Replay {
         file: String,
+        /// The switch's datapath_id.
+        dpid: u64,
         /// Whether its rows are printed too, with what they did in words.
         explain: bool,
     },
@@ -120,6 +122,7 @@ fn request_of(alloc: Global, matches: &ArgMatches<'_>) -> Result<Request, NoRequ
     let Some((name, matches)) = matches.subcommand() else {
         return Ok(Request::Replay {
             file: "-".to_string(alloc)?,
+            dpid: DEFAULT_DPID,
             explain: false,
         });
     };
@@ -139,6 +142,7 @@ fn request_of(alloc: Global, matches: &ArgMatches<'_>) -> Result<Request, NoRequ
         }),
         _ => Ok(Request::Replay {
             file,
+            dpid: dpid_of(alloc, matches.get_str("dpid"))?,
             explain: matches.get_flag("explain"),
         }),
     }
@@ -152,10 +156,11 @@ fn port_of(alloc: Global, word: &str) -> Result<u32, NoRequest> {
     }
 }
 
+// One byte at least.
 fn frame_of(alloc: Global, word: &str) -> Result<Vec<u8>, NoRequest> {
     match hex::decode(alloc, word) {
-        Ok(frame) => Ok(frame),
-        Err(_) => Err(refused(
+        Ok(frame) if !word.is_empty() => Ok(frame),
+        _ => Err(refused(
             alloc,
             "bad hex: a frame is hexadecimal digits, two a byte\n",
         )?),

@@ -1,7 +1,8 @@
 //! Replays the event files of data/ by the public `replay`, and says whether each prints what the standard wants: by the
-//! classifier of the running switch, and by the plain one that walks a list.
+//! classifier of the running switch, by the one below its cache, and by the plain one that walks a list.
 #![tactic(auto)]
 
+use of_cache::Cached;
 use of_classifier::{Lookup, Scan};
 use of_mask_groups::MaskGroups;
 use of_replay::memory::{MemorySink, MemorySource};
@@ -84,6 +85,18 @@ const NAMES: &[&str] = &[
     "zero-mask",
     "flow-statistics",
     "features",
+    "failover-to-no-port",
+    "link-down-twice",
+    "no-fwd-leaves-a-port-live",
+    "watched-groups",
+    "bad-buckets",
+    "groups-to-the-limit",
+    "experimenter",
+    "values-above-their-width",
+    "refused-port-and-table-mods",
+    "full-table",
+    "longest-message",
+    "seventeen-replies",
 ];
 
 /// So many event files more were made at random; what they are to print was computed by a model that shares nothing with this code.
@@ -91,6 +104,9 @@ const RANDOM: u32 = 80;
 
 /// How many bytes a read gives at most.
 const PIECE: usize = 1000;
+
+/// How the running switch looks entries up.
+type Lookups = Cached<MaskGroups>;
 
 const AS_EXPECTED: &str = "as expected";
 
@@ -114,12 +130,15 @@ fn tell(rt: &HostRuntime, name: &str) -> io::Result<()> {
 }
 
 fn verdicts(rt: &HostRuntime, events: &[u8], expected: &[u8]) -> &'static str {
-    let by_masks = verdict::<MaskGroups>(rt, events, expected);
-    if by_masks == AS_EXPECTED {
-        verdict::<Scan>(rt, events, expected)
-    } else {
-        by_masks
+    let by_cache = verdict::<Lookups>(rt, events, expected);
+    if by_cache != AS_EXPECTED {
+        return by_cache;
     }
+    let by_masks = verdict::<MaskGroups>(rt, events, expected);
+    if by_masks != AS_EXPECTED {
+        return by_masks;
+    }
+    verdict::<Scan>(rt, events, expected)
 }
 
 fn verdict<L: Lookup>(rt: &HostRuntime, events: &[u8], expected: &[u8]) -> &'static str {
@@ -127,7 +146,7 @@ fn verdict<L: Lookup>(rt: &HostRuntime, events: &[u8], expected: &[u8]) -> &'sta
         return "no memory";
     };
     let mut sink = MemorySink::new(rt.alloc(), PIECE, 0);
-    match replay::<L, _, _>(rt.alloc(), &mut source, &mut sink) {
+    match replay::<L, _, _>(rt.alloc(), 1, &mut source, &mut sink) {
         Ended::Done if sink.bytes() == expected => AS_EXPECTED,
         Ended::Done => "other output",
         Ended::BadRow(_) => "bad row",

@@ -1,6 +1,6 @@
 //! The sources and sinks over readers and writers, of which some give or take one byte, are interrupted, or fail.
+use super::Lookups;
 use super::tests::{EVENTS, PRINTED};
-use of_mask_groups::MaskGroups;
 use of_replay::streams::{ReaderSource, WriterSink};
 use of_replay::{Ended, replay};
 use std::alloc::Global;
@@ -88,7 +88,7 @@ fn writer(alloc: Global, faulty: u64, kind: ErrorKind) -> OneByteWriter {
 fn play(alloc: Global, reader: OneByteReader, writer: &mut OneByteWriter) -> Ended {
     let mut source = ReaderSource::new(reader);
     let mut sink = WriterSink::new(writer);
-    replay::<MaskGroups, _, _>(alloc, &mut source, &mut sink)
+    replay::<Lookups, _, _>(alloc, 1, &mut source, &mut sink)
 }
 
 #[test]
@@ -102,9 +102,10 @@ fn interrupted_calls_are_made_again(rt: HostRuntime) -> Result<(), Fail> {
     Ok(())
 }
 
+// Each read fails in turn: those of the bytes, and the one that finds the end.
 #[test]
 fn a_read_that_fails_ends_the_run(rt: HostRuntime) -> Result<(), Fail> {
-    for call in 1..9 {
+    for call in 1..=EVENTS.len() as u64 + 1 {
         let mut taken = writer(rt.alloc(), 0, ErrorKind::Other);
         let ended = play(
             rt.alloc(),
@@ -120,7 +121,7 @@ fn a_read_that_fails_ends_the_run(rt: HostRuntime) -> Result<(), Fail> {
 #[test]
 fn a_write_that_fails_or_takes_nothing_ends_the_run(rt: HostRuntime) -> Result<(), Fail> {
     for kind in [ErrorKind::BrokenPipe, ErrorKind::WriteZero] {
-        for call in 1..9 {
+        for call in 1..=PRINTED.len() as u64 {
             let mut taken = writer(rt.alloc(), call, kind);
             let ended = play(rt.alloc(), reader(0, ErrorKind::Other), &mut taken);
             assert_eq!(rt; ended, Ended::WriteFault);

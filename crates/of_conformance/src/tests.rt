@@ -2,10 +2,20 @@ use super::*;
 use std::process::Abort;
 use std::test::Fail;
 
-// HELLO, an ECHO_REQUEST and its reply (OpenFlow 1.3.5, 7.5.1 and 7.5.2).
-pub const EVENTS: &[u8] = b"connect\nc 0400000800000001\nc 0402000800000002\n";
+// Ports, HELLO, a FLOW_MOD that adds a flow of priority 10 for IN_PORT 1 with APPLY_ACTIONS of OUTPUT 2, and a frame
+// at port 1 (OpenFlow 1.3.5, 7.5.1 and 7.3.4.1).
+pub const EVENTS: &[u8] = b"port add 1 0200000000a1 p1 up
+port add 2 0200000000a2 p2 up
+port add 3 0200000000a3 p3 up
+connect
+c 0400000800000001
+c 040e00580000000200000000000000000000000000000000000000000000000affffffffffffffffffffffff000000000001000c800000040000000100000000000400180000000000000010000000020000000000000000
+f 1 02000000000202000000000188b500000000000000000000000000000000000000000000000000000000000000000000000000000000000000000000
+";
 
-pub const PRINTED: &[u8] = b"a 04000010000000000001000800000010\na 0403000800000002\n";
+pub const PRINTED: &[u8] = b"a 04000010000000000001000800000010
+s 2 02000000000202000000000188b500000000000000000000000000000000000000000000000000000000000000000000000000000000000000000000
+";
 
 // A fault at each of the first six calls ends the run with a front of the text. The seventh is never made.
 fn is_ended(rt: &impl Abort, ended: &Ended, call: u64, fault: &Ended, text: &[u8]) {
@@ -21,9 +31,9 @@ fn is_ended(rt: &impl Abort, ended: &Ended, call: u64, fault: &Ended, text: &[u8
 #[test]
 fn each_read_fails_in_turn(rt: HostRuntime) -> Result<(), Fail> {
     for call in 1..=7 {
-        let mut source = MemorySource::new(rt.alloc(), EVENTS, 10, call)?;
+        let mut source = MemorySource::new(rt.alloc(), EVENTS, 85, call)?;
         let mut sink = MemorySink::new(rt.alloc(), 1000, 0);
-        let ended = replay::<MaskGroups, _, _>(rt.alloc(), &mut source, &mut sink);
+        let ended = replay::<Lookups, _, _>(rt.alloc(), 1, &mut source, &mut sink);
         is_ended(&rt, &ended, call, &Ended::ReadFault, sink.bytes());
     }
     Ok(())
@@ -33,8 +43,8 @@ fn each_read_fails_in_turn(rt: HostRuntime) -> Result<(), Fail> {
 fn each_write_fails_in_turn(rt: HostRuntime) -> Result<(), Fail> {
     for call in 1..=7 {
         let mut source = MemorySource::new(rt.alloc(), EVENTS, 1000, 0)?;
-        let mut sink = MemorySink::new(rt.alloc(), 10, call);
-        let ended = replay::<MaskGroups, _, _>(rt.alloc(), &mut source, &mut sink);
+        let mut sink = MemorySink::new(rt.alloc(), 27, call);
+        let ended = replay::<Lookups, _, _>(rt.alloc(), 1, &mut source, &mut sink);
         is_ended(&rt, &ended, call, &Ended::WriteFault, sink.bytes());
     }
     Ok(())
@@ -44,7 +54,7 @@ fn each_write_fails_in_turn(rt: HostRuntime) -> Result<(), Fail> {
 fn first_bad_row_is_named(rt: HostRuntime) -> Result<(), Fail> {
     let mut source = MemorySource::new(rt.alloc(), b"connect\n# a comment\nconect\nlost\n", 5, 0)?;
     let mut sink = MemorySink::new(rt.alloc(), 1000, 0);
-    let ended = replay::<MaskGroups, _, _>(rt.alloc(), &mut source, &mut sink);
+    let ended = replay::<Lookups, _, _>(rt.alloc(), 1, &mut source, &mut sink);
     assert_eq!(rt; ended, Ended::BadRow(3));
     assert_eq!(rt;
         sink.bytes(),

@@ -1,5 +1,6 @@
 //! Event files, explained.
 ghost use Rattle.std.specs.Prelude.{◌≡◌, ◌⊎◌, ◌↔◌, ◌<◌, ◌≤◌, ◌+◌};
+ghost use Rattle.of_switch.specs.State.{start};
 ghost use Rattle.of_replay.specs.RowTexts.{Tells};
 ghost use Rattle.of_explain.specs.Explained.{explained};
 
@@ -16,12 +17,13 @@ use std::alloc::Global;
 /// reads, writes and ends as `replay` does.
 pub fn explain<L: Lookup, S: Source, W: Sink>(
     alloc: Global,
+    dpid: u64,
     reader: &mut S,
     writer: &mut W,
 ) -> Ended
     requires reads { S.reads reader.old ≡ 0 }
     requires failures { W.failures writer.old ≡ 0 }
-    ensures output { Tells explained result (S.answers reader.old) (S.answers reader.new) (S.ends reader.old) (S.ends reader.new) (W.taken writer.old) (W.taken writer.new) }
+    ensures output { Tells (start dpid) explained result (S.answers reader.old) (S.answers reader.new) (S.ends reader.old) (S.ends reader.new) (W.taken writer.old) (W.taken writer.new) }
     ensures done { result ≡ Ended.Done → (S.failures reader.new ≡ S.failures reader.old) × (S.ends reader.new ≡ S.ends reader.old + 1) × (W.failures writer.new ≡ 0) }
     ensures reads { S.reads reader.new ≤ 1000000 }
     ensures once { S.failures reader.new ≤ S.failures reader.old + 1 }
@@ -29,5 +31,5 @@ pub fn explain<L: Lookup, S: Source, W: Sink>(
     ensures failed_read { S.failures reader.old < S.failures reader.new → (result ≡ Ended.ReadFault) ⊎ (result ≡ Ended.WriteFault) }
     ensures write_fault { (result ≡ Ended.WriteFault) ↔ (0 < W.failures writer.new) }
 {
-    print_file::<L, _, _, _>(alloc, &Explaining, reader, writer)
+    print_file::<L, _, _, _>(alloc, dpid, &Explaining, reader, writer)
 }

@@ -9,6 +9,7 @@ use std::process::Abort;
 use std::test::Fail;
 
 mod ip;
+mod kept;
 mod rows;
 mod steps;
 

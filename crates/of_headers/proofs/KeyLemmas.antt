@@ -7,7 +7,7 @@ use Rattle.std.proofs.lemmas.List.{get_or-drop, get_or-take, length-drop, length
 use Rattle.of_layers.specs.declared.field.Field.{Field}
 use Rattle.of_layers.specs.declared.field.Field.TheVariants.{InPort, Metadata, VlanVid, VlanPcp, IpProto}
 use Rattle.of_layers.specs.Fields.{row_of, number_of}
-use Rattle.of_layers.specs.Layers.{Cell, Body, Extension, cells, cells_in, byte_cells, tag_cells, extension_cells, carried_cells, body_cells, next_before, all_bytes, named, size_of, addresses, outer_tag, ether_type, arp, ipv6, items_of, Plain}
+use Rattle.of_layers.specs.Layers.{Layers, Cell, Body, Extension, cells, cells_in, byte_cells, tag_cells, extension_cells, carried_cells, body_cells, next_before, all_bytes, named, size_of, addresses, outer_tag, ether_type, arp, ipv6, items_of, Plain}
 use Rattle.of_layers.specs.Reading.{word, six, tag_count, tags_of, tag_numbers, numbers_of, is_arp, arp_of, arp_numbers, is_ipv4, ipv4_of, is_ipv6, ipv6_of, ipv6_numbers, ipv6_inside, ipv6_chain, body_of, layers_of}
 use Rattle.of_layers.specs.Looking.{look_up, look}
 use Rattle.of_layers.proofs.TagLemmas.{length-tags_of, tag_room}
@@ -16,6 +16,7 @@ use Rattle.of_headers.specs.declared.layout.Layout.{Layout}
 use Rattle.of_headers.specs.declared.layout.Payload.{Payload}
 use Rattle.of_headers.specs.declared.layout.Network.TheVariants as network
 use Rattle.of_headers.specs.FieldMap.{value, field_map, vid}
+use Rattle.std.proofs.Math.Path.{fun_ext}
 use Rattle.of_headers.specs.Parts.{untagged, tagged}
 use Rattle.of_headers.specs.Places.{protocol_at, network_of, layout_of}
 use Rattle.of_headers.proofs.ChainLemmas.{and_right}
@@ -319,3 +320,21 @@ whole_tagged frame n port meta e k r q h z a b d g =
     let some : n ≡ suc (n - 1) = omega arith in
     λ i f.
     (g f ∙ ap (option_or (tag_in f frame)) (d f ∙ ap (option_or (ends_in f frame port meta)) (from_nothing f frame n e k a b)) ∙ key_tagged frame n (n - 1) port meta f h some) i
+
+-- ---- the same frame at another port, with other metadata
+
+pub at_port : (l : Layers) (port before in_port metadata : ℕ) (k with_port with_both : Field → Option ℕ) → k ≡ field_map l port before →
+    ((f : Field) → with_port f ≡ cond (number_of f == number_of InPort) (Some in_port) (k f)) →
+    ((f : Field) → with_both f ≡ cond (number_of f == number_of Metadata) (Some metadata) (with_port f)) → with_both ≡ field_map l in_port metadata
+unfolding row_of
+at_port l port before in_port metadata k with_port with_both is one two =
+    fun_ext here
+  where
+    kept : (f : Field) → k f ≡ field_map l port before f
+    kept f = ap (λ (m : Field → Option ℕ). m f) is
+
+    here : (f : Field) → with_both f ≡ field_map l in_port metadata f
+    here InPort = two InPort ∙ one InPort
+    here Metadata = two Metadata
+    here VlanVid = two VlanVid ∙ one VlanVid ∙ kept VlanVid
+    here other = two other ∙ one other ∙ kept other

@@ -5,15 +5,15 @@ use Rattle.std.specs.Int.{bit_at}
 use Rattle.std.specs.Int.Bits.{and_zero_r}
 use Rattle.std.proofs.lemmas.Bool.{eqb-true, eq-eqb}
 use Rattle.std.proofs.lemmas.Nat.{pow_pos}
-use Rattle.std.proofs.lemmas.Nat.Bits.{and_pow, bit_at-lt, bit_at_and, bit_at_or, bit_at-pow_same, bit_at-pow_other, same_from_bits}
+use Rattle.std.proofs.lemmas.Nat.Bits.{and_pow, bit_at-lt, bit_at-zero, bit_at_and, bit_at_or, bit_at-pow_same, bit_at-pow_other, same_from_bits}
 use Rattle.of_layers.specs.declared.field.Field.{Field}
 use Rattle.of_layers.specs.declared.field.Field.TheVariants.{InPort}
 use Rattle.of_layers.specs.Fields.{row_of, number_of}
 use Rattle.of_layers.proofs.Table.{number_below}
 use Rattle.of_headers.specs.declared.key.FieldKey.{FieldKey}
 use Rattle.of_headers.specs.Presence.{AreFields, AbsentAreZero, all_bits}
-use Rattle.of_headers.specs.Numbers.{numbers_in, bits_both}
-use Rattle.of_headers.specs.FieldMap.{there, value, seen}
+use Rattle.of_headers.specs.Numbers.{numbers_in, bits_both, bits_either}
+use Rattle.of_headers.specs.FieldMap.{there, value, seen, either}
 
 -- ---- fewer fields: the bits of both words, and of the numbers in one place
 
@@ -73,6 +73,47 @@ pub fields_or : (p q : ℕ) → AreFields p → AreFields q → AreFields (bit_o
 fields_or p q h g = same_from_bits (bit_and (bit_or p q) all_bits) (bit_or p q) (λ i.
     bit_at_and (bit_or p q) all_bits i
     ∙ either_within (bit_at (bit_or p q) i) (bit_at p i) (bit_at q i) (bit_at all_bits i) (bit_at_or p q i) (within p h i) (within q g i))
+
+-- ---- the fields of two words, and the bits of two numbers in one place
+
+or_zero_l : (n : ℕ) → bit_or 0 n ≡ n
+or_zero_l n = same_from_bits _ _ (λ i. omega (arith, bit_at_or 0 n i, bit_at-zero i))
+
+or_zero_r : (n : ℕ) → bit_or n 0 ≡ n
+or_zero_r n = same_from_bits _ _ (λ i. omega (arith, bit_at_or n 0 i, bit_at-zero i))
+
+get_or-bits_either : (xs ys : List ℕ) (n : ℕ) → get_or (bits_either xs ys) n 0 ≡ bit_or (get_or xs n 0) (get_or ys n 0)
+get_or-bits_either [] ys n = sym (or_zero_l (get_or ys n 0))
+get_or-bits_either (x ∷ xs) [] n = sym (or_zero_r (get_or (x ∷ xs) n 0))
+get_or-bits_either (x ∷ xs) (y ∷ ys) zero = refl
+get_or-bits_either (x ∷ xs) (y ∷ ys) (suc n) = get_or-bits_either xs ys n
+
+zero_of_both : (i j x y : ℕ) → (i ≡ 0 → x ≡ 0) → (j ≡ 0 → y ≡ 0) → max i j ≡ 0 → bit_or x y ≡ 0
+zero_of_both i j x y a b e = let x_is : x ≡ 0 = a (omega arith) in let y_is : y ≡ 0 = b (omega arith) in rw (x_is, y_is) refl
+
+pub absent_or : (p q : ℕ) (xs ys : List ℕ) → AbsentAreZero p xs → AbsentAreZero q ys → AbsentAreZero (bit_or p q) (bits_either xs ys)
+absent_or p q xs ys a b f e =
+    let n : ℕ = number_of f in
+    get_or-bits_either xs ys n ∙ zero_of_both (bit_at p n) (bit_at q n) (get_or xs n 0) (get_or ys n 0) (a f) (b f) (sym (bit_at_or p q n) ∙ e)
+
+either_by : (i j x y : ℕ) → i < 2 → j < 2 → (i ≡ 0 → x ≡ 0) → (j ≡ 0 → y ≡ 0) → cond (max i j == 1) (Some (bit_or x y)) None ≡ either (cond (i == 1) (Some x) None) (cond (j == 1) (Some y) None)
+either_by zero zero x y a b g h = refl
+either_by zero (suc zero) x y a b g h = let x_is : x ≡ 0 = g refl in ap Some (ap (λ (k : ℕ). bit_or k y) x_is ∙ or_zero_l y)
+either_by (suc zero) zero x y a b g h = let y_is : y ≡ 0 = h refl in ap Some (ap (bit_or x) y_is ∙ or_zero_r x)
+either_by (suc zero) (suc zero) x y a b g h = refl
+either_by zero (suc (suc j)) x y a b g h = absurd (omega arith)
+either_by (suc zero) (suc (suc j)) x y a b g h = absurd (omega arith)
+either_by (suc (suc i)) j x y a b g h = absurd (omega arith)
+
+pub value_or : (j k r : FieldKey) → r.numbers.present ≡ bit_or j.numbers.present k.numbers.present → numbers_in r.numbers ≡ bits_either (numbers_in j.numbers) (numbers_in k.numbers) → (f : Field) → value r f ≡ either (value j f) (value k f)
+unfolding value
+value_or j k r p e f =
+    let n : ℕ = number_of f in
+    ap (λ (w : ℕ). there w (number_of f) (get_or (numbers_in r.numbers) (number_of f) 0)) p
+    ∙ ap (λ (xs : List ℕ). there (bit_or j.numbers.present k.numbers.present) (number_of f) (get_or xs (number_of f) 0)) e
+    ∙ ap (there (bit_or j.numbers.present k.numbers.present) (number_of f)) (get_or-bits_either (numbers_in j.numbers) (numbers_in k.numbers) (number_of f))
+    ∙ ap (λ (b : ℕ). cond (b == 1) (Some (bit_or (get_or (numbers_in j.numbers) n 0) (get_or (numbers_in k.numbers) n 0))) None) (bit_at_or j.numbers.present k.numbers.present n)
+    ∙ either_by (bit_at j.numbers.present n) (bit_at k.numbers.present n) (get_or (numbers_in j.numbers) n 0) (get_or (numbers_in k.numbers) n 0) (bit_at-lt j.numbers.present n) (bit_at-lt k.numbers.present n) (j.absent f) (k.absent f)
 
 bit_of : (f : Field) → AreFields (2 ^ number_of f)
 unfolding all_bits row_of

@@ -1,5 +1,5 @@
 -- Field maps: the value of each field, or none where it is absent (OpenFlow 1.3.5, 5.3 and 7.2.3.7).
-use Rattle.std.specs.Prelude.{ℕ, ◌+◌, ◌==◌, if◌then◌else◌, slice_index, bit_and, Option, Some, None}
+use Rattle.std.specs.Prelude.{ℕ, ◌+◌, ◌==◌, if◌then◌else◌, slice_index, bit_and, bit_or, Option, Some, None}
 use Rattle.std.specs.Int.{bit_at}
 use Rattle.of_layers.specs.declared.field.Field.{Field}
 use Rattle.of_layers.specs.declared.field.Field.TheVariants.{InPort, Metadata, VlanVid}
@@ -38,3 +38,10 @@ abbrev pub seen : Option ℕ → Option ℕ → Option ℕ
 seen None v = None
 seen (Some mask) None = None
 seen (Some mask) (Some v) = Some (bit_and v mask)
+
+-- ---- two masks in one: the bits of either
+
+abbrev pub either : Option ℕ → Option ℕ → Option ℕ
+either None b = b
+either (Some a) None = Some a
+either (Some a) (Some b) = Some (bit_or a b)

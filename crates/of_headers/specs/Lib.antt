@@ -1,6 +1,9 @@
 pub mod Numbers
 pub mod Presence
 pub mod FieldMap
+pub mod Digest
 pub mod Places
 pub mod Faults
 pub mod Parts
+pub mod Tags
+pub mod Known

@@ -1,5 +1,5 @@
 -- The numbers of a key as a list.
-use Rattle.std.specs.Prelude.{ℕ, List, [], ◌∷◌, bit_and}
+use Rattle.std.specs.Prelude.{ℕ, List, [], ◌∷◌, bit_and, bit_or}
 use Rattle.of_headers.specs.declared.numbers.Numbers.{Numbers}
 
 -- each in the place of its field's number; no field has the numbers 1, 17 and 18
@@ -14,3 +14,9 @@ abbrev pub bits_both : List ℕ → List ℕ → List ℕ
 bits_both [] ys = []
 bits_both (x ∷ xs) [] = []
 bits_both (x ∷ xs) (y ∷ ys) = bit_and x y ∷ bits_both xs ys
+
+-- the bits that one or both lists have, place by place
+abbrev pub bits_either : List ℕ → List ℕ → List ℕ
+bits_either [] ys = ys
+bits_either (x ∷ xs) [] = x ∷ xs
+bits_either (x ∷ xs) (y ∷ ys) = bit_or x y ∷ bits_either xs ys

@@ -1,9 +1,10 @@
 //! Keys as field maps: one field read, one field added, all fields under a mask.
 
-ghost use Rattle.std.specs.Prelude.{◌≡◌, ◌≤◌, ◌^◌, ◌==◌, if◌then◌else◌, Some, None};
+ghost use Rattle.std.specs.Prelude.{◌≡◌, ◌≤◌, ◌^◌, ◌==◌, ℕ, if◌then◌else◌, Some, None};
+ghost use Rattle.of_layers.specs.Layers.{Layers};
 ghost use Rattle.of_layers.specs.declared.field.Field.{Field as TheField};
 ghost use Rattle.of_layers.specs.Fields.{number_of, ones_of};
-ghost use Rattle.of_headers.specs.FieldMap.{value, seen};
+ghost use Rattle.of_headers.specs.FieldMap.{value, field_map, seen, either};
 
 use crate::key::FieldKey;
 use crate::numbers::Numbers;
@@ -49,12 +50,30 @@ impl FieldKey {
         FieldKey { numbers }
     }
 
+    /// The key of the same frame at this port, with this metadata.
+    #[tactic(auto, unfolding(of_layers::specs::Fields::row_of))]
+    pub fn received(self, in_port: u32, metadata: u64) -> FieldKey
+        ensures { (l : Layers) (port seen_before : ℕ) → value self ≡ field_map l port seen_before → value result ≡ field_map l in_port metadata }
+    {
+        self.with(Field::InPort, u128::from(in_port))
+            .with(Field::Metadata, u128::from(metadata))
+    }
+
     /// What is seen of the key under a mask for each field: a field without a mask is ignored, and is absent.
     pub fn under(&self, mask: &FieldKey) -> FieldKey
         ensures { (f : TheField) → value result f ≡ seen (value mask.now f) (value self.now f) }
     {
         FieldKey {
             numbers: self.numbers.both(&mask.numbers),
+        }
+    }
+
+    /// The fields of both keys: of a field that both have, the bits that one or both values have.
+    pub fn or(&self, other: &FieldKey) -> FieldKey
+        ensures { (f : TheField) → value result f ≡ either (value self.now f) (value other.now f) }
+    {
+        FieldKey {
+            numbers: self.numbers.either(&other.numbers),
         }
     }
 }

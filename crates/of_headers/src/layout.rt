@@ -1,8 +1,10 @@
 //! Where the layers of a frame begin.
 
-ghost use Rattle.std.specs.Prelude.{◌≡◌, ◌+◌, ◌*◌, ◌≤◌, ◌==◌, ◌&&◌, length, drop, IsTrue};
+ghost use Rattle.std.specs.Prelude.{◌≡◌, ◌+◌, ◌*◌, ◌^◌, ◌≤◌, ◌<◌, ◌==◌, ◌&&◌, ℕ, length, drop, IsTrue};
+ghost use Rattle.of_layers.specs.Layers.{Layers};
 ghost use Rattle.of_layers.specs.Reading.{tag_count, is_tag_type, is_arp, is_ipv4, is_ipv6, ipv4_of, ipv6_of, body_of, layers_of};
 ghost use Rattle.of_headers.specs.Places.{network_of, layout_of};
+ghost use Rattle.of_headers.specs.Tags.{pushed, popped};
 
 use crate::bytes::{rest_from, word_at};
 use crate::chain::chain_in;
@@ -35,6 +37,28 @@ pub struct Layout {
     /// How many VLAN tags the frame has.
     pub tags: usize,
     pub network: Network,
+}
+
+impl Layout {
+    /// Where the layers begin once a VLAN tag was pushed: 32 bits later, but for the addresses.
+    pub fn pushed(self) -> Layout
+        ensures { (kind : ℕ) (l : Layers) → length l.tags + 1 < 2 ^ 64 → self ≡ layout_of l → result ≡ layout_of (pushed kind l) }
+    {
+        Layout {
+            tags: self.tags.wrapping_add(1),
+            network: self.network,
+        }
+    }
+
+    /// Where the layers begin once the outermost VLAN tag was popped, if there was one.
+    pub fn popped(self) -> Layout
+        ensures { (l : Layers) → self ≡ layout_of l → result ≡ layout_of (popped l) }
+    {
+        Layout {
+            tags: self.tags.saturating_sub(1),
+            network: self.network,
+        }
+    }
 }
 
 /// Whether a type is that of a VLAN tag (IEEE 802.1Q, 9.5).

@@ -3,9 +3,11 @@
 
 mod bytes;
 mod chain;
+mod digest;
 mod fields;
 mod headers;
 mod key;
+mod known;
 mod layers;
 mod layout;
 mod numbers;
@@ -17,6 +19,7 @@ pub use bytes::word_at;
 pub use fields::same_fields;
 pub use headers::{FrameFault, Headers, check_length, read, read_inside};
 pub use key::FieldKey;
+pub use known::Known;
 pub use layout::{Layout, Network, Payload, is_tag, layout_in};
 pub use numbers::Numbers;
 pub use of_layers::{Field, FieldRow, Place, Prerequisite, Transport, spelt_by_one};

@@ -1,8 +1,8 @@
 //! The numbers of a key: a place for each field.
 
-ghost use Rattle.std.specs.Prelude.{◌≡◌, ◌≤◌, bit_and, slice_index, slice_set};
+ghost use Rattle.std.specs.Prelude.{◌≡◌, ◌≤◌, bit_and, bit_or, slice_index, slice_set};
 ghost use Rattle.of_layers.specs.Fields.{number_of, ones_of};
-ghost use Rattle.of_headers.specs.Numbers.{numbers_in, bits_both};
+ghost use Rattle.of_headers.specs.Numbers.{numbers_in, bits_both, bits_either};
 
 use of_layers::Field;
 
@@ -187,6 +187,44 @@ impl Numbers {
             ipv6_flabel: self.ipv6_flabel & other.ipv6_flabel,
             icmpv6_type: self.icmpv6_type & other.icmpv6_type,
             icmpv6_code: self.icmpv6_code & other.icmpv6_code,
+        }
+    }
+
+    /// The bits that one or both have, place by place.
+    pub(crate) fn either(&self, other: &Numbers) -> Numbers
+        ensures numbers { numbers_in result ≡ bits_either (numbers_in self.now) (numbers_in other.now) }
+        ensures present { result.present ≡ bit_or self.now.present other.now.present }
+    {
+        Numbers {
+            present: self.present | other.present,
+            in_port: self.in_port | other.in_port,
+            metadata: self.metadata | other.metadata,
+            eth_dst: self.eth_dst | other.eth_dst,
+            eth_src: self.eth_src | other.eth_src,
+            eth_type: self.eth_type | other.eth_type,
+            vlan_vid: self.vlan_vid | other.vlan_vid,
+            vlan_pcp: self.vlan_pcp | other.vlan_pcp,
+            ip_dscp: self.ip_dscp | other.ip_dscp,
+            ip_ecn: self.ip_ecn | other.ip_ecn,
+            ip_proto: self.ip_proto | other.ip_proto,
+            ipv4_src: self.ipv4_src | other.ipv4_src,
+            ipv4_dst: self.ipv4_dst | other.ipv4_dst,
+            tcp_src: self.tcp_src | other.tcp_src,
+            tcp_dst: self.tcp_dst | other.tcp_dst,
+            udp_src: self.udp_src | other.udp_src,
+            udp_dst: self.udp_dst | other.udp_dst,
+            icmpv4_type: self.icmpv4_type | other.icmpv4_type,
+            icmpv4_code: self.icmpv4_code | other.icmpv4_code,
+            arp_op: self.arp_op | other.arp_op,
+            arp_spa: self.arp_spa | other.arp_spa,
+            arp_tpa: self.arp_tpa | other.arp_tpa,
+            arp_sha: self.arp_sha | other.arp_sha,
+            arp_tha: self.arp_tha | other.arp_tha,
+            ipv6_src: self.ipv6_src | other.ipv6_src,
+            ipv6_dst: self.ipv6_dst | other.ipv6_dst,
+            ipv6_flabel: self.ipv6_flabel | other.ipv6_flabel,
+            icmpv6_type: self.icmpv6_type | other.icmpv6_type,
+            icmpv6_code: self.icmpv6_code | other.icmpv6_code,
         }
     }
 }

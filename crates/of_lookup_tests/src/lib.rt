@@ -1,7 +1,11 @@
-//! Tests of the classifier by groups of masks: which entry wins, and how many masks were asked.
+//! Tests of the classifiers: which entry wins, how many masks were asked, and which rows a cache keeps.
 //!
 //! They stand here and not beside the code, since a crate that has tests is proved twice.
 #![tactic(auto)]
 
+#[cfg(test)]
+mod cache;
+#[cfg(test)]
+mod counting;
 #[cfg(test)]
 mod mask_groups;

@@ -24,7 +24,7 @@ use Rattle.of_machine.specs.declared.data.Packet.{Packet}
 use Rattle.of_machine.specs.TheWorld.{TheWorld}
 use Rattle.of_machine.specs.Sound.{longest, IsSound, IsBelow, AllBelow, IsBucket, AllBuckets}
 use Rattle.of_machine.specs.Rows.{Work, Lookup, Do, RunSet, Act, Task, task, row, acts, works, key_of, lookup_row, entry_row, at_entry, output_row, rewritten, dec_ttl_row, group_row, copies, bucket_copy, with_metadata, set_out}
-use Rattle.of_machine.specs.Weights.{IsSet, AllFitWork, AllFit, copy_steps, action_steps, table_steps, set_steps, lookup_steps, output_weight, act_weight, acts_weight, work_weight, task_weight, weight}
+use Rattle.of_machine.specs.Weights.{IsSet, AllFitWork, AllFit, copy_steps, action_steps, table_steps, set_steps, lookup_steps, frame_step_bound, output_weight, act_weight, acts_weight, work_weight, task_weight, weight}
 use Rattle.of_machine.specs.Runs.{Machine, step, first_step, after}
 use Rattle.of_machine.proofs.Promises.{out_of_tables, list_served, all_are_below, all_below_more, set_below, order_below}
 use Rattle.of_machine.proofs.Sets.{empty_set, written_set, run_set, set_few}
@@ -87,7 +87,7 @@ copies_more (suc m) zero le = absurd (omega arith)
 copies_more (suc m) (suc n) le = let ih = copies_more m n (omega arith) in omega arith
 
 -- the steps of a frame
-pub frame_steps : lookup_steps longest 0 ≡ 143271552
+pub frame_steps : lookup_steps longest 0 ≡ frame_step_bound
 unfolding copy_steps action_steps table_steps set_steps lookup_steps
 frame_steps = refl
 

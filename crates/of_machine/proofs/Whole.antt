@@ -10,7 +10,7 @@ use Rattle.of_machine.specs.declared.data.Outcome.{Outcome}
 use Rattle.of_machine.specs.TheWorld.{TheWorld}
 use Rattle.of_machine.specs.Sound.{longest, IsSound}
 use Rattle.of_machine.specs.Rows.{Work, Lookup, Task, task, row, acts}
-use Rattle.of_machine.specs.Weights.{AllFitWork, IsFit, AllFit, copy_steps, action_steps, table_steps, set_steps, lookup_steps, output_weight, act_weight, work_weight, task_weight, weight}
+use Rattle.of_machine.specs.Weights.{AllFitWork, IsFit, AllFit, copy_steps, action_steps, table_steps, set_steps, lookup_steps, frame_step_bound, packet_out_step_bound, output_weight, act_weight, work_weight, task_weight, weight}
 use Rattle.of_machine.specs.Runs.{Machine, step, first_step, after, starting, run_of, IsRun, IsPrefixOfRun}
 use Rattle.of_machine.proofs.Sets.{empty_set}
 use Rattle.of_machine.proofs.Reaching.{Came}
@@ -29,27 +29,30 @@ module _ (w : TheWorld) where
   none_weighs [] e = refl
   none_weighs (t ∷ others) e = let x = positive w t.packet.action_set t.work in absurd (omega arith)
 
+  none_later : (k : ℕ) (m : Machine) → (after w k m).tasks ≡ [] → (after w (suc k) m).tasks ≡ []
+  none_later k m none = let same : suc k ≡ 1 + k = omega arith in ap (λ (i : ℕ). (after w i m).tasks) same ∙ (ap (λ (x : Machine). x.tasks) (settled w 1 k m none) ∙ none)
+
   module _ (sound : IsSound w) where
-    first_lowers : (m : Machine) (ts : List Task) → AllFit ts → m.tasks ≡ ts → ((first_step w m ts).tasks ≡ []) ⊎ (weight w (first_step w m ts).tasks + 1 ≤ weight w ts)
-    first_lowers m [] fit e = inl e
-    first_lowers m (t ∷ others) fit e =
+    first_lowers : (m : Machine) (ts : List Task) → AllFit ts → (ts ≡ []) ⊎ (weight w (first_step w m ts).tasks + 1 ≤ weight w ts)
+    first_lowers m [] fit = inl refl
+    first_lowers m (t ∷ others) fit =
         let x = row_lowers w sound t.packet t.work fit.0.set fit.0.work in
         let y = weight_more w sound (row w t.packet t.work).left others in
         inr (omega arith)
 
-    step_lowers : (k : ℕ) (m : Machine) → AllFit (after w k m).tasks → ((after w (suc k) m).tasks ≡ []) ⊎ (weight w (after w (suc k) m).tasks + 1 ≤ weight w (after w k m).tasks)
-    unfolding after step
-    step_lowers k m fit = first_lowers (after w k m) (after w k m).tasks fit refl
+    pub step_lowers : (m : Machine) → AllFit m.tasks → (m.tasks ≡ []) ⊎ (weight w (step w m).tasks + 1 ≤ weight w m.tasks)
+    unfolding step
+    step_lowers m fit = first_lowers m m.tasks fit
 
-    joined : (k : ℕ) (m : Machine) → ((after w k m).tasks ≡ []) ⊎ (weight w (after w k m).tasks + k ≤ weight w m.tasks) → ((after w (suc k) m).tasks ≡ []) ⊎ (weight w (after w (suc k) m).tasks + 1 ≤ weight w (after w k m).tasks) → ((after w (suc k) m).tasks ≡ []) ⊎ (weight w (after w (suc k) m).tasks + suc k ≤ weight w m.tasks)
-    joined k m (inl none) next = let same : suc k ≡ 1 + k = omega arith in inl (ap (λ (i : ℕ). (after w i m).tasks) same ∙ (ap (λ (x : Machine). x.tasks) (settled w 1 k m none) ∙ none))
-    joined k m (inr le) (inl none) = inl none
+    joined : (k : ℕ) (m : Machine) → ((after w k m).tasks ≡ []) ⊎ (weight w (after w k m).tasks + k ≤ weight w m.tasks) → ((after w k m).tasks ≡ []) ⊎ (weight w (after w (suc k) m).tasks + 1 ≤ weight w (after w k m).tasks) → ((after w (suc k) m).tasks ≡ []) ⊎ (weight w (after w (suc k) m).tasks + suc k ≤ weight w m.tasks)
+    joined k m before (inl none) = inl (none_later k m none)
+    joined k m (inl none) (inr lower) = inl (none_later k m none)
     joined k m (inr le) (inr lower) = inr (omega (arith, le, lower))
 
     lowered : (k : ℕ) (m : Machine) → AllFit m.tasks → ((after w k m).tasks ≡ []) ⊎ (weight w (after w k m).tasks + k ≤ weight w m.tasks)
     unfolding after
     lowered zero m fit = inr (omega arith)
-    lowered (suc k) m fit = joined k m (lowered k m fit) (step_lowers k m (bounded w sound k m fit).0)
+    lowered (suc k) m fit = joined k m (lowered k m fit) (step_lowers (after w k m) (bounded w sound k m fit).0)
 
     over : (k : ℕ) (m : Machine) → weight w m.tasks ≤ k → ((after w k m).tasks ≡ []) ⊎ (weight w (after w k m).tasks + k ≤ weight w m.tasks) → (after w k m).tasks ≡ []
     over k m le (inl none) = none
@@ -127,23 +130,23 @@ module _ (w : TheWorld) where
         let le = few (task_weight w (task p work)) in
         gained h.lines old new n (h.tells k) (omega (arith, ap length same, le))
 
-    frame_few : (p : Packet) (k : ℕ) → p.action_set ≡ [] → length (after w k (starting p (Lookup 0 ∷ []))).lines ≤ 143271552
+    frame_few : (p : Packet) (k : ℕ) → p.action_set ≡ [] → length (after w k (starting p (Lookup 0 ∷ []))).lines ≤ frame_step_bound
     frame_few p k empty = let le = lines_few p (Lookup 0 ∷ []) k (frame_fits p empty) in let steps = frame_steps in omega (arith, le, steps)
 
-    actions_few : (p : Packet) (l : List Action) (k : ℕ) → p.action_set ≡ [] → length l ≤ 64 → length (after w k (starting p (acts l))).lines ≤ 9169379393
+    actions_few : (p : Packet) (l : List Action) (k : ℕ) → p.action_set ≡ [] → length l ≤ 64 → length (after w k (starting p (acts l))).lines ≤ packet_out_step_bound
     actions_few p l k empty few = let le = action_lines p l k empty few in let steps = frame_steps in omega (arith, le, steps)
 
-    pub frame_front : (keeps : Bool) (p : Packet) (old new : List Step) → p.action_set ≡ [] → IsPrefixOfRun w keeps p (Lookup 0 ∷ []) old new → keeps ≡ true → length new ≤ length old + 143271552
-    frame_front keeps p old new empty h = front_gains 143271552 keeps p (Lookup 0 ∷ []) old new (λ k. frame_few p k empty) h
+    pub frame_front : (keeps : Bool) (p : Packet) (old new : List Step) → p.action_set ≡ [] → IsPrefixOfRun w keeps p (Lookup 0 ∷ []) old new → keeps ≡ true → length new ≤ length old + frame_step_bound
+    frame_front keeps p old new empty h = front_gains frame_step_bound keeps p (Lookup 0 ∷ []) old new (λ k. frame_few p k empty) h
 
-    pub frame_run : (keeps : Bool) (p : Packet) (o : Outcome) (old new : List Step) → p.action_set ≡ [] → IsRun w keeps p (Lookup 0 ∷ []) o old new → keeps ≡ true → length new ≤ length old + 143271552
-    frame_run keeps p o old new empty h = run_gains 143271552 keeps p (Lookup 0 ∷ []) o old new (λ k. frame_few p k empty) h
+    pub frame_run : (keeps : Bool) (p : Packet) (o : Outcome) (old new : List Step) → p.action_set ≡ [] → IsRun w keeps p (Lookup 0 ∷ []) o old new → keeps ≡ true → length new ≤ length old + frame_step_bound
+    frame_run keeps p o old new empty h = run_gains frame_step_bound keeps p (Lookup 0 ∷ []) o old new (λ k. frame_few p k empty) h
 
-    pub actions_front : (keeps : Bool) (p : Packet) (l : List Action) (old new : List Step) → p.action_set ≡ [] → length l ≤ 64 → IsPrefixOfRun w keeps p (acts l) old new → keeps ≡ true → length new ≤ length old + 9169379393
-    actions_front keeps p l old new empty few h = front_gains 9169379393 keeps p (acts l) old new (λ k. actions_few p l k empty few) h
+    pub actions_front : (keeps : Bool) (p : Packet) (l : List Action) (old new : List Step) → p.action_set ≡ [] → length l ≤ 64 → IsPrefixOfRun w keeps p (acts l) old new → keeps ≡ true → length new ≤ length old + packet_out_step_bound
+    actions_front keeps p l old new empty few h = front_gains packet_out_step_bound keeps p (acts l) old new (λ k. actions_few p l k empty few) h
 
-    pub actions_run : (keeps : Bool) (p : Packet) (l : List Action) (o : Outcome) (old new : List Step) → p.action_set ≡ [] → length l ≤ 64 → IsRun w keeps p (acts l) o old new → keeps ≡ true → length new ≤ length old + 9169379393
-    actions_run keeps p l o old new empty few h = run_gains 9169379393 keeps p (acts l) o old new (λ k. actions_few p l k empty few) h
+    pub actions_run : (keeps : Bool) (p : Packet) (l : List Action) (o : Outcome) (old new : List Step) → p.action_set ≡ [] → length l ≤ 64 → IsRun w keeps p (acts l) o old new → keeps ≡ true → length new ≤ length old + packet_out_step_bound
+    actions_run keeps p l o old new empty few h = run_gains packet_out_step_bound keeps p (acts l) o old new (λ k. actions_few p l k empty few) h
 
 -- ---- what a run gave
 

@@ -19,7 +19,6 @@ use Rattle.of_machine.specs.declared.data.Packet.{Packet}
 use Rattle.of_wire.specs.declared.reasons.PacketInReason.{PacketInReason}
 use Rattle.of_wire.specs.declared.reasons.PacketInReason.TheVariants.{NoMatch, Action as ByAction, InvalidTtl}
 use Rattle.of_machine.specs.declared.data.Item.{Item}
-use Rattle.of_machine.specs.declared.data.ToController.{ToController}
 use Rattle.of_machine.specs.declared.data.Item.TheVariants.{Sent, PacketIn}
 use Rattle.of_machine.specs.declared.data.Count.{Count}
 use Rattle.of_machine.specs.declared.data.Count.TheVariants.{Lookup as CountLookup, Matched, TxDropped, Group as CountGroup, Bucket}

@@ -35,6 +35,14 @@ set_steps n = 32 + 16 * copy_steps n
 unfoldable pub lookup_steps : ℕ → ℕ → ℕ
 lookup_steps n t = (16 - t) * table_steps n + set_steps n
 
+-- the steps of a frame, which are those of the tables from the first one on
+abbrev pub frame_step_bound : ℕ
+frame_step_bound = 143271552
+
+-- those of a PACKET_OUT: each of its 64 actions may be an output to TABLE; and its end
+abbrev pub packet_out_step_bound : ℕ
+packet_out_step_bound = 9169379393
+
 -- ---- weights
 
 abbrev pub output_weight : ℕ → ℕ

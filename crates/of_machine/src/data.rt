@@ -1,13 +1,12 @@
 //! Packets, and what a run gives.
 ghost use Rattle.std.specs.Prelude.{◌≡◌, []};
-ghost use Rattle.of_headers.specs.FieldMap.{value, field_map};
-ghost use Rattle.of_layers.specs.Reading.{layers_of};
+ghost use Rattle.of_headers.specs.FieldMap.{value};
 ghost use Rattle.of_machine.specs.Rows.{key_of, entering};
 
 use crate::packet_frame::PacketFrame;
 use of_action_set::ActionSet;
 use of_actions::Action;
-use of_headers::{FieldKey, read_inside};
+use of_headers::FieldKey;
 use of_wire::{Bytes, PacketInReason};
 use smallvec::SmallVec;
 use std::alloc::Global;
@@ -150,11 +149,12 @@ impl<'a> Packet<'a> {
         }
     }
 
-    /// The fields that a lookup compares (OpenFlow 1.3.5, 5.3).
-    pub fn key(&self) -> FieldKey
-        ensures { value result ≡ key_of self.now }
+    /// The fields that a lookup compares (OpenFlow 1.3.5, 5.3). What was read of the frame is kept for later lookups.
+    pub fn key(&mut self) -> FieldKey
+        ensures value { value result ≡ key_of self.old }
+        ensures same { self.new ≡ self.old }
     {
-        key_of_frame(&self.frame, self.ingress, self.metadata)
+        self.frame.key(self.ingress, self.metadata)
     }
 
     /// The packet again, but with an empty action set. Its bytes are borrowed.
@@ -170,15 +170,6 @@ impl<'a> Packet<'a> {
             table: self.table,
             miss: self.miss,
         }
-    }
-}
-
-fn key_of_frame(frame: &PacketFrame<'_>, ingress: u32, metadata: u64) -> FieldKey
-    ensures { value result ≡ field_map (layers_of frame.now) ingress metadata }
-{
-    match read_inside(frame.bytes(), ingress, metadata) {
-        Ok(headers) => headers.key(),
-        Err(_) => unreachable!(),
     }
 }
 

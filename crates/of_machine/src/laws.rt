@@ -1,25 +1,26 @@
 //! Laws of runs.
-ghost use Rattle.std.specs.Prelude.{◌≡◌, ◌≤◌, ◌+◌, ◌*◌, ◌∷◌, ℕ, List, [], true, length, IsTrue};
+ghost use Rattle.std.specs.Prelude.{◌≡◌, ◌≤◌, ◌+◌, ◌*◌, ◌∷◌, ◌⊎◌, ℕ, List, [], true, length, IsTrue};
 ghost use Rattle.of_actions.specs.Supported.{are_supported};
 ghost use Rattle.of_machine.specs.TheWorld.{TheWorld};
 ghost use Rattle.of_machine.specs.Sound.{IsSound, longest};
 ghost use Rattle.of_machine.specs.Rows.{Work, Lookup, acts, task};
-ghost use Rattle.of_machine.specs.Weights.{IsFit, lookup_steps, task_weight};
-ghost use Rattle.of_machine.specs.Runs.{Machine, after, starting, run_of, ahead_of};
+ghost use Rattle.of_machine.specs.Weights.{IsFit, AllFit, lookup_steps, frame_step_bound, task_weight, weight};
+ghost use Rattle.of_machine.specs.Runs.{Machine, step, after, starting, run_of, ahead_of};
 ghost use Rattle.of_machine.specs.Growth.{IsLow, AllShort};
 ghost use Rattle.of_machine.specs.Renumbering.{IsRenumbered, renumbered};
 ghost use Rattle.of_machine.specs.declared.data.Packet.{Packet};
 ghost use Rattle.of_actions.specs.declared.action.Action.{Action};
 
-/// Every run ends: after as many steps as its work weighs no packet is left, and then nothing changes.
+/// Every run ends: each step makes what is left of the work lighter (`lowers`), so that no packet is left after as many steps as it weighs, and then nothing changes.
 ///
 /// A line is a step, so a frame takes at most `lookup_steps longest 0` of them, which are 143,271,552, and a PACKET_OUT as many for each of its 64 actions, one for each action, and its end.
 pub fn every_run_ends()
     ensures ends { (w : TheWorld) (p : Packet) (work : List Work) → IsSound w → IsFit (task p work) → (run_of w p work).tasks ≡ [] }
+    ensures lowers { (w : TheWorld) (m : Machine) → IsSound w → AllFit m.tasks → (m.tasks ≡ []) ⊎ (weight w (step w m).tasks + 1 ≤ weight w m.tasks) }
     ensures settled { (w : TheWorld) (k n : ℕ) (m : Machine) → (after w n m).tasks ≡ [] → after w (k + n) m ≡ after w n m }
     ensures lines { (w : TheWorld) (p : Packet) (work : List Work) (k : ℕ) → IsSound w → IsFit (task p work) → length (after w k (starting p work)).lines ≤ task_weight w (task p work) }
     ensures frame { (w : TheWorld) (p : Packet) (k : ℕ) → IsSound w → p.action_set ≡ [] → length (after w k (starting p (Lookup 0 ∷ []))).lines ≤ lookup_steps longest 0 }
-    ensures number { lookup_steps longest 0 ≡ 143271552 }
+    ensures number { lookup_steps longest 0 ≡ frame_step_bound }
     ensures actions { (w : TheWorld) (p : Packet) (l : List Action) (k : ℕ) → IsSound w → p.action_set ≡ [] → IsTrue (are_supported true l) → length (after w k (starting p (acts l))).lines ≤ 64 * lookup_steps longest 0 + 65 }
 {}
 

@@ -2,19 +2,22 @@
 ghost use Rattle.std.specs.Prelude.{◌≡◌, ◌≤◌, ◌<◌, ◌^◌, length, false, IsTrue, IfOk, OnOk};
 ghost use Rattle.of_actions.specs.Supported.{is_supported};
 ghost use Rattle.of_layers.specs.Reading.{layers_of};
+ghost use Rattle.of_headers.specs.FieldMap.{value, field_map};
+ghost use Rattle.of_headers.specs.Known.{IsKnownOf};
 ghost use Rattle.of_rewrite.specs.Frames.{frame_ttl_decremented};
 ghost use Rattle.of_rewrite.specs.TimeToLive.{ttl_of, dec_ttl_result};
 ghost use Rattle.of_machine.specs.Rows.{rewritten};
 
 use of_actions::Action;
+use of_headers::{FieldKey, Known};
 use of_rewrite::{Frame, Ttl};
 use std::alloc::{AllocError, Global};
 use std::marker::Model;
 
-/// Where the bytes are.
+/// Where the bytes are. Beside lent ones stands what is known of their headers, as a [`Frame`] knows it of its own.
 #[derive(Debug, Drop)]
 enum Held<'a> {
-    Lent(&'a [u8]),
+    Lent(&'a [u8], Known),
     Own(Frame),
 }
 
@@ -43,7 +46,7 @@ impl<'a> PacketFrame<'a> {
         ensures { result ≡ bytes.now }
     {
         PacketFrame {
-            held: Held::Lent(bytes),
+            held: Held::Lent(bytes, Known::Nothing),
         }
     }
 
@@ -54,7 +57,7 @@ impl<'a> PacketFrame<'a> {
         ensures most { length result.now < 2 ^ 61 }
     {
         match &self.held {
-            Held::Lent(bytes) => bytes,
+            Held::Lent(bytes, _) => bytes,
             Held::Own(frame) => frame.bytes(),
         }
     }
@@ -66,11 +69,42 @@ impl<'a> PacketFrame<'a> {
         self.bytes().len()
     }
 
-    // The same bytes, borrowed.
+    // What is known of its headers.
+    fn known(&self) -> Known
+        ensures { IsKnownOf result self.now }
+    {
+        match &self.held {
+            Held::Lent(_, known) => *known,
+            Held::Own(frame) => frame.known(),
+        }
+    }
+
+    // The same bytes, borrowed, with what is known of them.
     pub(crate) fn lend(&self) -> PacketFrame<'_>
         ensures { result ≡ self.now }
     {
-        PacketFrame::new(self.bytes())
+        PacketFrame {
+            held: Held::Lent(self.bytes(), self.known()),
+        }
+    }
+
+    /// The fields of the frame, as a lookup of a packet from this port with this metadata sees them (OpenFlow 1.3.5, 5.3).
+    ///
+    /// Headers are read once, and again only where an action changed a field.
+    pub fn key(&mut self, in_port: u32, metadata: u64) -> FieldKey
+        ensures value { value result ≡ field_map (layers_of self.old) in_port metadata }
+        ensures same { self.new ≡ self.old }
+    {
+        match &mut self.held {
+            Held::Lent(bytes, known) => {
+                *known = known.read(bytes);
+                known.key(bytes, in_port, metadata)
+            }
+            Held::Own(frame) => {
+                frame.read_headers();
+                frame.key(in_port, metadata)
+            }
+        }
     }
 
     // Does to it what the action does to a frame.
@@ -80,8 +114,8 @@ impl<'a> PacketFrame<'a> {
     {
         match &mut self.held {
             Held::Own(frame) => rewrite(action, frame),
-            Held::Lent(bytes) => {
-                let mut frame = Frame::new(bytes.to_vec(alloc)?);
+            Held::Lent(bytes, known) => {
+                let mut frame = Frame::with_known(bytes.to_vec(alloc)?, *known);
                 rewrite(action, &mut frame)?;
                 self.held = Held::Own(frame);
                 Ok(())
@@ -96,8 +130,8 @@ impl<'a> PacketFrame<'a> {
     {
         match &mut self.held {
             Held::Own(frame) => Ok(frame.dec_ttl()),
-            Held::Lent(bytes) => {
-                let mut frame = Frame::new(bytes.to_vec(alloc)?);
+            Held::Lent(bytes, known) => {
+                let mut frame = Frame::with_known(bytes.to_vec(alloc)?, *known);
                 let ttl = frame.dec_ttl();
                 self.held = Held::Own(frame);
                 Ok(ttl)

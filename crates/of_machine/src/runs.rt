@@ -7,6 +7,7 @@ ghost use Rattle.of_machine.specs.Rows.{Work, Act as ActWork, Lookup as LookupWo
 ghost use Rattle.of_machine.specs.Runs.{Moves, Acts, Breaks, IsRun, IsPrefixOfRun, run_of, point};
 ghost use Rattle.of_machine.specs.Outside.{is_to_tables};
 ghost use Rattle.of_machine.specs.Sound.{IsSound};
+ghost use Rattle.of_machine.specs.Weights.{frame_step_bound, packet_out_step_bound};
 
 use crate::data::{Outcome, Packet, Step};
 use crate::machine::{Going, LONGEST_CHAIN, act, frame_is_known};
@@ -32,7 +33,7 @@ pub fn run<W: World, S: StepLog>(
     ensures counts { IfOk result (λ outcome. outcome.counts.items ≡ (run_of (W.view world.old) packet.entry (LookupWork 0 ∷ [])).counts) }
     ensures lines { OnOk result (S.KEEPS ≡ true → S.list log.new ≡ S.list log.old ++ (run_of (W.view world.old) packet.entry (LookupWork 0 ∷ [])).lines) }
     ensures grown { IfOk result (λ outcome. length packet.entry.frame ≤ 9216 → AllShort 13328 outcome.items.items) }
-    ensures bound { S.KEEPS ≡ true → length (S.list log.new) ≤ length (S.list log.old) + 143271552 }
+    ensures bound { S.KEEPS ≡ true → length (S.list log.new) ≤ length (S.list log.old) + frame_step_bound }
     ensures err { OnErr result (IsPrefixOfRun (W.view world.old) S.KEEPS packet.entry (LookupWork 0 ∷ []) (S.list log.old) (S.list log.new)) }
 {
     world.known();
@@ -63,7 +64,7 @@ pub fn run_actions<W: World, S: StepLog>(
     ensures counts { IfOk result (λ outcome. outcome.counts.items ≡ (run_of (W.view world.old) packet.entry (acts actions.now)).counts) }
     ensures lines { OnOk result (S.KEEPS ≡ true → S.list log.new ≡ S.list log.old ++ (run_of (W.view world.old) packet.entry (acts actions.now)).lines) }
     ensures grown { IfOk result (λ outcome. length packet.entry.frame ≤ 9216 → AllShort 13584 outcome.items.items) }
-    ensures bound { S.KEEPS ≡ true → length (S.list log.new) ≤ length (S.list log.old) + 9169379393 }
+    ensures bound { S.KEEPS ≡ true → length (S.list log.new) ≤ length (S.list log.old) + packet_out_step_bound }
     ensures err { OnErr result (IsPrefixOfRun (W.view world.old) S.KEEPS packet.entry (acts actions.now) (S.list log.old) (S.list log.new)) }
 {
     world.known();

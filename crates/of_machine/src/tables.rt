@@ -134,7 +134,8 @@ fn look_up<W: World, S: StepLog>(
     ensures err { OnErr result (Fails (W.view world.old) S.KEEPS packet.old (LookupWork table ∷ []) outcome.old (S.list log.old) (S.list log.new)) }
     ensures later { IfOk result (λ then. IsLater table then) }
 {
-    match world.find(table, &packet.key()) {
+    let key = packet.key();
+    match world.find(table, &key) {
         None => {
             outcome.counts.push(Count::Lookup(table))?;
             log.step(Step::Miss(table))?;

@@ -17,3 +17,4 @@ pub mod Adding
 pub mod SameLemmas
 pub mod Holding
 pub mod Turning
+pub mod Looking

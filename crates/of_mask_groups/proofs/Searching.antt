@@ -1,7 +1,7 @@
 -- The walk over the groups: the best so far, and the winner at its end.
-use Rattle.std.proofs.Common.{◌≡◌, ℕ, ◌+◌, ◌<◌, ◌≤◌, true, false, Option, Some, None, List, [], length, get_or, take, refl, sym, ◌∙◌, ap, subst, arith, ⊎_elim}
+use Rattle.std.proofs.Common.{◌≡◌, ℕ, ◌+◌, ◌<◌, ◌≤◌, true, false, Option, Some, None, List, [], length, get_or, take, take_all, refl, sym, ◌∙◌, ap, subst, arith, ⊎_elim}
 use Rattle.std.specs.List.{Contains}
-use Rattle.std.proofs.lemmas.List.{length-take-le}
+use Rattle.std.proofs.lemmas.List.{length-take, length-take-le}
 use Rattle.std.proofs.lemmas.Bool.Decides.{nat_tests}
 use Rattle.slab.specs.Slab.{Slab, get}
 use Rattle.of_layers.specs.declared.field.Field.{Field}
@@ -14,22 +14,11 @@ use Rattle.of_mask_groups.specs.declared.entry.Entry.{Entry}
 use Rattle.of_mask_groups.specs.declared.found.Found.{Found}
 use Rattle.of_mask_groups.specs.declared.group.Group.{Group}
 use Rattle.of_mask_groups.specs.Cells.{cell_at}
-use Rattle.of_mask_groups.specs.Covering.{found_of, IsFound, covered, IsBestOf, is_above_best}
+use Rattle.of_mask_groups.specs.Covering.{found_of, IsFound, IsBestOf, is_above_best}
 use Rattle.of_mask_groups.specs.Grouping.{LooksLike, AsksFor, IsInCell, AreGrouped}
+use Rattle.of_mask_groups.specs.Probed.{AreProbed}
 use Rattle.of_mask_groups.proofs.Members.{not_in_nil, in_take_more, at_place}
 use Rattle.of_mask_groups.proofs.Falling.{one_group, before_at}
-
--- what is found is an entry that matches
-pub record IsHit (entries : Slab Entry) (key : Field → Option ℕ) (f : Found) : Type 0 where
-  pub found : IsFound entries f
-  pub matches : matches_map found.entry.fields key ≡ true
-
--- So many groups are probed: the best of their entries that match is known, and none of them could be left out.
-pub record AreProbed (entries : Slab Entry) (key : Field → Option ℕ) (groups : List Group) (best : Option Found) (probes : ℕ) : Type 0 where
-  pub sound : (f : Found) → best ≡ Some f → IsHit entries key f
-  pub covers : (n : ℕ) (e : Entry) (g : Group) → get entries n ≡ Some e → matches_map e.fields key ≡ true → Contains groups g → LooksLike g e → covered best (found_of n e) ≡ true
-  pub above : (f : Found) (g : Group) → best ≡ Some f → Contains groups g → f.priority ≤ g.best
-  pub count : probes ≡ length groups
 
 pub none_probed : (entries : Slab Entry) (key : Field → Option ℕ) → AreProbed entries key [] None 0
 none_probed entries key = record { sound = λ f e. absurd cc; covers = λ n e g h m c l. absurd (not_in_nil g c); above = λ f g e c. absurd cc; count = refl }
@@ -88,3 +77,16 @@ one_more_group entries groups key i g best new probes next k fine lt at stays ma
     }
 
 -- ---- the end
+
+-- as many groups as were probed are those that were probed
+pub first_probes : (groups : List Group) (i probes : ℕ) → i < length groups → probes ≡ length (take i groups) → take i groups ≡ take probes groups
+first_probes groups i probes lt count = ap (λ (k : ℕ). take k groups) (sym (count ∙ length-take-le i groups (omega arith)))
+
+pub all_probes : (groups : List Group) (i probes : ℕ) → length groups ≤ i → probes ≡ length (take i groups) → take i groups ≡ take probes groups
+all_probes groups i probes le count =
+    let all : take i groups ≡ groups = take_all i groups le in
+    all ∙ sym (take_all probes groups (omega (arith, count, ap length all)))
+
+-- and no more than there are
+pub probes_within : (groups : List Group) (probes : ℕ) → probes ≡ length (take probes groups) → probes ≤ length groups
+probes_within groups probes count = omega (arith, count, length-take probes groups)

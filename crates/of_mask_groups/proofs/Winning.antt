@@ -1,5 +1,5 @@
 -- What the walk over the groups ends with: the winner, and the number of masks that had to be asked.
-use Rattle.std.proofs.Common.{◌≡◌, ℕ, ◌<◌, ◌≤◌, Bool, true, false, Option, Some, None, List, length, get_or, take, refl, sym, ◌∙◌, ap, subst, arith, inl, inr, ◌⊎◌, ⊎_elim}
+use Rattle.std.proofs.Common.{◌≡◌, ℕ, ◌<◌, ◌≤◌, Bool, true, false, Option, Some, None, List, length, get_or, take, refl, sym, ◌∙◌, ap, subst, arith, inl, inr, ⊎_elim}
 use Rattle.std.specs.Prelude.{map, slice_get, nat_le}
 use Rattle.std.specs.List.{Contains}
 use Rattle.std.proofs.lemmas.List.{length-map}
@@ -24,16 +24,7 @@ use Rattle.of_mask_groups.proofs.Counting.{as_many, in_filter, of_filter}
 use Rattle.of_mask_groups.proofs.Sights.{same_listed, same_mask_decides}
 use Rattle.of_mask_groups.proofs.Falling.{sight, apart_sights, before_or_below}
 use Rattle.of_mask_groups.proofs.Aging.{IsRowOf, sound_row, complete_row, in_order, older_by_place}
-use Rattle.of_mask_groups.proofs.Searching.{AreProbed}
-
--- a group that is not probed is below the best
-pub record IsBelow (best : Option Found) (h : Group) : Type 0 where
-  pub held : Found
-  pub is : best ≡ Some held
-  pub below : h.best < held.priority
-
-abbrev pub IsDone : List Group → List Group → Option Found → Type 0
-IsDone groups done best = (h : Group) → Contains groups h → Contains done h ⊎ IsBelow best h
+use Rattle.of_mask_groups.specs.Probed.{AreProbed, IsDone}
 
 same_entry : (o : Option Entry) (d e : Entry) → o ≡ Some d → o ≡ Some e → d ≡ e
 same_entry o d e h k = cc
@@ -147,11 +138,14 @@ group_row entries groups next g fine aged c =
     (λ t. (let m = i.index.members g.best t.0 t.1 in (row_of t.0 m.entry, complete_row entries next t.0 m.entry aged m.stands, sight_is g t.0 m.entry m.looks, m.priority)))
     i.index.settled.top
 
-pub miss_probes : (entries : Slab Entry) (groups done : List Group) (next : ℕ) → AreGrouped entries groups → AreAged entries next → AreFalling done → ((g : Group) → Contains done g → Contains groups g) → IsDone groups done None → length done ≡ masks_in (by_age next entries.slots)
-miss_probes entries groups done next fine aged falls part d = as_many_masks (by_age next entries.slots) done falls (record {
+pub miss_masks : (entries : Slab Entry) (groups done : List Group) (next : ℕ) → AreGrouped entries groups → AreAged entries next → ((g : Group) → Contains done g → Contains groups g) → IsDone groups done None → HaveSameMasks (by_age next entries.slots) done
+miss_masks entries groups done next fine aged part d = record {
   of_row = λ r c. row_group entries groups done next None r fine d c (λ f e. absurd cc);
   of_group = λ g c. (let r = group_row entries groups next g fine aged (part g c) in (r.0, r.1, r.2));
-})
+}
+
+pub miss_probes : (entries : Slab Entry) (groups done : List Group) (next : ℕ) → AreGrouped entries groups → AreAged entries next → AreFalling done → ((g : Group) → Contains done g → Contains groups g) → IsDone groups done None → length done ≡ masks_in (by_age next entries.slots)
+miss_probes entries groups done next fine aged falls part d = as_many_masks (by_age next entries.slots) done falls (miss_masks entries groups done next fine aged part d)
 
 le_true : (a b : ℕ) → a ≤ b → nat_le a b ≡ true
 le_true a b h = grind (arith, nat_tests)
@@ -159,11 +153,14 @@ le_true a b h = grind (arith, nat_tests)
 true_le : (a b : ℕ) → nat_le a b ≡ true → a ≤ b
 true_le a b h = grind (arith, nat_tests)
 
-pub hit_probes : (entries : Slab Entry) (groups done : List Group) (next p : ℕ) (best : Option Found) (f : Found) → AreGrouped entries groups → AreAged entries next → AreFalling done → ((g : Group) → Contains done g → Contains groups g) → IsDone groups done best → best ≡ Some f → p ≡ f.priority → ((g : Group) → Contains done g → f.priority ≤ g.best) → length done ≡ masks_in (reaching p (by_age next entries.slots))
-hit_probes entries groups done next p best f fine aged falls part d b is above = as_many_masks (reaching p (by_age next entries.slots)) done falls (record {
+pub hit_masks : (entries : Slab Entry) (groups done : List Group) (next p : ℕ) (best : Option Found) (f : Found) → AreGrouped entries groups → AreAged entries next → ((g : Group) → Contains done g → Contains groups g) → IsDone groups done best → best ≡ Some f → p ≡ f.priority → ((g : Group) → Contains done g → f.priority ≤ g.best) → HaveSameMasks (reaching p (by_age next entries.slots)) done
+hit_masks entries groups done next p best f fine aged part d b is above = record {
   of_row = λ r c. (let o = of_filter (λ z. nat_le p z.priority) (by_age next entries.slots) r c in row_group entries groups done next best r fine d o.0 (λ x e. (let q : x.priority ≡ f.priority = (let s : x ≡ f = (let t = sym e ∙ b in cc) in ap (λ (z : Found). z.priority) s) in omega (arith, true_le p r.priority o.1))));
   of_group = λ g c. (let r = group_row entries groups next g fine aged (part g c) in (r.0, in_filter (λ z. nat_le p z.priority) (by_age next entries.slots) r.0 r.1 (le_true p r.0.priority (omega (arith, above g c, r.3))), r.2));
-})
+}
+
+pub hit_probes : (entries : Slab Entry) (groups done : List Group) (next p : ℕ) (best : Option Found) (f : Found) → AreGrouped entries groups → AreAged entries next → AreFalling done → ((g : Group) → Contains done g → Contains groups g) → IsDone groups done best → best ≡ Some f → p ≡ f.priority → ((g : Group) → Contains done g → f.priority ≤ g.best) → length done ≡ masks_in (reaching p (by_age next entries.slots))
+hit_probes entries groups done next p best f fine aged falls part d b is above = as_many_masks (reaching p (by_age next entries.slots)) done falls (hit_masks entries groups done next p best f fine aged part d b is above)
 
 -- ---- what is returned
 

@@ -1,10 +1,10 @@
 pub mod Covering
 pub mod Ranks
-pub mod Digest
 pub mod SameKey
 pub mod Cells
 pub mod Grouping
 pub mod Aged
 pub mod Probing
+pub mod Probed
 pub mod Renumbered
 pub mod SameEntry

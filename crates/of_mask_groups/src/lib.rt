@@ -8,6 +8,7 @@ mod group;
 mod groups;
 mod mask_groups;
 mod masked;
+mod probing;
 mod rank;
 mod renumbering;
 mod same;

@@ -3,22 +3,23 @@ ghost use Rattle.std.specs.Prelude.{◌≡◌, ℕ, ◌<◌, ◌≤◌, IsTrue, 
 ghost use Rattle.slab.specs.Slab.{get, Updates, HasRoomFor};
 ghost use Rattle.of_headers.specs.FieldMap.{value};
 ghost use Rattle.of_classifier.specs.Winner.{winner_of, number_of as number_of_row};
-ghost use Rattle.of_mask_groups.specs.Covering.{is_above_best, number_of_found};
+ghost use Rattle.of_mask_groups.specs.Covering.{number_of_found};
 ghost use Rattle.of_mask_groups.specs.Aged.{by_age, AreAged};
 ghost use Rattle.of_mask_groups.specs.Grouping.{AreGrouped};
-ghost use Rattle.of_mask_groups.specs.Probing.{probes_of};
+ghost use Rattle.of_classifier.specs.Looking.{looked_by};
+ghost use Rattle.of_mask_groups.specs.Probing.{probes_of, reached};
 
 use crate::entry::Entry;
-use crate::found::{Found, best_among};
+use crate::found::Found;
 use crate::group::Group;
 use crate::groups::{put_back, take_group};
-use crate::masked::MaskedKey;
+use crate::probing::{mask_of_groups, probe_groups};
 use crate::rank::Rank;
 use crate::renumbering::{next_age, set_age};
 use crate::same::same_in;
 use of_classifier::Lookup;
 use of_headers::FieldKey;
-use of_oxm::{Match, key_of, mask_of};
+use of_oxm::{FieldMask, Match, key_of, mask_of};
 use slab::Slab;
 use std::alloc::{AllocError, Global};
 use std::marker::Model;
@@ -53,24 +54,15 @@ impl MaskGroups {
         ensures winner { result.0 ≡ number_of_row (winner_of self.now (value key.now)) }
         ensures probes { result.1 ≡ probes_of self.now (value key.now) }
     {
-        let mut best: Option<Found> = None;
-        let mut probes: usize = 0;
-        for group in &self.groups {
-            if is_above(best, group.best) {
-                return (number_of(best), probes);
-            }
-            let masked = MaskedKey {
-                fields: group.mask.masked(key),
-            };
-            let numbers = group.probe(&masked, &mut probes);
-            best = best_among(&self.entries, numbers, best);
-        }
+        let (best, probes) = probe_groups(&self.entries, &self.groups, key);
         (number_of(best), probes)
     }
 }
 
 impl Lookup for MaskGroups {
     ghost content = { λ s. s };
+
+    ghost looked = { λ rows key. looked_by (reached (winner_of rows key) rows) };
 
     fn empty(alloc: Global) -> Result<Self, AllocError> {
         Ok(MaskGroups {
@@ -87,6 +79,18 @@ impl Lookup for MaskGroups {
 
     fn peek(&self, key: &FieldKey) -> Option<usize> {
         self.find(key).0
+    }
+
+    fn region(&self, key: &FieldKey) -> (Option<usize>, FieldMask) {
+        let (best, probes) = probe_groups(&self.entries, &self.groups, key);
+        (number_of(best), mask_of_groups(&self.groups[..probes]))
+    }
+
+    fn priority(&self, number: usize) -> Option<u16> {
+        match self.entries.get(number) {
+            Some(entry) => Some(entry.priority),
+            None => None,
+        }
     }
 
     fn add(&mut self, fields: Match, priority: u16) -> Result<usize, AllocError> {
@@ -197,15 +201,6 @@ fn take_entry(entries: &mut Slab<Entry>, groups: &mut Vec<Group>, alloc: Global,
         if !group.is_empty() {
             put_back(groups, group);
         }
-    }
-}
-
-fn is_above(best: Option<Found>, priority: u16) -> bool
-    ensures { result ≡ is_above_best best priority }
-{
-    match best {
-        Some(found) => priority < found.priority,
-        None => false,
     }
 }
 

@@ -1,9 +1,9 @@
 //! What a match looks at, as a mask for each field, and keys under it.
 
-ghost use Rattle.std.specs.Prelude.{◌≡◌, ◌↔◌, ℕ, List, Option, true};
+ghost use Rattle.std.specs.Prelude.{◌≡◌, ◌↔◌, ℕ, List, Option, None, true};
 ghost use Rattle.std.specs.List.{AllByRecursion};
 ghost use Rattle.of_layers.specs.declared.field.Field.{Field};
-ghost use Rattle.of_headers.specs.FieldMap.{value, seen};
+ghost use Rattle.of_headers.specs.FieldMap.{value, seen, either};
 ghost use Rattle.of_oxm.specs.declared.match_field.MatchField.{MatchField};
 ghost use Rattle.of_oxm.specs.NormalForm.{IsKept, IsAscending, IsMatch};
 ghost use Rattle.of_oxm.specs.Relations.{matches_map};
@@ -26,6 +26,24 @@ impl FieldMask {
         ensures { (f : Field) → value result f ≡ seen (mask_at self.now f) (value key.now f) }
     {
         key.under(&self.masks)
+    }
+
+    /// No field is looked at.
+    pub fn empty() -> FieldMask
+        ensures { (f : Field) → mask_at result f ≡ None }
+    {
+        FieldMask {
+            masks: FieldKey::empty(),
+        }
+    }
+
+    /// The bits that one or both masks look at.
+    pub fn or(&self, other: &FieldMask) -> FieldMask
+        ensures { (f : Field) → mask_at result f ≡ either (mask_at self.now f) (mask_at other.now f) }
+    {
+        FieldMask {
+            masks: self.masks.or(&other.masks),
+        }
     }
 }
 

@@ -1,12 +1,15 @@
 -- How `dis` ends.
-use Rattle.std.proofs.Common.{◌≡◌, ℕ, ◌+◌, List, [], Option, Result, Ok, Err, refl, sym, arith, inl, inr}
+use Rattle.std.proofs.Common.{◌≡◌, ℕ, ◌+◌, true, List, [], Option, Result, Ok, Err, refl, sym, ◌∙◌, ap, arith, inl, inr}
 use Rattle.std.specs.Global.{Vec}
-use Rattle.of_switch.specs.State.{State}
+use Rattle.of_switch.specs.State.{State, start}
+use Rattle.of_switch.specs.Runs.{run}
 use Rattle.of_replay.specs.declared.halt.Halt.{Halt}
 use Rattle.of_replay.specs.declared.halt.Halt.TheVariants.{Bad, Memory, Read, Write}
 use Rattle.of_replay.specs.declared.event_file.Ended.{Ended}
 use Rattle.of_replay.specs.declared.event_file.Ended.TheVariants.{Done, BadRow, Text, NoMemory, ReadFault, WriteFault}
-use Rattle.of_replay.specs.Told.{Answer}
+use Rattle.of_replay.specs.Told.{Answer, given}
+use Rattle.of_replay.specs.Rows.{rows_of}
+use Rattle.of_replay.specs.Play.{lines_read}
 use Rattle.of_replay.specs.RowTexts.{RowText, Tells}
 use Rattle.of_replay.specs.Stepping.{PlayedAll, ReadsFail, WritesFail, ended_so}
 use Rattle.of_replay.specs.Assembling.{Faults, Writes}
@@ -18,8 +21,8 @@ use Rattle.of_replay.proofs.FileLemmas.{by_read, faults_done, faults_unbuilt, fa
 pub played_nothing : (answers : Option (List Answer)) (ends : ℕ) → Played (Err NoMemory) answers answers ends ends
 played_nothing answers ends = record { more = []; answers_are = sym (answers-nil answers); is = tt }
 
-pub played_all : (answers answers' : Option (List Answer)) (ends ends' : ℕ) (s : State) → PlayedAll answers answers' s → ends' ≡ ends + 1 → Played (Ok s) answers answers' ends ends'
-played_all answers answers' ends ends' s p e = record { more = p.more; answers_are = p.answers_are; is = rw (is_ended ends ends' e) (refl, p.good, p.state) }
+pub played_all : (begun : State) (answers answers' : Option (List Answer)) (ends ends' : ℕ) (s : State) → begun ≡ start 1 → PlayedAll begun answers answers' s → ends' ≡ ends + 1 → Played (Ok s) answers answers' ends ends'
+played_all begun answers answers' ends ends' s new p e = record { more = p.more; answers_are = p.answers_are; is = rw (is_ended ends ends' e) (refl, p.good, p.state ∙ ap (λ (x : State). (run (rows_of (lines_read true (given p.more))).events x).state) new) }
 
 -- nothing fails to be written where nothing is
 written : (h : Halt) → WritesFail (Err h) 0 → h ≡ Write → ⊥
@@ -28,11 +31,11 @@ written Memory w e = cc
 written Read w e = cc
 written Write w e = omega (arith, w)
 
-pub played_not : (tale : RowText) (h : Halt) (answers answers' : Option (List Answer)) (ends ends' : ℕ) (taken taken' : Option (List ℕ)) → Tells tale (ended_so (Err h)) answers answers' ends ends' taken taken' → WritesFail (Err h) 0 → Played (Err (ended_so (Err h))) answers answers' ends ends'
-played_not tale (Bad n) answers answers' ends ends' taken taken' r w = record { more = r.more; answers_are = r.answers_are; is = r.ends_so.0 }
-played_not tale Memory answers answers' ends ends' taken taken' r w = record { more = r.more; answers_are = r.answers_are; is = tt }
-played_not tale Read answers answers' ends ends' taken taken' r w = record { more = r.more; answers_are = r.answers_are; is = (r.ends_so.0, r.ends_so.1) }
-played_not tale Write answers answers' ends ends' taken taken' r w = absurd (written Write w refl)
+pub played_not : (begun : State) (tale : RowText) (h : Halt) (answers answers' : Option (List Answer)) (ends ends' : ℕ) (taken taken' : Option (List ℕ)) → Tells begun tale (ended_so (Err h)) answers answers' ends ends' taken taken' → WritesFail (Err h) 0 → Played (Err (ended_so (Err h))) answers answers' ends ends'
+played_not begun tale (Bad n) answers answers' ends ends' taken taken' r w = record { more = r.more; answers_are = r.answers_are; is = r.ends_so.0 }
+played_not begun tale Memory answers answers' ends ends' taken taken' r w = record { more = r.more; answers_are = r.answers_are; is = tt }
+played_not begun tale Read answers answers' ends ends' taken taken' r w = record { more = r.more; answers_are = r.answers_are; is = (r.ends_so.0, r.ends_so.1) }
+played_not begun tale Write answers answers' ends ends' taken taken' r w = absurd (written Write w refl)
 
 pub faults_unplayed : (h : Halt) (reads ends ends' failures failures' : ℕ) → ReadsFail (Err h) reads ends ends' failures failures' → WritesFail (Err h) 0 → Faults (ended_so (Err h)) reads ends ends' failures failures' 0
 faults_unplayed (Bad n) reads ends ends' failures failures' h w = record { done = λ e. cc; once = omega (arith, h); read_fault = λ e. cc; failed_read = λ lt. absurd (omega (arith, lt, h)); write_fault = (λ e. cc, λ lt. absurd (omega (arith, lt))) }

@@ -3,6 +3,7 @@ pub mod DigitLemmas
 pub mod MemoryLemmas
 pub mod Cutting
 pub mod Lines
+pub mod Marks
 pub mod WholeRuns
 pub mod Examples
 pub mod FileLemmas

@@ -5,7 +5,7 @@ use Rattle.std.specs.Prelude.{nat_le, OnOk, IfErr}
 use Rattle.std.specs.Option.{option_map}
 use Rattle.std.proofs.lemmas.Bool.Decides.{nat_tests}
 use Rattle.of_switch.specs.declared.event.Event.{Event}
-use Rattle.of_switch.specs.State.{State, start}
+use Rattle.of_switch.specs.State.{State}
 use Rattle.of_switch.specs.Runs.{happened, run}
 use Rattle.of_replay.specs.declared.halt.Halt.{Halt}
 use Rattle.of_replay.specs.declared.halt.Halt.TheVariants.{Bad, Memory, Read, Write}
@@ -16,7 +16,7 @@ use Rattle.of_replay.specs.Rows.{EventRow, Passed, Connect, Lost, Piece, Frame, 
 use Rattle.of_replay.specs.Output.{report_text, printed_from}
 use Rattle.of_replay.specs.Play.{lines_read}
 use Rattle.of_replay.specs.RowTexts.{RowText, plain, row_happened, told, told_and, told_from}
-use Rattle.of_replay.specs.Stepping.{LineTells, LineGoes, Prints, Going, Within, Halts, PieceGoes, WritesFail}
+use Rattle.of_replay.specs.Stepping.{LineTells, LineGoes, Prints, PrintsFirst, Going, Within, WithinPiece, Halts, PieceGoes, WritesFail}
 use Rattle.of_replay.proofs.TellingLemmas.{then-then, then-nil}
 use Rattle.of_replay.proofs.Cutting.{kept_more, Parts, parts, first_end, whole_join, last_join}
 
@@ -174,9 +174,9 @@ plain_is (line ∷ lines) s = plain_and (row_of line) line lines s (λ t. plain_
 -- A RUN
 
 -- what was written, and more
-prints_more : (tale : RowText) (lines lines' : List (List ℕ)) (out wrote out' text : List ℕ) (first taken taken' : Option (List ℕ)) → Prints tale lines out first taken → told tale lines' ≡ told tale lines ++ text → taken' ≡ then_bytes taken wrote → wrote ++ out' ≡ out ++ text
-    → Prints tale lines' out' first taken'
-prints_more tale lines lines' out wrote out' text first taken taken' p e t o = record {
+prints_more : (begun : State) (tale : RowText) (lines lines' : List (List ℕ)) (out wrote out' text : List ℕ) (first taken taken' : Option (List ℕ)) → Prints begun tale lines out first taken → told begun tale lines' ≡ told begun tale lines ++ text → taken' ≡ then_bytes taken wrote → wrote ++ out' ≡ out ++ text
+    → Prints begun tale lines' out' first taken'
+prints_more begun tale lines lines' out wrote out' text first taken taken' p e t o = record {
   wrote = p.wrote ++ wrote;
   taken_is = t ∙ (ap (λ (k : Option (List ℕ)). then_bytes k wrote) p.taken_is ∙ then-then first p.wrote wrote);
   text_is = append_assoc p.wrote wrote out'
@@ -185,13 +185,13 @@ prints_more tale lines lines' out wrote out' text first taken taken' p e t o = r
       ∙ (ap (λ (x : List ℕ). x ++ text) p.text_is ∙ sym e)));
 }
 
-prints_kept : (tale : RowText) (lines lines' : List (List ℕ)) (out out' : List ℕ) (first taken taken' : Option (List ℕ)) → out' ≡ out → taken' ≡ taken → told tale lines' ≡ told tale lines → Prints tale lines out first taken → Prints tale lines' out' first taken'
-prints_kept tale lines lines' out out' first taken taken' o t e p = record { wrote = p.wrote; taken_is = t ∙ p.taken_is; text_is = ap (λ (x : List ℕ). p.wrote ++ x) o ∙ (p.text_is ∙ sym e) }
+prints_kept : (begun : State) (tale : RowText) (lines lines' : List (List ℕ)) (out out' : List ℕ) (first taken taken' : Option (List ℕ)) → out' ≡ out → taken' ≡ taken → told begun tale lines' ≡ told begun tale lines → Prints begun tale lines out first taken → Prints begun tale lines' out' first taken'
+prints_kept begun tale lines lines' out out' first taken taken' o t e p = record { wrote = p.wrote; taken_is = t ∙ p.taken_is; text_is = ap (λ (x : List ℕ). p.wrote ++ x) o ∙ (p.text_is ∙ sym e) }
 
 -- a prefix of what was to be written
-pub prints_front : (tale : RowText) (lines lines' : List (List ℕ)) (out more : List ℕ) (first taken taken' : Option (List ℕ)) → Prints tale lines out first taken → told tale lines' ≡ told tale lines ++ more → (text : List ℕ) (after : List ℕ) → text ++ after ≡ out ++ more
-    → WrotePrefix taken text taken' → WrotePrefix first (told tale lines') taken'
-prints_front tale lines lines' out more first taken taken' p e text after is w = (
+pub prints_front : (begun : State) (tale : RowText) (lines lines' : List (List ℕ)) (out more : List ℕ) (first taken taken' : Option (List ℕ)) → Prints begun tale lines out first taken → told begun tale lines' ≡ told begun tale lines ++ more → (text : List ℕ) (after : List ℕ) → text ++ after ≡ out ++ more
+    → WrotePrefix taken text taken' → WrotePrefix first (told begun tale lines') taken'
+prints_front begun tale lines lines' out more first taken taken' p e text after is w = (
   p.wrote ++ w.0,
   w.1 ++ after,
   append_assoc p.wrote w.0 (w.1 ++ after)
@@ -207,65 +207,74 @@ good_rows lines line row good is =
     ∙ (ap (λ (r : Option EventRow). joined (rows_of lines) (length lines) (row_and r (rows_of []))) is
     ∙ ap (λ (es : List Event). record { events = (rows_of lines).events ++ es; bad = None }) (append-nil (events_in row)))
 
+-- lines before others are good where all are
+good_and : (r : Option EventRow) (a ab : Rows) → (ab.bad ≡ None → a.bad ≡ None) → (row_and r ab).bad ≡ None → (row_and r a).bad ≡ None
+good_and None a ab ih good = cc
+good_and (Some row) a ab ih good = ap (option_map (λ n. n + 1)) (ih (was_good ab.bad good))
+
+pub good_front : (lines more : List (List ℕ)) → (rows_of (lines ++ more)).bad ≡ None → (rows_of lines).bad ≡ None
+good_front [] more good = refl
+good_front (line ∷ lines) more good = good_and (row_of line) (rows_of lines) (rows_of (lines ++ more)) (good_front lines more) good
+
 -- what good lines and others give
 pub rows_more : (lines more : List (List ℕ)) → (rows_of lines).bad ≡ None → (rows_of (lines ++ more)).events ≡ (rows_of lines).events ++ (rows_of more).events
 rows_more lines more good = ap (λ (r : Rows). r.events) (rows_join lines more good)
 
-going_by : (tale : RowText) (r : Option EventRow) (lines : List (List ℕ)) (line : List ℕ) (n n' : ℕ) (s held : State) (out out' : List ℕ) (first taken taken' : Option (List ℕ)) → row_of line ≡ r
-    → Going tale lines n s out first taken → LineGoes tale (Ok tt) n line r s held out out' taken taken' → n' ≡ n + 1 → Going tale (lines ++ line ∷ []) n' held out' first taken'
-going_by tale None lines line n n' s held out out' first taken taken' is going h e = absurd h
-going_by tale (Some row) lines line n n' s held out out' first taken taken' is going h e =
+going_by : (begun : State) (tale : RowText) (r : Option EventRow) (lines : List (List ℕ)) (line : List ℕ) (n n' : ℕ) (s held : State) (out out' : List ℕ) (first taken taken' : Option (List ℕ)) → row_of line ≡ r
+    → Going begun tale lines n s out first taken → LineGoes tale (Ok tt) n line r s held out out' taken taken' → n' ≡ n + 1 → Going begun tale (lines ++ line ∷ []) n' held out' first taken'
+going_by begun tale None lines line n n' s held out out' first taken taken' is going h e = absurd h
+going_by begun tale (Some row) lines line n n' s held out out' first taken taken' is going h e =
     let rows = good_rows lines line row going.good is in
     let es = (rows_of lines).events in
-    let now = (run es (start 1)).state in
+    let now = (run es begun).state in
     let text : h.0 ++ out' ≡ out ++ tale now line row = h.2 ∙ ap (λ (x : State). out ++ tale x line row) going.state in
-    let all : told tale (lines ++ line ∷ []) ≡ told tale lines ++ tale now line row =
-    tale_join tale lines (line ∷ []) (start 1) going.good ∙ ap (λ (x : List ℕ). told tale lines ++ x) (tale_first tale line row [] now is ∙ append-nil (tale now line row)) in
+    let all : told begun tale (lines ++ line ∷ []) ≡ told begun tale lines ++ tale now line row =
+    tale_join tale lines (line ∷ []) begun going.good ∙ ap (λ (x : List ℕ). told begun tale lines ++ x) (tale_first tale line row [] now is ∙ append-nil (tale now line row)) in
     record {
       good = ap (λ (r : Rows). r.bad) rows;
       number = e ∙ (ap (λ (x : ℕ). x + 1) going.number ∙ ap (λ (x : ℕ). x + 1) (sym (length-append lines (line ∷ []))));
-      state = h.3 ∙ (row_state row s ∙ (ap (λ (x : State). (run (events_in row) x).state) going.state ∙ (sym (run_state es (events_in row) (start 1)) ∙ ap (λ (r : Rows). (run r.events (start 1)).state) (sym rows))));
-      prints = prints_more tale lines (lines ++ line ∷ []) out h.0 out' (tale now line row) first taken taken' going.prints all h.1 text;
+      state = h.3 ∙ (row_state row s ∙ (ap (λ (x : State). (run (events_in row) x).state) going.state ∙ (sym (run_state es (events_in row) begun) ∙ ap (λ (r : Rows). (run r.events begun).state) (sym rows))));
+      prints = prints_more begun tale lines (lines ++ line ∷ []) out h.0 out' (tale now line row) first taken taken' going.prints all h.1 text;
     }
 
-halts_by : (tale : RowText) (h : Halt) (r : Option EventRow) (lines : List (List ℕ)) (line : List ℕ) (more : List (List ℕ)) (n : ℕ) (s held : State) (out out' : List ℕ) (first taken taken' : Option (List ℕ)) → row_of line ≡ r
-    → Going tale lines n s out first taken → LineGoes tale (Err h) n line r s held out out' taken taken' → Halts tale h (lines ++ line ∷ more) out' first taken'
-halts_by tale (Bad m) (Some row) lines line more n s held out out' first taken taken' is going h = absurd h
-halts_by tale (Bad m) None lines line more n s held out out' first taken taken' is going h =
+-- some first lines were printed, where these were played before the last read
+prints_first : (begun : State) (tale : RowText) (earlier past lines others all : List (List ℕ)) (out : List ℕ) (first taken : Option (List ℕ)) → lines ≡ earlier ++ past → all ≡ lines ++ others → (rows_of lines).bad ≡ None → Prints begun tale lines out first taken
+    → PrintsFirst begun tale earlier all out first taken
+prints_first begun tale earlier past lines others all out first taken same is good p = record {
+  more = past;
+  others = others;
+  lines_are = is ∙ ap (λ (ls : List (List ℕ)). ls ++ others) same;
+  good = subst (λ (ls : List (List ℕ)). (rows_of ls).bad ≡ None) same good;
+  prints = subst (λ (ls : List (List ℕ)). Prints begun tale ls out first taken) same p;
+}
+
+halts_by : (begun : State) (tale : RowText) (h : Halt) (r : Option EventRow) (earlier past lines : List (List ℕ)) (line : List ℕ) (more : List (List ℕ)) (n : ℕ) (s held : State) (out out' : List ℕ) (first taken taken' : Option (List ℕ)) → lines ≡ earlier ++ past → row_of line ≡ r
+    → Going begun tale lines n s out first taken → LineGoes tale (Err h) n line r s held out out' taken taken' → Halts begun tale h earlier (lines ++ line ∷ more) out' first taken'
+halts_by begun tale (Bad m) (Some row) earlier past lines line more n s held out out' first taken taken' same is going h = absurd h
+halts_by begun tale (Bad m) None earlier past lines line more n s held out out' first taken taken' same is going h =
     let rows : rows_of (lines ++ line ∷ more) ≡ record { events = (rows_of lines).events ++ []; bad = Some (length lines + 1) } =
     rows_join lines (line ∷ more) going.good ∙ ap (λ (r : Option EventRow). joined (rows_of lines) (length lines) (row_and r (rows_of more))) is in
-    let all : told tale (lines ++ line ∷ more) ≡ told tale lines =
-    tale_join tale lines (line ∷ more) (start 1) going.good ∙ (ap (λ (x : List ℕ). told tale lines ++ x) (tale_bad tale line more (run (rows_of lines).events (start 1)).state is) ∙ append-nil (told tale lines)) in (
+    let all : told begun tale (lines ++ line ∷ more) ≡ told begun tale lines =
+    tale_join tale lines (line ∷ more) begun going.good ∙ (ap (λ (x : List ℕ). told begun tale lines ++ x) (tale_bad tale line more (run (rows_of lines).events begun).state is) ∙ append-nil (told begun tale lines)) in (
       ap (λ (r : Rows). r.bad) rows ∙ ap Some (sym (h.0 ∙ going.number)),
-      prints_kept tale lines (lines ++ line ∷ more) out out' first taken taken' h.1 h.2 all going.prints,
+      prints_kept begun tale lines (lines ++ line ∷ more) out out' first taken taken' h.1 h.2 all going.prints,
     )
-halts_by tale Memory r lines line more n s held out out' first taken taken' is going h = record {
-  front = lines;
-  others = line ∷ more;
-  lines_are = refl;
-  good = going.good;
-  prints = prints_kept tale lines lines out out' first taken taken' h.0 h.1 refl going.prints;
-}
-halts_by tale Read r lines line more n s held out out' first taken taken' is going h = absurd h
-halts_by tale Write None lines line more n s held out out' first taken taken' is going h = absurd h
-halts_by tale Write (Some row) lines line more n s held out out' first taken taken' is going h =
-    let now = (run (rows_of lines).events (start 1)).state in
+halts_by begun tale Memory r earlier past lines line more n s held out out' first taken taken' same is going h =
+    prints_first begun tale earlier past lines (line ∷ more) (lines ++ line ∷ more) out' first taken' same refl going.good (prints_kept begun tale lines lines out out' first taken taken' h.0 h.1 refl going.prints)
+halts_by begun tale Read r earlier past lines line more n s held out out' first taken taken' same is going h = absurd h
+halts_by begun tale Write None earlier past lines line more n s held out out' first taken taken' same is going h = absurd h
+halts_by begun tale Write (Some row) earlier past lines line more n s held out out' first taken taken' same is going h =
+    let now = (run (rows_of lines).events begun).state in
     let later = told_from tale more (row_happened now row).state in
     let text = out ++ tale now line row in
     let all : told_from tale (line ∷ more) now ≡ tale now line row ++ later = tale_first tale line row more now is in
     let here : WrotePrefix taken text taken' = subst (λ (x : State). WrotePrefix taken (out ++ tale x line row) taken') going.state h in
-    prints_front tale lines (lines ++ line ∷ more) out (told_from tale (line ∷ more) now) first taken taken' going.prints (tale_join tale lines (line ∷ more) (start 1) going.good) text later
+    prints_front begun tale lines (lines ++ line ∷ more) out (told_from tale (line ∷ more) now) first taken taken' going.prints (tale_join tale lines (line ∷ more) begun going.good) text later
     (append_assoc out (tale now line row) later ∙ ap (λ (x : List ℕ). out ++ x) (sym all)) here
 
 -- memory ran out before a line
-halts_waiting : (tale : RowText) (lines more : List (List ℕ)) (n : ℕ) (s : State) (out : List ℕ) (first taken : Option (List ℕ)) → Going tale lines n s out first taken → Halts tale Memory (lines ++ more) out first taken
-halts_waiting tale lines more n s out first taken going = record {
-  front = lines;
-  others = more;
-  lines_are = refl;
-  good = going.good;
-  prints = going.prints;
-}
+halts_waiting : (begun : State) (tale : RowText) (earlier past lines more : List (List ℕ)) (n : ℕ) (s : State) (out : List ℕ) (first taken : Option (List ℕ)) → lines ≡ earlier ++ past → Going begun tale lines n s out first taken → Halts begun tale Memory earlier (lines ++ more) out first taken
+halts_waiting begun tale earlier past lines more n s out first taken same going = prints_first begun tale earlier past lines more (lines ++ more) out first taken same refl going.good going.prints
 
 -- THE ROW OF WHAT IS KEPT
 
@@ -302,8 +311,8 @@ goes_whole tale r line kept n s held out out' taken taken' k h = goes_by tale r 
 -- LINES OF A PIECE
 
 -- nothing was read
-pub within_start : (tale : RowText) (first : Option (List ℕ)) → Within tale [] [] [] 1 (start 1) [] first first
-within_start tale first = record {
+pub within_start : (begun : State) (tale : RowText) (first : Option (List ℕ)) → Within begun tale [] [] [] 1 begun [] first first
+within_start begun tale first = record {
   lines = [];
   line = [];
   going = record {
@@ -318,8 +327,8 @@ within_start tale first = record {
 }
 
 -- more bytes are there
-pub within_more : (tale : RowText) (bytes piece kept : List ℕ) (n : ℕ) (s : State) (out : List ℕ) (first taken : Option (List ℕ)) → Within tale bytes [] kept n s out first taken → Within tale (bytes ++ piece) piece kept n s out first taken
-within_more tale bytes piece kept n s out first taken w = record {
+pub within_more : (begun : State) (tale : RowText) (bytes piece kept : List ℕ) (n : ℕ) (s : State) (out : List ℕ) (first taken : Option (List ℕ)) → Within begun tale bytes [] kept n s out first taken → Within begun tale (bytes ++ piece) piece kept n s out first taken
+within_more begun tale bytes piece kept n s out first taken w = record {
   lines = w.lines;
   line = w.line;
   going = w.going;
@@ -331,11 +340,11 @@ within_more tale bytes piece kept n s out first taken w = record {
 }
 
 -- all lines that are whole are behind
-pub within_rest : (tale : RowText) (bytes rest part kept kept' : List ℕ) (n n' : ℕ) (s s' : State) (out out' : List ℕ) (first taken : Option (List ℕ)) → Within tale bytes rest kept n s out first taken
-    → None ≡ first_end rest → part ≡ rest → kept' ≡ take 1048577 (kept ++ part) → n' ≡ n → s' ≡ s → out' ≡ out → Within tale bytes [] kept' n' s' out' first taken
-within_rest tale bytes rest part kept kept' n n' s s' out out' first taken w none same k e f o =
+pub within_rest : (begun : State) (tale : RowText) (bytes rest part kept kept' : List ℕ) (n n' : ℕ) (s s' : State) (out out' : List ℕ) (first taken : Option (List ℕ)) → Within begun tale bytes rest kept n s out first taken
+    → None ≡ first_end rest → part ≡ rest → kept' ≡ take 1048577 (kept ++ part) → n' ≡ n → s' ≡ s → out' ≡ out → Within begun tale bytes [] kept' n' s' out' first taken
+within_rest begun tale bytes rest part kept kept' n n' s s' out out' first taken w none same k e f o =
     let p : Parts w.line rest None = subst (Parts w.line rest) (sym none) (parts w.line rest) in
-    let going : Going tale w.lines n' s' out' first taken = rw (e, f, o) w.going in
+    let going : Going begun tale w.lines n' s' out' first taken = rw (e, f, o) w.going in
     record {
       lines = w.lines;
       line = w.line ++ rest;
@@ -351,17 +360,17 @@ kept_line line part kept kept' k e =
     e ∙ (ap (λ (x : List ℕ). take 1048577 (x ++ part)) k ∙ kept_more 1048577 line part)
 
 -- a line of the piece was played
-pub within_line : (tale : RowText) (bytes rest rest' part kept kept' kept'' : List ℕ) (k n n' : ℕ) (s held : State) (out out' : List ℕ) (first taken taken' : Option (List ℕ)) → Within tale bytes rest kept n s out first taken
+pub within_line : (begun : State) (tale : RowText) (bytes rest rest' part kept kept' kept'' : List ℕ) (k n n' : ℕ) (s held : State) (out out' : List ℕ) (first taken taken' : Option (List ℕ)) → Within begun tale bytes rest kept n s out first taken
     → Some k ≡ first_end rest → part ≡ take k rest → rest' ≡ drop (suc k) rest → kept' ≡ take 1048577 (kept ++ part) → LineGoes tale (Ok tt) n kept' (row_of kept') s held out out' taken taken' → kept'' ≡ [] → n' ≡ n + 1
-    → Within tale bytes rest' kept'' n' held out' first taken'
-within_line tale bytes rest rest' part kept kept' kept'' k n n' s held out out' first taken taken' w some same left kept_is goes empty e =
+    → Within begun tale bytes rest' kept'' n' held out' first taken'
+within_line begun tale bytes rest rest' part kept kept' kept'' k n n' s held out out' first taken taken' w some same left kept_is goes empty e =
     let p : Parts w.line rest (Some k) = subst (Parts w.line rest) (sym some) (parts w.line rest) in
     let line = w.line ++ part in
     let played : LineGoes tale (Ok tt) n line (row_of line) s held out out' taken taken' = goes_whole tale (Ok tt) line kept' n s held out out' taken taken' (kept_line w.line part kept kept' w.kept_is kept_is) goes in
     record {
       lines = w.lines ++ line ∷ [];
       line = [];
-      going = going_by tale (row_of line) w.lines line n n' s held out out' first taken taken' refl w.going played e;
+      going = going_by begun tale (row_of line) w.lines line n n' s held out out' first taken taken' refl w.going played e;
       kept_is = empty;
       whole = w.whole
           ∙ (ap (λ (ls : List (List ℕ)). w.lines ++ ls) (p.1 ∙ (ap (λ (x : List ℕ). (w.line ++ x) ∷ whole_from [] (drop (suc k) rest)) (sym same) ∙ ap (λ (x : List ℕ). line ∷ whole_from [] x) (sym left)))
@@ -374,68 +383,80 @@ open_lines : (bytes : List ℕ) → lines_read false bytes ≡ whole_lines bytes
 open_lines bytes = append-nil (whole_lines bytes)
 
 -- the run halts at a line of the piece
-pub within_halts : (tale : RowText) (h : Halt) (bytes rest part kept kept' : List ℕ) (k n : ℕ) (s held : State) (out out' : List ℕ) (first taken taken' : Option (List ℕ)) → Within tale bytes rest kept n s out first taken
+pub within_halts : (begun : State) (tale : RowText) (h : Halt) (before bytes rest part kept kept' : List ℕ) (k n : ℕ) (s held : State) (out out' : List ℕ) (first taken taken' : Option (List ℕ)) → WithinPiece begun tale before bytes rest kept n s out first taken
     → Some k ≡ first_end rest → part ≡ take k rest → kept' ≡ take 1048577 (kept ++ part) → LineGoes tale (Err h) n kept' (row_of kept') s held out out' taken taken'
-    → Halts tale h (lines_read false bytes) out' first taken'
-within_halts tale h bytes rest part kept kept' k n s held out out' first taken taken' w some same kept_is goes =
-    let p : Parts w.line rest (Some k) = subst (Parts w.line rest) (sym some) (parts w.line rest) in
+    → Halts begun tale h (whole_lines before) (lines_read false bytes) out' first taken'
+within_halts begun tale h before bytes rest part kept kept' k n s held out out' first taken taken' p some same kept_is goes =
+    let w = p.within in
+    let cut : Parts w.line rest (Some k) = subst (Parts w.line rest) (sym some) (parts w.line rest) in
     let line = w.line ++ part in
     let more = whole_from [] (drop (suc k) rest) in
     let played : LineGoes tale (Err h) n line (row_of line) s held out out' taken taken' = goes_whole tale (Err h) line kept' n s held out out' taken taken' (kept_line w.line part kept kept' w.kept_is kept_is) goes in
     let lines : lines_read false bytes ≡ w.lines ++ line ∷ more =
-    open_lines bytes ∙ (w.whole ∙ ap (λ (ls : List (List ℕ)). w.lines ++ ls) (p.1 ∙ ap (λ (x : List ℕ). (w.line ++ x) ∷ more) (sym same))) in
-    subst (λ (ls : List (List ℕ)). Halts tale h ls out' first taken') (sym lines) (halts_by tale h (row_of line) w.lines line more n s held out out' first taken taken' refl w.going played)
+    open_lines bytes ∙ (w.whole ∙ ap (λ (ls : List (List ℕ)). w.lines ++ ls) (cut.1 ∙ ap (λ (x : List ℕ). (w.line ++ x) ∷ more) (sym same))) in
+    subst (λ (ls : List (List ℕ)). Halts begun tale h (whole_lines before) ls out' first taken') (sym lines) (halts_by begun tale h (row_of line) (whole_lines before) p.more w.lines line more n s held out out' first taken taken' p.lines_are refl w.going played)
 
 -- memory ran out before the line was kept
-pub within_waits : (tale : RowText) (bytes rest kept : List ℕ) (n : ℕ) (s : State) (out out' : List ℕ) (first taken : Option (List ℕ)) → Within tale bytes rest kept n s out first taken → out' ≡ out
-    → Halts tale Memory (lines_read false bytes) out' first taken
-within_waits tale bytes rest kept n s out out' first taken w o =
+pub within_waits : (begun : State) (tale : RowText) (before bytes rest kept : List ℕ) (n : ℕ) (s : State) (out out' : List ℕ) (first taken : Option (List ℕ)) → WithinPiece begun tale before bytes rest kept n s out first taken → out' ≡ out
+    → Halts begun tale Memory (whole_lines before) (lines_read false bytes) out' first taken
+within_waits begun tale before bytes rest kept n s out out' first taken p o =
+    let w = p.within in
     let lines : lines_read false bytes ≡ w.lines ++ whole_from w.line rest = open_lines bytes ∙ w.whole in
-    rw o (subst (λ (ls : List (List ℕ)). Halts tale Memory ls out first taken) (sym lines) (halts_waiting tale w.lines (whole_from w.line rest) n s out first taken w.going))
+    rw o (subst (λ (ls : List (List ℕ)). Halts begun tale Memory (whole_lines before) ls out first taken) (sym lines) (halts_waiting begun tale (whole_lines before) p.more w.lines (whole_from w.line rest) n s out first taken p.lines_are w.going))
 
 -- THE END
 
 -- the file ends, and its last line was played
-pub within_ends : (tale : RowText) (bytes kept : List ℕ) (n : ℕ) (s held : State) (out out' : List ℕ) (first taken taken' : Option (List ℕ)) → Within tale bytes [] kept n s out first taken
-    → LineGoes tale (Ok tt) n kept (row_of kept) s held out out' taken taken' → ((rows_of (lines_read true bytes)).bad ≡ None) × Prints tale (lines_read true bytes) out' first taken'
-within_ends tale bytes kept n s held out out' first taken taken' w goes =
+pub within_ends : (begun : State) (tale : RowText) (bytes kept : List ℕ) (n : ℕ) (s held : State) (out out' : List ℕ) (first taken taken' : Option (List ℕ)) → Within begun tale bytes [] kept n s out first taken
+    → LineGoes tale (Ok tt) n kept (row_of kept) s held out out' taken taken' → ((rows_of (lines_read true bytes)).bad ≡ None) × Prints begun tale (lines_read true bytes) out' first taken'
+within_ends begun tale bytes kept n s held out out' first taken taken' w goes =
     let played : LineGoes tale (Ok tt) n w.line (row_of w.line) s held out out' taken taken' = goes_whole tale (Ok tt) w.line kept n s held out out' taken taken' w.kept_is goes in
-    let going : Going tale (w.lines ++ w.line ∷ []) (n + 1) held out' first taken' = going_by tale (row_of w.line) w.lines w.line n (n + 1) s held out out' first taken taken' refl w.going played refl in
+    let going : Going begun tale (w.lines ++ w.line ∷ []) (n + 1) held out' first taken' = going_by begun tale (row_of w.line) w.lines w.line n (n + 1) s held out out' first taken taken' refl w.going played refl in
     let lines : lines_read true bytes ≡ w.lines ++ w.line ∷ [] = ap (λ (ls : List (List ℕ)). ls ++ last_from [] bytes ∷ []) (w.whole ∙ append-nil w.lines) ∙ ap (λ (x : List ℕ). w.lines ++ x ∷ []) w.last in
-    subst (λ (ls : List (List ℕ)). ((rows_of ls).bad ≡ None) × Prints tale ls out' first taken') (sym lines) (going.good, going.prints)
+    subst (λ (ls : List (List ℕ)). ((rows_of ls).bad ≡ None) × Prints begun tale ls out' first taken') (sym lines) (going.good, going.prints)
 
 -- and the switch is as its lines left it
-pub within_played : (tale : RowText) (bytes kept : List ℕ) (n : ℕ) (s held : State) (out out' : List ℕ) (first taken taken' : Option (List ℕ)) → Within tale bytes [] kept n s out first taken
-    → LineGoes tale (Ok tt) n kept (row_of kept) s held out out' taken taken' → ((rows_of (lines_read true bytes)).bad ≡ None) × (held ≡ (run (rows_of (lines_read true bytes)).events (start 1)).state)
-within_played tale bytes kept n s held out out' first taken taken' w goes =
+pub within_played : (begun : State) (tale : RowText) (bytes kept : List ℕ) (n : ℕ) (s held : State) (out out' : List ℕ) (first taken taken' : Option (List ℕ)) → Within begun tale bytes [] kept n s out first taken
+    → LineGoes tale (Ok tt) n kept (row_of kept) s held out out' taken taken' → ((rows_of (lines_read true bytes)).bad ≡ None) × (held ≡ (run (rows_of (lines_read true bytes)).events begun).state)
+within_played begun tale bytes kept n s held out out' first taken taken' w goes =
     let played : LineGoes tale (Ok tt) n w.line (row_of w.line) s held out out' taken taken' = goes_whole tale (Ok tt) w.line kept n s held out out' taken taken' w.kept_is goes in
-    let going : Going tale (w.lines ++ w.line ∷ []) (n + 1) held out' first taken' = going_by tale (row_of w.line) w.lines w.line n (n + 1) s held out out' first taken taken' refl w.going played refl in
+    let going : Going begun tale (w.lines ++ w.line ∷ []) (n + 1) held out' first taken' = going_by begun tale (row_of w.line) w.lines w.line n (n + 1) s held out out' first taken taken' refl w.going played refl in
     let lines : lines_read true bytes ≡ w.lines ++ w.line ∷ [] = ap (λ (ls : List (List ℕ)). ls ++ last_from [] bytes ∷ []) (w.whole ∙ append-nil w.lines) ∙ ap (λ (x : List ℕ). w.lines ++ x ∷ []) w.last in
-    subst (λ (ls : List (List ℕ)). ((rows_of ls).bad ≡ None) × (held ≡ (run (rows_of ls).events (start 1)).state)) (sym lines) (going.good, going.state)
+    subst (λ (ls : List (List ℕ)). ((rows_of ls).bad ≡ None) × (held ≡ (run (rows_of ls).events begun).state)) (sym lines) (going.good, going.state)
 
-pub within_end_halts : (tale : RowText) (h : Halt) (bytes kept : List ℕ) (n : ℕ) (s held : State) (out out' : List ℕ) (first taken taken' : Option (List ℕ)) → Within tale bytes [] kept n s out first taken
-    → LineGoes tale (Err h) n kept (row_of kept) s held out out' taken taken' → Halts tale h (lines_read true bytes) out' first taken'
-within_end_halts tale h bytes kept n s held out out' first taken taken' w goes =
+pub within_end_halts : (begun : State) (tale : RowText) (h : Halt) (bytes kept : List ℕ) (n : ℕ) (s held : State) (out out' : List ℕ) (first taken taken' : Option (List ℕ)) → Within begun tale bytes [] kept n s out first taken
+    → LineGoes tale (Err h) n kept (row_of kept) s held out out' taken taken' → Halts begun tale h (whole_lines bytes) (lines_read true bytes) out' first taken'
+within_end_halts begun tale h bytes kept n s held out out' first taken taken' w goes =
     let played : LineGoes tale (Err h) n w.line (row_of w.line) s held out out' taken taken' = goes_whole tale (Err h) w.line kept n s held out out' taken taken' w.kept_is goes in
     let lines : lines_read true bytes ≡ w.lines ++ w.line ∷ [] = ap (λ (ls : List (List ℕ)). ls ++ last_from [] bytes ∷ []) (w.whole ∙ append-nil w.lines) ∙ ap (λ (x : List ℕ). w.lines ++ x ∷ []) w.last in
-    subst (λ (ls : List (List ℕ)). Halts tale h ls out' first taken') (sym lines) (halts_by tale h (row_of w.line) w.lines w.line [] n s held out out' first taken taken' refl w.going played)
+    let all : w.lines ≡ whole_lines bytes ++ [] = sym (append-nil (whole_lines bytes) ∙ (w.whole ∙ append-nil w.lines)) in
+    subst (λ (ls : List (List ℕ)). Halts begun tale h (whole_lines bytes) ls out' first taken') (sym lines) (halts_by begun tale h (row_of w.line) (whole_lines bytes) [] w.lines w.line [] n s held out out' first taken taken' all refl w.going played)
 
 -- the source tells no end: the line that has begun is none
-pub within_open : (tale : RowText) (bytes kept : List ℕ) (n : ℕ) (s : State) (out : List ℕ) (first taken : Option (List ℕ)) → Within tale bytes [] kept n s out first taken
-    → ((rows_of (lines_read false bytes)).bad ≡ None) × Prints tale (lines_read false bytes) out first taken
-within_open tale bytes kept n s out first taken w =
+pub within_open : (begun : State) (tale : RowText) (bytes kept : List ℕ) (n : ℕ) (s : State) (out : List ℕ) (first taken : Option (List ℕ)) → Within begun tale bytes [] kept n s out first taken
+    → ((rows_of (lines_read false bytes)).bad ≡ None) × Prints begun tale (lines_read false bytes) out first taken
+within_open begun tale bytes kept n s out first taken w =
     let lines : lines_read false bytes ≡ w.lines = open_lines bytes ∙ (w.whole ∙ append-nil w.lines) in
-    subst (λ (ls : List (List ℕ)). ((rows_of ls).bad ≡ None) × Prints tale ls out first taken) (sym lines) (w.going.good, w.going.prints)
+    subst (λ (ls : List (List ℕ)). ((rows_of ls).bad ≡ None) × Prints begun tale ls out first taken) (sym lines) (w.going.good, w.going.prints)
 
 -- STEPS OF A PIECE
 
 -- no line ends in what is left
-pub piece_over : (tale : RowText) (r : Result (Unit {0}) Halt) (bytes rest part kept kept' : List ℕ) (n n' : ℕ) (s s' : State) (out out' : List ℕ) (first taken : Option (List ℕ)) → Within tale bytes rest kept n s out first taken
-    → None ≡ first_end part → part ≡ rest → OnOk r (kept' ≡ take 1048577 (kept ++ part)) → IfErr r (λ halt. halt ≡ Memory) → (n' ≡ n) × (s' ≡ s) × (out' ≡ out) → PieceGoes tale r bytes kept' n' s' out' first taken
-piece_over tale (Ok u) bytes rest part kept kept' n n' s s' out out' first taken w none same ok err e =
-    within_rest tale bytes rest part kept kept' n n' s s' out out' first taken w (none ∙ ap first_end same) same ok e.0 e.1 e.2
-piece_over tale (Err h) bytes rest part kept kept' n n' s s' out out' first taken w none same ok err e =
-    subst (λ (x : Halt). Halts tale x (lines_read false bytes) out' first taken) (sym err) (within_waits tale bytes rest kept n s out out' first taken w e.2)
+pub piece_over : (begun : State) (tale : RowText) (r : Result (Unit {0}) Halt) (before bytes rest part kept kept' : List ℕ) (n n' : ℕ) (s s' : State) (out out' : List ℕ) (first taken : Option (List ℕ)) → WithinPiece begun tale before bytes rest kept n s out first taken
+    → None ≡ first_end part → part ≡ rest → OnOk r (kept' ≡ take 1048577 (kept ++ part)) → IfErr r (λ halt. halt ≡ Memory) → (n' ≡ n) × (s' ≡ s) × (out' ≡ out) → PieceGoes begun tale r before bytes kept' n' s' out' first taken
+piece_over begun tale (Ok u) before bytes rest part kept kept' n n' s s' out out' first taken p none same ok err e =
+    within_rest begun tale bytes rest part kept kept' n n' s s' out out' first taken p.within (none ∙ ap first_end same) same ok e.0 e.1 e.2
+piece_over begun tale (Err h) before bytes rest part kept kept' n n' s s' out out' first taken p none same ok err e =
+    subst (λ (x : Halt). Halts begun tale x (whole_lines before) (lines_read false bytes) out' first taken) (sym err) (within_waits begun tale before bytes rest kept n s out out' first taken p e.2)
+
+-- a piece begins
+pub piece_begun : (begun : State) (tale : RowText) (bytes piece kept : List ℕ) (n : ℕ) (s : State) (out : List ℕ) (first taken : Option (List ℕ)) → Within begun tale bytes [] kept n s out first taken → WithinPiece begun tale bytes (bytes ++ piece) piece kept n s out first taken
+unfolding within_more
+piece_begun begun tale bytes piece kept n s out first taken w = record {
+  within = within_more begun tale bytes piece kept n s out first taken w;
+  more = [];
+  lines_are = sym (append-nil (whole_lines bytes) ∙ (w.whole ∙ append-nil w.lines));
+}
 
 pub piece_place : (piece rest : List ℕ) (at k : ℕ) → at ≤ length piece → rest ≡ drop at piece → Some k ≡ first_end rest → at + (k + 1) ≤ length piece
 piece_place piece rest at k le is some =
@@ -443,17 +464,23 @@ piece_place piece rest at k le is some =
     let size : length rest ≡ length piece - at = ap length is ∙ length-drop at piece in
     omega (arith, p.0, size, le)
 
-pub piece_line : (tale : RowText) (bytes piece rest part kept kept' kept'' : List ℕ) (at k n n' n'' : ℕ) (s s' held : State) (out out' out'' : List ℕ) (first taken taken' : Option (List ℕ)) → Within tale bytes (drop at piece) kept n s out first taken
+pub piece_line : (begun : State) (tale : RowText) (before bytes piece rest part kept kept' kept'' : List ℕ) (at k n n' n'' : ℕ) (s s' held : State) (out out' out'' : List ℕ) (first taken taken' : Option (List ℕ)) → WithinPiece begun tale before bytes (drop at piece) kept n s out first taken
     → rest ≡ drop at piece → Some k ≡ first_end rest → part ≡ take k rest → kept' ≡ take 1048577 (kept ++ part) → (n' ≡ n) × (s' ≡ s) × (out' ≡ out)
-    → LineGoes tale (Ok tt) n' kept' (row_of kept') s' held out' out'' taken taken' → kept'' ≡ [] → n'' ≡ n' + 1 → Within tale bytes (drop (at + (k + 1)) piece) kept'' n'' held out'' first taken'
-piece_line tale bytes piece rest part kept kept' kept'' at k n n' n'' s s' held out out' out'' first taken taken' w is some same kept_is e goes empty number =
-    let here : Within tale bytes (drop at piece) kept n' s' out' first taken = rw (e.0, e.1, e.2) w in
+    → LineGoes tale (Ok tt) n' kept' (row_of kept') s' held out' out'' taken taken' → kept'' ≡ [] → n'' ≡ n' + 1 → WithinPiece begun tale before bytes (drop (at + (k + 1)) piece) kept'' n'' held out'' first taken'
+unfolding within_line
+piece_line begun tale before bytes piece rest part kept kept' kept'' at k n n' n'' s s' held out out' out'' first taken taken' p is some same kept_is e goes empty number =
+    let here : WithinPiece begun tale before bytes (drop at piece) kept n' s' out' first taken = rw (e.0, e.1, e.2) p in
     let left : drop (at + (k + 1)) piece ≡ drop (suc k) (drop at piece) = sym (drop-drop (suc k) at piece ∙ ap (λ (m : ℕ). drop m piece) (omega arith)) in
-    within_line tale bytes (drop at piece) (drop (at + (k + 1)) piece) part kept kept' kept'' k n' n'' s' held out' out'' first taken taken' here (some ∙ ap first_end is) (same ∙ ap (take k) is) left kept_is goes empty number
+    let line = here.within.line ++ part in
+    record {
+      within = within_line begun tale bytes (drop at piece) (drop (at + (k + 1)) piece) part kept kept' kept'' k n' n'' s' held out' out'' first taken taken' here.within (some ∙ ap first_end is) (same ∙ ap (take k) is) left kept_is goes empty number;
+      more = here.more ++ line ∷ [];
+      lines_are = ap (λ (ls : List (List ℕ)). ls ++ line ∷ []) here.lines_are ∙ append_assoc (whole_lines before) here.more (line ∷ []);
+    }
 
-pub piece_halts : (tale : RowText) (h : Halt) (bytes piece rest part kept kept' : List ℕ) (at k n n' : ℕ) (s s' held : State) (out out' out'' : List ℕ) (first taken taken' : Option (List ℕ)) → Within tale bytes (drop at piece) kept n s out first taken
+pub piece_halts : (begun : State) (tale : RowText) (h : Halt) (before bytes piece rest part kept kept' : List ℕ) (at k n n' : ℕ) (s s' held : State) (out out' out'' : List ℕ) (first taken taken' : Option (List ℕ)) → WithinPiece begun tale before bytes (drop at piece) kept n s out first taken
     → rest ≡ drop at piece → Some k ≡ first_end rest → part ≡ take k rest → kept' ≡ take 1048577 (kept ++ part) → (n' ≡ n) × (s' ≡ s) × (out' ≡ out)
-    → LineGoes tale (Err h) n' kept' (row_of kept') s' held out' out'' taken taken' → Halts tale h (lines_read false bytes) out'' first taken'
-piece_halts tale h bytes piece rest part kept kept' at k n n' s s' held out out' out'' first taken taken' w is some same kept_is e goes =
-    let here : Within tale bytes (drop at piece) kept n' s' out' first taken = rw (e.0, e.1, e.2) w in
-    within_halts tale h bytes (drop at piece) part kept kept' k n' s' held out' out'' first taken taken' here (some ∙ ap first_end is) (same ∙ ap (take k) is) kept_is goes
+    → LineGoes tale (Err h) n' kept' (row_of kept') s' held out' out'' taken taken' → Halts begun tale h (whole_lines before) (lines_read false bytes) out'' first taken'
+piece_halts begun tale h before bytes piece rest part kept kept' at k n n' s s' held out out' out'' first taken taken' p is some same kept_is e goes =
+    let here : WithinPiece begun tale before bytes (drop at piece) kept n' s' out' first taken = rw (e.0, e.1, e.2) p in
+    within_halts begun tale h before bytes (drop at piece) part kept kept' k n' s' held out' out'' first taken taken' here (some ∙ ap first_end is) (same ∙ ap (take k) is) kept_is goes

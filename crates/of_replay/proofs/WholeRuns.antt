@@ -1,9 +1,11 @@
 -- A whole run, from what was read to what was written.
 use Rattle.std.proofs.Common.{◌≡◌, ℕ, ◌+◌, Bool, true, false, List, [], ◌∷◌, ◌++◌, Option, None, Result, Ok, Err, refl, sym, ◌∙◌, ap, subst, arith, inl, inr, ◌<◌, ◌≤◌, take, length}
 use Rattle.std.proofs.lemmas.List.{append-nil, length-take-le}
-use Rattle.std.specs.Prelude.{nat_lt, ◌⊎◌, ◌↔◌, OnOk}
+use Rattle.std.specs.Prelude.{nat_lt, ◌⊎◌, ◌↔◌, OnOk, OnErr, IfErr}
 use Rattle.std.proofs.lemmas.Bool.Decides.{nat_tests}
-use Rattle.of_switch.specs.State.{State, start}
+use Rattle.of_switch.specs.declared.event.Event.{Event}
+use Rattle.of_switch.specs.State.{State}
+use Rattle.of_replay.specs.Lexing.{whole_lines}
 use Rattle.of_replay.specs.declared.halt.Halt.{Halt}
 use Rattle.of_replay.specs.declared.halt.Halt.TheVariants.{Bad, Memory, Read, Write}
 use Rattle.of_replay.specs.declared.event_file.Ended.{Ended}
@@ -11,19 +13,19 @@ use Rattle.of_replay.specs.declared.event_file.Ended.TheVariants.{Done, BadRow, 
 use Rattle.of_replay.specs.Told.{Answer, Gave, then_bytes, then_answer, bytes_of, given}
 use Rattle.of_replay.specs.Transfer.{then_answers, WrotePrefix}
 use Rattle.of_replay.specs.Rows.{row_of, rows_of}
-use Rattle.of_replay.specs.Play.{lines_read, Wrote, Replays, Ends}
+use Rattle.of_replay.specs.Play.{lines_read, but_last, earlier_lines, Wrote, Replays, Ends}
 use Rattle.of_replay.specs.RowTexts.{RowText, Tells, EndsPrinting, plain, told}
 use Rattle.of_replay.specs.Stepping.{LineGoes, Prints, Within, Halts, PieceGoes, Plays, PlayedAll, PlaysRead, ReadSoFar, WritesFail, ReadsFail, ended_so}
-use Rattle.of_replay.proofs.Lines.{within_start, within_ends, within_played, within_end_halts, within_open, prints_front, tale_join, plain_is, rows_more}
+use Rattle.of_replay.proofs.Lines.{within_start, within_ends, within_played, within_end_halts, within_open, prints_front, tale_join, plain_is, rows_more, good_front}
 use Rattle.of_replay.proofs.TellingLemmas.{then-then, then-nil, answers-nil, answers-more, given-more}
 
 -- READING
 
-pub read_nothing : (tale : RowText) (answers : Option (List Answer)) (first : Option (List ℕ)) → ReadSoFar tale answers answers [] 1 (start 1) [] first first
-read_nothing tale answers first = record { more = []; answers_are = sym (answers-nil answers); within = within_start tale first }
+pub read_nothing : (begun : State) (tale : RowText) (answers : Option (List Answer)) (first : Option (List ℕ)) → ReadSoFar begun tale answers answers [] 1 begun [] first first
+read_nothing begun tale answers first = record { more = []; answers_are = sym (answers-nil answers); within = within_start begun tale first }
 
-pub read_begun : (tale : RowText) (answers : Option (List Answer)) (kept : List ℕ) (n : ℕ) (s : State) (out : List ℕ) (first : Option (List ℕ)) → (kept ≡ []) × (n ≡ 1) × (s ≡ start 1) × (out ≡ []) → ReadSoFar tale answers answers kept n s out first first
-read_begun tale answers kept n s out first e = rw (e.0, e.1, e.2, e.3) (read_nothing tale answers first)
+pub read_begun : (begun : State) (tale : RowText) (answers : Option (List Answer)) (kept : List ℕ) (n : ℕ) (s : State) (out : List ℕ) (first : Option (List ℕ)) → (kept ≡ []) × (n ≡ 1) × (s ≡ begun) × (out ≡ []) → ReadSoFar begun tale answers answers kept n s out first first
+read_begun begun tale answers kept n s out first e = rw (e.0, e.1, e.2, e.3) (read_nothing begun tale answers first)
 
 pub piece_size : (n : ℕ) (buffer piece : List ℕ) → piece ≡ take n buffer → n ≤ length buffer → length buffer ≡ 65536 → length piece ≤ 65536
 piece_size n buffer piece is le size =
@@ -31,11 +33,11 @@ piece_size n buffer piece is le size =
     omega (arith, same, le, size)
 
 -- no read fails in a piece
-pub piece_reads : (tale : RowText) (h : Halt) (lines : List (List ℕ)) (out : List ℕ) (first taken : Option (List ℕ)) (reads ends ends' failures failures' : ℕ) → Halts tale h lines out first taken → failures' ≡ failures → ReadsFail (Err h) reads ends ends' failures failures'
-piece_reads tale (Bad n) lines out first taken reads ends ends' failures failures' h e = e
-piece_reads tale Memory lines out first taken reads ends ends' failures failures' h e = e
-piece_reads tale Read lines out first taken reads ends ends' failures failures' h e = absurd h
-piece_reads tale Write lines out first taken reads ends ends' failures failures' h e = omega (arith, e)
+pub piece_reads : (begun : State) (tale : RowText) (h : Halt) (earlier lines : List (List ℕ)) (out : List ℕ) (first taken : Option (List ℕ)) (reads ends ends' failures failures' : ℕ) → Halts begun tale h earlier lines out first taken → failures' ≡ failures → ReadsFail (Err h) reads ends ends' failures failures'
+piece_reads begun tale (Bad n) earlier lines out first taken reads ends ends' failures failures' h e = e
+piece_reads begun tale Memory earlier lines out first taken reads ends ends' failures failures' h e = e
+piece_reads begun tale Read earlier lines out first taken reads ends ends' failures failures' h e = absurd h
+piece_reads begun tale Write earlier lines out first taken reads ends ends' failures failures' h e = omega (arith, e)
 
 -- an answer more
 pub told_more : (answers now next : Option (List Answer)) (more : List Answer) (one : Answer) → now ≡ then_answers answers more → next ≡ then_answer now one → next ≡ then_answers answers (more ++ one ∷ [])
@@ -45,21 +47,21 @@ told_more answers now next more one is e = e ∙ (ap (λ (t : Option (List Answe
 pub given_same : (more : List Answer) (one : Answer) → bytes_of one ≡ [] → given (more ++ one ∷ []) ≡ given more
 given_same more one e = given-more more one ∙ (ap (λ (x : List ℕ). given more ++ x) e ∙ append-nil (given more))
 
-pub read_idle : (tale : RowText) (answers now next : Option (List Answer)) (one : Answer) (kept : List ℕ) (n : ℕ) (s : State) (out : List ℕ) (first taken : Option (List ℕ)) → ReadSoFar tale answers now kept n s out first taken
-    → next ≡ then_answer now one → bytes_of one ≡ [] → ReadSoFar tale answers next kept n s out first taken
-read_idle tale answers now next one kept n s out first taken r e none = record {
+pub read_idle : (begun : State) (tale : RowText) (answers now next : Option (List Answer)) (one : Answer) (kept : List ℕ) (n : ℕ) (s : State) (out : List ℕ) (first taken : Option (List ℕ)) → ReadSoFar begun tale answers now kept n s out first taken
+    → next ≡ then_answer now one → bytes_of one ≡ [] → ReadSoFar begun tale answers next kept n s out first taken
+read_idle begun tale answers now next one kept n s out first taken r e none = record {
   more = r.more ++ one ∷ [];
   answers_are = told_more answers now next r.more one r.answers_are e;
-  within = subst (λ (x : List ℕ). Within tale x [] kept n s out first taken) (sym (given_same r.more one none)) r.within;
+  within = subst (λ (x : List ℕ). Within begun tale x [] kept n s out first taken) (sym (given_same r.more one none)) r.within;
 }
 
 -- a piece was read and played
-pub read_piece : (tale : RowText) (answers now next : Option (List Answer)) (piece kept kept' : List ℕ) (n n' : ℕ) (s s' : State) (out out' : List ℕ) (first taken taken' : Option (List ℕ)) → (r : ReadSoFar tale answers now kept n s out first taken)
-    → next ≡ then_answer now (Gave piece) → PieceGoes tale (Ok tt) (given r.more ++ piece) kept' n' s' out' first taken' → ReadSoFar tale answers next kept' n' s' out' first taken'
-read_piece tale answers now next piece kept kept' n n' s s' out out' first taken taken' r e goes = record {
+pub read_piece : (begun : State) (tale : RowText) (answers now next : Option (List Answer)) (piece kept kept' : List ℕ) (n n' : ℕ) (s s' : State) (out out' : List ℕ) (first taken taken' : Option (List ℕ)) → (r : ReadSoFar begun tale answers now kept n s out first taken)
+    → next ≡ then_answer now (Gave piece) → PieceGoes begun tale (Ok tt) (given r.more) (given r.more ++ piece) kept' n' s' out' first taken' → ReadSoFar begun tale answers next kept' n' s' out' first taken'
+read_piece begun tale answers now next piece kept kept' n n' s s' out out' first taken taken' r e goes = record {
   more = r.more ++ Gave piece ∷ [];
   answers_are = told_more answers now next r.more (Gave piece) r.answers_are e;
-  within = subst (λ (x : List ℕ). Within tale x [] kept' n' s' out' first taken') (sym (given-more r.more (Gave piece))) goes;
+  within = subst (λ (x : List ℕ). Within begun tale x [] kept' n' s' out' first taken') (sym (given-more r.more (Gave piece))) goes;
 }
 
 pub not_ended : (ends ends' : ℕ) → ends' ≡ ends → nat_lt ends ends' ≡ false
@@ -68,140 +70,177 @@ not_ended ends ends' e = grind (arith, nat_tests, e)
 pub is_ended : (ends ends' : ℕ) → ends' ≡ ends + 1 → nat_lt ends ends' ≡ true
 is_ended ends ends' e = grind (arith, nat_tests, e)
 
-plays_halt : (tale : RowText) (h : Halt) (ended : Bool) (lines : List (List ℕ)) (out : List ℕ) (first taken : Option (List ℕ)) → Halts tale h lines out first taken → Plays tale (Err h) ended lines out first taken
-plays_halt tale (Bad n) ended lines out first taken h = h
-plays_halt tale Memory ended lines out first taken h = h
-plays_halt tale Read ended lines out first taken h = absurd h
-plays_halt tale Write ended lines out first taken h = h
+plays_halt : (begun : State) (tale : RowText) (h : Halt) (ended : Bool) (earlier lines : List (List ℕ)) (out : List ℕ) (first taken : Option (List ℕ)) → Halts begun tale h earlier lines out first taken → Plays begun tale (Err h) ended earlier lines out first taken
+plays_halt begun tale (Bad n) ended earlier lines out first taken h = h
+plays_halt begun tale Memory ended earlier lines out first taken h = h
+plays_halt begun tale Read ended earlier lines out first taken h = absurd h
+plays_halt begun tale Write ended earlier lines out first taken h = h
 
-plays_read : (tale : RowText) (result : Result (Unit {0}) Halt) (answers answers' : Option (List Answer)) (ends ends' : ℕ) (more : List Answer) (bytes out : List ℕ) (first taken : Option (List ℕ)) (ended : Bool) → answers' ≡ then_answers answers more → nat_lt ends ends' ≡ ended
-    → given more ≡ bytes → Plays tale result ended (lines_read ended bytes) out first taken → PlaysRead tale result answers answers' ends ends' out first taken
-plays_read tale result answers answers' ends ends' more bytes out first taken ended is e g plays = record {
+plays_read : (begun : State) (tale : RowText) (result : Result (Unit {0}) Halt) (answers answers' : Option (List Answer)) (ends ends' : ℕ) (more : List Answer) (earlier : List (List ℕ)) (bytes out : List ℕ) (first taken : Option (List ℕ)) (ended : Bool) → answers' ≡ then_answers answers more → nat_lt ends ends' ≡ ended
+    → given more ≡ bytes → earlier_lines more ≡ earlier → Plays begun tale result ended earlier (lines_read ended bytes) out first taken → PlaysRead begun tale result answers answers' ends ends' out first taken
+plays_read begun tale result answers answers' ends ends' more earlier bytes out first taken ended is e g before plays = record {
   more = more;
   answers_are = is;
-  plays = subst (λ (t : Bool). Plays tale result t (lines_read t (given more)) out first taken) (sym e)
-      (subst (λ (f : List ℕ). Plays tale result ended (lines_read ended f) out first taken) (sym g) plays);
+  plays = subst (λ (t : Bool). Plays begun tale result t (earlier_lines more) (lines_read t (given more)) out first taken) (sym e)
+      (subst (λ (f : List ℕ). Plays begun tale result ended (earlier_lines more) (lines_read ended f) out first taken) (sym g)
+      (subst (λ (ls : List (List ℕ)). Plays begun tale result ended ls (lines_read ended bytes) out first taken) (sym before) plays));
 }
 
+but_last_more : (more : List Answer) (one : Answer) → but_last (more ++ one ∷ []) ≡ more
+but_last_more [] one = refl
+but_last_more (a ∷ []) one = refl
+but_last_more (a ∷ b ∷ others) one = ap (λ (x : List Answer). a ∷ x) (but_last_more (b ∷ others) one)
+
+-- the lines that were whole before one read more
+before_one : (more : List Answer) (one : Answer) → earlier_lines (more ++ one ∷ []) ≡ whole_lines (given more)
+before_one more one = ap (λ (x : List Answer). whole_lines (given x)) (but_last_more more one)
+
 -- the run halts in a piece
-pub read_halts : (tale : RowText) (h : Halt) (answers now next : Option (List Answer)) (ends ends' : ℕ) (piece kept kept' : List ℕ) (n n' : ℕ) (s s' : State) (out out' : List ℕ) (first taken taken' : Option (List ℕ)) → (r : ReadSoFar tale answers now kept n s out first taken)
-    → next ≡ then_answer now (Gave piece) → ends' ≡ ends → PieceGoes tale (Err h) (given r.more ++ piece) kept' n' s' out' first taken' → PlaysRead tale (Err h) answers next ends ends' out' first taken'
-read_halts tale h answers now next ends ends' piece kept kept' n n' s s' out out' first taken taken' r e same halts =
-    plays_read tale (Err h) answers next ends ends' (r.more ++ Gave piece ∷ []) (given r.more ++ piece) out' first taken' false (told_more answers now next r.more (Gave piece) r.answers_are e) (not_ended ends ends' same)
-    (given-more r.more (Gave piece)) (plays_halt tale h false (lines_read false (given r.more ++ piece)) out' first taken' halts)
+pub read_halts : (begun : State) (tale : RowText) (h : Halt) (answers now next : Option (List Answer)) (ends ends' : ℕ) (piece kept kept' : List ℕ) (n n' : ℕ) (s s' : State) (out out' : List ℕ) (first taken taken' : Option (List ℕ)) → (r : ReadSoFar begun tale answers now kept n s out first taken)
+    → next ≡ then_answer now (Gave piece) → ends' ≡ ends → PieceGoes begun tale (Err h) (given r.more) (given r.more ++ piece) kept' n' s' out' first taken' → PlaysRead begun tale (Err h) answers next ends ends' out' first taken'
+read_halts begun tale h answers now next ends ends' piece kept kept' n n' s s' out out' first taken taken' r e same halts =
+    plays_read begun tale (Err h) answers next ends ends' (r.more ++ Gave piece ∷ []) (whole_lines (given r.more)) (given r.more ++ piece) out' first taken' false (told_more answers now next r.more (Gave piece) r.answers_are e) (not_ended ends ends' same)
+    (given-more r.more (Gave piece)) (before_one r.more (Gave piece)) (plays_halt begun tale h false (whole_lines (given r.more)) (lines_read false (given r.more ++ piece)) out' first taken' halts)
 
 -- the source's end was read
-ends_by : (tale : RowText) (result : Result (Unit {0}) Halt) (bytes kept : List ℕ) (n : ℕ) (s held : State) (out out' : List ℕ) (first taken taken' : Option (List ℕ)) → Within tale bytes [] kept n s out first taken
-    → LineGoes tale result n kept (row_of kept) s held out out' taken taken' → Plays tale result true (lines_read true bytes) out' first taken'
-ends_by tale (Ok u) bytes kept n s held out out' first taken taken' w goes = let h = within_ends tale bytes kept n s held out out' first taken taken' w goes in (refl, h.0, h.1)
-ends_by tale (Err h) bytes kept n s held out out' first taken taken' w goes =
-    plays_halt tale h true (lines_read true bytes) out' first taken' (within_end_halts tale h bytes kept n s held out out' first taken taken' w goes)
+ends_by : (begun : State) (tale : RowText) (result : Result (Unit {0}) Halt) (bytes kept : List ℕ) (n : ℕ) (s held : State) (out out' : List ℕ) (first taken taken' : Option (List ℕ)) → Within begun tale bytes [] kept n s out first taken
+    → LineGoes tale result n kept (row_of kept) s held out out' taken taken' → Plays begun tale result true (whole_lines bytes) (lines_read true bytes) out' first taken'
+ends_by begun tale (Ok u) bytes kept n s held out out' first taken taken' w goes = let h = within_ends begun tale bytes kept n s held out out' first taken taken' w goes in (refl, h.0, h.1)
+ends_by begun tale (Err h) bytes kept n s held out out' first taken taken' w goes =
+    plays_halt begun tale h true (whole_lines bytes) (lines_read true bytes) out' first taken' (within_end_halts begun tale h bytes kept n s held out out' first taken taken' w goes)
 
-pub read_ends : (tale : RowText) (result : Result (Unit {0}) Halt) (answers now next : Option (List Answer)) (one : Answer) (ends ends' : ℕ) (kept : List ℕ) (n : ℕ) (s held : State) (out out' : List ℕ) (first taken taken' : Option (List ℕ)) → ReadSoFar tale answers now kept n s out first taken
-    → next ≡ then_answer now one → bytes_of one ≡ [] → ends' ≡ ends + 1 → LineGoes tale result n kept (row_of kept) s held out out' taken taken' → PlaysRead tale result answers next ends ends' out' first taken'
-read_ends tale result answers now next one ends ends' kept n s held out out' first taken taken' r e none ended goes =
-    plays_read tale result answers next ends ends' (r.more ++ one ∷ []) (given r.more) out' first taken' true (told_more answers now next r.more one r.answers_are e) (is_ended ends ends' ended)
-    (given_same r.more one none) (ends_by tale result (given r.more) kept n s held out out' first taken taken' r.within goes)
+pub read_ends : (begun : State) (tale : RowText) (result : Result (Unit {0}) Halt) (answers now next : Option (List Answer)) (one : Answer) (ends ends' : ℕ) (kept : List ℕ) (n : ℕ) (s held : State) (out out' : List ℕ) (first taken taken' : Option (List ℕ)) → ReadSoFar begun tale answers now kept n s out first taken
+    → next ≡ then_answer now one → bytes_of one ≡ [] → ends' ≡ ends + 1 → LineGoes tale result n kept (row_of kept) s held out out' taken taken' → PlaysRead begun tale result answers next ends ends' out' first taken'
+read_ends begun tale result answers now next one ends ends' kept n s held out out' first taken taken' r e none ended goes =
+    plays_read begun tale result answers next ends ends' (r.more ++ one ∷ []) (whole_lines (given r.more)) (given r.more) out' first taken' true (told_more answers now next r.more one r.answers_are e) (is_ended ends ends' ended)
+    (given_same r.more one none) (before_one r.more one) (ends_by begun tale result (given r.more) kept n s held out out' first taken taken' r.within goes)
 
 -- all lines were played
-pub read_played : (tale : RowText) (result : Result (Unit {0}) Halt) (answers now next : Option (List Answer)) (one : Answer) (kept : List ℕ) (n : ℕ) (s held : State) (out out' : List ℕ) (first taken taken' : Option (List ℕ)) → ReadSoFar tale answers now kept n s out first taken
-    → next ≡ then_answer now one → bytes_of one ≡ [] → LineGoes tale result n kept (row_of kept) s held out out' taken taken' → OnOk result (PlayedAll answers next held)
-read_played tale (Ok u) answers now next one kept n s held out out' first taken taken' r e none goes =
-    let h = within_played tale (given r.more) kept n s held out out' first taken taken' r.within goes in
+pub read_played : (begun : State) (tale : RowText) (result : Result (Unit {0}) Halt) (answers now next : Option (List Answer)) (one : Answer) (kept : List ℕ) (n : ℕ) (s held : State) (out out' : List ℕ) (first taken taken' : Option (List ℕ)) → ReadSoFar begun tale answers now kept n s out first taken
+    → next ≡ then_answer now one → bytes_of one ≡ [] → LineGoes tale result n kept (row_of kept) s held out out' taken taken' → OnOk result (PlayedAll begun answers next held)
+read_played begun tale (Ok u) answers now next one kept n s held out out' first taken taken' r e none goes =
+    let h = within_played begun tale (given r.more) kept n s held out out' first taken taken' r.within goes in
     let same : given (r.more ++ one ∷ []) ≡ given r.more = given_same r.more one none in
     record { more = r.more ++ one ∷ []; answers_are = told_more answers now next r.more one r.answers_are e; good = rw same h.0; state = rw same h.1 }
-read_played tale (Err h) answers now next one kept n s held out out' first taken taken' r e none goes = tt
+read_played begun tale (Err h) answers now next one kept n s held out out' first taken taken' r e none goes = tt
 
 -- it did not
-pub read_stops : (tale : RowText) (answers now : Option (List Answer)) (ends ends' : ℕ) (kept : List ℕ) (n : ℕ) (s : State) (out : List ℕ) (first taken : Option (List ℕ)) → ReadSoFar tale answers now kept n s out first taken
-    → ends' ≡ ends → PlaysRead tale (Err Read) answers now ends ends' out first taken
-read_stops tale answers now ends ends' kept n s out first taken r same =
-    let h = within_open tale (given r.more) kept n s out first taken r.within in
-    plays_read tale (Err Read) answers now ends ends' r.more (given r.more) out first taken false r.answers_are (not_ended ends ends' same) refl (refl, h.0, h.1)
+pub read_stops : (begun : State) (tale : RowText) (answers now : Option (List Answer)) (ends ends' : ℕ) (kept : List ℕ) (n : ℕ) (s : State) (out : List ℕ) (first taken : Option (List ℕ)) → ReadSoFar begun tale answers now kept n s out first taken
+    → ends' ≡ ends → PlaysRead begun tale (Err Read) answers now ends ends' out first taken
+read_stops begun tale answers now ends ends' kept n s out first taken r same =
+    let h = within_open begun tale (given r.more) kept n s out first taken r.within in
+    plays_read begun tale (Err Read) answers now ends ends' r.more (earlier_lines r.more) (given r.more) out first taken false r.answers_are (not_ended ends ends' same) refl refl (refl, h.0, h.1)
 
 -- WRITING
 
-wrote_all : (tale : RowText) (lines : List (List ℕ)) (out : List ℕ) (first taken taken' : Option (List ℕ)) → Prints tale lines out first taken → taken' ≡ then_bytes taken out → taken' ≡ then_bytes first (told tale lines)
-wrote_all tale lines out first taken taken' p e =
+wrote_all : (begun : State) (tale : RowText) (lines : List (List ℕ)) (out : List ℕ) (first taken taken' : Option (List ℕ)) → Prints begun tale lines out first taken → taken' ≡ then_bytes taken out → taken' ≡ then_bytes first (told begun tale lines)
+wrote_all begun tale lines out first taken taken' p e =
     e ∙ (ap (λ (k : Option (List ℕ)). then_bytes k out) p.taken_is ∙ (then-then first p.wrote out ∙ ap (then_bytes first) p.text_is))
 
-ends_wrote : (tale : RowText) (result : Result (Unit {0}) Halt) (ended : Bool) (lines : List (List ℕ)) (out : List ℕ) (first taken taken' : Option (List ℕ)) → Plays tale result ended lines out first taken → (result ≡ Err Write → ⊥) → taken' ≡ then_bytes taken out
-    → EndsPrinting tale (ended_so result) ended lines first taken'
-ends_wrote tale (Ok u) ended lines out first taken taken' p not e = (p.0, p.1, wrote_all tale lines out first taken taken' p.2 e)
-ends_wrote tale (Err (Bad n)) ended lines out first taken taken' p not e = (p.0, wrote_all tale lines out first taken taken' p.1 e)
-ends_wrote tale (Err Memory) ended lines out first taken taken' p not e = record { first = p.front; others = p.others; lines_are = p.lines_are; good = p.good; wrote = wrote_all tale p.front out first taken taken' p.prints e }
-ends_wrote tale (Err Read) ended lines out first taken taken' p not e = (p.0, p.1, wrote_all tale lines out first taken taken' p.2 e)
-ends_wrote tale (Err Write) ended lines out first taken taken' p not e = absurd (not refl)
+ends_wrote : (begun : State) (tale : RowText) (result : Result (Unit {0}) Halt) (ended : Bool) (earlier lines : List (List ℕ)) (out : List ℕ) (first taken taken' : Option (List ℕ)) → Plays begun tale result ended earlier lines out first taken → (result ≡ Err Write → ⊥) → taken' ≡ then_bytes taken out
+    → EndsPrinting begun tale (ended_so result) ended earlier lines first taken'
+ends_wrote begun tale (Ok u) ended earlier lines out first taken taken' p not e = (p.0, p.1, wrote_all begun tale lines out first taken taken' p.2 e)
+ends_wrote begun tale (Err (Bad n)) ended earlier lines out first taken taken' p not e = (p.0, wrote_all begun tale lines out first taken taken' p.1 e)
+ends_wrote begun tale (Err Memory) ended earlier lines out first taken taken' p not e = record { more = p.more; others = p.others; lines_are = p.lines_are; good = p.good; wrote = wrote_all begun tale (earlier ++ p.more) out first taken taken' p.prints e }
+ends_wrote begun tale (Err Read) ended earlier lines out first taken taken' p not e = (p.0, p.1, wrote_all begun tale lines out first taken taken' p.2 e)
+ends_wrote begun tale (Err Write) ended earlier lines out first taken taken' p not e = absurd (not refl)
 
-unwritten_all : (tale : RowText) (lines : List (List ℕ)) (out : List ℕ) (first taken taken' : Option (List ℕ)) → Prints tale lines out first taken → WrotePrefix taken out taken' → WrotePrefix first (told tale lines) taken'
-unwritten_all tale lines out first taken taken' p w =
-    prints_front tale lines lines out [] first taken taken' p (sym (append-nil (told tale lines))) out [] refl w
+unwritten_all : (begun : State) (tale : RowText) (lines : List (List ℕ)) (out : List ℕ) (first taken taken' : Option (List ℕ)) → Prints begun tale lines out first taken → WrotePrefix taken out taken' → WrotePrefix first (told begun tale lines) taken'
+unwritten_all begun tale lines out first taken taken' p w =
+    prints_front begun tale lines lines out [] first taken taken' p (sym (append-nil (told begun tale lines))) out [] refl w
 
-unwritten : (tale : RowText) (lines others : List (List ℕ)) (out : List ℕ) (first taken taken' : Option (List ℕ)) → (rows_of lines).bad ≡ None → Prints tale lines out first taken → WrotePrefix taken out taken' → WrotePrefix first (told tale (lines ++ others)) taken'
-unwritten tale lines others out first taken taken' good p w =
-    prints_front tale lines (lines ++ others) out _ first taken taken' p (tale_join tale lines others (start 1) good) out _ refl w
+-- what a piece still had to write is written, or a write of it fails
+pub flushed : (begun : State) (tale : RowText) (result : Result (Unit {0}) Halt) (before bytes kept : List ℕ) (n : ℕ) (s : State) (out out' : List ℕ) (first taken taken' : Option (List ℕ)) → Within begun tale bytes [] kept n s out first taken
+    → OnOk result ((taken' ≡ then_bytes taken out) × (out' ≡ [])) → OnErr result (WrotePrefix taken out taken') → IfErr result (λ halt. halt ≡ Write) → PieceGoes begun tale result before bytes kept n s out' first taken'
+flushed begun tale (Ok u) before bytes kept n s out out' first taken taken' w all front is =
+    let p = w.going.prints in
+    record {
+      lines = w.lines;
+      line = w.line;
+      going = record {
+        good = w.going.good;
+        number = w.going.number;
+        state = w.going.state;
+        prints = record {
+          wrote = p.wrote ++ out;
+          taken_is = all.0 ∙ (ap (λ (k : Option (List ℕ)). then_bytes k out) p.taken_is ∙ then-then first p.wrote out);
+          text_is = ap (λ (x : List ℕ). (p.wrote ++ out) ++ x) all.1 ∙ (append-nil (p.wrote ++ out) ∙ p.text_is);
+        };
+      };
+      kept_is = w.kept_is;
+      whole = w.whole;
+      last = w.last;
+    }
+flushed begun tale (Err h) before bytes kept n s out out' first taken taken' w all front is =
+    rw is (unwritten_all begun tale (lines_read false bytes) out first taken taken' (within_open begun tale bytes kept n s out first taken w).1 front)
 
-ends_unwritten : (tale : RowText) (result : Result (Unit {0}) Halt) (ended : Bool) (lines : List (List ℕ)) (out : List ℕ) (first taken taken' : Option (List ℕ)) → Plays tale result ended lines out first taken → (result ≡ Err Write → ⊥) → WrotePrefix taken out taken'
-    → WrotePrefix first (told tale lines) taken'
-ends_unwritten tale (Ok u) ended lines out first taken taken' p not w = unwritten_all tale lines out first taken taken' p.2 w
-ends_unwritten tale (Err (Bad n)) ended lines out first taken taken' p not w = unwritten_all tale lines out first taken taken' p.1 w
-ends_unwritten tale (Err Memory) ended lines out first taken taken' p not w = subst (λ (x : List (List ℕ)). WrotePrefix first (told tale x) taken') (sym p.lines_are) (unwritten tale p.front p.others out first taken taken' p.good p.prints w)
-ends_unwritten tale (Err Read) ended lines out first taken taken' p not w = unwritten_all tale lines out first taken taken' p.2 w
-ends_unwritten tale (Err Write) ended lines out first taken taken' p not w = absurd (not refl)
+unwritten : (begun : State) (tale : RowText) (lines others : List (List ℕ)) (out : List ℕ) (first taken taken' : Option (List ℕ)) → (rows_of lines).bad ≡ None → Prints begun tale lines out first taken → WrotePrefix taken out taken' → WrotePrefix first (told begun tale (lines ++ others)) taken'
+unwritten begun tale lines others out first taken taken' good p w =
+    prints_front begun tale lines (lines ++ others) out _ first taken taken' p (tale_join tale lines others begun good) out _ refl w
+
+ends_unwritten : (begun : State) (tale : RowText) (result : Result (Unit {0}) Halt) (ended : Bool) (earlier lines : List (List ℕ)) (out : List ℕ) (first taken taken' : Option (List ℕ)) → Plays begun tale result ended earlier lines out first taken → (result ≡ Err Write → ⊥) → WrotePrefix taken out taken'
+    → WrotePrefix first (told begun tale lines) taken'
+ends_unwritten begun tale (Ok u) ended earlier lines out first taken taken' p not w = unwritten_all begun tale lines out first taken taken' p.2 w
+ends_unwritten begun tale (Err (Bad n)) ended earlier lines out first taken taken' p not w = unwritten_all begun tale lines out first taken taken' p.1 w
+ends_unwritten begun tale (Err Memory) ended earlier lines out first taken taken' p not w = subst (λ (x : List (List ℕ)). WrotePrefix first (told begun tale x) taken') (sym p.lines_are) (unwritten begun tale (earlier ++ p.more) p.others out first taken taken' p.good p.prints w)
+ends_unwritten begun tale (Err Read) ended earlier lines out first taken taken' p not w = unwritten_all begun tale lines out first taken taken' p.2 w
+ends_unwritten begun tale (Err Write) ended earlier lines out first taken taken' p not w = absurd (not refl)
 
 -- what was still to be written was written
-pub tells_wrote : (tale : RowText) (result : Result (Unit {0}) Halt) (answers answers' : Option (List Answer)) (ends ends' : ℕ) (out : List ℕ) (first taken taken' : Option (List ℕ)) → PlaysRead tale result answers answers' ends ends' out first taken → (result ≡ Err Write → ⊥)
-    → taken' ≡ then_bytes taken out → Tells tale (ended_so result) answers answers' ends ends' first taken'
-tells_wrote tale result answers answers' ends ends' out first taken taken' p not e = record {
+pub tells_wrote : (begun : State) (tale : RowText) (result : Result (Unit {0}) Halt) (answers answers' : Option (List Answer)) (ends ends' : ℕ) (out : List ℕ) (first taken taken' : Option (List ℕ)) → PlaysRead begun tale result answers answers' ends ends' out first taken → (result ≡ Err Write → ⊥)
+    → taken' ≡ then_bytes taken out → Tells begun tale (ended_so result) answers answers' ends ends' first taken'
+tells_wrote begun tale result answers answers' ends ends' out first taken taken' p not e = record {
   more = p.more;
   answers_are = p.answers_are;
-  ends_so = ends_wrote tale result (nat_lt ends ends') (lines_read (nat_lt ends ends') (given p.more)) out first taken taken' p.plays not e;
+  ends_so = ends_wrote begun tale result (nat_lt ends ends') (earlier_lines p.more) (lines_read (nat_lt ends ends') (given p.more)) out first taken taken' p.plays not e;
 }
 
 -- a write of it failed
-pub tells_unwritten : (tale : RowText) (result : Result (Unit {0}) Halt) (answers answers' : Option (List Answer)) (ends ends' : ℕ) (out : List ℕ) (first taken taken' : Option (List ℕ)) → PlaysRead tale result answers answers' ends ends' out first taken → (result ≡ Err Write → ⊥)
-    → WrotePrefix taken out taken' → Tells tale WriteFault answers answers' ends ends' first taken'
-tells_unwritten tale result answers answers' ends ends' out first taken taken' p not w = record {
+pub tells_unwritten : (begun : State) (tale : RowText) (result : Result (Unit {0}) Halt) (answers answers' : Option (List Answer)) (ends ends' : ℕ) (out : List ℕ) (first taken taken' : Option (List ℕ)) → PlaysRead begun tale result answers answers' ends ends' out first taken → (result ≡ Err Write → ⊥)
+    → WrotePrefix taken out taken' → Tells begun tale WriteFault answers answers' ends ends' first taken'
+tells_unwritten begun tale result answers answers' ends ends' out first taken taken' p not w = record {
   more = p.more;
   answers_are = p.answers_are;
-  ends_so = ends_unwritten tale result (nat_lt ends ends') (lines_read (nat_lt ends ends') (given p.more)) out first taken taken' p.plays not w;
+  ends_so = ends_unwritten begun tale result (nat_lt ends ends') (earlier_lines p.more) (lines_read (nat_lt ends ends') (given p.more)) out first taken taken' p.plays not w;
 }
 
 -- an earlier write failed
-pub tells_stopped : (tale : RowText) (answers answers' : Option (List Answer)) (ends ends' : ℕ) (out : List ℕ) (first taken : Option (List ℕ)) → PlaysRead tale (Err Write) answers answers' ends ends' out first taken → Tells tale WriteFault answers answers' ends ends' first taken
-tells_stopped tale answers answers' ends ends' out first taken p = record { more = p.more; answers_are = p.answers_are; ends_so = p.plays }
+pub tells_stopped : (begun : State) (tale : RowText) (answers answers' : Option (List Answer)) (ends ends' : ℕ) (out : List ℕ) (first taken : Option (List ℕ)) → PlaysRead begun tale (Err Write) answers answers' ends ends' out first taken → Tells begun tale WriteFault answers answers' ends ends' first taken
+tells_stopped begun tale answers answers' ends ends' out first taken p = record { more = p.more; answers_are = p.answers_are; ends_so = p.plays }
 
 -- nothing was read or written
-pub nothing_read : (tale : RowText) (answers : Option (List Answer)) (ends : ℕ) (taken : Option (List ℕ)) → Tells tale NoMemory answers answers ends ends taken taken
-nothing_read tale answers ends taken = record {
+pub nothing_read : (begun : State) (tale : RowText) (answers : Option (List Answer)) (ends : ℕ) (taken : Option (List ℕ)) → Tells begun tale NoMemory answers answers ends ends taken taken
+nothing_read begun tale answers ends taken = record {
   more = [];
   answers_are = sym (answers-nil answers);
-  ends_so = record { first = []; others = lines_read (nat_lt ends ends) []; lines_are = refl; good = refl; wrote = sym (then-nil taken) };
+  ends_so = record { more = []; others = lines_read (nat_lt ends ends) []; lines_are = refl; good = refl; wrote = sym (then-nil taken) };
 }
 
 -- WHAT `replay` PRINTS is what the events print
 
-wrote_plain : (lines : List (List ℕ)) (old new : Option (List ℕ)) → new ≡ then_bytes old (told plain lines) → Wrote (rows_of lines).events old new
-wrote_plain lines old new e = e ∙ ap (then_bytes old) (plain_is lines (start 1))
+wrote_plain : (begun : State) (lines : List (List ℕ)) (old new : Option (List ℕ)) → new ≡ then_bytes old (told begun plain lines) → Wrote begun (rows_of lines).events old new
+wrote_plain begun lines old new e = e ∙ ap (then_bytes old) (plain_is lines begun)
 
-ends_plain : (e : Ended) (ended : Bool) (lines : List (List ℕ)) (old new : Option (List ℕ)) → EndsPrinting plain e ended lines old new → Ends e ended (rows_of lines) old new
-ends_plain Done ended lines old new h = (h.0, h.1, wrote_plain lines old new h.2)
-ends_plain (BadRow n) ended lines old new h = (h.0, wrote_plain lines old new h.1)
-ends_plain (Text f) ended lines old new h = absurd h
-ends_plain ReadFault ended lines old new h = (h.0, h.1, wrote_plain lines old new h.2)
-ends_plain WriteFault ended lines old new h = subst (λ (x : List ℕ). WrotePrefix old x new) (plain_is lines (start 1)) h
-ends_plain NoMemory ended lines old new h = record {
-  first = (rows_of h.first).events;
-  others = (rows_of h.others).events;
-  events_are = ap (λ (ls : List (List ℕ)). (rows_of ls).events) h.lines_are ∙ rows_more h.first h.others h.good;
-  wrote = wrote_plain h.first old new h.wrote;
-}
+ends_plain : (begun : State) (e : Ended) (ended : Bool) (earlier lines : List (List ℕ)) (old new : Option (List ℕ)) → EndsPrinting begun plain e ended earlier lines old new → Ends begun e ended (rows_of earlier) (rows_of lines) old new
+ends_plain begun Done ended earlier lines old new h = (h.0, h.1, wrote_plain begun lines old new h.2)
+ends_plain begun (BadRow n) ended earlier lines old new h = (h.0, wrote_plain begun lines old new h.1)
+ends_plain begun (Text f) ended earlier lines old new h = absurd h
+ends_plain begun ReadFault ended earlier lines old new h = (h.0, h.1, wrote_plain begun lines old new h.2)
+ends_plain begun WriteFault ended earlier lines old new h = subst (λ (x : List ℕ). WrotePrefix old x new) (plain_is lines begun) h
+ends_plain begun NoMemory ended earlier lines old new h =
+    let events : (rows_of (earlier ++ h.more)).events ≡ (rows_of earlier).events ++ (rows_of h.more).events = rows_more earlier h.more (good_front earlier h.more h.good) in
+    record {
+      more = (rows_of h.more).events;
+      others = (rows_of h.others).events;
+      events_are = ap (λ (ls : List (List ℕ)). (rows_of ls).events) h.lines_are ∙ (rows_more (earlier ++ h.more) h.others h.good ∙ ap (λ (es : List Event). es ++ (rows_of h.others).events) events);
+      wrote = subst (λ (es : List Event). Wrote begun es old new) events (wrote_plain begun (earlier ++ h.more) old new h.wrote);
+    }
 
-pub replays_plain : (e : Ended) (answers answers' : Option (List Answer)) (ends ends' : ℕ) (taken taken' : Option (List ℕ)) → Tells plain e answers answers' ends ends' taken taken' → Replays e answers answers' ends ends' taken taken'
-replays_plain e answers answers' ends ends' taken taken' h = record {
+pub replays_plain : (begun : State) (e : Ended) (answers answers' : Option (List Answer)) (ends ends' : ℕ) (taken taken' : Option (List ℕ)) → Tells begun plain e answers answers' ends ends' taken taken' → Replays begun e answers answers' ends ends' taken taken'
+replays_plain begun e answers answers' ends ends' taken taken' h = record {
   more = h.more;
   answers_are = h.answers_are;
-  ends_so = ends_plain e (nat_lt ends ends') (lines_read (nat_lt ends ends') (given h.more)) taken taken' h.ends_so;
+  ends_so = ends_plain begun e (nat_lt ends ends') (earlier_lines h.more) (lines_read (nat_lt ends ends') (given h.more)) taken taken' h.ends_so;
 }
 
 -- FAULTS

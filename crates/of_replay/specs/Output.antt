@@ -7,7 +7,7 @@ use Rattle.of_switch.specs.declared.effect.Effect.TheVariants.{Answer, Sent, Clo
 use Rattle.of_switch.specs.declared.switch_error.SwitchError.{SwitchError}
 use Rattle.of_switch.specs.Calls.{number_of}
 use Rattle.of_switch.specs.declared.event.Event.{Event}
-use Rattle.of_switch.specs.State.{State, start}
+use Rattle.of_switch.specs.State.{State}
 use Rattle.of_switch.specs.Runs.{Report, Gives, IsRefused, run}
 
 -- `a HEX`, `s PORT HEX` or `closed`
@@ -27,10 +27,6 @@ abbrev pub report_text : Report → List ℕ
 report_text (Gives effects) = text_of effects
 report_text (IsRefused refusal) = refused_line refusal
 
--- what events print, from a state of the abstract switch on
+-- THE OUTPUT of events: the text of the reports of the abstract switch's run, from a state of it on
 abbrev pub printed_from : State → List Event → List ℕ
 printed_from s events = flat_map report_text (run events s).reports
-
--- THE OUTPUT of events: the text of the reports of the abstract switch's run, on a new switch with datapath_id 1
-abbrev pub printed : List Event → List ℕ
-printed events = printed_from (start 1) events

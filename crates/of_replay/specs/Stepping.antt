@@ -4,7 +4,7 @@ use Rattle.smallvec.specs.SmallVec.{SmallVec}
 use Rattle.of_switch.specs.declared.effect.Effect.{Effect}
 use Rattle.of_switch.specs.declared.switch_error.SwitchError.{SwitchError}
 use Rattle.of_switch.specs.declared.switch_error.SwitchError.TheVariants as error
-use Rattle.of_switch.specs.State.{State, start}
+use Rattle.of_switch.specs.State.{State}
 use Rattle.of_switch.specs.Runs.{Happened, Report, Gives, IsRefused, run}
 use Rattle.of_replay.specs.declared.halt.Halt.{Halt}
 use Rattle.of_replay.specs.declared.halt.Halt.TheVariants as halt
@@ -15,7 +15,7 @@ use Rattle.of_replay.specs.Transfer.{then_answers, WrotePrefix}
 use Rattle.of_replay.specs.Lexing.{whole_lines, whole_from, last_from}
 use Rattle.of_replay.specs.Rows.{EventRow, rows_of}
 use Rattle.of_replay.specs.Output.{text_of, refused_line}
-use Rattle.of_replay.specs.Play.{lines_read}
+use Rattle.of_replay.specs.Play.{lines_read, earlier_lines}
 pub use Rattle.of_replay.specs.RowTexts.{row_happened}
 use Rattle.of_replay.specs.RowTexts.{RowText, told}
 
@@ -62,68 +62,74 @@ LineGoes tale (Err halt.Read) n line row s new out out' taken taken' = ⊥
 LineGoes tale (Err halt.Write) n line (Some row) s new out out' taken taken' = WrotePrefix taken (out ++ tale s line row) taken'
 LineGoes tale (Err halt.Write) n line None s new out out' taken taken' = ⊥
 
--- A RUN
+-- A RUN, on a switch that was in the state `begun` before it
 
 -- the text of these lines was written, but for the end that is still to be written
-pub record Prints (tale : RowText) (lines : List (List ℕ)) (out : List ℕ) (first taken : Option (List ℕ)) : Type 0 where
+pub record Prints (begun : State) (tale : RowText) (lines : List (List ℕ)) (out : List ℕ) (first taken : Option (List ℕ)) : Type 0 where
   pub wrote : List ℕ
   pub taken_is : taken ≡ then_bytes first wrote
-  pub text_is : wrote ++ out ≡ told tale lines
+  pub text_is : wrote ++ out ≡ told begun tale lines
 
--- the same for some first lines, none of which is bad
-pub record PrintsFirst (tale : RowText) (lines : List (List ℕ)) (out : List ℕ) (first taken : Option (List ℕ)) : Type 0 where
-  pub front : List (List ℕ)
+-- the same for some first lines, none of which is bad: for those that were whole before the last read, and maybe more
+pub record PrintsFirst (begun : State) (tale : RowText) (earlier lines : List (List ℕ)) (out : List ℕ) (first taken : Option (List ℕ)) : Type 0 where
+  pub more : List (List ℕ)
   pub others : List (List ℕ)
-  pub lines_are : lines ≡ front ++ others
-  pub good : (rows_of front).bad ≡ None
-  pub prints : Prints tale front out first taken
+  pub lines_are : lines ≡ (earlier ++ more) ++ others
+  pub good : (rows_of (earlier ++ more)).bad ≡ None
+  pub prints : Prints begun tale (earlier ++ more) out first taken
 
 -- these lines were played, and none of them is bad
-pub record Going (tale : RowText) (lines : List (List ℕ)) (n : ℕ) (s : State) (out : List ℕ) (first taken : Option (List ℕ)) : Type 0 where
+pub record Going (begun : State) (tale : RowText) (lines : List (List ℕ)) (n : ℕ) (s : State) (out : List ℕ) (first taken : Option (List ℕ)) : Type 0 where
   pub good : (rows_of lines).bad ≡ None
   pub number : n ≡ length lines + 1
-  pub state : s ≡ (run (rows_of lines).events (start 1)).state
-  pub prints : Prints tale lines out first taken
+  pub state : s ≡ (run (rows_of lines).events begun).state
+  pub prints : Prints begun tale lines out first taken
 
 -- of these bytes `rest` is not read yet; of the line that has begun no more is kept than shows that it is too long
-pub record Within (tale : RowText) (bytes rest kept : List ℕ) (n : ℕ) (s : State) (out : List ℕ) (first taken : Option (List ℕ)) : Type 0 where
+pub record Within (begun : State) (tale : RowText) (bytes rest kept : List ℕ) (n : ℕ) (s : State) (out : List ℕ) (first taken : Option (List ℕ)) : Type 0 where
   pub lines : List (List ℕ)
   pub line : List ℕ
-  pub going : Going tale lines n s out first taken
+  pub going : Going begun tale lines n s out first taken
   pub kept_is : kept ≡ take 1048577 line
   pub whole : whole_lines bytes ≡ lines ++ whole_from line rest
   pub last : last_from [] bytes ≡ last_from line rest
 
--- why a run halts at a line, by the lines that were read
-abbrev pub Halts : RowText → Halt → List (List ℕ) → List ℕ → Option (List ℕ) → Option (List ℕ) → Type 0
-Halts tale (halt.Bad n) lines out first taken = ((rows_of lines).bad ≡ Some n) × Prints tale lines out first taken
-Halts tale halt.Memory lines out first taken = PrintsFirst tale lines out first taken
-Halts tale halt.Read lines out first taken = ⊥
-Halts tale halt.Write lines out first taken = WrotePrefix first (told tale lines) taken
+-- bytes of a piece behind those that were read before it: the whole lines of those were played, and maybe more
+pub record WithinPiece (begun : State) (tale : RowText) (before bytes rest kept : List ℕ) (n : ℕ) (s : State) (out : List ℕ) (first taken : Option (List ℕ)) : Type 0 where
+  pub within : Within begun tale bytes rest kept n s out first taken
+  pub more : List (List ℕ)
+  pub lines_are : within.lines ≡ whole_lines before ++ more
 
--- more bytes are read: their whole lines are played, or the run halts
-abbrev pub PieceGoes : RowText → Result (Unit {0}) Halt → List ℕ → List ℕ → ℕ → State → List ℕ → Option (List ℕ) → Option (List ℕ) → Type 0
-PieceGoes tale (Ok u) bytes kept n s out first taken = Within tale bytes [] kept n s out first taken
-PieceGoes tale (Err h) bytes kept n s out first taken = Halts tale h (lines_read false bytes) out first taken
+-- why a run halts at a line, by the lines that were read, and those that were whole before the last read
+abbrev pub Halts : State → RowText → Halt → List (List ℕ) → List (List ℕ) → List ℕ → Option (List ℕ) → Option (List ℕ) → Type 0
+Halts begun tale (halt.Bad n) earlier lines out first taken = ((rows_of lines).bad ≡ Some n) × Prints begun tale lines out first taken
+Halts begun tale halt.Memory earlier lines out first taken = PrintsFirst begun tale earlier lines out first taken
+Halts begun tale halt.Read earlier lines out first taken = ⊥
+Halts begun tale halt.Write earlier lines out first taken = WrotePrefix first (told begun tale lines) taken
+
+-- more bytes are read behind those before: their whole lines are played, or the run halts
+abbrev pub PieceGoes : State → RowText → Result (Unit {0}) Halt → List ℕ → List ℕ → List ℕ → ℕ → State → List ℕ → Option (List ℕ) → Option (List ℕ) → Type 0
+PieceGoes begun tale (Ok u) before bytes kept n s out first taken = Within begun tale bytes [] kept n s out first taken
+PieceGoes begun tale (Err h) before bytes kept n s out first taken = Halts begun tale h (whole_lines before) (lines_read false bytes) out first taken
 
 -- the lines of a source are played to the end, or the run halts
-abbrev pub Plays : RowText → Result (Unit {0}) Halt → Bool → List (List ℕ) → List ℕ → Option (List ℕ) → Option (List ℕ) → Type 0
-Plays tale (Ok u) ended lines out first taken = (ended ≡ true) × ((rows_of lines).bad ≡ None) × Prints tale lines out first taken
-Plays tale (Err (halt.Bad n)) ended lines out first taken = Halts tale (halt.Bad n) lines out first taken
-Plays tale (Err halt.Memory) ended lines out first taken = Halts tale halt.Memory lines out first taken
-Plays tale (Err halt.Read) ended lines out first taken = (ended ≡ false) × ((rows_of lines).bad ≡ None) × Prints tale lines out first taken
-Plays tale (Err halt.Write) ended lines out first taken = Halts tale halt.Write lines out first taken
+abbrev pub Plays : State → RowText → Result (Unit {0}) Halt → Bool → List (List ℕ) → List (List ℕ) → List ℕ → Option (List ℕ) → Option (List ℕ) → Type 0
+Plays begun tale (Ok u) ended earlier lines out first taken = (ended ≡ true) × ((rows_of lines).bad ≡ None) × Prints begun tale lines out first taken
+Plays begun tale (Err (halt.Bad n)) ended earlier lines out first taken = Halts begun tale (halt.Bad n) earlier lines out first taken
+Plays begun tale (Err halt.Memory) ended earlier lines out first taken = Halts begun tale halt.Memory earlier lines out first taken
+Plays begun tale (Err halt.Read) ended earlier lines out first taken = (ended ≡ false) × ((rows_of lines).bad ≡ None) × Prints begun tale lines out first taken
+Plays begun tale (Err halt.Write) ended earlier lines out first taken = Halts begun tale halt.Write earlier lines out first taken
 
-pub record PlaysRead (tale : RowText) (result : Result (Unit {0}) Halt) (answers answers' : Option (List Answer)) (ends ends' : ℕ) (out : List ℕ) (first taken : Option (List ℕ)) : Type 0 where
+pub record PlaysRead (begun : State) (tale : RowText) (result : Result (Unit {0}) Halt) (answers answers' : Option (List Answer)) (ends ends' : ℕ) (out : List ℕ) (first taken : Option (List ℕ)) : Type 0 where
   pub more : List Answer
   pub answers_are : answers' ≡ then_answers answers more
-  pub plays : Plays tale result (nat_lt ends ends') (lines_read (nat_lt ends ends') (given more)) out first taken
+  pub plays : Plays begun tale result (nat_lt ends ends') (earlier_lines more) (lines_read (nat_lt ends ends') (given more)) out first taken
 
 -- the reads so far gave bytes, and their whole lines were played
-pub record ReadSoFar (tale : RowText) (answers answers' : Option (List Answer)) (kept : List ℕ) (n : ℕ) (s : State) (out : List ℕ) (first taken : Option (List ℕ)) : Type 0 where
+pub record ReadSoFar (begun : State) (tale : RowText) (answers answers' : Option (List Answer)) (kept : List ℕ) (n : ℕ) (s : State) (out : List ℕ) (first taken : Option (List ℕ)) : Type 0 where
   pub more : List Answer
   pub answers_are : answers' ≡ then_answers answers more
-  pub within : Within tale (given more) [] kept n s out first taken
+  pub within : Within begun tale (given more) [] kept n s out first taken
 
 -- FAULTS
 
@@ -152,8 +158,8 @@ ended_so (Err halt.Read) = ReadFault
 ended_so (Err halt.Write) = WriteFault
 
 -- the source's end was read, and all lines were played, none of which is bad
-pub record PlayedAll (answers answers' : Option (List Answer)) (s : State) : Type 0 where
+pub record PlayedAll (begun : State) (answers answers' : Option (List Answer)) (s : State) : Type 0 where
   pub more : List Answer
   pub answers_are : answers' ≡ then_answers answers more
   pub good : (rows_of (lines_read true (given more))).bad ≡ None
-  pub state : s ≡ (run (rows_of (lines_read true (given more))).events (start 1)).state
+  pub state : s ≡ (run (rows_of (lines_read true (given more))).events begun).state

@@ -4,7 +4,7 @@ ghost use Rattle.of_replay.specs.Assembling.{Faults};
 ghost use Rattle.of_replay.specs.ConfigFiles.{ended_as};
 ghost use Rattle.of_replay.specs.Disassembling.{Disassembles, IsTextOf, Played};
 
-use crate::event_file::{DPID, Ended, READ_SIZE, ended_by, zeros};
+use crate::event_file::{Ended, READ_SIZE, ended_by, zeros};
 use crate::flow_text::write_built;
 use crate::io::{Sink, Source, Writing};
 use crate::plain::Plain;
@@ -13,6 +13,9 @@ use of_classifier::Lookup;
 use of_switch::Switch;
 use of_text::disassemble;
 use std::alloc::Global;
+
+/// The datapath_id of the switch, which flow text does not show (OpenFlow 1.3.5, 7.3.1).
+const DPID: u64 = 1;
 
 /// A sink that takes all and keeps nothing.
 #[derive(Drop)]

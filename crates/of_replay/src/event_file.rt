@@ -1,5 +1,6 @@
 //! Event files from a source, played on a new switch, and what it gives to a sink.
 ghost use Rattle.std.specs.Prelude.{◌≡◌, ◌⊎◌, ◌↔◌, ◌<◌, ◌≤◌, ◌+◌, IfOk, replicate};
+ghost use Rattle.of_switch.specs.State.{start};
 ghost use Rattle.of_replay.specs.Play.{Replays};
 ghost use Rattle.of_replay.specs.RowTexts.{Tells};
 ghost use Rattle.of_replay.specs.Ended.{status_of};
@@ -19,9 +20,6 @@ use thiserror::Error;
 /// How many bytes a read asks for.
 pub const READ_SIZE: usize = 65_536;
 
-/// The datapath_id of the switch that rows are played on (OpenFlow 1.3.5, 7.3.1).
-pub const DPID: u64 = 1;
-
 /// How a run ended. Displayed, it is the line on standard error.
 #[derive(Clone, Copy, Debug, PartialEq, Eq, Error)]
 pub enum Ended {
@@ -40,7 +38,7 @@ pub enum Ended {
     /// A write failed; a prefix of what the rows print was written.
     #[error("write fault")]
     WriteFault,
-    /// Memory ran out; what the rows before that print was written.
+    /// Memory ran out; what the rows before that print was written, with all that were whole before the last read.
     #[error("no memory")]
     NoMemory,
 }
@@ -78,18 +76,20 @@ pub fn zeros(alloc: Global, len: usize) -> Result<Vec<u8>, AllocError>
     Ok(bytes)
 }
 
-/// Plays the rows of a source on a new switch without a connection, flows and ports, with datapath_id 1, and writes what the teller says of them.
+/// Plays the rows of a source on a new switch without a connection, flows and ports, and writes what the teller says of them.
 ///
-/// Rows are played as they are read. Of the file no more is kept than one read and the line that has begun, up to 1,048,577 bytes.
+/// Rows are played as they are read, and what they give is written before the next read. Of the file no more is kept than one
+/// read and the line that has begun, up to 1,048,577 bytes.
 pub fn print_file<L: Lookup, T: RowPrinter<L>, S: Source, W: Sink>(
     alloc: Global,
+    dpid: u64,
     teller: &T,
     reader: &mut S,
     writer: &mut W,
 ) -> Ended
     requires reads { S.reads reader.old ≡ 0 }
     requires failures { W.failures writer.old ≡ 0 }
-    ensures output { Tells T.tale result (S.answers reader.old) (S.answers reader.new) (S.ends reader.old) (S.ends reader.new) (W.taken writer.old) (W.taken writer.new) }
+    ensures output { Tells (start dpid) T.tale result (S.answers reader.old) (S.answers reader.new) (S.ends reader.old) (S.ends reader.new) (W.taken writer.old) (W.taken writer.new) }
     ensures done { result ≡ Ended.Done → (S.failures reader.new ≡ S.failures reader.old) × (S.ends reader.new ≡ S.ends reader.old + 1) × (W.failures writer.new ≡ 0) }
     ensures reads { S.reads reader.new ≤ 1000000 }
     ensures once { S.failures reader.new ≤ S.failures reader.old + 1 }
@@ -100,20 +100,26 @@ pub fn print_file<L: Lookup, T: RowPrinter<L>, S: Source, W: Sink>(
     let Ok(mut buffer) = zeros(alloc, READ_SIZE) else {
         return Ended::NoMemory;
     };
-    let Ok(switch) = Switch::<L>::new(alloc, DPID) else {
+    let Ok(switch) = Switch::<L>::new(alloc, dpid) else {
         return Ended::NoMemory;
     };
     let mut replaying = Replaying::new(alloc, switch);
     ended_by(replaying.play(teller, reader, &mut buffer, writer))
 }
 
-/// Plays the rows of a source on a new switch without a connection, flows and ports, with datapath_id 1, and writes what it gives.
+/// Plays the rows of a source on a new switch without a connection, flows and ports, and writes what it gives.
 ///
-/// Rows are played as they are read. Of the file no more is kept than one read and the line that has begun, up to 1,048,577 bytes.
-pub fn replay<L: Lookup, S: Source, W: Sink>(alloc: Global, reader: &mut S, writer: &mut W) -> Ended
+/// Rows are played as they are read, and what they give is written before the next read. Of the file no more is kept than one
+/// read and the line that has begun, up to 1,048,577 bytes.
+pub fn replay<L: Lookup, S: Source, W: Sink>(
+    alloc: Global,
+    dpid: u64,
+    reader: &mut S,
+    writer: &mut W,
+) -> Ended
     requires reads { S.reads reader.old ≡ 0 }
     requires failures { W.failures writer.old ≡ 0 }
-    ensures output { Replays result (S.answers reader.old) (S.answers reader.new) (S.ends reader.old) (S.ends reader.new) (W.taken writer.old) (W.taken writer.new) }
+    ensures output { Replays (start dpid) result (S.answers reader.old) (S.answers reader.new) (S.ends reader.old) (S.ends reader.new) (W.taken writer.old) (W.taken writer.new) }
     ensures done { result ≡ Ended.Done → (S.failures reader.new ≡ S.failures reader.old) × (S.ends reader.new ≡ S.ends reader.old + 1) × (W.failures writer.new ≡ 0) }
     ensures reads { S.reads reader.new ≤ 1000000 }
     ensures once { S.failures reader.new ≤ S.failures reader.old + 1 }
@@ -121,5 +127,5 @@ pub fn replay<L: Lookup, S: Source, W: Sink>(alloc: Global, reader: &mut S, writ
     ensures failed_read { S.failures reader.old < S.failures reader.new → (result ≡ Ended.ReadFault) ⊎ (result ≡ Ended.WriteFault) }
     ensures write_fault { (result ≡ Ended.WriteFault) ↔ (0 < W.failures writer.new) }
 {
-    print_file::<L, _, _, _>(alloc, &Plain, reader, writer)
+    print_file::<L, _, _, _>(alloc, dpid, &Plain, reader, writer)
 }

@@ -1,5 +1,5 @@
 //! The lines that are printed, and their way to a sink.
-ghost use Rattle.std.specs.Prelude.{◌≡◌, ◌++◌, ◌<◌, [], IfErr, OnOk, OnErr, decimal};
+ghost use Rattle.std.specs.Prelude.{◌≡◌, ◌++◌, ◌<◌, ◌≤◌, ◌↔◌, [], IfErr, IsTrue, OnOk, OnErr, decimal, length};
 ghost use Rattle.of_replay.specs.Told.{then_bytes};
 ghost use Rattle.of_replay.specs.Transfer.{WrotePrefix};
 ghost use Rattle.of_replay.specs.Output.{line_of, refused_line, text_of};
@@ -113,7 +113,9 @@ impl Printer {
     }
 
     /// Whether there is a part that is large enough to be written.
-    pub fn has_part(&self) -> bool {
+    pub fn has_part(&self) -> bool
+        ensures { IsTrue result ↔ 65536 ≤ length self.now }
+    {
         self.out.len() >= PART
     }
 

@@ -1,8 +1,9 @@
 //! Rows as they are read, played on a switch, and what is printed for them.
 ghost use Rattle.std.specs.Prelude.{◌≡◌, ◌+◌, ◌<◌, ◌≤◌, ◌^◌, ◌++◌, ℕ, List, [], Option, IfErr, OnOk, length, take, position, ◌==◌};
-ghost use Rattle.of_switch.specs.State.{start};
+ghost use Rattle.of_switch.specs.State.{State};
 ghost use Rattle.of_replay.specs.Rows.{row_of};
 ghost use Rattle.of_replay.specs.RowTexts.{Tells};
+ghost use Rattle.of_replay.specs.Told.{then_answer, answer_of, read_ends, read_faults, IsReading};
 ghost use Rattle.of_replay.specs.Stepping.{LineTells, LineGoes, Within, PieceGoes, PlayedAll, PlaysRead, WritesFail, ReadsFail, ended_so};
 
 use crate::halt::Halt;
@@ -98,6 +99,7 @@ impl<L: Lookup> Replaying<L> {
         ensures goes { LineGoes T.tale result self.old.number self.old.open (row_of self.old.open) self.old.switch self.new.switch self.old.printer self.new.printer (W.taken writer.old) (W.taken writer.new) }
         ensures open { OnOk result (self.new.open ≡ []) }
         ensures number { OnOk result (self.new.number ≡ self.old.number + 1) }
+        ensures waits { OnOk result (length self.new.printer < 65536) }
         ensures writes { WritesFail result (W.failures writer.new) }
     {
         self.tell(teller)?;
@@ -121,8 +123,8 @@ impl<L: Lookup> Replaying<L> {
         }
     }
 
-    // Bytes are read: plays the lines that they end.
-    fn piece<T: RowPrinter<L>, W: Sink>(
+    // Bytes are read: plays the lines that they end. Their text is written, or still to be written.
+    fn play_piece<T: RowPrinter<L>, W: Sink>(
         &mut self,
         teller: &T,
         piece: &[u8],
@@ -130,8 +132,8 @@ impl<L: Lookup> Replaying<L> {
     ) -> Result<(), Halt>
         requires few { self.old.number + length piece.now < 2 ^ 63 }
         requires well { W.failures writer.old ≡ 0 }
-        ensures goes { (bytes : List ℕ) (first : Option (List ℕ)) → Within T.tale bytes [] self.old.open self.old.number self.old.switch self.old.printer first (W.taken writer.old)
-            → PieceGoes T.tale result (bytes ++ piece.now) self.new.open self.new.number self.new.switch self.new.printer first (W.taken writer.new) }
+        ensures goes { (begun : State) (bytes : List ℕ) (first : Option (List ℕ)) → Within begun T.tale bytes [] self.old.open self.old.number self.old.switch self.old.printer first (W.taken writer.old)
+            → PieceGoes begun T.tale result bytes (bytes ++ piece.now) self.new.open self.new.number self.new.switch self.new.printer first (W.taken writer.new) }
         ensures number { OnOk result (self.new.number ≤ self.old.number + length piece.now) }
         ensures writes { WritesFail result (W.failures writer.new) }
     {
@@ -147,7 +149,41 @@ impl<L: Lookup> Replaying<L> {
         }
     }
 
-    // Plays the lines of a source as they are read. The last text is still to be written.
+    // Bytes are read: plays the lines that they end, and writes all that is still to be written, so that nothing waits for
+    // the next read.
+    fn piece<T: RowPrinter<L>, W: Sink>(
+        &mut self,
+        teller: &T,
+        piece: &[u8],
+        writer: &mut W,
+    ) -> Result<(), Halt>
+        requires few { self.old.number + length piece.now < 2 ^ 63 }
+        requires well { W.failures writer.old ≡ 0 }
+        ensures goes { (begun : State) (bytes : List ℕ) (first : Option (List ℕ)) → Within begun T.tale bytes [] self.old.open self.old.number self.old.switch self.old.printer first (W.taken writer.old)
+            → PieceGoes begun T.tale result bytes (bytes ++ piece.now) self.new.open self.new.number self.new.switch self.new.printer first (W.taken writer.new) }
+        ensures number { OnOk result (self.new.number ≤ self.old.number + length piece.now) }
+        ensures written { OnOk result (self.new.printer ≡ []) }
+        ensures writes { WritesFail result (W.failures writer.new) }
+    {
+        self.play_piece(teller, piece, writer)?;
+        self.printer.flush(writer)
+    }
+
+    // Reads once, which may wait: so all that was printed is written.
+    fn read_once<S: Source>(&self, reader: &mut S, buffer: &mut [u8]) -> Reading
+        requires written { self.now.printer ≡ [] }
+        requires room { 0 < length buffer.old }
+        requires few { S.reads reader.old < 2 ^ 63 }
+        ensures fits { IsReading result (length buffer.new) }
+        ensures answers { S.answers reader.new ≡ then_answer (S.answers reader.old) (answer_of result buffer.new) }
+        ensures reads { S.reads reader.new ≡ S.reads reader.old + 1 }
+        ensures ends { S.ends reader.new ≡ S.ends reader.old + read_ends result }
+        ensures failures { S.failures reader.new ≡ S.failures reader.old + read_faults result }
+    {
+        reader.read(buffer)
+    }
+
+    // Plays the lines of a source as they are read. The text of the last line is still to be written.
     fn read<T: RowPrinter<L>, S: Source, W: Sink>(
         &mut self,
         teller: &T,
@@ -158,15 +194,15 @@ impl<L: Lookup> Replaying<L> {
         requires room { length buffer.old ≡ 65536 }
         requires fresh { S.reads reader.old ≡ 0 }
         requires well { W.failures writer.old ≡ 0 }
-        requires start { (self.old.open ≡ []) × (self.old.number ≡ 1) × (self.old.switch ≡ start 1) × (self.old.printer ≡ []) }
-        ensures played { OnOk result (PlayedAll (S.answers reader.old) (S.answers reader.new) self.new.switch) }
-        ensures plays { PlaysRead T.tale result (S.answers reader.old) (S.answers reader.new) (S.ends reader.old) (S.ends reader.new) self.new.printer (W.taken writer.old) (W.taken writer.new) }
+        requires start { (self.old.open ≡ []) × (self.old.number ≡ 1) × (self.old.printer ≡ []) }
+        ensures played { OnOk result (PlayedAll self.old.switch (S.answers reader.old) (S.answers reader.new) self.new.switch) }
+        ensures plays { PlaysRead self.old.switch T.tale result (S.answers reader.old) (S.answers reader.new) (S.ends reader.old) (S.ends reader.new) self.new.printer (W.taken writer.old) (W.taken writer.new) }
         ensures reads { ReadsFail result (S.reads reader.new) (S.ends reader.old) (S.ends reader.new) (S.failures reader.old) (S.failures reader.new) }
         ensures few { S.reads reader.new ≤ 1000000 }
         ensures writes { WritesFail result (W.failures writer.new) }
     {
         for _ in 0..MOST_READS {
-            match reader.read(buffer) {
+            match self.read_once(reader, buffer) {
                 Reading::Bytes(n) => self.piece(teller, front_of(buffer, n), writer)?,
                 Reading::Nothing => {}
                 Reading::End => return self.line(teller, writer),
@@ -187,9 +223,9 @@ impl<L: Lookup> Replaying<L> {
         requires room { length buffer.old ≡ 65536 }
         requires fresh { S.reads reader.old ≡ 0 }
         requires well { W.failures writer.old ≡ 0 }
-        requires start { (self.old.open ≡ []) × (self.old.number ≡ 1) × (self.old.switch ≡ start 1) × (self.old.printer ≡ []) }
-        ensures played { OnOk result (PlayedAll (S.answers reader.old) (S.answers reader.new) self.new.switch) }
-        ensures plays { Tells T.tale (ended_so result) (S.answers reader.old) (S.answers reader.new) (S.ends reader.old) (S.ends reader.new) (W.taken writer.old) (W.taken writer.new) }
+        requires start { (self.old.open ≡ []) × (self.old.number ≡ 1) × (self.old.printer ≡ []) }
+        ensures played { OnOk result (PlayedAll self.old.switch (S.answers reader.old) (S.answers reader.new) self.new.switch) }
+        ensures plays { Tells self.old.switch T.tale (ended_so result) (S.answers reader.old) (S.answers reader.new) (S.ends reader.old) (S.ends reader.new) (W.taken writer.old) (W.taken writer.new) }
         ensures reads { ReadsFail result (S.reads reader.new) (S.ends reader.old) (S.ends reader.new) (S.failures reader.old) (S.failures reader.new) }
         ensures few { S.reads reader.new ≤ 1000000 }
         ensures writes { WritesFail result (W.failures writer.new) }

@@ -1,10 +1,16 @@
 use crate::rows::ROWS;
-use of_classifier::Scan;
+use of_cache::Cached;
+use of_classifier::{Lookup, Scan};
+use of_mask_groups::MaskGroups;
 use of_switch::{Effect, Event, PortChange, Report, Switch};
 use of_test_rows::{bytes_of, number_of, sides};
 use of_wire::Bytes;
 use std::alloc::{AllocError, Global};
+use std::process::Abort;
 use std::test::Fail;
+
+/// How the running switch looks entries up.
+type Lookups = Cached<MaskGroups>;
 
 fn port_added(number: u32) -> Event {
     Event::Ports(PortChange::Add {
@@ -15,6 +21,18 @@ fn port_added(number: u32) -> Event {
     })
 }
 
+fn link_changed(words: &str) -> Result<Event, Fail> {
+    let (port, state) = words.split_once(' ').ok_or("a port and a state")?;
+    Ok(Event::Ports(PortChange::Link {
+        number: port_of(port)?,
+        up: state == "up",
+    }))
+}
+
+fn port_of(digits: &str) -> Result<u32, Fail> {
+    Ok(u32::try_from(number_of(digits)?).map_err(|_| "a port")?)
+}
+
 // The event of a row.
 fn event_of(alloc: Global, kind: &str, words: &str) -> Result<Event, Fail> {
     if kind == "t" {
@@ -23,9 +41,12 @@ fn event_of(alloc: Global, kind: &str, words: &str) -> Result<Event, Fail> {
     if kind == "c" {
         return Ok(Event::Piece(Bytes::new(bytes_of(alloc, words)?)));
     }
+    if kind == "link" {
+        return link_changed(words);
+    }
     let (port, frame) = words.split_once(' ').ok_or("a port and a frame")?;
     Ok(Event::Frame {
-        port: u32::try_from(number_of(port)?).map_err(|_| "a port")?,
+        port: port_of(port)?,
         frame: Bytes::new(bytes_of(alloc, frame)?),
     })
 }
@@ -45,9 +66,9 @@ fn events_of(alloc: Global, text: &str) -> Result<Vec<Event>, Fail> {
 }
 
 // Plays an event, and once more where there was no memory: of a piece that was interrupted, what is left.
-fn play(
+fn play<L: Lookup>(
     alloc: Global,
-    switch: &mut Switch<Scan>,
+    switch: &mut Switch<L>,
     event: Event,
     reports: &mut Vec<Report>,
 ) -> Result<(), Fail> {
@@ -91,9 +112,9 @@ fn given(alloc: Global, reports: &[Report]) -> Result<Vec<u8>, AllocError> {
     Ok(out)
 }
 
-fn play_events(
+fn play_events<L: Lookup>(
     alloc: Global,
-    switch: &mut Switch<Scan>,
+    switch: &mut Switch<L>,
     reports: &mut Vec<Report>,
 ) -> Result<(), Fail> {
     for event in events_of(alloc, ROWS)? {
@@ -102,38 +123,48 @@ fn play_events(
     Ok(())
 }
 
-fn play_all(alloc: Global, reports: &mut Vec<Report>) -> Result<(), Fail> {
-    let mut switch = Switch::<Scan>::new(alloc, 1)?;
+fn play_all<L: Lookup>(alloc: Global, reports: &mut Vec<Report>) -> Result<(), Fail> {
+    let mut switch = Switch::<L>::new(alloc, 1)?;
     play_events(alloc, &mut switch, reports)
 }
 
 // What all calls give, where each that finds no memory is made again.
-fn given_again(alloc: Global) -> Result<Vec<u8>, Fail> {
+fn given_again<L: Lookup>(alloc: Global) -> Result<Vec<u8>, Fail> {
     let mut reports = Vec::new(alloc);
-    play_all(alloc, &mut reports)?;
+    play_all::<L>(alloc, &mut reports)?;
     Ok(given(alloc, &reports)?)
 }
 
-fn run_all(alloc: Global, reports: &mut Vec<Report>) -> Result<(), Fail> {
-    let mut switch = Switch::<Scan>::new(alloc, 1)?;
+fn run_all<L: Lookup>(alloc: Global, reports: &mut Vec<Report>) -> Result<(), Fail> {
+    let mut switch = Switch::<L>::new(alloc, 1)?;
     Ok(switch.run(&events_of(alloc, ROWS)?, reports)?)
 }
 
 // What one call of all events gives.
-fn given_at_once(alloc: Global) -> Result<Vec<u8>, Fail> {
+fn given_at_once<L: Lookup>(alloc: Global) -> Result<Vec<u8>, Fail> {
     let mut reports = Vec::new(alloc);
-    run_all(alloc, &mut reports)?;
+    run_all::<L>(alloc, &mut reports)?;
     Ok(given(alloc, &reports)?)
+}
+
+fn are_given_again<L: Lookup>(rt: &impl Abort, alloc: Global) -> Result<(), Fail> {
+    let again = given_again::<L>(alloc)?;
+    let wanted = given_at_once::<L>(alloc)?;
+    // HELLO 16, BARRIER_REPLY 8, frames 22 and 26, PACKET_IN 60, ECHO_REPLY 10, ERROR 20, three frames 60, FLOW_REMOVED 64, a frame 22;
+    // two frames of the tie 44, FLOW_REMOVED 64; two frames behind misses 44; a frame of 60 bytes 64, PACKET_IN 102;
+    // a tagged frame 26, MULTIPART_REPLY 128; four frames of the group 88, three PORT_STATUS 240, FLOW_REMOVED 64, a tagged frame 26
+    assert_eq!(rt; wanted.len(), 1198);
+    assert_eq!(rt; again.as_slice(), wanted.as_slice());
+    Ok(())
 }
 
 // Under `tools/fail-alloc --again` each allocation is refused in turn: what was refused is done again, and nothing is lost.
 #[test]
-fn events_again(rt: HostRuntime) -> Result<(), Fail> {
-    let again = given_again(rt.alloc())?;
-    let wanted = given_at_once(rt.alloc())?;
-    // HELLO 16, BARRIER_REPLY 8, frames 22 and 26, PACKET_IN 60, ECHO_REPLY 10, ERROR 20, three frames 60, FLOW_REMOVED 64, a frame 22;
-    // two frames of the tie 44, FLOW_REMOVED 64; two frames behind misses 44; a frame of 60 bytes 64, PACKET_IN 102
-    assert_eq!(rt; wanted.len(), 626);
-    assert_eq!(rt; again.as_slice(), wanted.as_slice());
-    Ok(())
+fn by_the_running_switch(rt: HostRuntime) -> Result<(), Fail> {
+    are_given_again::<Lookups>(&rt, rt.alloc())
+}
+
+#[test]
+fn by_a_list(rt: HostRuntime) -> Result<(), Fail> {
+    are_given_again::<Scan>(&rt, rt.alloc())
 }

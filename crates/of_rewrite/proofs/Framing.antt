@@ -16,7 +16,7 @@ use Rattle.of_headers.specs.Places.{width}
 use Rattle.of_headers.proofs.LocateLemmas.{width-append}
 use Rattle.of_rewrite.specs.Checksum.{number}
 use Rattle.of_rewrite.specs.Rewriting.{number_set, field_set}
-use Rattle.of_rewrite.specs.Tags.{tag_before, pushed, inner_tags, popped}
+use Rattle.of_headers.specs.Tags.{tag_before, pushed, inner_tags, popped}
 use Rattle.of_rewrite.specs.TimeToLive.{ttl_of, ttl_decremented_from}
 use Rattle.of_rewrite.specs.Frames.{IsFrame, octets_of, bytes_in, frame_set, frame_pushed, frame_popped, frame_ttl, frame_ttl_decremented}
 use Rattle.of_rewrite.proofs.Parts.{length_changed}
@@ -115,7 +115,7 @@ pub frame_width : (s : List ℕ) → IsFrame s → width (cells (layers_of s)) �
 frame_width s h = sym (length_spelt (cells (layers_of s))) ∙ ap length (sym (frame_spelt s h.1 h.0)) ∙ length-bits_of s
 
 -- with one number replaced
-width_set : (n v : ℕ) (l : Layers) → width (number_set n v l) ≡ width (cells l)
+pub width_set : (n v : ℕ) (l : Layers) → width (number_set n v l) ≡ width (cells l)
 unfolding number_set
 width_set n v l =
     sym (length_spelt (number_set n v l))

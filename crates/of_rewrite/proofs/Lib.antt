@@ -21,3 +21,5 @@ pub mod Righting
 pub mod RightLayers
 pub mod StayingRight
 pub mod CoveredWords
+pub mod KeptPlaces
+pub mod Calling

@@ -9,7 +9,7 @@ use Rattle.of_rewrite.specs.Frames.{frame_pushed, frame_popped}
 use Rattle.of_rewrite.proofs.Framing.{is_pushed, is_popped}
 use Rattle.of_rewrite.proofs.TagPut.{tagged, four, push_is, pop_is, untagged_pops, Tagged, is_tagged}
 
-bytes_append : (a b : List ℕ) → AreBytes a → AreBytes b → AreBytes (a ++ b)
+pub bytes_append : (a b : List ℕ) → AreBytes a → AreBytes b → AreBytes (a ++ b)
 bytes_append [] b h k i = k i
 bytes_append (x ∷ a) b h k zero = h 0
 bytes_append (x ∷ a) b h k (suc i) = bytes_append a b (λ i. h (suc i)) k i

@@ -8,7 +8,7 @@ use Rattle.std.proofs.lemmas.Bool.{leb-true, leb-false}
 use Rattle.of_layers.proofs.TestLemmas.{and_true}
 use Rattle.of_layers.proofs.FrontLemmas.{word_behind}
 use Rattle.of_layers.proofs.TagLemmas.{tag_step, tag_count_more, tag_count_none, tag_count_short}
-use Rattle.of_rewrite.specs.Tags.{tag_before, pushed, inner_tags, popped}
+use Rattle.of_headers.specs.Tags.{tag_before, pushed, inner_tags, popped}
 use Rattle.of_rewrite.specs.Tagging.{has_tag, control_in}
 
 -- a frame with four bytes after the addresses

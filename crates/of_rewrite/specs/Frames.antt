@@ -6,7 +6,7 @@ use Rattle.of_layers.specs.Reading.{layers_of}
 use Rattle.of_layers.specs.WellFormed.{AreBytes}
 use Rattle.of_rewrite.specs.Checksum.{number}
 use Rattle.of_rewrite.specs.Rewriting.{number_set, field_set}
-use Rattle.of_rewrite.specs.Tags.{pushed, popped}
+use Rattle.of_headers.specs.Tags.{pushed, popped}
 use Rattle.of_rewrite.specs.TimeToLive.{ttl_of, ttl_decremented_from}
 
 -- bytes that are a frame: at least two addresses and a type (IEEE 802.3, 3.1.1)

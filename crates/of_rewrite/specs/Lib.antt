@@ -1,11 +1,11 @@
 pub mod Checksum
 pub mod Rewriting
-pub mod Tags
 pub mod Replaced
 pub mod TimeToLive
 pub mod Frames
 pub mod Right
 pub mod Loans
+pub mod Calls
 pub mod Tagging
 pub mod Spans
 pub mod Renewal

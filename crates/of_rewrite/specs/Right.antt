@@ -2,7 +2,7 @@
 use Rattle.std.specs.Prelude.{ℕ, ◌<◌, Bool, false, IsTrue, ◌||◌, ◌==◌, List, ◌++◌, sum, Option, Some, None}
 use Rattle.of_layers.specs.declared.transport.Transport.{Transport}
 use Rattle.of_layers.specs.declared.transport.Transport.TheVariants.{Nothing, Tcp, Udp, Icmpv4, Icmpv6}
-use Rattle.of_layers.specs.Layers.{Body, Plain, Arp, Ipv4, Ipv6, checksum}
+use Rattle.of_layers.specs.Layers.{Body, Ipv4, checksum}
 use Rattle.of_layers.specs.Looking.{look_up}
 use Rattle.of_layers.specs.Reading.{layers_of}
 use Rattle.of_rewrite.specs.Checksum.{sums_to_ones}

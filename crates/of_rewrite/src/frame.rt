@@ -1,22 +1,25 @@
 //! A frame that is rewritten in place.
 
-ghost use Rattle.std.specs.Prelude.{◌≡◌, ◌+◌, ◌≤◌, ◌<◌, ◌^◌, length, slice_range, nat_lt, IsTrue, OnOk, OnErr};
+ghost use Rattle.std.specs.Prelude.{◌≡◌, ◌+◌, ◌≤◌, ◌<◌, ◌^◌, length, slice_range, nat_lt, IsTrue, IfOk, OnOk, OnErr};
 ghost use Rattle.std.specs.Borrow.{sem};
 ghost use Rattle.of_layers.specs.Bits.{bits_of};
 ghost use Rattle.of_layers.specs.Fields.{number_of, is_settable, ones_of};
 ghost use Rattle.of_layers.specs.Layers.{spelt, ttl};
 ghost use Rattle.of_layers.specs.Reading.{layers_of, is_tag_type};
+ghost use Rattle.of_headers.specs.FieldMap.{value, field_map};
+ghost use Rattle.of_headers.specs.Known.{IsKnownOf};
 ghost use Rattle.of_rewrite.specs.Rewriting.{field_set, number_set};
 ghost use Rattle.of_rewrite.specs.Frames.{frame_set, frame_pushed, frame_popped, frame_ttl, frame_ttl_decremented};
 ghost use Rattle.of_rewrite.specs.Loans.{lent, LendsField};
 ghost use Rattle.of_rewrite.specs.Replaced.{layers_set};
 ghost use Rattle.of_rewrite.specs.Right.{StayRight};
-ghost use Rattle.of_rewrite.specs.Tags.{pushed, popped};
+ghost use Rattle.of_headers.specs.Tags.{pushed, popped};
 ghost use Rattle.of_rewrite.specs.TimeToLive.{ttl_of, dec_ttl_result, ttl_decremented_from, layers_ttl_decremented};
 
 use crate::bytes::all_bytes;
 use crate::rewrite;
 use crate::tags::{control_of, insert_tag, is_tagged, remove_tag, tag_bytes};
+use of_headers::{FieldKey, Known};
 use of_layers::Field;
 use std::alloc::{AllocError, Global};
 use std::marker::Model;
@@ -33,9 +36,13 @@ pub enum Ttl {
 }
 
 /// The bytes of a frame, at least 14, which are rewritten in place (OpenFlow 1.3.5, 5.12).
+///
+/// What is known of its headers stands beside them, so that they are read once: by the type's invariant it is what a new reading
+/// would give. A tag that is pushed or popped moves the places of all layers alike, and no field that is set decides them.
 #[derive(Debug, Drop)]
 pub struct Frame {
     bytes: Vec<u8>,
+    known: Known,
 }
 
 /// From here on one more tag would make a frame of 2^61 bytes.
@@ -54,12 +61,13 @@ fn stay_countable(bytes: &mut Vec<u8>) -> Result<(), AllocError>
 
 impl Model for Frame {
     ghost use Rattle.std.specs.Prelude.{List, ℕ, ◌≤◌, ◌<◌, ◌^◌, length};
+    ghost use Rattle.of_headers.specs.Known.{IsKnownOf};
 
     ghost Value = { List ℕ };
 
     ghost view = { λ f. f.bytes.items };
 
-    ghost invariant = { λ f. (14 ≤ length f.bytes.items) × (length f.bytes.items < 2 ^ 61) };
+    ghost invariant = { λ f. (14 ≤ length f.bytes.items) × (length f.bytes.items < 2 ^ 61) × IsKnownOf f.known f.bytes.items };
 }
 
 impl Frame {
@@ -71,7 +79,30 @@ impl Frame {
         requires most { length bytes.items < 2 ^ 61 }
         ensures { result ≡ bytes.items }
     {
-        Frame { bytes }
+        Frame {
+            bytes,
+            known: Known::Nothing,
+        }
+    }
+
+    /// A frame of these bytes, of whose headers so much is known.
+    pub fn with_known(bytes: Vec<u8>, known: Known) -> Frame
+        requires long { 14 ≤ length bytes.items }
+        requires most { length bytes.items < 2 ^ 61 }
+        requires known { IsKnownOf known bytes.items }
+        ensures { result ≡ bytes.items }
+    {
+        Frame { bytes, known }
+    }
+
+    /// The same frame again.
+    pub fn copy(&self, alloc: Global) -> Result<Frame, AllocError>
+        ensures { IfOk result (λ frame. frame ≡ self.now) }
+    {
+        Ok(Frame {
+            bytes: self.bytes.to_vec(alloc)?,
+            known: self.known,
+        })
     }
 
     /// The bytes of the frame.
@@ -106,7 +137,9 @@ impl Frame {
         all_bytes(&self.bytes);
         let control = control_of(&self.bytes);
         let tag = tag_bytes(tpid, control);
-        insert_tag(&mut self.bytes, &tag)
+        insert_tag(&mut self.bytes, &tag)?;
+        self.known = self.known.pushed();
+        Ok(())
     }
 
     /// Pops the outermost VLAN tag (OpenFlow 1.3.5, 5.12). Without a tag nothing changes.
@@ -118,6 +151,7 @@ impl Frame {
         all_bytes(&self.bytes);
         if is_tagged(&self.bytes) {
             remove_tag(&mut self.bytes);
+            self.known = self.known.popped();
         }
     }
 
@@ -133,14 +167,16 @@ impl Frame {
         ensures length { length self.new ≡ length self.old }
         ensures checksums { StayRight self.old self.new }
     {
-        rewrite::set_field(&mut self.bytes, field, value);
+        let layout = self.known.layout(&self.bytes);
+        rewrite::set_field(&mut self.bytes, layout, field, value);
+        self.known = Known::Places(layout);
     }
 
     /// IPv4's TTL or IPv6's hop limit, if the frame has an IP layer (RFC 791, 3.1; RFC 8200, 3).
     pub fn ttl(&self) -> Option<u8>
         ensures { result ≡ ttl_of (layers_of self.now) }
     {
-        rewrite::ttl_in(&self.bytes)
+        rewrite::ttl_in(&self.bytes, self.known.layout(&self.bytes))
     }
 
     /// Replaces IPv4's TTL or IPv6's hop limit, and updates the checksum of an IPv4 header. Without an IP layer nothing changes.
@@ -151,7 +187,9 @@ impl Frame {
         ensures length { length self.new ≡ length self.old }
         ensures checksums { StayRight self.old self.new }
     {
-        rewrite::set_ttl(&mut self.bytes, value);
+        let layout = self.known.layout(&self.bytes);
+        rewrite::set_ttl(&mut self.bytes, layout, value);
+        self.known = Known::Places(layout);
     }
 
     /// Decrements IPv4's TTL or IPv6's hop limit, and updates the checksum of an IPv4 header.
@@ -165,7 +203,33 @@ impl Frame {
         ensures length { length self.new ≡ length self.old }
         ensures checksums { StayRight self.old self.new }
     {
-        rewrite::dec_ttl(&mut self.bytes)
+        let layout = self.known.layout(&self.bytes);
+        let ttl = rewrite::dec_ttl(&mut self.bytes, layout);
+        self.known = Known::Places(layout);
+        ttl
+    }
+
+    /// The fields of the frame, as a lookup of a packet from this port with this metadata sees them (OpenFlow 1.3.5, 5.3).
+    ///
+    /// What is not known of its headers is read for this call alone ([`Frame::read_headers`]).
+    pub fn key(&self, in_port: u32, metadata: u64) -> FieldKey
+        ensures { value result ≡ field_map (layers_of self.now) in_port metadata }
+    {
+        self.known.key(&self.bytes, in_port, metadata)
+    }
+
+    /// Reads what is not known of its headers, and keeps it for the calls that follow.
+    pub fn read_headers(&mut self)
+        ensures { self.new ≡ self.old }
+    {
+        self.known = self.known.read(&self.bytes);
+    }
+
+    /// What is known of its headers.
+    pub fn known(&self) -> Known
+        ensures { IsKnownOf result self.now }
+    {
+        self.known
     }
 
     /// Whether [`Frame::field_mut`] lends a field: it fills whole bytes, and the frame has it.
@@ -174,18 +238,21 @@ impl Frame {
     pub fn lends(&self, field: Field) -> bool
         ensures { result ≡ nat_lt (lent field self.now).0 (lent field self.now).1 }
     {
-        !rewrite::field_range(&self.bytes, field).is_empty()
+        let layout = self.known.layout(&self.bytes);
+        !rewrite::field_range(&self.bytes, layout, field).is_empty()
     }
 
     /// Borrows the bytes of a field that fills whole bytes, mutably, and no bytes for another field ([`Frame::lends`]).
     ///
-    /// No checksum is updated.
+    /// No checksum is updated. What was known of the headers is forgotten, since the bytes that are written may decide the layers.
     pub fn field_mut(&mut self, field: Field) -> &mut [u8]
         ensures* lends { sem 𝓛 (LendsField self.entry field result) }
         ensures bytes { result.now ≡ slice_range self.old (lent field self.old).0 (lent field self.old).1 }
         ensures inside { ((lent field self.old).0 ≤ (lent field self.old).1) × ((lent field self.old).1 ≤ length self.old) }
     {
-        let range = rewrite::field_range(&self.bytes, field);
+        let layout = self.known.layout(&self.bytes);
+        let range = rewrite::field_range(&self.bytes, layout, field);
+        self.known = Known::Nothing;
         self.bytes.slice_mut(range)
     }
 }

@@ -1,6 +1,10 @@
-//! What the update of a checksum keeps.
+//! What the update of a checksum keeps, and what calls keep of what is known.
 
 ghost use Rattle.std.specs.Prelude.{ℕ, ◌≡◌, ◌<◌, ◌+◌, ◌%◌, ◌∷◌, ◌++◌, IsTrue, List, length, sum};
+ghost use Rattle.of_headers.specs.declared.known.Known.{Known};
+ghost use Rattle.of_headers.specs.Known.{IsKnownOf};
+ghost use Rattle.of_rewrite.specs.Frames.{IsFrame};
+ghost use Rattle.of_rewrite.specs.Calls.{Call, AreAllowed, frame_after_all, known_after_all};
 ghost use Rattle.of_rewrite.specs.Checksum.{updated, never_zero, sums_to_ones, AreWords};
 
 /// A checksum that was right is right after it is updated: with all the words that it covers it sums up to all ones (RFC 1071, 1).
@@ -14,4 +18,11 @@ pub fn stays_right()
     ensures staying { (c w : ℕ) (a x b y : List ℕ) → length a ≡ length x → updated c (a ++ (w ∷ b)) (x ++ (w ∷ y)) ≡ updated c (a ++ b) (x ++ y) }
     ensures off { (c : ℕ) (old new : List ℕ) → c < 65536 → AreWords old → length old ≡ length new → (updated c old new + sum new) % 65535 ≡ (c + sum old) % 65535 }
     ensures udp { (c : ℕ) (new : List ℕ) → IsTrue (sums_to_ones (c ∷ new)) → IsTrue (sums_to_ones (never_zero c ∷ new)) }
+{}
+
+/// After any calls of a frame, what is still known of its headers is what a new reading of its bytes would give.
+///
+/// So the fields that a frame gives at places that were kept are those of its bytes.
+pub fn known_stays_right()
+    ensures { (calls : List Call) (known : Known) (frame : List ℕ) → IsFrame frame → AreAllowed calls frame → IsKnownOf known frame → IsKnownOf (known_after_all calls known) (frame_after_all calls frame) }
 {}

@@ -19,7 +19,7 @@ use crate::bytes::all_bytes;
 use crate::frame::Ttl;
 use crate::renewal::{put_sums, sums_in};
 use crate::writing::put_number;
-use of_headers::{Layout, Network, layout_in};
+use of_headers::{Layout, Network};
 use of_layers::{Field, Place};
 use std::ops::Range;
 
@@ -40,17 +40,17 @@ pub fn set_number(bytes: &mut [u8], layout: Layout, place: Place, value: u128)
 }
 
 /// Replaces a field, and updates each checksum that covers it. Where the frame has no such field nothing changes.
-pub fn set_field(bytes: &mut [u8], field: Field, value: u128)
+pub fn set_field(bytes: &mut [u8], layout: Layout, field: Field, value: u128)
     requires settable { IsTrue (is_settable field) }
     requires long { 14 ≤ length bytes.old }
     requires short { length bytes.old < 2 ^ 61 }
+    requires layout { layout ≡ layout_of (layers_of bytes.old) }
     ensures bits { bits_of bytes.new ≡ spelt (field_set field value (layers_of bytes.old)) }
     ensures frame { bytes.new ≡ frame_set field value bytes.old }
     ensures layers { layers_of bytes.new ≡ layers_set (number_of field) value (layers_of bytes.old) }
     ensures checksums { StayRight bytes.old bytes.new }
 {
     all_bytes(bytes);
-    let layout = layout_in(bytes);
     if let Some(place) = layout.place(field) {
         set_number(bytes, layout, place, value);
     }
@@ -70,16 +70,16 @@ fn ttl_byte(layout: Layout) -> Option<usize>
 }
 
 /// Replaces IPv4's TTL or IPv6's hop limit, and updates the checksum of an IPv4 header. Without an IP layer nothing changes.
-pub fn set_ttl(bytes: &mut [u8], value: u8)
+pub fn set_ttl(bytes: &mut [u8], layout: Layout, value: u8)
     requires long { 14 ≤ length bytes.old }
     requires short { length bytes.old < 2 ^ 61 }
+    requires layout { layout ≡ layout_of (layers_of bytes.old) }
     ensures bits { bits_of bytes.new ≡ spelt (number_set ttl value (layers_of bytes.old)) }
     ensures frame { bytes.new ≡ frame_ttl value bytes.old }
     ensures layers { layers_of bytes.new ≡ layers_set ttl value (layers_of bytes.old) }
     ensures checksums { StayRight bytes.old bytes.new }
 {
     all_bytes(bytes);
-    let layout = layout_in(bytes);
     if let Some(at) = ttl_byte(layout) {
         let place = Place {
             first: 8 * at,
@@ -90,15 +90,15 @@ pub fn set_ttl(bytes: &mut [u8], value: u8)
 }
 
 /// IPv4's TTL or IPv6's hop limit, if the frame has an IP layer.
-pub fn ttl_in(bytes: &[u8]) -> Option<u8>
+pub fn ttl_in(bytes: &[u8], layout: Layout) -> Option<u8>
     requires long { 14 ≤ length bytes.now }
     requires short { length bytes.now < 2 ^ 61 }
+    requires layout { layout ≡ layout_of (layers_of bytes.now) }
     ensures value { result ≡ ttl_of (layers_of bytes.now) }
     ensures frame { bytes.now ≡ bytes_in (cells (layers_of bytes.now)) }
     ensures spelt { bits_of bytes.now ≡ spelt (cells (layers_of bytes.now)) }
 {
     all_bytes(bytes);
-    let layout = layout_in(bytes);
     match ttl_byte(layout) {
         Some(at) => Some(bytes[at]),
         None => None,
@@ -106,35 +106,36 @@ pub fn ttl_in(bytes: &[u8]) -> Option<u8>
 }
 
 /// Decrements IPv4's TTL or IPv6's hop limit, and updates the checksum of an IPv4 header.
-pub fn dec_ttl(bytes: &mut [u8]) -> Ttl
+pub fn dec_ttl(bytes: &mut [u8], layout: Layout) -> Ttl
     requires long { 14 ≤ length bytes.old }
     requires short { length bytes.old < 2 ^ 61 }
+    requires layout { layout ≡ layout_of (layers_of bytes.old) }
     ensures answer { result ≡ dec_ttl_result (ttl_of (layers_of bytes.old)) }
     ensures bits { bits_of bytes.new ≡ spelt (ttl_decremented_from (ttl_of (layers_of bytes.old)) (layers_of bytes.old)) }
     ensures frame { bytes.new ≡ frame_ttl_decremented bytes.old }
     ensures layers { layers_of bytes.new ≡ layers_ttl_decremented (ttl_of (layers_of bytes.old)) (layers_of bytes.old) }
     ensures checksums { StayRight bytes.old bytes.new }
 {
-    match ttl_in(bytes) {
+    match ttl_in(bytes, layout) {
         None => Ttl::Absent,
         Some(0 | 1) => Ttl::Expired,
         Some(old) => {
-            set_ttl(bytes, old - 1);
+            set_ttl(bytes, layout, old - 1);
             Ttl::Done
         }
     }
 }
 
 /// The bytes of a field that fills whole bytes; none for other fields, nor where the frame lacks it.
-pub fn field_range(bytes: &[u8], field: Field) -> Range<usize>
+pub fn field_range(bytes: &[u8], layout: Layout, field: Field) -> Range<usize>
     requires long { 14 ≤ length bytes.now }
     requires short { length bytes.now < 2 ^ 61 }
+    requires layout { layout ≡ layout_of (layers_of bytes.now) }
     ensures bounds { (result.start, result.end) ≡ lent field bytes.now }
     ensures order { result.start ≤ result.end }
     ensures room { result.end ≤ length bytes.now }
 {
     all_bytes(bytes);
-    let layout = layout_in(bytes);
     match layout.place(field) {
         Some(place) if place.first % 8 == 0 && place.bits % 8 == 0 => {
             place.first / 8..(place.first + place.bits) / 8

@@ -2,5 +2,4 @@ pub mod TurnLemmas
 pub mod CutLemmas
 pub mod Steps
 pub mod FileLemmas
-pub mod MemoryLemmas
 pub mod ConnectionLemmas

@@ -11,7 +11,8 @@ came_of line.Open = Opened
 came_of line.Idle = Answered Idle
 came_of (line.Gives bytes) = Answered (Gave bytes)
 came_of line.End = Answered Ended
+came_of line.Fault = Answered Failed
 
--- the lines of the script that were answered, then the faults
+-- the lines of the script that were answered, then the faults after its end
 abbrev pub told : MemoryPeers → List Came
-told p = map came_of (take p.at p.script.items) ++ replicate (p.accept_failures + p.read_failures) (Answered Failed)
+told p = map came_of (take p.at p.script.items) ++ replicate (p.late_accepts + p.late_reads) (Answered Failed)

@@ -2,7 +2,7 @@
 ghost use Rattle.std.specs.Prelude.{◌≡◌, ◌⊎◌, ◌≤◌, ◌++◌, ◌∷◌, [], Err as Failed, length, take, drop, OnOk, OnErr, IfOk, IfErr, not};
 ghost use Rattle.std.specs.List.{flat_map};
 ghost use Rattle.of_session.specs.Session.{is_disconnected};
-ghost use Rattle.of_switch.specs.declared.event.Event.TheVariants.{Lost as Loss, Piece as ReasonMasks};
+ghost use Rattle.of_switch.specs.declared.event.Event.TheVariants.{Lost as Loss, Piece as Received};
 ghost use Rattle.of_switch.specs.declared.switch_error.SwitchError.TheVariants.{NoMemory};
 ghost use Rattle.of_replay.specs.Rows.{with_bytes};
 ghost use Rattle.of_replay.specs.Stepping.{row_happened};
@@ -189,8 +189,8 @@ impl<L: Lookup> Gathering<L> {
 
     // Receives bytes of the controller, unless they are refused.
     fn take(&mut self, piece: &[u8]) -> Result<(), SwitchError>
-        ensures heard { (result ≡ Failed NoMemory) ⊎ (self.new ≡ gathered (ReasonMasks piece.now ∷ []) self.old) }
-        ensures memory { result ≡ Failed NoMemory → CutIn (ReasonMasks piece.now ∷ []) self.old self.new }
+        ensures heard { (result ≡ Failed NoMemory) ⊎ (self.new ≡ gathered (Received piece.now ∷ []) self.old) }
+        ensures memory { result ≡ Failed NoMemory → CutIn (Received piece.now ∷ []) self.old self.new }
     {
         self.switch.feed(piece)?;
         self.handle_all()
@@ -198,8 +198,8 @@ impl<L: Lookup> Gathering<L> {
 
     /// Receives bytes of the controller, and handles each whole message; without a connection they are lost.
     pub fn hear(&mut self, piece: &[u8]) -> Result<(), AllocError>
-        ensures ok { OnOk result (self.new ≡ gathered (ReasonMasks piece.now ∷ []) self.old) }
-        ensures err { OnErr result (CutIn (ReasonMasks piece.now ∷ []) self.old self.new) }
+        ensures ok { OnOk result (self.new ≡ gathered (Received piece.now ∷ []) self.old) }
+        ensures err { OnErr result (CutIn (Received piece.now ∷ []) self.old self.new) }
     {
         match self.take(piece) {
             Ok(()) => Ok(()),

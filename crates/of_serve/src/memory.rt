@@ -1,4 +1,4 @@
-//! Peers and a clock in memory, whose accepts, reads and writes can be made to fail.
+//! Peers and a clock in memory, of which each accept, read and write can be made to fail.
 ghost use Rattle.std.specs.Bool.{OnTrue};
 ghost use Rattle.std.specs.Prelude.{◌≡◌, ◌++◌, ◌+◌, ◌<◌, ◌≤◌, ◌^◌, ◌∷◌, [], None, Some, length, take, min, IfOk, OnOk, OnErr};
 
@@ -19,6 +19,29 @@ pub enum Line {
     Gives(Bytes),
     /// There are no more bytes.
     End,
+    /// The accept or the read fails.
+    Fault,
+}
+
+/// Which calls of peers fail, beside those that their script says. Accepts, reads and writes are counted together, from 1.
+#[derive(Clone, Copy, Debug, PartialEq, Eq)]
+pub enum Failing {
+    /// None of them.
+    Never,
+    /// That call.
+    Once(u64),
+    /// That call and each after it.
+    From(u64),
+}
+
+impl Failing {
+    fn fails(self, call: u64) -> bool {
+        match self {
+            Failing::Never => false,
+            Failing::Once(number) => call == number,
+            Failing::From(number) => call >= number,
+        }
+    }
 }
 
 // What a connection took.
@@ -50,51 +73,44 @@ impl Model for Taken {
 /// Peers whose accepts and reads answer the lines of a script, one after the other. It records what they answered, and
 /// what each connection took.
 ///
-/// A call that the next line does not fit, as a read where a peer connects, is a Fault, and so is each accept and read
-/// after it, and one for which there is no memory.
+/// An accept passes over what the connection before it had still to give. An accept or a read fails where `Failing` says
+/// so, where the next line does not fit it, as a read where a peer connects, where there is no further line, and where
+/// memory runs out. It takes the place of the next line.
 #[derive(Drop)]
 pub struct MemoryPeers {
     script: Vec<Line>,
     /// How many lines were answered.
     at: usize,
-    /// The first accept or read that fails, counted from 1; 0: none.
-    fails_at: u64,
+    failing: Failing,
+    /// How many calls there were, or the greatest number where there were more.
+    calls: u64,
     accepts: u64,
     reads: u64,
     accept_failures: u64,
-    read_failures: u64,
+    /// How many accepts and reads there were after the last line.
+    late_accepts: u64,
+    late_reads: u64,
     /// What connections took, the newest first.
     taken: Vec<Taken>,
     /// How many bytes a write takes at most.
     piece: usize,
-    /// The first write that fails, counted from 1; 0: none.
-    write_fails_at: u64,
-    /// How many writes there were, or the greatest number where there were more.
-    writes: u64,
     write_failures: u64,
     alloc: Global,
     ghost within: { at ≤ length script.items },
+    ghost ended: { at < length script.items → late_accepts + late_reads ≡ 0 },
     ghost some: { 0 < piece },
     ghost few: { accept_failures ≤ accepts },
-    ghost few_reads: { read_failures ≤ reads },
+    ghost few_late: { (late_accepts ≤ accepts) × (late_reads ≤ reads) },
 }
 
 impl MemoryPeers {
-    ghost use Rattle.std.specs.Bool.{OnFalse};
     ghost use Rattle.of_serve.specs.Memory.{told};
 
-    /// Peers of that script, whose writes take `piece` bytes at most. From the accept or read `fails_at` on, counted from
-    /// 1, each fails, and from the write `write_fails_at` on each write; 0: none does.
-    pub fn new(
-        alloc: Global,
-        script: Vec<Line>,
-        piece: usize,
-        fails_at: u64,
-        write_fails_at: u64,
-    ) -> MemoryPeers
+    /// Peers of that script, whose writes take `piece` bytes at most.
+    pub fn new(alloc: Global, script: Vec<Line>, piece: usize, failing: Failing) -> MemoryPeers
         requires { 0 < piece }
         ensures script { result.script.items ≡ script.items }
-        ensures settings { (result.piece ≡ piece) × (result.fails_at ≡ fails_at) × (result.write_fails_at ≡ write_fails_at) }
+        ensures settings { (result.piece ≡ piece) × (result.failing ≡ failing) }
         ensures told { told result ≡ [] }
         ensures taken { result.taken.items ≡ [] }
         ensures counts { (result.accepts ≡ 0) × (result.reads ≡ 0) × (result.accept_failures ≡ 0) × (result.write_failures ≡ 0) }
@@ -102,15 +118,15 @@ impl MemoryPeers {
         MemoryPeers {
             script,
             at: 0,
-            fails_at,
+            failing,
+            calls: 0,
             accepts: 0,
             reads: 0,
             accept_failures: 0,
-            read_failures: 0,
+            late_accepts: 0,
+            late_reads: 0,
             taken: Vec::new(alloc),
             piece,
-            write_fails_at,
-            writes: 0,
             write_failures: 0,
             alloc,
         }
@@ -119,16 +135,6 @@ impl MemoryPeers {
     /// The bytes that the connection of that place took, the newest first.
     pub fn taken(&self, place: usize) -> Option<&[u8]> {
         Some(&self.taken.get(place)?.bytes)
-    }
-
-    // Whether the next accept or read fails.
-    fn fails_now(&self) -> bool
-        ensures { OnFalse result ((self.now.accept_failures ≡ 0) × (self.now.read_failures ≡ 0)) }
-    {
-        let calls = self.accepts.saturating_add(self.reads);
-        self.accept_failures > 0
-            || self.read_failures > 0
-            || (self.fails_at != 0 && self.fails_at <= calls.saturating_add(1))
     }
 }
 
@@ -152,24 +158,62 @@ impl MemoryPeers {
         }
     }
 
+    // Forgets what the connection before had still to give.
+    fn pass_over(&mut self)
+        ensures told { told self.new ≡ told self.old }
+        ensures taken { self.new.taken.items ≡ self.old.taken.items }
+        ensures late { (self.new.late_accepts ≡ self.old.late_accepts) × (self.new.late_reads ≡ self.old.late_reads) }
+        ensures same { (self.new.accepts ≡ self.old.accepts) × (self.new.reads ≡ self.old.reads) × (self.new.accept_failures ≡ self.old.accept_failures) × (self.new.write_failures ≡ self.old.write_failures) }
+    {
+        while let Some(Line::Gives(_) | Line::End) = self.script.get(self.at) {
+            let _ = self.script.remove(self.at);
+        }
+    }
+
+    // A fault takes the place of the next line, if there is one.
+    fn spoil(&mut self) -> bool
+        ensures spoilt { OnTrue result (told self.new ≡ told self.old ++ Answered Failed ∷ []) }
+        ensures ended { OnFalse result ((self.new.at ≡ length self.new.script.items) × (told self.new ≡ told self.old)) }
+        ensures taken { self.new.taken.items ≡ self.old.taken.items }
+        ensures late { (self.new.late_accepts ≡ self.old.late_accepts) × (self.new.late_reads ≡ self.old.late_reads) }
+        ensures same { (self.new.accepts ≡ self.old.accepts) × (self.new.reads ≡ self.old.reads) × (self.new.accept_failures ≡ self.old.accept_failures) × (self.new.write_failures ≡ self.old.write_failures) }
+    {
+        let place = self.at;
+        if place < self.script.len() {
+            self.script[place] = Line::Fault;
+            self.at += 1;
+            true
+        } else {
+            false
+        }
+    }
+
     fn fail_accept(&mut self) -> Accepted
-        requires { self.old.accept_failures < self.old.accepts }
+        requires failures { self.old.accept_failures < self.old.accepts }
+        requires late { self.old.late_accepts < self.old.accepts }
         ensures fault { result ≡ Accepted.Fault }
         ensures told { told self.new ≡ told self.old ++ Answered Failed ∷ [] }
         ensures failures { self.new.accept_failures ≡ self.old.accept_failures + 1 }
         ensures same { (self.new.accepts ≡ self.old.accepts) × (self.new.reads ≡ self.old.reads) × (self.new.write_failures ≡ self.old.write_failures) × (self.new.taken.items ≡ self.old.taken.items) }
     {
         self.accept_failures += 1;
+        if self.spoil() {
+            return Accepted::Fault;
+        }
+        self.late_accepts += 1;
         Accepted::Fault
     }
 
     fn fail_read(&mut self) -> Reading
-        requires { self.old.read_failures < self.old.reads }
+        requires { self.old.late_reads < self.old.reads }
         ensures fault { result ≡ Reading.Fault }
         ensures told { told self.new ≡ told self.old ++ Answered Failed ∷ [] }
         ensures same { (self.new.accepts ≡ self.old.accepts) × (self.new.reads ≡ self.old.reads) × (self.new.accept_failures ≡ self.old.accept_failures) × (self.new.write_failures ≡ self.old.write_failures) × (self.new.taken.items ≡ self.old.taken.items) }
     {
-        self.read_failures += 1;
+        if self.spoil() {
+            return Reading::Fault;
+        }
+        self.late_reads += 1;
         Reading::Fault
     }
 
@@ -177,7 +221,7 @@ impl MemoryPeers {
     fn begin(&mut self) -> bool
         ensures took { OnTrue result (self.new.taken.items ≡ [] ∷ self.old.taken.items) }
         ensures not { OnFalse result (self.new.taken.items ≡ self.old.taken.items) }
-        ensures told { (self.new.script.items ≡ self.old.script.items) × (self.new.at ≡ self.old.at) × (self.new.read_failures ≡ self.old.read_failures) }
+        ensures told { (self.new.script.items ≡ self.old.script.items) × (self.new.at ≡ self.old.at) × (self.new.late_accepts ≡ self.old.late_accepts) × (self.new.late_reads ≡ self.old.late_reads) }
         ensures same { (self.new.accepts ≡ self.old.accepts) × (self.new.reads ≡ self.old.reads) × (self.new.accept_failures ≡ self.old.accept_failures) × (self.new.write_failures ≡ self.old.write_failures) }
     {
         let taken = Taken {
@@ -206,8 +250,10 @@ impl Peers for MemoryPeers {
     ghost write_failures = { λ p. p.write_failures };
 
     fn accept(&mut self) -> Accepted {
-        let fails = self.fails_now();
+        self.calls = self.calls.saturating_add(1);
+        let fails = self.failing.fails(self.calls);
         self.accepts += 1;
+        self.pass_over();
         match self.script.get(self.at) {
             Some(Line::Idle) if !fails => {
                 self.at += 1;
@@ -226,7 +272,8 @@ impl Peers for MemoryPeers {
     }
 
     fn read(&mut self, buffer: &mut [u8]) -> Reading {
-        let fails = self.fails_now();
+        self.calls = self.calls.saturating_add(1);
+        let fails = self.failing.fails(self.calls);
         self.reads += 1;
         match self.script.get(self.at) {
             Some(Line::Idle) if !fails => {
@@ -247,9 +294,9 @@ impl Peers for MemoryPeers {
     }
 
     fn write(&mut self, bytes: &[u8]) -> Writing {
-        self.writes = self.writes.saturating_add(1);
+        self.calls = self.calls.saturating_add(1);
+        let fails = self.failing.fails(self.calls);
         let count = self.piece.min(bytes.len());
-        let fails = self.write_fails_at != 0 && self.write_fails_at <= self.writes;
         if fails {
             self.write_failures += 1;
             return Writing::Fault;

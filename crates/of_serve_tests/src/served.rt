@@ -1,13 +1,17 @@
-use of_classifier::Scan;
+use of_cache::Cached;
+use of_mask_groups::MaskGroups;
 use of_replay::Ended;
 use of_replay::memory::{MemorySink, MemorySource};
-use of_serve::memory::{Line, MemoryClock, MemoryPeers};
+use of_serve::memory::{Failing, Line, MemoryClock, MemoryPeers};
 use of_serve::{read_rows, serve};
 use of_switch::Event;
 use of_wire::Bytes;
 use std::alloc::Global;
 use std::process::Abort;
 use std::test::Fail;
+
+/// How the running switch looks entries up.
+type Lookups = Cached<MaskGroups>;
 
 /// HELLO; a FLOW_MOD that adds a flow of priority 10 for IN_PORT 1, with APPLY of OUTPUT 2; BARRIER_REQUEST of xid 3.
 const HELLO: &str = "0400000800000001";
@@ -46,41 +50,31 @@ fn gives(alloc: Global, parts: &[&str]) -> Result<Line, Fail> {
 }
 
 // A controller that says HELLO, adds a flow and asks for a barrier, and then goes.
-fn asking(alloc: Global) -> Result<Vec<Line>, Fail> {
-    let mut script = Vec::new(alloc);
+fn push_asking(alloc: Global, script: &mut Vec<Line>) -> Result<(), Fail> {
     script.push(Line::Open)?;
     script.push(gives(alloc, &[HELLO, FLOW, BARRIER])?)?;
-    script.push(Line::End)?;
+    Ok(script.push(Line::End)?)
+}
+
+// Two of them, and then nobody.
+fn asking_twice(alloc: Global) -> Result<Vec<Line>, Fail> {
+    let mut script = Vec::new(alloc);
+    push_asking(alloc, &mut script)?;
+    push_asking(alloc, &mut script)?;
+    for _ in 0..8 {
+        script.push(Line::Idle)?;
+    }
     Ok(script)
 }
 
-// Serves that controller for three turns, whose writes take a byte each.
-fn served(alloc: Global, fails_at: u64, write_fails_at: u64) -> Result<(Ended, MemoryPeers), Fail> {
-    let mut peers = MemoryPeers::new(alloc, asking(alloc)?, 1, fails_at, write_fails_at);
+// Serves them for eight turns; writes take a byte each.
+fn served_twice(alloc: Global, failing: Failing) -> Result<(Ended, MemoryPeers), Fail> {
+    let mut peers = MemoryPeers::new(alloc, asking_twice(alloc)?, 1, failing);
     let mut clock = MemoryClock::new(Vec::new(alloc));
     let mut out = MemorySink::new(alloc, 7, 0);
     let rows = Vec::new(alloc);
-    let ended = serve::<Scan, _, _, _>(alloc, 1, &mut peers, &mut clock, rows, 3, &mut out);
+    let ended = serve::<Lookups, _, _, _>(alloc, 1, &mut peers, &mut clock, rows, 8, &mut out);
     Ok((ended, peers))
-}
-
-// What the first connection took.
-fn is_taken(
-    rt: &impl Abort,
-    alloc: Global,
-    peers: &MemoryPeers,
-    parts: &[&str],
-) -> Result<(), Fail> {
-    let wanted = bytes_of(alloc, parts)?;
-    assert_eq!(rt; peers.taken(0).ok_or("a connection")?, wanted.as_slice());
-    Ok(())
-}
-
-#[test]
-fn barrier(rt: HostRuntime) -> Result<(), Fail> {
-    let (ended, peers) = served(rt.alloc(), 0, 0)?;
-    assert_eq!(rt; ended, Ended::Done);
-    is_taken(&rt, rt.alloc(), &peers, &[GREETING, REPLY])
 }
 
 // A controller that says HELLO, adds a flow and stays.
@@ -88,8 +82,9 @@ fn staying(alloc: Global) -> Result<Vec<Line>, Fail> {
     let mut script = Vec::new(alloc);
     script.push(Line::Open)?;
     script.push(gives(alloc, &[HELLO, FLOW])?)?;
-    script.push(Line::Idle)?;
-    script.push(Line::Idle)?;
+    for _ in 0..3 {
+        script.push(Line::Idle)?;
+    }
     Ok(script)
 }
 
@@ -98,53 +93,119 @@ fn rows(alloc: Global) -> Result<Vec<Event>, Fail> {
     Ok(read_rows(alloc, &mut file).ok().ok_or("rows")?)
 }
 
-// Serves that controller, with the rows, at three moments.
-fn served_rows(alloc: Global) -> Result<(Ended, MemoryPeers, MemorySink), Fail> {
-    let mut peers = MemoryPeers::new(alloc, staying(alloc)?, 65536, 0, 0);
+// Serves that controller, with the rows, at three moments; writes take a byte each.
+fn served_rows(alloc: Global, failing: Failing) -> Result<(Ended, MemoryPeers, MemorySink), Fail> {
+    let mut peers = MemoryPeers::new(alloc, staying(alloc)?, 1, failing);
     let mut clock = MemoryClock::new(Vec::from_slice(alloc, &[0, 1000, 2000])?);
     let mut out = MemorySink::new(alloc, 7, 0);
     let rows = rows(alloc)?;
-    let ended = serve::<Scan, _, _, _>(alloc, 1, &mut peers, &mut clock, rows, 4, &mut out);
+    let ended = serve::<Lookups, _, _, _>(alloc, 1, &mut peers, &mut clock, rows, 4, &mut out);
     Ok((ended, peers, out))
 }
 
-fn are_in_time(rt: &impl Abort, ended: Ended, sent: &[u8]) {
+// The connection of that place, the newest first, took so many of these bytes; where that is None, there was no such connection.
+fn is_taken(rt: &impl Abort, taken: Option<&[u8]>, all: &[u8], count: Option<usize>) {
+    assert_eq!(rt; taken.map(|bytes| bytes.len()), count);
+    assert!(rt; all.starts_with(taken.unwrap_or(all)));
+}
+
+// How many bytes of its answers a controller has taken when that call of its 27 fails: an accept, 16 writes of the HELLO,
+// a read, 8 writes of the BARRIER_REPLY and a read.
+fn taken_before(call: u64) -> Option<usize> {
+    let writes = if call <= 18 {
+        call.checked_sub(2)?
+    } else {
+        call.min(27) - 3
+    };
+    Some(writes as usize)
+}
+
+// Two controllers took what two of these numbers say, the first and the second.
+fn are_taken(
+    rt: &impl Abort,
+    peers: &MemoryPeers,
+    all: &[u8],
+    first: Option<usize>,
+    second: Option<usize>,
+) {
+    if second.is_some() {
+        is_taken(rt, peers.taken(1), all, first);
+        is_taken(rt, peers.taken(0), all, second);
+    } else {
+        is_taken(rt, peers.taken(0), all, first);
+        is_taken(rt, peers.taken(1), all, None);
+    }
+}
+
+fn are_served(rt: &impl Abort, call: u64, peers: &MemoryPeers, all: &[u8]) {
+    match call {
+        0..=1 => are_taken(rt, peers, all, None, None),
+        2..=27 => are_taken(rt, peers, all, taken_before(call), Some(24)),
+        _ => are_taken(
+            rt,
+            peers,
+            all,
+            Some(24),
+            taken_before(call.saturating_sub(27)),
+        ),
+    }
+}
+
+#[test]
+fn no_call_fails(rt: HostRuntime) -> Result<(), Fail> {
+    let all = bytes_of(rt.alloc(), &[GREETING, REPLY])?;
+    let (ended, peers) = served_twice(rt.alloc(), Failing::Never)?;
     assert_eq!(rt; ended, Ended::Done);
-    assert_eq!(rt; sent, SENT);
+    are_taken(&rt, &peers, &all, Some(24), Some(24));
+    Ok(())
 }
 
-// Rows happen when the clock has reached the moments before them.
+// Two controllers are served. Each call of theirs fails in turn, alone: what was written before it is all that a
+// connection takes, and the next controller is served as if nothing had happened. Only a failed accept ends serving.
 #[test]
-fn rows_in_time(rt: HostRuntime) -> Result<(), Fail> {
-    let (ended, peers, out) = served_rows(rt.alloc())?;
-    are_in_time(&rt, ended, out.bytes());
-    is_taken(&rt, rt.alloc(), &peers, &[GREETING])
-}
-
-// Each accept and read fails in turn: what was taken is a prefix of the answers.
-#[test]
-fn faults(rt: HostRuntime) -> Result<(), Fail> {
-    let alloc = rt.alloc();
-    for k in 1..4_u64 {
-        let (ended, _peers) = served(alloc, k, 0)?;
-        assert_eq!(rt; ended == Ended::Done, k == 3);
-        assert_eq!(rt; ended == Ended::ReadFault, k < 3);
+fn one_call_fails(rt: HostRuntime) -> Result<(), Fail> {
+    let all = bytes_of(rt.alloc(), &[GREETING, REPLY])?;
+    for call in 1..=55_u64 {
+        let (ended, peers) = served_twice(rt.alloc(), Failing::Once(call))?;
+        are_served(&rt, call, &peers, &all);
+        let accepts = call % 27 == 1;
+        assert_eq!(rt; ended == Ended::ReadFault, accepts);
+        assert_eq!(rt; ended == Ended::Done, !accepts);
     }
     Ok(())
 }
 
-fn is_front(rt: &impl Abort, taken: &[u8], all: &[u8], count: u64) {
-    assert!(rt; all.starts_with(taken));
-    assert_eq!(rt; taken.len() as u64, count);
+// The same, where each call after it fails as well: there is no further connection.
+#[test]
+fn calls_fail_from_one_on(rt: HostRuntime) -> Result<(), Fail> {
+    let all = bytes_of(rt.alloc(), &[GREETING, REPLY])?;
+    for call in 1..=27_u64 {
+        let (ended, peers) = served_twice(rt.alloc(), Failing::From(call))?;
+        assert_eq!(rt; ended, Ended::ReadFault);
+        is_taken(&rt, peers.taken(0), &all, taken_before(call));
+        is_taken(&rt, peers.taken(1), &all, None);
+    }
+    Ok(())
 }
 
-// The write of a byte fails, for each of the answers' first bytes: what went out before it is all that went out.
+// What is sent when that call fails: the frame comes with the second read, which is call 19.
+fn is_sent(rt: &impl Abort, call: u64, peers: &MemoryPeers, out: &MemorySink, all: &[u8]) {
+    is_taken(rt, peers.taken(0), all, taken_before(call.min(18)));
+    let wanted: &[u8] = if call < 19 { b"" } else { SENT };
+    assert_eq!(rt; out.bytes(), wanted);
+}
+
+// A controller with rows in time: call 1 is its accept, 2 to 17 are writes of the HELLO, 18 to 20 are reads.
 #[test]
-fn failed_writes(rt: HostRuntime) -> Result<(), Fail> {
-    let all = bytes_of(rt.alloc(), &[GREETING, REPLY])?;
-    for k in 1..25_u64 {
-        let (_ended, peers) = served(rt.alloc(), 0, k)?;
-        is_front(&rt, peers.taken(0).ok_or("a connection")?, &all, k - 1);
+fn calls_fail_between_rows(rt: HostRuntime) -> Result<(), Fail> {
+    let all = bytes_of(rt.alloc(), &[GREETING])?;
+    for call in 1..=21_u64 {
+        let (ended, peers, out) = served_rows(rt.alloc(), Failing::Once(call))?;
+        is_sent(&rt, call, &peers, &out, &all);
+        assert_eq!(rt; ended == Ended::Done, call > 1);
+        let (ended, peers, out) = served_rows(rt.alloc(), Failing::From(call))?;
+        is_sent(&rt, call, &peers, &out, &all);
+        assert_eq!(rt; ended == Ended::Done, call > 19);
     }
     Ok(())
 }

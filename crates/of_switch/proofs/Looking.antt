@@ -1,7 +1,7 @@
 -- The tables seen by places.
 use Rattle.std.proofs.Common.{Bor, ◌≡◌, ◌≢◌, ℕ, zero, suc, ◌+◌, ◌<◌, ◌≤◌, true, false, eqb, List, [], ◌∷◌, refl, length, Option, Some, None, sym, ap, ◌∙◌, arith, inl, inr}
 use Rattle.std.proofs.lemmas.List.{length-map}
-use Rattle.std.specs.Prelude.{slice_get}
+use Rattle.std.specs.Prelude.{slice_get, map}
 use Rattle.std.specs.Option.{option_map, option_copied}
 use Rattle.std.proofs.lemmas.Option.{slice_get-map}
 use Rattle.std.proofs.lemmas.Bool.{cases_lt}
@@ -11,7 +11,8 @@ use Rattle.of_table.specs.declared.entry.Entry.{Entry}
 use Rattle.of_table.specs.declared.flow.Flow.{Flow}
 use Rattle.of_table.specs.Table.{FlowEntry, Table, winner_place, flow_at}
 use Rattle.of_table.specs.Tables.{NumberedTables, tables_of, table_at}
-use Rattle.of_table.specs.Entries.{Numbered, no_entries, entry_of, flows_of, place_of}
+use Rattle.of_table.specs.Entries.{Numbered, no_entries, entry_of, flows_of, rows_of, place_of}
+use Rattle.of_table.specs.Sound.{Key, key_of, row_key}
 use Rattle.of_table.proofs.WinnerLemmas.{winner_within}
 use Rattle.of_actions.specs.InstructionLists.{are_kept, are_for}
 use Rattle.of_groups.specs.declared.group.Group.{Group}
@@ -109,3 +110,8 @@ few_entries n t fit =
     let few = (fit t).few in
     let same : length (table_at t (tables_of n)).flows ≡ length (entries_at n t) = ap (λ (x : Table). length x.flows) (table_is n t) ∙ length-map (entries_at n t) entry_of in
     omega (arith, few, same)
+
+-- the rows of a classifier without their numbers
+pub rows_without : (entries : List Entry) → map row_key (rows_of entries) ≡ map key_of (flows_of entries)
+rows_without [] = refl
+rows_without (e ∷ es) = ap (λ (ks : List Key). key_of (entry_of e) ∷ ks) (rows_without es)

@@ -1,14 +1,16 @@
 //! What a frame would do, found without changing anything.
-ghost use Rattle.std.specs.Prelude.{◌≡◌, ◌<◌, ◌≤◌, ◌++◌, ◌∷◌, [], true, IfOk, OnOk, OnErr, length, slice_get};
+ghost use Rattle.std.specs.Prelude.{◌≡◌, ◌<◌, ◌≤◌, ◌+◌, ◌++◌, ◌∷◌, [], true, IfOk, OnOk, OnErr, length, slice_get};
 ghost use Rattle.std.specs.Option.{option_copied, option_map};
 ghost use Rattle.of_headers.specs.FieldMap.{value};
 ghost use Rattle.of_table.specs.Entries.{entry_of, flows_of, place_of as place_of_number};
 ghost use Rattle.of_table.specs.Tables.{table_at, tables_of};
+ghost use Rattle.of_table.specs.Sound.{AreRowsOf};
 ghost use Rattle.of_switch.specs.Numbers.{Contents, contents, forwarding_of};
 ghost use Rattle.of_switch.specs.Plane.{framed, winner_in, world_of};
 ghost use Rattle.of_switch.specs.DryRun.{GainsPrefix, received_steps, steps_in};
 ghost use Rattle.of_machine.specs.Sound.{IsSound};
 ghost use Rattle.of_machine.specs.Rows.{Lookup as LookUp, entering};
+ghost use Rattle.of_machine.specs.Weights.{frame_step_bound};
 ghost use Rattle.of_machine.specs.Runs.{run_of};
 ghost use Rattle.of_switch.specs.Told.{effects_of};
 
@@ -138,6 +140,14 @@ impl<L: Lookup> Plane<L> {
         self.tables.entries(table)
     }
 
+    /// The classifier of a table, whose rows are its entries, oldest first.
+    pub fn part(&self, table: u8) -> &L
+        requires { table < 16 }
+        ensures { AreRowsOf (table_at table (tables_of self.now.tables)).flows (L.content result.now) }
+    {
+        self.tables.part(table)
+    }
+
     /// The places of the buckets of a group that run; None where there is no such group (OpenFlow 1.3.5, 5.6.1).
     pub fn buckets_for(&self, group: u32) -> Option<Chosen>
         ensures { result ≡ (world_of (forwarding_of self.now.tables self.now.groups self.now.ports)).chosen group }
@@ -156,6 +166,7 @@ impl<L: Lookup> Plane<L> {
     ) -> Result<Effects, AllocError>
         ensures effects { IfOk result (λ effects. effects.items ≡ (framed reason_masks number bytes.now (forwarding_of self.now.tables self.now.groups self.now.ports)).effects) }
         ensures steps { OnOk result (S.KEEPS ≡ true → S.list log.new ≡ S.list log.old ++ steps_in number bytes.now (forwarding_of self.now.tables self.now.groups self.now.ports)) }
+        ensures bound { S.KEEPS ≡ true → length (S.list log.new) ≤ length (S.list log.old) + frame_step_bound }
         ensures err { OnErr result (S.KEEPS ≡ true → GainsPrefix (steps_in number bytes.now (forwarding_of self.now.tables self.now.groups self.now.ports)) (S.list log.old) (S.list log.new)) }
     {
         let Some(port) = self.ports.port(number) else {
@@ -180,6 +191,7 @@ impl<L: Lookup> Plane<L> {
         requires most { length bytes.now ≤ 9216 }
         ensures effects { IfOk result (λ effects. effects.items ≡ effects_of reason_masks self.now.ports (run_of (world_of (forwarding_of self.now.tables self.now.groups self.now.ports)) (entering bytes.now number) (LookUp 0 ∷ [])).items) }
         ensures steps { OnOk result (S.KEEPS ≡ true → S.list log.new ≡ S.list log.old ++ received_steps number bytes.now (forwarding_of self.now.tables self.now.groups self.now.ports)) }
+        ensures bound { S.KEEPS ≡ true → length (S.list log.new) ≤ length (S.list log.old) + frame_step_bound }
         ensures err { OnErr result (S.KEEPS ≡ true → GainsPrefix (received_steps number bytes.now (forwarding_of self.now.tables self.now.groups self.now.ports)) (S.list log.old) (S.list log.new)) }
     {
         let mut world = Looking { plane: self };

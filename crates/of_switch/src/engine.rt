@@ -1,5 +1,5 @@
 //! What messages, frames and moments do, whatever the connection.
-ghost use Rattle.std.specs.Prelude.{◌≡◌, ◌<◌, ◌≤◌, ◌∷◌, ◌++◌, [], true, false, IfOk, OnOk, OnErr, length, map};
+ghost use Rattle.std.specs.Prelude.{◌≡◌, ◌<◌, ◌≤◌, ◌∷◌, ◌++◌, ◌+◌, [], true, false, IfOk, OnOk, OnErr, length, map};
 ghost use Rattle.of_wire.specs.Refusals.{first_of};
 ghost use Rattle.of_switch.specs.State.{new_core};
 ghost use Rattle.of_ports.specs.Ports.{has_port, new_port, port_at};
@@ -13,7 +13,9 @@ ghost use Rattle.of_actions.specs.FlowCheck.{all_go_with};
 ghost use Rattle.of_actions.specs.InstructionLists.{are_for};
 ghost use Rattle.of_messages.specs.Promised.{IsSoundFlowMod, IsSoundGroupMod, IsSoundMessage, IsSoundPacket};
 ghost use Rattle.of_switch.specs.Commands.{names_absent_group as naming_absent_group, packet_out_refusals, flow_mod_refusals, has_flag as with_flag, notice_effects, selector_of};
+ghost use Rattle.of_table.specs.Sound.{AreRowsOf};
 ghost use Rattle.of_machine.specs.Sound.{IsSound};
+ghost use Rattle.of_machine.specs.Weights.{frame_step_bound};
 ghost use Rattle.of_switch.specs.Plane.{framed, winner_in, world_of};
 ghost use Rattle.of_switch.specs.DryRun.{GainsPrefix, steps_in};
 ghost use Rattle.of_groups.specs.Groups.{modified_group, new_group};
@@ -265,6 +267,7 @@ impl<L: Lookup> Engine<L> {
     ) -> Result<Effects, AllocError>
         ensures effects { IfOk result (λ effects. effects.items ≡ (framed reason_masks number bytes.now self.now.forwarding).effects) }
         ensures steps { OnOk result (S.KEEPS ≡ true → S.list log.new ≡ S.list log.old ++ steps_in number bytes.now self.now.forwarding) }
+        ensures bound { S.KEEPS ≡ true → length (S.list log.new) ≤ length (S.list log.old) + frame_step_bound }
         ensures err { OnErr result (S.KEEPS ≡ true → GainsPrefix (steps_in number bytes.now self.now.forwarding) (S.list log.old) (S.list log.new)) }
     {
         self.plane
@@ -300,6 +303,14 @@ impl<L: Lookup> Engine<L> {
         ensures few { length result ≤ 4096 }
     {
         self.plane.entries(table)
+    }
+
+    /// The classifier of a table, whose rows are its entries, oldest first.
+    pub fn part(&self, table: u8) -> &L
+        requires { table < 16 }
+        ensures { AreRowsOf (table_at table self.now.forwarding.tables).flows (L.content result.now) }
+    {
+        self.plane.part(table)
     }
 
     /// The places of the buckets of a group that run; None where there is no such group.

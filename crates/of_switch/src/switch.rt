@@ -8,6 +8,8 @@ ghost use Rattle.of_switch.specs.State.{start};
 ghost use Rattle.of_switch.specs.DryRun.{GainsPrefix, steps_in};
 ghost use Rattle.of_headers.specs.FieldMap.{value};
 ghost use Rattle.std.specs.Prelude.{slice_get};
+ghost use Rattle.of_machine.specs.Weights.{frame_step_bound};
+ghost use Rattle.of_table.specs.Sound.{AreRowsOf};
 ghost use Rattle.of_machine.specs.Sound.{IsSound as IsSoundWorld};
 ghost use Rattle.of_switch.specs.Plane.{winner_in, world_of};
 ghost use Rattle.of_table.specs.Entries.{entry_of, flows_of};
@@ -224,7 +226,7 @@ impl<L: Lookup> Switch<L> {
     ///
     /// Nothing changes: no counter, no moment. In the steps an entry is named by its index in its table by age, from 0. A frame
     /// at a port that does not exist or may not receive, or one that is too short or too long, takes no steps. Where memory
-    /// runs out, the log has the first steps, or all.
+    /// runs out, the log has the first steps, or all. It gains 143,271,552 steps at most, whatever the flows and groups are.
     pub fn dry_run<S: StepLog>(
         &self,
         port: u32,
@@ -233,6 +235,7 @@ impl<L: Lookup> Switch<L> {
     ) -> Result<Effects, SwitchError>
         ensures effects { IfOk result (λ effects. effects.items ≡ (frame_in port frame.now self.now).effects) }
         ensures steps { OnOk result (S.KEEPS ≡ true → S.list log.new ≡ S.list log.old ++ steps_in port frame.now self.now.core.forwarding) }
+        ensures bound { S.KEEPS ≡ true → length (S.list log.new) ≤ length (S.list log.old) + frame_step_bound }
         ensures err { IfErr result (λ e. (e ≡ SwitchError.NoMemory) × (S.KEEPS ≡ true → GainsPrefix (steps_in port frame.now self.now.core.forwarding) (S.list log.old) (S.list log.new))) }
     {
         Ok(self.engine.dry_run(self.reason_masks(), port, frame, log)?)
@@ -268,6 +271,14 @@ impl<L: Lookup> Switch<L> {
         ensures few { length result ≤ 4096 }
     {
         self.engine.entries(table)
+    }
+
+    /// The classifier of a table: its rows are the entries of the table, oldest first (OpenFlow 1.3.5, 5.2). It takes no memory.
+    pub fn part(&self, table: u8) -> &L
+        requires { table < 16 }
+        ensures { AreRowsOf (table_at table self.now.core.forwarding.tables).flows (L.content result.now) }
+    {
+        self.engine.part(table)
     }
 
     /// The places of the buckets of a group that run, as its ports and groups are now; None where there is no such group

@@ -4,6 +4,8 @@
 #![tactic(auto)]
 
 #[cfg(test)]
+mod part;
+#[cfg(test)]
 mod session;
 #[cfg(test)]
 mod switch;

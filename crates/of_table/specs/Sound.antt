@@ -6,6 +6,7 @@ use Rattle.of_oxm.specs.SameMatch.{is_same_match}
 use Rattle.of_actions.specs.declared.instruction.Instruction.{Instruction}
 use Rattle.of_actions.specs.InstructionLists.{are_kept, are_for}
 use Rattle.of_actions.specs.FlowCheck.{all_go_with}
+use Rattle.of_classifier.specs.declared.Row.{Row}
 use Rattle.of_table.specs.declared.selection.Selector.{Selector}
 use Rattle.of_table.specs.Table.{FlowEntry, Table}
 use Rattle.of_table.specs.Tables.{is_in}
@@ -28,6 +29,14 @@ pub record Key : Type 0 where
 
 abbrev pub key_of : FlowEntry → Key
 key_of e = record { priority = e.flow.priority; fields = e.flow.fields }
+
+-- what a classifier keeps of an entry beside its number
+abbrev pub row_key : Row → Key
+row_key r = record { priority = r.priority; fields = r.fields }
+
+-- the rows of a classifier are the entries of a table, whatever their numbers: by age, each of its entry's priority and match
+abbrev pub AreRowsOf : List FlowEntry → List Row → Type 0
+AreRowsOf flows rows = map row_key rows ≡ map key_of flows
 
 abbrev pub is_same_key : Key → Key → Bool
 is_same_key k l = l.priority == k.priority && is_same_match l.fields k.fields

@@ -7,7 +7,7 @@ ghost use Rattle.of_headers.specs.FieldMap.{value};
 ghost use Rattle.of_wire.specs.Numbered.{is_distinct};
 ghost use Rattle.of_classifier.specs.Rows.{is_same_row};
 ghost use Rattle.of_table.specs.Table.{is_same, add_fault, winner_place, looked as one_looked_up, matched_at};
-ghost use Rattle.of_table.specs.Entries.{Numbered, AddsEntry, no_entries, table_of, entry_of, flows_of, numbers_of, row_of, entry_number, place_of, is_there, find_number};
+ghost use Rattle.of_table.specs.Entries.{Numbered, AddsEntry, no_entries, table_of, entry_of, flows_of, numbers_of, row_of, rows_of, entry_number, place_of, is_there, find_number};
 ghost use Rattle.of_table.specs.Selecting.{is_meant, stays, modified_entries, kept_of, all_told};
 ghost use Rattle.of_table.specs.Tables.{is_in as is_within, modified_numbered, kept_table, told_table};
 ghost use Rattle.of_table.specs.Copies.{Supply, wanted, wanted_in};
@@ -372,6 +372,13 @@ impl<L: Lookup> FlowTable<L> {
         ensures { result.now ≡ self.now.entries }
     {
         &self.entries[self.replaced..]
+    }
+
+    /// The classifier of the entries.
+    pub fn part(&self) -> &L
+        ensures { L.content result.now ≡ rows_of self.now.entries }
+    {
+        &self.lookup
     }
 
     /// How many packets were looked up, and how many hit an entry. They wrap.

@@ -6,7 +6,7 @@ ghost use Rattle.of_headers.specs.FieldMap.{value};
 ghost use Rattle.of_wire.specs.Numbered.{is_distinct};
 ghost use Rattle.of_table.specs.Table.{winner_place, flow_at};
 ghost use Rattle.of_table.specs.Selecting.{notices_of, all_told};
-ghost use Rattle.of_table.specs.Entries.{no_entries, flows_of, place_of, is_there, find_number, entry_number};
+ghost use Rattle.of_table.specs.Entries.{no_entries, flows_of, rows_of, place_of, is_there, find_number, entry_number};
 ghost use Rattle.of_table.specs.Tables.{no_tables, AddsFlow, numbered_at, table_at, tables_of, all_numbers, tables_fault, added_to, modified_in, left_in, notices_in, looked_in, matched_in, all_modified, all_kept, each_from, kept_table, told_from, told_in};
 ghost use Rattle.of_table.specs.Faults.{fault_in};
 ghost use Rattle.of_table.specs.Sound.{AreForAll, AreSound};
@@ -197,6 +197,14 @@ impl<L: Lookup> FlowTables<L> {
     {
         let now = self.latest;
         self.tables[table as usize].count(number, bytes, now);
+    }
+
+    /// The classifier of a table, whose rows are its entries, oldest first.
+    pub fn part(&self, table: u8) -> &L
+        requires { table < 16 }
+        ensures { L.content result.now ≡ rows_of (numbered_at table self.now).entries }
+    {
+        self.tables[table as usize].part()
     }
 
     /// The flow of the entry of that number of a table.

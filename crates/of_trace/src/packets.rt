@@ -23,8 +23,10 @@ pub fn enter(alloc: Global, port: u32, frame: &[u8]) -> Result<Packets, AllocErr
 {
     let mut packets = VecDeque::new(alloc);
     if check_length(frame).is_ok() {
+        let mut received = Frame::new(frame.to_vec(alloc)?);
+        received.read_headers();
         packets.push_front(Sight {
-            frame: Frame::new(frame.to_vec(alloc)?),
+            frame: received,
             ingress: port,
             metadata: 0,
         })?;

@@ -1,14 +1,13 @@
 //! What tables see of a packet, step by step.
 ghost use Rattle.std.specs.Prelude.{◌≡◌, IfOk, OnOk, IsTrue, false};
 ghost use Rattle.of_actions.specs.Supported.{is_supported};
-ghost use Rattle.of_headers.specs.FieldMap.{value, field_map};
-ghost use Rattle.of_layers.specs.Reading.{layers_of};
+ghost use Rattle.of_headers.specs.FieldMap.{value};
 ghost use Rattle.of_trace.specs.Notes.{ttl_seen};
 ghost use Rattle.of_trace.specs.Sights.{frame_after, key_seen, sight_after};
 ghost use Rattle.of_trace.specs.Spelt.{is_spelt};
 
 use of_actions::Action;
-use of_headers::{FieldKey, read_inside};
+use of_headers::FieldKey;
 use of_machine::Step;
 use of_rewrite::Frame;
 use std::alloc::{AllocError, Global};
@@ -27,7 +26,7 @@ impl Sight {
     pub fn key(&self) -> FieldKey
         ensures { value result ≡ key_seen self.now }
     {
-        key_of_frame(&self.frame, self.ingress, self.metadata)
+        self.frame.key(self.ingress, self.metadata)
     }
 
     /// The TTL, if the frame has an IP layer.
@@ -42,13 +41,13 @@ impl Sight {
         ensures { IfOk result (λ s. s ≡ self.now) }
     {
         Ok(Sight {
-            frame: Frame::new(self.frame.bytes().to_vec(alloc)?),
+            frame: self.frame.copy(alloc)?,
             ingress: self.ingress,
             metadata: self.metadata,
         })
     }
 
-    /// What it is after a step.
+    /// What it is after a step. Its headers are read if an action changed them.
     pub fn after(&self, alloc: Global, step: Step) -> Result<Sight, AllocError>
         requires { IsTrue (is_spelt step) }
         ensures { IfOk result (λ s. s ≡ sight_after step self.now) }
@@ -58,19 +57,13 @@ impl Sight {
             Step::Metadata { value, mask } => {
                 after.metadata = (after.metadata & !mask) | (value & mask);
             }
-            Step::Act(action) => act_on(&mut after.frame, action)?,
+            Step::Act(action) => {
+                act_on(&mut after.frame, action)?;
+                after.frame.read_headers();
+            }
             _ => {}
         }
         Ok(after)
-    }
-}
-
-fn key_of_frame(frame: &Frame, ingress: u32, metadata: u64) -> FieldKey
-    ensures { value result ≡ field_map (layers_of frame.now) ingress metadata }
-{
-    match read_inside(frame.bytes(), ingress, metadata) {
-        Ok(headers) => headers.key(),
-        Err(_) => unreachable!(),
     }
 }
 

@@ -1,5 +1,6 @@
 //! Frames, traced.
-ghost use Rattle.std.specs.Prelude.{◌≡◌, IfOk, IfErr};
+ghost use Rattle.std.specs.Prelude.{◌≡◌, ◌≤◌, IfOk, IfErr, length};
+ghost use Rattle.of_machine.specs.Weights.{frame_step_bound};
 ghost use Rattle.of_switch.specs.DryRun.{steps_in};
 ghost use Rattle.of_switch.specs.Steps.{frame_in};
 
@@ -19,6 +20,7 @@ pub fn trace<L: Lookup>(
     frame: &[u8],
 ) -> Result<Trace, SwitchError>
     ensures steps { IfOk result (λ trace. trace.steps.items ≡ steps_in port frame.now switch.now.core.forwarding) }
+    ensures bound { IfOk result (λ trace. length trace.steps.items ≤ frame_step_bound) }
     ensures effects { IfOk result (λ trace. trace.effects.items ≡ (frame_in port frame.now switch.now).effects) }
     ensures err { IfErr result (λ e. e ≡ SwitchError.NoMemory) }
 {

@@ -2,14 +2,15 @@
 #![tactic(auto)]
 
 mod hinting;
+mod lookups;
 mod refusals;
 mod serving;
 mod sockets;
 
+use crate::lookups::Lookups;
 use hinting::say_hint;
 use of_command_line::{Asked, NoRequest, Request, Serve, read_request};
 use of_explain::explain;
-use of_mask_groups::MaskGroups;
 use of_replay::streams::{ReaderSource, WriterSink};
 use of_replay::{Ended, asm, dis, replay, status};
 use of_serve::read_rows;
@@ -119,15 +120,17 @@ fn run<R: Read + Drop>(rt: &HostRuntime, request: &Request, reader: R) -> Ended 
     let mut reader = ReaderSource::new(reader);
     let mut writer = WriterSink::new(rt.stdout());
     match request {
-        Request::Replay { explain: true, .. } => {
-            explain::<MaskGroups, _, _>(rt.alloc(), &mut reader, &mut writer)
-        }
-        Request::Replay { .. } => {
-            replay::<MaskGroups, _, _>(rt.alloc(), &mut reader, &mut writer)
+        Request::Replay {
+            dpid,
+            explain: true,
+            ..
+        } => explain::<Lookups, _, _>(rt.alloc(), *dpid, &mut reader, &mut writer),
+        Request::Replay { dpid, .. } => {
+            replay::<Lookups, _, _>(rt.alloc(), *dpid, &mut reader, &mut writer)
         }
         Request::Assemble { .. } => asm(rt.alloc(), &mut reader, &mut writer),
         Request::Disassemble { .. } => {
-            dis::<MaskGroups, _, _>(rt.alloc(), &mut reader, &mut writer)
+            dis::<Lookups, _, _>(rt.alloc(), &mut reader, &mut writer)
         }
         Request::Trace {
             port,
@@ -137,7 +140,7 @@ fn run<R: Read + Drop>(rt: &HostRuntime, request: &Request, reader: R) -> Ended 
             ..
         } => {
             let form = form_of(*explain, *why);
-            trace_file::<MaskGroups, _, _>(rt.alloc(), &mut reader, *port, frame, form, &mut writer)
+            trace_file::<Lookups, _, _>(rt.alloc(), &mut reader, *port, frame, form, &mut writer)
         }
         Request::Serve(_) => Ended::Done,
     }

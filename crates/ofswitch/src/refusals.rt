@@ -1,6 +1,6 @@
 //! Rows of an event file that the switch refuses, on standard error.
 use crate::hinting::bytes_of;
-use of_mask_groups::MaskGroups;
+use crate::lookups::Lookups;
 use of_switch::{Event, PortChange, Switch, SwitchError};
 
 // A row that is refused when the clock reaches it.
@@ -36,13 +36,13 @@ fn row_lines(rt: &HostRuntime, path: &str) -> Option<Vec<usize>> {
 }
 
 // Why a change of ports is refused, if it is.
-fn refusal(switch: &mut Switch<MaskGroups>, change: PortChange) -> Option<SwitchError> {
+fn refusal(switch: &mut Switch<Lookups>, change: PortChange) -> Option<SwitchError> {
     switch.port_change(change).err()
 }
 
 // Appends the rows that a switch refuses; None where memory runs out.
 fn push_refused(
-    switch: &mut Switch<MaskGroups>,
+    switch: &mut Switch<Lookups>,
     events: &[Event],
     lines: &[usize],
     rows: &mut Vec<Refused>,
@@ -68,7 +68,7 @@ fn push_refused(
 // Only rows of ports can be refused, and which ports there are is for these rows alone to say. So a switch on which nothing
 // else happens refuses the same rows as the one that serves.
 fn refused_rows(rt: &HostRuntime, events: &[Event], lines: &[usize]) -> Option<Vec<Refused>> {
-    let mut switch = Switch::<MaskGroups>::new(rt.alloc(), 1).ok()?;
+    let mut switch = Switch::<Lookups>::new(rt.alloc(), 1).ok()?;
     let mut rows = Vec::new(rt.alloc());
     push_refused(&mut switch, events, lines, &mut rows)?;
     Some(rows)

@@ -1,8 +1,8 @@
 //! A switch that serves controllers over sockets.
+use crate::lookups::Lookups;
 use crate::refusals::Refusals;
 use crate::sockets::{MachineClock, Sockets};
 use of_command_line::Serve;
-use of_mask_groups::MaskGroups;
 use of_replay::Ended;
 use of_replay::streams::WriterSink;
 use of_serve::serve;
@@ -27,7 +27,7 @@ pub fn serve_rows(rt: &HostRuntime, asked: &Serve, rows: Vec<Event>) -> Ended {
     };
     let mut clock = MachineClock::new(rt, refusals_of(rt, asked, &rows));
     let mut out = WriterSink::new(rt.stdout());
-    serve::<MaskGroups, _, _, _>(
+    serve::<Lookups, _, _, _>(
         rt.alloc(),
         asked.dpid,
         &mut peers,

@@ -1,15 +1,16 @@
 //! A second classifier, for the tests alone: its list is the other way round.
 ghost use Rattle.std.specs.Prelude.{◌≡◌, ◌==◌, IsTrue, Some, MatchOption, nat_lt, reverse, position, if◌then◌else◌};
 ghost use Rattle.of_headers.specs.FieldMap.{value};
+ghost use Rattle.of_classifier.specs.Looking.{looked_by};
 ghost use Rattle.of_wire.specs.Numbered.{is_distinct, without, moved_to_end};
 ghost use Rattle.of_classifier.specs.declared.Row.{Row};
 ghost use Rattle.of_classifier.specs.Rows.{row_number};
 ghost use Rattle.of_classifier.specs.Winner.{winner_of, number_of};
 
-use crate::scan::is_same;
+use crate::scan::{is_same, mask_of_all};
 use crate::{Lookup, Row};
 use of_headers::FieldKey;
-use of_oxm::{Match, matches};
+use of_oxm::{FieldMask, Match, matches};
 use slab::Slab;
 use std::alloc::{AllocError, Global};
 use std::marker::Model;
@@ -38,6 +39,8 @@ impl Model for Backwards {
 impl Lookup for Backwards {
     ghost content = { λ s. reverse s };
 
+    ghost looked = { λ rows key. looked_by (reverse rows) };
+
     fn empty(alloc: Global) -> Result<Self, AllocError> {
         Ok(Backwards {
             rows: Vec::new(alloc),
@@ -51,6 +54,18 @@ impl Lookup for Backwards {
 
     fn peek(&self, key: &FieldKey) -> Option<usize> {
         best_of(&self.rows, key)
+    }
+
+    fn region(&self, key: &FieldKey) -> (Option<usize>, FieldMask) {
+        (best_of(&self.rows, key), mask_of_all(&self.rows))
+    }
+
+    fn priority(&self, number: usize) -> Option<u16> {
+        self.rows
+            .iter()
+            .rev()
+            .find(|row| row.number == number)
+            .map(|row| row.priority)
     }
 
     fn add(&mut self, fields: Match, priority: u16) -> Result<usize, AllocError> {

@@ -2,6 +2,8 @@
 ghost use Rattle.std.specs.Prelude.{◌≡◌, ◌≤◌, ◌<◌, ◌^◌, length};
 
 use crate::checks::{same_bytes, same_number};
+use crate::keys::says;
+use of_headers::read_inside;
 use of_layers::Field;
 use of_rewrite::{Frame, Ttl};
 use std::alloc::{AllocError, Global};
@@ -23,6 +25,10 @@ pub(super) enum Step {
     Lent(Field, usize),
     /// Writes this byte over the source address, which is lent.
     FillSource(u8),
+    /// Writes these bytes over a field, which is lent.
+    Write(Field, &'static [u8]),
+    /// Which fields the frame has beside IN_PORT and METADATA, once its headers are read and kept.
+    Has(&'static str),
     /// How many bytes the frame has.
     Length(usize),
     /// What the frame is.
@@ -70,6 +76,29 @@ fn fill_source(frame: &mut Frame, byte: u8)
     frame.field_mut(Field::EthSrc).fill(byte);
 }
 
+/// Writes these bytes over a field.
+fn write(rt: &impl Abort, frame: &mut Frame, what: &str, field: Field, bytes: &[u8]) {
+    let loan = frame.field_mut(field);
+    assert_eq!(rt; loan.len(), bytes.len(), "{what}");
+    loan.copy_from_slice(bytes);
+}
+
+/// Asserts which fields the frame has, and that they are those of its bytes. What is read of its headers is kept.
+fn has(
+    rt: &impl Abort,
+    alloc: Global,
+    frame: &mut Frame,
+    what: &str,
+    wanted: &str,
+) -> Result<(), Fail> {
+    frame.read_headers();
+    let key = frame.key(7, 9);
+    let anew = read_inside(frame.bytes(), 7, 9).expect(rt, what).key();
+    assert!(rt; key == anew, "{what}");
+    let wanted = format!(in alloc; "InPort=7 Metadata=9 {wanted}")?;
+    says(rt, alloc, what, &key, wanted.as_str())
+}
+
 /// Asserts what a step shows that changes nothing.
 fn shows(rt: &impl Abort, frame: &Frame, what: &str, step: &Step) {
     match step {
@@ -83,7 +112,7 @@ fn shows(rt: &impl Abort, frame: &Frame, what: &str, step: &Step) {
 }
 
 /// Does what a row says, and asserts its answer.
-fn play(rt: &impl Abort, frame: &mut Frame, row: &Row) -> Result<(), Fail> {
+fn play(rt: &impl Abort, alloc: Global, frame: &mut Frame, row: &Row) -> Result<(), Fail> {
     let (what, step) = row;
     match step {
         Step::Push(tag) => return push(rt, frame, what, *tag),
@@ -93,6 +122,8 @@ fn play(rt: &impl Abort, frame: &mut Frame, row: &Row) -> Result<(), Fail> {
         Step::Age(wanted) => age(rt, frame, what, *wanted),
         Step::Lent(field, wanted) => same_number(rt, what, frame.field_mut(*field).len(), *wanted),
         Step::FillSource(byte) => fill_source(frame, *byte),
+        Step::Write(field, bytes) => write(rt, frame, what, *field, bytes),
+        Step::Has(wanted) => return has(rt, alloc, frame, what, wanted),
         _ => shows(rt, frame, what, step),
     }
     Ok(())
@@ -108,7 +139,7 @@ pub(super) fn play_all(
     assert!(rt; bytes.len() >= 14 && bytes.len() < 1000);
     let mut frame = frame_of(alloc, bytes)?;
     for row in rows {
-        play(rt, &mut frame, row)?;
+        play(rt, alloc, &mut frame, row)?;
     }
     Ok(())
 }

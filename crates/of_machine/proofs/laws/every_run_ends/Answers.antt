@@ -1,13 +1,16 @@
 use Rattle.of_machine.proofs.Ending.{settled}
 use Rattle.of_machine.proofs.Promises.{list_few}
 use Rattle.of_machine.proofs.Weighing.{frame_steps}
-use Rattle.of_machine.proofs.Whole.{run_ends, lines_few, frame_fits, action_lines}
+use Rattle.of_machine.proofs.Whole.{run_ends, step_lowers, lines_few, frame_fits, action_lines}
 use Rattle.of_machine.specs.Rows.{Lookup}
 use Rattle.std.proofs.Common.{◌∷◌, []}
 use Rattle.of_machine.proofs.laws.every_run_ends.Goals as goal
 
 pub returns-clause-ends : goal.returns-clause-ends
 returns-clause-ends c = λ w p work sound fit. run_ends w sound p work fit
+
+pub returns-clause-lowers : goal.returns-clause-lowers
+returns-clause-lowers c = λ w m sound fit. step_lowers w sound m fit
 
 pub returns-clause-settled : goal.returns-clause-settled
 returns-clause-settled c = settled

@@ -1,8 +1,12 @@
 use Rattle.of_replay.proofs.WholeRuns.{done_by, nothing_read, once_by, failed_by, unwritten_by}
+use Rattle.std.proofs.Common.{◌≡◌, ◌∙◌}
+use Rattle.of_switch.specs.State.{start}
 use Rattle.of_replay.proofs.event_file.print_file.Goals as goal
 
 pub returns-clause-output : goal.returns-clause-output
-returns-clause-output g c = rw c.ended_by.ensures c.play.ensures.plays
+returns-clause-output g c =
+    let new : c.new-replaying.result.switch ≡ start c.args.dpid = c.new-replaying.ensures.2 ∙ c.in-Ok-new.ensures in
+    rw c.ended_by.ensures (rw new at c.play.ensures.plays)
 
 pub returns-clause-done : goal.returns-clause-done
 returns-clause-done g c =
@@ -21,4 +25,7 @@ pub returns-clause-write_fault : goal.returns-clause-write_fault
 returns-clause-write_fault g c = rw c.ended_by.ensures (unwritten_by c.play.result (g.W.Sink.failures c.play.new.writer) c.play.ensures.writes)
 
 pub returns-in_default-new-clause-output : goal.returns-in_default-new-clause-output
-returns-in_default-new-clause-output g c = nothing_read g.T.RowPrinter.tale (g.S.Source.answers c.args.reader.now) (g.S.Source.ends c.args.reader.now) (g.W.Sink.taken c.args.writer.now)
+returns-in_default-new-clause-output g c = nothing_read (start c.args.dpid) g.T.RowPrinter.tale (g.S.Source.answers c.args.reader.now) (g.S.Source.ends c.args.reader.now) (g.W.Sink.taken c.args.writer.now)
+
+pub returns-in_default-clause-output : goal.returns-in_default-clause-output
+returns-in_default-clause-output g c = nothing_read (start c.args.dpid) g.T.RowPrinter.tale (g.S.Source.answers c.args.reader.now) (g.S.Source.ends c.args.reader.now) (g.W.Sink.taken c.args.writer.now)

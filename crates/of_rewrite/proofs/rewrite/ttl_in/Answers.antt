@@ -9,20 +9,20 @@ use Rattle.of_rewrite.proofs.Framing.{bytes_are}
 use Rattle.of_rewrite.proofs.rewrite.ttl_in.Goals as goal
 
 pub ttl_byte-requires : goal.ttl_byte-requires
-ttl_byte-requires c = let r : packet_at c.layout_in-layout.result ≤ length c.args.bytes.now = packet_below c.args.bytes.now c.layout_in-layout.result c.all_bytes.ensures c.requires.long c.layout_in-layout.ensures in omega (arith, c.requires.short)
+ttl_byte-requires c = let r : packet_at c.args.layout ≤ length c.args.bytes.now = packet_below c.args.bytes.now c.args.layout c.all_bytes.ensures c.requires.long c.requires.layout in omega (arith, c.requires.short)
 
 pub bounds-bytes-at : goal.bounds-bytes-at
-bounds-bytes-at c = (ttl_is c.args.bytes.now c.layout_in-layout.result c.ttl_byte.result c.in-Some.at c.all_bytes.ensures c.requires.long c.layout_in-layout.ensures c.ttl_byte.ensures c.in-Some.is).inside
+bounds-bytes-at c = (ttl_is c.args.bytes.now c.args.layout c.ttl_byte.result c.in-Some.at c.all_bytes.ensures c.requires.long c.requires.layout c.ttl_byte.ensures c.in-Some.is).inside
 
 pub returns-in-Some-clause-value : goal.returns-in-Some-clause-value
-returns-in-Some-clause-value c = (ttl_is c.args.bytes.now c.layout_in-layout.result c.ttl_byte.result c.in-Some.at c.all_bytes.ensures c.requires.long c.layout_in-layout.ensures c.ttl_byte.ensures c.in-Some.is).value
+returns-in-Some-clause-value c = (ttl_is c.args.bytes.now c.args.layout c.ttl_byte.result c.in-Some.at c.all_bytes.ensures c.requires.long c.requires.layout c.ttl_byte.ensures c.in-Some.is).value
 
 pub returns-in-Some-clause-spelt : goal.returns-in-Some-clause-spelt
 returns-in-Some-clause-spelt c = frame_spelt c.args.bytes.now c.all_bytes.ensures c.requires.long
 
 pub returns-in-None-clause-value : goal.returns-in-None-clause-value
 returns-in-None-clause-value c =
-    sym (not_found ttl 0 (cells (layers_of c.args.bytes.now)) (λ x. x) (no_ttl c.args.bytes.now c.layout_in-layout.result c.ttl_byte.result c.all_bytes.ensures c.requires.long c.layout_in-layout.ensures c.ttl_byte.ensures c.in-None.is)).1
+    sym (not_found ttl 0 (cells (layers_of c.args.bytes.now)) (λ x. x) (no_ttl c.args.bytes.now c.args.layout c.ttl_byte.result c.all_bytes.ensures c.requires.long c.requires.layout c.ttl_byte.ensures c.in-None.is)).1
 
 pub returns-in-None-clause-spelt : goal.returns-in-None-clause-spelt
 returns-in-None-clause-spelt c = frame_spelt c.args.bytes.now c.all_bytes.ensures c.requires.long

@@ -12,7 +12,8 @@ loop-init g c = record {
   failures = refl;
   number = omega (arith, c.requires.start.1);
   writes = c.requires.well;
-  so_far = read_begun g.T.RowPrinter.tale (g.S.Source.answers c.args.reader.now) c.args.self.now.open c.args.self.now.number c.args.self.now.switch c.args.self.now.printer (g.W.Sink.taken c.args.writer.now) c.requires.start;
+  written = c.requires.start.2;
+  so_far = read_begun c.args.self.now.switch g.T.RowPrinter.tale (g.S.Source.answers c.args.reader.now) c.args.self.now.open c.args.self.now.number c.args.self.now.switch c.args.self.now.printer (g.W.Sink.taken c.args.writer.now) (c.requires.start.0, c.requires.start.1, refl, c.requires.start.2);
 }
 
 pub returns-in_err-piece-in-Bytes-clause-plays : goal.returns-in_err-piece-in-Bytes-clause-plays
@@ -21,38 +22,38 @@ returns-in_err-piece-in-Bytes-clause-plays g c =
     let n = c.piece.new.self in
     let r = l.invariant.so_far in
     let p = err_from_is_err_and c.from_residual.result c.from_residual.ensures.1 in
-    rw (p.1, p.2) (read_halts g.T.RowPrinter.tale c.in_err-piece-in-Bytes.field-0.0 (g.S.Source.answers c.args.reader.now) (g.S.Source.answers l.reader) (g.S.Source.answers c.read.new.self) (g.S.Source.ends c.args.reader.now) (g.S.Source.ends c.read.new.self)
+    rw (p.1, p.2) (read_halts c.args.self.now.switch g.T.RowPrinter.tale c.in_err-piece-in-Bytes.field-0.0 (g.S.Source.answers c.args.reader.now) (g.S.Source.answers l.reader) (g.S.Source.answers c.read_once.new.reader) (g.S.Source.ends c.args.reader.now) (g.S.Source.ends c.read_once.new.reader)
     c.front_of.result.now l.self.open n.open l.self.number n.number l.self.switch n.switch l.self.printer n.printer (g.W.Sink.taken c.args.writer.now) (g.W.Sink.taken l.writer) (g.W.Sink.taken c.piece.new.writer) r
     (c.in-Bytes.ensures.answers ∙ ap (λ (x : List ℕ). then_answer (g.S.Source.answers l.reader) (Gave x)) (sym c.front_of.ensures)) (omega (arith, c.in-Bytes.ensures.ends, l.invariant.ends))
-    (c.in_err-piece-in-Bytes.ensures.goes (given r.more) (g.W.Sink.taken c.args.writer.now) r.within))
+    (c.in_err-piece-in-Bytes.ensures.goes c.args.self.now.switch (given r.more) (g.W.Sink.taken c.args.writer.now) r.within))
 
 pub returns-in_err-piece-in-Bytes-clause-reads : goal.returns-in_err-piece-in-Bytes-clause-reads
 returns-in_err-piece-in-Bytes-clause-reads g c =
     let l = c.loop in
     let r = l.invariant.so_far in
     let p = err_from_is_err_and c.from_residual.result c.from_residual.ensures.1 in
-    rw (p.1, p.2) (piece_reads g.T.RowPrinter.tale c.in_err-piece-in-Bytes.field-0.0 _ c.piece.new.self.printer (g.W.Sink.taken c.args.writer.now) (g.W.Sink.taken c.piece.new.writer) (g.S.Source.reads c.read.new.self) (g.S.Source.ends c.args.reader.now) (g.S.Source.ends c.read.new.self)
-    (g.S.Source.failures c.args.reader.now) (g.S.Source.failures c.read.new.self) (c.in_err-piece-in-Bytes.ensures.goes (given r.more) (g.W.Sink.taken c.args.writer.now) r.within) (omega (arith, c.in-Bytes.ensures.failures, l.invariant.failures)))
+    rw (p.1, p.2) (piece_reads c.args.self.now.switch g.T.RowPrinter.tale c.in_err-piece-in-Bytes.field-0.0 _ _ c.piece.new.self.printer (g.W.Sink.taken c.args.writer.now) (g.W.Sink.taken c.piece.new.writer) (g.S.Source.reads c.read_once.new.reader) (g.S.Source.ends c.args.reader.now) (g.S.Source.ends c.read_once.new.reader)
+    (g.S.Source.failures c.args.reader.now) (g.S.Source.failures c.read_once.new.reader) (c.in_err-piece-in-Bytes.ensures.goes c.args.self.now.switch (given r.more) (g.W.Sink.taken c.args.writer.now) r.within) (omega (arith, c.in-Bytes.ensures.failures, l.invariant.failures)))
 
 pub returns-in-End-clause-plays : goal.returns-in-End-clause-plays
 returns-in-End-clause-plays g c =
     let l = c.loop in
-    read_ends g.T.RowPrinter.tale c.line.result (g.S.Source.answers c.args.reader.now) (g.S.Source.answers l.reader) (g.S.Source.answers c.read.new.self) Ended (g.S.Source.ends c.args.reader.now) (g.S.Source.ends c.read.new.self)
+    read_ends c.args.self.now.switch g.T.RowPrinter.tale c.line.result (g.S.Source.answers c.args.reader.now) (g.S.Source.answers l.reader) (g.S.Source.answers c.read_once.new.reader) Ended (g.S.Source.ends c.args.reader.now) (g.S.Source.ends c.read_once.new.reader)
     l.self.open l.self.number l.self.switch c.line.new.self.switch l.self.printer c.line.new.self.printer (g.W.Sink.taken c.args.writer.now) (g.W.Sink.taken l.writer) (g.W.Sink.taken c.line.new.writer) l.invariant.so_far
     c.in-End.ensures.answers refl (omega (arith, c.in-End.ensures.ends, l.invariant.ends)) c.line.ensures.goes
 
 pub returns-in-End-clause-played : goal.returns-in-End-clause-played
 returns-in-End-clause-played g c =
     let l = c.loop in
-    read_played g.T.RowPrinter.tale c.line.result (g.S.Source.answers c.args.reader.now) (g.S.Source.answers l.reader) (g.S.Source.answers c.read.new.self) Ended
+    read_played c.args.self.now.switch g.T.RowPrinter.tale c.line.result (g.S.Source.answers c.args.reader.now) (g.S.Source.answers l.reader) (g.S.Source.answers c.read_once.new.reader) Ended
     l.self.open l.self.number l.self.switch c.line.new.self.switch l.self.printer c.line.new.self.printer (g.W.Sink.taken c.args.writer.now) (g.W.Sink.taken l.writer) (g.W.Sink.taken c.line.new.writer) l.invariant.so_far
     c.in-End.ensures.answers refl c.line.ensures.goes
 
 pub returns-in-Fault-clause-plays : goal.returns-in-Fault-clause-plays
 returns-in-Fault-clause-plays g c =
     let l = c.loop in
-    read_stops g.T.RowPrinter.tale (g.S.Source.answers c.args.reader.now) (g.S.Source.answers c.read.new.self) (g.S.Source.ends c.args.reader.now) (g.S.Source.ends c.read.new.self) l.self.open l.self.number l.self.switch l.self.printer (g.W.Sink.taken c.args.writer.now) (g.W.Sink.taken l.writer)
-    (read_idle g.T.RowPrinter.tale (g.S.Source.answers c.args.reader.now) (g.S.Source.answers l.reader) (g.S.Source.answers c.read.new.self) Failed l.self.open l.self.number l.self.switch l.self.printer (g.W.Sink.taken c.args.writer.now) (g.W.Sink.taken l.writer) l.invariant.so_far c.in-Fault.ensures.answers refl)
+    read_stops c.args.self.now.switch g.T.RowPrinter.tale (g.S.Source.answers c.args.reader.now) (g.S.Source.answers c.read_once.new.reader) (g.S.Source.ends c.args.reader.now) (g.S.Source.ends c.read_once.new.reader) l.self.open l.self.number l.self.switch l.self.printer (g.W.Sink.taken c.args.writer.now) (g.W.Sink.taken l.writer)
+    (read_idle c.args.self.now.switch g.T.RowPrinter.tale (g.S.Source.answers c.args.reader.now) (g.S.Source.answers l.reader) (g.S.Source.answers c.read_once.new.reader) Failed l.self.open l.self.number l.self.switch l.self.printer (g.W.Sink.taken c.args.writer.now) (g.W.Sink.taken l.writer) l.invariant.so_far c.in-Fault.ensures.answers refl)
     (omega (arith, c.in-Fault.ensures.ends, l.invariant.ends))
 
 pub loop-preserved : goal.loop-preserved
@@ -60,20 +61,21 @@ loop-preserved g c =
     let l = c.loop in
     let answers = g.S.Source.answers c.args.reader.now in
     let first = g.W.Sink.taken c.args.writer.now in
-    elim c.match-read.branch [
+    elim c.match-read_once.branch [
       | in-Bytes+in_ok-piece-in-Bytes w ↦
           let n = w.piece.new.self in
-          let room : length c.read.new.buffer ≡ 65536 = omega (arith, c.read.auto.buffer, l.auto.buffer, c.requires.room) in
+          let room : length c.read_once.new.buffer ≡ 65536 = omega (arith, c.read_once.auto.buffer, l.auto.buffer, c.requires.room) in
           record {
             reads = omega (arith, w.in-Bytes.ensures.reads, l.invariant.reads);
             ends = omega (arith, w.in-Bytes.ensures.ends, l.invariant.ends);
             failures = omega (arith, w.in-Bytes.ensures.failures, l.invariant.failures);
-            number = rw w.self-is (omega (arith, w.in_ok-piece-in-Bytes.ensures.number, l.invariant.number, piece_size w.in-Bytes.n c.read.new.buffer w.front_of.result.now w.front_of.ensures w.in-Bytes.ensures.fits.1 room));
+            number = rw w.self-is (omega (arith, w.in_ok-piece-in-Bytes.ensures.number, l.invariant.number, piece_size w.in-Bytes.n c.read_once.new.buffer w.front_of.result.now w.front_of.ensures w.in-Bytes.ensures.fits.1 room));
             writes = rw w.writer-is w.in_ok-piece-in-Bytes.ensures.writes;
-            so_far = rw (w.self-is, w.writer-is) (read_piece g.T.RowPrinter.tale answers (g.S.Source.answers l.reader) (g.S.Source.answers c.read.new.self) w.front_of.result.now l.self.open n.open l.self.number n.number l.self.switch n.switch l.self.printer n.printer
+            written = rw w.self-is w.in_ok-piece-in-Bytes.ensures.written;
+            so_far = rw (w.self-is, w.writer-is) (read_piece c.args.self.now.switch g.T.RowPrinter.tale answers (g.S.Source.answers l.reader) (g.S.Source.answers c.read_once.new.reader) w.front_of.result.now l.self.open n.open l.self.number n.number l.self.switch n.switch l.self.printer n.printer
                 first (g.W.Sink.taken l.writer) (g.W.Sink.taken w.piece.new.writer) l.invariant.so_far
                 (w.in-Bytes.ensures.answers ∙ ap (λ (x : List ℕ). then_answer (g.S.Source.answers l.reader) (Gave x)) (sym w.front_of.ensures))
-                (w.in_ok-piece-in-Bytes.ensures.goes (given l.invariant.so_far.more) first l.invariant.so_far.within));
+                (w.in_ok-piece-in-Bytes.ensures.goes c.args.self.now.switch (given l.invariant.so_far.more) first l.invariant.so_far.within));
           }
       | in-Nothing w ↦ record {
         reads = omega (arith, w.in-Nothing.ensures.reads, l.invariant.reads);
@@ -81,6 +83,7 @@ loop-preserved g c =
         failures = omega (arith, w.in-Nothing.ensures.failures, l.invariant.failures);
         number = rw w.self-is (omega (arith, l.invariant.number));
         writes = rw w.writer-is l.invariant.writes;
-        so_far = rw (w.self-is, w.writer-is) (read_idle g.T.RowPrinter.tale answers (g.S.Source.answers l.reader) (g.S.Source.answers c.read.new.self) Idle l.self.open l.self.number l.self.switch l.self.printer first (g.W.Sink.taken l.writer) l.invariant.so_far w.in-Nothing.ensures.answers refl);
+        written = rw w.self-is l.invariant.written;
+        so_far = rw (w.self-is, w.writer-is) (read_idle c.args.self.now.switch g.T.RowPrinter.tale answers (g.S.Source.answers l.reader) (g.S.Source.answers c.read_once.new.reader) Idle l.self.open l.self.number l.self.switch l.self.printer first (g.W.Sink.taken l.writer) l.invariant.so_far w.in-Nothing.ensures.answers refl);
       }
     ]

@@ -1,4 +1,4 @@
-use Rattle.std.proofs.Common.{◌≡◌, ◌≤◌, ◌+◌, ◌*◌}
+use Rattle.std.proofs.Common.{◌≡◌, ◌≤◌, ◌+◌, ◌*◌, []}
 use Rattle.of_replay.specs.Stepping.{ReadSoFar}
 use Rattle.of_replay.proofs.replaying.Replaying.read.Given as goal
 
@@ -9,5 +9,6 @@ invariant-loop g l = record {
   failures : g.S.Source.failures l.reader ≡ g.S.Source.failures l.fn.reader;
   number : l.self.number ≤ l.counter * 65536 + 1;
   writes : g.W.Sink.failures l.writer ≡ 0;
-  so_far : ReadSoFar g.T.RowPrinter.tale (g.S.Source.answers l.fn.reader) (g.S.Source.answers l.reader) l.self.open l.self.number l.self.switch l.self.printer (g.W.Sink.taken l.fn.writer) (g.W.Sink.taken l.writer);
+  written : l.self.printer ≡ [];
+  so_far : ReadSoFar l.fn.self.switch g.T.RowPrinter.tale (g.S.Source.answers l.fn.reader) (g.S.Source.answers l.reader) l.self.open l.self.number l.self.switch l.self.printer (g.W.Sink.taken l.fn.writer) (g.W.Sink.taken l.writer);
 }

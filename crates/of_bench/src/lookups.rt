@@ -1,0 +1,6 @@
+//! How the switches that are timed look entries up: as the program's does.
+use of_cache::Cached;
+use of_mask_groups::MaskGroups;
+
+/// Rows of answers over one map for each distinct mask.
+pub type Lookups = Cached<MaskGroups>;

@@ -1,0 +1,9 @@
+pub mod Winning
+pub mod Staying
+pub mod Meeting
+pub mod Answering
+pub mod Turning
+pub mod Splitting
+pub mod Changing
+pub mod Histories
+pub mod Popping

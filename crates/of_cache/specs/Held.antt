@@ -1,0 +1,17 @@
+-- What a contract sees of a cached classifier: its entries, oldest first, its rows, the most recently used first, and how many there may be.
+use Rattle.std.specs.Prelude.{ℕ, List, option_map}
+use Rattle.of_classifier.specs.declared.Row.{Row}
+use Rattle.of_cache.specs.declared.region.Row.{Row as CacheRow}
+use Rattle.of_cache.specs.Regions.{AnsweredRegion}
+
+pub record Held : Type 0 where
+  pub content : List Row
+  pub rows : List AnsweredRegion
+  pub capacity : ℕ
+
+abbrev pub held : List Row → List AnsweredRegion → ℕ → Held
+held content rows capacity = record { content = content; rows = rows; capacity = capacity }
+
+-- a row as `rows` returns it: without the priority
+abbrev pub shown : AnsweredRegion → CacheRow
+shown row = record { region = row.0; answer = option_map (λ a. a.0) row.1 }

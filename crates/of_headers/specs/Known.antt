@@ -1,0 +1,13 @@
+-- What is known of the headers of a frame: for contracts of the crates that rewrite frames.
+use Rattle.std.specs.Prelude.{◌≡◌, ℕ, List, ⊤}
+use Rattle.of_layers.specs.Reading.{layers_of}
+use Rattle.of_headers.specs.FieldMap.{value, field_map}
+use Rattle.of_headers.specs.Places.{layout_of}
+use Rattle.of_headers.specs.declared.known.Known.{Known}
+use Rattle.of_headers.specs.declared.known.Known.TheVariants.{Nothing, Places, Fields}
+
+-- it is what a new reading would give; fields are those of the frame at port 0, without metadata
+abbrev pub IsKnownOf : Known → List ℕ → Type 0
+IsKnownOf Nothing frame = ⊤
+IsKnownOf (Places y) frame = y ≡ layout_of (layers_of frame)
+IsKnownOf (Fields h) frame = (h.layout ≡ layout_of (layers_of frame)) × (value h.key ≡ field_map (layers_of frame) 0 0)

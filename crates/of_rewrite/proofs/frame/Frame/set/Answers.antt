@@ -1,0 +1,15 @@
+use Rattle.std.proofs.Common.{sym, ◌∙◌, ap, List, ℕ, length}
+use Rattle.of_layers.specs.Fields.{number_of}
+use Rattle.of_layers.specs.Reading.{layers_of}
+use Rattle.of_headers.specs.Places.{layout_of}
+use Rattle.of_rewrite.proofs.KeptPlaces.{kept, stays_set}
+use Rattle.of_rewrite.proofs.frame.Frame.set.Goals as goal
+
+pub invariant_of-self : goal.invariant_of-self
+invariant_of-self c =
+    kept c.self.inside.bytes.len c.self.inside.bytes.items c.set_field.new.bytes c.layout-layout.result
+    (sym c.deref.ensures.len ∙ ap length c.deref.ensures.value)
+    (c.set_field.auto.bytes ∙ ap length c.deref_mut.ensures.value)
+    c.self.invariant.0 c.self.invariant.1
+    (stays_set (number_of c.args.field) c.args.value c.deref_mut.result.now c.set_field.new.bytes c.layout-layout.result
+    (c.layout-layout.ensures ∙ ap (λ (s : List ℕ). layout_of (layers_of s)) (c.deref.ensures.value ∙ sym c.deref_mut.ensures.value)) c.set_field.ensures.layers)

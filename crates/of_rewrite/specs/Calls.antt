@@ -1,0 +1,67 @@
+-- Calls that rewrite a frame, one after the other, and what stays known of its headers without a new reading.
+use Rattle.std.specs.Prelude.{◌≡◌, ℕ, ◌+◌, ◌-◌, List, [], ◌∷◌, length, IsTrue, ⊤}
+use Rattle.of_layers.specs.declared.field.Field.{Field}
+use Rattle.of_layers.specs.Fields.{is_settable}
+use Rattle.of_layers.specs.Reading.{is_tag_type}
+use Rattle.of_layers.specs.WellFormed.{AreBytes}
+use Rattle.of_headers.specs.declared.layout.Layout.{Layout}
+use Rattle.of_headers.specs.declared.known.Known.{Known}
+use Rattle.of_headers.specs.declared.known.Known.TheVariants.{Nothing, Places, Fields}
+use Rattle.of_rewrite.specs.Frames.{frame_set, frame_pushed, frame_popped, frame_ttl, frame_ttl_decremented}
+use Rattle.of_rewrite.specs.Loans.{lent, with_bytes}
+
+-- a call of a frame; that of a loan has the bytes that are written into it
+pub data Call : Type 0 where
+  PushVlan : ℕ → Call
+  PopVlan : Call
+  Set : Field → ℕ → Call
+  SetTtl : ℕ → Call
+  DecTtl : Call
+  Lend : Field → List ℕ → Call
+
+-- what it requires: a tag's type, a field that may be set, and as many bytes as are lent
+abbrev pub IsAllowed : Call → List ℕ → Type 0
+IsAllowed (PushVlan type) frame = IsTrue (is_tag_type type)
+IsAllowed (Set field value) frame = IsTrue (is_settable field)
+IsAllowed (Lend field bytes) frame = AreBytes bytes × (length bytes ≡ (lent field frame).1 - (lent field frame).0)
+IsAllowed other frame = ⊤
+
+-- the frame after it
+abbrev pub frame_after : Call → List ℕ → List ℕ
+frame_after (PushVlan type) frame = frame_pushed type frame
+frame_after PopVlan frame = frame_popped frame
+frame_after (Set field value) frame = frame_set field value frame
+frame_after (SetTtl value) frame = frame_ttl value frame
+frame_after DecTtl frame = frame_ttl_decremented frame
+frame_after (Lend field bytes) frame = with_bytes (lent field frame).0 frame bytes
+
+-- where the layers begin after it: the addresses stay, and all else moves with the tags
+abbrev pub places_after : Call → Layout → Layout
+places_after (PushVlan type) places = record places { tags = places.tags + 1 }
+places_after PopVlan places = record places { tags = places.tags - 1 }
+places_after other places = places
+
+-- places that have moved are known, and no fields
+abbrev pub with_places : (Layout → Layout) → Known → Known
+with_places moved Nothing = Nothing
+with_places moved (Places places) = Places (moved places)
+with_places moved (Fields headers) = Places (moved headers.layout)
+
+-- what is still known after it; a type may be written into a loan, so that nothing is known then
+abbrev pub known_after : Call → Known → Known
+known_after (Lend field bytes) known = Nothing
+known_after other known = with_places (places_after other) known
+
+-- ---- of several calls, the first one first
+
+abbrev pub AreAllowed : List Call → List ℕ → Type 0
+AreAllowed [] frame = ⊤
+AreAllowed (call ∷ calls) frame = IsAllowed call frame × AreAllowed calls (frame_after call frame)
+
+abbrev pub frame_after_all : List Call → List ℕ → List ℕ
+frame_after_all [] frame = frame
+frame_after_all (call ∷ calls) frame = frame_after_all calls (frame_after call frame)
+
+abbrev pub known_after_all : List Call → Known → Known
+known_after_all [] known = known
+known_after_all (call ∷ calls) known = known_after_all calls (known_after call known)

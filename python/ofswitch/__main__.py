@@ -1,0 +1,131 @@
+"""`python -m ofswitch bridge`: a switch whose rows are typed, and whose controller connects over TCP."""
+
+from __future__ import annotations
+
+import argparse
+import ipaddress
+import logging
+import sys
+from collections.abc import Iterable
+from typing import NoReturn, TextIO
+
+from . import rows
+from .bridge import Bridge
+from .connection import Address
+from .effects import Effect
+from .program import ProgramError
+from .switch import Switch
+
+# The exit statuses, as those of `ofswitch`.
+BAD_ARGUMENTS = 1
+BAD_ROW = 2
+FAULT = 3
+
+DESCRIPTION = """
+Reads rows of an event file (docs/EVENTS.md) from standard input, and plays each as soon as it is read. A controller has the
+connection: what it sends is fed to the switch, and the switch's answers go to it. Standard output has the effects of all
+rows, in their order, as `ofswitch replay` prints them. `connect`, `lost` and `c` are the controller's, and no rows here. Ends
+at the end of standard input.
+"""
+
+STATUSES = """
+Exit status: 0 all rows were played; 1 bad arguments; 2 a line was no row, and was left out; 3 the program ended, a file does not
+open, or the address cannot be listened at.
+"""
+
+
+class Parser(argparse.ArgumentParser):
+    def error(self, message: str) -> NoReturn:
+        self.print_usage(sys.stderr)
+        self.exit(BAD_ARGUMENTS, f"{self.prog}: {message}\n")
+
+
+def parser() -> argparse.ArgumentParser:
+    whole = Parser(prog="python -m ofswitch", description="An OpenFlow 1.3 switch for tests.")
+    commands = whole.add_subparsers(dest="command", required=True, parser_class=Parser)
+    bridge = commands.add_parser(
+        "bridge", help="a switch between typed rows and a controller", description=DESCRIPTION, epilog=STATUSES
+    )
+    way = bridge.add_mutually_exclusive_group(required=True)
+    way.add_argument("--listen", metavar="ADDR", type=address, help="where to wait for controllers, as 127.0.0.1:6653")
+    way.add_argument("--connect", metavar="ADDR", type=address, help="the controller to connect to")
+    bridge.add_argument("--events", metavar="FILE", help="an event file that is played before a controller comes")
+    bridge.add_argument("--log", metavar="FILE", help="where to write all rows, those of the controller too")
+    bridge.add_argument("--dpid", metavar="N", type=dpid, default=1, help="the datapath_id (by default 1)")
+    bridge.add_argument("--program", metavar="PATH", help="the program ofswitch (by default OFSWITCH, or the one on the PATH)")
+    return whole
+
+
+def address(word: str) -> Address:
+    host, _, port = word.rpartition(":")
+    try:
+        ip = ipaddress.ip_address(host.removeprefix("[").removesuffix("]"))
+        if not 0 <= int(port) <= 65_535:
+            raise ValueError
+    except ValueError:
+        raise argparse.ArgumentTypeError("an address is an IP address and a port, as 127.0.0.1:6653 or [::1]:6653") from None
+    return str(ip), int(port)
+
+
+def dpid(word: str) -> int:
+    """A datapath_id, decimal, or hexadecimal after 0x."""
+    try:
+        return rows.dpid(int(word, 0))
+    except ValueError:
+        raise argparse.ArgumentTypeError("a datapath_id is a number of 64 bits, decimal or 0x and hexadecimal digits") from None
+
+
+def print_effects(row: str, effects: list[Effect]) -> None:
+    for effect in effects:
+        print(effect)
+    if effects:
+        sys.stdout.flush()
+
+
+def play(switch: Switch, lines: Iterable[str], name: str) -> int:
+    """Plays lines, says which are no rows, and returns the exit status."""
+    status = 0
+    for place, line in enumerate(lines, 1):
+        row = line.removesuffix("\n")
+        try:
+            if rows.is_of_controller(row):
+                raise ValueError("the connection is the controller's")
+            switch.play(row)
+        except ValueError as fault:
+            print(f"{name}, line {place}: {fault}", file=sys.stderr)
+            status = BAD_ROW
+    return status
+
+
+def run(asked: argparse.Namespace) -> int:
+    with Switch(asked.program, dpid=asked.dpid, log=asked.log) as switch:
+        switch.watch(print_effects)
+        status = 0
+        if asked.events is not None:
+            with open_lines(asked.events) as lines:
+                status = play(switch, lines, asked.events)
+        bridge = Bridge(switch, asked.listen) if asked.listen else Bridge.dial(switch, asked.connect)
+        logging.info("%s %s:%s", "listening at" if asked.listen else "connecting to", *bridge.address)
+        with bridge, open_lines(sys.stdin.fileno()) as lines:
+            return play(switch, lines, "standard input") or status
+
+
+def open_lines(file: str | int) -> TextIO:
+    """Opens a file whose lines end with LF alone. Bytes that are not UTF-8 make a line that is no row."""
+    return open(file, encoding="utf-8", errors="surrogateescape", newline="\n", closefd=isinstance(file, str))
+
+
+def main() -> int:
+    asked = parser().parse_args()
+    logging.basicConfig(level=logging.INFO, format="%(message)s")
+    try:
+        return run(asked)
+    except (ProgramError, OSError) as fault:
+        print(fault, file=sys.stderr)
+        return FAULT
+    except KeyboardInterrupt:
+        return 130
+
+
+if __name__ == "__main__":
+    sys.exit(main())

@@ -1,0 +1,193 @@
+"""A controller over TCP, joined to a switch."""
+
+from __future__ import annotations
+
+import contextlib
+import logging
+import threading
+import time
+from collections import deque
+from collections.abc import Callable
+from types import TracebackType
+
+from . import rows
+from .connection import Address, Connection, Dialer, Listener, Waker
+from .effects import Answer, Closed, Effect, Sent
+from .program import ProgramError
+from .switch import Switch
+
+_log = logging.getLogger("ofswitch")
+
+
+class Bridge:
+    """Gives the connection of a switch to controllers over TCP, one at a time, while a test plays other rows.
+
+        with Switch() as switch, Bridge(switch) as bridge:
+            ..                               # a controller connects to bridge.address
+            switch.frame(1, frame)           # the controller gets the PACKET_IN
+            bridge.sent()                    # the frame that leaves by its PACKET_OUT
+
+    What a controller sends is fed to the switch, and each answer goes to the controller, whoever played the row. All rows
+    are in `switch.log`, in the order in which the switch saw them, so that it replays the whole run. A controller that goes
+    is lost, and another one may come; one that takes nothing of its answers for `patience` seconds loses its connection.
+    """
+
+    def __init__(self, switch: Switch, address: Address = ("127.0.0.1", 0), *, patience: float = 10.0) -> None:
+        """Listens for controllers at an IP address and a port; port 0 is one that is free."""
+        self._begin(switch, Listener(address), patience)
+
+    @classmethod
+    def dial(cls, switch: Switch, address: Address, *, patience: float = 10.0) -> Bridge:
+        """Connects to a controller that listens at this address, again whenever the connection is lost."""
+        bridge = cls.__new__(cls)
+        bridge._begin(switch, Dialer(address), patience)
+        return bridge
+
+    def _begin(self, switch: Switch, door: Listener | Dialer, patience: float) -> None:
+        self._switch = switch
+        self._door = door
+        self._patience = patience
+        self._waker = Waker()
+        self._connection: Connection | None = None
+        # frames that left because of the controller, and were not asked for yet
+        self._sent: deque[Sent] = deque()
+        # when the controller last sent something
+        self._heard = time.monotonic()
+        self._is_closing = False
+        self._fault: BaseException | None = None
+        self._played = switch.attach(self)
+        self._thread = threading.Thread(target=self._run, name="ofswitch bridge", daemon=True)
+        self._thread.start()
+
+    # ---- for the test
+
+    @property
+    def address(self) -> Address:
+        """Where it listens, or what it connects to."""
+        return self._door.address
+
+    @property
+    def is_connected(self) -> bool:
+        """Whether a controller is connected and not lost yet."""
+        return self._connection is not None
+
+    def sent(self, timeout: float = 5.0) -> Sent:
+        """The next frame that leaves because of the controller's messages. TimeoutError if there is none in time."""
+        with self._played:
+            self.until(lambda: bool(self._sent), timeout)
+            return self._sent.popleft()
+
+    def until(self, condition: Callable[[], bool], timeout: float = 5.0) -> None:
+        """Waits until a condition holds, which may change with each row. TimeoutError if it does not hold in time."""
+        with self._played:
+            if not self._played.wait_for(lambda: self._fault or condition(), timeout):
+                raise TimeoutError(f"not within {timeout:g} s")
+            if self._fault:
+                raise self._fault
+
+    def quiet(self, seconds: float = 0.1, timeout: float = 10.0) -> None:
+        """Waits until the controller has sent nothing for so long. TimeoutError if it goes on sending."""
+        end = time.monotonic() + timeout
+        with self._played:
+            while (left := self._heard + seconds - time.monotonic()) > 0:
+                if time.monotonic() + left > end:
+                    raise TimeoutError(f"not quiet within {timeout:g} s")
+                self._played.wait(left)
+
+    def disconnect(self) -> None:
+        """Ends the connection, as a network does that fails."""
+        with self._played:
+            if self._connection is not None:
+                self._connection.end = "by the test"
+        self._waker.wake()
+
+    def close(self) -> None:
+        """Ends the connection, and listens or connects no more."""
+        self._is_closing = True
+        self._waker.wake()
+        self._thread.join()
+
+    def __enter__(self) -> Bridge:
+        return self
+
+    def __exit__(
+        self, kind: type[BaseException] | None, fault: BaseException | None, trace: TracebackType | None
+    ) -> None:
+        self.close()
+        if fault is None and self._fault is not None:
+            raise self._fault
+
+    # ---- for the switch
+
+    def take(self, effects: list[Effect]) -> None:
+        """Sends the answers of a row to the controller."""
+        connection = self._connection
+        if connection is None:
+            return
+        answers = b"".join(it.data for it in effects if isinstance(it, Answer))
+        if answers:
+            connection.write(answers)
+        if any(isinstance(it, Closed) for it in effects):
+            connection.finish()
+        if connection.needs_attention:
+            self._waker.wake()
+
+    # ---- in the thread
+
+    def _run(self) -> None:
+        try:
+            while not self._is_closing:
+                if self._connection is None:
+                    self._meet()
+                else:
+                    self._connection.wait(self._waker)
+                    with self._played:
+                        self._attend(self._connection)
+        except BaseException as fault:
+            self._fault = fault
+        finally:
+            self._leave()
+
+    def _meet(self) -> None:
+        stream = self._door.meet(self._waker)
+        if stream is None:
+            return
+        try:
+            connection = Connection(stream, self._patience)
+        except OSError:
+            stream.close()
+            return
+        with self._played:
+            _log.info("connection with %s", connection.peer)
+            self._connection = connection
+            self._switch.play_for_controller(rows.connect())
+
+    def _attend(self, connection: Connection) -> None:
+        connection.flush()
+        data = connection.read()
+        if data:
+            self._heard = time.monotonic()
+            effects = self._switch.play_for_controller(rows.feed(data))
+            self._sent += [it for it in effects if isinstance(it, Sent)]
+        if connection.end is not None:
+            self._end(connection)
+        self._played.notify_all()
+
+    def _end(self, connection: Connection) -> None:
+        _log.info("connection ended: %s", connection.end)
+        connection.close()
+        self._connection = None
+        if not connection.is_over:
+            self._switch.play_for_controller(rows.lost())
+
+    def _leave(self) -> None:
+        """Nothing of the bridge stays."""
+        with self._played:
+            self._door.close()
+            if self._connection is not None:
+                self._connection.end = self._connection.end or "by the bridge"
+                with contextlib.suppress(ProgramError):
+                    self._end(self._connection)
+            self._waker.close()
+            self._switch.detach()
+            self._played.notify_all()

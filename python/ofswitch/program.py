@@ -1,0 +1,175 @@
+"""The program `ofswitch`: found, run to its end, or run row by row."""
+
+from __future__ import annotations
+
+import os
+import select
+import shutil
+import subprocess
+import weakref
+from typing import Union
+
+StrPath = Union[str, "os.PathLike[str]"]
+
+# Changes nothing, and always prints `refused 8`: it marks where the text of the rows before it ends.
+MARK_ROW = b"port remove 0\n"
+MARK_LINE = b"refused 8"
+
+# How many bytes a read asks for, here and in the program.
+_READ_SIZE = 65_536
+
+# What has been written to a pipe is read in pieces of at least a page, but for the last.
+_PAGE_SIZE = 4_096
+
+# How long a program may take to end once its input has ended, in seconds.
+_END_WAIT = 5.0
+
+
+class ProgramError(Exception):
+    """The program `ofswitch` is missing, has ended, or does not answer. The text has what it wrote to standard error."""
+
+
+def find(program: StrPath | None) -> str:
+    """The path of the program: the one that is given, the one that OFSWITCH names, or the one on the PATH."""
+    asked = os.fspath(program or os.environ.get("OFSWITCH") or "ofswitch")
+    found = shutil.which(asked)
+    if found is None:
+        raise ProgramError(f"there is no program {asked}: give its path, set OFSWITCH to it, or put ofswitch on the PATH")
+    return found
+
+
+def run_to_end(command: list[str], text: bytes, timeout: float) -> str:
+    """What a command prints that reads this text from standard input."""
+    try:
+        done = subprocess.run(command, input=text, capture_output=True, timeout=timeout)
+    except OSError as error:
+        raise ProgramError(f"{command[0]} does not run: {error}") from error
+    except subprocess.TimeoutExpired as error:
+        raise ProgramError(f"{' '.join(command)} did not end within {timeout:g} s") from error
+    if done.returncode:
+        raise ProgramError(_ending(command, done.returncode, done.stderr))
+    return done.stdout.decode()
+
+
+def reads_of(size: int) -> int:
+    """How many reads the program may make of a write of so many bytes."""
+    return 1 + size // _PAGE_SIZE
+
+
+class Run:
+    """A run of `ofswitch replay -` over two pipes. Only one thread may use it at a time."""
+
+    def __init__(self, command: list[str], timeout: float) -> None:
+        self._command = command
+        self._timeout = timeout
+        # how many reads the program has made at most
+        self.reads = 0
+        pipe = subprocess.PIPE
+        try:
+            self._process = subprocess.Popen(command, stdin=pipe, stdout=pipe, stderr=pipe, bufsize=0)
+        except OSError as error:
+            raise ProgramError(f"{command[0]} does not run: {error}") from error
+        self._owner = os.getpid()
+        self._finalizer = weakref.finalize(self, _end, self._process, self._owner)
+        assert self._process.stdin and self._process.stdout
+        self._stdin = self._process.stdin.fileno()
+        self._stdout = self._process.stdout.fileno()
+        # a full pipe must not keep us from reading what the program has to write before it reads on
+        os.set_blocking(self._stdin, False)
+        self._answering = select.poll()
+        self._answering.register(self._stdout, select.POLLIN)
+        self._ready = select.poll()
+        self._ready.register(self._stdout, select.POLLIN)
+        self._ready.register(self._stdin, select.POLLOUT)
+
+    @property
+    def pid(self) -> int:
+        return self._process.pid
+
+    def play(self, rows: bytes, marks: int) -> list[bytes]:
+        """Plays rows, and returns the lines that they print, without line ends.
+
+        `marks` says how many of them print the line of the mark themselves. After an exception the run has ended.
+        """
+        if not self._finalizer.alive:
+            raise ProgramError(f"{' '.join(self._command)} was ended")
+        try:
+            return self._exchange(memoryview(rows + MARK_ROW), marks + 1)
+        except BaseException:
+            # what is still to come would be taken for the text of the next row
+            self.close()
+            raise
+
+    def _exchange(self, left: memoryview, marks: int) -> list[bytes]:
+        lines: list[bytes] = []
+        line = b""
+        while True:
+            if left:
+                left = left[self._write(left) :]
+            *whole, line = (line + self._read(self._ready if left else self._answering)).split(b"\n")
+            for it in whole:
+                if it == MARK_LINE:
+                    marks -= 1
+                    if marks == 0:
+                        return lines
+                lines.append(it)
+
+    def _write(self, data: memoryview) -> int:
+        """Writes as much as the pipe takes, and returns how much that is."""
+        try:
+            size = os.write(self._stdin, data)
+        except BlockingIOError:
+            return 0
+        except BrokenPipeError:
+            raise self._fault() from None
+        self.reads += reads_of(size)
+        return size
+
+    def _read(self, waiting: select.poll) -> bytes:
+        """Waits, and returns what the program has written; nothing, if it only has room for more."""
+        ready = waiting.poll(self._timeout * 1000)
+        if not ready:
+            self._process.kill()
+            raise ProgramError(f"{' '.join(self._command)} did not answer within {self._timeout:g} s")
+        if all(it != self._stdout for it, _ in ready):
+            return b""
+        text = os.read(self._stdout, _READ_SIZE)
+        if not text:
+            raise self._fault()
+        return text
+
+    def _fault(self) -> ProgramError:
+        """Why the program has ended, which it does by itself only at a fault."""
+        said = _end(self._process, self._owner)
+        return ProgramError(_ending(self._command, self._process.returncode, said))
+
+    def close(self) -> None:
+        """Ends the program."""
+        self._finalizer()
+
+
+def _ending(command: list[str], status: int, said: bytes) -> str:
+    how = f"with status {status}" if status >= 0 else f"by signal {-status}"
+    return f"{' '.join(command)} ended {how}: {said.decode(errors='replace').strip() or 'it said nothing'}"
+
+
+def _end(process: subprocess.Popen[bytes], owner: int) -> bytes:
+    """Ends a program that reads to the end of its input, and returns what it wrote to standard error.
+
+    In a fork of the process that started it, it goes on.
+    """
+    assert process.stdin and process.stdout and process.stderr
+    if process.stderr.closed:
+        return b""
+    process.stdin.close()
+    process.stdout.close()
+    if os.getpid() != owner:
+        process.stderr.close()
+        return b""
+    try:
+        process.wait(_END_WAIT)
+    except subprocess.TimeoutExpired:
+        process.kill()
+        process.wait()
+    with process.stderr as stream:
+        return stream.read()

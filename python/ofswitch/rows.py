@@ -1,0 +1,151 @@
+"""Rows of event files (docs/EVENTS.md), from values and from text."""
+
+from __future__ import annotations
+
+import operator
+import re
+from typing import Any, SupportsIndex, Union
+
+# The most bytes of a row, without its line end.
+MOST_BYTES = 1_048_576
+
+# The greatest number that a port can have (OpenFlow 1.3.5, 7.2.1, OFPP_MAX).
+MOST_PORT = 0xFFFFFF00
+
+HwAddress = Union[str, bytes]
+
+_NAME = re.compile(r"[a-z0-9]{1,15}")
+_HW = re.compile(r"[0-9A-Fa-f]{12}")
+_HEX = r"(?:-|(?:[0-9A-Fa-f]{2})+)"
+_NUMBER = r"(?:0|[1-9][0-9]{0,19})"
+_ROW = re.compile(
+    rf"connect|lost|c {_HEX}|f (?P<port>{_NUMBER}) {_HEX}|t (?P<nanos>{_NUMBER})"
+    rf"|port (?:add (?P<added>{_NUMBER}) {_HW.pattern} {_NAME.pattern} (?:up|down)"
+    rf"|remove (?P<removed>{_NUMBER})|link (?P<linked>{_NUMBER}) (?:up|down))"
+)
+_BITS = {"port": 32, "nanos": 64, "added": 32, "removed": 32, "linked": 32}
+_PORT_NUMBER = re.compile(r"port \w+ ([0-9]+)")
+
+
+def as_bytes(value: Any) -> bytes:
+    """The bytes of a message or a frame.
+
+    That is something with the buffer protocol, something that `bytes` takes (as a packet of scapy), a message of os-ken
+    (`serialize`, then `buf`), a packet of os-ken (`serialize`, then `data`), or a message of pyof (`pack`).
+    """
+    try:
+        return memoryview(value).tobytes()
+    except TypeError:
+        pass
+    if hasattr(value, "__bytes__"):
+        return bytes(value)
+    if hasattr(value, "serialize"):
+        value.serialize()
+        return bytes(value.buf if hasattr(value, "buf") else value.data)
+    if hasattr(value, "pack"):
+        return bytes(value.pack())
+    raise TypeError(f"bytes are wanted, or a message or a packet, and not {type(value).__name__}")
+
+
+def dpid(value: int) -> int:
+    """A datapath_id."""
+    return _number(value, 64)
+
+
+def connect() -> str:
+    return "connect"
+
+
+def lost() -> str:
+    return "lost"
+
+
+def feed(data: Any) -> str:
+    return _fits(f"c {_hex(data)}")
+
+
+def frame(port: int, data: Any) -> str:
+    return _fits(f"f {_number(port, 32)} {_hex(data)}")
+
+
+def at(nanoseconds: int) -> str:
+    return f"t {_number(nanoseconds, 64)}"
+
+
+def port_add(number: int, hw: HwAddress | None, name: str | None, up: bool) -> str:
+    number = _number(number, 32)
+    hw = f"02{number:010x}" if hw is None else _hw(hw)
+    name = f"p{number}" if name is None else _name(name)
+    return f"port add {number} {hw} {name} {_link(up)}"
+
+
+def port_remove(number: int) -> str:
+    return f"port remove {_number(number, 32)}"
+
+
+def port_link(number: int, up: bool) -> str:
+    return f"port link {_number(number, 32)} {_link(up)}"
+
+
+def check(row: str) -> None:
+    """Raises ValueError if this is no row: `ofswitch replay` ends at such a line."""
+    if "\n" in row:
+        raise ValueError("one row at a time: a row has no line end")
+    _fits(row)
+    if row == "" or row.startswith("#"):
+        return
+    parts = _ROW.fullmatch(row)
+    if parts is None:
+        raise ValueError(f"bad row: {_short(row)}")
+    for name, word in parts.groupdict().items():
+        if word is not None:
+            _number(int(word), _BITS[name])
+
+
+def is_of_controller(row: str) -> bool:
+    """Whether this row is about the connection with the controller."""
+    return row in ("connect", "lost") or row.startswith("c ")
+
+
+def is_refused_as_8(row: str) -> bool:
+    """Whether this is a row of a port whose number no port can have. It prints `refused 8`, and only such a row does."""
+    named = _PORT_NUMBER.match(row)
+    return named is not None and not 1 <= int(named[1]) <= MOST_PORT
+
+
+def _number(value: SupportsIndex, bits: int) -> int:
+    number = operator.index(value)
+    if not 0 <= number < 1 << bits:
+        raise ValueError(f"{number} is not from 0 to {(1 << bits) - 1}")
+    return number
+
+
+def _hex(data: Any) -> str:
+    return as_bytes(data).hex() or "-"
+
+
+def _hw(hw: HwAddress) -> str:
+    text = hw.replace(":", "") if isinstance(hw, str) else as_bytes(hw).hex()
+    if not _HW.fullmatch(text):
+        raise ValueError(f"a hardware address has 6 bytes, and not {hw!r}")
+    return text
+
+
+def _name(name: str) -> str:
+    if not _NAME.fullmatch(name):
+        raise ValueError(f"a port's name is 1 to 15 of a to z and 0 to 9, and not {name!r}")
+    return name
+
+
+def _link(up: bool) -> str:
+    return "up" if up else "down"
+
+
+def _fits(row: str) -> str:
+    if len(row.encode()) > MOST_BYTES:
+        raise ValueError(f"a row has {MOST_BYTES} bytes at most")
+    return row
+
+
+def _short(row: str) -> str:
+    return repr(row if len(row) <= 80 else f"{row[:80]}..")

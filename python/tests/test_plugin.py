@@ -1,0 +1,89 @@
+"""The plugin of pytest: what a test gets, and what a failure shows."""
+
+import subprocess
+
+import pytest
+
+pytest_plugins = ["pytester"]
+
+FAILING = """
+def test_that_fails(switch):
+    switch.port_add(1)
+    [hello] = switch.connect()
+    assert hello.xid == 7
+"""
+
+SEVERAL = """
+def test_that_fails(new_switch):
+    first, second = new_switch(), new_switch()
+    first.port_add(1)
+    second.port_add(2)
+    assert False
+"""
+
+
+@pytest.fixture
+def in_process(pytester, pytestconfig):
+    """Runs the tests of a text, with the plugin, whether it is installed or not."""
+    plugin = [] if pytestconfig.pluginmanager.has_plugin("ofswitch") else ["-p", "ofswitch.pytest_plugin"]
+
+    def run(text):
+        pytester.makepyfile(text)
+        return pytester.runpytest("-p", "no:cacheprovider", *plugin)
+
+    return run
+
+
+def test_a_failure_shows_the_rows_and_what_they_did(in_process):
+    result = in_process(FAILING)
+    result.assert_outcomes(failed=1)
+    result.stdout.fnmatch_lines(
+        [
+            "*ofswitch: the rows of switch 1, and what each did*",
+            "ofswitch replay --explain */switch-1.events",
+            "port add 1 020000000001 p1 up",
+            "connect",
+            "    to the controller: HELLO xid 0, 16 bytes",
+        ]
+    )
+    [command] = [line for line in result.outlines if line.startswith("ofswitch replay --explain")]
+    with open(command.split()[-1], encoding="utf-8") as file:
+        assert file.read() == "port add 1 020000000001 p1 up\nconnect\n"
+
+
+def test_a_failure_shows_each_switch(in_process):
+    result = in_process(SEVERAL)
+    result.assert_outcomes(failed=1)
+    result.stdout.fnmatch_lines(["*switch 1*", "port add 1 *", "*switch 2*", "port add 2 *"])
+
+
+def test_a_passing_test_shows_nothing(in_process):
+    result = in_process("def test_that_passes(switch): assert switch.connect() != []")
+    result.assert_outcomes(passed=1)
+    result.stdout.no_fnmatch_line("*ofswitch replay*")
+
+
+def test_a_killed_program_has_its_rows_shown(in_process):
+    result = in_process(
+        """
+        import os, signal
+
+        def test_that_fails(switch):
+            os.kill(switch.pid, signal.SIGKILL)
+            for _ in range(2):
+                switch.connect()
+        """
+    )
+    result.assert_outcomes(failed=1)
+    result.stdout.fnmatch_lines(["*ProgramError*signal 9*", "ofswitch replay --explain *", "connect"])
+
+
+def test_a_long_log_is_shown_in_part(in_process):
+    result = in_process("def test_that_fails(switch):\n    for n in range(300): switch.at(n)\n    assert False")
+    result.stdout.fnmatch_lines([".. 200 lines, and then", "t 200"])
+
+
+def test_the_switches_end_with_the_test(in_process):
+    before = subprocess.run(["pgrep", "-cf", "replay -$"], capture_output=True, text=True).stdout
+    in_process("def test_that_passes(new_switch): [new_switch() for _ in range(5)]").assert_outcomes(passed=1)
+    assert subprocess.run(["pgrep", "-cf", "replay -$"], capture_output=True, text=True).stdout == before

@@ -1,0 +1,282 @@
+"""The switch as a value in a test."""
+
+import os
+import pathlib
+import subprocess
+
+import messages
+import pytest
+from ofswitch import Answer, Closed, MessageType, Refused, Sent
+
+EXAMPLES = pathlib.Path(__file__).resolve().parents[2] / "examples"
+PROGRAM = os.environ.get("OFSWITCH", "ofswitch")
+FRAME = bytes.fromhex("020000000002020000000001") + bytes.fromhex("88b5") + bytes(46)
+SECOND = 1_000_000_000
+
+
+def started(switch, ports=2):
+    for number in range(1, ports + 1):
+        assert switch.port_add(number) == []
+    [hello] = switch.connect()
+    assert hello.type is MessageType.HELLO
+    assert switch.feed(messages.HELLO) == []
+    return switch
+
+
+def replayed(switch, tmp_path):
+    """What `ofswitch replay` prints for the log, as a user runs it."""
+    path = tmp_path / "log.events"
+    path.write_text(switch.log)
+    done = subprocess.run([PROGRAM, "replay", *switch.replay_options, path], capture_output=True, text=True, timeout=60)
+    assert done.returncode == 0, done.stderr
+    return done.stdout.splitlines()
+
+
+def load(switch, name):
+    """The tables of a flow text."""
+    rows = subprocess.run([PROGRAM, "asm", EXAMPLES / name], capture_output=True, text=True, check=True).stdout
+    return [effect for row in rows.splitlines() for effect in switch.play(row)]
+
+
+def test_effects_are_values(switch):
+    started(switch)
+    assert switch.frame(1, FRAME) == []
+    assert switch.feed(messages.flow(messages.output(2), in_port=1)) == []
+    assert switch.frame(1, FRAME) == [Sent(2, FRAME)]
+    [answer] = switch.feed(messages.echo(77, b"hello"))
+    assert answer == Answer(messages.echo_reply(77, b"hello"))
+    assert (answer.type, answer.xid, bytes(answer)) == (MessageType.ECHO_REPLY, 77, answer.data)
+    [error, closed] = switch.feed(bytes.fromhex("0405000700000008"))
+    assert error.type == 1 and closed == Closed()
+
+
+def test_refusals_have_reasons(switch):
+    assert switch.feed(b"") == [Refused(3)]
+    started(switch)
+    [refused] = switch.port_add(1)
+    assert refused == Refused(5) and refused.reason == "there is a port of that number already"
+    assert switch.connect() == [Refused(4)]
+    assert switch.port_remove(7) == switch.port_link(7, up=True) == [Refused(6)]
+    for number in range(3, 65):
+        switch.port_add(number)
+    assert switch.port_add(65) == [Refused(7)]
+
+
+@pytest.mark.parametrize("number", [0, 0xFFFFFF01, 0xFFFFFFFF])
+def test_numbers_that_no_port_has(switch, number):
+    """They print the line by which the module finds where the text of a row ends."""
+    assert switch.port_remove(number) == switch.port_add(number) == switch.port_link(number, up=False) == [Refused(8)]
+    assert switch.port_add(1) == []
+    assert switch.port_remove(1) == []
+
+
+def test_links_and_status(switch):
+    started(switch)
+    [down] = switch.port_link(2, up=False)
+    [gone] = switch.port_remove(2)
+    assert down.type is gone.type is MessageType.PORT_STATUS
+    assert (down.data[8], gone.data[8]) == (2, 1)
+
+
+def test_hardware_address_and_name(switch):
+    started(switch, ports=0)
+    [status] = switch.port_add(9, hw="0a:00:27:00:00:0F", name="uplink", up=False)
+    assert bytes.fromhex("0a002700000f") in status.data and b"uplink" in status.data
+    assert switch.port_add(10, hw=bytes.fromhex("0a0027000010")) != []
+    assert switch.log.splitlines()[2:] == ["port add 9 0a002700000F uplink down", "port add 10 0a0027000010 p10 up"]
+
+
+def test_bytes_of_the_controller_may_be_cut_anywhere(switch):
+    started(switch)
+    stream = messages.flow(messages.output(2), in_port=1) + messages.barrier(5)
+    effects = [effect for at in range(len(stream)) for effect in switch.feed(stream[at : at + 1])]
+    assert effects == [Answer(messages.barrier_reply(5))]
+    assert switch.frame(1, FRAME) == [Sent(2, FRAME)]
+
+
+def test_time_is_the_tests(switch):
+    started(switch)
+    switch.feed(messages.flow(messages.output(2), in_port=1, hard=10, flags=1))
+    assert switch.at(10 * SECOND - 1) == []
+    assert switch.frame(1, FRAME) == [Sent(2, FRAME)]
+    [removed] = switch.at(10 * SECOND)
+    assert removed.type is MessageType.FLOW_REMOVED
+    assert switch.frame(1, FRAME) == []
+
+
+def test_failover_group(switch):
+    started(switch, ports=3)
+    switch.feed(messages.failover_group(1, 2, 3) + messages.flow(messages.group(1), in_port=1))
+    assert switch.frame(1, FRAME) == [Sent(2, FRAME)]
+    switch.port_link(2, up=False)
+    assert switch.frame(1, FRAME) == [Sent(3, FRAME)]
+    switch.port_link(3, up=False)
+    assert switch.frame(1, FRAME) == []
+    switch.port_link(2, up=True)
+    assert switch.frame(1, FRAME) == [Sent(2, FRAME)]
+
+
+def test_router(switch):
+    """The tables of README's example: a hop decreases the TTL, and the checksum follows."""
+    for number in (1, 2, 3):
+        switch.port_add(number)
+    assert [effect.type for effect in load(switch, "router.flows")] == [MessageType.HELLO]
+    packet = bytes.fromhex("0200000000a10200000000010800450000140000000040fd64e30a0000010a010109")
+    wanted = bytes.fromhex("0200000000020200000000a2080045000014000000003ffd65e30a0000010a010109")
+    assert switch.frame(1, packet) == [Sent(2, wanted)]
+
+
+def test_messages_and_packets_are_taken_as_they_are(switch):
+    started(switch)
+
+    class OfOsKen:
+        """A message of os-ken: `buf` is there once it is serialized."""
+
+        buf = None
+
+        def serialize(self):
+            self.buf = bytearray(messages.echo(1))
+
+    class PacketOfOsKen:
+        def serialize(self):
+            self.data = bytearray(FRAME)
+
+    class OfPyof:
+        def pack(self):
+            return messages.echo(1)
+
+    class OfScapy:
+        def __bytes__(self):
+            return FRAME
+
+    wanted = [Answer(messages.echo_reply(1))]
+    for message in (messages.echo(1), bytearray(messages.echo(1)), memoryview(messages.echo(1)), OfOsKen(), OfPyof()):
+        assert switch.feed(message) == wanted
+    switch.feed(messages.flow(messages.output(2)))
+    for frame in (FRAME, memoryview(FRAME), OfScapy(), PacketOfOsKen()):
+        assert switch.frame(1, frame) == [Sent(2, FRAME)]
+
+
+@pytest.mark.parametrize(
+    "call",
+    [
+        lambda s: s.port_add(-1),
+        lambda s: s.port_add(1 << 32),
+        lambda s: s.port_add(1, name="sixteen0letters0"),
+        lambda s: s.port_add(1, name=""),
+        lambda s: s.port_add(1, name="Eth0"),
+        lambda s: s.port_add(1, name="p1\n"),
+        lambda s: s.port_add(1, hw="02:00:00:00:00"),
+        lambda s: s.port_add(1, hw=b"12345"),
+        lambda s: s.port_remove(-1),
+        lambda s: s.port_link(1 << 32, up=True),
+        lambda s: s.frame(-1, FRAME),
+        lambda s: s.frame(1 << 32, FRAME),
+        lambda s: s.frame(1, bytes(1 << 20)),
+        lambda s: s.feed(bytes(1 << 20)),
+        lambda s: s.at(-1),
+        lambda s: s.at(1 << 64),
+        lambda s: s.trace(-1, FRAME),
+        lambda s: s.play("connected"),
+        lambda s: s.play("connect\nconnect"),
+        lambda s: s.play("connect\n"),
+        lambda s: s.play("connect "),
+        lambda s: s.play("connect\r"),
+        lambda s: s.play("c 0"),
+        lambda s: s.play("c"),
+        lambda s: s.play("f 01 -"),
+        lambda s: s.play(f"f {1 << 32} -"),
+        lambda s: s.play(f"t {1 << 64}"),
+        lambda s: s.play("port add 1 02:00:00:00:00:01 p1 up"),
+        lambda s: s.play("port add 1 020000000001 sixteen0letters0 up"),
+        lambda s: s.play("port link 1"),
+        lambda s: s.play("port remove ١"),
+        lambda s: s.play("# \udcff"),
+        lambda s: s.play("#" * ((1 << 20) + 1)),
+    ],
+)
+def test_what_makes_no_row_is_a_value_error(switch, call):
+    with pytest.raises(ValueError):
+        call(switch)
+    assert switch.log == ""
+    assert switch.connect() != []
+
+
+@pytest.mark.parametrize("value", ["0400", 8, None, [4, 0]])
+def test_what_has_no_bytes_is_a_type_error(switch, value):
+    with pytest.raises(TypeError):
+        switch.feed(value)
+    with pytest.raises(TypeError):
+        switch.frame(1, value)
+    with pytest.raises(TypeError):
+        switch.frame("1", FRAME)
+    assert switch.log == ""
+
+
+def test_rows_as_text(switch):
+    assert switch.play("# a comment: ü") == switch.play("") == []
+    assert switch.play("port add 4294967040 0200000000A1 p1 down") == []
+    assert switch.play("t 18446744073709551615") == switch.play("f 0 -") == switch.play("lost") == []
+    assert switch.play("c -") == [Refused(3)]
+    assert switch.play("port remove 0") == [Refused(8)]
+    assert switch.log.count("\n") == 8
+
+
+def test_a_large_row_and_large_answers(switch):
+    """A megabyte of row, and as much for it: neither pipe may fill up."""
+    started(switch)
+    assert len(switch.feed(messages.echo(1, bytes(1000)) * 500)) == 500
+    assert len(switch.feed(messages.echo(2) * 20_000)) == 20_000
+
+
+def test_flows_and_traces_change_nothing(switch):
+    started(switch)
+    switch.feed(messages.flow(messages.output(2), in_port=1) + messages.flow(messages.output(messages.CONTROLLER), priority=0))
+    log = switch.log
+    flow = ["flow 0 10 0x0000000000000000 0 0 0", "match in_port 0x00000001", "apply", "output 2 65535"]
+    assert switch.flows().splitlines()[:4] == flow
+    steps = ["in by port 1, 60 bytes", "table 0: entry 0", "sent out of port 2, 60 bytes"]
+    assert switch.trace(1, FRAME).splitlines() == steps
+    assert "PACKET_IN" in switch.trace(2, FRAME)
+    switch.port_link(1, up=False)
+    assert "sent" not in switch.trace(1, FRAME)
+    assert switch.log.removeprefix(log) == "port link 1 down\n"
+    assert "FLOW_MOD" in switch.explain()
+
+
+def test_the_log_replays_all(switch, tmp_path):
+    seen = []
+    switch.watch(lambda row, effects: seen.extend(map(str, effects)))
+    started(switch)
+    switch.play("# between")
+    switch.port_remove(0)
+    switch.feed(messages.flow(messages.output(2)) + messages.echo(3))
+    switch.frame(1, FRAME)
+    switch.feed(bytes.fromhex("0405000700000008"))
+    switch.lost()
+    assert [line.split()[0] for line in seen] == ["a", "refused", "a", "s", "a", "closed"]
+    assert replayed(switch, tmp_path) == seen
+
+
+def test_the_log_as_a_file(new_switch, tmp_path):
+    path = tmp_path / "kept.events"
+    switch = new_switch(log=path)
+    switch.port_add(1)
+    assert path.read_text() == switch.log == "port add 1 020000000001 p1 up\n"
+
+
+def test_several_switches(new_switch):
+    """A frame that crosses two switches."""
+    first, second = new_switch(), new_switch()
+    for switch in (first, second):
+        started(switch)
+        switch.feed(messages.flow(messages.output(2), in_port=1))
+    [sent] = first.frame(1, FRAME)
+    assert second.frame(1, sent.frame) == [Sent(2, FRAME)]
+
+
+def test_ten_thousand_round_trips(switch, tmp_path):
+    started(switch)
+    for xid in range(10_000):
+        assert switch.feed(messages.echo(xid)) == [Answer(messages.echo_reply(xid))]
+    assert len(replayed(switch, tmp_path)) == 10_001
