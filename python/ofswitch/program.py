@@ -97,6 +97,7 @@ class Run:
             return self._exchange(memoryview(rows + MARK_ROW), marks + 1)
         except BaseException:
             # what is still to come would be taken for the text of the next row
+            self._process.kill()
             self.close()
             raise
 
@@ -129,7 +130,6 @@ class Run:
         """Waits, and returns what the program has written; nothing, if it only has room for more."""
         ready = waiting.poll(self._timeout * 1000)
         if not ready:
-            self._process.kill()
             raise ProgramError(f"{' '.join(self._command)} did not answer within {self._timeout:g} s")
         if all(it != self._stdout for it, _ in ready):
             return b""

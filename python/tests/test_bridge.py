@@ -28,7 +28,7 @@ class Controller:
 
     @classmethod
     def of(cls, bridge, receive_buffer=None):
-        stream = socket.socket()
+        stream = socket.socket(socket.AF_INET6 if ":" in bridge.address[0] else socket.AF_INET)
         if receive_buffer:
             stream.setsockopt(socket.SOL_SOCKET, socket.SO_RCVBUF, receive_buffer)
         stream.connect(bridge.address)

@@ -153,7 +153,7 @@ fn full(alloc: Global) -> Option<Cached<Scan>> {
     Some(lookup)
 }
 
-fn renewed(alloc: Global) -> Option<Renewed> {
+fn full_and_unasked(alloc: Global) -> Option<Renewed> {
     let mut lookup = full(alloc)?;
     let unasked = 4000;
     lookup
@@ -165,7 +165,7 @@ fn renewed(alloc: Global) -> Option<Renewed> {
     })
 }
 
-fn turned(alloc: Global) -> Option<Turned> {
+fn full_and_met(alloc: Global) -> Option<Turned> {
     Some(Turned {
         lookup: full(alloc)?,
         fields: numbered_match(alloc, 0, 7).ok()?,
@@ -180,11 +180,11 @@ pub fn time_cached(rt: &HostRuntime) -> io::Result<()> {
     time_in_turn(rt, "hit, 256 rows", 256)?;
     time_in_turn(rt, "hit, 1024 rows", ROWS)?;
     time_in_turn(rt, "miss, 1025 keys in turn", ROWS + 1)?;
-    match renewed(rt.alloc()) {
+    match full_and_unasked(rt.alloc()) {
         Some(mut timed) => time_slow(rt, "renew, no row of 1024 goes", &mut timed)?,
         None => println!(rt; "renew: no memory")?,
     }
-    match turned(rt.alloc()) {
+    match full_and_met(rt.alloc()) {
         Some(mut timed) => time_slow(rt, "add and take, a row of 1024 goes at each", &mut timed),
         None => println!(rt; "add and take: no memory"),
     }

@@ -80,7 +80,8 @@ fn play<L: Lookup>(
     if reports.len() > before {
         one = [Event::Piece(Bytes::new(Vec::new(alloc)))];
     }
-    Ok(switch.run(&one, reports)?)
+    let again = switch.run(&one, reports);
+    Ok(again.map_err(|_| "no memory a second time")?)
 }
 
 fn push_effect(out: &mut Vec<u8>, effect: &Effect) -> Result<(), AllocError> {
