@@ -1,6 +1,6 @@
 -- Rows that are dropped by their region.
 use Rattle.std.proofs.Common.{◌≡◌, ℕ, ◌+◌, ◌<◌, Bool, true, false, cond, not, ◌&&◌, ◌||◌, List, [], ◌∷◌, ◌++◌, length, get_or, take, Option, Some, refl, sym, ◌∙◌, ap, subst, ⊎_elim}
-use Rattle.std.specs.Prelude.{filter}
+use Rattle.std.specs.Prelude.{filter, map}
 use Rattle.std.specs.List.{Contains, AllByRecursion, IsDistinct, list_any}
 use Rattle.std.specs.Option.{option_map_or}
 use Rattle.std.specs.Map.{keys_of, lookup, remove_entry}
@@ -16,6 +16,10 @@ use Rattle.of_oxm.specs.Masks.{mask_at}
 use Rattle.of_cache.specs.declared.region.Region.{Region}
 use Rattle.of_cache.specs.Regions.{AnsweredRegion, Holds, IsRegion, IsWithin, meets_seen}
 use Rattle.of_cache.specs.Kept.{is_beaten}
+use Rattle.of_cache.specs.declared.cause.Cause.{Cause}
+use Rattle.of_cache.specs.Causes.{goes, staying}
+use Rattle.of_cache.specs.declared.cause.Cause.TheVariants.{Added}
+use Rattle.of_cache.proofs.Staying.{twice_same}
 use Rattle.of_cache.specs.Listed.{AreListed, is_same_region, is_same_mask}
 use Rattle.of_cache.specs.SameRegion.{equal_regions, region_itself}
 use Rattle.std.specs.Bool.{Decides}
@@ -151,12 +155,28 @@ any-push (y ∷ masks) m x = ap (λ (b : Bool). is_same_mask y x || b) (any-push
     or_assoc true b c = refl
     or_assoc false b c = refl
 
+and_true : (a : Bool) → (a && true) ≡ a
+and_true true = refl
+and_true false = refl
+
+-- the row of the region of a match's values goes where its answer is beaten
+won_by : (mask : FieldMask) (key : FieldKey) (priority : ℕ) (region : Region) (rows : List AnsweredRegion) → IsWithin region.mask mask → ((f : Field) → value region.key f ≡ seen (mask_at region.mask f) (value key f))
+    → filter (λ row. not (goes (Added mask key priority) (region, row.1) && is_same_region region row.0)) rows ≡ filter (λ row. not (is_beaten priority row.1 && is_same_region region row.0)) rows
+won_by mask key priority region rows within shows =
+    ap (λ (t : Bool). filter (λ row. not ((is_beaten priority row.1 && t) && is_same_region region row.0)) rows) met
+    ∙ filter_same (λ row. not ((is_beaten priority row.1 && true) && is_same_region region row.0)) (λ row. not (is_beaten priority row.1 && is_same_region region row.0)) rows
+    (λ row c. ap (λ (t : Bool). not (t && is_same_region region row.0)) (and_true (is_beaten priority row.1)))
+  where
+    met : meets_seen (mask_at mask) (value key) region ≡ true
+    met = holds_met mask key region (λ f. twice_same (mask_at region.mask f) (value region.key f) (value key f) (shows f)) within (λ f. sym (shows f))
+
 pub more_by : (mask : FieldMask) (key : FieldKey) (priority i : ℕ) (masks : List FieldMask) (m : FieldMask) (region : Region) (old now new : List AnsweredRegion)
     → i < length masks → m ≡ get_or masks i m → region.mask ≡ m → ((f : Field) → value region.key f ≡ seen (mask_at region.mask f) (value key f)) → IsWithin region.mask mask
     → ((row : AnsweredRegion) → Contains old row → IsRegion row.0) → now ≡ filter (λ row. not (goes_by mask key priority (take i masks) row)) old
-    → new ≡ filter (λ row. not (is_beaten priority row.1 && is_same_region region row.0)) now → new ≡ filter (λ row. not (goes_by mask key priority (take (i + 1) masks) row)) old
+    → new ≡ filter (λ row. not (goes (Added mask key priority) (region, row.1) && is_same_region region row.0)) now → new ≡ filter (λ row. not (goes_by mask key priority (take (i + 1) masks) row)) old
 more_by mask key priority i masks m region old now new lt at is shows within regions before then =
-    then ∙ ap (λ (es : List AnsweredRegion). filter (λ row. not (is_beaten priority row.1 && is_same_region region row.0)) es) before
+    then ∙ won_by mask key priority region now within shows
+    ∙ ap (λ (es : List AnsweredRegion). filter (λ row. not (is_beaten priority row.1 && is_same_region region row.0)) es) before
     ∙ filter_twice (λ row. not (is_beaten priority row.1 && is_same_region region row.0)) (λ row. not (goes_by mask key priority (take i masks) row)) old
     ∙ filter_same (λ row. not (goes_by mask key priority (take i masks) row) && not (is_beaten priority row.1 && is_same_region region row.0)) (λ row. not (goes_by mask key priority (take (i + 1) masks) row)) old each
   where
@@ -182,10 +202,6 @@ there_any (x ∷ masks) m c = ⊎_elim
     (λ d. rw (there_any masks m d) (or_true (is_same_mask x m)))
     (Contains-cons x masks m c)
 
-and_true : (a : Bool) → (a && true) ≡ a
-and_true true = refl
-and_true false = refl
-
 pub all_by : (mask : FieldMask) (key : FieldKey) (priority : ℕ) (masks all : List FieldMask) (old new : List AnsweredRegion) → all ≡ masks → AreListed masks old
     → new ≡ filter (λ row. not (goes_by mask key priority all row)) old → new ≡ filter (λ row. not (is_beaten priority row.1 && meets_seen (mask_at mask) (value key) row.0)) old
 all_by mask key priority masks all old new whole listed h =
@@ -197,3 +213,33 @@ all_by mask key priority masks all old new whole listed h =
 
 pub at_place : (masks : List FieldMask) (i : ℕ) (m : FieldMask) → i < length masks → m ≡ get_or masks i m → Contains masks m
 at_place masks i m lt is = subst (λ (x : FieldMask). Contains masks x) (sym is) (Contains-get_or masks i m lt)
+
+-- ---- a row that goes
+
+-- where a row that goes is dropped by its region, the rows that stay are the same
+pub same_staying_without : (cause : Cause) (region : Region) (old new : List AnsweredRegion) → new ≡ filter (λ row. not (goes cause (region, row.1) && is_same_region region row.0)) old → staying cause new ≡ staying cause old
+same_staying_without cause region old new h =
+    ap (λ (rows : List AnsweredRegion). filter (λ row. not (goes cause row)) rows) h
+    ∙ filter_twice (λ row. not (goes cause row)) (λ row. not (goes cause (region, row.1) && is_same_region region row.0)) old
+    ∙ filter_same (λ row. not (goes cause (region, row.1) && is_same_region region row.0) && not (goes cause row)) (λ row. not (goes cause row)) old (λ row c. by_test row (is_same_region region row.0) refl)
+  where
+    drops : (q : Bool) → (not (q && true) && not q) ≡ not q
+    drops true = refl
+    drops false = refl
+
+    keeps : (p q : Bool) → (not (p && false) && not q) ≡ not q
+    keeps true q = refl
+    keeps false q = refl
+
+    by_test : (row : AnsweredRegion) → (s : Bool) → is_same_region region row.0 ≡ s → (not (goes cause (region, row.1) && s) && not (goes cause row)) ≡ not (goes cause row)
+    by_test row true e = ap (λ (r : Region). not (goes cause (r, row.1) && true) && not (goes cause row)) (equal_regions region row.0 e) ∙ drops (goes cause row)
+    by_test row false e = keeps (goes cause (region, row.1)) (goes cause row)
+
+-- none of those before goes, nor does one more
+pub none_more_goes : {X Y : Type 0} (p : X → Bool) (f : Y → X) (ys : List Y) (y : Y) → list_any p (map f ys) ≡ false → p (f y) ≡ false → list_any p (map f (ys ++ y ∷ [])) ≡ false
+none_more_goes p f [] y h e = rw e refl
+none_more_goes p f (z ∷ ys) y h e = by_test (p (f z)) h (λ g. none_more_goes p f ys y g e)
+  where
+    by_test : (b : Bool) → (b || list_any p (map f ys)) ≡ false → (list_any p (map f ys) ≡ false → list_any p (map f (ys ++ y ∷ [])) ≡ false) → (b || list_any p (map f (ys ++ y ∷ []))) ≡ false
+    by_test true g later = absurd cc
+    by_test false g later = later g

@@ -83,7 +83,7 @@ seen_twice None v = refl
 seen_twice (Some m) None = refl
 seen_twice (Some m) (Some v) = ap Some (and_twice v m)
 
-twice_same : (m n v : Option ℕ) → n ≡ seen m v → seen m n ≡ n
+pub twice_same : (m n v : Option ℕ) → n ≡ seen m v → seen m n ≡ n
 twice_same m n v e = ap (seen m) e ∙ seen_twice m v ∙ sym e
 
 pub fresh_right : (content : List Row) (mask : FieldMask) (key : Field → Option ℕ) (masked : FieldKey) →

@@ -1,17 +1,16 @@
 //! Rows that an added entry would win over.
-ghost use Rattle.std.specs.Prelude.{◌≡◌, ◌&&◌, ℕ, List, IsTrue, not, filter};
+ghost use Rattle.std.specs.Prelude.{◌≡◌, IsTrue};
 ghost use Rattle.std.specs.List.{Contains};
 ghost use Rattle.of_layers.specs.declared.field.Field.{Field};
 ghost use Rattle.of_headers.specs.FieldMap.{seen};
 ghost use Rattle.of_oxm.specs.declared.masks.FieldMask.{FieldMask as AMask};
 ghost use Rattle.of_oxm.specs.Masks.{mask_at};
 ghost use Rattle.of_cache.specs.Regions.{AnsweredRegion, IsRegion, IsWithin};
-ghost use Rattle.of_cache.specs.Kept.{is_beaten as beaten};
 ghost use Rattle.of_cache.specs.Causes.{staying};
-ghost use Rattle.of_cache.specs.Listed.{AreListed, is_same_region};
+ghost use Rattle.of_cache.specs.Listed.{AreListed};
 
-use crate::cause::{Cause, is_beaten};
-use crate::dropping::{Rows, drop_rows};
+use crate::cause::Cause;
+use crate::dropping::{Rows, drop_row, drop_rows};
 use crate::region::Region;
 use of_headers::FieldKey;
 use of_oxm::FieldMask;
@@ -30,21 +29,6 @@ fn are_within(masks: &[FieldMask], wider: &FieldMask) -> bool
     masks.iter().all(|mask| is_within(mask, wider))
 }
 
-// Drops the row of a region, if an entry of that priority would win over its answer.
-fn drop_region(rows: &mut Rows, region: &Region, priority: u16)
-    ensures entries { rows.new.entries ≡ filter (λ row. not (beaten priority row.1 && is_same_region region.now row.0)) rows.old.entries }
-    ensures capacity { rows.new.cap ≡ rows.old.cap }
-{
-    let _len = rows.len();
-    let is_won = match rows.peek(region) {
-        Some(answer) => is_beaten(priority, answer),
-        None => false,
-    };
-    if is_won {
-        rows.pop(region);
-    }
-}
-
 /// Drops the rows whose regions a match of that mask and these values meets, and whose answers an entry of that priority would
 /// win over. The others keep their order.
 ///
@@ -61,8 +45,9 @@ pub(crate) fn drop_beaten(
     ensures entries { rows.new.entries ≡ staying (Cause.Added mask.now key.now priority) rows.old.entries }
     ensures capacity { rows.new.cap ≡ rows.old.cap }
 {
+    let cause = Cause::Added(*mask, *key, priority);
     if !are_within(masks, mask) {
-        drop_rows(rows, &Cause::Added(*mask, *key, priority));
+        drop_rows(rows, &cause);
         return;
     }
     for each in masks {
@@ -70,6 +55,6 @@ pub(crate) fn drop_beaten(
             key: each.masked(key),
             mask: *each,
         };
-        drop_region(rows, &region, priority);
+        drop_row(rows, &region, &cause);
     }
 }

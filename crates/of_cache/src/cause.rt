@@ -36,8 +36,8 @@ fn is_answer(number: usize, answer: &Answer) -> bool
     }
 }
 
-/// Whether an entry of that priority would win over an answer.
-pub(crate) fn is_beaten(priority: u16, answer: &Answer) -> bool
+// Whether an entry of that priority would win over an answer.
+fn is_beaten(priority: u16, answer: &Answer) -> bool
     ensures { result ≡ beaten priority answer.now }
 {
     match answer {

@@ -1,8 +1,9 @@
 //! Rows that go, one after another.
-ghost use Rattle.std.specs.Prelude.{◌≡◌, ◌++◌, ℕ, List, [], ◌∷◌, Option, if◌then◌else◌};
+ghost use Rattle.std.specs.Prelude.{◌≡◌, ◌++◌, ◌&&◌, ℕ, false, not, List, [], ◌∷◌, Option, IfNone, filter, if◌then◌else◌};
 ghost use Rattle.std.specs.List.{list_any};
 ghost use Rattle.of_cache.specs.declared.region.Region.{Region as ARegion};
 ghost use Rattle.of_cache.specs.Causes.{goes as does_go, staying};
+ghost use Rattle.of_cache.specs.Listed.{is_same_region};
 ghost use Rattle.of_cache.specs.Regions.{AnsweredRegion};
 
 use crate::cause::{Cause, goes};
@@ -13,6 +14,9 @@ use lru::LruCache;
 pub(crate) type Answer = Option<(usize, u16)>;
 
 pub(crate) type Rows = LruCache<Region, Answer>;
+
+/// How many rows are dropped one by one.
+const FEW: usize = 8;
 
 // The last row, and whether it goes.
 fn last_of(rows: &Rows, cause: &Cause) -> Option<(Region, bool)>
@@ -42,23 +46,55 @@ fn turn(rows: &mut Rows, cause: &Cause)
     }
 }
 
-// Whether some row goes.
-fn any_goes(rows: &Rows, cause: &Cause) -> bool
-    ensures { result ≡ list_any (does_go cause.now) rows.now.entries }
+// Drops the rows that go: each row in turn goes or comes first, from the last one on, so that the others keep their order.
+fn turn_all(rows: &mut Rows, cause: &Cause)
+    ensures entries { rows.new.entries ≡ staying cause.now rows.old.entries }
+    ensures capacity { rows.new.cap ≡ rows.old.cap }
 {
-    rows.iter()
-        .any(|(region, answer)| goes(cause, region, answer))
+    for _turned in 0..rows.len() {
+        turn(rows, cause);
+    }
 }
 
-/// Drops the rows that go. The others keep their order: each in turn comes first, from the last one on.
+// The region of the first row that goes.
+fn first_that_goes(rows: &Rows, cause: &Cause) -> Option<Region>
+    ensures { IfNone result (list_any (does_go cause.now) rows.now.entries ≡ false) }
+{
+    for (region, answer) in rows.iter() {
+        if goes(cause, region, answer) {
+            return Some(*region);
+        }
+    }
+    None
+}
+
+/// Drops the row of a region, if it goes.
+pub(crate) fn drop_row(rows: &mut Rows, region: &Region, cause: &Cause)
+    ensures entries { rows.new.entries ≡ filter (λ row. not (does_go cause.now (region.now, row.1) && is_same_region region.now row.0)) rows.old.entries }
+    ensures capacity { rows.new.cap ≡ rows.old.cap }
+{
+    let _len = rows.len();
+    let is_dropped = match rows.peek(region) {
+        Some(answer) => goes(cause, region, answer),
+        None => false,
+    };
+    if is_dropped {
+        rows.pop(region);
+    }
+}
+
+/// Drops the rows that go. The others keep their order.
+///
+/// A few are looked for one by one; where more go, all rows are turned, which is linear.
 pub(crate) fn drop_rows(rows: &mut Rows, cause: &Cause)
     ensures entries { rows.new.entries ≡ staying cause.now rows.old.entries }
     ensures capacity { rows.new.cap ≡ rows.old.cap }
 {
-    if !any_goes(rows, cause) {
-        return;
+    for _dropped in 0..FEW {
+        match first_that_goes(rows, cause) {
+            Some(region) => drop_row(rows, &region, cause),
+            None => return,
+        }
     }
-    for _turned in 0..rows.len() {
-        turn(rows, cause);
-    }
+    turn_all(rows, cause);
 }

@@ -8,11 +8,11 @@ loop-each-init c = record { dropped = none_by c.args.mask.now c.args.key.now c.a
 
 pub loop-each-preserved : goal.loop-each-preserved
 loop-each-preserved c = record {
-  dropped = more_by c.args.mask.now c.args.key.now c.args.priority c.loop-each.each-index c.args.masks.now c.each-item.result (region_of c.each-item.result c.masked.result) c.args.rows.now.entries c.loop-each.rows.entries c.drop_region.new.rows.entries
+  dropped = more_by c.args.mask.now c.args.key.now c.args.priority c.loop-each.each-index c.args.masks.now c.each-item.result (region_of c.each-item.result c.masked.result) c.args.rows.now.entries c.loop-each.rows.entries c.drop_row.new.rows.entries
       c.loop-each-test.true c.each-item.is refl c.masked.ensures
       (c.are_within.ensures c.if-not-are_within.false c.each-item.result (at_place c.args.masks.now c.loop-each.each-index c.each-item.result c.loop-each-test.true c.each-item.is))
-      c.requires.regions c.loop-each.invariant.dropped c.drop_region.ensures.entries;
-  capacity = c.drop_region.ensures.capacity ∙ c.loop-each.invariant.capacity;
+      c.requires.regions c.loop-each.invariant.dropped c.drop_row.ensures.entries;
+  capacity = c.drop_row.ensures.capacity ∙ c.loop-each.invariant.capacity;
 }
 
 pub returns-clause-entries : goal.returns-clause-entries

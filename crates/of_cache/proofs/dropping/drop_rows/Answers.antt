@@ -1,23 +1,26 @@
-use Rattle.std.proofs.Common.{not, refl, arith, sym, ◌∙◌}
+use Rattle.std.proofs.Common.{refl, ◌∙◌}
 use Rattle.of_cache.specs.Causes.{goes}
-use Rattle.of_cache.specs.Regions.{AnsweredRegion}
-use Rattle.of_cache.proofs.Turning.{none_turned, one_turned, all_turned, none_goes}
+use Rattle.of_cache.proofs.Turning.{none_goes}
+use Rattle.of_cache.proofs.Popping.{same_staying_without}
 use Rattle.of_cache.proofs.dropping.drop_rows.Goals as goal
 
-pub loop-turned-init : goal.loop-turned-init
-loop-turned-init c = record { turned = none_turned (λ (row : AnsweredRegion). not (goes c.args.cause.now row)) c.args.rows.now.entries; capacity = refl }
+pub loop-dropped-init : goal.loop-dropped-init
+loop-dropped-init c = record { same = refl; capacity = refl }
 
-pub loop-turned-preserved : goal.loop-turned-preserved
-loop-turned-preserved c = record {
-  turned = one_turned (λ (row : AnsweredRegion). not (goes c.args.cause.now row)) (goes c.args.cause.now) c.args.rows.now.entries c.loop-turned.rows.entries c.turn.new.rows.entries c.loop-turned._turned (λ x. refl) (omega (arith, c.len-turned-end.ensures.len)) c.loop-turned.invariant.turned c.turn.ensures.entries;
-  capacity = c.turn.ensures.capacity ∙ c.loop-turned.invariant.capacity;
+pub loop-dropped-preserved : goal.loop-dropped-preserved
+loop-dropped-preserved c = record {
+  same = same_staying_without c.args.cause.now c.in-Some.region c.loop-dropped.rows.entries c.drop_row.new.rows.entries c.drop_row.ensures.entries ∙ c.loop-dropped.invariant.same;
+  capacity = c.drop_row.ensures.capacity ∙ c.loop-dropped.invariant.capacity;
 }
 
+pub returns-in-None-clause-entries : goal.returns-in-None-clause-entries
+returns-in-None-clause-entries c = none_goes (goes c.args.cause.now) c.loop-dropped.rows.entries c.in-None.ensures ∙ c.loop-dropped.invariant.same
+
+pub returns-in-None-clause-capacity : goal.returns-in-None-clause-capacity
+returns-in-None-clause-capacity c = c.loop-dropped.invariant.capacity
+
 pub returns-clause-entries : goal.returns-clause-entries
-returns-clause-entries c = all_turned (λ (row : AnsweredRegion). not (goes c.args.cause.now row)) c.args.rows.now.entries c.loop-turned.rows.entries c.loop-turned._turned (omega (arith, c.len-turned-end.ensures.len)) c.loop-turned.invariant.turned
+returns-clause-entries c = c.turn_all.ensures.entries ∙ c.loop-dropped.invariant.same
 
 pub returns-clause-capacity : goal.returns-clause-capacity
-returns-clause-capacity c = c.loop-turned.invariant.capacity
-
-pub returns-then-not-any_goes-clause-entries : goal.returns-then-not-any_goes-clause-entries
-returns-then-not-any_goes-clause-entries c = none_goes (goes c.args.cause.now) c.args.rows.now.entries (sym c.any_goes.ensures ∙ c.if-not-any_goes.true)
+returns-clause-capacity c = c.turn_all.ensures.capacity ∙ c.loop-dropped.invariant.capacity

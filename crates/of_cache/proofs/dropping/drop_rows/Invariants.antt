@@ -1,12 +1,10 @@
--- so many of the last rows have turned
-use Rattle.std.proofs.Common.{◌≡◌, not}
-use Rattle.of_cache.specs.Causes.{goes}
-use Rattle.of_cache.specs.Regions.{AnsweredRegion}
-use Rattle.of_cache.proofs.Turning.{AreTurned}
+use Rattle.std.proofs.Common.{◌≡◌}
+use Rattle.of_cache.specs.Causes.{staying}
 use Rattle.of_cache.proofs.dropping.drop_rows.Given as goal
 
-abbrev pub invariant-loop-turned : goal.invariant-loop-turned
-invariant-loop-turned l = record {
-  turned : AreTurned (λ (row : AnsweredRegion). not (goes l.cause row)) l.fn.rows.entries l.rows.entries l._turned;
+-- only rows that go were dropped
+abbrev pub invariant-loop-dropped : goal.invariant-loop-dropped
+invariant-loop-dropped l = record {
+  same : staying l.cause l.rows.entries ≡ staying l.cause l.fn.rows.entries;
   capacity : l.rows.cap ≡ l.fn.rows.cap;
 }

@@ -1,0 +1,10 @@
+use Rattle.std.proofs.Common.{◌≡◌, false}
+use Rattle.std.specs.Prelude.{map}
+use Rattle.std.specs.List.{list_any}
+use Rattle.std.specs.Map.Iter.{deref_pair}
+use Rattle.of_cache.specs.Causes.{goes}
+use Rattle.of_cache.proofs.dropping.first_that_goes.Given as goal
+
+-- none of the rows before goes
+abbrev pub invariant-loop-region : goal.invariant-loop-region
+invariant-loop-region l = list_any (goes l.cause) (map deref_pair l.yielded) ≡ false
