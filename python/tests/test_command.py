@@ -2,6 +2,7 @@
 
 import os
 import re
+import signal
 import socket
 import subprocess
 import sys
@@ -94,8 +95,10 @@ def test_lines_that_are_no_rows():
 
 
 def test_an_interrupt_ends_it():
-    with subprocess.Popen([*COMMAND, "--listen", "127.0.0.1:0"], stdin=subprocess.PIPE, stderr=subprocess.PIPE) as running:
-        running.stderr.readline()
-        running.send_signal(2)
+    pipe = subprocess.PIPE
+    with subprocess.Popen([*COMMAND, "--listen", "127.0.0.1:0"], stdin=pipe, stdout=pipe, stderr=pipe, bufsize=0) as running:
+        running.stdin.write(b"port remove 0\n")
+        assert running.stdout.readline() == b"refused 8\n"
+        running.send_signal(signal.SIGINT)
         assert running.wait(timeout=20) == 130
         assert b"Traceback" not in running.stderr.read()
