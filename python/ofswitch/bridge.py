@@ -44,6 +44,11 @@ class Bridge:
         return bridge
 
     def _begin(self, switch: Switch, door: Listener | Dialer, patience: float) -> None:
+        try:
+            self._played = switch.attach(self)
+        except RuntimeError:
+            door.close()
+            raise
         self._switch = switch
         self._door = door
         self._patience = patience
@@ -55,7 +60,6 @@ class Bridge:
         self._heard = time.monotonic()
         self._is_closing = False
         self._fault: BaseException | None = None
-        self._played = switch.attach(self)
         self._thread = threading.Thread(target=self._run, name="ofswitch bridge", daemon=True)
         self._thread.start()
 
@@ -82,8 +86,7 @@ class Bridge:
         with self._played:
             if not self._played.wait_for(lambda: self._fault or condition(), timeout):
                 raise TimeoutError(f"not within {timeout:g} s")
-            if self._fault:
-                raise self._fault
+            self._check()
 
     def quiet(self, seconds: float = 0.1, timeout: float = 10.0) -> None:
         """Waits until the controller has sent nothing for so long. TimeoutError if it goes on sending."""
@@ -93,6 +96,7 @@ class Bridge:
                 if time.monotonic() + left > end:
                     raise TimeoutError(f"not quiet within {timeout:g} s")
                 self._played.wait(left)
+                self._check()
 
     def disconnect(self) -> None:
         """Ends the connection, as a network does that fails."""
@@ -114,8 +118,8 @@ class Bridge:
         self, kind: type[BaseException] | None, fault: BaseException | None, trace: TracebackType | None
     ) -> None:
         self.close()
-        if fault is None and self._fault is not None:
-            raise self._fault
+        if fault is None:
+            self._check()
 
     # ---- for the switch
 
@@ -131,6 +135,11 @@ class Bridge:
             connection.finish()
         if connection.needs_attention:
             self._waker.wake()
+
+    def _check(self) -> None:
+        """Raises what ended the bridge, if something did."""
+        if self._fault is not None:
+            raise self._fault
 
     # ---- in the thread
 

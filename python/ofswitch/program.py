@@ -86,13 +86,16 @@ class Run:
     def pid(self) -> int:
         return self._process.pid
 
+    def check(self) -> None:
+        """ProgramError if the run has ended."""
+        if not self._finalizer.alive:
+            raise ProgramError(f"{' '.join(self._command)} was ended")
+
     def play(self, rows: bytes, marks: int) -> list[bytes]:
         """Plays rows, and returns the lines that they print, without line ends.
 
         `marks` says how many of them print the line of the mark themselves. After an exception the run has ended.
         """
-        if not self._finalizer.alive:
-            raise ProgramError(f"{' '.join(self._command)} was ended")
         try:
             return self._exchange(memoryview(rows + MARK_ROW), marks + 1)
         except BaseException:

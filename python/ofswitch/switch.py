@@ -2,11 +2,13 @@
 
 from __future__ import annotations
 
+import contextlib
+import os
 import re
 import tempfile
 import threading
 import weakref
-from collections.abc import Callable
+from collections.abc import Callable, Iterator
 from types import TracebackType
 from typing import IO, Any, Protocol, cast
 
@@ -189,6 +191,7 @@ class Switch:
             line = row.encode() + b"\n"
             if self._run.reads + 2 * reads_of(len(line)) > self.MOST_READS:
                 self._renew()
+            self._run.check()
             self._log.write(line)
             if self._log_is_kept:
                 self._log.flush()
@@ -207,17 +210,26 @@ class Switch:
     def _renew(self) -> None:
         """A new run of the program takes over, which plays the log first: the same rows lead to the same switch."""
         run = self._new_run()
-        self._log.seek(0)
-        while block := self._log.read(_BLOCK_SIZE):
-            block += self._log.readline()
-            marks = sum(rows.is_refused_as_8(it.decode()) for it in _PORT_ROWS.findall(block))
-            run.play(block, marks)
+        with self._log_from_start() as log:
+            while block := log.read(_BLOCK_SIZE):
+                block += log.readline()
+                marks = sum(rows.is_refused_as_8(it.decode()) for it in _PORT_ROWS.findall(block))
+                run.play(block, marks)
         self._run.close()
         self._run = run
 
     def _log_bytes(self) -> bytes:
+        with self._log_from_start() as log:
+            return log.read()
+
+    @contextlib.contextmanager
+    def _log_from_start(self) -> Iterator[IO[bytes]]:
+        """The log, to be read; after that, whatever happens, rows are written behind it again."""
         self._log.seek(0)
-        return self._log.read()
+        try:
+            yield self._log
+        finally:
+            self._log.seek(0, os.SEEK_END)
 
     def _ask(self, words: list[str], more: bytes) -> str:
         """What the program prints for the log, and a row more."""

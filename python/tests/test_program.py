@@ -116,10 +116,12 @@ def test_an_interrupted_row_ends_the_run(tmp_path):
 def test_with_ends_the_program():
     with Switch() as switch:
         assert is_there(switch.pid)
+        switch.port_add(1)
     assert is_gone(switch.pid)
     with pytest.raises(ProgramError, match="was ended"):
         switch.connect()
     switch.close()
+    assert switch.log == "port add 1 020000000001 p1 up\n"
 
 
 def test_garbage_collection_ends_the_program():
