@@ -12,7 +12,7 @@ use Rattle.of_machine.specs.Rows.{Work}
 use Rattle.of_machine.specs.Runs.{Machine, run_of}
 use Rattle.of_machine.specs.Renumbering.{renumbered}
 use Rattle.of_machine.proofs.Renumbering.{run_is_renumbered}
-use Rattle.of_switch.specs.declared.control.ReasonMasks.{ReasonMasks}
+use Rattle.of_switch.specs.declared.control.AsyncConfig.{AsyncConfig}
 use Rattle.of_switch.specs.declared.effect.Effect.{Effect}
 use Rattle.of_switch.specs.Told.{effects_of}
 use Rattle.of_switch.specs.Plane.{Forwarding, world_of, applied, forwards, all_sent, all_tallied}
@@ -20,32 +20,32 @@ use Rattle.of_switch.specs.Numbers.{forwarding_of, numbered_world, place_in, all
 use Rattle.of_switch.proofs.Worlds.{AreDistinct, renumbered_world}
 
 -- what is done by places, of a run by numbers
-by_places : (reason_masks : ReasonMasks) (seen : List Port) (p : Packet) (work : List Work) (t : NumberedTables) (groups : List Group) (ports : List Port) (f : Forwarding) → AreDistinct t
-    → applied reason_masks seen (run_of (world_of (forwarding_of t groups ports)) p work) f ≡ applied reason_masks seen (renumbered (place_in t) (run_of (numbered_world t groups ports) p work)) f
-by_places reason_masks seen p work t groups ports f distinct =
-    ap (λ (m : Machine). applied reason_masks seen m f)
+by_places : (heard : AsyncConfig) (seen : List Port) (p : Packet) (work : List Work) (t : NumberedTables) (groups : List Group) (ports : List Port) (f : Forwarding) → AreDistinct t
+    → applied heard seen (run_of (world_of (forwarding_of t groups ports)) p work) f ≡ applied heard seen (renumbered (place_in t) (run_of (numbered_world t groups ports) p work)) f
+by_places heard seen p work t groups ports f distinct =
+    ap (λ (m : Machine). applied heard seen m f)
     (run_is_renumbered (place_in t) (numbered_world t groups ports) (world_of (forwarding_of t groups ports)) (renumbered_world t groups ports distinct) p work)
 
 -- what a run by numbers gives and counts, as a plan
-pub way_is : (reason_masks : ReasonMasks) (p packet : Packet) (work : List Work) (t : NumberedTables) (groups : List Group) (ports : List Port) (items : List Item) (counts : List Count) (effects : List Effect) (seen : List Port) (before after : Forwarding)
+pub way_is : (heard : AsyncConfig) (p packet : Packet) (work : List Work) (t : NumberedTables) (groups : List Group) (ports : List Port) (items : List Item) (counts : List Count) (effects : List Effect) (seen : List Port) (before after : Forwarding)
     → AreDistinct t
     → packet ≡ p
     → items ≡ (run_of (numbered_world t groups ports) packet work).items
     → counts ≡ (run_of (numbered_world t groups ports) packet work).counts
     → seen ≡ ports
-    → effects ≡ effects_of reason_masks seen items
+    → effects ≡ effects_of heard seen items
     → after ≡ all_sent effects (all_tallied (all_placed t counts) before)
-    → applied reason_masks ports (run_of (world_of (forwarding_of t groups ports)) p work) before ≡ forwards effects after
-way_is reason_masks p packet work t groups ports items counts effects seen before after distinct enters is_items is_counts same told ends =
+    → applied heard ports (run_of (world_of (forwarding_of t groups ports)) p work) before ≡ forwards effects after
+way_is heard p packet work t groups ports items counts effects seen before after distinct enters is_items is_counts same told ends =
     let m = run_of (numbered_world t groups ports) p work in
     let the_items : items ≡ m.items = is_items ∙ ap (λ (q : Packet). (run_of (numbered_world t groups ports) q work).items) enters in
     let the_counts : counts ≡ m.counts = is_counts ∙ ap (λ (q : Packet). (run_of (numbered_world t groups ports) q work).counts) enters in
-    let the_effects : effects ≡ effects_of reason_masks ports m.items = told ∙ ap (effects_of reason_masks seen) the_items ∙ ap (λ (ps : List Port). effects_of reason_masks ps m.items) same in
-    let ended : after ≡ all_sent (effects_of reason_masks ports m.items) (all_tallied (all_placed t m.counts) before) =
+    let the_effects : effects ≡ effects_of heard ports m.items = told ∙ ap (effects_of heard seen) the_items ∙ ap (λ (ps : List Port). effects_of heard ps m.items) same in
+    let ended : after ≡ all_sent (effects_of heard ports m.items) (all_tallied (all_placed t m.counts) before) =
     ends ∙ ap (λ (es : List Effect). all_sent es (all_tallied (all_placed t counts) before)) the_effects
-    ∙ ap (λ (cs : List Count). all_sent (effects_of reason_masks ports m.items) (all_tallied (all_placed t cs) before)) the_counts in
-    by_places reason_masks ports p work t groups ports before distinct
-    ∙ (ap (λ (g : Forwarding). forwards (effects_of reason_masks ports m.items) g) (sym ended)
+    ∙ ap (λ (cs : List Count). all_sent (effects_of heard ports m.items) (all_tallied (all_placed t cs) before)) the_counts in
+    by_places heard ports p work t groups ports before distinct
+    ∙ (ap (λ (g : Forwarding). forwards (effects_of heard ports m.items) g) (sym ended)
     ∙ ap (λ (es : List Effect). forwards es after) (sym the_effects))
 
 -- frames that fit fewer bytes fit more

@@ -20,7 +20,7 @@ use Rattle.of_switch.proofs.StandingLemmas.{plan_stands, flow_stands, modify_sta
 
 -- a plan that was made of these is carried out
 pub carried_stands : (plan : Plan) (n m : NumberedTables) (gs hs : List Group) (ps qs : List Port) (new : Forwarding) → contents m hs qs ≡ contents n gs ps → new ≡ (planned plan m hs qs).forwarding → GroupsExist (forwarding_of n gs ps) → GroupsExist new
-carried_stands plan n m gs hs ps qs new same e k = plan_stands plan m hs qs new e (subst (λ (x : Contents). GroupsExist (forwarding_of x.tables x.groups x.ports)) (sym same) k)
+carried_stands plan n m gs hs ps qs new same e k = plan_stands plan m hs qs new e (subst (λ (x : Contents). GroupsExist (forwarding_of x.tables x.groups x.ports x.held)) (sym same) k)
 
 pub flow_put : {A E : Type 0} (r : Result A E) (k : ℕ) (flow : Flow) (n m : NumberedTables) (gs : List Group) (ps : List Port) → OnOk r (tables_of m ≡ added_to k flow (tables_of n)) → OnErr r (m ≡ n) → names_absent_group gs flow.instructions ≡ false → GroupsExist (forwarding_of n gs ps) → GroupsExist (forwarding_of m gs ps)
 flow_put (Ok a) k flow n m gs ps ok err h s = flow_stands k flow (forwarding_of n gs ps) (tables_of m) ok h s

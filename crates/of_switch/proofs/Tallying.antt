@@ -14,7 +14,7 @@ use Rattle.of_switch.specs.Plane.{Forwarding, tallied, all_tallied, sent, all_se
 use Rattle.std.specs.Prelude.{filter}
 use Rattle.std.proofs.lemmas.List.{map-append}
 use Rattle.std.proofs.lemmas.List.Elements.{filter-append}
-use Rattle.of_switch.specs.declared.control.ReasonMasks.{ReasonMasks}
+use Rattle.of_switch.specs.declared.control.AsyncConfig.{AsyncConfig}
 use Rattle.of_ports.specs.declared.port.Port.{Port}
 use Rattle.of_switch.specs.Told.{effect_of, effects_of, is_given}
 use Rattle.of_switch.specs.Numbers.{entries_at, placed, all_placed}
@@ -46,5 +46,5 @@ sent_more effects i d x f f' whole lt is so step =
     rw (add-one i, step) (ap (λ (es : List Effect). all_sent es f) (sym here) ∙ so)
 
 -- one effect more
-pub effects_more : (reason_masks : ReasonMasks) (ports : List Port) (items : List Item) (i : Item) → effects_of reason_masks ports (items ++ i ∷ []) ≡ effects_of reason_masks ports items ++ effects_of reason_masks ports (i ∷ [])
-effects_more reason_masks ports items i = rw (filter-append (is_given reason_masks ports) items (i ∷ [])) (map-append effect_of (filter (is_given reason_masks ports) items) (filter (is_given reason_masks ports) (i ∷ [])))
+pub effects_more : (heard : AsyncConfig) (ports : List Port) (items : List Item) (i : Item) → effects_of heard ports (items ++ i ∷ []) ≡ effects_of heard ports items ++ effects_of heard ports (i ∷ [])
+effects_more heard ports items i = rw (filter-append (is_given heard ports) items (i ∷ [])) (map-append effect_of (filter (is_given heard ports) items) (filter (is_given heard ports) (i ∷ [])))

@@ -1,6 +1,8 @@
 -- What a FLOW_MOD does to the flow tables (OpenFlow 1.3.5, 6.4 and 7.3.4.1), and the notices of removed entries (7.4.2).
-use Rattle.std.specs.Prelude.{ℕ, ◌-◌, ◌/◌, ◌%◌, ◌^◌, ◌==◌, ◌&&◌, nat_le, bit_and, Bool, true, false, not, List, [], ◌∷◌, map, filter, Option, Some, None, if◌then◌else◌}
+use Rattle.std.specs.Prelude.{ℕ, ◌-◌, ◌/◌, ◌%◌, ◌^◌, ◌==◌, ◌&&◌, nat_le, bit_and, Bool, true, false, not, List, [], ◌∷◌, map, filter, Option, Some, None, is_none, if◌then◌else◌}
 use Rattle.std.specs.List.{list_any}
+use Rattle.std.specs.Option.{option_map}
+use Rattle.of_buffers.specs.Buffers.{Held, HeldFrames, held, used}
 use Rattle.of_wire.specs.Reasons.{flow_removed_number}
 use Rattle.of_wire.specs.declared.code.Code.{Code}
 use Rattle.of_wire.specs.Refusals.{refusal}
@@ -25,8 +27,9 @@ use Rattle.of_messages.specs.declared.message.PacketOut.{PacketOut}
 use Rattle.of_messages.specs.declared.message.PacketData.{PacketData}
 use Rattle.of_messages.specs.declared.message.PacketData.TheVariants.{Buffered, Frame}
 use Rattle.of_table.specs.Tables.{Tables, table_at, added_to, modified_in, left_in, notices_in}
-use Rattle.of_switch.specs.declared.control.ReasonMasks.{ReasonMasks}
+use Rattle.of_switch.specs.declared.control.AsyncConfig.{AsyncConfig}
 use Rattle.of_switch.specs.Control.{lets_pass}
+use Rattle.of_switch.specs.Told.{no_buffer}
 use Rattle.of_switch.specs.declared.effect.Effect.{Effect}
 use Rattle.of_switch.specs.declared.effect.Effect.TheVariants.{Answer}
 
@@ -80,15 +83,20 @@ is_to_absent_group groups = sends (is_absent groups)
 abbrev pub names_absent_group : List Group → List Instruction → Bool
 names_absent_group groups instructions = list_any (has_action (is_to_absent_group groups)) instructions
 
--- an action names a group that does not exist (7.4.4: 2/9); no packet is buffered, so each buffer but OFP_NO_BUFFER is unknown (1/8); DELETE ignores both; of an ADD: BAD_TABLE_ID (5/2), OVERLAP with an entry (5/3), TABLE_FULL (5/1)
-abbrev pub flow_mod_refusals : FlowMod → Tables → List Group → List (Bool × Code)
-flow_mod_refusals m ts groups =
-    (not (is_delete m.command) && names_absent_group groups m.instructions, refusal 2 9)
-    ∷ (not (is_delete m.command) && not (m.buffer == 0xffffffff), refusal 1 8)
-    ∷ (is_add m.command && nat_le 16 m.table, refusal 5 2)
+-- of an ADD: BAD_TABLE_ID (7.4.4: 5/2), OVERLAP with an entry (5/3), TABLE_FULL (5/1)
+abbrev pub add_refusals : FlowMod → Tables → List (Bool × Code)
+add_refusals m ts =
+    (is_add m.command && nat_le 16 m.table, refusal 5 2)
     ∷ (is_add m.command && is_overlapped (flow_of m) (table_at m.table ts).flows, refusal 5 3)
     ∷ (is_add m.command && is_full (flow_of m) (table_at m.table ts).flows, refusal 5 1)
     ∷ []
+
+-- an action names a group that does not exist (2/9); the buffer is neither OFP_NO_BUFFER nor the id of a held frame (1/8); DELETE looks at neither
+abbrev pub flow_mod_refusals : FlowMod → Tables → List Group → HeldFrames → List (Bool × Code)
+flow_mod_refusals m ts groups b =
+    (not (is_delete m.command) && names_absent_group groups m.instructions, refusal 2 9)
+    ∷ (not (is_delete m.command) && not (m.buffer == no_buffer) && is_none (held m.buffer b), refusal 1 8)
+    ∷ add_refusals m ts
 
 -- ---- what is done
 
@@ -128,26 +136,34 @@ removed_of now n = record {
 abbrev pub notice_effect : ℕ → Notice → Effect
 notice_effect now n = Answer (flow_removed_bytes 0 (removed_of now n) n.entry.flow.fields)
 
-abbrev pub is_notice_admitted : ReasonMasks → Notice → Bool
-is_notice_admitted reason_masks n = lets_pass reason_masks.flow_removed (2 ^ flow_removed_number n.reason)
+abbrev pub is_notice_admitted : AsyncConfig → Notice → Bool
+is_notice_admitted heard n = lets_pass heard.flow_removed (2 ^ flow_removed_number n.reason)
 
 -- of those notices that the controller's mask lets pass
-abbrev pub notice_effects : ReasonMasks → ℕ → List Notice → List Effect
-notice_effects reason_masks now ns = map (notice_effect now) (filter (is_notice_admitted reason_masks) ns)
+abbrev pub notice_effects : AsyncConfig → ℕ → List Notice → List Effect
+notice_effects heard now ns = map (notice_effect now) (filter (is_notice_admitted heard) ns)
 
 -- ---- PACKET_OUT (7.3.7)
 
-abbrev pub is_buffered : PacketData → Bool
-is_buffered (Buffered number) = true
-is_buffered (Frame bytes) = false
+-- its packet is a held frame, whose id it has, or a frame of its own
+abbrev pub frame_of : PacketData → HeldFrames → Option (List ℕ)
+frame_of (Buffered id) b = option_map (λ h. h.frame) (held id b)
+frame_of (Frame bytes) b = Some bytes
 
-abbrev pub frame_of : PacketData → List ℕ
-frame_of (Buffered number) = []
-frame_of (Frame bytes) = bytes
+-- a held frame is used
+abbrev pub without_packet : PacketData → HeldFrames → HeldFrames
+without_packet (Buffered id) b = used id b
+without_packet (Frame bytes) b = b
 
--- each buffer is unknown (1/8); an action names a group that does not exist (2/9)
-abbrev pub packet_out_refusals : PacketOut → List Group → List (Bool × Code)
-packet_out_refusals m groups =
-    (is_buffered m.packet, refusal 1 8)
+-- no frame is held under that id (1/8); an action names a group that does not exist (2/9)
+abbrev pub packet_out_refusals : PacketOut → List Group → HeldFrames → List (Bool × Code)
+packet_out_refusals m groups b =
+    (is_none (frame_of m.packet b), refusal 1 8)
     ∷ (list_any (is_to_absent_group groups) m.actions, refusal 2 9)
     ∷ []
+
+-- ---- FLOW_MOD with a held frame (7.3.4.1: buffer_id)
+
+-- DELETE does not look at the id
+abbrev pub frame_named : FlowMod → HeldFrames → Option Held
+frame_named m b = if is_delete m.command then None else held m.buffer b

@@ -6,7 +6,7 @@ use Rattle.of_messages.specs.declared.async_masks.AsyncMasks.{AsyncMasks}
 use Rattle.of_session.specs.declared.session.Phase.{Phase}
 use Rattle.of_session.specs.declared.session.Phase.TheVariants.{Disconnected, Greeting, Open}
 use Rattle.of_switch.specs.declared.control.Control.{Control}
-use Rattle.of_switch.specs.declared.control.ReasonMasks.{ReasonMasks}
+use Rattle.of_switch.specs.declared.control.AsyncConfig.{AsyncConfig}
 
 -- at first a master or an equal controller receives the messages of all reasons, and a slave those of PORT_STATUS alone
 abbrev pub first_masks : AsyncMasks
@@ -19,23 +19,23 @@ new_control = record { role = Equal; generation = None; masks = first_masks; con
 abbrev pub released : Control → Control
 released c = record c { role = Equal; masks = first_masks }
 
--- the masks of a role
-abbrev pub masks_for : Role → AsyncMasks → ReasonMasks
-masks_for Equal m = record { packet_in = m.packet_in.master; port_status = m.port_status.master; flow_removed = m.flow_removed.master }
-masks_for Master m = record { packet_in = m.packet_in.master; port_status = m.port_status.master; flow_removed = m.flow_removed.master }
-masks_for Slave m = record { packet_in = m.packet_in.slave; port_status = m.port_status.slave; flow_removed = m.flow_removed.slave }
+-- the masks of a role, and how many bytes of a frame are sent where no OUTPUT says it (7.3.2)
+abbrev pub heard_for : Role → AsyncMasks → ℕ → AsyncConfig
+heard_for Equal m miss_send_len = record { packet_in = m.packet_in.master; port_status = m.port_status.master; flow_removed = m.flow_removed.master; miss_send_len = miss_send_len }
+heard_for Master m miss_send_len = record { packet_in = m.packet_in.master; port_status = m.port_status.master; flow_removed = m.flow_removed.master; miss_send_len = miss_send_len }
+heard_for Slave m miss_send_len = record { packet_in = m.packet_in.slave; port_status = m.port_status.slave; flow_removed = m.flow_removed.slave; miss_send_len = miss_send_len }
 
-abbrev pub masks_of : Control → ReasonMasks
-masks_of c = masks_for c.role c.masks
+abbrev pub heard_of : Control → AsyncConfig
+heard_of c = heard_for c.role c.masks c.config.miss_send_len
 
 -- no asynchronous message is sent before the controller's HELLO was accepted
-abbrev pub no_reasons : ReasonMasks
-no_reasons = record { packet_in = 0; port_status = 0; flow_removed = 0 }
+abbrev pub nothing_heard : AsyncConfig
+nothing_heard = record { packet_in = 0; port_status = 0; flow_removed = 0; miss_send_len = 0 }
 
-abbrev pub masks_while : Phase → Control → ReasonMasks
-masks_while Disconnected c = no_reasons
-masks_while Greeting c = no_reasons
-masks_while Open c = masks_of c
+abbrev pub heard_while : Phase → Control → AsyncConfig
+heard_while Disconnected c = nothing_heard
+heard_while Greeting c = nothing_heard
+heard_while Open c = heard_of c
 
 -- a mask lets a reason pass whose bit is set in it
 abbrev pub lets_pass : ℕ → ℕ → Bool

@@ -1,7 +1,8 @@
 -- What the handling of a message returns.
-use Rattle.std.specs.Prelude.{◌≡◌, Option, Some, None, Result, Ok, Err}
+use Rattle.std.specs.Prelude.{◌≡◌, ℕ, List, Option, Some, None, Result, Ok, Err}
 use Rattle.smallvec.specs.SmallVec.{SmallVec}
 use Rattle.of_wire.specs.declared.code.Code.{Code}
+use Rattle.of_wire.specs.Refusals.{refusal}
 use Rattle.std.specs.Option.{option_map_or}
 use Rattle.of_groups.specs.declared.group_fault.GroupFault.{GroupFault}
 use Rattle.of_groups.specs.Faults.{code_of}
@@ -20,3 +21,8 @@ abbrev pub Handles : Option Code → Done → Core → Result (SmallVec Effect) 
 Handles refusal d old (Ok effects) new = (refusal ≡ None) × (d ≡ does effects.items new)
 Handles refusal d old (Err (Refused code)) new = (refusal ≡ Some code) × (new ≡ old)
 Handles refusal d old (Err Memory) new = new ≡ old
+
+-- the frame of a PACKET_OUT is not given where no frame is held under its id, or memory runs out
+abbrev pub IsUnlessHeld : Option (List ℕ) → Fault → Type 0
+IsUnlessHeld frame Memory = Unit {0}
+IsUnlessHeld frame (Refused code) = (frame ≡ None) × (code ≡ refusal 1 8)

@@ -12,6 +12,7 @@ use Rattle.of_groups.specs.Groups.{bucket_at}
 use Rattle.of_groups.specs.Chains.{chain}
 use Rattle.of_groups.specs.Liveness.{chosen}
 use Rattle.of_ports.specs.declared.port.Port.{Port}
+use Rattle.of_buffers.specs.Buffers.{HeldFrames}
 use Rattle.of_machine.specs.declared.data.Count.{Count}
 use Rattle.of_machine.specs.TheWorld.{TheWorld}
 use Rattle.of_machine.specs.Renumbering.{renumbered_count}
@@ -19,17 +20,18 @@ use Rattle.of_ports.specs.Ports.{is_live_at}
 use Rattle.of_switch.specs.Plane.{Forwarding}
 
 -- without the numbers
-abbrev pub forwarding_of : NumberedTables → List Group → List Port → Forwarding
-forwarding_of n groups ports = record { tables = tables_of n; groups = groups; ports = ports }
+abbrev pub forwarding_of : NumberedTables → List Group → List Port → HeldFrames → Forwarding
+forwarding_of n groups ports held = record { tables = tables_of n; groups = groups; ports = ports; held = held }
 
 -- with them
 pub record Contents : Type 0 where
   pub tables : NumberedTables
   pub groups : List Group
   pub ports : List Port
+  pub held : HeldFrames
 
-abbrev pub contents : NumberedTables → List Group → List Port → Contents
-contents n groups ports = record { tables = n; groups = groups; ports = ports }
+abbrev pub contents : NumberedTables → List Group → List Port → HeldFrames → Contents
+contents n groups ports held = record { tables = n; groups = groups; ports = ports; held = held }
 
 -- the entries of a table
 abbrev pub entries_at : NumberedTables → ℕ → List Entry

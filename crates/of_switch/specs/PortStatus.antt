@@ -7,7 +7,7 @@ use Rattle.of_ports.specs.declared.port.Port.{Port}
 use Rattle.of_ports.specs.Config.{config_bits}
 use Rattle.of_ports.specs.Ports.{state_bits}
 use Rattle.of_statistics.specs.Ports.{described}
-use Rattle.of_switch.specs.declared.control.ReasonMasks.{ReasonMasks}
+use Rattle.of_switch.specs.declared.control.AsyncConfig.{AsyncConfig}
 use Rattle.of_switch.specs.Told.{told}
 use Rattle.of_switch.specs.declared.effect.Effect.{Effect}
 use Rattle.of_switch.specs.declared.effect.Effect.TheVariants.{Answer}
@@ -26,9 +26,9 @@ status_bit Delete = 2
 status_bit Modify = 4
 
 -- sent where the controller's mask has this reason
-abbrev pub status_told : ReasonMasks → PortStatusReason → Port → List Effect
-status_told reason_masks reason p = told reason_masks.port_status (status_bit reason) (status reason p ∷ [])
+abbrev pub status_told : AsyncConfig → PortStatusReason → Port → List Effect
+status_told heard reason p = told heard.port_status (status_bit reason) (status reason p ∷ [])
 
 -- a change is sent where the 64 bytes of the port's description change
-abbrev pub change_told : ReasonMasks → Port → Port → List Effect
-change_told reason_masks old new = if is_shown_alike old new then [] else status_told reason_masks Modify new
+abbrev pub change_told : AsyncConfig → Port → Port → List Effect
+change_told heard old new = if is_shown_alike old new then [] else status_told heard Modify new

@@ -1,5 +1,5 @@
 -- What each event does to the abstract switch.
-use Rattle.std.specs.Prelude.{◌≡◌, ℕ, max, Bool, List, [], ◌∷◌, map, take, Option, Some, None, if◌then◌else◌}
+use Rattle.std.specs.Prelude.{◌≡◌, ℕ, max, Bool, List, [], ◌∷◌, ◌++◌, map, take, Option, Some, None, if◌then◌else◌}
 use Rattle.of_wire.specs.declared.code.Code.{Code}
 use Rattle.of_wire.specs.Refusals.{refusal, first_of}
 use Rattle.of_messages.specs.declared.message.Message.{Message}
@@ -24,11 +24,12 @@ use Rattle.of_groups.specs.declared.bucket.Bucket.{Bucket}
 use Rattle.of_groups.specs.declared.group.Group.{Group as AGroup}
 use Rattle.of_groups.specs.declared.group.GroupKind.{GroupKind}
 use Rattle.of_groups.specs.Groups.{left, modified_group, new_group, with_group}
+use Rattle.of_buffers.specs.Buffers.{Held, forgotten}
 use Rattle.of_machine.specs.Rows.{acts, entering}
-use Rattle.of_switch.specs.Commands.{flow_mod_refusals, commanded, command_notices, notice_effects, packet_out_refusals, frame_of}
+use Rattle.of_switch.specs.Commands.{flow_mod_refusals, commanded, command_notices, notice_effects, packet_out_refusals, frame_of, frame_named, without_packet}
 use Rattle.of_switch.specs.GroupMods.{group_mod_fault, refused_for}
-use Rattle.of_switch.specs.declared.control.ReasonMasks.{ReasonMasks}
-use Rattle.of_switch.specs.Control.{masks_of, masks_while, released}
+use Rattle.of_switch.specs.declared.control.AsyncConfig.{AsyncConfig}
+use Rattle.of_switch.specs.Control.{heard_of, heard_while, released}
 use Rattle.of_switch.specs.declared.effect.Effect.{Effect}
 use Rattle.of_switch.specs.declared.effect.Effect.TheVariants.{Answer, Closed}
 use Rattle.of_switch.specs.declared.port_change.PortChange.{PortChange}
@@ -39,7 +40,7 @@ use Rattle.of_switch.specs.PortStatus.{status_told, change_told}
 use Rattle.of_switch.specs.PortMods.{port_mod_refusals, modified_port}
 use Rattle.of_switch.specs.Roles.{generation_refusals, with_role}
 use Rattle.of_switch.specs.Statistics.{multipart_refusals, multipart_bytes}
-use Rattle.of_switch.specs.Plane.{Forwarded, framed, through}
+use Rattle.of_switch.specs.Plane.{Forwarded, framed, started, through}
 use Rattle.of_switch.specs.State.{Core, State}
 
 -- A MESSAGE (7.3): its effects and the core after it, whatever the connection
@@ -60,7 +61,7 @@ with_ports ports k = record k { forwarding = record k.forwarding { ports = ports
 abbrev pub with_groups : List AGroup → Core → Core
 with_groups groups k = record k { forwarding = record k.forwarding { groups = groups } }
 
--- the effects of forwarding, and the core with the tables, groups and ports after it
+-- the effects of forwarding, and the core with what forwards frames after it
 abbrev pub forwarded : Forwarded → Core → Done
 forwarded f k = does f.effects (record k { forwarding = f.forwarding })
 
@@ -68,15 +69,26 @@ forwarded f k = does f.effects (record k { forwarding = f.forwarding })
 abbrev pub state_refusals : Message → Core → List (Bool × Code)
 state_refusals (Multipart request) k = multipart_refusals request k.forwarding.ports
 state_refusals (IsRoleRequest request) k = generation_refusals request k.control
-state_refusals (IsPacketOut m) k = packet_out_refusals m k.forwarding.groups
+state_refusals (IsPacketOut m) k = packet_out_refusals m k.forwarding.groups k.forwarding.held
 state_refusals (IsPortMod m) k = port_mod_refusals m k.forwarding.ports
-state_refusals (IsFlowMod m) k = flow_mod_refusals m k.forwarding.tables k.forwarding.groups
+state_refusals (IsFlowMod m) k = flow_mod_refusals m k.forwarding.tables k.forwarding.groups k.forwarding.held
 state_refusals (IsGroupMod m) k = refused_for (group_mod_fault m k.forwarding.tables.latest k.forwarding.groups)
 state_refusals other k = []
 
 -- a FLOW_MOD carries out its command, with the notices of the removed entries
+abbrev pub after_command : FlowMod → Core → Done
+after_command m k = does (notice_effects (heard_of k.control) k.forwarding.tables.latest (command_notices m k.forwarding.tables)) (with_tables (commanded m k.forwarding.tables) k)
+
+-- then the held frame that it names begins, if it names one
+abbrev pub begun : ℕ → Option Held → Core → Done
+begun id None k = does [] k
+begun id (Some h) k = forwarded (started (heard_of k.control) id h k.forwarding) k
+
+abbrev pub then_does : Done → (Core → Done) → Done
+then_does d next = let e = next d.core in does (d.effects ++ e.effects) e.core
+
 abbrev pub after_flow_mod : FlowMod → Core → Done
-after_flow_mod m k = does (notice_effects (masks_of k.control) k.forwarding.tables.latest (command_notices m k.forwarding.tables)) (with_tables (commanded m k.forwarding.tables) k)
+after_flow_mod m k = then_does (after_command m k) (begun m.buffer (frame_named m k.forwarding.held))
 
 -- a GROUP_MOD adds a group, whose time of creation is the latest moment, or gives one another type and other buckets
 abbrev pub group_added : ℕ → GroupKind → List Bucket → Core → Done
@@ -88,7 +100,7 @@ group_modified id kind buckets k = does [] (with_groups (with_group (modified_gr
 -- or deletes one or all, and the entries that name them, with the notices of these entries (6.5)
 abbrev pub groups_deleted : Option ℕ → Core → Done
 groups_deleted which k =
-    does (notice_effects (masks_of k.control) k.forwarding.tables.latest (notices_in (Group which) k.forwarding.tables))
+    does (notice_effects (heard_of k.control) k.forwarding.tables.latest (notices_in (Group which) k.forwarding.tables))
     (with_groups (left which k.forwarding.groups) (with_tables (left_in (Group which) k.forwarding.tables) k))
 
 abbrev pub after_group_mod : GroupMod → Core → Done
@@ -96,14 +108,20 @@ after_group_mod (group_mod.Add g) k = group_added g.id g.kind g.buckets k
 after_group_mod (group_mod.Modify g) k = group_modified g.id g.kind g.buckets k
 after_group_mod (group_mod.Delete which) k = groups_deleted which k
 
--- a PACKET_OUT runs its actions on its packet, with no lookup before
+-- a PACKET_OUT runs its actions on its packet, with no lookup before; a held frame is used by it
+abbrev pub sent_out : PacketOut → Option (List ℕ) → Core → Done
+sent_out m None k = does [] k
+sent_out m (Some frame) k =
+    let f = k.forwarding in
+    forwarded (through (heard_of k.control) (entering frame m.in_port) (acts m.actions) (record f { held = without_packet m.packet f.held })) k
+
 abbrev pub after_packet_out : PacketOut → Core → Done
-after_packet_out m k = forwarded (through (masks_of k.control) (entering (frame_of m.packet) m.in_port) (acts m.actions) k.forwarding) k
+after_packet_out m k = sent_out m (frame_of m.packet k.forwarding.held) k
 
 -- a port gets its new configuration, with a PORT_STATUS where its description changes
 abbrev pub port_modded_at : PortMod → Core → Option Port → Done
 port_modded_at m k None = does [] k
-port_modded_at m k (Some p) = does (change_told (masks_of k.control) p (modified_port m p)) (with_ports (at_port m.port (with_config (modified_port m p).config) k.forwarding.ports) k)
+port_modded_at m k (Some p) = does (change_told (heard_of k.control) p (modified_port m p)) (with_ports (at_port m.port (with_config (modified_port m p).config) k.forwarding.ports) k)
 
 abbrev pub after_port_mod : PortMod → Core → Done
 after_port_mod m k = port_modded_at m k (port_at k.forwarding.ports m.port)
@@ -171,9 +189,9 @@ beside c d = gives d.effects (record { connection = c; core = d.core })
 abbrev pub connected : State → Outcome
 connected s = gives (Answer hello_bytes ∷ []) (record s { connection = greeting })
 
--- what a controller set for itself ends with its connection
+-- what a controller set for itself ends with its connection, and so do the frames that are held for it
 abbrev pub without_connection : Core → Core
-without_connection k = record k { control = released k.control }
+without_connection k = record k { control = released k.control; forwarding = record k.forwarding { held = forgotten k.forwarding.held } }
 
 -- the connection is lost, with the bytes that were received and not handled; without a connection nothing happens
 abbrev pub lost : State → State
@@ -226,43 +244,43 @@ IsRefusedWith other k xid size code = ⊥
 
 -- THE ASYNCHRONOUS MESSAGES THAT THE CONTROLLER RECEIVES
 
-abbrev pub masks_of_state : State → ReasonMasks
-masks_of_state s = masks_while s.connection.phase s.core.control
+abbrev pub heard_in : State → AsyncConfig
+heard_in s = heard_while s.connection.phase s.core.control
 
 -- A FRAME
 
 abbrev pub frame_in : ℕ → List ℕ → State → Outcome
-frame_in port bytes s = beside s.connection (forwarded (framed (masks_of_state s) port bytes s.core.forwarding) s.core)
+frame_in port bytes s = beside s.connection (forwarded (framed (heard_in s) port bytes s.core.forwarding) s.core)
 
 -- A MOMENT: expired entries are removed (5.5), with a notice of each whose flags ask for one
 
-abbrev pub moment_done : ReasonMasks → ℕ → Core → Done
-moment_done reason_masks now k =
+abbrev pub moment_done : AsyncConfig → ℕ → Core → Done
+moment_done heard now k =
     let ts = k.forwarding.tables in
-    does (notice_effects reason_masks (max ts.latest now) (expiry_notices now ts)) (with_tables (expired now ts) k)
+    does (notice_effects heard (max ts.latest now) (expiry_notices now ts)) (with_tables (expired now ts) k)
 
 abbrev pub moment_in : ℕ → State → Outcome
-moment_in now s = beside s.connection (moment_done (masks_of_state s) now s.core)
+moment_in now s = beside s.connection (moment_done (heard_in s) now s.core)
 
 -- A PORT (7.2.1): it is added or removed, or its link changes, with a PORT_STATUS where that shows; no flow and no group changes
 
 -- a port is added at the latest moment
-abbrev pub port_added : ReasonMasks → Port → Core → Done
-port_added reason_masks p k = does (status_told reason_masks port.Add p) (with_ports (with_port p k.forwarding.ports) k)
+abbrev pub port_added : AsyncConfig → Port → Core → Done
+port_added heard p k = does (status_told heard port.Add p) (with_ports (with_port p k.forwarding.ports) k)
 
 -- the PORT_STATUS of a removed port describes it as it was
-abbrev pub removed_at : ReasonMasks → ℕ → Core → Option Port → Done
-removed_at reason_masks n k None = does [] k
-removed_at reason_masks n k (Some p) = does (status_told reason_masks port.Delete p) (with_ports (without_port n k.forwarding.ports) k)
+abbrev pub removed_at : AsyncConfig → ℕ → Core → Option Port → Done
+removed_at heard n k None = does [] k
+removed_at heard n k (Some p) = does (status_told heard port.Delete p) (with_ports (without_port n k.forwarding.ports) k)
 
-abbrev pub linked_at : ReasonMasks → ℕ → Bool → Core → Option Port → Done
-linked_at reason_masks n up k None = does [] k
-linked_at reason_masks n up k (Some p) = does (change_told reason_masks p (linked up p)) (with_ports (at_port n (linked up) k.forwarding.ports) k)
+abbrev pub linked_at : AsyncConfig → ℕ → Bool → Core → Option Port → Done
+linked_at heard n up k None = does [] k
+linked_at heard n up k (Some p) = does (change_told heard p (linked up p)) (with_ports (at_port n (linked up) k.forwarding.ports) k)
 
-abbrev pub port_done : ReasonMasks → PortChange → Core → Done
-port_done reason_masks (Add number hw name up) k = port_added reason_masks (new_port number hw name up k.forwarding.tables.latest) k
-port_done reason_masks (Remove n) k = removed_at reason_masks n k (port_at k.forwarding.ports n)
-port_done reason_masks (Link n up) k = linked_at reason_masks n up k (port_at k.forwarding.ports n)
+abbrev pub port_done : AsyncConfig → PortChange → Core → Done
+port_done heard (Add number hw name up) k = port_added heard (new_port number hw name up k.forwarding.tables.latest) k
+port_done heard (Remove n) k = removed_at heard n k (port_at k.forwarding.ports n)
+port_done heard (Link n up) k = linked_at heard n up k (port_at k.forwarding.ports n)
 
 abbrev pub port_changed : PortChange → State → Outcome
-port_changed change s = beside s.connection (port_done (masks_of_state s) change s.core)
+port_changed change s = beside s.connection (port_done (heard_in s) change s.core)

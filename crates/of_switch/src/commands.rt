@@ -6,7 +6,7 @@ ghost use Rattle.of_switch.specs.Commands.{flags_of, flow_of, has_flag as with_f
 ghost use Rattle.std.specs.List.{list_any};
 ghost use Rattle.of_table.specs.Selecting.{has_action};
 
-use crate::control::{ReasonMasks, lets_through};
+use crate::control::{AsyncConfig, lets_through};
 use crate::effect::{Effect, Effects};
 use of_actions::{Action, Instruction};
 use of_groups::Groups;
@@ -160,15 +160,15 @@ fn notice(alloc: Global, removed: &Removed<'_>, now: u64) -> Result<Effect, Allo
 /// The FLOW_REMOVED messages of removed entries, in their order: those that the controller's mask lets pass.
 pub fn notices(
     alloc: Global,
-    reason_masks: ReasonMasks,
+    heard: AsyncConfig,
     removed: &[Removed<'_>],
     now: u64,
 ) -> Result<Effects, AllocError>
-    ensures { IfOk result (λ effects. effects.items ≡ notice_effects reason_masks now (notices_of removed.now)) }
+    ensures { IfOk result (λ effects. effects.items ≡ notice_effects heard now (notices_of removed.now)) }
 {
     let mut effects = Effects::new(alloc);
     for one in removed {
-        if lets_through(reason_masks.flow_removed, one.reason.bit()) {
+        if lets_through(heard.flow_removed, one.reason.bit()) {
             effects.push(notice(alloc, one, now)?)?;
         }
     }

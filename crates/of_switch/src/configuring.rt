@@ -83,8 +83,8 @@ pub fn config_from<L: Lookup>(
     groups: &Groups,
     ports: &Ports,
 ) -> Result<Config, AllocError>
-    requires { GroupsExist (forwarding_of tables.now groups.now ports.now) }
-    ensures { IfOk result (λ config. config ≡ configuration_of (forwarding_of tables.now groups.now ports.now)) }
+    requires { GroupsExist (forwarding_of tables.now groups.now ports.now held.now) }
+    ensures { IfOk result (λ config. config ≡ configuration_of (forwarding_of tables.now groups.now ports.now held.now)) }
 {
     tables.known();
     let flows = tables_text(alloc, tables)?;

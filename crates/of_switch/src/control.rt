@@ -1,7 +1,7 @@
 //! What a controller has set, and which asynchronous messages it receives.
 ghost use Rattle.std.specs.Prelude.{◌≡◌};
 ghost use Rattle.of_switch.specs.Roles.{has_stale_generation as is_from_stale, is_stale as is_stale_after, with_role};
-ghost use Rattle.of_switch.specs.Control.{first_masks, masks_of, masks_while, lets_pass, new_control, released};
+ghost use Rattle.of_switch.specs.Control.{first_masks, heard_of, heard_while, lets_pass, new_control, released};
 
 use of_messages::{AsyncMasks, Role, RoleMasks, RoleRequest, SwitchConfig};
 use of_session::Phase;
@@ -19,12 +19,14 @@ pub struct Control {
     pub config: SwitchConfig,
 }
 
-/// The reasons for which a controller receives asynchronous messages, as bits.
+/// What a controller receives of asynchronous messages: for which reasons, as bits (OpenFlow 1.3.5, 7.3.10), and how many bytes of a
+/// frame where no OUTPUT says it (7.3.2).
 #[derive(Clone, Copy, Debug, PartialEq, Eq)]
-pub struct ReasonMasks {
+pub struct AsyncConfig {
     pub packet_in: u32,
     pub port_status: u32,
     pub flow_removed: u32,
+    pub miss_send_len: u16,
 }
 
 fn masks_at_first() -> AsyncMasks
@@ -71,35 +73,39 @@ impl Control {
     }
 
     /// The asynchronous messages for the controller of an open connection.
-    pub fn heard_open(&self) -> ReasonMasks
-        ensures { result ≡ masks_of self.now }
+    pub fn heard_open(&self) -> AsyncConfig
+        ensures { result ≡ heard_of self.now }
     {
         let masks = &self.masks;
+        let miss_send_len = self.config.miss_send_len;
         match self.role {
-            Role::Equal | Role::Master => ReasonMasks {
+            Role::Equal | Role::Master => AsyncConfig {
                 packet_in: masks.packet_in.master,
                 port_status: masks.port_status.master,
                 flow_removed: masks.flow_removed.master,
+                miss_send_len,
             },
-            Role::Slave => ReasonMasks {
+            Role::Slave => AsyncConfig {
                 packet_in: masks.packet_in.slave,
                 port_status: masks.port_status.slave,
                 flow_removed: masks.flow_removed.slave,
+                miss_send_len,
             },
         }
     }
 
     /// The asynchronous messages for the controller, by the phase of its connection.
-    pub fn reason_masks(&self, phase: Phase) -> ReasonMasks
-        ensures { result ≡ masks_while phase self.now }
+    pub fn heard(&self, phase: Phase) -> AsyncConfig
+        ensures { result ≡ heard_while phase self.now }
     {
         if phase == Phase::Open {
             self.heard_open()
         } else {
-            ReasonMasks {
+            AsyncConfig {
                 packet_in: 0,
                 port_status: 0,
                 flow_removed: 0,
+                miss_send_len: 0,
             }
         }
     }

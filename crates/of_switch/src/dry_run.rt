@@ -14,10 +14,10 @@ ghost use Rattle.of_machine.specs.Weights.{frame_step_bound};
 ghost use Rattle.of_machine.specs.Runs.{run_of};
 ghost use Rattle.of_switch.specs.Told.{effects_of};
 
-use crate::control::ReasonMasks;
+use crate::control::AsyncConfig;
 use crate::effect::Effects;
 use crate::plane::{Plane, TABLES, known_groups};
-use crate::told::effects_from;
+use crate::told::told_from;
 use of_actions::Action;
 use of_classifier::Lookup;
 use of_groups::Chosen;
@@ -63,11 +63,11 @@ fn entry_at<'a>(entries: Entries<'a>, place: usize) -> Option<&'a Entry>
 }
 
 impl<L: Lookup> World for Looking<'_, L> {
-    ghost view = { λ w. world_of (forwarding_of w.plane.now.tables w.plane.now.groups w.plane.now.ports) };
+    ghost view = { λ w. world_of (forwarding_of w.plane.now.tables w.plane.now.groups w.plane.now.ports w.plane.now.held) };
 
     ghost Content = { Contents };
 
-    ghost content = { λ w. contents w.plane.now.tables w.plane.now.groups w.plane.now.ports };
+    ghost content = { λ w. contents w.plane.now.tables w.plane.now.groups w.plane.now.ports w.plane.now.held };
 
     fn find(&mut self, table: u8, key: &FieldKey) -> Option<usize> {
         self.plane.tables.known();
@@ -109,14 +109,14 @@ impl<L: Lookup> World for Looking<'_, L> {
 impl<L: Lookup> Plane<L> {
     /// The tables and the groups have the invariants that the machine needs.
     pub fn known_world(&self)
-        ensures { IsSound (world_of (forwarding_of self.now.tables self.now.groups self.now.ports)) }
+        ensures { IsSound (world_of (forwarding_of self.now.tables self.now.groups self.now.ports self.now.held)) }
     {
         Looking { plane: self }.known();
     }
 
     /// The index by age of the entry of a table that wins for these fields (OpenFlow 1.3.5, 5.3).
     pub fn winner(&self, table: u8, key: &FieldKey) -> Option<usize>
-        ensures { result ≡ winner_in (forwarding_of self.now.tables self.now.groups self.now.ports) table (value key.now) }
+        ensures { result ≡ winner_in (forwarding_of self.now.tables self.now.groups self.now.ports self.now.held) table (value key.now) }
     {
         let mut world = Looking { plane: self };
         world.find(table, key)
@@ -150,7 +150,7 @@ impl<L: Lookup> Plane<L> {
 
     /// The places of the buckets of a group that run; None where there is no such group (OpenFlow 1.3.5, 5.6.1).
     pub fn buckets_for(&self, group: u32) -> Option<Chosen>
-        ensures { result ≡ (world_of (forwarding_of self.now.tables self.now.groups self.now.ports)).chosen group }
+        ensures { result ≡ (world_of (forwarding_of self.now.tables self.now.groups self.now.ports self.now.held)).chosen group }
     {
         self.groups.buckets_for(group, &self.ports)
     }
@@ -159,15 +159,15 @@ impl<L: Lookup> Plane<L> {
     pub fn dry_run<S: StepLog>(
         &self,
         alloc: Global,
-        reason_masks: ReasonMasks,
+        heard: AsyncConfig,
         number: u32,
         bytes: &[u8],
         log: &mut S,
     ) -> Result<Effects, AllocError>
-        ensures effects { IfOk result (λ effects. effects.items ≡ (framed reason_masks number bytes.now (forwarding_of self.now.tables self.now.groups self.now.ports)).effects) }
-        ensures steps { OnOk result (S.KEEPS ≡ true → S.list log.new ≡ S.list log.old ++ steps_in number bytes.now (forwarding_of self.now.tables self.now.groups self.now.ports)) }
+        ensures effects { IfOk result (λ effects. effects.items ≡ (framed heard number bytes.now (forwarding_of self.now.tables self.now.groups self.now.ports self.now.held)).effects) }
+        ensures steps { OnOk result (S.KEEPS ≡ true → S.list log.new ≡ S.list log.old ++ steps_in number bytes.now (forwarding_of self.now.tables self.now.groups self.now.ports self.now.held)) }
         ensures bound { S.KEEPS ≡ true → length (S.list log.new) ≤ length (S.list log.old) + frame_step_bound }
-        ensures err { OnErr result (S.KEEPS ≡ true → GainsPrefix (steps_in number bytes.now (forwarding_of self.now.tables self.now.groups self.now.ports)) (S.list log.old) (S.list log.new)) }
+        ensures err { OnErr result (S.KEEPS ≡ true → GainsPrefix (steps_in number bytes.now (forwarding_of self.now.tables self.now.groups self.now.ports self.now.held)) (S.list log.old) (S.list log.new)) }
     {
         let Some(port) = self.ports.port(number) else {
             return Ok(Effects::new(alloc));
@@ -175,29 +175,30 @@ impl<L: Lookup> Plane<L> {
         if !port.may_receive() || check_length(bytes).is_err() {
             return Ok(Effects::new(alloc));
         }
-        self.dry_run_received(alloc, reason_masks, number, bytes, log)
+        self.dry_run_received(alloc, heard, number, bytes, log)
     }
 
     // A received frame.
     fn dry_run_received<S: StepLog>(
         &self,
         alloc: Global,
-        reason_masks: ReasonMasks,
+        heard: AsyncConfig,
         number: u32,
         bytes: &[u8],
         log: &mut S,
     ) -> Result<Effects, AllocError>
         requires long { 14 ≤ length bytes.now }
         requires most { length bytes.now ≤ 9216 }
-        ensures effects { IfOk result (λ effects. effects.items ≡ effects_of reason_masks self.now.ports (run_of (world_of (forwarding_of self.now.tables self.now.groups self.now.ports)) (entering bytes.now number) (LookUp 0 ∷ [])).items) }
-        ensures steps { OnOk result (S.KEEPS ≡ true → S.list log.new ≡ S.list log.old ++ received_steps number bytes.now (forwarding_of self.now.tables self.now.groups self.now.ports)) }
+        ensures effects { IfOk result (λ effects. effects.items ≡ effects_of heard self.now.ports self.now.held (run_of (world_of (forwarding_of self.now.tables self.now.groups self.now.ports self.now.held)) (entering bytes.now number) (LookUp 0 ∷ [])).items) }
+        ensures steps { OnOk result (S.KEEPS ≡ true → S.list log.new ≡ S.list log.old ++ received_steps number bytes.now (forwarding_of self.now.tables self.now.groups self.now.ports self.now.held)) }
         ensures bound { S.KEEPS ≡ true → length (S.list log.new) ≤ length (S.list log.old) + frame_step_bound }
-        ensures err { OnErr result (S.KEEPS ≡ true → GainsPrefix (received_steps number bytes.now (forwarding_of self.now.tables self.now.groups self.now.ports)) (S.list log.old) (S.list log.new)) }
+        ensures err { OnErr result (S.KEEPS ≡ true → GainsPrefix (received_steps number bytes.now (forwarding_of self.now.tables self.now.groups self.now.ports self.now.held)) (S.list log.old) (S.list log.new)) }
     {
         let mut world = Looking { plane: self };
         world.known();
         let packet = Packet::new(PacketFrame::new(bytes), number);
         let outcome = run(alloc, &mut world, packet, log)?;
-        effects_from(alloc, reason_masks, &self.ports, outcome.items)
+        let told = told_from(alloc, heard, &self.ports, self.held.next_id(), outcome.items)?;
+        Ok(told.effects)
     }
 }

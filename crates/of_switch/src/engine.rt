@@ -12,7 +12,11 @@ ghost use Rattle.of_table.specs.Tables.{modified_in, left_in, notices_in, table_
 ghost use Rattle.of_actions.specs.FlowCheck.{all_go_with};
 ghost use Rattle.of_actions.specs.InstructionLists.{are_for};
 ghost use Rattle.of_messages.specs.Promised.{IsSoundFlowMod, IsSoundGroupMod, IsSoundMessage, IsSoundPacket};
-ghost use Rattle.of_switch.specs.Commands.{names_absent_group as naming_absent_group, packet_out_refusals, flow_mod_refusals, has_flag as with_flag, notice_effects, selector_of};
+ghost use Rattle.std.specs.Prelude.{IfErr, Some};
+ghost use Rattle.of_buffers.specs.Buffers.{held};
+ghost use Rattle.of_messages.specs.Messages.{is_delete as is_delete_command};
+ghost use Rattle.of_switch.specs.Handling.{IsUnlessHeld};
+ghost use Rattle.of_switch.specs.Commands.{add_refusals, frame_of as packet_frame, names_absent_group as naming_absent_group, packet_out_refusals, flow_mod_refusals, has_flag as with_flag, notice_effects, selector_of};
 ghost use Rattle.of_table.specs.Sound.{AreRowsOf};
 ghost use Rattle.of_machine.specs.Sound.{IsSound};
 ghost use Rattle.of_machine.specs.Weights.{frame_step_bound};
@@ -21,20 +25,21 @@ ghost use Rattle.of_switch.specs.DryRun.{GainsPrefix, steps_in};
 ghost use Rattle.of_groups.specs.Groups.{modified_group, new_group};
 ghost use Rattle.of_groups.specs.Faults.{add_fault, delete_fault, modify_fault};
 ghost use Rattle.of_switch.specs.GroupMods.{group_mod_fault, refused_for};
-ghost use Rattle.of_switch.specs.Control.{masks_of, masks_while};
+ghost use Rattle.of_switch.specs.Control.{heard_of, heard_while};
 ghost use Rattle.of_switch.specs.Roles.{generation_refusals};
 ghost use Rattle.of_switch.specs.Statistics.{multipart_bytes, multipart_refusals};
 ghost use Rattle.of_switch.specs.Handling.{Handles};
 ghost use Rattle.of_switch.specs.Loading.{configuration_of, loaded_core};
-ghost use Rattle.of_switch.specs.Steps.{does, done, after_flow_mod, forwarded, group_added, after_group_mod, group_modified, groups_deleted, linked_at, after_packet_out, port_added, after_port_mod, removed_at, replied, role_asked, state_refusals, with_tables, without_connection, moment_done};
+ghost use Rattle.of_switch.specs.Steps.{after_command, begun, does, done, after_flow_mod, then_does, forwarded, group_added, after_group_mod, group_modified, groups_deleted, linked_at, after_packet_out, port_added, after_port_mod, removed_at, replied, role_asked, state_refusals, with_tables, without_connection, moment_done};
 
 use crate::commands::{any_to_absent_group, flow_from, has_flag, names_absent_group, which_from};
 use crate::configuring::config_from;
-use crate::control::{Control, ReasonMasks};
+use crate::control::{Control, AsyncConfig};
 use crate::effect::{Effect, Effects};
 use crate::loading::load_tables;
 use crate::plane::Plane;
 use crate::port_status::{write_change, write_status};
+use crate::told::NO_BUFFER;
 use crate::statistics::{answers, asked_by, asks_absent_port};
 use of_actions::InstructionList;
 use of_classifier::Lookup;
@@ -55,12 +60,9 @@ use of_statistics::{
 };
 use of_table::{Cause, Entries, Entry, TableFault};
 use of_text::Config;
-use of_wire::Code;
+use of_wire::{Bytes, Code};
 use std::alloc::{AllocError, Global};
 use std::marker::Model;
-
-/// The buffer of a FLOW_MOD that applies to no packet (OpenFlow 1.3.5, 7.3.4.1).
-const NO_BUFFER: u32 = 0xffff_ffff;
 
 const BUFFER_UNKNOWN: Code = Code { kind: 1, code: 8 };
 
@@ -131,9 +133,9 @@ impl<L: Lookup> Model for Engine<L> {
 
     ghost Value = { Core };
 
-    ghost view = { λ e. record { dpid = e.dpid; control = e.control; forwarding = forwarding_of e.plane.tables e.plane.groups e.plane.ports } };
+    ghost view = { λ e. record { dpid = e.dpid; control = e.control; forwarding = forwarding_of e.plane.tables e.plane.groups e.plane.ports e.plane.held } };
 
-    ghost invariant = { λ e. GroupsExist (forwarding_of e.plane.tables e.plane.groups e.plane.ports) };
+    ghost invariant = { λ e. GroupsExist (forwarding_of e.plane.tables e.plane.groups e.plane.ports e.plane.held) };
 }
 
 impl<L: Lookup> Engine<L> {
@@ -149,10 +151,10 @@ impl<L: Lookup> Engine<L> {
     }
 
     /// The asynchronous messages for the controller, by the phase of its connection.
-    pub fn reason_masks(&self, phase: Phase) -> ReasonMasks
-        ensures { result ≡ masks_while phase self.now.control }
+    pub fn heard(&self, phase: Phase) -> AsyncConfig
+        ensures { result ≡ heard_while phase self.now.control }
     {
-        self.control.reason_masks(phase)
+        self.control.heard(phase)
     }
 
     /// The role of the controller.
@@ -162,11 +164,12 @@ impl<L: Lookup> Engine<L> {
         self.control.role
     }
 
-    /// The connection is lost, and with it what the controller set for itself.
+    /// The connection is lost, and with it what the controller set for itself and the frames that are held for it.
     pub fn release(&mut self)
         ensures { self.new ≡ without_connection self.old }
     {
         self.control = self.control.released();
+        self.plane.held.forget();
     }
 
     pub fn has_port(&self, number: u32) -> bool
@@ -184,7 +187,7 @@ impl<L: Lookup> Engine<L> {
     /// Adds a port at the latest moment. The controller receives the asynchronous messages `heard`.
     pub fn add_port(
         &mut self,
-        reason_masks: ReasonMasks,
+        heard: AsyncConfig,
         number: u32,
         hw: [u8; 6],
         name: [u8; 16],
@@ -192,12 +195,12 @@ impl<L: Lookup> Engine<L> {
     ) -> Result<Effects, AllocError>
         requires new { has_port number self.old.forwarding.ports ≡ false }
         requires room { length self.old.forwarding.ports < 64 }
-        ensures ok { IfOk result (λ effects. port_added reason_masks (new_port number hw name is_up self.old.forwarding.tables.latest) self.old ≡ does effects.items self.new) }
+        ensures ok { IfOk result (λ effects. port_added heard (new_port number hw name is_up self.old.forwarding.tables.latest) self.old ≡ does effects.items self.new) }
         ensures err { OnErr result (self.new ≡ self.old) }
     {
         let created = self.plane.tables.latest();
         let port = Port::new(number, hw, name, is_up, created);
-        let effects = write_status(self.alloc, reason_masks, PortStatusReason::Add, &port)?;
+        let effects = write_status(self.alloc, heard, PortStatusReason::Add, &port)?;
         self.plane.ports.add(port)?;
         Ok(effects)
     }
@@ -205,16 +208,16 @@ impl<L: Lookup> Engine<L> {
     /// Removes a port. The controller receives the asynchronous messages `heard`.
     pub fn remove_port(
         &mut self,
-        reason_masks: ReasonMasks,
+        heard: AsyncConfig,
         number: u32,
     ) -> Result<Effects, AllocError>
-        ensures ok { IfOk result (λ effects. removed_at reason_masks number self.old (port_at self.old.forwarding.ports number) ≡ does effects.items self.new) }
+        ensures ok { IfOk result (λ effects. removed_at heard number self.old (port_at self.old.forwarding.ports number) ≡ does effects.items self.new) }
         ensures err { OnErr result (self.new ≡ self.old) }
     {
         let Some(port) = self.plane.ports.port(number) else {
             return Ok(Effects::new(self.alloc));
         };
-        let effects = write_status(self.alloc, reason_masks, PortStatusReason::Delete, port)?;
+        let effects = write_status(self.alloc, heard, PortStatusReason::Delete, port)?;
         self.plane.ports.remove(number);
         Ok(effects)
     }
@@ -222,11 +225,11 @@ impl<L: Lookup> Engine<L> {
     /// Sets whether a port's link is up. The controller receives the asynchronous messages `heard`.
     pub fn set_link(
         &mut self,
-        reason_masks: ReasonMasks,
+        heard: AsyncConfig,
         number: u32,
         is_link_up: bool,
     ) -> Result<Effects, AllocError>
-        ensures ok { IfOk result (λ effects. linked_at reason_masks number is_link_up self.old (port_at self.old.forwarding.ports number) ≡ does effects.items self.new) }
+        ensures ok { IfOk result (λ effects. linked_at heard number is_link_up self.old (port_at self.old.forwarding.ports number) ≡ does effects.items self.new) }
         ensures err { OnErr result (self.new ≡ self.old) }
     {
         let Some(port) = self.plane.ports.port(number) else {
@@ -236,7 +239,7 @@ impl<L: Lookup> Engine<L> {
             is_link_up,
             ..*port
         };
-        let effects = write_change(self.alloc, reason_masks, port, &linked)?;
+        let effects = write_change(self.alloc, heard, port, &linked)?;
         self.plane.ports.set_link(number, is_link_up);
         Ok(effects)
     }
@@ -244,34 +247,34 @@ impl<L: Lookup> Engine<L> {
     /// Receives a frame at a port. The controller receives the asynchronous messages `heard`.
     pub fn frame(
         &mut self,
-        reason_masks: ReasonMasks,
+        heard: AsyncConfig,
         number: u32,
         bytes: &[u8],
     ) -> Result<Effects, AllocError>
-        ensures ok { IfOk result (λ effects. forwarded (framed reason_masks number bytes.now self.old.forwarding) self.old ≡ does effects.items self.new) }
+        ensures ok { IfOk result (λ effects. forwarded (framed heard number bytes.now self.old.forwarding) self.old ≡ does effects.items self.new) }
         ensures err { OnErr result (self.new ≡ self.old) }
     {
         let plan = self
             .plane
-            .plan_frame(self.alloc, reason_masks, number, bytes)?;
+            .plan_frame(self.alloc, heard, number, bytes)?;
         Ok(self.plane.carry_out(plan))
     }
 
     /// What a frame that is received at a port would give, and its steps, with the asynchronous messages `heard`. Nothing changes.
     pub fn dry_run<S: StepLog>(
         &self,
-        reason_masks: ReasonMasks,
+        heard: AsyncConfig,
         number: u32,
         bytes: &[u8],
         log: &mut S,
     ) -> Result<Effects, AllocError>
-        ensures effects { IfOk result (λ effects. effects.items ≡ (framed reason_masks number bytes.now self.now.forwarding).effects) }
+        ensures effects { IfOk result (λ effects. effects.items ≡ (framed heard number bytes.now self.now.forwarding).effects) }
         ensures steps { OnOk result (S.KEEPS ≡ true → S.list log.new ≡ S.list log.old ++ steps_in number bytes.now self.now.forwarding) }
         ensures bound { S.KEEPS ≡ true → length (S.list log.new) ≤ length (S.list log.old) + frame_step_bound }
         ensures err { OnErr result (S.KEEPS ≡ true → GainsPrefix (steps_in number bytes.now self.now.forwarding) (S.list log.old) (S.list log.new)) }
     {
         self.plane
-            .dry_run(self.alloc, reason_masks, number, bytes, log)
+            .dry_run(self.alloc, heard, number, bytes, log)
     }
 
     /// The tables and the groups have the invariants that the machine needs.
@@ -434,11 +437,13 @@ impl<L: Lookup> Engine<L> {
 
     fn packet_out(&mut self, packet_out: PacketOut) -> Result<Effects, Fault>
         requires { IsSoundPacket packet_out.packet }
-        ensures { Handles (first_of (packet_out_refusals packet_out self.old.forwarding.groups)) (after_packet_out packet_out self.old) self.old result self.new }
+        ensures { Handles (first_of (packet_out_refusals packet_out self.old.forwarding.groups self.old.forwarding.held)) (after_packet_out packet_out self.old) self.old result self.new }
     {
-        let PacketData::Frame(frame) = &packet_out.packet else {
-            return Err(Fault::Refused(BUFFER_UNKNOWN));
+        let used = match &packet_out.packet {
+            PacketData::Buffered(id) => Some(*id),
+            PacketData::Frame(_) => None,
         };
+        let frame = self.frame_of(packet_out.packet)?;
         let actions = packet_out.actions.as_slice();
         if any_to_absent_group(actions, &self.plane.groups) {
             return Err(Fault::Refused(BAD_OUT_GROUP));
@@ -449,30 +454,105 @@ impl<L: Lookup> Engine<L> {
             packet_out.in_port,
             frame.as_slice(),
             actions,
+            used,
         )?;
         Ok(self.plane.carry_out(plan))
     }
 
+    // The frame of a PACKET_OUT: its own, or a copy of the held one.
+    fn frame_of(&self, packet: PacketData) -> Result<Bytes, Fault>
+        requires { IsSoundPacket packet }
+        ensures frame { IfOk result (λ frame. packet_frame packet self.now.forwarding.held ≡ Some frame) }
+        ensures long { IfOk result (λ frame. 14 ≤ length frame) }
+        ensures most { IfOk result (λ frame. length frame ≤ 9216) }
+        ensures refused { IfErr result (IsUnlessHeld (packet_frame packet self.now.forwarding.held)) }
+    {
+        match packet {
+            PacketData::Frame(frame) => Ok(frame),
+            PacketData::Buffered(id) => match self.plane.held.frame(id) {
+                Some(held) => Ok(Bytes::from_slice(self.alloc, held.frame())?),
+                None => Err(Fault::Refused(BUFFER_UNKNOWN)),
+            },
+        }
+    }
+
     fn flow_mod(&mut self, flow_mod: FlowMod) -> Result<Effects, Fault>
         requires { IsSoundFlowMod flow_mod }
-        ensures { Handles (first_of (flow_mod_refusals flow_mod self.old.forwarding.tables self.old.forwarding.groups)) (after_flow_mod flow_mod self.old) self.old result self.new }
+        ensures { Handles (first_of (flow_mod_refusals flow_mod self.old.forwarding.tables self.old.forwarding.groups self.old.forwarding.held)) (after_flow_mod flow_mod self.old) self.old result self.new }
     {
-        if !flow_mod.command.is_delete() {
-            if self.names_absent_group(&flow_mod.instructions) {
-                return Err(Fault::Refused(BAD_OUT_GROUP));
-            }
-            if flow_mod.buffer != NO_BUFFER {
-                return Err(Fault::Refused(BUFFER_UNKNOWN));
+        if flow_mod.command.is_delete() {
+            return Ok(self.delete_flows(flow_mod)?);
+        }
+        if self.names_absent_group(&flow_mod.instructions) {
+            return Err(Fault::Refused(BAD_OUT_GROUP));
+        }
+        if flow_mod.buffer == NO_BUFFER {
+            return self.put_flows(flow_mod);
+        }
+        if self.plane.held.frame(flow_mod.buffer).is_none() {
+            return Err(Fault::Refused(BUFFER_UNKNOWN));
+        }
+        self.put_and_begin(flow_mod)
+    }
+
+    // An ADD or a MODIFY, and then the held frame that it names begins. Where memory runs out in its run, the table is as before.
+    fn put_and_begin(&mut self, flow_mod: FlowMod) -> Result<Effects, Fault>
+        requires delete { is_delete_command flow_mod.command ≡ false }
+        requires table { flow_mod.table < 16 }
+        requires group { naming_absent_group self.old.forwarding.groups flow_mod.instructions ≡ false }
+        requires fit { are_for flow_mod.table flow_mod.instructions ≡ true }
+        requires checked { all_go_with flow_mod.fields flow_mod.instructions ≡ true }
+        ensures { Handles (first_of (add_refusals flow_mod self.old.forwarding.tables)) (then_does (after_command flow_mod self.old) (begun flow_mod.buffer (held flow_mod.buffer self.old.forwarding.held))) self.old result self.new }
+    {
+        let id = flow_mod.buffer;
+        let mut before = self.plane.tables.copy_of(flow_mod.table)?;
+        self.put_flows(flow_mod)?;
+        match self.begin(id) {
+            Ok(effects) => Ok(effects),
+            Err(_) => {
+                self.plane.tables.swap(&mut before);
+                Err(Fault::Memory)
             }
         }
+    }
+
+    // A held frame begins at the first table, if one is held under that id. It runs as a copy.
+    fn begin(&mut self, id: u32) -> Result<Effects, AllocError>
+        ensures ok { IfOk result (λ effects. begun id (held id self.old.forwarding.held) self.old ≡ does effects.items self.new) }
+        ensures err { OnErr result (self.new ≡ self.old) }
+    {
+        let Some(held) = self.plane.held.frame(id) else {
+            return Ok(Effects::new(self.alloc));
+        };
+        let ingress = held.ingress();
+        let frame = Bytes::from_slice(self.alloc, held.frame())?;
+        let plan = self.plane.plan_held(
+            self.alloc,
+            self.control.heard_open(),
+            id,
+            frame.as_slice(),
+            ingress,
+        )?;
+        Ok(self.plane.carry_out(plan))
+    }
+
+    // An ADD or a MODIFY.
+    fn put_flows(&mut self, flow_mod: FlowMod) -> Result<Effects, Fault>
+        requires delete { is_delete_command flow_mod.command ≡ false }
+        requires table { flow_mod.table < 16 }
+        requires group { naming_absent_group self.old.forwarding.groups flow_mod.instructions ≡ false }
+        requires fit { are_for flow_mod.table flow_mod.instructions ≡ true }
+        requires checked { all_go_with flow_mod.fields flow_mod.instructions ≡ true }
+        ensures { Handles (first_of (add_refusals flow_mod self.old.forwarding.tables)) (after_command flow_mod self.old) self.old result self.new }
+    {
         match flow_mod.command {
             FlowModCommand::Add => self.add_flow(flow_mod),
-            FlowModCommand::Modify | FlowModCommand::ModifyStrict => {
+            FlowModCommand::Modify
+            | FlowModCommand::ModifyStrict
+            | FlowModCommand::Delete
+            | FlowModCommand::DeleteStrict => {
                 self.modify_flows(flow_mod)?;
                 Ok(Effects::new(self.alloc))
-            }
-            FlowModCommand::Delete | FlowModCommand::DeleteStrict => {
-                Ok(self.delete_flows(flow_mod)?)
             }
         }
     }
@@ -486,11 +566,10 @@ impl<L: Lookup> Engine<L> {
 
     fn add_flow(&mut self, flow_mod: FlowMod) -> Result<Effects, Fault>
         requires add { flow_mod.command ≡ FlowModCommand.Add }
-        requires buffer { flow_mod.buffer ≡ 0xffffffff }
         requires group { naming_absent_group self.old.forwarding.groups flow_mod.instructions ≡ false }
         requires fit { are_for flow_mod.table flow_mod.instructions ≡ true }
         requires checked { all_go_with flow_mod.fields flow_mod.instructions ≡ true }
-        ensures { Handles (first_of (flow_mod_refusals flow_mod self.old.forwarding.tables self.old.forwarding.groups)) (after_flow_mod flow_mod self.old) self.old result self.new }
+        ensures { Handles (first_of (add_refusals flow_mod self.old.forwarding.tables)) (after_command flow_mod self.old) self.old result self.new }
     {
         match self.plane.tables.add(flow_mod.table, flow_from(flow_mod)) {
             Ok(()) => Ok(Effects::new(self.alloc)),
@@ -516,7 +595,7 @@ impl<L: Lookup> Engine<L> {
     }
 
     fn delete_flows(&mut self, flow_mod: FlowMod) -> Result<Effects, AllocError>
-        ensures ok { IfOk result (λ effects. does (notice_effects (masks_of self.old.control) self.old.forwarding.tables.latest (notices_in (Cause.Delete (selector_of flow_mod)) self.old.forwarding.tables)) (with_tables (left_in (Cause.Delete (selector_of flow_mod)) self.old.forwarding.tables) self.old) ≡ does effects.items self.new) }
+        ensures ok { IfOk result (λ effects. does (notice_effects (heard_of self.old.control) self.old.forwarding.tables.latest (notices_in (Cause.Delete (selector_of flow_mod)) self.old.forwarding.tables)) (with_tables (left_in (Cause.Delete (selector_of flow_mod)) self.old.forwarding.tables) self.old) ≡ does effects.items self.new) }
         ensures err { OnErr result (self.new ≡ self.old) }
     {
         let now = self.plane.tables.latest();
@@ -615,14 +694,14 @@ impl<L: Lookup> Engine<L> {
     }
 
     /// The time is this many nanoseconds. The controller receives the asynchronous messages `heard`.
-    pub fn moment(&mut self, reason_masks: ReasonMasks, nanos: u64) -> Result<Effects, AllocError>
-        ensures ok { IfOk result (λ effects. moment_done reason_masks nanos self.old ≡ does effects.items self.new) }
+    pub fn moment(&mut self, heard: AsyncConfig, nanos: u64) -> Result<Effects, AllocError>
+        ensures ok { IfOk result (λ effects. moment_done heard nanos self.old ≡ does effects.items self.new) }
         ensures err { OnErr result (self.new ≡ self.old) }
     {
         let now = self.plane.tables.latest().max(nanos);
         let plan = self
             .plane
-            .plan_removal(self.alloc, reason_masks, Cause::Moment(nanos), now)?;
+            .plan_removal(self.alloc, heard, Cause::Moment(nanos), now)?;
         Ok(self.plane.carry_out(plan))
     }
 }

@@ -1,4 +1,5 @@
 use crate::effect::Effects;
+use of_buffers::HeldFrame;
 use of_machine::Counts;
 use of_ports::PortCount;
 use of_table::Cause;
@@ -14,9 +15,13 @@ pub struct Plan {
 #[derive(Drop)]
 pub enum Change {
     Nothing,
-    /// The reception of a frame is counted, if one came in, and then what a packet's run counted and sent.
+    /// The reception of a frame is counted, if one came in; a held frame is used, if one ran; frames are held; and what a
+    /// packet's run counted and sent is counted.
     Counts {
         reception: Option<Reception>,
+        /// The id of the held frame that ran.
+        used: Option<u32>,
+        held: Vec<HeldFrame>,
         counts: Counts,
     },
     /// Entries are removed.

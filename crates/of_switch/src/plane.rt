@@ -1,24 +1,27 @@
-//! What forwards frames: the flow tables, the groups and the ports.
+//! What forwards frames: the flow tables, the groups and the ports, and the frames that are held.
 ghost use Rattle.std.specs.Prelude.{◌≡◌, ◌≤◌, IfOk, OnOk, OnErr, length};
 ghost use Rattle.of_table.specs.Tables.{all_numbers, tables_of, looked_in, matched_in};
 ghost use Rattle.of_groups.specs.Sound.{AreSound};
 ghost use Rattle.std.specs.Prelude.{IsTrue, true, [], ◌∷◌};
 ghost use Rattle.of_actions.specs.Supported.{are_supported};
 ghost use Rattle.of_machine.specs.Growth.{AllShort};
-ghost use Rattle.of_machine.specs.Rows.{acts, entering};
+ghost use Rattle.of_machine.specs.Rows.{Lookup as LookUp, acts, entering};
 ghost use Rattle.of_table.specs.Tables.{NumberedTables, left_in, notices_in};
 ghost use Rattle.of_switch.specs.Commands.{notice_effects};
-ghost use Rattle.of_switch.specs.Told.{effects_of};
-ghost use Rattle.of_switch.specs.Plans.{changed, planned, with_reception};
-ghost use Rattle.of_switch.specs.Plane.{Forwarding, all_sent, all_tallied, count_port, forwards, framed, idle, received, sent, tallied, through};
+ghost use Rattle.std.specs.Prelude.{Option, flat_map};
+ghost use Rattle.of_buffers.specs.Buffers.{last_id};
+ghost use Rattle.of_switch.specs.Told.{each_told, frames_for, given};
+ghost use Rattle.of_switch.specs.Plans.{changed, planned, with_held, with_reception, without_used};
+ghost use Rattle.of_switch.specs.Plane.{Forwarding, all_sent, all_tallied, count_port, forwards, framed, idle, received, sent, tallied, through, without_held};
 ghost use Rattle.of_switch.specs.Numbers.{Contents, all_placed, contents, forwarding_of, numbered_world, place_in, placed};
 
 use crate::commands::notices;
-use crate::control::ReasonMasks;
+use crate::control::AsyncConfig;
 use crate::effect::{Effect, Effects};
 use crate::plan::{Change, Plan, Reception};
-use crate::told::effects_from;
+use crate::told::told_from;
 use of_actions::Action;
+use of_buffers::{HeldFrame, HeldFrames};
 use of_classifier::Lookup;
 use of_groups::{Chosen, Groups};
 use of_headers::{FieldKey, check_length};
@@ -30,12 +33,13 @@ use std::alloc::{AllocError, Global};
 /// How many flow tables there are.
 pub const TABLES: usize = 16;
 
-/// The flow tables, the groups and the ports.
+/// The flow tables, the groups, the ports, and the frames that are held for the controller.
 #[derive(Drop)]
 pub struct Plane<L: Lookup> {
     pub tables: FlowTables<L>,
     pub groups: Groups,
     pub ports: Ports,
+    pub held: HeldFrames,
 }
 
 /// The invariants of the groups.
@@ -50,7 +54,7 @@ impl<L: Lookup> World for Plane<L> {
 
     ghost Content = { Contents };
 
-    ghost content = { λ p. contents p.tables p.groups p.ports };
+    ghost content = { λ p. contents p.tables p.groups p.ports p.held };
 
     fn find(&mut self, table: u8, key: &FieldKey) -> Option<usize> {
         self.tables.known();
@@ -86,14 +90,15 @@ impl<L: Lookup> World for Plane<L> {
 }
 
 impl<L: Lookup> Plane<L> {
-    /// Without flows, groups and ports.
+    /// Without flows, groups, ports and held frames.
     pub fn new(alloc: Global) -> Result<Self, AllocError>
-        ensures { IfOk result (λ p. forwarding_of p.tables p.groups p.ports ≡ idle) }
+        ensures { IfOk result (λ p. forwarding_of p.tables p.groups p.ports p.held ≡ idle) }
     {
         Ok(Plane {
             tables: FlowTables::new(alloc)?,
             groups: Groups::new(alloc),
             ports: Ports::new(alloc),
+            held: HeldFrames::new(alloc)?,
         })
     }
 
@@ -101,12 +106,12 @@ impl<L: Lookup> Plane<L> {
     pub fn plan_frame(
         &mut self,
         alloc: Global,
-        reason_masks: ReasonMasks,
+        heard: AsyncConfig,
         number: u32,
         bytes: &[u8],
     ) -> Result<Plan, AllocError>
-        ensures kept { contents self.new.tables self.new.groups self.new.ports ≡ contents self.old.tables self.old.groups self.old.ports }
-        ensures plan { IfOk result (λ plan. framed reason_masks number bytes.now (forwarding_of self.old.tables self.old.groups self.old.ports) ≡ planned plan self.old.tables self.old.groups self.old.ports) }
+        ensures kept { contents self.new.tables self.new.groups self.new.ports self.new.held ≡ contents self.old.tables self.old.groups self.old.ports self.old.held }
+        ensures plan { IfOk result (λ plan. framed heard number bytes.now (forwarding_of self.old.tables self.old.groups self.old.ports self.old.held) ≡ planned plan self.old.tables self.old.groups self.old.ports) }
     {
         let Some(port) = self.ports.port(number) else {
             return Ok(no_change(alloc));
@@ -117,21 +122,21 @@ impl<L: Lookup> Plane<L> {
         if check_length(bytes).is_err() {
             return Ok(reception_alone(alloc, number, PortCount::ReceiveError));
         }
-        self.plan_received(alloc, reason_masks, number, bytes)
+        self.plan_received(alloc, heard, number, bytes)
     }
 
     // What a received frame will do.
     fn plan_received(
         &mut self,
         alloc: Global,
-        reason_masks: ReasonMasks,
+        heard: AsyncConfig,
         number: u32,
         bytes: &[u8],
     ) -> Result<Plan, AllocError>
         requires long { 14 ≤ length bytes.now }
         requires most { length bytes.now ≤ 9216 }
-        ensures kept { contents self.new.tables self.new.groups self.new.ports ≡ contents self.old.tables self.old.groups self.old.ports }
-        ensures plan { IfOk result (λ plan. received reason_masks number bytes.now (forwarding_of self.old.tables self.old.groups self.old.ports) ≡ planned plan self.old.tables self.old.groups self.old.ports) }
+        ensures kept { contents self.new.tables self.new.groups self.new.ports self.new.held ≡ contents self.old.tables self.old.groups self.old.ports self.old.held }
+        ensures plan { IfOk result (λ plan. received heard number bytes.now (forwarding_of self.old.tables self.old.groups self.old.ports self.old.held) ≡ planned plan self.old.tables self.old.groups self.old.ports) }
     {
         self.tables.known();
         let packet = Packet::new(PacketFrame::new(bytes), number);
@@ -140,43 +145,92 @@ impl<L: Lookup> Plane<L> {
             port: number,
             what: PortCount::Received(bytes.len()),
         };
-        plan_of(alloc, reason_masks, &self.ports, Some(reception), outcome)
+        self.plan_of(alloc, heard, Some(reception), None, outcome)
     }
 
-    /// What the packet of a PACKET_OUT will do by its actions (OpenFlow 1.3.5, 7.3.7).
+    /// What the packet of a PACKET_OUT will do by its actions (OpenFlow 1.3.5, 7.3.7). The held frame of the id `used`, if there is
+    /// one, is used.
     pub fn plan_packet_out(
         &mut self,
         alloc: Global,
-        reason_masks: ReasonMasks,
+        heard: AsyncConfig,
         in_port: u32,
         bytes: &[u8],
         actions: &[Action],
+        used: Option<u32>,
     ) -> Result<Plan, AllocError>
         requires long { 14 ≤ length bytes.now }
         requires most { length bytes.now ≤ 9216 }
         requires served { IsTrue (are_supported true actions.now) }
-        ensures kept { contents self.new.tables self.new.groups self.new.ports ≡ contents self.old.tables self.old.groups self.old.ports }
-        ensures plan { IfOk result (λ plan. through reason_masks (entering bytes.now in_port) (acts actions.now) (forwarding_of self.old.tables self.old.groups self.old.ports) ≡ planned plan self.old.tables self.old.groups self.old.ports) }
+        ensures kept { contents self.new.tables self.new.groups self.new.ports self.new.held ≡ contents self.old.tables self.old.groups self.old.ports self.old.held }
+        ensures plan { IfOk result (λ plan. through heard (entering bytes.now in_port) (acts actions.now) (forwarding_of self.old.tables self.old.groups self.old.ports (without_used used self.old.held)) ≡ planned plan self.old.tables self.old.groups self.old.ports self.old.held) }
     {
         self.tables.known();
         let packet = Packet::new(PacketFrame::new(bytes), in_port);
         let outcome = run_actions(alloc, self, packet, actions, &mut NoLog)?;
-        plan_of(alloc, reason_masks, &self.ports, None, outcome)
+        self.plan_of(alloc, heard, None, used, outcome)
+    }
+
+    /// What a held frame of that id will do from the first table on (OpenFlow 1.3.5, 7.3.4.1: buffer_id). It is used.
+    pub fn plan_held(
+        &mut self,
+        alloc: Global,
+        heard: AsyncConfig,
+        id: u32,
+        bytes: &[u8],
+        ingress: u32,
+    ) -> Result<Plan, AllocError>
+        requires long { 14 ≤ length bytes.now }
+        requires most { length bytes.now ≤ 9216 }
+        ensures kept { contents self.new.tables self.new.groups self.new.ports self.new.held ≡ contents self.old.tables self.old.groups self.old.ports self.old.held }
+        ensures plan { IfOk result (λ plan. through heard (entering bytes.now ingress) (LookUp 0 ∷ []) (without_held id (forwarding_of self.old.tables self.old.groups self.old.ports self.old.held)) ≡ planned plan self.old.tables self.old.groups self.old.ports self.old.held) }
+    {
+        self.tables.known();
+        let packet = Packet::new(PacketFrame::new(bytes), ingress);
+        let outcome = run(alloc, self, packet, &mut NoLog)?;
+        self.plan_of(alloc, heard, None, Some(id), outcome)
+    }
+
+    // What a run gives and counts, as a plan.
+    fn plan_of(
+        &self,
+        alloc: Global,
+        heard: AsyncConfig,
+        reception: Option<Reception>,
+        used: Option<u32>,
+        outcome: Outcome,
+    ) -> Result<Plan, AllocError>
+        requires { AllShort 65485 outcome.items.items }
+        ensures { IfOk result (λ plan. (n : NumberedTables) (f : Forwarding) →
+            (plan.effects.items ≡ each_told heard self.now.held.next (given heard self.now.ports outcome.items.items))
+            × (changed plan.change plan.effects.items n f ≡ all_sent plan.effects.items (all_tallied (all_placed n outcome.counts.items) (with_held used (flat_map (frames_for heard) (given heard self.now.ports outcome.items.items)) (with_reception reception f))))) }
+    {
+        let Outcome { items, counts } = outcome;
+        let told = told_from(alloc, heard, &self.ports, self.held.next_id(), items)?;
+        Ok(Plan {
+            effects: told.effects,
+            change: Change::Counts {
+                reception,
+                used,
+                held: told.held,
+                counts,
+            },
+        })
     }
 
     /// The removal of entries, with the notices that the controller's mask lets pass: they are removed now.
     pub fn plan_removal(
         &self,
         alloc: Global,
-        reason_masks: ReasonMasks,
+        heard: AsyncConfig,
         cause: Cause,
         now: u64,
     ) -> Result<Plan, AllocError>
         ensures change { IfOk result (λ plan. plan.change ≡ Change.Removal cause) }
-        ensures plan { IfOk result (λ plan. planned plan self.now.tables self.now.groups self.now.ports ≡ forwards (notice_effects reason_masks now (notices_in cause (tables_of self.now.tables))) (record (forwarding_of self.now.tables self.now.groups self.now.ports) { tables = left_in cause (tables_of self.now.tables) })) }
+        ensures plan { IfOk result (λ plan. planned plan self.now.tables self.now.groups self.now.ports ≡ forwards (notice_effects heard now (notices_in cause (tables_of self.now.tables))) (record (forwarding_of self.now.tables self.now.groups self.now.ports self.now.held) { tables = left_in cause (tables_of self.now.tables) })) }
     {
         Ok(Plan {
-            effects: self.removal_notices(alloc, reason_masks, &cause, now)?,
+            effects: self.removal_notices(alloc, heard, &cause, now)?,
             change: Change::Removal(cause),
         })
     }
@@ -185,46 +239,68 @@ impl<L: Lookup> Plane<L> {
     fn removal_notices(
         &self,
         alloc: Global,
-        reason_masks: ReasonMasks,
+        heard: AsyncConfig,
         cause: &Cause,
         now: u64,
     ) -> Result<Effects, AllocError>
-        ensures { IfOk result (λ effects. effects.items ≡ notice_effects reason_masks now (notices_in cause.now (tables_of self.now.tables))) }
+        ensures { IfOk result (λ effects. effects.items ≡ notice_effects heard now (notices_in cause.now (tables_of self.now.tables))) }
     {
-        if reason_masks.flow_removed == 0 {
+        if heard.flow_removed == 0 {
             return Ok(Effects::new(alloc));
         }
-        notices(alloc, reason_masks, &self.tables.listed(cause)?, now)
+        notices(alloc, heard, &self.tables.listed(cause)?, now)
     }
 
     /// Carries out a plan, and returns its effects.
     pub fn carry_out(&mut self, plan: Plan) -> Effects
         ensures effects { result.items ≡ plan.effects.items }
-        ensures forwarding { forwarding_of self.new.tables self.new.groups self.new.ports ≡ (planned plan self.old.tables self.old.groups self.old.ports).forwarding }
+        ensures forwarding { forwarding_of self.new.tables self.new.groups self.new.ports self.new.held ≡ (planned plan self.old.tables self.old.groups self.old.ports).forwarding }
     {
         let Plan { effects, change } = plan;
-        match &change {
+        match change {
             Change::Nothing => {}
-            Change::Counts { reception, counts } => self.count(*reception, counts, &effects),
-            Change::Removal(cause) => self.tables.remove(cause),
+            Change::Counts {
+                reception,
+                used,
+                held,
+                counts,
+            } => {
+                self.count_reception(reception);
+                self.hold(used, held);
+                self.tally_all(&counts);
+                self.count_sent(&effects);
+            }
+            Change::Removal(cause) => self.tables.remove(&cause),
         }
         effects
     }
 
-    // Counts the reception of a frame, and what a packet's run counted and sent.
-    fn count(&mut self, reception: Option<Reception>, counts: &[Count], effects: &[Effect])
-        ensures { forwarding_of self.new.tables self.new.groups self.new.ports ≡ all_sent effects.now (all_tallied (all_placed self.old.tables counts.now) (with_reception reception (forwarding_of self.old.tables self.old.groups self.old.ports))) }
+    // Counts the reception of a frame.
+    fn count_reception(&mut self, reception: Option<Reception>)
+        ensures forwarding { forwarding_of self.new.tables self.new.groups self.new.ports self.new.held ≡ with_reception reception (forwarding_of self.old.tables self.old.groups self.old.ports self.old.held) }
+        ensures numbers { self.new.tables ≡ self.old.tables }
     {
         if let Some(Reception { port, what }) = reception {
             self.ports.count(port, what);
         }
-        self.tally_all(counts);
-        self.count_sent(effects);
+    }
+
+    // A held frame is used, and others are held.
+    fn hold(&mut self, used: Option<u32>, frames: Vec<HeldFrame>)
+        ensures forwarding { forwarding_of self.new.tables self.new.groups self.new.ports self.new.held ≡ with_held used frames.items (forwarding_of self.old.tables self.old.groups self.old.ports self.old.held) }
+        ensures numbers { self.new.tables ≡ self.old.tables }
+    {
+        if let Some(id) = used {
+            self.held.use_up(id);
+        }
+        for frame in frames {
+            self.held.hold(frame);
+        }
     }
 
     // Counts what a run counted.
     fn tally_all(&mut self, counts: &[Count])
-        ensures { forwarding_of self.new.tables self.new.groups self.new.ports ≡ all_tallied (all_placed self.old.tables counts.now) (forwarding_of self.old.tables self.old.groups self.old.ports) }
+        ensures { forwarding_of self.new.tables self.new.groups self.new.ports self.new.held ≡ all_tallied (all_placed self.old.tables counts.now) (forwarding_of self.old.tables self.old.groups self.old.ports self.old.held) }
     {
         for count in counts {
             self.tally(count);
@@ -232,7 +308,7 @@ impl<L: Lookup> Plane<L> {
     }
 
     fn tally(&mut self, count: &Count)
-        ensures forwarding { forwarding_of self.new.tables self.new.groups self.new.ports ≡ tallied (placed self.old.tables count.now) (forwarding_of self.old.tables self.old.groups self.old.ports) }
+        ensures forwarding { forwarding_of self.new.tables self.new.groups self.new.ports self.new.held ≡ tallied (placed self.old.tables count.now) (forwarding_of self.old.tables self.old.groups self.old.ports self.old.held) }
         ensures numbers { all_numbers self.new.tables ≡ all_numbers self.old.tables }
     {
         match *count {
@@ -253,7 +329,7 @@ impl<L: Lookup> Plane<L> {
     }
 
     fn looked(&mut self, table: u8)
-        ensures forwarding { forwarding_of self.new.tables self.new.groups self.new.ports ≡ record (forwarding_of self.old.tables self.old.groups self.old.ports) { tables = looked_in table (tables_of self.old.tables) } }
+        ensures forwarding { forwarding_of self.new.tables self.new.groups self.new.ports self.new.held ≡ record (forwarding_of self.old.tables self.old.groups self.old.ports self.old.held) { tables = looked_in table (tables_of self.old.tables) } }
         ensures numbers { all_numbers self.new.tables ≡ all_numbers self.old.tables }
     {
         self.tables.known();
@@ -263,7 +339,7 @@ impl<L: Lookup> Plane<L> {
     }
 
     fn matched(&mut self, table: u8, number: usize, bytes: usize)
-        ensures forwarding { forwarding_of self.new.tables self.new.groups self.new.ports ≡ record (forwarding_of self.old.tables self.old.groups self.old.ports) { tables = matched_in table (place_in self.old.tables table number) bytes (tables_of self.old.tables) } }
+        ensures forwarding { forwarding_of self.new.tables self.new.groups self.new.ports self.new.held ≡ record (forwarding_of self.old.tables self.old.groups self.old.ports self.old.held) { tables = matched_in table (place_in self.old.tables table number) bytes (tables_of self.old.tables) } }
         ensures numbers { all_numbers self.new.tables ≡ all_numbers self.old.tables }
     {
         self.tables.known();
@@ -274,7 +350,7 @@ impl<L: Lookup> Plane<L> {
 
     // Counts what is sent.
     fn count_sent(&mut self, effects: &[Effect])
-        ensures { forwarding_of self.new.tables self.new.groups self.new.ports ≡ all_sent effects.now (forwarding_of self.old.tables self.old.groups self.old.ports) }
+        ensures { forwarding_of self.new.tables self.new.groups self.new.ports self.new.held ≡ all_sent effects.now (forwarding_of self.old.tables self.old.groups self.old.ports self.old.held) }
     {
         for effect in effects {
             self.count_effect(effect);
@@ -282,7 +358,7 @@ impl<L: Lookup> Plane<L> {
     }
 
     fn count_effect(&mut self, effect: &Effect)
-        ensures { forwarding_of self.new.tables self.new.groups self.new.ports ≡ sent effect.now (forwarding_of self.old.tables self.old.groups self.old.ports) }
+        ensures { forwarding_of self.new.tables self.new.groups self.new.ports self.new.held ≡ sent effect.now (forwarding_of self.old.tables self.old.groups self.old.ports self.old.held) }
     {
         match effect {
             Effect::Sent { port, frame } => {
@@ -311,25 +387,9 @@ fn reception_alone(alloc: Global, port: u32, what: PortCount) -> Plan
         effects: Effects::new(alloc),
         change: Change::Counts {
             reception: Some(Reception { port, what }),
+            used: None,
+            held: Vec::new(alloc),
             counts: Counts::new(alloc),
         },
     }
-}
-
-// What a run gives and counts, as a plan.
-fn plan_of(
-    alloc: Global,
-    reason_masks: ReasonMasks,
-    ports: &Ports,
-    reception: Option<Reception>,
-    outcome: Outcome,
-) -> Result<Plan, AllocError>
-    requires { AllShort 65485 outcome.items.items }
-    ensures { IfOk result (λ plan. (n : NumberedTables) (f : Forwarding) → (plan.effects.items ≡ effects_of reason_masks ports.now outcome.items.items) × (changed plan.change plan.effects.items n f ≡ all_sent plan.effects.items (all_tallied (all_placed n outcome.counts.items) (with_reception reception f)))) }
-{
-    let Outcome { items, counts } = outcome;
-    Ok(Plan {
-        effects: effects_from(alloc, reason_masks, ports, items)?,
-        change: Change::Counts { reception, counts },
-    })
 }

@@ -2,7 +2,7 @@
 ghost use Rattle.std.specs.Prelude.{◌≡◌, ◌∷◌, [], IfOk};
 ghost use Rattle.of_switch.specs.PortStatus.{change_told, is_shown_alike as shows_alike, status_bit, status_told};
 
-use crate::control::{ReasonMasks, lets_through};
+use crate::control::{AsyncConfig, lets_through};
 use crate::effect::{Effect, Effects};
 use of_messages::{PortStatusReason, write_port_status};
 use of_ports::Port;
@@ -22,14 +22,14 @@ fn reason_bit(reason: PortStatusReason) -> u32
 /// The PORT_STATUS of a port, where the controller's mask has its reason.
 pub fn write_status(
     alloc: Global,
-    reason_masks: ReasonMasks,
+    heard: AsyncConfig,
     reason: PortStatusReason,
     port: &Port,
 ) -> Result<Effects, AllocError>
-    ensures { IfOk result (λ effects. effects.items ≡ status_told reason_masks reason port.now) }
+    ensures { IfOk result (λ effects. effects.items ≡ status_told heard reason port.now) }
 {
     let mut effects = Effects::new(alloc);
-    if lets_through(reason_masks.port_status, reason_bit(reason)) {
+    if lets_through(heard.port_status, reason_bit(reason)) {
         let message = write_port_status(alloc, 0, reason, &description_of(port))?;
         effects.push(Effect::Answer(message))?;
     }
@@ -46,14 +46,14 @@ fn is_shown_alike(old: &Port, new: &Port) -> bool
 /// There is none where the port's description does not change.
 pub fn write_change(
     alloc: Global,
-    reason_masks: ReasonMasks,
+    heard: AsyncConfig,
     old: &Port,
     new: &Port,
 ) -> Result<Effects, AllocError>
-    ensures { IfOk result (λ effects. effects.items ≡ change_told reason_masks old.now new.now) }
+    ensures { IfOk result (λ effects. effects.items ≡ change_told heard old.now new.now) }
 {
     if is_shown_alike(old, new) {
         return Ok(Effects::new(alloc));
     }
-    write_status(alloc, reason_masks, PortStatusReason::Modify, new)
+    write_status(alloc, heard, PortStatusReason::Modify, new)
 }

@@ -14,7 +14,7 @@ ghost use Rattle.of_machine.specs.Sound.{IsSound as IsSoundWorld};
 ghost use Rattle.of_switch.specs.Plane.{winner_in, world_of};
 ghost use Rattle.of_table.specs.Entries.{entry_of, flows_of};
 ghost use Rattle.of_table.specs.Tables.{table_at};
-ghost use Rattle.of_switch.specs.Steps.{came, closing as closing_with, connected, does, failed_of, fed, frame_in, masks_of_state, lost as lost_from, moment_in, gives, next_of, port_changed, refused as refused_by};
+ghost use Rattle.of_switch.specs.Steps.{came, closing as closing_with, connected, does, failed_of, fed, frame_in, heard_in, lost as lost_from, moment_in, gives, next_of, port_changed, refused as refused_by};
 ghost use Rattle.of_switch.specs.Calls.{Call, absent_refusal, connect_refusal, feed_refusal, new_refusal, port_refusal};
 ghost use Rattle.of_switch.specs.Loading.{config_of, loaded};
 ghost use Rattle.of_switch.specs.Runs.{RunsAll, StopsWithin, reports_of};
@@ -22,7 +22,7 @@ ghost use Rattle.of_switch.specs.Stepping.{Drains, Happens, Tells};
 ghost use Rattle.std.specs.Prelude.{not};
 ghost use Rattle.of_session.specs.Session.{is_disconnected};
 
-use crate::control::ReasonMasks;
+use crate::control::AsyncConfig;
 use crate::effect::{Effect, Effects};
 use crate::engine::{Engine, Fault, one};
 use crate::event::{Event, Report};
@@ -196,10 +196,10 @@ impl<L: Lookup> Switch<L> {
     }
 
     // The asynchronous messages that the controller receives.
-    fn reason_masks(&self) -> ReasonMasks
-        ensures { result ≡ masks_of_state self.now }
+    fn heard(&self) -> AsyncConfig
+        ensures { result ≡ heard_in self.now }
     {
-        self.engine.reason_masks(self.session.phase())
+        self.engine.heard(self.session.phase())
     }
 
     // The ERROR that answers the next message, with its first bytes.
@@ -218,8 +218,8 @@ impl<L: Lookup> Switch<L> {
     pub fn frame(&mut self, port: u32, frame: &[u8]) -> Result<Effects, SwitchError>
         ensures { Call None (λ effects new. frame_in port frame.now self.old ≡ gives effects.items new) self.old result self.new }
     {
-        let reason_masks = self.reason_masks();
-        Ok(self.engine.frame(reason_masks, port, frame)?)
+        let heard = self.heard();
+        Ok(self.engine.frame(heard, port, frame)?)
     }
 
     /// The effects that `frame` would give next, and the steps of the frame's run, which are put into the log (OpenFlow 1.3.5, 5.1).
@@ -238,7 +238,7 @@ impl<L: Lookup> Switch<L> {
         ensures bound { S.KEEPS ≡ true → length (S.list log.new) ≤ length (S.list log.old) + frame_step_bound }
         ensures err { IfErr result (λ e. (e ≡ SwitchError.NoMemory) × (S.KEEPS ≡ true → GainsPrefix (steps_in port frame.now self.now.core.forwarding) (S.list log.old) (S.list log.new))) }
     {
-        Ok(self.engine.dry_run(self.reason_masks(), port, frame, log)?)
+        Ok(self.engine.dry_run(self.heard(), port, frame, log)?)
     }
 
     /// The tables and the groups have the invariants that the machine needs: the instructions of entries are valid in their tables,
@@ -302,8 +302,8 @@ impl<L: Lookup> Switch<L> {
     pub fn moment(&mut self, nanos: u64) -> Result<Effects, SwitchError>
         ensures { Call None (λ effects new. moment_in nanos self.old ≡ gives effects.items new) self.old result self.new }
     {
-        let reason_masks = self.reason_masks();
-        Ok(self.engine.moment(reason_masks, nanos)?)
+        let heard = self.heard();
+        Ok(self.engine.moment(heard, nanos)?)
     }
 
     /// The ports change (OpenFlow 1.3.5, 7.2.1). No flow and no group does.
@@ -313,7 +313,7 @@ impl<L: Lookup> Switch<L> {
     pub fn port_change(&mut self, change: PortChange) -> Result<Effects, SwitchError>
         ensures { Call (port_refusal change self.old) (λ effects new. port_changed change self.old ≡ gives effects.items new) self.old result self.new }
     {
-        let reason_masks = self.reason_masks();
+        let heard = self.heard();
         match change {
             PortChange::Add {
                 number,
@@ -322,15 +322,15 @@ impl<L: Lookup> Switch<L> {
                 up,
             } => {
                 self.check_new_port(number)?;
-                Ok(self.engine.add_port(reason_masks, number, hw, name, up)?)
+                Ok(self.engine.add_port(heard, number, hw, name, up)?)
             }
             PortChange::Remove { number } => {
                 self.check_port(number)?;
-                Ok(self.engine.remove_port(reason_masks, number)?)
+                Ok(self.engine.remove_port(heard, number)?)
             }
             PortChange::Link { number, up } => {
                 self.check_port(number)?;
-                Ok(self.engine.set_link(reason_masks, number, up)?)
+                Ok(self.engine.set_link(heard, number, up)?)
             }
         }
     }

@@ -1,16 +1,33 @@
-//! What is sent of what a packet's run emitted.
-ghost use Rattle.std.specs.Prelude.{◌≡◌, ◌≤◌, IfOk, length, false};
+//! What is sent of what a packet's run emitted, and which frames are held for it.
+ghost use Rattle.std.specs.Prelude.{◌≡◌, ◌≤◌, ◌++◌, ◌∷◌, [], IfOk, OnOk, length, flat_map, false};
 ghost use Rattle.std.specs.Option.{option_map_or};
 ghost use Rattle.of_ports.specs.Ports.{port_at};
+ghost use Rattle.of_buffers.specs.Buffers.{last_id};
 ghost use Rattle.of_machine.specs.Growth.{AllShort, frame_of};
-ghost use Rattle.of_switch.specs.Told.{effect_of, effects_of, is_given as is_given_to, is_suppressed as is_silenced_by};
+ghost use Rattle.of_switch.specs.Told.{each_told, effect_of, frames_for, given, id_after, is_given as is_given_to, is_held as is_to_be_held, is_suppressed as is_silenced_by, limit_of as limit_for, packet_in_of};
 
-use crate::control::{ReasonMasks, lets_through};
+use crate::control::{AsyncConfig, lets_through};
 use crate::effect::{Effect, Effects};
+use of_buffers::{HeldFrame, following_id};
+use of_headers::check_length;
 use of_machine::{Item, Items, PacketInReason, ToController};
 use of_messages::{PacketIn, write_packet_in};
 use of_ports::Ports;
+use of_wire::front_of;
 use std::alloc::{AllocError, Global};
+
+/// OFP_NO_BUFFER: the whole frame is in the message (OpenFlow 1.3.5, 7.4.1).
+pub const NO_BUFFER: u32 = 0xffff_ffff;
+
+/// OFPCML_NO_BUFFER: the whole frame is sent (OpenFlow 1.3.5, 7.2.5).
+const NO_LIMIT: u16 = 0xffff;
+
+/// What is sent of what a run emitted, and the frames that are held for it, both in order.
+#[derive(Drop)]
+pub struct Told {
+    pub effects: Effects,
+    pub held: Vec<HeldFrame>,
+}
 
 // Whether its ingress port suppresses it.
 fn is_suppressed(ports: &Ports, packet: &ToController) -> bool
@@ -29,52 +46,132 @@ fn tells_no_packet_in(ports: &Ports, number: u32) -> bool
 }
 
 // Whether it is sent.
-fn is_given(reason_masks: ReasonMasks, ports: &Ports, item: &Item) -> bool
-    ensures { result ≡ is_given_to reason_masks ports.now item.now }
+fn is_given(heard: AsyncConfig, ports: &Ports, item: &Item) -> bool
+    ensures { result ≡ is_given_to heard ports.now item.now }
 {
     match item {
         Item::Sent { .. } => true,
         Item::PacketIn(packet) => {
-            lets_through(reason_masks.packet_in, packet.reason.bit())
-                && !is_suppressed(ports, packet)
+            lets_through(heard.packet_in, packet.reason.bit()) && !is_suppressed(ports, packet)
         }
     }
 }
 
-fn effect_from(alloc: Global, item: Item) -> Result<Effect, AllocError>
-    requires { length (frame_of item) ≤ 65485 }
-    ensures { IfOk result (λ effect. effect ≡ effect_of item) }
+// How many bytes of its frame a PACKET_IN may have.
+fn limit_of(heard: AsyncConfig, packet: &ToController) -> u16
+    ensures { result ≡ limit_for heard packet.now }
 {
-    match item {
-        Item::Sent { port, frame } => Ok(Effect::Sent { port, frame }),
-        Item::PacketIn(packet) => {
-            let told = PacketIn {
-                reason: packet.reason,
-                table: packet.table,
-                cookie: packet.cookie,
-                in_port: packet.ingress,
-                metadata: packet.metadata,
-            };
-            Ok(Effect::Answer(write_packet_in(alloc, 0, &told, packet.frame.as_slice())?))
-        }
-    }
+    packet.max_len.unwrap_or(heard.miss_send_len)
 }
 
-/// What a switch with this mask and these ports sends of what was emitted, in order.
-pub fn effects_from(
+// Whether the frame is held, so that its first bytes alone are sent.
+fn is_held(heard: AsyncConfig, packet: &ToController) -> bool
+    ensures { result ≡ is_to_be_held heard packet.now }
+{
+    let limit = limit_of(heard, packet);
+    limit != NO_LIMIT
+        && usize::from(limit) < packet.frame.len()
+        && check_length(packet.frame.as_slice()).is_ok()
+}
+
+// The PACKET_IN of a packet with these bytes of its frame.
+fn packet_in(
     alloc: Global,
-    reason_masks: ReasonMasks,
-    ports: &Ports,
-    items: Items,
-) -> Result<Effects, AllocError>
-    requires { AllShort 65485 items.items }
-    ensures { IfOk result (λ effects. effects.items ≡ effects_of reason_masks ports.now items.items) }
+    packet: &ToController,
+    buffer: u32,
+    bytes: &[u8],
+) -> Result<Effect, AllocError>
+    requires short { length packet.now.frame ≤ 65485 }
+    requires bytes { length bytes.now ≤ 65485 }
+    ensures { IfOk result (λ effect. effect ≡ packet_in_of packet.now buffer bytes.now) }
 {
-    let mut effects = Effects::new(alloc);
-    for item in items {
-        if is_given(reason_masks, ports, &item) {
-            effects.push(effect_from(alloc, item)?)?;
+    let told = PacketIn {
+        buffer,
+        total_len: packet.frame.len() as u16,
+        reason: packet.reason,
+        table: packet.table,
+        cookie: packet.cookie,
+        in_port: packet.ingress,
+        metadata: packet.metadata,
+    };
+    Ok(Effect::Answer(write_packet_in(alloc, 0, &told, bytes)?))
+}
+
+impl Told {
+    // Tells of an item that is given. A frame that is held gets this id; the result is the id for the next one.
+    fn tell(
+        &mut self,
+        alloc: Global,
+        heard: AsyncConfig,
+        id: u32,
+        item: Item,
+    ) -> Result<u32, AllocError>
+        requires short { length (frame_of item) ≤ 65485 }
+        requires id { id ≤ last_id }
+        ensures next { IfOk result (λ next. next ≡ id_after heard id item) }
+        ensures most { IfOk result (λ next. next ≤ last_id) }
+        ensures effects { OnOk result (self.new.effects.items ≡ self.old.effects.items ++ effect_of heard id item ∷ []) }
+        ensures held { OnOk result (self.new.held.items ≡ self.old.held.items ++ frames_for heard item) }
+    {
+        match item {
+            Item::Sent { port, frame } => {
+                self.effects.push(Effect::Sent { port, frame })?;
+                Ok(id)
+            }
+            Item::PacketIn(packet) => self.tell_controller(alloc, heard, id, packet),
         }
     }
-    Ok(effects)
+
+    fn tell_controller(
+        &mut self,
+        alloc: Global,
+        heard: AsyncConfig,
+        id: u32,
+        packet: ToController,
+    ) -> Result<u32, AllocError>
+        requires short { length packet.frame ≤ 65485 }
+        requires id { id ≤ last_id }
+        ensures next { IfOk result (λ next. next ≡ id_after heard id (Item.PacketIn packet)) }
+        ensures most { IfOk result (λ next. next ≤ last_id) }
+        ensures effects { OnOk result (self.new.effects.items ≡ self.old.effects.items ++ effect_of heard id (Item.PacketIn packet) ∷ []) }
+        ensures held { OnOk result (self.new.held.items ≡ self.old.held.items ++ frames_for heard (Item.PacketIn packet)) }
+    {
+        if !is_held(heard, &packet) {
+            let whole = packet_in(alloc, &packet, NO_BUFFER, packet.frame.as_slice())?;
+            self.effects.push(whole)?;
+            return Ok(id);
+        }
+        let limit = usize::from(limit_of(heard, &packet));
+        let part = packet_in(alloc, &packet, id, front_of(packet.frame.as_slice(), limit))?;
+        self.effects.push(part)?;
+        self.held.push(HeldFrame::new(packet.frame, packet.ingress))?;
+        Ok(following_id(id))
+    }
+}
+
+/// What a switch sends of what was emitted, for a controller that receives this, with these ports; the first frame that is held
+/// gets that id.
+pub fn told_from(
+    alloc: Global,
+    heard: AsyncConfig,
+    ports: &Ports,
+    next_id: u32,
+    items: Items,
+) -> Result<Told, AllocError>
+    requires short { AllShort 65485 items.items }
+    requires id { next_id ≤ last_id }
+    ensures effects { IfOk result (λ told. told.effects.items ≡ each_told heard next_id (given heard ports.now items.items)) }
+    ensures held { IfOk result (λ told. told.held.items ≡ flat_map (frames_for heard) (given heard ports.now items.items)) }
+{
+    let mut told = Told {
+        effects: Effects::new(alloc),
+        held: Vec::new(alloc),
+    };
+    let mut id = next_id;
+    for item in items {
+        if is_given(heard, ports, &item) {
+            id = told.tell(alloc, heard, id, item)?;
+        }
+    }
+    Ok(told)
 }

@@ -4,4 +4,4 @@ use Rattle.of_switch.specs.Commands.{notice_effects}
 use Rattle.of_switch.proofs.commands.notices.Given as goal
 
 abbrev pub invariant-loop-one : goal.invariant-loop-one
-invariant-loop-one l = l.effects.items ≡ notice_effects l.reason_masks l.now (notices_of (take l.one-index l.removed))
+invariant-loop-one l = l.effects.items ≡ notice_effects l.heard l.now (notices_of (take l.one-index l.removed))
