@@ -24,7 +24,7 @@ use Rattle.of_messages.specs.declared.role.Role.{Role}
 use Rattle.of_messages.specs.declared.role.Role.TheVariants as role
 use Rattle.of_wire.specs.Reasons.{packet_in_number, flow_removed_number}
 use Rattle.of_grammar.specs.Cells.{pad}
-use Rattle.of_grammar.specs.Told.{Told, hello, error, echo_reply, features_reply, config_reply, packet_in, flow_removed, port_status, barrier_reply, role_reply, async_reply, switch_message_type, told_cells, switch_message_fixed_part, told_fields, MatchThenFrame, ToldTail, SpellsSwitchMessage, port_reason, role_value}
+use Rattle.of_grammar.specs.Told.{Told, hello, error, echo_reply, features_reply, config_reply, packet_in, flow_removed, port_status, barrier_reply, role_reply, async_reply, switch_message_type, told_cells, switch_message_fixed_part, told_fields, MatchThenData, ToldTail, SpellsSwitchMessage, port_reason, role_value}
 use Rattle.of_grammar.proofs.MatchTails.{match_only}
 use Rattle.of_grammar.proofs.OnlySmall.{async_only}
 use Rattle.of_grammar.proofs.Places.{Says, says, size, rest_is}
@@ -60,7 +60,7 @@ second_value [] = 0
 second_value (f ∷ fs) = first_value fs
 
 abbrev packet_at : List ℕ → List MatchField → PacketIn
-packet_at m fields = record { reason = packet_reason_at (slice_index m 14); table = slice_index m 15; cookie = big_number 8 (drop 16 m); in_port = first_value fields; metadata = second_value fields }
+packet_at m fields = record { buffer = big_number 4 (drop 8 m); total_len = big_number 2 (drop 12 m); reason = packet_reason_at (slice_index m 14); table = slice_index m 15; cookie = big_number 8 (drop 16 m); in_port = first_value fields; metadata = second_value fields }
 
 abbrev removed_at : List ℕ → FlowRemoved
 removed_at m = record {
@@ -119,8 +119,9 @@ role_again role.Slave = refl
 same_code : (c : Code) (a b : ℕ) → a ≡ c.kind → b ≡ c.code → record { kind = a; code = b } ≡ c
 same_code c a b p q = rw (p, q) refl
 
-same_packet : (p : PacketIn) (r : PacketInReason) (a b c d : ℕ) → r ≡ p.reason → a ≡ p.table → b ≡ p.cookie → c ≡ p.in_port → d ≡ p.metadata → record { reason = r; table = a; cookie = b; in_port = c; metadata = d } ≡ p
-same_packet p r a b c d e f g h i = rw (e, f, g, h, i) refl
+same_packet : (p : PacketIn) (r : PacketInReason) (a b c d e f : ℕ) → a ≡ p.buffer → b ≡ p.total_len → r ≡ p.reason → c ≡ p.table → d ≡ p.cookie → e ≡ p.in_port → f ≡ p.metadata
+    → record { buffer = a; total_len = b; reason = r; table = c; cookie = d; in_port = e; metadata = f } ≡ p
+same_packet p r a b c d e f pa pb pr pc pd pe pf = rw (pa, pb, pr, pc, pd, pe, pf) refl
 
 same_removed : (r : FlowRemoved) (s : FlowRemovedReason) (a b c d e f g h i : ℕ) → a ≡ r.cookie → b ≡ r.priority → s ≡ r.reason → c ≡ r.table → d ≡ r.duration_sec → e ≡ r.duration_nsec → f ≡ r.idle_timeout → g ≡ r.hard_timeout → h ≡ r.packets → i ≡ r.bytes
     → record { cookie = a; priority = b; reason = s; table = c; duration_sec = d; duration_nsec = e; idle_timeout = f; hard_timeout = g; packets = h; bytes = i } ≡ r
@@ -137,17 +138,17 @@ metadata_again p = by_test (eqb p.metadata 0) refl
     by_test false is = refl
 
 -- what follows the fields of a PACKET_IN
-packet_again : (p : PacketIn) (frame m tail : List ℕ) → tail ≡ drop 24 m → Says 8 (told_cells (packet_in p frame)) m → MatchThenFrame p frame tail
-    → packet_in (packet_at m (fields_in (match_of (drop 24 m)))) (drop 2 (drop (size_in (match_of (drop 24 m))) (drop 24 m))) ≡ packet_in p frame
-packet_again p frame m tail there y h =
+packet_again : (p : PacketIn) («data» m tail : List ℕ) → tail ≡ drop 24 m → Says 8 (told_cells (packet_in p «data»)) m → MatchThenData p «data» tail
+    → packet_in (packet_at m (fields_in (match_of (drop 24 m)))) (drop 2 (drop (size_in (match_of (drop 24 m))) (drop 24 m))) ≡ packet_in p «data»
+packet_again p «data» m tail there y h =
     let whole : drop 24 m ≡ h.fields ++ h.rest = sym there ∙ h.whole in
     let said : match_of (drop 24 m) ≡ Ok (told_fields p, length h.fields) = ap match_of whole ∙ match_only h.fields h.rest (told_fields p) h.spelt in
     let fields : fields_in (match_of (drop 24 m)) ≡ told_fields p = ap fields_in said in
     let behind : drop (size_in (match_of (drop 24 m))) (drop 24 m) ≡ h.rest = ap (λ (n : ℕ). drop n (drop 24 m)) (ap size_in said) ∙ ap (drop (length h.fields)) whole ∙ drop_at h.fields h.rest (length h.fields) refl in
-    let told_frame : drop 2 (drop (size_in (match_of (drop 24 m))) (drop 24 m)) ≡ frame = ap (drop 2) behind ∙ sym (rest_is (pad 2 ∷ []) h.rest frame h.behind) in
+    let told_data : drop 2 (drop (size_in (match_of (drop 24 m))) (drop 24 m)) ≡ «data» = ap (drop 2) behind ∙ sym (rest_is (pad 2 ∷ []) h.rest «data» h.behind) in
     let same : packet_at m (fields_in (match_of (drop 24 m))) ≡ p =
-    same_packet p _ _ _ _ _ (ap packet_reason_at y.1.1.0 ∙ packet_reason_again p.reason) y.1.1.1.0 y.1.1.1.1.0 (ap first_value fields) (ap second_value fields ∙ metadata_again p) in
-    ap (λ (q : PacketIn). packet_in q (drop 2 (drop (size_in (match_of (drop 24 m))) (drop 24 m)))) same ∙ ap (packet_in p) told_frame
+    same_packet p _ _ _ _ _ _ _ y.0 y.1.0 (ap packet_reason_at y.1.1.0 ∙ packet_reason_again p.reason) y.1.1.1.0 y.1.1.1.1.0 (ap first_value fields) (ap second_value fields ∙ metadata_again p) in
+    ap (λ (q : PacketIn). packet_in q (drop 2 (drop (size_in (match_of (drop 24 m))) (drop 24 m)))) same ∙ ap (packet_in p) told_data
 
 removed_again : (r : FlowRemoved) (fields : List MatchField) (m tail : List ℕ) → tail ≡ drop 48 m → Says 8 (told_cells (flow_removed r fields)) m → SpellsMatch tail fields → flow_removed (removed_at m) (fields_in (match_of (drop 48 m))) ≡ flow_removed r fields
 removed_again r fields m tail there y spelt =
@@ -167,7 +168,7 @@ again (error code failed) m tail there y h = ap (λ (c : Code). error c (drop 12
 again (echo_reply echoed) m tail there y h = ap echo_reply (sym there ∙ h)
 again (features_reply dpid) m tail there y h = ap features_reply y.0
 again (config_reply config) m tail there y h = ap (λ (n : ℕ). config_reply (record { miss_send_len = n })) y.1.0
-again (packet_in p frame) m tail there y h = packet_again p frame m tail there y h
+again (packet_in p «data») m tail there y h = packet_again p «data» m tail there y h
 again (flow_removed r fields) m tail there y h = removed_again r fields m tail there y h
 again (port_status reason port) m tail there y h = port_again reason port m y
 again barrier_reply m tail there y h = refl

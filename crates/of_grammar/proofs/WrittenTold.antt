@@ -34,7 +34,7 @@ type_fits (error code failed) = omega arith
 type_fits (echo_reply echoed) = omega arith
 type_fits (features_reply dpid) = omega arith
 type_fits (config_reply config) = omega arith
-type_fits (packet_in p frame) = omega arith
+type_fits (packet_in p «data») = omega arith
 type_fits (flow_removed r fields) = omega arith
 type_fits (port_status reason port) = omega arith
 type_fits barrier_reply = omega arith
@@ -124,13 +124,13 @@ port_told xid r p x fits =
 
 -- ---- PACKET_IN
 
-packet_text : (p : PacketIn) (frame tail : List ℕ) → packet_in_fixed_part p (length frame) ++ tail ≡ spelling (packet_in_cells p frame) ++ tail
+packet_text : (p : PacketIn) (tail : List ℕ) → packet_in_fixed_part p ++ tail ≡ spelling (packet_in_cells p) ++ tail
 unfolding packet_in_fixed_part
-packet_text p frame tail = refl
+packet_text p tail = refl
 
-length-packet : (p : PacketIn) (size : ℕ) (tail : List ℕ) → length (packet_in_fixed_part p size ++ tail) ≡ 16 + length tail
+length-packet : (p : PacketIn) (tail : List ℕ) → length (packet_in_fixed_part p ++ tail) ≡ 16 + length tail
 unfolding packet_in_fixed_part
-length-packet p size tail = omega arith
+length-packet p tail = omega arith
 
 fields_short : (port metadata : ℕ) → length (canonical (packet_fields port metadata)) ≤ 24
 fields_short port metadata = by_test (eqb metadata 0) refl
@@ -166,12 +166,12 @@ fields_match p low high = by_test (eqb p.metadata 0) refl
     by_test true is = one_match p.in_port low
     by_test false is = both_match p.in_port p.metadata low high
 
-pub packet_told : (xid : ℕ) (p : PacketIn) (frame : List ℕ) → xid < 256 ^ 4 → Fits (told_cells (packet_in p frame)) → p.in_port < 256 ^ 4 → p.metadata < 256 ^ 8 → length frame ≤ 65485 → SpellsSwitchMessage xid (packet_in p frame) (packet_in_bytes xid p frame)
-packet_told xid p frame x fits low high short =
+pub packet_told : (xid : ℕ) (p : PacketIn) («data» : List ℕ) → xid < 256 ^ 4 → Fits (told_cells (packet_in p «data»)) → p.in_port < 256 ^ 4 → p.metadata < 256 ^ 8 → length «data» ≤ 65485 → SpellsSwitchMessage xid (packet_in p «data») (packet_in_bytes xid p «data»)
+packet_told xid p «data» x fits low high short =
     let match = fields_match p low high in
     let fields = canonical (told_fields p) in
-    let rest = replicate 2 0 ++ frame in
+    let rest = replicate 2 0 ++ «data» in
     let tail = fields ++ rest in
-    told (packet_in p frame) xid (packet_in_fixed_part p (length frame) ++ tail) tail (packet_text p frame tail) x fits
-    (omega (arith, length-packet p (length frame) tail, length-append fields rest, fields_short p.in_port p.metadata))
+    told (packet_in p «data») xid (packet_in_fixed_part p ++ tail) tail (packet_text p tail) x fits
+    (omega (arith, length-packet p tail, length-append fields rest, fields_short p.in_port p.metadata))
     (record { fields = fields; rest = rest; whole = refl; spelt = canonical_spells (told_fields p) match; behind = (omega arith, tt, refl) })

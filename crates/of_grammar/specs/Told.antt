@@ -15,9 +15,9 @@ use Rattle.of_messages.specs.declared.port_mod.PortStatusReason.TheVariants as s
 use Rattle.of_messages.specs.declared.role.Role.{Role}
 use Rattle.of_messages.specs.declared.role.Role.TheVariants as role
 use Rattle.of_grammar.specs.Cells.{Cell, byte, u16, u32, u64, plain, pad, Begins}
-use Rattle.of_grammar.specs.Grammar.{no_buffer, masks_cells}
+use Rattle.of_grammar.specs.Grammar.{masks_cells}
 
--- HELLO with a bitmap of versions, ERROR with its data, ECHO_REPLY with its data, FEATURES_REPLY with the datapath id, GET_CONFIG_REPLY, PACKET_IN with its frame, FLOW_REMOVED with its match, PORT_STATUS, BARRIER_REPLY, ROLE_REPLY with its generation, and GET_ASYNC_REPLY
+-- HELLO with a bitmap of versions, ERROR with its data, ECHO_REPLY with its data, FEATURES_REPLY with the datapath id, GET_CONFIG_REPLY, PACKET_IN with its data, FLOW_REMOVED with its match, PORT_STATUS, BARRIER_REPLY, ROLE_REPLY with its generation, and GET_ASYNC_REPLY
 pub data Told : Type 0 where
   hello : ℕ → Told
   error : Code → List ℕ → Told
@@ -38,7 +38,7 @@ switch_message_type (error code failed) = 1
 switch_message_type (echo_reply echoed) = 3
 switch_message_type (features_reply dpid) = 6
 switch_message_type (config_reply config) = 8
-switch_message_type (packet_in p frame) = 10
+switch_message_type (packet_in p «data») = 10
 switch_message_type (flow_removed r fields) = 11
 switch_message_type (port_status reason port) = 12
 switch_message_type barrier_reply = 21
@@ -56,13 +56,13 @@ role_value role.Equal = 1
 role_value role.Master = 2
 role_value role.Slave = 3
 
--- struct ofp_switch_features (7.3.1): no buffers, 16 tables, no auxiliary connection, OFPC_FLOW_STATS, TABLE_STATS, PORT_STATS and GROUP_STATS
+-- struct ofp_switch_features (7.3.1): 256 buffers, 16 tables, no auxiliary connection, OFPC_FLOW_STATS, TABLE_STATS, PORT_STATS and GROUP_STATS
 abbrev pub features_cells : ℕ → List Cell
-features_cells dpid = u64 dpid ∷ u32 0 ∷ byte 16 ∷ byte 0 ∷ pad 2 ∷ u32 15 ∷ pad 4 ∷ []
+features_cells dpid = u64 dpid ∷ u32 256 ∷ byte 16 ∷ byte 0 ∷ pad 2 ∷ u32 15 ∷ pad 4 ∷ []
 
--- struct ofp_packet_in (7.4.1), before the match: the frame is not buffered, and is sent whole
-abbrev pub packet_in_cells : PacketIn → List ℕ → List Cell
-packet_in_cells p frame = u32 no_buffer ∷ u16 (length frame) ∷ byte (packet_in_number p.reason) ∷ byte p.table ∷ u64 p.cookie ∷ []
+-- struct ofp_packet_in (7.4.1), before the match
+abbrev pub packet_in_cells : PacketIn → List Cell
+packet_in_cells p = u32 p.buffer ∷ u16 p.total_len ∷ byte (packet_in_number p.reason) ∷ byte p.table ∷ u64 p.cookie ∷ []
 
 -- struct ofp_flow_removed (7.4.2), before the match
 abbrev pub removed_cells : FlowRemoved → List Cell
@@ -83,7 +83,7 @@ told_cells (error code failed) = u16 code.kind ∷ u16 code.code ∷ []
 told_cells (echo_reply echoed) = []
 told_cells (features_reply dpid) = features_cells dpid
 told_cells (config_reply config) = u16 0 ∷ u16 config.miss_send_len ∷ []
-told_cells (packet_in p frame) = packet_in_cells p frame
+told_cells (packet_in p «data») = packet_in_cells p
 told_cells (flow_removed r fields) = removed_cells r
 told_cells (port_status reason port) = byte (port_reason reason) ∷ pad 7 ∷ port_cells port
 told_cells barrier_reply = []
@@ -96,13 +96,13 @@ told_fields p =
     record { field = InPort; value = p.in_port; mask = None }
     ∷ (if p.metadata == 0 then [] else record { field = Metadata; value = p.metadata; mask = None } ∷ [])
 
--- the match, two bytes of padding, and the frame
-pub record MatchThenFrame (p : PacketIn) (frame tail : List ℕ) : Type 0 where
+-- the match, two bytes of padding, and the data
+pub record MatchThenData (p : PacketIn) («data» tail : List ℕ) : Type 0 where
   pub fields : List ℕ
   pub rest : List ℕ
   pub whole : tail ≡ fields ++ rest
   pub spelt : SpellsMatch fields (told_fields p)
-  pub behind : Begins (pad 2 ∷ []) rest frame
+  pub behind : Begins (pad 2 ∷ []) rest «data»
 
 abbrev pub ToldTail : Told → List ℕ → Type 0
 ToldTail (hello bitmap) tail = tail ≡ []
@@ -110,7 +110,7 @@ ToldTail (error code failed) tail = tail ≡ failed
 ToldTail (echo_reply echoed) tail = tail ≡ echoed
 ToldTail (features_reply dpid) tail = tail ≡ []
 ToldTail (config_reply config) tail = tail ≡ []
-ToldTail (packet_in p frame) tail = MatchThenFrame p frame tail
+ToldTail (packet_in p «data») tail = MatchThenData p «data» tail
 ToldTail (flow_removed r fields) tail = SpellsMatch tail fields
 ToldTail (port_status reason port) tail = tail ≡ []
 ToldTail barrier_reply tail = tail ≡ []

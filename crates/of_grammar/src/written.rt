@@ -48,7 +48,7 @@ pub fn written_is_told()
     ensures echo_reply { (xid : ℕ) (echoed : List ℕ) → xid < 256 ^ 4 → length echoed ≤ 65527 → SpellsSwitchMessage xid (echo_reply echoed) (echo_reply_bytes xid echoed) }
     ensures features_reply { (xid dpid : ℕ) → xid < 256 ^ 4 → dpid < 256 ^ 8 → SpellsSwitchMessage xid (features_reply dpid) (features_reply_bytes xid dpid) }
     ensures config_reply { (xid : ℕ) (config : SwitchConfig) → xid < 256 ^ 4 → config.miss_send_len < 256 ^ 2 → SpellsSwitchMessage xid (config_reply config) (config_reply_bytes xid config) }
-    ensures packet_in { (xid : ℕ) (p : PacketIn) (frame : List ℕ) → xid < 256 ^ 4 → Fits (told_cells (packet_in p frame)) → p.in_port < 256 ^ 4 → p.metadata < 256 ^ 8 → length frame ≤ 65485 → SpellsSwitchMessage xid (packet_in p frame) (packet_in_bytes xid p frame) }
+    ensures packet_in { (xid : ℕ) (p : PacketIn) («data» : List ℕ) → xid < 256 ^ 4 → Fits (told_cells (packet_in p «data»)) → p.in_port < 256 ^ 4 → p.metadata < 256 ^ 8 → length «data» ≤ 65485 → SpellsSwitchMessage xid (packet_in p «data») (packet_in_bytes xid p «data») }
     ensures flow_removed { (xid : ℕ) (r : FlowRemoved) (fields : List MatchField) → xid < 256 ^ 4 → Fits (told_cells (flow_removed r fields)) → IsMatch fields → SpellsSwitchMessage xid (flow_removed r fields) (flow_removed_bytes xid r fields) }
     ensures port_status { (xid : ℕ) (reason : PortStatusReason) (port : PortDescription) → xid < 256 ^ 4 → Fits (told_cells (port_status reason port)) → SpellsSwitchMessage xid (port_status reason port) (port_status_bytes xid reason port) }
     ensures barrier_reply { (xid : ℕ) → xid < 256 ^ 4 → SpellsSwitchMessage xid barrier_reply (barrier_reply_bytes xid) }

@@ -34,19 +34,19 @@ pub five_parts : {s1 s2 s3 s4 : List ℕ} (s0 s5 a b c d e : List ℕ) → s0 �
 five_parts s0 s5 a b c d e e0 e1 e2 e3 e4 e5 = let whole : s5 ≡ ((([] ++ a ++ b) ++ c) ++ d) ++ e = cc in whole ∙ simp append_assoc
 
 -- how long the body of a PACKET_IN is
-pub length_body : (p : PacketIn) (size : ℕ) (fields frame : List ℕ) → length (packet_in_fixed_part p size ++ (fields ++ (0 ∷ 0 ∷ frame))) ≡ 18 + length fields + length frame
+pub length_body : (p : PacketIn) (fields told : List ℕ) → length (packet_in_fixed_part p ++ (fields ++ (0 ∷ 0 ∷ told))) ≡ 18 + length fields + length told
 unfolding packet_in_fixed_part
-length_body p size fields frame = let parts = length-append fields (0 ∷ 0 ∷ frame) in omega (arith, parts)
+length_body p fields told = let parts = length-append fields (0 ∷ 0 ∷ told) in omega (arith, parts)
 
-pub packet_in_is : (xid len size : ℕ) (p : PacketIn) (fields frame : List ℕ) {s1 s2 s3 s4 : List ℕ} (s0 s5 : List ℕ)
-    → s0 ≡ [] → s1 ≡ s0 ++ header 10 len xid → s2 ≡ s1 ++ packet_in_fixed_part p size → s3 ≡ s2 ++ fields → s4 ≡ s3 ++ 0 ∷ 0 ∷ [] → s5 ≡ s4 ++ frame
-    → size ≡ length frame → len ≡ 26 + length fields + length frame
-    → s5 ≡ message 10 xid (packet_in_fixed_part p (length frame) ++ (fields ++ (0 ∷ 0 ∷ frame)))
-packet_in_is xid len size p fields frame s0 s5 e0 e1 e2 e3 e4 e5 size_is len_is =
-    let whole = five_parts s0 s5 (header 10 len xid) (packet_in_fixed_part p size) fields (0 ∷ 0 ∷ []) frame e0 e1 e2 e3 e4 e5 in
-    let body = length_body p (length frame) fields frame in
-    let total : len ≡ 8 + length (packet_in_fixed_part p (length frame) ++ (fields ++ (0 ∷ 0 ∷ frame))) = omega (arith, len_is, body) in
-    rw (← total, ← size_is) whole
+pub packet_in_is : (xid len : ℕ) (p : PacketIn) (fields told : List ℕ) {s1 s2 s3 s4 : List ℕ} (s0 s5 : List ℕ)
+    → s0 ≡ [] → s1 ≡ s0 ++ header 10 len xid → s2 ≡ s1 ++ packet_in_fixed_part p → s3 ≡ s2 ++ fields → s4 ≡ s3 ++ 0 ∷ 0 ∷ [] → s5 ≡ s4 ++ told
+    → len ≡ 26 + length fields + length told
+    → s5 ≡ message 10 xid (packet_in_fixed_part p ++ (fields ++ (0 ∷ 0 ∷ told)))
+packet_in_is xid len p fields told s0 s5 e0 e1 e2 e3 e4 e5 len_is =
+    let whole = five_parts s0 s5 (header 10 len xid) (packet_in_fixed_part p) fields (0 ∷ 0 ∷ []) told e0 e1 e2 e3 e4 e5 in
+    let body = length_body p fields told in
+    let total : len ≡ 8 + length (packet_in_fixed_part p ++ (fields ++ (0 ∷ 0 ∷ told))) = omega (arith, len_is, body) in
+    rw (← total) whole
 
 pub length_flow_mod : (m : FlowMod) → length (flow_mod_fixed_part m) ≡ 40
 unfolding flow_mod_fixed_part

@@ -48,5 +48,5 @@ features_reply_is xid dpid s0 s2 e0 e1 e2 =
 pub flow_removed_is_message : (xid : ℕ) (removed : FlowRemoved) (fields : List MatchField) → length (canonical fields) ≤ 1128 → IsMessage (flow_removed_bytes xid removed fields)
 flow_removed_is_message xid removed fields le = is_message 11 xid _ (omega (arith, le, length_front removed, length-append (flow_removed_fixed_part removed) (canonical fields)))
 
-pub packet_in_is_message : (xid : ℕ) (p : PacketIn) (frame : List ℕ) → length (canonical (packet_fields p.in_port p.metadata)) ≤ 24 → length frame ≤ 65485 → IsMessage (packet_in_bytes xid p frame)
-packet_in_is_message xid p frame few le = is_message 10 xid _ (omega (arith, few, le, length_body p (length frame) (canonical (packet_fields p.in_port p.metadata)) frame))
+pub packet_in_is_message : (xid : ℕ) (p : PacketIn) (told : List ℕ) → length (canonical (packet_fields p.in_port p.metadata)) ≤ 24 → length told ≤ 65485 → IsMessage (packet_in_bytes xid p told)
+packet_in_is_message xid p told few le = is_message 10 xid _ (omega (arith, few, le, length_body p (canonical (packet_fields p.in_port p.metadata)) told))

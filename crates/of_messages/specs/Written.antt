@@ -12,6 +12,7 @@ use Rattle.of_messages.specs.Roles.{role_number, generation_number}
 use Rattle.of_messages.specs.declared.async_masks.AsyncMasks.{AsyncMasks}
 use Rattle.of_messages.specs.declared.async_masks.RoleMasks.{RoleMasks}
 use Rattle.of_messages.specs.declared.config.SwitchConfig.{SwitchConfig}
+use Rattle.of_messages.specs.declared.features.TheConstants.{BUFFERS}
 use Rattle.of_messages.specs.declared.role.Role.{Role}
 use Rattle.of_messages.specs.declared.message.FlowMod.{FlowMod}
 use Rattle.of_messages.specs.declared.message.FlowModCommand.{FlowModCommand}
@@ -50,9 +51,9 @@ echo_reply_bytes xid «data» = message 3 xid «data»
 abbrev pub barrier_reply_bytes : ℕ → List ℕ
 barrier_reply_bytes xid = message 21 xid []
 
--- the datapath id; no buffers, 16 tables, no auxiliary connection, and the capabilities OFPC_FLOW_STATS, TABLE_STATS, PORT_STATS and GROUP_STATS (7.3.1)
+-- the datapath id; 256 buffers, 16 tables, no auxiliary connection, and the capabilities OFPC_FLOW_STATS, TABLE_STATS, PORT_STATS and GROUP_STATS (7.3.1)
 unfoldable pub features_body : ℕ → List ℕ
-features_body dpid = big_bytes 8 dpid ++ (big_bytes 4 0 ++ ((16 ∷ 0 ∷ 0 ∷ 0 ∷ []) ++ (big_bytes 4 15 ++ big_bytes 4 0)))
+features_body dpid = big_bytes 8 dpid ++ (big_bytes 4 BUFFERS ++ ((16 ∷ 0 ∷ 0 ∷ 0 ∷ []) ++ (big_bytes 4 15 ++ big_bytes 4 0)))
 
 abbrev pub features_reply_bytes : ℕ → ℕ → List ℕ
 features_reply_bytes xid dpid = message 6 xid (features_body dpid)
@@ -98,16 +99,17 @@ packet_fields in_port metadata =
     record { field = InPort; value = in_port; mask = None }
     ∷ (if metadata == 0 then [] else record { field = Metadata; value = metadata; mask = None } ∷ [])
 
--- the fields before the match; OFP_NO_BUFFER, since the whole frame is included
-unfoldable pub packet_in_fixed_part : PacketIn → ℕ → List ℕ
-packet_in_fixed_part p size =
-    big_bytes 4 0xffffffff
-    ++ (big_bytes 2 size
+-- the fields before the match
+unfoldable pub packet_in_fixed_part : PacketIn → List ℕ
+packet_in_fixed_part p =
+    big_bytes 4 p.buffer
+    ++ (big_bytes 2 p.total_len
     ++ (packet_in_number p.reason ∷ p.table
     ∷ big_bytes 8 p.cookie))
 
+-- the data are the first bytes of a frame of p.total_len: all of them, or of a held one as many as the switch tells
 abbrev pub packet_in_bytes : ℕ → PacketIn → List ℕ → List ℕ
-packet_in_bytes xid p frame = message 10 xid (packet_in_fixed_part p (length frame) ++ (canonical (packet_fields p.in_port p.metadata) ++ (replicate 2 0 ++ frame)))
+packet_in_bytes xid p «data» = message 10 xid (packet_in_fixed_part p ++ (canonical (packet_fields p.in_port p.metadata) ++ (replicate 2 0 ++ «data»)))
 
 -- FLOW_MOD (7.3.4.1), as a controller sends it
 

@@ -12,21 +12,24 @@ const SIZE: usize = 32;
 
 const TABLES: u8 = 16;
 
+/// How many packets a switch holds at once for its controller: n_buffers (OpenFlow 1.3.5, 7.3.1).
+pub const BUFFERS: u32 = 256;
+
 /// OFPC_FLOW_STATS, OFPC_TABLE_STATS, OFPC_PORT_STATS and OFPC_GROUP_STATS.
 const CAPABILITIES: u32 = 15;
 
-// No buffers, the tables, no auxiliary connection with its padding, the capabilities, and four bytes that are reserved.
+// The buffers, the tables, no auxiliary connection with its padding, the capabilities, and four bytes that are reserved.
 fn put_features(out: &mut Vec<u8>, dpid: u64) -> Result<(), AllocError>
     ensures { OnOk result (out.new.items ≡ out.old.items ++ features_body dpid) }
 {
     put_u64(out, dpid)?;
-    put_u32(out, 0)?;
+    put_u32(out, BUFFERS)?;
     out.extend_from_slice(&[TABLES, 0, 0, 0])?;
     put_u32(out, CAPABILITIES)?;
     put_u32(out, 0)
 }
 
-/// The FEATURES_REPLY of the switch with that datapath id: 16 tables, and no buffers (OpenFlow 1.3.5, 7.3.1).
+/// The FEATURES_REPLY of the switch with that datapath id: 16 tables, and 256 buffers (OpenFlow 1.3.5, 7.3.1).
 #[tactic(auto, using(crate::proofs::Lengths::features_reply_is))]
 pub fn write_features_reply(alloc: Global, xid: u32, dpid: u64) -> Result<MessageBytes, AllocError>
     ensures { IfOk result (λ bytes. bytes ≡ features_reply_bytes xid dpid) }

@@ -59,7 +59,7 @@ pub struct FlowMod {
     /// In seconds; 0 for none.
     pub hard_timeout: u16,
     pub priority: u16,
-    /// The buffered packet that the flow is applied to; OFP_NO_BUFFER for none.
+    /// The held packet that runs through the tables after an ADD or a MODIFY; OFP_NO_BUFFER for none. A DELETE ignores it.
     pub buffer: u32,
     pub out_port: u32,
     pub out_group: u32,
@@ -73,9 +73,9 @@ pub struct FlowMod {
 /// The packet that a PACKET_OUT sends (OpenFlow 1.3.5, 7.3.7).
 #[derive(Debug, Drop)]
 pub enum PacketData {
-    /// The buffered packet of this number.
+    /// The packet that is held under this id; what follows the actions is ignored.
     Buffered(u32),
-    /// A frame of 14 to 9,216 bytes.
+    /// With OFP_NO_BUFFER, the frame of 14 to 9,216 bytes that follows the actions.
     Frame(Bytes),
 }
 
@@ -88,9 +88,13 @@ pub struct PacketOut {
     pub packet: PacketData,
 }
 
-/// What a PACKET_IN says of a frame (OpenFlow 1.3.5, 7.4.1).
+/// What a PACKET_IN says of a frame, besides its data (OpenFlow 1.3.5, 7.4.1).
 #[derive(Clone, Copy, Debug, PartialEq, Eq)]
 pub struct PacketIn {
+    /// The id under which the frame is held; OFP_NO_BUFFER, 0xffffffff, where it is not.
+    pub buffer: u32,
+    /// The length of the frame, in bytes, of which the data are the first.
+    pub total_len: u16,
     pub reason: PacketInReason,
     pub table: u8,
     pub cookie: u64,

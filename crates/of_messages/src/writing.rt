@@ -109,11 +109,11 @@ pub fn write_flow_removed(
 }
 
 // The fields before the match, 16 bytes.
-fn put_packet_in(out: &mut Vec<u8>, packet: &PacketIn, size: u16) -> Result<(), AllocError>
-    ensures { OnOk result (out.new.items ≡ out.old.items ++ packet_in_fixed_part packet.now size) }
+fn put_packet_in(out: &mut Vec<u8>, packet: &PacketIn) -> Result<(), AllocError>
+    ensures { OnOk result (out.new.items ≡ out.old.items ++ packet_in_fixed_part packet.now) }
 {
-    put_u32(out, 0xffff_ffff)?;
-    put_u16(out, size)?;
+    put_u32(out, packet.buffer)?;
+    put_u16(out, packet.total_len)?;
     out.extend_from_slice(&[packet.reason.number(), packet.table])?;
     put_u64(out, packet.cookie)
 }
@@ -143,24 +143,24 @@ fn packet_fields_size(in_port: u32, metadata: u64) -> usize
     if metadata == 0 { 16 } else { 24 }
 }
 
-/// The PACKET_IN of a frame, which is whole in it (OpenFlow 1.3.5, 7.4.1).
+/// The PACKET_IN of a frame, whose first bytes are the data: all of them, unless the frame is held (OpenFlow 1.3.5, 7.4.1).
 ///
-/// The frame has at most 65,485 bytes, so that the message's length fits its field.
+/// The data have at most 65,485 bytes, so that the message's length fits its field.
 pub fn write_packet_in(
     alloc: Global,
     xid: u32,
     packet: &PacketIn,
-    frame: &[u8],
+    data: &[u8],
 ) -> Result<MessageBytes, AllocError>
-    requires { length frame.now ≤ 65485 }
-    ensures { IfOk result (λ bytes. bytes ≡ packet_in_bytes xid packet.now frame.now) }
+    requires { length «data».now ≤ 65485 }
+    ensures { IfOk result (λ bytes. bytes ≡ packet_in_bytes xid packet.now «data».now) }
 {
-    let length = 26 + packet_fields_size(packet.in_port, packet.metadata) + frame.len();
+    let length = 26 + packet_fields_size(packet.in_port, packet.metadata) + data.len();
     let mut out = Vec::with_capacity(alloc, length)?;
     put_header(&mut out, 10, length, xid)?;
-    put_packet_in(&mut out, packet, frame.len() as u16)?;
+    put_packet_in(&mut out, packet)?;
     put_packet_fields(&mut out, packet.in_port, packet.metadata)?;
     out.extend_from_slice(&[0, 0])?;
-    out.extend_from_slice(frame)?;
+    out.extend_from_slice(data)?;
     Ok(MessageBytes::new(Bytes::new(out)))
 }

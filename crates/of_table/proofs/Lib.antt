@@ -13,3 +13,4 @@ pub mod Unlike
 pub mod CheckLemmas
 pub mod DeadlineLemmas
 pub mod SpanLemmas
+pub mod CopiedLemmas

@@ -7,3 +7,4 @@ pub mod Sound
 pub mod Copies
 pub mod Deadlines
 pub mod Spans
+pub mod Copied

@@ -16,6 +16,7 @@ ghost use Rattle.of_table.specs.Faults.{fault_in};
 ghost use Rattle.of_table.specs.Sound.{AreSound, are_fit, key_of, are_unlike};
 ghost use Rattle.of_actions.specs.FlowCheck.{all_go_with};
 
+use crate::copied::copy_entries;
 use crate::copies::Copies;
 use crate::deadlines::{earliest, flow_deadline};
 use crate::entries::{count_at, is_overlapped, new_entry, push_reserved, put_last, settle};
@@ -79,6 +80,28 @@ impl<L: Lookup> FlowTable<L> {
             due: u64::MAX,
             lookups: 0,
             matched: 0,
+        })
+    }
+
+    /// A copy: its counters, and its entries, oldest first, each with its flow, its counters and its times.
+    ///
+    /// The classifier of the copy gives them numbers of its own.
+    pub fn copy(&self) -> Result<Self, AllocError>
+        ensures { IfOk result (λ copy. table_of copy ≡ table_of self.now) }
+    {
+        let alloc = *self.entries.allocator();
+        let mut lookup = L::empty(alloc)?;
+        let entries = copy_entries(alloc, self.entries(), &mut lookup)?;
+        let mut places = Vec::new(alloc);
+        note_places(&mut places, &entries, 0);
+        Ok(FlowTable {
+            lookup,
+            entries,
+            replaced: 0,
+            places,
+            due: self.due,
+            lookups: self.lookups,
+            matched: self.matched,
         })
     }
 

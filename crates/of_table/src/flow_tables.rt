@@ -6,13 +6,15 @@ ghost use Rattle.of_headers.specs.FieldMap.{value};
 ghost use Rattle.of_wire.specs.Numbered.{is_distinct};
 ghost use Rattle.of_table.specs.Table.{winner_place, flow_at};
 ghost use Rattle.of_table.specs.Selecting.{notices_of, all_told};
-ghost use Rattle.of_table.specs.Entries.{no_entries, flows_of, rows_of, place_of, is_there, find_number, entry_number};
-ghost use Rattle.of_table.specs.Tables.{no_tables, AddsFlow, numbered_at, table_at, tables_of, all_numbers, tables_fault, added_to, modified_in, left_in, notices_in, looked_in, matched_in, all_modified, all_kept, each_from, kept_table, told_from, told_in};
+ghost use Rattle.of_table.specs.Entries.{no_entries, table_of, flows_of, rows_of, place_of, is_there, find_number, entry_number};
+ghost use Rattle.of_table.specs.Tables.{no_tables, AddsFlow, numbered_at, table_at, with_table, tables_of, all_numbers, tables_fault, added_to, modified_in, left_in, notices_in, looked_in, matched_in, all_modified, all_kept, each_from, kept_table, told_from, told_in};
+ghost use Rattle.of_table.specs.Copied.{swapped_in, swapped_out};
 ghost use Rattle.of_table.specs.Faults.{fault_in};
 ghost use Rattle.of_table.specs.Sound.{AreForAll, AreSound};
 ghost use Rattle.of_actions.specs.FlowCheck.{all_go_with};
 ghost use Rattle.of_actions.specs.InstructionLists.{are_for};
 
+use crate::copied::Copied;
 use crate::copies::Copies;
 use crate::each_table::{copies_for_all, list_all, modify_tables, remove_all};
 use crate::entry::Entry;
@@ -26,6 +28,7 @@ use of_classifier::Lookup;
 use of_headers::FieldKey;
 use std::alloc::{AllocError, Global};
 use std::marker::Model;
+use std::mem;
 
 /// How many tables a switch has.
 const TABLES: usize = 16;
@@ -157,6 +160,29 @@ impl<L: Lookup> FlowTables<L> {
     {
         remove_all(&mut self.tables, cause);
         self.latest = latest;
+    }
+
+    /// A copy of a table: its counters, and its entries in their order by age, each with its flow, its counters and its times.
+    ///
+    /// The classifier of the copy gives them numbers of its own.
+    pub fn copy_of(&self, table: u8) -> Result<Copied<L>, AllocError>
+        requires { table < 16 }
+        ensures table { IfOk result (λ copied. copied.table ≡ table) }
+        ensures copy { IfOk result (λ copied. table_of copied.copy ≡ table_at table (tables_of self.now)) }
+    {
+        let copy = self.tables[table as usize].copy()?;
+        Ok(Copied { table, copy })
+    }
+
+    /// The copy of a table and that table change places.
+    ///
+    /// It takes no memory. The other tables stay, and so does the latest moment.
+    pub fn swap(&mut self, copied: &mut Copied<L>)
+        ensures tables { tables_of self.new ≡ with_table copied.old.table (table_of copied.old.copy) (tables_of self.old) }
+        ensures numbers { self.new ≡ swapped_in copied.old self.old }
+        ensures copied { copied.new ≡ swapped_out copied.old self.old }
+    {
+        mem::swap(&mut self.tables[copied.table as usize], &mut copied.copy);
     }
 
     /// The number of the entry of a table that a packet of this key hits, or `None` where it misses (OpenFlow 1.3.5, 5.3).

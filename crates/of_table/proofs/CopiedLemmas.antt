@@ -1,0 +1,52 @@
+-- Copies of flow tables.
+use Rattle.std.proofs.Common.{◌≡◌, ℕ, ◌<◌, List, length, get_or, set, refl, sym, ap, ◌∙◌}
+use Rattle.std.specs.Prelude.{map, slice_index_or}
+use Rattle.std.proofs.lemmas.List.{map-set, set-set, set-get_or}
+use Rattle.std.specs.List.{list_all}
+use Rattle.std.proofs.Math.ListN.{get_or-map}
+use Rattle.std.proofs.lemmas.List.Folds.{list_all-map}
+use Rattle.of_table.specs.declared.entry.Entry.{Entry}
+use Rattle.of_table.specs.declared.selection.Cause.TheVariants.{Moment}
+use Rattle.of_table.specs.Table.{Table, empty_table}
+use Rattle.of_table.specs.Entries.{Numbered, no_entries, table_of, entry_of, flows_of}
+use Rattle.of_table.specs.Selecting.{stays}
+use Rattle.of_table.specs.Tables.{Tables, NumberedTables, table_at, with_table, tables_of}
+use Rattle.of_table.specs.Copied.{NumberedCopy, swapped_in, swapped_out}
+use Rattle.of_table.specs.Deadlines.{NoneOver}
+use Rattle.of_table.specs.Sound.{AreSound, AllSound}
+use Rattle.of_table.proofs.Soundness.{sound_everywhere}
+use Rattle.of_table.proofs.TablesLemmas.{table_is}
+
+-- ---- when entries expire is in their flows and times, whatever their numbers
+
+pub copies_stay : (due : ℕ) (es copies : List Entry) → flows_of copies ≡ flows_of es → NoneOver due es → NoneOver due copies
+copies_stay due es copies same none at lt =
+    sym (list_all-map (stays (Moment at)) entry_of copies) ∙ ap (list_all (stays (Moment at))) same ∙ list_all-map (stays (Moment at)) entry_of es ∙ none at lt
+
+-- ---- a copy and its table change places
+
+-- the table that is taken out is sound
+pub taken_sound : (k : ℕ) (ns : List Numbered) (t d : Numbered) → k < length ns → t ≡ get_or ns k d → AllSound 0 (map table_of ns) → AreSound k (flows_of t.entries)
+taken_sound k ns t d lt is s =
+    let there : AreSound k (slice_index_or (map table_of ns) k empty_table).flows = sound_everywhere ns k _ refl s in
+    let same : slice_index_or (map table_of ns) k empty_table ≡ table_of t = get_or-map table_of ns k no_entries ∙ ap table_of (sym (table_is ns k t d lt is)) in
+    rw same at there
+
+pub swapped_back : (c : NumberedCopy) (n : NumberedTables) → swapped_in (swapped_out c n) (swapped_in c n) ≡ n
+swapped_back c n =
+    let tables : set (set n.tables c.table c.copy) c.table (slice_index_or n.tables c.table no_entries) ≡ n.tables = set-set n.tables c.table c.copy (slice_index_or n.tables c.table no_entries) ∙ set-get_or n.tables c.table no_entries in
+    λ j. record { tables = tables j; latest = n.latest }
+
+pub unseen : (c : NumberedCopy) (n : NumberedTables) → table_of c.copy ≡ table_at c.table (tables_of n) → tables_of (swapped_in c n) ≡ tables_of n
+unseen c n same =
+    let ts : List Table = map table_of n.tables in
+    let tables : map table_of (set n.tables c.table c.copy) ≡ ts = map-set table_of n.tables c.table c.copy ∙ ap (set ts c.table) same ∙ set-get_or ts c.table empty_table in
+    λ j. record { tables = tables j; latest = n.latest }
+
+pub restored : (c : NumberedCopy) (t : Table) (before after : NumberedTables) → table_of c.copy ≡ table_at c.table (tables_of before) → tables_of after ≡ with_table c.table t (tables_of before) → tables_of (swapped_in c after) ≡ tables_of before
+restored c t before after same is =
+    let ts : List Table = map table_of before.tables in
+    let changed : map table_of after.tables ≡ set ts c.table t = ap (λ (x : Tables). x.tables) is in
+    let latest : after.latest ≡ before.latest = ap (λ (x : Tables). x.latest) is in
+    let tables : map table_of (set after.tables c.table c.copy) ≡ ts = map-set table_of after.tables c.table c.copy ∙ (λ j. set (changed j) c.table (same j)) ∙ set-set ts c.table t (slice_index_or ts c.table empty_table) ∙ set-get_or ts c.table empty_table in
+    λ j. record { tables = tables j; latest = latest j }
