@@ -27,6 +27,7 @@ use Rattle.of_messages.specs.declared.message.Message.TheVariants.{FlowMod as Is
 use Rattle.of_messages.specs.Written.{flow_mod_bytes, flow_mod_fixed_part}
 use Rattle.of_messages.proofs.Appended.{length_flow_mod}
 use Rattle.of_build.specs.Building.{add_of, add_lines}
+use Rattle.of_buffers.specs.Buffers.{none_held}
 use Rattle.of_switch.specs.declared.event.Event.{Event}
 use Rattle.of_switch.specs.declared.event.Event.TheVariants.{Piece}
 use Rattle.of_switch.specs.Commands.{flow_mod_refusals, flow_of, has_flag, names_absent_group}
@@ -122,7 +123,7 @@ and_low true c h = h
 and_low false c h = refl
 
 not_refused : (gs : List TextGroup) (ts : Tables) (f : TextFlow) → f.head.table < 16 → bit_and f.head.flags 25 ≡ f.head.flags → list_any (names_absent gs) f.steps ≡ false → length (table_at f.head.table ts).flows < 4096
-    → first_of (flow_mod_refusals (add_of f) ts (groups_at 0 gs)) ≡ None
+    → first_of (flow_mod_refusals (add_of f) ts (groups_at 0 gs) none_held) ≡ None
 not_refused gs ts f low flags there room =
     let named : names_absent_group (groups_at 0 gs) (instructions_of f) ≡ false = steps_named gs f.steps ∙ there in
     let high : nat_le 16 f.head.table ≡ false = grind (arith, nat_tests) in

@@ -6,6 +6,7 @@ use Rattle.of_messages.specs.Heads.{header_length}
 use Rattle.of_messages.specs.Written.{message}
 use Rattle.of_messages.proofs.Lengths.{is_message}
 use Rattle.of_session.specs.Stream.{IsMessage, length_of}
+use Rattle.of_buffers.specs.Buffers.{none_held}
 use Rattle.of_switch.specs.Control.{new_control}
 use Rattle.of_switch.specs.State.{Core}
 
@@ -17,4 +18,4 @@ one_message kind xid body few =
 
 -- a switch with that datapath_id, with these groups and tables
 abbrev pub built : ℕ → List Group → Tables → Core
-built dpid groups tables = record { dpid = dpid; control = new_control; forwarding = record { tables = tables; groups = groups; ports = [] } }
+built dpid groups tables = record { dpid = dpid; control = new_control; forwarding = record { tables = tables; groups = groups; ports = []; held = none_held } }

@@ -48,6 +48,7 @@ use Rattle.of_text.proofs.StandLemmas.{flow_again}
 use Rattle.of_switch.specs.Commands.{flags_of}
 use Rattle.of_switch.specs.Configuring.{AreKeptEntries, AreKeptFrom}
 use Rattle.of_switch.specs.Loading.{loaded, loaded_entry, loaded_table, flow_kept, entry_text, table_text, texts_from, config_of}
+use Rattle.of_buffers.specs.Buffers.{HeldFrames}
 use Rattle.of_switch.specs.Numbers.{forwarding_of}
 use Rattle.of_switch.specs.Standing.{names_existing_groups, all_name_existing_groups, is_numbered, GroupsExist}
 use Rattle.of_switch.specs.State.{State}
@@ -368,9 +369,9 @@ texts_length : (k : ℕ) (ts : List Table) → length (texts_from k ts) ≡ leng
 texts_length k [] = refl
 texts_length k (t ∷ ts) = ap suc (texts_length (suc k) ts)
 
-pub kept_config : (n : NumberedTables) (gs : List Group) (ports : List Port) (groups : List TextGroup) (tables : List (List TextFlow)) → length n.tables ≡ 16 → ((k : ℕ) → AreSound k (table_at k (tables_of n)).flows) → AreSoundGroups gs → GroupsExist (forwarding_of n gs ports)
+pub kept_config : (n : NumberedTables) (gs : List Group) (ports : List Port) (held : HeldFrames) (groups : List TextGroup) (tables : List (List TextFlow)) → length n.tables ≡ 16 → ((k : ℕ) → AreSound k (table_at k (tables_of n)).flows) → AreSoundGroups gs → GroupsExist (forwarding_of n gs ports held)
     → groups ≡ map group_text gs → AllByRecursion Fits (rows_of_groups groups) → tables ≡ texts_from 0 (tables_of n).tables → AreKeptFrom 0 (tables_of n).tables → IsKeptConfig (record { groups = groups; tables = tables })
-kept_config n gs ports groups tables many sound groups_sound standing g fits t kept =
+kept_config n gs ports held groups tables many sound groups_sound standing g fits t kept =
     let count : length (texts_from 0 (tables_of n).tables) ≡ 16 = texts_length 0 (tables_of n).tables ∙ (length-map n.tables table_of ∙ many) in
     let groups_are : AreKeptGroups (map group_text gs) = groups_kept gs groups_sound standing.numbers (rw g at fits) in
     let tables_are = tables_kept gs 0 (tables_of n).tables (λ j l. let zero_is : 0 + j ≡ j = omega arith in subst (λ (m : ℕ). AreSound m (table_at j (tables_of n)).flows) (sym zero_is) (sound j)) kept standing.entries in

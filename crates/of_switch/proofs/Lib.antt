@@ -5,6 +5,7 @@ pub mod Looking
 pub mod Prefixes
 pub mod Hearing
 pub mod Tallying
+pub mod Telling
 pub mod Forwarding
 pub mod Draining
 pub mod Joining

@@ -42,6 +42,7 @@ use Rattle.of_switch.specs.declared.plan.Change.TheVariants.{Nothing, Counts, Re
 use Rattle.of_switch.specs.declared.plan.Reception.{Reception}
 use Rattle.of_switch.specs.Commands.{names_absent_group, is_to_absent_group}
 use Rattle.of_switch.specs.Loading.{loaded_entry, loaded_table, loaded_tables}
+use Rattle.of_buffers.specs.Buffers.{HeldFrames}
 use Rattle.of_switch.specs.Numbers.{forwarding_of, all_placed}
 use Rattle.of_switch.specs.Plane.{Forwarding, idle, count_port, tallied, all_tallied, sent, all_sent}
 use Rattle.of_switch.specs.Plans.{with_reception, changed, planned}
@@ -286,6 +287,9 @@ tables_stand ts f h k = record { entries = h; numbers = k.numbers }
 pub ports_stand : (ports : List Port) (f : Forwarding) → GroupsExist f → GroupsExist (record f { ports = ports })
 ports_stand ports f k = record { entries = k.entries; numbers = k.numbers }
 
+pub held_stands : (held : HeldFrames) (f : Forwarding) → GroupsExist f → GroupsExist (record f { held = held })
+held_stands held f k = record { entries = k.entries; numbers = k.numbers }
+
 tallied_stands : (c : Count) (f : Forwarding) → GroupsExist f → GroupsExist (tallied c f)
 tallied_stands (Lookup t) f k = tables_stand (looked_in t f.tables) f (looked_stands f.groups t f.tables k.entries) k
 tallied_stands (Matched t place bytes) f k = tables_stand (matched_in t place bytes f.tables) f (matched_stands f.groups t place bytes f.tables k.entries) k
@@ -312,12 +316,12 @@ reception_stands (Some r) f k = ports_stand _ f k
 
 changed_stands : (c : Change) (es : List Effect) (n : NumberedTables) (f : Forwarding) → GroupsExist f → GroupsExist (changed c es n f)
 changed_stands Nothing es n f k = k
-changed_stands (Counts reception counts) es n f k = all_sent_stand es _ (all_tallied_stand (all_placed n counts.items) _ (reception_stands reception f k))
+changed_stands (Counts reception id frames counts) es n f k = all_sent_stand es _ (all_tallied_stand (all_placed n counts.items) _ (held_stands _ _ (reception_stands reception f k)))
 changed_stands (Removal cause) es n f k = tables_stand (left_in cause f.tables) f (left_stands f.groups cause f.tables k.entries) k
 
 -- a plan is carried out
-pub plan_stands : (plan : Plan) (n : NumberedTables) (groups : List Group) (ports : List Port) (new : Forwarding) → new ≡ (planned plan n groups ports).forwarding → GroupsExist (forwarding_of n groups ports) → GroupsExist new
-plan_stands plan n groups ports new e k = subst GroupsExist (sym e) (changed_stands plan.change plan.effects.items n (forwarding_of n groups ports) k)
+pub plan_stands : (plan : Plan) (n : NumberedTables) (groups : List Group) (ports : List Port) (held : HeldFrames) (new : Forwarding) → new ≡ (planned plan n groups ports held).forwarding → GroupsExist (forwarding_of n groups ports held) → GroupsExist new
+plan_stands plan n groups ports held new e k = subst GroupsExist (sym e) (changed_stands plan.change plan.effects.items n (forwarding_of n groups ports held) k)
 
 -- ---- what a FLOW_MOD adds and modifies
 
@@ -352,8 +356,8 @@ numbers_loaded : (now : ℕ) (gs : List TextGroup) → AllByRecursion (λ (g : T
 numbers_loaded now [] h = refl
 numbers_loaded now (g ∷ gs) h = and_from _ _ (le-leb g.head.id 0xffffff00 h.0) (numbers_loaded now gs h.1)
 
-pub loaded_stands : (now : ℕ) (c : Configuration) (groups : List Group) (tables : Tables) (ports : List Port) → IsConfig c → groups ≡ groups_at now c.groups → tables ≡ loaded_tables now c.tables → GroupsExist (record { tables = tables; groups = groups; ports = ports })
-loaded_stands now c groups tables ports k g t =
+pub loaded_stands : (now : ℕ) (c : Configuration) (groups : List Group) (tables : Tables) (ports : List Port) (held : HeldFrames) → IsConfig c → groups ≡ groups_at now c.groups → tables ≡ loaded_tables now c.tables → GroupsExist (record { tables = tables; groups = groups; ports = ports; held = held })
+loaded_stands now c groups tables ports held k g t =
     let many : length c.tables ≡ 16 = ap length k.filled ∙ sixteen k.flows in
     rw (g, t) (record {
       entries = tables_loaded now c.groups c.tables (λ n l. config_stands c k n (omega (arith, l, many)));

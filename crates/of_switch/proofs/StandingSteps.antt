@@ -12,6 +12,7 @@ use Rattle.of_table.specs.Tables.{Tables, NumberedTables, tables_of, added_to, m
 use Rattle.of_switch.specs.declared.plan.Plan.{Plan}
 use Rattle.of_switch.specs.declared.plan.Change.TheVariants.{Removal}
 use Rattle.of_switch.specs.Commands.{names_absent_group}
+use Rattle.of_buffers.specs.Buffers.{HeldFrames}
 use Rattle.of_switch.specs.Numbers.{Contents, contents, forwarding_of}
 use Rattle.of_switch.specs.Plane.{Forwarding}
 use Rattle.of_switch.specs.Plans.{changed, planned}
@@ -19,23 +20,23 @@ use Rattle.of_switch.specs.Standing.{GroupsExist}
 use Rattle.of_switch.proofs.StandingLemmas.{plan_stands, flow_stands, modify_stands, put_stands, groups_left_stand}
 
 -- a plan that was made of these is carried out
-pub carried_stands : (plan : Plan) (n m : NumberedTables) (gs hs : List Group) (ps qs : List Port) (new : Forwarding) → contents m hs qs ≡ contents n gs ps → new ≡ (planned plan m hs qs).forwarding → GroupsExist (forwarding_of n gs ps) → GroupsExist new
-carried_stands plan n m gs hs ps qs new same e k = plan_stands plan m hs qs new e (subst (λ (x : Contents). GroupsExist (forwarding_of x.tables x.groups x.ports x.held)) (sym same) k)
+pub carried_stands : (plan : Plan) (n m : NumberedTables) (gs hs : List Group) (ps qs : List Port) (b d : HeldFrames) (new : Forwarding) → contents m hs qs d ≡ contents n gs ps b → new ≡ (planned plan m hs qs d).forwarding → GroupsExist (forwarding_of n gs ps b) → GroupsExist new
+carried_stands plan n m gs hs ps qs b d new same e k = plan_stands plan m hs qs d new e (subst (λ (x : Contents). GroupsExist (forwarding_of x.tables x.groups x.ports x.held)) (sym same) k)
 
-pub flow_put : {A E : Type 0} (r : Result A E) (k : ℕ) (flow : Flow) (n m : NumberedTables) (gs : List Group) (ps : List Port) → OnOk r (tables_of m ≡ added_to k flow (tables_of n)) → OnErr r (m ≡ n) → names_absent_group gs flow.instructions ≡ false → GroupsExist (forwarding_of n gs ps) → GroupsExist (forwarding_of m gs ps)
-flow_put (Ok a) k flow n m gs ps ok err h s = flow_stands k flow (forwarding_of n gs ps) (tables_of m) ok h s
-flow_put (Err x) k flow n m gs ps ok err h s = subst (λ (x : NumberedTables). GroupsExist (forwarding_of x gs ps)) (sym err) s
+pub flow_put : {A E : Type 0} (r : Result A E) (k : ℕ) (flow : Flow) (n m : NumberedTables) (gs : List Group) (ps : List Port) (b : HeldFrames) → OnOk r (tables_of m ≡ added_to k flow (tables_of n)) → OnErr r (m ≡ n) → names_absent_group gs flow.instructions ≡ false → GroupsExist (forwarding_of n gs ps b) → GroupsExist (forwarding_of m gs ps b)
+flow_put (Ok a) k flow n m gs ps b ok err h s = flow_stands k flow (forwarding_of n gs ps b) (tables_of m) ok h s
+flow_put (Err x) k flow n m gs ps b ok err h s = subst (λ (x : NumberedTables). GroupsExist (forwarding_of x gs ps b)) (sym err) s
 
-pub flows_changed : {A E : Type 0} (r : Result A E) (w : Selector) (is : List Instruction) (reset : Bool) (n m : NumberedTables) (gs : List Group) (ps : List Port) → OnOk r (tables_of m ≡ modified_in w is reset (tables_of n)) → OnErr r (m ≡ n) → names_absent_group gs is ≡ false → GroupsExist (forwarding_of n gs ps) → GroupsExist (forwarding_of m gs ps)
-flows_changed (Ok a) w is reset n m gs ps ok err h s = modify_stands w is reset (forwarding_of n gs ps) (tables_of m) ok h s
-flows_changed (Err x) w is reset n m gs ps ok err h s = subst (λ (x : NumberedTables). GroupsExist (forwarding_of x gs ps)) (sym err) s
+pub flows_changed : {A E : Type 0} (r : Result A E) (w : Selector) (is : List Instruction) (reset : Bool) (n m : NumberedTables) (gs : List Group) (ps : List Port) (b : HeldFrames) → OnOk r (tables_of m ≡ modified_in w is reset (tables_of n)) → OnErr r (m ≡ n) → names_absent_group gs is ≡ false → GroupsExist (forwarding_of n gs ps b) → GroupsExist (forwarding_of m gs ps b)
+flows_changed (Ok a) w is reset n m gs ps b ok err h s = modify_stands w is reset (forwarding_of n gs ps b) (tables_of m) ok h s
+flows_changed (Err x) w is reset n m gs ps b ok err h s = subst (λ (x : NumberedTables). GroupsExist (forwarding_of x gs ps b)) (sym err) s
 
-pub group_put : (g : Group) (n : NumberedTables) (gs hs : List Group) (ps : List Port) → g.id ≤ 0xffffff00 → hs ≡ with_group g gs → GroupsExist (forwarding_of n gs ps) → GroupsExist (forwarding_of n hs ps)
-group_put g n gs hs ps small e s = subst (λ (x : List Group). GroupsExist (forwarding_of n x ps)) (sym e) (put_stands g (forwarding_of n gs ps) small s)
+pub group_put : (g : Group) (n : NumberedTables) (gs hs : List Group) (ps : List Port) (b : HeldFrames) → g.id ≤ 0xffffff00 → hs ≡ with_group g gs → GroupsExist (forwarding_of n gs ps b) → GroupsExist (forwarding_of n hs ps b)
+group_put g n gs hs ps b small e s = subst (λ (x : List Group). GroupsExist (forwarding_of n x ps b)) (sym e) (put_stands g (forwarding_of n gs ps b) small s)
 
 -- groups are removed, and then the entries that name them
-pub groups_gone : (which : Option ℕ) (plan : Plan) (n : NumberedTables) (gs hs : List Group) (ps : List Port) (new : Forwarding) → plan.change ≡ Removal (OfGroup which) → hs ≡ left which gs → new ≡ (planned plan n hs ps).forwarding → GroupsExist (forwarding_of n gs ps) → GroupsExist new
-groups_gone which plan n gs hs ps new c e f s =
-    let is : new ≡ record (forwarding_of n gs ps) { tables = left_in (OfGroup which) (tables_of n); groups = left which gs } =
-    f ∙ (ap (λ x. changed x plan.effects.items n (forwarding_of n hs ps)) c ∙ ap (λ (x : List Group). record (forwarding_of n x ps) { tables = left_in (OfGroup which) (tables_of n) }) e) in
-    subst GroupsExist (sym is) (groups_left_stand which (forwarding_of n gs ps) s)
+pub groups_gone : (which : Option ℕ) (plan : Plan) (n : NumberedTables) (gs hs : List Group) (ps : List Port) (b : HeldFrames) (new : Forwarding) → plan.change ≡ Removal (OfGroup which) → hs ≡ left which gs → new ≡ (planned plan n hs ps b).forwarding → GroupsExist (forwarding_of n gs ps b) → GroupsExist new
+groups_gone which plan n gs hs ps b new c e f s =
+    let is : new ≡ record (forwarding_of n gs ps b) { tables = left_in (OfGroup which) (tables_of n); groups = left which gs } =
+    f ∙ (ap (λ x. changed x plan.effects.items n (forwarding_of n hs ps b)) c ∙ ap (λ (x : List Group). record (forwarding_of n x ps b) { tables = left_in (OfGroup which) (tables_of n) }) e) in
+    subst GroupsExist (sym is) (groups_left_stand which (forwarding_of n gs ps b) s)

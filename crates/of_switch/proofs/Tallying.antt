@@ -6,17 +6,10 @@ use Rattle.std.specs.Prelude.{slice_index_or}
 use Rattle.std.proofs.Math.ListN.{get_or-map}
 use Rattle.of_table.specs.Entries.{no_entries, numbers_of}
 use Rattle.of_table.specs.Tables.{NumberedTables, all_numbers}
-use Rattle.of_machine.specs.declared.data.Item.{Item}
 use Rattle.of_machine.specs.declared.data.Count.{Count}
 use Rattle.of_machine.specs.declared.data.Count.TheVariants.{Lookup, Matched, TxDropped, Group, Bucket}
 use Rattle.of_switch.specs.declared.effect.Effect.{Effect}
 use Rattle.of_switch.specs.Plane.{Forwarding, tallied, all_tallied, sent, all_sent}
-use Rattle.std.specs.Prelude.{filter}
-use Rattle.std.proofs.lemmas.List.{map-append}
-use Rattle.std.proofs.lemmas.List.Elements.{filter-append}
-use Rattle.of_switch.specs.declared.control.AsyncConfig.{AsyncConfig}
-use Rattle.of_ports.specs.declared.port.Port.{Port}
-use Rattle.of_switch.specs.Told.{effect_of, effects_of, is_given}
 use Rattle.of_switch.specs.Numbers.{entries_at, placed, all_placed}
 
 -- a place depends on the numbers alone
@@ -44,7 +37,3 @@ pub sent_more : (effects : List Effect) (i : ℕ) (d x : Effect) (f f' whole : F
 sent_more effects i d x f f' whole lt is so step =
     let here : drop i effects ≡ x ∷ drop (suc i) effects = drop-cons effects i d lt ∙ ap (λ (y : Effect). y ∷ drop (suc i) effects) (sym is) in
     rw (add-one i, step) (ap (λ (es : List Effect). all_sent es f) (sym here) ∙ so)
-
--- one effect more
-pub effects_more : (heard : AsyncConfig) (ports : List Port) (items : List Item) (i : Item) → effects_of heard ports (items ++ i ∷ []) ≡ effects_of heard ports items ++ effects_of heard ports (i ∷ [])
-effects_more heard ports items i = rw (filter-append (is_given heard ports) items (i ∷ [])) (map-append effect_of (filter (is_given heard ports) items) (filter (is_given heard ports) (i ∷ [])))

@@ -13,9 +13,9 @@ ghost use Rattle.of_switch.specs.Configuring.{AreKeptFrom};
 ghost use Rattle.of_switch.specs.Numbers.{forwarding_of};
 ghost use Rattle.of_switch.specs.Standing.{GroupsExist};
 
+use crate::plane::Plane;
 use of_classifier::Lookup;
-use of_groups::{Group, Groups};
-use of_ports::Ports;
+use of_groups::Group;
 use of_table::{Entries, Flow, FlowTables};
 use of_text::{Config, FlowHead, FlowText, GroupText};
 use std::alloc::{AllocError, Global};
@@ -76,18 +76,13 @@ fn groups_text(alloc: Global, groups: &[Group]) -> Result<Vec<GroupText>, AllocE
     Ok(made)
 }
 
-/// The configuration of tables and groups: each group that an entry names has to exist.
-pub fn config_from<L: Lookup>(
-    alloc: Global,
-    tables: &FlowTables<L>,
-    groups: &Groups,
-    ports: &Ports,
-) -> Result<Config, AllocError>
-    requires { GroupsExist (forwarding_of tables.now groups.now ports.now held.now) }
-    ensures { IfOk result (λ config. config ≡ configuration_of (forwarding_of tables.now groups.now ports.now held.now)) }
+/// The configuration of the tables and groups: each group that an entry names has to exist.
+pub fn config_from<L: Lookup>(alloc: Global, plane: &Plane<L>) -> Result<Config, AllocError>
+    requires { GroupsExist (forwarding_of plane.now.tables plane.now.groups plane.now.ports plane.now.held) }
+    ensures { IfOk result (λ config. config ≡ configuration_of (forwarding_of plane.now.tables plane.now.groups plane.now.ports plane.now.held)) }
 {
-    tables.known();
-    let flows = tables_text(alloc, tables)?;
-    let groups = groups_text(alloc, groups.groups())?;
+    plane.tables.known();
+    let flows = tables_text(alloc, &plane.tables)?;
+    let groups = groups_text(alloc, plane.groups.groups())?;
     Ok(Config::of(groups, flows))
 }

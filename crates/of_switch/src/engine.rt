@@ -407,6 +407,7 @@ impl<L: Lookup> Engine<L> {
             tables,
             groups,
             ports,
+            ..
         } = &self.plane;
         let alloc = self.alloc;
         match request {
@@ -685,12 +686,7 @@ impl<L: Lookup> Engine<L> {
     pub fn config(&self) -> Result<Config, AllocError>
         ensures { IfOk result (λ config. config ≡ configuration_of self.now.forwarding) }
     {
-        let Plane {
-            tables,
-            groups,
-            ports,
-        } = &self.plane;
-        config_from(self.alloc, tables, groups, ports)
+        config_from(self.alloc, &self.plane)
     }
 
     /// The time is this many nanoseconds. The controller receives the asynchronous messages `heard`.

@@ -13,4 +13,4 @@ returns-in_err-add g c =
     rw (← c.self.view_is, p.1, p.2, c.in_err-add.ensures.err) (fault_or_memory (Unit {0}) c.in_err-add.field-0.0 _ (group_added a.id a.kind a.buckets a.self.now) _ _ fault refl)
 
 pub invariant_of-self-2 : goal.invariant_of-self-2
-invariant_of-self-2 g c = group_put _ _ _ _ _ c.requires c.in_ok-add.ensures.ok c.self.invariant
+invariant_of-self-2 g c = group_put _ _ _ _ _ _ c.requires c.in_ok-add.ensures.ok c.self.invariant

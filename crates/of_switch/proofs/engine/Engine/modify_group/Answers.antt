@@ -12,4 +12,4 @@ returns-in_err-modify g c =
     rw (← c.self.view_is, p.1, p.2, c.in_err-modify.ensures.err) (fault_told c.in_err-modify.field-0.0 _ (group_modified a.id a.kind a.buckets a.self.now) _ _ c.in_err-modify.ensures.fault refl)
 
 pub invariant_of-self-2 : goal.invariant_of-self-2
-invariant_of-self-2 g c = group_put _ _ _ _ _ c.requires c.in_ok-modify.ensures.ok c.self.invariant
+invariant_of-self-2 g c = group_put _ _ _ _ _ _ c.requires c.in_ok-modify.ensures.ok c.self.invariant

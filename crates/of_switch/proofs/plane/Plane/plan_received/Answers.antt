@@ -16,6 +16,6 @@ returns-clause-plan g c =
     let whole : c.new.result ≡ bytes = c.new.ensures in
     IfOk-weaker c.plan_of.result _ _
     (λ plan told. way_is c.args.heard (entering bytes c.args.number) _ (Lookup 0 ∷ []) now.tables now.groups now.ports
-    c.in_ok-outcome.outcome.items.items c.in_ok-outcome.outcome.counts.items plan.effects.items _ (count_port c.args.number (Received (length bytes)) f) (changed plan.change plan.effects.items now.tables f)
-    c.known.ensures.distinct (c.new-packet.ensures ∙ ap (λ (b : List ℕ). entering b c.args.number) whole) c.in_ok-outcome.ensures.items c.in_ok-outcome.ensures.counts (ap (λ (k : Contents). k.ports) c.run.ensures.content) (told now.tables f).0 (told now.tables f).1)
+    c.in_ok-outcome.outcome.items.items c.in_ok-outcome.outcome.counts.items plan.effects.items _ _ (count_port c.args.number (Received (length bytes)) f) (changed plan.change plan.effects.items now.tables f)
+    c.known.ensures.distinct (c.new-packet.ensures ∙ ap (λ (b : List ℕ). entering b c.args.number) whole) c.in_ok-outcome.ensures.items c.in_ok-outcome.ensures.counts (ap (λ (k : Contents). k.ports) c.run.ensures.content) (ap (λ (k : Contents). k.held.next) c.run.ensures.content) (told now.tables f).0 (told now.tables f).1)
     c.plan_of.ensures
