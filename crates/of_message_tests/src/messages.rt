@@ -38,6 +38,8 @@ const FRAME: [u8; 60] = [
 ];
 
 const NO_MATCH: PacketIn = PacketIn {
+    buffer: 0xffff_ffff,
+    total_len: 60,
     reason: PacketInReason::NoMatch,
     table: 0,
     cookie: 0,
@@ -46,11 +48,23 @@ const NO_MATCH: PacketIn = PacketIn {
 };
 
 const INVALID_TTL: PacketIn = PacketIn {
+    buffer: 0xffff_ffff,
+    total_len: 60,
     reason: PacketInReason::InvalidTtl,
     table: 2,
     cookie: 0,
     in_port: 1,
     metadata: 0x0102_0304_0506_0708,
+};
+
+const HELD: PacketIn = PacketIn {
+    buffer: 1,
+    total_len: 60,
+    reason: PacketInReason::NoMatch,
+    table: 0,
+    cookie: 0,
+    in_port: 1,
+    metadata: 0,
 };
 
 /// A message that is written.
@@ -60,6 +74,8 @@ enum Written {
     BarrierReply,
     Error(Code),
     PacketIn(PacketIn),
+    /// With the first 16 bytes of the frame.
+    StartOfHeld(PacketIn),
 }
 
 fn write(alloc: Global, message: &Written) -> Result<MessageBytes, AllocError> {
@@ -69,6 +85,7 @@ fn write(alloc: Global, message: &Written) -> Result<MessageBytes, AllocError> {
         Written::BarrierReply => write_barrier_reply(alloc, 7),
         Written::Error(code) => write_error(alloc, 5, *code, &[4, 99, 0, 8, 0, 0, 0, 5]),
         Written::PacketIn(packet) => write_packet_in(alloc, 0, packet, &FRAME),
+        Written::StartOfHeld(packet) => write_packet_in(alloc, 0, packet, &FRAME[..16]),
     }
 }
 
@@ -83,6 +100,7 @@ const WRITTEN: &[(Written, &str)] = &[
         Written::PacketIn(INVALID_TTL),
         rows::PACKET_IN_WITH_METADATA,
     ),
+    (Written::StartOfHeld(HELD), rows::PACKET_IN_OF_HELD),
 ];
 
 #[test]
@@ -188,5 +206,15 @@ fn packet_out(rt: HostRuntime) -> Result<(), Fail> {
 #[test]
 fn packet_out_of_a_buffer(rt: HostRuntime) -> Result<(), Fail> {
     let message = message_of(rt.alloc(), Kind::Message, rows::PACKET_OUT_BUFFERED)?;
+    is_packet_out(&rt, &message, 0xffff_fffd, Some(3))
+}
+
+#[test]
+fn what_follows_the_actions_of_a_buffer(rt: HostRuntime) -> Result<(), Fail> {
+    let message = message_of(
+        rt.alloc(),
+        Kind::Message,
+        rows::PACKET_OUT_BUFFERED_AND_MORE,
+    )?;
     is_packet_out(&rt, &message, 0xffff_fffd, Some(3))
 }

@@ -4,19 +4,22 @@ ghost use Rattle.of_actions.specs.InstructionLists.{are_for};
 mod scripts;
 
 use of_actions::{Action, ActionList, Instruction, InstructionList, check_flow};
-use of_classifier::Scan;
+use of_cache::Cached;
+use of_classifier::{Lookup, Scan};
 use of_headers::{FieldKey, read};
+use of_mask_groups::MaskGroups;
 use of_oxm::Match;
-use of_table::{Cause, Entry, Flow, FlowTables, Removed, Selector, TableFault};
+use of_table::{Cause, Copied, Entry, Flow, FlowTables, Removed, Selector, TableFault};
 use scripts::{
-    Change, EntryRow, FlowRow, GROUPS, Gone, MODIFIED, NOT_ADDED, Notice, Sight, Step, TIMEOUTS,
-    TWO_FLOWS,
+    COPIED, Change, EntryRow, FlowRow, GROUPS, Gone, MODIFIED, NOT_ADDED, Notice, Sight, Step,
+    TIMEOUTS, TWO_FLOWS,
 };
 use std::alloc::Global;
 use std::process::Abort;
 use std::test::Fail;
 
-type Tables = FlowTables<Scan>;
+/// How the running switch looks entries up.
+type Lookups = Cached<MaskGroups>;
 
 fn key_of_port(in_port: u32) -> Result<FieldKey, Fail> {
     Ok(read(&[0; 14], in_port, 0).ok().ok_or("a frame")?.key())
@@ -48,7 +51,7 @@ fn flow_of(alloc: Global, row: &FlowRow) -> Result<Flow, Fail> {
     let instructions = instructions_of(alloc, row)?;
     Ok(Flow {
         fields: Match::of_in_port(alloc, row.in_port)?,
-        priority: 5,
+        priority: row.priority,
         cookie: row.cookie,
         idle_timeout: row.idle_timeout,
         hard_timeout: row.hard_timeout,
@@ -58,7 +61,11 @@ fn flow_of(alloc: Global, row: &FlowRow) -> Result<Flow, Fail> {
 }
 
 // Adds a flow whose instructions are fit and go with its match.
-fn add(tables: &mut Tables, table: u8, flow: Flow) -> Result<Result<(), TableFault>, Fail> {
+fn add<L: Lookup>(
+    tables: &mut FlowTables<L>,
+    table: u8,
+    flow: Flow,
+) -> Result<Result<(), TableFault>, Fail> {
     if !flow.instructions.are_for(table) {
         return Err(Fail::from("GOTO_TABLE leads back"));
     }
@@ -100,7 +107,7 @@ fn output_to(alloc: Global, port: u32) -> Result<InstructionList, Fail>
     Ok(InstructionList::new(instructions).ok_or("one instruction is a list")?)
 }
 
-fn modify(alloc: Global, tables: &mut Tables, output: u32) -> Result<(), Fail> {
+fn modify<L: Lookup>(alloc: Global, tables: &mut FlowTables<L>, output: u32) -> Result<(), Fail> {
     let outputs = output_to(alloc, output)?;
     let which = which_of_port_one(alloc, None)?;
     if check_flow(&which.fields, outputs.as_slice()).is_err() {
@@ -109,15 +116,15 @@ fn modify(alloc: Global, tables: &mut Tables, output: u32) -> Result<(), Fail> {
     Ok(tables.modify(&which, &outputs, true)?)
 }
 
-fn looked(rt: &impl Abort, tables: &mut Tables, table: u8) {
+fn looked<L: Lookup>(rt: &impl Abort, tables: &mut FlowTables<L>, table: u8) {
     assert!(rt; table < 16);
     tables.looked(table);
 }
 
 // The cookie of the entry that a packet hits, which then counts so many bytes.
-fn hit(
+fn hit<L: Lookup>(
     rt: &impl Abort,
-    tables: &mut Tables,
+    tables: &mut FlowTables<L>,
     table: u8,
     in_port: u32,
     bytes: usize,
@@ -132,13 +139,23 @@ fn hit(
     Ok(Some(cookie))
 }
 
-fn is_missed(rt: &impl Abort, tables: &mut Tables, table: u8, in_port: u32) -> Result<bool, Fail> {
+fn is_missed<L: Lookup>(
+    rt: &impl Abort,
+    tables: &mut FlowTables<L>,
+    table: u8,
+    in_port: u32,
+) -> Result<bool, Fail> {
     assert!(rt; table < 16);
     let key = key_of_port(in_port)?;
     Ok(tables.lookup(table, &key).is_none())
 }
 
-fn peeked(rt: &impl Abort, tables: &Tables, table: u8, in_port: u32) -> Result<Option<u64>, Fail> {
+fn peeked<L: Lookup>(
+    rt: &impl Abort,
+    tables: &FlowTables<L>,
+    table: u8,
+    in_port: u32,
+) -> Result<Option<u64>, Fail> {
     assert!(rt; table < 16);
     let key = key_of_port(in_port)?;
     let Some(number) = tables.peek(table, &key) else {
@@ -148,12 +165,12 @@ fn peeked(rt: &impl Abort, tables: &Tables, table: u8, in_port: u32) -> Result<O
 }
 
 // How many packets were looked up in a table, and how many hit an entry.
-fn counters(rt: &impl Abort, tables: &Tables, table: u8) -> (u64, u64) {
+fn counters<L: Lookup>(rt: &impl Abort, tables: &FlowTables<L>, table: u8) -> (u64, u64) {
     assert!(rt; table < 16);
     (tables.lookups(table), tables.matched(table))
 }
 
-fn entry_count(rt: &impl Abort, tables: &Tables, table: u8) -> usize {
+fn entry_count<L: Lookup>(rt: &impl Abort, tables: &FlowTables<L>, table: u8) -> usize {
     assert!(rt; table < 16);
     tables.entries(table).count()
 }
@@ -162,6 +179,7 @@ fn is_entry(rt: &impl Abort, place: usize, entry: &Entry, wanted: &EntryRow) {
     assert_eq!(rt; entry.flow.cookie, wanted.cookie, "step {place}");
     assert_eq!(rt; entry.packets, wanted.packets, "step {place}");
     assert_eq!(rt; entry.bytes, wanted.bytes, "step {place}");
+    assert_eq!(rt; entry.created, wanted.created, "step {place}");
     assert_eq!(rt; entry.last, wanted.last, "step {place}");
     assert_eq!(rt;
         entry.flow.instructions.len(),
@@ -170,7 +188,13 @@ fn is_entry(rt: &impl Abort, place: usize, entry: &Entry, wanted: &EntryRow) {
     );
 }
 
-fn are_entries(rt: &impl Abort, place: usize, tables: &Tables, table: u8, wanted: &[EntryRow]) {
+fn are_entries<L: Lookup>(
+    rt: &impl Abort,
+    place: usize,
+    tables: &FlowTables<L>,
+    table: u8,
+    wanted: &[EntryRow],
+) {
     assert!(rt; table < 16);
     let mut entries = tables.entries(table);
     for row in wanted {
@@ -188,10 +212,10 @@ fn is_notice(rt: &impl Abort, place: usize, removed: &Removed<'_>, wanted: &Noti
     assert_eq!(rt; removed.entry.flow.cookie, wanted.cookie, "step {place}");
 }
 
-fn are_listed(
+fn are_listed<L: Lookup>(
     rt: &impl Abort,
     place: usize,
-    tables: &Tables,
+    tables: &FlowTables<L>,
     cause: &Cause,
     wanted: &[Notice],
 ) -> Result<(), Fail> {
@@ -203,11 +227,11 @@ fn are_listed(
     Ok(())
 }
 
-fn change(
+fn change<L: Lookup>(
     rt: &impl Abort,
     alloc: Global,
     place: usize,
-    tables: &mut Tables,
+    tables: &mut FlowTables<L>,
     change: Change,
 ) -> Result<(), Fail> {
     match change {
@@ -235,11 +259,11 @@ fn change(
     Ok(())
 }
 
-fn see(
+fn see<L: Lookup>(
     rt: &impl Abort,
     alloc: Global,
     place: usize,
-    tables: &Tables,
+    tables: &FlowTables<L>,
     sight: Sight,
 ) -> Result<(), Fail> {
     match sight {
@@ -271,13 +295,31 @@ fn see(
     Ok(())
 }
 
-fn play(rt: &impl Abort, alloc: Global, steps: &[Step]) -> Result<(), Fail> {
-    let mut tables = Tables::new(alloc)?;
+// A copy of a table, which is asked for again where there was no memory.
+fn copy<L: Lookup>(rt: &impl Abort, tables: &FlowTables<L>, table: u8) -> Result<Copied<L>, Fail> {
+    assert!(rt; table < 16);
+    match tables.copy_of(table) {
+        Ok(copied) => Ok(copied),
+        Err(_) => Ok(tables.copy_of(table)?),
+    }
+}
+
+fn swap<L: Lookup>(tables: &mut FlowTables<L>, copied: &mut Option<Copied<L>>) {
+    if let Some(copied) = copied {
+        tables.swap(copied);
+    }
+}
+
+fn play<L: Lookup>(rt: &impl Abort, alloc: Global, steps: &[Step]) -> Result<(), Fail> {
+    let mut tables = FlowTables::<L>::new(alloc)?;
     tables.known();
+    let mut copied = None;
     for (place, step) in steps.iter().enumerate() {
         match *step {
             Step::Do(it) => change(rt, alloc, place, &mut tables, it)?,
             Step::See(it) => see(rt, alloc, place, &tables, it)?,
+            Step::Copy(table) => copied = Some(copy(rt, &tables, table)?),
+            Step::Swap => swap(&mut tables, &mut copied),
         }
     }
     Ok(())
@@ -285,25 +327,35 @@ fn play(rt: &impl Abort, alloc: Global, steps: &[Step]) -> Result<(), Fail> {
 
 #[test]
 fn scan_of_two_flows(rt: HostRuntime) -> Result<(), Fail> {
-    play(&rt, rt.alloc(), TWO_FLOWS)
+    play::<Scan>(&rt, rt.alloc(), TWO_FLOWS)
 }
 
 #[test]
 fn why_a_flow_is_not_added(rt: HostRuntime) -> Result<(), Fail> {
-    play(&rt, rt.alloc(), NOT_ADDED)
+    play::<Scan>(&rt, rt.alloc(), NOT_ADDED)
 }
 
 #[test]
 fn modified_and_deleted(rt: HostRuntime) -> Result<(), Fail> {
-    play(&rt, rt.alloc(), MODIFIED)
+    play::<Scan>(&rt, rt.alloc(), MODIFIED)
 }
 
 #[test]
 fn flows_of_a_group(rt: HostRuntime) -> Result<(), Fail> {
-    play(&rt, rt.alloc(), GROUPS)
+    play::<Scan>(&rt, rt.alloc(), GROUPS)
 }
 
 #[test]
 fn hard_before_idle(rt: HostRuntime) -> Result<(), Fail> {
-    play(&rt, rt.alloc(), TIMEOUTS)
+    play::<Scan>(&rt, rt.alloc(), TIMEOUTS)
+}
+
+#[test]
+fn copied_and_put_back(rt: HostRuntime) -> Result<(), Fail> {
+    play::<Scan>(&rt, rt.alloc(), COPIED)
+}
+
+#[test]
+fn copied_by_the_running_switch(rt: HostRuntime) -> Result<(), Fail> {
+    play::<Lookups>(&rt, rt.alloc(), COPIED)
 }

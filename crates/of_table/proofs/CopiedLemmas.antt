@@ -1,16 +1,19 @@
 -- Copies of flow tables.
-use Rattle.std.proofs.Common.{◌≡◌, ℕ, ◌<◌, List, length, get_or, set, refl, sym, ap, ◌∙◌}
+use Rattle.std.proofs.Common.{◌≡◌, ◌≢◌, ℕ, zero, suc, ◌+◌, ◌<◌, Bool, false, cond, List, [], ◌∷◌, Some, length, get_or, set, refl, sym, ap, ◌∙◌, arith}
 use Rattle.std.specs.Prelude.{map, slice_index_or}
-use Rattle.std.proofs.lemmas.List.{map-set, set-set, set-get_or}
 use Rattle.std.specs.List.{list_all}
 use Rattle.std.proofs.Math.ListN.{get_or-map}
+use Rattle.std.proofs.lemmas.Bool.Decides.{nat_tests}
+use Rattle.std.proofs.lemmas.List.{map-set, set-set, set-get_or}
 use Rattle.std.proofs.lemmas.List.Folds.{list_all-map}
+use Rattle.of_actions.specs.declared.instruction.Instruction.{Instruction}
 use Rattle.of_table.specs.declared.entry.Entry.{Entry}
+use Rattle.of_table.specs.declared.selection.Selector.{Selector}
 use Rattle.of_table.specs.declared.selection.Cause.TheVariants.{Moment}
 use Rattle.of_table.specs.Table.{Table, empty_table}
 use Rattle.of_table.specs.Entries.{Numbered, no_entries, table_of, entry_of, flows_of}
-use Rattle.of_table.specs.Selecting.{stays}
-use Rattle.of_table.specs.Tables.{Tables, NumberedTables, table_at, with_table, tables_of}
+use Rattle.of_table.specs.Selecting.{stays, modified}
+use Rattle.of_table.specs.Tables.{Tables, NumberedTables, table_at, with_table, each_from, is_in, modified_table, modified_in, tables_of}
 use Rattle.of_table.specs.Copied.{NumberedCopy, swapped_in, swapped_out}
 use Rattle.of_table.specs.Deadlines.{NoneOver}
 use Rattle.of_table.specs.Sound.{AreSound, AllSound}
@@ -50,3 +53,31 @@ restored c t before after same is =
     let latest : after.latest ≡ before.latest = ap (λ (x : Tables). x.latest) is in
     let tables : map table_of (set after.tables c.table c.copy) ≡ ts = map-set table_of after.tables c.table c.copy ∙ (λ j. set (changed j) c.table (same j)) ∙ set-set ts c.table t (slice_index_or ts c.table empty_table) ∙ set-get_or ts c.table empty_table in
     λ j. record { tables = tables j; latest = latest j }
+
+-- ---- a MODIFY that names one table changes no other
+
+none_from : {X : Type 0} (f : ℕ → X → X) (m j : ℕ) (ts : List X) → ((i : ℕ) (t : X) → i ≢ m → f i t ≡ t) → m < j → each_from f j ts ≡ ts
+none_from f m j [] others lt = refl
+none_from f m j (t ∷ ts) others lt = λ i. others j t (omega arith) i ∷ none_from f m (suc j) ts others (omega arith) i
+
+one_from : {X : Type 0} (f : ℕ → X → X) (m j k : ℕ) (ts : List X) (d : X) → ((i : ℕ) (t : X) → i ≢ m → f i t ≡ t) → j + k ≡ m → each_from f j ts ≡ set ts k (f m (get_or ts k d))
+one_from f m j k [] d others is = refl
+one_from f m j zero (t ∷ ts) d others is =
+    let here : j ≡ m = omega (arith, is) in
+    λ i. f (here i) t ∷ none_from f m (suc j) ts others (omega (arith, is)) i
+one_from f m j (suc k) (t ∷ ts) d others is = λ i. others j t (omega (arith, is)) i ∷ one_from f m (suc j) k ts d others (omega (arith, is)) i
+
+not_named : (w : Selector) (is : List Instruction) (reset : Bool) (m : ℕ) → w.table ≡ Some m → (i : ℕ) (t : Table) → i ≢ m → modified_table w is reset i t ≡ t
+not_named w is reset m names i t apart =
+    let other : is_in w.table i ≡ false = rw names (grind (arith, nat_tests)) in
+    ap (λ (b : Bool). cond b (record t { flows = modified w is reset t.flows }) t) other
+
+one_modified : (w : Selector) (is : List Instruction) (reset : Bool) (k : ℕ) (ts : Tables) → w.table ≡ Some k → modified_in w is reset ts ≡ with_table k (modified_table w is reset k (table_at k ts)) ts
+one_modified w is reset k ts names =
+    let tables : each_from (modified_table w is reset) 0 ts.tables ≡ set ts.tables k (modified_table w is reset k (get_or ts.tables k empty_table)) = one_from (modified_table w is reset) k 0 k ts.tables empty_table (not_named w is reset k names) (omega arith) in
+    λ j. record { tables = tables j; latest = ts.latest }
+
+pub restored_modified : (c : NumberedCopy) (w : Selector) (is : List Instruction) (reset : Bool) (before after : NumberedTables) → w.table ≡ Some c.table → table_of c.copy ≡ table_at c.table (tables_of before) → tables_of after ≡ modified_in w is reset (tables_of before) →
+    tables_of (swapped_in c after) ≡ tables_of before
+restored_modified c w is reset before after names same by =
+    restored c (modified_table w is reset c.table (table_at c.table (tables_of before))) before after same (by ∙ one_modified w is reset c.table (tables_of before) names)

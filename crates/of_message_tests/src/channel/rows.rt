@@ -136,9 +136,9 @@ pub const REFUSED_SLAVE: &str = "
 0409000c00000009 0001 ffff | 10 0
 ";
 
-/// Datapath id, no buffers, 16 tables, no auxiliary id, and capabilities.
+/// Datapath id, 256 buffers, 16 tables, no auxiliary id, and capabilities.
 pub const FEATURES_REPLY: &str =
-    "0406002000000004 0102030405060708 00000000 10 00 0000 0000000f 00000000";
+    "0406002000000004 0102030405060708 00000100 10 00 0000 0000000f 00000000";
 
 pub const CONFIG_REPLY: &str = "0408000c00000005 0000 0080";
 

@@ -2,10 +2,11 @@
 
 use of_table::{FlowFlags, FlowRemovedReason, TableFault};
 
-/// A flow of priority 5 for IN_PORT, which writes an action to a group or does nothing.
+/// A flow for IN_PORT, which writes an action to a group or does nothing.
 #[derive(Clone, Copy)]
 pub struct FlowRow {
     pub in_port: u32,
+    pub priority: u16,
     pub cookie: u64,
     pub group: Option<u32>,
     pub idle_timeout: u16,
@@ -27,6 +28,7 @@ pub struct EntryRow {
     pub cookie: u64,
     pub packets: u64,
     pub bytes: u64,
+    pub created: u64,
     pub last: Option<u64>,
     pub instructions: usize,
 }
@@ -102,6 +104,10 @@ pub enum Sight {
 pub enum Step {
     Do(Change),
     See(Sight),
+    /// A copy of a table is made, in place of an earlier one.
+    Copy(u8),
+    /// The copy and its table change places.
+    Swap,
 }
 
 const SECOND: u64 = 1_000_000_000;
@@ -126,6 +132,7 @@ const CHECKED: FlowFlags = FlowFlags {
 
 const OF_ONE: FlowRow = FlowRow {
     in_port: 1,
+    priority: 5,
     cookie: 10,
     group: None,
     idle_timeout: 0,
@@ -184,6 +191,7 @@ pub const TWO_FLOWS: &[Step] = &[
                 cookie: 20,
                 packets: 0,
                 bytes: 0,
+                created: 0,
                 last: None,
                 instructions: 0,
             },
@@ -191,6 +199,7 @@ pub const TWO_FLOWS: &[Step] = &[
                 cookie: 11,
                 packets: 1,
                 bytes: 60,
+                created: 0,
                 last: None,
                 instructions: 0,
             },
@@ -253,6 +262,7 @@ pub const MODIFIED: &[Step] = &[
                 cookie: 10,
                 packets: 0,
                 bytes: 0,
+                created: 0,
                 last: None,
                 instructions: 1,
             },
@@ -260,6 +270,7 @@ pub const MODIFIED: &[Step] = &[
                 cookie: 20,
                 packets: 0,
                 bytes: 0,
+                created: 0,
                 last: None,
                 instructions: 0,
             },
@@ -364,4 +375,248 @@ pub const TIMEOUTS: &[Step] = &[
     Step::Do(Change::Remove(Gone::Moment(10 * SECOND))),
     Step::See(Sight::EntryCount { table: 0, count: 0 }),
     Step::See(Sight::Latest(10 * SECOND)),
+];
+
+const OF_GROUP: FlowRow = FlowRow {
+    cookie: 12,
+    priority: 9,
+    group: Some(7),
+    hard_timeout: 10,
+    flags: NOTICED,
+    ..OF_ONE
+};
+
+/// The table before the change: its second entry was replaced, and so is the youngest.
+const BEFORE: &[EntryRow] = &[
+    EntryRow {
+        cookie: 12,
+        packets: 1,
+        bytes: 60,
+        created: SECOND,
+        last: Some(2 * SECOND),
+        instructions: 1,
+    },
+    EntryRow {
+        cookie: 20,
+        packets: 0,
+        bytes: 0,
+        created: SECOND,
+        last: None,
+        instructions: 0,
+    },
+    EntryRow {
+        cookie: 11,
+        packets: 0,
+        bytes: 0,
+        created: 2 * SECOND,
+        last: None,
+        instructions: 0,
+    },
+];
+
+/// And after it: a flow was added, the flows of port 1 were modified, which sets their counters to 0, and a packet came.
+const AFTER: &[EntryRow] = &[
+    EntryRow {
+        cookie: 12,
+        packets: 0,
+        bytes: 0,
+        created: SECOND,
+        last: Some(2 * SECOND),
+        instructions: 1,
+    },
+    EntryRow {
+        cookie: 20,
+        packets: 0,
+        bytes: 0,
+        created: SECOND,
+        last: None,
+        instructions: 0,
+    },
+    EntryRow {
+        cookie: 11,
+        packets: 0,
+        bytes: 0,
+        created: 2 * SECOND,
+        last: None,
+        instructions: 1,
+    },
+    EntryRow {
+        cookie: 13,
+        packets: 1,
+        bytes: 70,
+        created: 2 * SECOND,
+        last: Some(2 * SECOND),
+        instructions: 1,
+    },
+];
+
+const IS_BEFORE: Step = Step::See(Sight::Entries {
+    table: 2,
+    entries: BEFORE,
+});
+
+const IS_AFTER: Step = Step::See(Sight::Entries {
+    table: 2,
+    entries: AFTER,
+});
+
+const COUNTED_ONCE: Step = Step::See(Sight::Counters {
+    table: 2,
+    lookups: 1,
+    matched: 1,
+});
+
+const COUNTED_TWICE: Step = Step::See(Sight::Counters {
+    table: 2,
+    lookups: 2,
+    matched: 2,
+});
+
+const WON_BEFORE: Step = Step::See(Sight::Peek {
+    table: 2,
+    in_port: 1,
+    cookie: Some(12),
+});
+
+const WON_AFTER: Step = Step::See(Sight::Peek {
+    table: 2,
+    in_port: 1,
+    cookie: Some(13),
+});
+
+const IN_GROUP: Step = Step::See(Sight::Listed {
+    cause: Gone::Group(Some(7)),
+    notices: &[Notice {
+        table: 2,
+        reason: FlowRemovedReason::GroupDelete,
+        cookie: 12,
+    }],
+});
+
+const IN_NO_GROUP: Step = Step::See(Sight::Listed {
+    cause: Gone::Group(Some(7)),
+    notices: &[],
+});
+
+const IN_OTHER_TABLE: Step = Step::See(Sight::Peek {
+    table: 3,
+    in_port: 2,
+    cookie: Some(30),
+});
+
+/// A table is copied and changed, and changes places with its copy three times; then a packet comes, and time passes.
+pub const COPIED: &[Step] = &[
+    Step::Do(Change::Remove(Gone::Moment(SECOND))),
+    Step::Do(Change::Add {
+        table: 2,
+        flow: OF_ONE,
+    }),
+    Step::Do(Change::Add {
+        table: 2,
+        flow: OF_GROUP,
+    }),
+    Step::Do(Change::Add {
+        table: 2,
+        flow: OF_TWO,
+    }),
+    Step::Do(Change::Add {
+        table: 3,
+        flow: FlowRow {
+            cookie: 30,
+            ..OF_TWO
+        },
+    }),
+    Step::Do(Change::Remove(Gone::Moment(2 * SECOND))),
+    Step::Do(Change::Add {
+        table: 2,
+        flow: FlowRow {
+            cookie: 11,
+            ..OF_ONE
+        },
+    }),
+    Step::Do(Change::Looked(2)),
+    Step::Do(Change::Hit {
+        table: 2,
+        in_port: 1,
+        cookie: 12,
+        bytes: 60,
+    }),
+    IS_BEFORE,
+    Step::Copy(2),
+    IS_BEFORE,
+    WON_BEFORE,
+    COUNTED_ONCE,
+    IN_GROUP,
+    Step::Do(Change::Modify { output: 7 }),
+    Step::Do(Change::Add {
+        table: 2,
+        flow: FlowRow {
+            cookie: 13,
+            priority: 20,
+            group: Some(8),
+            ..OF_ONE
+        },
+    }),
+    Step::Do(Change::Looked(2)),
+    Step::Do(Change::Hit {
+        table: 2,
+        in_port: 1,
+        cookie: 13,
+        bytes: 70,
+    }),
+    IS_AFTER,
+    Step::Swap,
+    IS_BEFORE,
+    WON_BEFORE,
+    COUNTED_ONCE,
+    IN_GROUP,
+    IN_OTHER_TABLE,
+    Step::Swap,
+    IS_AFTER,
+    WON_AFTER,
+    COUNTED_TWICE,
+    IN_NO_GROUP,
+    IN_OTHER_TABLE,
+    Step::Swap,
+    IS_BEFORE,
+    Step::See(Sight::Latest(2 * SECOND)),
+    Step::Do(Change::Hit {
+        table: 2,
+        in_port: 2,
+        cookie: 20,
+        bytes: 80,
+    }),
+    Step::Do(Change::Hit {
+        table: 2,
+        in_port: 1,
+        cookie: 12,
+        bytes: 90,
+    }),
+    Step::Do(Change::Remove(Gone::Moment(11 * SECOND))),
+    Step::See(Sight::Entries {
+        table: 2,
+        entries: &[
+            EntryRow {
+                cookie: 20,
+                packets: 1,
+                bytes: 80,
+                created: SECOND,
+                last: Some(2 * SECOND),
+                instructions: 0,
+            },
+            EntryRow {
+                cookie: 11,
+                packets: 0,
+                bytes: 0,
+                created: 2 * SECOND,
+                last: None,
+                instructions: 0,
+            },
+        ],
+    }),
+    Step::See(Sight::Peek {
+        table: 2,
+        in_port: 1,
+        cookie: Some(11),
+    }),
 ];
