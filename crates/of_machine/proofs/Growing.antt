@@ -62,16 +62,16 @@ module _ (most : ℕ) (p : Packet) (low : length p.frame ≤ most) where
   port_short None = tt
   port_short (Some q) = either_short (may_send q) _ _ (low, tt) tt
 
-  emission_short : (ports : List Port) (port : ℕ) → Shorts most (emission ports p port).items
-  emission_short ports port =
+  emission_short : (ports : List Port) (port max_len : ℕ) → Shorts most (emission ports p port max_len).items
+  emission_short ports port max_len =
       either_short (port == in_port) _ _ (port_short (port_at ports p.ingress))
       (either_short ((port == flood) || (port == all)) _ _ (sent_short (other_ports ports p.ingress))
       (either_short (port == controller) _ _ (low, tt)
       (either_short (port == p.ingress) _ _ tt (port_short (port_at ports port)))))
 
-  output_short : (w : TheWorld) (rest : List Work) (a : Action) (port : ℕ) (b : Bool) → (port == table) ≡ b → Shorts most (output_row w p rest a port).items
-  output_short w rest a port true e = rw e tt
-  output_short w rest a port false e = rw e (emission_short w.ports port)
+  output_short : (w : TheWorld) (rest : List Work) (a : Action) (port max_len : ℕ) (b : Bool) → (port == table) ≡ b → Shorts most (output_row w p rest a port max_len).items
+  output_short w rest a port max_len true e = rw e tt
+  output_short w rest a port max_len false e = rw e (emission_short w.ports port max_len)
 
   aged_short : (rest : List Work) (answer : Ttl) → Shorts most (dec_ttl_row p rest answer).items
   aged_short rest Done = tt
@@ -99,7 +99,7 @@ module _ (most : ℕ) (p : Packet) (low : length p.frame ≤ most) where
   row_short w (Do (Metadata value mask) ∷ rest) = tt
   row_short w (Do (Goto t) ∷ rest) = tt
   row_short w (RunSet ∷ rest) = tt
-  row_short w (Act (Output port max_len) ∷ rest) = output_short w rest (Output port max_len) port (port == table) refl
+  row_short w (Act (Output port max_len) ∷ rest) = output_short w rest (Output port max_len) port max_len (port == table) refl
   row_short w (Act (Group g) ∷ rest) = group_short w rest g (w.chosen g)
   row_short w (Act DecNwTtl ∷ rest) = aged_short rest (dec_ttl_result (ttl_of (layers_of p.frame)))
   row_short w (Act other ∷ rest) = tt
@@ -222,7 +222,7 @@ module _ (w : TheWorld) where
     rewritten_low : (b : ℕ) (p : Packet) (rest : List Work) (a : Action) → (length (rewritten a p.frame) ≤ length p.frame) × IsFrame (rewritten a p.frame) → length p.frame + 4 * work_pushes w p.action_set rest ≤ b → AllLow w b (task (record p { frame = rewritten a p.frame }) rest ∷ [])
     rewritten_low b p rest a k room = one_low b (record p { frame = rewritten a p.frame }) rest k.1 (let le = k.0 in omega (arith, le, room))
 
-    output_low : (b : ℕ) (p : Packet) (rest : List Work) (port max_len : ℕ) (c : Bool) → (port == table) ≡ c → IsFrame p.frame → length p.frame + 4 * cond c (max (table_pushes 0) (work_pushes w p.action_set rest)) (work_pushes w p.action_set rest) ≤ b → AllLow w b (output_row w p rest (Output port max_len) port).left
+    output_low : (b : ℕ) (p : Packet) (rest : List Work) (port max_len : ℕ) (c : Bool) → (port == table) ≡ c → IsFrame p.frame → length p.frame + 4 * cond c (max (table_pushes 0) (work_pushes w p.action_set rest)) (work_pushes w p.action_set rest) ≤ b → AllLow w b (output_row w p rest (Output port max_len) port max_len).left
     output_low b p rest port max_len true e frame room = rw e (record { frame = frame; room = omega arith }, one_low b p rest frame (omega arith))
     output_low b p rest port max_len false e frame room = rw e (one_low b p rest frame room)
 

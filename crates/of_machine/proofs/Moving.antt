@@ -52,13 +52,13 @@ module _ (w : TheWorld) (keeps : Bool) (p : Packet) (rest : List Work) (others :
 
   -- ---- actions
 
-  output_is : (a : Action) (port : ℕ) → (port == table) ≡ false → output_row w p rest a port ≡ emits (DidAct a) (emission w.ports p port) (task p rest ∷ [])
-  output_is a port e = rw e refl
+  output_is : (a : Action) (port max_len : ℕ) → (port == table) ≡ false → output_row w p rest a port max_len ≡ emits (DidAct a) (emission w.ports p port max_len) (task p rest ∷ [])
+  output_is a port max_len e = rw e refl
 
-  pub outputs : (o' : Outcome) (port max_len : ℕ) → (port == table) ≡ false → Gains o (emission w.ports p port) o' → (keeps ≡ true → told' ≡ told ++ DidAct (Output port max_len) ∷ []) →
+  pub outputs : (o' : Outcome) (port max_len : ℕ) → (port == table) ≡ false → Gains o (emission w.ports p port max_len) o' → (keeps ≡ true → told' ≡ told ++ DidAct (Output port max_len) ∷ []) →
       Moves w keeps (point (task p (Act (Output port max_len) ∷ rest) ∷ others) o told) (point (task p rest ∷ others) o' told')
   outputs o' port max_len out gains =
-      by_row o' (Act (Output port max_len) ∷ rest) (emits (DidAct (Output port max_len)) (emission w.ports p port) (task p rest ∷ [])) (output_is (Output port max_len) port out) gains.items gains.counts
+      by_row o' (Act (Output port max_len) ∷ rest) (emits (DidAct (Output port max_len)) (emission w.ports p port max_len) (task p rest ∷ [])) (output_is (Output port max_len) port max_len out) gains.items gains.counts
 
   tables_is : (a : Action) → IsTrue (is_to_tables a) → act_row w p rest a ≡ table_row p rest a
   tables_is (Output port max_len) e = rw e refl
@@ -79,7 +79,7 @@ module _ (w : TheWorld) (keeps : Bool) (p : Packet) (rest : List Work) (others :
   aged_is : (answer : Ttl) → answer ≡ dec_ttl_result (ttl_of (layers_of p.frame)) → act_row w p rest DecNwTtl ≡ dec_ttl_row p rest answer
   aged_is answer e = rw (← e) refl
 
-  pub expires : (o' : Outcome) (frame : List ℕ) (answer : Ttl) → answer ≡ Expired → answer ≡ dec_ttl_result (ttl_of (layers_of p.frame)) → IsFrame p.frame → frame ≡ frame_ttl_decremented p.frame → Gains o (packet_in InvalidTtl (record p { frame = frame })) o' → (keeps ≡ true → told' ≡ told ++ TtlExpired ∷ []) →
+  pub expires : (o' : Outcome) (frame : List ℕ) (answer : Ttl) → answer ≡ Expired → answer ≡ dec_ttl_result (ttl_of (layers_of p.frame)) → IsFrame p.frame → frame ≡ frame_ttl_decremented p.frame → Gains o (packet_in InvalidTtl None (record p { frame = frame })) o' → (keeps ≡ true → told' ≡ told ++ TtlExpired ∷ []) →
       Moves w keeps (point (task p (Act DecNwTtl ∷ rest) ∷ others) o told) (point (task (record p { frame = frame }) [] ∷ others) o' told')
   expires o' frame answer is e known same =
       let expired : Expired ≡ dec_ttl_result (ttl_of (layers_of p.frame)) = sym is ∙ e in

@@ -44,8 +44,8 @@ module _ (number : ℕ → ℕ → ℕ) (w v : TheWorld) (h : IsRenumbered numbe
   port_counts None p = refl
   port_counts (Some q) p = sent_or_not (may_send q) _ _ refl refl
 
-  emission_counts : (ports : List Port) (p : Packet) (n : ℕ) → same_counts (emission ports p n)
-  emission_counts ports p n =
+  emission_counts : (ports : List Port) (p : Packet) (n max_len : ℕ) → same_counts (emission ports p n max_len)
+  emission_counts ports p n max_len =
       sent_or_not (n == in_port) _ _ (port_counts (port_at ports p.ingress) p)
       (sent_or_not ((n == flood) || (n == all)) _ _ refl
       (sent_or_not (n == controller) _ _ refl
@@ -63,13 +63,13 @@ module _ (number : ℕ → ℕ → ℕ) (w v : TheWorld) (h : IsRenumbered numbe
   either_is true x y x' y' here there = here
   either_is false x y x' y' here there = there
 
-  emits_is : (p : Packet) (rest : List Work) (a : Action) (port : ℕ) → emits (DidAct a) (emission v.ports p port) (task p rest ∷ []) ≡ renumbered_row (emits (DidAct a) (emission w.ports p port) (task p rest ∷ []))
-  emits_is p rest a port =
-      ap (λ (ports : List Port). emits (DidAct a) (emission ports p port) (task p rest ∷ [])) h.ports
-      ∙ ap (λ (cs : List Count). record (emits (DidAct a) (emission w.ports p port) (task p rest ∷ [])) { counts = cs }) (sym (emission_counts w.ports p port))
+  emits_is : (p : Packet) (rest : List Work) (a : Action) (port max_len : ℕ) → emits (DidAct a) (emission v.ports p port max_len) (task p rest ∷ []) ≡ renumbered_row (emits (DidAct a) (emission w.ports p port max_len) (task p rest ∷ []))
+  emits_is p rest a port max_len =
+      ap (λ (ports : List Port). emits (DidAct a) (emission ports p port max_len) (task p rest ∷ [])) h.ports
+      ∙ ap (λ (cs : List Count). record (emits (DidAct a) (emission w.ports p port max_len) (task p rest ∷ [])) { counts = cs }) (sym (emission_counts w.ports p port max_len))
 
-  output_is : (p : Packet) (rest : List Work) (a : Action) (port : ℕ) → output_row v p rest a port ≡ renumbered_row (output_row w p rest a port)
-  output_is p rest a port = either_is (port == table) (table_row p rest a) _ (table_row p rest a) _ refl (emits_is p rest a port)
+  output_is : (p : Packet) (rest : List Work) (a : Action) (port max_len : ℕ) → output_row v p rest a port max_len ≡ renumbered_row (output_row w p rest a port max_len)
+  output_is p rest a port max_len = either_is (port == table) (table_row p rest a) _ (table_row p rest a) _ refl (emits_is p rest a port max_len)
 
   bucket_counts : (g bytes : ℕ) (ks : List ℕ) → map (renumbered_count number) (map (λ place. Bucket g place bytes) ks) ≡ map (λ place. Bucket g place bytes) ks
   bucket_counts g bytes [] = refl
@@ -93,7 +93,7 @@ module _ (number : ℕ → ℕ → ℕ) (w v : TheWorld) (h : IsRenumbered numbe
   aged_is p rest Absent = refl
 
   act_is : (p : Packet) (rest : List Work) (a : Action) → act_row v p rest a ≡ renumbered_row (act_row w p rest a)
-  act_is p rest (Output port max_len) = output_is p rest (Output port max_len) port
+  act_is p rest (Output port max_len) = output_is p rest (Output port max_len) port max_len
   act_is p rest (ToGroup g) = ap (group_row v p rest g) (h.chosen g) ∙ group_is p rest g (w.chosen g)
   act_is p rest DecNwTtl = aged_is p rest (dec_ttl_result (ttl_of (layers_of p.frame)))
   act_is p rest other = refl

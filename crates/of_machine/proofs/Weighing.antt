@@ -246,7 +246,7 @@ module _ (w : TheWorld) where
     aged_lowers p rest Expired = let x = positive p.action_set rest in omega arith
     aged_lowers p rest Absent = omega arith
 
-    output_lowers : (p : Packet) (rest : List Work) (port max_len : ℕ) (b : Bool) → (port == table) ≡ b → weight w (output_row w p rest (Output port max_len) port).left + 1 ≤ output_weight port + work_weight w p.action_set rest
+    output_lowers : (p : Packet) (rest : List Work) (port max_len : ℕ) (b : Bool) → (port == table) ≡ b → weight w (output_row w p rest (Output port max_len) port max_len).left + 1 ≤ output_weight port + work_weight w p.action_set rest
     output_lowers p rest port max_len true e = rw e (omega arith)
     output_lowers p rest port max_len false e = rw e (omega arith)
 
@@ -311,7 +311,7 @@ module _ (w : TheWorld) where
     aged_fits p rest Expired set fit = one_task p [] set tt
     aged_fits p rest Absent set fit = one_task p rest set fit
 
-    output_fits : (p : Packet) (rest : List Work) (port max_len : ℕ) (b : Bool) → (port == table) ≡ b → IsSet p.action_set → AllFitWork rest → AllFit (output_row w p rest (Output port max_len) port).left
+    output_fits : (p : Packet) (rest : List Work) (port max_len : ℕ) (b : Bool) → (port == table) ≡ b → IsSet p.action_set → AllFitWork rest → AllFit (output_row w p rest (Output port max_len) port max_len).left
     output_fits p rest port max_len true e set fit = rw e (record { set = empty_set; work = (omega arith, tt) }, one_task p rest set fit)
     output_fits p rest port max_len false e set fit = rw e (one_task p rest set fit)
 

@@ -79,9 +79,9 @@ pub record Emitted : Type 0 where
 abbrev pub nothing : Emitted
 nothing = record { items = []; counts = [] }
 
--- a PACKET_IN, with the packet's cookie and table (7.4.1)
-abbrev pub packet_in : PacketInReason → Packet → Emitted
-packet_in reason p = record { items = PacketIn (record { reason = reason; table = p.table; cookie = p.cookie; ingress = p.ingress; metadata = p.metadata; frame = p.frame }) ∷ []; counts = [] }
+-- a PACKET_IN, with the packet's cookie and table (7.4.1), the max_len of the OUTPUT that made it, if one did (7.2.5), and the whole frame
+abbrev pub packet_in : PacketInReason → Option ℕ → Packet → Emitted
+packet_in reason max_len p = record { items = PacketIn (record { reason = reason; table = p.table; cookie = p.cookie; ingress = p.ingress; metadata = p.metadata; max_len = max_len; frame = p.frame }) ∷ []; counts = [] }
 
 -- an output by the table-miss flow entry has the reason NO_MATCH
 abbrev pub output_reason : Packet → PacketInReason
@@ -99,12 +99,12 @@ to_port (Some q) p =
 abbrev pub flooded : List Port → Packet → Emitted
 flooded ports p = record { items = map (λ q. Sent q.number p.frame) (other_ports ports p.ingress); counts = [] }
 
--- what an OUTPUT emits; only IN_PORT sends out of the ingress port
-abbrev pub emission : List Port → Packet → ℕ → Emitted
-emission ports p port =
+-- what an OUTPUT emits; only IN_PORT sends out of the ingress port, and max_len is for the controller alone
+abbrev pub emission : List Port → Packet → ℕ → ℕ → Emitted
+emission ports p port max_len =
     if port == in_port then to_port (port_at ports p.ingress) p
     else if (port == flood) || (port == all) then flooded ports p
-    else if port == controller then packet_in (output_reason p) p
+    else if port == controller then packet_in (output_reason p) (Some max_len) p
     else if port == p.ingress then nothing
     else to_port (port_at ports port) p
 
@@ -123,12 +123,12 @@ fresh p = record p { metadata = 0; action_set = [] }
 abbrev pub table_row : Packet → List Work → Action → Row
 table_row p rest a = record { line = DidAct a; items = []; counts = []; left = task (fresh p) (Lookup 0 ∷ []) ∷ task p rest ∷ [] }
 
-abbrev pub output_row : TheWorld → Packet → List Work → Action → ℕ → Row
-output_row w p rest a port = if port == table then table_row p rest a else emits (DidAct a) (emission w.ports p port) (task p rest ∷ [])
+abbrev pub output_row : TheWorld → Packet → List Work → Action → ℕ → ℕ → Row
+output_row w p rest a port max_len = if port == table then table_row p rest a else emits (DidAct a) (emission w.ports p port max_len) (task p rest ∷ [])
 
 -- a TTL of 0 or 1 gives a PACKET_IN with INVALID_TTL, and the packet's work is emptied; without a TTL nothing changes
 abbrev pub dec_ttl_row : Packet → List Work → Ttl → Row
-dec_ttl_row p rest Expired = emits TtlExpired (packet_in InvalidTtl p) (task p [] ∷ [])
+dec_ttl_row p rest Expired = emits TtlExpired (packet_in InvalidTtl None p) (task p [] ∷ [])
 dec_ttl_row p rest Done = goes_on (DidAct DecNwTtl) (record p { frame = frame_ttl_decremented p.frame }) rest
 dec_ttl_row p rest Absent = goes_on (DidAct DecNwTtl) p rest
 
@@ -162,7 +162,7 @@ abbrev pub rewrite_row : Packet → List Work → Action → Row
 rewrite_row p rest a = goes_on (DidAct a) (record p { frame = rewritten a p.frame }) rest
 
 abbrev pub act_row : TheWorld → Packet → List Work → Action → Row
-act_row w p rest (Output port max_len) = output_row w p rest (Output port max_len) port
+act_row w p rest (Output port max_len) = output_row w p rest (Output port max_len) port max_len
 act_row w p rest (Group group) = group_row w p rest group (w.chosen group)
 act_row w p rest DecNwTtl = dec_ttl_row p rest (dec_ttl_result (ttl_of (layers_of p.frame)))
 act_row w p rest other = rewrite_row p rest other

@@ -48,6 +48,10 @@ pub struct ToController {
     /// The number of the port at which the packet was received.
     pub ingress: u32,
     pub metadata: u64,
+    /// The most bytes of the frame that the OUTPUT action asked for, 0xffff for all (OpenFlow 1.3.5, 7.2.5); none where no
+    /// OUTPUT made it, as where the TTL expired.
+    pub max_len: Option<u16>,
+    /// The whole frame.
     pub frame: Bytes,
 }
 

@@ -11,14 +11,16 @@ use of_ports::{Port, find_port};
 use of_wire::{Bytes, PacketInReason};
 use std::alloc::{AllocError, Global};
 
-/// What an output to this port, or to a reserved one that is not TABLE, emits (OpenFlow 1.3.5, 7.2.5).
+/// What an output to this port, or to a reserved one that is not TABLE, emits; `max_len` is for the controller alone
+/// (OpenFlow 1.3.5, 7.2.5).
 pub(crate) fn emit(
     ports: &[Port],
     port: u32,
+    max_len: u16,
     packet: &Packet<'_>,
     outcome: &mut Outcome,
 ) -> Result<(), AllocError>
-    ensures { OnOk result (Gains outcome.old (emission ports.now packet.now port) outcome.new) }
+    ensures { OnOk result (Gains outcome.old (emission ports.now packet.now port max_len) outcome.new) }
 {
     if port == PORT_IN_PORT {
         return send(find_port(ports, packet.ingress), packet, outcome);
@@ -27,7 +29,7 @@ pub(crate) fn emit(
         return flood(ports, packet, outcome);
     }
     if port == PORT_CONTROLLER {
-        return to_controller(reason_of_output(packet), packet, outcome);
+        return to_controller(reason_of_output(packet), Some(max_len), packet, outcome);
     }
     if port == packet.ingress {
         return Ok(());
@@ -45,13 +47,14 @@ fn reason_of_output(packet: &Packet<'_>) -> PacketInReason
     }
 }
 
-/// The packet to the controller.
+/// The packet to the controller, with the `max_len` of the OUTPUT that made it, if one did.
 pub(crate) fn to_controller(
     reason: PacketInReason,
+    max_len: Option<u16>,
     packet: &Packet<'_>,
     outcome: &mut Outcome,
 ) -> Result<(), AllocError>
-    ensures { OnOk result (Gains outcome.old (packet_in reason packet.now) outcome.new) }
+    ensures { OnOk result (Gains outcome.old (packet_in reason max_len packet.now) outcome.new) }
 {
     let frame = bytes_of(*outcome.items.allocator(), &packet.frame)?;
     outcome.items.push(Item::PacketIn(ToController {
@@ -60,6 +63,7 @@ pub(crate) fn to_controller(
         cookie: packet.cookie,
         ingress: packet.ingress,
         metadata: packet.metadata,
+        max_len,
         frame,
     }))?;
     Ok(())

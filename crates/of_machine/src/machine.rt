@@ -44,8 +44,8 @@ pub(crate) fn act<W: World, S: StepLog>(
     ensures err { OnErr result (Breaks (W.view world.now) S.KEEPS packet.old (ActWork action ∷ []) outcome.old (S.list log.old) (S.list log.new)) }
 {
     match action {
-        Action::Output { port, .. } => {
-            emit(world.ports(), port, packet, outcome)?;
+        Action::Output { port, max_len } => {
+            emit(world.ports(), port, max_len, packet, outcome)?;
             log.step(Step::Act(action))?;
             Ok(Going::Continues)
         }
@@ -74,7 +74,7 @@ fn age<S: StepLog>(
     frame_is_known(&packet.frame);
     match packet.frame.dec_ttl(*outcome.items.allocator())? {
         Ttl::Expired => {
-            to_controller(PacketInReason::InvalidTtl, packet, outcome)?;
+            to_controller(PacketInReason::InvalidTtl, None, packet, outcome)?;
             log.step(Step::TtlExpired)?;
             Ok(Going::Ended)
         }
