@@ -170,9 +170,8 @@ fn packet_out(
     Ok(outcome)
 }
 
-// Asserts that a packet went to the controller, for that reason and by the entry of a row.
-fn was_told(rt: &impl Abort, what: &str, told: &ToController, why: PacketInReason) {
-    assert_eq!(rt; told.reason, why, "{what}");
+// Asserts that a packet came from port 1, and went to the controller by the entry of a row.
+fn was_told(rt: &impl Abort, what: &str, told: &ToController) {
     assert_eq!(rt; told.table, 0, "{what}");
     assert_eq!(rt; told.cookie, 7, "{what}");
     assert_eq!(rt; told.ingress, 1, "{what}");
@@ -185,7 +184,19 @@ fn is_wanted(rt: &impl Abort, what: &str, item: &Item, wanted: &Wanted) {
             assert_eq!(rt; *by, *port, "{what}");
             assert_eq!(rt; frame.as_slice(), *bytes, "{what}");
         }
-        (Item::PacketIn(told), Wanted::Told(why)) => was_told(rt, what, told, *why),
+        (
+            Item::PacketIn(told),
+            Wanted::Told {
+                reason,
+                max_len,
+                bytes,
+            },
+        ) => {
+            was_told(rt, what, told);
+            assert_eq!(rt; told.reason, *reason, "{what}");
+            assert_eq!(rt; told.max_len, *max_len, "{what}");
+            assert_eq!(rt; told.frame.as_slice(), *bytes, "{what}");
+        }
         _ => assert!(rt; false, "{what}: an item of the other kind"),
     }
 }

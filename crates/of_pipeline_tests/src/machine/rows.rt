@@ -28,8 +28,15 @@ pub enum Way {
 /// What is emitted.
 #[derive(Clone, Copy)]
 pub enum Wanted {
-    Sent { port: u32, bytes: &'static [u8] },
-    Told(PacketInReason),
+    Sent {
+        port: u32,
+        bytes: &'static [u8],
+    },
+    Told {
+        reason: PacketInReason,
+        max_len: Option<u16>,
+        bytes: &'static [u8],
+    },
 }
 
 #[derive(Clone, Copy)]
@@ -58,6 +65,11 @@ pub const TO_THREE: Action = Action::Output {
 const TO_CONTROLLER: Action = Action::Output {
     port: PORT_CONTROLLER,
     max_len: 0xffff,
+};
+
+const EIGHT_TO_CONTROLLER: Action = Action::Output {
+    port: PORT_CONTROLLER,
+    max_len: 8,
 };
 
 const TO_TABLES: Action = Action::Output {
@@ -98,7 +110,7 @@ const SENT_BY_THREE: Wanted = Wanted::Sent {
     bytes: UNTAGGED,
 };
 
-pub const ROWS: [Row; 5] = [
+pub const ROWS: [Row; 6] = [
     Row {
         what: "an action set pushes and sets a tag, and sends",
         priority: 1,
@@ -138,7 +150,11 @@ pub const ROWS: [Row; 5] = [
                 port: 2,
                 bytes: LAST_HOP,
             },
-            Wanted::Told(PacketInReason::InvalidTtl),
+            Wanted::Told {
+                reason: PacketInReason::InvalidTtl,
+                max_len: None,
+                bytes: LAST_HOP,
+            },
         ],
         counts: None,
     },
@@ -149,7 +165,25 @@ pub const ROWS: [Row; 5] = [
         actions: &[TO_CONTROLLER],
         frame: UNTAGGED,
         way: Way::Unlogged,
-        items: &[Wanted::Told(PacketInReason::NoMatch)],
+        items: &[Wanted::Told {
+            reason: PacketInReason::NoMatch,
+            max_len: Some(0xffff),
+            bytes: UNTAGGED,
+        }],
+        counts: None,
+    },
+    Row {
+        what: "an output asks for the first 8 bytes, and the frame stays whole",
+        priority: 1,
+        kind: Kind::Apply,
+        actions: &[EIGHT_TO_CONTROLLER],
+        frame: UNTAGGED,
+        way: Way::Unlogged,
+        items: &[Wanted::Told {
+            reason: PacketInReason::Action,
+            max_len: Some(8),
+            bytes: UNTAGGED,
+        }],
         counts: None,
     },
     Row {
