@@ -97,6 +97,10 @@ const NAMES: &[&str] = &[
     "full-table",
     "longest-message",
     "seventeen-replies",
+    "held-frame-sent-by-packet-out",
+    "held-frame-begins-after-an-add",
+    "oldest-held-frame-given-up",
+    "limits-of-a-packet-in",
 ];
 
 /// So many event files more were made at random; what they are to print was computed by a model that shares nothing with this code.

@@ -59,9 +59,9 @@ and_code (Some kind) (Some code) = 32 ∷ name_in ErrorTypes kind ++ 32 ∷ name
 unfoldable pub error_fields : List ℕ → List ℕ
 error_fields m = and_code (number_at 8 2 m) (number_at 10 2 m) ++ name_field (codes " for") Types 13 1 m
 
--- 7.4.1
+-- the buffer id is that of a frame that is held (7.4.1)
 unfoldable pub packet_in_fields : List ℕ → List ℕ
-packet_in_fields m = name_field (codes " reason") PacketInReasons 14 1 m ++ number_field (codes " table") 15 1 m ++ hex_field (codes " cookie") 16 8 m ++ number_field (codes " frame of") 12 2 m
+packet_in_fields m = name_field (codes " reason") PacketInReasons 14 1 m ++ number_field (codes " table") 15 1 m ++ hex_field (codes " cookie") 16 8 m ++ number_field (codes " frame of") 12 2 m ++ some_field (codes " buffer") 8 m
 
 -- 7.4.2
 

@@ -45,7 +45,8 @@ fn push_packet_in(alloc: Global, out: &mut Vec<u8>, message: &[u8]) -> Result<()
     push_name_field(out, message, b" reason", Names::PacketInReasons, 14, 1)?;
     push_number_field(out, message, b" table", 15, 1)?;
     push_hex_field(alloc, out, message, b" cookie", 16, 8)?;
-    push_number_field(out, message, b" frame of", 12, 2)
+    push_number_field(out, message, b" frame of", 12, 2)?;
+    push_some_field(out, message, b" buffer", 8)
 }
 
 // Which entry was removed, and why.
