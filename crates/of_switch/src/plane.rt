@@ -111,7 +111,7 @@ impl<L: Lookup> Plane<L> {
         bytes: &[u8],
     ) -> Result<Plan, AllocError>
         ensures kept { contents self.new.tables self.new.groups self.new.ports self.new.held ≡ contents self.old.tables self.old.groups self.old.ports self.old.held }
-        ensures plan { IfOk result (λ plan. framed heard number bytes.now (forwarding_of self.old.tables self.old.groups self.old.ports self.old.held) ≡ planned plan self.old.tables self.old.groups self.old.ports) }
+        ensures plan { IfOk result (λ plan. framed heard number bytes.now (forwarding_of self.old.tables self.old.groups self.old.ports self.old.held) ≡ planned plan self.old.tables self.old.groups self.old.ports self.old.held) }
     {
         let Some(port) = self.ports.port(number) else {
             return Ok(no_change(alloc));
@@ -136,7 +136,7 @@ impl<L: Lookup> Plane<L> {
         requires long { 14 ≤ length bytes.now }
         requires most { length bytes.now ≤ 9216 }
         ensures kept { contents self.new.tables self.new.groups self.new.ports self.new.held ≡ contents self.old.tables self.old.groups self.old.ports self.old.held }
-        ensures plan { IfOk result (λ plan. received heard number bytes.now (forwarding_of self.old.tables self.old.groups self.old.ports self.old.held) ≡ planned plan self.old.tables self.old.groups self.old.ports) }
+        ensures plan { IfOk result (λ plan. received heard number bytes.now (forwarding_of self.old.tables self.old.groups self.old.ports self.old.held) ≡ planned plan self.old.tables self.old.groups self.old.ports self.old.held) }
     {
         self.tables.known();
         let packet = Packet::new(PacketFrame::new(bytes), number);
@@ -227,7 +227,7 @@ impl<L: Lookup> Plane<L> {
         now: u64,
     ) -> Result<Plan, AllocError>
         ensures change { IfOk result (λ plan. plan.change ≡ Change.Removal cause) }
-        ensures plan { IfOk result (λ plan. planned plan self.now.tables self.now.groups self.now.ports ≡ forwards (notice_effects heard now (notices_in cause (tables_of self.now.tables))) (record (forwarding_of self.now.tables self.now.groups self.now.ports self.now.held) { tables = left_in cause (tables_of self.now.tables) })) }
+        ensures plan { IfOk result (λ plan. planned plan self.now.tables self.now.groups self.now.ports self.now.held ≡ forwards (notice_effects heard now (notices_in cause (tables_of self.now.tables))) (record (forwarding_of self.now.tables self.now.groups self.now.ports self.now.held) { tables = left_in cause (tables_of self.now.tables) })) }
     {
         Ok(Plan {
             effects: self.removal_notices(alloc, heard, &cause, now)?,
@@ -254,7 +254,7 @@ impl<L: Lookup> Plane<L> {
     /// Carries out a plan, and returns its effects.
     pub fn carry_out(&mut self, plan: Plan) -> Effects
         ensures effects { result.items ≡ plan.effects.items }
-        ensures forwarding { forwarding_of self.new.tables self.new.groups self.new.ports self.new.held ≡ (planned plan self.old.tables self.old.groups self.old.ports).forwarding }
+        ensures forwarding { forwarding_of self.new.tables self.new.groups self.new.ports self.new.held ≡ (planned plan self.old.tables self.old.groups self.old.ports self.old.held).forwarding }
     {
         let Plan { effects, change } = plan;
         match change {

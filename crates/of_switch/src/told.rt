@@ -27,6 +27,8 @@ const NO_LIMIT: u16 = 0xffff;
 pub struct Told {
     pub effects: Effects,
     pub held: Vec<HeldFrame>,
+    /// The id that the next frame gets.
+    next_id: u32,
 }
 
 // Whether its ingress port suppresses it.
@@ -98,27 +100,18 @@ fn packet_in(
 }
 
 impl Told {
-    // Tells of an item that is given. A frame that is held gets this id; the result is the id for the next one.
-    fn tell(
-        &mut self,
-        alloc: Global,
-        heard: AsyncConfig,
-        id: u32,
-        item: Item,
-    ) -> Result<u32, AllocError>
+    // Tells of an item that is given.
+    fn tell(&mut self, alloc: Global, heard: AsyncConfig, item: Item) -> Result<(), AllocError>
         requires short { length (frame_of item) ≤ 65485 }
-        requires id { id ≤ last_id }
-        ensures next { IfOk result (λ next. next ≡ id_after heard id item) }
-        ensures most { IfOk result (λ next. next ≤ last_id) }
-        ensures effects { OnOk result (self.new.effects.items ≡ self.old.effects.items ++ effect_of heard id item ∷ []) }
+        requires id { self.old.next_id ≤ last_id }
+        ensures next { OnOk result (self.new.next_id ≡ id_after heard self.old.next_id item) }
+        ensures most { OnOk result (self.new.next_id ≤ last_id) }
+        ensures effects { OnOk result (self.new.effects.items ≡ self.old.effects.items ++ effect_of heard self.old.next_id item ∷ []) }
         ensures held { OnOk result (self.new.held.items ≡ self.old.held.items ++ frames_for heard item) }
     {
         match item {
-            Item::Sent { port, frame } => {
-                self.effects.push(Effect::Sent { port, frame })?;
-                Ok(id)
-            }
-            Item::PacketIn(packet) => self.tell_controller(alloc, heard, id, packet),
+            Item::Sent { port, frame } => Ok(self.effects.push(Effect::Sent { port, frame })?),
+            Item::PacketIn(packet) => self.tell_controller(alloc, heard, packet),
         }
     }
 
@@ -126,26 +119,27 @@ impl Told {
         &mut self,
         alloc: Global,
         heard: AsyncConfig,
-        id: u32,
         packet: ToController,
-    ) -> Result<u32, AllocError>
+    ) -> Result<(), AllocError>
         requires short { length packet.frame ≤ 65485 }
-        requires id { id ≤ last_id }
-        ensures next { IfOk result (λ next. next ≡ id_after heard id (Item.PacketIn packet)) }
-        ensures most { IfOk result (λ next. next ≤ last_id) }
-        ensures effects { OnOk result (self.new.effects.items ≡ self.old.effects.items ++ effect_of heard id (Item.PacketIn packet) ∷ []) }
+        requires id { self.old.next_id ≤ last_id }
+        ensures next { OnOk result (self.new.next_id ≡ id_after heard self.old.next_id (Item.PacketIn packet)) }
+        ensures most { OnOk result (self.new.next_id ≤ last_id) }
+        ensures effects { OnOk result (self.new.effects.items ≡ self.old.effects.items ++ effect_of heard self.old.next_id (Item.PacketIn packet) ∷ []) }
         ensures held { OnOk result (self.new.held.items ≡ self.old.held.items ++ frames_for heard (Item.PacketIn packet)) }
     {
         if !is_held(heard, &packet) {
             let whole = packet_in(alloc, &packet, NO_BUFFER, packet.frame.as_slice())?;
-            self.effects.push(whole)?;
-            return Ok(id);
+            return Ok(self.effects.push(whole)?);
         }
         let limit = usize::from(limit_of(heard, &packet));
-        let part = packet_in(alloc, &packet, id, front_of(packet.frame.as_slice(), limit))?;
+        let first = front_of(packet.frame.as_slice(), limit);
+        let part = packet_in(alloc, &packet, self.next_id, first)?;
         self.effects.push(part)?;
-        self.held.push(HeldFrame::new(packet.frame, packet.ingress))?;
-        Ok(following_id(id))
+        self.held
+            .push(HeldFrame::new(packet.frame, packet.ingress))?;
+        self.next_id = following_id(self.next_id);
+        Ok(())
     }
 }
 
@@ -166,11 +160,11 @@ pub fn told_from(
     let mut told = Told {
         effects: Effects::new(alloc),
         held: Vec::new(alloc),
+        next_id,
     };
-    let mut id = next_id;
     for item in items {
         if is_given(heard, ports, &item) {
-            id = told.tell(alloc, heard, id, item)?;
+            told.tell(alloc, heard, item)?;
         }
     }
     Ok(told)

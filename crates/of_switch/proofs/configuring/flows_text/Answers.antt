@@ -1,4 +1,3 @@
-use Rattle.std.proofs.Common.{sym}
 use Rattle.of_switch.proofs.ConfiguringLemmas.{entry_more, entry_kept, none_more, all_kept}
 use Rattle.of_switch.proofs.configuring.flows_text.Goals as goal
 

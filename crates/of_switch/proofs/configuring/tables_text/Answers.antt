@@ -1,4 +1,4 @@
-use Rattle.std.proofs.Common.{◌≡◌, ◌≤◌, ◌<◌, ◌∙◌, List, length, take, ap, subst, sym, arith}
+use Rattle.std.proofs.Common.{◌≡◌, ◌<◌, ◌∙◌, List, length, take, ap, subst, arith}
 use Rattle.std.proofs.lemmas.List.{take_all, length-map}
 use Rattle.of_table.specs.Entries.{table_of}
 use Rattle.of_table.specs.Table.{Table}

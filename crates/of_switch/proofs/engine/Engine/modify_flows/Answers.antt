@@ -1,5 +1,3 @@
-use Rattle.std.proofs.Common.{◌≡◌, false}
-use Rattle.of_switch.specs.Commands.{names_absent_group}
 use Rattle.of_switch.proofs.StandingSteps.{flows_changed}
 use Rattle.of_switch.proofs.engine.Engine.modify_flows.Goals as goal
 
