@@ -91,9 +91,10 @@ out_is m k id frame bytes heard actions d effects f used there hears whole same 
     ap (λ (b : HeldFrames). through (heard_of k.control) (entering frame m.in_port) (acts m.actions) (record k.forwarding { held = b })) (sym used)
     ∙ (ap (λ (a : AsyncConfig). through a (entering frame m.in_port) (acts m.actions) (left id)) (sym hears)
     ∙ (ap (λ (bs : List ℕ). through heard (entering bs m.in_port) (acts m.actions) (left id)) (sym whole)
-    ∙ (ap (λ (as' : List Action). through heard (entering bytes m.in_port) (acts as') (left id)) (sym same) ∙ runs))) in
-    (rw (there, none) refl,
-    rw there
-    (ap (λ (x : Forwarded). forwarded x k) run
-    ∙ (ap (λ (x : List Effect). does x (record k { forwarding = d.forwarding })) (sym es)
-    ∙ ap (λ (x : Forwarding). does effects (record k { forwarding = x })) (sym fs))))
+    ∙ (ap (λ (as' : List Action). through heard (entering bytes m.in_port) (acts as') (left id)) (sym same) ∙ runs))) in (
+      rw (there, none) refl,
+      rw there
+          (ap (λ (x : Forwarded). forwarded x k) run
+          ∙ (ap (λ (x : List Effect). does x (record k { forwarding = d.forwarding })) (sym es)
+          ∙ ap (λ (x : Forwarding). does effects (record k { forwarding = x })) (sym fs))),
+    )

@@ -17,7 +17,7 @@ returns g c =
     let held = c.self.inside.plane.held in
     let uses : without_used c.match-packet_out.used held ≡ without_packet c.args.packet_out.packet held =
     elim c.match-packet_out.branch [
-      in-Buffered w ↦ rw (w.used-is, w.in-Buffered.is) refl
+      | in-Buffered w ↦ rw (w.used-is, w.in-Buffered.is) refl
       | in-Frame w ↦ rw (w.used-is, w.in-Frame.is) refl
     ] in
     rw (← c.self.view_is)
