@@ -146,9 +146,8 @@ def test_a_held_frame_serves_once(switch):
     [answer] = switch.frame(1, frame)
     packet_in = datapath.parsed(answer)
     assert (packet_in.buffer_id, packet_in.total_len, packet_in.data) == (1, len(frame), frame[:20])
-    out = parser.OFPPacketOut(datapath, 1, of.OFPP_CONTROLLER, [parser.OFPActionOutput(2)])
-    datapath.send_msg(out)
-    datapath.send_msg(out)
+    for _ in range(2):
+        datapath.send_msg(parser.OFPPacketOut(datapath, 1, of.OFPP_CONTROLLER, [parser.OFPActionOutput(2)]))
     sent, refused = datapath.taken()
     assert sent == Sent(2, frame)
     error = datapath.parsed(refused)
