@@ -1,6 +1,6 @@
 -- Each group that an entry names exists, whatever happens.
-use Rattle.std.proofs.Common.{◌≡◌, ℕ, zero, suc, ◌+◌, ◌<◌, ◌≤◌, eqb, ltb, Bool, true, false, not, cond, List, [], ◌∷◌, ◌++◌, length, get_or, set, Option, Some, None, refl, sym, ◌∙◌, ap, subst, arith}
-use Rattle.std.specs.Prelude.{◌&&◌, ◌||◌, map, filter, find, nat_le, slice_index_or}
+use Rattle.std.proofs.Common.{◌≡◌, ℕ, zero, suc, ◌<◌, ◌≤◌, eqb, ltb, Bool, true, false, not, cond, List, [], ◌∷◌, ◌++◌, length, get_or, Option, Some, None, refl, sym, ◌∙◌, ap, subst, arith}
+use Rattle.std.specs.Prelude.{◌||◌, map, filter, find, slice_index_or}
 use Rattle.std.specs.List.{AllByRecursion, list_all, list_any}
 use Rattle.std.proofs.lemmas.Bool.{and_parts, and_from, eqb-true, eq-eqb, le-leb}
 use Rattle.std.proofs.Math.Path.{fun_ext}
@@ -11,22 +11,22 @@ use Rattle.of_actions.specs.declared.instruction.Instruction.{Instruction}
 use Rattle.of_actions.specs.declared.instruction.Instruction.TheVariants as instructions
 use Rattle.of_groups.specs.declared.group.Group.{Group}
 use Rattle.of_groups.specs.Buckets.{sends}
-use Rattle.of_groups.specs.Groups.{number_of, is_there, with_group, left, at_group, counted as group_counted, bucket_counted}
+use Rattle.of_groups.specs.Groups.{number_of, is_there, with_group, left, at_group}
 use Rattle.of_groups.specs.Faults.{is_absent}
 use Rattle.of_groups.proofs.PutLemmas.{there_with}
 use Rattle.of_table.specs.declared.flow.Flow.{Flow}
 use Rattle.of_table.specs.declared.selection.Selector.{Selector}
 use Rattle.of_table.specs.declared.selection.Cause.{Cause}
-use Rattle.of_table.specs.declared.selection.Cause.TheVariants.{Delete, Moment, Group as OfGroup}
-use Rattle.of_table.specs.Table.{FlowEntry, Table, empty_table, is_same, with_flow, added, counted, counted_at, looked, matched_at}
-use Rattle.of_table.specs.Selecting.{has_action, is_to, names_group, stays, modifies, modified_by, left as entries_left}
-use Rattle.of_table.specs.Tables.{Tables, NumberedTables, tables_of, table_at, with_table, added_to, each_from, modified_table, modified_in, concerns, cause_at, left_table, left_in, is_in, looked_in, matched_in}
+use Rattle.of_table.specs.declared.selection.Cause.TheVariants.{Group as OfGroup}
+use Rattle.of_table.specs.Table.{FlowEntry, Table, empty_table, is_same, with_flow, added, counted_at, looked, matched_at}
+use Rattle.of_table.specs.Selecting.{has_action, is_to, names_group, stays, modifies, modified_by}
+use Rattle.of_table.specs.Tables.{Tables, NumberedTables, table_at, with_table, added_to, each_from, modified_table, modified_in, concerns, cause_at, left_table, left_in, is_in, looked_in, matched_in}
 use Rattle.of_table.proofs.Soundness.{all-filter, all-set}
 use Rattle.of_machine.specs.declared.data.Count.{Count}
 use Rattle.of_machine.specs.declared.data.Count.TheVariants.{Lookup, Matched, TxDropped, Group as GroupUse, Bucket}
 use Rattle.of_ports.specs.declared.port.Port.{Port}
 use Rattle.of_text.specs.Flows.{Flow as TextFlow, Step, Apply, Clear, Write, Metadata, Goto}
-use Rattle.of_text.specs.Groups.{TextGroup, group_at, groups_at}
+use Rattle.of_text.specs.Groups.{TextGroup, groups_at}
 use Rattle.of_text.specs.Refusals.{names_absent}
 use Rattle.of_text.specs.Kept.{AllStandBehind, instruction_of, instructions_of}
 use Rattle.of_text.specs.Configs.{Configuration, IsConfig}
@@ -40,11 +40,11 @@ use Rattle.of_switch.specs.declared.plan.Plan.{Plan}
 use Rattle.of_switch.specs.declared.plan.Change.{Change}
 use Rattle.of_switch.specs.declared.plan.Change.TheVariants.{Nothing, Counts, Removal}
 use Rattle.of_switch.specs.declared.plan.Reception.{Reception}
-use Rattle.of_switch.specs.Commands.{names_absent_group, is_to_absent_group}
+use Rattle.of_switch.specs.Commands.{names_absent_group}
 use Rattle.of_switch.specs.Loading.{loaded_entry, loaded_table, loaded_tables}
 use Rattle.of_buffers.specs.Buffers.{HeldFrames}
 use Rattle.of_switch.specs.Numbers.{forwarding_of, all_placed}
-use Rattle.of_switch.specs.Plane.{Forwarding, idle, count_port, tallied, all_tallied, sent, all_sent}
+use Rattle.of_switch.specs.Plane.{Forwarding, idle, tallied, all_tallied, sent, all_sent}
 use Rattle.of_switch.specs.Plans.{with_reception, changed, planned}
 use Rattle.of_switch.specs.Standing.{names_existing_groups, all_name_existing_groups, is_numbered, GroupsExist}
 

@@ -1,5 +1,5 @@
 -- The invariants that join tables and groups are kept by each call.
-use Rattle.std.proofs.Common.{◌≡◌, ℕ, ◌≤◌, Bool, false, List, Option, Result, Ok, Err, refl, sym, ◌∙◌, ap, subst}
+use Rattle.std.proofs.Common.{◌≡◌, ℕ, ◌≤◌, Bool, false, List, Option, Result, Ok, Err, sym, ◌∙◌, ap, subst}
 use Rattle.std.specs.Prelude.{OnOk, OnErr}
 use Rattle.of_actions.specs.declared.instruction.Instruction.{Instruction}
 use Rattle.of_groups.specs.declared.group.Group.{Group}
@@ -8,7 +8,7 @@ use Rattle.of_ports.specs.declared.port.Port.{Port}
 use Rattle.of_table.specs.declared.flow.Flow.{Flow}
 use Rattle.of_table.specs.declared.selection.Selector.{Selector}
 use Rattle.of_table.specs.declared.selection.Cause.TheVariants.{Group as OfGroup}
-use Rattle.of_table.specs.Tables.{Tables, NumberedTables, tables_of, added_to, modified_in, left_in}
+use Rattle.of_table.specs.Tables.{NumberedTables, tables_of, added_to, modified_in, left_in}
 use Rattle.of_switch.specs.declared.plan.Plan.{Plan}
 use Rattle.of_switch.specs.declared.plan.Change.TheVariants.{Removal}
 use Rattle.of_switch.specs.Commands.{names_absent_group}

@@ -1,5 +1,5 @@
 -- What a run counted and emitted, one after the other.
-use Rattle.std.proofs.Common.{◌≡◌, ℕ, suc, ◌+◌, ◌<◌, List, [], ◌∷◌, ◌++◌, length, get_or, drop, refl, sym, ◌∙◌, ap, add-one, drop-cons, Option}
+use Rattle.std.proofs.Common.{◌≡◌, ℕ, suc, ◌+◌, ◌<◌, List, [], ◌∷◌, length, get_or, drop, refl, sym, ◌∙◌, ap, add-one, drop-cons, Option}
 use Rattle.std.specs.List.{position_or_len}
 use Rattle.std.proofs.Common.{eqb}
 use Rattle.std.specs.Prelude.{slice_index_or}

@@ -1,5 +1,5 @@
 -- What a FLOW_MOD does to the flow tables (OpenFlow 1.3.5, 6.4 and 7.3.4.1), and the notices of removed entries (7.4.2).
-use Rattle.std.specs.Prelude.{ℕ, ◌-◌, ◌/◌, ◌%◌, ◌^◌, ◌==◌, ◌&&◌, nat_le, bit_and, Bool, true, false, not, List, [], ◌∷◌, map, filter, Option, Some, None, is_none, if◌then◌else◌}
+use Rattle.std.specs.Prelude.{ℕ, ◌%◌, ◌^◌, ◌==◌, ◌&&◌, nat_le, bit_and, Bool, true, false, not, List, [], ◌∷◌, map, filter, Option, Some, None, is_none, if◌then◌else◌}
 use Rattle.std.specs.List.{list_any}
 use Rattle.std.specs.Option.{option_map}
 use Rattle.of_buffers.specs.Buffers.{Held, HeldFrames, held, used}

@@ -1,5 +1,5 @@
 -- What a controller has set in a switch, and which asynchronous messages it receives (OpenFlow 1.3.5, 7.3.2, 7.3.9 and 7.3.10).
-use Rattle.std.specs.Prelude.{ℕ, ◌==◌, ◌≡◌, Bool, not, bit_and, None}
+use Rattle.std.specs.Prelude.{ℕ, ◌==◌, Bool, not, bit_and, None}
 use Rattle.of_messages.specs.declared.role.Role.{Role}
 use Rattle.of_messages.specs.declared.role.Role.TheVariants.{Equal, Master, Slave}
 use Rattle.of_messages.specs.declared.async_masks.AsyncMasks.{AsyncMasks}

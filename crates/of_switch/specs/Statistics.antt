@@ -1,5 +1,5 @@
 -- Why a MULTIPART_REQUEST is refused and what it is answered, by the state of the switch (OpenFlow 1.3.5, 7.3.5).
-use Rattle.std.specs.Prelude.{ℕ, Bool, false, not, List, [], ◌∷◌, map, Option, Some, None}
+use Rattle.std.specs.Prelude.{ℕ, Bool, false, not, List, [], ◌∷◌, Some, None}
 use Rattle.of_wire.specs.declared.code.Code.{Code}
 use Rattle.of_wire.specs.Refusals.{refusal}
 use Rattle.of_messages.specs.declared.multipart.FlowStatsRequest.{FlowStatsRequest}

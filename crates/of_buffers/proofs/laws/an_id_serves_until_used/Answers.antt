@@ -1,5 +1,5 @@
-use Rattle.std.proofs.Common.{◌≡◌, ℕ, ap, ◌∙◌, sym, get_or, slice_set, rules}
-use Rattle.of_buffers.specs.Buffers.{Held, HeldFrames, given_since, held, hold, hold_all, is_id, used}
+use Rattle.std.proofs.Common.{slice_set}
+use Rattle.of_buffers.specs.Buffers.{given_since}
 use Rattle.of_buffers.proofs.Circle.{still_held, still_none, gone, emptied}
 use Rattle.of_buffers.proofs.laws.an_id_serves_until_used.Goals as goal
 

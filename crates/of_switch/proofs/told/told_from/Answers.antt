@@ -1,5 +1,4 @@
-use Rattle.std.proofs.Common.{◌≡◌, List, ◌∷◌, sym}
-use Rattle.of_machine.specs.declared.data.Item.{Item}
+use Rattle.std.proofs.Common.{◌≡◌, ◌∷◌, sym}
 use Rattle.of_switch.proofs.Telling.{told_one, told_none, short_left}
 use Rattle.of_switch.proofs.told.told_from.Goals as goal
 

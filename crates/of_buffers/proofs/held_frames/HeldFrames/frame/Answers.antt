@@ -1,4 +1,4 @@
-use Rattle.std.proofs.Common.{◌≡◌, ap, rules}
+use Rattle.std.proofs.Common.{ap, rules}
 use Rattle.of_buffers.specs.Buffers.{HeldFrames}
 use Rattle.of_buffers.proofs.Circle.{held_there, held_past}
 use Rattle.of_buffers.proofs.held_frames.HeldFrames.frame.Goals as goal

@@ -1,4 +1,4 @@
-use Rattle.std.proofs.Common.{◌≡◌, ap, sym, ◌∙◌, rules}
+use Rattle.std.proofs.Common.{ap, ◌∙◌}
 use Rattle.of_buffers.specs.Buffers.{HeldFrames}
 use Rattle.of_buffers.proofs.Circle.{used_past}
 use Rattle.of_buffers.proofs.held_frames.HeldFrames.use_up.Goals as goal

@@ -1,4 +1,4 @@
-use Rattle.std.proofs.Common.{◌≡◌, ◌∙◌, sym, ap}
+use Rattle.std.proofs.Common.{◌∙◌, sym, ap}
 use Rattle.of_switch.specs.Numbers.{Contents, forwarding_of}
 use Rattle.of_switch.specs.Plans.{changed}
 use Rattle.of_switch.proofs.HeldHandling.{begun_is}

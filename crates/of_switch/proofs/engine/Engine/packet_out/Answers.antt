@@ -1,6 +1,4 @@
-use Rattle.std.proofs.Common.{◌≡◌, ◌∙◌, sym, ap, refl}
-use Rattle.of_buffers.specs.Buffers.{HeldFrames}
-use Rattle.of_messages.specs.declared.message.PacketData.{PacketData}
+use Rattle.std.proofs.Common.{◌≡◌, ◌∙◌, ap, refl}
 use Rattle.of_switch.specs.Commands.{without_packet}
 use Rattle.of_switch.specs.Numbers.{Contents, forwarding_of}
 use Rattle.of_switch.specs.Plans.{changed, without_used}

@@ -1,4 +1,4 @@
-use Rattle.std.proofs.Common.{◌≡◌, ◌∙◌, sym, ap, refl, subst}
+use Rattle.std.proofs.Common.{◌∙◌, sym, ap, subst}
 use Rattle.of_switch.specs.State.{Core}
 use Rattle.of_switch.specs.Standing.{GroupsExist}
 use Rattle.of_switch.proofs.HeldHandling.{taken_back}

@@ -1,4 +1,3 @@
-use Rattle.std.proofs.Common.{◌≡◌}
 use Rattle.of_switch.specs.Numbers.{forwarding_of}
 use Rattle.of_switch.proofs.Tallying.{carried}
 use Rattle.of_switch.proofs.plane.Plane.carry_out.Goals as goal
