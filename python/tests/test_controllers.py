@@ -104,6 +104,57 @@ def test_a_learning_switch(switch):
     assert switch.flows().count("flow ") == 2
 
 
+class LearningById(Learning):
+    """It asks for 64 bytes of a frame, and sends the frame on by its buffer id."""
+
+    def __init__(self, datapath):
+        self.datapath = datapath
+        self.ports = {}
+        self.add(0, parser.OFPMatch(), parser.OFPActionOutput(of.OFPP_CONTROLLER, 64))
+
+    def packet_in(self, message):
+        eth = packet.Packet(message.data).get_protocol(ethernet.ethernet)
+        in_port = message.match["in_port"]
+        self.ports[eth.src] = in_port
+        out = self.ports.get(eth.dst)
+        if out is None:
+            actions = [parser.OFPActionOutput(of.OFPP_FLOOD)]
+            self.datapath.send_msg(parser.OFPPacketOut(self.datapath, message.buffer_id, in_port, actions))
+        else:
+            match = parser.OFPMatch(in_port=in_port, eth_dst=eth.dst, eth_src=eth.src)
+            learned = [apply(parser.OFPActionOutput(out))]
+            self.datapath.send_msg(
+                parser.OFPFlowMod(self.datapath, priority=1, buffer_id=message.buffer_id, match=match, instructions=learned)
+            )
+
+
+def test_a_learning_switch_by_buffer_ids(switch):
+    controller = LearningById(started(switch, ports=3))
+    broadcast = scapy.Ether(src=A, dst="ff:ff:ff:ff:ff:ff") / scapy.Raw(bytes(200))
+    answer = scapy.Ether(src=B, dst=A) / scapy.Raw(bytes(300))
+    assert controller.receive(1, broadcast) == [2, 3]
+    # the flow is added, and the frame that it was made for leaves by it
+    assert controller.receive(2, answer) == [1]
+    assert switch.frame(2, answer) == [Sent(1, bytes(answer))]
+
+
+def test_a_held_frame_serves_once(switch):
+    datapath = started(switch, ports=2)
+    to_controller = parser.OFPActionOutput(of.OFPP_CONTROLLER, 20)
+    datapath.send_msg(parser.OFPFlowMod(datapath, instructions=[apply(to_controller)]))
+    frame = bytes(scapy.Ether(src=A, dst=B) / scapy.Raw(bytes(range(100))))
+    [answer] = switch.frame(1, frame)
+    packet_in = datapath.parsed(answer)
+    assert (packet_in.buffer_id, packet_in.total_len, packet_in.data) == (1, len(frame), frame[:20])
+    out = parser.OFPPacketOut(datapath, 1, of.OFPP_CONTROLLER, [parser.OFPActionOutput(2)])
+    datapath.send_msg(out)
+    datapath.send_msg(out)
+    sent, refused = datapath.taken()
+    assert sent == Sent(2, frame)
+    error = datapath.parsed(refused)
+    assert (error.type, error.code) == (of.OFPET_BAD_REQUEST, of.OFPBRC_BUFFER_UNKNOWN)
+
+
 def test_a_frame_of_os_ken(switch):
     datapath = started(switch, ports=2)
     datapath.send_msg(parser.OFPFlowMod(datapath, instructions=[apply(parser.OFPActionOutput(2))]))

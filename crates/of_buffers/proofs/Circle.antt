@@ -25,9 +25,9 @@ few_places h ps = rw length-take (grind (arith, nat_tests))
 none_later : (h : Held) (ps : List (Option Held)) (k : ℕ) → get_or ps k None ≡ None → get_or (take most_held (Some h ∷ ps)) (suc k) None ≡ None
 none_later h ps k e = by (nat_lt (suc k) most_held) refl
   where
-  by : (b : Bool) → nat_lt (suc k) most_held ≡ b → get_or (take most_held (Some h ∷ ps)) (suc k) None ≡ None
-  by true t = place_later h ps k (grind (arith, nat_tests)) ∙ e
-  by false t = get_or_past (take most_held (Some h ∷ ps)) (suc k) None (let few = few_places h ps in grind (arith, nat_tests))
+    by : (b : Bool) → nat_lt (suc k) most_held ≡ b → get_or (take most_held (Some h ∷ ps)) (suc k) None ≡ None
+    by true t = place_later h ps k (grind (arith, nat_tests)) ∙ e
+    by false t = get_or_past (take most_held (Some h ∷ ps)) (suc k) None (let few = few_places h ps in grind (arith, nat_tests))
 
 pub still_held : (id : ℕ) (hs : List Held) (b : HeldFrames) → is_id b.next ≡ true → is_id id ≡ true → given_since id b + length hs < most_held → get_or (hold_all hs b).places (given_since id (hold_all hs b)) None ≡ get_or b.places (given_since id b) None
 still_held id [] b n i few = refl
@@ -54,45 +54,45 @@ gone id (h ∷ hs) b n i short many few =
 pub emptied : (ps : List (Option Held)) (k : ℕ) → get_or (set ps k None) k None ≡ None
 emptied ps k = by (nat_lt k (length ps)) refl
   where
-  by : (b : Bool) → nat_lt k (length ps) ≡ b → get_or (set ps k None) k None ≡ None
-  by true t = get_or-set_same ps k None None (grind (arith, nat_tests))
-  by false t = get_or_past (set ps k None) k None (rw length-set (grind (arith, nat_tests)))
+    by : (b : Bool) → nat_lt k (length ps) ≡ b → get_or (set ps k None) k None ≡ None
+    by true t = get_or-set_same ps k None None (grind (arith, nat_tests))
+    by false t = get_or_past (set ps k None) k None (rw length-set (grind (arith, nat_tests)))
 
 -- a list by its places, as the ring has them
 pub none_there : (ps : List (Option Held)) (k : ℕ) → None ≡ slice_get ps k → length ps ≤ k
 none_there ps k e = by (nat_lt k (length ps)) refl
   where
-  by : (b : Bool) → nat_lt k (length ps) ≡ b → length ps ≤ k
-  by true t =
-      let lt : k < length ps = grind (arith, nat_tests) in
-      let there : slice_get ps k ≡ Some (get_or ps k None) = slice_get-get_or ps k None lt in
-      absurd cc
-  by false t = grind (arith, nat_tests)
+    by : (b : Bool) → nat_lt k (length ps) ≡ b → length ps ≤ k
+    by true t =
+        let lt : k < length ps = grind (arith, nat_tests) in
+        let there : slice_get ps k ≡ Some (get_or ps k None) = slice_get-get_or ps k None lt in
+        absurd cc
+    by false t = grind (arith, nat_tests)
 
 pub held_there : (id k : ℕ) (b : HeldFrames) (ps : List (Option Held)) (x : Option Held) → Some k ≡ (if is_id id then Some (given_since id b) else None) → Some x ≡ slice_get ps k → ps ≡ b.places → x ≡ held id b
 held_there id k b ps x since e same = by (is_id id) since
   where
-  by : (t : Bool) → Some k ≡ (if t then Some (given_since id b) else None) → x ≡ (if t then get_or b.places (given_since id b) None else None)
-  by true s =
-      let at : k ≡ given_since id b = cc in
-      sym (get_or_from_slice_get ps k x None (sym e)) ∙ (ap (λ (i : ℕ). get_or ps i None) at ∙ ap (λ (qs : List (Option Held)). get_or qs (given_since id b) None) same)
-  by false s = absurd cc
+    by : (t : Bool) → Some k ≡ (if t then Some (given_since id b) else None) → x ≡ (if t then get_or b.places (given_since id b) None else None)
+    by true s =
+        let at : k ≡ given_since id b = cc in
+        sym (get_or_from_slice_get ps k x None (sym e)) ∙ (ap (λ (i : ℕ). get_or ps i None) at ∙ ap (λ (qs : List (Option Held)). get_or qs (given_since id b) None) same)
+    by false s = absurd cc
 
 pub held_past : (id k : ℕ) (b : HeldFrames) (ps : List (Option Held)) → Some k ≡ (if is_id id then Some (given_since id b) else None) → None ≡ slice_get ps k → ps ≡ b.places → None ≡ held id b
 held_past id k b ps since e same = by (is_id id) since
   where
-  by : (t : Bool) → Some k ≡ (if t then Some (given_since id b) else None) → None ≡ (if t then get_or b.places (given_since id b) None else None)
-  by true s =
-      let at : k ≡ given_since id b = cc in
-      sym (get_or_past ps k None (none_there ps k e)) ∙ (ap (λ (i : ℕ). get_or ps i None) at ∙ ap (λ (qs : List (Option Held)). get_or qs (given_since id b) None) same)
-  by false s = refl
+    by : (t : Bool) → Some k ≡ (if t then Some (given_since id b) else None) → None ≡ (if t then get_or b.places (given_since id b) None else None)
+    by true s =
+        let at : k ≡ given_since id b = cc in
+        sym (get_or_past ps k None (none_there ps k e)) ∙ (ap (λ (i : ℕ). get_or ps i None) at ∙ ap (λ (qs : List (Option Held)). get_or qs (given_since id b) None) same)
+    by false s = refl
 
 pub used_past : (id k : ℕ) (b : HeldFrames) (ps : List (Option Held)) → Some k ≡ (if is_id id then Some (given_since id b) else None) → None ≡ slice_get ps k → ps ≡ b.places → b ≡ used id b
 used_past id k b ps since e same = by (is_id id) since
   where
-  by : (t : Bool) → Some k ≡ (if t then Some (given_since id b) else None) → b ≡ (if t then record b { places = set b.places (given_since id b) None } else b)
-  by true s =
-      let at : k ≡ given_since id b = cc in
-      let many : length b.places ≤ k = rw (← same) (none_there ps k e) in
-      ap (λ (qs : List (Option Held)). record b { places = qs }) (sym (set_past b.places (given_since id b) None (omega (arith, many, at))))
-  by false s = refl
+    by : (t : Bool) → Some k ≡ (if t then Some (given_since id b) else None) → b ≡ (if t then record b { places = set b.places (given_since id b) None } else b)
+    by true s =
+        let at : k ≡ given_since id b = cc in
+        let many : length b.places ≤ k = rw (← same) (none_there ps k e) in
+        ap (λ (qs : List (Option Held)). record b { places = qs }) (sym (set_past b.places (given_since id b) None (omega (arith, many, at))))
+    by false s = refl

@@ -5,11 +5,12 @@ ghost use Rattle.of_buffers.specs.Buffers.{following, forgotten, given_since, he
 
 use crate::held_frame::HeldFrame;
 use circular_buffer::HeapCircularBuffer;
+use of_messages::BUFFERS;
 use std::alloc::{AllocError, Global};
 use std::marker::Model;
 
-/// How many frames are held at most (OpenFlow 1.3.5, 7.3.1: n_buffers).
-const MOST_HELD: usize = 256;
+/// How many frames are held at most: n_buffers of a FEATURES_REPLY (OpenFlow 1.3.5, 7.3.1).
+const MOST_HELD: usize = BUFFERS as usize;
 
 /// The largest id of a held frame: the next number is OFP_NO_BUFFER.
 const LAST_ID: u32 = 0xffff_fffe;

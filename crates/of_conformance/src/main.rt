@@ -101,6 +101,13 @@ const NAMES: &[&str] = &[
     "held-frame-begins-after-an-add",
     "oldest-held-frame-given-up",
     "limits-of-a-packet-in",
+    "held-frames-end-with-the-connection",
+    "refused-messages-leave-frames-held",
+    "packet-ins-not-sent-hold-nothing",
+    "limit-of-an-expired-ttl",
+    "held-frame-begins-after-a-modify",
+    "held-again-under-a-new-id",
+    "longest-frame-that-is-held",
 ];
 
 /// So many event files more were made at random; what they are to print was computed by a model that shares nothing with this code.

@@ -59,9 +59,9 @@ way_is heard p packet work t groups ports items counts effects seen next before 
 pub used_next : (id : ℕ) (b : HeldFrames) → (used id b).next ≡ b.next
 used_next id b = by (is_id id)
   where
-  by : (t : Bool) → (if t then record b { places = slice_set b.places (given_since id b) None } else b).next ≡ b.next
-  by true = refl
-  by false = refl
+    by : (t : Bool) → (if t then record b { places = slice_set b.places (given_since id b) None } else b).next ≡ b.next
+    by true = refl
+    by false = refl
 
 pub without_used_next : (id : Option ℕ) (b : HeldFrames) → (without_used id b).next ≡ b.next
 without_used_next None b = refl

@@ -20,3 +20,4 @@ pub mod LoadLemmas
 pub mod StandingLemmas
 pub mod ConfiguringLemmas
 pub mod StandingSteps
+pub mod HeldHandling

@@ -23,11 +23,11 @@ module _ (heard : AsyncConfig) (ports : List Port) (id : ℕ) (effects all_effec
       let gs = given heard ports left in
       record {
         effects_are = rw (id_is, effects_are)
-        (append_assoc effects (effect_of heard id i ∷ []) (each_told heard (id_after heard id i) gs)
-        ∙ (ap (λ (is : List Item). effects ++ each_told heard id is) (sym here) ∙ so.effects_are));
+            (append_assoc effects (effect_of heard id i ∷ []) (each_told heard (id_after heard id i) gs)
+            ∙ (ap (λ (is : List Item). effects ++ each_told heard id is) (sym here) ∙ so.effects_are));
         frames_are = rw frames_are
-        (append_assoc frames (frames_for heard i) (flat_map (frames_for heard) gs)
-        ∙ (ap (λ (is : List Item). frames ++ flat_map (frames_for heard) is) (sym here) ∙ so.frames_are));
+            (append_assoc frames (frames_for heard i) (flat_map (frames_for heard) gs)
+            ∙ (ap (λ (is : List Item). frames ++ flat_map (frames_for heard) is) (sym here) ∙ so.frames_are));
       }
 
   -- of one that is not
@@ -46,6 +46,6 @@ short_left i left h k d lt = h (suc k) d (omega (arith, lt))
 pub held_more : (frames : List Held) (h : Held) (first now later : HeldFrames) → now ≡ hold_all frames first → later ≡ hold h now → later ≡ hold_all (frames ++ h ∷ []) first
 held_more frames h first now later so is = is ∙ (ap (hold h) so ∙ sym (last frames first))
   where
-  last : (hs : List Held) (b : HeldFrames) → hold_all (hs ++ h ∷ []) b ≡ hold h (hold_all hs b)
-  last [] b = refl
-  last (k ∷ hs) b = last hs (hold k b)
+    last : (hs : List Held) (b : HeldFrames) → hold_all (hs ++ h ∷ []) b ≡ hold h (hold_all hs b)
+    last [] b = refl
+    last (k ∷ hs) b = last hs (hold k b)

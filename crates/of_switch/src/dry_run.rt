@@ -198,7 +198,13 @@ impl<L: Lookup> Plane<L> {
         world.known();
         let packet = Packet::new(PacketFrame::new(bytes), number);
         let outcome = run(alloc, &mut world, packet, log)?;
-        let told = told_from(alloc, heard, &self.ports, self.held.next_id(), outcome.items)?;
+        let told = told_from(
+            alloc,
+            heard,
+            &self.ports,
+            self.held.next_id(),
+            outcome.items,
+        )?;
         Ok(told.effects)
     }
 }

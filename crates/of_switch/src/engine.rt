@@ -34,13 +34,13 @@ ghost use Rattle.of_switch.specs.Steps.{after_command, begun, does, done, after_
 
 use crate::commands::{any_to_absent_group, flow_from, has_flag, names_absent_group, which_from};
 use crate::configuring::config_from;
-use crate::control::{Control, AsyncConfig};
+use crate::control::{AsyncConfig, Control};
 use crate::effect::{Effect, Effects};
 use crate::loading::load_tables;
 use crate::plane::Plane;
 use crate::port_status::{write_change, write_status};
-use crate::told::NO_BUFFER;
 use crate::statistics::{answers, asked_by, asks_absent_port};
+use crate::told::NO_BUFFER;
 use of_actions::InstructionList;
 use of_classifier::Lookup;
 use of_groups::{Buckets, Chosen, GroupFault, GroupKind};
@@ -206,11 +206,7 @@ impl<L: Lookup> Engine<L> {
     }
 
     /// Removes a port. The controller receives the asynchronous messages `heard`.
-    pub fn remove_port(
-        &mut self,
-        heard: AsyncConfig,
-        number: u32,
-    ) -> Result<Effects, AllocError>
+    pub fn remove_port(&mut self, heard: AsyncConfig, number: u32) -> Result<Effects, AllocError>
         ensures ok { IfOk result (λ effects. removed_at heard number self.old (port_at self.old.forwarding.ports number) ≡ does effects.items self.new) }
         ensures err { OnErr result (self.new ≡ self.old) }
     {
@@ -254,9 +250,7 @@ impl<L: Lookup> Engine<L> {
         ensures ok { IfOk result (λ effects. forwarded (framed heard number bytes.now self.old.forwarding) self.old ≡ does effects.items self.new) }
         ensures err { OnErr result (self.new ≡ self.old) }
     {
-        let plan = self
-            .plane
-            .plan_frame(self.alloc, heard, number, bytes)?;
+        let plan = self.plane.plan_frame(self.alloc, heard, number, bytes)?;
         Ok(self.plane.carry_out(plan))
     }
 
@@ -273,8 +267,7 @@ impl<L: Lookup> Engine<L> {
         ensures bound { S.KEEPS ≡ true → length (S.list log.new) ≤ length (S.list log.old) + frame_step_bound }
         ensures err { OnErr result (S.KEEPS ≡ true → GainsPrefix (steps_in number bytes.now self.now.forwarding) (S.list log.old) (S.list log.new)) }
     {
-        self.plane
-            .dry_run(self.alloc, heard, number, bytes, log)
+        self.plane.dry_run(self.alloc, heard, number, bytes, log)
     }
 
     /// The tables and the groups have the invariants that the machine needs.

@@ -45,7 +45,7 @@ module _ (w : TheWorld) (p : Packet) (rest : List Work) where
   copies_by : (port : ℕ) (tables : Bool) → (port == table) ≡ tables → output_copies port (sight_of p) ≡ cond tables (record (sight_of p) { metadata = 0 } ∷ []) []
   copies_by port tables e = ap (λ (b : Bool). cond b (record (sight_of p) { metadata = 0 } ∷ []) []) e
 
-  output_told : (port max_len : ℕ) (tables : Bool) → (port == table) ≡ tables → IsTold w p (output_row w p rest (Output port max_len) port)
+  output_told : (port max_len : ℕ) (tables : Bool) → (port == table) ≡ tables → IsTold w p (output_row w p rest (Output port max_len) port max_len)
   output_told port max_len true e = rw (e, copies_by port true e) refl
   output_told port max_len false e = rw (e, copies_by port false e) refl
 

@@ -90,7 +90,7 @@ module _ (w : TheWorld) (sound : IsSound w) (p : Packet) (rest : List Work) wher
   lookup_spelt t None = (refl, (tt, tt))
   lookup_spelt t (Some n) = entry_spelt t n (w.flow t n) refl
 
-  output_spelt : (port max_len : ℕ) (tables : Bool) → (port == table) ≡ tables → IsTrue (is_supported false (Output port max_len)) → AllSpeltWork rest → IsSpeltRow (output_row w p rest (Output port max_len) port)
+  output_spelt : (port max_len : ℕ) (tables : Bool) → (port == table) ≡ tables → IsTrue (is_supported false (Output port max_len)) → AllSpeltWork rest → IsSpeltRow (output_row w p rest (Output port max_len) port max_len)
   output_spelt port max_len true e h k = rw e (h, ((tt, tt), (k, tt)))
   output_spelt port max_len false e h k = rw e (h, (k, tt))
 
