@@ -12,6 +12,7 @@ mod forwarding;
 mod frames;
 mod grouping;
 mod headers;
+mod holding;
 mod lookups;
 mod matching;
 mod rewriting;
@@ -50,6 +51,7 @@ fn run(rt: &HostRuntime, name: &str) -> io::Result<()> {
         "frame" => forwarding::time_frame(rt),
         "frame_full" => forwarding::time_frame_full(rt),
         "pipeline" => forwarding::time_pipeline(rt),
+        "held" => holding::time_held(rt),
         "flood" => grouping::time_flood(rt),
         "group_mod" => grouping::time_group_mod(rt),
         "group_chain" => grouping::time_group_chain(rt),
