@@ -153,8 +153,9 @@ fn are_given_again<L: Lookup>(rt: &impl Abort, alloc: Global) -> Result<(), Fail
     let wanted = given_at_once::<L>(alloc)?;
     // HELLO 16, BARRIER_REPLY 8, frames 22 and 26, PACKET_IN 60, ECHO_REPLY 10, ERROR 20, three frames 60, FLOW_REMOVED 64, a frame 22;
     // two frames of the tie 44, FLOW_REMOVED 64; two frames behind misses 44; a frame of 60 bytes 64, PACKET_IN 102;
-    // a tagged frame 26, MULTIPART_REPLY 128; four frames of the group 88, three PORT_STATUS 240, FLOW_REMOVED 64, a tagged frame 26
-    assert_eq!(rt; wanted.len(), 1198);
+    // a tagged frame 26, MULTIPART_REPLY 128; four frames of the group 88, three PORT_STATUS 240, FLOW_REMOVED 64, a tagged frame 26;
+    // three PACKET_INs of 14 bytes 168, the three held frames 66, ERROR 52
+    assert_eq!(rt; wanted.len(), 1484);
     assert_eq!(rt; again.as_slice(), wanted.as_slice());
     Ok(())
 }
