@@ -1,16 +1,15 @@
 //! The messages that build a configuration.
-ghost use Rattle.std.specs.Prelude.{◌≡◌, ◌<◌, ◌≤◌, ◌+◌, ◌^◌, ◌++◌, ◌∷◌, [], true, IfOk, OnOk, length, map};
+ghost use Rattle.std.specs.Prelude.{◌≡◌, ◌<◌, ◌≤◌, ◌+◌, ◌^◌, ◌++◌, true, IfOk, OnOk, length, map};
 ghost use Rattle.std.specs.List.{AllByRecursion, list_all};
 ghost use Rattle.of_groups.specs.Buckets.{are_fit};
 ghost use Rattle.of_groups.specs.Chains.{chain};
 ghost use Rattle.of_groups.specs.Sound.{is_fit_group};
-ghost use Rattle.of_messages.specs.CanonicalGroups.{group_add_bytes};
 ghost use Rattle.of_messages.specs.Written.{flow_mod_bytes};
 ghost use Rattle.of_text.specs.Configs.{all_flows};
 ghost use Rattle.of_text.specs.Groups.{buckets_of, groups_at};
 ghost use Rattle.of_text.specs.Kept.{IsEntry};
 ghost use Rattle.of_text.specs.Views.{view, view_flows, view_group, view_groups};
-ghost use Rattle.of_build.specs.Building.{add_of, in_turn, new_of, of_length};
+ghost use Rattle.of_build.specs.Building.{add_of, in_turn, of_length, those};
 ghost use Rattle.of_config.specs.Listing.{flow_adds, group_adds, messages_of};
 
 use of_groups::chain_lengths;
@@ -49,19 +48,6 @@ fn flow_message(alloc: Global, xid: u32, table: u8, flow: &FlowText) -> Result<B
     write_flow_mod(alloc, xid, &flow_mod)
 }
 
-// The GROUP_MOD that adds a group.
-fn group_message(alloc: Global, xid: u32, group: &GroupText) -> Result<Bytes, AllocError>
-    requires { are_fit (buckets_of (view_group group.now)) ≡ true }
-    ensures { IfOk result (λ bytes. bytes ≡ group_add_bytes xid (new_of (view_group group.now))) }
-{
-    let new_group = NewGroup {
-        id: group.head.id,
-        kind: group.head.kind,
-        buckets: group.to_buckets()?,
-    };
-    write_group_mod(alloc, xid, &new_group)
-}
-
 // Appends a message for each flow of a table, with transaction ids from this one on, and returns the next.
 fn push_flows(
     alloc: Global,
@@ -81,6 +67,31 @@ fn push_flows(
         next += 1;
     }
     Ok(next)
+}
+
+// Appends the message that adds a group, if it is wanted, and returns the next transaction id.
+fn push_group(
+    alloc: Global,
+    out: &mut Vec<Bytes>,
+    xid: u32,
+    wanted: bool,
+    group: &GroupText,
+) -> Result<u32, AllocError>
+    requires fit { are_fit (buckets_of (view_group group.now)) ≡ true }
+    requires few { xid + 1 < 2 ^ 32 }
+    ensures messages { OnOk result (out.new.items ≡ out.old.items ++ group_adds xid (those wanted (view_group group.now))) }
+    ensures next { IfOk result (λ next. next ≡ xid + length (those wanted (view_group group.now))) }
+{
+    if !wanted {
+        return Ok(xid);
+    }
+    let new_group = NewGroup {
+        id: group.head.id,
+        kind: group.head.kind,
+        buckets: group.to_buckets()?,
+    };
+    out.push(write_group_mod(alloc, xid, &new_group)?)?;
+    Ok(xid + 1)
 }
 
 // Appends a message for each group that begins a chain of this length, with transaction ids from this one on, and returns the
@@ -103,10 +114,7 @@ fn push_groups(
     let mut next = xid;
     let mut place = 0;
     for group in groups {
-        if lengths[place] == wanted {
-            out.push(group_message(alloc, next, group)?)?;
-            next += 1;
-        }
+        next = push_group(alloc, out, next, lengths[place] == wanted, group)?;
         place += 1;
     }
     Ok(next)

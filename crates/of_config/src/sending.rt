@@ -19,7 +19,9 @@ const HELLO: [u8; 8] = [4, 0, 0, 8, 0, 0, 0, 0];
 
 /// The types of ERROR, FLOW_MOD and GROUP_MOD.
 const ERROR: u8 = 1;
+
 const FLOW_MOD: u8 = 14;
+
 const GROUP_MOD: u8 = 15;
 
 // Whether these bytes are a single whole GROUP_MOD or FLOW_MOD, by its header.
