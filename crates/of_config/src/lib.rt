@@ -2,9 +2,11 @@
 #![tactic(auto)]
 
 mod fault;
+mod laws;
 mod listing;
 mod sending;
 
 pub use fault::ConfigFault;
+pub use laws::{file_has_the_messages, messages_give_it_back};
 pub use listing::messages;
 pub use sending::config_of;
