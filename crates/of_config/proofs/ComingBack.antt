@@ -41,7 +41,7 @@ use Rattle.of_switch.specs.declared.switch_error.SwitchError.{SwitchError}
 use Rattle.of_switch.specs.Calls.{feed_refusal}
 use Rattle.of_switch.specs.Loading.{config_of, loaded_tables}
 use Rattle.of_switch.specs.State.{State, new_core, start}
-use Rattle.of_switch.specs.Runs.{Gives, IsRefused, Happened, Run, happened, piece_in, run, unless}
+use Rattle.of_switch.specs.Runs.{Gives, IsRefused, Report, Happened, Run, happened, piece_in, run, unless}
 use Rattle.of_switch.proofs.ConfiguringLemmas.{told_again}
 use Rattle.of_round_trip.proofs.FlowsAdded.{AreSent, IsSent, flow_events, flows_lead}
 use Rattle.of_round_trip.proofs.GroupsAdded.{AreSentGroups, IsSentGroup, group_events, groups_lead}
@@ -49,7 +49,7 @@ use Rattle.of_round_trip.proofs.Messages.{built, one_message}
 use Rattle.of_round_trip.proofs.Pieces.{Leads, ready}
 use Rattle.of_round_trip.proofs.Present.{all_kept}
 use Rattle.of_config.specs.Listing.{flow_adds, group_adds, messages_of}
-use Rattle.of_config.specs.Sending.{config_by, config_from, error_in, greeted, is_command, unless_refused}
+use Rattle.of_config.specs.Sending.{config_by, config_from, is_command}
 use Rattle.of_config.proofs.SendingLemmas.{greeted_is}
 
 -- ---- the groups of a configuration
@@ -159,7 +159,6 @@ flow_is xid table f s =
     is_of 14 xid (flow_mod_fixed_part (add_of f) ++ tail)
     (omega (arith, length_flow_mod (add_of f), length-append (flow_mod_fixed_part (add_of f)) tail, length-append (canonical f.fields) (canonical_instructions (instructions_of f)), canonical_short f.fields s.entry.fields.rising, instructions_short (instructions_of f) s.entry.kept)) refl
 
-
 groups_are : (xid : ℕ) (all : List Group) (gs : List TextGroup) → AllByRecursion (IsSentGroup all) gs → AreCommands (group_adds xid gs)
 groups_are xid all [] h = tt
 groups_are xid all (g ∷ gs) h = (group_is xid all g h.0, groups_are (xid + 1) all gs h.1)
@@ -211,6 +210,12 @@ messages_lead c k =
     subst (λ (es : List Event). Leads es (ready (new_core 1)) (end_of c)) (pieces c)
     (groups_lead 1 c.groups (empty_tables no_tables) flows (end_of c) refl (groups_sent c.groups (config_groups c k)) (flows_lead 1 (1 + length (in_turn c.groups)) c.groups c.tables (many c k) (all_sent c k)) 1)
 
+first_gives : (a b : List Effect) (xs ys : List Report) → Gives a ∷ xs ≡ Gives b ∷ ys → a ≡ b
+first_gives a b xs ys h = cc
+
+others_give : (a b : List Effect) (xs ys : List Report) → Gives a ∷ xs ≡ Gives b ∷ ys → xs ≡ ys
+others_give a b xs ys h = cc
+
 -- messages to which the switch has nothing to say are accepted
 accepted : (ms : List (List ℕ)) (s t : State) (place : ℕ) → AreCommands ms → Leads (map Piece ms) s t → config_from place ms s ≡ Ok (config_of t)
 accepted [] s t place are leads = ap (λ (r : Run). Ok (config_of r.state)) leads
@@ -227,8 +232,8 @@ accepted (m ∷ ms) s t place are leads = by_refusal (feed_refusal s) refl (acce
         let whole : record { reports = Gives o.effects ∷ rest.reports; state = rest.state } ≡ record { reports = Gives [] ∷ replicate (length (map Piece ms)) (Gives []); state = t } =
         ap (λ (h : Happened). record { reports = h.report ∷ (run (map Piece ms) h.state).reports; state = (run (map Piece ms) h.state).state }) (sym here) ∙ leads in
         let told : Gives o.effects ∷ rest.reports ≡ Gives [] ∷ replicate (length (map Piece ms)) (Gives []) = ap (λ (r : Run). r.reports) whole in
-        let none : o.effects ≡ [] = cc in
-        let others : rest.reports ≡ replicate (length (map Piece ms)) (Gives []) = cc in
+        let none : o.effects ≡ [] = first_gives o.effects [] rest.reports (replicate (length (map Piece ms)) (Gives [])) told in
+        let others : rest.reports ≡ replicate (length (map Piece ms)) (Gives []) = others_give o.effects [] rest.reports (replicate (length (map Piece ms)) (Gives [])) told in
         let later : Leads (map Piece ms) o.state t = λ i. record { reports = others i; state = ap (λ (r : Run). r.state) whole i } in
         rw (are.0, none) (next later)
 

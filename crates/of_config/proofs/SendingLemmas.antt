@@ -1,5 +1,5 @@
 -- Commands that a switch is sent, one by one.
-use Rattle.std.proofs.Common.{◌≡◌, ℕ, suc, ◌+◌, ◌<◌, ◌≤◌, leb, eqb, Bool, true, false, cond, List, [], ◌∷◌, ◌++◌, length, get_or, take, drop, ◌⊎◌, inl, inr, Option, Some, None, Result, Ok, Err, refl, sym, ◌∙◌, ap, subst, arith, add-one, drop-cons}
+use Rattle.std.proofs.Common.{◌≡◌, ℕ, suc, ◌+◌, ◌<◌, leb, eqb, true, false, List, [], ◌∷◌, length, get_or, drop, ◌⊎◌, inl, inr, Option, Some, None, Result, Ok, Err, refl, sym, ◌∙◌, ap, subst, arith, add-one, drop-cons}
 use Rattle.std.specs.Prelude.{◌&&◌, ◌||◌}
 use Rattle.std.proofs.lemmas.Bool.{and_parts, eqb-true, leb-true}
 use Rattle.std.proofs.lemmas.List.{append-nil, drop_all}
@@ -7,12 +7,11 @@ use Rattle.std.specs.Option.{option_map}
 use Rattle.smallvec.specs.SmallVec.{SmallVec}
 use Rattle.of_wire.specs.declared.code.Code.{Code}
 use Rattle.of_messages.specs.declared.message.Message.{Message}
-use Rattle.of_messages.specs.Heads.{flow_mod, group_mod, type_of, xid_of}
+use Rattle.of_messages.specs.Heads.{flow_mod, group_mod, type_of}
 use Rattle.of_messages.specs.Hellos.{version_by, elements_of}
 use Rattle.of_messages.specs.Messages.{message_from}
 use Rattle.of_session.specs.declared.session.Phase.TheVariants.{Open}
 use Rattle.of_session.specs.declared.session.Next.{Next}
-use Rattle.of_session.specs.declared.session.Next.TheVariants.{Read}
 use Rattle.of_session.specs.Stream.{IsMessage, Whole, beginning_of, length_of}
 use Rattle.of_session.specs.Session.{read_as}
 use Rattle.of_session.proofs.Fronts.{message_front}
@@ -22,13 +21,13 @@ use Rattle.of_switch.specs.declared.effect.Effect.{Effect}
 use Rattle.of_switch.specs.declared.effect.Effect.TheVariants.{Answer}
 use Rattle.of_switch.specs.declared.switch_error.SwitchError.{SwitchError}
 use Rattle.of_switch.specs.State.{Core, State, new_core, start}
-use Rattle.of_switch.specs.Steps.{Outcome, Done, beside, coming, connected, fed, gives, next_by, next_of}
+use Rattle.of_switch.specs.Steps.{Outcome, coming, connected, fed, gives, next_by, next_of}
 use Rattle.of_switch.specs.Calls.{Call, connect_refusal, feed_refusal}
-use Rattle.of_switch.specs.Runs.{behind, drain, drained, piece_in}
+use Rattle.of_switch.specs.Runs.{behind, drain, piece_in}
 use Rattle.of_switch.proofs.Joining.{drained_more, drained_none}
 use Rattle.of_config.specs.declared.fault.ConfigFault.{ConfigFault}
 use Rattle.of_config.specs.declared.fault.ConfigFault.TheVariants.{NoMemory, NotACommand, Refused}
-use Rattle.of_config.specs.Sending.{IsReady, code_of, config_by, config_from, error_in, greeted, is_command, or_else, unless_refused}
+use Rattle.of_config.specs.Sending.{IsReady, code_of, config_by, config_from, error_in, greeted, is_command, or_else}
 
 -- ---- an open connection
 
@@ -37,7 +36,7 @@ abbrev pub ready : Core → State
 ready k = record { connection = record { phase = Open; pending = [] }; core = k }
 
 -- on which these bytes alone were received
-abbrev having : List ℕ → Core → State
+abbrev pub having : List ℕ → Core → State
 having m k = record { connection = record { phase = Open; pending = m }; core = k }
 
 pub greeted_is : greeted ≡ ready (new_core 1)
@@ -49,7 +48,7 @@ unfolding version_by elements_of
 hello_opens = refl
 
 -- it is the one of its core
-is_ready : (s : State) → IsReady s → s ≡ ready s.core
+pub is_ready : (s : State) → IsReady s → s ≡ ready s.core
 is_ready s h = λ i. record { connection = h i; core = s.core }
 
 -- ---- a command is one message
@@ -67,12 +66,12 @@ record IsHandled (m : List ℕ) (k : Core) : Type 0 where
   next : next_of (having m k) ≡ Some outcome
   after : IsReady outcome.state
 
-read_whole : (m : List ℕ) (k : Core) → IsMessage m → coming (having m k) ≡ read_as m (message_from k.control.role m)
+pub read_whole : (m : List ℕ) (k : Core) → IsMessage m → coming (having m k) ≡ read_as m (message_from k.control.role m)
 read_whole m k one =
     let whole : beginning_of m ≡ Whole m [] = ap beginning_of (sym (append-nil m)) ∙ message_front m [] one in
     rw whole refl
 
-none_left : (m : List ℕ) → drop (length m) m ≡ []
+pub none_left : (m : List ℕ) → drop (length m) m ≡ []
 none_left m = drop_all (length m) m (omega arith)
 
 handled_by : (m : List ℕ) (k : Core) (r : Result Message Code) → coming (having m k) ≡ read_as m r → IsHandled m k
@@ -94,7 +93,7 @@ waits_for_none : (s : State) → IsReady s → next_of s ≡ None
 waits_for_none s h = ap next_of (is_ready s h)
 
 -- what one call of `next` gives is what the whole piece gives
-whole_piece : (m : List ℕ) (k : Core) (o : Outcome) → next_of (having m k) ≡ Some o → IsReady o.state → piece_in m (ready k) ≡ o
+pub whole_piece : (m : List ℕ) (k : Core) (o : Outcome) → next_of (having m k) ≡ Some o → IsReady o.state → piece_in m (ready k) ≡ o
 whole_piece m k o e after =
     drained_more (having m k) o e
     ∙ (ap (behind o.effects) (drained_none o.state (waits_for_none o.state after))

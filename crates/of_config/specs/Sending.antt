@@ -24,7 +24,7 @@ is_command m = nat_le 8 (length m) && (length_of m == length m && (type_of m == 
 
 -- the code of an ERROR (7.4.4); None of another message
 abbrev pub code_of : List ℕ → Option Code
-code_of m = if nat_le 12 (length m) && type_of m == error then Some (record { kind = big_number 2 (drop 8 m); code = big_number 2 (drop 10 m) }) else None
+code_of m = if type_of m == error && nat_le 12 (length m) then Some (record { kind = big_number 2 (drop 8 m); code = big_number 2 (drop 10 m) }) else None
 
 -- this, or else that
 abbrev pub or_else : Option Code → Option Code → Option Code

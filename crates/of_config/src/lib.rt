@@ -7,6 +7,6 @@ mod listing;
 mod sending;
 
 pub use fault::ConfigFault;
-pub use laws::{file_has_the_messages, messages_give_it_back};
+pub use laws::{each_is_taken_or_the_first_is_named, file_has_the_messages, messages_give_it_back};
 pub use listing::messages;
 pub use sending::config_of;
