@@ -1,0 +1,4 @@
+pub mod ListingLemmas
+pub mod SendingLemmas
+pub mod ComingBack
+pub mod Outcomes

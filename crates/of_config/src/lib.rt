@@ -1,0 +1,12 @@
+//! Configurations as messages of a controller.
+#![tactic(auto)]
+
+mod fault;
+mod laws;
+mod listing;
+mod sending;
+
+pub use fault::ConfigFault;
+pub use laws::{each_is_taken_or_the_first_is_named, file_has_the_messages, messages_give_it_back};
+pub use listing::messages;
+pub use sending::config_of;
