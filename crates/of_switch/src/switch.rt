@@ -69,7 +69,7 @@ impl<L: Lookup> Model for Switch<L> {
 }
 
 impl<L: Lookup> Switch<L> {
-    /// A switch with that datapath_id (OpenFlow 1.3.5, 7.3.1), without a connection, flows, groups and ports.
+    /// A switch with that datapath_id (OpenFlow 1.3.5, 7.3.1), without a connection, flows, groups, ports and held frames.
     pub fn new(alloc: Global, dpid: u64) -> Result<Self, AllocError>
         ensures { IfOk result (λ s. s ≡ start dpid) }
     {
@@ -97,7 +97,8 @@ impl<L: Lookup> Switch<L> {
     /// The connection is lost, or closed by the controller (OpenFlow 1.3.5, 6.3.2). Without a connection nothing happens.
     ///
     /// Flows, groups and ports stay, and so do the configuration and the last generation_id; the role and the masks of
-    /// asynchronous messages are those of the start again, and bytes that were received and not handled are dropped.
+    /// asynchronous messages are those of the start again, and bytes that were received and not handled are dropped, and so are the
+    /// frames that are held; the next id stays.
     pub fn lost(&mut self)
         ensures { self.new ≡ lost_from self.old }
     {
@@ -224,9 +225,10 @@ impl<L: Lookup> Switch<L> {
 
     /// The effects that `frame` would give next, and the steps of the frame's run, which are put into the log (OpenFlow 1.3.5, 5.1).
     ///
-    /// Nothing changes: no counter, no moment. In the steps an entry is named by its index in its table by age, from 0. A frame
-    /// at a port that does not exist or may not receive, or one that is too short or too long, takes no steps. Where memory
-    /// runs out, the log has the first steps, or all. It gains 143,271,552 steps at most, whatever the flows and groups are.
+    /// Nothing changes: no counter, no moment; no frame is held, though a PACKET_IN has the id that its frame would get. In the steps
+    /// an entry is named by its index in its table by age, from 0. A frame at a port that does not exist or may not receive, or one
+    /// that is too short or too long, takes no steps. Where memory runs out, the log has the first steps, or all. It gains 143,271,552
+    /// steps at most, whatever the flows and groups are.
     pub fn dry_run<S: StepLog>(
         &self,
         port: u32,
