@@ -79,6 +79,7 @@ split_more old new gs g h key n e vacant u fine looks asks m a =
             (λ l. (let x = a.index.cells q i l in record { entry = x.entry; stands = same i x.entry x.stands; looks = looks_masked g h x.entry m.mask x.looks; asks = x.asks; ranked = m.kept x.entry.priority i x.ranked }))
             (λ r. record { entry = e; stands = subst (λ j. get new j ≡ Some e) r.0 u.changed; looks = looks_masked g h e m.mask looks; asks = subst (λ z. AsksFor z e) r.1 asks; ranked = subst (λ j. is_ranked h e.priority j ≡ true) r.0 m.itself })
             (more_cell g h key q e.priority n i m c);
+        occupied = m.occupied a.index.occupied;
       };
       complete = λ i x s. ⊎_elim
           (λ q. (let y : x ≡ e = some_same (get new n) x e (subst (λ j. get new j ≡ Some x) q s) u.changed in
@@ -136,6 +137,7 @@ split_less old new gs g h key n e stood u looks asks m a =
             let x = a.index.cells q i o.0 in
             let other : i ≢ n = λ t. o.1 (asks_test key q e asks (subst (λ z. AsksFor q z) (is_e i x.entry x.stands t) x.asks)) t in
             record { entry = x.entry; stands = u.others i other ∙ x.stands; looks = looks_masked g h x.entry m.mask x.looks; asks = x.asks; ranked = m.kept x.entry.priority i (λ t. other t.1) x.ranked });
+        occupied = m.occupied a.index.occupied;
       };
       complete = λ i x s. (let other = was i x s in ⊎_elim (λ l. inl l) (λ r. inr (record { looks = looks_masked g h x m.mask r.looks; ranked = m.kept x.priority i (λ t. other t.1) r.ranked; cell = λ w v. less_kept g h key w e.priority n i m other (r.cell w v) })) (a.complete i x (sym (u.others i other) ∙ s)));
       normal = λ i x s. a.normal i x (sym (u.others i (was i x s)) ∙ s);

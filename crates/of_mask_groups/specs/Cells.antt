@@ -34,6 +34,14 @@ pub record HasRoomAt {S : Type 0} (cells : HashMap MaskedKey (Vec ℕ) S) (key :
   pub stands : get_by (the_key.eq-value.it (masked_key key)) cells ≡ Some cell
   pub room : vec_len cell < vec_capacity cell
 
+-- a list that is there has a number: there are no more lists than entries
+abbrev pub AreOccupied : {S : Type 0} → HashMap MaskedKey (Vec ℕ) S → Type 0
+AreOccupied cells = (k : FieldKey) → HasCell cells k → cell_at cells k ≡ [] → ⊥
+
+-- but for the list under one key, which may be empty
+abbrev pub AreOccupiedBut : {S : Type 0} → FieldKey → HashMap MaskedKey (Vec ℕ) S → Type 0
+AreOccupiedBut key cells = (k : FieldKey) → is_key key k ≡ false → HasCell cells k → cell_at cells k ≡ [] → ⊥
+
 -- one key's cell has one more number
 pub record CellMore {S : Type 0} (old new : HashMap MaskedKey (Vec ℕ) S) (key : FieldKey) (n : ℕ) : Type 0 where
   pub at : cell_at new key ≡ cell_at old key ++ n ∷ []

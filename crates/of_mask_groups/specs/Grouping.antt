@@ -10,7 +10,7 @@ use Rattle.of_oxm.specs.declared.masks.FieldMask.{FieldMask}
 use Rattle.of_oxm.specs.Masks.{looked_at, value_of, mask_at}
 use Rattle.of_mask_groups.specs.declared.entry.Entry.{Entry}
 use Rattle.of_mask_groups.specs.declared.group.Group.{Group}
-use Rattle.of_mask_groups.specs.Cells.{cell_at, CellMore, CellLess}
+use Rattle.of_mask_groups.specs.Cells.{cell_at, AreOccupied, CellMore, CellLess}
 use Rattle.of_mask_groups.specs.Ranks.{has_rank, IsHighest}
 
 -- ---- an entry and a group
@@ -47,6 +47,7 @@ pub record IsIndex (entries : Slab Entry) (g : Group) : Type 0 where
   pub settled : IsHighest g.ranks g.best
   pub members : (p n : ℕ) → is_ranked g p n ≡ true → IsMember entries g p n
   pub cells : (k : FieldKey) (n : ℕ) → Contains (cell_at g.cells k) n → IsInCell entries g k n
+  pub occupied : AreOccupied g.cells
 
 -- and at least one
 pub record IsGroup (entries : Slab Entry) (g : Group) : Type 0 where
@@ -113,6 +114,7 @@ pub record HasMore (g h : Group) (k : FieldKey) (p n : ℕ) : Type 0 where
   pub kept : (q m : ℕ) → is_ranked g q m ≡ true → is_ranked h q m ≡ true
   pub itself : is_ranked h p n ≡ true
   pub cells : CellMore g.cells h.cells k n
+  pub occupied : AreOccupied g.cells → AreOccupied h.cells
 
 -- the group lacks that number
 pub record HasLess (g h : Group) (k : FieldKey) (p n : ℕ) : Type 0 where
@@ -121,6 +123,7 @@ pub record HasLess (g h : Group) (k : FieldKey) (p n : ℕ) : Type 0 where
   pub ranks : (q m : ℕ) → is_ranked h q m ≡ true → (is_ranked g q m ≡ true) × (((q ≡ p) × (m ≡ n)) → ⊥)
   pub kept : (q m : ℕ) → (((q ≡ p) × (m ≡ n)) → ⊥) → is_ranked g q m ≡ true → is_ranked h q m ≡ true
   pub cells : CellLess g.cells h.cells k n
+  pub occupied : AreOccupied g.cells → AreOccupied h.cells
 
 -- the group is the same
 pub record IsSame (g h : Group) : Type 0 where
@@ -128,3 +131,4 @@ pub record IsSame (g h : Group) : Type 0 where
   pub best : h.best ≡ g.best
   pub ranks : h.ranks.keys ≡ g.ranks.keys
   pub cells : (k : FieldKey) → cell_at h.cells k ≡ cell_at g.cells k
+  pub occupied : AreOccupied g.cells → AreOccupied h.cells

@@ -1,7 +1,7 @@
 //! The numbers of the entries of a group, by the keys that their matches ask for.
-ghost use Rattle.std.specs.Prelude.{◌≡◌, [], IsTrue, OnOk};
+ghost use Rattle.std.specs.Prelude.{◌≡◌, [], false, IsTrue, OnOk, OnErr};
 ghost use Rattle.of_headers.specs.declared.key.FieldKey.{FieldKey as AKey};
-ghost use Rattle.of_mask_groups.specs.Cells.{cell_at, others, HasCell, HasRoomAt, CellMore, CellLess};
+ghost use Rattle.of_mask_groups.specs.Cells.{cell_at, others, AreOccupied, AreOccupiedBut, HasCell, HasRoomAt, CellMore, CellLess};
 
 use crate::masked::MaskedKey;
 use of_headers::FieldKey;
@@ -14,6 +14,8 @@ pub(crate) type Cells = HashMap<MaskedKey, Vec<usize>>;
 fn make_cell(cells: &mut Cells, alloc: Global, key: &FieldKey) -> Result<(), AllocError>
     ensures same { (k : AKey) → cell_at cells.new k ≡ cell_at cells.old k }
     ensures there { OnOk result (HasCell cells.new key.now) }
+    ensures occupied { AreOccupied cells.old → AreOccupiedBut key.now cells.new }
+    ensures err { OnErr result (AreOccupied cells.old → AreOccupied cells.new) }
 {
     let key = MaskedKey { fields: *key };
     if cells.contains_key(&key) {
@@ -27,6 +29,7 @@ fn reserve_cell(cells: &mut Cells, key: &FieldKey) -> Result<(), AllocError>
     requires { HasCell cells.old key.now }
     ensures same { (k : AKey) → cell_at cells.new k ≡ cell_at cells.old k }
     ensures room { OnOk result (HasRoomAt cells.new key.now) }
+    ensures occupied { AreOccupiedBut key.now cells.old → AreOccupiedBut key.now cells.new }
 {
     match cells.get_mut(&MaskedKey { fields: *key }) {
         Some(cell) => cell.reserve(1),
@@ -34,19 +37,26 @@ fn reserve_cell(cells: &mut Cells, key: &FieldKey) -> Result<(), AllocError>
     }
 }
 
-/// Reserves capacity for one more number under a key.
+/// Reserves capacity for one more number under a key, whose list may be empty until the number is there.
 pub(crate) fn make_room(cells: &mut Cells, alloc: Global, key: &FieldKey) -> Result<(), AllocError>
     ensures same { (k : AKey) → cell_at cells.new k ≡ cell_at cells.old k }
     ensures room { OnOk result (HasRoomAt cells.new key.now) }
+    ensures occupied { AreOccupied cells.old → AreOccupiedBut key.now cells.new }
+    ensures err { OnErr result (AreOccupied cells.old → AreOccupied cells.new) }
 {
     make_cell(cells, alloc, key)?;
-    reserve_cell(cells, key)
+    let reserved = reserve_cell(cells, key);
+    if reserved.is_err() {
+        drop_vacant(cells, key);
+    }
+    reserved
 }
 
 /// Puts a number under a key.
 pub(crate) fn push_number(cells: &mut Cells, key: &FieldKey, number: usize)
     requires { HasRoomAt cells.old key.now }
-    ensures { CellMore cells.old cells.new key.now number }
+    ensures more { CellMore cells.old cells.new key.now number }
+    ensures occupied { AreOccupiedBut key.now cells.old → AreOccupied cells.new }
 {
     match cells.get_mut(&MaskedKey { fields: *key }) {
         Some(cell) => match cell.push(number) {
@@ -64,7 +74,8 @@ fn keep_others(cell: &mut Vec<usize>, number: usize)
 }
 
 fn remove_number(cells: &mut Cells, key: &FieldKey, number: usize)
-    ensures { CellLess cells.old cells.new key.now number }
+    ensures less { CellLess cells.old cells.new key.now number }
+    ensures occupied { AreOccupied cells.old → AreOccupiedBut key.now cells.new }
 {
     if let Some(cell) = cells.get_mut(&MaskedKey { fields: *key }) {
         keep_others(cell, number);
@@ -72,7 +83,8 @@ fn remove_number(cells: &mut Cells, key: &FieldKey, number: usize)
 }
 
 fn is_vacant(cells: &Cells, key: &FieldKey) -> bool
-    ensures { IsTrue result → cell_at cells.now key.now ≡ [] }
+    ensures empty { IsTrue result → cell_at cells.now key.now ≡ [] }
+    ensures occupied { result ≡ false → HasCell cells.now key.now → cell_at cells.now key.now ≡ [] → ⊥ }
 {
     match cells.get(&MaskedKey { fields: *key }) {
         Some(cell) => cell.is_empty(),
@@ -80,12 +92,21 @@ fn is_vacant(cells: &Cells, key: &FieldKey) -> bool
     }
 }
 
-/// Removes a number from under a key.
-pub(crate) fn drop_number(cells: &mut Cells, key: &FieldKey, number: usize)
-    ensures { CellLess cells.old cells.new key.now number }
+/// Drops the list under a key, if it is empty.
+pub(crate) fn drop_vacant(cells: &mut Cells, key: &FieldKey)
+    ensures same { (k : AKey) → cell_at cells.new k ≡ cell_at cells.old k }
+    ensures occupied { AreOccupiedBut key.now cells.old → AreOccupied cells.new }
 {
-    remove_number(cells, key, number);
     if is_vacant(cells, key) {
         cells.remove(&MaskedKey { fields: *key });
     }
+}
+
+/// Removes a number from under a key.
+pub(crate) fn drop_number(cells: &mut Cells, key: &FieldKey, number: usize)
+    ensures less { CellLess cells.old cells.new key.now number }
+    ensures occupied { AreOccupied cells.old → AreOccupied cells.new }
+{
+    remove_number(cells, key, number);
+    drop_vacant(cells, key);
 }

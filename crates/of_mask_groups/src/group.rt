@@ -1,10 +1,10 @@
 //! The entries of one mask.
 ghost use Rattle.std.specs.Prelude.{◌≡◌, ◌+◌, ◌<◌, ◌^◌, IsTrue, ◌↔◌, [], OnOk, OnErr};
 ghost use Rattle.of_headers.specs.declared.key.FieldKey.{FieldKey as AKey};
-ghost use Rattle.of_mask_groups.specs.Cells.{cell_at};
+ghost use Rattle.of_mask_groups.specs.Cells.{cell_at, AreOccupied};
 ghost use Rattle.of_mask_groups.specs.Grouping.{HasMore, HasLess, IsSame};
 
-use crate::cells::{Cells, drop_number, make_room, push_number};
+use crate::cells::{Cells, drop_number, drop_vacant, make_room, push_number};
 use crate::masked::MaskedKey;
 use crate::rank::{Rank, highest};
 use of_headers::FieldKey;
@@ -30,6 +30,7 @@ impl Group {
         ensures mask { result.mask ≡ mask }
         ensures ranks { result.ranks.keys ≡ [] }
         ensures cells { (k : AKey) → cell_at result.cells k ≡ [] }
+        ensures occupied { AreOccupied result.cells }
     {
         Group {
             mask,
@@ -70,7 +71,10 @@ impl Group {
         ensures err { OnErr result (IsSame self.old self.new) }
     {
         make_room(&mut self.cells, alloc, key)?;
-        self.ranks.insert(rank)?;
+        if let Err(error) = self.ranks.insert(rank) {
+            drop_vacant(&mut self.cells, key);
+            return Err(error.into());
+        }
         push_number(&mut self.cells, key, rank.number);
         self.best = highest(&self.ranks);
         Ok(())
