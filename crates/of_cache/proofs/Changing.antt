@@ -35,19 +35,16 @@ listed_filter masks p rows h row c = h row (of_filter p rows row c).0
 
 -- ---- an entry is removed, renewed or added
 
-pub removed : (masks : List FieldMask) (content after : List Row) (rows new : List AnsweredRegion) (number : ℕ) → after ≡ without row_number number content → new ≡ staying (Answers number) rows
-    → AreSound content rows × AreListed masks rows → AreSound after new × AreListed masks new
-removed masks content after rows new number e f h = (
-  subst (λ (xs : List Row). AreSound xs new) (sym e) (subst (λ (es : List AnsweredRegion). AreSound (without row_number number content) es) (sym f) (stays_removed content rows number h.0)),
-  subst (AreListed masks) (sym f) (listed_filter masks (λ row. not (goes (Answers number) row)) rows h.1),
-)
+pub listed_left : (masks : List FieldMask) (rows new : List AnsweredRegion) (number : ℕ) → new ≡ staying (Answers number) rows → AreListed masks rows → AreListed masks new
+listed_left masks rows new number f h = subst (AreListed masks) (sym f) (listed_filter masks (λ row. not (goes (Answers number) row)) rows h)
 
-pub renewed : (masks : List FieldMask) (content after : List Row) (rows new : List AnsweredRegion) (number : ℕ) → after ≡ moved_to_end row_number number content → new ≡ staying (Answers number) rows
-    → AreSound content rows × AreListed masks rows → AreSound after new × AreListed masks new
-renewed masks content after rows new number e f h = (
-  subst (λ (xs : List Row). AreSound xs new) (sym e) (subst (λ (es : List AnsweredRegion). AreSound (moved_to_end row_number number content) es) (sym f) (stays_renewed content rows number h.0)),
-  subst (AreListed masks) (sym f) (listed_filter masks (λ row. not (goes (Answers number) row)) rows h.1),
-)
+pub removed : (content after : List Row) (rows new : List AnsweredRegion) (number : ℕ) → after ≡ without row_number number content → new ≡ staying (Answers number) rows → AreSound content rows → AreSound after new
+removed content after rows new number e f h =
+    subst (λ (xs : List Row). AreSound xs new) (sym e) (subst (λ (es : List AnsweredRegion). AreSound (without row_number number content) es) (sym f) (stays_removed content rows number h))
+
+pub renewed : (content after : List Row) (rows new : List AnsweredRegion) (number : ℕ) → after ≡ moved_to_end row_number number content → new ≡ staying (Answers number) rows → AreSound content rows → AreSound after new
+renewed content after rows new number e f h =
+    subst (λ (xs : List Row). AreSound xs new) (sym e) (subst (λ (es : List AnsweredRegion). AreSound (moved_to_end row_number number content) es) (sym f) (stays_renewed content rows number h))
 
 pub same_staying : (mask : FieldMask) (key : FieldKey) (m : List MatchField) (priority : ℕ) (rows : List AnsweredRegion) → ((f : Field) → mask_at mask f ≡ looked_at m f) → ((f : Field) → value key f ≡ value_of m f) → staying (Added mask key priority) rows ≡ not_beaten m priority rows
 same_staying mask key m priority rows e f = λ i. filter (λ row. not (is_beaten priority row.1 && meets_seen (λ g. e g i) (λ g. f g i) row.0)) rows

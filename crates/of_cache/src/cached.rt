@@ -11,6 +11,7 @@ ghost use Rattle.of_classifier.specs.Scanning.{pair_of};
 ghost use Rattle.of_cache.specs.Held.{Held, held, shown};
 ghost use Rattle.of_cache.specs.Kept.{AreSound, not_answering, not_beaten};
 ghost use Rattle.of_cache.specs.Finding.{AreFound};
+ghost use Rattle.of_cache.specs.Listed.{AreListed};
 
 use crate::beaten::drop_beaten;
 use crate::cause::Cause;
@@ -50,7 +51,7 @@ impl<L: Lookup> Model for Cached<L> {
 }
 
 impl<L: Lookup> Cached<L> {
-    /// The classifier, without rows, of which it keeps this many at most.
+    /// The classifier, without rows, of which it keeps this many at most. It fails only if memory runs out.
     pub fn with_rows(alloc: Global, inner: L, capacity: usize) -> Result<Self, AllocError>
         requires { 0 < capacity }
         ensures { IfOk result (λ c. c ≡ held (L.content inner) [] capacity) }
@@ -66,7 +67,7 @@ impl<L: Lookup> Cached<L> {
         })
     }
 
-    /// The rows, the most recently used first.
+    /// The rows, the most recently used first. It fails only if memory runs out.
     pub fn rows(&self, alloc: Global) -> Result<Vec<Row>, AllocError>
         ensures { IfOk result (λ rows. rows.items ≡ map shown self.now.rows) }
     {
@@ -146,8 +147,7 @@ impl<L: Lookup> Lookup for Cached<L> {
         ensures capacity { self.new.capacity ≡ self.old.capacity }
     {
         self.inner.take(number);
-        drop_rows(&mut self.rows, &Cause::Answers(number));
-        drop_masks(&self.rows, &mut self.masks);
+        drop_answers(&mut self.rows, &mut self.masks, number);
     }
 
     fn same(&self, fields: &Match, priority: u16) -> Option<usize> {
@@ -161,13 +161,23 @@ impl<L: Lookup> Lookup for Cached<L> {
         ensures capacity { self.new.capacity ≡ self.old.capacity }
     {
         self.inner.renew(number);
-        drop_rows(&mut self.rows, &Cause::Answers(number));
-        drop_masks(&self.rows, &mut self.masks);
+        drop_answers(&mut self.rows, &mut self.masks, number);
     }
 
     fn known(&self) {
         self.inner.known();
     }
+}
+
+// Drops the rows that answer the entry of that number.
+fn drop_answers(rows: &mut Rows, masks: &mut Vec<FieldMask>, number: usize)
+    requires { AreListed masks.old.items rows.old.entries }
+    ensures entries { rows.new.entries ≡ not_answering number rows.old.entries }
+    ensures capacity { rows.new.cap ≡ rows.old.cap }
+    ensures listed { AreListed masks.new.items rows.new.entries }
+{
+    drop_rows(rows, &Cause::Answers(number));
+    drop_masks(rows, masks);
 }
 
 fn rows_of(rows: &Rows, alloc: Global) -> Result<Vec<Row>, AllocError>
