@@ -1,8 +1,6 @@
 -- The kinds of actions that some bytes spell: 30 ranks.
-use Rattle.std.proofs.Common.{◌≡◌, ℕ, ◌≤◌, ◌<◌, ◌+◌, ◌++◌, Bool, true, false, not, cond, eqb, ltb, List, [], ◌∷◌, length, refl, sym, ap, arith}
-use Rattle.std.specs.Prelude.{filter, find, map, Option, Some, None}
-use Rattle.std.specs.Option.{MatchOption}
-use Rattle.arrayvec.specs.ArrayVec.{ArrayVec}
+use Rattle.std.proofs.Common.{◌≡◌, ℕ, ◌≤◌, ◌<◌, ◌+◌, ◌++◌, Bool, true, false, not, cond, eqb, ltb, List, [], ◌∷◌, length, refl, sym, arith}
+use Rattle.std.specs.Prelude.{filter, find, map, Option, None}
 use Rattle.std.specs.List.{list_all}
 use Rattle.std.proofs.lemmas.Bool.Decides.{nat_tests, eqb_tells}
 use Rattle.std.proofs.lemmas.List.{append-nil}
@@ -16,7 +14,6 @@ use Rattle.of_actions.specs.declared.action.Action.TheVariants.{SetField}
 use Rattle.of_actions.specs.Supported.{is_supported}
 use Rattle.of_actions.specs.Rising.{is_ascending}
 use Rattle.of_action_set.specs.Sets.{rank, is_output}
-use Rattle.of_action_set.specs.Storage.{stored}
 use Rattle.of_action_set.proofs.Ranked.{is_in, at_most, below, but, put, rising_put, all_put, insert_is_put, length-filter_le}
 
 -- tags and TTL, the fields that may be set, GROUP and OUTPUT
@@ -113,10 +110,3 @@ put_few a s rising served is =
     let more = length-insert (but rank (rank a) s) (length (below rank (rank a) (but rank (rank a) s))) a fits in
     let same : length (put rank a s) ≡ length (but rank (rank a) s) + 1 = rw (insert_is_put rank a s rising) at more in
     omega (arith, most, same)
-
--- ---- the first action
-
--- a set has its place made for it, or has it already
-pub at_first : (o : Option (ArrayVec Action)) (v : ArrayVec Action) → MatchOption o (v.items ≡ []) (λ x. v ≡ x) → v.items ≡ stored o
-at_first None v h = h
-at_first (Some x) v h = ap (λ (y : ArrayVec Action). y.items) h

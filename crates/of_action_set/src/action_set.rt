@@ -1,9 +1,10 @@
 //! Action sets.
-ghost use Rattle.std.specs.Prelude.{◌≡◌, ◌≤◌, ◌==◌, [], true, false, not, length, filter, IsTrue};
+ghost use Rattle.std.specs.Prelude.{◌≡◌, ◌≤◌, ◌<◌, ◌==◌, [], ◌∷◌, true, false, not, length, filter, IsTrue};
 ghost use Rattle.std.specs.List.{list_all};
 ghost use Rattle.of_actions.specs.Supported.{is_supported};
 ghost use Rattle.of_actions.specs.Rising.{is_ascending};
 ghost use Rattle.of_action_set.specs.Sets.{rank as rank_of, is_output as is_an_output, with_action, with_actions, in_order as run_order};
+ghost use Rattle.of_action_set.specs.Storage.{items_in};
 
 use crate::rank::{has_group, is_output, place_of, rank};
 use arrayvec::ArrayVec;
@@ -13,13 +14,23 @@ use std::marker::Model;
 /// How many kinds there are: six without set-field, and 24 fields that may be set.
 const KINDS: usize = 30;
 
+/// How many actions most sets have at most.
+const FEW: usize = 4;
+
+/// Where a set has its actions. Filling unused places takes time, so most sets have few.
+#[derive(Debug, Drop)]
+enum Stored {
+    Few(ArrayVec<Action, FEW>),
+    All(ArrayVec<Action, KINDS>),
+}
+
 /// The actions that a packet gathers on its way, at most one of a kind (OpenFlow 1.3.5, 5.10).
 ///
 /// It is of fixed size and needs no allocation.
 #[derive(Debug, Drop)]
 pub struct ActionSet {
-    // none until the first is written: most packets write none, and filling unused places takes time
-    actions: Option<ArrayVec<Action, KINDS>>,
+    // none until the first is written: most packets write none
+    actions: Option<Stored>,
 }
 
 impl Model for ActionSet {
@@ -60,7 +71,10 @@ impl ActionSet {
         requires { IsTrue (is_supported false action) }
         ensures { self.new ≡ with_action self.old action }
     {
-        put_in(self.actions.get_or_insert_with(ArrayVec::new), action);
+        match &mut self.actions {
+            Some(stored) => stored.put(action),
+            None => self.actions = Some(Stored::first(action)),
+        }
     }
 
     /// Empties it (OpenFlow 1.3.5, 5.9).
@@ -99,7 +113,8 @@ impl ActionSet {
         ensures { result.now ≡ self.now }
     {
         match &self.actions {
-            Some(actions) => actions.as_slice(),
+            Some(Stored::Few(few)) => few.as_slice(),
+            Some(Stored::All(all)) => all.as_slice(),
             None => &[],
         }
     }
@@ -114,11 +129,54 @@ impl ActionSet {
     }
 }
 
+impl Stored {
+    // One action.
+    fn first(action: Action) -> Stored
+        ensures { items_in result ≡ action ∷ [] }
+    {
+        let mut few = ArrayVec::new();
+        few.push(action);
+        Stored::Few(few)
+    }
+
+    // Replaces the action of its kind. Where there is no place for one more, all places are filled.
+    fn put(&mut self, action: Action)
+        requires rising { IsTrue (is_ascending rank_of (items_in self.old)) }
+        requires served { IsTrue (list_all (is_supported false) (items_in self.old)) }
+        requires one { IsTrue (is_supported false action) }
+        ensures { items_in self.new ≡ with_action (items_in self.old) action }
+    {
+        match self {
+            Stored::All(all) => put_in(all, action),
+            Stored::Few(few) => {
+                if few.len() < FEW {
+                    put_in(few, action);
+                } else {
+                    let mut all = all_of(few);
+                    put_in(&mut all, action);
+                    *self = Stored::All(all);
+                }
+            }
+        }
+    }
+}
+
+// The same actions, with a place for each kind.
+fn all_of(few: &ArrayVec<Action, FEW>) -> ArrayVec<Action, KINDS>
+    ensures { result.items ≡ few.now.items }
+{
+    let mut all = ArrayVec::new();
+    match all.try_extend_from_slice(few.as_slice()) {
+        Ok(()) => {}
+        Err(_) => unreachable!(),
+    }
+    all
+}
+
 // Replaces the action of its kind.
-fn put_in(actions: &mut ArrayVec<Action, KINDS>, action: Action)
+fn put_in<const PLACES: usize>(actions: &mut ArrayVec<Action, PLACES>, action: Action)
     requires rising { IsTrue (is_ascending rank_of actions.old.items) }
-    requires served { IsTrue (list_all (is_supported false) actions.old.items) }
-    requires one { IsTrue (is_supported false action) }
+    requires room { length (filter (λ a. not (rank_of a == rank_of action)) actions.old.items) < PLACES }
     ensures { actions.new.items ≡ with_action actions.old.items action }
 {
     let kind = rank(action);
@@ -127,7 +185,7 @@ fn put_in(actions: &mut ArrayVec<Action, KINDS>, action: Action)
     actions.insert(place, action);
 }
 
-fn remove_kind(actions: &mut ArrayVec<Action, KINDS>, kind: u8)
+fn remove_kind<const PLACES: usize>(actions: &mut ArrayVec<Action, PLACES>, kind: u8)
     ensures { actions.new.items ≡ filter (λ a. not (rank_of a == kind)) actions.old.items }
 {
     actions.retain(|action| rank(*action) != kind);

@@ -11,3 +11,15 @@ abbrev pub IsKnownOf : Known → List ℕ → Type 0
 IsKnownOf Nothing frame = ⊤
 IsKnownOf (Places y) frame = y ≡ layout_of (layers_of frame)
 IsKnownOf (Fields h) frame = (h.layout ≡ layout_of (layers_of frame)) × (value h.key ≡ field_map (layers_of frame) 0 0)
+
+-- where the layers begin is known
+abbrev pub HasPlaces : Known → Type 0
+HasPlaces Nothing = ⊥
+HasPlaces (Places y) = ⊤
+HasPlaces (Fields h) = ⊤
+
+-- and the fields are
+abbrev pub HasFields : Known → Type 0
+HasFields Nothing = ⊥
+HasFields (Places y) = ⊥
+HasFields (Fields h) = ⊤

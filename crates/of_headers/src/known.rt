@@ -5,7 +5,7 @@ ghost use Rattle.of_layers.specs.Reading.{layers_of};
 ghost use Rattle.of_headers.specs.FieldMap.{value, field_map};
 ghost use Rattle.of_headers.specs.Places.{layout_of};
 ghost use Rattle.of_headers.specs.Tags.{pushed, popped};
-ghost use Rattle.of_headers.specs.Known.{IsKnownOf};
+ghost use Rattle.of_headers.specs.Known.{HasFields, HasPlaces, IsKnownOf};
 
 use crate::headers::Headers;
 use crate::key::FieldKey;
@@ -49,25 +49,25 @@ impl Known {
         }
     }
 
-    /// All of it, read where it is not known.
-    pub fn read(self, frame: &[u8]) -> Known
+    /// Reads what is not known of the frame: then all of it is.
+    pub fn read(&mut self, frame: &[u8])
         requires long { 14 ≤ length frame.now }
-        requires known { IsKnownOf self frame.now }
-        ensures { IsKnownOf result frame.now }
+        requires known { IsKnownOf self.old frame.now }
+        ensures known { IsKnownOf self.new frame.now }
+        ensures fields { HasFields self.new }
     {
-        match self {
-            Known::Fields(_) => self,
-            _ => {
-                let layout = self.layout(frame);
-                let key = key_in(frame, layout, 0, 0);
-                Known::Fields(Headers { layout, key })
-            }
+        if let Known::Fields(_) = self {
+            return;
         }
+        let layout = self.layout(frame);
+        let key = key_in(frame, layout, 0, 0);
+        *self = Known::Fields(Headers { layout, key });
     }
 
-    /// What is known once a VLAN tag was pushed: where the layers begin.
+    /// What is known once a VLAN tag was pushed: where the layers begin, if that was known.
     pub fn pushed(self) -> Known
-        ensures { (kind : ℕ) (s t : List ℕ) → length (layers_of s).tags + 1 < 2 ^ 64 → IsKnownOf self s → layers_of t ≡ pushed kind (layers_of s) → IsKnownOf result t }
+        ensures places { HasPlaces self → HasPlaces result }
+        ensures known { (kind : ℕ) (s t : List ℕ) → length (layers_of s).tags + 1 < 2 ^ 64 → IsKnownOf self s → layers_of t ≡ pushed kind (layers_of s) → IsKnownOf result t }
     {
         match self {
             Known::Nothing => Known::Nothing,
@@ -76,9 +76,10 @@ impl Known {
         }
     }
 
-    /// What is known once the outermost VLAN tag was popped: where the layers begin.
+    /// What is known once the outermost VLAN tag was popped: where the layers begin, if that was known.
     pub fn popped(self) -> Known
-        ensures { (s t : List ℕ) → IsKnownOf self s → layers_of t ≡ popped (layers_of s) → IsKnownOf result t }
+        ensures places { HasPlaces self → HasPlaces result }
+        ensures known { (s t : List ℕ) → IsKnownOf self s → layers_of t ≡ popped (layers_of s) → IsKnownOf result t }
     {
         match self {
             Known::Nothing => Known::Nothing,

@@ -97,7 +97,7 @@ impl<'a> PacketFrame<'a> {
     {
         match &mut self.held {
             Held::Lent(bytes, known) => {
-                *known = known.read(bytes);
+                known.read(bytes);
                 known.key(bytes, in_port, metadata)
             }
             Held::Own(frame) => {

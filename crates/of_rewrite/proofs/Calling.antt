@@ -1,5 +1,5 @@
 -- The layers of frames after calls, and where they begin.
-use Rattle.std.proofs.Common.{◌≡◌, ℕ, zero, suc, ◌+◌, ◌-◌, ◌*◌, ◌/◌, ◌%◌, ◌^◌, ◌<◌, ◌≤◌, Bool, true, false, cond, List, [], ◌∷◌, ◌++◌, length, take, drop, Option, Some, None, refl, sym, ap, ◌∙◌, arith}
+use Rattle.std.proofs.Common.{◌≡◌, ℕ, zero, suc, ◌+◌, ◌-◌, ◌*◌, ◌/◌, ◌%◌, ◌^◌, ◌<◌, ◌≤◌, Bool, true, false, cond, List, [], ◌∷◌, ◌++◌, length, take, drop, Option, Some, None, refl, sym, ap, subst, ◌∙◌, arith}
 use Rattle.std.specs.Prelude.{nat_le, IsTrue}
 use Rattle.std.proofs.lemmas.Bool.Decides.{nat_tests}
 use Rattle.std.proofs.lemmas.List.{length-drop, length-take-le, take-append-drop}
@@ -166,14 +166,18 @@ by_places moved Nothing s t e k = tt
 by_places moved (Places y) s t e k = ap moved k ∙ e
 by_places moved (Fields h) s t e k = ap moved k.0 ∙ e
 
-still_known : (call : Call) (known : Known) (s : List ℕ) → IsFrame s → IsAllowed call s → IsKnownOf known s → IsKnownOf (known_after call known) (frame_after call s)
+popped_known : (known : Known) (s : List ℕ) → IsFrame s → IsKnownOf known s → (b : Bool) → has_tag s ≡ b → IsKnownOf (cond b (with_places (places_after PopVlan) known) known) (frame_popped s)
+popped_known known s h k true e = by_places (places_after PopVlan) known s (frame_popped s) (places_popped s h) k
+popped_known known s h k false e = subst (λ (x : List ℕ). IsKnownOf known x) (none_popped s h.0 h.1 e) k
+
+still_known : (call : Call) (known : Known) (s : List ℕ) → IsFrame s → IsAllowed call s → IsKnownOf known s → IsKnownOf (known_after call s known) (frame_after call s)
 still_known (PushVlan type) known s h a k = by_places (places_after (PushVlan type)) known s (frame_pushed type s) (places_pushed type s h a) k
-still_known PopVlan known s h a k = by_places (places_after PopVlan) known s (frame_popped s) (places_popped s h) k
-still_known (Set f v) known s h a k = by_places (places_after (Set f v)) known s (frame_set f v s) (places_set f v s h a) k
-still_known (SetTtl v) known s h a k = by_places (places_after (SetTtl v)) known s (frame_ttl v s) (places_ttl v s h) k
-still_known DecTtl known s h a k = by_places (places_after DecTtl) known s (frame_ttl_decremented s) (places_aged s h) k
+still_known PopVlan known s h a k = popped_known known s h k (has_tag s) refl
+still_known (Set f v) known s h a k = places_set f v s h a
+still_known (SetTtl v) known s h a k = places_ttl v s h
+still_known DecTtl known s h a k = places_aged s h
 still_known (Lend f w) known s h a k = tt
 
-pub all_known : (calls : List Call) (known : Known) (s : List ℕ) → IsFrame s → AreAllowed calls s → IsKnownOf known s → IsKnownOf (known_after_all calls known) (frame_after_all calls s)
+pub all_known : (calls : List Call) (known : Known) (s : List ℕ) → IsFrame s → AreAllowed calls s → IsKnownOf known s → IsKnownOf (known_after_all calls s known) (frame_after_all calls s)
 all_known [] known s h a k = k
-all_known (call ∷ calls) known s h a k = all_known calls (known_after call known) (frame_after call s) (still_frame call s h a.0) a.1 (still_known call known s h a.0 k)
+all_known (call ∷ calls) known s h a k = all_known calls (known_after call s known) (frame_after call s) (still_frame call s h a.0) a.1 (still_known call known s h a.0 k)

@@ -1,12 +1,14 @@
--- Calls that rewrite a frame, one after the other, and what stays known of its headers without a new reading.
-use Rattle.std.specs.Prelude.{◌≡◌, ℕ, ◌+◌, ◌-◌, List, [], ◌∷◌, length, IsTrue, ⊤}
+-- Calls that rewrite a frame, one after the other, and what is known of its headers after them.
+use Rattle.std.specs.Prelude.{◌≡◌, ℕ, ◌+◌, ◌-◌, List, [], ◌∷◌, length, IsTrue, ⊤, if◌then◌else◌}
 use Rattle.of_layers.specs.declared.field.Field.{Field}
 use Rattle.of_layers.specs.Fields.{is_settable}
-use Rattle.of_layers.specs.Reading.{is_tag_type}
+use Rattle.of_layers.specs.Reading.{is_tag_type, layers_of}
 use Rattle.of_layers.specs.WellFormed.{AreBytes}
 use Rattle.of_headers.specs.declared.layout.Layout.{Layout}
 use Rattle.of_headers.specs.declared.known.Known.{Known}
 use Rattle.of_headers.specs.declared.known.Known.TheVariants.{Nothing, Places, Fields}
+use Rattle.of_headers.specs.Places.{layout_of}
+use Rattle.of_rewrite.specs.Tagging.{has_tag}
 use Rattle.of_rewrite.specs.Frames.{frame_set, frame_pushed, frame_popped, frame_ttl, frame_ttl_decremented}
 use Rattle.of_rewrite.specs.Loans.{lent, with_bytes}
 
@@ -47,10 +49,12 @@ with_places moved Nothing = Nothing
 with_places moved (Places places) = Places (moved places)
 with_places moved (Fields headers) = Places (moved headers.layout)
 
--- what is still known after it; a type may be written into a loan, so that nothing is known then
-abbrev pub known_after : Call → Known → Known
-known_after (Lend field bytes) known = Nothing
-known_after other known = with_places (places_after other) known
+-- What is known after it. A pop without a tag changes nothing; to replace a number the layers are looked for, unless it is known where they begin; and a type may be written into a loan, so that nothing is known then.
+abbrev pub known_after : Call → List ℕ → Known → Known
+known_after (PushVlan type) frame known = with_places (places_after (PushVlan type)) known
+known_after PopVlan frame known = if has_tag frame then with_places (places_after PopVlan) known else known
+known_after (Lend field bytes) frame known = Nothing
+known_after other frame known = Places (layout_of (layers_of frame))
 
 -- ---- of several calls, the first one first
 
@@ -62,6 +66,6 @@ abbrev pub frame_after_all : List Call → List ℕ → List ℕ
 frame_after_all [] frame = frame
 frame_after_all (call ∷ calls) frame = frame_after_all calls (frame_after call frame)
 
-abbrev pub known_after_all : List Call → Known → Known
-known_after_all [] known = known
-known_after_all (call ∷ calls) known = known_after_all calls (known_after call known)
+abbrev pub known_after_all : List Call → List ℕ → Known → Known
+known_after_all [] frame known = known
+known_after_all (call ∷ calls) frame known = known_after_all calls (frame_after call frame) (known_after call frame known)

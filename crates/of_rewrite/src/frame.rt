@@ -222,7 +222,7 @@ impl Frame {
     pub fn read_headers(&mut self)
         ensures { self.new ≡ self.old }
     {
-        self.known = self.known.read(&self.bytes);
+        self.known.read(&self.bytes);
     }
 
     /// What is known of its headers.

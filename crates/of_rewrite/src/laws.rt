@@ -20,9 +20,10 @@ pub fn stays_right()
     ensures udp { (c : ℕ) (new : List ℕ) → IsTrue (sums_to_ones (c ∷ new)) → IsTrue (sums_to_ones (never_zero c ∷ new)) }
 {}
 
-/// After any calls of a frame, what is still known of its headers is what a new reading of its bytes would give.
+/// After any calls of a frame, what is known of its headers is what a new reading of its bytes would give (`known_after` says what
+/// each call knows after it).
 ///
 /// So the fields that a frame gives at places that were kept are those of its bytes.
 pub fn known_stays_right()
-    ensures { (calls : List Call) (known : Known) (frame : List ℕ) → IsFrame frame → AreAllowed calls frame → IsKnownOf known frame → IsKnownOf (known_after_all calls known) (frame_after_all calls frame) }
+    ensures { (calls : List Call) (known : Known) (frame : List ℕ) → IsFrame frame → AreAllowed calls frame → IsKnownOf known frame → IsKnownOf (known_after_all calls frame known) (frame_after_all calls frame) }
 {}

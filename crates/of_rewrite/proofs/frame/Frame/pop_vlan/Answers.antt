@@ -53,4 +53,4 @@ invariant_of-self c =
     let r = removed c.self.inside.bytes.items c.deref.result.now c.remove_tag.new.bytes.items c.deref.ensures.value c.self.invariant.0 c.all_bytes.ensures has c.remove_tag.ensures in
     let shorter : length c.remove_tag.new.bytes.items ≤ length c.self.inside.bytes.items = r.shorter in
     let most : length c.self.inside.bytes.items < 2 ^ 61 = c.self.invariant.1 in
-    (r.long, omega (arith, shorter, most), c.popped-self-inside.ensures c.self.inside.bytes.items c.remove_tag.new.bytes.items c.self.invariant.2 r.layers)
+    (r.long, omega (arith, shorter, most), c.popped-self-inside.ensures.known c.self.inside.bytes.items c.remove_tag.new.bytes.items c.self.invariant.2 r.layers)

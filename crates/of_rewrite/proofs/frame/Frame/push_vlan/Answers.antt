@@ -34,5 +34,5 @@ invariant_of-self-2 c =
     let long : 14 ≤ length c.self.inside.bytes.items = c.self.invariant.0 in (
       omega (arith, longer, long),
       omega (arith, longer, short, same),
-      c.pushed-self-inside.ensures c.args.tpid s c.insert_tag.new.bytes.items (tags_room s bytes c.self.invariant.0 c.self.invariant.1) c.self.invariant.2 p.0,
+      c.pushed-self-inside.ensures.known c.args.tpid s c.insert_tag.new.bytes.items (tags_room s bytes c.self.invariant.0 c.self.invariant.1) c.self.invariant.2 p.0,
     )
