@@ -1,6 +1,6 @@
 -- The row of a region among the rows, and look-ups that find none.
-use Rattle.std.proofs.Common.{◌≡◌, ℕ, ◌+◌, ◌-◌, ◌<◌, Bool, true, false, cond, List, [], ◌∷◌, ◌++◌, length, get_or, take, Option, Some, None, refl, sym, ◌∙◌, ap, subst, inl, inr, ◌⊎◌, ⊎_elim}
-use Rattle.std.specs.Prelude.{Result, Ok, Err, OnOk, OnErr, ◌||◌, filter}
+use Rattle.std.proofs.Common.{◌≡◌, ℕ, ◌+◌, ◌-◌, ◌<◌, Bool, true, false, cond, List, [], ◌∷◌, ◌++◌, length, get_or, take, Option, Some, None, refl, sym, ◌∙◌, ap, subst, inl, inr, slice_get, ◌⊎◌, ⊎_elim}
+use Rattle.std.specs.Prelude.{unwrap_or, Result, Ok, Err, OnOk, OnErr, ◌||◌, filter}
 use Rattle.std.specs.List.{Contains, list_any}
 use Rattle.std.specs.Option.{option_map_or}
 use Rattle.std.specs.Map.{lookup, lookup_entry, remove_entry}
@@ -195,3 +195,13 @@ some_has (x ∷ rows) row c = ⊎_elim
 pub used_listed : (masks new : List FieldMask) (rows : List AnsweredRegion) → new ≡ filter (λ m. list_any (λ row. is_same_mask row.0.mask m) rows) masks → AreListed masks rows → AreListed new rows
 used_listed masks new rows e h row c =
     subst (λ (ms : List FieldMask). Contains ms row.0.mask) (sym e) (in_filter (λ m. list_any (λ r. is_same_mask r.0.mask m) rows) masks row.0.mask (h row c) (some_has rows row c))
+
+-- the first row holds the key, and stays first
+pub first_hit : (rows : List AnsweredRegion) (region : Region) (a : Option (ℕ × ℕ)) (key : Field → Option ℕ) → Some (region, a) ≡ slice_get rows 0 → Holds region key → IsHit rows rows key a
+first_hit [] region a key e holds = absurd cc
+first_hit (row ∷ rows) region a key e holds =
+    let same : (region, a) ≡ row = ap (λ (o : Option AnsweredRegion). unwrap_or o (region, a)) e in
+    record {
+      moved = record { row = row; before = []; after = rows; stood = refl; holds = subst (λ (r : AnsweredRegion). Holds r.0 key) same holds; first = refl };
+      answers = sym (ap (λ (r : AnsweredRegion). r.1) same);
+    }

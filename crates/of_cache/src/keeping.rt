@@ -6,6 +6,7 @@ ghost use Rattle.lru.specs.LruCache.{lru_cache, promoted};
 ghost use Rattle.of_headers.specs.FieldMap.{value};
 ghost use Rattle.of_oxm.specs.declared.masks.FieldMask.{FieldMask as AMask};
 ghost use Rattle.of_cache.specs.Finding.{IsHit, NoneHolds};
+ghost use Rattle.of_cache.specs.Regions.{Holds};
 ghost use Rattle.of_cache.specs.Listed.{AreListed, is_same_region, is_same_mask};
 
 use crate::dropping::{Answer, Rows};
@@ -21,8 +22,31 @@ fn touch(rows: &mut Rows, region: &Region) -> Option<Answer>
     rows.get(region).copied()
 }
 
-/// The answer of a row whose region holds the key, which comes first.
-pub(crate) fn find(rows: &mut Rows, masks: &[FieldMask], key: &FieldKey) -> Option<Answer>
+// Whether the region holds the key.
+fn holds(region: &Region, key: &FieldKey) -> bool
+    ensures { IsTrue result → Holds region.now (value key.now) }
+{
+    region.key.is_under(key, &region.mask.masks)
+}
+
+// The answer of the first row, if its region holds the key: a frame is often followed by others like it.
+fn first_answer(rows: &Rows, key: &FieldKey) -> Option<Answer>
+    ensures { IfSome result (IsHit rows.now.entries rows.now.entries (value key.now)) }
+{
+    match rows.peek_mru() {
+        Some((region, answer)) => {
+            if holds(region, key) {
+                Some(*answer)
+            } else {
+                None
+            }
+        }
+        None => None,
+    }
+}
+
+// The answer of a row whose region holds the key, which comes first.
+fn find_by_mask(rows: &mut Rows, masks: &[FieldMask], key: &FieldKey) -> Option<Answer>
     requires { AreListed masks.now rows.old.entries }
     ensures hit { IfSome result (IsHit rows.old.entries rows.new.entries (value key.now)) }
     ensures none { IfNone result (NoneHolds rows.old.entries (value key.now)) }
@@ -39,6 +63,20 @@ pub(crate) fn find(rows: &mut Rows, masks: &[FieldMask], key: &FieldKey) -> Opti
         }
     }
     None
+}
+
+/// The answer of a row whose region holds the key, which comes first.
+pub(crate) fn find(rows: &mut Rows, masks: &[FieldMask], key: &FieldKey) -> Option<Answer>
+    requires { AreListed masks.now rows.old.entries }
+    ensures hit { IfSome result (IsHit rows.old.entries rows.new.entries (value key.now)) }
+    ensures none { IfNone result (NoneHolds rows.old.entries (value key.now)) }
+    ensures same { IfNone result (rows.new ≡ rows.old) }
+    ensures capacity { rows.new.cap ≡ rows.old.cap }
+{
+    match first_answer(rows, key) {
+        Some(answer) => Some(answer),
+        None => find_by_mask(rows, masks, key),
+    }
 }
 
 // Makes sure that the mask is listed.

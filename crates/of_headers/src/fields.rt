@@ -1,6 +1,6 @@
 //! Keys as field maps: one field read, one field added, all fields under a mask.
 
-ghost use Rattle.std.specs.Prelude.{◌≡◌, ◌≤◌, ◌^◌, ◌==◌, ℕ, if◌then◌else◌, Some, None};
+ghost use Rattle.std.specs.Prelude.{◌≡◌, ◌≤◌, ◌^◌, ◌==◌, ℕ, if◌then◌else◌, Some, None, IsTrue};
 ghost use Rattle.of_layers.specs.Layers.{Layers};
 ghost use Rattle.of_layers.specs.declared.field.Field.{Field as TheField};
 ghost use Rattle.of_layers.specs.Fields.{number_of, ones_of};
@@ -66,6 +66,13 @@ impl FieldKey {
         FieldKey {
             numbers: self.numbers.both(&mask.numbers),
         }
+    }
+
+    /// Whether this is what is seen of a key under a mask, which is not made for that ([`FieldKey::under`]).
+    pub fn is_under(&self, key: &FieldKey, mask: &FieldKey) -> bool
+        ensures { IsTrue result → (f : TheField) → value self.now f ≡ seen (value mask.now f) (value key.now f) }
+    {
+        self.numbers.is_both(&key.numbers, &mask.numbers)
     }
 
     /// The fields of both keys: of a field that both have, the bits that one or both values have.

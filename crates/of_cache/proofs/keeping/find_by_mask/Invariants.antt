@@ -2,7 +2,7 @@
 use Rattle.std.proofs.Common.{◌≡◌, take}
 use Rattle.of_headers.specs.FieldMap.{value}
 use Rattle.of_cache.proofs.Splitting.{NoneUnder}
-use Rattle.of_cache.proofs.keeping.find.Given as goal
+use Rattle.of_cache.proofs.keeping.find_by_mask.Given as goal
 
 abbrev pub invariant-loop-mask : goal.invariant-loop-mask
 invariant-loop-mask l = record {

@@ -8,7 +8,7 @@ use Rattle.of_cache.specs.Finding.{IsHit, NoneHolds}
 use Rattle.of_cache.specs.Listed.{is_same_region}
 use Rattle.of_cache.specs.Regions.{region_of}
 use Rattle.of_cache.proofs.Splitting.{NoneUnder, hit, untouched, none_at_first, none_more, none_holds}
-use Rattle.of_cache.proofs.keeping.find.Goals as goal
+use Rattle.of_cache.proofs.keeping.find_by_mask.Goals as goal
 
 pub loop-mask-init : goal.loop-mask-init
 loop-mask-init c = record { same = refl; none = none_at_first c.args.masks.now c.args.rows.now.entries (value c.args.key.now) }
