@@ -1,5 +1,5 @@
 //! Frames whose headers are read and kept: the fields are those of the bytes after each change.
-use crate::rewrite::steps::{Row, Step, play_all};
+use crate::rewrite::steps::{Kept, Row, Step, play_all};
 use of_layers::Field;
 use std::test::Fail;
 
@@ -55,6 +55,38 @@ const LOAN: &[Row] = &[
         Step::Has("EthDst=20000000002 EthSrc=20000000001 EthType=0 VlanVid=1000 VlanPcp=0"),
     ),
 ];
+
+/// What is known after each call: a frame is read again only where its fields may have changed, and its layers are looked for
+/// again only after a loan.
+const KNOWN: &[Row] = &[
+    ("a new frame", Step::Knows(Kept::Nothing)),
+    ("it is read", Step::Read),
+    ("all is known", Step::Knows(Kept::Fields)),
+    ("a pop without a tag", Step::Pop),
+    ("all is known still", Step::Knows(Kept::Fields)),
+    ("push", Step::Push(0x8100)),
+    ("the layers moved", Step::Knows(Kept::Places)),
+    ("it is read", Step::Read),
+    ("set", Step::Set(Field::VlanVid, 0x1005)),
+    ("the layers stay", Step::Knows(Kept::Places)),
+    ("it is read", Step::Read),
+    ("set the hops", Step::SetTtl(9)),
+    ("the layers stay", Step::Knows(Kept::Places)),
+    ("pop", Step::Pop),
+    ("the layers moved back", Step::Knows(Kept::Places)),
+    (
+        "a type is written",
+        Step::Write(Field::EthType, &[0x81, 0x00]),
+    ),
+    ("nothing is known", Step::Knows(Kept::Nothing)),
+    ("set", Step::Set(Field::VlanVid, 0x1006)),
+    ("the layers were looked for", Step::Knows(Kept::Places)),
+];
+
+#[test]
+fn known_after_each_call(rt: HostRuntime) -> Result<(), Fail> {
+    play_all(&rt, rt.alloc(), PADDED, KNOWN)
+}
 
 #[test]
 fn kept_through_tags(rt: HostRuntime) -> Result<(), Fail> {

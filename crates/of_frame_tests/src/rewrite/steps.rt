@@ -3,7 +3,7 @@ ghost use Rattle.std.specs.Prelude.{◌≡◌, ◌≤◌, ◌<◌, ◌^◌, leng
 
 use crate::checks::{same_bytes, same_number};
 use crate::keys::says;
-use of_headers::read_inside;
+use of_headers::{Known, read_inside};
 use of_layers::Field;
 use of_rewrite::{Frame, Ttl};
 use std::alloc::{AllocError, Global};
@@ -29,6 +29,10 @@ pub(super) enum Step {
     Write(Field, &'static [u8]),
     /// Which fields the frame has beside IN_PORT and METADATA, once its headers are read and kept.
     Has(&'static str),
+    /// Reads its headers, and keeps them.
+    Read,
+    /// How much is known of its headers.
+    Knows(Kept),
     /// How many bytes the frame has.
     Length(usize),
     /// What the frame is.
@@ -37,6 +41,16 @@ pub(super) enum Step {
     Begins(&'static [u8]),
     /// How it ends.
     Ends(&'static [u8]),
+}
+
+/// How much is known of the headers of a frame.
+#[derive(Clone, Copy, PartialEq, Eq)]
+pub(super) enum Kept {
+    Nothing,
+    /// Where its layers begin.
+    Places,
+    /// That, and its fields.
+    Fields,
 }
 
 /// What a step does or shows, and the step.
@@ -99,10 +113,19 @@ fn has(
     says(rt, alloc, what, &key, wanted.as_str())
 }
 
+fn kept(frame: &Frame) -> Kept {
+    match frame.known() {
+        Known::Nothing => Kept::Nothing,
+        Known::Places(_) => Kept::Places,
+        Known::Fields(_) => Kept::Fields,
+    }
+}
+
 /// Asserts what a step shows that changes nothing.
 fn shows(rt: &impl Abort, frame: &Frame, what: &str, step: &Step) {
     match step {
         Step::Lends(field, wanted) => assert!(rt; frame.lends(*field) == *wanted, "{what}"),
+        Step::Knows(wanted) => assert!(rt; kept(frame) == *wanted, "{what}"),
         Step::Length(wanted) => same_number(rt, what, frame.len(), *wanted),
         Step::Is(wanted) => same_bytes(rt, what, frame.bytes(), wanted),
         Step::Begins(wanted) => assert!(rt; frame.bytes().starts_with(wanted), "{what}"),
@@ -123,6 +146,7 @@ fn play(rt: &impl Abort, alloc: Global, frame: &mut Frame, row: &Row) -> Result<
         Step::Lent(field, wanted) => same_number(rt, what, frame.field_mut(*field).len(), *wanted),
         Step::FillSource(byte) => fill_source(frame, *byte),
         Step::Write(field, bytes) => write(rt, frame, what, *field, bytes),
+        Step::Read => frame.read_headers(),
         Step::Has(wanted) => return has(rt, alloc, frame, what, wanted),
         _ => shows(rt, frame, what, step),
     }
