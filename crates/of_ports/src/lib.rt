@@ -10,4 +10,4 @@ mod ports;
 pub use config::PortConfig;
 pub use counters::{PortCount, PortCounters};
 pub use port::{Port, find_port};
-pub use ports::{MOST_PORTS, Ports};
+pub use ports::Ports;

@@ -1,5 +1,5 @@
 //! The ports of a switch.
-ghost use Rattle.std.specs.Prelude.{◌≡◌, ◌<◌, [], false, length, OnOk, OnErr};
+ghost use Rattle.std.specs.Prelude.{◌≡◌, ◌<◌, [], false, nat_le, length, OnOk, OnErr};
 ghost use Rattle.std.specs.Option.{option_copied};
 ghost use Rattle.of_ports.specs.Ports.{all_counted, at_port, has_port, is_live_at, linked, port_at, with_config, with_port, without_port};
 ghost use Rattle.of_ports.specs.Sound.{AreSound};
@@ -13,7 +13,7 @@ use std::alloc::{AllocError, Global};
 use std::marker::Model;
 
 /// How many ports there are at most.
-pub const MOST_PORTS: usize = 64;
+const MOST_PORTS: usize = 64;
 
 /// The ports of a switch, in ascending order of number: at most 64 (OpenFlow 1.3.5, 4.1 and 7.2.1).
 #[derive(Drop)]
@@ -54,6 +54,13 @@ impl Ports {
         ensures { result ≡ length self.now }
     {
         self.ports.len()
+    }
+
+    /// Whether there is no place for one more: a switch has at most 64 ports.
+    pub fn is_full(&self) -> bool
+        ensures { result ≡ nat_le 64 (length self.now) }
+    {
+        self.ports.len() >= MOST_PORTS
     }
 
     /// Whether there is a port of that number.
