@@ -1,4 +1,4 @@
-"""`python -m ofswitch bridge`: a switch whose rows are typed, and whose controller connects over TCP."""
+"""`python -m ofswitch bridge`, a switch whose rows are typed and whose controller connects over TCP, and `draw`, pictures."""
 
 from __future__ import annotations
 
@@ -9,7 +9,7 @@ import sys
 from collections.abc import Iterable
 from typing import NoReturn, TextIO
 
-from . import rows
+from . import picture, rows
 from .bridge import Bridge
 from .connection import Address
 from .effects import Effect
@@ -34,6 +34,18 @@ open, or the address cannot be listened at.
 """
 
 
+DRAW_DESCRIPTION = """
+Prints the groups and flow tables of a flow text (docs/FLOWTEXT.md), or those that a switch has after an event file, as a graph in
+Graphviz's language: tables with their flows by priority, groups with their buckets, ports, and the ways between them. Flows that
+never win (docs/CHECK.md) are gray. With a port and a frame its way is blue, with the numbers of the steps of its trace
+(docs/TRACE.md), and each table that it comes to says what it sees of the packet.
+"""
+
+DRAW_STATUSES = """
+Exit status: 0 drawn; 1 bad arguments; 3 the program found a fault in the file, is missing or ended, or `dot` is missing or failed.
+"""
+
+
 class Parser(argparse.ArgumentParser):
     def error(self, message: str) -> NoReturn:
         self.print_usage(sys.stderr)
@@ -53,7 +65,19 @@ def parser() -> argparse.ArgumentParser:
     bridge.add_argument("--log", metavar="FILE", help="where to write all rows, those of the controller too")
     bridge.add_argument("--dpid", metavar="N", type=dpid, default=1, help="the datapath_id (by default 1)")
     bridge.add_argument("--program", metavar="PATH", help="the program ofswitch (by default OFSWITCH, or the one on the PATH)")
+    add_draw(commands)
     return whole
+
+
+def add_draw(commands: argparse._SubParsersAction[Parser]) -> None:
+    draw = commands.add_parser("draw", help="a picture of flow tables", description=DRAW_DESCRIPTION, epilog=DRAW_STATUSES)
+    text = draw.add_mutually_exclusive_group(required=True)
+    text.add_argument("--flows", metavar="FILE", help="a flow text")
+    text.add_argument("--events", metavar="FILE", help="an event file: the tables that a switch has after it")
+    draw.add_argument("--port", metavar="N", type=int, help="the port at which a frame comes in, whose way is drawn")
+    draw.add_argument("--svg", metavar="FILE", help="where to write a picture, by `dot` of Graphviz, in place of the graph")
+    draw.add_argument("--program", metavar="PATH", help="the program ofswitch (by default OFSWITCH, or the one on the PATH)")
+    draw.add_argument("frame", metavar="HEX", nargs="?", help="that frame, two hexadecimal digits a byte")
 
 
 def address(word: str) -> Address:
@@ -117,9 +141,11 @@ def open_lines(file: str | int) -> TextIO:
 
 def main() -> int:
     asked = parser().parse_args()
+    if asked.command == "draw" and (asked.port is None) != (asked.frame is None):
+        parser().error("a frame needs its port, and a port its frame")
     logging.basicConfig(level=logging.INFO, format="%(message)s")
     try:
-        return run(asked)
+        return picture.run(asked) if asked.command == "draw" else run(asked)
     except (ProgramError, OSError) as fault:
         print(fault, file=sys.stderr)
         return FAULT

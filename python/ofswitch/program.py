@@ -38,15 +38,15 @@ def find(program: StrPath | None) -> str:
     return found
 
 
-def run_to_end(command: list[str], text: bytes, timeout: float) -> str:
-    """What a command prints that reads this text from standard input."""
+def run_to_end(command: list[str], text: bytes, timeout: float, good: tuple[int, ...] = (0,)) -> str:
+    """What a command prints that reads this text from standard input, and ends with one of these statuses."""
     try:
         done = subprocess.run(command, input=text, capture_output=True, timeout=timeout)
     except OSError as error:
         raise ProgramError(f"{command[0]} does not run: {error}") from error
     except subprocess.TimeoutExpired as error:
         raise ProgramError(f"{' '.join(command)} did not end within {timeout:g} s") from error
-    if done.returncode:
+    if done.returncode not in good:
         raise ProgramError(_ending(command, done.returncode, done.stderr))
     return done.stdout.decode()
 

@@ -1,0 +1,59 @@
+"""`python -m ofswitch draw`: a graph of flow tables, of what never wins, and of a frame's way."""
+
+from __future__ import annotations
+
+import argparse
+import shutil
+import subprocess
+import sys
+
+from . import flow_text, trace_text
+from .drawing import draw
+from .program import ProgramError, find, run_to_end
+
+# How long the program, or `dot`, may take, in seconds.
+_TIMEOUT = 120.0
+
+# The exit status of `ofswitch check` that found a flow that never wins.
+_FOUND = 4
+
+
+def run(asked: argparse.Namespace) -> int:
+    program = find(asked.program)
+    text = canonical(program, asked)
+    configuration = flow_text.read(text)
+    walk = trace_text.Walk()
+    if asked.frame is not None:
+        words = [program, "trace", "--flows", "-", "--port", str(asked.port), asked.frame, "--explain"]
+        walk = trace_text.read(run_to_end(words, text.encode(), _TIMEOUT), configuration)
+    graph = draw(configuration, never_winning(program, text), walk)
+    if asked.svg is None:
+        sys.stdout.write(graph)
+    else:
+        render(graph, asked.svg)
+    return 0
+
+
+def canonical(program: str, asked: argparse.Namespace) -> str:
+    """The canonical flow text of what is to be drawn."""
+    if asked.events is not None:
+        return run_to_end([program, "dis", asked.events], b"", _TIMEOUT)
+    events = run_to_end([program, "asm", asked.flows], b"", _TIMEOUT)
+    return run_to_end([program, "dis", "-"], events.encode(), _TIMEOUT)
+
+
+def never_winning(program: str, text: str) -> set[tuple[int, int]]:
+    """Table and place of each flow that `ofswitch check` says never wins."""
+    found = run_to_end([program, "check", "--flows", "-"], text.encode(), _TIMEOUT, good=(0, _FOUND))
+    words = [line.split() for line in found.splitlines()]
+    return {(int(it[1]), int(it[2])) for it in words if it[3] == "never:"}
+
+
+def render(graph: str, path: str) -> None:
+    dot = shutil.which("dot")
+    if dot is None:
+        raise ProgramError("there is no program dot: install Graphviz, or leave --svg out and keep the graph")
+    with open(path, "wb") as picture:
+        done = subprocess.run([dot, "-Tsvg"], input=graph.encode(), stdout=picture, stderr=subprocess.PIPE, timeout=_TIMEOUT)
+    if done.returncode:
+        raise ProgramError(f"dot ended with status {done.returncode}: {done.stderr.decode(errors='replace').strip()}")
