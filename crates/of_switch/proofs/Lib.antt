@@ -21,3 +21,4 @@ pub mod StandingLemmas
 pub mod ConfiguringLemmas
 pub mod StandingSteps
 pub mod HeldHandling
+pub mod HeldIds
