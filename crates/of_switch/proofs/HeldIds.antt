@@ -18,14 +18,14 @@ module _ (heard : AsyncConfig) where
   told_at id (x ∷ first) rest i = told_at (id_after heard id x) first rest i
 
   -- the id after items is the next one once their frames are held
+  next_by : (b : HeldFrames) (items : List Item) (p : ToController) (t : Bool) → is_held heard p ≡ t → ((c : HeldFrames) → (hold_all (flat_map (frames_for heard) items) c).next ≡ id_after_all heard c.next items) → (hold_all (flat_map (frames_for heard) (PacketIn p ∷ items)) b).next ≡ id_after_all heard b.next (PacketIn p ∷ items)
+  next_by b items p true e rest = rw e (rest (hold (held_of p) b))
+  next_by b items p false e rest = rw e (rest b)
+
   pub next_is : (b : HeldFrames) (items : List Item) → (hold_all (flat_map (frames_for heard) items) b).next ≡ id_after_all heard b.next items
   next_is b [] = refl
   next_is b (Sent port frame ∷ items) = next_is b items
-  next_is b (PacketIn p ∷ items) = by (is_held heard p) refl
-    where
-      by : (t : Bool) → is_held heard p ≡ t → (hold_all (flat_map (frames_for heard) (PacketIn p ∷ items)) b).next ≡ id_after_all heard b.next (PacketIn p ∷ items)
-      by true e = rw e (next_is (hold (held_of p) b) items)
-      by false e = rw e (next_is b items)
+  next_is b (PacketIn p ∷ items) = next_by b items p (is_held heard p) refl (λ c. next_is c items)
 
   pub ids : (b : HeldFrames) (first : List Item) → is_id b.next ≡ true → is_id (id_after_all heard b.next first) ≡ true
   ids b first n = ap is_id (sym (next_is b first)) ∙ all_is_id (flat_map (frames_for heard) first) b n

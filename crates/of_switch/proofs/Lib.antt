@@ -22,3 +22,5 @@ pub mod ConfiguringLemmas
 pub mod StandingSteps
 pub mod HeldHandling
 pub mod HeldIds
+pub mod CallingLemmas
+pub mod GoingOn

@@ -19,3 +19,4 @@ pub mod Stepping
 pub mod Loading
 pub mod Standing
 pub mod Configuring
+pub mod Calling

@@ -1,5 +1,5 @@
 //! Laws of the abstract switch.
-ghost use Rattle.std.specs.Prelude.{◌≡◌, ◌≢◌, ◌<◌, ◌+◌, ◌++◌, ◌∷◌, [], ℕ, List, Some, None, true, false, length, take, flat_map, slice_get};
+ghost use Rattle.std.specs.Prelude.{◌≡◌, ◌≢◌, ◌<◌, ◌+◌, ◌++◌, ◌∷◌, [], ℕ, List, Some, None, true, false, length, map, take, flat_map, slice_get};
 ghost use Rattle.of_buffers.specs.Buffers.{HeldFrames, held, is_id, last_id, most_held};
 ghost use Rattle.of_machine.specs.declared.data.Item.{Item};
 ghost use Rattle.of_machine.specs.declared.data.Item.TheVariants.{PacketIn};
@@ -14,9 +14,11 @@ ghost use Rattle.of_switch.specs.declared.effect.Effect.TheVariants.{Answer};
 ghost use Rattle.of_switch.specs.Told.{effects_of, frames_for, given, held_after, held_of, id_after_all, is_held, limit_of, no_buffer, packet_in_of};
 ghost use Rattle.of_text.specs.Configs.{Configuration, IsConfig};
 ghost use Rattle.of_switch.specs.Loading.{config_of, loaded};
+ghost use Rattle.of_switch.specs.Calling.{AreMade, Deed, Made, calls_of, event_of, others, report_of};
 ghost use Rattle.of_switch.specs.State.{State};
 ghost use Rattle.of_switch.specs.Steps.{IsRefusedWith, coming, failed_of, gives, next_of};
-ghost use Rattle.of_switch.specs.Runs.{behind, come, drained, handled_in_turn, piece_in};
+ghost use Rattle.of_switch.specs.declared.event.Event.{Event};
+ghost use Rattle.of_switch.specs.Runs.{Report, RunsAll, StopsWithin, behind, come, drained, effects_in, handled_in_turn, piece_in, rest_of, run};
 
 /// Bytes that come in two pieces do what they do in one.
 ///
@@ -56,4 +58,23 @@ pub fn ids_told_are_ids_held()
     ensures ids { (heard : AsyncConfig) (b : HeldFrames) (first : List Item) → is_id b.next ≡ true → is_id (id_after_all heard b.next first) ≡ true }
     ensures distinct { (heard : AsyncConfig) (b : HeldFrames) (first more : List Item) (p : ToController) → is_id b.next ≡ true → is_held heard p ≡ true → length (flat_map (frames_for heard) more) + 1 < last_id → id_after_all heard b.next (first ++ PacketIn p ∷ more) ≢ id_after_all heard b.next first }
     ensures next { (heard : AsyncConfig) (ports : List Port) (b : HeldFrames) (items : List Item) → (held_after heard ports b items).next ≡ id_after_all heard b.next (given heard ports items) }
+{}
+
+/// A call for which memory ran out changes nothing: what other calls do is as if it had not been made, whether it is made again or not.
+///
+/// If these are the calls of events, one after the other, their run has given what they gave. So a piece whose handling was broken off
+/// between two messages and went on later, with nothing else between, is as if it had been handled at once.
+pub fn no_memory_changes_nothing()
+    ensures others { (calls : List Made) (s t : State) → AreMade calls s t → AreMade (others calls) s t }
+    ensures run { (calls : List Made) (deeds : List Deed) (s t : State) → AreMade calls s t → others calls ≡ flat_map calls_of deeds → run (map event_of deeds) s ≡ record { reports = map report_of deeds; state = t } }
+{}
+
+/// An event for which memory ran out in `run` goes on when `run` is called with what is left of it: the event again, if nothing was
+/// reported, and else a piece of no bytes, since it was a piece that was broken off between two messages.
+///
+/// When that has happened, what was given and the state after it are as if the event had not been interrupted; if it is interrupted
+/// again, as if it had been interrupted once.
+pub fn interrupted_events_go_on()
+    ensures happened { (event : Event) (s t u : State) (more last : List Report) → StopsWithin (event ∷ []) s t [] more → RunsAll (rest_of event more ∷ []) t u [] last → (u ≡ (run (event ∷ []) s).state) × (effects_in (more ++ last) ≡ effects_in (run (event ∷ []) s).reports) }
+    ensures again { (event : Event) (s t u : State) (more last : List Report) → StopsWithin (event ∷ []) s t [] more → StopsWithin (rest_of event more ∷ []) t u [] last → StopsWithin (event ∷ []) s u [] (more ++ last) }
 {}
