@@ -1,5 +1,5 @@
 -- The ids in messages and those of held frames, which are counted alike.
-use Rattle.std.proofs.Common.{◌≡◌, ◌<◌, ◌+◌, ℕ, Bool, true, false, cond, List, [], ◌∷◌, ◌++◌, length, take, flat_map, slice_get, Some, ap, ◌∙◌, sym, refl, arith}
+use Rattle.std.proofs.Common.{◌≡◌, ◌<◌, ◌+◌, ℕ, Bool, true, false, List, [], ◌∷◌, ◌++◌, length, take, flat_map, slice_get, Some, ap, ◌∙◌, sym, refl}
 use Rattle.std.proofs.lemmas.Grind.{flat_map-append}
 use Rattle.of_buffers.specs.Buffers.{Held, HeldFrames, held, hold, hold_all, is_id, last_id, most_held}
 use Rattle.of_buffers.proofs.Circle.{all_is_id, held_under, others_under}
@@ -8,7 +8,6 @@ use Rattle.of_machine.specs.declared.data.Item.TheVariants.{Sent, PacketIn}
 use Rattle.of_machine.specs.declared.data.ToController.{ToController}
 use Rattle.of_ports.specs.declared.port.Port.{Port}
 use Rattle.of_switch.specs.declared.control.AsyncConfig.{AsyncConfig}
-use Rattle.of_switch.specs.declared.effect.Effect.{Effect}
 use Rattle.of_switch.specs.Told.{each_told, effect_of, effects_of, frames_for, given, held_after, held_of, id_after, id_after_all, is_held, limit_of, no_buffer, packet_in_of}
 
 module _ (heard : AsyncConfig) where

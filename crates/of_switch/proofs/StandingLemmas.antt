@@ -20,7 +20,7 @@ use Rattle.of_table.specs.declared.selection.Cause.{Cause}
 use Rattle.of_table.specs.declared.selection.Cause.TheVariants.{Group as OfGroup}
 use Rattle.of_table.specs.Table.{FlowEntry, Table, empty_table, is_same, with_flow, added, counted_at, looked, matched_at}
 use Rattle.of_table.specs.Selecting.{has_action, is_to, names_group, stays, modifies, modified_by}
-use Rattle.of_table.specs.Tables.{Tables, NumberedTables, table_at, with_table, added_to, each_from, modified_table, modified_in, concerns, cause_at, left_table, left_in, is_in, looked_in, matched_in}
+use Rattle.of_table.specs.Tables.{Tables, table_at, with_table, added_to, each_from, modified_table, modified_in, concerns, cause_at, left_table, left_in, is_in, looked_in, matched_in}
 use Rattle.of_table.proofs.Soundness.{all-filter, all-set}
 use Rattle.of_machine.specs.declared.data.Count.{Count}
 use Rattle.of_machine.specs.declared.data.Count.TheVariants.{Lookup, Matched, TxDropped, Group as GroupUse, Bucket}
@@ -48,7 +48,6 @@ use Rattle.of_switch.specs.Told.{effects_of, held_after}
 use Rattle.of_switch.specs.Commands.{names_absent_group}
 use Rattle.of_switch.specs.Loading.{loaded_entry, loaded_table, loaded_tables}
 use Rattle.of_buffers.specs.Buffers.{HeldFrames}
-use Rattle.of_switch.specs.Numbers.{forwarding_of}
 use Rattle.of_switch.specs.Plane.{Forwarding, world_of, applied, arriving, count_port, framed, idle, taken_in, through, tallied, all_tallied, sent, all_sent}
 use Rattle.of_switch.specs.Standing.{names_existing_groups, all_name_existing_groups, is_numbered, GroupsExist}
 

@@ -51,10 +51,7 @@ pub fn wait<L: Lookup>(switch: &mut Switch<L>, nanos: u64) -> Result<Effects, Sw
 }
 
 /// `port_change`.
-pub fn change<L: Lookup>(
-    switch: &mut Switch<L>,
-    change: PortChange,
-) -> Result<Effects, SwitchError>
+pub fn change<L: Lookup>(switch: &mut Switch<L>, change: PortChange) -> Result<Effects, SwitchError>
     ensures { IsMade (Changed change result) switch.old switch.new }
 {
     switch.port_change(change)
