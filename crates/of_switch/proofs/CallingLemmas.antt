@@ -7,10 +7,11 @@ use Rattle.of_switch.specs.declared.effect.Effect.{Effect}
 use Rattle.of_switch.specs.declared.switch_error.SwitchError.{SwitchError}
 use Rattle.of_switch.specs.declared.switch_error.SwitchError.TheVariants.{NoMemory}
 use Rattle.of_switch.specs.State.{State}
+use Rattle.of_switch.specs.Loading.{loaded}
 use Rattle.of_switch.specs.Steps.{Outcome, gives, connected, fed, next_of, frame_in, moment_in, port_changed, lost}
 use Rattle.of_switch.specs.Calls.{Call, connect_refusal, feed_refusal, port_refusal}
 use Rattle.of_switch.specs.Runs.{behind, drained, Report, Gives, IsRefused, Happened, happened, unless, Run, run}
-use Rattle.of_switch.specs.Calling.{Answer, Made, Connected, Lost, Fed, Next, Frame, Moment, Changed, IsMade, AreMade, is_no_memory, found_no_memory, ran_out, others, Deed, Connects, Loses, Sends, IsUnheard, Receives, Waits, Changes, handled, calls_of, event_of, report_for, report_of}
+use Rattle.of_switch.specs.Calling.{Answer, Made, Connected, Lost, Fed, Next, Frame, Moment, Changed, Loaded, IsMade, AreMade, is_no_memory, found_no_memory, ran_out, others, Deed, Connects, Loses, Sends, IsUnheard, Receives, Waits, Changes, handled, calls_of, event_of, report_for, report_of}
 use Rattle.of_switch.proofs.Joining.{drained_more, drained_none}
 
 -- WHERE MEMORY RAN OUT nothing changed
@@ -36,6 +37,7 @@ stays (Next answer) s t out h =
 stays (Frame port frame answer) s t out h = answer_stays None (frame_in port frame s) s answer t out h
 stays (Moment nanos answer) s t out h = answer_stays None (moment_in nanos s) s answer t out h
 stays (Changed change answer) s t out h = answer_stays (port_refusal change s) (port_changed change s) s answer t out h
+stays (Loaded configuration answer) s t out h = stays_by (Unit {0}) None (λ (u : Unit {0}) (new : State). new ≡ loaded configuration s) s answer t out h
 
 -- with the calls after it
 one_more : (m : Made) (calls : List Made) (s u t : State) (b : Bool) → ran_out m ≡ b → IsMade m s u → AreMade (others calls) u t → AreMade (others (m ∷ calls)) s t

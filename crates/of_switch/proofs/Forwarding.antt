@@ -15,8 +15,8 @@ use Rattle.of_machine.proofs.Renumbering.{run_is_renumbered}
 use Rattle.of_switch.specs.declared.control.AsyncConfig.{AsyncConfig}
 use Rattle.of_switch.specs.declared.effect.Effect.{Effect}
 use Rattle.of_switch.specs.Told.{each_told, effects_of, frames_for, given, held_after}
-use Rattle.of_switch.specs.Plans.{with_held, with_reception, without_used}
-use Rattle.of_switch.specs.declared.plan.Reception.{Reception}
+use Rattle.of_switch.specs.Applying.{with_held, with_reception, without_used}
+use Rattle.of_switch.specs.declared.reception.Reception.{Reception}
 use Rattle.of_switch.specs.Plane.{Forwarding, world_of, applied, forwards, all_sent, all_tallied}
 use Rattle.of_buffers.specs.Buffers.{Held, HeldFrames, given_since, hold_all, is_id, none_held, used}
 use Rattle.of_switch.specs.Numbers.{Contents, contents, forwarding_of, numbered_world, place_in, all_placed}

@@ -8,7 +8,9 @@ use Rattle.of_switch.specs.declared.event.Event.TheVariants as event
 use Rattle.of_switch.specs.declared.port_change.PortChange.{PortChange}
 use Rattle.of_switch.specs.declared.switch_error.SwitchError.{SwitchError}
 use Rattle.of_switch.specs.declared.switch_error.SwitchError.TheVariants.{NoMemory}
+use Rattle.of_text.specs.Configs.{Configuration}
 use Rattle.of_switch.specs.State.{State}
+use Rattle.of_switch.specs.Loading.{loaded}
 use Rattle.of_switch.specs.Steps.{gives, connected, lost, fed, next_of, frame_in, moment_in, port_changed}
 use Rattle.of_switch.specs.Calls.{Call, connect_refusal, feed_refusal, port_refusal}
 use Rattle.of_switch.specs.Runs.{Report, Gives, IsRefused}
@@ -26,6 +28,7 @@ pub data Made : Type 0 where
   Frame : ℕ → List ℕ → Answer → Made
   Moment : ℕ → Answer → Made
   Changed : PortChange → Answer → Made
+  Loaded : Configuration → Result (Unit {0}) SwitchError → Made
 
 -- WHAT A CALL DOES is what its function ensures
 abbrev pub IsMade : Made → State → State → Type 0
@@ -36,6 +39,7 @@ IsMade (Next answer) s t = Call None (λ found new. (next_of s ≡ option_map (�
 IsMade (Frame port frame answer) s t = Call None (λ effects new. frame_in port frame s ≡ gives effects.items new) s answer t
 IsMade (Moment nanos answer) s t = Call None (λ effects new. moment_in nanos s ≡ gives effects.items new) s answer t
 IsMade (Changed change answer) s t = Call (port_refusal change s) (λ effects new. port_changed change s ≡ gives effects.items new) s answer t
+IsMade (Loaded configuration answer) s t = Call None (λ _ new. new ≡ loaded configuration s) s answer t
 
 -- one after the other
 abbrev pub AreMade : List Made → State → State → Type 0
@@ -60,6 +64,7 @@ ran_out (Next answer) = found_no_memory answer
 ran_out (Frame port frame answer) = found_no_memory answer
 ran_out (Moment nanos answer) = found_no_memory answer
 ran_out (Changed change answer) = found_no_memory answer
+ran_out (Loaded configuration answer) = found_no_memory answer
 
 -- the other calls
 abbrev pub others : List Made → List Made

@@ -11,14 +11,15 @@ ghost use Rattle.of_switch.specs.Commands.{notice_effects};
 ghost use Rattle.std.specs.Prelude.{flat_map};
 ghost use Rattle.of_buffers.specs.Buffers.{last_id};
 ghost use Rattle.of_switch.specs.Told.{each_told, frames_for, given};
-ghost use Rattle.of_switch.specs.Plans.{with_held, with_reception, without_used};
+ghost use Rattle.of_switch.specs.Applying.{with_held, with_reception, without_used};
 ghost use Rattle.of_switch.specs.Plane.{all_sent, all_tallied, forwards, framed, idle, received, sent, tallied, through, without_held};
 ghost use Rattle.of_switch.specs.Numbers.{Contents, all_placed, contents, forwarding_of, numbered_world, place_in, placed};
 
 use crate::commands::notices;
 use crate::control::AsyncConfig;
 use crate::effect::{Effect, Effects};
-use crate::plan::{Reception, Removal};
+use crate::reception::Reception;
+use crate::removal::Removal;
 use crate::told::told_from;
 use of_actions::Action;
 use of_buffers::{HeldFrame, HeldFrames};

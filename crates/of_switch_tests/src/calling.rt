@@ -1,8 +1,9 @@
 //! Each call of a switch is one of a list of calls, as of_switch's law on such lists has it: its contract is the step's premise.
-ghost use Rattle.of_switch.specs.Calling.{IsMade, Connected, Lost, Fed, Next, Frame, Moment, Changed};
+ghost use Rattle.of_switch.specs.Calling.{IsMade, Connected, Lost, Fed, Next, Frame, Moment, Changed, Loaded};
 
 use of_classifier::Lookup;
 use of_switch::{Effects, PortChange, Switch, SwitchError};
+use of_text::Config;
 
 /// `connected`.
 pub fn connect<L: Lookup>(switch: &mut Switch<L>) -> Result<Effects, SwitchError>
@@ -55,4 +56,11 @@ pub fn change<L: Lookup>(switch: &mut Switch<L>, change: PortChange) -> Result<E
     ensures { IsMade (Changed change result) switch.old switch.new }
 {
     switch.port_change(change)
+}
+
+/// `load`.
+pub fn load<L: Lookup>(switch: &mut Switch<L>, config: &Config) -> Result<(), SwitchError>
+    ensures { IsMade (Loaded config.now result) switch.old switch.new }
+{
+    switch.load(config)
 }

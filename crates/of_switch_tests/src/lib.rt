@@ -11,4 +11,4 @@ mod session;
 #[cfg(test)]
 mod switch;
 
-pub use calling::{change, connect, feed, handle, lose, receive, wait};
+pub use calling::{change, connect, feed, handle, load, lose, receive, wait};

@@ -1,7 +1,7 @@
 use Rattle.std.proofs.Common.{◌≡◌, refl}
 use Rattle.of_switch.specs.Commands.{without_packet}
 use Rattle.of_switch.specs.Numbers.{forwarding_of}
-use Rattle.of_switch.specs.Plans.{without_used}
+use Rattle.of_switch.specs.Applying.{without_used}
 use Rattle.of_switch.proofs.HeldHandling.{out_is}
 use Rattle.of_switch.proofs.StandingLemmas.{held_stands, through_stands}
 use Rattle.of_switch.proofs.StandingSteps.{called_stands}

@@ -3,7 +3,7 @@ use Rattle.std.proofs.lemmas.Result.{IfOk-weaker}
 use Rattle.std.specs.Prelude.{None}
 use Rattle.of_machine.specs.Rows.{entering, acts}
 use Rattle.of_switch.specs.Numbers.{contents, forwarding_of}
-use Rattle.of_switch.specs.Plans.{without_used}
+use Rattle.of_switch.specs.Applying.{without_used}
 use Rattle.of_switch.proofs.Forwarding.{went, without_used_next}
 use Rattle.of_switch.proofs.plane.Plane.packet_out.Goals as goal
 

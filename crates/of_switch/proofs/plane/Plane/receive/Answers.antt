@@ -4,7 +4,7 @@ use Rattle.of_machine.specs.Rows.{entering, Lookup}
 use Rattle.of_ports.specs.declared.counters.PortCount.TheVariants.{Received}
 use Rattle.std.specs.Prelude.{Some, None}
 use Rattle.of_switch.specs.Numbers.{contents, forwarding_of}
-use Rattle.of_switch.specs.declared.plan.Reception.{Reception}
+use Rattle.of_switch.specs.declared.reception.Reception.{Reception}
 use Rattle.of_switch.specs.Plane.{count_port}
 use Rattle.of_switch.proofs.Forwarding.{went}
 use Rattle.of_switch.proofs.plane.Plane.receive.Goals as goal

@@ -1,7 +1,7 @@
 -- What a run does besides what it counts: a reception is counted, a held frame is used, and frames are held.
 use Rattle.std.specs.Prelude.{ℕ, List, Option, Some, None}
 use Rattle.of_buffers.specs.Buffers.{Held, HeldFrames, hold_all, used}
-use Rattle.of_switch.specs.declared.plan.Reception.{Reception}
+use Rattle.of_switch.specs.declared.reception.Reception.{Reception}
 use Rattle.of_switch.specs.Plane.{Forwarding, count_port}
 
 abbrev pub with_reception : Option Reception → Forwarding → Forwarding
