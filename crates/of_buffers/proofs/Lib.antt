@@ -1,1 +1,1 @@
-mod Circle
+pub mod Circle

@@ -1,7 +1,7 @@
--- No step lets a frame outgrow its bound.
+-- No step lets a frame outgrow its bound, and each frame that is emitted is a frame.
 use Rattle.std.proofs.Common.{◌≡◌, ◌==◌, ℕ, ◌+◌, ◌*◌, ◌-◌, ◌<◌, ◌≤◌, suc, zero, Bool, true, false, cond, List, [], ◌∷◌, ◌++◌, refl, length, arith, Option, Some, None}
 use Rattle.std.specs.Prelude.{IsTrue, nat_lt, unwrap_or, map, max, ⊤, ◌||◌}
-use Rattle.std.specs.List.{list_all}
+use Rattle.std.specs.List.{All, list_all}
 use Rattle.of_layers.specs.Reading.{layers_of}
 use Rattle.of_layers.proofs.TestLemmas.{and_true}
 use Rattle.of_rewrite.specs.declared.frame.Ttl.{Ttl}
@@ -29,80 +29,91 @@ use Rattle.of_machine.specs.Sound.{longest, IsSound, IsBelow, AllBelow, IsBucket
 use Rattle.of_machine.specs.Rows.{Work, Lookup, Do, RunSet, Act, Task, task, row, acts, works, key_of, lookup_row, entry_row, at_entry, output_row, rewritten, dec_ttl_row, group_row, copies, with_metadata, set_out, Emitted, emission, to_port}
 use Rattle.of_machine.specs.Weights.{IsSet, AllFitWork, IsFit, AllFit}
 use Rattle.of_machine.specs.Runs.{Machine, step, first_step, after, starting}
-use Rattle.of_machine.specs.Growth.{table_pushes, act_pushes, list_pushes, work_pushes, IsLow, AllLow, frame_of, AllShort}
+use Rattle.of_machine.specs.Growth.{table_pushes, act_pushes, list_pushes, work_pushes, IsLow, AllLow, frame_of, AllShort, AllFrames}
 use Rattle.of_machine.proofs.Promises.{out_of_tables, list_served, all_are_below, all_below_more, set_below, order_below}
 use Rattle.of_machine.proofs.Sets.{empty_set, written_set, run_set}
 use Rattle.of_machine.proofs.Weighing.{AllInstructions, IsInOrder, instructions_are, order_is, begins_low, bounded}
 
 -- ---- items
 
-abbrev Shorts : ℕ → List Item → Type 0
-Shorts most [] = ⊤
-Shorts most (i ∷ rest) = (length (frame_of i) ≤ most) × Shorts most rest
+-- this holds of the frame of each item
+abbrev Each : (List ℕ → Type 0) → List Item → Type 0
+Each P [] = ⊤
+Each P (i ∷ rest) = P (frame_of i) × Each P rest
 
-shorts_more : (most : ℕ) (xs ys : List Item) → Shorts most xs → Shorts most ys → Shorts most (xs ++ ys)
-shorts_more most [] ys a b = b
-shorts_more most (x ∷ xs) ys a b = (a.0, shorts_more most xs ys a.1 b)
+each_more : (P : List ℕ → Type 0) (xs ys : List Item) → Each P xs → Each P ys → Each P (xs ++ ys)
+each_more P [] ys a b = b
+each_more P (x ∷ xs) ys a b = (a.0, each_more P xs ys a.1 b)
 
-pub all_short : (most : ℕ) (xs : List Item) → Shorts most xs → AllShort most xs
-all_short most [] h k d lt = absurd (omega arith)
-all_short most (x ∷ xs) h zero d lt = h.0
-all_short most (x ∷ xs) h (suc k) d lt = all_short most xs h.1 k d (omega arith)
+all_each : (P : List ℕ → Type 0) (xs : List Item) → Each P xs → All (λ item. P (frame_of item)) xs
+all_each P [] h k d lt = absurd (omega arith)
+all_each P (x ∷ xs) h zero d lt = h.0
+all_each P (x ∷ xs) h (suc k) d lt = all_each P xs h.1 k d (omega arith)
 
-module _ (most : ℕ) (p : Packet) (low : length p.frame ≤ most) where
-  sent_short : (ports : List Port) → Shorts most (map (λ q. Sent q.number p.frame) ports)
-  sent_short [] = tt
-  sent_short (q ∷ ports) = (low, sent_short ports)
+-- a frame of at most so many bytes
+abbrev IsShortFrame : ℕ → List ℕ → Type 0
+IsShortFrame most frame = (length frame ≤ most) × IsFrame frame
 
-  either_short : (b : Bool) (x y : Emitted) → Shorts most x.items → Shorts most y.items → Shorts most (cond b x y).items
-  either_short true x y h k = h
-  either_short false x y h k = k
+all_short : (most : ℕ) (xs : List Item) → Each (IsShortFrame most) xs → AllShort most xs
+all_short most xs h = λ k d lt. (all_each (IsShortFrame most) xs h k d lt).0
 
-  port_short : (q : Option Port) → Shorts most (to_port q p).items
-  port_short None = tt
-  port_short (Some q) = either_short (may_send q) _ _ (low, tt) tt
+all_frames : (most : ℕ) (xs : List Item) → Each (IsShortFrame most) xs → AllFrames xs
+all_frames most xs h = λ k d lt. (all_each (IsShortFrame most) xs h k d lt).1
 
-  emission_short : (ports : List Port) (port max_len : ℕ) → Shorts most (emission ports p port max_len).items
-  emission_short ports port max_len =
-      either_short (port == in_port) _ _ (port_short (port_at ports p.ingress))
-      (either_short ((port == flood) || (port == all)) _ _ (sent_short (other_ports ports p.ingress))
-      (either_short (port == controller) _ _ (low, tt)
-      (either_short (port == p.ingress) _ _ tt (port_short (port_at ports port)))))
+module _ (P : List ℕ → Type 0) (p : Packet) (low : P p.frame) where
+  sent_each : (ports : List Port) → Each P (map (λ q. Sent q.number p.frame) ports)
+  sent_each [] = tt
+  sent_each (q ∷ ports) = (low, sent_each ports)
 
-  output_short : (w : TheWorld) (rest : List Work) (a : Action) (port max_len : ℕ) (b : Bool) → (port == table) ≡ b → Shorts most (output_row w p rest a port max_len).items
-  output_short w rest a port max_len true e = rw e tt
-  output_short w rest a port max_len false e = rw e (emission_short w.ports port max_len)
+  either_each : (b : Bool) (x y : Emitted) → Each P x.items → Each P y.items → Each P (cond b x y).items
+  either_each true x y h k = h
+  either_each false x y h k = k
 
-  aged_short : (rest : List Work) (answer : Ttl) → Shorts most (dec_ttl_row p rest answer).items
-  aged_short rest Done = tt
-  aged_short rest Expired = (low, tt)
-  aged_short rest Absent = tt
+  port_each : (q : Option Port) → Each P (to_port q p).items
+  port_each None = tt
+  port_each (Some q) = either_each (may_send q) _ _ (low, tt) tt
 
-  group_short : (w : TheWorld) (rest : List Work) (g : ℕ) (o : Option (List ℕ)) → Shorts most (group_row w p rest g o).items
-  group_short w rest g None = tt
-  group_short w rest g (Some ks) = tt
+  emission_each : (ports : List Port) (port max_len : ℕ) → Each P (emission ports p port max_len).items
+  emission_each ports port max_len =
+      either_each (port == in_port) _ _ (port_each (port_at ports p.ingress))
+      (either_each ((port == flood) || (port == all)) _ _ (sent_each (other_ports ports p.ingress))
+      (either_each (port == controller) _ _ (low, tt)
+      (either_each (port == p.ingress) _ _ tt (port_each (port_at ports port)))))
 
-  entry_short : (t n : ℕ) (o : Option Flow) → Shorts most (entry_row p t n o).items
-  entry_short t n None = tt
-  entry_short t n (Some f) = tt
+  output_each : (w : TheWorld) (rest : List Work) (a : Action) (port max_len : ℕ) (b : Bool) → (port == table) ≡ b → Each P (output_row w p rest a port max_len).items
+  output_each w rest a port max_len true e = rw e tt
+  output_each w rest a port max_len false e = rw e (emission_each w.ports port max_len)
 
-  lookup_short : (w : TheWorld) (t : ℕ) (o : Option ℕ) → Shorts most (lookup_row w p t o).items
-  lookup_short w t None = tt
-  lookup_short w t (Some n) = entry_short t n (w.flow t n)
+  aged_each : (rest : List Work) (answer : Ttl) → Each P (dec_ttl_row p rest answer).items
+  aged_each rest Done = tt
+  aged_each rest Expired = (low, tt)
+  aged_each rest Absent = tt
 
-  row_short : (w : TheWorld) (work : List Work) → Shorts most (row w p work).items
-  row_short w [] = tt
-  row_short w (Lookup t ∷ rest) = lookup_short w t (w.winner t (key_of p))
-  row_short w (Do (Apply l) ∷ rest) = tt
-  row_short w (Do Clear ∷ rest) = tt
-  row_short w (Do (Write l) ∷ rest) = tt
-  row_short w (Do (Metadata value mask) ∷ rest) = tt
-  row_short w (Do (Goto t) ∷ rest) = tt
-  row_short w (RunSet ∷ rest) = tt
-  row_short w (Act (Output port max_len) ∷ rest) = output_short w rest (Output port max_len) port max_len (port == table) refl
-  row_short w (Act (Group g) ∷ rest) = group_short w rest g (w.chosen g)
-  row_short w (Act DecNwTtl ∷ rest) = aged_short rest (dec_ttl_result (ttl_of (layers_of p.frame)))
-  row_short w (Act other ∷ rest) = tt
+  group_each : (w : TheWorld) (rest : List Work) (g : ℕ) (o : Option (List ℕ)) → Each P (group_row w p rest g o).items
+  group_each w rest g None = tt
+  group_each w rest g (Some ks) = tt
+
+  entry_each : (t n : ℕ) (o : Option Flow) → Each P (entry_row p t n o).items
+  entry_each t n None = tt
+  entry_each t n (Some f) = tt
+
+  lookup_each : (w : TheWorld) (t : ℕ) (o : Option ℕ) → Each P (lookup_row w p t o).items
+  lookup_each w t None = tt
+  lookup_each w t (Some n) = entry_each t n (w.flow t n)
+
+  row_each : (w : TheWorld) (work : List Work) → Each P (row w p work).items
+  row_each w [] = tt
+  row_each w (Lookup t ∷ rest) = lookup_each w t (w.winner t (key_of p))
+  row_each w (Do (Apply l) ∷ rest) = tt
+  row_each w (Do Clear ∷ rest) = tt
+  row_each w (Do (Write l) ∷ rest) = tt
+  row_each w (Do (Metadata value mask) ∷ rest) = tt
+  row_each w (Do (Goto t) ∷ rest) = tt
+  row_each w (RunSet ∷ rest) = tt
+  row_each w (Act (Output port max_len) ∷ rest) = output_each w rest (Output port max_len) port max_len (port == table) refl
+  row_each w (Act (Group g) ∷ rest) = group_each w rest g (w.chosen g)
+  row_each w (Act DecNwTtl ∷ rest) = aged_each rest (dec_ttl_result (ttl_of (layers_of p.frame)))
+  row_each w (Act other ∷ rest) = tt
 
 -- ---- pushes of lists
 
@@ -248,13 +259,13 @@ module _ (w : TheWorld) where
 
     pub record AreLow (b : ℕ) (m : Machine) : Type 0 where
       pub tasks : AllLow w b m.tasks
-      pub items : Shorts b m.items
+      pub items : Each (IsShortFrame b) m.items
 
     first_low : (b : ℕ) (m : Machine) (ts : List Task) → AllFit ts → AllLow w b ts → m.tasks ≡ ts → AreLow b m → AreLow b (first_step w m ts)
     first_low b m [] fit low e h = h
     first_low b m (t ∷ others) fit low e h = record {
       tasks = low_more b (row w t.packet t.work).left others (row_low b t.packet t.work fit.0.set fit.0.work low.0) low.1;
-      items = shorts_more b m.items (row w t.packet t.work).items h.items (row_short b t.packet (let room = low.0.room in omega (arith, room)) w t.work);
+      items = each_more (IsShortFrame b) m.items (row w t.packet t.work).items h.items (row_each (IsShortFrame b) t.packet (let room = low.0.room in omega (arith, room), low.0.frame) w t.work);
     }
 
     low_after : (b k : ℕ) (m : Machine) → AllFit m.tasks → AreLow b m → AreLow b (after w k m)
@@ -266,6 +277,13 @@ module _ (w : TheWorld) where
 
     pub all_are_short : (b k : ℕ) (p : Packet) (work : List Work) → IsFit (task p work) → IsLow w b (task p work) → AllShort b (after w k (starting p work)).items
     all_are_short b k p work fit low = all_short b (after w k (starting p work)).items (low_after b k (starting p work) (fit, tt) (record { tasks = (low, tt); items = tt })).items
+
+    -- whatever the bound
+    pub all_are_frames : (k : ℕ) (p : Packet) (work : List Work) → IsFit (task p work) → IsFrame p.frame → AllFrames (after w k (starting p work)).items
+    all_are_frames k p work fit frame =
+        let b = length p.frame + 4 * work_pushes w p.action_set work in
+        let low : IsLow w b (task p work) = record { frame = frame; room = omega arith } in
+        all_frames b (after w k (starting p work)).items (low_after b k (starting p work) (fit, tt) (record { tasks = (low, tt); items = tt })).items
 
     -- ---- a frame, and the actions of a PACKET_OUT
 

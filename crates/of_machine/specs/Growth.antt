@@ -56,3 +56,7 @@ frame_of (PacketIn p) = p.frame
 -- each frame that is emitted has at most `most` bytes
 abbrev pub AllShort : ℕ → List Item → Type 0
 AllShort most items = All (λ item. length (frame_of item) ≤ most) items
+
+-- each is a frame, and so has at least 14
+abbrev pub AllFrames : List Item → Type 0
+AllFrames items = All (λ item. IsFrame (frame_of item)) items

@@ -6,7 +6,8 @@ ghost use Rattle.of_machine.specs.Sound.{IsSound, longest};
 ghost use Rattle.of_machine.specs.Rows.{Work, Lookup, acts, task};
 ghost use Rattle.of_machine.specs.Weights.{IsFit, AllFit, lookup_steps, frame_step_bound, task_weight, weight};
 ghost use Rattle.of_machine.specs.Runs.{Machine, step, after, starting, run_of, ahead_of};
-ghost use Rattle.of_machine.specs.Growth.{IsLow, AllShort};
+ghost use Rattle.of_machine.specs.Growth.{IsLow, AllFrames, AllShort};
+ghost use Rattle.of_rewrite.specs.Frames.{IsFrame};
 ghost use Rattle.of_machine.specs.Renumbering.{IsRenumbered, renumbered};
 ghost use Rattle.of_machine.specs.declared.data.Packet.{Packet};
 ghost use Rattle.of_actions.specs.declared.action.Action.{Action};
@@ -32,6 +33,11 @@ pub fn packets_take_turns()
 /// Frames grow by four bytes for each VLAN tag that is pushed, and by no more.
 pub fn frames_stay_short()
     ensures { (w : TheWorld) (p : Packet) (work : List Work) (most k : ℕ) → IsSound w → IsFit (task p work) → IsLow w most (task p work) → AllShort most (after w k (starting p work)).items }
+{}
+
+/// What a frame's run emits are frames: each has two addresses and a type, and so at least 14 bytes (IEEE 802.3, 3.1.1).
+pub fn frames_stay_frames()
+    ensures { (w : TheWorld) (p : Packet) (work : List Work) (k : ℕ) → IsSound w → IsFit (task p work) → IsFrame p.frame → AllFrames (after w k (starting p work)).items }
 {}
 
 /// The numbers of entries are names alone: where entries have other numbers, a run is the same but for them.

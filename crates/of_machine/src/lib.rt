@@ -11,7 +11,9 @@ mod tables;
 mod world;
 
 pub use data::{Count, Counts, Item, Items, Outcome, Packet, Step, ToController};
-pub use laws::{every_run_ends, frames_stay_short, numbers_are_names, packets_take_turns};
+pub use laws::{
+    every_run_ends, frames_stay_frames, frames_stay_short, numbers_are_names, packets_take_turns,
+};
 pub use of_groups::Chosen;
 pub use of_wire::PacketInReason;
 pub use packet_frame::PacketFrame;

@@ -15,10 +15,11 @@ use Rattle.of_machine.proofs.Renumbering.{run_is_renumbered}
 use Rattle.of_switch.specs.declared.control.AsyncConfig.{AsyncConfig}
 use Rattle.of_switch.specs.declared.effect.Effect.{Effect}
 use Rattle.of_switch.specs.Told.{each_told, effects_of, frames_for, given, held_after}
-use Rattle.of_switch.specs.Plans.{without_used}
+use Rattle.of_switch.specs.Applying.{with_held, with_reception, without_used}
+use Rattle.of_switch.specs.declared.reception.Reception.{Reception}
 use Rattle.of_switch.specs.Plane.{Forwarding, world_of, applied, forwards, all_sent, all_tallied}
-use Rattle.of_buffers.specs.Buffers.{HeldFrames, given_since, hold_all, is_id, none_held, used}
-use Rattle.of_switch.specs.Numbers.{forwarding_of, numbered_world, place_in, all_placed}
+use Rattle.of_buffers.specs.Buffers.{Held, HeldFrames, given_since, hold_all, is_id, none_held, used}
+use Rattle.of_switch.specs.Numbers.{Contents, contents, forwarding_of, numbered_world, place_in, all_placed}
 use Rattle.of_switch.proofs.Worlds.{AreDistinct, renumbered_world}
 
 -- what is done by places, of a run by numbers
@@ -28,7 +29,7 @@ by_places heard seen p work t groups ports f distinct =
     ap (λ (m : Machine). applied heard seen m f)
     (run_is_renumbered (place_in t) (numbered_world t groups ports) (world_of (forwarding_of t groups ports none_held)) (renumbered_world t groups ports distinct) p work)
 
--- what a run by numbers gives and counts, as a plan
+-- what a run by numbers gives and counts
 pub way_is : (heard : AsyncConfig) (p packet : Packet) (work : List Work) (t : NumberedTables) (groups : List Group) (ports : List Port) (items : List Item) (counts : List Count) (effects : List Effect) (seen : List Port) (next : ℕ) (before after : Forwarding)
     → AreDistinct t
     → packet ≡ p
@@ -54,6 +55,25 @@ way_is heard p packet work t groups ports items counts effects seen next before 
     by_places heard ports p work t groups ports before distinct
     ∙ (ap (λ (g : Forwarding). forwards (effects_of heard ports before.held m.items) g) (sym ended)
     ∙ ap (λ (es : List Effect). forwards es after) (sym the_effects))
+
+-- the same where the code saw contents that are these
+pub went : (heard : AsyncConfig) (p packet : Packet) (work : List Work) (t : NumberedTables) (groups : List Group) (ports : List Port) (held : HeldFrames) (mid : Contents) (items : List Item) (counts : List Count) (effects : List Effect) (reception : Option Reception) (id : Option ℕ) (before after : Forwarding)
+    → AreDistinct t
+    → packet ≡ p
+    → items ≡ (run_of (numbered_world t groups ports) packet work).items
+    → counts ≡ (run_of (numbered_world t groups ports) packet work).counts
+    → mid ≡ contents t groups ports held
+    → held.next ≡ before.held.next
+    → ((frames : List Held) → with_held id frames (with_reception reception (forwarding_of t groups ports held)) ≡ record before { held = hold_all frames before.held })
+    → effects ≡ each_told heard mid.held.next (given heard mid.ports items)
+    → after ≡ all_sent effects (all_tallied (all_placed mid.tables counts) (with_held id (flat_map (frames_for heard) (given heard mid.ports items)) (with_reception reception (forwarding_of mid.tables mid.groups mid.ports mid.held))))
+    → applied heard ports (run_of (world_of (forwarding_of t groups ports none_held)) p work) before ≡ forwards effects after
+went heard p packet work t groups ports held mid items counts effects reception id before after distinct enters is_items is_counts same next begins told ends =
+    let frames = flat_map (frames_for heard) (given heard mid.ports items) in
+    let here : after ≡ all_sent effects (all_tallied (all_placed t counts) (record before { held = hold_all frames before.held })) =
+    ends ∙ ap (λ (k : Contents). all_sent effects (all_tallied (all_placed k.tables counts) (with_held id frames (with_reception reception (forwarding_of k.tables k.groups k.ports k.held))))) same
+    ∙ ap (λ (f : Forwarding). all_sent effects (all_tallied (all_placed t counts) f)) (begins frames) in
+    way_is heard p packet work t groups ports items counts effects mid.ports mid.held.next before after distinct enters is_items is_counts (ap (λ (k : Contents). k.ports) same) (ap (λ (k : Contents). k.held.next) same ∙ next) told here
 
 -- the next id stays where a frame is used
 pub used_next : (id : ℕ) (b : HeldFrames) → (used id b).next ≡ b.next

@@ -23,7 +23,7 @@ use Rattle.of_switch.specs.declared.control.Control.{Control}
 use Rattle.of_switch.specs.declared.effect.Effect.{Effect}
 use Rattle.of_switch.specs.Control.{heard_of}
 use Rattle.of_switch.specs.Commands.{commanded, commanded_by, flow_of, frame_of, has_flag, is_to_absent_group, packet_out_refusals, selector_of, unless_any, without_packet}
-use Rattle.of_switch.specs.Plans.{without_used}
+use Rattle.of_switch.specs.Applying.{without_used}
 use Rattle.of_switch.specs.Numbers.{forwarding_of}
 use Rattle.of_switch.specs.Plane.{Forwarded, Forwarding, through, without_held}
 use Rattle.of_switch.specs.State.{Core}

@@ -21,3 +21,6 @@ pub mod StandingLemmas
 pub mod ConfiguringLemmas
 pub mod StandingSteps
 pub mod HeldHandling
+pub mod HeldIds
+pub mod CallingLemmas
+pub mod GoingOn

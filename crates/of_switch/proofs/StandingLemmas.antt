@@ -20,7 +20,7 @@ use Rattle.of_table.specs.declared.selection.Cause.{Cause}
 use Rattle.of_table.specs.declared.selection.Cause.TheVariants.{Group as OfGroup}
 use Rattle.of_table.specs.Table.{FlowEntry, Table, empty_table, is_same, with_flow, added, counted_at, looked, matched_at}
 use Rattle.of_table.specs.Selecting.{has_action, is_to, names_group, stays, modifies, modified_by}
-use Rattle.of_table.specs.Tables.{Tables, NumberedTables, table_at, with_table, added_to, each_from, modified_table, modified_in, concerns, cause_at, left_table, left_in, is_in, looked_in, matched_in}
+use Rattle.of_table.specs.Tables.{Tables, table_at, with_table, added_to, each_from, modified_table, modified_in, concerns, cause_at, left_table, left_in, is_in, looked_in, matched_in}
 use Rattle.of_table.proofs.Soundness.{all-filter, all-set}
 use Rattle.of_machine.specs.declared.data.Count.{Count}
 use Rattle.of_machine.specs.declared.data.Count.TheVariants.{Lookup, Matched, TxDropped, Group as GroupUse, Bucket}
@@ -36,16 +36,19 @@ use Rattle.of_text.proofs.GroupLemmas.{config_groups}
 use Rattle.of_text.proofs.SoundLemmas.{absent_same}
 use Rattle.of_switch.specs.declared.effect.Effect.{Effect}
 use Rattle.of_switch.specs.declared.effect.Effect.TheVariants.{Answer, Sent, Closed}
-use Rattle.of_switch.specs.declared.plan.Plan.{Plan}
-use Rattle.of_switch.specs.declared.plan.Change.{Change}
-use Rattle.of_switch.specs.declared.plan.Change.TheVariants.{Nothing, Counts, Removal}
-use Rattle.of_switch.specs.declared.plan.Reception.{Reception}
+use Rattle.of_switch.specs.declared.control.AsyncConfig.{AsyncConfig}
+use Rattle.of_headers.specs.declared.headers.FrameFault.{FrameFault}
+use Rattle.of_headers.specs.Faults.{frame_fault}
+use Rattle.of_machine.specs.declared.data.Packet.{Packet}
+use Rattle.of_machine.specs.Rows.{Work, Lookup as LookUp, entering}
+use Rattle.of_machine.specs.Runs.{Machine, run_of}
+use Rattle.of_ports.specs.declared.counters.PortCount.TheVariants.{Received}
+use Rattle.of_ports.specs.Ports.{may_receive, port_at}
+use Rattle.of_switch.specs.Told.{effects_of, held_after}
 use Rattle.of_switch.specs.Commands.{names_absent_group}
 use Rattle.of_switch.specs.Loading.{loaded_entry, loaded_table, loaded_tables}
 use Rattle.of_buffers.specs.Buffers.{HeldFrames}
-use Rattle.of_switch.specs.Numbers.{forwarding_of, all_placed}
-use Rattle.of_switch.specs.Plane.{Forwarding, idle, tallied, all_tallied, sent, all_sent}
-use Rattle.of_switch.specs.Plans.{with_reception, changed, planned}
+use Rattle.of_switch.specs.Plane.{Forwarding, world_of, applied, arriving, count_port, framed, idle, taken_in, through, tallied, all_tallied, sent, all_sent}
 use Rattle.of_switch.specs.Standing.{names_existing_groups, all_name_existing_groups, is_numbered, GroupsExist}
 
 -- ---- tests
@@ -310,18 +313,29 @@ all_sent_stand : (es : List Effect) (f : Forwarding) → GroupsExist f → Group
 all_sent_stand [] f k = k
 all_sent_stand (e ∷ es) f k = all_sent_stand es (sent e f) (sent_stands e f k)
 
-reception_stands : (r : Option Reception) (f : Forwarding) → GroupsExist f → GroupsExist (with_reception r f)
-reception_stands None f k = k
-reception_stands (Some r) f k = ports_stand _ f k
+pub removed_stands : (cause : Cause) (f : Forwarding) → GroupsExist f → GroupsExist (record f { tables = left_in cause f.tables })
+removed_stands cause f k = tables_stand (left_in cause f.tables) f (left_stands f.groups cause f.tables k.entries) k
 
-changed_stands : (c : Change) (es : List Effect) (n : NumberedTables) (f : Forwarding) → GroupsExist f → GroupsExist (changed c es n f)
-changed_stands Nothing es n f k = k
-changed_stands (Counts reception id frames counts) es n f k = all_sent_stand es _ (all_tallied_stand (all_placed n counts.items) _ (held_stands _ _ (reception_stands reception f k)))
-changed_stands (Removal cause) es n f k = tables_stand (left_in cause f.tables) f (left_stands f.groups cause f.tables k.entries) k
+applied_stands : (heard : AsyncConfig) (ports : List Port) (m : Machine) (f : Forwarding) → GroupsExist f → GroupsExist (applied heard ports m f).forwarding
+applied_stands heard ports m f k = all_sent_stand (effects_of heard ports f.held m.items) _ (all_tallied_stand m.counts _ (held_stands (held_after heard ports f.held m.items) f k))
 
--- a plan is carried out
-pub plan_stands : (plan : Plan) (n : NumberedTables) (groups : List Group) (ports : List Port) (held : HeldFrames) (new : Forwarding) → new ≡ (planned plan n groups ports held).forwarding → GroupsExist (forwarding_of n groups ports held) → GroupsExist new
-plan_stands plan n groups ports held new e k = subst GroupsExist (sym e) (changed_stands plan.change plan.effects.items n (forwarding_of n groups ports held) k)
+pub through_stands : (heard : AsyncConfig) (p : Packet) (work : List Work) (f : Forwarding) → GroupsExist f → GroupsExist (through heard p work f).forwarding
+through_stands heard p work f k = applied_stands heard f.ports (run_of (world_of f) p work) f k
+
+taken_stands : (heard : AsyncConfig) (number : ℕ) (bytes : List ℕ) (f : Forwarding) (fault : Option FrameFault) → GroupsExist f → GroupsExist (taken_in heard number bytes f fault).forwarding
+taken_stands heard number bytes f (Some fault) k = ports_stand _ f k
+taken_stands heard number bytes f None k = applied_stands heard f.ports (run_of (world_of f) (entering bytes number) (LookUp 0 ∷ [])) (count_port number (Received (length bytes)) f) (ports_stand _ f k)
+
+arriving_stands : (heard : AsyncConfig) (number : ℕ) (bytes : List ℕ) (f : Forwarding) (port : Option Port) → GroupsExist f → GroupsExist (arriving heard number bytes f port).forwarding
+arriving_stands heard number bytes f None k = k
+arriving_stands heard number bytes f (Some p) k = by_test (may_receive p) refl
+  where
+    by_test : (b : Bool) → may_receive p ≡ b → GroupsExist (arriving heard number bytes f (Some p)).forwarding
+    by_test true e = rw e (taken_stands heard number bytes f (frame_fault bytes) k)
+    by_test false e = rw e (ports_stand _ f k)
+
+pub framed_stands : (heard : AsyncConfig) (number : ℕ) (bytes : List ℕ) (f : Forwarding) → GroupsExist f → GroupsExist (framed heard number bytes f).forwarding
+framed_stands heard number bytes f k = arriving_stands heard number bytes f (port_at f.ports number) k
 
 -- ---- what a FLOW_MOD adds and modifies
 

@@ -1,6 +1,6 @@
 -- The invariants that join tables and groups are kept by each call.
 use Rattle.std.proofs.Common.{◌≡◌, ℕ, ◌≤◌, Bool, false, List, Option, Result, Ok, Err, sym, ◌∙◌, ap, subst}
-use Rattle.std.specs.Prelude.{OnOk, OnErr}
+use Rattle.std.specs.Prelude.{IfOk, OnOk, OnErr}
 use Rattle.of_actions.specs.declared.instruction.Instruction.{Instruction}
 use Rattle.of_groups.specs.declared.group.Group.{Group}
 use Rattle.of_groups.specs.Groups.{with_group, left}
@@ -9,19 +9,25 @@ use Rattle.of_table.specs.declared.flow.Flow.{Flow}
 use Rattle.of_table.specs.declared.selection.Selector.{Selector}
 use Rattle.of_table.specs.declared.selection.Cause.TheVariants.{Group as OfGroup}
 use Rattle.of_table.specs.Tables.{NumberedTables, tables_of, added_to, modified_in, left_in}
-use Rattle.of_switch.specs.declared.plan.Plan.{Plan}
-use Rattle.of_switch.specs.declared.plan.Change.TheVariants.{Removal}
+use Rattle.smallvec.specs.SmallVec.{SmallVec}
+use Rattle.std.specs.declared.alloc.AllocError.{AllocError}
+use Rattle.of_table.specs.declared.selection.Cause.{Cause}
+use Rattle.of_switch.specs.declared.effect.Effect.{Effect}
 use Rattle.of_switch.specs.Commands.{names_absent_group}
 use Rattle.of_buffers.specs.Buffers.{HeldFrames}
 use Rattle.of_switch.specs.Numbers.{Contents, contents, forwarding_of}
-use Rattle.of_switch.specs.Plane.{Forwarding}
-use Rattle.of_switch.specs.Plans.{changed, planned}
+use Rattle.of_switch.specs.Plane.{Forwarded, Forwarding, forwards}
 use Rattle.of_switch.specs.Standing.{GroupsExist}
-use Rattle.of_switch.proofs.StandingLemmas.{plan_stands, flow_stands, modify_stands, put_stands, groups_left_stand}
+use Rattle.of_switch.proofs.StandingLemmas.{removed_stands, flow_stands, modify_stands, put_stands, groups_left_stand}
 
--- a plan that was made of these is carried out
-pub carried_stands : (plan : Plan) (n m : NumberedTables) (gs hs : List Group) (ps qs : List Port) (b d : HeldFrames) (new : Forwarding) → contents m hs qs d ≡ contents n gs ps b → new ≡ (planned plan m hs qs d).forwarding → GroupsExist (forwarding_of n gs ps b) → GroupsExist new
-carried_stands plan n m gs hs ps qs b d new same e k = plan_stands plan m hs qs d new e (subst (λ (x : Contents). GroupsExist (forwarding_of x.tables x.groups x.ports x.held)) (sym same) k)
+-- a call does this, or runs out of memory
+pub called_stands : (r : Result (SmallVec Effect) AllocError) (d : Forwarded) (n m : NumberedTables) (gs hs : List Group) (ps qs : List Port) (b c : HeldFrames) → IfOk r (λ effects. d ≡ forwards effects.items (forwarding_of m hs qs c)) → OnErr r (contents m hs qs c ≡ contents n gs ps b) → GroupsExist d.forwarding → GroupsExist (forwarding_of n gs ps b) → GroupsExist (forwarding_of m hs qs c)
+called_stands (Ok effects) d n m gs hs ps qs b c ok err k s = subst GroupsExist (ap (λ (x : Forwarded). x.forwarding) ok) k
+called_stands (Err x) d n m gs hs ps qs b c ok err k s = subst (λ (x : Contents). GroupsExist (forwarding_of x.tables x.groups x.ports x.held)) (sym err) s
+
+-- entries are removed
+pub removal_stands : (cause : Cause) (f new : Forwarding) → new ≡ record f { tables = left_in cause f.tables } → GroupsExist f → GroupsExist new
+removal_stands cause f new e k = subst GroupsExist (sym e) (removed_stands cause f k)
 
 pub flow_put : {A E : Type 0} (r : Result A E) (k : ℕ) (flow : Flow) (n m : NumberedTables) (gs : List Group) (ps : List Port) (b : HeldFrames) → OnOk r (tables_of m ≡ added_to k flow (tables_of n)) → OnErr r (m ≡ n) → names_absent_group gs flow.instructions ≡ false → GroupsExist (forwarding_of n gs ps b) → GroupsExist (forwarding_of m gs ps b)
 flow_put (Ok a) k flow n m gs ps b ok err h s = flow_stands k flow (forwarding_of n gs ps b) (tables_of m) ok h s
@@ -35,8 +41,8 @@ pub group_put : (g : Group) (n : NumberedTables) (gs hs : List Group) (ps : List
 group_put g n gs hs ps b small e s = subst (λ (x : List Group). GroupsExist (forwarding_of n x ps b)) (sym e) (put_stands g (forwarding_of n gs ps b) small s)
 
 -- groups are removed, and then the entries that name them
-pub groups_gone : (which : Option ℕ) (plan : Plan) (n : NumberedTables) (gs hs : List Group) (ps : List Port) (b : HeldFrames) (new : Forwarding) → plan.change ≡ Removal (OfGroup which) → hs ≡ left which gs → new ≡ (planned plan n hs ps b).forwarding → GroupsExist (forwarding_of n gs ps b) → GroupsExist new
-groups_gone which plan n gs hs ps b new c e f s =
+pub groups_gone : (which : Option ℕ) (cause : Cause) (n : NumberedTables) (gs hs : List Group) (ps : List Port) (b : HeldFrames) (new : Forwarding) → cause ≡ OfGroup which → hs ≡ left which gs → new ≡ record (forwarding_of n hs ps b) { tables = left_in cause (tables_of n) } → GroupsExist (forwarding_of n gs ps b) → GroupsExist new
+groups_gone which cause n gs hs ps b new c e f s =
     let is : new ≡ record (forwarding_of n gs ps b) { tables = left_in (OfGroup which) (tables_of n); groups = left which gs } =
-    f ∙ (ap (λ x. changed x plan.effects.items n (forwarding_of n hs ps b)) c ∙ ap (λ (x : List Group). record (forwarding_of n x ps b) { tables = left_in (OfGroup which) (tables_of n) }) e) in
+    f ∙ (ap (λ (x : Cause). record (forwarding_of n hs ps b) { tables = left_in x (tables_of n) }) c ∙ ap (λ (x : List Group). record (forwarding_of n x ps b) { tables = left_in (OfGroup which) (tables_of n) }) e) in
     subst GroupsExist (sym is) (groups_left_stand which (forwarding_of n gs ps b) s)

@@ -10,8 +10,8 @@ use Rattle.of_machine.specs.declared.data.Count.{Count}
 use Rattle.of_machine.specs.declared.data.Count.TheVariants.{Lookup, Matched, TxDropped, Group, Bucket}
 use Rattle.of_switch.specs.declared.effect.Effect.{Effect}
 use Rattle.of_buffers.specs.Buffers.{Held}
-use Rattle.of_switch.specs.declared.plan.Reception.{Reception}
-use Rattle.of_switch.specs.Plans.{with_held, with_reception}
+use Rattle.of_switch.specs.declared.reception.Reception.{Reception}
+use Rattle.of_switch.specs.Applying.{with_held, with_reception}
 use Rattle.of_switch.specs.Plane.{Forwarding, tallied, all_tallied, sent, all_sent}
 use Rattle.of_switch.specs.Numbers.{entries_at, placed, all_placed}
 
@@ -41,7 +41,7 @@ sent_more effects i d x f f' whole lt is so step =
     let here : drop i effects ≡ x ∷ drop (suc i) effects = drop-cons effects i d lt ∙ ap (λ (y : Effect). y ∷ drop (suc i) effects) (sym is) in
     rw (add-one i, step) (ap (λ (es : List Effect). all_sent es f) (sym here) ∙ so)
 
--- a plan that counts is carried out step by step
+-- what a run counted is carried out step by step
 pub carried : (effects es : List Effect) (counts cs : List Count) (id : Option ℕ) (frames : List Held) (reception : Option Reception) (n n1 n2 : NumberedTables) (f f1 f2 f3 f4 : Forwarding)
     → f1 ≡ with_reception reception f → n1 ≡ n → f2 ≡ with_held id frames f1 → n2 ≡ n1 → cs ≡ counts → f3 ≡ all_tallied (all_placed n2 cs) f2 → es ≡ effects → f4 ≡ all_sent es f3
     → f4 ≡ all_sent effects (all_tallied (all_placed n counts) (with_held id frames (with_reception reception f)))

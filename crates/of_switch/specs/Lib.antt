@@ -3,7 +3,7 @@ pub mod Told
 pub mod Plane
 pub mod Numbers
 pub mod DryRun
-pub mod Plans
+pub mod Applying
 pub mod State
 pub mod Commands
 pub mod PortStatus
@@ -19,3 +19,4 @@ pub mod Stepping
 pub mod Loading
 pub mod Standing
 pub mod Configuring
+pub mod Calling

@@ -1,5 +1,5 @@
 -- Messages until there is none, and the run of any list of events.
-use Rattle.std.specs.Prelude.{◌≡◌, ◌⊎◌, ℕ, ◌+◌, suc, zero, List, [], ◌∷◌, ◌++◌, length, map, Option, Some, None, if◌then◌else◌}
+use Rattle.std.specs.Prelude.{◌≡◌, ◌⊎◌, ℕ, ◌+◌, ◌<◌, suc, zero, List, [], ◌∷◌, ◌++◌, length, map, Option, Some, None, if◌then◌else◌}
 use Rattle.std.specs.Prelude.{unwrap_or}
 use Rattle.of_session.specs.Session.{is_disconnected}
 use Rattle.of_switch.specs.declared.switch_error.SwitchError.{SwitchError}
@@ -107,11 +107,17 @@ pub record IsBrokenOff (event : Event) (s t : State) (more : List Report) : Type
   pub bytes : List ℕ
   pub piece : event ≡ Piece bytes
   pub taken : feed_refusal s ≡ None
+  pub reported : 0 < length more
   pub left : piece_in bytes s ≡ behind (effects_in more) (drained t)
 
 -- an event for which there was no memory did nothing, or is a piece that was interrupted so
 abbrev pub IsInterrupted : Event → State → State → List Report → Type 0
 IsInterrupted event s t more = ((t ≡ s) × (more ≡ [])) ⊎ IsBrokenOff event s t more
+
+-- what is left of an event that was interrupted: all of it, or the rest of a piece, which waits and goes on with a piece of no bytes
+abbrev pub rest_of : Event → List Report → Event
+rest_of event [] = event
+rest_of event (r ∷ more) = Piece []
 
 -- events up to one that was interrupted
 pub record StopsWithin (events : List Event) (s t : State) (reports reports' : List Report) : Type 0 where

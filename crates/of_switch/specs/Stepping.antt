@@ -1,5 +1,5 @@
 -- One event of a run, as the code does it.
-use Rattle.std.specs.Prelude.{◌≡◌, List, [], ◌∷◌, ◌++◌, Result, Ok, Err}
+use Rattle.std.specs.Prelude.{◌≡◌, ◌<◌, List, [], ◌∷◌, ◌++◌, length, Result, Ok, Err}
 use Rattle.std.specs.declared.alloc.AllocError.{AllocError}
 use Rattle.smallvec.specs.SmallVec.{SmallVec}
 use Rattle.of_switch.specs.declared.effect.Effect.{Effect}
@@ -40,4 +40,4 @@ Happens (Err x) event s t old new = (more : List Report) × (new ≡ old ++ more
 -- all messages are handled, or those before one that ran out of memory
 abbrev pub Drains : Result (Unit {0}) AllocError → State → State → List Report → List Report → Type 0
 Drains (Ok u) s t old new = (t ≡ (drained s).state) × (new ≡ old ++ Gives (drained s).effects ∷ [])
-Drains (Err x) s t old new = (more : List Report) × (new ≡ old ++ more) × (drained s ≡ behind (effects_in more) (drained t))
+Drains (Err x) s t old new = (more : List Report) × (new ≡ old ++ more) × (0 < length more) × (drained s ≡ behind (effects_in more) (drained t))

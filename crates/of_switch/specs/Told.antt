@@ -79,6 +79,11 @@ abbrev pub id_after : AsyncConfig → ℕ → Item → ℕ
 id_after heard id (item.Sent port frame) = id
 id_after heard id (item.PacketIn p) = if is_held heard p then following id else id
 
+-- THE ID OF A LIST'S NEXT FRAME: that after all these items
+abbrev pub id_after_all : AsyncConfig → ℕ → List Item → ℕ
+id_after_all heard id [] = id
+id_after_all heard id (i ∷ items) = id_after_all heard (id_after heard id i) items
+
 -- all items that are given, one after the other
 abbrev pub each_told : AsyncConfig → ℕ → List Item → List Effect
 each_told heard id [] = []

@@ -250,8 +250,7 @@ impl<L: Lookup> Engine<L> {
         ensures ok { IfOk result (λ effects. forwarded (framed heard number bytes.now self.old.forwarding) self.old ≡ does effects.items self.new) }
         ensures err { OnErr result (self.new ≡ self.old) }
     {
-        let plan = self.plane.plan_frame(self.alloc, heard, number, bytes)?;
-        Ok(self.plane.carry_out(plan))
+        self.plane.frame(self.alloc, heard, number, bytes)
     }
 
     /// What a frame that is received at a port would give, and its steps, with the asynchronous messages `heard`. Nothing changes.
@@ -442,7 +441,7 @@ impl<L: Lookup> Engine<L> {
         if any_to_absent_group(actions, &self.plane.groups) {
             return Err(Fault::Refused(BAD_OUT_GROUP));
         }
-        let plan = self.plane.plan_packet_out(
+        let effects = self.plane.packet_out(
             self.alloc,
             self.control.heard_open(),
             packet_out.in_port,
@@ -450,7 +449,7 @@ impl<L: Lookup> Engine<L> {
             actions,
             used,
         )?;
-        Ok(self.plane.carry_out(plan))
+        Ok(effects)
     }
 
     // The frame of a PACKET_OUT: its own, or a copy of the held one.
@@ -520,14 +519,13 @@ impl<L: Lookup> Engine<L> {
         };
         let ingress = held.ingress();
         let frame = Bytes::from_slice(self.alloc, held.frame())?;
-        let plan = self.plane.plan_held(
+        self.plane.start_held(
             self.alloc,
             self.control.heard_open(),
             id,
             frame.as_slice(),
             ingress,
-        )?;
-        Ok(self.plane.carry_out(plan))
+        )
     }
 
     // An ADD or a MODIFY.
@@ -594,10 +592,10 @@ impl<L: Lookup> Engine<L> {
     {
         let now = self.plane.tables.latest();
         let cause = Cause::Delete(which_from(flow_mod));
-        let plan = self
+        let removal = self
             .plane
             .plan_removal(self.alloc, self.control.heard_open(), cause, now)?;
-        Ok(self.plane.carry_out(plan))
+        Ok(self.plane.carry_out(removal))
     }
 
     fn port_mod(&mut self, port_mod: PortMod) -> Result<Effects, Fault>
@@ -652,14 +650,14 @@ impl<L: Lookup> Engine<L> {
         ensures { Handles (first_of (refused_for (delete_fault which self.old.forwarding.groups))) (groups_deleted which self.old) self.old result self.new }
     {
         let now = self.plane.tables.latest();
-        let plan = self.plane.plan_removal(
+        let removal = self.plane.plan_removal(
             self.alloc,
             self.control.heard_open(),
             Cause::Group(which),
             now,
         )?;
         self.plane.groups.delete(which)?;
-        Ok(self.plane.carry_out(plan))
+        Ok(self.plane.carry_out(removal))
     }
 
     /// The groups and flows of a configuration replace those that are there.
@@ -688,10 +686,10 @@ impl<L: Lookup> Engine<L> {
         ensures err { OnErr result (self.new ≡ self.old) }
     {
         let now = self.plane.tables.latest().max(nanos);
-        let plan = self
+        let removal = self
             .plane
             .plan_removal(self.alloc, heard, Cause::Moment(nanos), now)?;
-        Ok(self.plane.carry_out(plan))
+        Ok(self.plane.carry_out(removal))
     }
 }
 

@@ -6,26 +6,27 @@ ghost use Rattle.std.specs.Prelude.{IsTrue, true, [], ◌∷◌};
 ghost use Rattle.of_actions.specs.Supported.{are_supported};
 ghost use Rattle.of_machine.specs.Growth.{AllShort};
 ghost use Rattle.of_machine.specs.Rows.{Lookup as LookUp, acts, entering};
-ghost use Rattle.of_table.specs.Tables.{NumberedTables, left_in, notices_in};
+ghost use Rattle.of_table.specs.Tables.{left_in, notices_in};
 ghost use Rattle.of_switch.specs.Commands.{notice_effects};
-ghost use Rattle.std.specs.Prelude.{Option, flat_map};
+ghost use Rattle.std.specs.Prelude.{flat_map};
 ghost use Rattle.of_buffers.specs.Buffers.{last_id};
 ghost use Rattle.of_switch.specs.Told.{each_told, frames_for, given};
-ghost use Rattle.of_switch.specs.Plans.{changed, planned, with_held, with_reception, without_used};
-ghost use Rattle.of_switch.specs.Plane.{Forwarding, all_sent, all_tallied, count_port, forwards, framed, idle, received, sent, tallied, through, without_held};
+ghost use Rattle.of_switch.specs.Applying.{with_held, with_reception, without_used};
+ghost use Rattle.of_switch.specs.Plane.{all_sent, all_tallied, forwards, framed, idle, received, sent, tallied, through, without_held};
 ghost use Rattle.of_switch.specs.Numbers.{Contents, all_placed, contents, forwarding_of, numbered_world, place_in, placed};
 
 use crate::commands::notices;
 use crate::control::AsyncConfig;
 use crate::effect::{Effect, Effects};
-use crate::plan::{Change, Plan, Reception};
+use crate::reception::Reception;
+use crate::removal::Removal;
 use crate::told::told_from;
 use of_actions::Action;
 use of_buffers::{HeldFrame, HeldFrames};
 use of_classifier::Lookup;
 use of_groups::{Chosen, Groups};
 use of_headers::{FieldKey, check_length};
-use of_machine::{Count, Counts, NoLog, Outcome, Packet, PacketFrame, World, run, run_actions};
+use of_machine::{Count, NoLog, Outcome, Packet, PacketFrame, World, run, run_actions};
 use of_ports::{Port, PortCount, Ports};
 use of_table::{Cause, Flow, FlowTables};
 use std::alloc::{AllocError, Global};
@@ -102,41 +103,43 @@ impl<L: Lookup> Plane<L> {
         })
     }
 
-    /// What a frame that is received at a port will do (OpenFlow 1.3.5, 5.1), with these asynchronous messages.
-    pub fn plan_frame(
+    /// A frame is received at a port (OpenFlow 1.3.5, 5.1). The controller receives the asynchronous messages `heard`.
+    pub fn frame(
         &mut self,
         alloc: Global,
         heard: AsyncConfig,
         number: u32,
         bytes: &[u8],
-    ) -> Result<Plan, AllocError>
-        ensures kept { contents self.new.tables self.new.groups self.new.ports self.new.held ≡ contents self.old.tables self.old.groups self.old.ports self.old.held }
-        ensures plan { IfOk result (λ plan. framed heard number bytes.now (forwarding_of self.old.tables self.old.groups self.old.ports self.old.held) ≡ planned plan self.old.tables self.old.groups self.old.ports self.old.held) }
+    ) -> Result<Effects, AllocError>
+        ensures ok { IfOk result (λ effects. framed heard number bytes.now (forwarding_of self.old.tables self.old.groups self.old.ports self.old.held) ≡ forwards effects.items (forwarding_of self.new.tables self.new.groups self.new.ports self.new.held)) }
+        ensures err { OnErr result (contents self.new.tables self.new.groups self.new.ports self.new.held ≡ contents self.old.tables self.old.groups self.old.ports self.old.held) }
     {
         let Some(port) = self.ports.port(number) else {
-            return Ok(no_change(alloc));
+            return Ok(Effects::new(alloc));
         };
         if !port.may_receive() {
-            return Ok(reception_alone(alloc, number, PortCount::ReceiveDropped));
+            self.ports.count(number, PortCount::ReceiveDropped);
+            return Ok(Effects::new(alloc));
         }
         if check_length(bytes).is_err() {
-            return Ok(reception_alone(alloc, number, PortCount::ReceiveError));
+            self.ports.count(number, PortCount::ReceiveError);
+            return Ok(Effects::new(alloc));
         }
-        self.plan_received(alloc, heard, number, bytes)
+        self.receive(alloc, heard, number, bytes)
     }
 
-    // What a received frame will do.
-    fn plan_received(
+    // A frame that the port may receive.
+    fn receive(
         &mut self,
         alloc: Global,
         heard: AsyncConfig,
         number: u32,
         bytes: &[u8],
-    ) -> Result<Plan, AllocError>
+    ) -> Result<Effects, AllocError>
         requires long { 14 ≤ length bytes.now }
         requires most { length bytes.now ≤ 9216 }
-        ensures kept { contents self.new.tables self.new.groups self.new.ports self.new.held ≡ contents self.old.tables self.old.groups self.old.ports self.old.held }
-        ensures plan { IfOk result (λ plan. received heard number bytes.now (forwarding_of self.old.tables self.old.groups self.old.ports self.old.held) ≡ planned plan self.old.tables self.old.groups self.old.ports self.old.held) }
+        ensures ok { IfOk result (λ effects. received heard number bytes.now (forwarding_of self.old.tables self.old.groups self.old.ports self.old.held) ≡ forwards effects.items (forwarding_of self.new.tables self.new.groups self.new.ports self.new.held)) }
+        ensures err { OnErr result (contents self.new.tables self.new.groups self.new.ports self.new.held ≡ contents self.old.tables self.old.groups self.old.ports self.old.held) }
     {
         self.tables.known();
         let packet = Packet::new(PacketFrame::new(bytes), number);
@@ -145,12 +148,11 @@ impl<L: Lookup> Plane<L> {
             port: number,
             what: PortCount::Received(bytes.len()),
         };
-        self.plan_of(alloc, heard, Some(reception), None, outcome)
+        self.apply(alloc, heard, Some(reception), None, outcome)
     }
 
-    /// What the packet of a PACKET_OUT will do by its actions (OpenFlow 1.3.5, 7.3.7). The held frame of the id `used`, if there is
-    /// one, is used.
-    pub fn plan_packet_out(
+    /// The packet of a PACKET_OUT does its actions (OpenFlow 1.3.5, 7.3.7). The held frame of the id `used`, if there is one, is used.
+    pub fn packet_out(
         &mut self,
         alloc: Global,
         heard: AsyncConfig,
@@ -158,80 +160,78 @@ impl<L: Lookup> Plane<L> {
         bytes: &[u8],
         actions: &[Action],
         used: Option<u32>,
-    ) -> Result<Plan, AllocError>
+    ) -> Result<Effects, AllocError>
         requires long { 14 ≤ length bytes.now }
         requires most { length bytes.now ≤ 9216 }
         requires served { IsTrue (are_supported true actions.now) }
-        ensures kept { contents self.new.tables self.new.groups self.new.ports self.new.held ≡ contents self.old.tables self.old.groups self.old.ports self.old.held }
-        ensures plan { IfOk result (λ plan. through heard (entering bytes.now in_port) (acts actions.now) (forwarding_of self.old.tables self.old.groups self.old.ports (without_used used self.old.held)) ≡ planned plan self.old.tables self.old.groups self.old.ports self.old.held) }
+        ensures ok { IfOk result (λ effects. through heard (entering bytes.now in_port) (acts actions.now) (forwarding_of self.old.tables self.old.groups self.old.ports (without_used used self.old.held)) ≡ forwards effects.items (forwarding_of self.new.tables self.new.groups self.new.ports self.new.held)) }
+        ensures err { OnErr result (contents self.new.tables self.new.groups self.new.ports self.new.held ≡ contents self.old.tables self.old.groups self.old.ports self.old.held) }
     {
         self.tables.known();
         let packet = Packet::new(PacketFrame::new(bytes), in_port);
         let outcome = run_actions(alloc, self, packet, actions, &mut NoLog)?;
-        self.plan_of(alloc, heard, None, used, outcome)
+        self.apply(alloc, heard, None, used, outcome)
     }
 
-    /// What a held frame of that id will do from the first table on (OpenFlow 1.3.5, 7.3.4.1: buffer_id). It is used.
-    pub fn plan_held(
+    /// A held frame of that id begins at the first table (OpenFlow 1.3.5, 7.3.4.1: buffer_id). It is used.
+    pub fn start_held(
         &mut self,
         alloc: Global,
         heard: AsyncConfig,
         id: u32,
         bytes: &[u8],
         ingress: u32,
-    ) -> Result<Plan, AllocError>
+    ) -> Result<Effects, AllocError>
         requires long { 14 ≤ length bytes.now }
         requires most { length bytes.now ≤ 9216 }
-        ensures kept { contents self.new.tables self.new.groups self.new.ports self.new.held ≡ contents self.old.tables self.old.groups self.old.ports self.old.held }
-        ensures plan { IfOk result (λ plan. through heard (entering bytes.now ingress) (LookUp 0 ∷ []) (without_held id (forwarding_of self.old.tables self.old.groups self.old.ports self.old.held)) ≡ planned plan self.old.tables self.old.groups self.old.ports self.old.held) }
+        ensures ok { IfOk result (λ effects. through heard (entering bytes.now ingress) (LookUp 0 ∷ []) (without_held id (forwarding_of self.old.tables self.old.groups self.old.ports self.old.held)) ≡ forwards effects.items (forwarding_of self.new.tables self.new.groups self.new.ports self.new.held)) }
+        ensures err { OnErr result (contents self.new.tables self.new.groups self.new.ports self.new.held ≡ contents self.old.tables self.old.groups self.old.ports self.old.held) }
     {
         self.tables.known();
         let packet = Packet::new(PacketFrame::new(bytes), ingress);
         let outcome = run(alloc, self, packet, &mut NoLog)?;
-        self.plan_of(alloc, heard, None, Some(id), outcome)
+        self.apply(alloc, heard, None, Some(id), outcome)
     }
 
-    // What a run gives and counts, as a plan.
-    fn plan_of(
-        &self,
+    // What a run gives is sent and counted. What needs memory comes first.
+    fn apply(
+        &mut self,
         alloc: Global,
         heard: AsyncConfig,
         reception: Option<Reception>,
         used: Option<u32>,
         outcome: Outcome,
-    ) -> Result<Plan, AllocError>
+    ) -> Result<Effects, AllocError>
         requires { AllShort 65485 outcome.items.items }
-        ensures { IfOk result (λ plan. (n : NumberedTables) (f : Forwarding) →
-            (plan.effects.items ≡ each_told heard self.now.held.next (given heard self.now.ports outcome.items.items))
-            × (changed plan.change plan.effects.items n f ≡ all_sent plan.effects.items (all_tallied (all_placed n outcome.counts.items) (with_held used (flat_map (frames_for heard) (given heard self.now.ports outcome.items.items)) (with_reception reception f))))) }
+        ensures ok { IfOk result (λ effects.
+            (effects.items ≡ each_told heard self.old.held.next (given heard self.old.ports outcome.items.items))
+            × (forwarding_of self.new.tables self.new.groups self.new.ports self.new.held ≡ all_sent effects.items (all_tallied (all_placed self.old.tables outcome.counts.items) (with_held used (flat_map (frames_for heard) (given heard self.old.ports outcome.items.items)) (with_reception reception (forwarding_of self.old.tables self.old.groups self.old.ports self.old.held)))))) }
+        ensures err { OnErr result (contents self.new.tables self.new.groups self.new.ports self.new.held ≡ contents self.old.tables self.old.groups self.old.ports self.old.held) }
     {
         let Outcome { items, counts } = outcome;
         let told = told_from(alloc, heard, &self.ports, self.held.next_id(), items)?;
-        Ok(Plan {
-            effects: told.effects,
-            change: Change::Counts {
-                reception,
-                used,
-                held: told.held,
-                counts,
-            },
-        })
+        let effects = told.effects;
+        self.count_reception(reception);
+        self.hold(used, told.held);
+        self.tally_all(&counts);
+        self.count_sent(&effects);
+        Ok(effects)
     }
 
-    /// The removal of entries, with the notices that the controller's mask lets pass: they are removed now.
+    /// A removal of entries, with the notices that the controller's mask lets pass: they are removed now.
     pub fn plan_removal(
         &self,
         alloc: Global,
         heard: AsyncConfig,
         cause: Cause,
         now: u64,
-    ) -> Result<Plan, AllocError>
-        ensures change { IfOk result (λ plan. plan.change ≡ Change.Removal cause) }
-        ensures plan { IfOk result (λ plan. planned plan self.now.tables self.now.groups self.now.ports self.now.held ≡ forwards (notice_effects heard now (notices_in cause (tables_of self.now.tables))) (record (forwarding_of self.now.tables self.now.groups self.now.ports self.now.held) { tables = left_in cause (tables_of self.now.tables) })) }
+    ) -> Result<Removal, AllocError>
+        ensures cause { IfOk result (λ removal. removal.cause ≡ cause) }
+        ensures notices { IfOk result (λ removal. removal.notices.items ≡ notice_effects heard now (notices_in cause (tables_of self.now.tables))) }
     {
-        Ok(Plan {
-            effects: self.removal_notices(alloc, heard, &cause, now)?,
-            change: Change::Removal(cause),
+        Ok(Removal {
+            notices: self.removal_notices(alloc, heard, &cause, now)?,
+            cause,
         })
     }
 
@@ -251,28 +251,13 @@ impl<L: Lookup> Plane<L> {
         notices(alloc, heard, &self.tables.listed(cause)?, now)
     }
 
-    /// Carries out a plan, and returns its effects.
-    pub fn carry_out(&mut self, plan: Plan) -> Effects
-        ensures effects { result.items ≡ plan.effects.items }
-        ensures forwarding { forwarding_of self.new.tables self.new.groups self.new.ports self.new.held ≡ (planned plan self.old.tables self.old.groups self.old.ports self.old.held).forwarding }
+    /// Removes entries, and returns the notices.
+    pub fn carry_out(&mut self, removal: Removal) -> Effects
+        ensures notices { result.items ≡ removal.notices.items }
+        ensures forwarding { forwarding_of self.new.tables self.new.groups self.new.ports self.new.held ≡ record (forwarding_of self.old.tables self.old.groups self.old.ports self.old.held) { tables = left_in removal.cause (tables_of self.old.tables) } }
     {
-        let Plan { effects, change } = plan;
-        match change {
-            Change::Nothing => {}
-            Change::Counts {
-                reception,
-                used,
-                held,
-                counts,
-            } => {
-                self.count_reception(reception);
-                self.hold(used, held);
-                self.tally_all(&counts);
-                self.count_sent(&effects);
-            }
-            Change::Removal(cause) => self.tables.remove(&cause),
-        }
-        effects
+        self.tables.remove(&removal.cause);
+        removal.notices
     }
 
     // Counts the reception of a frame.
@@ -366,30 +351,5 @@ impl<L: Lookup> Plane<L> {
             }
             Effect::Answer(_) | Effect::Closed => {}
         }
-    }
-}
-
-// No effect, and nothing changes.
-fn no_change(alloc: Global) -> Plan
-    ensures { (result.effects.items ≡ []) × (result.change ≡ Change.Nothing) }
-{
-    Plan {
-        effects: Effects::new(alloc),
-        change: Change::Nothing,
-    }
-}
-
-// A port counts a reception, and there is no effect.
-fn reception_alone(alloc: Global, port: u32, what: PortCount) -> Plan
-    ensures { (n : NumberedTables) (f : Forwarding) → (result.effects.items ≡ []) × (changed result.change result.effects.items n f ≡ count_port port what f) }
-{
-    Plan {
-        effects: Effects::new(alloc),
-        change: Change::Counts {
-            reception: Some(Reception { port, what }),
-            used: None,
-            held: Vec::new(alloc),
-            counts: Counts::new(alloc),
-        },
     }
 }

@@ -1,16 +1,22 @@
-use Rattle.std.proofs.Common.{◌∙◌, sym, ap}
-use Rattle.of_switch.specs.Numbers.{Contents, forwarding_of}
-use Rattle.of_switch.specs.Plans.{changed}
+use Rattle.std.proofs.Common.{◌∙◌, sym, refl}
+use Rattle.std.proofs.lemmas.Result.{IfOk-weaker}
+use Rattle.of_buffers.specs.Buffers.{used}
+use Rattle.of_switch.specs.Numbers.{forwarding_of}
 use Rattle.of_switch.proofs.HeldHandling.{begun_is}
-use Rattle.of_switch.proofs.StandingSteps.{carried_stands}
+use Rattle.of_switch.proofs.StandingLemmas.{held_stands, through_stands}
+use Rattle.of_switch.proofs.StandingSteps.{called_stands}
 use Rattle.of_switch.proofs.engine.Engine.begin.Goals as goal
 
-pub invariant_of-self-2 : goal.invariant_of-self-2
-invariant_of-self-2 g c = carried_stands c.in_ok-plan.plan _ _ _ _ _ _ _ _ _ c.in_ok-plan.ensures.kept c.carry_out.ensures.forwarding c.self.invariant
+pub invariant_of-self : goal.invariant_of-self
+invariant_of-self g c =
+    let plane = c.self.inside.plane in
+    let before = forwarding_of plane.tables plane.groups plane.ports plane.held in
+    called_stands c.start_held.result _ _ _ _ _ _ _ _ _ c.start_held.ensures.ok c.start_held.ensures.err (through_stands c.heard_open.result _ _ _ (held_stands (used c.args.id plane.held) before c.self.invariant)) c.self.invariant
 
 pub returns-clause-ok : goal.returns-clause-ok
 returns-clause-ok g c =
     rw (← c.self.view_is)
-    (begun_is c.args.id _ c.in-Some.held.now _ c.heard_open.result _ c.ingress-ingress.result _ c.carry_out.result.items _
-    (sym c.in-Some.ensures) c.heard_open.ensures (c.as_slice.ensures ∙ (c.in_ok-frame.ensures ∙ c.frame-2.ensures.frame)) c.ingress-ingress.ensures c.in_ok-plan.ensures.plan c.carry_out.ensures.effects
-    (c.carry_out.ensures.forwarding ∙ ap (λ (k : Contents). changed c.in_ok-plan.plan.change c.in_ok-plan.plan.effects.items k.tables (forwarding_of k.tables k.groups k.ports k.held)) c.in_ok-plan.ensures.kept))
+    (IfOk-weaker c.start_held.result _ _
+    (λ effects runs. begun_is c.args.id _ c.in-Some.held.now _ c.heard_open.result _ c.ingress-ingress.result _ effects.items _
+    (sym c.in-Some.ensures) c.heard_open.ensures (c.as_slice.ensures ∙ (c.in_ok-frame.ensures ∙ c.frame-2.ensures.frame)) c.ingress-ingress.ensures runs refl refl)
+    c.start_held.ensures.ok)

@@ -1,5 +1,11 @@
-use Rattle.of_switch.proofs.StandingSteps.{carried_stands}
+use Rattle.of_switch.specs.Numbers.{forwarding_of}
+use Rattle.of_switch.specs.Plane.{framed}
+use Rattle.of_switch.proofs.StandingLemmas.{framed_stands}
+use Rattle.of_switch.proofs.StandingSteps.{called_stands}
 use Rattle.of_switch.proofs.engine.Engine.frame.Goals as goal
 
-pub invariant_of-self-2 : goal.invariant_of-self-2
-invariant_of-self-2 g c = carried_stands c.in_ok-plan.plan _ _ _ _ _ _ _ _ _ c.in_ok-plan.ensures.kept c.carry_out.ensures.forwarding c.self.invariant
+pub invariant_of-self : goal.invariant_of-self
+invariant_of-self g c =
+    let f = c.self.inside.plane in
+    let before = forwarding_of f.tables f.groups f.ports f.held in
+    called_stands c.frame.result (framed c.args.heard c.args.number c.args.bytes.now before) _ _ _ _ _ _ _ _ c.frame.ensures.ok c.frame.ensures.err (framed_stands c.args.heard c.args.number c.args.bytes.now before c.self.invariant) c.self.invariant

@@ -1,14 +1,18 @@
-use Rattle.std.proofs.Common.{◌≡◌, ◌∙◌, ap, refl}
+use Rattle.std.proofs.Common.{◌≡◌, refl}
 use Rattle.of_switch.specs.Commands.{without_packet}
-use Rattle.of_switch.specs.Numbers.{Contents, forwarding_of}
-use Rattle.of_switch.specs.Plans.{changed, without_used}
+use Rattle.of_switch.specs.Numbers.{forwarding_of}
+use Rattle.of_switch.specs.Applying.{without_used}
 use Rattle.of_switch.proofs.HeldHandling.{out_is}
-use Rattle.of_switch.proofs.StandingSteps.{carried_stands}
+use Rattle.of_switch.proofs.StandingLemmas.{held_stands, through_stands}
+use Rattle.of_switch.proofs.StandingSteps.{called_stands}
 use Rattle.of_switch.proofs.engine.Engine.packet_out.Goals as goal
 use Rattle.of_switch.proofs.engine.Engine.packet_out.Goals.{in-Buffered, in-Frame}
 
 pub invariant_of-self-2 : goal.invariant_of-self-2
-invariant_of-self-2 g c = carried_stands c.in_ok-plan.plan _ _ _ _ _ _ _ _ _ c.in_ok-plan.ensures.kept c.carry_out.ensures.forwarding c.self.invariant
+invariant_of-self-2 g c =
+    let plane = c.self.inside.plane in
+    let before = forwarding_of plane.tables plane.groups plane.ports plane.held in
+    called_stands c.packet_out.result _ _ _ _ _ _ _ _ _ c.packet_out.ensures.ok c.packet_out.ensures.err (through_stands c.heard_open.result _ _ _ (held_stands (without_used c.match-packet_out.used plane.held) before c.self.invariant)) c.self.invariant
 
 pub returns : goal.returns
 returns g c =
@@ -19,6 +23,5 @@ returns g c =
       | in-Frame w ↦ rw (w.used-is, w.in-Frame.is) refl
     ] in
     rw (← c.self.view_is)
-    (out_is c.args.packet_out _ c.match-packet_out.used c.in_ok-frame.frame _ c.heard_open.result _ _ c.carry_out.result.items _
-    uses (rw (← c.self.view_is) at c.in_ok-frame.ensures.frame) c.heard_open.ensures c.as_slice.ensures c.as_slice-actions.ensures.actions c.if-any_to_absent_group.ensures c.in_ok-plan.ensures.plan c.carry_out.ensures.effects
-    (c.carry_out.ensures.forwarding ∙ ap (λ (k : Contents). changed c.in_ok-plan.plan.change c.in_ok-plan.plan.effects.items k.tables (forwarding_of k.tables k.groups k.ports k.held)) c.in_ok-plan.ensures.kept))
+    (out_is c.args.packet_out _ c.match-packet_out.used c.in_ok-frame.frame _ c.heard_open.result _ _ c.in_ok-effects.effects.items _
+    uses (rw (← c.self.view_is) at c.in_ok-frame.ensures.frame) c.heard_open.ensures c.as_slice.ensures c.as_slice-actions.ensures.actions c.if-any_to_absent_group.ensures c.in_ok-effects.ensures.ok refl refl)

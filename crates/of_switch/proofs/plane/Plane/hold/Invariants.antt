@@ -1,6 +1,6 @@
 use Rattle.std.proofs.Common.{◌≡◌}
 use Rattle.of_buffers.specs.Buffers.{hold_all}
-use Rattle.of_switch.specs.Plans.{without_used}
+use Rattle.of_switch.specs.Applying.{without_used}
 use Rattle.of_switch.proofs.plane.Plane.hold.Given as goal
 
 abbrev pub invariant-loop-frame : goal.invariant-loop-frame
