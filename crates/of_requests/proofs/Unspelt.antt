@@ -1,13 +1,12 @@
 -- What some bytes spell has numbers that are allowed.
-use Rattle.std.proofs.Common.{◌≡◌, ℕ, ◌+◌, ◌^◌, ◌<◌, ◌≤◌, Bool, true, false, not, eqb, ltb, leb, cond, List, [], ◌∷◌, ◌++◌, length, drop, Option, Some, None, refl, sym, ap, ◌∙◌, arith}
-use Rattle.std.specs.Prelude.{◌&&◌, is_none, bit_and}
+use Rattle.std.proofs.Common.{◌≡◌, ℕ, ◌+◌, ◌^◌, ◌<◌, ◌≤◌, Bool, true, false, not, eqb, ltb, leb, List, [], ◌∷◌, ◌++◌, length, drop, Option, Some, None, refl, sym, ap, ◌∙◌, arith}
+use Rattle.std.specs.Prelude.{◌&&◌, is_none}
 use Rattle.std.specs.List.{list_all}
-use Rattle.std.proofs.lemmas.Bool.{eq-eqb, eqb-true}
+use Rattle.std.proofs.lemmas.Bool.{eq-eqb, eqb-true, lt-ltb}
 use Rattle.std.proofs.lemmas.Bool.Decides.{nat_tests}
 use Rattle.of_wire.specs.Refusals.{first_of}
 use Rattle.of_wire.proofs.FirstLemmas.{none_applies}
-use Rattle.of_headers.specs.Faults.{frame_fault}
-use Rattle.of_actions.specs.Beginnings.{type_at}
+use Rattle.of_actions.specs.Beginnings.{len_at, type_at}
 use Rattle.of_actions.specs.Headers.{Header, goto, metadata, write, apply, clear, AreHeaders, header_at, header_refusals, is_next, table_at}
 use Rattle.of_actions.specs.InstructionLists.{are_for}
 use Rattle.of_actions.specs.Instructions.{SpellsInstructions}
@@ -24,22 +23,26 @@ use Rattle.of_messages.specs.declared.message.FlowMod.{FlowMod}
 use Rattle.of_messages.specs.declared.message.FlowModCommand.{FlowModCommand}
 use Rattle.of_messages.specs.declared.message.FlowModCommand.TheVariants.{Add, Modify as Modifies, ModifyStrict, Delete as Deletes, DeleteStrict}
 use Rattle.of_messages.specs.declared.message.Message.{Message}
-use Rattle.of_messages.specs.declared.message.Message.TheVariants.{Hello, Error, EchoRequest, EchoReply, FeaturesRequest, GetConfigRequest, SetConfig, PacketOut as IsPacketOut, FlowMod as IsFlowMod, GroupMod as IsGroupMod, PortMod as IsPortMod, TableMod as IsTableMod, Multipart, BarrierRequest, RoleRequest as IsRoleRequest, GetAsyncRequest, SetAsync}
+use Rattle.of_messages.specs.declared.message.Message.TheVariants.{EchoRequest, PacketOut as IsPacketOut, FlowMod as IsFlowMod, GroupMod as IsGroupMod, PortMod as IsPortMod, TableMod as IsTableMod, Multipart}
 use Rattle.of_messages.specs.declared.message.PacketData.{PacketData}
 use Rattle.of_messages.specs.declared.message.PacketData.TheVariants.{Buffered, Frame}
 use Rattle.of_messages.specs.declared.multipart.MultipartRequest.{MultipartRequest}
-use Rattle.of_messages.specs.declared.multipart.MultipartRequest.TheVariants.{Description, Flow, Aggregate, Table, PortStats, Group, GroupDescription, GroupFeatures, PortDescription}
+use Rattle.of_messages.specs.declared.multipart.MultipartRequest.TheVariants.{Flow, Aggregate, PortStats, Group}
 use Rattle.of_grammar.specs.Buckets.{AreBuckets}
-use Rattle.of_grammar.specs.Grammar.{HasInstructions, IsValid, IsValidData, IsValidFlowMod, IsValidGroupMod, IsValidNumber, MayName, MatchThenInstructions, Spells, GroupTail, deletes, fixed_part_cells}
+use Rattle.of_grammar.specs.Grammar.{HasInstructions, IsValidData, IsValidFlowMod, IsValidGroupMod, IsValidNumber, MayName, MatchThenInstructions, Spells, GroupTail, deletes, fixed_part_cells}
 use Rattle.of_grammar.specs.Requests.{IsOne, IsValidRequest, all_groups, any_port}
 use Rattle.of_grammar.proofs.FoundLarge.{not_false}
 use Rattle.of_grammar.proofs.OnlyLarge.{ingress, no_fault}
 use Rattle.of_grammar.proofs.OnlySmall.{table_named}
-use Rattle.of_grammar.proofs.Places.{size, size_is}
+use Rattle.of_grammar.proofs.Places.{size_is}
+use Rattle.of_requests.proofs.WrittenLarge.{first}
 use Rattle.of_requests.specs.Sound.{counts_nothing, has_no_instructions, is_one, is_sound, is_sound_command, is_sound_group_mod, is_sound_number, is_sound_packet, is_sound_request}
 
 and_true : (a b : Bool) → a ≡ true → b ≡ true → (a && b) ≡ true
 and_true a b p q = rw (p, q) refl
+
+low : (n : ℕ) → n < 16 → ltb n 16 ≡ true
+low n h = lt-ltb n 16 h
 
 -- ---- PACKET_OUT
 
@@ -56,9 +59,99 @@ data_sound (Frame frame) h = ap is_none (no_fault frame h.0 h.1)
 
 -- ---- FLOW_MOD
 
-goto_known : (rest : List ℕ) (to : ℕ) → header_at rest ≡ Some (goto to) → (type_at rest ≡ 1) × (table_at rest ≡ to)
+at_goto : (rest : List ℕ) → eqb (type_at rest) 1 ≡ true → header_at rest ≡ Some (goto (table_at rest))
 unfolding header_at
-goto_known rest to h = by_type (eqb (type_at rest) 1) refl h
+at_goto rest is = rw is refl
+
+not_goto : (rest : List ℕ) (to : ℕ) → eqb (type_at rest) 1 ≡ false → header_at rest ≡ Some (goto to) → ⊥
+unfolding header_at
+not_goto rest to is e = grind (arith, nat_tests)
+
+-- a GOTO_TABLE that is not refused leads to a later table
+leads : (table : ℕ) (seen : List Header) (rest : List ℕ) (h : Header) → first_of (header_refusals table seen rest) ≡ None → header_at rest ≡ Some h → leads_on table h ≡ true
+unfolding header_refusals
+leads table seen rest (goto to) none at = by_type (eqb (type_at rest) 1) refl
   where
-    by_type : (b : Bool) → eqb (type_at rest) 1 ≡ b → cond b (Some (goto (table_at rest))) (header_behind rest) ≡ Some (goto to) → (type_at rest ≡ 1) × (table_at rest ≡ to)
-    by_type b is e = ?
+    by_type : (b : Bool) → eqb (type_at rest) 1 ≡ b → leads_on table (goto to) ≡ true
+    by_type false is = absurd (not_goto rest to is at)
+    by_type true is =
+        let refused : ((eqb (type_at rest) 1) && not (is_next table (table_at rest))) ≡ false = (none_applies (header_refusals table seen rest) none).1.1.1.1.1.1.1.0 in
+        let left : not (is_next table (table_at rest)) ≡ false = sym (ap (λ (b : Bool). b && not (is_next table (table_at rest))) is) ∙ refused in
+        let next : is_next table (table_at rest) ≡ true = not_false _ left in
+        let there : Some (goto (table_at rest)) ≡ Some (goto to) = sym (at_goto rest is) ∙ at in
+        let same : table_at rest ≡ to = cc in
+        ap (ltb table) (sym same) ∙ first (ltb table (table_at rest)) (ltb (table_at rest) 16) next
+leads table seen rest (metadata value mask) none at = refl
+leads table seen rest (write bytes) none at = refl
+leads table seen rest (apply bytes) none at = refl
+leads table seen rest clear none at = refl
+
+all_lead : (table : ℕ) (seen hs : List Header) (bytes : List ℕ) → AreHeaders table seen bytes hs None → list_all (leads_on table) hs ≡ true
+all_lead table seen [] bytes h = refl
+all_lead table seen (x ∷ xs) bytes h = and_true _ _ (leads table seen bytes x h.1 h.2) (all_lead table (seen ++ x ∷ []) xs (drop (len_at bytes) bytes) h.3)
+
+spelt_for : (table : ℕ) (bytes : List ℕ) (is : List Instruction) → SpellsInstructions table bytes is → are_for table is ≡ true
+spelt_for table bytes is s = order_for table s.message is (bodies_for table s.headers s.message s.bodies (all_lead table [] s.headers bytes s.whole)) s.order
+
+command_sound : (m : FlowMod) (c : FlowModCommand) (bytes : List ℕ) → MayName (deletes c) m.table → HasInstructions m (deletes c) bytes → is_sound_command (is_delete c) m ≡ true
+command_sound m Add bytes table h = and_true _ _ (low m.table table) (spelt_for m.table bytes m.instructions h)
+command_sound m Modifies bytes table h = and_true _ _ (low m.table table) (spelt_for m.table bytes m.instructions h)
+command_sound m ModifyStrict bytes table h = and_true _ _ (low m.table table) (spelt_for m.table bytes m.instructions h)
+command_sound m Deletes bytes table h = and_true _ _ (table_named m.table table) (ap has_no_instructions h)
+command_sound m DeleteStrict bytes table h = and_true _ _ (table_named m.table table) (ap has_no_instructions h)
+
+flow_mod_sound : (m : FlowMod) (tail : List ℕ) → MatchThenInstructions m tail → IsValidFlowMod m → is_sound (IsFlowMod m) ≡ true
+flow_mod_sound m tail h valid = and_true _ _ (and_true _ _ (command_sound m m.command h.instructions valid.table h.are) (lt-ltb _ _ valid.flags)) valid.fit
+
+-- ---- GROUP_MOD
+
+buckets_sound : (bs : List Bucket) (bytes : List ℕ) → AreBuckets bs bytes → list_all counts_nothing bs ≡ true
+buckets_sound [] bytes h = refl
+buckets_sound (b ∷ bs) bytes h = and_true _ _ (and_true _ _ (eq-eqb _ _ h.1.packets) (eq-eqb _ _ h.1.bytes_used)) (buckets_sound bs h.0 h.2)
+
+at_most : (n k : ℕ) → n ≤ k → leb n k ≡ true
+at_most n k h = grind (arith, nat_tests)
+
+number_sound : (which : Option ℕ) → IsValidNumber which → is_sound_number which ≡ true
+number_sound None h = refl
+number_sound (Some number) h = at_most number group_max h
+
+group_mod_sound : (g : GroupMod) (tail : List ℕ) → GroupTail g tail → IsValidGroupMod g → is_sound_group_mod g ≡ true
+group_mod_sound (group.Add g) tail h valid = and_true _ _ (at_most g.id group_max valid.0) (buckets_sound g.buckets tail h)
+group_mod_sound (group.Modify g) tail h valid = and_true _ _ (at_most g.id group_max valid.0) (buckets_sound g.buckets tail h)
+group_mod_sound (group.Delete which) tail h valid = number_sound which valid
+
+-- ---- MULTIPART_REQUEST
+
+one_sound : (all : ℕ) (which : Option ℕ) → IsOne all which → is_one all which ≡ true
+one_sound all None h = refl
+one_sound all (Some number) h = other_number number all h
+
+request_sound : (r : MultipartRequest) → IsValidRequest r → is_sound_request r ≡ true
+request_sound (Flow r) h = table_named r.table h
+request_sound (Aggregate r) h = table_named r.table h
+request_sound (PortStats which) h = one_sound any_port which h
+request_sound (Group which) h = one_sound all_groups which h
+request_sound other h = refl
+
+-- ---- any message
+
+echo_sound : (x : ℕ) (echoed bytes : List ℕ) → Spells x (EchoRequest echoed) bytes → is_sound (EchoRequest echoed) ≡ true
+echo_sound x echoed bytes s =
+    let total : length bytes ≡ 8 + length s.tail = size_is (fixed_part_cells (EchoRequest echoed) (length bytes) x) bytes s.tail s.front in
+    let same : length s.tail ≡ length echoed = ap length s.behind in
+    let fits : length bytes < 256 ^ 2 = s.front.2.2.1.0 in
+    at_most (length echoed) 65527 (omega arith)
+
+sound_if_spelt : (m : Message) (x : ℕ) (bytes : List ℕ) → Spells x m bytes → is_sound m ≡ true
+sound_if_spelt (EchoRequest echoed) x bytes s = echo_sound x echoed bytes s
+sound_if_spelt (IsPacketOut m) x bytes s = and_true _ _ (ingress m.in_port s.valid.0) (data_sound m.packet s.valid.1)
+sound_if_spelt (IsFlowMod m) x bytes s = flow_mod_sound m s.tail s.behind s.valid
+sound_if_spelt (IsGroupMod m) x bytes s = group_mod_sound m s.tail s.behind s.valid
+sound_if_spelt (IsPortMod m) x bytes s = eq-eqb _ _ s.valid
+sound_if_spelt (IsTableMod m) x bytes s = table_named m.table s.valid
+sound_if_spelt (Multipart request) x bytes s = request_sound request s.valid
+sound_if_spelt other x bytes s = refl
+
+pub not_spelt : (m : Message) → is_sound m ≡ false → (x : ℕ) (bytes : List ℕ) → ¬ Spells x m bytes
+not_spelt m h x bytes s = let both : true ≡ false = sym (sound_if_spelt m x bytes s) ∙ h in absurd cc

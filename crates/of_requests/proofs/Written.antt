@@ -3,11 +3,12 @@ use Rattle.std.proofs.lemmas.List.{append_assoc, append-nil, length-append}
 use Rattle.std.proofs.Common.{◌≡◌, ℕ, ◌+◌, ◌^◌, ◌<◌, ◌≤◌, List, [], ◌∷◌, ◌++◌, length, Result, Ok, Err, refl, sym, ap, subst, ◌∙◌, arith}
 use Rattle.std.specs.Prelude.{IfOk, OnOk}
 use Rattle.std.specs.declared.alloc.AllocError.{AllocError}
-use Rattle.of_messages.specs.Written.{header, message}
+use Rattle.of_messages.specs.Written.{IsMessage, header, message}
 use Rattle.of_messages.specs.declared.message.Message.{Message}
 use Rattle.of_messages.specs.declared.message.Message.TheVariants.{Hello, Error, EchoRequest, EchoReply, FeaturesRequest, GetConfigRequest, SetConfig, PacketOut as IsPacketOut, FlowMod as IsFlowMod, GroupMod as IsGroupMod, PortMod as IsPortMod, TableMod as IsTableMod, Multipart, BarrierRequest, RoleRequest as IsRoleRequest, GetAsyncRequest, SetAsync}
+use Rattle.of_messages.proofs.Lengths.{is_message}
 use Rattle.of_grammar.specs.Cells.{Cell, byte, u16, u32, Begins, Fits, canonical_cells}
-use Rattle.of_grammar.specs.Grammar.{type, version, cells, Tail, IsValid, fixed_part_cells, Spells}
+use Rattle.of_grammar.specs.Grammar.{type, version, cells, Tail, IsValid, Spells}
 use Rattle.of_grammar.proofs.Places.{size}
 use Rattle.of_grammar.proofs.Writings.{fronted, length-spelling}
 use Rattle.of_requests.specs.Canonical.{canonical, canonical_tail}
@@ -67,6 +68,14 @@ whole_written m xid n bytes whole p =
 
 pub front_written : (m : Message) (xid n : ℕ) (front bytes : List ℕ) → front ≡ header (type m) (8 + n) xid → bytes ≡ front ++ body m → Parts m xid n → IsWritten xid m bytes
 front_written m xid n front bytes head rest p = whole_written m xid n bytes (rest ∙ ap (λ (x : List ℕ). x ++ body m) head) p
+
+-- and it is one message, of which the header says the length
+pub is_one_message : (m : Message) (xid : ℕ) (bytes : List ℕ) → IsWritten xid m bytes → IsMessage bytes
+unfolding canonical
+is_one_message m xid bytes w =
+    let fits : length bytes < 256 ^ 2 = w.spelt.front.2.2.1.0 in
+    let total : length bytes ≡ length (message (type m) xid (body m)) = ap length w.text in
+    subst (λ (b : List ℕ). IsMessage b) (sym w.text) (is_message (type m) xid (body m) (omega (arith, fits, total)))
 
 -- a message that ends with its fields
 pub fields_written : (m : Message) (xid n : ℕ) (front bytes : List ℕ) → front ≡ header (type m) (8 + n) xid → bytes ≡ front ++ canonical_cells (cells m) → canonical_tail m ≡ [] → Parts m xid n → IsWritten xid m bytes

@@ -7,7 +7,6 @@ use Rattle.std.proofs.lemmas.Bool.Decides.{nat_tests}
 use Rattle.std.proofs.lemmas.List.{append-nil, length-append}
 use Rattle.byteorder.specs.Endian.{big_bytes}
 use Rattle.of_oxm.specs.Canonical.{canonical as canonical_match}
-use Rattle.of_oxm.specs.MatchGrammar.{SpellsMatch}
 use Rattle.of_oxm.specs.NormalForm.{IsMatch}
 use Rattle.of_oxm.proofs.Written.{canonical_short, canonical_spells}
 use Rattle.of_actions.specs.Actions.{AreActions}
@@ -17,12 +16,10 @@ use Rattle.of_actions.specs.InstructionLists.{are_for, are_kept}
 use Rattle.of_actions.specs.declared.instruction.Instruction.{Instruction}
 use Rattle.of_groups.specs.Buckets.{are_fit, fresh, is_fit, group_max}
 use Rattle.of_groups.specs.declared.bucket.Bucket.{Bucket}
-use Rattle.of_groups.specs.declared.group.GroupKind.{GroupKind}
 use Rattle.of_messages.specs.CanonicalGroups.{canonical_buckets, has_numbers}
 use Rattle.of_messages.specs.Messages.{is_delete}
 use Rattle.of_messages.specs.Written.{header, message, flow_mod_bytes}
 use Rattle.of_messages.specs.declared.group_mod.NewGroup.{NewGroup}
-use Rattle.of_messages.specs.declared.group_mod.GroupMod.{GroupMod}
 use Rattle.of_messages.specs.declared.group_mod.GroupMod.TheVariants as group
 use Rattle.of_messages.specs.declared.message.FlowMod.{FlowMod}
 use Rattle.of_messages.specs.declared.message.FlowModCommand.{FlowModCommand}
@@ -32,22 +29,20 @@ use Rattle.of_messages.specs.declared.message.PacketData.{PacketData}
 use Rattle.of_messages.specs.declared.message.PacketData.TheVariants.{Buffered, Frame}
 use Rattle.of_messages.specs.declared.message.PacketOut.{PacketOut}
 use Rattle.of_messages.specs.declared.multipart.FlowStatsRequest.{FlowStatsRequest}
-use Rattle.of_messages.specs.declared.multipart.MultipartRequest.{MultipartRequest}
-use Rattle.of_messages.specs.declared.multipart.MultipartRequest.TheVariants.{Description, Flow, Aggregate, Table, PortStats, Group, GroupDescription, GroupFeatures, PortDescription}
+use Rattle.of_messages.specs.declared.multipart.MultipartRequest.TheVariants.{Flow, Aggregate, PortStats, Group}
 use Rattle.of_messages.proofs.BucketsWritten.{buckets_short}
 use Rattle.of_grammar.specs.Buckets.{AreBuckets}
-use Rattle.of_grammar.specs.Cells.{Cell, u16, u32, even, pad, Fits, canonical_cells}
-use Rattle.of_grammar.specs.Grammar.{ActionsThenData, IsData, IsValidData, IsValidFlowMod, IsValidNumber, IsValidPacketOut, MayName, MatchThenInstructions, Spells, buffer_of, deletes, flow_mod_cells, group_cells}
-use Rattle.of_grammar.specs.Requests.{BeginsMatch, IsOne, NamesTable, all_groups, any_port, flows_cells, or_all, request_cells}
-use Rattle.of_grammar.proofs.FoundLarge.{frame_fits, ingress, not_false}
+use Rattle.of_grammar.specs.Cells.{u16, u32, even, pad, Fits, canonical_cells}
+use Rattle.of_grammar.specs.Grammar.{IsData, IsValidData, IsValidFlowMod, IsValidNumber, MayName, Spells, buffer_of, deletes, flow_mod_cells, group_cells}
+use Rattle.of_grammar.specs.Requests.{BeginsMatch, IsOne, all_groups, any_port, flows_cells, or_all}
+use Rattle.of_grammar.proofs.FoundLarge.{frame_fits, ingress}
 use Rattle.of_grammar.proofs.FoundSmall.{named}
-use Rattle.of_grammar.proofs.Places.{size}
 use Rattle.of_grammar.proofs.Writings.{written}
-use Rattle.of_grammar.proofs.WrittenRequests.{beginning_is, buckets_spelt, flow_mod_spelt, kind_fits}
+use Rattle.of_grammar.proofs.WrittenRequests.{beginning_is, buckets_spelt, flow_mod_spelt}
 use Rattle.of_requests.specs.Canonical.{canonical, frame_of}
 use Rattle.of_requests.specs.Sound.{counts_nothing, has_no_instructions, is_one, is_sound, is_sound_command, is_sound_group, is_sound_number, is_sound_packet}
 use Rattle.of_requests.specs.Written.{IsWritten}
-use Rattle.of_requests.proofs.Written.{Parts, body, fields_written, front_written, if_ok, six, three, whole_written}
+use Rattle.of_requests.proofs.Written.{Parts, body, fields_written, six, three, whole_written}
 
 -- the first and the second of two tests
 pub first : (a b : Bool) → (a && b) ≡ true → a ≡ true
@@ -57,6 +52,9 @@ first false b h = absurd cc
 pub second : (a b : Bool) → (a && b) ≡ true → b ≡ true
 second true b h = h
 second false b h = absurd cc
+
+pub within : (n k : ℕ) → leb n k ≡ true → n ≤ k
+within n k h = grind (arith, nat_tests)
 
 -- ---- PACKET_OUT
 

@@ -48,7 +48,11 @@ fn known(m: &FlowMod)
 }
 
 /// A FLOW_MOD that a controller may send (OpenFlow 1.3.5, 7.3.4.1).
-pub(crate) fn write_sound_flow_mod(alloc: Global, xid: u32, m: &FlowMod) -> Result<Bytes, AllocError>
+pub(crate) fn write_sound_flow_mod(
+    alloc: Global,
+    xid: u32,
+    m: &FlowMod,
+) -> Result<Bytes, AllocError>
     requires { is_sound (IsFlowMod m.now) ≡ true }
     ensures { IfOk result (IsWritten xid (IsFlowMod m.now)) }
 {

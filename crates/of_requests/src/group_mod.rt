@@ -30,13 +30,9 @@ fn put_group(out: &mut Vec<u8>, command: u16, group: &NewGroup) -> Result<(), Al
 }
 
 // The GROUP_MOD of that command for a group.
-fn write_group(
-    alloc: Global,
-    xid: u32,
-    command: u16,
-    group: &NewGroup,
-) -> Result<Bytes, AllocError>
-    ensures text { IfOk result (λ bytes. bytes ≡ header 15 (8 + (8 + length (canonical_buckets group.now.buckets))) xid ++ (canonical_cells (group_cells command group.now) ++ canonical_buckets group.now.buckets)) }
+fn write_group(alloc: Global, xid: u32, command: u16, group: &NewGroup) -> Result<Bytes, AllocError>
+    ensures text { let buckets = canonical_buckets group.now.buckets in
+        IfOk result (λ bytes. bytes ≡ header 15 (8 + (8 + length buckets)) xid ++ (canonical_cells (group_cells command group.now) ++ buckets)) }
     ensures fits { OnOk result (Fits (group_cells command group.now)) }
     ensures numbers { OnOk result (list_all has_numbers group.now.buckets ≡ true) }
     ensures fit { OnOk result (are_fit group.now.buckets ≡ true) }

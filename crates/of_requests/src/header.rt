@@ -18,7 +18,12 @@ pub(crate) fn begin(alloc: Global, kind: u8, size: usize, xid: u32) -> Result<Ve
 }
 
 /// A message of that type, whose header these bytes follow.
-pub(crate) fn write_with(alloc: Global, kind: u8, body: &[u8], xid: u32) -> Result<Bytes, AllocError>
+pub(crate) fn write_with(
+    alloc: Global,
+    kind: u8,
+    body: &[u8],
+    xid: u32,
+) -> Result<Bytes, AllocError>
     requires { length body.now ≤ 65527 }
     ensures { IfOk result (λ bytes. bytes ≡ header kind (8 + length body.now) xid ++ body.now) }
 {

@@ -59,7 +59,8 @@ fn put_table(out: &mut Vec<u8>, table: u8) -> Result<(), AllocError>
 
 // The first 16 bytes of a request for flows.
 fn put_outputs(out: &mut Vec<u8>, r: &FlowStatsRequest) -> Result<(), AllocError>
-    ensures text { OnOk result (out.new.items ≡ out.old.items ++ canonical_cells (byte r.now.table ∷ pad 3 ∷ u32 r.now.out_port ∷ u32 r.now.out_group ∷ pad 4 ∷ [])) }
+    ensures text { let fields = byte r.now.table ∷ pad 3 ∷ u32 r.now.out_port ∷ u32 r.now.out_group ∷ pad 4 ∷ [] in
+        OnOk result (out.new.items ≡ out.old.items ++ canonical_cells fields) }
     ensures fits { OnOk result (Fits (byte r.now.table ∷ u32 r.now.out_port ∷ u32 r.now.out_group ∷ [])) }
 {
     put_table(out, r.table)?;
@@ -93,7 +94,9 @@ fn write_flows(
     number: u16,
     r: &FlowStatsRequest,
 ) -> Result<Bytes, AllocError>
-    ensures text { IfOk result (λ bytes. bytes ≡ header 18 (8 + (40 + length (canonical r.now.fields))) xid ++ (canonical_cells (u16 number ∷ even 2 ∷ pad 4 ∷ flows_cells r.now) ++ canonical r.now.fields)) }
+    ensures text { let fields = canonical r.now.fields in
+        let front = canonical_cells (u16 number ∷ even 2 ∷ pad 4 ∷ flows_cells r.now) in
+        IfOk result (λ bytes. bytes ≡ header 18 (8 + (40 + length fields)) xid ++ (front ++ fields)) }
     ensures fits { OnOk result (Fits (flows_cells r.now)) }
     ensures fields { IsMatch r.now.fields }
 {

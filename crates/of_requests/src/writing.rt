@@ -49,11 +49,7 @@ fn write_sound(alloc: Global, xid: u32, message: &Message) -> Result<Bytes, Allo
 ///
 /// What `of_messages::read_message` does not keep is left out or 0: a HELLO has no elements, an ERROR type and code 0 and no
 /// data, an ECHO_REPLY no data, a held PACKET_OUT nothing behind its actions, and a DELETE of a group no buckets.
-pub fn write_message(
-    alloc: Global,
-    xid: u32,
-    message: &Message,
-) -> Result<MessageBytes, WriteError>
+pub fn write_message(alloc: Global, xid: u32, message: &Message) -> Result<MessageBytes, WriteError>
     ensures canonical { IfOk result (λ bytes. bytes ≡ canonical_bytes xid message.now) }
     ensures spelt { IfOk result (λ bytes. Spells xid message.now bytes) }
     ensures read_again { IfOk result (λ bytes. (message_of bytes ≡ Ok message.now) × (xid_of bytes ≡ xid)) }

@@ -1,4 +1,4 @@
-use Rattle.std.proofs.Common.{refl, ap, ◌∙◌, arith}
+use Rattle.std.proofs.Common.{refl, ◌∙◌, arith}
 use Rattle.of_messages.specs.declared.message.Message.TheVariants.{SetConfig}
 use Rattle.of_requests.proofs.Written.{fields_written}
 use Rattle.of_requests.proofs.small.write_set_config.Goals as goal

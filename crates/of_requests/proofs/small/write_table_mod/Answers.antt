@@ -1,4 +1,4 @@
-use Rattle.std.proofs.Common.{refl, ap, ◌∙◌, arith}
+use Rattle.std.proofs.Common.{refl, ◌∙◌, arith}
 use Rattle.of_messages.specs.declared.message.Message.TheVariants.{TableMod as IsTableMod}
 use Rattle.of_grammar.proofs.FoundSmall.{named}
 use Rattle.of_requests.proofs.Written.{fields_written}
