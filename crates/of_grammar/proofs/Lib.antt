@@ -2,6 +2,7 @@ pub mod Places
 pub mod Items
 mod ActionTails
 pub mod ActionStructs
+pub mod InstructionStructs
 mod InstructionTails
 pub mod MatchTails
 mod BucketTails

@@ -1,6 +1,5 @@
 -- What is written begins with its fields.
 use Rattle.std.proofs.Common.{◌≡◌, ℕ, ◌+◌, ◌*◌, ◌%◌, ◌^◌, ◌<◌, ◌≤◌, zero, suc, List, [], ◌∷◌, ◌++◌, length, take, drop, refl, sym, ap, subst, ◌∙◌, arith}
-use Rattle.std.specs.Prelude.{replicate}
 use Rattle.std.proofs.lemmas.List.{append-nil, append_assoc, length-append, length-replicate, drop_at, take-append-le, take_all}
 use Rattle.byteorder.specs.Endian.{big_number, big_bytes}
 use Rattle.byteorder.specs.Numbers.{big_number-reads_back, length-bytes_high_first}

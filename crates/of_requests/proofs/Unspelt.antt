@@ -1,19 +1,9 @@
 -- What some bytes spell has numbers that are allowed.
-use Rattle.std.proofs.Common.{◌≡◌, ℕ, ◌+◌, ◌^◌, ◌<◌, ◌≤◌, Bool, true, false, not, eqb, ltb, leb, List, [], ◌∷◌, ◌++◌, length, drop, Option, Some, None, refl, sym, ap, ◌∙◌, arith}
+use Rattle.std.proofs.Common.{◌≡◌, ℕ, ◌+◌, ◌^◌, ◌<◌, ◌≤◌, Bool, true, false, not, eqb, ltb, leb, List, [], ◌∷◌, length, Option, Some, None, refl, sym, ap, ◌∙◌, arith}
 use Rattle.std.specs.Prelude.{◌&&◌, is_none}
 use Rattle.std.specs.List.{list_all}
 use Rattle.std.proofs.lemmas.Bool.{eq-eqb, eqb-true, lt-ltb}
 use Rattle.std.proofs.lemmas.Bool.Decides.{nat_tests}
-use Rattle.of_wire.specs.Refusals.{first_of}
-use Rattle.of_wire.proofs.FirstLemmas.{none_applies}
-use Rattle.of_actions.specs.Beginnings.{len_at, type_at}
-use Rattle.of_actions.specs.Headers.{Header, goto, metadata, write, apply, clear, AreHeaders, header_at, header_refusals, is_next, table_at}
-use Rattle.of_actions.specs.InstructionLists.{are_for}
-use Rattle.of_actions.specs.Instructions.{SpellsInstructions}
-use Rattle.of_actions.specs.Unread.{leads_on}
-use Rattle.of_actions.specs.declared.instruction.Instruction.{Instruction}
-use Rattle.of_actions.proofs.Bodies.{bodies_for}
-use Rattle.of_actions.proofs.RunOrders.{order_for}
 use Rattle.of_groups.specs.Buckets.{group_max}
 use Rattle.of_groups.specs.declared.bucket.Bucket.{Bucket}
 use Rattle.of_messages.specs.Messages.{is_delete}
@@ -31,11 +21,10 @@ use Rattle.of_messages.specs.declared.multipart.MultipartRequest.TheVariants.{Fl
 use Rattle.of_grammar.specs.Buckets.{AreBuckets}
 use Rattle.of_grammar.specs.Grammar.{HasInstructions, IsValidData, IsValidFlowMod, IsValidGroupMod, IsValidNumber, MayName, MatchThenInstructions, Spells, GroupTail, deletes, fixed_part_cells}
 use Rattle.of_grammar.specs.Requests.{IsOne, IsValidRequest, all_groups, any_port}
-use Rattle.of_grammar.proofs.FoundLarge.{not_false}
 use Rattle.of_grammar.proofs.OnlyLarge.{ingress, no_fault}
 use Rattle.of_grammar.proofs.OnlySmall.{table_named}
+use Rattle.of_grammar.proofs.InstructionStructs.{spelt_for}
 use Rattle.of_grammar.proofs.Places.{size_is}
-use Rattle.of_requests.proofs.WrittenLarge.{first}
 use Rattle.of_requests.specs.Sound.{counts_nothing, has_no_instructions, is_one, is_sound, is_sound_command, is_sound_group_mod, is_sound_number, is_sound_packet, is_sound_request}
 
 and_true : (a b : Bool) → a ≡ true → b ≡ true → (a && b) ≡ true
@@ -58,40 +47,6 @@ data_sound (Buffered number) h = other_number number 0xffffffff h
 data_sound (Frame frame) h = ap is_none (no_fault frame h.0 h.1)
 
 -- ---- FLOW_MOD
-
-at_goto : (rest : List ℕ) → eqb (type_at rest) 1 ≡ true → header_at rest ≡ Some (goto (table_at rest))
-unfolding header_at
-at_goto rest is = rw is refl
-
-not_goto : (rest : List ℕ) (to : ℕ) → eqb (type_at rest) 1 ≡ false → header_at rest ≡ Some (goto to) → ⊥
-unfolding header_at
-not_goto rest to is e = grind (arith, nat_tests)
-
--- a GOTO_TABLE that is not refused leads to a later table
-leads : (table : ℕ) (seen : List Header) (rest : List ℕ) (h : Header) → first_of (header_refusals table seen rest) ≡ None → header_at rest ≡ Some h → leads_on table h ≡ true
-unfolding header_refusals
-leads table seen rest (goto to) none at = by_type (eqb (type_at rest) 1) refl
-  where
-    by_type : (b : Bool) → eqb (type_at rest) 1 ≡ b → leads_on table (goto to) ≡ true
-    by_type false is = absurd (not_goto rest to is at)
-    by_type true is =
-        let refused : ((eqb (type_at rest) 1) && not (is_next table (table_at rest))) ≡ false = (none_applies (header_refusals table seen rest) none).1.1.1.1.1.1.1.0 in
-        let left : not (is_next table (table_at rest)) ≡ false = sym (ap (λ (b : Bool). b && not (is_next table (table_at rest))) is) ∙ refused in
-        let next : is_next table (table_at rest) ≡ true = not_false _ left in
-        let there : Some (goto (table_at rest)) ≡ Some (goto to) = sym (at_goto rest is) ∙ at in
-        let same : table_at rest ≡ to = cc in
-        ap (ltb table) (sym same) ∙ first (ltb table (table_at rest)) (ltb (table_at rest) 16) next
-leads table seen rest (metadata value mask) none at = refl
-leads table seen rest (write bytes) none at = refl
-leads table seen rest (apply bytes) none at = refl
-leads table seen rest clear none at = refl
-
-all_lead : (table : ℕ) (seen hs : List Header) (bytes : List ℕ) → AreHeaders table seen bytes hs None → list_all (leads_on table) hs ≡ true
-all_lead table seen [] bytes h = refl
-all_lead table seen (x ∷ xs) bytes h = and_true _ _ (leads table seen bytes x h.1 h.2) (all_lead table (seen ++ x ∷ []) xs (drop (len_at bytes) bytes) h.3)
-
-spelt_for : (table : ℕ) (bytes : List ℕ) (is : List Instruction) → SpellsInstructions table bytes is → are_for table is ≡ true
-spelt_for table bytes is s = order_for table s.message is (bodies_for table s.headers s.message s.bodies (all_lead table [] s.headers bytes s.whole)) s.order
 
 command_sound : (m : FlowMod) (c : FlowModCommand) (bytes : List ℕ) → MayName (deletes c) m.table → HasInstructions m (deletes c) bytes → is_sound_command (is_delete c) m ≡ true
 command_sound m Add bytes table h = and_true _ _ (low m.table table) (spelt_for m.table bytes m.instructions h)
