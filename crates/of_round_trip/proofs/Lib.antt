@@ -7,3 +7,4 @@ pub mod FlowsAdded
 pub mod Present
 pub mod GroupsAdded
 pub mod ComingBack
+mod RowsWritten
