@@ -8,3 +8,5 @@ pub mod Present
 pub mod GroupsAdded
 pub mod ComingBack
 mod RowsWritten
+pub mod Refusing
+mod RefusingFlows

@@ -1,2 +1,3 @@
 pub mod RoundTrip
 pub mod RowText
+pub mod Refused
