@@ -210,14 +210,14 @@ found packet_out bytes fits actions h =
 -- ---- from structs to what is read
 
 -- what bytes say that begin with the struct of an action that may be sent
-record Passes (packet_out : Bool) (a : Action) (rest : List ℕ) : Type 0 where
-  len : len_at rest ≡ size (action_cells a)
-  some : 8 ≤ size (action_cells a)
-  eights : size (action_cells a) % 8 ≡ 0
-  none : first_of (type_refusals packet_out rest) ≡ None
-  at : action_at rest ≡ Some a
+pub record Passes (packet_out : Bool) (a : Action) (rest : List ℕ) : Type 0 where
+  pub len : len_at rest ≡ size (action_cells a)
+  pub some : 8 ≤ size (action_cells a)
+  pub eights : size (action_cells a) % 8 ≡ 0
+  pub none : first_of (type_refusals packet_out rest) ≡ None
+  pub at : action_at rest ≡ Some a
 
-passes : (packet_out : Bool) (a : Action) (rest : List ℕ) → Says 0 (action_cells a) rest → is_supported packet_out a ≡ true → Passes packet_out a rest
+pub passes : (packet_out : Bool) (a : Action) (rest : List ℕ) → Says 0 (action_cells a) rest → is_supported packet_out a ≡ true → Passes packet_out a rest
 unfolding type_refusals set_refusals action_at is_supported
 passes packet_out (Output port max_len) rest y served =
     let ok : is_port packet_out port ≡ true = grind (arith, nat_tests, served) in

@@ -44,13 +44,13 @@ use Rattle.of_grammar.proofs.MatchTails.{match_found}
 use Rattle.of_grammar.proofs.OnlyLarge.{by_add, by_modify, by_delete}
 use Rattle.of_grammar.proofs.Places.{Says, begins}
 
-not_false : (a : Bool) → not a ≡ false → a ≡ true
+pub not_false : (a : Bool) → not a ≡ false → a ≡ true
 not_false true h = refl
 not_false false h = absurd cc
 
 -- ---- PACKET_OUT
 
-ingress : (port : ℕ) → is_ingress port ≡ true → IsIngress port
+pub ingress : (port : ℕ) → is_ingress port ≡ true → IsIngress port
 ingress port h = by_number (is_number port) refl h
   where
     by_number : (b : Bool) → is_number port ≡ b → (b || eqb port controller) ≡ true → IsIngress port
@@ -62,7 +62,7 @@ record DataSays (d : PacketData) (buffer : ℕ) (bytes : List ℕ) : Type 0 wher
   is : IsData d bytes
   valid : IsValidData d
 
-frame_fits : (frame : List ℕ) → is_none (frame_fault frame) ≡ true → (14 ≤ length frame) × (length frame ≤ 9216)
+pub frame_fits : (frame : List ℕ) → is_none (frame_fault frame) ≡ true → (14 ≤ length frame) × (length frame ≤ 9216)
 frame_fits frame h = (grind (arith, nat_tests), grind (arith, nat_tests))
 
 data_found : (d : PacketData) (buffer : ℕ) (bytes : List ℕ) → packet_in_data buffer bytes ≡ Ok d → DataSays d buffer bytes

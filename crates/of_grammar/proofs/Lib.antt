@@ -1,17 +1,18 @@
 pub mod Places
-mod Items
+pub mod Items
 mod ActionTails
-mod ActionStructs
+pub mod ActionStructs
+pub mod InstructionStructs
 mod InstructionTails
 pub mod MatchTails
 mod BucketTails
 mod Heads
-mod OnlySmall
-mod OnlyLarge
+pub mod OnlySmall
+pub mod OnlyLarge
 mod OnlyRequests
-mod Only
-mod FoundSmall
-mod FoundLarge
+pub mod Only
+pub mod FoundSmall
+pub mod FoundLarge
 mod FoundRequests
 mod Found
 pub mod OneMessage

@@ -37,11 +37,11 @@ use Rattle.of_grammar.proofs.Places.{Says, says, rest_is, size_is}
 
 -- ---- PACKET_OUT
 
-ingress : (port : ℕ) → IsIngress port → is_ingress port ≡ true
+pub ingress : (port : ℕ) → IsIngress port → is_ingress port ≡ true
 ingress port (inl both) = let low = both.0 in let high = both.1 in grind (arith, nat_tests)
 ingress port (inr is) = rw is refl
 
-no_fault : (frame : List ℕ) → 14 ≤ length frame → length frame ≤ 9216 → frame_fault frame ≡ None
+pub no_fault : (frame : List ℕ) → 14 ≤ length frame → length frame ≤ 9216 → frame_fault frame ≡ None
 no_fault frame low high =
     let short : ltb (length frame) 14 ≡ false = le-ltb _ _ low in
     let long : ltb 9216 (length frame) ≡ false = le-ltb _ _ high in

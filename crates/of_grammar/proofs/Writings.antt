@@ -1,32 +1,21 @@
 -- What is written begins with its fields.
 use Rattle.std.proofs.Common.{◌≡◌, ℕ, ◌+◌, ◌*◌, ◌%◌, ◌^◌, ◌<◌, ◌≤◌, zero, suc, List, [], ◌∷◌, ◌++◌, length, take, drop, refl, sym, ap, subst, ◌∙◌, arith}
-use Rattle.std.specs.Prelude.{replicate}
 use Rattle.std.proofs.lemmas.List.{append-nil, append_assoc, length-append, length-replicate, drop_at, take-append-le, take_all}
 use Rattle.byteorder.specs.Endian.{big_number, big_bytes}
 use Rattle.byteorder.specs.Numbers.{big_number-reads_back, length-bytes_high_first}
 use Rattle.of_messages.specs.Written.{message}
-use Rattle.of_grammar.specs.Cells.{Cell, byte, number, plain, pad, even, u16, u32, width, IsCell, Begins, Fits}
+use Rattle.of_grammar.specs.Cells.{Cell, byte, number, plain, pad, even, u16, u32, width, IsCell, Begins, Fits, canonical_cell as text}
+use Rattle.of_grammar.proofs.Places.{size}
+pub use Rattle.of_grammar.specs.Cells.{canonical_cells as spelling}
 
--- as it is written: padding and flags are 0
-abbrev pub text : Cell → List ℕ
-text (byte n) = n ∷ []
-text (number w n) = big_bytes w n
-text (plain w xs) = xs
-text (pad w) = replicate w 0
-text (even w) = big_bytes w 0
-
-abbrev pub spelling : List Cell → List ℕ
-spelling [] = []
-spelling (c ∷ cs) = text c ++ spelling cs
-
-length-text : (c : Cell) (cs : List Cell) → Fits (c ∷ cs) → length (text c) ≡ width c
+pub length-text : (c : Cell) (cs : List Cell) → Fits (c ∷ cs) → length (text c) ≡ width c
 length-text (byte n) cs f = refl
 length-text (number w n) cs f = length-bytes_high_first w n
 length-text (plain w xs) cs f = f.0
 length-text (pad w) cs f = length-replicate w 0
 length-text (even w) cs f = length-bytes_high_first w 0
 
-fits_rest : (c : Cell) (cs : List Cell) → Fits (c ∷ cs) → Fits cs
+pub fits_rest : (c : Cell) (cs : List Cell) → Fits (c ∷ cs) → Fits cs
 fits_rest (byte n) cs f = f.1
 fits_rest (number w n) cs f = f.1
 fits_rest (plain w xs) cs f = f.1
@@ -59,6 +48,10 @@ written (c ∷ cs) rest f =
     let front : take (width c) (text c ++ (spelling cs ++ rest)) ≡ text c = take-append-le (width c) (text c) (spelling cs ++ rest) (omega arith) ∙ take_all (width c) (text c) (omega arith) in
     let behind : drop (width c) (text c ++ (spelling cs ++ rest)) ≡ spelling cs ++ rest = drop_at (text c) (spelling cs ++ rest) (width c) len in
     rw (whole, front, behind) (omega (arith, length-append (text c) (spelling cs ++ rest)), text_is c cs f, written cs rest (fits_rest c cs f))
+
+pub length-spelling : (cs : List Cell) → Fits cs → length (spelling cs) ≡ size cs
+length-spelling [] f = refl
+length-spelling (c ∷ cs) f = omega (arith, length-append (text c) (spelling cs), length-text c cs f, length-spelling cs (fits_rest c cs f))
 
 -- a message of version 4 begins with its header and its fields
 pub fronted : (k xid : ℕ) (cs : List Cell) (body tail : List ℕ) → body ≡ spelling cs ++ tail → k < 256 → xid < 256 ^ 4 → Fits cs → length body ≤ 65527

@@ -41,7 +41,7 @@ command_same ModifyStrict = refl
 command_same Delete = refl
 command_same DeleteStrict = refl
 
-beginning_is : (m : FlowMod) (tail : List ℕ) → flow_mod_fixed_part m ++ tail ≡ spelling (flow_mod_cells m) ++ tail
+pub beginning_is : (m : FlowMod) (tail : List ℕ) → flow_mod_fixed_part m ++ tail ≡ spelling (flow_mod_cells m) ++ tail
 unfolding flow_mod_fixed_part
 beginning_is m tail = rw (command_same m.command) refl
 

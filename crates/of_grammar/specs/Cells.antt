@@ -1,5 +1,5 @@
 -- The structs of the standard: fields of given sizes, one after the other, numbers in big-endian order (OpenFlow 1.3.5, 7).
-use Rattle.std.specs.Prelude.{◌≡◌, ◌≤◌, ◌<◌, ℕ, ◌%◌, ◌^◌, List, [], ◌∷◌, length, take, drop}
+use Rattle.std.specs.Prelude.{◌≡◌, ◌≤◌, ◌<◌, ℕ, ◌%◌, ◌^◌, List, [], ◌∷◌, ◌++◌, length, take, drop, replicate}
 use Rattle.byteorder.specs.Endian.{big_number, big_bytes}
 
 -- A field: a number of one byte; a number of n bytes; n bytes as they are; n bytes of padding, which may be any; and n bytes of flags, of which the lowest is not set and the others are ignored.
@@ -47,3 +47,15 @@ Fits (number w n ∷ cs) = (n < 256 ^ w) × Fits cs
 Fits (plain w xs ∷ cs) = (length xs ≡ w) × Fits cs
 Fits (pad w ∷ cs) = Fits cs
 Fits (even w ∷ cs) = Fits cs
+
+-- the bytes of a field as it is written: padding and flags are zeros
+abbrev pub canonical_cell : Cell → List ℕ
+canonical_cell (byte n) = n ∷ []
+canonical_cell (number w n) = big_bytes w n
+canonical_cell (plain w xs) = xs
+canonical_cell (pad w) = replicate w 0
+canonical_cell (even w) = big_bytes w 0
+
+abbrev pub canonical_cells : List Cell → List ℕ
+canonical_cells [] = []
+canonical_cells (c ∷ cs) = canonical_cell c ++ canonical_cells cs

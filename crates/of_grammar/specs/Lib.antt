@@ -1,5 +1,6 @@
 pub mod Cells
 pub mod ActionStructs
+pub mod InstructionStructs
 pub mod Buckets
 pub mod Requests
 pub mod Grammar

@@ -4,13 +4,17 @@ ghost use Rattle.std.specs.List.{All, list_any};
 ghost use Rattle.of_wire.specs.declared.code.Code.{Code};
 ghost use Rattle.of_wire.specs.Refusals.{refusal};
 ghost use Rattle.of_actions.specs.Actions.{AreActions};
+ghost use Rattle.of_actions.specs.InstructionLists.{are_for, are_kept};
+ghost use Rattle.of_actions.specs.Instructions.{SpellsInstructions};
 ghost use Rattle.of_actions.specs.Supported.{are_supported};
 ghost use Rattle.of_actions.specs.declared.action.Action.{Action};
+ghost use Rattle.of_actions.specs.declared.instruction.Instruction.{Instruction};
 ghost use Rattle.of_messages.specs.Messages.{message_from, message_of, xid_of};
 ghost use Rattle.of_messages.specs.declared.message.Message.{Message};
 ghost use Rattle.of_messages.specs.declared.role.Role.TheVariants.{Slave};
 ghost use Rattle.of_grammar.specs.ActionStructs.{action_type, action_types, AreStructs};
 ghost use Rattle.of_grammar.specs.Grammar.{changes, MaySend, Spells};
+ghost use Rattle.of_grammar.specs.InstructionStructs.{AreInAnyOrder};
 ghost use Rattle.of_grammar.specs.Told.{SpellsSwitchMessage, Told};
 
 use of_messages::Role;
@@ -56,4 +60,12 @@ pub fn actions_are_structs(packet_out: bool, bytes: &[u8])
 pub fn action_types_are_all()
     ensures listed { (a : Action) → list_any (λ n. n == action_type a) action_types ≡ true }
     ensures only { All (λ n. (a : Action) × (action_type a ≡ n)) action_types }
+{}
+
+/// Bytes are read as these instructions of an entry of the table exactly where they are the instructions' structs in any order, no
+/// two of one type, and such an entry may have them (OpenFlow 1.3.5, 5.9 and 7.2.4): so what is accepted differs from what is
+/// written in padding and order alone.
+pub fn instructions_are_structs(table: u8, bytes: &[u8])
+    ensures found { (instructions : List Instruction) → SpellsInstructions table bytes.now instructions → AreInAnyOrder instructions bytes.now × (are_kept instructions ≡ true) × (are_for table instructions ≡ true) }
+    ensures only { (instructions : List Instruction) → AreInAnyOrder instructions bytes.now → are_kept instructions ≡ true → are_for table instructions ≡ true → SpellsInstructions table bytes.now instructions }
 {}

@@ -6,7 +6,7 @@ mod laws;
 mod written;
 
 pub use laws::{
-    action_types_are_all, actions_are_structs, no_spelling_begins_another, one_message,
-    read_as_exactly, read_exactly,
+    action_types_are_all, actions_are_structs, instructions_are_structs,
+    no_spelling_begins_another, one_message, read_as_exactly, read_exactly,
 };
 pub use written::{written_flow_mod_is_spelt, written_group_mod_is_spelt, written_is_told};

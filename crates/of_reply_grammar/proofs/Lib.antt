@@ -5,3 +5,4 @@ mod WrittenReplies
 mod OneRow
 mod OneGroup
 mod OneReply
+mod AnyMessage

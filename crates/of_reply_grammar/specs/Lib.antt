@@ -1,3 +1,4 @@
 pub mod Rows
 pub mod Replied
 pub mod Shown
+pub mod AnyMessage

@@ -11,7 +11,10 @@ ghost use Rattle.of_statistics.specs.Flows.{aggregate_bytes, asked, flow_bytes, 
 ghost use Rattle.of_statistics.specs.Groups.{asked_groups, group_bytes, group_description_bytes, group_features_bytes};
 ghost use Rattle.of_statistics.specs.Ports.{asked_ports, described, port_description_bytes, port_stats_bytes};
 ghost use Rattle.of_grammar.specs.Cells.{Fits};
-ghost use Rattle.of_grammar.specs.Told.{port_cells};
+ghost use Rattle.of_grammar.specs.Grammar.{Spells};
+ghost use Rattle.of_grammar.specs.Told.{port_cells, SpellsSwitchMessage, Told};
+ghost use Rattle.of_messages.specs.declared.message.Message.{Message};
+ghost use Rattle.of_reply_grammar.specs.AnyMessage.{AreAlike, SpellsAny};
 ghost use Rattle.of_reply_grammar.specs.Replied.{Reply, SpellAll, SpellsReply, aggregate, described_groups, described_ports, description, flows, group_features, groups, ports, reply_cells, tables};
 ghost use Rattle.of_reply_grammar.specs.Rows.{port_stats_cells, table_cells};
 ghost use Rattle.of_reply_grammar.specs.Shown.{aggregate_shown, flow_shown, group_described, group_shown, IsDescribable, IsShownFlow, IsShownGroup, port_shown, tables_shown};
@@ -24,6 +27,16 @@ pub fn one_reply()
 /// No reply begins another one.
 pub fn no_reply_begins_another()
     ensures { (x y : ℕ) (more again : Bool) (r s : Reply) (bytes rest : List ℕ) → SpellsReply x more r bytes → SpellsReply y again s (bytes ++ rest) → rest ≡ [] }
+{}
+
+/// No message begins another one, whichever side sends the two: the header's length is that of all bytes (OpenFlow 1.3.5, 7.1).
+/// What both sides spell has one transaction id, and is a HELLO, an ERROR or an ECHO_REPLY; no reply is anything else.
+pub fn no_message_begins_another()
+    ensures begins { (x y : ℕ) (bytes rest : List ℕ) → SpellsAny x bytes → SpellsAny y (bytes ++ rest) → rest ≡ [] }
+    ensures xid { (x y : ℕ) (bytes : List ℕ) → SpellsAny x bytes → SpellsAny y bytes → x ≡ y }
+    ensures both_sides { (x y : ℕ) (m : Message) (t : Told) (bytes : List ℕ) → Spells x m bytes → SpellsSwitchMessage y t bytes → AreAlike m t }
+    ensures reply_or_request { (x y : ℕ) (m : Message) (more : Bool) (r : Reply) (bytes : List ℕ) → Spells x m bytes → ¬ SpellsReply y more r bytes }
+    ensures reply_or_told { (x y : ℕ) (t : Told) (more : Bool) (r : Reply) (bytes : List ℕ) → SpellsSwitchMessage x t bytes → ¬ SpellsReply y more r bytes }
 {}
 
 /// What each writer of of_statistics writes is spelt: DESC, FLOW, AGGREGATE, TABLE, PORT_STATS, GROUP, GROUP_DESC,

@@ -4,4 +4,6 @@
 
 mod laws;
 
-pub use laws::{no_reply_begins_another, one_reply, written_replies_are_spelt};
+pub use laws::{
+    no_message_begins_another, no_reply_begins_another, one_reply, written_replies_are_spelt,
+};

@@ -7,3 +7,6 @@ pub mod FlowsAdded
 pub mod Present
 pub mod GroupsAdded
 pub mod ComingBack
+mod RowsWritten
+pub mod Refusing
+mod RefusingFlows

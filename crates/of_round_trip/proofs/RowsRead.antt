@@ -86,7 +86,7 @@ and_none : (b : Bool) → (b && false) ≡ false
 and_none true = refl
 and_none false = refl
 
-bytes_again : (bytes : List ℕ) → 0 < length bytes → IsBytes bytes → bytes_of (encode_lower bytes) ≡ Some bytes
+pub bytes_again : (bytes : List ℕ) → 0 < length bytes → IsBytes bytes → bytes_of (encode_lower bytes) ≡ Some bytes
 unfolding encode_with
 bytes_again [] some each = absurd (omega (arith, some))
 bytes_again (b ∷ bs) some each =
@@ -104,7 +104,7 @@ row_shown bytes h = rw (shown_line bytes h.few, space bytes, bytes_again bytes h
 abbrev pub Means : List ℕ → List Event → Type 0
 Means file events = rows_of (lines_of file) ≡ record { events = events; bad = None }
 
-means_row : (line rest : List ℕ) (row : EventRow) (events : List Event) → IsOne line → row_of line ≡ Some row → Means rest events → Means (line ++ 10 ∷ rest) (events_in row ++ events)
+pub means_row : (line rest : List ℕ) (row : EventRow) (events : List Event) → IsOne line → row_of line ≡ Some row → Means rest events → Means (line ++ 10 ∷ rest) (events_in row ++ events)
 means_row line rest row events one is others = rw (next_line line rest one, is, others) refl
 
 pub means_piece : (bytes rest : List ℕ) (events : List Event) → IsShown bytes → Means rest events → Means (piece_line bytes ++ rest) (event.Piece bytes ∷ events)
@@ -112,7 +112,7 @@ means_piece bytes rest events h others =
     let text : piece_line bytes ++ rest ≡ shown bytes ++ 10 ∷ rest = ap (λ (x : List ℕ). 99 ∷ 32 ∷ x) (append_assoc (encode_lower bytes) (10 ∷ []) rest) in
     subst (λ (file : List ℕ). Means file (event.Piece bytes ∷ events)) (sym text) (means_row (shown bytes) rest (Piece bytes) events (refl, (refl, hex_one bytes)) (row_shown bytes h) others)
 
-connect_is : row_of (codes "connect") ≡ Some Connect
+pub connect_is : row_of (codes "connect") ≡ Some Connect
 unfolding is_utf8 chars encode
 connect_is = refl
 

@@ -3,4 +3,4 @@
 
 mod laws;
 
-pub use laws::{dis_undoes_asm, text_comes_back};
+pub use laws::{dis_undoes_asm, parts_are_refused_alike, text_comes_back, written_rows_are_read};

@@ -1,0 +1,21 @@
+use Rattle.std.proofs.Common.{◌≡◌, false, sym, ◌∙◌}
+use Rattle.of_grammar.specs.Grammar.{Spells}
+use Rattle.of_grammar.proofs.Only.{only, xid_is}
+use Rattle.of_requests.specs.Sound.{is_sound}
+use Rattle.of_requests.proofs.Unspelt.{not_spelt}
+use Rattle.of_requests.proofs.Written.{is_one_message}
+use Rattle.of_requests.proofs.writing.write_message.Goals as goal
+
+pub returns-then-not-is_sound-clause-not_spelt : goal.returns-then-not-is_sound-clause-not_spelt
+returns-then-not-is_sound-clause-not_spelt c =
+    let not_sound : is_sound c.args.message.now ≡ false = sym c.is_sound.ensures ∙ c.if-not-is_sound.true in
+    λ e. not_spelt c.args.message.now not_sound
+
+pub new-requires : goal.new-requires
+new-requires c = is_one_message c.args.message.now c.args.xid c.in_ok-bytes.bytes c.in_ok-bytes.ensures
+
+pub returns-clause-read_again : goal.returns-clause-read_again
+returns-clause-read_again c =
+    let m = c.args.message.now in
+    let spelt : Spells c.args.xid m c.new.result = rw c.new.ensures c.in_ok-bytes.ensures.spelt in
+    (only c.args.xid m c.new.result spelt, sym (xid_is c.args.xid m c.new.result spelt))

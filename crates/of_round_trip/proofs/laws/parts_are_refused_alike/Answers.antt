@@ -1,0 +1,12 @@
+use Rattle.of_round_trip.proofs.Refusing.{actions_told, match_told}
+use Rattle.of_round_trip.proofs.RefusingFlows.{instructions_told}
+use Rattle.of_round_trip.proofs.laws.parts_are_refused_alike.Goals as goal
+
+pub returns-clause-actions : goal.returns-clause-actions
+returns-clause-actions c = actions_told
+
+pub returns-clause-fields : goal.returns-clause-fields
+returns-clause-fields c = match_told
+
+pub returns-clause-instructions : goal.returns-clause-instructions
+returns-clause-instructions c = instructions_told
