@@ -1,3 +1,5 @@
 pub mod PieceLemmas
 pub mod WinnerLemmas
 pub mod SearchLemmas
+pub mod NamingLemmas
+pub mod TryingLemmas

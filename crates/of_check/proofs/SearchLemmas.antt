@@ -33,6 +33,12 @@ begun flows k e piece there all = record {
       inl (piece, Contains-push [] piece, all p (ap (λ (x : FlowEntry). matches_map x.flow.fields (fields_of p)) (sym same) ∙ m.matches));
 }
 
+first_of : (a b : Piece) → Contains (a ∷ b ∷ []) a
+first_of a b = (0, omega arith, refl)
+
+second_of : (a b : Piece) → Contains (a ∷ b ∷ []) b
+second_of a b = (1, omega arith, refl)
+
 module _ (flows : List FlowEntry) (k : ℕ) (pieces : List Piece) (piece : Piece) (by : List ℕ) (u : UnderWay flows k (pieces ++ piece ∷ []) by) where
   -- an entry takes the last piece
   pub taken : (j : ℕ) (named : List ℕ) → Takes flows k piece j → IsNamed j by named → UnderWay flows k pieces named
@@ -43,9 +49,9 @@ module _ (flows : List FlowEntry) (k : ℕ) (pieces : List Piece) (piece : Piece
     ];
     covered = λ p is m. elim (u.covered p is m) as (λ x. InSome pieces (fields_of p) ⊎ SomeMatches flows named p) [
       | inl left ↦ elim (Contains-push_cases pieces piece left.0 left.1) as (λ x. InSome pieces (fields_of p) ⊎ SomeMatches flows named p) [
-          | inl old ↦ inl (left.0, old, left.2)
-          | inr same ↦ inr (j, n.there, t.all p (subst (λ x. In x (fields_of p)) (sym same) left.2))
-        ]
+        | inl old ↦ inl (left.0, old, left.2)
+        | inr same ↦ inr (j, n.there, t.all p (subst (λ x. In x (fields_of p)) (sym same) left.2))
+      ]
       | inr other ↦ inr (other.0, n.kept other.0 other.1, other.2)
     ];
   }
@@ -56,18 +62,12 @@ module _ (flows : List FlowEntry) (k : ℕ) (pieces : List Piece) (piece : Piece
     before = u.before;
     covered = λ p is m. elim (u.covered p is m) as (λ x. InSome (pieces ++ a ∷ b ∷ []) (fields_of p) ⊎ SomeMatches flows by p) [
       | inl left ↦ elim (Contains-push_cases pieces piece left.0 left.1) as (λ x. InSome (pieces ++ a ∷ b ∷ []) (fields_of p) ⊎ SomeMatches flows by p) [
-          | inl old ↦ inl (left.0, Contains-append_left pieces (a ∷ b ∷ []) left.0 old, left.2)
-          | inr same ↦ elim (halves (fields_of p) (subst (λ x. In x (fields_of p)) (sym same) left.2)) as (λ x. InSome (pieces ++ a ∷ b ∷ []) (fields_of p) ⊎ SomeMatches flows by p) [
-              | inl first ↦ inl (a, Contains-append_right pieces (a ∷ b ∷ []) a (first_of a b), first)
-              | inr second ↦ inl (b, Contains-append_right pieces (a ∷ b ∷ []) b (second_of a b), second)
-            ]
+        | inl old ↦ inl (left.0, Contains-append_left pieces (a ∷ b ∷ []) left.0 old, left.2)
+        | inr same ↦ elim (halves (fields_of p) (subst (λ x. In x (fields_of p)) (sym same) left.2)) as (λ x. InSome (pieces ++ a ∷ b ∷ []) (fields_of p) ⊎ SomeMatches flows by p) [
+          | inl first ↦ inl (a, Contains-append_right pieces (a ∷ b ∷ []) a (first_of a b), first)
+          | inr second ↦ inl (b, Contains-append_right pieces (a ∷ b ∷ []) b (second_of a b), second)
         ]
+      ]
       | inr other ↦ inr other
     ];
   }
-  where
-    first_of : (a b : Piece) → Contains (a ∷ b ∷ []) a
-    first_of a b = (0, omega arith, refl)
-
-    second_of : (a b : Piece) → Contains (a ∷ b ∷ []) b
-    second_of a b = (1, omega arith, refl)

@@ -57,7 +57,7 @@ fn meet(piece: &Piece, fields: &[MatchField]) -> Meeting
 }
 
 /// What the entries of a table that go before its entry at a place do with a piece, from the piece's place on.
-pub fn look<L: Lookup>(
+pub fn look_at<L: Lookup>(
     switch: &Switch<L>,
     table: u8,
     place: usize,

@@ -9,7 +9,7 @@ ghost use Rattle.of_check.specs.Pieces.{In};
 ghost use Rattle.of_check.specs.Search.{IsNamed, IsSearch, UnderWay};
 ghost use Rattle.of_check.specs.Verdicts.{Holds, Packet, fields_of};
 
-use crate::look::{Look, look};
+use crate::look::{Look, look_at};
 use crate::piece::Piece;
 use crate::trying::tried;
 use crate::verdict::Verdict;
@@ -92,7 +92,7 @@ fn step<L: Lookup>(
     ensures left { OnOk result (IsSearch (table_at table switch.now.core.forwarding.tables).flows place search.new) }
     ensures won { IfOk result (λ found. IfSome found (Holds (table_at table switch.now.core.forwarding.tables).flows place)) }
 {
-    match look(switch, table, place, own, &piece) {
+    match look_at(switch, table, place, own, &piece) {
         Look::Taken(at) => {
             name(&mut search.by, at)?;
             Ok(None)

@@ -1,7 +1,7 @@
 //! Frames, tried.
-ghost use Rattle.std.specs.Prelude.{◌<◌, IfOk, IfSome};
+ghost use Rattle.std.specs.Prelude.{◌≡◌, ◌<◌, IfOk, IfSome, true};
 ghost use Rattle.of_table.specs.Tables.{table_at};
-ghost use Rattle.of_check.specs.Verdicts.{Holds};
+ghost use Rattle.of_check.specs.Verdicts.{Holds, WinsWith};
 
 use crate::frames::frame_of;
 use crate::piece::Piece;
@@ -19,6 +19,27 @@ fn port_of(piece: &Piece) -> u32 {
     }
 }
 
+/// Whether the entry at a place wins the lookup of a frame.
+fn wins<L: Lookup>(
+    switch: &Switch<L>,
+    table: u8,
+    place: usize,
+    frame: &[u8],
+    in_port: u32,
+    metadata: u64,
+) -> bool
+    requires { table < 16 }
+    ensures { result ≡ true → WinsWith (table_at table switch.now.core.forwarding.tables).flows place (record { frame = frame.now; in_port = in_port; metadata = metadata }) }
+{
+    let Ok(headers) = read(frame, in_port, metadata) else {
+        return false;
+    };
+    match switch.winner(table, &headers.key()) {
+        Some(winner) => winner == place,
+        None => false,
+    }
+}
+
 /// Makes a packet of the piece, and looks it up. None where the entry at the place does not win with it.
 pub fn tried<L: Lookup>(
     alloc: Global,
@@ -33,15 +54,12 @@ pub fn tried<L: Lookup>(
     let frame = frame_of(alloc, piece)?;
     let in_port = port_of(piece);
     let metadata = piece.seen.numbers.metadata;
-    let Ok(headers) = read(&frame, in_port, metadata) else {
+    if !wins(switch, table, place, &frame, in_port, metadata) {
         return Ok(None);
-    };
-    match switch.winner(table, &headers.key()) {
-        Some(winner) if winner == place => Ok(Some(Verdict::Wins {
-            frame,
-            in_port,
-            metadata,
-        })),
-        _ => Ok(None),
     }
+    Ok(Some(Verdict::Wins {
+        frame,
+        in_port,
+        metadata,
+    }))
 }
