@@ -6,7 +6,7 @@ use std::alloc::{AllocError, Global};
 const STATUSES: &str =
     "Exit status: 0 done; 1 bad arguments; 2 a bad FILE: on standard error `line N: bad row` for an event file, and \
 `line N: syntax` or `line N: type T code C` for a flow text (`replay` has then printed the effects of the rows before \
-that line, `asm` and `dis` nothing); 3 `read fault`, `write fault` or `no memory`.";
+that line, `asm` and `dis` nothing); 3 `read fault`, `write fault` or `no memory`; 4 `check` found a flow that never wins.";
 
 const EVENT_FILES: &str = "An event file has one event a line, and words are separated by one space:
 
@@ -66,6 +66,20 @@ that the table sees; below an action what it changed, why an output sends nothin
 --why all, or --why \"0 100\" for the entries of table 0 that have priority 100, they also say why entries won or lost.
 
   ofswitch trace --flows examples/router.flows --port 1 0200000000a10200000000010800450000140000000040fd64e30a0000010a010109";
+
+const CHECKS: &str =
+    "The switch has the groups and flows of the text. One line a flow, by table, then by age from 0:
+
+  flow 0 1 wins in_port 1 metadata 0x0000000000000000 HEX    it wins the look-up of this frame, at this port, with this metadata
+  flow 0 2 never: 0 0 0 1               it wins none: flows 0 and 1 of table 0 go before it and match all that it matches
+  flow 0 3 open                         it was not decided in N steps
+
+A step looks at a part of what a flow matches. `never` holds for all frames, ports and metadata. A flow that wins in its table
+need not be reached: that depends on the tables before it.
+
+Exit status 4 where some flow never wins.
+
+  ofswitch check --flows examples/router.flows";
 
 const SERVING: &str =
     "A controller connects over TCP (`--listen`), or the switch connects to it (`--connect`), again whenever the connection
@@ -164,6 +178,19 @@ const TRACE: [Argument; 5] = [
     },
 ];
 
+const CHECK: [Argument; 2] = [
+    Argument {
+        name: "FILE",
+        kind: Kind::Required("flows"),
+        help: "The flow text to check; - is standard input",
+    },
+    Argument {
+        name: "steps",
+        kind: Kind::Optional("steps", "N"),
+        help: "Gives a flow up after N steps (by default 100000)",
+    },
+];
+
 const SERVE: [Argument; 6] = [
     Argument {
         name: "listen",
@@ -205,7 +232,7 @@ struct Subcommand {
     arguments: &'static [Argument],
 }
 
-const SUBCOMMANDS: [Subcommand; 5] = [
+const SUBCOMMANDS: [Subcommand; 6] = [
     Subcommand {
         name: "replay",
         about: "Runs an event file on a new switch and prints what it gives",
@@ -229,6 +256,12 @@ const SUBCOMMANDS: [Subcommand; 5] = [
         about: "Prints, step by step, what a frame does on a switch with the flows of a flow text",
         text: TRACES,
         arguments: &TRACE,
+    },
+    Subcommand {
+        name: "check",
+        about: "Says of each flow of a flow text whether it can win, or never does",
+        text: CHECKS,
+        arguments: &CHECK,
     },
     Subcommand {
         name: "serve",

@@ -24,6 +24,8 @@ const DEFAULT_ADDRESS: &str = "127.0.0.1:6653";
 
 const DEFAULT_TURNS: u32 = 1_000_000;
 
+const DEFAULT_STEPS: u32 = 100_000;
+
 const DEFAULT_DPID: u64 = 1;
 
 /// What the user asks for.
@@ -55,6 +57,12 @@ pub enum Request {
         explain: bool,
         /// Of which entries it says why they won or did not.
         why: Option<Asked>,
+    },
+    /// To print which flows of a flow text can win, and which never do; `-` is standard input.
+    Check {
+        file: String,
+        /// After how many of them a flow is given up.
+        steps: u32,
     },
     /// To serve controllers.
     Serve(Serve),
@@ -133,6 +141,10 @@ fn request_of(alloc: Global, matches: &ArgMatches<'_>) -> Result<Request, NoRequ
     match name {
         "asm" => Ok(Request::Assemble { file }),
         "dis" => Ok(Request::Disassemble { file }),
+        "check" => Ok(Request::Check {
+            file,
+            steps: steps_of(alloc, matches.get_str("steps"))?,
+        }),
         "trace" => Ok(Request::Trace {
             file,
             port: port_of(alloc, matches.get_str("N").unwrap_or(""))?,
@@ -232,6 +244,16 @@ fn turns_of(alloc: Global, word: Option<&str>) -> Result<u32, NoRequest> {
     match u32::from_str_radix(word, 10) {
         Ok(turns) => Ok(turns),
         Err(_) => Err(refused(alloc, "bad turns: it is a number of 32 bits\n")?),
+    }
+}
+
+fn steps_of(alloc: Global, word: Option<&str>) -> Result<u32, NoRequest> {
+    let Some(word) = word else {
+        return Ok(DEFAULT_STEPS);
+    };
+    match u32::from_str_radix(word, 10) {
+        Ok(steps) => Ok(steps),
+        Err(_) => Err(refused(alloc, "bad steps: it is a number of 32 bits\n")?),
     }
 }
 

@@ -9,6 +9,7 @@ mod sockets;
 
 use crate::lookups::Lookups;
 use hinting::say_hint;
+use of_check::check_file;
 use of_command_line::{Asked, NoRequest, Request, Serve, read_request};
 use of_explain::explain;
 use of_replay::streams::{ReaderSource, WriterSink};
@@ -23,6 +24,9 @@ use std::process::ExitCode;
 
 /// The exit status where the arguments are not understood.
 const BAD_ARGUMENTS: u8 = 1;
+
+/// The exit status where some flow never wins.
+const NEVER_WINS: u8 = 4;
 
 // A standard error that takes nothing changes no status, here and below.
 fn main(rt: HostRuntime) -> ExitCode {
@@ -64,6 +68,7 @@ fn carry_out(rt: &HostRuntime, request: &Request) -> ExitCode {
         | Request::Assemble { file }
         | Request::Disassemble { file }
         | Request::Trace { file, .. } => run_file(rt, request, file.as_str()),
+        Request::Check { file, steps } => run_check(rt, file.as_str(), *steps as usize),
         Request::Serve(asked) => serve_file(rt, asked),
     }
 }
@@ -76,6 +81,29 @@ fn run_file(rt: &HostRuntime, request: &Request, path: &str) -> ExitCode {
         Ok(file) => end_file(rt, path, &run(rt, request, file)),
         Err(error) => end_unopened(rt, path, &error),
     }
+}
+
+fn run_check(rt: &HostRuntime, path: &str, steps: usize) -> ExitCode {
+    let found = if path == "-" {
+        checked(rt, steps, rt.stdin())
+    } else {
+        match File::open(rt, path) {
+            Ok(file) => checked(rt, steps, file),
+            Err(error) => return end_unopened(rt, path, &error),
+        }
+    };
+    match found {
+        Ok(true) => ExitCode::from(NEVER_WINS),
+        Ok(false) => ExitCode::SUCCESS,
+        Err(ended) => end_file(rt, path, &ended),
+    }
+}
+
+// Whether some flow never wins.
+fn checked<R: Read + Drop>(rt: &HostRuntime, steps: usize, reader: R) -> Result<bool, Ended> {
+    let mut reader = ReaderSource::new(reader);
+    let mut writer = WriterSink::new(rt.stdout());
+    check_file::<Lookups, _, _>(rt.alloc(), &mut reader, steps, &mut writer)
 }
 
 // The event file is read before anybody can connect.
@@ -142,7 +170,7 @@ fn run<R: Read + Drop>(rt: &HostRuntime, request: &Request, reader: R) -> Ended 
             let form = form_of(*explain, *why);
             trace_file::<Lookups, _, _>(rt.alloc(), &mut reader, *port, frame, form, &mut writer)
         }
-        Request::Serve(_) => Ended::Done,
+        Request::Check { .. } | Request::Serve(_) => Ended::Done,
     }
 }
 

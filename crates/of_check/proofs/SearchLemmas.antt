@@ -1,0 +1,73 @@
+-- How a search goes on.
+use Rattle.std.proofs.Common.{◌≡◌, ℕ, ◌<◌, ◌⊎◌, true, false, List, [], ◌∷◌, ◌++◌, length, Option, Some, None, refl, sym, ap, subst, ◌∙◌, arith, inl, inr}
+use Rattle.std.specs.Prelude.{slice_get}
+use Rattle.std.specs.List.{Contains}
+use Rattle.std.proofs.lemmas.List.Elements.{Contains-push, Contains-append_left, Contains-append_right, Contains-push_cases}
+use Rattle.of_layers.specs.declared.field.Field.{Field}
+use Rattle.of_oxm.specs.Relations.{matches_map}
+use Rattle.of_table.specs.Table.{FlowEntry}
+use Rattle.of_check.specs.declared.piece.Piece.{Piece}
+use Rattle.of_check.specs.Verdicts.{Packet, IsPacket, Matches, SomeMatches, NeverWins, GoesBefore, fields_of}
+use Rattle.of_check.specs.Pieces.{In, InSome}
+use Rattle.of_check.specs.Search.{Takes, UnderWay, IsNamed}
+
+none_of : {X : Type 0} (x : X) → Contains [] x → ⊥
+none_of x c = absurd (omega (arith, c.1))
+
+-- nothing is left
+pub finished : (flows : List FlowEntry) (k : ℕ) (by : List ℕ) → UnderWay flows k [] by → NeverWins flows k by
+finished flows k by u = record {
+  before = u.before;
+  covered = λ p is m. elim (u.covered p is m) as (λ x. SomeMatches flows by p) [
+    | inl left ↦ absurd (none_of left.0 left.1)
+    | inr taken ↦ taken
+  ];
+}
+
+-- all is left
+pub begun : (flows : List FlowEntry) (k : ℕ) (e : FlowEntry) (piece : Piece) → slice_get flows k ≡ Some e → ((p : Packet) → matches_map e.flow.fields (fields_of p) ≡ true → In piece (fields_of p)) → UnderWay flows k (piece ∷ []) []
+begun flows k e piece there all = record {
+  before = λ j c. absurd (none_of j c);
+  covered = λ p is m.
+      let same : m.entry ≡ e = let t = m.there in cc in
+      inl (piece, Contains-push [] piece, all p (ap (λ (x : FlowEntry). matches_map x.flow.fields (fields_of p)) (sym same) ∙ m.matches));
+}
+
+first_of : (a b : Piece) → Contains (a ∷ b ∷ []) a
+first_of a b = (0, omega arith, refl)
+
+second_of : (a b : Piece) → Contains (a ∷ b ∷ []) b
+second_of a b = (1, omega arith, refl)
+
+module _ (flows : List FlowEntry) (k : ℕ) (pieces : List Piece) (piece : Piece) (by : List ℕ) (u : UnderWay flows k (pieces ++ piece ∷ []) by) where
+  -- an entry takes the last piece
+  pub taken : (j : ℕ) (named : List ℕ) → Takes flows k piece j → IsNamed j by named → UnderWay flows k pieces named
+  taken j named t n = record {
+    before = λ i c. elim (n.only i c) as (λ x. GoesBefore flows i k) [
+      | inl old ↦ u.before i old
+      | inr same ↦ subst (λ x. GoesBefore flows x k) same t.before
+    ];
+    covered = λ p is m. elim (u.covered p is m) as (λ x. InSome pieces (fields_of p) ⊎ SomeMatches flows named p) [
+      | inl left ↦ elim (Contains-push_cases pieces piece left.0 left.1) as (λ x. InSome pieces (fields_of p) ⊎ SomeMatches flows named p) [
+        | inl old ↦ inl (left.0, old, left.2)
+        | inr same ↦ inr (j, n.there, t.all p (subst (λ x. In x (fields_of p)) (sym same) left.2))
+      ]
+      | inr other ↦ inr (other.0, n.kept other.0 other.1, other.2)
+    ];
+  }
+
+  -- the last piece is split
+  pub halved : (a b : Piece) → ((map : Field → Option ℕ) → In piece map → In a map ⊎ In b map) → UnderWay flows k (pieces ++ a ∷ b ∷ []) by
+  halved a b halves = record {
+    before = u.before;
+    covered = λ p is m. elim (u.covered p is m) as (λ x. InSome (pieces ++ a ∷ b ∷ []) (fields_of p) ⊎ SomeMatches flows by p) [
+      | inl left ↦ elim (Contains-push_cases pieces piece left.0 left.1) as (λ x. InSome (pieces ++ a ∷ b ∷ []) (fields_of p) ⊎ SomeMatches flows by p) [
+        | inl old ↦ inl (left.0, Contains-append_left pieces (a ∷ b ∷ []) left.0 old, left.2)
+        | inr same ↦ elim (halves (fields_of p) (subst (λ x. In x (fields_of p)) (sym same) left.2)) as (λ x. InSome (pieces ++ a ∷ b ∷ []) (fields_of p) ⊎ SomeMatches flows by p) [
+          | inl first ↦ inl (a, Contains-append_right pieces (a ∷ b ∷ []) a (first_of a b), first)
+          | inr second ↦ inl (b, Contains-append_right pieces (a ∷ b ∷ []) b (second_of a b), second)
+        ]
+      ]
+      | inr other ↦ inr other
+    ];
+  }

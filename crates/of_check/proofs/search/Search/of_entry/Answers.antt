@@ -1,0 +1,10 @@
+use Rattle.std.proofs.Common.{◌≡◌, [], ◌∷◌, rules}
+use Rattle.of_table.specs.Entries.{entry_of}
+use Rattle.of_check.specs.Verdicts.{fields_of}
+use Rattle.of_check.proofs.SearchLemmas.{begun}
+use Rattle.of_check.proofs.search.Search.of_entry.Goals as goal
+
+pub returns : goal.returns
+returns c flows k there still =
+    let pieces : c.push.new.self.items ≡ c.of_frames.result ∷ [] = search rules in
+    rw (pieces, c.new.ensures.items) (begun flows k (entry_of c.args.own.now) c.of_frames.result there (λ p m. c.of_frames.ensures p (c.of_match.ensures (fields_of p) m)))

@@ -1,0 +1,16 @@
+use Rattle.std.proofs.Common.{◌≡◌, ◌∷◌, ◌++◌, []}
+use Rattle.of_table.specs.Tables.{table_at}
+use Rattle.of_check.specs.Search.{Takes}
+use Rattle.of_check.proofs.SearchLemmas.{taken, halved}
+use Rattle.of_check.proofs.search.step.Goals as goal
+
+pub returns-in_ok-name-in-Taken-clause-left : goal.returns-in_ok-name-in-Taken-clause-left
+returns-in_ok-name-in-Taken-clause-left g c still =
+    let flows = (table_at c.args.table c.args.switch.now.core.forwarding.tables).flows in
+    taken flows c.args.place c.args.search.now.pieces.items c.args.piece c.args.search.now.by.items (c.requires.left still) c.in-Taken.at c.name.new.by.items c.in-Taken.ensures c.in_ok-name-in-Taken.ensures
+
+pub returns-in_ok-push_both-in-Splits-clause-left : goal.returns-in_ok-push_both-in-Splits-clause-left
+returns-in_ok-push_both-in-Splits-clause-left g c still =
+    let flows = (table_at c.args.table c.args.switch.now.core.forwarding.tables).flows in
+    rw c.in_ok-push_both-in-Splits.ensures (halved flows c.args.place c.args.search.now.pieces.items c.args.piece c.args.search.now.by.items (c.requires.left still) c.halves.result.0 c.halves.result.1
+    (λ map h. c.halves.ensures map (c.resumed.ensures map h)))

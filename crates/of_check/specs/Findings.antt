@@ -1,0 +1,29 @@
+-- THE FINDINGS of a switch: one verdict on each entry, by table, then by age.
+use Rattle.std.specs.Prelude.{◌≡◌, ℕ, zero, suc, List, [], ◌∷◌, ◌++◌, length, map}
+use Rattle.std.specs.List.{Contains}
+use Rattle.of_table.specs.Tables.{Tables, table_at}
+use Rattle.of_check.specs.declared.finding.Finding.{Finding}
+use Rattle.of_check.specs.Verdicts.{Holds}
+
+-- an entry is named by its table, and its place there by age
+abbrev pub entry_of : Finding → ℕ × ℕ
+entry_of f = (f.table, f.place)
+
+-- the first n entries of a table
+abbrev pub first_entries : ℕ → ℕ → List (ℕ × ℕ)
+first_entries table zero = []
+first_entries table (suc n) = first_entries table n ++ (table, n) ∷ []
+
+-- those of the first k tables
+unfoldable pub entries_below : ℕ → Tables → List (ℕ × ℕ)
+entries_below zero ts = []
+entries_below (suc k) ts = entries_below k ts ++ first_entries k (length (table_at k ts).flows)
+
+-- one verdict on each of these entries, in their order, and each holds
+pub record AreFindings (entries : List (ℕ × ℕ)) (ts : Tables) (findings : List Finding) : Type 0 where
+  pub each : map entry_of findings ≡ entries
+  pub hold : (f : Finding) → Contains findings f → Holds (table_at f.table ts).flows f.place f.verdict
+
+-- the sixteen tables
+abbrev pub Checks : Tables → List Finding → Type 0
+Checks ts findings = AreFindings (entries_below 16 ts) ts findings

@@ -1,0 +1,6 @@
+pub mod Verdicts
+pub mod Findings
+pub mod Text
+pub mod Files
+pub mod Pieces
+pub mod Search

@@ -1,0 +1,69 @@
+-- WHAT IS SAID OF A FLOW ENTRY: a packet with which it wins, or the entries that leave it none (OpenFlow 1.3.5, 5.3).
+use Rattle.std.specs.Prelude.{◌≡◌, ℕ, ◌+◌, ◌^◌, ◌<◌, ◌≤◌, ◌⊎◌, true, List, [], ◌∷◌, length, Some, slice_get}
+use Rattle.std.specs.List.{Contains}
+use Rattle.of_layers.specs.declared.field.Field.{Field}
+use Rattle.of_layers.specs.Reading.{layers_of}
+use Rattle.of_layers.specs.WellFormed.{AreBytes}
+use Rattle.std.specs.Prelude.{Option}
+use Rattle.of_headers.specs.FieldMap.{field_map}
+use Rattle.of_oxm.specs.Relations.{matches_map}
+use Rattle.of_table.specs.Table.{FlowEntry, winner_place}
+use Rattle.of_check.specs.declared.verdict.Verdict.{Verdict}
+use Rattle.of_check.specs.declared.verdict.Verdict.TheVariants.{Wins, Never, Open}
+
+-- ---- packets
+
+-- a frame, the port at which it was received, and the metadata that it has come to have
+pub record Packet : Type 0 where
+  pub frame : List ℕ
+  pub in_port : ℕ
+  pub metadata : ℕ
+
+-- a frame of bytes has two addresses and a type at least; a port's number has 32 bits, metadata has 64
+pub record IsPacket (p : Packet) : Type 0 where
+  pub bytes : AreBytes p.frame
+  pub long : 14 ≤ length p.frame
+  pub port_fits : p.in_port < 2 ^ 32
+  pub metadata_fits : p.metadata < 2 ^ 64
+
+-- the fields that a lookup compares
+abbrev pub fields_of : Packet → Field → Option ℕ
+fields_of p = field_map (layers_of p.frame) p.in_port p.metadata
+
+-- ---- the entries of a table, which are named by their places by age, from 0
+
+-- the entry at a place matches the packet
+pub record Matches (flows : List FlowEntry) (place : ℕ) (p : Packet) : Type 0 where
+  pub entry : FlowEntry
+  pub there : slice_get flows place ≡ Some entry
+  pub matches : matches_map entry.flow.fields (fields_of p) ≡ true
+
+-- one of these entries does
+abbrev pub SomeMatches : List FlowEntry → List ℕ → Packet → Type 0
+SomeMatches flows places p = (j : ℕ) × Contains places j × Matches flows j p
+
+-- the entry at j goes before the one at k: it has a higher priority, or the same and is older
+pub record GoesBefore (flows : List FlowEntry) (j k : ℕ) : Type 0 where
+  pub first : FlowEntry
+  pub first_there : slice_get flows j ≡ Some first
+  pub second : FlowEntry
+  pub second_there : slice_get flows k ≡ Some second
+  pub before : (second.flow.priority < first.flow.priority) ⊎ ((first.flow.priority ≡ second.flow.priority) × (j < k))
+
+-- ---- verdicts
+
+-- the entry wins with this packet
+pub record WinsWith (flows : List FlowEntry) (k : ℕ) (p : Packet) : Type 0 where
+  pub packet : IsPacket p
+  pub wins : winner_place (fields_of p) flows ≡ Some k
+
+-- each of these entries goes before this one, and each packet that this one matches is matched by one of them
+pub record NeverWins (flows : List FlowEntry) (k : ℕ) (by : List ℕ) : Type 0 where
+  pub before : (j : ℕ) → Contains by j → GoesBefore flows j k
+  pub covered : (p : Packet) → IsPacket p → Matches flows k p → SomeMatches flows by p
+
+-- a verdict on the entry at k; `Open` says nothing
+abbrev pub Holds : List FlowEntry → ℕ → Verdict → Type 0
+Holds flows k (Wins frame in_port metadata) = WinsWith flows k (record { frame = frame.items; in_port = in_port; metadata = metadata })
+Holds flows k (Never by) = NeverWins flows k by.items
+Holds flows k Open = Unit {0}

@@ -1,0 +1,70 @@
+//! The verdicts on all entries of a switch.
+ghost use Rattle.std.specs.Prelude.{◌≡◌, ◌<◌, suc, IfOk, OnOk};
+ghost use Rattle.std.specs.List.{list_any};
+ghost use Rattle.of_check.specs.Findings.{AreFindings, Checks, entries_below};
+ghost use Rattle.of_check.specs.Text.{is_never as is_never_in, some_never as some_never_in};
+
+use crate::finding::Finding;
+use crate::search::check_entry;
+use crate::verdict::Verdict;
+use of_classifier::Lookup;
+use of_switch::Switch;
+use std::alloc::{AllocError, Global};
+
+/// How many tables a switch has (OpenFlow 1.3.5, 5.1).
+const TABLES: u8 = 16;
+
+// Appends the verdicts on the entries of a table.
+fn check_table<L: Lookup>(
+    alloc: Global,
+    switch: &Switch<L>,
+    table: u8,
+    steps: usize,
+    findings: &mut Vec<Finding>,
+) -> Result<(), AllocError>
+    requires { table < 16 }
+    ensures { OnOk result (AreFindings (entries_below table switch.now.core.forwarding.tables) switch.now.core.forwarding.tables findings.old.items → AreFindings (entries_below (suc table) switch.now.core.forwarding.tables) switch.now.core.forwarding.tables findings.new.items) }
+{
+    let mut place = 0;
+    for _entry in switch.entries(table) {
+        let verdict = check_entry(alloc, switch, table, place, steps)?;
+        findings.push(Finding {
+            table,
+            place,
+            verdict,
+        })?;
+        place += 1;
+    }
+    Ok(())
+}
+
+/// The verdicts on all entries of the tables of a switch, by table, then by age, each after at most so many steps (OpenFlow 1.3.5, 5.3).
+pub fn check<L: Lookup>(
+    alloc: Global,
+    switch: &Switch<L>,
+    steps: usize,
+) -> Result<Vec<Finding>, AllocError>
+    ensures { IfOk result (λ findings. Checks switch.now.core.forwarding.tables findings.items) }
+{
+    let mut findings = Vec::new(alloc);
+    for table in 0..TABLES {
+        check_table(alloc, switch, table, steps, &mut findings)?;
+    }
+    Ok(findings)
+}
+
+fn is_never(verdict: &Verdict) -> bool
+    ensures { result ≡ is_never_in verdict.now }
+{
+    match verdict {
+        Verdict::Never { .. } => true,
+        Verdict::Wins { .. } | Verdict::Open => false,
+    }
+}
+
+/// Whether some entry never wins.
+pub fn some_never(findings: &[Finding]) -> bool
+    ensures { result ≡ some_never_in findings.now }
+{
+    findings.iter().any(|finding| is_never(&finding.verdict))
+}

@@ -1,0 +1,22 @@
+//! Which flow entries can never win a lookup.
+#![tactic(auto)]
+
+mod checking;
+mod checking_file;
+mod finding;
+mod frames;
+mod laws;
+mod look;
+mod piece;
+mod printing;
+mod search;
+mod trying;
+mod verdict;
+
+pub use checking::{check, some_never};
+pub use checking_file::{check_file, write_findings};
+pub use finding::Finding;
+pub use laws::never_is_never;
+pub use printing::print;
+pub use search::check_entry;
+pub use verdict::Verdict;

@@ -1,0 +1,172 @@
+//! What is known of a packet's fields.
+ghost use Rattle.std.specs.Prelude.{◌≡◌, ◌≤◌, ◌⊎◌, ℕ, Option, Some, None, IsSome, ◌<◌, ◌^◌, true, find, not};
+ghost use Rattle.std.specs.Option.{option_copied};
+ghost use Rattle.of_layers.specs.declared.field.Field.{Field as TheField};
+ghost use Rattle.of_layers.specs.Fields.{ones_of};
+ghost use Rattle.of_headers.specs.FieldMap.{seen, value};
+ghost use Rattle.of_oxm.specs.Masks.{mask_at};
+ghost use Rattle.of_oxm.specs.Relations.{bits_looked_at, matches_map};
+ghost use Rattle.of_check.specs.Verdicts.{Packet, fields_of};
+ghost use Rattle.of_check.specs.Pieces.{In, is_apart as apart, is_settled as settled};
+
+use of_field_laws::fields_of_every_frame;
+use of_headers::{Field, FieldKey};
+use of_oxm::{FieldMask, Match, MatchField, key_of, mask_of, matched_is_seen};
+
+/// What is known of a packet's fields: of each field that has a mask, whether it is present, and its bits under the mask.
+#[derive(Clone, Copy, Debug)]
+pub struct Piece {
+    pub mask: FieldMask,
+    pub seen: FieldKey,
+    /// No entry before this place takes any of it.
+    pub from: usize,
+}
+
+// The number that has this bit alone.
+fn one_bit(bit: u32) -> u128
+    requires { bit < 128 }
+    ensures { result ≡ 2 ^ bit }
+{
+    1 << bit
+}
+
+// The bits that a field of a match looks at.
+fn bits(e: &MatchField) -> u128
+    ensures { result ≡ bits_looked_at e.now }
+{
+    e.mask.unwrap_or(e.field.row().ones)
+}
+
+/// Whether a field of a match agrees with all of the piece.
+pub fn is_settled(piece: &Piece, e: &MatchField) -> bool
+    ensures { result ≡ settled e.now (mask_at piece.now.mask e.now.field) (value piece.now.seen e.now.field) }
+{
+    match (piece.mask.masks.get(e.field), piece.seen.get(e.field)) {
+        (Some(mask), Some(known)) => bits(e) & mask == bits(e) && known & bits(e) == e.value,
+        _ => false,
+    }
+}
+
+/// Whether a field of a match agrees with none of the piece.
+pub fn is_apart(piece: &Piece, e: &MatchField) -> bool
+    ensures { result ≡ apart e.now (mask_at piece.now.mask e.now.field) (value piece.now.seen e.now.field) }
+{
+    match (piece.mask.masks.get(e.field), piece.seen.get(e.field)) {
+        (None, _) => false,
+        (Some(_), None) => true,
+        (Some(mask), Some(known)) => !(known & bits(e) == e.value & mask),
+    }
+}
+
+impl Piece {
+    /// The packets that a match matches.
+    pub fn of_match(m: &Match) -> Piece
+        ensures { (map : TheField → Option ℕ) → matches_map m.now map ≡ true → In result map }
+    {
+        m.known();
+        matched_is_seen();
+        Piece {
+            mask: mask_of(m),
+            seen: key_of(m),
+            from: 0,
+        }
+    }
+
+    // Those with these bits of a field under this mask.
+    fn with(self, field: Field, mask: u128, known: u128) -> Piece
+        requires mask { mask ≤ ones_of field }
+        requires known { known ≤ ones_of field }
+        ensures { (map : TheField → Option ℕ) → In self map → seen (Some mask) (map field) ≡ Some known → In result map }
+    {
+        Piece {
+            mask: FieldMask {
+                masks: self.mask.masks.with(field, mask),
+            },
+            seen: self.seen.with(field, known),
+            from: self.from,
+        }
+    }
+
+    // Those without a field.
+    fn without(self, field: Field) -> Piece
+        ensures { (map : TheField → Option ℕ) → In self map → map field ≡ None → In result map }
+    {
+        Piece {
+            mask: FieldMask {
+                masks: self.mask.masks.with(field, 0),
+            },
+            ..self
+        }
+    }
+
+    // Those that have a field, where that is not known.
+    fn there(self, field: Field) -> Piece
+        ensures { (map : TheField → Option ℕ) → IsSome (map field) → In self map → In result map }
+    {
+        match self.mask.masks.get(field) {
+            None => self.with(field, 0, 0),
+            Some(_) => self,
+        }
+    }
+
+    /// It is known which fields each frame has (OpenFlow 1.3.5, 7.2.3.7).
+    pub fn of_frames(self) -> Piece
+        ensures { (p : Packet) → In self (fields_of p) → In result (fields_of p) }
+    {
+        fields_of_every_frame();
+        self.there(Field::InPort)
+            .there(Field::Metadata)
+            .there(Field::EthDst)
+            .there(Field::EthSrc)
+            .there(Field::EthType)
+            .there(Field::VlanVid)
+    }
+
+    /// The same, with no entry before this place that takes any of it.
+    pub fn resumed(self, from: usize) -> Piece
+        ensures { (map : TheField → Option ℕ) → In self map → In result map }
+    {
+        Piece { from, ..self }
+    }
+
+    /// Whether the packets lack a field.
+    pub fn lacks(&self, field: Field) -> bool {
+        self.mask.masks.get(field).is_some() && self.seen.get(field).is_none()
+    }
+
+    // The two halves by one bit of a field.
+    fn by_bit(self, field: Field, mask: u128, known: u128, bit: u32) -> (Piece, Piece)
+        requires { bit < 128 }
+        ensures { (map : TheField → Option ℕ) → In self map → seen (Some mask) (map field) ≡ Some known → In result.0 map ⊎ In result.1 map }
+    {
+        let ones = field.row().ones;
+        let bit = one_bit(bit);
+        let mask = (mask | bit) & ones;
+        (
+            self.with(field, mask, (known | bit) & ones),
+            self.with(field, mask, known & ones),
+        )
+    }
+
+    /// Two halves, of which one agrees with more of a field of a match.
+    pub fn halves(self, e: &MatchField) -> (Piece, Piece)
+        ensures { (map : TheField → Option ℕ) → In self map → In result.0 map ⊎ In result.1 map }
+    {
+        match (self.mask.masks.get(e.field), self.seen.get(e.field)) {
+            (None, _) => (self.with(e.field, 0, 0), self.without(e.field)),
+            (Some(_), None) => (self, self),
+            (Some(mask), Some(known)) => {
+                let unknown = bits(e) ^ (bits(e) & mask);
+                let bit = unknown.trailing_zeros().min(127);
+                self.by_bit(e.field, mask, known, bit)
+            }
+        }
+    }
+}
+
+/// The first field of a match that does not agree with all of the piece.
+pub fn first_unsettled<'a>(piece: &Piece, fields: &'a [MatchField]) -> Option<&'a MatchField>
+    ensures { option_copied result ≡ find (λ e. not (settled e (mask_at piece.now.mask e.field) (value piece.now.seen e.field))) fields.now }
+{
+    fields.iter().find(|e| !is_settled(piece, e))
+}

@@ -1,0 +1,65 @@
+//! Frames, tried.
+ghost use Rattle.std.specs.Prelude.{◌≡◌, ◌<◌, IfOk, IfSome, true};
+ghost use Rattle.of_table.specs.Tables.{table_at};
+ghost use Rattle.of_check.specs.Verdicts.{Holds, WinsWith};
+
+use crate::frames::frame_of;
+use crate::piece::Piece;
+use crate::verdict::Verdict;
+use of_classifier::Lookup;
+use of_headers::{Field, read};
+use of_switch::Switch;
+use std::alloc::{AllocError, Global};
+
+// The ingress port of a packet of the piece: port 1, where any will do.
+fn port_of(piece: &Piece) -> u32 {
+    match piece.mask.masks.get(Field::InPort) {
+        None | Some(0) => 1,
+        Some(_) => piece.seen.numbers.in_port,
+    }
+}
+
+/// Whether the entry at a place wins the lookup of a frame.
+fn wins<L: Lookup>(
+    switch: &Switch<L>,
+    table: u8,
+    place: usize,
+    frame: &[u8],
+    in_port: u32,
+    metadata: u64,
+) -> bool
+    requires { table < 16 }
+    ensures { result ≡ true → WinsWith (table_at table switch.now.core.forwarding.tables).flows place (record { frame = frame.now; in_port = in_port; metadata = metadata }) }
+{
+    let Ok(headers) = read(frame, in_port, metadata) else {
+        return false;
+    };
+    match switch.winner(table, &headers.key()) {
+        Some(winner) => winner == place,
+        None => false,
+    }
+}
+
+/// Makes a packet of the piece, and looks it up. None where the entry at the place does not win with it.
+pub fn tried<L: Lookup>(
+    alloc: Global,
+    switch: &Switch<L>,
+    table: u8,
+    place: usize,
+    piece: &Piece,
+) -> Result<Option<Verdict>, AllocError>
+    requires { table < 16 }
+    ensures { IfOk result (λ found. IfSome found (Holds (table_at table switch.now.core.forwarding.tables).flows place)) }
+{
+    let frame = frame_of(alloc, piece)?;
+    let in_port = port_of(piece);
+    let metadata = piece.seen.numbers.metadata;
+    if !wins(switch, table, place, &frame, in_port, metadata) {
+        return Ok(None);
+    }
+    Ok(Some(Verdict::Wins {
+        frame,
+        in_port,
+        metadata,
+    }))
+}

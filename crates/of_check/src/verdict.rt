@@ -1,0 +1,19 @@
+//! What is said of an entry.
+
+/// What is said of a flow entry (OpenFlow 1.3.5, 5.3).
+#[derive(Drop)]
+pub enum Verdict {
+    /// It wins the lookup of this frame, received at this port, with this metadata.
+    Wins {
+        frame: Vec<u8>,
+        in_port: u32,
+        metadata: u64,
+    },
+    /// It wins no lookup: each packet that it matches is matched by one of these entries, which go before it: each has a higher priority, or
+    /// the same and is older. Entries are named by their index by age, from 0.
+    Never {
+        by: Vec<usize>,
+    },
+    /// It was not decided.
+    Open,
+}
