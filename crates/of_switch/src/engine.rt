@@ -1,5 +1,5 @@
 //! What messages, frames and moments do, whatever the connection.
-ghost use Rattle.std.specs.Prelude.{◌≡◌, ◌<◌, ◌≤◌, ◌∷◌, ◌++◌, ◌+◌, [], true, false, IfOk, OnOk, OnErr, length, map};
+ghost use Rattle.std.specs.Prelude.{◌≡◌, ◌<◌, ◌≤◌, ◌∷◌, ◌++◌, ◌+◌, [], true, false, IfOk, OnOk, OnErr, length, nat_le, map};
 ghost use Rattle.of_wire.specs.Refusals.{first_of};
 ghost use Rattle.of_switch.specs.State.{new_core};
 ghost use Rattle.of_ports.specs.Ports.{has_port, new_port, port_at};
@@ -178,10 +178,10 @@ impl<L: Lookup> Engine<L> {
         self.plane.ports.contains(number)
     }
 
-    pub fn count_ports(&self) -> usize
-        ensures { result ≡ length self.now.forwarding.ports }
+    pub fn has_all_ports(&self) -> bool
+        ensures { result ≡ nat_le 64 (length self.now.forwarding.ports) }
     {
-        self.plane.ports.len()
+        self.plane.ports.is_full()
     }
 
     /// Adds a port at the latest moment. The controller receives the asynchronous messages `heard`.

@@ -34,7 +34,7 @@ use of_groups::Chosen;
 use of_headers::FieldKey;
 use of_machine::StepLog;
 use of_messages::{MessageBytes, write_error, write_hello};
-use of_ports::{MOST_PORTS, Port};
+use of_ports::Port;
 use of_session::{Next, Phase, Session};
 use of_table::{Entries, Entry};
 use of_text::Config;
@@ -347,7 +347,7 @@ impl<L: Lookup> Switch<L> {
         if self.engine.has_port(number) {
             return Err(SwitchError::PortExists);
         }
-        if self.engine.count_ports() >= MOST_PORTS {
+        if self.engine.has_all_ports() {
             return Err(SwitchError::TooManyPorts);
         }
         Ok(())
