@@ -54,9 +54,11 @@ pub fn written_rows_are_read()
     ensures file { (rows : List EventRow) → AllByRecursion HasLine rows → rows_of (lines_of (file_text rows)) ≡ record { events = flat_map events_in rows; bad = None } }
 {}
 
-/// What is written of a list of actions, of a match and of instructions, as a text may have them, is refused with the text's
-/// first refusal, and else read (OpenFlow 1.3.5, 7.4.4).
-pub fn parts_are_refused_alike()
+/// What is written of a flow text is refused for the text's first refusal, and else read: lists of actions, matches and
+/// instructions, the FLOW_MOD that adds a flow, and the GROUP_MOD that adds a group (OpenFlow 1.3.5, 7.4.4).
+///
+/// Of a group the message decides its number and its buckets; what it watches, and how many there are, only the switch does.
+pub fn texts_are_refused_as_messages()
     ensures actions { (actions : List Action) → AllByRecursion ActionFits actions → actions_said false (canonical_actions actions) ≡ outcome actions (first_of (list_refusals actions)) }
     ensures fields { (fields : List MatchField) (rest : List ℕ) → AllByRecursion FieldFits fields → IsAscending fields → match_of (canonical fields ++ rest) ≡ match_outcome fields (first_of (match_refusals fields)) }
     ensures instructions { (table : ℕ) (steps : List Step) → AllByRecursion StepFits steps → is_ascending run_place (map instruction_of steps) ≡ true

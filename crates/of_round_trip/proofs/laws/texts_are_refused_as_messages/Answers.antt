@@ -2,7 +2,7 @@ use Rattle.of_round_trip.proofs.Refusing.{actions_told, match_told}
 use Rattle.of_round_trip.proofs.RefusingFlows.{instructions_told}
 use Rattle.of_round_trip.proofs.RefusingMessages.{flow_told}
 use Rattle.of_round_trip.proofs.RefusingGroups.{group_told}
-use Rattle.of_round_trip.proofs.laws.parts_are_refused_alike.Goals as goal
+use Rattle.of_round_trip.proofs.laws.texts_are_refused_as_messages.Goals as goal
 
 pub returns-clause-actions : goal.returns-clause-actions
 returns-clause-actions c = actions_told
