@@ -14,7 +14,7 @@ pub mod Only
 pub mod FoundSmall
 pub mod FoundLarge
 mod FoundRequests
-mod Found
+pub mod Found
 pub mod OneMessage
 mod Senders
 pub mod Writings

@@ -4,7 +4,7 @@ ghost use Rattle.of_messages.specs.Messages.{message_of, xid_of};
 ghost use Rattle.of_grammar.specs.Grammar.{Spells};
 ghost use Rattle.of_requests.specs.Canonical.{canonical as canonical_bytes};
 ghost use Rattle.of_requests.specs.Sound.{is_sound as has_bytes};
-ghost use Rattle.of_requests.specs.Written.{IsWritten};
+ghost use Rattle.of_requests.specs.Written.{AreBytes, IsWritten};
 
 use crate::flow_mod::write_sound_flow_mod;
 use crate::group_mod::write_group_request;
@@ -54,6 +54,7 @@ pub fn write_message(alloc: Global, xid: u32, message: &Message) -> Result<Messa
     ensures spelt { IfOk result (λ bytes. Spells xid message.now bytes) }
     ensures read_again { IfOk result (λ bytes. (message_of bytes ≡ Ok message.now) × (xid_of bytes ≡ xid)) }
     ensures not_spelt { IfErr result (λ e. e ≡ WriteError.NotSpelt → (x : ℕ) (bytes : List ℕ) → ¬ Spells x message.now bytes) }
+    ensures read_is_written { IfErr result (λ e. e ≡ WriteError.NotSpelt → (bytes : List ℕ) → AreBytes bytes → ¬ (message_of bytes ≡ Ok message.now)) }
 {
     if !is_sound(message) {
         return Err(WriteError::NotSpelt);

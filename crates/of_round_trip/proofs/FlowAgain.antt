@@ -74,24 +74,23 @@ pub record IsAdd (m : FlowMod) : Type 0 where
   pub checked : all_go_with m.fields m.instructions ≡ true
 
 -- what a message says, over a variable, where nothing has computed to bytes yet
-record Says (m : FlowMod) (b : List ℕ) : Type 0 where
-  version : version_of b ≡ 4
-  type : type_of b ≡ 14
-  size : header_length b ≡ length b
-  long : 56 ≤ length b
-  few : length b ≤ 4304
-  cookie : big_number 8 (drop 8 b) ≡ m.cookie
-  cookie_mask : big_number 8 (drop 16 b) ≡ m.cookie_mask
-  table : slice_index b 24 ≡ m.table
-  command : slice_index b 25 ≡ 0
-  idle : big_number 2 (drop 26 b) ≡ m.idle_timeout
-  hard : big_number 2 (drop 28 b) ≡ m.hard_timeout
-  priority : big_number 2 (drop 30 b) ≡ m.priority
-  buffer : big_number 4 (drop 32 b) ≡ m.buffer
-  out_port : big_number 4 (drop 36 b) ≡ m.out_port
-  out_group : big_number 4 (drop 40 b) ≡ m.out_group
-  flags : big_number 2 (drop 44 b) ≡ m.flags
-  rest_is : drop 48 b ≡ canonical m.fields ++ canonical_instructions m.instructions
+pub record Says (m : FlowMod) (b : List ℕ) : Type 0 where
+  pub version : version_of b ≡ 4
+  pub type : type_of b ≡ 14
+  pub size : header_length b ≡ length b
+  pub long : 56 ≤ length b
+  pub cookie : big_number 8 (drop 8 b) ≡ m.cookie
+  pub cookie_mask : big_number 8 (drop 16 b) ≡ m.cookie_mask
+  pub table : slice_index b 24 ≡ m.table
+  pub command : slice_index b 25 ≡ 0
+  pub idle : big_number 2 (drop 26 b) ≡ m.idle_timeout
+  pub hard : big_number 2 (drop 28 b) ≡ m.hard_timeout
+  pub priority : big_number 2 (drop 30 b) ≡ m.priority
+  pub buffer : big_number 4 (drop 32 b) ≡ m.buffer
+  pub out_port : big_number 4 (drop 36 b) ≡ m.out_port
+  pub out_group : big_number 4 (drop 40 b) ≡ m.out_group
+  pub flags : big_number 2 (drop 44 b) ≡ m.flags
+  pub rest_is : drop 48 b ≡ canonical m.fields ++ canonical_instructions m.instructions
 
 says : (xid : ℕ) (m : FlowMod) → IsAdd m → Says m (flow_mod_bytes xid m)
 unfolding flow_mod_fixed_part
@@ -111,7 +110,6 @@ says xid m a =
       type = refl;
       size = big_number-reads_back 2 (8 + length body) (drop 4 b) (omega (arith, parts, most, more)) ∙ size;
       long = omega (arith, parts, least);
-      few = omega (arith, parts, most, more);
       cookie = big_number-reads_back 8 m.cookie (drop 16 b) a.cookie;
       cookie_mask = big_number-reads_back 8 m.cookie_mask (drop 24 b) a.cookie_mask;
       table = refl;
@@ -126,7 +124,7 @@ says xid m a =
       rest_is = refl;
     }
 
-head_passes : (m : FlowMod) (b : List ℕ) → Says m b → first_of (head_refusals b) ≡ None
+pub head_passes : (m : FlowMod) (b : List ℕ) → Says m b → first_of (head_refusals b) ≡ None
 unfolding size_of
 head_passes m b h =
     let long = h.long in
@@ -149,12 +147,12 @@ instructions_there m b a h =
     ap (instructions_of (slice_index b 24)) (ap (drop (length (canonical m.fields))) h.rest_is ∙ drop_at (canonical m.fields) (canonical_instructions m.instructions) (length (canonical m.fields)) refl)
     ∙ (ap (λ (t : ℕ). instructions_of t (canonical_instructions m.instructions)) h.table ∙ instructions_read m.table m.instructions a.kept a.fit)
 
-same_mod : (m : FlowMod) (b : List ℕ) → IsAdd m → Says m b → flow_mod_with b Add m.fields m.instructions ≡ m
-same_mod m b a h = λ i. record {
+pub same_mod : (m : FlowMod) (b : List ℕ) → m.command ≡ Add → Says m b → flow_mod_with b Add m.fields m.instructions ≡ m
+same_mod m b add h = λ i. record {
   cookie = h.cookie i;
   cookie_mask = h.cookie_mask i;
   table = h.table i;
-  command = (sym a.command) i;
+  command = (sym add) i;
   idle_timeout = h.idle i;
   hard_timeout = h.hard i;
   priority = h.priority i;
@@ -173,7 +171,7 @@ mod_again m b a h =
     ∙ (ap (then_match b Add) (match_there m b a h)
     ∙ (ap (then_instructions b Add m.fields) (instructions_there m b a h)
     ∙ (ap (λ (t : Bool). cond t (Ok (flow_mod_with b Add m.fields m.instructions)) (Err (refusal 2 10))) a.checked
-    ∙ ap Ok (same_mod m b a h)))))
+    ∙ ap Ok (same_mod m b a.command h)))))
 
 body_again : (m : FlowMod) (b : List ℕ) → Says m b → first_of (head_refusals b) ≡ None → flow_mod_of b ≡ Ok m → message_of b ≡ Ok (IsFlowMod m)
 unfolding message_from body_of

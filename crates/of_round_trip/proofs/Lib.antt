@@ -10,3 +10,5 @@ pub mod ComingBack
 mod RowsWritten
 pub mod Refusing
 mod RefusingFlows
+mod RefusingMessages
+mod RefusingGroups

@@ -42,7 +42,7 @@ not_false : (a : Bool) → not a ≡ false → a ≡ true
 not_false true h = refl
 not_false false h = absurd cc
 
-take-nil : {X : Type 0} (k : ℕ) → take {A = X} k [] ≡ []
+pub take-nil : {X : Type 0} (k : ℕ) → take {A = X} k [] ≡ []
 take-nil zero = refl
 take-nil (suc k) = refl
 
@@ -304,6 +304,15 @@ normal_same (e ∷ es) each up =
 
 -- ---- a match
 
+pub canonical_least : (es : List MatchField) → 8 ≤ length (canonical es)
+unfolding canonical
+canonical_least es =
+    let sp = spellings es in
+    let len = written_len es in
+    let zeros : List ℕ = replicate (padded len - len) 0 in
+    let padding : length zeros ≡ padded len - len = length-replicate (padded len - len) 0 in
+    omega (arith, length-append sp zeros, padding)
+
 -- what bytes say that begin with such a match
 record Begun (es : List MatchField) (bytes : List ℕ) : Type 0 where
   none : first_of (head_refusals bytes) ≡ None
@@ -315,7 +324,7 @@ unfolding canonical
 begun es x up =
     let sp = spellings es in
     let len = written_len es in
-    let zeros = replicate (padded len - len) 0 in
+    let zeros : List ℕ = replicate (padded len - len) 0 in
     let all = canonical es ++ x in
     let len_is : match_len all ≡ len = ap (big_number 2) (append_assoc (big_bytes 2 len) (sp ++ zeros) x) ∙ big_number-reads_back 2 len ((sp ++ zeros) ++ x) (omega (arith, written_fits es up)) in
     let padding : length zeros ≡ padded len - len = length-replicate (padded len - len) 0 in

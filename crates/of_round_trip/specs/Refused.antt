@@ -1,11 +1,26 @@
 -- What a flow of a text has in common with the FLOW_MOD that adds it.
-use Rattle.std.specs.Prelude.{ℕ, ◌^◌, ◌<◌, List, length, Option, Some, None, Result, Ok, Err}
+use Rattle.std.specs.Prelude.{◌≡◌, ℕ, ◌++◌, ◌^◌, ◌<◌, nat_lt, Bool, true, bit_and, ◌⊎◌, List, ◌∷◌, length, Option, Some, None, Result, Ok, Err}
 use Rattle.std.specs.List.{AllByRecursion}
 use Rattle.of_oxm.specs.Canonical.{canonical}
+use Rattle.of_oxm.specs.NormalForm.{IsAscending}
 use Rattle.of_oxm.specs.declared.match_field.MatchField.{MatchField}
-use Rattle.of_text.specs.Flows.{Step, Apply, Clear, Write, Metadata, Goto}
-use Rattle.of_text.specs.Rows.{ActionFits}
+use Rattle.of_actions.specs.CanonicalInstructions.{canonical_instructions}
+use Rattle.of_actions.specs.InstructionLists.{run_place}
+use Rattle.of_actions.specs.Rising.{is_ascending}
+use Rattle.of_text.specs.Kept.{instructions_of}
+use Rattle.of_text.specs.Flows.{Flow, Step, Apply, Clear, Write, Metadata, Goto}
+use Rattle.of_text.specs.Rows.{ActionFits, BucketFits, FieldFits, HeadFits}
 use Rattle.of_wire.specs.declared.code.Code.{Code}
+use Rattle.of_wire.specs.Refusals.{refusal}
+use Rattle.of_groups.specs.Buckets.{group_max}
+use Rattle.of_messages.specs.CanonicalGroups.{canonical_buckets}
+use Rattle.of_messages.specs.declared.group_mod.NewGroup.{NewGroup}
+use Rattle.of_messages.specs.declared.group_mod.GroupMod.TheVariants.{Add}
+use Rattle.of_text.specs.Groups.{TextBucket, TextGroup, buckets_of}
+use Rattle.of_text.specs.Refusals.{buckets_refusals}
+use Rattle.of_messages.specs.declared.message.FlowMod.{FlowMod}
+use Rattle.of_messages.specs.declared.message.Message.{Message}
+use Rattle.of_messages.specs.declared.message.Message.TheVariants.{FlowMod as IsFlowMod, GroupMod as IsGroupMod}
 
 -- numbers fit their bytes
 abbrev pub StepFits : Step → Type 0
@@ -19,3 +34,39 @@ StepFits (Goto table) = table < 2 ^ 8
 abbrev pub match_outcome : List MatchField → Option Code → Result (List MatchField × ℕ) Code
 match_outcome fields None = Ok (fields, length (canonical fields))
 match_outcome fields (Some code) = Err code
+
+-- a FLOW_MOD that is read, or its first refusal
+abbrev pub message_outcome : FlowMod → Option Code → Result Message Code
+message_outcome m None = Ok (IsFlowMod m)
+message_outcome m (Some code) = Err code
+
+-- A FLOW THAT A FLOW_MOD CAN SAY: numbers fit their bytes, its match ascends, its instructions are in running order, and both fit a message with the fixed fields. A FLOW_MOD may have flags 2 and 4, which a text may not: the flow has neither, or it has one that both refuse.
+pub record IsSaid (f : Flow) : Type 0 where
+  pub head : HeadFits f.head
+  pub fields : AllByRecursion FieldFits f.fields
+  pub ascending : IsAscending f.fields
+  pub steps : AllByRecursion StepFits f.steps
+  pub in_order : is_ascending run_place (instructions_of f) ≡ true
+  pub short : length (canonical f.fields ++ canonical_instructions (instructions_of f)) < 65488
+  pub flags : (bit_and f.head.flags 25 ≡ f.head.flags) ⊎ (31 < f.head.flags)
+
+-- ---- groups
+
+-- a GROUP_MOD that is read, or its first refusal
+abbrev pub group_outcome : NewGroup → Option Code → Result Message Code
+group_outcome g None = Ok (IsGroupMod (Add g))
+group_outcome g (Some code) = Err code
+
+-- numbers fit their bytes
+abbrev pub IsSaidBucket : TextBucket → Type 0
+IsSaidBucket b = BucketFits b.head × AllByRecursion ActionFits b.actions
+
+-- A GROUP THAT A GROUP_MOD CAN SAY: and its buckets fit a message
+pub record IsSaidGroup (g : TextGroup) : Type 0 where
+  pub number : g.head.id < 2 ^ 32
+  pub buckets : AllByRecursion IsSaidBucket g.buckets
+  pub short : length (canonical_buckets (buckets_of g)) < 65520
+
+-- the refusals of a group that a message decides without the switch: the first of `group_refusals`
+abbrev pub said_refusals : TextGroup → List (Bool × Code)
+said_refusals g = (nat_lt group_max g.head.id, refusal 6 1) ∷ buckets_refusals g.buckets

@@ -3,4 +3,6 @@
 
 mod laws;
 
-pub use laws::{dis_undoes_asm, parts_are_refused_alike, text_comes_back, written_rows_are_read};
+pub use laws::{
+    dis_undoes_asm, text_comes_back, texts_are_refused_as_messages, written_rows_are_read,
+};

@@ -1,5 +1,7 @@
 use Rattle.std.proofs.Common.{◌≡◌, false, sym, ◌∙◌}
 use Rattle.of_grammar.specs.Grammar.{Spells}
+use Rattle.of_messages.specs.Messages.{xid_of}
+use Rattle.of_grammar.proofs.Found.{found}
 use Rattle.of_grammar.proofs.Only.{only, xid_is}
 use Rattle.of_requests.specs.Sound.{is_sound}
 use Rattle.of_requests.proofs.Unspelt.{not_spelt}
@@ -10,6 +12,12 @@ pub returns-then-not-is_sound-clause-not_spelt : goal.returns-then-not-is_sound-
 returns-then-not-is_sound-clause-not_spelt c =
     let not_sound : is_sound c.args.message.now ≡ false = sym c.is_sound.ensures ∙ c.if-not-is_sound.true in
     λ e. not_spelt c.args.message.now not_sound
+
+pub returns-then-not-is_sound-clause-read_is_written : goal.returns-then-not-is_sound-clause-read_is_written
+returns-then-not-is_sound-clause-read_is_written c =
+    let m = c.args.message.now in
+    let not_sound : is_sound m ≡ false = sym c.is_sound.ensures ∙ c.if-not-is_sound.true in
+    λ e bytes are read. not_spelt m not_sound (xid_of bytes) bytes (found bytes m are read)
 
 pub new-requires : goal.new-requires
 new-requires c = is_one_message c.args.message.now c.args.xid c.in_ok-bytes.bytes c.in_ok-bytes.ensures

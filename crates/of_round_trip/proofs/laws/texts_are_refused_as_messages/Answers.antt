@@ -1,6 +1,8 @@
 use Rattle.of_round_trip.proofs.Refusing.{actions_told, match_told}
 use Rattle.of_round_trip.proofs.RefusingFlows.{instructions_told}
-use Rattle.of_round_trip.proofs.laws.parts_are_refused_alike.Goals as goal
+use Rattle.of_round_trip.proofs.RefusingMessages.{flow_told}
+use Rattle.of_round_trip.proofs.RefusingGroups.{group_told}
+use Rattle.of_round_trip.proofs.laws.texts_are_refused_as_messages.Goals as goal
 
 pub returns-clause-actions : goal.returns-clause-actions
 returns-clause-actions c = actions_told
@@ -10,3 +12,9 @@ returns-clause-fields c = match_told
 
 pub returns-clause-instructions : goal.returns-clause-instructions
 returns-clause-instructions c = instructions_told
+
+pub returns-clause-flow : goal.returns-clause-flow
+returns-clause-flow c = flow_told
+
+pub returns-clause-group : goal.returns-clause-group
+returns-clause-group c = group_told
