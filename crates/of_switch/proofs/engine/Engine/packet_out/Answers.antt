@@ -12,7 +12,7 @@ pub invariant_of-self-2 : goal.invariant_of-self-2
 invariant_of-self-2 g c =
     let plane = c.self.inside.plane in
     let before = forwarding_of plane.tables plane.groups plane.ports plane.held in
-    called_stands c.packet_out.result _ _ _ _ _ _ _ _ _ c.packet_out.ensures.ok c.packet_out.ensures.err (through_stands c.heard_open.result _ _ _ (held_stands (without_used c.match-packet_out.used plane.held) before c.self.invariant)) c.self.invariant
+    called_stands c.packet_out.result _ _ _ _ _ _ _ _ _ c.packet_out.ensures.ok c.packet_out.ensures.err (through_stands c.heard_open.result _ _ _ (held_stands _ before c.self.invariant)) c.self.invariant
 
 pub returns : goal.returns
 returns g c =
