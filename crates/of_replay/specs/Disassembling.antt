@@ -35,9 +35,7 @@ pub record Disassembles (ended : Ended) (answers answers' : Option (List Answer)
   pub answers_are : answers' ≡ then_answers answers more
   pub ends_so : EndsDis ended (nat_lt ends ends') (rows_of (lines_read (nat_lt ends ends') (given more))) taken taken'
 
--- ---- for contracts inside this crate
-
--- the switch after the rows, or why there is none
+-- THE SWITCH after the rows, or why there is none
 abbrev pub IsPlayed : Result State Ended → Bool → Rows → Type 0
 IsPlayed (Ok s) ended rows = (ended ≡ true) × (rows.bad ≡ None) × (s ≡ after rows)
 IsPlayed (Err Done) ended rows = ⊥
@@ -51,6 +49,8 @@ pub record Played (result : Result State Ended) (answers answers' : Option (List
   pub more : List Answer
   pub answers_are : answers' ≡ then_answers answers more
   pub is : IsPlayed result (nat_lt ends ends') (rows_of (lines_read (nat_lt ends ends') (given more)))
+
+-- ---- for contracts inside this crate
 
 -- the flow text of a switch, or memory ran out
 abbrev pub IsTextOf : State → Result (Vec ℕ) Ended → Type 0

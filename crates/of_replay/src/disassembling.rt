@@ -31,8 +31,10 @@ impl Sink for Nowhere {
     }
 }
 
-// A new switch after the rows of a source. What they give is dropped.
-fn played<L: Lookup, S: Source>(alloc: Global, reader: &mut S) -> Result<Switch<L>, Ended>
+/// A new switch after the rows of a source, which are played as `replay` plays them; what they give is dropped.
+///
+/// Its datapath_id is 1. Where there is none, how the run of `dis` ends: at the first bad row, at a fault, or without memory.
+pub fn read_switch<L: Lookup, S: Source>(alloc: Global, reader: &mut S) -> Result<Switch<L>, Ended>
     requires { S.reads reader.old ≡ 0 }
     ensures played { Played result (S.answers reader.old) (S.answers reader.new) (S.ends reader.old) (S.ends reader.new) }
     ensures faults { Faults (ended_as result) (S.reads reader.new) (S.ends reader.old) (S.ends reader.new) (S.failures reader.old) (S.failures reader.new) 0 }
@@ -75,7 +77,7 @@ pub fn dis<L: Lookup, S: Source, W: Sink>(alloc: Global, reader: &mut S, writer:
     ensures faults { Faults result (S.reads reader.new) (S.ends reader.old) (S.ends reader.new) (S.failures reader.old) (S.failures reader.new) (W.failures writer.new) }
     ensures reads { S.reads reader.new ≤ 1000000 }
 {
-    match played::<L, S>(alloc, reader) {
+    match read_switch::<L, S>(alloc, reader) {
         Ok(switch) => write_built(text_of(alloc, &switch), writer),
         Err(ended) => ended,
     }

@@ -22,7 +22,7 @@ mod transfer;
 mod whole_file;
 
 pub use config_file::read_config;
-pub use disassembling::dis;
+pub use disassembling::{dis, read_switch};
 pub use event_file::{Ended, READ_SIZE, ended_by, print_file, replay, status, zeros};
 pub use flow_text::asm;
 pub use halt::Halt;

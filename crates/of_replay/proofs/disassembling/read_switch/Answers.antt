@@ -2,7 +2,7 @@ use Rattle.std.proofs.Common.{refl, ◌∙◌}
 use Rattle.of_replay.proofs.FileLemmas.{faults_nothing, faults_done}
 use Rattle.of_replay.proofs.DisLemmas.{played_nothing, played_all, played_not, faults_unplayed}
 use Rattle.of_replay.specs.RowTexts.{plain}
-use Rattle.of_replay.proofs.disassembling.played.Goals as goal
+use Rattle.of_replay.proofs.disassembling.read_switch.Goals as goal
 
 pub returns-in_default-clause-played : goal.returns-in_default-clause-played
 returns-in_default-clause-played g c = played_nothing (g.S.Source.answers c.args.reader.now) (g.S.Source.ends c.args.reader.now)
