@@ -1,13 +1,12 @@
 -- How a search goes on.
-use Rattle.std.proofs.Common.{◌≡◌, ℕ, ◌<◌, ◌⊎◌, true, false, List, [], ◌∷◌, ◌++◌, length, Option, Some, None, refl, sym, ap, subst, ◌∙◌, arith, inl, inr}
+use Rattle.std.proofs.Common.{◌≡◌, ℕ, ◌⊎◌, true, List, [], ◌∷◌, ◌++◌, Some, refl, sym, ap, subst, ◌∙◌, arith, inl, inr}
 use Rattle.std.specs.Prelude.{slice_get}
 use Rattle.std.specs.List.{Contains}
 use Rattle.std.proofs.lemmas.List.Elements.{Contains-push, Contains-append_left, Contains-append_right, Contains-push_cases}
-use Rattle.of_layers.specs.declared.field.Field.{Field}
 use Rattle.of_oxm.specs.Relations.{matches_map}
 use Rattle.of_table.specs.Table.{FlowEntry}
 use Rattle.of_check.specs.declared.piece.Piece.{Piece}
-use Rattle.of_check.specs.Verdicts.{Packet, IsPacket, Matches, SomeMatches, NeverWins, GoesBefore, fields_of}
+use Rattle.of_check.specs.Verdicts.{Packet, IsPacket, SomeMatches, NeverWins, GoesBefore, fields_of}
 use Rattle.of_check.specs.Pieces.{In, InSome}
 use Rattle.of_check.specs.Search.{Takes, UnderWay, IsNamed}
 

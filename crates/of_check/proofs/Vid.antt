@@ -1,16 +1,12 @@
 -- VLAN_VID without the bit that says that there is a tag is 0.
-use Rattle.std.proofs.Common.{◌≡◌, ◌≢◌, ℕ, ◌+◌, ◌*◌, ◌/◌, ◌%◌, ◌<◌, ◌≤◌, ◌^◌, ◌⊎◌, zero, suc, List, length, Option, Some, None, refl, sym, ap, subst, ◌∙◌, arith, inl, inr, min}
+use Rattle.std.proofs.Common.{◌≡◌, ◌≢◌, ℕ, ◌*◌, ◌/◌, ◌%◌, ◌<◌, ◌≤◌, ◌⊎◌, Option, Some, None, refl, sym, ap, subst, ◌∙◌, arith, inl, inr}
 use Rattle.std.specs.Prelude.{bit_and}
 use Rattle.std.specs.Int.{bit_at}
 use Rattle.std.specs.Int.Bits.{and_zero_l}
 use Rattle.std.proofs.lemmas.Nat.Bits.{and_pow, bit_at_and, bit_at-lt}
 use Rattle.of_layers.specs.declared.field.Field.TheVariants.{VlanVid}
 use Rattle.of_layers.specs.Fields.{row_of, ones_of}
-use Rattle.of_layers.specs.Layers.{cells}
-use Rattle.of_layers.specs.Looking.{look}
-use Rattle.of_layers.specs.Reading.{layers_of}
-use Rattle.of_layers.specs.WellFormed.{AreBytes}
-use Rattle.of_headers.specs.FieldMap.{field_map, vid}
+use Rattle.of_headers.specs.FieldMap.{vid}
 
 zero_or_tagged : (o : Option ℕ) → (vid o ≡ 0) ⊎ (4096 ≤ vid o)
 zero_or_tagged None = inl refl

@@ -1,6 +1,4 @@
-use Rattle.std.proofs.Common.{◌≡◌, ◌∷◌, ◌++◌, []}
 use Rattle.of_table.specs.Tables.{table_at}
-use Rattle.of_check.specs.Search.{Takes}
 use Rattle.of_check.proofs.SearchLemmas.{taken, halved, dropped}
 use Rattle.of_check.specs.Verdicts.{fields_of}
 use Rattle.of_check.proofs.RuleLemmas.{completed_halves}

@@ -1,7 +1,5 @@
-use Rattle.std.proofs.Common.{◌≡◌, sym, ◌∙◌, Some}
+use Rattle.std.proofs.Common.{sym, ◌∙◌}
 use Rattle.of_layers.specs.declared.field.Field.TheVariants.{VlanVid}
-use Rattle.of_headers.specs.FieldMap.{value}
-use Rattle.of_oxm.specs.Masks.{mask_at}
 use Rattle.of_check.proofs.RuleLemmas.{half_tagged}
 use Rattle.of_check.proofs.piece.Piece.is_half_tagged.Goals as goal
 
