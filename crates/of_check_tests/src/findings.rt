@@ -85,9 +85,9 @@ match eth_type 0x86dd
 match ip_proto 0x3a
 match icmpv6_type 0x87
 flow 0 8 0x0000000000000000 0 0 0
+match eth_type 0x0800
 match vlan_vid 0x1005
 match vlan_pcp 0x03
-match eth_type 0x0800
 match ip_proto 0x11
 match udp_dst 0x0035
 flow 0 8 0x0000000000000000 0 0 0
