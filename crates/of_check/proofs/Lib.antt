@@ -5,3 +5,6 @@ pub mod NamingLemmas
 pub mod TryingLemmas
 pub mod FindingLemmas
 pub mod FileLemmas
+pub mod Together
+pub mod Vid
+pub mod RuleLemmas

@@ -1,13 +1,12 @@
 -- How a search goes on.
-use Rattle.std.proofs.Common.{◌≡◌, ℕ, ◌<◌, ◌⊎◌, true, false, List, [], ◌∷◌, ◌++◌, length, Option, Some, None, refl, sym, ap, subst, ◌∙◌, arith, inl, inr}
+use Rattle.std.proofs.Common.{◌≡◌, ℕ, ◌⊎◌, true, List, [], ◌∷◌, ◌++◌, Some, refl, sym, ap, subst, ◌∙◌, arith, inl, inr}
 use Rattle.std.specs.Prelude.{slice_get}
 use Rattle.std.specs.List.{Contains}
 use Rattle.std.proofs.lemmas.List.Elements.{Contains-push, Contains-append_left, Contains-append_right, Contains-push_cases}
-use Rattle.of_layers.specs.declared.field.Field.{Field}
 use Rattle.of_oxm.specs.Relations.{matches_map}
 use Rattle.of_table.specs.Table.{FlowEntry}
 use Rattle.of_check.specs.declared.piece.Piece.{Piece}
-use Rattle.of_check.specs.Verdicts.{Packet, IsPacket, Matches, SomeMatches, NeverWins, GoesBefore, fields_of}
+use Rattle.of_check.specs.Verdicts.{Packet, IsPacket, SomeMatches, NeverWins, GoesBefore, fields_of}
 use Rattle.of_check.specs.Pieces.{In, InSome}
 use Rattle.of_check.specs.Search.{Takes, UnderWay, IsNamed}
 
@@ -25,12 +24,12 @@ finished flows k by u = record {
 }
 
 -- all is left
-pub begun : (flows : List FlowEntry) (k : ℕ) (e : FlowEntry) (piece : Piece) → slice_get flows k ≡ Some e → ((p : Packet) → matches_map e.flow.fields (fields_of p) ≡ true → In piece (fields_of p)) → UnderWay flows k (piece ∷ []) []
+pub begun : (flows : List FlowEntry) (k : ℕ) (e : FlowEntry) (piece : Piece) → slice_get flows k ≡ Some e → ((p : Packet) → IsPacket p → matches_map e.flow.fields (fields_of p) ≡ true → In piece (fields_of p)) → UnderWay flows k (piece ∷ []) []
 begun flows k e piece there all = record {
   before = λ j c. absurd (none_of j c);
   covered = λ p is m.
       let same : m.entry ≡ e = let t = m.there in cc in
-      inl (piece, Contains-push [] piece, all p (ap (λ (x : FlowEntry). matches_map x.flow.fields (fields_of p)) (sym same) ∙ m.matches));
+      inl (piece, Contains-push [] piece, all p is (ap (λ (x : FlowEntry). matches_map x.flow.fields (fields_of p)) (sym same) ∙ m.matches));
 }
 
 first_of : (a b : Piece) → Contains (a ∷ b ∷ []) a
@@ -56,14 +55,27 @@ module _ (flows : List FlowEntry) (k : ℕ) (pieces : List Piece) (piece : Piece
     ];
   }
 
+  -- no packet is in the last piece
+  pub dropped : ((p : Packet) → IsPacket p → ¬ (In piece (fields_of p))) → UnderWay flows k pieces by
+  dropped none = record {
+    before = u.before;
+    covered = λ p is m. elim (u.covered p is m) as (λ x. InSome pieces (fields_of p) ⊎ SomeMatches flows by p) [
+      | inl left ↦ elim (Contains-push_cases pieces piece left.0 left.1) as (λ x. InSome pieces (fields_of p) ⊎ SomeMatches flows by p) [
+        | inl old ↦ inl (left.0, old, left.2)
+        | inr same ↦ absurd (none p is (subst (λ x. In x (fields_of p)) (sym same) left.2))
+      ]
+      | inr other ↦ inr other
+    ];
+  }
+
   -- the last piece is split
-  pub halved : (a b : Piece) → ((map : Field → Option ℕ) → In piece map → In a map ⊎ In b map) → UnderWay flows k (pieces ++ a ∷ b ∷ []) by
+  pub halved : (a b : Piece) → ((p : Packet) → IsPacket p → In piece (fields_of p) → In a (fields_of p) ⊎ In b (fields_of p)) → UnderWay flows k (pieces ++ a ∷ b ∷ []) by
   halved a b halves = record {
     before = u.before;
     covered = λ p is m. elim (u.covered p is m) as (λ x. InSome (pieces ++ a ∷ b ∷ []) (fields_of p) ⊎ SomeMatches flows by p) [
       | inl left ↦ elim (Contains-push_cases pieces piece left.0 left.1) as (λ x. InSome (pieces ++ a ∷ b ∷ []) (fields_of p) ⊎ SomeMatches flows by p) [
         | inl old ↦ inl (left.0, Contains-append_left pieces (a ∷ b ∷ []) left.0 old, left.2)
-        | inr same ↦ elim (halves (fields_of p) (subst (λ x. In x (fields_of p)) (sym same) left.2)) as (λ x. InSome (pieces ++ a ∷ b ∷ []) (fields_of p) ⊎ SomeMatches flows by p) [
+        | inr same ↦ elim (halves p is (subst (λ x. In x (fields_of p)) (sym same) left.2)) as (λ x. InSome (pieces ++ a ∷ b ∷ []) (fields_of p) ⊎ SomeMatches flows by p) [
           | inl first ↦ inl (a, Contains-append_right pieces (a ∷ b ∷ []) a (first_of a b), first)
           | inr second ↦ inl (b, Contains-append_right pieces (a ∷ b ∷ []) b (second_of a b), second)
         ]

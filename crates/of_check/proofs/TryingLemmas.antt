@@ -1,8 +1,7 @@
 -- Frames that are long enough.
-use Rattle.std.proofs.Common.{◌≡◌, ℕ, ◌≤◌, Bool, true, false, cond, ltb, List, length, Option, Some, None, refl}
+use Rattle.std.proofs.Common.{◌≡◌, ℕ, ◌≤◌, Bool, true, false, cond, ltb, List, length, Some, None, refl}
 use Rattle.std.proofs.lemmas.Bool.{ltb-false}
 use Rattle.of_headers.specs.Faults.{frame_fault}
-use Rattle.of_headers.specs.declared.headers.FrameFault.{FrameFault}
 use Rattle.of_headers.specs.declared.headers.FrameFault.TheVariants.{Short, Long}
 
 neither : (long short : Bool) → cond long (Some Long) (cond short (Some Short) None) ≡ None → short ≡ false

@@ -16,6 +16,11 @@ pub record In (piece : Piece) (map : Field → Option ℕ) : Type 0 where
 abbrev pub InSome : List Piece → (Field → Option ℕ) → Type 0
 InSome pieces map = (piece : Piece) × Contains pieces piece × In piece map
 
+-- the packets of a piece lack a field
+abbrev pub is_lacking : Option ℕ → Option ℕ → Bool
+is_lacking (Some mask) None = true
+is_lacking mask bits = false
+
 -- a field of a match agrees with whatever has these bits under this mask
 abbrev pub is_settled : MatchField → Option ℕ → Option ℕ → Bool
 is_settled e (Some mask) (Some bits) = bit_and (bits_looked_at e) mask == bits_looked_at e && bit_and bits (bits_looked_at e) == e.value

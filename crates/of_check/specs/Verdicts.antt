@@ -1,5 +1,5 @@
 -- WHAT IS SAID OF A FLOW ENTRY: a packet with which it wins, or the entries that leave it none (OpenFlow 1.3.5, 5.3).
-use Rattle.std.specs.Prelude.{◌≡◌, ℕ, ◌+◌, ◌^◌, ◌<◌, ◌≤◌, ◌⊎◌, true, List, [], ◌∷◌, length, Some, slice_get}
+use Rattle.std.specs.Prelude.{◌≡◌, ℕ, ◌^◌, ◌<◌, ◌≤◌, ◌⊎◌, true, List, length, Some, slice_get}
 use Rattle.std.specs.List.{Contains}
 use Rattle.of_layers.specs.declared.field.Field.{Field}
 use Rattle.of_layers.specs.Reading.{layers_of}

@@ -1,17 +1,22 @@
 //! What is known of a packet's fields.
-ghost use Rattle.std.specs.Prelude.{◌≡◌, ◌≤◌, ◌⊎◌, ℕ, Option, Some, None, IsSome, ◌<◌, ◌^◌, true, find, not};
+ghost use Rattle.std.specs.Prelude.{◌≡◌, ◌≤◌, ◌⊎◌, ℕ, Option, Some, None, IsSome, is_some, ◌<◌, ◌^◌, true, find, not};
+ghost use Rattle.std.specs.List.{Contains};
 ghost use Rattle.std.specs.Option.{option_copied};
 ghost use Rattle.of_layers.specs.declared.field.Field.{Field as TheField};
 ghost use Rattle.of_layers.specs.Fields.{ones_of};
 ghost use Rattle.of_headers.specs.FieldMap.{seen, value};
 ghost use Rattle.of_oxm.specs.Masks.{mask_at};
 ghost use Rattle.of_oxm.specs.Relations.{bits_looked_at, matches_map};
-ghost use Rattle.of_check.specs.Verdicts.{Packet, fields_of};
-ghost use Rattle.of_check.specs.Pieces.{In, is_apart as apart, is_settled as settled};
+ghost use Rattle.of_check.specs.Verdicts.{IsPacket, Packet, fields_of};
+ghost use Rattle.of_check.specs.Pieces.{In, is_lacking as lacking, is_apart as apart, is_settled as settled};
 
-use of_field_laws::fields_of_every_frame;
+use crate::rules::leads_to;
+use of_field_laws::{fields_of_every_frame, values_within_their_bits};
 use of_headers::{Field, FieldKey};
 use of_oxm::{FieldMask, Match, MatchField, key_of, mask_of, matched_is_seen};
+
+/// The bit of VLAN_VID that says that there is a tag (OpenFlow 1.3.5, 7.2.3.7).
+const PRESENT: u128 = 0x1000;
 
 /// What is known of a packet's fields: of each field that has a mask, whether it is present, and its bits under the mask.
 #[derive(Clone, Copy, Debug)]
@@ -129,9 +134,97 @@ impl Piece {
         Piece { from, ..self }
     }
 
+    // Those that have these fields, where that is not known.
+    fn with_all(self, fields: &[Field]) -> Piece
+        ensures { (map : TheField → Option ℕ) → ((g : TheField) → Contains fields.now g → IsSome (map g)) → In self map → In result map }
+    {
+        let mut piece = self;
+        for field in fields {
+            piece = piece.there(*field);
+        }
+        piece
+    }
+
+    /// Whether the packets have a field.
+    fn has(&self, field: Field) -> bool
+        ensures { result ≡ is_some (value self.now.seen field) }
+    {
+        self.seen.get(field).is_some()
+    }
+
     /// Whether the packets lack a field.
-    pub fn lacks(&self, field: Field) -> bool {
-        self.mask.masks.get(field).is_some() && self.seen.get(field).is_none()
+    pub fn lacks(&self, field: Field) -> bool
+        ensures { result ≡ lacking (mask_at self.now.mask field) (value self.now.seen field) }
+    {
+        self.mask.masks.get(field).is_some() && !self.has(field)
+    }
+
+    // It is known which fields go with this one, if the packets have it.
+    fn completed_at(self, field: Field) -> Piece
+        ensures { (p : Packet) → IsPacket p → In self (fields_of p) → In result (fields_of p) }
+    {
+        if !self.has(field) {
+            return self;
+        }
+        self.with_all(leads_to(field))
+    }
+
+    /// It is known which fields go with those that the packets have.
+    pub fn completed(self) -> Piece
+        ensures { (p : Packet) → IsPacket p → In self (fields_of p) → In result (fields_of p) }
+    {
+        let mut piece = self;
+        for field in &Field::ALL {
+            piece = piece.completed_at(*field);
+        }
+        piece
+    }
+
+    // Whether the packets have a field and lack one that goes with it.
+    fn is_torn_at(&self, field: Field) -> bool
+        ensures { result ≡ true → (p : Packet) → IsPacket p → ¬ (In self.now (fields_of p)) }
+    {
+        if !self.has(field) {
+            return false;
+        }
+        for other in leads_to(field) {
+            if self.lacks(*other) {
+                return true;
+            }
+        }
+        false
+    }
+
+    // Whether the packets have no VLAN tag, and a bit of one.
+    fn is_half_tagged(&self) -> bool
+        ensures { result ≡ true → (p : Packet) → IsPacket p → ¬ (In self.now (fields_of p)) }
+    {
+        values_within_their_bits();
+        let Some(mask) = self.mask.masks.get(Field::VlanVid) else {
+            return false;
+        };
+        let Some(known) = self.seen.get(Field::VlanVid) else {
+            return false;
+        };
+        if mask & PRESENT == 0 {
+            return false;
+        }
+        if known & PRESENT == 0 {
+            return !(known == 0);
+        }
+        false
+    }
+
+    /// Whether it is known that there are no such packets.
+    pub fn is_impossible(&self) -> bool
+        ensures { result ≡ true → (p : Packet) → IsPacket p → ¬ (In self.now (fields_of p)) }
+    {
+        for field in &Field::ALL {
+            if self.is_torn_at(*field) {
+                return true;
+            }
+        }
+        self.is_half_tagged()
     }
 
     // The two halves by one bit of a field.

@@ -42,11 +42,11 @@ fn name(by: &mut Vec<usize>, place: usize) -> Result<(), AllocError>
 }
 
 // Appends two pieces.
-fn push_both(pieces: &mut Vec<Piece>, halves: (Piece, Piece)) -> Result<(), AllocError>
-    ensures { OnOk result (pieces.new.items ≡ pieces.old.items ++ halves.0 ∷ halves.1 ∷ []) }
+fn push_both(pieces: &mut Vec<Piece>, first: Piece, second: Piece) -> Result<(), AllocError>
+    ensures { OnOk result (pieces.new.items ≡ pieces.old.items ++ first ∷ second ∷ []) }
 {
-    pieces.push(halves.0)?;
-    pieces.push(halves.1)?;
+    pieces.push(first)?;
+    pieces.push(second)?;
     Ok(())
 }
 
@@ -56,7 +56,7 @@ impl Search {
         ensures { (flows : List FlowEntry) (k : ℕ) → slice_get flows k ≡ Some (entry_of own.now) → IfOk result (IsSearch flows k) }
     {
         let mut pieces = Vec::new(alloc);
-        pieces.push(Piece::of_match(&own.flow.fields).of_frames())?;
+        pieces.push(Piece::of_match(&own.flow.fields).of_frames().completed())?;
         Ok(Search {
             pieces,
             by: Vec::new(alloc),
@@ -92,13 +92,17 @@ fn step<L: Lookup>(
     ensures left { OnOk result (IsSearch (table_at table switch.now.core.forwarding.tables).flows place search.new) }
     ensures won { IfOk result (λ found. IfSome found (Holds (table_at table switch.now.core.forwarding.tables).flows place)) }
 {
+    if piece.is_impossible() {
+        return Ok(None);
+    }
     match look_at(switch, table, place, own, &piece) {
         Look::Taken(at) => {
             name(&mut search.by, at)?;
             Ok(None)
         }
         Look::Splits(at, e) => {
-            push_both(&mut search.pieces, piece.resumed(at).halves(&e))?;
+            let (first, second) = piece.resumed(at).halves(&e);
+            push_both(&mut search.pieces, first.completed(), second.completed())?;
             Ok(None)
         }
         Look::Free => {

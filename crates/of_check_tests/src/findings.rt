@@ -55,6 +55,26 @@ flow 0 5 0x0000000000000000 0 0 0
 match eth_type 0x0800
 ";
 
+/// A frame with a source address has a destination, which is in one of the halves.
+const SOURCE: &[u8] = b"flow 0 7 0x0000000000000000 0 0 0
+match eth_type 0x0800
+match ipv4_dst 0x00000000 0x80000000
+flow 0 7 0x0000000000000000 0 0 0
+match eth_type 0x0800
+match ipv4_dst 0x80000000 0x80000000
+flow 0 5 0x0000000000000000 0 0 0
+match eth_type 0x0800
+match ipv4_src 0x0a000000 0xff000000
+";
+
+/// A frame has a tag or none.
+const TAGS: &[u8] = b"flow 3 5 0x0000000000000000 0 0 0
+match vlan_vid 0x0000
+flow 3 5 0x0000000000000000 0 0 0
+match vlan_vid 0x1000 0x1000
+flow 3 1 0x0000000000000000 0 0 0
+";
+
 /// No cover: each has packets of its own.
 const APART: &[u8] = b"flow 0 9 0x0000000000000000 0 0 0
 match eth_type 0x0806
@@ -65,9 +85,9 @@ match eth_type 0x86dd
 match ip_proto 0x3a
 match icmpv6_type 0x87
 flow 0 8 0x0000000000000000 0 0 0
+match eth_type 0x0800
 match vlan_vid 0x1005
 match vlan_pcp 0x03
-match eth_type 0x0800
 match ip_proto 0x11
 match udp_dst 0x0035
 flow 0 8 0x0000000000000000 0 0 0
@@ -78,7 +98,7 @@ match tcp_src 0x0050
 flow 0 0 0x0000000000000000 0 0 0
 ";
 
-const WANTED: [(&[u8], &str); 5] = [
+const WANTED: [(&[u8], &str); 7] = [
     (HIGHER, "flow 0 0 never: 0 1\nflow 0 1 wins\n"),
     (
         OLDER,
@@ -89,6 +109,14 @@ const WANTED: [(&[u8], &str); 5] = [
         "flow 0 0 wins\nflow 0 1 wins\nflow 0 2 never: 0 0\nflow 0 3 never: 0 0 0 1\n",
     ),
     (TRUNCATED, "flow 0 0 wins\nflow 0 1 wins\nflow 0 2 wins\n"),
+    (
+        SOURCE,
+        "flow 0 0 wins\nflow 0 1 wins\nflow 0 2 never: 0 0 0 1\n",
+    ),
+    (
+        TAGS,
+        "flow 3 0 wins\nflow 3 1 wins\nflow 3 2 never: 3 0 3 1\n",
+    ),
     (
         APART,
         "flow 0 0 wins\nflow 0 1 wins\nflow 0 2 wins\nflow 0 3 wins\nflow 0 4 wins\n",

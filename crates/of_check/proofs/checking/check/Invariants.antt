@@ -1,4 +1,3 @@
-use Rattle.std.proofs.Common.{◌≡◌}
 use Rattle.of_check.specs.Findings.{AreFindings, entries_below}
 use Rattle.of_check.proofs.checking.check.Given as goal
 

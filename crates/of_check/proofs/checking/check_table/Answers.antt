@@ -1,4 +1,4 @@
-use Rattle.std.proofs.Common.{◌≡◌, ℕ, ◌+◌, ◌≤◌, suc, ◌++◌, ◌∷◌, [], length, arith, rules, refl}
+use Rattle.std.proofs.Common.{◌≡◌, ◌+◌, suc, ◌++◌, ◌∷◌, [], length, arith, rules, refl}
 use Rattle.std.proofs.lemmas.Grind.{common_steps}
 use Rattle.of_table.specs.Tables.{table_at}
 use Rattle.of_check.specs.Findings.{entries_below}

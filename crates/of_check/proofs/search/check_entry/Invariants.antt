@@ -1,6 +1,3 @@
-use Rattle.std.proofs.Common.{◌≡◌, Some}
-use Rattle.std.specs.Prelude.{slice_get}
-use Rattle.of_table.specs.Entries.{entry_of}
 use Rattle.of_table.specs.Tables.{table_at}
 use Rattle.of_check.specs.Search.{IsSearch}
 use Rattle.of_check.proofs.search.check_entry.Given as goal

@@ -6,7 +6,6 @@ use Rattle.of_headers.specs.FieldMap.{value}
 use Rattle.of_table.specs.Table.{winner_place}
 use Rattle.of_table.specs.Tables.{table_at}
 use Rattle.of_headers.specs.Faults.{frame_fault}
-use Rattle.of_check.specs.Verdicts.{fields_of}
 use Rattle.of_check.proofs.TryingLemmas.{long_enough}
 use Rattle.of_check.proofs.trying.wins.Goals as goal
 
