@@ -18,8 +18,8 @@ ROUTER = """flow 0 20 0x0000000000000002 0 0 0
 match eth_type 0x0800
 goto 1
 flow 0 10 0x0000000000000000 0 0 0
-match ipv4_dst 0x0a000000 0xff000000
 match eth_type 0x0800
+match ipv4_dst 0x0a000000 0xff000000
 goto 2
 flow 1 24 0x0000000000000003 5 0 0
 match eth_type 0x0800
