@@ -1,4 +1,4 @@
-//! Laws of the fields of frames, which nothing depends on: which every frame has, and how large their values are.
+//! Laws of the fields of frames: which every frame has, and how large their values are.
 #![tactic(auto)]
 
 ghost use Rattle.std.specs.Prelude.{◌≡◌, ◌≤◌, ◌<◌, ◌^◌, ℕ, List, length, IsSome, Some};
