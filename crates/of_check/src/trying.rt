@@ -7,16 +7,18 @@ use crate::frames::frame_of;
 use crate::piece::Piece;
 use crate::verdict::Verdict;
 use of_classifier::Lookup;
-use of_headers::{Field, read};
+use of_headers::read;
 use of_switch::Switch;
 use std::alloc::{AllocError, Global};
 
-// The ingress port of a packet of the piece: port 1, where any will do.
+// The ingress port of a packet of the piece. 0 is no port of a switch: where it may be another, the lowest bit that is not known is set.
 fn port_of(piece: &Piece) -> u32 {
-    match piece.mask.masks.get(Field::InPort) {
-        None | Some(0) => 1,
-        Some(_) => piece.seen.numbers.in_port,
+    let port = piece.seen.numbers.in_port;
+    if port != 0 {
+        return port;
     }
+    let unknown = !piece.mask.masks.numbers.in_port;
+    unknown & unknown.wrapping_neg()
 }
 
 /// Whether the entry at a place wins the lookup of a frame.
