@@ -209,8 +209,8 @@ fn traced<S: Source, W: Sink>(
     form: Form,
     writer: &mut W,
 ) -> Ended
-    requires { S.reads reader.old ≡ 0 }
-    requires { W.failures writer.old ≡ 0 }
+    requires reads { S.reads reader.old ≡ 0 }
+    requires failures { W.failures writer.old ≡ 0 }
 {
     match kind {
         FileKind::Flows => { trace_file::<Lookups, _, _>(alloc, reader, port, frame, form, writer) }
