@@ -7,7 +7,7 @@ use Rattle.of_replay.specs.declared.event_file.Ended.TheVariants.{Done, BadRow, 
 use Rattle.of_replay.specs.Told.{Answer, given}
 use Rattle.of_replay.specs.Rows.{Rows, rows_of}
 use Rattle.of_replay.specs.Play.{lines_read}
-use Rattle.of_replay.specs.Disassembling.{after, Played}
+use Rattle.of_replay.specs.Disassembling.{Played}
 use Rattle.of_check.specs.Files.{WritesFindings}
 use Rattle.of_check.specs.EventFiles.{tables_after, EndsCheckingAfter, ChecksEvents}
 
