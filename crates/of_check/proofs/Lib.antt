@@ -5,6 +5,7 @@ pub mod NamingLemmas
 pub mod TryingLemmas
 pub mod FindingLemmas
 pub mod FileLemmas
+pub mod EventFileLemmas
 pub mod Together
 pub mod Vid
 pub mod RuleLemmas

@@ -2,6 +2,7 @@
 #![tactic(auto)]
 
 mod checking;
+mod checking_events;
 mod checking_file;
 mod finding;
 mod frames;
@@ -15,6 +16,7 @@ mod trying;
 mod verdict;
 
 pub use checking::{check, some_never};
+pub use checking_events::check_events;
 pub use checking_file::{check_file, write_findings};
 pub use finding::Finding;
 pub use laws::{fields_go_together, never_is_never};

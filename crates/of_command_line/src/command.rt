@@ -1,6 +1,6 @@
 //! The words of the command line.
 
-use clap::{Arg, ArgAction, Command};
+use clap::{Arg, ArgAction, ArgGroup, Command};
 use std::alloc::{AllocError, Global};
 
 const STATUSES: &str =
@@ -52,23 +52,26 @@ and times. Of a file with a bad row nothing is printed.
   ofswitch asm examples/router.flows | ofswitch dis -";
 
 const TRACES: &str =
-    "The switch has ports 1 to 64, whose links are up, and the groups and flows of the text. One line a step:
+    "With --flows the switch has ports 1 to 64, whose links are up, and the groups and flows of the text. With --events it is the one
+that the rows of the event file leave (`ofswitch replay --help`), with its ports and its connection. One line a step:
 
   lookup 0 entry 2                      a table, and the entry that won, by age from 0 (or miss)
   apply, write, clear, metadata, goto   an instruction
   output 2 0                            an action; dec_nw_ttl expired
   set                                   the action set is run
   end                                   the packet's processing ends
-  s 2 HEX                               and then what leaves
+  s 2 HEX                               and then what leaves (and `a HEX` to a controller that is connected)
 
 With --explain notes stand below the lines: below a look-up the entry that won, in the words of flow text, and the fields
 that the table sees; below an action what it changed, why an output sends nothing, and which buckets of a group run. With
 --why all, or --why \"0 100\" for the entries of table 0 that have priority 100, they also say why entries won or lost.
 
-  ofswitch trace --flows examples/router.flows --port 1 0200000000a10200000000010800450000140000000040fd64e30a0000010a010109";
+  ofswitch trace --flows examples/router.flows --port 1 0200000000a10200000000010800450000140000000040fd64e30a0000010a010109
+  ofswitch trace --events examples/failover.events --port 1 02000000000202000000000188b5";
 
 const CHECKS: &str =
-    "The switch has the groups and flows of the text. One line a flow, by table, then by age from 0:
+    "The switch has the groups and flows of the text, or with --events those that the rows of the event file leave. One line a flow,
+by table, then by age from 0:
 
   flow 0 1 wins in_port 1 metadata 0x0000000000000000 HEX    it wins the look-up of this frame, at this port, with this metadata
   flow 0 2 never: 0 0 0 1               it wins none: flows 0 and 1 of table 0 go before it and match all that it matches
@@ -79,7 +82,8 @@ need not be reached: that depends on the tables before it.
 
 Exit status 4 where some flow never wins.
 
-  ofswitch check --flows examples/router.flows";
+  ofswitch check --flows examples/router.flows
+  ofswitch check --events examples/failover.events";
 
 const SERVING: &str =
     "A controller connects over TCP (`--listen`), or the switch connects to it (`--connect`), again whenever the connection
@@ -99,6 +103,9 @@ A turn is an accept, or one read of at most 65,536 bytes that waits at most 10 m
 
 const VERSION: &str = "0.1.0";
 
+// The group of the arguments of which there has to be exactly one.
+const ALTERNATIVES: &str = "alternatives";
+
 // An argument of a subcommand, and what its help says.
 struct Argument {
     name: &'static str,
@@ -112,6 +119,8 @@ enum Kind {
     Positional,
     // Behind this option, which has to be there.
     Required(&'static str),
+    // Behind this option, of which there has to be exactly one; the help calls the value so.
+    Alternative(&'static str, &'static str),
     // Behind this option, where it is there; the help calls the value so.
     Optional(&'static str, &'static str),
     // The same, for an option that the named argument excludes.
@@ -150,16 +159,21 @@ const DISASSEMBLE: [Argument; 1] = [Argument {
     help: "The event file to run; - is standard input",
 }];
 
-const TRACE: [Argument; 5] = [
+const TRACE: [Argument; 6] = [
     Argument {
-        name: "FILE",
-        kind: Kind::Required("flows"),
+        name: "flows",
+        kind: Kind::Alternative("flows", "FILE"),
         help: "The flow text with the switch's flows; - is standard input",
+    },
+    Argument {
+        name: "events",
+        kind: Kind::Alternative("events", "FILE"),
+        help: "The event file that leads to the switch; - is standard input",
     },
     Argument {
         name: "N",
         kind: Kind::Required("port"),
-        help: "The port at which the frame is received, 1 to 64",
+        help: "The port at which the frame is received; with --flows 1 to 64",
     },
     Argument {
         name: "HEX",
@@ -178,11 +192,16 @@ const TRACE: [Argument; 5] = [
     },
 ];
 
-const CHECK: [Argument; 2] = [
+const CHECK: [Argument; 3] = [
     Argument {
-        name: "FILE",
-        kind: Kind::Required("flows"),
+        name: "flows",
+        kind: Kind::Alternative("flows", "FILE"),
         help: "The flow text to check; - is standard input",
+    },
+    Argument {
+        name: "events",
+        kind: Kind::Alternative("events", "FILE"),
+        help: "The event file that leads to the flows to check; - is standard input",
     },
     Argument {
         name: "steps",
@@ -253,13 +272,13 @@ const SUBCOMMANDS: [Subcommand; 6] = [
     },
     Subcommand {
         name: "trace",
-        about: "Prints, step by step, what a frame does on a switch with the flows of a flow text",
+        about: "Prints, step by step, what a frame does on the switch of a flow text or an event file",
         text: TRACES,
         arguments: &TRACE,
     },
     Subcommand {
         name: "check",
-        about: "Says of each flow of a flow text whether it can win, or never does",
+        about: "Says of each flow of a flow text or an event file whether it can win, or never does",
         text: CHECKS,
         arguments: &CHECK,
     },
@@ -289,10 +308,20 @@ fn subcommand_of<'a>(alloc: Global, row: &Subcommand) -> Result<Command<'a>, All
     let mut command = Command::new(alloc, row.name)
         .about(row.about)
         .after_help(row.text);
+    let mut alternatives = ArgGroup::new(alloc, ALTERNATIVES).required(true);
+    let mut some = false;
     for it in row.arguments {
+        if let Kind::Alternative(_, _) = it.kind {
+            alternatives = alternatives.arg(it.name)?;
+            some = true;
+        }
         command = command.arg(argument_of(alloc, it)?)?;
     }
-    Ok(command)
+    if some {
+        command.group(alternatives)
+    } else {
+        Ok(command)
+    }
 }
 
 fn argument_of<'a>(alloc: Global, argument: &Argument) -> Result<Arg<'a>, AllocError> {
@@ -300,7 +329,9 @@ fn argument_of<'a>(alloc: Global, argument: &Argument) -> Result<Arg<'a>, AllocE
     match argument.kind {
         Kind::Positional => Ok(named.required(true)),
         Kind::Required(option) => Ok(named.long(option).required(true)),
-        Kind::Optional(option, value) => Ok(named.long(option).value_name(value)),
+        Kind::Alternative(option, value) | Kind::Optional(option, value) => Ok(
+            named.long(option).value_name(value),
+        ),
         Kind::Excluded(option, value, other) => {
             named.long(option).value_name(value).conflicts_with(other)
         },

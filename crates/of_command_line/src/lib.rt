@@ -13,8 +13,11 @@ use std::alloc::{AllocError, Global};
 use std::net::SocketAddr;
 use std::str::FromStr;
 
-/// A switch on which frames are traced has the ports 1 to this one.
+/// A switch that has the flows of a flow text has the ports 1 to this one.
 const LAST_PORT: u32 = 64;
+
+/// The highest number that a port can have, OFPP_MAX (OpenFlow 1.3.5, 7.2.1).
+const MAX_PORT: u32 = 0xffff_ff00;
 
 /// How many flow tables there are.
 const TABLES: u8 = 16;
@@ -47,10 +50,11 @@ pub enum Request {
     Disassemble {
         file: String,
     },
-    /// To print the trace of a frame that is received at a port of a switch with the flows of a flow text; `-` is standard input.
+    /// To print the trace of a frame that is received at a port of the switch of a file; `-` is standard input.
     Trace {
         file: String,
-        /// 1 to 64.
+        kind: FileKind,
+        /// 1 to 64 where the file is a flow text, else 1 to 0xffffff00.
         port: u32,
         frame: Vec<u8>,
         /// Whether its lines have notes.
@@ -58,14 +62,24 @@ pub enum Request {
         /// Of which entries it says why they won or did not.
         why: Option<Asked>,
     },
-    /// To print which flows of a flow text can win, and which never do; `-` is standard input.
+    /// To print which flows of the switch of a file can win, and which never do; `-` is standard input.
     Check {
         file: String,
+        kind: FileKind,
         /// After how many of them a flow is given up.
         steps: u32,
     },
     /// To serve controllers.
     Serve(Serve),
+}
+
+/// Of which kind the file of a switch is.
+#[derive(Clone, Copy, Debug, PartialEq, Eq)]
+pub enum FileKind {
+    /// A flow text: the switch has its groups and flows.
+    Flows,
+    /// An event file: the switch is the one that its rows leave.
+    Events,
 }
 
 /// Entries of which a trace says why they won or did not.
@@ -134,24 +148,24 @@ fn request_of(alloc: Global, matches: &ArgMatches<'_>) -> Result<Request, NoRequ
             explain: false,
         });
     };
-    if name == "serve" {
-        return Ok(Request::Serve(serve_of(alloc, matches)?));
+    match name {
+        "serve" => Ok(Request::Serve(serve_of(alloc, matches)?)),
+        "trace" => trace_of(alloc, matches),
+        "check" => check_of(alloc, matches),
+        _ => file_request_of(alloc, name, matches),
     }
+}
+
+// The requests of one file by its place.
+fn file_request_of(
+    alloc: Global,
+    name: &str,
+    matches: &ArgMatches<'_>,
+) -> Result<Request, NoRequest> {
     let file = matches.get_str("FILE").unwrap_or("-").to_string(alloc)?;
     match name {
         "asm" => Ok(Request::Assemble { file }),
         "dis" => Ok(Request::Disassemble { file }),
-        "check" => Ok(Request::Check {
-            file,
-            steps: steps_of(alloc, matches.get_str("steps"))?,
-        }),
-        "trace" => Ok(Request::Trace {
-            file,
-            port: port_of(alloc, matches.get_str("N").unwrap_or(""))?,
-            frame: frame_of(alloc, matches.get_str("HEX").unwrap_or(""))?,
-            explain: matches.get_flag("explain"),
-            why: why_of(alloc, matches.get_str("why"))?,
-        }),
         _ => Ok(Request::Replay {
             file,
             dpid: dpid_of(alloc, matches.get_str("dpid"))?,
@@ -160,11 +174,52 @@ fn request_of(alloc: Global, matches: &ArgMatches<'_>) -> Result<Request, NoRequ
     }
 }
 
+fn trace_of(alloc: Global, matches: &ArgMatches<'_>) -> Result<Request, NoRequest> {
+    let (file, kind) = switch_file_of(alloc, matches)?;
+    Ok(Request::Trace {
+        file,
+        kind,
+        port: port_of(alloc, kind, matches.get_str("N").unwrap_or(""))?,
+        frame: frame_of(alloc, matches.get_str("HEX").unwrap_or(""))?,
+        explain: matches.get_flag("explain"),
+        why: why_of(alloc, matches.get_str("why"))?,
+    })
+}
+
+fn check_of(alloc: Global, matches: &ArgMatches<'_>) -> Result<Request, NoRequest> {
+    let (file, kind) = switch_file_of(alloc, matches)?;
+    Ok(Request::Check {
+        file,
+        kind,
+        steps: steps_of(alloc, matches.get_str("steps"))?,
+    })
+}
+
+// The file of a switch, and its kind: one of the two options is there.
+fn switch_file_of(
+    alloc: Global,
+    matches: &ArgMatches<'_>,
+) -> Result<(String, FileKind), AllocError> {
+    match matches.get_str("events") {
+        Some(file) => Ok((file.to_string(alloc)?, FileKind::Events)),
+        None => {
+            let file = matches.get_str("flows").unwrap_or("-");
+            Ok((file.to_string(alloc)?, FileKind::Flows))
+        }
+    }
+}
+
 // The number of a port that frames are traced from.
-fn port_of(alloc: Global, word: &str) -> Result<u32, NoRequest> {
+fn port_of(alloc: Global, kind: FileKind, word: &str) -> Result<u32, NoRequest> {
+    let last = match kind {
+        FileKind::Flows => LAST_PORT,
+        FileKind::Events => MAX_PORT,
+    };
     match u32::from_str_radix(word, 10) {
-        Ok(port) if port >= 1 && port <= LAST_PORT => Ok(port),
-        _ => Err(refused(alloc, "bad port: it is a number from 1 to 64\n")?),
+        Ok(port) if port >= 1 && port <= last => Ok(port),
+        _ => Err(NoRequest::Refused(format!(in alloc;
+            "bad port: it is a number from 1 to {last}\n"
+        )?)),
     }
 }
 

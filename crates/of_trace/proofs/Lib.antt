@@ -6,4 +6,5 @@ pub mod FieldLemmas
 pub mod SightLemmas
 pub mod NotingLemmas
 pub mod FileLemmas
+pub mod EventFileLemmas
 pub mod NoteLemmas

@@ -30,9 +30,12 @@ ports_up (suc n) = ports_up n ++ port_up (suc n) ∷ []
 abbrev pub traced_switch : Configuration → State
 traced_switch config = loaded config (run (ports_up 64) (start 1)).state
 
--- the text of the trace, in one of its forms
+-- the text of the trace on a switch, in one of its forms
+abbrev pub trace_on : Form → ℕ → List ℕ → State → List ℕ
+trace_on form port frame s = said form s.core.forwarding port frame (steps_in port frame s.core.forwarding) (frame_in port frame s).effects
+
 abbrev pub trace_of : Form → ℕ → List ℕ → Configuration → List ℕ
-trace_of form port frame config = let s = traced_switch config in said form s.core.forwarding port frame (steps_in port frame s.core.forwarding) (frame_in port frame s).effects
+trace_of form port frame config = trace_on form port frame (traced_switch config)
 
 -- how such a run ends, by the bytes that were read: the trace was written, a prefix of it, or nothing
 abbrev pub EndsTracing : Form → ℕ → List ℕ → Ended → Bool → List ℕ → Option (List ℕ) → Option (List ℕ) → Type 0

@@ -5,4 +5,5 @@ pub mod Writing
 pub mod Sights
 pub mod Notes
 pub mod Files
+pub mod EventFiles
 pub mod OnlyNotes

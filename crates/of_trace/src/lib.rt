@@ -15,6 +15,7 @@ mod sending;
 mod sight;
 mod traces;
 mod tracing;
+mod tracing_events;
 mod tracing_file;
 mod writing;
 
@@ -27,5 +28,6 @@ pub use reason::Reason;
 pub use sight::Sight;
 pub use traces::Trace;
 pub use tracing::trace;
+pub use tracing_events::trace_events;
 pub use tracing_file::trace_file;
 pub use writing::write_trace;

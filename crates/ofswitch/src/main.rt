@@ -1,6 +1,8 @@
 //! `ofswitch`: an OpenFlow 1.3 switch on the command line.
 #![tactic(auto)]
 
+ghost use Rattle.std.specs.Prelude.{◌≡◌};
+
 mod hinting;
 mod lookups;
 mod refusals;
@@ -9,15 +11,16 @@ mod sockets;
 
 use crate::lookups::Lookups;
 use hinting::say_hint;
-use of_check::check_file;
-use of_command_line::{Asked, NoRequest, Request, Serve, read_request};
+use of_check::{check_events, check_file};
+use of_command_line::{Asked, FileKind, NoRequest, Request, Serve, read_request};
 use of_explain::explain;
 use of_replay::streams::{ReaderSource, WriterSink};
-use of_replay::{Ended, asm, dis, replay, status};
+use of_replay::{Ended, Sink, Source, asm, dis, replay, status};
 use of_serve::read_rows;
 use of_text::TextFault;
-use of_trace::{Form, trace_file};
+use of_trace::{Form, trace_events, trace_file};
 use serving::serve_rows;
+use std::alloc::Global;
 use std::fs::File;
 use std::io::{self, Read};
 use std::process::ExitCode;
@@ -68,7 +71,9 @@ fn carry_out(rt: &HostRuntime, request: &Request) -> ExitCode {
         | Request::Assemble { file }
         | Request::Disassemble { file }
         | Request::Trace { file, .. } => run_file(rt, request, file.as_str()),
-        Request::Check { file, steps } => run_check(rt, file.as_str(), *steps as usize),
+        Request::Check { file, kind, steps } => {
+            run_check(rt, file.as_str(), *kind, *steps as usize)
+        }
         Request::Serve(asked) => serve_file(rt, asked),
     }
 }
@@ -83,12 +88,12 @@ fn run_file(rt: &HostRuntime, request: &Request, path: &str) -> ExitCode {
     }
 }
 
-fn run_check(rt: &HostRuntime, path: &str, steps: usize) -> ExitCode {
+fn run_check(rt: &HostRuntime, path: &str, kind: FileKind, steps: usize) -> ExitCode {
     let found = if path == "-" {
-        checked(rt, steps, rt.stdin())
+        checked(rt, kind, steps, rt.stdin())
     } else {
         match File::open(rt, path) {
-            Ok(file) => checked(rt, steps, file),
+            Ok(file) => checked(rt, kind, steps, file),
             Err(error) => return end_unopened(rt, path, &error),
         }
     };
@@ -100,10 +105,22 @@ fn run_check(rt: &HostRuntime, path: &str, steps: usize) -> ExitCode {
 }
 
 // Whether some flow never wins.
-fn checked<R: Read + Drop>(rt: &HostRuntime, steps: usize, reader: R) -> Result<bool, Ended> {
+fn checked<R: Read + Drop>(
+    rt: &HostRuntime,
+    kind: FileKind,
+    steps: usize,
+    reader: R,
+) -> Result<bool, Ended> {
     let mut reader = ReaderSource::new(reader);
     let mut writer = WriterSink::new(rt.stdout());
-    check_file::<Lookups, _, _>(rt.alloc(), &mut reader, steps, &mut writer)
+    match kind {
+        FileKind::Flows => {
+            check_file::<Lookups, _, _>(rt.alloc(), &mut reader, steps, &mut writer)
+        }
+        FileKind::Events => {
+            check_events::<Lookups, _, _>(rt.alloc(), &mut reader, steps, &mut writer)
+        }
+    }
 }
 
 // The event file is read before anybody can connect.
@@ -161,6 +178,7 @@ fn run<R: Read + Drop>(rt: &HostRuntime, request: &Request, reader: R) -> Ended 
             dis::<Lookups, _, _>(rt.alloc(), &mut reader, &mut writer)
         }
         Request::Trace {
+            kind,
             port,
             frame,
             explain,
@@ -168,9 +186,37 @@ fn run<R: Read + Drop>(rt: &HostRuntime, request: &Request, reader: R) -> Ended 
             ..
         } => {
             let form = form_of(*explain, *why);
-            trace_file::<Lookups, _, _>(rt.alloc(), &mut reader, *port, frame, form, &mut writer)
+            traced(
+                rt.alloc(),
+                *kind,
+                &mut reader,
+                *port,
+                frame,
+                form,
+                &mut writer,
+            )
         }
         Request::Check { .. } | Request::Serve(_) => Ended::Done,
+    }
+}
+
+fn traced<S: Source, W: Sink>(
+    alloc: Global,
+    kind: FileKind,
+    reader: &mut S,
+    port: u32,
+    frame: &[u8],
+    form: Form,
+    writer: &mut W,
+) -> Ended
+    requires reads { S.reads reader.old ≡ 0 }
+    requires failures { W.failures writer.old ≡ 0 }
+{
+    match kind {
+        FileKind::Flows => { trace_file::<Lookups, _, _>(alloc, reader, port, frame, form, writer) }
+        FileKind::Events => {
+            trace_events::<Lookups, _, _>(alloc, reader, port, frame, form, writer)
+        }
     }
 }
 

@@ -1,0 +1,18 @@
+use Rattle.of_trace.proofs.FileLemmas.{write_faults}
+use Rattle.of_trace.proofs.EventFileLemmas.{unplayed, played}
+use Rattle.of_trace.proofs.tracing_events.trace_events.Goals as goal
+
+pub returns-in-Err-clause-output : goal.returns-in-Err-clause-output
+returns-in-Err-clause-output g c =
+    unplayed c.args.form c.args.port c.args.frame.now c.in-Err.ended (g.S.Source.answers c.args.reader.now) (g.S.Source.answers c.read_switch.new.reader) (g.S.Source.ends c.args.reader.now) (g.S.Source.ends c.read_switch.new.reader)
+    (g.W.Sink.taken c.args.writer.now) c.in-Err.ensures.played
+
+pub returns-in-Ok-clause-output : goal.returns-in-Ok-clause-output
+returns-in-Ok-clause-output g c =
+    played c.args.form c.args.port c.args.frame.now c.in-Ok.switch c.write_trace.result (g.S.Source.answers c.args.reader.now) (g.S.Source.answers c.read_switch.new.reader) (g.S.Source.ends c.args.reader.now) (g.S.Source.ends c.read_switch.new.reader)
+    (g.W.Sink.taken c.args.writer.now) (g.W.Sink.taken c.write_trace.new.writer) c.in-Ok.ensures.played c.write_trace.ensures.output
+
+pub returns-in-Ok-clause-faults : goal.returns-in-Ok-clause-faults
+returns-in-Ok-clause-faults g c =
+    write_faults _ c.write_trace.result (g.W.Sink.taken c.args.writer.now) (g.W.Sink.taken c.write_trace.new.writer) (g.S.Source.reads c.read_switch.new.reader) (g.S.Source.ends c.args.reader.now) (g.S.Source.ends c.read_switch.new.reader)
+    (g.S.Source.failures c.args.reader.now) (g.S.Source.failures c.read_switch.new.reader) (g.W.Sink.failures c.write_trace.new.writer) c.in-Ok.ensures.faults c.write_trace.ensures.output c.write_trace.ensures.write_fault
