@@ -24,7 +24,9 @@ def run(asked: argparse.Namespace) -> int:
     configuration = flow_text.read(text)
     walk = trace_text.Walk()
     if asked.frame is not None:
-        words = [program, "trace", "--flows", "-", "--port", str(asked.port), asked.frame, "--explain"]
+        # after an event file the frame meets the switch's own ports; a flow text gets ports 1 to 64
+        kind = ["--flows", "-"] if asked.events is None else ["--events", asked.events]
+        words = [program, "trace", *kind, "--port", str(asked.port), asked.frame, "--explain"]
         walk = trace_text.read(run_to_end(words, text.encode(), _TIMEOUT), configuration)
     graph = draw(configuration, never_winning(program, text), walk)
     if asked.svg is None:
