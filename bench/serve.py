@@ -23,6 +23,8 @@ STREAM = 50_000
 MODIFIES = 2_000
 TABLES = 16
 PER_TABLE = 4_096
+# how many rows the cache of a table has at most
+ROWS = 1_024
 
 ECHO = r"""
 #include <arpa/inet.h>
@@ -116,6 +118,21 @@ def stream(peer):
     return STREAM / timed(lambda: (peer.stream.sendall(mods), peer.barrier(11)))
 
 
+def packet_out(xid, n):
+    """A frame for the flow of that number, which goes through the tables (OFPP_TABLE)."""
+    frame = n.to_bytes(6, "big") + bytes.fromhex("02000000000188b5") + bytes(46)
+    action = struct.pack(">HHIH6x", 0, 16, 0xFFFFFFF9, 0)
+    return message(13, xid, struct.pack(">IIH6x", 0xFFFFFFFF, 1, len(action)) + action + frame)
+
+
+def cached_stream(peer):
+    """The same stream into table 0 alone, whose cache is full of rows: each frame before it made one."""
+    peer.stream.sendall(b"".join(packet_out(14, n) for n in range(2 * ROWS)))
+    peer.barrier(15)
+    mods = b"".join(flow_mod(9, 0, 0, n % PER_TABLE, 1 + n % 4) for n in range(STREAM))
+    return STREAM / timed(lambda: (peer.stream.sendall(mods), peer.barrier(16)))
+
+
 def modifies(peer):
     def work():
         for n in range(MODIFIES):
@@ -196,7 +213,7 @@ def switch_figures(start):
     with tempfile.TemporaryDirectory() as name, start(pathlib.Path(name)) as port:
         peer = Peer(port)
         figures = [("barrier round trips/s", barriers(peer)), ("FLOW_MODs/s in one stream", stream(peer))]
-        figures += [("MODIFY and barrier, one by one/s", modifies(peer)), ("dump of 3,125 flows, ms", min(dump(peer) for _ in range(5)))]
+        figures += [("MODIFY and barrier, one by one/s", modifies(peer)), ("dump of 3,125 flows, ms", min(dump(peer) for _ in range(5))), ("FLOW_MODs/s, one table, full cache", cached_stream(peer))]
         peer.stream.close()
         return figures
 
