@@ -113,7 +113,7 @@ fn has(
     says(rt, alloc, what, &key, wanted.as_str())
 }
 
-fn kept(frame: &Frame) -> Kept {
+fn known_of(frame: &Frame) -> Kept {
     match frame.known() {
         Known::Nothing => Kept::Nothing,
         Known::Places(_) => Kept::Places,
@@ -125,7 +125,7 @@ fn kept(frame: &Frame) -> Kept {
 fn shows(rt: &impl Abort, frame: &Frame, what: &str, step: &Step) {
     match step {
         Step::Lends(field, wanted) => assert!(rt; frame.lends(*field) == *wanted, "{what}"),
-        Step::Knows(wanted) => assert!(rt; kept(frame) == *wanted, "{what}"),
+        Step::Knows(wanted) => assert!(rt; known_of(frame) == *wanted, "{what}"),
         Step::Length(wanted) => same_number(rt, what, frame.len(), *wanted),
         Step::Is(wanted) => same_bytes(rt, what, frame.bytes(), wanted),
         Step::Begins(wanted) => assert!(rt; frame.bytes().starts_with(wanted), "{what}"),
