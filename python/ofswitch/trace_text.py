@@ -99,8 +99,8 @@ def read(text: str, configuration: Configuration) -> Walk:
                 buckets = [int(note[1]) for note in step.notes if note[0] == "bucket"]
                 packets += [Packet(copies + 1 + i, [], (int(group), bucket)) for i, bucket in reversed(list(enumerate(buckets)))]
                 copies += len(buckets)
-            case ("end",) | ("dec_nw_ttl", "expired"):
-                _end(packets, step)
+            case ("end",):
+                packets.pop()
     return walk
 
 
@@ -112,12 +112,6 @@ def _look_up(walk: Walk, packet: Packet, step: Step, configuration: Configuratio
     flow = configuration.flows_of(table)[int(found[1])]
     walk.hits.add((flow.table, flow.place))
     packet.hits.append(flow)
-
-
-def _end(packets: list[Packet], step: Step) -> None:
-    # an expired TTL is followed by the end of that packet's path, which is a line of its own
-    if step.words == ("end",):
-        packets.pop()
 
 
 def _flow_way(packet: Packet, by: str) -> FromFlow | FromBucket:
