@@ -53,7 +53,8 @@ and times. Of a file with a bad row nothing is printed.
 
 const TRACES: &str =
     "With --flows the switch has ports 1 to 64, whose links are up, and the groups and flows of the text. With --events it is the one
-that the rows of the event file leave (`ofswitch replay --help`), with its ports and its connection. One line a step:
+that the rows of the event file leave (`ofswitch replay --help`), with its ports and its connection; with --at ROW the one before
+that line. One line a step:
 
   lookup 0 entry 2                      a table, and the entry that won, by age from 0 (or miss)
   apply, write, clear, metadata, goto   an instruction
@@ -67,7 +68,7 @@ that the table sees; below an action what it changed, why an output sends nothin
 --why all, or --why \"0 100\" for the entries of table 0 that have priority 100, they also say why entries won or lost.
 
   ofswitch trace --flows examples/router.flows --port 1 0200000000a10200000000010800450000140000000040fd64e30a0000010a010109
-  ofswitch trace --events examples/failover.events --port 1 02000000000202000000000188b5";
+  ofswitch trace --events examples/failover.events --at 14 --port 1 02000000000202000000000188b5";
 
 const CHECKS: &str =
     "The switch has the groups and flows of the text, or with --events those that the rows of the event file leave. One line a flow,
@@ -159,7 +160,7 @@ const DISASSEMBLE: [Argument; 1] = [Argument {
     help: "The event file to run; - is standard input",
 }];
 
-const TRACE: [Argument; 6] = [
+const TRACE: [Argument; 7] = [
     Argument {
         name: "flows",
         kind: Kind::Alternative("flows", "FILE"),
@@ -169,6 +170,11 @@ const TRACE: [Argument; 6] = [
         name: "events",
         kind: Kind::Alternative("events", "FILE"),
         help: "The event file that leads to the switch; - is standard input",
+    },
+    Argument {
+        name: "at",
+        kind: Kind::Excluded("at", "ROW", "flows"),
+        help: "Plays the event file only up to this line, which is not played (by default all of it)",
     },
     Argument {
         name: "N",

@@ -51,17 +51,7 @@ pub enum Request {
         file: String,
     },
     /// To print the trace of a frame that is received at a port of the switch of a file; `-` is standard input.
-    Trace {
-        file: String,
-        kind: FileKind,
-        /// 1 to 64 where the file is a flow text, else 1 to 0xffffff00.
-        port: u32,
-        frame: Vec<u8>,
-        /// Whether its lines have notes.
-        explain: bool,
-        /// Of which entries it says why they won or did not.
-        why: Option<Asked>,
-    },
+    Trace(Trace),
     /// To print which flows of the switch of a file can win, and which never do; `-` is standard input.
     Check {
         file: String,
@@ -71,6 +61,22 @@ pub enum Request {
     },
     /// To serve controllers.
     Serve(Serve),
+}
+
+/// Which frame is traced, and how.
+#[derive(Debug, PartialEq, Eq, Drop)]
+pub struct Trace {
+    pub file: String,
+    pub kind: FileKind,
+    /// The line of an event file, from 1, before which the switch is taken; else it is the one after all lines.
+    pub at: Option<u32>,
+    /// 1 to 64 where the file is a flow text, else 1 to 0xffffff00.
+    pub port: u32,
+    pub frame: Vec<u8>,
+    /// Whether its lines have notes.
+    pub explain: bool,
+    /// Of which entries it says why they won or did not.
+    pub why: Option<Asked>,
 }
 
 /// Of which kind the file of a switch is.
@@ -150,7 +156,7 @@ fn request_of(alloc: Global, matches: &ArgMatches<'_>) -> Result<Request, NoRequ
     };
     match name {
         "serve" => Ok(Request::Serve(serve_of(alloc, matches)?)),
-        "trace" => trace_of(alloc, matches),
+        "trace" => Ok(Request::Trace(trace_of(alloc, matches)?)),
         "check" => check_of(alloc, matches),
         _ => file_request_of(alloc, name, matches),
     }
@@ -174,11 +180,12 @@ fn file_request_of(
     }
 }
 
-fn trace_of(alloc: Global, matches: &ArgMatches<'_>) -> Result<Request, NoRequest> {
+fn trace_of(alloc: Global, matches: &ArgMatches<'_>) -> Result<Trace, NoRequest> {
     let (file, kind) = switch_file_of(alloc, matches)?;
-    Ok(Request::Trace {
+    Ok(Trace {
         file,
         kind,
+        at: row_of(alloc, matches.get_str("at"))?,
         port: port_of(alloc, kind, matches.get_str("N").unwrap_or(""))?,
         frame: frame_of(alloc, matches.get_str("HEX").unwrap_or(""))?,
         explain: matches.get_flag("explain"),
@@ -206,6 +213,17 @@ fn switch_file_of(
             let file = matches.get_str("flows").unwrap_or("-");
             Ok((file.to_string(alloc)?, FileKind::Flows))
         }
+    }
+}
+
+// The number of a line.
+fn row_of(alloc: Global, word: Option<&str>) -> Result<Option<u32>, NoRequest> {
+    let Some(word) = word else {
+        return Ok(None);
+    };
+    match u32::from_str_radix(word, 10) {
+        Ok(row) if row >= 1 => Ok(Some(row)),
+        _ => Err(refused(alloc, "bad row: it is the number of a line, from 1\n")?),
     }
 }
 

@@ -8,3 +8,4 @@ pub mod NotingLemmas
 pub mod FileLemmas
 pub mod EventFileLemmas
 pub mod NoteLemmas
+pub mod LineLemmas

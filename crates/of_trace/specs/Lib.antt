@@ -7,3 +7,4 @@ pub mod Notes
 pub mod Files
 pub mod EventFiles
 pub mod OnlyNotes
+pub mod FirstLines

@@ -3,6 +3,7 @@
 
 mod explaining;
 mod fields;
+mod first_lines;
 mod form;
 mod laws;
 mod notes;
@@ -20,6 +21,7 @@ mod tracing_file;
 mod writing;
 
 pub use explaining::why;
+pub use first_lines::FirstLines;
 pub use form::{Asked, Form};
 pub use laws::{notes_only_add, steps_tell_packets};
 pub use noting::explain;

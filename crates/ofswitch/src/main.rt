@@ -12,13 +12,13 @@ mod sockets;
 use crate::lookups::Lookups;
 use hinting::say_hint;
 use of_check::{check_events, check_file};
-use of_command_line::{Asked, FileKind, NoRequest, Request, Serve, read_request};
+use of_command_line::{Asked, FileKind, NoRequest, Request, Serve, Trace, read_request};
 use of_explain::explain;
 use of_replay::streams::{ReaderSource, WriterSink};
-use of_replay::{Ended, Sink, Source, asm, dis, replay, status};
+use of_replay::{Ended, Source, asm, dis, replay, status};
 use of_serve::read_rows;
 use of_text::TextFault;
-use of_trace::{Form, trace_events, trace_file};
+use of_trace::{FirstLines, Form, trace_events, trace_file};
 use serving::serve_rows;
 use std::alloc::Global;
 use std::fs::File;
@@ -70,7 +70,7 @@ fn carry_out(rt: &HostRuntime, request: &Request) -> ExitCode {
         Request::Replay { file, .. }
         | Request::Assemble { file }
         | Request::Disassemble { file }
-        | Request::Trace { file, .. } => run_file(rt, request, file.as_str()),
+        | Request::Trace(Trace { file, .. }) => run_file(rt, request, file.as_str()),
         Request::Check { file, kind, steps } => {
             run_check(rt, file.as_str(), *kind, *steps as usize)
         }
@@ -162,6 +162,9 @@ fn end_unopened(rt: &HostRuntime, path: &str, error: &io::Error) -> ExitCode {
 }
 
 fn run<R: Read + Drop>(rt: &HostRuntime, request: &Request, reader: R) -> Ended {
+    if let Request::Trace(asked) = request {
+        return run_trace(rt, asked, reader);
+    }
     let mut reader = ReaderSource::new(reader);
     let mut writer = WriterSink::new(rt.stdout());
     match request {
@@ -177,45 +180,33 @@ fn run<R: Read + Drop>(rt: &HostRuntime, request: &Request, reader: R) -> Ended 
         Request::Disassemble { .. } => {
             dis::<Lookups, _, _>(rt.alloc(), &mut reader, &mut writer)
         }
-        Request::Trace {
-            kind,
-            port,
-            frame,
-            explain,
-            why,
-            ..
-        } => {
-            let form = form_of(*explain, *why);
-            traced(
-                rt.alloc(),
-                *kind,
-                &mut reader,
-                *port,
-                frame,
-                form,
-                &mut writer,
-            )
-        }
-        Request::Check { .. } | Request::Serve(_) => Ended::Done,
+        Request::Trace(_) | Request::Check { .. } | Request::Serve(_) => Ended::Done,
     }
 }
 
-fn traced<S: Source, W: Sink>(
-    alloc: Global,
-    kind: FileKind,
-    reader: &mut S,
-    port: u32,
-    frame: &[u8],
-    form: Form,
-    writer: &mut W,
-) -> Ended
+// The switch before a line is the one that the lines before it leave.
+fn run_trace<R: Read + Drop>(rt: &HostRuntime, asked: &Trace, reader: R) -> Ended {
+    match asked.at {
+        Some(row) => {
+            let lines = FirstLines::new(reader, u64::from(row).saturating_sub(1));
+            traced(rt, asked, &mut ReaderSource::new(lines))
+        }
+        None => traced(rt, asked, &mut ReaderSource::new(reader)),
+    }
+}
+
+fn traced<S: Source>(rt: &HostRuntime, asked: &Trace, reader: &mut S) -> Ended
     requires reads { S.reads reader.old ≡ 0 }
-    requires failures { W.failures writer.old ≡ 0 }
 {
-    match kind {
-        FileKind::Flows => { trace_file::<Lookups, _, _>(alloc, reader, port, frame, form, writer) }
+    let form = form_of(asked.explain, asked.why);
+    let (alloc, port, frame) = (rt.alloc(), asked.port, asked.frame.as_slice());
+    let mut writer = WriterSink::new(rt.stdout());
+    match asked.kind {
+        FileKind::Flows => {
+            trace_file::<Lookups, _, _>(alloc, reader, port, frame, form, &mut writer)
+        }
         FileKind::Events => {
-            trace_events::<Lookups, _, _>(alloc, reader, port, frame, form, writer)
+            trace_events::<Lookups, _, _>(alloc, reader, port, frame, form, &mut writer)
         }
     }
 }
