@@ -44,7 +44,7 @@ fn take<L: Lookup>(lookup: &mut L, fields: &Match, priority: u16) {
     }
 }
 
-/// Asserts that the rows look at the ingress port alone, and are of these ports, in this order.
+// Asserts that rows look at the ingress port alone, and are of these ports, in this order.
 fn are_of_ports(rt: &impl Abort, rows: &[Row], ports: &[u32], answers: &[Option<usize>]) {
     assert_eq!(rt; rows.len(), ports.len());
     for (row, port) in rows.iter().zip(ports) {
@@ -57,123 +57,154 @@ fn are_of_ports(rt: &impl Abort, rows: &[Row], ports: &[u32], answers: &[Option<
     }
 }
 
-fn no_entries(rt: &impl Abort, alloc: Global) -> Result<(), Fail> {
-    let mut cache = Cached::<MaskGroups>::empty(alloc)?;
+/// Asserts that the rows look at the ingress port alone, and are of these ports, in this order.
+fn keeps<L: Lookup>(
+    rt: &impl Abort,
+    alloc: Global,
+    cache: &Cached<L>,
+    ports: &[u32],
+    answers: &[Option<usize>],
+) -> Result<(), Fail> {
+    are_of_ports(rt, &cache.rows(alloc)?, ports, answers);
+    Ok(())
+}
+
+fn row_count<L: Lookup>(alloc: Global, cache: &Cached<L>) -> Result<usize, Fail> {
+    Ok(cache.rows(alloc)?.len())
+}
+
+// Looks at no field.
+fn is_of_every_key(rt: &impl Abort, row: &Row) {
+    assert_eq!(rt; row.region.mask.masks.numbers.present, 0);
+    assert_eq!(rt; row.answer, None);
+}
+
+fn no_entries<L: Lookup>(
+    rt: &impl Abort,
+    alloc: Global,
+    cache: &mut Cached<L>,
+) -> Result<(), Fail> {
     assert_eq!(rt; cache.winner(&key_at(1, 1)?), None);
-    let rows = cache.rows(alloc)?;
-    assert_eq!(rt; rows.len(), 1);
-    assert_eq!(rt; rows[0].region.mask.masks.numbers.present, 0);
-    assert_eq!(rt; rows[0].answer, None);
-    add(alloc, &mut cache, TYPE_0806, 1)?;
-    assert_eq!(rt; cache.rows(alloc)?.len(), 0);
+    assert_eq!(rt; row_count(alloc, cache)?, 1);
+    is_of_every_key(rt, cache.rows(alloc)?.first().ok_or("a row")?);
+    add(alloc, cache, TYPE_0806, 1)?;
+    assert_eq!(rt; row_count(alloc, cache)?, 0);
     Ok(())
 }
 
 #[test]
 fn a_row_of_every_key(rt: HostRuntime) -> Result<(), Fail> {
-    no_entries(&rt, rt.alloc())
+    let mut cache = Cached::<MaskGroups>::empty(rt.alloc())?;
+    no_entries(&rt, rt.alloc(), &mut cache)
 }
 
 /// The cache answers what one entry decides, and asks the classifier nothing the second time.
-fn one_entry(rt: &impl Abort, alloc: Global) -> Result<(), Fail> {
-    let asked = Cell::new(0);
-    let inner = Counting {
-        inner: MaskGroups::empty(alloc)?,
-        asked: Some(&asked),
-    };
-    let mut cache = Cached::with_rows(alloc, inner, 1024)?;
-    let first = add(alloc, &mut cache, IN_PORT_1, 10)?;
+fn one_entry<L: Lookup>(
+    rt: &impl Abort,
+    alloc: Global,
+    cache: &mut Cached<L>,
+    asked: &Cell<u64>,
+) -> Result<(), Fail> {
+    let first = add(alloc, cache, IN_PORT_1, 10)?;
     assert_eq!(rt; cache.winner(&key_at(1, 1)?), Some(first));
     assert_eq!(rt; asked.get(), 1);
-    are_of_ports(rt, &cache.rows(alloc)?, &[1], &[Some(first)]);
+    keeps(rt, alloc, cache, &[1], &[Some(first)])?;
     assert_eq!(rt; cache.winner(&key_at(7, 1)?), Some(first));
     assert_eq!(rt; asked.get(), 1);
-    add(alloc, &mut cache, TYPE_88B5, 10)?;
-    are_of_ports(rt, &cache.rows(alloc)?, &[1], &[Some(first)]);
-    add(alloc, &mut cache, TYPE_88B5, 11)?;
-    assert_eq!(rt; cache.rows(alloc)?.len(), 0);
+    add(alloc, cache, TYPE_88B5, 10)?;
+    keeps(rt, alloc, cache, &[1], &[Some(first)])?;
+    add(alloc, cache, TYPE_88B5, 11)?;
+    assert_eq!(rt; row_count(alloc, cache)?, 0);
     Ok(())
 }
 
 #[test]
 fn a_row_of_an_entry(rt: HostRuntime) -> Result<(), Fail> {
-    one_entry(&rt, rt.alloc())
+    let asked = Cell::new(0);
+    let inner = Counting {
+        inner: MaskGroups::empty(rt.alloc())?,
+        asked: Some(&asked),
+    };
+    let mut cache = Cached::with_rows(rt.alloc(), inner, 1024)?;
+    one_entry(&rt, rt.alloc(), &mut cache, &asked)
 }
 
-fn two_rows(rt: &impl Abort, alloc: Global) -> Result<(), Fail> {
-    let mut cache = Cached::with_rows(alloc, MaskGroups::empty(alloc)?, 2)?;
-    add(alloc, &mut cache, IN_PORT_1, 10)?;
+fn two_rows<L: Lookup>(rt: &impl Abort, alloc: Global, cache: &mut Cached<L>) -> Result<(), Fail> {
+    add(alloc, cache, IN_PORT_1, 10)?;
     for port in [1, 3, 4] {
         cache.winner(&key_at(1, port)?);
     }
-    are_of_ports(rt, &cache.rows(alloc)?, &[4, 3], &[None, None]);
+    keeps(rt, alloc, cache, &[4, 3], &[None, None])?;
     assert_eq!(rt; cache.peek(&key_at(1, 3)?), None);
-    are_of_ports(rt, &cache.rows(alloc)?, &[4, 3], &[None, None]);
-    take(&mut cache, &match_of(alloc, IN_PORT_1)?, 10);
-    are_of_ports(rt, &cache.rows(alloc)?, &[4, 3], &[None, None]);
+    keeps(rt, alloc, cache, &[4, 3], &[None, None])?;
+    take(cache, &match_of(alloc, IN_PORT_1)?, 10);
+    keeps(rt, alloc, cache, &[4, 3], &[None, None])?;
     assert_eq!(rt; cache.winner(&key_at(1, 3)?), None);
-    are_of_ports(rt, &cache.rows(alloc)?, &[3, 4], &[None, None]);
+    keeps(rt, alloc, cache, &[3, 4], &[None, None])?;
     cache.rows_are_right();
     Ok(())
 }
 
 #[test]
 fn the_last_row_goes(rt: HostRuntime) -> Result<(), Fail> {
-    two_rows(&rt, rt.alloc())
+    let inner = MaskGroups::empty(rt.alloc())?;
+    let mut cache = Cached::with_rows(rt.alloc(), inner, 2)?;
+    two_rows(&rt, rt.alloc(), &mut cache)
 }
 
-fn full(rt: &impl Abort, alloc: Global) -> Result<(), Fail> {
-    let mut cache = Cached::<MaskGroups>::empty(alloc)?;
-    add(alloc, &mut cache, IN_PORT_1, 10)?;
+// The ports of the rows of as many look-ups as there are rows, the last one first.
+fn last_ports(alloc: Global) -> Result<Vec<u32>, Fail> {
     let mut ports = Vec::new(alloc);
-    let mut answers = Vec::new(alloc);
-    for port in 1..=1025 {
-        cache.winner(&key_at(1, port)?);
-        if port > 1 {
-            ports.push(port)?;
-            answers.push(None)?;
-        }
+    for port in 2..=1025 {
+        ports.push(port)?;
     }
     ports.reverse();
-    are_of_ports(rt, &cache.rows(alloc)?, &ports, &answers);
-    Ok(())
+    Ok(ports)
+}
+
+fn full<L: Lookup>(rt: &impl Abort, alloc: Global, cache: &mut Cached<L>) -> Result<(), Fail> {
+    add(alloc, cache, IN_PORT_1, 10)?;
+    for port in 1..=1025 {
+        cache.winner(&key_at(1, port)?);
+    }
+    keeps(rt, alloc, cache, &last_ports(alloc)?, &[None; 1024])
 }
 
 #[test]
 fn as_many_rows_as_there_may_be(rt: HostRuntime) -> Result<(), Fail> {
-    full(&rt, rt.alloc())
+    let mut cache = Cached::<MaskGroups>::empty(rt.alloc())?;
+    full(&rt, rt.alloc(), &mut cache)
 }
 
 /// Adds an entry, and once more where there was no memory, which leaves the rows.
-fn add_again(
+fn add_again<L: Lookup>(
     rt: &impl Abort,
     alloc: Global,
-    cache: &mut Cached<MaskGroups>,
+    cache: &mut Cached<L>,
     fields: &[u8],
     priority: u16,
 ) -> Result<usize, Fail> {
-    let before = cache.rows(alloc)?.len();
-    let first = match_of(alloc, fields)?;
-    let second = match_of(alloc, fields)?;
-    match cache.add(first, priority) {
-        Ok(number) => Ok(number),
-        Err(_) => {
-            assert_eq!(rt; cache.rows(alloc)?.len(), before);
-            Ok(cache.add(second, priority)?)
-        }
+    let before = row_count(alloc, cache)?;
+    if let Ok(number) = cache.add(match_of(alloc, fields)?, priority) {
+        return Ok(number);
     }
+    assert_eq!(rt; row_count(alloc, cache)?, before);
+    add(alloc, cache, fields, priority)
 }
 
-fn whichever_rows(rt: &impl Abort, alloc: Global) -> Result<(), Fail> {
-    let mut cache = Cached::<MaskGroups>::empty(alloc)?;
+fn whichever_rows<L: Lookup>(
+    rt: &impl Abort,
+    alloc: Global,
+    cache: &mut Cached<L>,
+) -> Result<(), Fail> {
     assert_eq!(rt; cache.winner(&key_at(1, 1)?), None);
-    let by_port = add_again(rt, alloc, &mut cache, IN_PORT_1, 10)?;
+    let by_port = add_again(rt, alloc, cache, IN_PORT_1, 10)?;
     assert_eq!(rt; cache.winner(&key_at(1, 1)?), Some(by_port));
     assert_eq!(rt; cache.winner(&key_at(1, 2)?), None);
-    let by_type = add_again(rt, alloc, &mut cache, TYPE_88B5, 10)?;
+    let by_type = add_again(rt, alloc, cache, TYPE_88B5, 10)?;
     assert_eq!(rt; cache.winner(&key_at(1, 1)?), Some(by_port));
     assert_eq!(rt; cache.winner(&key_at(1, 2)?), Some(by_type));
-    let higher = add_again(rt, alloc, &mut cache, TYPE_88B5, 11)?;
+    let higher = add_again(rt, alloc, cache, TYPE_88B5, 11)?;
     assert_eq!(rt; cache.winner(&key_at(1, 1)?), Some(higher));
     Ok(())
 }
@@ -181,5 +212,6 @@ fn whichever_rows(rt: &impl Abort, alloc: Global) -> Result<(), Fail> {
 /// Each allocation is refused in turn by tools/fail-alloc.
 #[test]
 fn winners_without_memory(rt: HostRuntime) -> Result<(), Fail> {
-    whichever_rows(&rt, rt.alloc())
+    let mut cache = Cached::<MaskGroups>::empty(rt.alloc())?;
+    whichever_rows(&rt, rt.alloc(), &mut cache)
 }
