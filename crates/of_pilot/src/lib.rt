@@ -1,0 +1,10 @@
+//! The pilot of formats as tables.
+#![tactic(auto)]
+
+mod parts;
+mod port_mod;
+mod role;
+mod writing;
+
+pub use port_mod::{PortMod, read_port_mod, old_read_port_mod};
+pub use role::{Role, RoleRequest, old_read_role_request, old_write_role_reply, read_role_request, write_role_reply};
