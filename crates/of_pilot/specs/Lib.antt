@@ -1,6 +1,10 @@
 pub mod Structs
 pub mod Tables
+pub mod Reading
 pub mod Roles
 pub mod PortMods
+pub mod FlowMods
+pub mod Promised
 pub mod OldRoles
 pub mod OldPortMods
+pub mod OldFlowMods

@@ -1,10 +1,16 @@
 //! The pilot of formats as tables.
 #![tactic(auto)]
 
+mod flow_mod;
+mod message;
+mod old_flow_mod;
 mod parts;
 mod port_mod;
 mod role;
 mod writing;
 
+pub use flow_mod::read_flow_mod;
+pub use message::{FlowMod, FlowModCommand};
+pub use old_flow_mod::old_read_flow_mod;
 pub use port_mod::{PortMod, read_port_mod, old_read_port_mod};
 pub use role::{Role, RoleRequest, old_read_role_request, old_write_role_reply, read_role_request, write_role_reply};
