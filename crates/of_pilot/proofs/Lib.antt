@@ -1,3 +1,4 @@
 pub mod Same
 pub mod Laws
 pub mod NoInstructions
+pub mod Appended

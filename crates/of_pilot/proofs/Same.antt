@@ -21,7 +21,7 @@ use Rattle.of_pilot.specs.PortMods as newp
 use Rattle.of_pilot.specs.OldFlowMods as oldf
 use Rattle.of_pilot.specs.OldFlowMods.{flow_mod_fixed_part}
 use Rattle.of_pilot.specs.FlowMods as newf
-use Rattle.of_pilot.specs.FlowMods.{command_said}
+use Rattle.of_pilot.specs.FlowMods.{command_said, flow_mod_front}
 use Rattle.of_pilot.specs.Reading.{◌>>=◌, unless, or_refused, known}
 
 -- ---- PORT_MOD
@@ -50,7 +50,7 @@ same_role_reply xid role generation = refl
 -- ---- FLOW_MOD
 
 pub same_flow_mod_bytes : (xid : ℕ) (m : FlowMod) → newf.flow_mod_bytes xid m ≡ oldf.flow_mod_bytes xid m
-unfolding flow_mod_fixed_part
+unfolding flow_mod_fixed_part flow_mod_front
 same_flow_mod_bytes xid m = refl
 
 by_fit : (f : FlowMod) (fits : Bool) → (unless ((not fits, refusal 2 10) ∷ []) >>= λ fit. Ok f) ≡ cond fits (Ok f) (Err (refusal 2 10))

@@ -78,5 +78,9 @@ flow_mod_in m = flow_mod_of (numbers flow_mod 8 m) (drop (8 + size flow_mod) m)
 abbrev pub flow_mod_numbers : FlowMod → List ℕ
 flow_mod_numbers m = m.cookie ∷ m.cookie_mask ∷ m.table ∷ command_number m.command ∷ m.idle_timeout ∷ m.hard_timeout ∷ m.priority ∷ m.buffer ∷ m.out_port ∷ m.out_group ∷ m.flags ∷ []
 
+-- the fields before the match
+unfoldable pub flow_mod_front : FlowMod → List ℕ
+flow_mod_front m = written flow_mod (flow_mod_numbers m)
+
 abbrev pub flow_mod_bytes : ℕ → FlowMod → List ℕ
-flow_mod_bytes xid m = message 14 xid (written flow_mod (flow_mod_numbers m) ++ (canonical m.fields ++ canonical_instructions m.instructions))
+flow_mod_bytes xid m = message 14 xid (flow_mod_front m ++ (canonical m.fields ++ canonical_instructions m.instructions))
