@@ -2,3 +2,9 @@ pub mod Same
 pub mod Laws
 pub mod NoInstructions
 pub mod Appended
+pub mod Items
+mod ActionTails
+mod InstructionTails
+pub mod MatchTails
+mod Binding
+mod FlowModLaw

@@ -5,6 +5,7 @@ pub mod Roles
 pub mod PortMods
 pub mod FlowMods
 pub mod Promised
+pub mod Grammar
 pub mod OldRoles
 pub mod OldPortMods
 pub mod OldFlowMods
