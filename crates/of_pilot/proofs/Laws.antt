@@ -134,7 +134,7 @@ numbers_fit (pad w ∷ s) at m b = numbers_fit s (at + w) m b
 
 -- ---- the same numbers are the same bytes, but for padding
 
-bytes_taken : (n at : ℕ) (m : List ℕ) → at + n ≤ length m → bytes_from at n m ≡ take n (drop at m)
+pub bytes_taken : (n at : ℕ) (m : List ℕ) → at + n ≤ length m → bytes_from at n m ≡ take n (drop at m)
 bytes_taken zero at m h = refl
 bytes_taken (suc n) at m h =
     let here : drop at m ≡ get_or m at 0 ∷ drop (suc at) m = drop-cons m at 0 (omega arith) in

@@ -8,3 +8,5 @@ mod InstructionTails
 pub mod MatchTails
 mod Binding
 mod FlowModLaw
+pub mod Places
+mod SameCells

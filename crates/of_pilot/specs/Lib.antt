@@ -6,6 +6,7 @@ pub mod PortMods
 pub mod FlowMods
 pub mod Promised
 pub mod Grammar
+pub mod Cells
 pub mod OldRoles
 pub mod OldPortMods
 pub mod OldFlowMods
