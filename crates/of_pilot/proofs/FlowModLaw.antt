@@ -11,6 +11,10 @@ use Rattle.of_wire.proofs.FirstLemmas.{none_applies}
 use Rattle.of_wire.proofs.Numbers.{IsBytes, IsBytes-drop}
 use Rattle.of_oxm.specs.declared.match_field.MatchField.{MatchField}
 use Rattle.of_oxm.specs.MatchReading.{match_of}
+use Rattle.of_oxm.specs.Canonical.{canonical}
+use Rattle.of_oxm.specs.NormalForm.{IsMatch}
+use Rattle.of_oxm.proofs.Written.{canonical_spells}
+use Rattle.of_actions.specs.CanonicalInstructions.{canonical_instructions}
 use Rattle.of_actions.specs.FlowCheck.{all_go_with}
 use Rattle.of_actions.specs.declared.instruction.Instruction.{Instruction}
 use Rattle.of_actions.specs.InstructionReading.{instructions_of}
@@ -19,11 +23,12 @@ use Rattle.of_pilot.specs.declared.message.FlowMod.{FlowMod}
 use Rattle.of_pilot.specs.declared.message.FlowModCommand.{FlowModCommand}
 use Rattle.of_pilot.specs.declared.message.FlowModCommand.TheVariants.{Add, Modify, ModifyStrict, Delete, DeleteStrict}
 use Rattle.of_pilot.specs.Reading.{◌>>=◌, unless}
-use Rattle.of_pilot.specs.Structs.{numbers}
+use Rattle.of_pilot.specs.Structs.{numbers, Fits}
 use Rattle.of_pilot.specs.Tables as tables
-use Rattle.of_pilot.specs.FlowMods.{command_number, command_of, command_said, flow_mod_in, flow_mod_numbers, flow_mod_of, instructions_for, is_bad_table, is_delete}
+use Rattle.of_pilot.specs.FlowMods.{command_number, command_of, command_said, flow_mod_bytes, flow_mod_front, flow_mod_in, flow_mod_numbers, flow_mod_of, instructions_for, is_bad_table, is_delete}
 use Rattle.of_pilot.specs.Grammar.{NamesTable, HasInstructions, MatchThenInstructions, MayName, IsValidFlowMod, SpellsFlowMod}
 use Rattle.of_pilot.proofs.Binding.{bound, passed, is_known, same_ok}
+use Rattle.of_pilot.proofs.Laws.{numbers_at, written_is_read}
 use Rattle.of_pilot.proofs.InstructionTails.{instructions_found}
 use Rattle.of_pilot.proofs.MatchTails.{match_found, match_only}
 
@@ -152,3 +157,16 @@ flow_mod_only f m s =
     let after : drop (length h.fields) rest ≡ h.instructions = ap (drop (length h.fields)) h.whole ∙ drop_at h.fields h.instructions (length h.fields) refl in
     let instructions : instructions_for f.command f.table (drop (length h.fields) rest) ≡ Ok f.instructions = ap (instructions_for f.command f.table) after ∙ instructions_only f.command f.table f.instructions h.instructions h.are in
     ap (λ (ns : List ℕ). flow_mod_of ns rest) s.fixed ∙ rw (command, fields, instructions, s.valid.fit) refl
+
+-- ---- what is written is spelt, whatever follows
+
+pub flow_mod_spelt : (xid : ℕ) (f : FlowMod) → Fits tables.flow_mod (flow_mod_numbers f) [] → IsValidFlowMod f → IsMatch f.fields → HasInstructions (is_delete f.command) f.table f.instructions (canonical_instructions f.instructions)
+    → SpellsFlowMod f (flow_mod_bytes xid f)
+unfolding flow_mod_front
+flow_mod_spelt xid f fits valid match are =
+    let tail = canonical f.fields ++ canonical_instructions f.instructions in
+    record {
+      fixed = sym (numbers_at tables.flow_mod 8 0 (flow_mod_bytes xid f)) ∙ written_is_read tables.flow_mod (flow_mod_numbers f) [] tail fits;
+      behind = record { fields = canonical f.fields; instructions = canonical_instructions f.instructions; whole = refl; spelt = canonical_spells f.fields match; are = are };
+      valid = valid;
+    }

@@ -1,0 +1,2 @@
+pub mod SameWritten
+pub mod SameMessages
