@@ -1,5 +1,5 @@
 -- PACKET_OUT (OpenFlow 1.3.5, 7.3.7): the ingress port, the actions, and the frame or the buffer that is sent.
-use Rattle.std.specs.Prelude.{ℕ, ◌==◌, Bool, not, ◌||◌, List, [], ◌∷◌, take, drop, is_none, Result, Ok, Err, if◌then◌else◌}
+use Rattle.std.specs.Prelude.{ℕ, ◌==◌, Bool, true, not, ◌||◌, List, [], ◌∷◌, take, drop, is_none, Result, Ok, Err, if◌then◌else◌}
 use Rattle.of_wire.specs.declared.code.Code.{Code}
 use Rattle.of_wire.specs.Refusals.{refusal}
 use Rattle.of_headers.specs.Faults.{frame_fault}
