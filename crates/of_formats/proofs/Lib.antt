@@ -1,2 +1,3 @@
 pub mod SameWritten
 pub mod SameMessages
+pub mod SameActions

@@ -10,3 +10,4 @@ mod Binding
 mod FlowModLaw
 pub mod Places
 mod SameCells
+mod SameWords

@@ -7,6 +7,8 @@ pub mod FlowMods
 pub mod Promised
 pub mod Grammar
 pub mod Cells
+pub mod OldWords
+pub mod Words
 pub mod OldRoles
 pub mod OldPortMods
 pub mod OldFlowMods
