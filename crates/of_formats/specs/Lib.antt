@@ -9,3 +9,4 @@ pub mod GroupMods
 pub mod Multiparts
 pub mod Messages
 pub mod Written
+pub mod Grammar
