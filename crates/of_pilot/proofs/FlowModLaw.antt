@@ -28,7 +28,7 @@ use Rattle.of_pilot.specs.Tables as tables
 use Rattle.of_pilot.specs.FlowMods.{command_number, command_of, command_said, flow_mod_bytes, flow_mod_front, flow_mod_in, flow_mod_numbers, flow_mod_of, instructions_for, is_bad_table, is_delete}
 use Rattle.of_pilot.specs.Grammar.{NamesTable, HasInstructions, MatchThenInstructions, MayName, IsValidFlowMod, SpellsFlowMod}
 use Rattle.of_pilot.proofs.Binding.{bound, passed, is_known, same_ok}
-use Rattle.of_pilot.proofs.Laws.{numbers_at, written_is_read}
+use Rattle.of_pilot.proofs.StructLaws.{numbers_at, written_is_read}
 use Rattle.of_pilot.proofs.InstructionTails.{instructions_found}
 use Rattle.of_pilot.proofs.MatchTails.{match_found, match_only}
 

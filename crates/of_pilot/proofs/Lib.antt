@@ -1,5 +1,5 @@
 pub mod Same
-pub mod Laws
+pub mod StructLaws
 pub mod NoInstructions
 pub mod Appended
 pub mod Items

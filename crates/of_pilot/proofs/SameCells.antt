@@ -7,7 +7,7 @@ use Rattle.of_pilot.specs.Structs.{Slot, Struct, byte, number, plain, pad, size,
 use Rattle.of_pilot.specs.Tables.{flow_mod}
 use Rattle.of_pilot.specs.FlowMods.{flow_mod_numbers, command_number}
 use Rattle.of_pilot.specs.declared.message.FlowMod.{FlowMod}
-use Rattle.of_pilot.proofs.Laws.{bytes_taken}
+use Rattle.of_pilot.proofs.StructLaws.{bytes_taken}
 use Rattle.of_pilot.proofs.Places.{Says, says, begins, rest_is, size as size_of}
 
 -- the fields of a struct with these numbers

@@ -3,6 +3,7 @@
 
 mod flow_mod;
 mod flow_mod_writing;
+mod laws;
 mod message;
 mod old_flow_mod;
 mod old_flow_mod_writing;
@@ -14,6 +15,7 @@ mod writing;
 pub use flow_mod::read_flow_mod;
 pub use flow_mod_writing::write_flow_mod;
 pub use old_flow_mod_writing::old_write_flow_mod;
+pub use laws::structs_are_read_and_written;
 pub use message::{FlowMod, FlowModCommand};
 pub use old_flow_mod::old_read_flow_mod;
 pub use port_mod::{PortMod, read_port_mod, old_read_port_mod};
