@@ -1,0 +1,58 @@
+-- Lists of supported actions.
+use Rattle.std.proofs.Common.{◌≡◌, ◌≤◌, ℕ, Bool, true, false, List, [], ◌∷◌, ◌++◌, length, refl, sym, ap, subst, arith}
+use Rattle.std.specs.Prelude.{nat_le, ◌&&◌}
+use Rattle.std.specs.List.{list_all}
+use Rattle.std.proofs.lemmas.Bool.Decides.{nat_tests}
+use Rattle.std.proofs.lemmas.List.{length-append}
+use Rattle.std.proofs.lemmas.List.Folds.{list_all-append}
+use Rattle.of_actions_new.specs.declared.action.Action.{Action}
+use Rattle.of_actions_new.specs.declared.action.Action.TheVariants.{Output}
+use Rattle.of_actions_new.specs.PortNumbers.{is_port}
+use Rattle.of_actions_new.specs.Supported.{is_supported, are_supported}
+
+-- n actions, all of them supported
+pub record Supported (packet_out : Bool) (actions : List Action) : Type 0 where
+  pub few : length actions ≤ 64
+  pub all : list_all (is_supported packet_out) actions ≡ true
+
+pub served_push : (packet_out : Bool) (actions given new : List Action) (a : Action) → Supported packet_out actions → given ≡ actions → length given ≤ 63 → is_supported packet_out a ≡ true → new ≡ actions ++ a ∷ [] → Supported packet_out new
+served_push packet_out actions given new a h e room served is =
+    let few : length (actions ++ a ∷ []) ≤ 64 = omega (arith, ap length e, length-append actions (a ∷ [])) in
+    let all : list_all (is_supported packet_out) (actions ++ a ∷ []) ≡ true = rw (list_all-append (is_supported packet_out) actions (a ∷ []), h.all, served) refl in
+    let pushed : Supported packet_out (actions ++ a ∷ []) = record { few = few; all = all } in
+    subst (Supported packet_out) (sym is) pushed
+
+pub served_is : (packet_out : Bool) (actions : List Action) → Supported packet_out actions → are_supported packet_out actions ≡ true
+served_is packet_out actions h =
+    let few : nat_le (length actions) 64 ≡ true = grind (arith, nat_tests, h.few) in
+    rw (few, h.all) refl
+
+pub is_served_list : (packet_out : Bool) (actions : List Action) → are_supported packet_out actions ≡ true → Supported packet_out actions
+is_served_list packet_out actions h = record { few = grind (arith, nat_tests); all = grind (arith, nat_tests) }
+
+-- ---- what is valid in an instruction is valid in a PACKET_OUT
+
+port_wider : (packet_out : Bool) (port : ℕ) → is_port packet_out port ≡ true → is_port true port ≡ true
+port_wider true port h = h
+port_wider false port h = grind (arith, nat_tests)
+
+both : (a b c : Bool) → (a && b) ≡ true → (a ≡ true → c ≡ true) → (c && b) ≡ true
+both true b c h f = rw (f refl) h
+both false b c h f = absurd cc
+
+action_wider : (packet_out : Bool) (a : Action) → is_supported packet_out a ≡ true → is_supported true a ≡ true
+unfolding is_supported
+action_wider packet_out (Output port max_len) h = both _ _ _ h (port_wider packet_out port)
+action_wider packet_out other h = h
+
+all_wider : (packet_out : Bool) (actions : List Action) → list_all (is_supported packet_out) actions ≡ true → list_all (is_supported true) actions ≡ true
+all_wider packet_out [] h = refl
+all_wider packet_out (a ∷ actions) h =
+    let this : is_supported packet_out a ≡ true = grind (arith, nat_tests) in
+    let others : list_all (is_supported packet_out) actions ≡ true = grind (arith, nat_tests) in
+    rw (action_wider packet_out a this, all_wider packet_out actions others) refl
+
+pub served_wider : (packet_out : Bool) (actions : List Action) → are_supported packet_out actions ≡ true → are_supported true actions ≡ true
+served_wider packet_out actions h =
+    let s = is_served_list packet_out actions h in
+    served_is true actions (record { few = s.few; all = all_wider packet_out actions s.all })

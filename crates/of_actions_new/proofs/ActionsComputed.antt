@@ -1,0 +1,30 @@
+-- What the grammar of actions says, computed.
+use Rattle.std.proofs.Common.{◌≡◌, ℕ, Bool, List, [], length, Option, Some, None, Result, Ok, Err, arith}
+use Rattle.std.specs.Prelude.{IfOk, IfErr}
+use Rattle.std.proofs.lemmas.Bool.{ltb-false}
+use Rattle.of_wire.specs.declared.code.Code.{Code}
+use Rattle.of_wire.specs.declared.code.ReadError.{ReadError}
+use Rattle.of_wire.specs.declared.code.ReadError.TheVariants as errors
+use Rattle.of_wire.specs.Failures.{Fails, Reads}
+use Rattle.of_wire.specs.Items.{TakesBytes, outcome}
+use Rattle.of_wire.proofs.ItemsRead.{items_are}
+use Rattle.of_wire.proofs.FirstLemmas.{none_applies, first_false}
+use Rattle.of_actions_new.specs.declared.action.Action.{Action}
+use Rattle.of_actions_new.specs.Beginnings.{len_at}
+use Rattle.of_actions_new.specs.Actions.{actions_of, action_refusals, actions_said, AreActions}
+
+actions_take : (packet_out : Bool) → TakesBytes (actions_of packet_out)
+unfolding action_refusals
+actions_take packet_out seen bytes some none =
+    let low = first_false _ _ (first_false _ _ (none_applies (action_refusals packet_out seen bytes) none).1.1.0) in
+    omega (arith, ltb-false (len_at bytes) 8 low)
+
+pub actions_are : (packet_out : Bool) (bytes : List ℕ) (actions : List Action) (fault : Option Code) → AreActions packet_out [] bytes actions fault → actions_said packet_out bytes ≡ outcome actions fault
+unfolding actions_said
+actions_are packet_out bytes actions fault h = items_are (actions_of packet_out) (length bytes) [] bytes actions fault (actions_take packet_out) (omega arith) h
+
+pub actions_computed : (packet_out : Bool) (bytes : List ℕ) (r : Result (List Action) ReadError) → IfOk r (λ actions. AreActions packet_out [] bytes actions None)
+    → IfErr r (Fails (λ code. (before : List Action) × AreActions packet_out [] bytes before (Some code))) → Reads r (actions_said packet_out bytes)
+actions_computed packet_out bytes (Ok actions) found refused = actions_are packet_out bytes actions None found
+actions_computed packet_out bytes (Err errors.Memory) found refused = tt
+actions_computed packet_out bytes (Err (errors.Refused code)) found refused = actions_are packet_out bytes refused.0 (Some code) refused.1

@@ -1,0 +1,13 @@
+use Rattle.of_actions_new.specs.Actions.{actions_of}
+use Rattle.of_actions_new.proofs.ReaderLaws.{items_only, items_exact}
+use Rattle.of_actions_new.proofs.ActionsComputed.{actions_computed}
+use Rattle.of_actions_new.proofs.action_reading.read_actions.Goals as goal
+
+pub returns-clause-only : goal.returns-clause-only
+returns-clause-only c = items_only (actions_of c.args.packet_out) c.args.bytes.now c.parse_actions.result c.parse_actions.ensures.found c.parse_actions.ensures.refused
+
+pub returns-clause-exact : goal.returns-clause-exact
+returns-clause-exact c = items_exact (actions_of c.args.packet_out) c.args.bytes.now c.parse_actions.result c.parse_actions.ensures.found c.parse_actions.ensures.refused
+
+pub returns-clause-reads : goal.returns-clause-reads
+returns-clause-reads c = actions_computed c.args.packet_out c.args.bytes.now c.parse_actions.result c.parse_actions.ensures.found c.parse_actions.ensures.refused

@@ -1,0 +1,10 @@
+use Rattle.std.proofs.Common.{◌≡◌, length}
+use Rattle.of_actions_new.specs.InstructionLists.{run_place}
+use Rattle.of_actions_new.specs.Rising.{is_ascending}
+use Rattle.of_actions_new.proofs.instruction_list.are_rising.Given as goal
+
+abbrev pub invariant-loop-rest : goal.invariant-loop-rest
+invariant-loop-rest l = is_ascending run_place l.fn.instructions ≡ is_ascending run_place l.rest
+
+abbrev pub decreases-loop-rest : goal.decreases-loop-rest
+decreases-loop-rest l = length l.rest

@@ -1,0 +1,44 @@
+-- What the bytes of instructions say, as a function: the instructions, or the code of the first refusal (OpenFlow 1.3.5, 7.2.4 and 7.4.4).
+use Rattle.std.specs.Prelude.{ℕ, false, List, [], ◌∷◌, length, Result, Ok, Err}
+use Rattle.of_wire.specs.declared.code.Code.{Code}
+use Rattle.of_wire.specs.Items.{items_of}
+use Rattle.of_actions_new.specs.declared.action.Action.{Action}
+use Rattle.of_actions_new.specs.declared.instruction.Instruction.{Instruction}
+use Rattle.of_actions_new.specs.declared.instruction.Instruction.TheVariants.{Apply, Clear, Write, Metadata, Goto}
+use Rattle.of_actions_new.specs.Actions.{actions_said}
+use Rattle.of_actions_new.specs.Headers.{Header, goto, metadata, write, apply, clear, headers_of}
+use Rattle.of_actions_new.specs.RunOrder.{in_run_order}
+
+abbrev pub with_actions : (List Action → Instruction) → Result (List Action) Code → Result Instruction Code
+with_actions make (Ok actions) = Ok (make actions)
+with_actions make (Err code) = Err code
+
+-- the instruction that a header begins
+abbrev pub body_of : Header → Result Instruction Code
+body_of (goto table) = Ok (Goto table)
+body_of (metadata value mask) = Ok (Metadata value mask)
+body_of (write bytes) = with_actions Write (actions_said false bytes)
+body_of (apply bytes) = with_actions Apply (actions_said false bytes)
+body_of clear = Ok Clear
+
+abbrev pub prepended : Result Instruction Code → Result (List Instruction) Code → Result (List Instruction) Code
+prepended (Ok i) (Ok others) = Ok (i ∷ others)
+prepended (Ok i) (Err code) = Err code
+prepended (Err code) others = Err code
+
+-- those of all headers, or the first refusal
+abbrev pub bodies_of : List Header → Result (List Instruction) Code
+bodies_of [] = Ok []
+bodies_of (h ∷ hs) = prepended (body_of h) (bodies_of hs)
+
+abbrev pub then_bodies : Result (List Header) Code → Result (List Instruction) Code
+then_bodies (Ok hs) = bodies_of hs
+then_bodies (Err code) = Err code
+
+abbrev pub then_ordered : Result (List Instruction) Code → Result (List Instruction) Code
+then_ordered (Ok instructions) = Ok (in_run_order instructions)
+then_ordered (Err code) = Err code
+
+-- all headers are checked before the first action
+unfoldable pub instructions_of : ℕ → List ℕ → Result (List Instruction) Code
+instructions_of table bytes = then_ordered (then_bodies (items_of (headers_of table) (length bytes) [] bytes))

@@ -1,0 +1,16 @@
+-- What a reader returns where the bytes are known to spell a value, or to have a code.
+use Rattle.std.specs.Prelude.{◌≡◌, Result, Ok, Err}
+use Rattle.of_wire.specs.declared.code.Code.{Code}
+use Rattle.of_wire.specs.declared.code.ReadError.{ReadError}
+use Rattle.of_wire.specs.declared.code.ReadError.TheVariants as errors
+use Rattle.of_wire.specs.Failures.{Fails}
+
+-- this value was read, unless memory ran out
+abbrev pub Reads : {V : Type 0} → Result V ReadError → V → Type 0
+Reads (Ok read) v = read ≡ v
+Reads (Err e) v = e ≡ errors.Memory
+
+-- the bytes were refused with this code, unless memory ran out
+abbrev pub Refuses : {V : Type 0} → Result V ReadError → Code → Type 0
+Refuses (Ok read) code = ⊥
+Refuses (Err e) code = Fails (λ c. c ≡ code) e

@@ -1,0 +1,82 @@
+//! Instructions as bytes.
+ghost use Rattle.std.specs.Prelude.{◌≡◌, ◌≤◌, ◌<◌, ◌++◌, ◌∷◌, ℕ, length, IsTrue, OnOk, IfOk};
+ghost use Rattle.byteorder.specs.Endian.{big_bytes};
+ghost use Rattle.of_actions_new.specs.InstructionLists.{are_for};
+ghost use Rattle.of_actions_new.specs.Instructions.{SpellsInstructions};
+ghost use Rattle.of_actions_new.specs.CanonicalActions.{canonical_actions};
+ghost use Rattle.of_actions_new.specs.CanonicalInstructions.{after_type, canonical_instruction, canonical_instructions};
+
+use crate::action_list::ActionList;
+use crate::action_writing::write_actions;
+use crate::instruction::Instruction;
+use crate::instruction_list::InstructionList;
+use std::alloc::{AllocError, Global};
+
+fn put_with_actions(
+    out: &mut Vec<u8>,
+    alloc: Global,
+    kind: u8,
+    actions: &ActionList,
+) -> Result<(), AllocError>
+    ensures { OnOk result (out.new.items ≡ out.old.items ++ 0 ∷ kind ∷ after_type (canonical_actions actions.now)) }
+{
+    let body = write_actions(alloc, actions)?;
+    let len = (8 + body.len()) as u16;
+    out.extend_from_slice(&[0, kind])?;
+    out.extend_from_slice(&len.to_be_bytes())?;
+    out.extend_from_slice(&[0; 4])?;
+    out.extend_from_slice(&body)
+}
+
+fn put_metadata(out: &mut Vec<u8>, value: u64, mask: u64) -> Result<(), AllocError>
+    ensures { OnOk result (out.new.items ≡ out.old.items ++ 0 ∷ 2 ∷ 0 ∷ 24 ∷ 0 ∷ 0 ∷ 0 ∷ 0 ∷ (big_bytes 8 value ++ big_bytes 8 mask)) }
+{
+    out.extend_from_slice(&[0, 2, 0, 24, 0, 0, 0, 0])?;
+    out.extend_from_slice(&value.to_be_bytes())?;
+    out.extend_from_slice(&mask.to_be_bytes())
+}
+
+#[tactic(auto, unfolding(crate::specs::CanonicalInstructions::canonical_instruction))]
+fn put_instruction(
+    out: &mut Vec<u8>,
+    alloc: Global,
+    instruction: &Instruction,
+) -> Result<(), AllocError>
+    ensures { OnOk result (out.new.items ≡ out.old.items ++ canonical_instruction instruction.now) }
+{
+    match instruction {
+        Instruction::Goto(table) => out.extend_from_slice(&[0, 1, 0, 8, *table, 0, 0, 0]),
+        Instruction::Metadata { value, mask } => put_metadata(out, *value, *mask),
+        Instruction::Write(actions) => put_with_actions(out, alloc, 3, actions),
+        Instruction::Apply(actions) => put_with_actions(out, alloc, 4, actions),
+        Instruction::Clear => out.extend_from_slice(&[0, 5, 0, 8, 0, 0, 0, 0]),
+    }
+}
+
+fn put_instructions(
+    out: &mut Vec<u8>,
+    alloc: Global,
+    instructions: &[Instruction],
+) -> Result<(), AllocError>
+    ensures { OnOk result (out.new.items ≡ out.old.items ++ canonical_instructions instructions.now) }
+{
+    for instruction in instructions {
+        put_instruction(out, alloc, instruction)?;
+    }
+    Ok(())
+}
+
+/// The one spelling of instructions that is written (OpenFlow 1.3.5, 7.2.4): at most 3,128 bytes.
+pub fn write_instructions(
+    alloc: Global,
+    instructions: &InstructionList,
+) -> Result<Vec<u8>, AllocError>
+    ensures canonical { IfOk result (λ v. v.items ≡ canonical_instructions instructions.now) }
+    ensures short { IfOk result (λ v. length v.items ≤ 3128) }
+    // They are read again for each table whose entries may have them.
+    ensures spelt { IfOk result (λ v. (table : ℕ) → IsTrue (are_for table instructions.now) → SpellsInstructions table v.items instructions.now) }
+{
+    let mut out = Vec::new(alloc);
+    put_instructions(&mut out, alloc, instructions.as_slice())?;
+    Ok(out)
+}

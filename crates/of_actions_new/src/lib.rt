@@ -1,0 +1,31 @@
+//! Actions and instructions, and their spellings (OpenFlow 1.3.5, 5.9 to 5.12, 7.2.4 and 7.2.5).
+#![tactic(auto)]
+
+mod action;
+mod action_list;
+mod action_reading;
+mod action_writing;
+mod codes;
+mod flow_check;
+mod header_reading;
+mod instruction;
+mod instruction_list;
+mod instruction_reading;
+mod instruction_writing;
+mod port_number;
+mod run_order;
+mod set_field;
+mod unread;
+
+pub use action::Action;
+pub use action_list::ActionList;
+pub use action_reading::{one_reading, read_actions};
+pub use action_writing::write_actions;
+pub use flow_check::{are_needs_met, check_flow};
+pub use instruction::Instruction;
+pub use instruction_list::InstructionList;
+pub use instruction_reading::{one_instruction_reading, read_instructions};
+pub use instruction_writing::write_instructions;
+pub use port_number::{
+    PORT_ALL, PORT_CONTROLLER, PORT_FLOOD, PORT_IN_PORT, PORT_MAX, PORT_TABLE, is_number,
+};

@@ -1,0 +1,79 @@
+//! A set-field action from bytes and as bytes (OpenFlow 1.3.5, 7.2.5).
+ghost use Rattle.std.specs.Prelude.{◌≡◌, ◌≤◌, ◌<◌, ◌++◌, Bool, length, replicate, IsTrue, IfOk, OnOk, IfErr, Some, None};
+ghost use Rattle.of_wire.specs.Refusals.{first_of};
+ghost use Rattle.of_actions_new.specs.Beginnings.{type_at, len_at};
+ghost use Rattle.of_actions_new.specs.SetField.{set_field_at, set_refusals};
+ghost use Rattle.of_layers.specs.Fields.{ones_of};
+ghost use Rattle.of_actions_new.specs.Actions.{action_at};
+ghost use Rattle.of_actions_new.specs.CanonicalActions.{canonical_set_field};
+ghost use Rattle.of_actions_new.specs.Supported.{is_supported};
+
+use crate::action::Action;
+use crate::codes::{BAD_SET_ARGUMENT, BAD_SET_LEN, BAD_SET_TYPE};
+use byteorder::{BigEndian, ByteOrder};
+use of_layers::Field;
+use of_wire::{Code, put_number};
+use std::alloc::AllocError;
+
+fn field_to_set(rest: &[u8]) -> Option<Field>
+    requires { 8 ≤ length rest.now }
+    ensures { result ≡ set_field_at rest.now }
+{
+    let (_, header) = rest.split_at(4);
+    if BigEndian::read_u16(header) != 0x8000 || rest[6] % 2 != 0 {
+        return None;
+    }
+    match Field::from_number(rest[6] / 2) {
+        Some(field) if field.row().settable => Some(field),
+        _ => None,
+    }
+}
+
+#[tactic(auto, unfolding(crate::specs::SetField::set_refusals, crate::specs::Actions::action_at, crate::specs::Supported::is_supported))]
+pub(crate) fn read_set_field(rest: &[u8], len: usize) -> Result<Action, Code>
+    requires long { 8 ≤ len }
+    requires whole { len ≤ length rest.now }
+    requires len { len ≡ len_at rest.now }
+    requires kind { type_at rest.now ≡ 25 }
+    ensures none { OnOk result (first_of (set_refusals rest.now) ≡ None) }
+    ensures action { IfOk result (λ action. action_at rest.now ≡ Some action) }
+    ensures served { (packet_out : Bool) → IfOk result (λ action. IsTrue (is_supported packet_out action)) }
+    ensures first { IfErr result (λ code. first_of (set_refusals rest.now) ≡ Some code) }
+{
+    let Some(field) = field_to_set(rest) else {
+        return Err(BAD_SET_TYPE);
+    };
+    let row = field.row();
+    if rest[7] as usize != row.bytes || len != (8 + row.bytes + 7) / 8 * 8 {
+        return Err(BAD_SET_LEN);
+    }
+    let (_, body) = rest.split_at(8);
+    let value = BigEndian::read_uint128(body, row.bytes);
+    if row.ones < value {
+        return Err(BAD_SET_ARGUMENT);
+    }
+    Ok(Action::SetField { field, value })
+}
+
+#[tactic(auto, using(crate::proofs::SetFieldText::front_zeros))]
+fn put_zeros(out: &mut Vec<u8>, count: usize) -> Result<(), AllocError>
+    requires { count ≤ 8 }
+    ensures { OnOk result (out.new.items ≡ out.old.items ++ replicate count 0) }
+{
+    let zeros = [0u8; 8];
+    let (padding, _) = zeros.split_at(count);
+    out.extend_from_slice(padding)
+}
+
+#[tactic(auto, using(of_layers::proofs::Table::value_below), unfolding(crate::specs::CanonicalActions::canonical_set_field))]
+pub(crate) fn put_set_field(out: &mut Vec<u8>, field: Field, value: u128) -> Result<(), AllocError>
+    requires { value ≤ ones_of field }
+    ensures { OnOk result (out.new.items ≡ out.old.items ++ canonical_set_field field value) }
+{
+    let row = field.row();
+    let len = (8 + row.bytes + 7) / 8 * 8;
+    out.extend_from_slice(&[0, 25, 0, len as u8])?;
+    out.extend_from_slice(&[0x80, 0, 2 * row.number, row.bytes as u8])?;
+    put_number(out, row.bytes, value)?;
+    put_zeros(out, len - (8 + row.bytes))
+}

@@ -1,0 +1,12 @@
+pub mod BucketLemmas
+pub mod PortLemmas
+pub mod Appended
+pub mod NoInstructions
+pub mod PacketFields
+pub mod Lengths
+pub mod HeadLemmas
+pub mod OtherTypes
+pub mod HelloLemmas
+pub mod BucketsWritten
+pub mod BucketsAgain
+pub mod GroupAgain

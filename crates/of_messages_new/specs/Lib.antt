@@ -1,0 +1,16 @@
+pub mod Structs
+pub mod Reading
+pub mod Tables
+pub mod Buckets
+pub mod GroupMods
+pub mod PortMods
+pub mod Heads
+pub mod Hellos
+pub mod Roles
+pub mod Configs
+pub mod AsyncConfigs
+pub mod Multiparts
+pub mod Messages
+pub mod Written
+pub mod Promised
+pub mod CanonicalGroups

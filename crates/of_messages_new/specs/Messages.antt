@@ -1,0 +1,152 @@
+-- What the bytes of a message say (OpenFlow 1.3.5, 7.1 and 7.3), or the first refusal in the written order (7.4.4).
+use Rattle.std.specs.Prelude.{ℕ, ◌+◌, ◌==◌, nat_lt, Bool, true, false, not, ◌&&◌, ◌||◌, List, [], ◌∷◌, ◌++◌, take, drop, slice_index, Option, Some, None, is_none, Result, Ok, Err, if◌then◌else◌}
+use Rattle.of_wire.specs.declared.code.Code.{Code}
+use Rattle.of_wire.specs.Refusals.{refusal, first_of}
+use Rattle.of_oxm.specs.MatchReading.{match_of}
+use Rattle.of_actions.specs.declared.instruction.Instruction.{Instruction}
+use Rattle.of_actions.specs.Actions.{actions_said}
+use Rattle.of_actions.specs.InstructionReading.{instructions_of}
+use Rattle.of_actions.specs.FlowCheck.{all_go_with}
+use Rattle.of_actions.specs.PortNumbers.{is_number, controller}
+use Rattle.of_headers.specs.Faults.{frame_fault}
+use Rattle.of_messages_new.specs.declared.message.Message.{Message}
+use Rattle.of_messages_new.specs.declared.message.Message.TheVariants.{Hello, Error, EchoRequest, EchoReply, FeaturesRequest, GetConfigRequest, SetConfig, PacketOut as IsPacketOut, FlowMod as IsFlowMod, GroupMod as IsGroupMod, PortMod as IsPortMod, TableMod as IsTableMod, Multipart, BarrierRequest, RoleRequest as IsRoleRequest, GetAsyncRequest, SetAsync}
+use Rattle.of_messages_new.specs.declared.role.Role.{Role}
+use Rattle.of_messages_new.specs.declared.role.Role.TheVariants as role
+use Rattle.of_messages_new.specs.Heads.{hello, error, echo_request, echo_reply, features_request, get_config_request, set_config, packet_out, flow_mod, group_mod, port_mod, table_mod, multipart_request, barrier_request, role_request, get_async_request, set_async, actions_length, head_refusals, role_refusals}
+pub use Rattle.of_messages_new.specs.Heads.{version_of, type_of, header_length, xid_of}
+use Rattle.of_messages_new.specs.Reading.{◌>>=◌, unless, known}
+use Rattle.of_messages_new.specs.Structs.{numbers, size}
+use Rattle.of_messages_new.specs.Tables as tables
+use Rattle.of_messages_new.specs.AsyncConfigs.{async_masks_of}
+use Rattle.of_messages_new.specs.Configs.{set_config_of, table_mod_of}
+use Rattle.of_messages_new.specs.GroupMods.{group_mod_of}
+use Rattle.of_messages_new.specs.Multiparts.{multipart_of}
+use Rattle.of_messages_new.specs.PortMods.{port_mod_of}
+use Rattle.of_messages_new.specs.Roles.{role_request_of}
+use Rattle.of_messages_new.specs.declared.message.PacketOut.{PacketOut}
+use Rattle.of_messages_new.specs.declared.message.PacketData.{PacketData}
+use Rattle.of_messages_new.specs.declared.message.PacketData.TheVariants.{Buffered, Frame}
+use Rattle.of_messages_new.specs.declared.message.FlowMod.{FlowMod}
+use Rattle.of_messages_new.specs.declared.message.FlowModCommand.{FlowModCommand}
+use Rattle.of_messages_new.specs.declared.message.FlowModCommand.TheVariants.{Add, Modify, ModifyStrict, Delete, DeleteStrict}
+
+-- FLOW_MOD (7.3.4.1)
+
+-- the command that a byte names
+abbrev pub command_of : ℕ → Option FlowModCommand
+command_of byte =
+    if byte == 0 then Some Add
+    else (if byte == 1 then Some Modify
+    else (if byte == 2 then Some ModifyStrict
+    else (if byte == 3 then Some Delete
+    else (if byte == 4 then Some DeleteStrict
+    else None))))
+
+abbrev pub is_delete : FlowModCommand → Bool
+is_delete Delete = true
+is_delete DeleteStrict = true
+is_delete other = false
+
+-- the last table is 15; 255 is all tables, which only the two DELETE commands may name
+abbrev pub is_bad_table : ℕ → FlowModCommand → Bool
+is_bad_table table command = nat_lt 15 table && not (is_delete command && table == 255)
+
+-- the command, unless it, the table or the flags (five are known) are refused
+unfoldable pub command_said : ℕ → ℕ → ℕ → Result FlowModCommand Code
+command_said c table flags = do
+  command ← known (command_of c) (refusal 5 6)
+  good ← unless ((is_bad_table table command, refusal 5 2) ∷ (nat_lt 31 flags, refusal 5 7) ∷ [])
+  Ok command
+
+-- the two DELETE commands have no instructions, whatever follows the match
+abbrev pub instructions_for : FlowModCommand → ℕ → List ℕ → Result (List Instruction) Code
+instructions_for command table bytes = if is_delete command then Ok [] else instructions_of table bytes
+
+-- its numbers, and the match and the instructions that follow them; OFPBAC_MATCH_INCONSISTENT where a set-field action lacks its prerequisites in the match
+abbrev pub flow_mod_by : List ℕ → List ℕ → Result FlowMod Code
+flow_mod_by (cookie ∷ cookie_mask ∷ table ∷ c ∷ idle ∷ hard ∷ priority ∷ buffer ∷ out_port ∷ out_group ∷ flags ∷ []) rest = do
+  command ← command_said c table flags
+  m ← match_of rest
+  instructions ← instructions_for command table (drop m.1 rest)
+  fit ← unless ((not (all_go_with m.0 instructions), refusal 2 10) ∷ [])
+  Ok (record {
+    cookie = cookie;
+    cookie_mask = cookie_mask;
+    table = table;
+    command = command;
+    idle_timeout = idle;
+    hard_timeout = hard;
+    priority = priority;
+    buffer = buffer;
+    out_port = out_port;
+    out_group = out_group;
+    flags = flags;
+    fields = m.0;
+    instructions = instructions;
+  })
+flow_mod_by other rest = Err (refusal 1 6)
+
+abbrev pub flow_mod_of : List ℕ → Result FlowMod Code
+flow_mod_of m = flow_mod_by (numbers tables.flow_mod 8 m) (drop (8 + size tables.flow_mod) m)
+
+-- PACKET_OUT (7.3.7)
+
+-- the ingress port is a port number or OFPP_CONTROLLER
+abbrev pub is_ingress : ℕ → Bool
+is_ingress port = is_number port || port == controller
+
+-- with OFP_NO_BUFFER the frame follows the actions: OFPBRC_BAD_PACKET where it is too short or too long; with a buffer, what follows is not read
+abbrev pub packet_in_data : ℕ → List ℕ → Result PacketData Code
+packet_in_data buffer frame =
+    if buffer == 0xffffffff
+    then (if is_none (frame_fault frame) then Ok (Frame frame) else Err (refusal 1 12))
+    else Ok (Buffered buffer)
+
+-- OFPBRC_BAD_PORT
+abbrev pub packet_out_by : List ℕ → List ℕ → Result PacketOut Code
+packet_out_by (buffer ∷ in_port ∷ len ∷ []) rest = do
+  good ← unless ((not (is_ingress in_port), refusal 1 11) ∷ [])
+  actions ← actions_said true (take len rest)
+  packet ← packet_in_data buffer (drop len rest)
+  Ok (record { in_port = in_port; actions = actions; packet = packet })
+packet_out_by other rest = Err (refusal 1 6)
+
+abbrev pub packet_out_of : List ℕ → Result PacketOut Code
+packet_out_of m = packet_out_by (numbers tables.packet_out 8 m) (drop (8 + size tables.packet_out) m)
+
+-- A MESSAGE
+
+-- by its type; another type is always refused, so the last line never applies
+unfoldable pub body_of : List ℕ → Result Message Code
+body_of m =
+    if type_of m == hello then Ok Hello
+    else if type_of m == error then Ok Error
+    else if type_of m == echo_request then Ok (EchoRequest (drop 8 m))
+    else if type_of m == echo_reply then Ok EchoReply
+    else if type_of m == features_request then Ok FeaturesRequest
+    else if type_of m == get_config_request then Ok GetConfigRequest
+    else if type_of m == set_config then set_config_of m >>= (λ v. Ok (SetConfig v))
+    else if type_of m == packet_out then packet_out_of m >>= (λ v. Ok (IsPacketOut v))
+    else if type_of m == flow_mod then flow_mod_of m >>= (λ v. Ok (IsFlowMod v))
+    else if type_of m == group_mod then group_mod_of m >>= (λ v. Ok (IsGroupMod v))
+    else if type_of m == port_mod then port_mod_of m >>= (λ v. Ok (IsPortMod v))
+    else if type_of m == table_mod then table_mod_of m >>= (λ v. Ok (IsTableMod v))
+    else if type_of m == multipart_request then multipart_of m >>= (λ v. Ok (Multipart v))
+    else if type_of m == barrier_request then Ok BarrierRequest
+    else if type_of m == role_request then role_request_of m >>= (λ v. Ok (IsRoleRequest v))
+    else if type_of m == get_async_request then Ok GetAsyncRequest
+    else if type_of m == set_async then Ok (SetAsync (async_masks_of m))
+    else Err (refusal 1 1)
+
+abbrev pub message_by : List ℕ → Option Code → Result Message Code
+message_by m (Some code) = Err code
+message_by m None = body_of m
+
+-- what a message of a controller of that role says
+unfoldable pub message_from : Role → List ℕ → Result Message Code
+message_from role m = message_by m (first_of (head_refusals m ++ role_refusals role m))
+
+-- what it says by itself: a controller whose role is equal may send each
+abbrev pub message_of : List ℕ → Result Message Code
+message_of m = message_from role.Equal m

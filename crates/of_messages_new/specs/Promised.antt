@@ -1,0 +1,41 @@
+-- What holds for each message that was read, beyond its fields.
+use Rattle.std.specs.Prelude.{◌≡◌, ◌<◌, ◌≤◌, false, true, length, None, ⊤}
+use Rattle.of_actions.specs.InstructionLists.{are_for}
+use Rattle.of_actions.specs.FlowCheck.{all_go_with}
+use Rattle.of_headers.specs.Faults.{frame_fault}
+use Rattle.of_messages_new.specs.declared.message.Message.{Message}
+use Rattle.of_messages_new.specs.declared.message.Message.TheVariants.{EchoRequest, PacketOut as IsPacketOut, FlowMod as IsFlowMod, GroupMod as IsGroupMod, Multipart}
+use Rattle.of_messages_new.specs.declared.message.FlowMod.{FlowMod}
+use Rattle.of_messages_new.specs.declared.group_mod.GroupMod.{GroupMod}
+use Rattle.of_messages_new.specs.declared.group_mod.GroupMod.TheVariants.{Add, Modify, Delete}
+use Rattle.of_messages_new.specs.declared.message.PacketData.{PacketData}
+use Rattle.of_messages_new.specs.declared.message.PacketData.TheVariants.{Buffered, Frame}
+use Rattle.of_messages_new.specs.Messages.{is_delete}
+use Rattle.of_messages_new.specs.Multiparts.{IsSoundRequest}
+use Rattle.of_groups.specs.Buckets.{group_max}
+
+-- an ADD or a MODIFY names a table, its instructions are valid there, and its set-field actions have their prerequisites in the match
+pub record IsSoundFlowMod (m : FlowMod) : Type 0 where
+  pub table : is_delete m.command ≡ false → m.table < 16
+  pub fit : are_for m.table m.instructions ≡ true
+  pub checked : all_go_with m.fields m.instructions ≡ true
+
+-- a frame of 14 to 9,216 bytes
+abbrev pub IsSoundPacket : PacketData → Type 0
+IsSoundPacket (Buffered number) = ⊤
+IsSoundPacket (Frame bytes) = frame_fault bytes ≡ None
+
+-- a group that is added or modified has a number up to OFPG_MAX
+abbrev pub IsSoundGroupMod : GroupMod → Type 0
+IsSoundGroupMod (Add g) = g.id ≤ group_max
+IsSoundGroupMod (Modify g) = g.id ≤ group_max
+IsSoundGroupMod (Delete which) = ⊤
+
+-- an ECHO_REQUEST was a message itself, so its data fits one
+abbrev pub IsSoundMessage : Message → Type 0
+IsSoundMessage (EchoRequest echoed) = length echoed ≤ 65527
+IsSoundMessage (IsPacketOut m) = IsSoundPacket m.packet
+IsSoundMessage (IsFlowMod m) = IsSoundFlowMod m
+IsSoundMessage (IsGroupMod m) = IsSoundGroupMod m
+IsSoundMessage (Multipart request) = IsSoundRequest request
+IsSoundMessage other = ⊤

@@ -1,0 +1,14 @@
+pub mod Structs
+pub mod Tables
+pub mod Reading
+pub mod Roles
+pub mod PortMods
+pub mod FlowMods
+pub mod Promised
+pub mod Grammar
+pub mod Cells
+pub mod OldWords
+pub mod Words
+pub mod OldRoles
+pub mod OldPortMods
+pub mod OldFlowMods
