@@ -1,5 +1,1 @@
-pub mod SameWritten
-pub mod SameMessages
-pub mod SameActions
-pub mod SameRows
-pub mod SameGrammar
+pub mod StructLaws

@@ -1,12 +1,2 @@
 pub mod Structs
 pub mod Tables
-pub mod Reading
-pub mod Heads
-pub mod Configs
-pub mod FlowMods
-pub mod PacketOuts
-pub mod GroupMods
-pub mod Multiparts
-pub mod Messages
-pub mod Written
-pub mod Grammar

@@ -81,3 +81,11 @@ Fits (number name w ∷ s) (n ∷ ns) xs = (n < 256 ^ w) × Fits s ns xs
 Fits (plain name w ∷ s) ns [] = ⊥
 Fits (plain name w ∷ s) ns (x ∷ xs) = (length x ≡ w) × Fits s ns xs
 Fits (pad w ∷ s) ns xs = Fits s ns xs
+
+-- the bytes of a struct with its padding cleared
+abbrev pub cleared : Struct → List ℕ → List ℕ
+cleared [] m = []
+cleared (byte name ∷ s) m = take 1 m ++ cleared s (drop 1 m)
+cleared (number name w ∷ s) m = take w m ++ cleared s (drop w m)
+cleared (plain name w ∷ s) m = take w m ++ cleared s (drop w m)
+cleared (pad w ∷ s) m = replicate w 0 ++ cleared s (drop w m)

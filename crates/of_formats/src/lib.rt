@@ -1,5 +1,6 @@
-//! The definitions of messages over tables, and that they are those over byte positions.
+//! The structs of the OpenFlow channel as tables of their fields, and what follows from a table.
 #![tactic(auto)]
 
-/// Nothing.
-pub fn nothing() {}
+mod laws;
+
+pub use laws::structs_are_read_and_written;

@@ -1,8 +1,0 @@
-use Rattle.std.proofs.Common.{◌≡◌, true}
-use Rattle.std.specs.List.{list_all}
-use Rattle.of_actions_new.specs.InstructionLists.{is_served_body}
-use Rattle.of_actions_new.proofs.Bodies.{Reading}
-use Rattle.of_actions_new.proofs.instruction_reading.read_bodies.Given as goal
-
-abbrev pub invariant-loop-header : goal.invariant-loop-header
-invariant-loop-header l = record { reading : Reading l.headers l.header-index l.instructions.items; served : list_all is_served_body l.instructions.items ≡ true }

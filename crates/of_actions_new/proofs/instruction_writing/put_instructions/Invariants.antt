@@ -1,6 +1,0 @@
-use Rattle.std.proofs.Common.{◌≡◌, ◌++◌, take}
-use Rattle.of_actions_new.specs.CanonicalInstructions.{canonical_instructions}
-use Rattle.of_actions_new.proofs.instruction_writing.put_instructions.Given as goal
-
-abbrev pub invariant-loop-instruction : goal.invariant-loop-instruction
-invariant-loop-instruction l = l.out.items ≡ l.fn.out.items ++ canonical_instructions (take l.instruction-index l.instructions)

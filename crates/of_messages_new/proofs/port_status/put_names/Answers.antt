@@ -1,8 +1,0 @@
-use Rattle.std.proofs.Common.{rules}
-use Rattle.of_messages_new.specs.Written.{port_names}
-use Rattle.of_messages_new.proofs.Appended.{five_or}
-use Rattle.of_messages_new.proofs.port_status.put_names.Goals as goal
-
-pub returns-clause-text : goal.returns-clause-text
-unfolding port_names
-returns-clause-text c = five_or c.extend_from_slice-4.result _ _ _ _ _ _ _ c.in_ok-put_u32.ensures c.in_ok-extend_from_slice.ensures.items c.in_ok-extend_from_slice-2.ensures.items c.in_ok-extend_from_slice-3.ensures.items (search rules)
