@@ -1,5 +1,5 @@
 -- THE GRAMMAR: which bytes spell which message of a controller (OpenFlow 1.3.5, 7).
-use Rattle.std.specs.Prelude.{◌≡◌, ◌≤◌, ◌<◌, ℕ, bit_and, ◌⊎◌, ⊤, Bool, true, false, List, [], ◌∷◌, ◌++◌, length, Option, Some, None}
+use Rattle.std.specs.Prelude.{◌≡◌, ◌≤◌, ◌<◌, ℕ, bit_and, ◌⊎◌, ⊤, Bool, true, false, List, [], ◌∷◌, ◌++◌, length, take, drop, Option, Some, None}
 use Rattle.of_oxm.specs.MatchGrammar.{SpellsMatch}
 use Rattle.of_actions.specs.Actions.{AreActions}
 use Rattle.of_actions.specs.FlowCheck.{all_go_with}
@@ -7,7 +7,7 @@ use Rattle.of_actions.specs.Instructions.{SpellsInstructions}
 use Rattle.of_actions.specs.PortNumbers.{controller}
 use Rattle.of_groups.specs.declared.group.GroupKind.{GroupKind}
 use Rattle.of_groups.specs.declared.group.GroupKind.TheVariants.{All, Indirect, FastFailover}
-use Rattle.of_messages.specs.declared.async_masks.RoleMasks.{RoleMasks}
+use Rattle.of_messages.specs.declared.async_masks.AsyncMasks.{AsyncMasks}
 use Rattle.of_messages.specs.declared.group_mod.GroupMod.{GroupMod}
 use Rattle.of_messages.specs.declared.group_mod.GroupMod.TheVariants as group
 use Rattle.of_messages.specs.declared.group_mod.NewGroup.{NewGroup}
@@ -26,7 +26,7 @@ use Rattle.of_messages.specs.declared.role.RoleRequest.TheVariants.{NoChange, Eq
 use Rattle.of_grammar.specs.Buckets.{AreBuckets}
 use Rattle.of_grammar.specs.StructCells.{cells_of, without}
 use Rattle.of_formats.specs.Tables as tables
-use Rattle.of_grammar.specs.Cells.{Cell, byte, u16, u32, pad, Begins}
+use Rattle.of_grammar.specs.Cells.{Cell, byte, pad, Begins}
 use Rattle.of_grammar.specs.Requests.{NamesTable, all_groups, or_all, request_cells, RequestTail, IsValidRequest}
 
 -- THE HEADER (7.1, struct ofp_header)
@@ -90,7 +90,7 @@ IsData (Frame frame) bytes = bytes ≡ frame
 pub record ActionsThenData (m : PacketOut) (tail : List ℕ) : Type 0 where
   pub actions : List ℕ
   pub packet : List ℕ
-  pub front : Begins (u16 (length actions) ∷ pad 6 ∷ []) tail (actions ++ packet)
+  pub front : Begins (cells_of (drop 2 tables.packet_out) (length actions ∷ []) []) tail (actions ++ packet)
   pub are : AreActions true [] actions m.actions None
   pub is : IsData m.packet packet
 
@@ -199,8 +199,9 @@ role_cells (Master generation) = cells_of tables.role (2 ∷ generation ∷ []) 
 role_cells (Slave generation) = cells_of tables.role (3 ∷ generation ∷ []) []
 
 -- SET_ASYNC (7.3.10, struct ofp_async_config): while the controller is master or equal, and while it is a slave
-abbrev pub masks_cells : RoleMasks → List Cell
-masks_cells masks = u32 masks.master ∷ u32 masks.slave ∷ []
+abbrev pub masks_cells : AsyncMasks → List Cell
+masks_cells a =
+    cells_of tables.async_config (a.packet_in.master ∷ a.packet_in.slave ∷ a.port_status.master ∷ a.port_status.slave ∷ a.flow_removed.master ∷ a.flow_removed.slave ∷ []) []
 
 -- EACH MESSAGE
 
@@ -213,7 +214,7 @@ cells EchoReply = []
 cells FeaturesRequest = []
 cells GetConfigRequest = []
 cells (SetConfig config) = cells_of tables.switch_config (0 ∷ config.miss_send_len ∷ []) []
-cells (IsPacketOut m) = u32 (buffer_of m.packet) ∷ u32 m.in_port ∷ []
+cells (IsPacketOut m) = cells_of (take 2 tables.packet_out) (buffer_of m.packet ∷ m.in_port ∷ []) []
 cells (IsFlowMod m) = flow_mod_cells m
 cells (IsGroupMod m) = group_mod_cells m
 cells (IsPortMod m) = cells_of tables.port_mod (m.port ∷ m.config ∷ m.mask ∷ []) (m.hw ∷ [])
@@ -222,8 +223,7 @@ cells (Multipart request) = request_cells request
 cells BarrierRequest = []
 cells (IsRoleRequest request) = role_cells request
 cells GetAsyncRequest = []
-cells (SetAsync a) =
-    cells_of tables.async_config (a.packet_in.master ∷ a.packet_in.slave ∷ a.port_status.master ∷ a.port_status.slave ∷ a.flow_removed.master ∷ a.flow_removed.slave ∷ []) []
+cells (SetAsync masks) = masks_cells masks
 
 -- What follows these: nothing, data, or what is ignored (elements of a HELLO, data of an ERROR and of an ECHO_REPLY).
 abbrev pub Tail : Message → List ℕ → Type 0
@@ -267,7 +267,7 @@ IsValid (SetAsync masks) = ⊤
 
 -- version, type, length of the message, transaction id, and the fields of the message
 abbrev pub fixed_part_cells : Message → ℕ → ℕ → List Cell
-fixed_part_cells m size xid = version m ∷ byte (type m) ∷ u16 size ∷ u32 xid ∷ cells m
+fixed_part_cells m size xid = version m ∷ cells_of (drop 1 tables.header) (type m ∷ size ∷ xid ∷ []) [] ++ cells m
 
 -- these bytes, all of them, spell the message with this transaction id
 pub record Spells (xid : ℕ) (m : Message) (bytes : List ℕ) : Type 0 where

@@ -7,7 +7,7 @@ use Rattle.of_messages.specs.declared.multipart.MultipartRequest.{MultipartReque
 use Rattle.of_messages.specs.declared.multipart.MultipartRequest.TheVariants.{Description, Flow, Aggregate, Table, PortStats, Group, GroupDescription, GroupFeatures, PortDescription}
 use Rattle.of_grammar.specs.StructCells.{cells_of}
 use Rattle.of_formats.specs.Tables as tables
-use Rattle.of_grammar.specs.Cells.{Cell, u16, u32, pad, even}
+use Rattle.of_grammar.specs.Cells.{Cell, u16, pad, even}
 
 -- the type of the request, OFPMP_*
 abbrev pub request_type : MultipartRequest → ℕ
@@ -42,8 +42,8 @@ body_cells Description = []
 body_cells (Flow r) = flows_cells r
 body_cells (Aggregate r) = flows_cells r
 body_cells Table = []
-body_cells (PortStats port) = u32 (or_all any_port port) ∷ pad 4 ∷ []
-body_cells (Group group) = u32 (or_all all_groups group) ∷ pad 4 ∷ []
+body_cells (PortStats port) = cells_of tables.port_stats_request (or_all any_port port ∷ []) []
+body_cells (Group group) = cells_of tables.group_stats_request (or_all all_groups group ∷ []) []
 body_cells GroupDescription = []
 body_cells GroupFeatures = []
 body_cells PortDescription = []

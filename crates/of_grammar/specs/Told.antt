@@ -16,7 +16,7 @@ use Rattle.of_messages.specs.declared.role.Role.{Role}
 use Rattle.of_messages.specs.declared.role.Role.TheVariants as role
 use Rattle.of_grammar.specs.StructCells.{cells_of}
 use Rattle.of_formats.specs.Tables as tables
-use Rattle.of_grammar.specs.Cells.{Cell, byte, u16, u32, pad, Begins}
+use Rattle.of_grammar.specs.Cells.{Cell, pad, Begins}
 use Rattle.of_grammar.specs.Grammar.{masks_cells}
 
 -- HELLO with a bitmap of versions, ERROR with its data, ECHO_REPLY with its data, FEATURES_REPLY with the datapath id, GET_CONFIG_REPLY, PACKET_IN with its data, FLOW_REMOVED with its match, PORT_STATUS, BARRIER_REPLY, ROLE_REPLY with its generation, and GET_ASYNC_REPLY
@@ -73,8 +73,11 @@ removed_cells r =
     (r.cookie ∷ r.priority ∷ flow_removed_number r.reason ∷ r.table ∷ r.duration_sec ∷ r.duration_nsec ∷ r.idle_timeout ∷ r.hard_timeout ∷ r.packets ∷ r.bytes ∷ []) []
 
 -- struct ofp_port (7.2.1): no features (four words) and no speeds (two)
+abbrev pub port_numbers : PortDescription → List ℕ
+port_numbers p = p.number ∷ p.config ∷ p.state ∷ 0 ∷ 0 ∷ 0 ∷ 0 ∷ 0 ∷ 0 ∷ []
+
 abbrev pub port_cells : PortDescription → List Cell
-port_cells p = cells_of tables.port (p.number ∷ p.config ∷ p.state ∷ 0 ∷ 0 ∷ 0 ∷ 0 ∷ 0 ∷ 0 ∷ []) (p.hw ∷ p.name ∷ [])
+port_cells p = cells_of tables.port (port_numbers p) (p.hw ∷ p.name ∷ [])
 
 -- the fields after the header; of a HELLO one element, OFPHET_VERSIONBITMAP, of 8 bytes (7.5.1)
 abbrev pub told_cells : Told → List Cell
@@ -85,10 +88,10 @@ told_cells (features_reply dpid) = features_cells dpid
 told_cells (config_reply config) = cells_of tables.switch_config (0 ∷ config.miss_send_len ∷ []) []
 told_cells (packet_in p «data») = packet_in_cells p
 told_cells (flow_removed r fields) = removed_cells r
-told_cells (port_status reason port) = byte (port_reason reason) ∷ pad 7 ∷ port_cells port
+told_cells (port_status reason p) = cells_of tables.port_status (port_reason reason ∷ port_numbers p) (p.hw ∷ p.name ∷ [])
 told_cells barrier_reply = []
 told_cells (role_reply role generation) = cells_of tables.role (role_value role ∷ generation ∷ []) []
-told_cells (async_reply masks) = masks_cells masks.packet_in ++ (masks_cells masks.port_status ++ masks_cells masks.flow_removed)
+told_cells (async_reply masks) = masks_cells masks
 
 -- the match of a PACKET_IN: the ingress port, and the metadata where it is not 0
 abbrev pub told_fields : PacketIn → List MatchField
@@ -118,7 +121,7 @@ ToldTail (role_reply role generation) tail = tail ≡ []
 ToldTail (async_reply masks) tail = tail ≡ []
 
 abbrev pub switch_message_fixed_part : Told → ℕ → ℕ → List Cell
-switch_message_fixed_part t size xid = byte 4 ∷ byte (switch_message_type t) ∷ u16 size ∷ u32 xid ∷ told_cells t
+switch_message_fixed_part t size xid = cells_of tables.header (4 ∷ switch_message_type t ∷ size ∷ xid ∷ []) [] ++ told_cells t
 
 -- these bytes, all of them, spell this message with this transaction id
 pub record SpellsSwitchMessage (xid : ℕ) (t : Told) (bytes : List ℕ) : Type 0 where
