@@ -13,13 +13,6 @@ port =
     u32 "port_no" ∷ pad 4 ∷ plain "hw_addr" 6 ∷ pad 2 ∷ plain "name" 16 ∷ u32 "config" ∷ u32 "state"
     ∷ u32 "curr" ∷ u32 "advertised" ∷ u32 "supported" ∷ u32 "peer" ∷ u32 "curr_speed" ∷ u32 "max_speed" ∷ []
 
--- 7.2.3, struct ofp_match, and 7.2.3.2, the header of an OXM field
-abbrev pub match_head : Struct
-match_head = u16 "type" ∷ u16 "length" ∷ []
-
-abbrev pub oxm : Struct
-oxm = u16 "oxm_class" ∷ u8 "oxm_field" ∷ u8 "oxm_length" ∷ []
-
 -- 7.2.4, struct ofp_instruction
 abbrev pub instruction_goto_table : Struct
 instruction_goto_table = u16 "type" ∷ u16 "len" ∷ u8 "table_id" ∷ pad 3 ∷ []
