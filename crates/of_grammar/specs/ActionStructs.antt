@@ -1,10 +1,12 @@
 -- The structs of actions (OpenFlow 1.3.5, 7.2.5).
-use Rattle.std.specs.Prelude.{◌≡◌, ℕ, ◌+◌, ◌*◌, ◌-◌, List, [], ◌∷◌}
+use Rattle.std.specs.Prelude.{◌≡◌, ℕ, ◌+◌, ◌*◌, ◌-◌, List, [], ◌∷◌, drop}
 use Rattle.of_layers.specs.Fields.{bytes_of, number_of}
 use Rattle.of_actions.specs.declared.action.Action.{Action}
 use Rattle.of_actions.specs.declared.action.Action.TheVariants.{Output, PushVlan, PopVlan, Group, SetNwTtl, DecNwTtl, SetField}
 use Rattle.of_actions.specs.SetField.{set_len}
-use Rattle.of_grammar.specs.Cells.{Cell, byte, number, u16, u32, pad, Begins}
+use Rattle.of_formats.specs.Tables as tables
+use Rattle.of_grammar.specs.Cells.{Cell, u16, Begins}
+use Rattle.of_grammar.specs.StructCells.{cells_of}
 
 -- OFPAT_*
 abbrev pub action_type : Action → ℕ
@@ -22,14 +24,14 @@ action_types = 0 ∷ 17 ∷ 18 ∷ 22 ∷ 23 ∷ 24 ∷ 25 ∷ []
 
 -- after the type the length of the action, its values, and padding; a SET_FIELD has an OXM field of class 0x8000 without a mask (7.2.3.2)
 abbrev pub said_cells : Action → List Cell
-said_cells (Output port max_len) = u16 16 ∷ u32 port ∷ u16 max_len ∷ pad 6 ∷ []
-said_cells (PushVlan type) = u16 8 ∷ u16 type ∷ pad 2 ∷ []
-said_cells PopVlan = u16 8 ∷ pad 4 ∷ []
-said_cells (Group group) = u16 8 ∷ u32 group ∷ []
-said_cells (SetNwTtl ttl) = u16 8 ∷ byte ttl ∷ pad 3 ∷ []
-said_cells DecNwTtl = u16 8 ∷ pad 4 ∷ []
+said_cells (Output port max_len) = cells_of (drop 1 tables.action_output) (16 ∷ port ∷ max_len ∷ []) []
+said_cells (PushVlan type) = cells_of (drop 1 tables.action_push) (8 ∷ type ∷ []) []
+said_cells PopVlan = cells_of (drop 1 tables.action_header) (8 ∷ []) []
+said_cells (Group group) = cells_of (drop 1 tables.action_group) (8 ∷ group ∷ []) []
+said_cells (SetNwTtl ttl) = cells_of (drop 1 tables.action_nw_ttl) (8 ∷ ttl ∷ []) []
+said_cells DecNwTtl = cells_of (drop 1 tables.action_header) (8 ∷ []) []
 said_cells (SetField f value) =
-    u16 (set_len f) ∷ u16 0x8000 ∷ byte (2 * number_of f) ∷ byte (bytes_of f) ∷ number (bytes_of f) value ∷ pad (set_len f - (8 + bytes_of f)) ∷ []
+    cells_of (drop 1 (tables.action_set_field (bytes_of f) (set_len f - (8 + bytes_of f)))) (set_len f ∷ 0x8000 ∷ 2 * number_of f ∷ bytes_of f ∷ value ∷ []) []
 
 abbrev pub action_cells : Action → List Cell
 action_cells a = u16 (action_type a) ∷ said_cells a

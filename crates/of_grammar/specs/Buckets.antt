@@ -2,11 +2,13 @@
 use Rattle.std.specs.Prelude.{◌≡◌, ℕ, ◌%◌, ◌+◌, false, List, [], ◌∷◌, ◌++◌, length, None}
 use Rattle.of_actions.specs.Actions.{AreActions}
 use Rattle.of_groups.specs.declared.bucket.Bucket.{Bucket}
-use Rattle.of_grammar.specs.Cells.{Cell, u16, u32, pad, Begins}
+use Rattle.of_grammar.specs.StructCells.{cells_of}
+use Rattle.of_formats.specs.Tables as tables
+use Rattle.of_grammar.specs.Cells.{Cell, Begins}
 
 -- the length of the whole bucket, its weight, and what it watches
 abbrev pub bucket_cells : ℕ → Bucket → List Cell
-bucket_cells size b = u16 size ∷ u16 b.weight ∷ u32 b.watch_port ∷ u32 b.watch_group ∷ pad 4 ∷ []
+bucket_cells size b = cells_of tables.bucket (size ∷ b.weight ∷ b.watch_port ∷ b.watch_group ∷ []) []
 
 -- the bytes begin with the bucket, its fields and its actions, and then comes the rest; its counters are 0, and its length is a multiple of 8 (else OFPGMFC_BAD_BUCKET)
 pub record IsBucket (b : Bucket) (bytes rest : List ℕ) : Type 0 where

@@ -1,5 +1,5 @@
 -- THE GRAMMAR: which bytes spell which message of a controller (OpenFlow 1.3.5, 7).
-use Rattle.std.specs.Prelude.{◌≡◌, ◌≤◌, ◌<◌, ℕ, bit_and, ◌⊎◌, ⊤, Bool, true, false, List, [], ◌∷◌, ◌++◌, length, Option, Some, None}
+use Rattle.std.specs.Prelude.{◌≡◌, ◌≤◌, ◌<◌, ℕ, bit_and, ◌⊎◌, ⊤, Bool, true, false, List, [], ◌∷◌, ◌++◌, length, take, drop, Option, Some, None}
 use Rattle.of_oxm.specs.MatchGrammar.{SpellsMatch}
 use Rattle.of_actions.specs.Actions.{AreActions}
 use Rattle.of_actions.specs.FlowCheck.{all_go_with}
@@ -7,7 +7,7 @@ use Rattle.of_actions.specs.Instructions.{SpellsInstructions}
 use Rattle.of_actions.specs.PortNumbers.{controller}
 use Rattle.of_groups.specs.declared.group.GroupKind.{GroupKind}
 use Rattle.of_groups.specs.declared.group.GroupKind.TheVariants.{All, Indirect, FastFailover}
-use Rattle.of_messages.specs.declared.async_masks.RoleMasks.{RoleMasks}
+use Rattle.of_messages.specs.declared.async_masks.AsyncMasks.{AsyncMasks}
 use Rattle.of_messages.specs.declared.group_mod.GroupMod.{GroupMod}
 use Rattle.of_messages.specs.declared.group_mod.GroupMod.TheVariants as group
 use Rattle.of_messages.specs.declared.group_mod.NewGroup.{NewGroup}
@@ -24,7 +24,9 @@ use Rattle.of_messages.specs.declared.role.Role.TheVariants as role
 use Rattle.of_messages.specs.declared.role.RoleRequest.{RoleRequest}
 use Rattle.of_messages.specs.declared.role.RoleRequest.TheVariants.{NoChange, Equal, Master, Slave}
 use Rattle.of_grammar.specs.Buckets.{AreBuckets}
-use Rattle.of_grammar.specs.Cells.{Cell, byte, u16, u32, u64, plain, pad, Begins}
+use Rattle.of_grammar.specs.StructCells.{cells_of, without}
+use Rattle.of_formats.specs.Tables as tables
+use Rattle.of_grammar.specs.Cells.{Cell, byte, pad, Begins}
 use Rattle.of_grammar.specs.Requests.{NamesTable, all_groups, or_all, request_cells, RequestTail, IsValidRequest}
 
 -- THE HEADER (7.1, struct ofp_header)
@@ -88,7 +90,7 @@ IsData (Frame frame) bytes = bytes ≡ frame
 pub record ActionsThenData (m : PacketOut) (tail : List ℕ) : Type 0 where
   pub actions : List ℕ
   pub packet : List ℕ
-  pub front : Begins (u16 (length actions) ∷ pad 6 ∷ []) tail (actions ++ packet)
+  pub front : Begins (cells_of (drop 2 tables.packet_out) (length actions ∷ []) []) tail (actions ++ packet)
   pub are : AreActions true [] actions m.actions None
   pub is : IsData m.packet packet
 
@@ -114,10 +116,12 @@ command_number ModifyStrict = 2
 command_number Delete = 3
 command_number DeleteStrict = 4
 
+abbrev pub flow_mod_numbers : FlowMod → List ℕ
+flow_mod_numbers m =
+    m.cookie ∷ m.cookie_mask ∷ m.table ∷ command_number m.command ∷ m.idle_timeout ∷ m.hard_timeout ∷ m.priority ∷ m.buffer ∷ m.out_port ∷ m.out_group ∷ m.flags ∷ []
+
 abbrev pub flow_mod_cells : FlowMod → List Cell
-flow_mod_cells m =
-    u64 m.cookie ∷ u64 m.cookie_mask ∷ byte m.table ∷ byte (command_number m.command) ∷ u16 m.idle_timeout ∷ u16 m.hard_timeout ∷ u16 m.priority
-    ∷ u32 m.buffer ∷ u32 m.out_port ∷ u32 m.out_group ∷ u16 m.flags ∷ pad 2 ∷ []
+flow_mod_cells m = cells_of tables.flow_mod (flow_mod_numbers m) []
 
 abbrev pub deletes : FlowModCommand → Bool
 deletes Add = false
@@ -159,13 +163,13 @@ kind_number Indirect = 2
 kind_number FastFailover = 3
 
 abbrev pub group_cells : ℕ → NewGroup → List Cell
-group_cells command g = u16 command ∷ byte (kind_number g.kind) ∷ pad 1 ∷ u32 g.id ∷ []
+group_cells command g = cells_of tables.group_mod (command ∷ kind_number g.kind ∷ g.id ∷ []) []
 
 -- OFPGC_*; of a DELETE the type and the buckets are ignored
 abbrev pub group_mod_cells : GroupMod → List Cell
 group_mod_cells (group.Add g) = group_cells 0 g
 group_mod_cells (group.Modify g) = group_cells 1 g
-group_mod_cells (group.Delete which) = u16 2 ∷ pad 2 ∷ u32 (or_all all_groups which) ∷ []
+group_mod_cells (group.Delete which) = cells_of (without "type" tables.group_mod) (2 ∷ or_all all_groups which ∷ []) []
 
 abbrev pub GroupTail : GroupMod → List ℕ → Type 0
 GroupTail (group.Add g) tail = AreBuckets g.buckets tail
@@ -189,36 +193,37 @@ IsValidGroupMod (group.Delete which) = IsValidNumber which
 
 -- OFPCR_ROLE_*, padding, and the generation_id, which counts for a MASTER and a SLAVE alone
 abbrev pub role_cells : RoleRequest → List Cell
-role_cells NoChange = u32 0 ∷ pad 4 ∷ pad 8 ∷ []
-role_cells Equal = u32 1 ∷ pad 4 ∷ pad 8 ∷ []
-role_cells (Master generation) = u32 2 ∷ pad 4 ∷ u64 generation ∷ []
-role_cells (Slave generation) = u32 3 ∷ pad 4 ∷ u64 generation ∷ []
+role_cells NoChange = cells_of (without "generation_id" tables.role) (0 ∷ []) []
+role_cells Equal = cells_of (without "generation_id" tables.role) (1 ∷ []) []
+role_cells (Master generation) = cells_of tables.role (2 ∷ generation ∷ []) []
+role_cells (Slave generation) = cells_of tables.role (3 ∷ generation ∷ []) []
 
 -- SET_ASYNC (7.3.10, struct ofp_async_config): while the controller is master or equal, and while it is a slave
-abbrev pub masks_cells : RoleMasks → List Cell
-masks_cells masks = u32 masks.master ∷ u32 masks.slave ∷ []
+abbrev pub masks_cells : AsyncMasks → List Cell
+masks_cells a =
+    cells_of tables.async_config (a.packet_in.master ∷ a.packet_in.slave ∷ a.port_status.master ∷ a.port_status.slave ∷ a.flow_removed.master ∷ a.flow_removed.slave ∷ []) []
 
 -- EACH MESSAGE
 
 -- Its fields after the header: struct ofp_error_msg (7.4.4), whose type and code are ignored, ofp_switch_config (7.3.2), whose flags are 0 (OFPSCFC_BAD_FLAGS), ofp_port_mod (7.3.4.3), ofp_table_mod (7.3.3), and those above.
 abbrev pub cells : Message → List Cell
 cells Hello = []
-cells Error = pad 2 ∷ pad 2 ∷ []
+cells Error = cells_of (without "type" (without "code" tables.error_msg)) [] []
 cells (EchoRequest echoed) = []
 cells EchoReply = []
 cells FeaturesRequest = []
 cells GetConfigRequest = []
-cells (SetConfig config) = u16 0 ∷ u16 config.miss_send_len ∷ []
-cells (IsPacketOut m) = u32 (buffer_of m.packet) ∷ u32 m.in_port ∷ []
+cells (SetConfig config) = cells_of tables.switch_config (0 ∷ config.miss_send_len ∷ []) []
+cells (IsPacketOut m) = cells_of (take 2 tables.packet_out) (buffer_of m.packet ∷ m.in_port ∷ []) []
 cells (IsFlowMod m) = flow_mod_cells m
 cells (IsGroupMod m) = group_mod_cells m
-cells (IsPortMod m) = u32 m.port ∷ pad 4 ∷ plain 6 m.hw ∷ pad 2 ∷ u32 m.config ∷ u32 m.mask ∷ pad 4 ∷ pad 4 ∷ []
-cells (IsTableMod m) = byte m.table ∷ pad 3 ∷ u32 m.config ∷ []
+cells (IsPortMod m) = cells_of tables.port_mod (m.port ∷ m.config ∷ m.mask ∷ []) (m.hw ∷ [])
+cells (IsTableMod m) = cells_of tables.table_mod (m.table ∷ m.config ∷ []) []
 cells (Multipart request) = request_cells request
 cells BarrierRequest = []
 cells (IsRoleRequest request) = role_cells request
 cells GetAsyncRequest = []
-cells (SetAsync masks) = masks_cells masks.packet_in ++ (masks_cells masks.port_status ++ masks_cells masks.flow_removed)
+cells (SetAsync masks) = masks_cells masks
 
 -- What follows these: nothing, data, or what is ignored (elements of a HELLO, data of an ERROR and of an ECHO_REPLY).
 abbrev pub Tail : Message → List ℕ → Type 0
@@ -262,7 +267,7 @@ IsValid (SetAsync masks) = ⊤
 
 -- version, type, length of the message, transaction id, and the fields of the message
 abbrev pub fixed_part_cells : Message → ℕ → ℕ → List Cell
-fixed_part_cells m size xid = version m ∷ byte (type m) ∷ u16 size ∷ u32 xid ∷ cells m
+fixed_part_cells m size xid = version m ∷ cells_of (drop 1 tables.header) (type m ∷ size ∷ xid ∷ []) [] ++ cells m
 
 -- these bytes, all of them, spell the message with this transaction id
 pub record Spells (xid : ℕ) (m : Message) (bytes : List ℕ) : Type 0 where

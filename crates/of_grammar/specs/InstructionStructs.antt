@@ -6,7 +6,9 @@ use Rattle.of_actions.specs.declared.instruction.Instruction.{Instruction}
 use Rattle.of_actions.specs.declared.instruction.Instruction.TheVariants.{Apply, Clear, Write, Metadata, Goto}
 use Rattle.of_actions.specs.RunOrder.{in_run_order}
 use Rattle.of_grammar.specs.ActionStructs.{AreStructs}
-use Rattle.of_grammar.specs.Cells.{Cell, byte, u16, u64, pad, Begins}
+use Rattle.of_grammar.specs.StructCells.{cells_of}
+use Rattle.of_formats.specs.Tables as tables
+use Rattle.of_grammar.specs.Cells.{Cell, Begins}
 
 -- OFPIT_*
 abbrev pub instruction_type : Instruction → ℕ
@@ -18,11 +20,11 @@ instruction_type Clear = 5
 
 -- after the type the length of the instruction, of whose actions there are so many bytes, what it says, and padding
 abbrev pub instruction_cells : Instruction → ℕ → List Cell
-instruction_cells (Goto table) size = u16 1 ∷ u16 8 ∷ byte table ∷ pad 3 ∷ []
-instruction_cells (Metadata value mask) size = u16 2 ∷ u16 24 ∷ pad 4 ∷ u64 value ∷ u64 mask ∷ []
-instruction_cells (Write actions) size = u16 3 ∷ u16 (8 + size) ∷ pad 4 ∷ []
-instruction_cells (Apply actions) size = u16 4 ∷ u16 (8 + size) ∷ pad 4 ∷ []
-instruction_cells Clear size = u16 5 ∷ u16 8 ∷ pad 4 ∷ []
+instruction_cells (Goto table) size = cells_of tables.instruction_goto_table (1 ∷ 8 ∷ table ∷ []) []
+instruction_cells (Metadata value mask) size = cells_of tables.instruction_write_metadata (2 ∷ 24 ∷ value ∷ mask ∷ []) []
+instruction_cells (Write actions) size = cells_of tables.instruction_actions (3 ∷ (8 + size) ∷ []) []
+instruction_cells (Apply actions) size = cells_of tables.instruction_actions (4 ∷ (8 + size) ∷ []) []
+instruction_cells Clear size = cells_of tables.instruction_actions (5 ∷ 8 ∷ []) []
 
 -- its actions follow
 abbrev pub actions_in : Instruction → List Action

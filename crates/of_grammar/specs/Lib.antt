@@ -1,3 +1,4 @@
+pub mod StructCells
 pub mod Cells
 pub mod ActionStructs
 pub mod InstructionStructs

@@ -5,7 +5,9 @@ use Rattle.of_oxm.specs.MatchGrammar.{SpellsMatch}
 use Rattle.of_messages.specs.declared.multipart.FlowStatsRequest.{FlowStatsRequest}
 use Rattle.of_messages.specs.declared.multipart.MultipartRequest.{MultipartRequest}
 use Rattle.of_messages.specs.declared.multipart.MultipartRequest.TheVariants.{Description, Flow, Aggregate, Table, PortStats, Group, GroupDescription, GroupFeatures, PortDescription}
-use Rattle.of_grammar.specs.Cells.{Cell, byte, u16, u32, u64, pad, even}
+use Rattle.of_grammar.specs.StructCells.{cells_of}
+use Rattle.of_formats.specs.Tables as tables
+use Rattle.of_grammar.specs.Cells.{Cell, u16, pad, even}
 
 -- the type of the request, OFPMP_*
 abbrev pub request_type : MultipartRequest → ℕ
@@ -32,7 +34,7 @@ or_all all (Some number) = number
 
 -- struct ofp_flow_stats_request and ofp_aggregate_stats_request, before the match (7.3.5.2 and 7.3.5.3)
 abbrev pub flows_cells : FlowStatsRequest → List Cell
-flows_cells r = byte r.table ∷ pad 3 ∷ u32 r.out_port ∷ u32 r.out_group ∷ pad 4 ∷ u64 r.cookie ∷ u64 r.cookie_mask ∷ []
+flows_cells r = cells_of tables.flow_stats_request (r.table ∷ r.out_port ∷ r.out_group ∷ r.cookie ∷ r.cookie_mask ∷ []) []
 
 -- 7.3.5.6 and 7.3.5.8: struct ofp_port_stats_request and ofp_group_stats_request
 abbrev pub body_cells : MultipartRequest → List Cell
@@ -40,8 +42,8 @@ body_cells Description = []
 body_cells (Flow r) = flows_cells r
 body_cells (Aggregate r) = flows_cells r
 body_cells Table = []
-body_cells (PortStats port) = u32 (or_all any_port port) ∷ pad 4 ∷ []
-body_cells (Group group) = u32 (or_all all_groups group) ∷ pad 4 ∷ []
+body_cells (PortStats port) = cells_of tables.port_stats_request (or_all any_port port ∷ []) []
+body_cells (Group group) = cells_of tables.group_stats_request (or_all all_groups group ∷ []) []
 body_cells GroupDescription = []
 body_cells GroupFeatures = []
 body_cells PortDescription = []

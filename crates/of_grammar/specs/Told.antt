@@ -14,7 +14,9 @@ use Rattle.of_messages.specs.declared.port_mod.PortStatusReason.{PortStatusReaso
 use Rattle.of_messages.specs.declared.port_mod.PortStatusReason.TheVariants as status
 use Rattle.of_messages.specs.declared.role.Role.{Role}
 use Rattle.of_messages.specs.declared.role.Role.TheVariants as role
-use Rattle.of_grammar.specs.Cells.{Cell, byte, u16, u32, u64, plain, pad, Begins}
+use Rattle.of_grammar.specs.StructCells.{cells_of}
+use Rattle.of_formats.specs.Tables as tables
+use Rattle.of_grammar.specs.Cells.{Cell, pad, Begins}
 use Rattle.of_grammar.specs.Grammar.{masks_cells}
 
 -- HELLO with a bitmap of versions, ERROR with its data, ECHO_REPLY with its data, FEATURES_REPLY with the datapath id, GET_CONFIG_REPLY, PACKET_IN with its data, FLOW_REMOVED with its match, PORT_STATUS, BARRIER_REPLY, ROLE_REPLY with its generation, and GET_ASYNC_REPLY
@@ -58,37 +60,38 @@ role_value role.Slave = 3
 
 -- struct ofp_switch_features (7.3.1): 256 buffers, 16 tables, no auxiliary connection, OFPC_FLOW_STATS, TABLE_STATS, PORT_STATS and GROUP_STATS
 abbrev pub features_cells : ℕ → List Cell
-features_cells dpid = u64 dpid ∷ u32 256 ∷ byte 16 ∷ byte 0 ∷ pad 2 ∷ u32 15 ∷ pad 4 ∷ []
+features_cells dpid = cells_of tables.switch_features (dpid ∷ 256 ∷ 16 ∷ 0 ∷ 15 ∷ []) []
 
 -- struct ofp_packet_in (7.4.1), before the match
 abbrev pub packet_in_cells : PacketIn → List Cell
-packet_in_cells p = u32 p.buffer ∷ u16 p.total_len ∷ byte (packet_in_number p.reason) ∷ byte p.table ∷ u64 p.cookie ∷ []
+packet_in_cells p = cells_of tables.packet_in (p.buffer ∷ p.total_len ∷ packet_in_number p.reason ∷ p.table ∷ p.cookie ∷ []) []
 
 -- struct ofp_flow_removed (7.4.2), before the match
 abbrev pub removed_cells : FlowRemoved → List Cell
 removed_cells r =
-    u64 r.cookie ∷ u16 r.priority ∷ byte (flow_removed_number r.reason) ∷ byte r.table ∷ u32 r.duration_sec ∷ u32 r.duration_nsec
-    ∷ u16 r.idle_timeout ∷ u16 r.hard_timeout ∷ u64 r.packets ∷ u64 r.bytes ∷ []
+    cells_of tables.flow_removed
+    (r.cookie ∷ r.priority ∷ flow_removed_number r.reason ∷ r.table ∷ r.duration_sec ∷ r.duration_nsec ∷ r.idle_timeout ∷ r.hard_timeout ∷ r.packets ∷ r.bytes ∷ []) []
 
 -- struct ofp_port (7.2.1): no features (four words) and no speeds (two)
+abbrev pub port_numbers : PortDescription → List ℕ
+port_numbers p = p.number ∷ p.config ∷ p.state ∷ 0 ∷ 0 ∷ 0 ∷ 0 ∷ 0 ∷ 0 ∷ []
+
 abbrev pub port_cells : PortDescription → List Cell
-port_cells p =
-    u32 p.number ∷ pad 4 ∷ plain 6 p.hw ∷ pad 2 ∷ plain 16 p.name ∷ u32 p.config ∷ u32 p.state
-    ∷ u32 0 ∷ u32 0 ∷ u32 0 ∷ u32 0 ∷ u32 0 ∷ u32 0 ∷ []
+port_cells p = cells_of tables.port (port_numbers p) (p.hw ∷ p.name ∷ [])
 
 -- the fields after the header; of a HELLO one element, OFPHET_VERSIONBITMAP, of 8 bytes (7.5.1)
 abbrev pub told_cells : Told → List Cell
-told_cells (hello bitmap) = u16 1 ∷ u16 8 ∷ u32 bitmap ∷ []
-told_cells (error code failed) = u16 code.kind ∷ u16 code.code ∷ []
+told_cells (hello bitmap) = cells_of tables.hello_elem_versionbitmap (1 ∷ 8 ∷ bitmap ∷ []) []
+told_cells (error code failed) = cells_of tables.error_msg (code.kind ∷ code.code ∷ []) []
 told_cells (echo_reply echoed) = []
 told_cells (features_reply dpid) = features_cells dpid
-told_cells (config_reply config) = u16 0 ∷ u16 config.miss_send_len ∷ []
+told_cells (config_reply config) = cells_of tables.switch_config (0 ∷ config.miss_send_len ∷ []) []
 told_cells (packet_in p «data») = packet_in_cells p
 told_cells (flow_removed r fields) = removed_cells r
-told_cells (port_status reason port) = byte (port_reason reason) ∷ pad 7 ∷ port_cells port
+told_cells (port_status reason p) = cells_of tables.port_status (port_reason reason ∷ port_numbers p) (p.hw ∷ p.name ∷ [])
 told_cells barrier_reply = []
-told_cells (role_reply role generation) = u32 (role_value role) ∷ pad 4 ∷ u64 generation ∷ []
-told_cells (async_reply masks) = masks_cells masks.packet_in ++ (masks_cells masks.port_status ++ masks_cells masks.flow_removed)
+told_cells (role_reply role generation) = cells_of tables.role (role_value role ∷ generation ∷ []) []
+told_cells (async_reply masks) = masks_cells masks
 
 -- the match of a PACKET_IN: the ingress port, and the metadata where it is not 0
 abbrev pub told_fields : PacketIn → List MatchField
@@ -118,7 +121,7 @@ ToldTail (role_reply role generation) tail = tail ≡ []
 ToldTail (async_reply masks) tail = tail ≡ []
 
 abbrev pub switch_message_fixed_part : Told → ℕ → ℕ → List Cell
-switch_message_fixed_part t size xid = byte 4 ∷ byte (switch_message_type t) ∷ u16 size ∷ u32 xid ∷ told_cells t
+switch_message_fixed_part t size xid = cells_of tables.header (4 ∷ switch_message_type t ∷ size ∷ xid ∷ []) [] ++ told_cells t
 
 -- these bytes, all of them, spell this message with this transaction id
 pub record SpellsSwitchMessage (xid : ℕ) (t : Told) (bytes : List ℕ) : Type 0 where

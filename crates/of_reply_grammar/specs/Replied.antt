@@ -4,7 +4,9 @@ use Rattle.std.specs.List.{sum_by}
 use Rattle.of_messages.specs.declared.group_mod.NewGroup.{NewGroup}
 use Rattle.of_messages.specs.declared.port_mod.PortDescription.{PortDescription}
 use Rattle.of_grammar.specs.ActionStructs.{action_types}
-use Rattle.of_grammar.specs.Cells.{Cell, byte, u16, u32, u64, plain, pad, Begins}
+use Rattle.of_formats.specs.Tables as structs
+use Rattle.of_grammar.specs.Cells.{Cell, Begins}
+use Rattle.of_grammar.specs.StructCells.{cells_of}
 use Rattle.of_reply_grammar.specs.Rows.{AreRows, FlowStats, IsFlow, AggregateStats, TableStats, IsTable, PortStats, IsPort, GroupStats, IsGroup, IsDescribed, IsDescribedPort}
 
 -- DESC, FLOW, AGGREGATE, TABLE, PORT_STATS, GROUP, GROUP_DESC, GROUP_FEATURES and PORT_DESC
@@ -32,12 +34,12 @@ reply_type group_features = 8
 reply_type (described_ports rows) = 13
 
 -- a text, padded with zeros
-abbrev pub text : ℕ → List ℕ → Cell
-text size letters = plain size (letters ++ replicate (size - length letters) 0)
+abbrev pub text : ℕ → List ℕ → List ℕ
+text size letters = letters ++ replicate (size - length letters) 0
 
 -- struct ofp_desc (7.3.5.1): the manufacturer, the hardware, the software, the serial number, and what a person would call this datapath
 abbrev pub description_cells : List Cell
-description_cells = text 256 (codes "ofswitch") ∷ text 256 (codes "software") ∷ text 256 (codes "1") ∷ text 32 (codes "0") ∷ text 256 (codes "ofswitch") ∷ []
+description_cells = cells_of structs.desc [] (text 256 (codes "ofswitch") ∷ text 256 (codes "software") ∷ text 256 (codes "1") ∷ text 32 (codes "0") ∷ text 256 (codes "ofswitch") ∷ [])
 
 -- the bit of each action's type
 abbrev pub bucket_actions : ℕ
@@ -45,13 +47,13 @@ bucket_actions = sum_by (λ n. 2 ^ n) action_types
 
 -- struct ofp_group_features (7.3.5.11): the types ALL, INDIRECT and FAST-FAILOVER, chaining that is checked, and of the four types how many groups there can be, and their actions
 abbrev pub features_cells : List Cell
-features_cells = u32 0x0d ∷ u32 0x0c ∷ u32 256 ∷ u32 0 ∷ u32 256 ∷ u32 256 ∷ u32 bucket_actions ∷ u32 0 ∷ u32 bucket_actions ∷ u32 bucket_actions ∷ []
+features_cells = cells_of structs.group_features (0x0d ∷ 0x0c ∷ 256 ∷ 0 ∷ 256 ∷ 256 ∷ bucket_actions ∷ 0 ∷ bucket_actions ∷ bucket_actions ∷ []) []
 
 -- fields before the rows; struct ofp_aggregate_stats_reply (7.3.5.3)
 abbrev pub reply_cells : Reply → List Cell
 reply_cells description = description_cells
 reply_cells (flows rows) = []
-reply_cells (aggregate t) = u64 t.packets ∷ u64 t.bytes ∷ u32 t.flows ∷ pad 4 ∷ []
+reply_cells (aggregate t) = cells_of structs.aggregate_stats (t.packets ∷ t.bytes ∷ t.flows ∷ []) []
 reply_cells (tables rows) = []
 reply_cells (ports rows) = []
 reply_cells (groups rows) = []
@@ -77,7 +79,7 @@ flags true = 1
 
 -- version 4, type 19, length, transaction id, the type of the request, flags, padding, and the fields of the reply
 abbrev pub reply_fixed_part : Reply → Bool → ℕ → ℕ → List Cell
-reply_fixed_part r more size xid = byte 4 ∷ byte 19 ∷ u16 size ∷ u32 xid ∷ u16 (reply_type r) ∷ u16 (flags more) ∷ pad 4 ∷ reply_cells r
+reply_fixed_part r more size xid = cells_of (structs.header ++ structs.multipart) (4 ∷ 19 ∷ size ∷ xid ∷ reply_type r ∷ flags more ∷ []) [] ++ reply_cells r
 
 -- these bytes, all of them, spell the reply with this transaction id
 pub record SpellsReply (xid : ℕ) (more : Bool) (r : Reply) (bytes : List ℕ) : Type 0 where

@@ -1,5 +1,5 @@
 -- The rows of replies to multipart requests: which bytes spell which row, whatever follows (OpenFlow 1.3.5, 7.3.5).
-use Rattle.std.specs.Prelude.{◌≡◌, ℕ, ◌+◌, ◌*◌, List, [], ◌∷◌, ◌++◌, length}
+use Rattle.std.specs.Prelude.{◌≡◌, ℕ, ◌+◌, ◌*◌, List, [], ◌∷◌, ◌++◌, length, drop}
 use Rattle.of_oxm.specs.declared.match_field.MatchField.{MatchField}
 use Rattle.of_oxm.specs.MatchGrammar.{SpellsMatch}
 use Rattle.of_actions.specs.declared.instruction.Instruction.{Instruction}
@@ -8,7 +8,9 @@ use Rattle.of_ports.specs.declared.counters.PortCounters.{PortCounters}
 use Rattle.of_messages.specs.declared.group_mod.NewGroup.{NewGroup}
 use Rattle.of_messages.specs.declared.port_mod.PortDescription.{PortDescription}
 use Rattle.of_grammar.specs.Buckets.{AreBuckets}
-use Rattle.of_grammar.specs.Cells.{Cell, byte, u16, u32, u64, pad, Begins}
+use Rattle.of_formats.specs.Tables as tables
+use Rattle.of_grammar.specs.Cells.{Cell, u16, Begins}
+use Rattle.of_grammar.specs.StructCells.{cells_of}
 use Rattle.of_grammar.specs.Grammar.{kind_number}
 use Rattle.of_grammar.specs.Told.{port_cells}
 
@@ -36,8 +38,8 @@ pub record FlowStats : Type 0 where
 -- after the length of the row
 abbrev pub flow_cells : FlowStats → List Cell
 flow_cells s =
-    byte s.table ∷ pad 1 ∷ u32 s.duration_sec ∷ u32 s.duration_nsec ∷ u16 s.priority ∷ u16 s.idle_timeout ∷ u16 s.hard_timeout ∷ u16 s.flags ∷ pad 4
-    ∷ u64 s.cookie ∷ u64 s.packets ∷ u64 s.bytes ∷ []
+    cells_of (drop 1 tables.flow_stats)
+    (s.table ∷ s.duration_sec ∷ s.duration_nsec ∷ s.priority ∷ s.idle_timeout ∷ s.hard_timeout ∷ s.flags ∷ s.cookie ∷ s.packets ∷ s.bytes ∷ []) []
 
 -- the length of the whole row, which is 48 bytes, the match and the instructions
 pub record IsFlow (s : FlowStats) (bytes rest : List ℕ) : Type 0 where
@@ -63,7 +65,7 @@ pub record TableStats : Type 0 where
   pub matched : ℕ
 
 abbrev pub table_cells : TableStats → List Cell
-table_cells s = byte s.table ∷ pad 3 ∷ u32 s.active ∷ u64 s.lookups ∷ u64 s.matched ∷ []
+table_cells s = cells_of tables.table_stats (s.table ∷ s.active ∷ s.lookups ∷ s.matched ∷ []) []
 
 abbrev pub IsTable : TableStats → List ℕ → List ℕ → Type 0
 IsTable s = Begins (table_cells s)
@@ -79,9 +81,9 @@ pub record PortStats : Type 0 where
 -- this switch has no transmit errors, and reports no kinds of errors (frames, overruns, CRC) and no collisions
 abbrev pub port_stats_cells : PortStats → List Cell
 port_stats_cells s =
-    u32 s.port ∷ pad 4 ∷ u64 s.counters.rx_packets ∷ u64 s.counters.tx_packets ∷ u64 s.counters.rx_bytes ∷ u64 s.counters.tx_bytes
-    ∷ u64 s.counters.rx_dropped ∷ u64 s.counters.tx_dropped ∷ u64 s.counters.rx_errors ∷ u64 0 ∷ u64 0 ∷ u64 0 ∷ u64 0 ∷ u64 0
-    ∷ u32 s.duration_sec ∷ u32 s.duration_nsec ∷ []
+    cells_of tables.port_stats
+    (s.port ∷ s.counters.rx_packets ∷ s.counters.tx_packets ∷ s.counters.rx_bytes ∷ s.counters.tx_bytes ∷ s.counters.rx_dropped ∷ s.counters.tx_dropped
+    ∷ s.counters.rx_errors ∷ 0 ∷ 0 ∷ 0 ∷ 0 ∷ 0 ∷ s.duration_sec ∷ s.duration_nsec ∷ []) []
 
 abbrev pub IsPort : PortStats → List ℕ → List ℕ → Type 0
 IsPort s = Begins (port_stats_cells s)
@@ -103,12 +105,12 @@ pub record GroupStats : Type 0 where
 
 -- after the length of the row
 abbrev pub group_stats_cells : GroupStats → List Cell
-group_stats_cells s = pad 2 ∷ u32 s.id ∷ u32 s.references ∷ pad 4 ∷ u64 s.packets ∷ u64 s.bytes ∷ u32 s.duration_sec ∷ u32 s.duration_nsec ∷ []
+group_stats_cells s = cells_of (drop 1 tables.group_stats) (s.id ∷ s.references ∷ s.packets ∷ s.bytes ∷ s.duration_sec ∷ s.duration_nsec ∷ []) []
 
 -- struct ofp_bucket_counter
 abbrev pub bucket_stats_cells : List BucketStats → List Cell
 bucket_stats_cells [] = []
-bucket_stats_cells (b ∷ bs) = u64 b.packets ∷ u64 b.bytes ∷ bucket_stats_cells bs
+bucket_stats_cells (b ∷ bs) = cells_of tables.bucket_counter (b.packets ∷ b.bytes ∷ []) [] ++ bucket_stats_cells bs
 
 -- the length of the whole row, which is 40 bytes, and 16 for each bucket
 pub record IsGroup (s : GroupStats) (bytes rest : List ℕ) : Type 0 where
@@ -120,7 +122,7 @@ pub record IsGroup (s : GroupStats) (bytes rest : List ℕ) : Type 0 where
 
 -- after the length of the row
 abbrev pub group_cells : NewGroup → List Cell
-group_cells g = byte (kind_number g.kind) ∷ pad 1 ∷ u32 g.id ∷ []
+group_cells g = cells_of (drop 1 tables.group_desc) (kind_number g.kind ∷ g.id ∷ []) []
 
 -- the length of the whole row, which is 8 bytes, and the buckets
 pub record IsDescribed (g : NewGroup) (bytes rest : List ℕ) : Type 0 where

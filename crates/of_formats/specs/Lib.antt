@@ -1,0 +1,2 @@
+pub mod Structs
+pub mod Tables
