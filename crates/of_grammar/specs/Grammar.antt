@@ -199,8 +199,8 @@ role_cells (Master generation) = cells_of tables.role (2 ∷ generation ∷ []) 
 role_cells (Slave generation) = cells_of tables.role (3 ∷ generation ∷ []) []
 
 -- SET_ASYNC (7.3.10, struct ofp_async_config): while the controller is master or equal, and while it is a slave
-abbrev pub masks_cells : AsyncMasks → List Cell
-masks_cells a =
+abbrev pub async_config_cells : AsyncMasks → List Cell
+async_config_cells a =
     cells_of tables.async_config (a.packet_in.master ∷ a.packet_in.slave ∷ a.port_status.master ∷ a.port_status.slave ∷ a.flow_removed.master ∷ a.flow_removed.slave ∷ []) []
 
 -- EACH MESSAGE
@@ -223,7 +223,7 @@ cells (Multipart request) = request_cells request
 cells BarrierRequest = []
 cells (IsRoleRequest request) = role_cells request
 cells GetAsyncRequest = []
-cells (SetAsync masks) = masks_cells masks
+cells (SetAsync masks) = async_config_cells masks
 
 -- What follows these: nothing, data, or what is ignored (elements of a HELLO, data of an ERROR and of an ECHO_REPLY).
 abbrev pub Tail : Message → List ℕ → Type 0

@@ -17,7 +17,7 @@ use Rattle.of_messages.specs.declared.role.Role.TheVariants as role
 use Rattle.of_grammar.specs.StructCells.{cells_of}
 use Rattle.of_formats.specs.Tables as tables
 use Rattle.of_grammar.specs.Cells.{Cell, pad, Begins}
-use Rattle.of_grammar.specs.Grammar.{masks_cells}
+use Rattle.of_grammar.specs.Grammar.{async_config_cells}
 
 -- HELLO with a bitmap of versions, ERROR with its data, ECHO_REPLY with its data, FEATURES_REPLY with the datapath id, GET_CONFIG_REPLY, PACKET_IN with its data, FLOW_REMOVED with its match, PORT_STATUS, BARRIER_REPLY, ROLE_REPLY with its generation, and GET_ASYNC_REPLY
 pub data Told : Type 0 where
@@ -91,7 +91,7 @@ told_cells (flow_removed r fields) = removed_cells r
 told_cells (port_status reason p) = cells_of tables.port_status (port_reason reason ∷ port_numbers p) (p.hw ∷ p.name ∷ [])
 told_cells barrier_reply = []
 told_cells (role_reply role generation) = cells_of tables.role (role_value role ∷ generation ∷ []) []
-told_cells (async_reply masks) = masks_cells masks
+told_cells (async_reply masks) = async_config_cells masks
 
 -- the match of a PACKET_IN: the ingress port, and the metadata where it is not 0
 abbrev pub told_fields : PacketIn → List MatchField

@@ -1,5 +1,5 @@
 -- The one spelling of each message of a controller that is written (OpenFlow 1.3.5, 7): its fields, with zeros for padding and for what is ignored, and then its match, actions, instructions or buckets in theirs.
-use Rattle.std.specs.Prelude.{ℕ, List, [], ◌∷◌, ◌++◌, length}
+use Rattle.std.specs.Prelude.{ℕ, List, [], ◌∷◌, ◌++◌, length, drop}
 use Rattle.of_oxm.specs.Canonical.{canonical as canonical_match}
 use Rattle.of_actions.specs.CanonicalActions.{canonical_actions}
 use Rattle.of_actions.specs.CanonicalInstructions.{canonical_instructions}
@@ -11,8 +11,10 @@ use Rattle.of_messages.specs.declared.message.Message.TheVariants.{EchoRequest, 
 use Rattle.of_messages.specs.declared.message.PacketData.{PacketData}
 use Rattle.of_messages.specs.declared.message.PacketData.TheVariants.{Buffered, Frame}
 use Rattle.of_messages.specs.declared.multipart.MultipartRequest.TheVariants.{Flow, Aggregate}
-use Rattle.of_grammar.specs.Cells.{u16, pad, canonical_cells}
+use Rattle.of_formats.specs.Tables as tables
+use Rattle.of_grammar.specs.Cells.{canonical_cells}
 use Rattle.of_grammar.specs.Grammar.{type, cells}
+use Rattle.of_grammar.specs.StructCells.{cells_of}
 
 -- nothing follows the actions where the packet is held by the switch
 abbrev pub frame_of : PacketData → List ℕ
@@ -22,7 +24,7 @@ frame_of (Frame frame) = frame
 -- what follows the fields: the length of the actions stands before them, and of the kinds whose content is not kept (HELLO, ERROR and ECHO_REPLY) there is nothing
 abbrev pub canonical_tail : Message → List ℕ
 canonical_tail (EchoRequest echoed) = echoed
-canonical_tail (IsPacketOut m) = canonical_cells (u16 (length (canonical_actions m.actions)) ∷ pad 6 ∷ []) ++ (canonical_actions m.actions ++ frame_of m.packet)
+canonical_tail (IsPacketOut m) = canonical_cells (cells_of (drop 2 tables.packet_out) (length (canonical_actions m.actions) ∷ []) []) ++ (canonical_actions m.actions ++ frame_of m.packet)
 canonical_tail (IsFlowMod m) = canonical_match m.fields ++ canonical_instructions m.instructions
 canonical_tail (IsGroupMod (group.Add g)) = canonical_buckets g.buckets
 canonical_tail (IsGroupMod (group.Modify g)) = canonical_buckets g.buckets

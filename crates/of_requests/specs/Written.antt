@@ -1,7 +1,11 @@
 -- What is written of a message.
-use Rattle.std.specs.Prelude.{◌≡◌, ◌<◌, ℕ, List, slice_index}
+use Rattle.std.specs.Prelude.{◌≡◌, ◌<◌, ℕ, List, [], ◌∷◌, slice_index, take}
+use Rattle.of_formats.specs.Tables as tables
+use Rattle.of_messages.specs.declared.async_masks.RoleMasks.{RoleMasks}
 use Rattle.of_messages.specs.declared.message.Message.{Message}
+use Rattle.of_grammar.specs.Cells.{Cell}
 use Rattle.of_grammar.specs.Grammar.{Spells}
+use Rattle.of_grammar.specs.StructCells.{cells_of}
 use Rattle.of_requests.specs.Canonical.{canonical}
 
 -- its one spelling, which spells it
@@ -12,3 +16,9 @@ pub record IsWritten (xid : ℕ) (m : Message) (bytes : List ℕ) : Type 0 where
 -- each of them is a byte
 abbrev pub AreBytes : List ℕ → Type 0
 AreBytes bytes = (i : ℕ) → slice_index bytes i < 256
+
+-- ---- for contracts inside this crate
+
+-- two masks of a SET_ASYNC: for a master or equal controller, and for a slave (7.3.10)
+abbrev pub masks_cells : RoleMasks → List Cell
+masks_cells masks = cells_of (take 2 tables.async_config) (masks.master ∷ masks.slave ∷ []) []
