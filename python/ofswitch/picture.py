@@ -14,7 +14,7 @@ from .program import ProgramError, find, run_to_end
 # How long the program, or `dot`, may take, in seconds.
 _TIMEOUT = 120.0
 
-# The exit status of `ofswitch check` that found a flow that never wins.
+# The exit status of `ofswitch check` that found something.
 _FOUND = 4
 
 
@@ -48,7 +48,7 @@ def never_winning(program: str, text: str) -> set[tuple[int, int]]:
     """Table and place of each flow that `ofswitch check` says never wins."""
     found = run_to_end([program, "check", "--flows", "-"], text.encode(), _TIMEOUT, good=(0, _FOUND))
     words = [line.split() for line in found.splitlines()]
-    return {(int(it[1]), int(it[2])) for it in words if it[3] == "never:"}
+    return {(int(it[1]), int(it[2])) for it in words if it[0] == "flow" and it[3] == "never:"}
 
 
 def render(graph: str, path: str) -> None:

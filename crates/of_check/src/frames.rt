@@ -3,6 +3,7 @@
 //! Nothing is promised of them: each is looked up before it is reported. What is not known is zero, checksums too.
 
 use crate::piece::Piece;
+use crate::rules::{OF_ARP, OF_IPV4};
 use of_headers::{Field, Numbers};
 use std::alloc::{AllocError, Global};
 
@@ -25,23 +26,7 @@ const ICMPV6: u8 = 58;
 /// The bit of VLAN_VID that says that there is a tag (OpenFlow 1.3.5, 7.2.3.7).
 const PRESENT: u16 = 0x1000;
 
-/// The fields of each header: a frame that lacks one of them lacks the header.
-const ARP_FIELDS: [Field; 5] = [
-    Field::ArpOp,
-    Field::ArpSpa,
-    Field::ArpTpa,
-    Field::ArpSha,
-    Field::ArpTha,
-];
-
-const IPV4_FIELDS: [Field; 5] = [
-    Field::IpDscp,
-    Field::IpEcn,
-    Field::IpProto,
-    Field::Ipv4Src,
-    Field::Ipv4Dst,
-];
-
+/// The fields of the other headers: a frame that lacks one of them lacks the header.
 const IPV6_FIELDS: [Field; 6] = [
     Field::IpDscp,
     Field::IpEcn,
@@ -167,9 +152,9 @@ pub fn frame_of(alloc: Global, piece: &Piece) -> Result<Vec<u8>, AllocError> {
     push_address(&mut out, numbers.eth_src)?;
     push_tag(&mut out, piece)?;
     push_word(&mut out, numbers.eth_type)?;
-    if numbers.eth_type == ARP && has_all(piece, &ARP_FIELDS) {
+    if numbers.eth_type == ARP && has_all(piece, &OF_ARP) {
         push_arp(&mut out, numbers)?;
-    } else if numbers.eth_type == IPV4 && has_all(piece, &IPV4_FIELDS) {
+    } else if numbers.eth_type == IPV4 && has_all(piece, &OF_IPV4) {
         push_ipv4(alloc, &mut out, piece)?;
     } else if numbers.eth_type == IPV6 && has_all(piece, &IPV6_FIELDS) {
         push_ipv6(alloc, &mut out, piece)?;

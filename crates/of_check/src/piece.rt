@@ -23,7 +23,7 @@ const PRESENT: u128 = 0x1000;
 pub struct Piece {
     pub mask: FieldMask,
     pub seen: FieldKey,
-    /// No entry before this place takes any of it.
+    /// None of the rivals before this one takes any of it.
     pub from: usize,
 }
 
@@ -60,6 +60,17 @@ pub fn is_apart(piece: &Piece, e: &MatchField) -> bool
         (None, _) => false,
         (Some(_), None) => true,
         (Some(mask), Some(known)) => !(known & bits(e) == e.value & mask),
+    }
+}
+
+// Two halves, or the same the other way round.
+fn in_order(as_given: bool, first: Piece, second: Piece) -> (Piece, Piece)
+    ensures { (map : TheField → Option ℕ) → In second map ⊎ In first map → In result.0 map ⊎ In result.1 map }
+{
+    if as_given {
+        (first, second)
+    } else {
+        (second, first)
     }
 }
 
@@ -127,7 +138,7 @@ impl Piece {
             .there(Field::VlanVid)
     }
 
-    /// The same, with no entry before this place that takes any of it.
+    /// The same, where none of the rivals before this one takes any of it.
     pub fn resumed(self, from: usize) -> Piece
         ensures { (map : TheField → Option ℕ) → In self map → In result map }
     {
@@ -241,7 +252,7 @@ impl Piece {
         )
     }
 
-    /// Two halves, of which one agrees with more of a field of a match.
+    /// Two halves, of which the first agrees with more of a field of a match, and the second with none.
     pub fn halves(self, e: &MatchField) -> (Piece, Piece)
         ensures { (map : TheField → Option ℕ) → In self map → In result.0 map ⊎ In result.1 map }
     {
@@ -251,7 +262,8 @@ impl Piece {
             (Some(mask), Some(known)) => {
                 let unknown = bits(e) ^ (bits(e) & mask);
                 let bit = unknown.trailing_zeros().min(127);
-                self.by_bit(e.field, mask, known, bit)
+                let (ones, zeros) = self.by_bit(e.field, mask, known, bit);
+                in_order(e.value & one_bit(bit) == 0, zeros, ones)
             }
         }
     }

@@ -28,8 +28,8 @@ use std::process::ExitCode;
 /// The exit status where the arguments are not understood.
 const BAD_ARGUMENTS: u8 = 1;
 
-/// The exit status where some flow never wins.
-const NEVER_WINS: u8 = 4;
+/// The exit status where `check` found something.
+const FOUND: u8 = 4;
 
 // A standard error that takes nothing changes no status, here and below.
 fn main(rt: HostRuntime) -> ExitCode {
@@ -98,13 +98,13 @@ fn run_check(rt: &HostRuntime, path: &str, kind: FileKind, steps: usize) -> Exit
         }
     };
     match found {
-        Ok(true) => ExitCode::from(NEVER_WINS),
+        Ok(true) => ExitCode::from(FOUND),
         Ok(false) => ExitCode::SUCCESS,
         Err(ended) => end_file(rt, path, &ended),
     }
 }
 
-// Whether some flow never wins.
+// Whether some flow never wins, or something is remarked.
 fn checked<R: Read + Drop>(
     rt: &HostRuntime,
     kind: FileKind,
