@@ -36,14 +36,13 @@ const IPV6_FIELDS: [Field; 6] = [
     Field::Ipv6Flabel,
 ];
 
-const PORT_FIELDS: [Field; 4] = [Field::TcpSrc, Field::TcpDst, Field::UdpSrc, Field::UdpDst];
+const TCP_FIELDS: [Field; 2] = [Field::TcpSrc, Field::TcpDst];
 
-const ICMP_FIELDS: [Field; 4] = [
-    Field::Icmpv4Type,
-    Field::Icmpv4Code,
-    Field::Icmpv6Type,
-    Field::Icmpv6Code,
-];
+const UDP_FIELDS: [Field; 2] = [Field::UdpSrc, Field::UdpDst];
+
+const ICMPV4_FIELDS: [Field; 2] = [Field::Icmpv4Type, Field::Icmpv4Code];
+
+const ICMPV6_FIELDS: [Field; 2] = [Field::Icmpv6Type, Field::Icmpv6Code];
 
 fn has_all(piece: &Piece, fields: &[Field]) -> bool {
     fields.iter().all(|field| !piece.lacks(*field))
@@ -94,22 +93,24 @@ fn push_ports(
     out.extend_from_slice(others)
 }
 
+// Appends the first eight bytes of ICMP (RFC 792, RFC 4443).
+fn push_echo(out: &mut Vec<u8>, kind: u8, code: u8) -> Result<(), AllocError> {
+    out.extend_from_slice(&[kind, code, 0, 0, 0, 0, 0, 0])
+}
+
 // The header that an IP packet carries (RFC 9293, RFC 768, RFC 792, RFC 4443), or nothing.
 fn carried(alloc: Global, piece: &Piece, protocol: u8, echo: u8) -> Result<Vec<u8>, AllocError> {
     let numbers = &piece.seen.numbers;
     let mut out = Vec::new(alloc);
-    if protocol == TCP && has_all(piece, &PORT_FIELDS) {
+    if protocol == TCP && has_all(piece, &TCP_FIELDS) {
         let others = [0, 0, 0, 0, 0, 0, 0, 0, 0x50, 0, 0, 0, 0, 0, 0, 0];
         push_ports(&mut out, numbers.tcp_src, numbers.tcp_dst, &others)?;
-    } else if protocol == UDP && has_all(piece, &PORT_FIELDS) {
+    } else if protocol == UDP && has_all(piece, &UDP_FIELDS) {
         push_ports(&mut out, numbers.udp_src, numbers.udp_dst, &[0, 8, 0, 0])?;
-    } else if protocol == echo && has_all(piece, &ICMP_FIELDS) {
-        let (kind, code) = if echo == ICMPV4 {
-            (numbers.icmpv4_type, numbers.icmpv4_code)
-        } else {
-            (numbers.icmpv6_type, numbers.icmpv6_code)
-        };
-        out.extend_from_slice(&[kind, code, 0, 0, 0, 0, 0, 0])?;
+    } else if protocol == echo && echo == ICMPV4 && has_all(piece, &ICMPV4_FIELDS) {
+        push_echo(&mut out, numbers.icmpv4_type, numbers.icmpv4_code)?;
+    } else if protocol == echo && echo == ICMPV6 && has_all(piece, &ICMPV6_FIELDS) {
+        push_echo(&mut out, numbers.icmpv6_type, numbers.icmpv6_code)?;
     }
     Ok(out)
 }
