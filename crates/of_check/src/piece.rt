@@ -13,6 +13,7 @@ ghost use Rattle.of_check.specs.Pieces.{In, is_lacking as lacking, is_apart as a
 use crate::rules::leads_to;
 use of_field_laws::{fields_of_every_frame, values_within_their_bits};
 use of_headers::{Field, FieldKey};
+use of_layers::Prerequisite;
 use of_oxm::{FieldMask, Match, MatchField, key_of, mask_of, matched_is_seen};
 
 /// The bit of VLAN_VID that says that there is a tag (OpenFlow 1.3.5, 7.2.3.7).
@@ -252,12 +253,33 @@ impl Piece {
         )
     }
 
+    // Whether a frame with what is known of its type and its protocol may be long enough for a field (OpenFlow 1.3.5, 7.2.3.6).
+    fn expects(&self, field: Field) -> bool {
+        let ethernet = self.seen.get(Field::EthType);
+        let protocol = self.seen.get(Field::IpProto);
+        match field.row().need {
+            Prerequisite::Nothing => true,
+            Prerequisite::Tag => false,
+            Prerequisite::Ip => ethernet == Some(0x0800) || ethernet == Some(0x86dd),
+            Prerequisite::Ipv4 => ethernet == Some(0x0800),
+            Prerequisite::Ipv6 => ethernet == Some(0x86dd),
+            Prerequisite::Arp => ethernet == Some(0x0806),
+            Prerequisite::Tcp => protocol == Some(6),
+            Prerequisite::Udp => protocol == Some(17),
+            Prerequisite::Icmpv4 => protocol == Some(1),
+            Prerequisite::Icmpv6 => protocol == Some(58),
+        }
+    }
+
     /// Two halves, of which the first agrees with more of a field of a match, and the second with none.
     pub fn halves(self, e: &MatchField) -> (Piece, Piece)
         ensures { (map : TheField → Option ℕ) → In self map → In result.0 map ⊎ In result.1 map }
     {
         match (self.mask.masks.get(e.field), self.seen.get(e.field)) {
-            (None, _) => (self.with(e.field, 0, 0), self.without(e.field)),
+            (None, _) => {
+                let lacks = !self.expects(e.field);
+                in_order(lacks, self.with(e.field, 0, 0), self.without(e.field))
+            }
             (Some(_), None) => (self, self),
             (Some(mask), Some(known)) => {
                 let unknown = bits(e) ^ (bits(e) & mask);
