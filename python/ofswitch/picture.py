@@ -14,7 +14,7 @@ from .program import ProgramError, find, run_to_end
 # How long the program, or `dot`, may take, in seconds.
 _TIMEOUT = 120.0
 
-# The exit status of `ofswitch check` that found a flow that never wins.
+# The exit status of `ofswitch check` that found something.
 _FOUND = 4
 
 

@@ -2,6 +2,8 @@ pub mod PieceLemmas
 pub mod WinnerLemmas
 pub mod SearchLemmas
 pub mod NamingLemmas
+pub mod CoverLemmas
+pub mod WalkLemmas
 pub mod TryingLemmas
 pub mod FindingLemmas
 pub mod FileLemmas

@@ -120,3 +120,9 @@ module _ (piece high low : Piece) (field : Field) (mask known bit k ones : ℕ) 
 
   pub one_bit : In piece map → seen (Some mask) (map field) ≡ Some known → In high map ⊎ In low map
   one_bit h s = bit_known (map field) refl h s
+
+-- what was read of a field is what is known of it
+pub as_read : (o m b read_mask read_bits : Option ℕ) (mask known : ℕ) → seen m o ≡ b → read_mask ≡ m → read_bits ≡ b → read_mask ≡ Some mask → read_bits ≡ Some known → seen (Some mask) o ≡ Some known
+as_read o m b read_mask read_bits mask known h mask_is bits_is some_mask some_bits =
+    let wanted : m ≡ Some mask = sym mask_is ∙ some_mask in
+    ap (λ (x : Option ℕ). seen x o) (sym wanted) ∙ (h ∙ (sym bits_is ∙ some_bits))

@@ -6,7 +6,7 @@ use Rattle.std.proofs.lemmas.List.Elements.{Contains-push, Contains-append_left,
 use Rattle.of_oxm.specs.Relations.{matches_map}
 use Rattle.of_table.specs.Table.{FlowEntry}
 use Rattle.of_check.specs.declared.piece.Piece.{Piece}
-use Rattle.of_check.specs.Verdicts.{Packet, IsPacket, SomeMatches, NeverWins, GoesBefore, fields_of}
+use Rattle.of_check.specs.Verdicts.{AreAscending, Packet, IsPacket, SomeMatches, NeverWins, GoesBefore, fields_of}
 use Rattle.of_check.specs.Pieces.{In, InSome}
 use Rattle.of_check.specs.Search.{Takes, UnderWay, IsNamed}
 
@@ -21,6 +21,7 @@ finished flows k by u = record {
     | inl left ↦ absurd (none_of left.0 left.1)
     | inr taken ↦ taken
   ];
+  by_age = u.by_age;
 }
 
 -- all is left
@@ -30,6 +31,7 @@ begun flows k e piece there all = record {
   covered = λ p is m.
       let same : m.entry ≡ e = let t = m.there in cc in
       inl (piece, Contains-push [] piece, all p is (ap (λ (x : FlowEntry). matches_map x.flow.fields (fields_of p)) (sym same) ∙ m.matches));
+  by_age = tt;
 }
 
 first_of : (a b : Piece) → Contains (a ∷ b ∷ []) a
@@ -40,8 +42,8 @@ second_of a b = (1, omega arith, refl)
 
 module _ (flows : List FlowEntry) (k : ℕ) (pieces : List Piece) (piece : Piece) (by : List ℕ) (u : UnderWay flows k (pieces ++ piece ∷ []) by) where
   -- an entry takes the last piece
-  pub taken : (j : ℕ) (named : List ℕ) → Takes flows k piece j → IsNamed j by named → UnderWay flows k pieces named
-  taken j named t n = record {
+  pub taken : (j : ℕ) (named : List ℕ) → Takes flows k piece j → IsNamed j by named → AreAscending named → UnderWay flows k pieces named
+  taken j named t n up = record {
     before = λ i c. elim (n.only i c) as (λ x. GoesBefore flows i k) [
       | inl old ↦ u.before i old
       | inr same ↦ subst (λ x. GoesBefore flows x k) same t.before
@@ -53,6 +55,7 @@ module _ (flows : List FlowEntry) (k : ℕ) (pieces : List Piece) (piece : Piece
       ]
       | inr other ↦ inr (other.0, n.kept other.0 other.1, other.2)
     ];
+    by_age = up;
   }
 
   -- no packet is in the last piece
@@ -66,6 +69,7 @@ module _ (flows : List FlowEntry) (k : ℕ) (pieces : List Piece) (piece : Piece
       ]
       | inr other ↦ inr other
     ];
+    by_age = u.by_age;
   }
 
   -- the last piece is split
@@ -82,4 +86,5 @@ module _ (flows : List FlowEntry) (k : ℕ) (pieces : List Piece) (piece : Piece
       ]
       | inr other ↦ inr other
     ];
+    by_age = u.by_age;
   }

@@ -1,9 +1,12 @@
--- THE TEXT OF FINDINGS: one line each.
-use Rattle.std.specs.Prelude.{ℕ, Bool, true, false, List, [], ◌∷◌, ◌++◌, codes, decimal}
+-- THE TEXT OF FINDINGS: one line each, and then one for each remark.
+use Rattle.std.specs.Prelude.{ℕ, Bool, true, false, not, ◌||◌, List, [], ◌∷◌, ◌++◌, codes, decimal}
 use Rattle.std.specs.List.{flat_map, list_any}
 use Rattle.hex.specs.Hex.{encode_lower}
 use Rattle.of_layers.specs.declared.field.Field.TheVariants.{Metadata}
 use Rattle.of_text.specs.Rows.{value_word}
+use Rattle.of_remarks.specs.declared.remark.Remark.{Remark}
+use Rattle.of_remarks.specs.Tables.{is_empty}
+use Rattle.of_remarks.specs.Text.{remarks_text}
 use Rattle.of_check.specs.declared.finding.Finding.{Finding}
 use Rattle.of_check.specs.declared.verdict.Verdict.{Verdict}
 use Rattle.of_check.specs.declared.verdict.Verdict.TheVariants.{Wins, Never, Open}
@@ -35,6 +38,9 @@ finding_line f = codes "flow" ++ 32 ∷ decimal f.table ++ 32 ∷ decimal f.plac
 abbrev pub findings_text : List Finding → List ℕ
 findings_text findings = flat_map finding_line findings
 
+abbrev pub all_text : List Finding → List Remark → List ℕ
+all_text findings remarks = findings_text findings ++ remarks_text remarks
+
 -- ---- what is found
 
 abbrev pub is_never : Verdict → Bool
@@ -45,3 +51,7 @@ is_never Open = false
 -- some entry never wins
 abbrev pub some_never : List Finding → Bool
 some_never findings = list_any (λ f. is_never f.verdict) findings
+
+-- or something is remarked
+abbrev pub some_found : List Finding → List Remark → Bool
+some_found findings remarks = some_never findings || not (is_empty remarks)

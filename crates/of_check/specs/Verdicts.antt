@@ -1,12 +1,11 @@
 -- WHAT IS SAID OF A FLOW ENTRY: a packet with which it wins, or the entries that leave it none (OpenFlow 1.3.5, 5.3).
-use Rattle.std.specs.Prelude.{◌≡◌, ℕ, ◌^◌, ◌<◌, ◌≤◌, ◌⊎◌, true, List, length, Some, slice_get}
-use Rattle.std.specs.List.{Contains}
+use Rattle.std.specs.Prelude.{◌≡◌, ℕ, ◌^◌, ◌<◌, ◌≤◌, ◌⊎◌, true, List, [], ◌∷◌, length, Option, Some, slice_get}
+use Rattle.std.specs.List.{AllByRecursion, Contains}
 use Rattle.of_layers.specs.declared.field.Field.{Field}
 use Rattle.of_layers.specs.Reading.{layers_of}
 use Rattle.of_layers.specs.WellFormed.{AreBytes}
-use Rattle.std.specs.Prelude.{Option}
 use Rattle.of_headers.specs.FieldMap.{field_map}
-use Rattle.of_oxm.specs.Relations.{matches_map}
+use Rattle.of_oxm.specs.Relations.{covers_match, matches_map}
 use Rattle.of_table.specs.Table.{FlowEntry, winner_place}
 use Rattle.of_check.specs.declared.verdict.Verdict.{Verdict}
 use Rattle.of_check.specs.declared.verdict.Verdict.TheVariants.{Wins, Never, Open}
@@ -57,13 +56,24 @@ pub record WinsWith (flows : List FlowEntry) (k : ℕ) (p : Packet) : Type 0 whe
   pub packet : IsPacket p
   pub wins : winner_place (fields_of p) flows ≡ Some k
 
--- each of these entries goes before this one, and each packet that this one matches is matched by one of them
+-- places in ascending order, each once
+abbrev pub AreAscending : List ℕ → Type 0
+AreAscending [] = Unit {0}
+AreAscending (j ∷ places) = AllByRecursion (λ i. j < i) places × AreAscending places
+
+-- each of these entries goes before this one, and each packet that this one matches is matched by one of them; they are named by age, each once
 pub record NeverWins (flows : List FlowEntry) (k : ℕ) (by : List ℕ) : Type 0 where
   pub before : (j : ℕ) → Contains by j → GoesBefore flows j k
   pub covered : (p : Packet) → IsPacket p → Matches flows k p → SomeMatches flows by p
+  pub by_age : AreAscending by
 
--- a verdict on the entry at k; `Open` says nothing
+-- the entry at j goes before the one at k, and its match covers that one's: each of its fields is there, with at least its mask and the same bits under it (6.4)
+pub record Covers (flows : List FlowEntry) (j k : ℕ) : Type 0 where
+  pub before : GoesBefore flows j k
+  pub wider : covers_match before.first.flow.fields before.second.flow.fields ≡ true
+
+-- a verdict on the entry at k; `Open` says that no one entry covers it
 abbrev pub Holds : List FlowEntry → ℕ → Verdict → Type 0
 Holds flows k (Wins frame in_port metadata) = WinsWith flows k (record { frame = frame.items; in_port = in_port; metadata = metadata })
 Holds flows k (Never by) = NeverWins flows k by.items
-Holds flows k Open = Unit {0}
+Holds flows k Open = (j : ℕ) → ¬ (Covers flows j k)

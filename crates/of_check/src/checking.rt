@@ -2,12 +2,13 @@
 ghost use Rattle.std.specs.Prelude.{◌≡◌, ◌<◌, suc, IfOk, OnOk};
 ghost use Rattle.std.specs.List.{list_any};
 ghost use Rattle.of_check.specs.Findings.{AreFindings, Checks, entries_below};
-ghost use Rattle.of_check.specs.Text.{is_never as is_never_in, some_never as some_never_in};
+ghost use Rattle.of_check.specs.Text.{is_never as is_never_in, some_found as is_some_found, some_never as some_never_in};
 
 use crate::finding::Finding;
 use crate::search::check_entry;
 use crate::verdict::Verdict;
 use of_classifier::Lookup;
+use of_remarks::Remark;
 use of_switch::Switch;
 use std::alloc::{AllocError, Global};
 
@@ -67,4 +68,11 @@ pub fn some_never(findings: &[Finding]) -> bool
     ensures { result ≡ some_never_in findings.now }
 {
     findings.iter().any(|finding| is_never(&finding.verdict))
+}
+
+/// Whether some entry never wins, or something is remarked.
+pub fn some_found(findings: &[Finding], remarks: &[Remark]) -> bool
+    ensures { result ≡ is_some_found findings.now remarks.now }
+{
+    some_never(findings) || !remarks.is_empty()
 }

@@ -4,9 +4,10 @@ ghost use Rattle.of_replay.specs.Assembling.{Faults};
 ghost use Rattle.of_replay.specs.ConfigFiles.{ended_as};
 ghost use Rattle.of_check.specs.Files.{ChecksFile, WritesFindings, tables_in};
 
-use crate::checking::{check, some_never};
-use crate::printing::print;
+use crate::checking::{check, some_found};
+use crate::printing::print_all;
 use of_classifier::Lookup;
+use of_remarks::remarks_on;
 use of_replay::{Ended, Sink, Source, read_config, write_all};
 use of_switch::{Switch, SwitchError};
 use of_text::Config;
@@ -24,34 +25,39 @@ fn switch_with<L: Lookup>(alloc: Global, config: &Config) -> Result<Switch<L>, S
     Ok(switch)
 }
 
-/// Writes the text of the findings of a switch, each after at most so many steps, and returns whether some entry never wins. Nothing changes.
+/// Writes the text of the findings on the entries of a switch, each after at most so many steps, and of the remarks on its configuration, and
+/// returns whether something was found: an entry that never wins, or what is remarked. Nothing changes.
 ///
 /// Err is `WriteFault`, where a write failed and a prefix of the text was written; or `NoMemory`, where nothing was.
 pub fn write_findings<L: Lookup, W: Sink>(
     alloc: Global,
     switch: &Switch<L>,
+    config: &Config,
     steps: usize,
     writer: &mut W,
 ) -> Result<bool, Ended>
     requires { W.failures writer.old ≡ 0 }
-    ensures output { WritesFindings switch.now.core.forwarding.tables result (W.taken writer.old) (W.taken writer.new) }
+    ensures output { WritesFindings switch.now.core.forwarding.tables config.now result (W.taken writer.old) (W.taken writer.new) }
     ensures write_fault { (result ≡ Err Ended.WriteFault) ↔ (0 < W.failures writer.new) }
 {
     let Ok(findings) = check(alloc, switch, steps) else {
         return Err(Ended::NoMemory);
     };
-    let Ok(text) = print(alloc, &findings) else {
+    let Ok(remarks) = remarks_on(alloc, config) else {
+        return Err(Ended::NoMemory);
+    };
+    let Ok(text) = print_all(alloc, &findings, &remarks) else {
         return Err(Ended::NoMemory);
     };
     if write_all(writer, &text) {
-        Ok(some_never(&findings))
+        Ok(some_found(&findings, &remarks))
     } else {
         Err(Ended::WriteFault)
     }
 }
 
-/// Reads a flow text (docs/FLOWTEXT.md) and writes the findings on the entries of its tables, each after at most so many steps. Ok says whether
-/// some entry never wins.
+/// Reads a flow text (docs/FLOWTEXT.md) and writes the findings on the entries of its tables, each after at most so many steps, and the remarks
+/// on it. Ok says whether something was found.
 ///
 /// The file is read whole, and nothing is written of one that is no configuration.
 pub fn check_file<L: Lookup, S: Source, W: Sink>(
@@ -71,7 +77,7 @@ pub fn check_file<L: Lookup, S: Source, W: Sink>(
         Err(ended) => return Err(ended),
     };
     match switch_with::<L>(alloc, &config) {
-        Ok(switch) => write_findings(alloc, &switch, steps, writer),
+        Ok(switch) => write_findings(alloc, &switch, &config, steps, writer),
         Err(_) => Err(Ended::NoMemory),
     }
 }

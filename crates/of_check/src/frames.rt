@@ -3,6 +3,7 @@
 //! Nothing is promised of them: each is looked up before it is reported. What is not known is zero, checksums too.
 
 use crate::piece::Piece;
+use crate::rules::{OF_ARP, OF_IPV4};
 use of_headers::{Field, Numbers};
 use std::alloc::{AllocError, Global};
 
@@ -25,23 +26,7 @@ const ICMPV6: u8 = 58;
 /// The bit of VLAN_VID that says that there is a tag (OpenFlow 1.3.5, 7.2.3.7).
 const PRESENT: u16 = 0x1000;
 
-/// The fields of each header: a frame that lacks one of them lacks the header.
-const ARP_FIELDS: [Field; 5] = [
-    Field::ArpOp,
-    Field::ArpSpa,
-    Field::ArpTpa,
-    Field::ArpSha,
-    Field::ArpTha,
-];
-
-const IPV4_FIELDS: [Field; 5] = [
-    Field::IpDscp,
-    Field::IpEcn,
-    Field::IpProto,
-    Field::Ipv4Src,
-    Field::Ipv4Dst,
-];
-
+/// The fields of the other headers: a frame that lacks one of them lacks the header.
 const IPV6_FIELDS: [Field; 6] = [
     Field::IpDscp,
     Field::IpEcn,
@@ -51,14 +36,13 @@ const IPV6_FIELDS: [Field; 6] = [
     Field::Ipv6Flabel,
 ];
 
-const PORT_FIELDS: [Field; 4] = [Field::TcpSrc, Field::TcpDst, Field::UdpSrc, Field::UdpDst];
+const TCP_FIELDS: [Field; 2] = [Field::TcpSrc, Field::TcpDst];
 
-const ICMP_FIELDS: [Field; 4] = [
-    Field::Icmpv4Type,
-    Field::Icmpv4Code,
-    Field::Icmpv6Type,
-    Field::Icmpv6Code,
-];
+const UDP_FIELDS: [Field; 2] = [Field::UdpSrc, Field::UdpDst];
+
+const ICMPV4_FIELDS: [Field; 2] = [Field::Icmpv4Type, Field::Icmpv4Code];
+
+const ICMPV6_FIELDS: [Field; 2] = [Field::Icmpv6Type, Field::Icmpv6Code];
 
 fn has_all(piece: &Piece, fields: &[Field]) -> bool {
     fields.iter().all(|field| !piece.lacks(*field))
@@ -109,22 +93,24 @@ fn push_ports(
     out.extend_from_slice(others)
 }
 
+// Appends the first eight bytes of ICMP (RFC 792, RFC 4443).
+fn push_echo(out: &mut Vec<u8>, kind: u8, code: u8) -> Result<(), AllocError> {
+    out.extend_from_slice(&[kind, code, 0, 0, 0, 0, 0, 0])
+}
+
 // The header that an IP packet carries (RFC 9293, RFC 768, RFC 792, RFC 4443), or nothing.
 fn carried(alloc: Global, piece: &Piece, protocol: u8, echo: u8) -> Result<Vec<u8>, AllocError> {
     let numbers = &piece.seen.numbers;
     let mut out = Vec::new(alloc);
-    if protocol == TCP && has_all(piece, &PORT_FIELDS) {
+    if protocol == TCP && has_all(piece, &TCP_FIELDS) {
         let others = [0, 0, 0, 0, 0, 0, 0, 0, 0x50, 0, 0, 0, 0, 0, 0, 0];
         push_ports(&mut out, numbers.tcp_src, numbers.tcp_dst, &others)?;
-    } else if protocol == UDP && has_all(piece, &PORT_FIELDS) {
+    } else if protocol == UDP && has_all(piece, &UDP_FIELDS) {
         push_ports(&mut out, numbers.udp_src, numbers.udp_dst, &[0, 8, 0, 0])?;
-    } else if protocol == echo && has_all(piece, &ICMP_FIELDS) {
-        let (kind, code) = if echo == ICMPV4 {
-            (numbers.icmpv4_type, numbers.icmpv4_code)
-        } else {
-            (numbers.icmpv6_type, numbers.icmpv6_code)
-        };
-        out.extend_from_slice(&[kind, code, 0, 0, 0, 0, 0, 0])?;
+    } else if protocol == echo && echo == ICMPV4 && has_all(piece, &ICMPV4_FIELDS) {
+        push_echo(&mut out, numbers.icmpv4_type, numbers.icmpv4_code)?;
+    } else if protocol == echo && echo == ICMPV6 && has_all(piece, &ICMPV6_FIELDS) {
+        push_echo(&mut out, numbers.icmpv6_type, numbers.icmpv6_code)?;
     }
     Ok(out)
 }
@@ -167,9 +153,9 @@ pub fn frame_of(alloc: Global, piece: &Piece) -> Result<Vec<u8>, AllocError> {
     push_address(&mut out, numbers.eth_src)?;
     push_tag(&mut out, piece)?;
     push_word(&mut out, numbers.eth_type)?;
-    if numbers.eth_type == ARP && has_all(piece, &ARP_FIELDS) {
+    if numbers.eth_type == ARP && has_all(piece, &OF_ARP) {
         push_arp(&mut out, numbers)?;
-    } else if numbers.eth_type == IPV4 && has_all(piece, &IPV4_FIELDS) {
+    } else if numbers.eth_type == IPV4 && has_all(piece, &OF_IPV4) {
         push_ipv4(alloc, &mut out, piece)?;
     } else if numbers.eth_type == IPV6 && has_all(piece, &IPV6_FIELDS) {
         push_ipv6(alloc, &mut out, piece)?;

@@ -13,6 +13,7 @@ ghost use Rattle.of_check.specs.Pieces.{In, is_lacking as lacking, is_apart as a
 use crate::rules::leads_to;
 use of_field_laws::{fields_of_every_frame, values_within_their_bits};
 use of_headers::{Field, FieldKey};
+use of_layers::Prerequisite;
 use of_oxm::{FieldMask, Match, MatchField, key_of, mask_of, matched_is_seen};
 
 /// The bit of VLAN_VID that says that there is a tag (OpenFlow 1.3.5, 7.2.3.7).
@@ -23,7 +24,7 @@ const PRESENT: u128 = 0x1000;
 pub struct Piece {
     pub mask: FieldMask,
     pub seen: FieldKey,
-    /// No entry before this place takes any of it.
+    /// None of the rivals before this one takes any of it.
     pub from: usize,
 }
 
@@ -60,6 +61,17 @@ pub fn is_apart(piece: &Piece, e: &MatchField) -> bool
         (None, _) => false,
         (Some(_), None) => true,
         (Some(mask), Some(known)) => !(known & bits(e) == e.value & mask),
+    }
+}
+
+// Two halves, or the same the other way round.
+fn in_order(as_given: bool, first: Piece, second: Piece) -> (Piece, Piece)
+    ensures { (map : TheField → Option ℕ) → In second map ⊎ In first map → In result.0 map ⊎ In result.1 map }
+{
+    if as_given {
+        (first, second)
+    } else {
+        (second, first)
     }
 }
 
@@ -127,7 +139,7 @@ impl Piece {
             .there(Field::VlanVid)
     }
 
-    /// The same, with no entry before this place that takes any of it.
+    /// The same, where none of the rivals before this one takes any of it.
     pub fn resumed(self, from: usize) -> Piece
         ensures { (map : TheField → Option ℕ) → In self map → In result map }
     {
@@ -241,17 +253,39 @@ impl Piece {
         )
     }
 
-    /// Two halves, of which one agrees with more of a field of a match.
+    // Whether a frame with what is known of its type and its protocol may be long enough for a field (OpenFlow 1.3.5, 7.2.3.6).
+    fn expects(&self, field: Field) -> bool {
+        let ethernet = self.seen.get(Field::EthType);
+        let protocol = self.seen.get(Field::IpProto);
+        match field.row().need {
+            Prerequisite::Nothing => true,
+            Prerequisite::Tag => false,
+            Prerequisite::Ip => ethernet == Some(0x0800) || ethernet == Some(0x86dd),
+            Prerequisite::Ipv4 => ethernet == Some(0x0800),
+            Prerequisite::Ipv6 => ethernet == Some(0x86dd),
+            Prerequisite::Arp => ethernet == Some(0x0806),
+            Prerequisite::Tcp => protocol == Some(6),
+            Prerequisite::Udp => protocol == Some(17),
+            Prerequisite::Icmpv4 => protocol == Some(1),
+            Prerequisite::Icmpv6 => protocol == Some(58),
+        }
+    }
+
+    /// Two halves, of which the first agrees with more of a field of a match, and the second with none.
     pub fn halves(self, e: &MatchField) -> (Piece, Piece)
         ensures { (map : TheField → Option ℕ) → In self map → In result.0 map ⊎ In result.1 map }
     {
         match (self.mask.masks.get(e.field), self.seen.get(e.field)) {
-            (None, _) => (self.with(e.field, 0, 0), self.without(e.field)),
+            (None, _) => {
+                let lacks = !self.expects(e.field);
+                in_order(lacks, self.with(e.field, 0, 0), self.without(e.field))
+            }
             (Some(_), None) => (self, self),
             (Some(mask), Some(known)) => {
                 let unknown = bits(e) ^ (bits(e) & mask);
                 let bit = unknown.trailing_zeros().min(127);
-                self.by_bit(e.field, mask, known, bit)
+                let (ones, zeros) = self.by_bit(e.field, mask, known, bit);
+                in_order(e.value & one_bit(bit) == 0, zeros, ones)
             }
         }
     }

@@ -1,12 +1,13 @@
 //! Findings as text.
 ghost use Rattle.std.specs.Prelude.{◌≡◌, ◌++◌, ◌∷◌, IfOk, OnOk};
 ghost use Rattle.hex.specs.Hex.{encode_lower};
-ghost use Rattle.of_check.specs.Text.{finding_line, findings_text, metadata_text, packet_text, places_text, port_text, verdict_text};
+ghost use Rattle.of_check.specs.Text.{all_text, finding_line, findings_text, metadata_text, packet_text, places_text, port_text, verdict_text};
 
 use crate::finding::Finding;
 use crate::verdict::Verdict;
 use of_build::push_hex;
 use of_headers::Field;
+use of_remarks::{Remark, print_remarks};
 use of_text::{push_number, push_value};
 use std::alloc::{AllocError, Global};
 
@@ -107,5 +108,18 @@ pub fn print(alloc: Global, findings: &[Finding]) -> Result<Vec<u8>, AllocError>
     for finding in findings {
         push_finding(alloc, &mut out, finding)?;
     }
+    Ok(out)
+}
+
+/// The text of findings, and of the remarks after them.
+pub fn print_all(
+    alloc: Global,
+    findings: &[Finding],
+    remarks: &[Remark],
+) -> Result<Vec<u8>, AllocError>
+    ensures { IfOk result (λ text. text.items ≡ all_text findings.now remarks.now) }
+{
+    let mut out = print(alloc, findings)?;
+    print_remarks(&mut out, remarks)?;
     Ok(out)
 }

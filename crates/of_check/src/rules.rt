@@ -4,7 +4,8 @@ ghost use Rattle.of_check.specs.Rules.{leads_to as led_to};
 
 use of_headers::Field;
 
-const OF_ARP: [Field; 5] = [
+/// The fields of an ARP packet: a frame that lacks one of them lacks all.
+pub const OF_ARP: [Field; 5] = [
     Field::ArpOp,
     Field::ArpSpa,
     Field::ArpTpa,
@@ -12,7 +13,8 @@ const OF_ARP: [Field; 5] = [
     Field::ArpTha,
 ];
 
-const OF_IPV4: [Field; 5] = [
+/// The fields of an IPv4 header.
+pub const OF_IPV4: [Field; 5] = [
     Field::IpDscp,
     Field::IpEcn,
     Field::IpProto,

@@ -1,20 +1,19 @@
 //! The search for a packet with which an entry wins.
-ghost use Rattle.std.specs.Prelude.{◌≡◌, ◌<◌, ◌++◌, ◌∷◌, [], ◌⊎◌, ℕ, List, Option, Some, IfOk, IfSome, OnOk, true, false, slice_get};
-ghost use Rattle.of_layers.specs.declared.field.Field.{Field as TheField};
-ghost use Rattle.of_oxm.specs.Relations.{matches_map};
+ghost use Rattle.std.specs.Prelude.{◌≡◌, ◌<◌, ◌++◌, ◌∷◌, [], ℕ, nat_le, List, Some, IfOk, IfSome, OnOk, false, slice_get};
+ghost use Rattle.std.specs.List.{position};
 ghost use Rattle.of_table.specs.Entries.{entry_of};
 ghost use Rattle.of_table.specs.Table.{FlowEntry};
 ghost use Rattle.of_table.specs.Tables.{table_at};
-ghost use Rattle.of_check.specs.Pieces.{In};
-ghost use Rattle.of_check.specs.Search.{IsNamed, IsSearch, UnderWay};
-ghost use Rattle.of_check.specs.Verdicts.{Holds, Packet, fields_of};
+ghost use Rattle.of_check.specs.Search.{AreRivals, IsSearch, IsWhole, UnderWay, named};
+ghost use Rattle.of_check.specs.Verdicts.{Covers, Holds};
 
 use crate::look::{Look, look_at};
 use crate::piece::Piece;
+use crate::rivals::{Rival, first_cover, rivals_of};
 use crate::trying::tried;
 use crate::verdict::Verdict;
 use of_classifier::Lookup;
-use of_oxm::MatchField;
+use of_oxm::covered_is_matched;
 use of_switch::Switch;
 use of_table::Entry;
 use std::alloc::{AllocError, Global};
@@ -30,13 +29,24 @@ pub struct Search {
     pub missed: bool,
 }
 
+// The index of the first place that is not below this one.
+fn first_from(by: &[usize], place: usize) -> Option<usize>
+    ensures { result ≡ position (λ i. nat_le place i) by.now }
+{
+    by.iter().position(|other| place <= *other)
+}
+
 // Names a place, in ascending order, once.
 fn name(by: &mut Vec<usize>, place: usize) -> Result<(), AllocError>
-    ensures { OnOk result (IsNamed place by.old.items by.new.items) }
+    ensures { OnOk result (by.new.items ≡ named place by.old.items) }
 {
-    match by.binary_search(&place) {
-        Ok(_) => {}
-        Err(at) => by.insert(at, place)?,
+    match first_from(by, place) {
+        None => by.push(place)?,
+        Some(at) => {
+            if by[at] != place {
+                by.insert(at, place)?;
+            }
+        }
     }
     Ok(())
 }
@@ -51,12 +61,12 @@ fn push_both(pieces: &mut Vec<Piece>, first: Piece, second: Piece) -> Result<(),
 }
 
 impl Search {
-    // All that an entry matches is left.
-    fn of_entry(alloc: Global, own: &Entry) -> Result<Search, AllocError>
-        ensures { (flows : List FlowEntry) (k : ℕ) → slice_get flows k ≡ Some (entry_of own.now) → IfOk result (IsSearch flows k) }
+    // A piece is left, which is all that an entry matches.
+    fn of_piece(alloc: Global, piece: Piece) -> Result<Search, AllocError>
+        ensures { (flows : List FlowEntry) (k : ℕ) (e : FlowEntry) → slice_get flows k ≡ Some e → IsWhole e piece → IfOk result (IsSearch flows k) }
     {
         let mut pieces = Vec::new(alloc);
-        pieces.push(Piece::of_match(&own.flow.fields).of_frames().completed())?;
+        pieces.push(piece)?;
         Ok(Search {
             pieces,
             by: Vec::new(alloc),
@@ -66,7 +76,7 @@ impl Search {
 
     // What is found where the search ends.
     fn verdict(self) -> Verdict
-        ensures { (flows : List FlowEntry) (k : ℕ) → IsSearch flows k self → Holds flows k result }
+        ensures { (flows : List FlowEntry) (k : ℕ) → ((j : ℕ) → ¬ (Covers flows j k)) → IsSearch flows k self → Holds flows k result }
     {
         let Search { pieces, by, missed } = self;
         if missed || !pieces.is_empty() {
@@ -83,11 +93,13 @@ fn step<L: Lookup>(
     table: u8,
     place: usize,
     own: &Entry,
+    rivals: &[Rival<'_>],
     search: &mut Search,
     piece: Piece,
 ) -> Result<Option<Verdict>, AllocError>
     requires table { table < 16 }
     requires there { slice_get (table_at table switch.now.core.forwarding.tables).flows place ≡ Some (entry_of own.now) }
+    requires rivals { AreRivals (table_at table switch.now.core.forwarding.tables).flows rivals.now }
     requires left { search.old.missed ≡ false → UnderWay (table_at table switch.now.core.forwarding.tables).flows place (search.old.pieces.items ++ piece ∷ []) search.old.by.items }
     ensures left { OnOk result (IsSearch (table_at table switch.now.core.forwarding.tables).flows place search.new) }
     ensures won { IfOk result (λ found. IfSome found (Holds (table_at table switch.now.core.forwarding.tables).flows place)) }
@@ -95,7 +107,7 @@ fn step<L: Lookup>(
     if piece.is_impossible() {
         return Ok(None);
     }
-    match look_at(switch, table, place, own, &piece) {
+    match look_at(rivals, place, own, &piece) {
         Look::Taken(at) => {
             name(&mut search.by, at)?;
             Ok(None)
@@ -112,8 +124,63 @@ fn step<L: Lookup>(
     }
 }
 
-/// The verdict on the entry of a table at a place by age, from 0, after at most so many steps, of which each looks at a piece of what the entry
-/// matches. `Open` where there is no such entry.
+// The piece that is all that an entry matches.
+fn whole(own: &Entry) -> Piece
+    ensures { IsWhole (entry_of own.now) result }
+{
+    Piece::of_match(&own.flow.fields).of_frames().completed()
+}
+
+// One entry covers the one at a place.
+fn covered_by(alloc: Global, at: usize) -> Result<Verdict, AllocError>
+    ensures { (flows : List FlowEntry) (k : ℕ) → Covers flows at k → IfOk result (Holds flows k) }
+{
+    covered_is_matched();
+    let mut by = Vec::new(alloc);
+    by.push(at)?;
+    Ok(Verdict::Never { by })
+}
+
+// The verdict on an entry that no one entry covers.
+fn searched<L: Lookup>(
+    alloc: Global,
+    switch: &Switch<L>,
+    table: u8,
+    place: usize,
+    own: &Entry,
+    steps: usize,
+) -> Result<Verdict, AllocError>
+    requires table { table < 16 }
+    requires there { slice_get (table_at table switch.now.core.forwarding.tables).flows place ≡ Some (entry_of own.now) }
+    requires uncovered { (j : ℕ) → ¬ (Covers (table_at table switch.now.core.forwarding.tables).flows j place) }
+    ensures { IfOk result (Holds (table_at table switch.now.core.forwarding.tables).flows place) }
+{
+    let all = whole(own);
+    let rivals = rivals_of(alloc, switch, table, place, own, &all)?;
+    let mut search = Search::of_piece(alloc, all)?;
+    for _ in 0..steps {
+        let Some(piece) = search.pieces.pop() else {
+            return Ok(search.verdict());
+        };
+        let found = step(
+            alloc,
+            switch,
+            table,
+            place,
+            own,
+            &rivals,
+            &mut search,
+            piece,
+        )?;
+        if let Some(verdict) = found {
+            return Ok(verdict);
+        }
+    }
+    Ok(search.verdict())
+}
+
+/// The verdict on the entry of a table at a place by age, from 0. An entry that no one entry covers is searched, in at most so many steps, of
+/// which each looks at a piece of what it matches. `Open` where there is no such entry.
 pub fn check_entry<L: Lookup>(
     alloc: Global,
     switch: &Switch<L>,
@@ -127,14 +194,8 @@ pub fn check_entry<L: Lookup>(
     let Some(own) = switch.entry(table, place) else {
         return Ok(Verdict::Open);
     };
-    let mut search = Search::of_entry(alloc, own)?;
-    for _ in 0..steps {
-        let Some(piece) = search.pieces.pop() else {
-            break;
-        };
-        if let Some(verdict) = step(alloc, switch, table, place, own, &mut search, piece)? {
-            return Ok(verdict);
-        }
+    match first_cover(switch, table, place, own) {
+        Some(at) => covered_by(alloc, at),
+        None => searched(alloc, switch, table, place, own, steps),
     }
-    Ok(search.verdict())
 }

@@ -1,4 +1,4 @@
-use of_check::{Verdict, check, check_entry, check_file, print, some_never};
+use of_check::{Verdict, check_entry, check_file};
 use of_classifier::Scan;
 use of_replay::memory::{MemorySink, MemorySource};
 use of_switch::Switch;
@@ -98,36 +98,95 @@ match tcp_src 0x0050
 flow 0 0 0x0000000000000000 0 0 0
 ";
 
-const WANTED: [(&[u8], &str); 7] = [
-    (HIGHER, "flow 0 0 never: 0 1\nflow 0 1 wins\n"),
+/// Each kind of remark once.
+const DOUBTFUL: &[u8] = b"group 7 all
+flow 0 20 0x0000000000000000 0 0 0
+match in_port 0x00000003
+apply
+output 2 0
+output 3 0
+set eth_dst 0x020000000002
+flow 0 10 0x0000000000000000 0 0 0
+match eth_type 0x0800
+goto 5
+flow 2 0 0x0000000000000000 0 0 0
+apply
+output 1 0
+";
+
+/// Nothing to remark: what the action set sends is written before, a group is watched, a table is reached over another one, and OUTPUT to
+/// CONTROLLER sends from any port.
+const SOUND: &[u8] = b"group 1 all
+bucket 0 4294967295 4294967295
+output 2 0
+group 2 ff
+bucket 0 4294967295 1
+output 3 0
+flow 0 5 0x0000000000000000 0 0 0
+match in_port 0x00000001
+apply
+output 4294967293 128
+set eth_dst 0x020000000002
+write
+to_group 2
+goto 3
+flow 0 0 0x0000000000000000 0 0 0
+goto 1
+flow 1 0 0x0000000000000000 0 0 0
+goto 3
+flow 3 0 0x0000000000000000 0 0 0
+apply
+set eth_src 0x020000000003
+";
+
+const WANTED: [(&[u8], &str); 9] = [
+    (
+        HIGHER,
+        "flow 0 0 never: 0 1\nflow 0 1 wins\ntable 0 no table-miss entry\n",
+    ),
     (
         OLDER,
-        "flow 1 0 wins\nflow 1 1 never: 1 0\nflow 2 0 wins\nflow 2 1 wins\n",
+        "flow 1 0 wins\nflow 1 1 never: 1 0\nflow 2 0 wins\nflow 2 1 wins\ntable 1 unreachable\ntable 1 no table-miss entry\ntable 2 unreachable\ntable 2 no table-miss entry\n",
     ),
     (
         TOGETHER,
-        "flow 0 0 wins\nflow 0 1 wins\nflow 0 2 never: 0 0\nflow 0 3 never: 0 0 0 1\n",
+        "flow 0 0 wins\nflow 0 1 wins\nflow 0 2 never: 0 0\nflow 0 3 never: 0 0 0 1\ntable 0 no table-miss entry\n",
     ),
-    (TRUNCATED, "flow 0 0 wins\nflow 0 1 wins\nflow 0 2 wins\n"),
+    (
+        TRUNCATED,
+        "flow 0 0 wins\nflow 0 1 wins\nflow 0 2 wins\ntable 0 no table-miss entry\n",
+    ),
     (
         SOURCE,
-        "flow 0 0 wins\nflow 0 1 wins\nflow 0 2 never: 0 0 0 1\n",
+        "flow 0 0 wins\nflow 0 1 wins\nflow 0 2 never: 0 0 0 1\ntable 0 no table-miss entry\n",
     ),
     (
         TAGS,
-        "flow 3 0 wins\nflow 3 1 wins\nflow 3 2 never: 3 0 3 1\n",
+        "flow 3 0 wins\nflow 3 1 wins\nflow 3 2 never: 3 0 3 1\ntable 3 unreachable\ntable 3 no table-miss entry\n",
     ),
     (
         APART,
         "flow 0 0 wins\nflow 0 1 wins\nflow 0 2 wins\nflow 0 3 wins\nflow 0 4 wins\n",
     ),
+    (
+        DOUBTFUL,
+        "flow 0 0 wins\nflow 0 1 wins\nflow 2 0 wins\ntable 0 no table-miss entry\nflow 0 0 output 3: ingress\nflow 0 0 last actions unseen: 1\nflow 0 1 goto 5: no entries\ntable 2 unreachable\ngroup 7 unused\ngroup 7 no buckets\n",
+    ),
+    (
+        SOUND,
+        "flow 0 0 wins\nflow 0 1 wins\nflow 1 0 wins\nflow 3 0 wins\n",
+    ),
 ];
 
-fn loaded(alloc: Global, text: &[u8]) -> Result<Switch<Scan>, Fail> {
-    let config = assemble(alloc, text).ok().ok_or("a configuration")?;
-    let mut switch = Switch::new(alloc, 1)?;
-    switch.load(&config)?;
-    Ok(switch)
+/// What is written of a text, and whether something was found.
+fn checked(alloc: Global, text: &[u8]) -> Result<(Vec<u8>, bool), Fail> {
+    let mut source = MemorySource::new(alloc, text, 100, 0)?;
+    let mut sink = MemorySink::new(alloc, 100, 0);
+    let ended = check_file::<Scan, _, _>(alloc, &mut source, 1000, &mut sink);
+    let found = ended.ok().ok_or("a configuration")?;
+    let mut written = Vec::new(alloc);
+    written.extend_from_slice(sink.bytes())?;
+    Ok((written, found))
 }
 
 /// The lines without the packets.
@@ -145,31 +204,32 @@ fn outlined(alloc: Global, text: &[u8]) -> Result<String, Fail> {
 #[test]
 fn findings_by_hand(rt: HostRuntime) -> Result<(), Fail> {
     for (text, wanted) in WANTED {
-        let switch = loaded(rt.alloc(), text)?;
-        let findings = check(rt.alloc(), &switch, 1000)?;
-        assert_eq!(rt; some_never(&findings), wanted.contains("never"));
-        let printed = print(rt.alloc(), &findings)?;
-        assert_eq!(rt; outlined(rt.alloc(), &printed)?.as_str(), wanted);
+        let (written, found) = checked(rt.alloc(), text)?;
+        assert_eq!(rt; found, wanted.contains("never") || wanted.contains("table"));
+        assert_eq!(rt; outlined(rt.alloc(), &written)?.as_str(), wanted);
     }
     Ok(())
 }
 
 #[test]
 fn too_few_steps(rt: HostRuntime) -> Result<(), Fail> {
-    let switch = loaded(rt.alloc(), TOGETHER)?;
-    let verdict = check_entry(rt.alloc(), &switch, 0, 3, 2)?;
-    assert!(rt; matches!(verdict, Verdict::Open));
+    let config = assemble(rt.alloc(), TOGETHER)
+        .ok()
+        .ok_or("a configuration")?;
+    let mut switch = Switch::<Scan>::new(rt.alloc(), 1)?;
+    switch.load(&config)?;
+    let covered = check_entry(rt.alloc(), &switch, 0, 2, 0)?;
+    assert!(rt; matches!(covered, Verdict::Never { .. }));
+    let searched = check_entry(rt.alloc(), &switch, 0, 3, 2)?;
+    assert!(rt; matches!(searched, Verdict::Open));
     Ok(())
 }
 
 #[test]
-fn findings_of_a_file(rt: HostRuntime) -> Result<(), Fail> {
-    let mut source = MemorySource::new(rt.alloc(), HIGHER, 100, 0)?;
-    let mut sink = MemorySink::new(rt.alloc(), 100, 0);
-    let found = check_file::<Scan, _, _>(rt.alloc(), &mut source, 1000, &mut sink);
-    assert_eq!(rt; found.ok(), Some(true));
+fn the_packet_of_a_file(rt: HostRuntime) -> Result<(), Fail> {
+    let (written, _) = checked(rt.alloc(), HIGHER)?;
     let wanted =
-        b"flow 0 0 never: 0 1\nflow 0 1 wins in_port 1 metadata 0x0000000000000000 0000000000000000000000000800450000140000000040000000000000000a000000\n";
-    assert_eq!(rt; sink.bytes(), wanted.as_slice());
+        b"flow 0 0 never: 0 1\nflow 0 1 wins in_port 1 metadata 0x0000000000000000 0000000000000000000000000800450000140000000040000000000000000a000000\ntable 0 no table-miss entry\n";
+    assert_eq!(rt; written.as_slice(), wanted.as_slice());
     Ok(())
 }

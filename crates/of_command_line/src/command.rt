@@ -6,7 +6,7 @@ use std::alloc::{AllocError, Global};
 const STATUSES: &str =
     "Exit status: 0 done; 1 bad arguments; 2 a bad FILE: on standard error `line N: bad row` for an event file, and \
 `line N: syntax` or `line N: type T code C` for a flow text (`replay` has then printed the effects of the rows before \
-that line, `asm` and `dis` nothing); 3 `read fault`, `write fault` or `no memory`; 4 `check` found a flow that never wins.";
+that line, `asm` and `dis` nothing); 3 `read fault`, `write fault` or `no memory`; 4 `check` found something.";
 
 const EVENT_FILES: &str = "An event file has one event a line, and words are separated by one space:
 
@@ -79,9 +79,19 @@ by table, then by age from 0:
   flow 0 3 open                         it was not decided in N steps
 
 A step looks at a part of what a flow matches. `never` holds for all frames, ports and metadata. A flow that wins in its table
-need not be reached: that depends on the tables before it.
+need not be reached: that depends on the tables before it. Then come lines on the whole, where something is found:
 
-Exit status 4 where some flow never wins.
+  table 3 unreachable                   it has flows, and no goto leads there from table 0
+  table 0 no table-miss entry           it has flows, and none of priority 0 without fields: packets that hit none are dropped
+  flow 0 2 goto 5: no entries           packets that go on there are dropped
+  flow 0 1 output 3: ingress            nothing leaves: only IN_PORT sends out of the ingress port, which the match requires
+  flow 0 1 last actions unseen: 2       the packet is neither sent nor looked at after the last 2 actions of its apply
+  group 7 unused                        no flow and no group names it
+  group 7 no buckets                    packets end there
+
+What is not reported is not promised to be as it was meant.
+
+Exit status 0 where nothing was found, 4 where some flow never wins, or there is a line on the whole.
 
   ofswitch check --flows examples/router.flows
   ofswitch check --events examples/failover.events";

@@ -12,6 +12,7 @@ mod sockets;
 use crate::lookups::Lookups;
 use hinting::say_hint;
 use of_check::{check_events, check_file};
+use of_classifier::Scan;
 use of_command_line::{Asked, FileKind, NoRequest, Request, Serve, Trace, read_request};
 use of_explain::explain;
 use of_replay::streams::{ReaderSource, WriterSink};
@@ -28,8 +29,8 @@ use std::process::ExitCode;
 /// The exit status where the arguments are not understood.
 const BAD_ARGUMENTS: u8 = 1;
 
-/// The exit status where some flow never wins.
-const NEVER_WINS: u8 = 4;
+/// The exit status where `check` found something.
+const FOUND: u8 = 4;
 
 // A standard error that takes nothing changes no status, here and below.
 fn main(rt: HostRuntime) -> ExitCode {
@@ -98,13 +99,14 @@ fn run_check(rt: &HostRuntime, path: &str, kind: FileKind, steps: usize) -> Exit
         }
     };
     match found {
-        Ok(true) => ExitCode::from(NEVER_WINS),
+        Ok(true) => ExitCode::from(FOUND),
         Ok(false) => ExitCode::SUCCESS,
         Err(ended) => end_file(rt, path, &ended),
     }
 }
 
-// Whether some flow never wins.
+// Whether some flow never wins, or something is remarked. A table is looked up about once for each flow, so for a text a scan is enough: a map
+// for each mask costs more where masks are many.
 fn checked<R: Read + Drop>(
     rt: &HostRuntime,
     kind: FileKind,
@@ -114,9 +116,7 @@ fn checked<R: Read + Drop>(
     let mut reader = ReaderSource::new(reader);
     let mut writer = WriterSink::new(rt.stdout());
     match kind {
-        FileKind::Flows => {
-            check_file::<Lookups, _, _>(rt.alloc(), &mut reader, steps, &mut writer)
-        }
+        FileKind::Flows => { check_file::<Scan, _, _>(rt.alloc(), &mut reader, steps, &mut writer) }
         FileKind::Events => {
             check_events::<Lookups, _, _>(rt.alloc(), &mut reader, steps, &mut writer)
         }

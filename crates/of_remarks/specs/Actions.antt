@@ -1,0 +1,71 @@
+-- ACTIONS WITHOUT EFFECT (OpenFlow 1.3.5, 4.5, 5.9, 5.10 and 5.12).
+use Rattle.std.specs.Prelude.{ℕ, ◌==◌, Bool, true, false, not, ◌&&◌, ◌||◌, List, [], ◌∷◌, take, Option, Some, None, is_none, if◌then◌else◌}
+use Rattle.std.specs.List.{list_any, suffix_len}
+use Rattle.of_layers.specs.declared.field.Field.{Field}
+use Rattle.of_layers.specs.declared.field.Field.TheVariants.{InPort}
+use Rattle.of_oxm.specs.declared.match_field.MatchField.{MatchField}
+use Rattle.of_actions.specs.declared.action.Action.{Action}
+use Rattle.of_actions.specs.declared.action.Action.TheVariants.{Output, PushVlan, PopVlan, Group, SetNwTtl, DecNwTtl, SetField}
+use Rattle.of_actions.specs.PortNumbers.{is_number}
+use Rattle.of_text.specs.Flows.{Step, Apply, Clear, Write, Metadata, Goto, Flow}
+
+-- ---- OUTPUT to the ingress port: nothing leaves there, since only IN_PORT sends a packet back (4.5 and 7.2.1)
+
+abbrev pub is_ingress : Field → Bool
+is_ingress InPort = true
+is_ingress other = false
+
+-- the port of the switch that a field of a match requires as ingress port
+abbrev pub required_port : MatchField → Option ℕ
+required_port e = if is_ingress e.field && (is_none e.mask && is_number e.value) then Some e.value else None
+
+abbrev pub is_output_to : ℕ → Action → Bool
+is_output_to port (Output to max_len) = to == port
+is_output_to port other = false
+
+-- an action of APPLY_ACTIONS or of WRITE_ACTIONS passes the test
+abbrev pub some_action : (Action → Bool) → Step → Bool
+some_action test (Apply actions) = list_any test actions
+some_action test (Write actions) = list_any test actions
+some_action test other = false
+
+-- some action sends to the port
+abbrev pub some_output_to : ℕ → List Step → Bool
+some_output_to port steps = list_any (some_action (is_output_to port)) steps
+
+-- ---- actions that nobody sees
+
+-- it sends the packet as it is then: OUTPUT and GROUP, and DEC_NW_TTL, which sends a packet of an invalid TTL to the controllers
+abbrev pub may_send : Action → Bool
+may_send (Output port max_len) = true
+may_send (Group group) = true
+may_send DecNwTtl = true
+may_send other = false
+
+-- how many actions follow the last that may send
+abbrev pub silent : List Action → ℕ
+silent actions = suffix_len (λ a. not (may_send a)) actions
+
+-- it puts an action into the action set that may send
+abbrev pub writes_sending : Step → Bool
+writes_sending (Write actions) = list_any may_send actions
+writes_sending other = false
+
+abbrev pub some_writes_sending : List Flow → Bool
+some_writes_sending flows = list_any (λ f. list_any writes_sending f.steps) flows
+
+abbrev pub is_goto : Step → Bool
+is_goto (Goto table) = true
+is_goto other = false
+
+abbrev pub is_clear : Step → Bool
+is_clear Clear = true
+is_clear other = false
+
+-- AFTER THE APPLY_ACTIONS OF AN ENTRY OF A TABLE the packet may go on or be sent: by GOTO_TABLE, by what the entry writes into the action set,
+-- or by what entries of earlier tables wrote and it does not clear
+abbrev pub is_used_later : List (List Flow) → ℕ → List Step → Bool
+is_used_later tables table steps =
+    list_any is_goto steps
+    || list_any writes_sending steps
+    || (not (list_any is_clear steps) && list_any some_writes_sending (take table tables))

@@ -1,0 +1,5 @@
+pub mod Tables
+pub mod Actions
+pub mod Groups
+pub mod Remarks
+pub mod Text
