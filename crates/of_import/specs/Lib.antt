@@ -1,0 +1,14 @@
+pub mod Lines
+pub mod Words
+pub mod Numbers
+pub mod Values
+pub mod Outcomes
+pub mod PortWords
+pub mod Ports
+pub mod FieldWords
+pub mod ProtocolWords
+pub mod HeadWords
+pub mod ActionWords
+pub mod Settings
+pub mod Stops
+pub mod Acting
