@@ -138,3 +138,8 @@ tag_first settings done word = if tags word && not (is_matched settings) && not 
 -- THE ACTIONS after a word more
 unfoldable pub acted : List MatchField → List Action → List ℕ → Result (List Action) Why
 acted settings done word = action_in settings word >>= λ action. Ok (done ++ tag_first settings done word ++ listed action)
+
+-- the actions after words more, of which empty ones are passed over
+abbrev pub acted_all : List MatchField → List Action → List (List ℕ) → Result (List Action) Why
+acted_all settings done [] = Ok done
+acted_all settings done (w ∷ ws) = if length w == 0 then acted_all settings done ws else acted settings done w >>= λ more. acted_all settings more ws

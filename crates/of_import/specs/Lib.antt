@@ -10,5 +10,7 @@ pub mod ProtocolWords
 pub mod HeadWords
 pub mod ActionWords
 pub mod Settings
+pub mod Tci
+pub mod Matches
 pub mod Stops
 pub mod Acting

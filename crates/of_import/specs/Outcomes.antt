@@ -4,7 +4,7 @@ use Rattle.of_import.specs.declared.why.Why.{Why}
 
 -- the second step, if the first gave a value
 infixl 10 ◌>>=◌
-abbrev pub ◌>>=◌ : {A B : Type 0} → Result A Why → (A → Result B Why) → Result B Why
+abbrev pub ◌>>=◌ : {A B E : Type 0} → Result A E → (A → Result B E) → Result B E
 (Err why) >>= f = Err why
 (Ok a) >>= f = f a
 

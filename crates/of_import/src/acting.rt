@@ -1,7 +1,8 @@
 //! What a word says as an action.
 ghost use Rattle.std.specs.Prelude.{◌≡◌, ◌≤◌, ◌<◌, ◌^◌, ◌++◌, IfOk, Ok, Err, Some, None, IfErr};
-ghost use Rattle.of_import.specs.Acting.{acted, action_in as action_of, alone as alone_of, is_push as is_push_action, is_tag as is_tag_verb, controller_in as controller_of, done_by as done_of, group_in as group_of, is_matched as is_matched_by, length_in as length_of, listed, new_value as new_value_of, output_to as output_of, push_vlan_in as push_vlan_of, set_by as set_of, set_field_in as set_field_of, tag_first, tags as tags_of, ttl_in as ttl_of};
+ghost use Rattle.of_import.specs.Acting.{acted, acted_all, action_in as action_of, alone as alone_of, is_push as is_push_action, is_tag as is_tag_verb, controller_in as controller_of, done_by as done_of, group_in as group_of, is_matched as is_matched_by, length_in as length_of, listed, new_value as new_value_of, output_to as output_of, push_vlan_in as push_vlan_of, set_by as set_of, set_field_in as set_field_of, tag_first, tags as tags_of, ttl_in as ttl_of};
 ghost use Rattle.std.specs.List.{list_any};
+ghost use Rattle.of_import.specs.Words.{words_from};
 ghost use Rattle.of_import.specs.Stops.{Stops};
 ghost use Rattle.of_import.specs.declared.stop.Stop.TheVariants.{NoMemory};
 
@@ -13,7 +14,7 @@ use crate::port::port_in;
 use crate::setting::{field_for, fitting_in, last};
 use crate::stop::Stop;
 use crate::why::Why;
-use crate::words::{name_of, value_of};
+use crate::words::{cut_word, name_of, value_of};
 use of_actions::{Action, PORT_CONTROLLER};
 use of_layers::Field;
 use of_oxm::MatchField;
@@ -207,6 +208,25 @@ pub fn act(settings: &[MatchField], done: &mut Vec<Action>, word: &[u8]) -> Resu
     }
     if let Some(action) = action {
         done.push(action)?;
+    }
+    Ok(())
+}
+
+/// Appends what words say as actions.
+pub fn act_all(settings: &[MatchField], done: &mut Vec<Action>, words: &[u8]) -> Result<(), Stop>
+    ensures told { IfOk result (λ _. acted_all settings.now done.old.items (words_from 0 words.now) ≡ Ok done.new.items) }
+    ensures stopped { IfErr result (Stops (acted_all settings.now done.old.items (words_from 0 words.now))) }
+{
+    let mut rest = words;
+    while !rest.is_empty() {
+        let (word, after) = cut_word(rest);
+        rest = after;
+        if !word.is_empty() {
+            match act(settings, done, word) {
+                Ok(()) => {}
+                Err(stop) => return Err(stop),
+            }
+        }
     }
     Ok(())
 }
