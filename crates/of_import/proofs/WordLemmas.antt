@@ -7,7 +7,7 @@ use Rattle.of_import.specs.declared.stop.Stop.TheVariants.{NoMemory, Refused}
 use Rattle.of_import.specs.Stops.{Stops}
 use Rattle.of_oxm.specs.declared.match_field.MatchField.{MatchField}
 use Rattle.of_actions.specs.declared.action.Action.{Action}
-use Rattle.of_import.specs.Lines.{prepended}
+use Rattle.of_text.specs.Lines.{prepended}
 use Rattle.of_import.specs.Words.{words_from, word_in, after_word, ends, depth_after}
 use Rattle.of_import.specs.Outcomes.{◌>>=◌}
 use Rattle.of_import.specs.Acting.{acted, acted_all}

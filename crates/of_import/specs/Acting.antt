@@ -16,7 +16,7 @@ use Rattle.of_import.specs.declared.field_word.Form.TheVariants.{Vlan}
 use Rattle.of_import.specs.declared.action_word.ActionWord.{ActionWord}
 use Rattle.of_import.specs.declared.action_word.Verb.{Verb}
 use Rattle.of_import.specs.declared.action_word.Verb.TheVariants.{Output, Controller, Group, Drop, PushVlan, PopVlan, SetField, Mod, Tag, DecTtl, SetTtl, Write, Clear, Metadata, Goto}
-use Rattle.of_import.specs.Lines.{before, behind}
+use Rattle.of_text.specs.Lines.{before, behind}
 use Rattle.of_import.specs.Words.{name_of, value_of}
 use Rattle.of_import.specs.Numbers.{number_in}
 use Rattle.of_import.specs.Outcomes.{◌>>=◌, given}

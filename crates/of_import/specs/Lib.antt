@@ -1,4 +1,3 @@
-pub mod Lines
 pub mod Words
 pub mod Numbers
 pub mod Values
@@ -14,3 +13,8 @@ pub mod Tci
 pub mod Matches
 pub mod Stops
 pub mod Acting
+pub mod Sketches
+pub mod Seen
+pub mod GroupSketches
+pub mod SeenGroups
+pub mod Finished

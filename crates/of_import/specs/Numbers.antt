@@ -1,7 +1,7 @@
 -- NUMBERS IN WORDS: decimal, or hexadecimal after 0x.
 use Rattle.std.specs.Prelude.{ℕ, ◌+◌, ◌-◌, ◌*◌, ◌==◌, ◌&&◌, not, nat_le, nat_lt, Bool, List, [], ◌∷◌, length, codes, Option, Some, None, if◌then◌else◌}
 use Rattle.std.specs.Str.{bytes_eq}
-use Rattle.of_import.specs.Lines.{before, behind}
+use Rattle.of_text.specs.Lines.{before, behind}
 
 -- the second step, if the first gave a value
 infixl 10 ◌>>=◌

@@ -11,7 +11,7 @@ use Rattle.of_import.specs.declared.field_word.Form.{Form}
 use Rattle.of_import.specs.declared.field_word.Form.TheVariants.{Number, Port, Mac, Ipv4, Ipv6, Tos, Vlan, Tci}
 use Rattle.of_import.specs.declared.field_word.Target.{Target}
 use Rattle.of_import.specs.declared.field_word.Target.TheVariants.{Exact, Protocol, NetworkSource, NetworkDestination, TransportSource, TransportDestination, IcmpType, IcmpCode}
-use Rattle.of_import.specs.Lines.{before, behind}
+use Rattle.of_text.specs.Lines.{before, behind}
 use Rattle.of_import.specs.Numbers.{number_in}
 use Rattle.of_import.specs.Outcomes.{◌>>=◌, given}
 use Rattle.of_import.specs.Ports.{port_in}

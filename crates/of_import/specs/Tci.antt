@@ -2,7 +2,7 @@
 use Rattle.std.specs.Prelude.{ℕ, ◌/◌, ◌==◌, ◌||◌, bit_and, List, length, Option, Some, None, Result, Ok, Err, if◌then◌else◌}
 use Rattle.of_layers.specs.declared.field.Field.TheVariants.{VlanVid, VlanPcp}
 use Rattle.of_oxm.specs.declared.match_field.MatchField.{MatchField}
-use Rattle.of_import.specs.Lines.{before, behind}
+use Rattle.of_text.specs.Lines.{before, behind}
 use Rattle.of_import.specs.declared.why.Why.{Why}
 use Rattle.of_import.specs.declared.why.Why.TheVariants as whys
 use Rattle.of_import.specs.Numbers.{number_in}

@@ -1,6 +1,6 @@
 -- VALUES OF FIELDS IN WORDS (ovs-fields(7)): numbers, Ethernet addresses, IPv4 addresses, ports.
 use Rattle.std.specs.Prelude.{ℕ, ◌+◌, ◌-◌, ◌*◌, ◌/◌, ◌^◌, List, [], ◌∷◌, Option, Some, None}
-use Rattle.of_import.specs.Lines.{before, behind}
+use Rattle.of_text.specs.Lines.{before, behind}
 use Rattle.of_import.specs.Numbers.{◌>>=◌, some_digits}
 
 -- 02:00:00:00:00:01

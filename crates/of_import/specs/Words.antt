@@ -1,6 +1,6 @@
 -- A LINE AS WORDS (ovs-ofctl(8)): commas and white space separate them, outside of parentheses.
 use Rattle.std.specs.Prelude.{ℕ, ◌+◌, ◌-◌, ◌==◌, ◌&&◌, ◌||◌, Bool, List, [], ◌∷◌, length, take, if◌then◌else◌}
-use Rattle.of_import.specs.Lines.{prepended}
+use Rattle.of_text.specs.Lines.{prepended}
 
 -- a comma, a space, a tab, a CR
 abbrev pub is_gap : ℕ → Bool

@@ -8,7 +8,7 @@ ghost use Rattle.of_import.specs.declared.stop.Stop.TheVariants.{NoMemory};
 
 use crate::action_word::{ActionWord, Verb};
 use crate::field_word::{FieldWord, Form};
-use crate::lines::{cut, is};
+use of_text::{cut, is};
 use crate::numbers::number_in;
 use crate::port::port_in;
 use crate::setting::{field_for, fitting_in, last};

@@ -4,8 +4,10 @@
 mod acting;
 mod action_word;
 mod field_word;
+mod finish;
+mod flow_sketch;
+mod group_sketch;
 mod head_word;
-mod lines;
 mod numbers;
 mod port;
 mod port_word;
@@ -18,11 +20,6 @@ mod values;
 mod why;
 mod words;
 
-pub use action_word::{ActionWord, Verb};
-pub use head_word::{HeadWord, Part};
-pub use protocol_word::ProtocolWord;
-pub use field_word::{FieldWord, Form, Target};
-pub use words::{cut_word, name_of, value_of};
-pub use setting::{says, field_for, setting_in, masked, fitting_in};
-pub use acting::act;
-pub use settings::{set_field, set_protocol, fields_of};
+pub use flow_sketch::FlowSketch;
+pub use group_sketch::GroupSketch;
+pub use finish::finish_flow;

@@ -2,7 +2,7 @@
 ghost use Rattle.std.specs.Prelude.{◌≡◌, ◌≤◌, ◌<◌, ◌^◌, IfSome, Some, None};
 ghost use Rattle.of_import.specs.Numbers.{digit as digit_of, digits_in as value_of_digits, some_digits as value_of_some, number_in as number_of};
 
-use crate::lines::{cut, is};
+use of_text::{cut, is};
 
 // The value of a digit, in either case.
 fn digit(byte: u8) -> Option<u8>

@@ -4,7 +4,7 @@ ghost use Rattle.of_layers.specs.Fields.{ones_of};
 ghost use Rattle.of_import.specs.Settings.{if_arp as arp_or, if_ipv6 as ipv6_or, if_tcp_or_udp as tcp_or_udp, bits_in as bits_of, field_for as field_of, fitting_in as fitting_of, ipv4_mask as ipv4_mask_of, last_of, mask_in as mask_of, masked as masked_by, number_for as number_of, says as says_of, setting_in as setting_of, under as under_bits, value_in as value_of, vlan_in as vlan_of};
 
 use crate::field_word::{Form, Target};
-use crate::lines::cut;
+use of_text::cut;
 use crate::numbers::number_in;
 use crate::port::port_in;
 use crate::values::{ipv4_in, mac_in, prefix_mask};

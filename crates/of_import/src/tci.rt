@@ -2,7 +2,7 @@
 ghost use Rattle.std.specs.Prelude.{◌≡◌, ◌≤◌, ◌<◌, ◌^◌, IfOk, Ok, Err};
 ghost use Rattle.of_import.specs.Tci.{half_word as half_word_of, pcp_setting as pcp_of, tci_mask as mask_of, tci_settings as settings_of};
 
-use crate::lines::cut;
+use of_text::cut;
 use crate::numbers::number_in;
 use crate::setting::masked;
 use crate::why::Why;

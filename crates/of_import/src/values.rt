@@ -2,7 +2,7 @@
 ghost use Rattle.std.specs.Prelude.{◌≡◌, ◌≤◌, ◌<◌, ◌^◌, IfSome, Some, None};
 ghost use Rattle.of_import.specs.Values.{mac_in as mac_of, ipv4_in as ipv4_of, first_bits as first_bits_of};
 
-use crate::lines::cut;
+use of_text::cut;
 use crate::numbers::some_digits;
 
 /// An Ethernet address, as 02:00:00:00:00:01.
