@@ -18,3 +18,6 @@ pub mod Seen
 pub mod GroupSketches
 pub mod SeenGroups
 pub mod Finished
+pub mod Sayings
+pub mod LineStops
+pub mod SeenLines

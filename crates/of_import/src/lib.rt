@@ -8,6 +8,8 @@ mod finish;
 mod flow_sketch;
 mod group_sketch;
 mod head_word;
+mod line;
+mod line_stop;
 mod numbers;
 mod port;
 mod port_word;
@@ -22,4 +24,4 @@ mod words;
 
 pub use flow_sketch::FlowSketch;
 pub use group_sketch::GroupSketch;
-pub use finish::finish_flow;
+pub use line::{Said, read_line};

@@ -2,7 +2,8 @@
 ghost use Rattle.std.specs.Prelude.{◌≡◌, ◌≤◌, ◌<◌, ◌^◌, ◌-◌, ◌==◌, ◌||◌, length, take, drop};
 ghost use Rattle.of_import.specs.Words.{after_word, depth_after as depth_behind, is_gap as is_gap_byte, is_mark as is_mark_byte, marked_in, name_of as name_in, unmarked as unmarked_in, value_of as value_in, word_in};
 
-fn is_gap(byte: u8) -> bool
+/// Whether it stands between words.
+pub fn is_gap(byte: u8) -> bool
     ensures { result ≡ is_gap_byte byte }
 {
     byte == b',' || byte == b' ' || byte == b'\t' || byte == b'\r'
