@@ -7,7 +7,6 @@ use Rattle.of_oxm.specs.declared.match_field.MatchField.{MatchField}
 use Rattle.of_actions.specs.declared.action.Action.{Action}
 use Rattle.of_actions.specs.declared.action.Action.TheVariants.{Output, PushVlan, PopVlan, Group, SetNwTtl, DecNwTtl, SetField}
 use Rattle.of_text.specs.Flows.{Flow, Step, Apply, Clear, Write, Metadata, Goto}
-use Rattle.of_text.specs.Groups.{TextBucket, TextGroup}
 use Rattle.of_import.specs.declared.why.Why.{Why}
 use Rattle.of_import.specs.declared.why.Why.TheVariants as whys
 use Rattle.of_import.specs.Matches.{fields_of}
@@ -45,7 +44,7 @@ action_fits (SetField f value) = nat_le value (ones_of f)
 abbrev pub numbers_fit : Sketch → Bool
 numbers_fit s = list_all field_fits (fields_of s.settings) && list_all action_fits s.apply && list_all action_fits s.write
 
--- a line without `actions=` is no flow
+-- THE FLOW of its words; a line without `actions=` is none
 unfoldable pub flow_of : Sketch → Result Flow Why
 flow_of s =
     if not s.acting then Err whys.Missing

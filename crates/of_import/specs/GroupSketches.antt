@@ -1,5 +1,6 @@
 -- WHAT THE WORDS OF A LINE SAY OF A GROUP, one after the other (ovs-ofctl(8)).
-use Rattle.std.specs.Prelude.{ℕ, ◌^◌, Bool, true, false, ◌==◌, List, [], ◌∷◌, ◌++◌, codes, length, Option, Some, None, Result, Ok, Err, if◌then◌else◌}
+use Rattle.std.specs.Prelude.{ℕ, ◌^◌, ◌&&◌, nat_lt, Bool, true, false, ◌==◌, List, [], ◌∷◌, ◌++◌, codes, length, Option, Some, None, Result, Ok, Err, if◌then◌else◌}
+use Rattle.std.specs.List.{list_all}
 use Rattle.std.specs.Str.{bytes_eq}
 use Rattle.of_actions.specs.declared.action.Action.{Action}
 use Rattle.of_groups.specs.declared.group.GroupKind.{GroupKind}
@@ -13,6 +14,7 @@ use Rattle.of_import.specs.Outcomes.{◌>>=◌}
 use Rattle.of_import.specs.Ports.{port_in}
 use Rattle.of_import.specs.Acting.{acted}
 use Rattle.of_import.specs.Sketches.{numbered}
+use Rattle.of_import.specs.Finished.{action_fits}
 
 pub record GroupTold : Type 0 where
   pub id : Option ℕ
@@ -73,11 +75,14 @@ told_group s word =
     else if bytes_eq (name_of word) (codes "type") then (kind_in (value_of word) >>= λ kind. Ok (record s { kind = Some kind }))
     else Err whys.Unknown
 
+abbrev pub bucket_fits : TextBucket → Bool
+bucket_fits b = nat_lt b.head.weight (2 ^ 16) && nat_lt b.head.watch_port (2 ^ 32) && nat_lt b.head.watch_group (2 ^ 32) && list_all action_fits b.actions
+
 abbrev pub group_by : GroupTold → Option ℕ → Option GroupKind → Result TextGroup Why
 group_by s (Some id) (Some kind) = Ok (record { head = record { id = id; kind = kind }; buckets = closed s })
 group_by s (Some id) None = Err whys.Missing
 group_by s None kind = Err whys.Missing
 
--- THE GROUP of its words
+-- THE GROUP of its words, in whose buckets each number fits its place
 unfoldable pub group_of : GroupTold → Result TextGroup Why
-group_of s = group_by s s.id s.kind
+group_of s = if list_all bucket_fits (closed s) then group_by s s.id s.kind else Err whys.Value

@@ -21,3 +21,4 @@ pub mod Finished
 pub mod Sayings
 pub mod LineStops
 pub mod SeenLines
+pub mod Sound

@@ -1,9 +1,11 @@
 //! The flow of its words.
-ghost use Rattle.std.specs.Prelude.{◌≡◌, ◌++◌, IfOk, IfErr, OnOk, Ok, map};
+ghost use Rattle.std.specs.Prelude.{◌≡◌, ◌++◌, IfOk, IfErr, OnOk, Ok, map, IfSome, ◌<◌, ◌^◌};
 ghost use Rattle.std.specs.List.{list_all};
 ghost use Rattle.of_import.specs.Finished.{action_fits as action_fits_so, field_fits as field_fits_so, flow_of, goto_step, metadata_step, steps_of, when};
 ghost use Rattle.of_import.specs.Matches.{fields_of as fields_in};
 ghost use Rattle.of_import.specs.Seen.{seen};
+ghost use Rattle.of_text.specs.Rows.{HeadFits};
+ghost use Rattle.of_import.specs.Sound.{IsSound};
 ghost use Rattle.of_import.specs.Stops.{Stops};
 ghost use Rattle.of_text.specs.Views.{view, view_step};
 
@@ -13,7 +15,7 @@ use crate::stop::Stop;
 use crate::why::Why;
 use of_actions::Action;
 use of_oxm::MatchField;
-use of_text::{FlowText, StepText};
+use of_text::{FlowHead, FlowText, StepText};
 use std::alloc::{AllocError, Global};
 
 fn push_when(steps: &mut Vec<StepText>, wanted: bool, step: StepText) -> Result<(), AllocError>
@@ -96,9 +98,27 @@ pub fn actions_fit(actions: &[Action]) -> bool
     actions.iter().all(|action| action_fits(*action))
 }
 
-/// The flow that its words say.
+// What the type of the head says of its numbers.
+fn known_head(head: FlowHead)
+    ensures { HeadFits head }
+{
+    let _table = head.table;
+}
+
+fn known_metadata(metadata: Option<(u64, u64)>)
+    ensures { IfSome metadata (λ m. (m.0 < 2 ^ 64) × (m.1 < 2 ^ 64)) }
+{
+    if let Some((_value, _mask)) = metadata {}
+}
+
+fn known_goto(goto: Option<u8>)
+    ensures { IfSome goto (λ table. table < 2 ^ 8) }
+{
+    if let Some(_table) = goto {}
+}
+
 #[tactic(auto, unfolding(crate::specs::Finished::flow_of))]
-pub fn finish_flow(alloc: Global, sketch: FlowSketch) -> Result<FlowText, Stop>
+fn finished(alloc: Global, sketch: FlowSketch) -> Result<FlowText, Stop>
     ensures told { IfOk result (λ flow. flow_of (seen sketch) ≡ Ok (view flow)) }
     ensures stopped { IfErr result (Stops (flow_of (seen sketch))) }
 {
@@ -116,4 +136,19 @@ pub fn finish_flow(alloc: Global, sketch: FlowSketch) -> Result<FlowText, Stop>
         fields,
         steps,
     })
+}
+
+/// The flow that its words say.
+pub fn finish_flow(alloc: Global, sketch: FlowSketch) -> Result<FlowText, Stop>
+    ensures told { IfOk result (λ flow. flow_of (seen sketch) ≡ Ok (view flow)) }
+    ensures sound { IfOk result (λ flow. IsSound (view flow)) }
+    ensures stopped { IfErr result (Stops (flow_of (seen sketch))) }
+{
+    known_head(sketch.head);
+    known_metadata(sketch.metadata);
+    known_goto(sketch.goto);
+    match finished(alloc, sketch) {
+        Ok(flow) => Ok(flow),
+        Err(stop) => Err(stop),
+    }
 }

@@ -1,11 +1,15 @@
 //! What the words of a line say of a group.
-ghost use Rattle.std.specs.Prelude.{◌≡◌, ◌++◌, IfOk, IfErr, OnOk, Ok, map, false, []};
-ghost use Rattle.of_import.specs.GroupSketches.{bucket_begun, closed, first_action, group_of as group_in, kind_in as kind_of, no_group, told_bucket as told_bucket_word, told_first, told_group, with_action};
+ghost use Rattle.std.specs.Prelude.{◌≡◌, ◌++◌, IfOk, IfErr, OnOk, Ok, map, false, [], ◌<◌, ◌^◌};
+ghost use Rattle.of_import.specs.GroupSketches.{bucket_begun, bucket_fits as bucket_fits_so, closed, first_action, group_of as group_in, kind_in as kind_of, no_group, told_bucket as told_bucket_word, told_first, told_group, with_action};
 ghost use Rattle.of_import.specs.SeenGroups.{seen_group};
+ghost use Rattle.std.specs.List.{AllByRecursion, list_all};
+ghost use Rattle.of_text.specs.Groups.{group_rows};
+ghost use Rattle.of_text.specs.Rows.{Fits};
 ghost use Rattle.of_import.specs.Stops.{Stops};
 ghost use Rattle.of_text.specs.Views.{view_bucket, view_group};
 
 use crate::acting::act;
+use crate::finish::actions_fit;
 use crate::flow_sketch::numbered;
 use crate::port::port_in;
 use crate::stop::Stop;
@@ -50,6 +54,36 @@ fn kind_in(value: &[u8]) -> Result<GroupKind, Why>
     } else {
         Err(Why::Unknown)
     }
+}
+
+fn bucket_fits(bucket: &BucketText) -> bool
+    ensures { result ≡ bucket_fits_so (view_bucket bucket.now) }
+{
+    let head = bucket.head;
+    head.weight <= u16::MAX
+        && head.watch_port <= u32::MAX
+        && head.watch_group <= u32::MAX
+        && actions_fit(&bucket.actions)
+}
+
+fn each_fits(buckets: &[BucketText]) -> bool
+    ensures { result ≡ list_all (λ b. bucket_fits_so (view_bucket b)) buckets.now }
+{
+    buckets.iter().all(|bucket| bucket_fits(bucket))
+}
+
+#[tactic(auto, using(crate::proofs::SoundLemmas::mapped_tests))]
+fn buckets_fit(buckets: &[BucketText]) -> bool
+    ensures { result ≡ list_all bucket_fits_so (map view_bucket buckets.now) }
+{
+    each_fits(buckets)
+}
+
+fn group_head(id: u32, kind: GroupKind) -> GroupHead
+    ensures head { result ≡ record { id = id; kind = kind } }
+    ensures fits { result.id < 2 ^ 32 }
+{
+    GroupHead { id, kind }
 }
 
 impl GroupSketch {
@@ -174,13 +208,17 @@ impl GroupSketch {
     #[tactic(auto, unfolding(crate::specs::GroupSketches::group_of))]
     pub fn finish(self) -> Result<GroupText, Stop>
         ensures told { IfOk result (λ group. group_in (seen_group self) ≡ Ok (view_group group)) }
+        ensures fits { IfOk result (λ group. AllByRecursion Fits (group_rows (view_group group))) }
         ensures stopped { IfErr result (Stops (group_in (seen_group self))) }
     {
         let mut sketch = self;
         sketch.close()?;
+        if !buckets_fit(&sketch.buckets) {
+            return Err(Stop::Refused(Why::Value));
+        }
         match (sketch.id, sketch.kind) {
             (Some(id), Some(kind)) => Ok(GroupText {
-                head: GroupHead { id, kind },
+                head: group_head(id, kind),
                 buckets: sketch.buckets,
             }),
             _ => Err(Stop::Refused(Why::Missing)),

@@ -8,6 +8,7 @@ ghost use Rattle.of_import.specs.Sketches.{blank, told};
 ghost use Rattle.of_import.specs.GroupSketches.{no_group, told_group};
 ghost use Rattle.of_import.specs.Sayings.{content as content_of, flow_said, group_said, is_heading as is_heading_text, line_says, said as said_of, told_words, trimmed as trimmed_of};
 ghost use Rattle.of_import.specs.LineStops.{IsAt, LineStops};
+ghost use Rattle.of_import.specs.Sound.{SaysSound};
 ghost use Rattle.of_import.specs.Seen.{seen};
 ghost use Rattle.of_import.specs.SeenGroups.{seen_group};
 ghost use Rattle.of_import.specs.SeenLines.{view_said};
@@ -90,6 +91,7 @@ fn tell_group(alloc: Global, sketch: &mut GroupSketch, text: &[u8]) -> Result<()
 
 fn read_flow(alloc: Global, text: &[u8]) -> Result<Said, LineStop>
     ensures told { IfOk result (λ said. flow_said text.now ≡ Ok (view_said said)) }
+    ensures sound { IfOk result SaysSound }
     ensures stopped { IfErr result (LineStops (flow_said text.now)) }
 {
     let mut sketch = FlowSketch::blank(alloc);
@@ -105,6 +107,7 @@ fn read_flow(alloc: Global, text: &[u8]) -> Result<Said, LineStop>
 
 fn read_group(alloc: Global, text: &[u8]) -> Result<Said, LineStop>
     ensures told { IfOk result (λ said. group_said text.now ≡ Ok (view_said said)) }
+    ensures sound { IfOk result SaysSound }
     ensures stopped { IfErr result (LineStops (group_said text.now)) }
 {
     let mut sketch = GroupSketch::blank(alloc);
@@ -140,6 +143,7 @@ fn is_heading(text: &[u8]) -> bool
 
 fn read_text(alloc: Global, text: &[u8]) -> Result<Said, LineStop>
     ensures told { IfOk result (λ said. said_of text.now ≡ Ok (view_said said)) }
+    ensures sound { IfOk result SaysSound }
     ensures stopped { IfErr result (LineStops (said_of text.now)) }
 {
     if text.is_empty() || is_heading(text) {
@@ -155,6 +159,7 @@ fn read_text(alloc: Global, text: &[u8]) -> Result<Said, LineStop>
 #[tactic(auto, unfolding(crate::specs::Sayings::line_says))]
 pub fn read_line(alloc: Global, line: &[u8]) -> Result<Said, LineStop>
     ensures told { IfOk result (λ said. line_says line.now ≡ Ok (view_said said)) }
+    ensures sound { IfOk result SaysSound }
     ensures stopped { IfErr result (LineStops (line_says line.now)) }
 {
     let (text, _) = cut(line, b'#');
