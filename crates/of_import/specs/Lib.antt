@@ -22,3 +22,6 @@ pub mod Sayings
 pub mod LineStops
 pub mod SeenLines
 pub mod Sound
+pub mod Tallies
+pub mod SeenTallies
+pub mod Imports
