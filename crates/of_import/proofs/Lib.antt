@@ -5,3 +5,4 @@ pub mod SoundLemmas
 pub mod TallyLemmas
 pub mod RowLemmas
 pub mod ImportLemmas
+pub mod PieceLemmas

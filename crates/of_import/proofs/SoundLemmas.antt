@@ -191,14 +191,14 @@ steps_past s least rest h =
     let m = metadata_step s.metadata in
     let g = goto_step s.goto in
     past_both least (((a ++ c) ++ w) ++ m) g rest 44 45
-      (past_both least ((a ++ c) ++ w) m (flat_map step_rows g ++ rest) 43 44
-        (past_both least (a ++ c) w (flat_map step_rows m ++ (flat_map step_rows g ++ rest)) 42 43
-          (past_both least a c (flat_map step_rows w ++ (flat_map step_rows m ++ (flat_map step_rows g ++ rest))) 41 42
-            (apply_past (not (eqb (length s.apply) 0)) least s.apply (flat_map step_rows c ++ (flat_map step_rows w ++ (flat_map step_rows m ++ (flat_map step_rows g ++ rest)))) h)
-            (λ n l. clear_past s.clears n (flat_map step_rows w ++ (flat_map step_rows m ++ (flat_map step_rows g ++ rest))) l))
-          (λ n l. write_past s.writes n s.write (flat_map step_rows m ++ (flat_map step_rows g ++ rest)) l))
-        (λ n l. metadata_past s.metadata n (flat_map step_rows g ++ rest) l))
-      (λ n l. goto_past s.goto n rest l)
+    (past_both least ((a ++ c) ++ w) m (flat_map step_rows g ++ rest) 43 44
+    (past_both least (a ++ c) w (flat_map step_rows m ++ (flat_map step_rows g ++ rest)) 42 43
+    (past_both least a c (flat_map step_rows w ++ (flat_map step_rows m ++ (flat_map step_rows g ++ rest))) 41 42
+    (apply_past (not (eqb (length s.apply) 0)) least s.apply (flat_map step_rows c ++ (flat_map step_rows w ++ (flat_map step_rows m ++ (flat_map step_rows g ++ rest)))) h)
+    (λ n l. clear_past s.clears n (flat_map step_rows w ++ (flat_map step_rows m ++ (flat_map step_rows g ++ rest))) l))
+    (λ n l. write_past s.writes n s.write (flat_map step_rows m ++ (flat_map step_rows g ++ rest)) l))
+    (λ n l. metadata_past s.metadata n (flat_map step_rows g ++ rest) l))
+    (λ n l. goto_past s.goto n rest l)
 
 -- ---- flows
 
@@ -238,12 +238,12 @@ goto_fits (Some table) h = (h, tt)
 steps_fit : (s : Sketch) → IsTyped s → list_all action_fits s.apply ≡ true → list_all action_fits s.write ≡ true → AllByRecursion Fits (flat_map step_rows (steps_of s))
 steps_fit s t a w =
     fits_both (((when (not (eqb (length s.apply) 0)) (Apply s.apply) ++ when s.clears Clear) ++ when s.writes (Write s.write)) ++ metadata_step s.metadata) (goto_step s.goto)
-      (fits_both ((when (not (eqb (length s.apply) 0)) (Apply s.apply) ++ when s.clears Clear) ++ when s.writes (Write s.write)) (metadata_step s.metadata)
-        (fits_both (when (not (eqb (length s.apply) 0)) (Apply s.apply) ++ when s.clears Clear) (when s.writes (Write s.write))
-          (fits_both (when (not (eqb (length s.apply) 0)) (Apply s.apply)) (when s.clears Clear) (apply_fits (not (eqb (length s.apply) 0)) s.apply a) (clear_fits s.clears))
-          (write_fits s.writes s.write w))
-        (metadata_fits s.metadata t.metadata))
-      (goto_fits s.goto t.goto)
+    (fits_both ((when (not (eqb (length s.apply) 0)) (Apply s.apply) ++ when s.clears Clear) ++ when s.writes (Write s.write)) (metadata_step s.metadata)
+    (fits_both (when (not (eqb (length s.apply) 0)) (Apply s.apply) ++ when s.clears Clear) (when s.writes (Write s.write))
+    (fits_both (when (not (eqb (length s.apply) 0)) (Apply s.apply)) (when s.clears Clear) (apply_fits (not (eqb (length s.apply) 0)) s.apply a) (clear_fits s.clears))
+    (write_fits s.writes s.write w))
+    (metadata_fits s.metadata t.metadata))
+    (goto_fits s.goto t.goto)
 
 is_some : (o : Option ℕ) (n : ℕ) → o ≡ Some n → IsSome o
 is_some o n e = rw e refl

@@ -25,3 +25,4 @@ pub mod Sound
 pub mod Tallies
 pub mod SeenTallies
 pub mod Imports
+pub mod Ipv6

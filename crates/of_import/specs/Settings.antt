@@ -1,5 +1,5 @@
 -- WHAT WORDS SAY OF A MATCH (ovs-fields(7)): settings of fields, in the order of the words.
-use Rattle.std.specs.Prelude.{ℕ, ◌+◌, ◌/◌, ◌==◌, nat_le, nat_lt, min, Bool, false, List, length, reverse, find, bit_and, Option, Some, None, Result, Ok, Err, if◌then◌else◌}
+use Rattle.std.specs.Prelude.{ℕ, ◌+◌, ◌/◌, ◌==◌, nat_le, nat_lt, min, not, codes, Bool, false, List, length, reverse, find, bit_and, Option, Some, None, Result, Ok, Err, if◌then◌else◌}
 use Rattle.std.specs.Option.{option_map_or, option_map}
 use Rattle.of_layers.specs.declared.field.Field.{Field}
 use Rattle.of_layers.specs.declared.field.Field.TheVariants as fields
@@ -15,6 +15,8 @@ use Rattle.of_text.specs.Lines.{before, behind}
 use Rattle.of_import.specs.Numbers.{number_in}
 use Rattle.of_import.specs.Outcomes.{◌>>=◌, given}
 use Rattle.of_import.specs.Ports.{port_in}
+use Rattle.std.specs.Str.{bytes_eq}
+use Rattle.of_import.specs.Ipv6.{ipv6_in}
 use Rattle.of_import.specs.Values.{mac_in, ipv4_in, first_bits}
 
 -- ---- which field
@@ -66,7 +68,7 @@ value_in Number f word = given whys.Value (number_for f word)
 value_in Port f word = port_in whys.PortName word
 value_in Mac f word = given whys.Value (mac_in word)
 value_in Ipv4 f word = given whys.Value (ipv4_in word)
-value_in Ipv6 f word = Err whys.Value
+value_in Ipv6 f word = given whys.Value (ipv6_in word)
 value_in Tos f word = given whys.Value (option_map (λ n. n / 4) (number_in 256 word))
 value_in Vlan f word = given whys.Value (vlan_in word)
 value_in Tci f word = Err whys.Value
@@ -80,13 +82,22 @@ fitting_in form f word = value_in form f word >>= λ value. if nat_le value (one
 abbrev pub bits_in : Field → ℕ → List ℕ → Option ℕ
 bits_in f most word = option_map (first_bits (ones_of f)) (number_in (most + 1) word)
 
+-- 10.0.0.0/8 or 10.0.0.0/255.0.0.0
 abbrev pub ipv4_mask : Field → List ℕ → Option ℕ
 ipv4_mask f word = if length (behind 46 word) == 0 then bits_in f 32 word else ipv4_in word
+
+-- 2001:db8::/32, or a mask as an address
+abbrev pub ipv6_mask : Field → List ℕ → Option ℕ
+ipv6_mask f word =
+    if not (length (behind 58 word) == 0) then ipv6_in word
+    else if bytes_eq word (codes "128") then Some (ones_of f)
+    else bits_in f 127 word
 
 unfoldable pub mask_in : Form → Field → List ℕ → Option ℕ
 mask_in Number f word = number_for f word
 mask_in Mac f word = mac_in word
 mask_in Ipv4 f word = ipv4_mask f word
+mask_in Ipv6 f word = ipv6_mask f word
 mask_in other f word = None
 
 -- ---- settings

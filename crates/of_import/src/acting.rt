@@ -8,7 +8,6 @@ ghost use Rattle.of_import.specs.declared.stop.Stop.TheVariants.{NoMemory};
 
 use crate::action_word::{ActionWord, Verb};
 use crate::field_word::{FieldWord, Form};
-use of_text::{cut, is};
 use crate::numbers::number_in;
 use crate::port::port_in;
 use crate::setting::{field_for, fitting_in, last};
@@ -18,6 +17,7 @@ use crate::words::{cut_word, name_of, value_of};
 use of_actions::{Action, PORT_CONTROLLER};
 use of_layers::Field;
 use of_oxm::MatchField;
+use of_text::{cut, is};
 
 // Of a whole packet for the controller, OFPCML_NO_BUFFER.
 fn output_to(port: u32) -> Action

@@ -181,6 +181,9 @@ impl ActionWord {
     pub fn named(text: &[u8]) -> Option<ActionWord>
         ensures { result ≡ action_named text.now }
     {
-        ActionWord::ALL.iter().copied().find(|word| word.text() == text)
+        ActionWord::ALL
+            .iter()
+            .copied()
+            .find(|word| word.text() == text)
     }
 }

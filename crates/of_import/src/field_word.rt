@@ -290,6 +290,9 @@ impl FieldWord {
     pub fn named(text: &[u8]) -> Option<FieldWord>
         ensures { result ≡ field_word_named text.now }
     {
-        FieldWord::ALL.iter().copied().find(|word| word.text() == text)
+        FieldWord::ALL
+            .iter()
+            .copied()
+            .find(|word| word.text() == text)
     }
 }

@@ -27,10 +27,7 @@ fn push_when(steps: &mut Vec<StepText>, wanted: bool, step: StepText) -> Result<
     Ok(())
 }
 
-fn push_metadata(
-    steps: &mut Vec<StepText>,
-    metadata: Option<(u64, u64)>,
-) -> Result<(), AllocError>
+fn push_metadata(steps: &mut Vec<StepText>, metadata: Option<(u64, u64)>) -> Result<(), AllocError>
     ensures { OnOk result (map view_step steps.new.items ≡ map view_step steps.old.items ++ metadata_step metadata) }
 {
     if let Some((value, mask)) = metadata {

@@ -4,11 +4,10 @@ ghost use Rattle.of_import.specs.Sketches.{alone as alone_word, begun_actions, b
 ghost use Rattle.of_import.specs.Seen.{seen};
 ghost use Rattle.of_import.specs.Stops.{Stops};
 
-use crate::action_word::{ActionWord, Verb};
 use crate::acting::{act, act_all};
+use crate::action_word::{ActionWord, Verb};
 use crate::field_word::FieldWord;
 use crate::head_word::{HeadWord, Part};
-use of_text::{cut, is};
 use crate::numbers::number_in;
 use crate::protocol_word::ProtocolWord;
 use crate::settings::{set_field, set_protocol};
@@ -17,7 +16,7 @@ use crate::why::Why;
 use crate::words::{name_of, value_of};
 use of_actions::Action;
 use of_oxm::MatchField;
-use of_text::FlowHead;
+use of_text::{FlowHead, cut, is};
 use std::alloc::Global;
 
 /// What the words of a line say of a flow, so far.

@@ -110,6 +110,9 @@ impl HeadWord {
     pub fn named(text: &[u8]) -> Option<HeadWord>
         ensures { result ≡ head_named text.now }
     {
-        HeadWord::ALL.iter().copied().find(|word| word.text() == text)
+        HeadWord::ALL
+            .iter()
+            .copied()
+            .find(|word| word.text() == text)
     }
 }

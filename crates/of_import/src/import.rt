@@ -90,10 +90,7 @@ fn line_of(lines: &[usize], place: usize) -> usize
 }
 
 // The configuration of what was read, and the faults.
-fn configure(
-    alloc: Global,
-    reading: Reading,
-) -> Result<(Config, Vec<LineFault>), ImportError>
+fn configure(alloc: Global, reading: Reading) -> Result<(Config, Vec<LineFault>), ImportError>
     requires { IsSoundReading reading }
     ensures found { IfOk result (λ r. IsConfigOf (seen_tally reading) r.0) }
     ensures faults { IfOk result (λ r. r.1.items ≡ reading.faults.items) }

@@ -9,6 +9,7 @@ mod flow_sketch;
 mod group_sketch;
 mod head_word;
 mod import;
+mod ipv6;
 mod line;
 mod line_stop;
 mod numbers;

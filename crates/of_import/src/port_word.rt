@@ -98,6 +98,9 @@ impl PortWord {
     pub fn named(text: &[u8]) -> Option<PortWord>
         ensures { result ≡ port_word_named text.now }
     {
-        PortWord::ALL.iter().copied().find(|word| word.text() == text)
+        PortWord::ALL
+            .iter()
+            .copied()
+            .find(|word| word.text() == text)
     }
 }

@@ -113,6 +113,9 @@ impl ProtocolWord {
     pub fn named(text: &[u8]) -> Option<ProtocolWord>
         ensures { result ≡ protocol_named text.now }
     {
-        ProtocolWord::ALL.iter().copied().find(|word| word.text() == text)
+        ProtocolWord::ALL
+            .iter()
+            .copied()
+            .find(|word| word.text() == text)
     }
 }

@@ -1,17 +1,17 @@
 //! What words say of a match.
 ghost use Rattle.std.specs.Prelude.{◌≡◌, ◌≤◌, ◌<◌, ◌^◌, IfOk, IfSome, Some, None};
 ghost use Rattle.of_layers.specs.Fields.{ones_of};
-ghost use Rattle.of_import.specs.Settings.{if_arp as arp_or, if_ipv6 as ipv6_or, if_tcp_or_udp as tcp_or_udp, bits_in as bits_of, field_for as field_of, fitting_in as fitting_of, ipv4_mask as ipv4_mask_of, last_of, mask_in as mask_of, masked as masked_by, number_for as number_of, says as says_of, setting_in as setting_of, under as under_bits, value_in as value_of, vlan_in as vlan_of};
+ghost use Rattle.of_import.specs.Settings.{if_arp as arp_or, if_ipv6 as ipv6_or, if_tcp_or_udp as tcp_or_udp, bits_in as bits_of, field_for as field_of, fitting_in as fitting_of, ipv4_mask as ipv4_mask_of, ipv6_mask as ipv6_mask_of, last_of, mask_in as mask_of, masked as masked_by, number_for as number_of, says as says_of, setting_in as setting_of, under as under_bits, value_in as value_of, vlan_in as vlan_of};
 
 use crate::field_word::{Form, Target};
-use of_text::cut;
+use crate::ipv6::ipv6_in;
 use crate::numbers::number_in;
 use crate::port::port_in;
 use crate::values::{ipv4_in, mac_in, prefix_mask};
 use crate::why::Why;
 use of_layers::Field;
 use of_oxm::MatchField;
-
+use of_text::{cut, is};
 
 /// The last setting of a field.
 pub fn last(settings: &[MatchField], field: Field) -> Option<MatchField>
@@ -37,13 +37,21 @@ pub fn says(settings: &[MatchField], field: Field, value: u128) -> bool
 fn if_arp(settings: &[MatchField], field: Field, other: Field) -> Field
     ensures { Some result ≡ arp_or settings.now field other }
 {
-    if says(settings, Field::EthType, 0x0806) { field } else { other }
+    if says(settings, Field::EthType, 0x0806) {
+        field
+    } else {
+        other
+    }
 }
 
 fn if_ipv6(settings: &[MatchField], field: Field, other: Field) -> Field
     ensures { Some result ≡ ipv6_or settings.now field other }
 {
-    if says(settings, Field::EthType, 0x86dd) { field } else { other }
+    if says(settings, Field::EthType, 0x86dd) {
+        field
+    } else {
+        other
+    }
 }
 
 fn if_tcp_or_udp(settings: &[MatchField], field: Field, other: Field) -> Option<Field>
@@ -106,8 +114,9 @@ fn value_in(form: Form, field: Field, word: &[u8]) -> Result<u128, Why>
             Some(byte) => Ok(byte / 4),
             None => Err(Why::Value),
         },
+        Form::Ipv6 => ipv6_in(word).ok_or(Why::Value),
         Form::Vlan => vlan_in(word).ok_or(Why::Value),
-        Form::Ipv6 | Form::Tci => Err(Why::Value),
+        Form::Tci => Err(Why::Value),
     }
 }
 
@@ -144,6 +153,19 @@ fn ipv4_mask(field: Field, word: &[u8]) -> Option<u128>
     }
 }
 
+fn ipv6_mask(field: Field, word: &[u8]) -> Option<u128>
+    ensures { result ≡ ipv6_mask_of field word.now }
+{
+    let (_, address) = cut(word, b':');
+    if !address.is_empty() {
+        ipv6_in(word)
+    } else if is(word, b"128") {
+        Some(field.row().ones)
+    } else {
+        bits_in(field, 127, word)
+    }
+}
+
 #[tactic(auto, unfolding(crate::specs::Settings::mask_in))]
 fn mask_in(form: Form, field: Field, word: &[u8]) -> Option<u128>
     ensures { result ≡ mask_of form field word.now }
@@ -152,7 +174,8 @@ fn mask_in(form: Form, field: Field, word: &[u8]) -> Option<u128>
         Form::Number => number_for(field, word),
         Form::Mac => mac_in(word),
         Form::Ipv4 => ipv4_mask(field, word),
-        Form::Ipv6 | Form::Port | Form::Tos | Form::Vlan | Form::Tci => None,
+        Form::Ipv6 => ipv6_mask(field, word),
+        Form::Port | Form::Tos | Form::Vlan | Form::Tci => None,
     }
 }
 

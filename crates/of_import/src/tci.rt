@@ -2,12 +2,12 @@
 ghost use Rattle.std.specs.Prelude.{◌≡◌, ◌≤◌, ◌<◌, ◌^◌, IfOk, Ok, Err};
 ghost use Rattle.of_import.specs.Tci.{half_word as half_word_of, pcp_setting as pcp_of, tci_mask as mask_of, tci_settings as settings_of};
 
-use of_text::cut;
 use crate::numbers::number_in;
 use crate::setting::masked;
 use crate::why::Why;
 use of_layers::Field;
 use of_oxm::MatchField;
+use of_text::cut;
 
 fn half_word(word: &[u8]) -> Result<u128, Why>
     ensures value { result ≡ half_word_of word.now }

@@ -2,8 +2,8 @@
 ghost use Rattle.std.specs.Prelude.{◌≡◌, ◌≤◌, ◌<◌, ◌^◌, IfSome, Some, None};
 ghost use Rattle.of_import.specs.Values.{mac_in as mac_of, ipv4_in as ipv4_of, first_bits as first_bits_of};
 
-use of_text::cut;
 use crate::numbers::some_digits;
+use of_text::cut;
 
 /// An Ethernet address, as 02:00:00:00:00:01.
 pub fn mac_in(word: &[u8]) -> Option<u128>
@@ -21,9 +21,7 @@ pub fn mac_in(word: &[u8]) -> Option<u128>
     let (e, f) = cut(word, b':');
     let e = some_digits(16, 256, e)?;
     let f = some_digits(16, 256, f)?;
-    Some(
-        0x100_0000_0000 * a + 0x1_0000_0000 * b + 0x100_0000 * c + 0x1_0000 * d + 0x100 * e + f,
-    )
+    Some(0x100_0000_0000 * a + 0x1_0000_0000 * b + 0x100_0000 * c + 0x1_0000 * d + 0x100 * e + f)
 }
 
 /// An IPv4 address, as 10.0.0.1.

@@ -25,7 +25,8 @@ returns-in-Ok-clause-found c =
 pub returns-clause-failed : goal.returns-clause-failed
 returns-clause-failed c =
     let gs : view_groups c.in_ok-groups.groups.items ≡ groups_said (seen_tally c.args.reading) = ap view_groups c.in_ok-groups.ensures.groups ∙ said_groups c.args.reading.groups.items in
-    let fs : view_flows c.in_ok-flows.flows.items ≡ flows_said (seen_tally c.args.reading) = ap view_flows c.in_ok-flows.ensures.flows ∙ said_flows c.args.reading.flows.items in
-    (c.in-Err-Refused.place,
-     refusal_same (view_groups c.in_ok-groups.groups.items) (groups_said (seen_tally c.args.reading)) (view_flows c.in_ok-flows.flows.items) (flows_said (seen_tally c.args.reading)) _ gs fs (refused_first _ c.in-Err-Refused.field-0 c.in-Err-Refused.place c.in-Err-Refused.code c.in-Err-Refused.field-0-is c.in-Err-Refused.ensures.failed),
-     lines_said c.in-Err-Refused.place c.line_of.result c.split_flows.new.lines.items c.deref.result.now c.args.reading.groups.items c.args.reading.flows.items c.deref.ensures.value (c.in_ok-flows.ensures.lines ∙ ap (λ (xs : List ℕ). xs ++ map (λ f. f.line) c.args.reading.flows.items) (c.in_ok-groups.ensures.lines ∙ ap (λ (xs : List ℕ). xs ++ map (λ g. g.line) c.args.reading.groups.items) c.new-lines.ensures.items)) c.line_of.ensures)
+    let fs : view_flows c.in_ok-flows.flows.items ≡ flows_said (seen_tally c.args.reading) = ap view_flows c.in_ok-flows.ensures.flows ∙ said_flows c.args.reading.flows.items in (
+      c.in-Err-Refused.place,
+      refusal_same (view_groups c.in_ok-groups.groups.items) (groups_said (seen_tally c.args.reading)) (view_flows c.in_ok-flows.flows.items) (flows_said (seen_tally c.args.reading)) _ gs fs (refused_first _ c.in-Err-Refused.field-0 c.in-Err-Refused.place c.in-Err-Refused.code c.in-Err-Refused.field-0-is c.in-Err-Refused.ensures.failed),
+      lines_said c.in-Err-Refused.place c.line_of.result c.split_flows.new.lines.items c.deref.result.now c.args.reading.groups.items c.args.reading.flows.items c.deref.ensures.value (c.in_ok-flows.ensures.lines ∙ ap (λ (xs : List ℕ). xs ++ map (λ f. f.line) c.args.reading.flows.items) (c.in_ok-groups.ensures.lines ∙ ap (λ (xs : List ℕ). xs ++ map (λ g. g.line) c.args.reading.groups.items) c.new-lines.ensures.items)) c.line_of.ensures,
+    )
