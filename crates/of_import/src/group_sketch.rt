@@ -79,11 +79,11 @@ fn buckets_fit(buckets: &[BucketText]) -> bool
     each_fits(buckets)
 }
 
-fn group_head(id: u32, kind: GroupKind) -> GroupHead
-    ensures head { result ≡ record { id = id; kind = kind } }
-    ensures fits { result.id < 2 ^ 32 }
+// What the type of a number says of it.
+fn known_id(id: u32)
+    ensures { id < 2 ^ 32 }
 {
-    GroupHead { id, kind }
+    let _id = id;
 }
 
 impl GroupSketch {
@@ -217,10 +217,13 @@ impl GroupSketch {
             return Err(Stop::Refused(Why::Value));
         }
         match (sketch.id, sketch.kind) {
-            (Some(id), Some(kind)) => Ok(GroupText {
-                head: group_head(id, kind),
-                buckets: sketch.buckets,
-            }),
+            (Some(id), Some(kind)) => {
+                known_id(id);
+                Ok(GroupText {
+                    head: GroupHead { id, kind },
+                    buckets: sketch.buckets,
+                })
+            }
             _ => Err(Stop::Refused(Why::Missing)),
         }
     }

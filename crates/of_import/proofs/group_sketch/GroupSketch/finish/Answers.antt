@@ -9,4 +9,4 @@ use Rattle.of_import.proofs.group_sketch.GroupSketch.finish.Goals as goal
 pub returns-in-Some-Some-clause-fits : goal.returns-in-Some-Some-clause-fits
 returns-in-Some-Some-clause-fits c =
     let fit : list_all bucket_fits (map view_bucket c.close.new.self.buckets.items) ≡ true = ap (λ bs. list_all bucket_fits (map view_bucket bs)) (sym c.deref.ensures.value) ∙ (sym c.buckets_fit.ensures ∙ c.if-not-buckets_fit.false) in
-    (c.group_head.ensures.fits, buckets_sound (map view_bucket c.close.new.self.buckets.items) fit)
+    (c.known_id.ensures, buckets_sound (map view_bucket c.close.new.self.buckets.items) fit)
