@@ -74,6 +74,16 @@ group_id=1,type=indirect,bucket=output:1
 priority=7,actions=output:2
 ";
 
+/// What is left of them.
+const LEFT: &[u8] = b"group 1 all
+flow 0 1 0x0000000000000000 0 0 0
+apply
+output 1 0
+flow 0 7 0x0000000000000000 0 0 0
+apply
+output 2 0
+";
+
 #[test]
 fn a_dump_is_imported(rt: HostRuntime) {
     match import_tables(rt.alloc(), DUMP, false) {
@@ -120,17 +130,7 @@ fn lines_at_fault_are_left_out(rt: HostRuntime) {
     match import_tables(rt.alloc(), FAULTS, true) {
         Ok(done) => {
             assert_eq!(rt; done.faults.len(), 6);
-            assert!(rt;
-                done.text.as_slice()
-                    == b"group 1 all
-flow 0 1 0x0000000000000000 0 0 0
-apply
-output 1 0
-flow 0 7 0x0000000000000000 0 0 0
-apply
-output 2 0
-"
-            );
+            assert!(rt; done.text.as_slice() == LEFT);
         }
         Err(_) => panic!(rt; "refused"),
     }
