@@ -6,6 +6,8 @@ use Rattle.of_text.specs.declared.assembling.FillError.{FillError}
 use Rattle.of_text.specs.declared.assembling.FillError.TheVariants as fills
 use Rattle.of_text.specs.Flows.{Flow}
 use Rattle.of_text.specs.Groups.{TextGroup}
+use Rattle.of_text.specs.Configs.{Configuration, SpellConfig, config_text}
+use Rattle.of_text.specs.Lines.{lines_of}
 use Rattle.of_text.specs.First.{first_refusal, RefusedWithout}
 use Rattle.of_import.specs.declared.import.ImportError.{ImportError}
 use Rattle.of_import.specs.declared.import.ImportError.TheVariants.{NoMemory, Faults, Refused}
@@ -29,3 +31,6 @@ pub no_import : (lines : List (List ℕ)) (skip : Bool) (t : Tally) (e : ImportE
 no_import lines skip t NoMemory same h = tt
 no_import lines skip t (Faults faults) same h = absurd h
 no_import lines skip t (Refused line code) same h = subst (λ (x : Tally). RefusedOf x (Refused line code)) same h
+
+pub spelt_text : (text : List ℕ) (c : Configuration) → text ≡ config_text c → SpellConfig (lines_of (config_text c)) c → SpellConfig (lines_of text) c
+spelt_text text c e h = subst (λ (x : List ℕ). SpellConfig (lines_of x) c) (sym e) h

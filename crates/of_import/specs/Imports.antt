@@ -1,6 +1,7 @@
 -- THE CONFIGURATION OF A TABLE OF OPEN VSWITCH: the groups and the flows that its lines say, of which none is refused.
 use Rattle.std.specs.Prelude.{◌≡◌, ◌<◌, ℕ, Bool, false, List, [], map, length, None, Some}
-use Rattle.of_text.specs.Configs.{Configuration, tables_of, config_text}
+use Rattle.of_text.specs.Configs.{Configuration, SpellConfig, tables_of, config_text}
+use Rattle.of_text.specs.Lines.{lines_of}
 use Rattle.of_text.specs.First.{first_refusal}
 use Rattle.of_import.specs.declared.reading.LineFault.{LineFault}
 use Rattle.of_import.specs.declared.reading.Reading.{Reading}
@@ -15,11 +16,12 @@ pub record IsConfigOf (t : Tally) (c : Configuration) : Type 0 where
   pub tables : c.tables ≡ tables_of (flows_said t)
   pub stand : first_refusal (groups_said t) (flows_said t) ≡ None
 
--- A TEXT AND ITS LINES AT FAULT: the canonical text of the configuration that the other lines say; without `skip` no line is at fault
+-- A TEXT AND ITS LINES AT FAULT: the canonical text of the configuration that the other lines say, which is read back as that; without `skip` no line is at fault
 pub record IsImport (lines : List (List ℕ)) (skip : Bool) (text : List ℕ) (faults : List LineFault) : Type 0 where
   pub config : Configuration
   pub is : IsConfigOf (tally_of lines) config
   pub text_is : text ≡ config_text config
+  pub spelt : SpellConfig (lines_of text) config
   pub faults_are : map view_fault faults ≡ (tally_of lines).faults
   pub none : skip ≡ false → length faults ≡ 0
 

@@ -1,6 +1,6 @@
 //! Tables of Open vSwitch as configurations.
 ghost use Rattle.std.specs.Prelude.{◌≡◌, ◌<◌, ◌++◌, [], false, Some, None, map, length, slice_index_or, IfOk, IfErr, OnOk};
-ghost use Rattle.of_text.specs.Configs.{config_text, tables_of};
+ghost use Rattle.of_text.specs.Configs.{SpellConfig, config_text, tables_of};
 ghost use Rattle.of_text.specs.First.{first_refusal};
 ghost use Rattle.of_text.specs.Lines.{lines_of};
 ghost use Rattle.of_import.specs.Imports.{FaultsOf, IsConfigOf, IsImport, NoImport, RefusedOf};
@@ -10,7 +10,7 @@ ghost use Rattle.of_import.specs.declared.import.ImportError.TheVariants.{NoMemo
 
 use crate::reading::{FlowLine, GroupLine, LineFault, Reading, read_tables};
 use of_oxm::Code;
-use of_text::{Config, FillError, FlowText, GroupText, disassemble};
+use of_text::{Config, FillError, FlowText, GroupText, disassemble, texts_are_of_configs};
 use std::alloc::{AllocError, AllocFailed, Global};
 
 /// The flow text of a table of Open vSwitch, and its lines that are not in it.
@@ -127,6 +127,21 @@ fn accepted(reading: Reading, skip: bool) -> Result<Reading, ImportError>
     }
 }
 
+// The text of a configuration.
+fn written(alloc: Global, config: &Config, faults: Vec<LineFault>) -> Result<Import, ImportError>
+    ensures text { IfOk result (λ r. r.text.items ≡ config_text config.now) }
+    ensures spelt { IfOk result (λ r. SpellConfig (lines_of r.text.items) config.now) }
+    ensures faults { IfOk result (λ r. r.faults.items ≡ faults.items) }
+    ensures failed { IfErr result (λ e. e ≡ NoMemory) }
+{
+    config.known();
+    texts_are_of_configs();
+    match disassemble(alloc, config) {
+        Ok(text) => Ok(Import { text, faults }),
+        Err(_) => Err(ImportError::NoMemory),
+    }
+}
+
 /// The canonical flow text (docs/FLOWTEXT.md) of a table that `ovs-ofctl` printed or would read. With `skip` lines that are at fault are left
 /// out, else there has to be none.
 pub fn import_tables(alloc: Global, text: &[u8], skip: bool) -> Result<Import, ImportError>
@@ -142,10 +157,7 @@ pub fn import_tables(alloc: Global, text: &[u8], skip: bool) -> Result<Import, I
         Err(e) => return Err(e),
     };
     match configure(alloc, reading) {
-        Ok((config, faults)) => match disassemble(alloc, &config) {
-            Ok(text) => Ok(Import { text, faults }),
-            Err(_) => Err(ImportError::NoMemory),
-        },
+        Ok((config, faults)) => written(alloc, &config, faults),
         Err(e) => Err(e),
     }
 }
