@@ -5,8 +5,9 @@ use std::alloc::{AllocError, Global};
 
 const STATUSES: &str =
     "Exit status: 0 done; 1 bad arguments; 2 a bad FILE: on standard error `line N: bad row` for an event file, and \
-`line N: syntax` or `line N: type T code C` for a flow text (`replay` has then printed the effects of the rows before \
-that line, `asm` and `dis` nothing); 3 `read fault`, `write fault` or `no memory`; 4 `check` found something.";
+`line N: syntax` or `line N: type T code C` for a flow text, and `line N: WORD: ...` for each line that `import` refuses \
+(`replay` has then printed the effects of the rows before that line, the others nothing); 3 `read fault`, `write fault` or \
+`no memory`; 4 `check` found something, or `import --skip` left lines out.";
 
 const EVENT_FILES: &str = "An event file has one event a line, and words are separated by one space:
 
@@ -96,6 +97,20 @@ Exit status 0 where nothing was found, 4 where some flow never wins, or there is
   ofswitch check --flows examples/router.flows
   ofswitch check --events examples/failover.events";
 
+const IMPORTS: &str =
+    "FILE has flows and groups, one a line, as `ovs-ofctl -O OpenFlow13 --no-names dump-flows` and `dump-groups` print them, or
+as `ovs-ofctl add-flows` and `add-groups` read them. Groups and flows may be in one file. Statistics, the heading lines of
+dumps, comments and empty lines are passed over. A flow that has the table, the priority and the match of one before it
+takes its place, as if it were added.
+
+Printed is flow text (`ofswitch asm --help`), which `asm`, `trace --flows` and `check --flows` read: groups by number, flows
+by table, and in a table in the order of FILE. A line that says what this switch does not have is named on standard error,
+with the word that is refused; then nothing is printed, unless --skip leaves such lines out.
+
+  ofswitch import examples/ovs-router.txt
+  ovs-ofctl -O OpenFlow13 --no-names dump-flows br0 | ofswitch import - > br0.flows
+  ofswitch check --flows br0.flows";
+
 const SERVING: &str =
     "A controller connects over TCP (`--listen`), or the switch connects to it (`--connect`), again whenever the connection
 is lost. One controller is served at a time; another one waits. The switch keeps its flows between connections, but its
@@ -169,6 +184,19 @@ const DISASSEMBLE: [Argument; 1] = [Argument {
     kind: Kind::Positional,
     help: "The event file to run; - is standard input",
 }];
+
+const IMPORT: [Argument; 2] = [
+    Argument {
+        name: "FILE",
+        kind: Kind::Positional,
+        help: "The dump or file of ovs-ofctl to read; - is standard input",
+    },
+    Argument {
+        name: "skip",
+        kind: Kind::Flag("skip"),
+        help: "Leaves out lines that this switch cannot take",
+    },
+];
 
 const TRACE: [Argument; 7] = [
     Argument {
@@ -267,7 +295,7 @@ struct Subcommand {
     arguments: &'static [Argument],
 }
 
-const SUBCOMMANDS: [Subcommand; 6] = [
+const SUBCOMMANDS: [Subcommand; 7] = [
     Subcommand {
         name: "replay",
         about: "Runs an event file on a new switch and prints what it gives",
@@ -285,6 +313,12 @@ const SUBCOMMANDS: [Subcommand; 6] = [
         about: "Runs an event file on a new switch and prints its groups and flow tables as flow text",
         text: DISASSEMBLY,
         arguments: &DISASSEMBLE,
+    },
+    Subcommand {
+        name: "import",
+        about: "Prints the flow text of flows and groups that ovs-ofctl printed or would read",
+        text: IMPORTS,
+        arguments: &IMPORT,
     },
     Subcommand {
         name: "trace",

@@ -50,6 +50,12 @@ pub enum Request {
     Disassemble {
         file: String,
     },
+    /// To print the flow text of a table of Open vSwitch; `-` is standard input.
+    Import {
+        file: String,
+        /// Whether lines that the switch cannot take are left out.
+        skip: bool,
+    },
     /// To print the trace of a frame that is received at a port of the switch of a file; `-` is standard input.
     Trace(Trace),
     /// To print which flows of the switch of a file can win, and which never do; `-` is standard input.
@@ -172,6 +178,10 @@ fn file_request_of(
     match name {
         "asm" => Ok(Request::Assemble { file }),
         "dis" => Ok(Request::Disassemble { file }),
+        "import" => Ok(Request::Import {
+            file,
+            skip: matches.get_flag("skip"),
+        }),
         _ => Ok(Request::Replay {
             file,
             dpid: dpid_of(alloc, matches.get_str("dpid"))?,

@@ -4,6 +4,7 @@
 ghost use Rattle.std.specs.Prelude.{◌≡◌};
 
 mod hinting;
+mod importing;
 mod lookups;
 mod refusals;
 mod serving;
@@ -11,6 +12,7 @@ mod sockets;
 
 use crate::lookups::Lookups;
 use hinting::say_hint;
+use importing::{NotImported, imported, say_faults};
 use of_check::{check_events, check_file};
 use of_classifier::Scan;
 use of_command_line::{Asked, FileKind, NoRequest, Request, Serve, Trace, read_request};
@@ -28,6 +30,12 @@ use std::process::ExitCode;
 
 /// The exit status where the arguments are not understood.
 const BAD_ARGUMENTS: u8 = 1;
+
+/// The exit status where lines of a table of Open vSwitch are at fault.
+const BAD_LINES: u8 = 2;
+
+/// The exit status where some of its lines are left out.
+const LEFT_OUT: u8 = 4;
 
 /// The exit status where `check` found something.
 const FOUND: u8 = 4;
@@ -75,7 +83,31 @@ fn carry_out(rt: &HostRuntime, request: &Request) -> ExitCode {
         Request::Check { file, kind, steps } => {
             run_check(rt, file.as_str(), *kind, *steps as usize)
         }
+        Request::Import { file, skip } => run_import(rt, file.as_str(), *skip),
         Request::Serve(asked) => serve_file(rt, asked),
+    }
+}
+
+fn run_import(rt: &HostRuntime, path: &str, skip: bool) -> ExitCode {
+    let done = if path == "-" {
+        imported(rt, rt.stdin(), skip)
+    } else {
+        match File::open(rt, path) {
+            Ok(file) => imported(rt, file, skip),
+            Err(error) => return end_unopened(rt, path, &error),
+        }
+    };
+    match done {
+        Ok(faults) if faults.is_empty() => ExitCode::SUCCESS,
+        Ok(faults) => {
+            say_faults(rt, &faults);
+            ExitCode::from(LEFT_OUT)
+        }
+        Err(NotImported::Faults(faults)) => {
+            say_faults(rt, &faults);
+            ExitCode::from(BAD_LINES)
+        }
+        Err(NotImported::Ended(ended)) => end(rt, &ended),
     }
 }
 
@@ -180,7 +212,8 @@ fn run<R: Read + Drop>(rt: &HostRuntime, request: &Request, reader: R) -> Ended 
         Request::Disassemble { .. } => {
             dis::<Lookups, _, _>(rt.alloc(), &mut reader, &mut writer)
         }
-        Request::Trace(_) | Request::Check { .. } | Request::Serve(_) => Ended::Done,
+        Request::Trace(_) | Request::Check { .. } | Request::Import { .. } | Request::Serve(_) =>
+            Ended::Done,
     }
 }
 

@@ -1,0 +1,292 @@
+-- The flow of its words may stand in a flow text.
+use Rattle.std.proofs.Common.{◌≡◌, ℕ, ◌+◌, ◌<◌, ◌≤◌, ◌^◌, eqb, leb, ltb, Bool, true, false, cond, List, [], ◌∷◌, ◌++◌, length, Option, Some, None, Result, Ok, Err, refl, sym, ap, subst, ◌∙◌, append_assoc, arith}
+use Rattle.std.specs.Prelude.{map, not, nat_lt, nat_le, ◌&&◌, ◌||◌, IsSome, IfSome, reverse, find, filter_map}
+use Rattle.std.specs.List.{AllByRecursion, flat_map, list_all}
+use Rattle.std.specs.Option.{option_map_or}
+use Rattle.std.proofs.lemmas.Bool.{le-leb, leb-true, ltb-true, eqb-true}
+use Rattle.std.proofs.lemmas.List.Folds.{list_all-map}
+use Rattle.of_layers.specs.declared.field.Field.{Field}
+use Rattle.of_layers.specs.declared.field.TheConstants.Field as constants
+use Rattle.of_layers.specs.Fields.{number_of, ones_of, bytes_of, row_of}
+use Rattle.of_layers.proofs.Table.{value_below, number_below}
+use Rattle.of_oxm.specs.declared.match_field.MatchField.{MatchField}
+use Rattle.of_actions.specs.declared.action.Action.{Action}
+use Rattle.of_actions.specs.declared.action.Action.TheVariants as actions
+use Rattle.of_text.specs.declared.row.Row.{Row}
+use Rattle.of_text.specs.declared.row.Row.TheVariants as rows
+use Rattle.of_text.specs.Flows.{Flow, Step, Apply, Clear, Write, Metadata, Goto, flow_rows, step_rows}
+use Rattle.of_text.specs.Rows.{Fits, FieldFits, ActionFits, HeadFits, IsMask}
+use Rattle.of_text.specs.Order.{flow_next, flow_standing}
+use Rattle.of_text.specs.Reading.{◌>>=◌}
+use Rattle.of_import.specs.Settings.{last_of}
+use Rattle.of_import.specs.Matches.{fields_of}
+use Rattle.of_import.specs.Sketches.{Sketch}
+use Rattle.of_import.specs.Finished.{when, metadata_step, goto_step, steps_of, field_fits, action_fits, numbers_fit, flow_of}
+use Rattle.of_import.specs.declared.why.Why.TheVariants as whys
+use Rattle.of_import.specs.GroupSketches.{bucket_fits}
+use Rattle.of_text.specs.Groups.{TextBucket, bucket_rows}
+use Rattle.std.proofs.lemmas.List.{append-nil}
+use Rattle.of_import.specs.Sound.{IsSound}
+
+pub mapped_tests : {X Y : Type 0} (p : Y → Bool) (g : X → Y) (xs : List X) → list_all p (map g xs) ≡ list_all (λ x. p (g x)) xs
+mapped_tests p g xs = list_all-map p g xs
+
+pub and_parts : (a b : Bool) → (a && b) ≡ true → (a ≡ true) × (b ≡ true)
+and_parts true b h = (refl, h)
+and_parts false b h = absurd cc
+
+-- ---- numbers fit
+
+pub field_sound : (e : MatchField) → field_fits e ≡ true → Fits (rows.Match e)
+field_sound e h =
+    let parts = and_parts (nat_le e.value (ones_of e.field)) (option_map_or (λ mask. nat_lt 0 mask && nat_lt mask (ones_of e.field)) e.mask true) h in
+    (value_below e.field e.value (leb-true e.value (ones_of e.field) parts.0), masks e.mask parts.1)
+  where
+    masks : (m : Option ℕ) → option_map_or (λ mask. nat_lt 0 mask && nat_lt mask (ones_of e.field)) m true ≡ true → IfSome m (IsMask e.field)
+    masks None k = tt
+    masks (Some mask) k = let both = and_parts (nat_lt 0 mask) (nat_lt mask (ones_of e.field)) k in record { some = ltb-true 0 mask both.0; not_all = ltb-true mask (ones_of e.field) both.1 }
+
+pub fields_sound : (es : List MatchField) → list_all field_fits es ≡ true → AllByRecursion Fits (map rows.Match es)
+fields_sound [] h = tt
+fields_sound (e ∷ es) h = let parts = and_parts (field_fits e) (list_all field_fits es) h in (field_sound e parts.0, fields_sound es parts.1)
+
+pub action_sound : (a : Action) → action_fits a ≡ true → ActionFits a
+action_sound (actions.Output port max_len) h = let parts = and_parts (nat_lt port (2 ^ 32)) (nat_lt max_len (2 ^ 16)) h in (ltb-true port (2 ^ 32) parts.0, ltb-true max_len (2 ^ 16) parts.1)
+action_sound (actions.PushVlan type) h = ltb-true type (2 ^ 16) h
+action_sound actions.PopVlan h = tt
+action_sound (actions.Group group) h = ltb-true group (2 ^ 32) h
+action_sound (actions.SetNwTtl ttl) h = ltb-true ttl (2 ^ 8) h
+action_sound actions.DecNwTtl h = tt
+action_sound (actions.SetField f value) h = value_below f value (leb-true value (ones_of f) h)
+
+pub actions_sound : (xs : List Action) → list_all action_fits xs ≡ true → AllByRecursion Fits (map rows.Do xs)
+actions_sound [] h = tt
+actions_sound (x ∷ xs) h = let parts = and_parts (action_fits x) (list_all action_fits xs) h in (action_sound x parts.0, actions_sound xs parts.1)
+
+pub all_both : {X : Type 0} (P : X → Type 0) (xs ys : List X) → AllByRecursion P xs → AllByRecursion P ys → AllByRecursion P (xs ++ ys)
+all_both P [] ys h k = k
+all_both P (x ∷ xs) ys h k = (h.0, all_both P xs ys h.1 k)
+
+pub all_front : {X : Type 0} (P : X → Type 0) (xs ys : List X) → AllByRecursion P (xs ++ ys) → AllByRecursion P xs
+all_front P [] ys h = tt
+all_front P (x ∷ xs) ys h = (h.0, all_front P xs ys h.1)
+
+pub all_back : {X : Type 0} (P : X → Type 0) (xs ys : List X) → AllByRecursion P (xs ++ ys) → AllByRecursion P ys
+all_back P [] ys h = h
+all_back P (x ∷ xs) ys h = all_back P xs ys h.1
+
+-- ---- fields are in order
+
+-- after lines, some later place is the least
+pub record After (least : ℕ) (front rest : List Row) (most : ℕ) : Type 0 where
+  pub next : ℕ
+  pub small : next ≤ most
+  pub is : flow_standing least (front ++ rest) ≡ flow_standing next rest
+
+-- fields by ascending numbers, from this one on
+abbrev pub rises : ℕ → List Field → Bool
+rises least [] = true
+rises least (f ∷ fs) = nat_le least (number_of f) && rises (number_of f + 1) fs
+
+all_rise : rises 0 constants.ALL ≡ true
+unfolding row_of
+all_rise = refl
+
+rises_from : (a b : ℕ) (fs : List Field) → a ≤ b → rises b fs ≡ true → rises a fs ≡ true
+rises_from a b [] h k = refl
+rises_from a b (f ∷ fs) h k =
+    let parts = and_parts (nat_le b (number_of f)) (rises (number_of f + 1) fs) k in
+    let low : a ≤ number_of f = omega (arith, h, leb-true b (number_of f) parts.0) in
+    rw (le-leb a (number_of f) low) parts.1
+
+-- a field that is found is of the number that was sought
+found_is : (p : MatchField → Bool) (xs : List MatchField) (e : MatchField) → find p xs ≡ Some e → p e ≡ true
+found_is p [] e h = absurd cc
+found_is p (x ∷ xs) e h = by_test (found_is p xs e) (p x) refl
+  where
+    by_test : (find p xs ≡ Some e → p e ≡ true) → (t : Bool) → p x ≡ t → p e ≡ true
+    by_test others true k = let both : cond (p x) (Some x) (find p xs) ≡ Some e = h in (let here : Some x ≡ Some e = rw k at both in (let same : x ≡ e = cc in subst (λ y. p y ≡ true) same k))
+    by_test others false k = let both : cond (p x) (Some x) (find p xs) ≡ Some e = h in others (rw k at both)
+
+last_is : (f : Field) (settings : List MatchField) (e : MatchField) → last_of f settings ≡ Some e → number_of e.field ≡ number_of f
+last_is f settings e h = eqb-true (number_of e.field) (number_of f) (found_is (λ x. eqb (number_of x.field) (number_of f)) (reverse settings) e h)
+
+fields_stand : (settings : List MatchField) (least : ℕ) (fs : List Field) (rest : List Row) → least ≤ 31 → rises least fs ≡ true → After least (map rows.Match (filter_map (λ f. last_of f settings) fs)) rest 31
+unfolding flow_next
+fields_stand settings least [] rest l h = record { next = least; small = l; is = refl }
+fields_stand settings least (f ∷ fs) rest l h =
+    let parts = and_parts (nat_le least (number_of f)) (rises (number_of f + 1) fs) h in
+    let low : number_of f < 31 = number_below f in
+    by_last (leb-true least (number_of f) parts.0) (fields_stand settings (number_of f + 1) fs rest (omega (arith, low)) parts.1) (fields_stand settings least fs rest l (rises_from least (number_of f + 1) fs (omega (arith, leb-true least (number_of f) parts.0)) parts.1)) (last_of f settings) refl
+  where
+    by_last : least ≤ number_of f → After (number_of f + 1) (map rows.Match (filter_map (λ f. last_of f settings) fs)) rest 31 → After least (map rows.Match (filter_map (λ f. last_of f settings) fs)) rest 31 → (o : Option MatchField) → last_of f settings ≡ o → After least (map rows.Match (filter_map (λ f. last_of f settings) (f ∷ fs))) rest 31
+    by_last low after same None e = subst (λ (xs : List MatchField). After least (map rows.Match xs) rest 31) (sym (passed e)) same
+      where
+        passed : last_of f settings ≡ None → filter_map (λ f. last_of f settings) (f ∷ fs) ≡ filter_map (λ f. last_of f settings) fs
+        passed e = rw e refl
+    by_last low after same (Some m) e = subst (λ (xs : List MatchField). After least (map rows.Match xs) rest 31) (sym (kept e)) (field_first low after (last_is f settings m e))
+      where
+        kept : last_of f settings ≡ Some m → filter_map (λ f. last_of f settings) (f ∷ fs) ≡ m ∷ filter_map (λ f. last_of f settings) fs
+        kept e = rw e refl
+
+        field_first : least ≤ number_of f → After (number_of f + 1) (map rows.Match (filter_map (λ f. last_of f settings) fs)) rest 31 → number_of m.field ≡ number_of f → After least (rows.Match m ∷ map rows.Match (filter_map (λ f. last_of f settings) fs)) rest 31
+        field_first low after is = record { next = after.next; small = after.small; is = rw (is, le-leb least (number_of f) low) after.is }
+
+-- ---- instructions are in order
+
+actions_stand : (least : ℕ) (xs : List Action) (rest : List Row) → (eqb least 41 || eqb least 43) ≡ true → flow_standing least (map rows.Do xs ++ rest) ≡ flow_standing least rest
+unfolding flow_next
+actions_stand least [] rest h = refl
+actions_stand least (x ∷ xs) rest h = rw h (actions_stand least xs rest h)
+
+-- after one kind of instruction, where it is there
+record Past (least : ℕ) (steps : List Step) (rest : List Row) (most : ℕ) : Type 0 where
+  pub next : ℕ
+  pub small : next ≤ most
+  pub is : flow_standing least (flat_map step_rows steps ++ rest) ≡ flow_standing next rest
+
+one_step : (s : Step) (rest : List Row) → (step_rows s ++ []) ++ rest ≡ step_rows s ++ rest
+one_step s rest = simp append_assoc
+
+apply_past : (b : Bool) (least : ℕ) (xs : List Action) (rest : List Row) → least ≤ 40 → Past least (when b (Apply xs)) rest 41
+unfolding flow_next
+apply_past false least xs rest h = record { next = least; small = omega (arith, h); is = refl }
+apply_past true least xs rest h = record { next = 41; small = omega arith; is = ap (flow_standing least) (one_step (Apply xs) rest) ∙ rw (le-leb least 40 h) (actions_stand 41 xs rest refl) }
+
+clear_past : (b : Bool) (least : ℕ) (rest : List Row) → least ≤ 41 → Past least (when b Clear) rest 42
+unfolding flow_next
+clear_past false least rest h = record { next = least; small = omega (arith, h); is = refl }
+clear_past true least rest h = record { next = 42; small = omega arith; is = rw (le-leb least 41 h) refl }
+
+write_past : (b : Bool) (least : ℕ) (xs : List Action) (rest : List Row) → least ≤ 42 → Past least (when b (Write xs)) rest 43
+unfolding flow_next
+write_past false least xs rest h = record { next = least; small = omega (arith, h); is = refl }
+write_past true least xs rest h = record { next = 43; small = omega arith; is = ap (flow_standing least) (one_step (Write xs) rest) ∙ rw (le-leb least 42 h) (actions_stand 43 xs rest refl) }
+
+metadata_past : (m : Option (ℕ × ℕ)) (least : ℕ) (rest : List Row) → least ≤ 43 → Past least (metadata_step m) rest 44
+unfolding flow_next
+metadata_past None least rest h = record { next = least; small = omega (arith, h); is = refl }
+metadata_past (Some m) least rest h = record { next = 44; small = omega arith; is = rw (le-leb least 43 h) refl }
+
+goto_past : (g : Option ℕ) (least : ℕ) (rest : List Row) → least ≤ 44 → Past least (goto_step g) rest 45
+unfolding flow_next
+goto_past None least rest h = record { next = least; small = omega (arith, h); is = refl }
+goto_past (Some table) least rest h = record { next = 45; small = omega arith; is = rw (le-leb least 44 h) refl }
+
+-- two parts one after the other
+past_both : (least : ℕ) (front back : List Step) (rest : List Row) (middle most : ℕ) → Past least front (flat_map step_rows back ++ rest) middle → ((n : ℕ) → n ≤ middle → Past n back rest most) → Past least (front ++ back) rest most
+past_both least front back rest middle most a b =
+    let after = b a.next a.small in
+    record { next = after.next; small = after.small; is = ap (flow_standing least) (joined front back rest) ∙ (a.is ∙ after.is) }
+  where
+    joined : (front back : List Step) (rest : List Row) → flat_map step_rows (front ++ back) ++ rest ≡ flat_map step_rows front ++ (flat_map step_rows back ++ rest)
+    joined [] back rest = refl
+    joined (s ∷ front) back rest = simp append_assoc (ap (λ xs. step_rows s ++ xs) (joined front back rest))
+
+steps_past : (s : Sketch) (least : ℕ) (rest : List Row) → least ≤ 40 → Past least (steps_of s) rest 45
+steps_past s least rest h =
+    let a = when (not (eqb (length s.apply) 0)) (Apply s.apply) in
+    let c = when s.clears Clear in
+    let w = when s.writes (Write s.write) in
+    let m = metadata_step s.metadata in
+    let g = goto_step s.goto in
+    past_both least (((a ++ c) ++ w) ++ m) g rest 44 45
+    (past_both least ((a ++ c) ++ w) m (flat_map step_rows g ++ rest) 43 44
+    (past_both least (a ++ c) w (flat_map step_rows m ++ (flat_map step_rows g ++ rest)) 42 43
+    (past_both least a c (flat_map step_rows w ++ (flat_map step_rows m ++ (flat_map step_rows g ++ rest))) 41 42
+    (apply_past (not (eqb (length s.apply) 0)) least s.apply (flat_map step_rows c ++ (flat_map step_rows w ++ (flat_map step_rows m ++ (flat_map step_rows g ++ rest)))) h)
+    (λ n l. clear_past s.clears n (flat_map step_rows w ++ (flat_map step_rows m ++ (flat_map step_rows g ++ rest))) l))
+    (λ n l. write_past s.writes n s.write (flat_map step_rows m ++ (flat_map step_rows g ++ rest)) l))
+    (λ n l. metadata_past s.metadata n (flat_map step_rows g ++ rest) l))
+    (λ n l. goto_past s.goto n rest l)
+
+-- ---- flows
+
+-- what the types of a sketch say of its numbers
+pub record IsTyped (s : Sketch) : Type 0 where
+  pub head : HeadFits s.head
+  pub metadata : IfSome s.metadata (λ m. (m.0 < 2 ^ 64) × (m.1 < 2 ^ 64))
+  pub goto : IfSome s.goto (λ table. table < 2 ^ 8)
+
+fits_both : (a b : List Step) → AllByRecursion Fits (flat_map step_rows a) → AllByRecursion Fits (flat_map step_rows b) → AllByRecursion Fits (flat_map step_rows (a ++ b))
+fits_both [] b h k = k
+fits_both (s ∷ a) b h k = all_both Fits (step_rows s) (flat_map step_rows (a ++ b)) (all_front Fits (step_rows s) (flat_map step_rows a) h) (fits_both a b (all_back Fits (step_rows s) (flat_map step_rows a) h) k)
+
+with_end : (xs : List Row) → AllByRecursion Fits xs → AllByRecursion Fits (xs ++ [])
+with_end xs h = all_both Fits xs [] h tt
+
+apply_fits : (b : Bool) (xs : List Action) → list_all action_fits xs ≡ true → AllByRecursion Fits (flat_map step_rows (when b (Apply xs)))
+apply_fits false xs h = tt
+apply_fits true xs h = with_end (step_rows (Apply xs)) (tt, actions_sound xs h)
+
+clear_fits : (b : Bool) → AllByRecursion Fits (flat_map step_rows (when b Clear))
+clear_fits false = tt
+clear_fits true = (tt, tt)
+
+write_fits : (b : Bool) (xs : List Action) → list_all action_fits xs ≡ true → AllByRecursion Fits (flat_map step_rows (when b (Write xs)))
+write_fits false xs h = tt
+write_fits true xs h = with_end (step_rows (Write xs)) (tt, actions_sound xs h)
+
+metadata_fits : (m : Option (ℕ × ℕ)) → IfSome m (λ m. (m.0 < 2 ^ 64) × (m.1 < 2 ^ 64)) → AllByRecursion Fits (flat_map step_rows (metadata_step m))
+metadata_fits None h = tt
+metadata_fits (Some m) h = (h, tt)
+
+goto_fits : (g : Option ℕ) → IfSome g (λ table. table < 2 ^ 8) → AllByRecursion Fits (flat_map step_rows (goto_step g))
+goto_fits None h = tt
+goto_fits (Some table) h = (h, tt)
+
+steps_fit : (s : Sketch) → IsTyped s → list_all action_fits s.apply ≡ true → list_all action_fits s.write ≡ true → AllByRecursion Fits (flat_map step_rows (steps_of s))
+steps_fit s t a w =
+    fits_both (((when (not (eqb (length s.apply) 0)) (Apply s.apply) ++ when s.clears Clear) ++ when s.writes (Write s.write)) ++ metadata_step s.metadata) (goto_step s.goto)
+    (fits_both ((when (not (eqb (length s.apply) 0)) (Apply s.apply) ++ when s.clears Clear) ++ when s.writes (Write s.write)) (metadata_step s.metadata)
+    (fits_both (when (not (eqb (length s.apply) 0)) (Apply s.apply) ++ when s.clears Clear) (when s.writes (Write s.write))
+    (fits_both (when (not (eqb (length s.apply) 0)) (Apply s.apply)) (when s.clears Clear) (apply_fits (not (eqb (length s.apply) 0)) s.apply a) (clear_fits s.clears))
+    (write_fits s.writes s.write w))
+    (metadata_fits s.metadata t.metadata))
+    (goto_fits s.goto t.goto)
+
+is_some : (o : Option ℕ) (n : ℕ) → o ≡ Some n → IsSome o
+is_some o n e = rw e refl
+
+pub sketch_sound : (s : Sketch) → IsTyped s → numbers_fit s ≡ true → IsSound (record { head = s.head; fields = fields_of s.settings; steps = steps_of s })
+sketch_sound s t n =
+    let both = and_parts (list_all field_fits (fields_of s.settings) && list_all action_fits s.apply) (list_all action_fits s.write) n in
+    let first = and_parts (list_all field_fits (fields_of s.settings)) (list_all action_fits s.apply) both.0 in
+    let front = fields_stand s.settings 0 constants.ALL (flat_map step_rows (steps_of s)) (omega arith) all_rise in
+    let low : front.next ≤ 31 = front.small in
+    let back = steps_past s front.next [] (omega (arith, low)) in
+    record {
+      fits = (t.head, all_both Fits (map rows.Match (fields_of s.settings)) (flat_map step_rows (steps_of s)) (fields_sound (fields_of s.settings) first.0) (steps_fit s t first.1 both.1));
+      order = is_some _ back.next (front.is ∙ (ap (flow_standing front.next) (sym (append-nil (flat_map step_rows (steps_of s)))) ∙ back.is));
+    }
+
+-- a flow that is of its words
+pub flow_sound : (s : Sketch) (f : Flow) → IsTyped s → flow_of s ≡ Ok f → IsSound f
+unfolding flow_of
+flow_sound s f t e = by_acting s.acting refl
+  where
+    by_numbers : (b : Bool) → numbers_fit s ≡ b → s.acting ≡ true → IsSound f
+    by_numbers true n a =
+        let given : Ok (record { head = s.head; fields = fields_of s.settings; steps = steps_of s }) ≡ Ok f = rw (a, n) at e in
+        let same : record { head = s.head; fields = fields_of s.settings; steps = steps_of s } ≡ f = cc in
+        subst IsSound same (sketch_sound s t n)
+    by_numbers false n a = let given : Err whys.Value ≡ Ok f = rw (a, n) at e in absurd cc
+
+    by_acting : (b : Bool) → s.acting ≡ b → IsSound f
+    by_acting true a = by_numbers (numbers_fit s) refl a
+    by_acting false a = let given : Err whys.Missing ≡ Ok f = rw a at e in absurd cc
+
+-- ---- groups
+
+bucket_sound : (b : TextBucket) → bucket_fits b ≡ true → AllByRecursion Fits (bucket_rows b)
+bucket_sound b h =
+    let more = and_parts (nat_lt b.head.weight (2 ^ 16) && nat_lt b.head.watch_port (2 ^ 32) && nat_lt b.head.watch_group (2 ^ 32)) (list_all action_fits b.actions) h in
+    let two = and_parts (nat_lt b.head.weight (2 ^ 16) && nat_lt b.head.watch_port (2 ^ 32)) (nat_lt b.head.watch_group (2 ^ 32)) more.0 in
+    let one = and_parts (nat_lt b.head.weight (2 ^ 16)) (nat_lt b.head.watch_port (2 ^ 32)) two.0 in
+    ((ltb-true b.head.weight (2 ^ 16) one.0, ltb-true b.head.watch_port (2 ^ 32) one.1, ltb-true b.head.watch_group (2 ^ 32) two.1), actions_sound b.actions more.1)
+
+pub buckets_sound : (bs : List TextBucket) → list_all bucket_fits bs ≡ true → AllByRecursion Fits (flat_map bucket_rows bs)
+buckets_sound [] h = tt
+buckets_sound (b ∷ bs) h =
+    let parts = and_parts (bucket_fits b) (list_all bucket_fits bs) h in
+    all_both Fits (bucket_rows b) (flat_map bucket_rows bs) (bucket_sound b parts.0) (buckets_sound bs parts.1)

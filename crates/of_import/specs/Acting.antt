@@ -1,0 +1,145 @@
+-- WHAT A WORD SAYS AS AN ACTION (ovs-actions(7)), beside the settings of the flow's match.
+use Rattle.std.specs.Prelude.{ℕ, ◌^◌, ◌==◌, ◌&&◌, ◌||◌, nat_le, not, Bool, true, false, List, [], ◌∷◌, ◌++◌, codes, length, drop, Option, Some, None, Result, Ok, Err, if◌then◌else◌}
+use Rattle.std.specs.Option.{option_map_or}
+use Rattle.std.specs.List.{list_any}
+use Rattle.std.specs.Str.{bytes_eq}
+use Rattle.of_layers.specs.declared.field.Field.{Field}
+use Rattle.of_layers.specs.declared.field.Field.TheVariants.{VlanVid}
+use Rattle.of_oxm.specs.declared.match_field.MatchField.{MatchField}
+use Rattle.of_actions.specs.declared.action.Action.{Action}
+use Rattle.of_actions.specs.declared.action.Action.TheVariants as actions
+use Rattle.of_import.specs.declared.why.Why.{Why}
+use Rattle.of_import.specs.declared.why.Why.TheVariants as whys
+use Rattle.of_import.specs.declared.field_word.FieldWord.{FieldWord}
+use Rattle.of_import.specs.declared.field_word.Form.{Form}
+use Rattle.of_import.specs.declared.field_word.Form.TheVariants.{Vlan}
+use Rattle.of_import.specs.declared.action_word.ActionWord.{ActionWord}
+use Rattle.of_import.specs.declared.action_word.Verb.{Verb}
+use Rattle.of_import.specs.declared.action_word.Verb.TheVariants.{Output, Controller, Group, Drop, PushVlan, PopVlan, SetField, Mod, Tag, DecTtl, SetTtl, Write, Clear, Metadata, Goto}
+use Rattle.of_text.specs.Lines.{before, behind}
+use Rattle.of_import.specs.Words.{name_of, value_of}
+use Rattle.of_import.specs.Numbers.{number_in}
+use Rattle.of_import.specs.Outcomes.{◌>>=◌, given}
+use Rattle.of_import.specs.Ports.{port_in}
+use Rattle.of_import.specs.FieldWords.{field_word_named, target_of, form_of}
+use Rattle.of_import.specs.Settings.{field_for, fitting_in, last_of}
+use Rattle.of_import.specs.ActionWords.{action_named, verb_of}
+
+abbrev pub controller : ℕ
+controller = 0xffff_fffd
+
+-- a whole packet for the controller, OFPCML_NO_BUFFER (OpenFlow 1.3.5, 7.2.5)
+abbrev pub output_to : ℕ → Action
+output_to port = actions.Output port (if port == controller then 65535 else 0)
+
+-- CONTROLLER, CONTROLLER:128 or controller(max_len=128)
+abbrev pub length_in : List ℕ → Result ℕ Why
+length_in value =
+    if length value == 0 then Ok 65535
+    else if bytes_eq (name_of value) (codes "max_len") then given whys.Value (number_in 65536 (value_of value))
+    else given whys.Value (number_in 65536 value)
+
+abbrev pub controller_in : List ℕ → Result Action Why
+controller_in value = length_in value >>= λ n. Ok (actions.Output controller n)
+
+abbrev pub is_tag_type : ℕ → Bool
+is_tag_type n = n == 0x8100 || n == 0x88a8
+
+abbrev pub push_vlan_in : List ℕ → Result Action Why
+push_vlan_in value = given whys.Value (number_in 65536 value) >>= λ n. if is_tag_type n then Ok (actions.PushVlan n) else Err whys.Value
+
+abbrev pub is_vlan : Form → Bool
+is_vlan Vlan = true
+is_vlan other = false
+
+-- a value that a field is set to: a tag stays a tag
+abbrev pub new_value : Form → Field → List ℕ → Result ℕ Why
+new_value form f value = fitting_in form f value >>= λ n. if is_vlan form && n == 0 then Err whys.Value else Ok n
+
+abbrev pub set_by : List MatchField → FieldWord → List ℕ → Result Action Why
+set_by settings word value = do
+  f ← given whys.Protocol (field_for (target_of word) settings)
+  n ← new_value (form_of word) f value
+  Ok (actions.SetField f n)
+
+abbrev pub set_named : List MatchField → List ℕ → Option FieldWord → Result Action Why
+set_named settings value None = Err whys.Unknown
+set_named settings value (Some word) = set_by settings word value
+
+-- VALUE->FIELD
+abbrev pub set_field_in : List MatchField → List ℕ → Result Action Why
+set_field_in settings value = set_named settings (before 45 value) (field_word_named (drop 1 (behind 45 value)))
+
+abbrev pub ttl_in : List ℕ → Result Action Why
+ttl_in value = given whys.Value (number_in 256 value) >>= λ n. Ok (actions.SetNwTtl n)
+
+abbrev pub group_in : List ℕ → Result Action Why
+group_in value = given whys.Value (number_in (2 ^ 32) value) >>= λ n. Ok (actions.Group n)
+
+-- a word without a value
+abbrev pub alone : List ℕ → Option Action → Result (Option Action) Why
+alone value action = if length value == 0 then Ok action else Err whys.Unknown
+
+abbrev pub some : Result Action Why → Result (Option Action) Why
+some r = r >>= λ action. Ok (Some action)
+
+-- the action of a verb; none of `drop`
+unfoldable pub done_by : List MatchField → Verb → List ℕ → Result (Option Action) Why
+done_by settings Output value = some (port_in whys.PortName value >>= λ port. Ok (output_to port))
+done_by settings Controller value = some (controller_in value)
+done_by settings Group value = some (group_in value)
+done_by settings Drop value = alone value None
+done_by settings PushVlan value = some (push_vlan_in value)
+done_by settings PopVlan value = alone value (Some actions.PopVlan)
+done_by settings SetField value = some (set_field_in settings value)
+done_by settings (Mod word) value = some (set_by settings word value)
+done_by settings (Tag word) value = some (set_by settings word value)
+done_by settings DecTtl value = alone value (Some actions.DecNwTtl)
+done_by settings SetTtl value = some (ttl_in value)
+done_by settings other value = Err whys.Unknown
+
+-- a word that is no verb: a port
+abbrev pub sent_to : List ℕ → Result (Option Action) Why
+sent_to word = some (port_in whys.Unknown word >>= λ port. Ok (output_to port))
+
+abbrev pub done_named : List MatchField → Option ActionWord → List ℕ → Result (Option Action) Why
+done_named settings (Some verb) word = done_by settings (verb_of verb) (value_of word)
+done_named settings None word = sent_to word
+
+abbrev pub action_in : List MatchField → List ℕ → Result (Option Action) Why
+action_in settings word = done_named settings (action_named (name_of word)) word
+
+-- ---- a tag before the action
+
+abbrev pub is_push : Action → Bool
+is_push (actions.PushVlan type) = true
+is_push other = false
+
+-- the match says that there is a tag
+abbrev pub is_matched : List MatchField → Bool
+is_matched settings = option_map_or (λ e. nat_le 4096 e.value) (last_of VlanVid settings) false
+
+abbrev pub is_tag : Verb → Bool
+is_tag (Tag f) = true
+is_tag other = false
+
+abbrev pub tags : List ℕ → Bool
+tags word = option_map_or (λ named. is_tag (verb_of named)) (action_named (name_of word)) false
+
+-- ---- actions one after the other
+
+abbrev pub listed : Option Action → List Action
+listed None = []
+listed (Some action) = action ∷ []
+
+abbrev pub tag_first : List MatchField → List Action → List ℕ → List Action
+tag_first settings done word = if tags word && not (is_matched settings) && not (list_any is_push done) then actions.PushVlan 0x8100 ∷ [] else []
+
+-- THE ACTIONS after a word more
+unfoldable pub acted : List MatchField → List Action → List ℕ → Result (List Action) Why
+acted settings done word = action_in settings word >>= λ action. Ok (done ++ tag_first settings done word ++ listed action)
+
+-- the actions after words more, of which empty ones are passed over
+abbrev pub acted_all : List MatchField → List Action → List (List ℕ) → Result (List Action) Why
+acted_all settings done [] = Ok done
+acted_all settings done (w ∷ ws) = if length w == 0 then acted_all settings done ws else acted settings done w >>= λ more. acted_all settings more ws

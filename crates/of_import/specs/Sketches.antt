@@ -1,0 +1,118 @@
+-- WHAT THE WORDS OF A LINE SAY OF A FLOW, one after the other (ovs-ofctl(8)).
+use Rattle.std.specs.Prelude.{ℕ, ◌^◌, ◌==◌, Bool, true, false, List, [], ◌∷◌, ◌++◌, codes, length, bit_or, Option, Some, None, Result, Ok, Err, if◌then◌else◌}
+use Rattle.std.specs.Str.{bytes_eq}
+use Rattle.of_oxm.specs.declared.match_field.MatchField.{MatchField}
+use Rattle.of_actions.specs.declared.action.Action.{Action}
+use Rattle.of_text.specs.declared.row.FlowHead.{FlowHead}
+use Rattle.of_text.specs.Flows.{Flow, Step, Apply, Clear, Write, Metadata, Goto}
+use Rattle.of_text.specs.Lines.{before, behind}
+use Rattle.of_import.specs.declared.why.Why.{Why}
+use Rattle.of_import.specs.declared.why.Why.TheVariants as whys
+use Rattle.of_import.specs.declared.head_word.HeadWord.{HeadWord}
+use Rattle.of_import.specs.declared.head_word.Part.{Part}
+use Rattle.of_import.specs.declared.head_word.Part.TheVariants as parts
+use Rattle.of_import.specs.declared.protocol_word.ProtocolWord.{ProtocolWord}
+use Rattle.of_import.specs.declared.field_word.FieldWord.{FieldWord}
+use Rattle.of_import.specs.declared.action_word.ActionWord.{ActionWord}
+use Rattle.of_import.specs.declared.action_word.Verb.{Verb}
+use Rattle.of_import.specs.declared.action_word.Verb.TheVariants as verbs
+use Rattle.of_import.specs.Words.{name_of, value_of, words_from}
+use Rattle.of_import.specs.Numbers.{number_in}
+use Rattle.of_import.specs.Outcomes.{◌>>=◌, given}
+use Rattle.of_import.specs.HeadWords.{head_named, part_of}
+use Rattle.of_import.specs.ProtocolWords.{protocol_named}
+use Rattle.of_import.specs.FieldWords.{field_word_named}
+use Rattle.of_import.specs.ActionWords.{action_named, verb_of}
+use Rattle.of_import.specs.Matches.{with_field, with_protocol}
+use Rattle.of_import.specs.Acting.{acted, acted_all}
+
+pub record Sketch : Type 0 where
+  pub head : FlowHead
+  pub settings : List MatchField
+  -- the words are actions
+  pub acting : Bool
+  pub apply : List Action
+  pub clears : Bool
+  pub writes : Bool
+  pub write : List Action
+  pub metadata : Option (ℕ × ℕ)
+  pub goto : Option ℕ
+
+-- a flow of which nothing is said: OFP_DEFAULT_PRIORITY, and all else 0
+abbrev pub blank : Sketch
+blank = record { head = record { table = 0; priority = 32768; cookie = 0; idle = 0; hard = 0; flags = 0 }; settings = []; acting = false; apply = []; clears = false; writes = false; write = []; metadata = None; goto = None }
+
+-- ---- beside its match and its actions
+
+abbrev pub numbered : ℕ → List ℕ → Result ℕ Why
+numbered limit value = given whys.Value (number_in limit value)
+
+abbrev pub flagged : FlowHead → ℕ → List ℕ → Result FlowHead Why
+flagged h bit value = if length value == 0 then Ok (record h { flags = bit_or h.flags bit }) else Err whys.Value
+
+unfoldable pub head_after : FlowHead → Part → List ℕ → Result FlowHead Why
+head_after h parts.Cookie value = numbered (2 ^ 64) value >>= λ n. Ok (record h { cookie = n })
+head_after h parts.Table value = numbered 256 value >>= λ n. Ok (record h { table = n })
+head_after h parts.Priority value = numbered 65536 value >>= λ n. Ok (record h { priority = n })
+head_after h parts.Idle value = numbered 65536 value >>= λ n. Ok (record h { idle = n })
+head_after h parts.Hard value = numbered 65536 value >>= λ n. Ok (record h { hard = n })
+head_after h (parts.Flag bit) value = flagged h bit value
+head_after h parts.Passed value = Ok h
+
+-- ---- its instructions
+
+-- VALUE or VALUE/MASK
+abbrev pub mask_of_metadata : List ℕ → Result ℕ Why
+mask_of_metadata word = if length word == 0 then Ok 18446744073709551615 else numbered (2 ^ 64) word
+
+abbrev pub metadata_in : List ℕ → Result (ℕ × ℕ) Why
+metadata_in value = do
+  v ← numbered (2 ^ 64) (before 47 value)
+  m ← mask_of_metadata (behind 47 value)
+  Ok (v, m)
+
+abbrev pub alone : List ℕ → Result (Unit {0}) Why
+alone value = if length value == 0 then Ok tt else Err whys.Unknown
+
+unfoldable pub instructed : Sketch → Verb → List ℕ → Result Sketch Why
+instructed s verbs.Write word = acted_all s.settings s.write (words_from 0 (value_of word)) >>= λ actions. Ok (record s { writes = true; write = actions })
+instructed s verbs.Clear word = alone (value_of word) >>= λ _. Ok (record s { clears = true })
+instructed s verbs.Metadata word = metadata_in (value_of word) >>= λ m. Ok (record s { metadata = Some m })
+instructed s verbs.Goto word = numbered 256 (value_of word) >>= λ n. Ok (record s { goto = Some n })
+instructed s other word = acted s.settings s.apply word >>= λ actions. Ok (record s { apply = actions })
+
+-- ---- words
+
+abbrev pub told_named : Sketch → Option ActionWord → List ℕ → Result Sketch Why
+told_named s (Some named) word = instructed s (verb_of named) word
+told_named s None word = acted s.settings s.apply word >>= λ actions. Ok (record s { apply = actions })
+
+abbrev pub told_action : Sketch → List ℕ → Result Sketch Why
+told_action s word = told_named s (action_named (name_of word)) word
+
+abbrev pub told_field : Sketch → Option FieldWord → List ℕ → Result Sketch Why
+told_field s None value = Err whys.Unknown
+told_field s (Some word) value = with_field s.settings word value >>= λ settings. Ok (record s { settings = settings })
+
+abbrev pub told_protocol : Sketch → Option ProtocolWord → List ℕ → List ℕ → Result Sketch Why
+told_protocol s None name value = told_field s (field_word_named name) value
+told_protocol s (Some word) name value = with_protocol s.settings word value >>= λ settings. Ok (record s { settings = settings })
+
+abbrev pub told_part : Sketch → Option HeadWord → List ℕ → List ℕ → Result Sketch Why
+told_part s None name value = told_protocol s (protocol_named name) name value
+told_part s (Some word) name value = head_after s.head (part_of word) value >>= λ head. Ok (record s { head = head })
+
+-- a word before the actions
+unfoldable pub told_head : Sketch → List ℕ → List ℕ → Result Sketch Why
+told_head s name value = told_part s (head_named name) name value
+
+-- the first word of the actions stands behind `actions=`
+abbrev pub begun_actions : Sketch → List ℕ → Result Sketch Why
+begun_actions s value = if length value == 0 then Ok (record s { acting = true }) else told_action (record s { acting = true }) value
+
+-- ONE MORE WORD of a flow
+unfoldable pub told : Sketch → List ℕ → Result Sketch Why
+told s word =
+    if s.acting then told_action s word
+    else if bytes_eq (name_of word) (codes "actions") then begun_actions s (value_of word)
+    else told_head s (name_of word) (value_of word)
