@@ -106,28 +106,29 @@ class Crates:
         words += ["--antt-project", f"{self.kit}/rattle/logic/antt-project.json", "--logic-built", f"{self.kit}/logic_built"]
         return [*words, "--links", f"{name}="]
 
-    def call(self, name, words, log):
-        """Calls a tool in the crate's folder, and returns its status."""
+    def call(self, name, words, log, nice=0):
+        """Calls a tool in the crate's folder, which gives way to others by how nice it is, and returns its status."""
+        words = ["nice", "-n", str(nice), *words] if nice else words
         return subprocess.run(words, cwd=self.folder(name), stdin=subprocess.DEVNULL, stdout=log, stderr=subprocess.STDOUT).returncode
 
-    def build_library(self, name, jobs, log):
+    def build_library(self, name, jobs, log, nice=0):
         """Proves a library and builds it; returns the status."""
         made, stamp = self.made(name), self.stamp(name)
         shutil.rmtree(os.path.dirname(made), ignore_errors=True)
         os.makedirs(os.path.dirname(made))
-        status = self.call(name, [*self.words("build", name), "--jobs", str(jobs), "--statements", "-o", made], log)
+        status = self.call(name, [*self.words("build", name), "--jobs", str(jobs), "--statements", "-o", made], log, nice)
         if not status:
             with open(f"{os.path.dirname(made)}/stamp", "w", encoding="utf-8") as kept:
                 kept.write(stamp)
         return status
 
-    def build_program(self, name, jobs, log):
+    def build_program(self, name, jobs, log, nice=0):
         """Proves a program and builds it; returns the status."""
         made = f"{self.folder(name)}/out/{name}"
         os.makedirs(os.path.dirname(made), exist_ok=True)
         tools = ["--toolchain", f"{self.kit}/toolchain"]
         link = [f"{self.kit}/bin/rattle-link", "--target", TARGET, *tools, "-o", f"{made}.new", f"{made}.o"]
-        status = self.call(name, [*self.words("build", name), "--jobs", str(jobs), *tools, "-o", f"{made}.o"], log)
+        status = self.call(name, [*self.words("build", name), "--jobs", str(jobs), *tools, "-o", f"{made}.o"], log, nice)
         status = status or self.call(name, [*link, f"{self.kit}/c/libos_c.a", f"{self.kit}/c/liblibc_c.a"], log)
         if not status:
             os.replace(f"{made}.new", made)
