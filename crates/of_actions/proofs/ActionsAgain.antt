@@ -18,7 +18,7 @@ use Rattle.of_actions.specs.Beginnings.{type_at, len_at}
 use Rattle.of_actions.specs.PortNumbers.{is_port}
 use Rattle.of_actions.specs.SetField.{settable, set_field_at, set_value_at, set_len, set_refusals}
 use Rattle.of_actions.specs.Supported.{is_supported, are_supported}
-use Rattle.of_actions.specs.Actions.{actions_of, AreActions, action_refusals, type_refusals, action_at, first_at, max_len_at}
+use Rattle.of_actions.specs.Actions.{actions_of, AreActions, action_refusals, type_refusals, action_at}
 use Rattle.of_actions.specs.CanonicalActions.{canonical_action, canonical_actions, canonical_set_field}
 use Rattle.of_actions.proofs.ActionLists.{is_served_list}
 
@@ -43,13 +43,13 @@ head_none packet_out seen rest n few len low eight whole kind =
 plain_none : (packet_out : Bool) (a : Action) (rest : List ℕ) → is_supported packet_out a ≡ true → type_at rest ≡ type_at (canonical_action a) → len_at rest ≡ len_at (canonical_action a) → action_at rest ≡ Some a → IsPlain a → first_of (type_refusals packet_out rest) ≡ None
 unfolding canonical_action action_at type_refusals is_supported
 plain_none packet_out (Output port max_len) rest served kind len read plain =
-    let same : Some (Output (first_at 4 rest) (max_len_at rest)) ≡ Some (Output port max_len) = rw kind at read in
-    let port_is : first_at 4 rest ≡ port = cc in
+    let same : Some (Output (big_number 4 (drop 4 rest)) (big_number 2 (drop 8 rest))) ≡ Some (Output port max_len) = rw kind at read in
+    let port_is : big_number 4 (drop 4 rest) ≡ port = cc in
     let ok : is_port packet_out port ≡ true = grind (arith, nat_tests) in
     rw (kind, len, port_is, ok) refl
 plain_none packet_out (PushVlan type) rest served kind len read plain =
-    let same : Some (PushVlan (first_at 2 rest)) ≡ Some (PushVlan type) = rw kind at read in
-    let type_is : first_at 2 rest ≡ type = cc in
+    let same : Some (PushVlan (big_number 2 (drop 4 rest))) ≡ Some (PushVlan type) = rw kind at read in
+    let type_is : big_number 2 (drop 4 rest) ≡ type = cc in
     rw (kind, len, type_is, served) refl
 plain_none packet_out (SetField f v) rest served kind len read plain = absurd plain
 plain_none packet_out other rest served kind len read plain = rw (kind, len) refl

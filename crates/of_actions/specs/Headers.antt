@@ -1,11 +1,12 @@
 -- The headers of instructions (OpenFlow 1.3.5, 7.2.4).
-use Rattle.std.specs.Prelude.{ℕ, ◌-◌, ◌%◌, ◌==◌, nat_lt, nat_le, Bool, true, not, ◌&&◌, ◌||◌, List, [], ◌∷◌, length, take, drop, slice_index, Option, Some, None, if◌then◌else◌}
-use Rattle.byteorder.specs.Endian.{big_number}
+use Rattle.std.specs.Prelude.{ℕ, ◌-◌, ◌%◌, ◌==◌, nat_lt, nat_le, Bool, true, not, ◌&&◌, ◌||◌, List, [], ◌∷◌, length, take, drop, Option, Some, None, if◌then◌else◌}
 use Rattle.of_wire.specs.declared.code.Code.{Code}
 use Rattle.of_wire.specs.Refusals.{refusal}
 use Rattle.of_wire.specs.Items.{Items, AreItems}
 use Rattle.of_wire.specs.Numbered.{is_used}
-use Rattle.of_actions.specs.Beginnings.{type_at, len_at}
+use Rattle.of_formats.specs.Structs.{numbers, size}
+use Rattle.of_formats.specs.Tables as tables
+use Rattle.of_actions.specs.Beginnings.{type_at, len_at, argument_at}
 
 -- an instruction whose actions are not read yet: of WRITE_ACTIONS and APPLY_ACTIONS the bytes of their actions
 pub data Header : Type 0 where
@@ -32,7 +33,7 @@ is_size kind len = if (kind == 1) || (kind == 5) then len == 8 else if kind == 2
 
 -- the table of a GOTO_TABLE
 abbrev pub table_at : List ℕ → ℕ
-table_at rest = slice_index rest 4
+table_at rest = argument_at tables.instruction_goto_table rest
 
 -- a table that an entry of this table may lead to: a later one of the 16
 abbrev pub is_next : ℕ → ℕ → Bool
@@ -51,15 +52,20 @@ header_refusals table seen rest =
     ∷ ((type_at rest == 1) && not (is_next table (table_at rest)), refusal 3 2)
     ∷ []
 
--- the bytes of its actions: after type, length and four bytes of padding
+-- the bytes of its actions, which follow its struct
 abbrev pub actions_at : List ℕ → List ℕ
-actions_at rest = take (len_at rest - 8) (drop 8 rest)
+actions_at rest = take (len_at rest - size tables.instruction_actions) (drop (size tables.instruction_actions) rest)
+
+-- what the numbers of its struct say
+abbrev pub metadata_of : List ℕ → Option Header
+metadata_of (type ∷ len ∷ value ∷ mask ∷ []) = Some (metadata value mask)
+metadata_of other = None
 
 -- the header, where it is not refused: GOTO_TABLE, WRITE_METADATA, WRITE_ACTIONS, APPLY_ACTIONS, CLEAR_ACTIONS
 unfoldable pub header_at : List ℕ → Option Header
 header_at rest =
     if type_at rest == 1 then Some (goto (table_at rest))
-    else if type_at rest == 2 then Some (metadata (big_number 8 (drop 8 rest)) (big_number 8 (drop 16 rest)))
+    else if type_at rest == 2 then metadata_of (numbers tables.instruction_write_metadata 0 rest)
     else if type_at rest == 3 then Some (write (actions_at rest))
     else if type_at rest == 4 then Some (apply (actions_at rest))
     else if type_at rest == 5 then Some clear

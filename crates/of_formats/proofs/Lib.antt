@@ -1,1 +1,2 @@
 pub mod StructLaws
+pub mod Binding

@@ -35,7 +35,7 @@ abbrev pub size : Struct → ℕ
 size [] = 0
 size (slot ∷ s) = width slot + size s
 
--- READ: the numbers of the fields of a struct that begins there
+-- READ: the numbers of the fields of a struct that begins there, one for each field that is a number. So where a reader names them all, its last case, `other`, never applies.
 abbrev pub numbers : Struct → ℕ → List ℕ → List ℕ
 numbers [] at m = []
 numbers (byte name ∷ s) at m = slice_index m at ∷ numbers s (at + 1) m

@@ -21,7 +21,7 @@ use Rattle.of_layers.specs.Reading.{is_tag_type}
 use Rattle.of_layers.proofs.Table.{bytes_most, field_at-number_of, number_of-field_at}
 use Rattle.of_actions.specs.declared.action.Action.{Action}
 use Rattle.of_actions.specs.declared.action.Action.TheVariants.{Output, PushVlan, PopVlan, Group, SetNwTtl, DecNwTtl, SetField}
-use Rattle.of_actions.specs.Actions.{action_at, action_refusals, type_refusals, wrong_size, first_at, max_len_at, actions_of, AreActions}
+use Rattle.of_actions.specs.Actions.{action_at, action_refusals, type_refusals, wrong_size, actions_of, AreActions}
 use Rattle.of_actions.specs.Beginnings.{type_at, len_at}
 use Rattle.of_actions.specs.PortNumbers.{is_port}
 use Rattle.of_actions.specs.Supported.{is_supported, are_supported}
@@ -132,22 +132,22 @@ one : (packet_out : Bool) (a : Action) (rest : List ℕ) → IsBytes rest → le
 unfolding type_refusals action_at is_supported
 one packet_out (Output port max_len) rest fits whole none at =
     let kind : type_at rest ≡ 0 = kind_is (Output port max_len) rest at in
-    let same : Some (Output (first_at 4 rest) (max_len_at rest)) ≡ Some (Output port max_len) = rw kind at at in
-    let port_is : first_at 4 rest ≡ port = cc in
-    let max_is : max_len_at rest ≡ max_len = cc in
-    let none' : first_of (wrong_size 16 rest ∷ (not (is_port packet_out (first_at 4 rest)), refusal 2 4) ∷ []) ≡ None = rw kind at none in
-    let len : len_at rest ≡ 16 = sized 16 rest ((not (is_port packet_out (first_at 4 rest)), refusal 2 4) ∷ []) none' in
-    let ok : is_port packet_out port ≡ true = ap (is_port packet_out) (sym port_is) ∙ allowed (wrong_size 16 rest) (is_port packet_out (first_at 4 rest)) (refusal 2 4) none' in
+    let same : Some (Output (big_number 4 (drop 4 rest)) (big_number 2 (drop 8 rest))) ≡ Some (Output port max_len) = rw kind at at in
+    let port_is : big_number 4 (drop 4 rest) ≡ port = cc in
+    let max_is : big_number 2 (drop 8 rest) ≡ max_len = cc in
+    let none' : first_of (wrong_size 16 rest ∷ (not (is_port packet_out (big_number 4 (drop 4 rest))), refusal 2 4) ∷ []) ≡ None = rw kind at none in
+    let len : len_at rest ≡ 16 = sized 16 rest ((not (is_port packet_out (big_number 4 (drop 4 rest))), refusal 2 4) ∷ []) none' in
+    let ok : is_port packet_out port ≡ true = ap (is_port packet_out) (sym port_is) ∙ allowed (wrong_size 16 rest) (is_port packet_out (big_number 4 (drop 4 rest))) (refusal 2 4) none' in
     let low : max_len < 65536 = below 2 max_len 8 rest fits max_is in
     let low' : ltb max_len 65536 ≡ true = grind (arith, nat_tests, low) in
     struct packet_out (Output port max_len) rest 16 fits len (omega (arith, len, whole)) refl (kind, (len, (port_is, (max_is, tt)))) (rw (ok, low') refl)
 one packet_out (PushVlan type) rest fits whole none at =
     let kind : type_at rest ≡ 17 = kind_is (PushVlan type) rest at in
-    let same : Some (PushVlan (first_at 2 rest)) ≡ Some (PushVlan type) = rw kind at at in
-    let type_is : first_at 2 rest ≡ type = cc in
-    let none' : first_of (wrong_size 8 rest ∷ (not (is_tag_type (first_at 2 rest)), refusal 2 5) ∷ []) ≡ None = rw kind at none in
-    let len : len_at rest ≡ 8 = sized 8 rest ((not (is_tag_type (first_at 2 rest)), refusal 2 5) ∷ []) none' in
-    let ok : is_tag_type type ≡ true = ap is_tag_type (sym type_is) ∙ allowed (wrong_size 8 rest) (is_tag_type (first_at 2 rest)) (refusal 2 5) none' in
+    let same : Some (PushVlan (big_number 2 (drop 4 rest))) ≡ Some (PushVlan type) = rw kind at at in
+    let type_is : big_number 2 (drop 4 rest) ≡ type = cc in
+    let none' : first_of (wrong_size 8 rest ∷ (not (is_tag_type (big_number 2 (drop 4 rest))), refusal 2 5) ∷ []) ≡ None = rw kind at none in
+    let len : len_at rest ≡ 8 = sized 8 rest ((not (is_tag_type (big_number 2 (drop 4 rest))), refusal 2 5) ∷ []) none' in
+    let ok : is_tag_type type ≡ true = ap is_tag_type (sym type_is) ∙ allowed (wrong_size 8 rest) (is_tag_type (big_number 2 (drop 4 rest))) (refusal 2 5) none' in
     struct packet_out (PushVlan type) rest 8 fits len (omega (arith, len, whole)) refl (kind, (len, (type_is, tt))) ok
 one packet_out PopVlan rest fits whole none at =
     let kind : type_at rest ≡ 18 = kind_is PopVlan rest at in
@@ -156,8 +156,8 @@ one packet_out PopVlan rest fits whole none at =
     struct packet_out PopVlan rest 8 fits len (omega (arith, len, whole)) refl (kind, (len, tt)) refl
 one packet_out (Group group) rest fits whole none at =
     let kind : type_at rest ≡ 22 = kind_is (Group group) rest at in
-    let same : Some (Group (first_at 4 rest)) ≡ Some (Group group) = rw kind at at in
-    let group_is : first_at 4 rest ≡ group = cc in
+    let same : Some (Group (big_number 4 (drop 4 rest))) ≡ Some (Group group) = rw kind at at in
+    let group_is : big_number 4 (drop 4 rest) ≡ group = cc in
     let none' : first_of (wrong_size 8 rest ∷ []) ≡ None = rw kind at none in
     let len : len_at rest ≡ 8 = sized 8 rest [] none' in
     let low : group < 4294967296 = below 4 group 4 rest fits group_is in

@@ -16,7 +16,7 @@ use Rattle.of_actions.specs.declared.action.Action.{Action}
 use Rattle.of_actions.specs.declared.action.Action.TheVariants.{Output, PushVlan, SetField}
 use Rattle.of_actions.specs.Beginnings.{type_at, len_at}
 use Rattle.of_actions.specs.SetField.{settable, set_field_at, set_value_at, set_len, set_refusals}
-use Rattle.of_actions.specs.Actions.{type_refusals, first_at}
+use Rattle.of_actions.specs.Actions.{type_refusals}
 use Rattle.of_actions.specs.Actions as actions
 use Rattle.of_actions.specs.CanonicalActions.{canonical_action, canonical_set_field}
 use Rattle.of_text.specs.Rows.{ActionFits, FieldFits, IsMask}
@@ -101,11 +101,11 @@ past_head seen rest n few len low eight whole =
     rw (room, short, len, low', eight', whole') refl
 
 -- of each type, over a variable, where nothing has computed to cells yet
-output_kind : (p m : ℕ) (rest : List ℕ) → type_at rest ≡ 0 → len_at rest ≡ 16 → first_at 4 rest ≡ p → first_of (type_refusals false rest) ≡ first_of (action_refusals (Output p m))
+output_kind : (p m : ℕ) (rest : List ℕ) → type_at rest ≡ 0 → len_at rest ≡ 16 → big_number 4 (drop 4 rest) ≡ p → first_of (type_refusals false rest) ≡ first_of (action_refusals (Output p m))
 unfolding type_refusals
 output_kind p m rest kind len port = rw (kind, len, port) refl
 
-push_kind : (t : ℕ) (rest : List ℕ) → type_at rest ≡ 17 → len_at rest ≡ 8 → first_at 2 rest ≡ t → first_of (type_refusals false rest) ≡ first_of (action_refusals (PushVlan t))
+push_kind : (t : ℕ) (rest : List ℕ) → type_at rest ≡ 17 → len_at rest ≡ 8 → big_number 2 (drop 4 rest) ≡ t → first_of (type_refusals false rest) ≡ first_of (action_refusals (PushVlan t))
 unfolding type_refusals
 push_kind t rest kind len type = rw (kind, len, type) refl
 
@@ -162,11 +162,11 @@ pub action_as_on_wire : (a : Action) (seen : List Action) (x : List ℕ) → Act
 unfolding canonical_action
 action_as_on_wire (Output p m) seen x fits few =
     let rest = canonical_action (Output p m) ++ x in
-    let port_is : first_at 4 rest ≡ p = big_number-reads_back 4 p (big_bytes 2 m ++ (replicate 6 0 ++ x)) (omega (arith, fits.0)) in
+    let port_is : big_number 4 (drop 4 rest) ≡ p = big_number-reads_back 4 p (big_bytes 2 m ++ (replicate 6 0 ++ x)) (omega (arith, fits.0)) in
     past_head seen rest 16 few refl (omega arith) refl (omega arith) ∙ output_kind p m rest refl refl port_is
 action_as_on_wire (PushVlan t) seen x fits few =
     let rest = canonical_action (PushVlan t) ++ x in
-    let type_is : first_at 2 rest ≡ t = big_number-reads_back 2 t (replicate 2 0 ++ x) (omega (arith, fits)) in
+    let type_is : big_number 2 (drop 4 rest) ≡ t = big_number-reads_back 2 t (replicate 2 0 ++ x) (omega (arith, fits)) in
     past_head seen rest 8 few refl (omega arith) refl (omega arith) ∙ push_kind t rest refl refl type_is
 action_as_on_wire (SetField f v) seen x fits few = set_same f v seen x few fits
 action_as_on_wire other seen x fits few =
