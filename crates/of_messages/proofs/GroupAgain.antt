@@ -3,6 +3,7 @@ use Rattle.std.proofs.Common.{◌≡◌, ℕ, ◌+◌, ◌^◌, ◌<◌, ◌≤�
 use Rattle.std.specs.Prelude.{slice_index}
 use Rattle.std.specs.List.{list_all}
 use Rattle.std.proofs.lemmas.Bool.{le-ltb, eq-eqb}
+use Rattle.byteorder.specs.Endian.{big_number}
 use Rattle.byteorder.specs.Numbers.{big_number-reads_back}
 use Rattle.of_wire.specs.Refusals.{first_of}
 use Rattle.of_groups.specs.declared.group.GroupKind.{GroupKind}
@@ -11,8 +12,8 @@ use Rattle.of_groups.specs.Buckets.{are_fit}
 use Rattle.of_messages.specs.declared.message.Message.TheVariants.{GroupMod as IsGroupMod}
 use Rattle.of_messages.specs.declared.group_mod.GroupMod.TheVariants.{Add}
 use Rattle.of_messages.specs.declared.group_mod.NewGroup.{NewGroup}
-use Rattle.of_messages.specs.GroupMods.{command_of, command_in, group_mod_of, group_of, kind_of, number_in}
-use Rattle.of_messages.specs.Heads.{version_of, type_of, header_length, head_refusals, size_of}
+use Rattle.of_messages.specs.GroupMods.{command_of, group_mod_of, group_of, kind_of}
+use Rattle.of_messages.specs.Heads.{version_of, type_of, header_length, head_refusals, format_of}
 use Rattle.of_messages.specs.Messages.{body_of, message_from, message_of}
 use Rattle.of_groups.specs.Groups.{kind_number}
 use Rattle.of_messages.specs.CanonicalGroups.{canonical_buckets, group_add_fixed_part, group_add_bytes, as_written, has_numbers}
@@ -25,9 +26,9 @@ record Says (g : NewGroup) (m : List ℕ) : Type 0 where
   type : type_of m ≡ 15
   size : header_length m ≡ length m
   long : 16 ≤ length m
-  command : command_in m ≡ 0
+  command : big_number 2 (drop 8 m) ≡ 0
   kind : slice_index m 10 ≡ kind_number g.kind
-  number : number_in m ≡ g.id
+  number : big_number 4 (drop 12 m) ≡ g.id
   buckets : drop 16 m ≡ canonical_buckets g.buckets
 
 says : (xid : ℕ) (g : NewGroup) → g.id < 256 ^ 4 → length (canonical_buckets g.buckets) ≤ 24832 → Says g (group_add_bytes xid g)
@@ -49,7 +50,7 @@ says xid g number short =
     }
 
 head_passes : (g : NewGroup) (m : List ℕ) → Says g m → first_of (head_refusals m) ≡ None
-unfolding size_of
+unfolding format_of
 head_passes g m h =
     let long = h.long in
     let eight : ltb (length m) 8 ≡ false = le-ltb _ _ (omega arith) in
@@ -63,14 +64,14 @@ kind_again All = refl
 kind_again Indirect = refl
 kind_again FastFailover = refl
 
-group_again : (g : NewGroup) (m : List ℕ) → Says g m → g.id ≤ 0xffffff00 → list_all has_numbers g.buckets ≡ true → are_fit g.buckets ≡ true → group_of m ≡ Ok (as_written g)
-group_again g m h most numbers fit =
+group_again : (g : NewGroup) → g.id ≤ 0xffffff00 → list_all has_numbers g.buckets ≡ true → are_fit g.buckets ≡ true → group_of (kind_number g.kind) g.id (canonical_buckets g.buckets) ≡ Ok (as_written g)
+group_again g most numbers fit =
     let below : ltb 0xffffff00 g.id ≡ false = le-ltb _ _ most in
-    rw (h.number, below, h.kind, kind_again g.kind, h.buckets, buckets_again g.buckets numbers fit, h.number) refl
+    rw (below, kind_again g.kind, buckets_again g.buckets numbers fit) refl
 
-mod_again : (g : NewGroup) (m : List ℕ) → Says g m → group_of m ≡ Ok (as_written g) → group_mod_of m ≡ Ok (Add (as_written g))
+mod_again : (g : NewGroup) (m : List ℕ) → Says g m → group_of (kind_number g.kind) g.id (canonical_buckets g.buckets) ≡ Ok (as_written g) → group_mod_of m ≡ Ok (Add (as_written g))
 unfolding command_of
-mod_again g m h group = rw (h.command, group) refl
+mod_again g m h group = rw (h.command, h.kind, h.number, h.buckets, group) refl
 
 body_again : (g : NewGroup) (m : List ℕ) → Says g m → first_of (head_refusals m) ≡ None → group_mod_of m ≡ Ok (Add (as_written g)) → message_of m ≡ Ok (IsGroupMod (Add (as_written g)))
 unfolding message_from body_of
@@ -80,4 +81,4 @@ pub group_add_again : (xid : ℕ) (g : NewGroup) → g.id ≤ 0xffffff00 → lis
 group_add_again xid g most numbers fit =
     let m = group_add_bytes xid g in
     let h = says xid g (omega arith) (buckets_short g.buckets fit) in
-    body_again g m h (head_passes g m h) (mod_again g m h (group_again g m h most numbers fit))
+    body_again g m h (head_passes g m h) (mod_again g m h (group_again g most numbers fit))

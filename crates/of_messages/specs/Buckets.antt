@@ -7,13 +7,15 @@ use Rattle.of_wire.specs.Items.{Items, items_of}
 use Rattle.of_actions.specs.declared.action.Action.{Action}
 use Rattle.of_actions.specs.Actions.{actions_said}
 use Rattle.of_groups.specs.declared.bucket.Bucket.{Bucket}
+use Rattle.of_formats.specs.Structs.{numbers, size}
+use Rattle.of_formats.specs.Tables as tables
 
 -- the length of the whole bucket
 abbrev pub len_at : List ℕ → ℕ
 len_at rest = big_number 2 rest
 
 abbrev pub actions_in : List ℕ → List ℕ
-actions_in rest = take (len_at rest - 16) (drop 16 rest)
+actions_in rest = take (len_at rest - size tables.bucket) (drop (size tables.bucket) rest)
 
 abbrev pub fault_of : Result (List Action) Code → List (Bool × Code)
 fault_of (Ok actions) = []
@@ -23,17 +25,18 @@ fault_of (Err code) = (true, code) ∷ []
 unfoldable pub bucket_refusals : List Bucket → List ℕ → List (Bool × Code)
 bucket_refusals seen rest =
     (nat_lt 15 (length seen), refusal 6 4)
-    ∷ (nat_lt (length rest) 16, refusal 6 12)
-    ∷ (nat_lt (len_at rest) 16 || not (len_at rest % 8 == 0) || nat_lt (length rest) (len_at rest), refusal 6 12)
+    ∷ (nat_lt (length rest) (size tables.bucket), refusal 6 12)
+    ∷ (nat_lt (len_at rest) (size tables.bucket) || not (len_at rest % 8 == 0) || nat_lt (length rest) (len_at rest), refusal 6 12)
     ∷ fault_of (actions_said false (actions_in rest))
 
 -- a bucket whose counters are 0
 abbrev pub bucket_with : List ℕ → Result (List Action) Code → Option Bucket
-bucket_with rest (Ok actions) = Some (record { weight = big_number 2 (drop 2 rest); watch_port = big_number 4 (drop 4 rest); watch_group = big_number 4 (drop 8 rest); actions = actions; packets = 0; bytes = 0 })
-bucket_with rest (Err code) = None
+bucket_with (len ∷ weight ∷ watch_port ∷ watch_group ∷ []) (Ok actions) =
+    Some (record { weight = weight; watch_port = watch_port; watch_group = watch_group; actions = actions; packets = 0; bytes = 0 })
+bucket_with other actions = None
 
 unfoldable pub bucket_at : List ℕ → Option Bucket
-bucket_at rest = bucket_with rest (actions_said false (actions_in rest))
+bucket_at rest = bucket_with (numbers tables.bucket 0 rest) (actions_said false (actions_in rest))
 
 abbrev pub buckets : Items Bucket
 buckets = record { refusals = bucket_refusals; value_at = bucket_at; size_at = len_at }

@@ -1,8 +1,10 @@
 -- The header of a message (OpenFlow 1.3.5, 7.1), and the refusals before its body is read (7.4.4).
-use Rattle.std.specs.Prelude.{◌≡◌, ◌≤◌, ℕ, ◌+◌, ◌==◌, nat_lt, Bool, true, false, not, ◌&&◌, ◌||◌, List, [], ◌∷◌, length, drop, slice_index, Option, Some, None, is_some, if◌then◌else◌}
+use Rattle.std.specs.Prelude.{◌≡◌, ◌≤◌, ℕ, ◌+◌, ◌==◌, nat_lt, Bool, true, false, not, ◌&&◌, ◌||◌, List, [], ◌∷◌, length, drop, slice_index, find, Option, Some, None, is_some, if◌then◌else◌}
 use Rattle.byteorder.specs.Endian.{big_number}
 use Rattle.of_wire.specs.declared.code.Code.{Code}
 use Rattle.of_wire.specs.Refusals.{refusal}
+use Rattle.of_formats.specs.Structs.{size}
+use Rattle.of_formats.specs.Tables.{MessageFormat, messages, Way, read, sent, both, neither, Rest, nothing, anything, matched}
 use Rattle.of_messages.specs.declared.head.Size.{Size}
 use Rattle.of_messages.specs.declared.head.Size.TheVariants.{Exact, Least}
 use Rattle.of_messages.specs.declared.role.Role.{Role}
@@ -77,35 +79,38 @@ get_async_request = 26
 abbrev pub set_async : ℕ
 set_async = 28
 
--- THE TABLE: each supported type, with the size of its messages: exactly so many bytes, or so many at least
-unfoldable pub size_of : ℕ → Option Size
-size_of type =
-    if type == hello then Some (Least 8)
-    else if type == error then Some (Least 12)
-    else if type == echo_request then Some (Least 8)
-    else if type == echo_reply then Some (Least 8)
-    else if type == features_request then Some (Exact 8)
-    else if type == get_config_request then Some (Exact 8)
-    else if type == set_config then Some (Exact 12)
-    else if type == packet_out then Some (Least 24)
-    else if type == flow_mod then Some (Least 56)
-    else if type == group_mod then Some (Least 16)
-    else if type == port_mod then Some (Exact 40)
-    else if type == table_mod then Some (Exact 16)
-    else if type == multipart_request then Some (Least 16)
-    else if type == barrier_request then Some (Exact 8)
-    else if type == role_request then Some (Exact 24)
-    else if type == get_async_request then Some (Exact 8)
-    else if type == set_async then Some (Exact 32)
-    else None
+-- SIZES, FROM THE TABLE
+
+abbrev pub is_read : Way → Bool
+is_read read = true
+is_read both = true
+is_read other = false
+
+-- the format of the messages of a type that a controller may send
+unfoldable pub format_of : ℕ → Option MessageFormat
+format_of type = find (λ f. is_read f.way && type == f.type) messages
+
+-- exactly a struct, or at least that and what follows it
+abbrev pub size_with : Rest → ℕ → Size
+size_with nothing fixed = Exact fixed
+size_with anything fixed = Least fixed
+size_with matched fixed = Least (fixed + 8)
+
+abbrev pub size_by : Option MessageFormat → Option Size
+size_by None = None
+size_by (Some f) = Some (size_with f.rest (8 + size f.fixed))
+
+-- the size of the messages of a type: exactly so many bytes, or so many at least
+abbrev pub size_of : ℕ → Option Size
+size_of type = size_by (format_of type)
 
 abbrev pub is_supported : ℕ → Bool
 is_supported type = is_some (size_of type)
 
 abbrev pub is_bad_size : Option Size → ℕ → Bool
-is_bad_size None size = false
-is_bad_size (Some (Exact n)) size = not (size == n)
-is_bad_size (Some (Least n)) size = nat_lt size n
+is_bad_size None k = false
+is_bad_size (Some (Exact n)) k = not (k == n)
+is_bad_size (Some (Least n)) k = nat_lt k n
 
 -- how many bytes the actions of a PACKET_OUT have
 abbrev pub actions_length : List ℕ → ℕ
@@ -130,8 +135,12 @@ is_slave Master = false
 is_slave Slave = true
 
 -- the messages that would change the switch or send a packet, which a slave may not send (6.3.4)
+abbrev pub changes_by : Option MessageFormat → Bool
+changes_by None = false
+changes_by (Some f) = f.changes
+
 abbrev pub is_change : ℕ → Bool
-is_change type = type == packet_out || type == flow_mod || type == group_mod || type == port_mod || type == table_mod
+is_change type = changes_by (format_of type)
 
 -- OFPBRC_IS_SLAVE
 abbrev pub role_refusals : Role → List ℕ → List (Bool × Code)
@@ -141,9 +150,9 @@ role_refusals role m = (is_slave role && is_change (type_of m), refusal 1 10) �
 
 -- a size of the table
 abbrev pub IsSized : Option Size → ℕ → Type 0
-IsSized None size = ⊥
-IsSized (Some (Exact n)) size = size ≡ n
-IsSized (Some (Least n)) size = n ≤ size
+IsSized None k = ⊥
+IsSized (Some (Exact n)) k = k ≡ n
+IsSized (Some (Least n)) k = n ≤ k
 
 -- a header, a size of the table, and the actions of a PACKET_OUT
 pub record HasHead (m : List ℕ) : Type 0 where

@@ -1,11 +1,13 @@
 -- The role of a controller (OpenFlow 1.3.5, 6.3.4 and 7.3.9), as it is requested and replied.
-use Rattle.std.specs.Prelude.{ℕ, ◌==◌, List, drop, Option, Some, None, Result, Ok, Err, if◌then◌else◌}
-use Rattle.byteorder.specs.Endian.{big_number}
+use Rattle.std.specs.Prelude.{ℕ, ◌==◌, List, [], ◌∷◌, Option, Some, None, Result, Ok, Err, if◌then◌else◌}
 use Rattle.of_wire.specs.declared.code.Code.{Code}
 use Rattle.of_wire.specs.Refusals.{refusal}
 use Rattle.of_messages.specs.declared.role.Role.{Role}
 use Rattle.of_messages.specs.declared.role.Role.TheVariants as role
 use Rattle.of_messages.specs.declared.role.RoleRequest.{RoleRequest}
+use Rattle.of_formats.specs.Reading.{known}
+use Rattle.of_formats.specs.Structs.{numbers}
+use Rattle.of_formats.specs.Tables as tables
 use Rattle.of_messages.specs.declared.role.RoleRequest.TheVariants.{NoChange, Equal, Master, Slave}
 
 -- the role that a number asks for, with a generation_id, which counts for MASTER and SLAVE
@@ -18,12 +20,12 @@ asked_by number generation =
     else None
 
 -- OFPRRFC_BAD_ROLE
-abbrev pub asked_or_refused : Option RoleRequest → Result RoleRequest Code
-asked_or_refused None = Err (refusal 11 2)
-asked_or_refused (Some request) = Ok request
+abbrev pub role_request_by : List ℕ → Result RoleRequest Code
+role_request_by (role ∷ generation_id ∷ []) = known (asked_by role generation_id) (refusal 11 2)
+role_request_by other = Err (refusal 1 6)
 
 abbrev pub role_request_of : List ℕ → Result RoleRequest Code
-role_request_of m = asked_or_refused (asked_by (big_number 4 (drop 8 m)) (big_number 8 (drop 16 m)))
+role_request_of m = role_request_by (numbers tables.role 8 m)
 
 abbrev pub role_number : Role → ℕ
 role_number role.Equal = 1

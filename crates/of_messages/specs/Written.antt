@@ -7,10 +7,11 @@ use Rattle.of_oxm.specs.Canonical.{canonical}
 use Rattle.of_layers.specs.declared.field.Field.TheVariants.{InPort, Metadata}
 use Rattle.of_actions.specs.CanonicalInstructions.{canonical_instructions}
 use Rattle.of_wire.specs.Reasons.{flow_removed_number, packet_in_number}
+use Rattle.of_formats.specs.Structs.{written}
+use Rattle.of_formats.specs.Tables as tables
 use Rattle.of_messages.specs.Heads.{version_of, header_length}
 use Rattle.of_messages.specs.Roles.{role_number, generation_number}
 use Rattle.of_messages.specs.declared.async_masks.AsyncMasks.{AsyncMasks}
-use Rattle.of_messages.specs.declared.async_masks.RoleMasks.{RoleMasks}
 use Rattle.of_messages.specs.declared.config.SwitchConfig.{SwitchConfig}
 use Rattle.of_messages.specs.declared.features.TheConstants.{BUFFERS}
 use Rattle.of_messages.specs.declared.role.Role.{Role}
@@ -25,7 +26,7 @@ use Rattle.of_messages.specs.declared.message.FlowRemoved.{FlowRemoved}
 
 -- version 4, type, length, transaction id (OpenFlow 1.3.5, 7.1)
 abbrev pub header : ℕ → ℕ → ℕ → List ℕ
-header kind size xid = 4 ∷ kind ∷ (big_bytes 2 size ++ big_bytes 4 xid)
+header kind size xid = written tables.header (4 ∷ kind ∷ size ∷ xid ∷ [])
 
 -- a message of that type, with its length
 abbrev pub message : ℕ → ℕ → List ℕ → List ℕ
@@ -37,11 +38,11 @@ IsMessage bytes = (8 ≤ length bytes) × (length bytes ≤ 65535) × (version_o
 
 -- the HELLO of this switch: one element, the bitmap of versions, in which bit 4 is set (7.5.1)
 abbrev pub hello_bytes : List ℕ
-hello_bytes = message 0 0 (big_bytes 2 1 ++ (big_bytes 2 8 ++ big_bytes 4 16))
+hello_bytes = message 0 0 (written tables.hello_elem_versionbitmap (1 ∷ 8 ∷ 16 ∷ []))
 
 -- 7.4.4
 abbrev pub error_bytes : ℕ → Code → List ℕ → List ℕ
-error_bytes xid code «data» = message 1 xid (big_bytes 2 code.kind ++ (big_bytes 2 code.code ++ «data»))
+error_bytes xid code failed = message 1 xid (written tables.error_msg (code.kind ∷ code.code ∷ []) ++ failed)
 
 -- 7.5.3
 abbrev pub echo_reply_bytes : ℕ → List ℕ → List ℕ
@@ -53,40 +54,32 @@ barrier_reply_bytes xid = message 21 xid []
 
 -- the datapath id; 256 buffers, 16 tables, no auxiliary connection, and the capabilities OFPC_FLOW_STATS, TABLE_STATS, PORT_STATS and GROUP_STATS (7.3.1)
 unfoldable pub features_body : ℕ → List ℕ
-features_body dpid = big_bytes 8 dpid ++ (big_bytes 4 BUFFERS ++ ((16 ∷ 0 ∷ 0 ∷ 0 ∷ []) ++ (big_bytes 4 15 ++ big_bytes 4 0)))
+features_body dpid = written tables.switch_features (dpid ∷ BUFFERS ∷ 16 ∷ 0 ∷ 15 ∷ [])
 
 abbrev pub features_reply_bytes : ℕ → ℕ → List ℕ
 features_reply_bytes xid dpid = message 6 xid (features_body dpid)
 
 -- no flags (7.3.2)
 abbrev pub config_reply_bytes : ℕ → SwitchConfig → List ℕ
-config_reply_bytes xid config = message 8 xid (big_bytes 2 0 ++ big_bytes 2 config.miss_send_len)
+config_reply_bytes xid config = message 8 xid (written tables.switch_config (0 ∷ config.miss_send_len ∷ []))
 
 -- 7.3.9
 abbrev pub role_reply_bytes : ℕ → Role → Option ℕ → List ℕ
-role_reply_bytes xid role generation = message 25 xid (big_bytes 4 (role_number role) ++ (replicate 4 0 ++ big_bytes 8 (generation_number generation)))
-
--- while it is master or equal, and while it is a slave (7.3.10)
-abbrev pub role_masks_bytes : RoleMasks → List ℕ
-role_masks_bytes masks = big_bytes 4 masks.master ++ big_bytes 4 masks.slave
+role_reply_bytes xid role generation = message 25 xid (written tables.role (role_number role ∷ generation_number generation ∷ []))
 
 abbrev pub async_reply_bytes : ℕ → AsyncMasks → List ℕ
-async_reply_bytes xid masks = message 27 xid (role_masks_bytes masks.packet_in ++ (role_masks_bytes masks.port_status ++ role_masks_bytes masks.flow_removed))
+async_reply_bytes xid m =
+    message 27 xid (written tables.async_config
+    (m.packet_in.master ∷ m.packet_in.slave ∷ m.port_status.master ∷ m.port_status.slave ∷ m.flow_removed.master ∷ m.flow_removed.slave ∷ []))
 
 -- FLOW_REMOVED (7.4.2)
 
 -- the fields before the match
 unfoldable pub flow_removed_fixed_part : FlowRemoved → List ℕ
-flow_removed_fixed_part removed =
-    big_bytes 8 removed.cookie
-    ++ (big_bytes 2 removed.priority
-    ++ (flow_removed_number removed.reason ∷ removed.table
-    ∷ (big_bytes 4 removed.duration_sec
-    ++ (big_bytes 4 removed.duration_nsec
-    ++ (big_bytes 2 removed.idle_timeout
-    ++ (big_bytes 2 removed.hard_timeout
-    ++ (big_bytes 8 removed.packets
-    ++ big_bytes 8 removed.bytes)))))))
+flow_removed_fixed_part r =
+    written tables.flow_removed
+    (r.cookie ∷ r.priority ∷ flow_removed_number r.reason ∷ r.table ∷ r.duration_sec ∷ r.duration_nsec
+    ∷ r.idle_timeout ∷ r.hard_timeout ∷ r.packets ∷ r.bytes ∷ [])
 
 abbrev pub flow_removed_bytes : ℕ → FlowRemoved → List MatchField → List ℕ
 flow_removed_bytes xid removed fields = message 11 xid (flow_removed_fixed_part removed ++ canonical fields)
@@ -101,11 +94,7 @@ packet_fields in_port metadata =
 
 -- the fields before the match
 unfoldable pub packet_in_fixed_part : PacketIn → List ℕ
-packet_in_fixed_part p =
-    big_bytes 4 p.buffer
-    ++ (big_bytes 2 p.total_len
-    ++ (packet_in_number p.reason ∷ p.table
-    ∷ big_bytes 8 p.cookie))
+packet_in_fixed_part p = written tables.packet_in (p.buffer ∷ p.total_len ∷ packet_in_number p.reason ∷ p.table ∷ p.cookie ∷ [])
 
 -- the data are the first bytes of a frame of p.total_len: all of them, or of a held one as many as the switch tells
 abbrev pub packet_in_bytes : ℕ → PacketIn → List ℕ → List ℕ
@@ -120,20 +109,14 @@ command_number ModifyStrict = 2
 command_number Delete = 3
 command_number DeleteStrict = 4
 
--- the fields before the match, with two bytes of padding
+abbrev pub flow_mod_numbers : FlowMod → List ℕ
+flow_mod_numbers m =
+    m.cookie ∷ m.cookie_mask ∷ m.table ∷ command_number m.command ∷ m.idle_timeout ∷ m.hard_timeout ∷ m.priority
+    ∷ m.buffer ∷ m.out_port ∷ m.out_group ∷ m.flags ∷ []
+
+-- the fields before the match
 unfoldable pub flow_mod_fixed_part : FlowMod → List ℕ
-flow_mod_fixed_part m =
-    big_bytes 8 m.cookie
-    ++ (big_bytes 8 m.cookie_mask
-    ++ ((m.table ∷ command_number m.command ∷ [])
-    ++ (big_bytes 2 m.idle_timeout
-    ++ (big_bytes 2 m.hard_timeout
-    ++ (big_bytes 2 m.priority
-    ++ (big_bytes 4 m.buffer
-    ++ (big_bytes 4 m.out_port
-    ++ (big_bytes 4 m.out_group
-    ++ (big_bytes 2 m.flags
-    ++ replicate 2 0)))))))))
+flow_mod_fixed_part m = written tables.flow_mod (flow_mod_numbers m)
 
 abbrev pub flow_mod_bytes : ℕ → FlowMod → List ℕ
 flow_mod_bytes xid m = message 14 xid (flow_mod_fixed_part m ++ (canonical m.fields ++ canonical_instructions m.instructions))

@@ -1,7 +1,8 @@
 //! Which asynchronous messages a controller is sent (OpenFlow 1.3.5, 7.3.10).
-ghost use Rattle.std.specs.Prelude.{◌≡◌, ◌≤◌, ◌++◌, length, IfOk, OnOk};
-ghost use Rattle.of_messages.specs.AsyncConfigs.{async_masks_of, role_masks_at};
-ghost use Rattle.of_messages.specs.Written.{async_reply_bytes, role_masks_bytes};
+ghost use Rattle.std.specs.Prelude.{◌≡◌, ◌≤◌, ◌+◌, ◌++◌, length, drop, IfOk, OnOk};
+ghost use Rattle.of_messages.specs.AsyncConfigs.{async_masks_of, masks};
+ghost use Rattle.of_messages.specs.Written.{async_reply_bytes};
+ghost use Rattle.byteorder.specs.Endian.{big_bytes, big_number};
 
 use crate::message_bytes::MessageBytes;
 use crate::reading::rest_from;
@@ -30,13 +31,13 @@ pub struct AsyncMasks {
     pub flow_removed: RoleMasks,
 }
 
-fn read_role_masks(bytes: &[u8]) -> RoleMasks
-    requires { 8 ≤ length bytes.now }
-    ensures { result ≡ role_masks_at bytes.now }
+fn read_role_masks(message: &[u8], at: usize) -> RoleMasks
+    requires { at + 8 ≤ length message.now }
+    ensures { result ≡ masks (big_number 4 (drop at message.now)) (big_number 4 (drop (at + 4) message.now)) }
 {
     RoleMasks {
-        master: BigEndian::read_u32(bytes),
-        slave: BigEndian::read_u32(rest_from(bytes, 4)),
+        master: BigEndian::read_u32(rest_from(message, at)),
+        slave: BigEndian::read_u32(rest_from(message, at + 4)),
     }
 }
 
@@ -45,14 +46,14 @@ pub(crate) fn read_async_masks(message: &[u8]) -> AsyncMasks
     ensures { result ≡ async_masks_of message.now }
 {
     AsyncMasks {
-        packet_in: read_role_masks(rest_from(message, 8)),
-        port_status: read_role_masks(rest_from(message, 16)),
-        flow_removed: read_role_masks(rest_from(message, 24)),
+        packet_in: read_role_masks(message, 8),
+        port_status: read_role_masks(message, 16),
+        flow_removed: read_role_masks(message, 24),
     }
 }
 
 fn put_role_masks(out: &mut Vec<u8>, masks: RoleMasks) -> Result<(), AllocError>
-    ensures { OnOk result (out.new.items ≡ out.old.items ++ role_masks_bytes masks) }
+    ensures { OnOk result (out.new.items ≡ out.old.items ++ (big_bytes 4 masks.master ++ big_bytes 4 masks.slave)) }
 {
     put_u32(out, masks.master)?;
     put_u32(out, masks.slave)

@@ -1,5 +1,6 @@
 //! GROUP_MOD (OpenFlow 1.3.5, 7.3.4.2).
-ghost use Rattle.std.specs.Prelude.{◌≡◌, ◌≤◌, IfOk, length};
+ghost use Rattle.std.specs.Prelude.{◌≡◌, ◌≤◌, IfOk, length, drop, slice_index};
+ghost use Rattle.byteorder.specs.Endian.{big_number};
 ghost use Rattle.of_wire.specs.Failures.{Reads};
 ghost use Rattle.of_messages.specs.GroupMods.{command_of, delete_of, group_mod_of, group_of, kind_of};
 ghost use Rattle.of_messages.specs.Promised.{IsSoundGroupMod};
@@ -73,7 +74,7 @@ fn kind_from(number: u8) -> Option<GroupKind>
 // The group that an ADD or a MODIFY asks for.
 fn read_group(alloc: Global, message: &[u8]) -> Result<NewGroup, ReadError>
     requires { 16 ≤ length message.now }
-    ensures reads { Reads result (group_of message.now) }
+    ensures reads { Reads result (group_of (slice_index message.now 10) (big_number 4 (drop 12 message.now)) (drop 16 message.now)) }
     ensures number { IfOk result (λ group. group.id ≤ 0xffffff00) }
 {
     let id = BigEndian::read_u32(rest_from(message, 12));

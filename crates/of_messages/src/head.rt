@@ -73,7 +73,7 @@ impl Size {
 }
 
 // The size of the messages of a supported type.
-#[tactic(auto, unfolding(crate::specs::Heads::size_of))]
+#[tactic(auto, unfolding(crate::specs::Heads::format_of))]
 fn size_of_type(kind: u8) -> Option<Size>
     ensures { result ≡ size_of kind }
 {
@@ -142,6 +142,7 @@ pub fn check_head(message: &[u8]) -> Result<(), Code>
 }
 
 // Whether a message of that type would change the switch or send a packet.
+#[tactic(auto, unfolding(crate::specs::Heads::format_of))]
 fn is_change(kind: u8) -> bool
     ensures { result ≡ changes kind }
 {

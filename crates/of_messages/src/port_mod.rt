@@ -1,7 +1,8 @@
 //! PORT_MOD, and ports as PORT_STATUS describes them (OpenFlow 1.3.5, 7.2.1, 7.3.4.3 and 7.4.3).
 ghost use Rattle.std.specs.Prelude.{◌≡◌, ◌≤◌, length};
 ghost use Rattle.of_wire.specs.Failures.{Reads};
-ghost use Rattle.of_messages.specs.PortMods.{hw_in, port_mod_of};
+ghost use Rattle.of_messages.specs.PortMods.{port_mod_of};
+ghost use Rattle.of_formats.specs.Structs.{bytes_from};
 
 use crate::reading::rest_from;
 use byteorder::{BigEndian, ByteOrder};
@@ -47,7 +48,7 @@ pub enum PortStatusReason {
 
 fn read_hw(message: &[u8]) -> [u8; 6]
     requires { 40 ≤ length message.now }
-    ensures { result ≡ hw_in message.now }
+    ensures { result ≡ bytes_from 16 6 message.now }
 {
     [
         message[16],

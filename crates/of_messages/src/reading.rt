@@ -1,9 +1,9 @@
 //! Messages from bytes.
 ghost use Rattle.std.specs.Prelude.{◌≡◌, ◌≤◌, ◌<◌, ◌+◌, length, drop, Some, None, true, false, slice_index, IfOk, MatchResult};
-ghost use Rattle.of_wire.specs.Refusals.{first_of};
+ghost use Rattle.byteorder.specs.Endian.{big_number};
 ghost use Rattle.of_wire.specs.Failures.{Reads};
 ghost use Rattle.of_messages.specs.Heads.{HasHead, actions_length};
-ghost use Rattle.of_messages.specs.Messages.{message_from, message_of, body_of, command_of, flow_mod_of, flow_mod_refusals, instructions_for, is_delete, is_ingress as may_be_ingress, packet_in_data, packet_out_of};
+ghost use Rattle.of_messages.specs.Messages.{message_from, message_of, body_of, command_said, flow_mod_of, instructions_for, is_delete, is_ingress as may_be_ingress, packet_in_data, packet_out_of};
 ghost use Rattle.of_messages.specs.Promised.{IsSoundFlowMod, IsSoundPacket, IsSoundMessage};
 ghost use Rattle.of_actions.specs.InstructionLists.{are_for};
 
@@ -59,10 +59,10 @@ pub(crate) fn rest_from(bytes: &[u8], at: usize) -> &[u8]
 }
 
 // The command of a FLOW_MOD whose fixed fields are not refused.
+#[tactic(auto, unfolding(crate::specs::Messages::command_said))]
 fn check_flow_mod(message: &[u8]) -> Result<FlowModCommand, Code>
     requires { 48 ≤ length message.now }
-    ensures refusal { MatchResult result (λ _. first_of (flow_mod_refusals message.now) ≡ None) (λ code. first_of (flow_mod_refusals message.now) ≡ Some code) }
-    ensures command { IfOk result (λ command. command_of (slice_index message.now 25) ≡ Some command) }
+    ensures said { result ≡ command_said (slice_index message.now 25) (slice_index message.now 24) (big_number 2 (drop 44 message.now)) }
     ensures table { IfOk result (λ command. is_delete command ≡ false → slice_index message.now 24 < 16) }
 {
     let Some(command) = FlowModCommand::of_byte(message[25]) else {
@@ -169,7 +169,7 @@ fn read_packet_out(alloc: Global, message: &[u8]) -> Result<PacketOut, ReadError
 }
 
 // A message whose head is not refused.
-#[tactic(auto, unfolding(crate::specs::Messages::body_of, crate::specs::Heads::size_of))]
+#[tactic(auto, unfolding(crate::specs::Messages::body_of, crate::specs::Heads::format_of))]
 fn read_body(alloc: Global, message: &[u8]) -> Result<Message, ReadError>
     requires { HasHead message.now }
     ensures reads { Reads result (body_of message.now) }
