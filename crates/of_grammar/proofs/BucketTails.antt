@@ -1,6 +1,6 @@
 -- Buckets that were computed from bytes are those that the bytes are, and back.
-use Rattle.std.proofs.Common.{◌≡◌, ℕ, ◌+◌, ◌-◌, ◌%◌, ◌≤◌, true, false, ltb, eqb, List, [], ◌∷◌, ◌++◌, length, take, drop, Some, None, Result, Ok, Err, refl, sym, ap, subst, ◌∙◌, arith}
-use Rattle.std.specs.Prelude.{IsSome}
+use Rattle.std.proofs.Common.{◌≡◌, ℕ, ◌+◌, ◌-◌, ◌%◌, ◌≤◌, true, false, not, ltb, eqb, List, [], ◌∷◌, ◌++◌, length, take, drop, Some, None, Result, Ok, Err, refl, sym, ap, subst, ◌∙◌, arith}
+use Rattle.std.specs.Prelude.{IsSome, ◌||◌}
 use Rattle.std.proofs.lemmas.Bool.{le-ltb, eq-eqb}
 use Rattle.std.proofs.lemmas.Bool.Decides.{nat_tests}
 use Rattle.std.proofs.lemmas.List.{length-append, length-take, length-drop, drop-drop, take-append-drop, take_at, drop_at}
@@ -17,6 +17,8 @@ use Rattle.of_actions.proofs.ActionsComputed.{actions_are}
 use Rattle.of_groups.specs.declared.bucket.Bucket.{Bucket}
 use Rattle.of_messages.specs.Buckets.{buckets, bucket_at, bucket_with, bucket_refusals, buckets_said, actions_in, fault_of, len_at}
 use Rattle.of_messages.proofs.BucketLemmas.{buckets_take}
+use Rattle.of_formats.specs.Structs.{numbers}
+use Rattle.of_formats.specs.Tables as tables
 use Rattle.of_grammar.specs.Buckets.{bucket_cells, IsBucket, AreBuckets}
 use Rattle.of_grammar.proofs.ActionTails.{behind_none, actions_found}
 use Rattle.of_grammar.proofs.Items.{HasValues, are_items}
@@ -84,7 +86,7 @@ buckets_only bs bytes few h = items_are buckets (length bytes) [] bytes bs None 
 
 -- ---- from bytes to buckets
 
-some_bucket : (rest : List ℕ) (r : Result (List Action) Code) → first_of (fault_of r) ≡ None → IsSome (bucket_with rest r)
+some_bucket : (rest : List ℕ) (r : Result (List Action) Code) → first_of (fault_of r) ≡ None → IsSome (bucket_with (numbers tables.bucket 0 rest) r)
 some_bucket rest (Ok actions) h = refl
 some_bucket rest (Err code) h = absurd cc
 
@@ -104,14 +106,14 @@ unfolding bucket_refusals
 passes seen rest none =
     let n = none_applies (bucket_refusals seen rest) none in
     let room = n.0 in
-    let fits = n.1.1.0 in
+    let fits : ((ltb (len_at rest) 16 || not (eqb (len_at rest % 8) 0)) || ltb (length rest) (len_at rest)) ≡ false = n.1.1.0 in
     record { few = grind (arith, nat_tests); low = grind (arith, nat_tests); eights = grind (arith, nat_tests); long = grind (arith, nat_tests) }
 
 bucket_found : (b : Bucket) (seen : List Bucket) (rest : List ℕ) → IsBytes rest → Passes seen rest → bucket_at rest ≡ Some b → IsBucket b rest (drop (len_at rest) rest)
 unfolding bucket_at
 bucket_found b seen rest fits p at = by_actions (actions_said false (actions_in rest)) refl at
   where
-    by_actions : (r : Result (List Action) Code) → actions_said false (actions_in rest) ≡ r → bucket_with rest r ≡ Some b → IsBucket b rest (drop (len_at rest) rest)
+    by_actions : (r : Result (List Action) Code) → actions_said false (actions_in rest) ≡ r → bucket_with (numbers tables.bucket 0 rest) r ≡ Some b → IsBucket b rest (drop (len_at rest) rest)
     by_actions (Err code) said e = absurd cc
     by_actions (Ok actions) said e =
         let made : Bucket = record { weight = big_number 2 (drop 2 rest); watch_port = big_number 4 (drop 4 rest); watch_group = big_number 4 (drop 8 rest); actions = actions; packets = 0; bytes = 0 } in

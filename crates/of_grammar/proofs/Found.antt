@@ -21,7 +21,7 @@ use Rattle.of_messages.specs.AsyncConfigs.{async_masks_of}
 use Rattle.of_messages.specs.Configs.{set_config_of, table_mod_of}
 use Rattle.of_messages.specs.GroupMods.{group_mod_of}
 use Rattle.of_messages.specs.Heads.{version_of, xid_of, actions_length}
-use Rattle.of_messages.specs.Messages.{message_of, as_flow_mod, as_packet_out, as_group_mod, as_port_mod, as_table_mod, as_set_config, as_role_request, as_multipart, flow_mod_of, packet_out_of}
+use Rattle.of_messages.specs.Messages.{message_of, flow_mod_of, packet_out_of}
 use Rattle.of_messages.specs.Multiparts.{multipart_of}
 use Rattle.of_messages.specs.PortMods.{port_mod_of}
 use Rattle.of_messages.specs.Roles.{role_request_of}
@@ -30,7 +30,7 @@ use Rattle.of_grammar.specs.Requests.{request_cells}
 use Rattle.of_grammar.proofs.FoundLarge.{packet_out_found, flow_mod_found, group_mod_found}
 use Rattle.of_grammar.proofs.FoundRequests.{request_found}
 use Rattle.of_grammar.proofs.FoundSmall.{async_found, config_found, port_mod_found, role_found, table_mod_found}
-use Rattle.of_grammar.proofs.Heads.{Kind, hello, error, echo_request, echo_reply, features_request, get_config_request, set_config, packet_out, flow_mod, group_mod, port_mod, table_mod, multipart, barrier_request, role_request, get_async_request, set_async, type_number, body_by, Head, said}
+use Rattle.of_grammar.proofs.Heads.{Kind, hello, error, echo_request, echo_reply, features_request, get_config_request, set_config, packet_out, flow_mod, group_mod, port_mod, table_mod, multipart, barrier_request, role_request, get_async_request, set_async, type_number, body_by, as_flow_mod, as_packet_out, as_group_mod, as_port_mod, as_table_mod, as_set_config, as_role_request, as_multipart, Head, said}
 use Rattle.of_grammar.proofs.Places.{Says, size, front_of}
 
 made : (v : Message) (m : List ℕ) (n : ℕ) → IsBytes m → size (fixed_part_cells v (length m) (xid_of m)) ≡ n → n ≤ length m → Says 0 (fixed_part_cells v (length m) (xid_of m)) m → Tail v (drop n m) → IsValid v → Spells (xid_of m) v m

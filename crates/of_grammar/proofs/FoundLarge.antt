@@ -6,18 +6,15 @@ use Rattle.std.proofs.lemmas.Bool.Decides.{nat_tests}
 use Rattle.std.proofs.lemmas.List.{length-drop, length-take, take-append-drop}
 use Rattle.byteorder.specs.Endian.{big_number}
 use Rattle.of_wire.specs.declared.code.Code.{Code}
-use Rattle.of_wire.specs.Refusals.{refusal, first_of}
-use Rattle.of_wire.proofs.FirstLemmas.{none_applies}
+use Rattle.of_wire.specs.Refusals.{refusal}
 use Rattle.of_wire.proofs.Numbers.{IsBytes, IsBytes-drop}
 use Rattle.of_headers.specs.Faults.{frame_fault}
 use Rattle.of_oxm.specs.declared.match_field.MatchField.{MatchField}
 use Rattle.of_oxm.specs.MatchReading.{match_of}
-use Rattle.of_actions.specs.declared.action.Action.{Action}
 use Rattle.of_actions.specs.declared.instruction.Instruction.{Instruction}
 use Rattle.of_actions.specs.Actions.{actions_said}
 use Rattle.of_actions.specs.FlowCheck.{all_go_with}
 use Rattle.of_actions.specs.PortNumbers.{is_number, controller}
-use Rattle.of_groups.specs.declared.bucket.Bucket.{Bucket}
 use Rattle.of_groups.specs.declared.group.GroupKind.{GroupKind}
 use Rattle.of_groups.specs.declared.group.GroupKind.TheVariants.{All, Indirect, FastFailover}
 use Rattle.of_messages.specs.declared.group_mod.GroupMod.{GroupMod}
@@ -30,9 +27,11 @@ use Rattle.of_messages.specs.declared.message.PacketData.{PacketData}
 use Rattle.of_messages.specs.declared.message.PacketData.TheVariants.{Buffered, Frame}
 use Rattle.of_messages.specs.declared.message.PacketOut.{PacketOut}
 use Rattle.of_messages.specs.Buckets.{buckets_said}
-use Rattle.of_messages.specs.GroupMods.{command_of as group_command_of, command_in, number_in, is_above, kind_of, then_buckets, then_kind, group_of, as_add, as_modify, delete_of, group_mod_of}
+use Rattle.of_messages.specs.GroupMods.{command_of as group_command_of, is_above, kind_of, group_of, delete_of, group_mod_of}
 use Rattle.of_messages.specs.Heads.{actions_length}
-use Rattle.of_messages.specs.Messages.{command_of, is_bad_table, flow_mod_refusals, flow_mod_with, instructions_for, then_instructions, then_match, flow_mod_by, flow_mod_of, is_ingress, packet_out_refusals, actions_in, frame_in, packet_out_with, packet_in_data, then_packet, then_actions, packet_out_by, packet_out_of}
+use Rattle.of_messages.specs.Messages.{command_of, command_said, is_bad_table, instructions_for, flow_mod_of, is_ingress, packet_in_data, packet_out_of}
+use Rattle.of_formats.specs.Reading.{known}
+use Rattle.of_formats.proofs.Binding.{bound, passed, is_known, same_ok}
 use Rattle.of_grammar.specs.Buckets.{AreBuckets}
 use Rattle.of_grammar.specs.Cells.{Cell, u16, u32, pad}
 use Rattle.of_grammar.specs.Grammar.{IsData, IsValidData, IsIngress, IsValidPacketOut, ActionsThenData, buffer_of, command_number, flow_mod_cells, deletes, HasInstructions, MatchThenInstructions, MayName, IsValidFlowMod, kind_number, group_mod_cells, GroupTail, IsValidGroup, IsValidGroupMod}
@@ -41,7 +40,7 @@ use Rattle.of_grammar.proofs.ActionTails.{actions_found}
 use Rattle.of_grammar.proofs.BucketTails.{buckets_found}
 use Rattle.of_grammar.proofs.InstructionTails.{instructions_found}
 use Rattle.of_grammar.proofs.MatchTails.{match_found}
-use Rattle.of_grammar.proofs.OnlyLarge.{by_add, by_modify, by_delete}
+use Rattle.of_grammar.proofs.OnlyLarge.{actions_in, frame_in, command_in, number_in, group_in, as_add, as_modify, by_add, by_modify, by_delete}
 use Rattle.of_grammar.proofs.Places.{Says, begins}
 
 pub not_false : (a : Bool) → not a ≡ false → a ≡ true
@@ -91,26 +90,19 @@ tail_found p m fits long said is =
     record { actions = actions_in m; packet = frame_in m; front = rw (← parts) front; are = actions_found true (actions_in m) p.actions said; is = is }
 
 pub packet_out_found : (p : PacketOut) (m : List ℕ) → IsBytes m → 24 + actions_length m ≤ length m → packet_out_of m ≡ Ok p → PacketOutSays p m
-packet_out_found p m fits long h = by_first (first_of (packet_out_refusals m)) refl h
-  where
-    by_packet : first_of (packet_out_refusals m) ≡ None → (actions : List Action) → actions_said true (actions_in m) ≡ Ok actions → (r : Result PacketData Code) → packet_in_data (big_number 4 (drop 8 m)) (frame_in m) ≡ r → then_packet m actions r ≡ Ok p → PacketOutSays p m
-    by_packet none actions said (Err code) is e = absurd cc
-    by_packet none actions said (Ok packet) is e =
-        let same : packet_out_with m actions packet ≡ p = cc in
-        let d = data_found packet (big_number 4 (drop 8 m)) (frame_in m) is in
-        subst (λ (x : PacketOut). PacketOutSays x m) same (record {
-          says = (d.number, (refl, tt));
-          behind = tail_found (packet_out_with m actions packet) m fits long said d.is;
-          valid = (ingress (big_number 4 (drop 12 m)) (not_false _ (none_applies (packet_out_refusals m) none).0), d.valid);
-        })
-
-    by_actions : first_of (packet_out_refusals m) ≡ None → (r : Result (List Action) Code) → actions_said true (actions_in m) ≡ r → then_actions m r ≡ Ok p → PacketOutSays p m
-    by_actions none (Err code) said e = absurd cc
-    by_actions none (Ok actions) said e = by_packet none actions said (packet_in_data (big_number 4 (drop 8 m)) (frame_in m)) refl e
-
-    by_first : (o : Option Code) → first_of (packet_out_refusals m) ≡ o → packet_out_by m o ≡ Ok p → PacketOutSays p m
-    by_first (Some code) none e = absurd cc
-    by_first None none e = by_actions none (actions_said true (actions_in m)) refl e
+packet_out_found p m fits long h =
+    let buffer = big_number 4 (drop 8 m) in
+    let port = big_number 4 (drop 12 m) in
+    let fine = passed ((not (is_ingress port), refusal 1 11) ∷ []) _ p h in
+    let actions = bound (actions_said true (actions_in m)) _ p fine.1 in
+    let packet = bound (packet_in_data buffer (frame_in m)) _ p actions.2 in
+    let d = data_found packet.0 buffer (frame_in m) packet.1 in
+    let made : PacketOut = record { in_port = port; actions = actions.0; packet = packet.0 } in
+    subst (λ (x : PacketOut). PacketOutSays x m) (same_ok packet.2) (record {
+      says = (d.number, (refl, tt));
+      behind = tail_found made m fits long actions.1 d.is;
+      valid = (ingress port (not_false _ fine.0.0), d.valid);
+    })
 
 -- ---- FLOW_MOD
 
@@ -135,7 +127,7 @@ any_table t h = by_low (ltb 15 t) refl h
     by_low true is e = inr (eqb-true t 255 (not_false _ e))
     by_low false is e = inl (omega (arith, ltb-false 15 t is))
 
-table_found : (c : FlowModCommand) (t : ℕ) → is_bad_table t (Some c) ≡ false → MayName (deletes c) t
+table_found : (c : FlowModCommand) (t : ℕ) → is_bad_table t c ≡ false → MayName (deletes c) t
 table_found Add t h = low_table t (eqb t 255) h
 table_found Modify t h = low_table t (eqb t 255) h
 table_found ModifyStrict t h = low_table t (eqb t 255) h
@@ -146,63 +138,68 @@ instructions_for_found : (f : FlowMod) (c : FlowModCommand) (bytes : List ℕ) �
 instructions_for_found f Add bytes h = instructions_found f.table bytes f.instructions h
 instructions_for_found f Modify bytes h = instructions_found f.table bytes f.instructions h
 instructions_for_found f ModifyStrict bytes h = instructions_found f.table bytes f.instructions h
-instructions_for_found f Delete bytes h = let same : [] ≡ f.instructions = cc in sym same
-instructions_for_found f DeleteStrict bytes h = let same : [] ≡ f.instructions = cc in sym same
+instructions_for_found f Delete bytes h = sym (same_ok h)
+instructions_for_found f DeleteStrict bytes h = sym (same_ok h)
 
 pub record FlowModSays (f : FlowMod) (m : List ℕ) : Type 0 where
   pub says : Says 8 (flow_mod_cells f) m
   pub behind : MatchThenInstructions f (drop 48 m)
   pub valid : IsValidFlowMod f
 
--- what holds of the fixed fields
-record Fixed (m : List ℕ) (c : FlowModCommand) : Type 0 where
-  command : slice_index m 25 ≡ command_number c
-  table : MayName (deletes c) (slice_index m 24)
-  flags : big_number 2 (drop 44 m) < 32
+-- what holds of a command, a table and flags that are not refused
+record Commanded (c : FlowModCommand) (n table flags : ℕ) : Type 0 where
+  is : n ≡ command_number c
+  may : MayName (deletes c) table
+  low : flags < 32
 
-fixed : (m : List ℕ) (c : FlowModCommand) → command_of (slice_index m 25) ≡ Some c → first_of (flow_mod_refusals m) ≡ None → Fixed m c
-fixed m c is none =
-    let n = none_applies (flow_mod_refusals m) none in
-    let high = ltb-false 31 (big_number 2 (drop 44 m)) n.1.1.0 in
-    record {
-      command = command_known (slice_index m 25) c is;
-      table = table_found c (slice_index m 24) (ap (is_bad_table (slice_index m 24)) (sym is) ∙ n.1.0);
-      flags = omega (arith, high);
-    }
+commanded : (c : FlowModCommand) (n table flags : ℕ) → command_said n table flags ≡ Ok c → Commanded c n table flags
+unfolding command_said
+commanded c n table flags h =
+    let a = bound _ _ c h in
+    let b = passed ((is_bad_table table a.0, refusal 5 2) ∷ (ltb 31 flags, refusal 5 7) ∷ []) (Ok a.0) c a.2 in
+    let high = ltb-false 31 flags b.0.1.0 in
+    subst (λ (x : FlowModCommand). Commanded x n table flags) (same_ok b.1)
+    (record { is = command_known n a.0 (is_known (command_of n) (refusal 5 6) a.0 a.1); may = table_found a.0 table b.0.0; low = omega (arith, high) })
+
+-- a FLOW_MOD with the numbers of these bytes
+abbrev made_of : List ℕ → FlowModCommand → List MatchField → List Instruction → FlowMod
+made_of m command fields instructions = record {
+  cookie = big_number 8 (drop 8 m);
+  cookie_mask = big_number 8 (drop 16 m);
+  table = slice_index m 24;
+  command = command;
+  idle_timeout = big_number 2 (drop 26 m);
+  hard_timeout = big_number 2 (drop 28 m);
+  priority = big_number 2 (drop 30 m);
+  buffer = big_number 4 (drop 32 m);
+  out_port = big_number 4 (drop 36 m);
+  out_group = big_number 4 (drop 40 m);
+  flags = big_number 2 (drop 44 m);
+  fields = fields;
+  instructions = instructions;
+}
 
 pub flow_mod_found : (f : FlowMod) (m : List ℕ) → IsBytes m → flow_mod_of m ≡ Ok f → FlowModSays f m
-flow_mod_found f m fits h = by_first (first_of (flow_mod_refusals m)) refl (command_of (slice_index m 25)) refl h
-  where
-    by_check : (c : FlowModCommand) → Fixed m c → (fields : List MatchField) (n : ℕ) → match_of (drop 48 m) ≡ Ok (fields, n) → (is : List Instruction) → instructions_for c (slice_index m 24) (drop n (drop 48 m)) ≡ Ok is
-        → (b : Bool) → all_go_with fields is ≡ b → cond {A = Result FlowMod Code} b (Ok (flow_mod_with m c fields is)) (Err (refusal 2 10)) ≡ Ok f → FlowModSays f m
-    by_check c x fields n match is read false go e = absurd cc
-    by_check c x fields n match is read true go e =
-        let made = flow_mod_with m c fields is in
-        let same : made ≡ f = cc in
-        subst (λ (y : FlowMod). FlowModSays y m) same (record {
-          says = (refl, (refl, (refl, (x.command, (refl, (refl, (refl, (refl, (refl, (refl, (refl, tt)))))))))));
-          behind = record {
-            fields = take n (drop 48 m);
-            instructions = drop n (drop 48 m);
-            whole = sym (take-append-drop n (drop 48 m));
-            spelt = match_found (drop 48 m) fields n (IsBytes-drop 48 m fits) match;
-            are = instructions_for_found made c (drop n (drop 48 m)) read;
-          };
-          valid = record { table = x.table; flags = x.flags; fit = go };
-        })
-
-    by_instructions : (c : FlowModCommand) → Fixed m c → (fields : List MatchField) (n : ℕ) → match_of (drop 48 m) ≡ Ok (fields, n) → (r : Result (List Instruction) Code) → instructions_for c (slice_index m 24) (drop n (drop 48 m)) ≡ r → then_instructions m c fields r ≡ Ok f → FlowModSays f m
-    by_instructions c x fields n match (Err code) read e = absurd cc
-    by_instructions c x fields n match (Ok is) read e = by_check c x fields n match is read (all_go_with fields is) refl e
-
-    by_match : (c : FlowModCommand) → Fixed m c → (r : Result (List MatchField × ℕ) Code) → match_of (drop 48 m) ≡ r → then_match m c r ≡ Ok f → FlowModSays f m
-    by_match c x (Err code) match e = absurd cc
-    by_match c x (Ok q) match e = by_instructions c x q.0 q.1 match (instructions_for c (slice_index m 24) (drop q.1 (drop 48 m))) refl e
-
-    by_first : (o : Option Code) → first_of (flow_mod_refusals m) ≡ o → (k : Option FlowModCommand) → command_of (slice_index m 25) ≡ k → flow_mod_by m o k ≡ Ok f → FlowModSays f m
-    by_first (Some code) none k is e = absurd cc
-    by_first None none None is e = absurd cc
-    by_first None none (Some c) is e = by_match c (fixed m c is none) (match_of (drop 48 m)) refl e
+flow_mod_found f m fits h =
+    let rest = drop 48 m in
+    let c = bound (command_said (slice_index m 25) (slice_index m 24) (big_number 2 (drop 44 m))) _ f h in
+    let q = bound (match_of rest) _ f c.2 in
+    let n = q.0.1 in
+    let is = bound (instructions_for c.0 (slice_index m 24) (drop n rest)) _ f q.2 in
+    let go = passed ((not (all_go_with q.0.0 is.0), refusal 2 10) ∷ []) _ f is.2 in
+    let k = commanded c.0 (slice_index m 25) (slice_index m 24) (big_number 2 (drop 44 m)) c.1 in
+    let made = made_of m c.0 q.0.0 is.0 in
+    subst (λ (x : FlowMod). FlowModSays x m) (same_ok go.1) (record {
+      says = (refl, (refl, (refl, (k.is, (refl, (refl, (refl, (refl, (refl, (refl, (refl, tt)))))))))));
+      behind = record {
+        fields = take n rest;
+        instructions = drop n rest;
+        whole = sym (take-append-drop n rest);
+        spelt = match_found rest q.0.0 n (IsBytes-drop 48 m fits) q.1;
+        are = instructions_for_found made c.0 (drop n rest) is.1;
+      };
+      valid = record { table = k.may; flags = k.low; fit = not_false _ go.0.0 };
+    })
 
 -- ---- GROUP_MOD
 
@@ -212,30 +209,24 @@ kind_known n All h = grind (arith, nat_tests)
 kind_known n Indirect h = grind (arith, nat_tests)
 kind_known n FastFailover h = grind (arith, nat_tests)
 
-record GroupSays (g : NewGroup) (m : List ℕ) : Type 0 where
-  kind : slice_index m 10 ≡ kind_number g.kind
-  number : big_number 4 (drop 12 m) ≡ g.id
-  behind : AreBuckets g.buckets (drop 16 m)
+record GroupSays (g : NewGroup) (type id : ℕ) (rest : List ℕ) : Type 0 where
+  kind : type ≡ kind_number g.kind
+  number : id ≡ g.id
+  behind : AreBuckets g.buckets rest
   valid : IsValidGroup g
 
-group_found : (g : NewGroup) (m : List ℕ) → IsBytes m → group_of m ≡ Ok g → GroupSays g m
-group_found g m fits h = by_number (is_above (number_in m)) refl h
-  where
-    by_buckets : is_above (number_in m) ≡ false → (k : GroupKind) → kind_of (slice_index m 10) ≡ Some k → (r : Result (List Bucket) Code) → buckets_said (drop 16 m) ≡ r → then_buckets (number_in m) k r ≡ Ok g → GroupSays g m
-    by_buckets low k kind (Err code) said e = absurd cc
-    by_buckets low k kind (Ok bs) said e =
-        let made : NewGroup = record { id = number_in m; kind = k; buckets = bs } in
-        let same : made ≡ g = cc in
-        let found = buckets_found bs (drop 16 m) (IsBytes-drop 16 m fits) said in
-        subst (λ (x : NewGroup). GroupSays x m) same (record { kind = kind_known (slice_index m 10) k kind; number = refl; behind = found.are; valid = (ltb-false _ _ low, found.few) })
-
-    by_kind : is_above (number_in m) ≡ false → (o : Option GroupKind) → kind_of (slice_index m 10) ≡ o → then_kind m o ≡ Ok g → GroupSays g m
-    by_kind low None kind e = absurd cc
-    by_kind low (Some k) kind e = by_buckets low k kind (buckets_said (drop 16 m)) refl e
-
-    by_number : (b : Bool) → is_above (number_in m) ≡ b → cond {A = Result NewGroup Code} b (Err (refusal 6 1)) (then_kind m (kind_of (slice_index m 10))) ≡ Ok g → GroupSays g m
-    by_number true low e = absurd cc
-    by_number false low e = by_kind low (kind_of (slice_index m 10)) refl e
+group_found : (g : NewGroup) (type id : ℕ) (rest : List ℕ) → IsBytes rest → group_of type id rest ≡ Ok g → GroupSays g type id rest
+group_found g type id rest fits h =
+    let low = passed ((is_above id, refusal 6 1) ∷ []) _ g h in
+    let kind = bound (known (kind_of type) (refusal 6 10)) _ g low.1 in
+    let buckets = bound (buckets_said rest) _ g kind.2 in
+    let found = buckets_found buckets.0 rest fits buckets.1 in
+    subst (λ (x : NewGroup). GroupSays x type id rest) (same_ok buckets.2) (record {
+      kind = kind_known type kind.0 (is_known (kind_of type) (refusal 6 10) kind.0 kind.1);
+      number = refl;
+      behind = found.are;
+      valid = (ltb-false _ _ low.0.0, found.few);
+    })
 
 pub record GroupModSays (g : GroupMod) (m : List ℕ) : Type 0 where
   pub says : Says 8 (group_mod_cells g) m
@@ -261,22 +252,20 @@ delete_found g m command h = by_number (eqb (number_in m) all_groups) refl (is_a
 pub group_mod_found : (g : GroupMod) (m : List ℕ) → IsBytes m → group_mod_of m ≡ Ok g → GroupModSays g m
 group_mod_found g m fits h = by_tests (eqb (command_in m) 0) refl (eqb (command_in m) 1) refl (eqb (command_in m) 2) refl
   where
-    by_added : command_in m ≡ 0 → (r : Result NewGroup Code) → group_of m ≡ r → as_add r ≡ Ok g → GroupModSays g m
-    by_added command (Err code) is e = absurd cc
-    by_added command (Ok x) is e =
-        let same : group.Add x ≡ g = cc in
-        let s = group_found x m fits is in
-        subst (λ (y : GroupMod). GroupModSays y m) same (record { says = (command, (s.kind, (s.number, tt))); behind = s.behind; valid = s.valid })
+    by_added : command_in m ≡ 0 → as_add (group_in m) ≡ Ok g → GroupModSays g m
+    by_added command e =
+        let x = bound (group_in m) _ g e in
+        let s = group_found x.0 (slice_index m 10) (number_in m) (drop 16 m) (IsBytes-drop 16 m fits) x.1 in
+        subst (λ (y : GroupMod). GroupModSays y m) (same_ok x.2) (record { says = (command, (s.kind, (s.number, tt))); behind = s.behind; valid = s.valid })
 
-    by_modified : command_in m ≡ 1 → (r : Result NewGroup Code) → group_of m ≡ r → as_modify r ≡ Ok g → GroupModSays g m
-    by_modified command (Err code) is e = absurd cc
-    by_modified command (Ok x) is e =
-        let same : group.Modify x ≡ g = cc in
-        let s = group_found x m fits is in
-        subst (λ (y : GroupMod). GroupModSays y m) same (record { says = (command, (s.kind, (s.number, tt))); behind = s.behind; valid = s.valid })
+    by_modified : command_in m ≡ 1 → as_modify (group_in m) ≡ Ok g → GroupModSays g m
+    by_modified command e =
+        let x = bound (group_in m) _ g e in
+        let s = group_found x.0 (slice_index m 10) (number_in m) (drop 16 m) (IsBytes-drop 16 m fits) x.1 in
+        subst (λ (y : GroupMod). GroupModSays y m) (same_ok x.2) (record { says = (command, (s.kind, (s.number, tt))); behind = s.behind; valid = s.valid })
 
     by_tests : (a : Bool) → eqb (command_in m) 0 ≡ a → (b : Bool) → eqb (command_in m) 1 ≡ b → (c : Bool) → eqb (command_in m) 2 ≡ c → GroupModSays g m
-    by_tests true is b other c third = let command = eqb-true _ _ is in by_added command (group_of m) refl (sym (by_add m command) ∙ h)
-    by_tests false is true other c third = let command = eqb-true _ _ other in by_modified command (group_of m) refl (sym (by_modify m command) ∙ h)
+    by_tests true is b other c third = let command = eqb-true _ _ is in by_added command (sym (by_add m command) ∙ h)
+    by_tests false is true other c third = let command = eqb-true _ _ other in by_modified command (sym (by_modify m command) ∙ h)
     by_tests false is false other true third = let command = eqb-true _ _ third in delete_found g m command (sym (by_delete m command) ∙ h)
     by_tests false is false other false third = let both : ◌≡◌ {A = Result GroupMod Code} (Err (refusal 6 11)) (Ok g) = sym (by_none m is other third) ∙ h in absurd cc

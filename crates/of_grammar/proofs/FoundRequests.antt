@@ -1,5 +1,5 @@
 -- What was read as a MULTIPART_REQUEST is in its places, and after them.
-use Rattle.std.proofs.Common.{◌≡◌, ◌≤◌, ◌+◌, ◌%◌, ℕ, Bool, true, false, not, eqb, ltb, cond, List, [], length, take, drop, Option, Some, None, Result, Ok, Err, refl, sym, ap, subst, ◌∙◌, arith}
+use Rattle.std.proofs.Common.{◌≡◌, ◌≤◌, ◌+◌, ◌%◌, ℕ, Bool, true, false, not, eqb, ltb, cond, List, [], ◌∷◌, length, take, drop, Option, Some, None, Result, Ok, Err, refl, sym, ap, subst, ◌∙◌, arith}
 use Rattle.std.specs.Prelude.{slice_index, ◌==◌, if◌then◌else◌, is_none}
 use Rattle.std.proofs.lemmas.Bool.{eqb-true, eqb-false, ltb-false}
 use Rattle.std.proofs.lemmas.Bool.Decides.{nat_tests}
@@ -10,18 +10,19 @@ use Rattle.of_wire.specs.declared.code.Code.{Code}
 use Rattle.of_wire.specs.Refusals.{refusal, first_of}
 use Rattle.of_wire.proofs.FirstLemmas.{none_applies}
 use Rattle.of_wire.proofs.Numbers.{IsBytes, IsBytes-drop}
-use Rattle.of_oxm.specs.declared.match_field.MatchField.{MatchField}
 use Rattle.of_oxm.specs.MatchReading.{match_of}
 use Rattle.of_messages.specs.declared.multipart.FlowStatsRequest.{FlowStatsRequest}
 use Rattle.of_messages.specs.declared.multipart.MultipartRequest.{MultipartRequest}
 use Rattle.of_messages.specs.declared.multipart.MultipartRequest.TheVariants.{Description, Flow, Aggregate, Table, PortStats, Group, GroupDescription, GroupFeatures, PortDescription}
 use Rattle.of_messages.specs.Configs.{names_table}
 use Rattle.of_messages.specs.Heads.{is_bad_size}
-use Rattle.of_messages.specs.Multiparts.{kind_of, kind_in, size_asked, multipart_refusals, multipart_by, flow_stats_with, then_match, flow_stats_of, one_or_all, number_in, as_flow, as_aggregate, multipart_of}
+use Rattle.of_messages.specs.Multiparts.{kind_of, kind_in, size_asked, multipart_refusals, multipart_by, flow_stats_of, one_or_all, number_in, multipart_of}
+use Rattle.of_formats.proofs.Binding.{bound, passed, same_ok}
 use Rattle.of_grammar.specs.Requests.{BeginsMatch, IsOne, IsValidRequest, NamesTable, RequestTail, all_groups, any_port, flows_cells, or_all, request_cells}
+use Rattle.of_grammar.proofs.FoundLarge.{not_false}
 use Rattle.of_grammar.proofs.FoundSmall.{named}
 use Rattle.of_grammar.proofs.MatchTails.{match_found}
-use Rattle.of_grammar.proofs.OnlyRequests.{Asks, asks_0, asks_1, asks_2, asks_3, asks_4, asks_6, asks_7, asks_8, asks_13}
+use Rattle.of_grammar.proofs.OnlyRequests.{Asks, as_flow, as_aggregate, asks_0, asks_1, asks_2, asks_3, asks_4, asks_6, asks_7, asks_8, asks_13}
 use Rattle.of_grammar.proofs.Places.{Says, size}
 
 -- ---- FLOW and AGGREGATE
@@ -32,21 +33,16 @@ record FlowsSay (r : FlowStatsRequest) (m : List ℕ) : Type 0 where
   valid : NamesTable r.table
 
 flows_found : (r : FlowStatsRequest) (m : List ℕ) → IsBytes m → flow_stats_of m ≡ Ok r → FlowsSay r m
-flows_found r m fits h = by_table (names_table (slice_index m 16)) refl h
-  where
-    by_match : names_table (slice_index m 16) ≡ true → (s : Result (List MatchField × ℕ) Code) → match_of (drop 48 m) ≡ s → then_match m s ≡ Ok r → FlowsSay r m
-    by_match table (Err code) is e = absurd cc
-    by_match table (Ok q) is e =
-        let same : flow_stats_with m q.0 ≡ r = cc in
-        subst (λ (x : FlowStatsRequest). FlowsSay x m) same (record {
-          says = (refl, (refl, (refl, (refl, (refl, tt)))));
-          behind = record { front = take q.1 (drop 48 m); rest = drop q.1 (drop 48 m); whole = sym (take-append-drop q.1 (drop 48 m)); spelt = match_found (drop 48 m) q.0 q.1 (IsBytes-drop 48 m fits) is };
-          valid = named (slice_index m 16) table;
-        })
-
-    by_table : (b : Bool) → names_table (slice_index m 16) ≡ b → cond {A = Result FlowStatsRequest Code} b (then_match m (match_of (drop 48 m))) (Err (refusal 1 9)) ≡ Ok r → FlowsSay r m
-    by_table false table e = absurd cc
-    by_table true table e = by_match table (match_of (drop 48 m)) refl e
+flows_found r m fits h =
+    let rest = drop 48 m in
+    let t = passed ((not (names_table (slice_index m 16)), refusal 1 9) ∷ []) _ r h in
+    let q = bound (match_of rest) _ r t.1 in
+    let n = q.0.1 in
+    subst (λ (x : FlowStatsRequest). FlowsSay x m) (same_ok q.2) (record {
+      says = (refl, (refl, (refl, (refl, (refl, tt)))));
+      behind = record { front = take n rest; rest = drop n rest; whole = sym (take-append-drop n rest); spelt = match_found rest q.0.0 n (IsBytes-drop 48 m fits) q.1 };
+      valid = named (slice_index m 16) (not_false _ t.0.0);
+    })
 
 -- ---- of one, or of all
 

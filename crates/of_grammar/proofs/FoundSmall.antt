@@ -3,7 +3,6 @@ use Rattle.std.proofs.Common.{◌≡◌, ◌≤◌, ◌+◌, ℕ, Bool, true, fa
 use Rattle.std.specs.Prelude.{slice_index, bit_and, ◌||◌}
 use Rattle.std.proofs.lemmas.Bool.{eqb-true, ltb-true}
 use Rattle.std.proofs.lemmas.Bool.Decides.{nat_tests}
-use Rattle.std.proofs.lemmas.List.{drop-drop}
 use Rattle.byteorder.specs.Endian.{big_number}
 use Rattle.of_wire.specs.declared.code.Code.{Code}
 use Rattle.of_wire.specs.Refusals.{refusal}
@@ -15,8 +14,10 @@ use Rattle.of_messages.specs.declared.role.RoleRequest.{RoleRequest}
 use Rattle.of_messages.specs.declared.role.RoleRequest.TheVariants.{NoChange, Equal, Master, Slave}
 use Rattle.of_messages.specs.AsyncConfigs.{async_masks_of}
 use Rattle.of_messages.specs.Configs.{set_config_of, names_table, table_mod_of}
-use Rattle.of_messages.specs.PortMods.{known_bits, mask_in, port_mod_with, port_mod_of}
-use Rattle.of_messages.specs.Roles.{asked_by, asked_or_refused, role_request_of}
+use Rattle.of_messages.specs.PortMods.{known_bits, port_mod_of}
+use Rattle.of_messages.specs.Roles.{asked_by, role_request_of}
+use Rattle.of_formats.specs.Structs.{bytes_from}
+use Rattle.of_formats.proofs.Binding.{is_known}
 use Rattle.of_grammar.specs.Cells.{byte, u16, u32, pad, plain}
 use Rattle.of_grammar.specs.Grammar.{role_cells}
 use Rattle.of_grammar.specs.Requests.{NamesTable}
@@ -56,13 +57,19 @@ pub record PortModSays (p : PortMod) (m : List ℕ) : Type 0 where
   pub says : Says 8 (u32 p.port ∷ pad 4 ∷ plain 6 p.hw ∷ pad 2 ∷ u32 p.config ∷ u32 p.mask ∷ pad 4 ∷ pad 4 ∷ []) m
   pub valid : bit_and p.mask 101 ≡ p.mask
 
+abbrev mask_in : List ℕ → ℕ
+mask_in m = big_number 4 (drop 28 m)
+
+abbrev made : List ℕ → PortMod
+made m = record { port = big_number 4 (drop 8 m); hw = bytes_from 16 6 m; config = big_number 4 (drop 24 m); mask = mask_in m }
+
 pub port_mod_found : (p : PortMod) (m : List ℕ) → 22 ≤ length m → port_mod_of m ≡ Ok p → PortModSays p m
 port_mod_found p m long h = by_mask (eqb (bit_and (mask_in m) known_bits) (mask_in m)) refl h
   where
-    by_mask : (b : Bool) → eqb (bit_and (mask_in m) known_bits) (mask_in m) ≡ b → cond {A = Result PortMod Code} b (Ok (port_mod_with m)) (Err (refusal 7 2)) ≡ Ok p → PortModSays p m
+    by_mask : (b : Bool) → eqb (bit_and (mask_in m) known_bits) (mask_in m) ≡ b → cond {A = Result PortMod Code} b (Ok (made m)) (Err (refusal 7 2)) ≡ Ok p → PortModSays p m
     by_mask false is e = absurd cc
     by_mask true is e =
-        let same : port_mod_with m ≡ p = cc in
+        let same : made m ≡ p = cc in
         subst (λ (x : PortMod). PortModSays x m) same (record { says = (refl, (six_bytes m long, (refl, (refl, tt)))); valid = eqb-true _ _ is })
 
 -- ---- ROLE_REQUEST
@@ -91,12 +98,8 @@ same_3 : (n generation g : ℕ) → n ≡ 3 → asked_by n generation ≡ Some (
 unfolding asked_by
 same_3 n generation g is h = let e : Some (Slave generation) ≡ Some (Slave g) = rw is at h in cc
 
-asked : (o : Option RoleRequest) (r : RoleRequest) → asked_or_refused o ≡ Ok r → o ≡ Some r
-asked None r e = absurd cc
-asked (Some q) r e = let same : q ≡ r = cc in ap Some same
-
 pub role_found : (r : RoleRequest) (m : List ℕ) → role_request_of m ≡ Ok r → Says 8 (role_cells r) m
-role_found r m h = by_role r (asked (asked_by (big_number 4 (drop 8 m)) (big_number 8 (drop 16 m))) r h)
+role_found r m h = by_role r (is_known (asked_by (big_number 4 (drop 8 m)) (big_number 8 (drop 16 m))) (refusal 11 2) r h)
   where
     by_role : (r : RoleRequest) → asked_by (big_number 4 (drop 8 m)) (big_number 8 (drop 16 m)) ≡ Some r → Says 8 (role_cells r) m
     by_role NoChange e = (known_0 _ _ e, tt)
@@ -106,8 +109,5 @@ role_found r m h = by_role r (asked (asked_by (big_number 4 (drop 8 m)) (big_num
 
 -- ---- SET_ASYNC
 
-moved : (k : ℕ) (m : List ℕ) → big_number 4 (drop (k + 4) m) ≡ big_number 4 (drop 4 (drop k m))
-moved k m = ap (big_number 4) (sym (drop-drop 4 k m))
-
 pub async_found : (a : AsyncMasks) (m : List ℕ) → async_masks_of m ≡ a → Says 8 (async_cells a) m
-async_found a m h = subst (λ (x : AsyncMasks). Says 8 (async_cells x) m) h (refl, (moved 8 m, (refl, (moved 16 m, (refl, (moved 24 m, tt))))))
+async_found a m h = subst (λ (x : AsyncMasks). Says 8 (async_cells x) m) h (refl, (refl, (refl, (refl, (refl, (refl, tt))))))

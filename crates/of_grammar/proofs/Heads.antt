@@ -7,16 +7,25 @@ use Rattle.of_wire.specs.declared.code.Code.{Code}
 use Rattle.of_wire.specs.Refusals.{refusal, first_of}
 use Rattle.of_wire.proofs.FirstLemmas.{none_applies}
 use Rattle.of_messages.specs.declared.message.Message.{Message}
-use Rattle.of_messages.specs.declared.message.Message.TheVariants.{Hello, Error, EchoRequest, EchoReply, FeaturesRequest, GetConfigRequest, BarrierRequest, GetAsyncRequest, SetAsync}
+use Rattle.of_messages.specs.declared.config.SwitchConfig.{SwitchConfig}
+use Rattle.of_messages.specs.declared.config.TableMod.{TableMod}
+use Rattle.of_messages.specs.declared.group_mod.GroupMod.{GroupMod}
+use Rattle.of_messages.specs.declared.message.FlowMod.{FlowMod}
+use Rattle.of_messages.specs.declared.message.Message.TheVariants.{Hello, Error, EchoRequest, EchoReply, FeaturesRequest, GetConfigRequest, SetConfig, PacketOut as IsPacketOut, FlowMod as IsFlowMod, GroupMod as IsGroupMod, PortMod as IsPortMod, TableMod as IsTableMod, Multipart, BarrierRequest, RoleRequest as IsRoleRequest, GetAsyncRequest, SetAsync}
+use Rattle.of_messages.specs.declared.message.PacketOut.{PacketOut}
+use Rattle.of_messages.specs.declared.multipart.MultipartRequest.{MultipartRequest}
+use Rattle.of_messages.specs.declared.port_mod.PortMod.{PortMod}
+use Rattle.of_messages.specs.declared.role.RoleRequest.{RoleRequest}
 use Rattle.of_messages.specs.declared.role.Role.TheVariants as role
-use Rattle.of_messages.specs.Heads.{version_of, type_of, header_length, size_of, is_supported, is_bad_size, actions_length, head_refusals, role_refusals}
-use Rattle.of_messages.specs.Messages.{body_of, message_from, message_of, message_by, as_flow_mod, as_packet_out, as_group_mod, as_port_mod, as_table_mod, as_set_config, as_role_request, as_multipart, flow_mod_of, packet_out_of}
+use Rattle.of_messages.specs.Heads.{version_of, type_of, header_length, format_of, size_of, is_supported, is_bad_size, actions_length, head_refusals, role_refusals}
+use Rattle.of_messages.specs.Messages.{body_of, message_from, message_of, message_by, flow_mod_of, packet_out_of}
 use Rattle.of_messages.specs.AsyncConfigs.{async_masks_of}
 use Rattle.of_messages.specs.Configs.{set_config_of, table_mod_of}
 use Rattle.of_messages.specs.GroupMods.{group_mod_of}
 use Rattle.of_messages.specs.Multiparts.{multipart_of}
 use Rattle.of_messages.specs.PortMods.{port_mod_of}
 use Rattle.of_messages.specs.Roles.{role_request_of}
+use Rattle.of_formats.specs.Reading.{◌>>=◌}
 
 -- the kinds of messages that are read
 pub data Kind : Type 0 where
@@ -78,7 +87,7 @@ is_bad get_async_request size = not (eqb size 8)
 is_bad set_async size = not (eqb size 32)
 
 bad_known : (k : Kind) (size : ℕ) → is_bad_size (size_of (type_number k)) size ≡ is_bad k size
-unfolding size_of
+unfolding format_of
 bad_known hello size = refl
 bad_known error size = refl
 bad_known echo_request size = refl
@@ -98,7 +107,7 @@ bad_known get_async_request size = refl
 bad_known set_async size = refl
 
 is_known : (k : Kind) → is_supported (type_number k) ≡ true
-unfolding size_of
+unfolding format_of
 is_known hello = refl
 is_known error = refl
 is_known echo_request = refl
@@ -116,6 +125,32 @@ is_known barrier_request = refl
 is_known role_request = refl
 is_known get_async_request = refl
 is_known set_async = refl
+
+-- what was read as the body of a message, as the message
+
+abbrev pub as_set_config : Result SwitchConfig Code → Result Message Code
+as_set_config r = r >>= λ v. Ok (SetConfig v)
+
+abbrev pub as_packet_out : Result PacketOut Code → Result Message Code
+as_packet_out r = r >>= λ v. Ok (IsPacketOut v)
+
+abbrev pub as_flow_mod : Result FlowMod Code → Result Message Code
+as_flow_mod r = r >>= λ v. Ok (IsFlowMod v)
+
+abbrev pub as_group_mod : Result GroupMod Code → Result Message Code
+as_group_mod r = r >>= λ v. Ok (IsGroupMod v)
+
+abbrev pub as_port_mod : Result PortMod Code → Result Message Code
+as_port_mod r = r >>= λ v. Ok (IsPortMod v)
+
+abbrev pub as_table_mod : Result TableMod Code → Result Message Code
+as_table_mod r = r >>= λ v. Ok (IsTableMod v)
+
+abbrev pub as_multipart : Result MultipartRequest Code → Result Message Code
+as_multipart r = r >>= λ v. Ok (Multipart v)
+
+abbrev pub as_role_request : Result RoleRequest Code → Result Message Code
+as_role_request r = r >>= λ v. Ok (IsRoleRequest v)
 
 -- what the body of each kind is read as
 unfoldable pub body_by : Kind → List ℕ → Result Message Code
@@ -280,7 +315,7 @@ kind_number n get_async_request h = grind (arith, nat_tests)
 kind_number n set_async h = grind (arith, nat_tests)
 
 kind_none : (n : ℕ) → kind_of n ≡ None → is_supported n ≡ false
-unfolding kind_of size_of
+unfolding kind_of format_of
 kind_none n h = grind (arith, nat_tests)
 
 -- what a message says that is not refused, by its kind

@@ -11,10 +11,10 @@ use Rattle.of_messages.specs.declared.message.FlowMod.{FlowMod}
 use Rattle.of_messages.specs.declared.role.RoleRequest.{RoleRequest}
 use Rattle.of_messages.specs.declared.role.RoleRequest.TheVariants.{NoChange, Equal, Master, Slave}
 use Rattle.of_messages.specs.Heads.{version_of, type_of, header_length, xid_of}
-use Rattle.of_messages.specs.Messages.{message_of, as_flow_mod, as_packet_out, as_group_mod, as_port_mod, as_table_mod, as_set_config, as_role_request, as_multipart}
+use Rattle.of_messages.specs.Messages.{message_of}
 use Rattle.of_grammar.specs.Grammar.{MatchThenInstructions, fixed_part_cells, group_mod_cells, role_cells, IsValid, Spells, Tail}
 use Rattle.of_grammar.specs.Requests.{request_cells}
-use Rattle.of_grammar.proofs.Heads.{Kind, hello, error, echo_request, echo_reply, features_request, get_config_request, set_config, packet_out, flow_mod, group_mod, port_mod, table_mod, multipart, barrier_request, role_request, get_async_request, set_async, type_number, is_bad, is_short, needs_version, body_by, said_by}
+use Rattle.of_grammar.proofs.Heads.{Kind, hello, error, echo_request, echo_reply, features_request, get_config_request, set_config, packet_out, flow_mod, group_mod, port_mod, table_mod, multipart, barrier_request, role_request, get_async_request, set_async, type_number, is_bad, is_short, needs_version, body_by, as_flow_mod, as_packet_out, as_group_mod, as_port_mod, as_table_mod, as_set_config, as_role_request, as_multipart, said_by}
 use Rattle.of_grammar.proofs.OnlyLarge.{tailed, packet_out_only, flow_mod_only, group_mod_only}
 use Rattle.of_grammar.proofs.OnlyRequests.{request_only}
 use Rattle.of_grammar.proofs.OnlySmall.{async_only, config_only, port_mod_only, role_only, table_mod_only}

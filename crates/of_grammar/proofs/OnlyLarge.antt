@@ -1,16 +1,15 @@
 -- What is in the places of a PACKET_OUT, a FLOW_MOD or a GROUP_MOD, and after them, it says.
-use Rattle.std.proofs.Common.{◌≡◌, ◌≤◌, ◌<◌, ◌+◌, ◌-◌, ℕ, Bool, true, false, not, eqb, ltb, cond, List, [], ◌∷◌, ◌++◌, length, take, drop, Option, Some, None, Ok, Err, refl, sym, ap, subst, ◌∙◌, arith, inl, inr}
+use Rattle.std.proofs.Common.{◌≡◌, ◌≤◌, ◌<◌, ◌+◌, ◌-◌, ℕ, Bool, true, false, not, eqb, ltb, cond, List, [], ◌∷◌, ◌++◌, length, take, drop, Option, Some, None, Result, Ok, Err, refl, sym, ap, subst, ◌∙◌, arith, inl, inr}
 use Rattle.std.specs.Prelude.{slice_index, ◌&&◌, is_none}
 use Rattle.std.proofs.lemmas.Bool.{le-ltb}
 use Rattle.std.proofs.lemmas.Bool.Decides.{nat_tests}
 use Rattle.std.proofs.lemmas.List.{length-append, length-drop, drop-drop, take_at, drop_at}
 use Rattle.byteorder.specs.Endian.{big_number}
 use Rattle.of_wire.specs.declared.code.Code.{Code}
-use Rattle.of_wire.specs.Refusals.{refusal, first_of}
+use Rattle.of_wire.specs.Refusals.{refusal}
 use Rattle.of_headers.specs.Faults.{frame_fault}
 use Rattle.of_oxm.specs.MatchReading.{match_of}
 use Rattle.of_actions.specs.Actions.{actions_said}
-use Rattle.of_actions.specs.InstructionReading.{instructions_of}
 use Rattle.of_actions.proofs.ActionsComputed.{actions_are}
 use Rattle.of_actions.proofs.Computed.{is_computed}
 use Rattle.of_groups.specs.declared.group.GroupKind.{GroupKind}
@@ -25,11 +24,14 @@ use Rattle.of_messages.specs.declared.message.PacketData.{PacketData}
 use Rattle.of_messages.specs.declared.message.PacketData.TheVariants.{Buffered, Frame}
 use Rattle.of_messages.specs.declared.message.PacketOut.{PacketOut}
 use Rattle.of_messages.specs.Buckets.{buckets_said}
-use Rattle.of_messages.specs.GroupMods.{command_of as group_command_of, command_in, number_in, is_above, kind_of, then_buckets, then_kind, group_of, as_add, as_modify, delete_of, group_mod_of}
+use Rattle.of_messages.specs.GroupMods.{command_of as group_command_of, is_above, kind_of, group_of, delete_of, group_mod_of}
 use Rattle.of_messages.specs.Heads.{actions_length}
-use Rattle.of_messages.specs.Messages.{command_of, is_bad_table, flow_mod_refusals, flow_mod_with, instructions_for, then_instructions, then_match, flow_mod_by, flow_mod_of, is_ingress, packet_out_refusals, actions_in, frame_in, packet_in_data, then_packet, then_actions, packet_out_by, packet_out_of}
+use Rattle.of_messages.specs.Messages.{command_of, command_said, is_bad_table, instructions_for, flow_mod_by, flow_mod_of, is_ingress, packet_in_data, packet_out_by, packet_out_of}
+use Rattle.of_formats.specs.Reading.{◌>>=◌}
+use Rattle.of_formats.specs.Structs.{numbers}
+use Rattle.of_formats.specs.Tables as tables
 use Rattle.of_grammar.specs.Cells.{Cell, u16, pad}
-use Rattle.of_grammar.specs.Grammar.{IsData, IsValidData, IsIngress, IsValidPacketOut, ActionsThenData, buffer_of, command_number, flow_mod_cells, deletes, HasInstructions, MatchThenInstructions, MayName, IsValidFlowMod, kind_number, group_cells, group_mod_cells, GroupTail, IsValidNumber, IsValidGroupMod}
+use Rattle.of_grammar.specs.Grammar.{IsData, IsValidData, IsIngress, IsValidPacketOut, ActionsThenData, buffer_of, command_number, flow_mod_numbers, flow_mod_cells, deletes, HasInstructions, MatchThenInstructions, MayName, IsValidFlowMod, kind_number, group_cells, group_mod_cells, GroupTail, IsValidNumber, IsValidGroupMod}
 use Rattle.of_grammar.specs.Requests.{NamesTable, all_groups, or_all}
 use Rattle.of_grammar.proofs.BucketTails.{buckets_only}
 use Rattle.of_grammar.proofs.MatchTails.{match_only}
@@ -55,6 +57,13 @@ data_only (Frame frame) bytes is valid =
     let fine : frame_fault bytes ≡ None = ap frame_fault is ∙ no_fault frame valid.0 valid.1 in
     ap (λ (o : Option _). cond (is_none o) (Ok (Frame bytes)) (Err (refusal 1 12))) fine ∙ ap (λ (x : List ℕ). Ok (Frame x)) is
 
+-- the actions of a PACKET_OUT, and what follows them
+abbrev pub actions_in : List ℕ → List ℕ
+actions_in m = take (actions_length m) (drop 24 m)
+
+abbrev pub frame_in : List ℕ → List ℕ
+frame_in m = drop (actions_length m) (drop 24 m)
+
 -- what the tail of a PACKET_OUT says
 pub record Tailed (p : PacketOut) (m : List ℕ) : Type 0 where
   pub long : 24 + actions_length m ≤ length m
@@ -79,10 +88,13 @@ tailed p m tail long there h =
 
 pub packet_out_only : (p : PacketOut) (m : List ℕ) → big_number 4 (drop 8 m) ≡ buffer_of p.packet → big_number 4 (drop 12 m) ≡ p.in_port → Tailed p m → IsValidPacketOut p → packet_out_of m ≡ Ok p
 packet_out_only p m buffer port t valid =
-    let fine : is_ingress (big_number 4 (drop 12 m)) ≡ true = ap is_ingress port ∙ ingress p.in_port valid.0 in
-    let none : first_of (packet_out_refusals m) ≡ None = rw fine refl in
-    let packet : packet_in_data (big_number 4 (drop 8 m)) (frame_in m) ≡ Ok p.packet = ap (λ (n : ℕ). packet_in_data n (frame_in m)) buffer ∙ data_only p.packet (frame_in m) t.data_is valid.1 in
-    ap (packet_out_by m) none ∙ ap (then_actions m) t.said ∙ ap (then_packet m p.actions) packet ∙ ap (λ (n : ℕ). Ok (record { in_port = n; actions = p.actions; packet = p.packet })) port
+    let rest = drop 24 m in
+    let len = actions_length m in
+    let fine = ingress p.in_port valid.0 in
+    let packet = data_only p.packet (frame_in m) t.data_is valid.1 in
+    ap (λ (n : ℕ). packet_out_by (n ∷ big_number 4 (drop 12 m) ∷ len ∷ []) rest) buffer
+    ∙ ap (λ (n : ℕ). packet_out_by (buffer_of p.packet ∷ n ∷ len ∷ []) rest) port
+    ∙ rw (fine, t.said, packet) refl
 
 -- ---- FLOW_MOD
 
@@ -100,49 +112,42 @@ deleted : (t : ℕ) → NamesTable t → (ltb 15 t && not (eqb t 255)) ≡ false
 deleted t (inl lt) = let low = adds t lt in rw low refl
 deleted t (inr is) = rw is refl
 
-table_fine : (c : FlowModCommand) (t : ℕ) → MayName (deletes c) t → is_bad_table t (Some c) ≡ false
+table_fine : (c : FlowModCommand) (t : ℕ) → MayName (deletes c) t → is_bad_table t c ≡ false
 table_fine Add t h = let low = adds t h in rw low refl
 table_fine Modify t h = let low = adds t h in rw low refl
 table_fine ModifyStrict t h = let low = adds t h in rw low refl
 table_fine Delete t h = deleted t h
 table_fine DeleteStrict t h = deleted t h
 
-none_refused : (m : List ℕ) (c : FlowModCommand) → command_of (slice_index m 25) ≡ Some c → is_bad_table (slice_index m 24) (Some c) ≡ false → ltb 31 (big_number 2 (drop 44 m)) ≡ false → first_of (flow_mod_refusals m) ≡ None
-none_refused m c command table flags = rw (command, table, flags) refl
+command_read : (c : FlowModCommand) (table flags : ℕ) → MayName (deletes c) table → flags < 32 → command_said (command_number c) table flags ≡ Ok c
+unfolding command_said
+command_read c table flags may lt =
+    let command = command_again c in
+    let fine = table_fine c table may in
+    let low : ltb 31 flags ≡ false = le-ltb _ _ (omega arith) in
+    rw (command, fine, low) refl
 
-no_instructions : (f : FlowMod) (c : FlowModCommand) (t : ℕ) (bytes : List ℕ) → t ≡ f.table → HasInstructions f (deletes c) bytes → instructions_for c t bytes ≡ Ok f.instructions
-no_instructions f Add t bytes e h = ap (λ (n : ℕ). instructions_of n bytes) e ∙ is_computed f.table bytes (Ok f.instructions) h tt
-no_instructions f Modify t bytes e h = ap (λ (n : ℕ). instructions_of n bytes) e ∙ is_computed f.table bytes (Ok f.instructions) h tt
-no_instructions f ModifyStrict t bytes e h = ap (λ (n : ℕ). instructions_of n bytes) e ∙ is_computed f.table bytes (Ok f.instructions) h tt
-no_instructions f Delete t bytes e h = ap Ok (sym h)
-no_instructions f DeleteStrict t bytes e h = ap Ok (sym h)
+instructions_only : (f : FlowMod) (c : FlowModCommand) (bytes : List ℕ) → HasInstructions f (deletes c) bytes → instructions_for c f.table bytes ≡ Ok f.instructions
+instructions_only f Add bytes h = is_computed f.table bytes (Ok f.instructions) h tt
+instructions_only f Modify bytes h = is_computed f.table bytes (Ok f.instructions) h tt
+instructions_only f ModifyStrict bytes h = is_computed f.table bytes (Ok f.instructions) h tt
+instructions_only f Delete bytes h = ap Ok (sym h)
+instructions_only f DeleteStrict bytes h = ap Ok (sym h)
 
-same_flow_mod : (f : FlowMod) (a b c d e g h i j k : ℕ) → a ≡ f.cookie → b ≡ f.cookie_mask → c ≡ f.table → d ≡ f.idle_timeout → e ≡ f.hard_timeout → g ≡ f.priority → h ≡ f.buffer → i ≡ f.out_port → j ≡ f.out_group → k ≡ f.flags
-    → record { cookie = a; cookie_mask = b; table = c; command = f.command; idle_timeout = d; hard_timeout = e; priority = g; buffer = h; out_port = i; out_group = j; flags = k; fields = f.fields; instructions = f.instructions } ≡ f
-same_flow_mod f a b c d e g h i j k pa pb pc pd pe pg ph pi pj pk = rw (pa, pb, pc, pd, pe, pg, ph, pi, pj, pk) refl
+numbers_are : (f : FlowMod) (m : List ℕ) → Says 8 (flow_mod_cells f) m → numbers tables.flow_mod 8 m ≡ flow_mod_numbers f
+numbers_are f m s =
+    let a = s.1.1.1.1 in
+    rw (s.0, s.1.0, s.1.1.0, s.1.1.1.0, a.0, a.1.0, a.1.1.0, a.1.1.1.0, a.1.1.1.1.0, a.1.1.1.1.1.0, a.1.1.1.1.1.1.0) refl
 
 pub flow_mod_only : (f : FlowMod) (m tail : List ℕ) → tail ≡ drop 48 m → Says 8 (flow_mod_cells f) m → MatchThenInstructions f tail → IsValidFlowMod f → flow_mod_of m ≡ Ok f
 flow_mod_only f m tail there s h valid =
-    let a = s.1.1.1.1 in
-    let command : command_of (slice_index m 25) ≡ Some f.command = ap command_of s.1.1.1.0 ∙ command_again f.command in
-    let table : is_bad_table (slice_index m 24) (Some f.command) ≡ false = ap (λ (t : ℕ). is_bad_table t (Some f.command)) s.1.1.0 ∙ table_fine f.command f.table valid.table in
-    let low = valid.flags in
-    let last : big_number 2 (drop 44 m) ≡ f.flags = a.1.1.1.1.1.1.0 in
-    let flags : ltb 31 (big_number 2 (drop 44 m)) ≡ false = le-ltb _ _ (omega arith) in
-    let none = none_refused m f.command command table flags in
-    let whole : drop 48 m ≡ h.fields ++ h.instructions = sym there ∙ h.whole in
-    let fields : match_of (drop 48 m) ≡ Ok (f.fields, length h.fields) = ap match_of whole ∙ match_only h.fields h.instructions f.fields h.spelt in
-    let rest : drop (length h.fields) (drop 48 m) ≡ h.instructions = ap (drop (length h.fields)) whole ∙ drop_at h.fields h.instructions (length h.fields) refl in
-    let instructions : instructions_for f.command (slice_index m 24) (drop (length h.fields) (drop 48 m)) ≡ Ok f.instructions =
-    ap (instructions_for f.command (slice_index m 24)) rest ∙ no_instructions f f.command (slice_index m 24) h.instructions s.1.1.0 h.are in
-    let made = flow_mod_with m f.command f.fields f.instructions in
-    let same : made ≡ f = same_flow_mod f _ _ _ _ _ _ _ _ _ _ s.0 s.1.0 s.1.1.0 a.0 a.1.0 a.1.1.0 a.1.1.1.0 a.1.1.1.1.0 a.1.1.1.1.1.0 last in
-    ap (λ (o : Option Code). flow_mod_by m o (command_of (slice_index m 25))) none
-    ∙ ap (flow_mod_by m None) command
-    ∙ ap (then_match m f.command) fields
-    ∙ ap (then_instructions m f.command f.fields) instructions
-    ∙ ap (λ (b : Bool). cond b (Ok made) (Err (refusal 2 10))) valid.fit
-    ∙ ap Ok same
+    let rest = drop 48 m in
+    let command = command_read f.command f.table f.flags valid.table valid.flags in
+    let whole : rest ≡ h.fields ++ h.instructions = sym there ∙ h.whole in
+    let fields : match_of rest ≡ Ok (f.fields, length h.fields) = ap match_of whole ∙ match_only h.fields h.instructions f.fields h.spelt in
+    let after : drop (length h.fields) rest ≡ h.instructions = ap (drop (length h.fields)) whole ∙ drop_at h.fields h.instructions (length h.fields) refl in
+    let instructions : instructions_for f.command f.table (drop (length h.fields) rest) ≡ Ok f.instructions = ap (instructions_for f.command f.table) after ∙ instructions_only f f.command h.instructions h.are in
+    ap (λ (ns : List ℕ). flow_mod_by ns rest) (numbers_are f m s) ∙ rw (command, fields, instructions, valid.fit) refl
 
 -- ---- GROUP_MOD
 
@@ -155,22 +160,40 @@ kind_again FastFailover = refl
 below : (number : ℕ) → number ≤ 0xffffff00 → is_above number ≡ false
 below number most = le-ltb _ _ most
 
-group_only : (g : NewGroup) (command : ℕ) (m tail : List ℕ) → tail ≡ drop 16 m → Says 8 (group_cells command g) m → buckets_said tail ≡ Ok g.buckets → g.id ≤ 0xffffff00 → group_of m ≡ Ok g
-group_only g command m tail there s said most =
-    let number : number_in m ≡ g.id = s.1.1.0 in
-    let low : is_above (number_in m) ≡ false = ap is_above number ∙ below g.id most in
-    let kind : kind_of (slice_index m 10) ≡ Some g.kind = ap kind_of s.1.0 ∙ kind_again g.kind in
-    let buckets : buckets_said (drop 16 m) ≡ Ok g.buckets = ap buckets_said (sym there) ∙ said in
-    ap (λ (b : Bool). cond b (Err (refusal 6 1)) (then_kind m (kind_of (slice_index m 10)))) low
-    ∙ ap (then_kind m) kind
-    ∙ ap (then_buckets (number_in m) g.kind) buckets
-    ∙ ap (λ (n : ℕ). Ok (record { id = n; kind = g.kind; buckets = g.buckets })) number
+-- its command, its number, and the group that an ADD or a MODIFY asks for
+abbrev pub command_in : List ℕ → ℕ
+command_in m = big_number 2 (drop 8 m)
 
-pub by_add : (m : List ℕ) → command_in m ≡ 0 → group_mod_of m ≡ as_add (group_of m)
+abbrev pub number_in : List ℕ → ℕ
+number_in m = big_number 4 (drop 12 m)
+
+abbrev pub group_in : List ℕ → Result NewGroup Code
+group_in m = group_of (slice_index m 10) (number_in m) (drop 16 m)
+
+abbrev pub as_add : Result NewGroup Code → Result GroupMod Code
+as_add r = r >>= λ g. Ok (group.Add g)
+
+abbrev pub as_modify : Result NewGroup Code → Result GroupMod Code
+as_modify r = r >>= λ g. Ok (group.Modify g)
+
+group_read : (g : NewGroup) (rest : List ℕ) → buckets_said rest ≡ Ok g.buckets → g.id ≤ 0xffffff00 → group_of (kind_number g.kind) g.id rest ≡ Ok g
+group_read g rest buckets most =
+    let low = below g.id most in
+    let kind = kind_again g.kind in
+    rw (low, kind, buckets) refl
+
+group_only : (g : NewGroup) (command : ℕ) (m tail : List ℕ) → tail ≡ drop 16 m → Says 8 (group_cells command g) m → buckets_said tail ≡ Ok g.buckets → g.id ≤ 0xffffff00 → group_in m ≡ Ok g
+group_only g command m tail there s buckets most =
+    ap (λ (n : ℕ). group_of n (number_in m) (drop 16 m)) s.1.0
+    ∙ ap (λ (n : ℕ). group_of (kind_number g.kind) n (drop 16 m)) s.1.1.0
+    ∙ ap (group_of (kind_number g.kind) g.id) (sym there)
+    ∙ group_read g tail buckets most
+
+pub by_add : (m : List ℕ) → command_in m ≡ 0 → group_mod_of m ≡ as_add (group_in m)
 unfolding group_command_of
 by_add m e = rw e refl
 
-pub by_modify : (m : List ℕ) → command_in m ≡ 1 → group_mod_of m ≡ as_modify (group_of m)
+pub by_modify : (m : List ℕ) → command_in m ≡ 1 → group_mod_of m ≡ as_modify (group_in m)
 unfolding group_command_of
 by_modify m e = rw e refl
 

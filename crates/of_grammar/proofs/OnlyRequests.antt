@@ -1,24 +1,35 @@
 -- What is in the places of a MULTIPART_REQUEST, and after them, it says.
-use Rattle.std.proofs.Common.{◌≡◌, ◌≤◌, ◌+◌, ◌%◌, ℕ, Bool, true, false, eqb, ltb, cond, List, ◌++◌, length, drop, Option, Some, None, Ok, Err, refl, sym, ap, ◌∙◌, arith}
+use Rattle.std.proofs.Common.{◌≡◌, ◌≤◌, ◌+◌, ◌%◌, ℕ, Bool, true, false, eqb, ltb, List, [], ◌∷◌, ◌++◌, length, drop, Option, Some, None, Result, Ok, refl, sym, ap, ◌∙◌, arith}
 use Rattle.std.specs.Prelude.{slice_index}
 use Rattle.std.proofs.lemmas.Bool.{le-ltb, eq-eqb}
 use Rattle.std.proofs.lemmas.Bool.Decides.{nat_tests}
 use Rattle.std.proofs.lemmas.List.{length-append}
 use Rattle.byteorder.specs.Endian.{big_number}
-use Rattle.of_wire.specs.Refusals.{refusal}
+use Rattle.of_wire.specs.declared.code.Code.{Code}
 use Rattle.of_oxm.specs.declared.match_field.MatchField.{MatchField}
 use Rattle.of_oxm.specs.MatchReading.{match_of}
 use Rattle.of_messages.specs.declared.multipart.FlowStatsRequest.{FlowStatsRequest}
 use Rattle.of_messages.specs.declared.multipart.MultipartRequest.{MultipartRequest}
 use Rattle.of_messages.specs.declared.multipart.MultipartRequest.TheVariants.{Description, Flow, Aggregate, Table, PortStats, Group, GroupDescription, GroupFeatures, PortDescription}
 use Rattle.of_messages.specs.Configs.{names_table}
-use Rattle.of_messages.specs.Multiparts.{kind_of, then_match, flow_stats_of, one_or_all, number_in, as_flow, as_aggregate, multipart_of}
+use Rattle.of_messages.specs.Multiparts.{kind_of, flow_stats_by, flow_stats_of, one_or_all, number_in, multipart_of}
+use Rattle.of_formats.specs.Reading.{◌>>=◌}
+use Rattle.of_formats.specs.Structs.{numbers}
+use Rattle.of_formats.specs.Tables as tables
 use Rattle.of_grammar.specs.Requests.{BeginsMatch, IsOne, IsValidRequest, NamesTable, RequestTail, all_groups, any_port, flows_cells, or_all, request_cells}
 use Rattle.of_grammar.proofs.MatchTails.{match_only}
 use Rattle.of_grammar.proofs.OnlySmall.{table_named}
 use Rattle.of_grammar.proofs.Places.{Says, size}
 
 -- ---- by the type of the request
+
+-- what was read as a request for flows, as the request
+
+abbrev pub as_flow : Result FlowStatsRequest Code → Result MultipartRequest Code
+as_flow r = r >>= λ v. Ok (Flow v)
+
+abbrev pub as_aggregate : Result FlowStatsRequest Code → Result MultipartRequest Code
+as_aggregate r = r >>= λ v. Ok (Aggregate v)
 
 -- in one part, of that type and size
 pub record Asks (type : ℕ) (m : List ℕ) : Type 0 where
@@ -63,18 +74,15 @@ asks_13 m a size = rw (a.type_is, a.one_part, size) refl
 
 -- ---- FLOW and AGGREGATE
 
-same_request : (r : FlowStatsRequest) (a b c d e : ℕ) → a ≡ r.table → b ≡ r.out_port → c ≡ r.out_group → d ≡ r.cookie → e ≡ r.cookie_mask
-    → record { table = a; out_port = b; out_group = c; cookie = d; cookie_mask = e; fields = r.fields } ≡ r
-same_request r a b c d e pa pb pc pd pe = rw (pa, pb, pc, pd, pe) refl
+numbers_are : (r : FlowStatsRequest) (m : List ℕ) → Says 16 (flows_cells r) m → numbers tables.flow_stats_request 16 m ≡ r.table ∷ r.out_port ∷ r.out_group ∷ r.cookie ∷ r.cookie_mask ∷ []
+numbers_are r m s = rw (s.0, s.1.0, s.1.1.0, s.1.1.1.0, s.1.1.1.1.0) refl
 
 flows_only : (r : FlowStatsRequest) (m tail : List ℕ) → tail ≡ drop 48 m → Says 16 (flows_cells r) m → BeginsMatch r.fields tail → NamesTable r.table → flow_stats_of m ≡ Ok r
 flows_only r m tail there s h valid =
-    let named : names_table (slice_index m 16) ≡ true = ap names_table s.0 ∙ table_named r.table valid in
+    let named = table_named r.table valid in
     let whole : drop 48 m ≡ h.front ++ h.rest = sym there ∙ h.whole in
     let fields : match_of (drop 48 m) ≡ Ok (r.fields, length h.front) = ap match_of whole ∙ match_only h.front h.rest r.fields h.spelt in
-    ap (λ (b : Bool). cond b (then_match m (match_of (drop 48 m))) (Err (refusal 1 9))) named
-    ∙ ap (then_match m) fields
-    ∙ ap Ok (same_request r _ _ _ _ _ s.0 s.1.0 s.1.1.0 s.1.1.1.0 s.1.1.1.1.0)
+    ap (λ (ns : List ℕ). flow_stats_by ns (drop 48 m)) (numbers_are r m s) ∙ rw (named, fields) refl
 
 -- ---- of one, or of all
 

@@ -54,22 +54,7 @@ type (SetAsync masks) = 28
 -- a HELLO may be of any version (6.3.1), all others are of version 4
 abbrev pub version : Message → Cell
 version Hello = pad 1
-version Error = byte 4
-version (EchoRequest echoed) = byte 4
-version EchoReply = byte 4
-version FeaturesRequest = byte 4
-version GetConfigRequest = byte 4
-version (SetConfig config) = byte 4
-version (IsPacketOut m) = byte 4
-version (IsFlowMod m) = byte 4
-version (IsGroupMod m) = byte 4
-version (IsPortMod m) = byte 4
-version (IsTableMod m) = byte 4
-version (Multipart request) = byte 4
-version BarrierRequest = byte 4
-version (IsRoleRequest request) = byte 4
-version GetAsyncRequest = byte 4
-version (SetAsync masks) = byte 4
+version other = byte 4
 
 -- PACKET_OUT (7.3.7, struct ofp_packet_out)
 
@@ -124,11 +109,9 @@ abbrev pub flow_mod_cells : FlowMod → List Cell
 flow_mod_cells m = cells_of tables.flow_mod (flow_mod_numbers m) []
 
 abbrev pub deletes : FlowModCommand → Bool
-deletes Add = false
-deletes Modify = false
-deletes ModifyStrict = false
 deletes Delete = true
 deletes DeleteStrict = true
+deletes other = false
 
 -- the two DELETE commands have no instructions, whatever follows
 abbrev pub HasInstructions : FlowMod → Bool → List ℕ → Type 0
@@ -207,12 +190,7 @@ async_config_cells a =
 
 -- Its fields after the header: struct ofp_error_msg (7.4.4), whose type and code are ignored, ofp_switch_config (7.3.2), whose flags are 0 (OFPSCFC_BAD_FLAGS), ofp_port_mod (7.3.4.3), ofp_table_mod (7.3.3), and those above.
 abbrev pub cells : Message → List Cell
-cells Hello = []
 cells Error = cells_of (without "type" (without "code" tables.error_msg)) [] []
-cells (EchoRequest echoed) = []
-cells EchoReply = []
-cells FeaturesRequest = []
-cells GetConfigRequest = []
 cells (SetConfig config) = cells_of tables.switch_config (0 ∷ config.miss_send_len ∷ []) []
 cells (IsPacketOut m) = cells_of (take 2 tables.packet_out) (buffer_of m.packet ∷ m.in_port ∷ []) []
 cells (IsFlowMod m) = flow_mod_cells m
@@ -220,10 +198,9 @@ cells (IsGroupMod m) = group_mod_cells m
 cells (IsPortMod m) = cells_of tables.port_mod (m.port ∷ m.config ∷ m.mask ∷ []) (m.hw ∷ [])
 cells (IsTableMod m) = cells_of tables.table_mod (m.table ∷ m.config ∷ []) []
 cells (Multipart request) = request_cells request
-cells BarrierRequest = []
 cells (IsRoleRequest request) = role_cells request
-cells GetAsyncRequest = []
 cells (SetAsync masks) = async_config_cells masks
+cells other = []
 
 -- What follows these: nothing, data, or what is ignored (elements of a HELLO, data of an ERROR and of an ECHO_REPLY).
 abbrev pub Tail : Message → List ℕ → Type 0
@@ -231,39 +208,21 @@ Tail Hello tail = ⊤
 Tail Error tail = ⊤
 Tail (EchoRequest echoed) tail = tail ≡ echoed
 Tail EchoReply tail = ⊤
-Tail FeaturesRequest tail = tail ≡ []
-Tail GetConfigRequest tail = tail ≡ []
-Tail (SetConfig config) tail = tail ≡ []
 Tail (IsPacketOut m) tail = ActionsThenData m tail
 Tail (IsFlowMod m) tail = MatchThenInstructions m tail
 Tail (IsGroupMod m) tail = GroupTail m tail
-Tail (IsPortMod m) tail = tail ≡ []
-Tail (IsTableMod m) tail = tail ≡ []
 Tail (Multipart request) tail = RequestTail request tail
-Tail BarrierRequest tail = tail ≡ []
-Tail (IsRoleRequest request) tail = tail ≡ []
-Tail GetAsyncRequest tail = tail ≡ []
-Tail (SetAsync masks) tail = tail ≡ []
+Tail other tail = tail ≡ []
 
 -- Numbers that fit their bytes, but that no message may have: OFPPMFC_BAD_CONFIG for a mask beyond OFPPC_PORT_DOWN, NO_RECV, NO_FWD and NO_PACKET_IN (1, 4, 32 and 64), OFPTMFC_BAD_TABLE, and those above.
 abbrev pub IsValid : Message → Type 0
-IsValid Hello = ⊤
-IsValid Error = ⊤
-IsValid (EchoRequest echoed) = ⊤
-IsValid EchoReply = ⊤
-IsValid FeaturesRequest = ⊤
-IsValid GetConfigRequest = ⊤
-IsValid (SetConfig config) = ⊤
 IsValid (IsPacketOut m) = IsValidPacketOut m
 IsValid (IsFlowMod m) = IsValidFlowMod m
 IsValid (IsGroupMod m) = IsValidGroupMod m
 IsValid (IsPortMod m) = bit_and m.mask 101 ≡ m.mask
 IsValid (IsTableMod m) = NamesTable m.table
 IsValid (Multipart request) = IsValidRequest request
-IsValid BarrierRequest = ⊤
-IsValid (IsRoleRequest request) = ⊤
-IsValid GetAsyncRequest = ⊤
-IsValid (SetAsync masks) = ⊤
+IsValid other = ⊤
 
 -- version, type, length of the message, transaction id, and the fields of the message
 abbrev pub fixed_part_cells : Message → ℕ → ℕ → List Cell
@@ -278,25 +237,13 @@ pub record Spells (xid : ℕ) (m : Message) (bytes : List ℕ) : Type 0 where
 
 -- WHO MAY SEND IT (6.3.4): a slave may not change the switch or send a packet, else OFPBRC_IS_SLAVE
 abbrev pub changes : Message → Bool
-changes Hello = false
-changes Error = false
-changes (EchoRequest echoed) = false
-changes EchoReply = false
-changes FeaturesRequest = false
-changes GetConfigRequest = false
-changes (SetConfig config) = false
 changes (IsPacketOut m) = true
 changes (IsFlowMod m) = true
 changes (IsGroupMod m) = true
 changes (IsPortMod m) = true
 changes (IsTableMod m) = true
-changes (Multipart request) = false
-changes BarrierRequest = false
-changes (IsRoleRequest request) = false
-changes GetAsyncRequest = false
-changes (SetAsync masks) = false
+changes other = false
 
 abbrev pub MaySend : Role → Message → Type 0
-MaySend role.Equal m = ⊤
-MaySend role.Master m = ⊤
 MaySend role.Slave m = changes m ≡ false
+MaySend other m = ⊤

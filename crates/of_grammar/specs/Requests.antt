@@ -38,15 +38,11 @@ flows_cells r = cells_of tables.flow_stats_request (r.table ∷ r.out_port ∷ r
 
 -- 7.3.5.6 and 7.3.5.8: struct ofp_port_stats_request and ofp_group_stats_request
 abbrev pub body_cells : MultipartRequest → List Cell
-body_cells Description = []
 body_cells (Flow r) = flows_cells r
 body_cells (Aggregate r) = flows_cells r
-body_cells Table = []
 body_cells (PortStats port) = cells_of tables.port_stats_request (or_all any_port port ∷ []) []
 body_cells (Group group) = cells_of tables.group_stats_request (or_all all_groups group ∷ []) []
-body_cells GroupDescription = []
-body_cells GroupFeatures = []
-body_cells PortDescription = []
+body_cells other = []
 
 -- the type, flags, of which OFPMPF_REQ_MORE is not set, padding, and the body
 abbrev pub request_cells : MultipartRequest → List Cell
@@ -60,15 +56,9 @@ pub record BeginsMatch (fields : List MatchField) (bytes : List ℕ) : Type 0 wh
   pub spelt : SpellsMatch front fields
 
 abbrev pub RequestTail : MultipartRequest → List ℕ → Type 0
-RequestTail Description tail = tail ≡ []
 RequestTail (Flow r) tail = BeginsMatch r.fields tail
 RequestTail (Aggregate r) tail = BeginsMatch r.fields tail
-RequestTail Table tail = tail ≡ []
-RequestTail (PortStats port) tail = tail ≡ []
-RequestTail (Group group) tail = tail ≡ []
-RequestTail GroupDescription tail = tail ≡ []
-RequestTail GroupFeatures tail = tail ≡ []
-RequestTail PortDescription tail = tail ≡ []
+RequestTail other tail = tail ≡ []
 
 -- a table, 0 to 15, or OFPTT_ALL
 abbrev pub NamesTable : ℕ → Type 0
@@ -81,12 +71,8 @@ IsOne all (Some number) = ¬ (number ≡ all)
 
 -- OFPBRC_BAD_TABLE_ID
 abbrev pub IsValidRequest : MultipartRequest → Type 0
-IsValidRequest Description = ⊤
 IsValidRequest (Flow r) = NamesTable r.table
 IsValidRequest (Aggregate r) = NamesTable r.table
-IsValidRequest Table = ⊤
 IsValidRequest (PortStats port) = IsOne any_port port
 IsValidRequest (Group group) = IsOne all_groups group
-IsValidRequest GroupDescription = ⊤
-IsValidRequest GroupFeatures = ⊤
-IsValidRequest PortDescription = ⊤
+IsValidRequest other = ⊤
