@@ -95,7 +95,7 @@ pub(crate) fn put_last(
     ensures entries { drop replaced.new entries.new.items ≡ added_entries result now flow (drop replaced.old entries.old.items) }
     ensures within { replaced.new ≤ length entries.new.items }
 {
-    if *replaced > FEW && *replaced > entries.len() / 4 {
+    if *replaced > FEW && *replaced > entries.len() / 2 {
         settle(entries, replaced);
     } else {
         let _ = entries.reserve(1);
