@@ -16,6 +16,12 @@ use byteorder::{BigEndian, ByteOrder};
 use of_wire::{Code, ReadError};
 use std::alloc::Global;
 
+/// How many bytes an action has at least (OpenFlow 1.3.5, 7.2.5).
+const LEAST_ACTION: usize = 8;
+
+/// How many actions a list has at most.
+const MOST_ACTIONS: usize = 64;
+
 // The action that the bytes begin with, and its size.
 #[tactic(auto, unfolding(crate::specs::Actions::action_refusals))]
 fn read_action(rest: &[u8], seen: &[Action], packet_out: bool) -> Result<(Action, usize), Code>
@@ -28,7 +34,7 @@ fn read_action(rest: &[u8], seen: &[Action], packet_out: bool) -> Result<(Action
     ensures served { IfOk result (λ read. IsTrue (is_supported packet_out read.0)) }
     ensures first { IfErr result (λ code. first_of (action_refusals packet_out seen.now rest.now) ≡ Some code) }
 {
-    if seen.len() > 63 {
+    if seen.len() >= MOST_ACTIONS {
         return Err(TOO_MANY_ACTIONS);
     }
     if rest.len() < 4 {
@@ -48,7 +54,7 @@ fn read_all(alloc: Global, bytes: &[u8], packet_out: bool) -> Result<Vec<Action>
     ensures served { IfOk result (λ v. IsTrue (are_supported packet_out v.items)) }
     ensures refused { IfErr result (Fails (λ code. (before : List AnAction) × AreActions packet_out [] bytes.now before (Some code))) }
 {
-    let mut actions = Vec::new(alloc);
+    let mut actions = Vec::with_capacity(alloc, (bytes.len() / LEAST_ACTION).min(MOST_ACTIONS))?;
     let mut rest = bytes;
     while !rest.is_empty() {
         match read_action(rest, &actions, packet_out) {

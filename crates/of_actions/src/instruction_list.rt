@@ -27,6 +27,15 @@ impl Model for InstructionList {
 }
 
 impl InstructionList {
+    /// No instructions. It takes no memory.
+    pub fn none(alloc: Global) -> InstructionList
+        ensures { result ≡ [] }
+    {
+        InstructionList {
+            instructions: Vec::new(alloc),
+        }
+    }
+
     /// The list of these instructions. None where they are not in the order of execution, one of a type, or one is not supported.
     pub fn new(instructions: Vec<Instruction>) -> Option<InstructionList>
         ensures list { IfSome result (λ list. list ≡ instructions.items) }

@@ -20,7 +20,7 @@ use crate::line_stop::LineStop;
 use crate::stop::Stop;
 use crate::words::{cut_word, is_gap, name_of};
 use of_text::{FlowText, GroupText, cut, is};
-use std::alloc::{AllocError, Global};
+use std::alloc::Global;
 
 /// What a line says.
 #[derive(Debug, Drop)]
@@ -30,21 +30,13 @@ pub enum Said {
     Flow(FlowText),
 }
 
-fn copy_of(alloc: Global, word: &[u8]) -> Result<Vec<u8>, AllocError>
-    ensures { IfOk result (λ copy. copy.items ≡ word.now) }
-{
-    let mut copy = Vec::new(alloc);
-    copy.extend_from_slice(word)?;
-    Ok(copy)
-}
-
 // The stop at a word.
 fn stop_at(alloc: Global, word: &[u8], stop: Stop) -> LineStop
     ensures { IsAt word.now stop result }
 {
     match stop {
         Stop::NoMemory => LineStop::NoMemory,
-        Stop::Refused(why) => match copy_of(alloc, word) {
+        Stop::Refused(why) => match word.to_vec(alloc) {
             Ok(word) => LineStop::Refused { word, why },
             Err(_) => LineStop::NoMemory,
         },

@@ -2,6 +2,8 @@
 ghost use Rattle.std.specs.Prelude.{◌≡◌};
 ghost use Rattle.of_import.specs.PortWords.{number_of, port_word_named, text_of};
 
+use of_actions::{PORT_ALL, PORT_CONTROLLER, PORT_FLOOD, PORT_IN_PORT};
+
 /// The name of a reserved port (OpenFlow 1.3.5, 4.5), in upper or lower case.
 #[derive(Clone, Copy, Debug, PartialEq, Eq)]
 pub enum PortWord {
@@ -74,22 +76,18 @@ impl PortWord {
         ensures { result ≡ number_of self }
     {
         match self {
-            PortWord::InPort => Some(0xffff_fff8),
-            PortWord::SmallInPort => Some(0xffff_fff8),
-            PortWord::Flood => Some(0xffff_fffb),
-            PortWord::SmallFlood => Some(0xffff_fffb),
-            PortWord::All => Some(0xffff_fffc),
-            PortWord::SmallAll => Some(0xffff_fffc),
-            PortWord::Controller => Some(0xffff_fffd),
-            PortWord::SmallController => Some(0xffff_fffd),
-            PortWord::Local => None,
-            PortWord::SmallLocal => None,
-            PortWord::Normal => None,
-            PortWord::SmallNormal => None,
-            PortWord::Table => None,
-            PortWord::SmallTable => None,
-            PortWord::Any => None,
-            PortWord::SmallAny => None,
+            PortWord::InPort | PortWord::SmallInPort => Some(PORT_IN_PORT),
+            PortWord::Flood | PortWord::SmallFlood => Some(PORT_FLOOD),
+            PortWord::All | PortWord::SmallAll => Some(PORT_ALL),
+            PortWord::Controller | PortWord::SmallController => Some(PORT_CONTROLLER),
+            PortWord::Local
+            | PortWord::SmallLocal
+            | PortWord::Normal
+            | PortWord::SmallNormal
+            | PortWord::Table
+            | PortWord::SmallTable
+            | PortWord::Any
+            | PortWord::SmallAny => None,
         }
     }
 

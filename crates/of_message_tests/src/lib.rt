@@ -1,4 +1,5 @@
-//! Tests of the public calls on actions, action sets and messages: each once with ample memory, and vectors from outside.
+//! Tests of the public calls on actions, action sets, messages, and requests of a controller as bytes: each once with ample memory, and
+//! vectors from outside.
 //!
 //! They stand here and not beside the code, since a crate that has tests is proved twice.
 #![tactic(auto)]
@@ -17,3 +18,5 @@ mod groups_and_ports;
 mod messages;
 #[cfg(test)]
 mod numbers;
+#[cfg(test)]
+mod requests;

@@ -1,6 +1,6 @@
 //! Matches.
 
-ghost use Rattle.std.specs.Prelude.{◌≡◌, ◌==◌, ◌↔◌, length, IfOk, IsTrue};
+ghost use Rattle.std.specs.Prelude.{◌≡◌, ◌==◌, ◌↔◌, [], length, IfOk, IsTrue};
 ghost use Rattle.of_oxm.specs.InPortMatch.{in_port_match};
 ghost use Rattle.of_oxm.specs.NormalForm.{IsMatch};
 ghost use Rattle.of_oxm.specs.SameMatch.{is_same_match};
@@ -45,6 +45,16 @@ impl Match {
         ensures { result ≡ fields.items }
     {
         Match { fields }
+    }
+
+    /// The match of all frames. It takes no memory.
+    #[tactic(auto, unfolding(crate::specs::Prerequisites::prerequisites_met))]
+    pub fn of_all(alloc: Global) -> Match
+        ensures { result ≡ [] }
+    {
+        Match {
+            fields: Vec::new(alloc),
+        }
     }
 
     /// The match of a frame that was received at this port, as a PACKET_IN carries it (OpenFlow 1.3.5, 7.4.1).

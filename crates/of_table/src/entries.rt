@@ -14,7 +14,8 @@ use crate::deadlines::entry_deadline;
 use crate::entry::Entry;
 use crate::flow::{Flow, FlowFlags};
 use crate::selection::Cause;
-use of_oxm::overlaps;
+use of_actions::InstructionList;
+use of_oxm::{Match, overlaps};
 
 /// Up to this many replaced entries are kept in any case.
 const FEW: usize = 16;
@@ -94,13 +95,14 @@ pub(crate) fn put_last(
     ensures entries { drop replaced.new entries.new.items ≡ added_entries result now flow (drop replaced.old entries.old.items) }
     ensures within { replaced.new ≤ length entries.new.items }
 {
-    if *replaced > FEW && *replaced > entries.len() / 4 {
+    if *replaced > FEW && *replaced > entries.len() / 2 {
         settle(entries, replaced);
     } else {
         let _ = entries.reserve(1);
     }
     if place == 0 && entries.len() < entries.capacity() {
         let number = push_again(entries, *replaced, flow, now);
+        hollow_out(entries, *replaced);
         *replaced += 1;
         number
     } else {
@@ -140,6 +142,18 @@ fn push_again(entries: &mut Vec<Entry>, replaced: usize, flow: Flow, now: u64) -
     let number = again.number;
     push_reserved(entries, again);
     number
+}
+
+// The entry at that place, which was replaced, gives up the memory of its match and of its instructions.
+fn hollow_out(entries: &mut Vec<Entry>, place: usize)
+    requires { place < length entries.old.items }
+    ensures others { drop (place + 1) entries.new.items ≡ drop (place + 1) entries.old.items }
+    ensures length { length entries.new.items ≡ length entries.old.items }
+{
+    let alloc = *entries.allocator();
+    let flow = &mut entries[place].flow;
+    flow.fields = Match::of_all(alloc);
+    flow.instructions = InstructionList::none(alloc);
 }
 
 // The entry at that place gets the flow and moves to the end; those after it move up. Its number.

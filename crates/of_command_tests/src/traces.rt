@@ -3,8 +3,9 @@ use of_headers::{FieldKey, read};
 use of_replay::memory::MemorySink;
 use of_replay::{Ended, push_effects};
 use of_switch::{Effect, PortChange, Switch};
-use of_trace::{Asked, Form, Reason, explain, print, trace, why, write_trace};
+use of_trace::{Asked, FirstLines, Form, Reason, explain, print, trace, why, write_trace};
 use std::alloc::Global;
+use std::io::Read;
 use std::process::Abort;
 use std::test::Fail;
 
@@ -268,4 +269,21 @@ fn tells_all(rt: &impl Abort, alloc: Global, switch: &mut Switch<Scan>) -> Resul
 fn traces_tell_what_frames_do(rt: HostRuntime) -> Result<(), Fail> {
     let mut switch = Switch::<Scan>::new(rt.alloc(), 1)?;
     tells_all(&rt, rt.alloc(), &mut switch)
+}
+
+// What the reader gives from there on.
+fn rest_of(rt: &impl Abort, reader: &mut impl Read, rest: &[u8]) -> Result<(), Fail> {
+    let mut buffer = [0; 16];
+    let read = reader.read(&mut buffer)?;
+    assert_eq!(rt; &buffer[..read], rest);
+    assert_eq!(rt; reader.read(&mut buffer)?, 0);
+    Ok(())
+}
+
+#[test]
+fn first_lines_are_whole(rt: HostRuntime) -> Result<(), Fail> {
+    let text: &[u8] = b"a\nbc\nd";
+    rest_of(&rt, &mut FirstLines::new(text, 2), b"a\nbc\n")?;
+    rest_of(&rt, &mut FirstLines::new(text, 3), text)?;
+    rest_of(&rt, &mut FirstLines::new(text, 0), b"")
 }
