@@ -1,8 +1,8 @@
 -- Actions on the wire (OpenFlow 1.3.5, 7.2.5).
 use Rattle.std.specs.Prelude.{ℕ, ◌%◌, ◌==◌, nat_lt, Bool, true, not, ◌||◌, List, [], ◌∷◌, length, Option, Some, None, Result, if◌then◌else◌}
 use Rattle.std.specs.Option.{option_map}
+use Rattle.of_wire.specs.declared.codes.TheConstants.{OFPBAC_BAD_ARGUMENT, OFPBAC_BAD_EXPERIMENTER, OFPBAC_BAD_LEN, OFPBAC_BAD_OUT_PORT, OFPBAC_BAD_TYPE, OFPBAC_TOO_MANY}
 use Rattle.of_wire.specs.declared.code.Code.{Code}
-use Rattle.of_wire.specs.Refusals.{refusal}
 use Rattle.of_wire.specs.Items.{Items, AreItems, items_of}
 use Rattle.of_layers.specs.Reading.{is_tag_type}
 use Rattle.of_formats.specs.Structs.{numbers, size}
@@ -15,29 +15,29 @@ use Rattle.of_actions.specs.declared.action.Action.TheVariants.{Output, PushVlan
 
 -- an action of another size: OFPBAC_BAD_LEN
 abbrev pub wrong_size : ℕ → List ℕ → Bool × Code
-wrong_size n rest = (not (len_at rest == n), refusal 2 1)
+wrong_size n rest = (not (len_at rest == n), OFPBAC_BAD_LEN)
 
 -- The refusals of an action by its type, in order (7.4.4): of its size, OFPBAC_BAD_OUT_PORT of an OUTPUT, OFPBAC_BAD_ARGUMENT of a PUSH_VLAN, those of a set-field, OFPBAC_BAD_EXPERIMENTER, and OFPBAC_BAD_TYPE of all other types.
 unfoldable pub type_refusals : Bool → List ℕ → List (Bool × Code)
 type_refusals packet_out rest =
     if type_at rest == 0
-    then wrong_size (size tables.action_output) rest ∷ (not (is_port packet_out (argument_at tables.action_output rest)), refusal 2 4) ∷ []
+    then wrong_size (size tables.action_output) rest ∷ (not (is_port packet_out (argument_at tables.action_output rest)), OFPBAC_BAD_OUT_PORT) ∷ []
     else if type_at rest == 17
-    then wrong_size (size tables.action_push) rest ∷ (not (is_tag_type (argument_at tables.action_push rest)), refusal 2 5) ∷ []
+    then wrong_size (size tables.action_push) rest ∷ (not (is_tag_type (argument_at tables.action_push rest)), OFPBAC_BAD_ARGUMENT) ∷ []
     else if type_at rest == 18 then wrong_size (size tables.action_header) rest ∷ []
     else if type_at rest == 22 then wrong_size (size tables.action_group) rest ∷ []
     else if type_at rest == 23 then wrong_size (size tables.action_nw_ttl) rest ∷ []
     else if type_at rest == 24 then wrong_size (size tables.action_header) rest ∷ []
     else if type_at rest == 25 then set_refusals rest
-    else if type_at rest == 0xffff then (true, refusal 2 2) ∷ []
-    else (true, refusal 2 0) ∷ []
+    else if type_at rest == 0xffff then (true, OFPBAC_BAD_EXPERIMENTER) ∷ []
+    else (true, OFPBAC_BAD_TYPE) ∷ []
 
 -- The refusals of the action that begins `rest`, in order, after the actions `seen`: OFPBAC_TOO_MANY, OFPBAC_BAD_LEN, and those of its type.
 unfoldable pub action_refusals : Bool → List Action → List ℕ → List (Bool × Code)
 action_refusals packet_out seen rest =
-    (nat_lt 63 (length seen), refusal 2 7)
-    ∷ (nat_lt (length rest) 4, refusal 2 1)
-    ∷ (nat_lt (len_at rest) 8 || not (len_at rest % 8 == 0) || nat_lt (length rest) (len_at rest), refusal 2 1)
+    (nat_lt 63 (length seen), OFPBAC_TOO_MANY)
+    ∷ (nat_lt (length rest) 4, OFPBAC_BAD_LEN)
+    ∷ (nat_lt (len_at rest) 8 || not (len_at rest % 8 == 0) || nat_lt (length rest) (len_at rest), OFPBAC_BAD_LEN)
     ∷ type_refusals packet_out rest
 
 -- what the numbers of its struct say

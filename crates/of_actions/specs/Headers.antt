@@ -1,7 +1,7 @@
 -- The headers of instructions (OpenFlow 1.3.5, 7.2.4).
 use Rattle.std.specs.Prelude.{ℕ, ◌-◌, ◌%◌, ◌==◌, nat_lt, nat_le, Bool, true, not, ◌&&◌, ◌||◌, List, [], ◌∷◌, length, take, drop, Option, Some, None, if◌then◌else◌}
+use Rattle.of_wire.specs.declared.codes.TheConstants.{OFPBIC_BAD_EXPERIMENTER, OFPBIC_BAD_LEN, OFPBIC_BAD_TABLE_ID, OFPBIC_UNKNOWN_INST, OFPBIC_UNSUP_INST}
 use Rattle.of_wire.specs.declared.code.Code.{Code}
-use Rattle.of_wire.specs.Refusals.{refusal}
 use Rattle.of_wire.specs.Items.{Items, AreItems}
 use Rattle.of_wire.specs.Numbered.{is_used}
 use Rattle.of_formats.specs.Structs.{numbers, size}
@@ -42,14 +42,14 @@ is_next table to = nat_lt table to && nat_lt to 16
 -- The refusals of the instruction that begins `rest`, in order, after those of the headers `seen` (7.4.4): OFPBIC_BAD_LEN, OFPBIC_UNSUP_INST for a METER, OFPBIC_BAD_EXPERIMENTER, OFPBIC_UNKNOWN_INST, OFPBIC_UNSUP_INST for the second of a type, and OFPBIC_BAD_TABLE_ID.
 unfoldable pub header_refusals : ℕ → List Header → List ℕ → List (Bool × Code)
 header_refusals table seen rest =
-    (nat_lt (length rest) 4, refusal 3 7)
-    ∷ (nat_lt (len_at rest) 8 || not (len_at rest % 8 == 0) || nat_lt (length rest) (len_at rest), refusal 3 7)
-    ∷ (not (is_size (type_at rest) (len_at rest)), refusal 3 7)
-    ∷ (type_at rest == 6, refusal 3 1)
-    ∷ (type_at rest == 0xffff, refusal 3 5)
-    ∷ (not (is_known (type_at rest)), refusal 3 0)
-    ∷ (is_used kind_of (type_at rest) seen, refusal 3 1)
-    ∷ ((type_at rest == 1) && not (is_next table (table_at rest)), refusal 3 2)
+    (nat_lt (length rest) 4, OFPBIC_BAD_LEN)
+    ∷ (nat_lt (len_at rest) 8 || not (len_at rest % 8 == 0) || nat_lt (length rest) (len_at rest), OFPBIC_BAD_LEN)
+    ∷ (not (is_size (type_at rest) (len_at rest)), OFPBIC_BAD_LEN)
+    ∷ (type_at rest == 6, OFPBIC_UNSUP_INST)
+    ∷ (type_at rest == 0xffff, OFPBIC_BAD_EXPERIMENTER)
+    ∷ (not (is_known (type_at rest)), OFPBIC_UNKNOWN_INST)
+    ∷ (is_used kind_of (type_at rest) seen, OFPBIC_UNSUP_INST)
+    ∷ ((type_at rest == 1) && not (is_next table (table_at rest)), OFPBIC_BAD_TABLE_ID)
     ∷ []
 
 -- the bytes of its actions, which follow its struct

@@ -2,8 +2,8 @@
 use Rattle.std.specs.Prelude.{ℕ, ◌+◌, ◌/◌, ◌*◌, ◌%◌, ◌==◌, nat_lt, Bool, true, not, ◌&&◌, ◌||◌, List, [], ◌∷◌, drop, slice_index, Option, Some, None, if◌then◌else◌}
 use Rattle.std.specs.Option.{option_map_or}
 use Rattle.byteorder.specs.Endian.{big_number}
+use Rattle.of_wire.specs.declared.codes.TheConstants.{OFPBAC_BAD_SET_ARGUMENT, OFPBAC_BAD_SET_LEN, OFPBAC_BAD_SET_TYPE}
 use Rattle.of_wire.specs.declared.code.Code.{Code}
-use Rattle.of_wire.specs.Refusals.{refusal}
 use Rattle.of_layers.specs.declared.field.Field.{Field}
 use Rattle.of_layers.specs.Fields.{bytes_of, ones_of, is_settable, field_at}
 use Rattle.of_actions.specs.Beginnings.{len_at}
@@ -25,10 +25,10 @@ set_len f = (8 + bytes_of f + 7) / 8 * 8
 
 abbrev pub known_set_refusals : List ℕ → Field → List (Bool × Code)
 known_set_refusals rest f =
-    (not (slice_index rest 7 == bytes_of f) || not (len_at rest == set_len f), refusal 2 14)
-    ∷ (nat_lt (ones_of f) (set_value_at f rest), refusal 2 15)
+    (not (slice_index rest 7 == bytes_of f) || not (len_at rest == set_len f), OFPBAC_BAD_SET_LEN)
+    ∷ (nat_lt (ones_of f) (set_value_at f rest), OFPBAC_BAD_SET_ARGUMENT)
     ∷ []
 
 -- its refusals, in order (7.4.4): OFPBAC_BAD_SET_TYPE, OFPBAC_BAD_SET_LEN and OFPBAC_BAD_SET_ARGUMENT
 unfoldable pub set_refusals : List ℕ → List (Bool × Code)
-set_refusals rest = option_map_or (known_set_refusals rest) (set_field_at rest) ((true, refusal 2 13) ∷ [])
+set_refusals rest = option_map_or (known_set_refusals rest) (set_field_at rest) ((true, OFPBAC_BAD_SET_TYPE) ∷ [])

@@ -6,14 +6,15 @@ ghost use Rattle.of_actions.specs.Beginnings.{type_at, len_at};
 ghost use Rattle.of_actions.specs.CanonicalActions.{canonical_action};
 ghost use Rattle.of_actions.specs.Supported.{is_supported};
 
-use crate::codes::{
-    BAD_ACTION_EXPERIMENTER, BAD_ACTION_LEN, BAD_ACTION_TYPE, BAD_ARGUMENT, BAD_OUT_PORT,
-};
 use crate::port_number::is_port;
 use crate::set_field::{put_set_field, read_set_field};
 use byteorder::{BigEndian, ByteOrder};
 use of_layers::Field;
 use of_wire::Code;
+use of_wire::codes::{
+    OFPBAC_BAD_ARGUMENT, OFPBAC_BAD_EXPERIMENTER, OFPBAC_BAD_LEN, OFPBAC_BAD_OUT_PORT,
+    OFPBAC_BAD_TYPE,
+};
 use std::alloc::AllocError;
 
 /// What is done to a packet (OpenFlow 1.3.5, 5.12 and 7.2.5).
@@ -76,12 +77,12 @@ fn read_output(rest: &[u8], len: usize, packet_out: bool) -> Result<Action, Code
     ensures first { IfErr result (λ code. first_of (type_refusals packet_out rest.now) ≡ Some code) }
 {
     if len != 16 {
-        return Err(BAD_ACTION_LEN);
+        return Err(OFPBAC_BAD_LEN);
     }
     let (_, body) = rest.split_at(4);
     let port = BigEndian::read_u32(body);
     if !is_port(packet_out, port) {
-        return Err(BAD_OUT_PORT);
+        return Err(OFPBAC_BAD_OUT_PORT);
     }
     let (_, after) = rest.split_at(8);
     let max_len = BigEndian::read_u16(after);
@@ -100,12 +101,12 @@ fn read_push_vlan(rest: &[u8], len: usize, packet_out: bool) -> Result<Action, C
     ensures first { IfErr result (λ code. first_of (type_refusals packet_out rest.now) ≡ Some code) }
 {
     if len != 8 {
-        return Err(BAD_ACTION_LEN);
+        return Err(OFPBAC_BAD_LEN);
     }
     let (_, body) = rest.split_at(4);
     let ethertype = BigEndian::read_u16(body);
     if ethertype != 0x8100 && ethertype != 0x88a8 {
-        return Err(BAD_ARGUMENT);
+        return Err(OFPBAC_BAD_ARGUMENT);
     }
     Ok(Action::PushVlan(ethertype))
 }
@@ -114,12 +115,12 @@ fn read_push_vlan(rest: &[u8], len: usize, packet_out: bool) -> Result<Action, C
 fn with_eight_bytes(action: Action, len: usize) -> Result<Action, Code>
     ensures eight { OnOk result ((len == 8) ≡ true) }
     ensures same { IfOk result (λ read. read ≡ action) }
-    ensures other { IfErr result (λ code. ((len == 8) ≡ false) × (code ≡ record { kind = 2; code = 1 })) }
+    ensures other { IfErr result (λ code. ((len == 8) ≡ false) × (code ≡ OFPBAC_BAD_LEN)) }
 {
     if len == 8 {
         Ok(action)
     } else {
-        Err(BAD_ACTION_LEN)
+        Err(OFPBAC_BAD_LEN)
     }
 }
 
@@ -143,8 +144,8 @@ pub(crate) fn read_type(rest: &[u8], len: usize, packet_out: bool) -> Result<Act
         23 => with_eight_bytes(Action::SetNwTtl(rest[4]), len),
         24 => with_eight_bytes(Action::DecNwTtl, len),
         25 => read_set_field(rest, len),
-        0xffff => Err(BAD_ACTION_EXPERIMENTER),
-        _ => Err(BAD_ACTION_TYPE),
+        0xffff => Err(OFPBAC_BAD_EXPERIMENTER),
+        _ => Err(OFPBAC_BAD_TYPE),
     }
 }
 

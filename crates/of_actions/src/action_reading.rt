@@ -11,8 +11,8 @@ ghost use Rattle.of_actions.specs.Supported.{are_supported, is_supported};
 
 use crate::action::{Action, read_type};
 use crate::action_list::ActionList;
-use crate::codes::{BAD_ACTION_LEN, TOO_MANY_ACTIONS};
 use byteorder::{BigEndian, ByteOrder};
+use of_wire::codes::{OFPBAC_BAD_LEN, OFPBAC_TOO_MANY};
 use of_wire::{Code, ReadError};
 use std::alloc::Global;
 
@@ -35,15 +35,15 @@ fn read_action(rest: &[u8], seen: &[Action], packet_out: bool) -> Result<(Action
     ensures first { IfErr result (λ code. first_of (action_refusals packet_out seen.now rest.now) ≡ Some code) }
 {
     if seen.len() >= MOST_ACTIONS {
-        return Err(TOO_MANY_ACTIONS);
+        return Err(OFPBAC_TOO_MANY);
     }
     if rest.len() < 4 {
-        return Err(BAD_ACTION_LEN);
+        return Err(OFPBAC_BAD_LEN);
     }
     let (_, after) = rest.split_at(2);
     let len = BigEndian::read_u16(after) as usize;
     if len < 8 || len % 8 != 0 || rest.len() < len {
-        return Err(BAD_ACTION_LEN);
+        return Err(OFPBAC_BAD_LEN);
     }
     let action = read_type(rest, len, packet_out)?;
     Ok((action, len))

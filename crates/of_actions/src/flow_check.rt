@@ -5,10 +5,10 @@ ghost use Rattle.std.specs.List.{list_all};
 ghost use Rattle.of_actions.specs.FlowCheck.{is_prerequisite_met as need_is_met, are_needs_met as needs_are_met, goes_with as instruction_goes_with, all_go_with};
 
 use crate::action::Action;
-use crate::codes::MATCH_INCONSISTENT;
 use crate::instruction::Instruction;
 use of_oxm::{Match, MatchField, is_met};
 use of_wire::Code;
+use of_wire::codes::OFPBAC_MATCH_INCONSISTENT;
 
 fn is_prerequisite_met(fields: &[MatchField], action: Action) -> bool
     ensures { result ≡ need_is_met fields.now action }
@@ -54,11 +54,11 @@ fn all_go(fields: &[MatchField], instructions: &[Instruction]) -> bool
 /// (OpenFlow 1.3.5, 5.12, 7.2.3.6 and 7.4.4). Fields of Ethernet and of the VLAN tag are not checked.
 pub fn check_flow(fields: &Match, instructions: &[Instruction]) -> Result<(), Code>
     ensures ok { OnOk result (all_go_with fields.now instructions.now ≡ true) }
-    ensures err { IfErr result (λ code. (code ≡ refusal 2 10) × (all_go_with fields.now instructions.now ≡ false)) }
+    ensures err { IfErr result (λ code. (code ≡ OFPBAC_MATCH_INCONSISTENT) × (all_go_with fields.now instructions.now ≡ false)) }
 {
     if all_go(fields.fields(), instructions) {
         Ok(())
     } else {
-        Err(MATCH_INCONSISTENT)
+        Err(OFPBAC_MATCH_INCONSISTENT)
     }
 }

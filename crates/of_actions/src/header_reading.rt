@@ -8,12 +8,12 @@ ghost use Rattle.of_actions.specs.Beginnings.{type_at, len_at};
 ghost use Rattle.of_actions.specs.Headers.{Header as AHeader, AreHeaders, header_at, header_refusals, is_known as is_known_kind, is_next as is_next_table, is_size as is_size_of_kind, kind_of, table_at};
 ghost use Rattle.of_actions.specs.Unread.{is_sound, leads_on};
 
-use crate::codes::{
-    BAD_INSTRUCTION_EXPERIMENTER, BAD_INSTRUCTION_LEN, BAD_TABLE_ID, UNKNOWN_INSTRUCTION,
-    UNSUPPORTED_INSTRUCTION,
-};
 use crate::unread::{Header, UnreadInstruction};
 use byteorder::{BigEndian, ByteOrder};
+use of_wire::codes::{
+    OFPBIC_BAD_EXPERIMENTER, OFPBIC_BAD_LEN, OFPBIC_BAD_TABLE_ID, OFPBIC_UNKNOWN_INST,
+    OFPBIC_UNSUP_INST,
+};
 use of_wire::{Code, ReadError};
 use std::alloc::Global;
 
@@ -58,14 +58,14 @@ fn read_fields(rest: &[u8], kind: u16, len: usize, table: u8) -> Result<UnreadIn
     ensures header { IfOk result (λ header. header_at rest.now ≡ Some header) }
     ensures sound { IfOk result (λ header. is_sound header ≡ true) }
     ensures leads_on { IfOk result (λ header. leads_on table header ≡ true) }
-    ensures table { IfErr result (λ code. (((kind == 1) && not (is_next_table table (table_at rest.now))) ≡ true) × (code ≡ record { kind = 3; code = 2 })) }
+    ensures table { IfErr result (λ code. (((kind == 1) && not (is_next_table table (table_at rest.now))) ≡ true) × (code ≡ OFPBIC_BAD_TABLE_ID)) }
 {
     let (_, body) = rest.split_at(8);
     let header = match kind {
         1 => {
             let to = rest[4];
             if !is_next(table, to) {
-                return Err(BAD_TABLE_ID);
+                return Err(OFPBIC_BAD_TABLE_ID);
             }
             Header::Goto(to)
         }
@@ -101,28 +101,28 @@ fn read_header<'a>(
     ensures first { IfErr result (λ code. first_of (header_refusals table seen.now rest.now) ≡ Some code) }
 {
     if rest.len() < 4 {
-        return Err(BAD_INSTRUCTION_LEN);
+        return Err(OFPBIC_BAD_LEN);
     }
     let (_, after) = rest.split_at(2);
     let len = BigEndian::read_u16(after) as usize;
     if len < 8 || len % 8 != 0 || rest.len() < len {
-        return Err(BAD_INSTRUCTION_LEN);
+        return Err(OFPBIC_BAD_LEN);
     }
     let kind = BigEndian::read_u16(rest);
     if !is_size(kind, len) {
-        return Err(BAD_INSTRUCTION_LEN);
+        return Err(OFPBIC_BAD_LEN);
     }
     if kind == 6 {
-        return Err(UNSUPPORTED_INSTRUCTION);
+        return Err(OFPBIC_UNSUP_INST);
     }
     if kind == 0xffff {
-        return Err(BAD_INSTRUCTION_EXPERIMENTER);
+        return Err(OFPBIC_BAD_EXPERIMENTER);
     }
     if !is_known(kind) {
-        return Err(UNKNOWN_INSTRUCTION);
+        return Err(OFPBIC_UNKNOWN_INST);
     }
     if is_used(kind, seen) {
-        return Err(UNSUPPORTED_INSTRUCTION);
+        return Err(OFPBIC_UNSUP_INST);
     }
     let header = read_fields(rest, kind, len, table)?;
     Ok((header, len))

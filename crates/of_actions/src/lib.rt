@@ -5,7 +5,6 @@ mod action;
 mod action_list;
 mod action_reading;
 mod action_writing;
-mod codes;
 mod flow_check;
 mod header_reading;
 mod instruction;

@@ -9,9 +9,9 @@ ghost use Rattle.of_actions.specs.CanonicalActions.{canonical_set_field};
 ghost use Rattle.of_actions.specs.Supported.{is_supported};
 
 use crate::action::Action;
-use crate::codes::{BAD_SET_ARGUMENT, BAD_SET_LEN, BAD_SET_TYPE};
 use byteorder::{BigEndian, ByteOrder};
 use of_layers::Field;
+use of_wire::codes::{OFPBAC_BAD_SET_ARGUMENT, OFPBAC_BAD_SET_LEN, OFPBAC_BAD_SET_TYPE};
 use of_wire::{Code, put_number};
 use std::alloc::AllocError;
 
@@ -41,16 +41,16 @@ pub(crate) fn read_set_field(rest: &[u8], len: usize) -> Result<Action, Code>
     ensures first { IfErr result (λ code. first_of (set_refusals rest.now) ≡ Some code) }
 {
     let Some(field) = field_to_set(rest) else {
-        return Err(BAD_SET_TYPE);
+        return Err(OFPBAC_BAD_SET_TYPE);
     };
     let row = field.row();
     if rest[7] as usize != row.bytes || len != (8 + row.bytes + 7) / 8 * 8 {
-        return Err(BAD_SET_LEN);
+        return Err(OFPBAC_BAD_SET_LEN);
     }
     let (_, body) = rest.split_at(8);
     let value = BigEndian::read_uint128(body, row.bytes);
     if row.ones < value {
-        return Err(BAD_SET_ARGUMENT);
+        return Err(OFPBAC_BAD_SET_ARGUMENT);
     }
     Ok(Action::SetField { field, value })
 }

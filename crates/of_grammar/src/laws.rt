@@ -34,7 +34,7 @@ pub fn read_exactly(bytes: &[u8])
 pub fn read_as_exactly(role: Role, bytes: &[u8])
     ensures found { (m : Message) → message_from role bytes.now ≡ Ok m → Spells (xid_of bytes.now) m bytes.now × MaySend role m }
     ensures only { (xid : ℕ) (m : Message) → Spells xid m bytes.now → MaySend role m → message_from role bytes.now ≡ Ok m }
-    ensures slave { (xid : ℕ) (m : Message) → Spells xid m bytes.now → changes m ≡ true → message_from Slave bytes.now ≡ Err (refusal 1 10) }
+    ensures slave { (xid : ℕ) (m : Message) → Spells xid m bytes.now → changes m ≡ true → message_from Slave bytes.now ≡ Err OFPBRC_IS_SLAVE }
 {}
 
 /// No bytes spell two messages of a controller or of this switch, or have two transaction ids.

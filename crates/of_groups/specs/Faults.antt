@@ -1,8 +1,8 @@
 -- Why a change of groups is refused (OpenFlow 1.3.5, 6.5 and 7.4.4), in the written order. What the message alone decides was refused before.
 use Rattle.std.specs.Prelude.{ℕ, ◌==◌, nat_le, Bool, false, not, List, length, Option, Some, None, Result, Ok, Err, if◌then◌else◌}
 use Rattle.std.specs.List.{list_any}
+use Rattle.of_wire.specs.declared.codes.TheConstants.{OFPBAC_BAD_OUT_GROUP, OFPGMFC_BAD_WATCH, OFPGMFC_CHAINED_GROUP, OFPGMFC_GROUP_EXISTS, OFPGMFC_INVALID_GROUP, OFPGMFC_LOOP, OFPGMFC_OUT_OF_GROUPS, OFPGMFC_UNKNOWN_GROUP}
 use Rattle.of_wire.specs.declared.code.Code.{Code}
-use Rattle.of_wire.specs.Refusals.{refusal}
 use Rattle.of_groups.specs.declared.bucket.Bucket.{Bucket}
 use Rattle.of_groups.specs.declared.group.Group.{Group}
 use Rattle.of_groups.specs.declared.group.GroupKind.{GroupKind}
@@ -15,15 +15,15 @@ use Rattle.of_groups.specs.Chains.{is_long}
 
 -- each fault as an error; running out of memory is none
 abbrev pub code_of : GroupFault → Option Code
-code_of BadWatch = Some (refusal 6 13)
-code_of NotOneBucket = Some (refusal 6 1)
-code_of Exists = Some (refusal 6 0)
-code_of Full = Some (refusal 6 3)
-code_of Unknown = Some (refusal 6 8)
-code_of AbsentGroup = Some (refusal 2 9)
-code_of AbsentWatch = Some (refusal 6 13)
-code_of LongChain = Some (refusal 6 7)
-code_of Named = Some (refusal 6 9)
+code_of BadWatch = Some OFPGMFC_BAD_WATCH
+code_of NotOneBucket = Some OFPGMFC_INVALID_GROUP
+code_of Exists = Some OFPGMFC_GROUP_EXISTS
+code_of Full = Some OFPGMFC_OUT_OF_GROUPS
+code_of Unknown = Some OFPGMFC_UNKNOWN_GROUP
+code_of AbsentGroup = Some OFPBAC_BAD_OUT_GROUP
+code_of AbsentWatch = Some OFPGMFC_BAD_WATCH
+code_of LongChain = Some OFPGMFC_LOOP
+code_of Named = Some OFPGMFC_CHAINED_GROUP
 code_of NoMemory = None
 
 -- the fault in a result; running out of memory is none

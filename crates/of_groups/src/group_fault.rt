@@ -3,6 +3,10 @@ ghost use Rattle.std.specs.Prelude.{◌≡◌};
 ghost use Rattle.of_groups.specs.Faults.{code_of};
 
 use of_wire::Code;
+use of_wire::codes::{
+    OFPBAC_BAD_OUT_GROUP, OFPGMFC_BAD_WATCH, OFPGMFC_CHAINED_GROUP, OFPGMFC_GROUP_EXISTS,
+    OFPGMFC_INVALID_GROUP, OFPGMFC_LOOP, OFPGMFC_OUT_OF_GROUPS, OFPGMFC_UNKNOWN_GROUP,
+};
 
 /// Why a group is not added, modified or deleted (OpenFlow 1.3.5, 6.5 and 7.4.4), in the order in which the faults are checked.
 #[derive(Clone, Copy, Debug, PartialEq, Eq)]
@@ -33,17 +37,17 @@ impl GroupFault {
     pub fn code(self) -> Option<Code>
         ensures { result ≡ code_of self }
     {
-        let (kind, code) = match self {
-            GroupFault::NotOneBucket => (6, 1),
-            GroupFault::Exists => (6, 0),
-            GroupFault::Full => (6, 3),
-            GroupFault::Unknown => (6, 8),
-            GroupFault::BadWatch | GroupFault::AbsentWatch => (6, 13),
-            GroupFault::AbsentGroup => (2, 9),
-            GroupFault::LongChain => (6, 7),
-            GroupFault::Named => (6, 9),
+        let code = match self {
+            GroupFault::NotOneBucket => OFPGMFC_INVALID_GROUP,
+            GroupFault::Exists => OFPGMFC_GROUP_EXISTS,
+            GroupFault::Full => OFPGMFC_OUT_OF_GROUPS,
+            GroupFault::Unknown => OFPGMFC_UNKNOWN_GROUP,
+            GroupFault::BadWatch | GroupFault::AbsentWatch => OFPGMFC_BAD_WATCH,
+            GroupFault::AbsentGroup => OFPBAC_BAD_OUT_GROUP,
+            GroupFault::LongChain => OFPGMFC_LOOP,
+            GroupFault::Named => OFPGMFC_CHAINED_GROUP,
             GroupFault::NoMemory => return None,
         };
-        Some(Code { kind, code })
+        Some(code)
     }
 }

@@ -1,8 +1,8 @@
 -- Buckets of a group on the wire (OpenFlow 1.3.5, 7.3.4.2): their length, weight, watched port and watched group, four bytes of padding, and actions.
 use Rattle.std.specs.Prelude.{ℕ, ◌-◌, ◌%◌, ◌==◌, nat_lt, Bool, true, false, not, ◌||◌, List, [], ◌∷◌, length, take, drop, Option, Some, None, Result, Ok, Err}
 use Rattle.byteorder.specs.Endian.{big_number}
+use Rattle.of_wire.specs.declared.codes.TheConstants.{OFPGMFC_BAD_BUCKET, OFPGMFC_OUT_OF_BUCKETS}
 use Rattle.of_wire.specs.declared.code.Code.{Code}
-use Rattle.of_wire.specs.Refusals.{refusal}
 use Rattle.of_wire.specs.Items.{Items, items_of}
 use Rattle.of_actions.specs.declared.action.Action.{Action}
 use Rattle.of_actions.specs.Actions.{actions_said}
@@ -24,9 +24,9 @@ fault_of (Err code) = (true, code) ∷ []
 -- The refusals of the bucket that begins `rest`, in order, after the buckets `seen`: OFPGMFC_OUT_OF_BUCKETS for the 17th, OFPGMFC_BAD_BUCKET for a length that is none, and that of its actions.
 unfoldable pub bucket_refusals : List Bucket → List ℕ → List (Bool × Code)
 bucket_refusals seen rest =
-    (nat_lt 15 (length seen), refusal 6 4)
-    ∷ (nat_lt (length rest) (size tables.bucket), refusal 6 12)
-    ∷ (nat_lt (len_at rest) (size tables.bucket) || not (len_at rest % 8 == 0) || nat_lt (length rest) (len_at rest), refusal 6 12)
+    (nat_lt 15 (length seen), OFPGMFC_OUT_OF_BUCKETS)
+    ∷ (nat_lt (length rest) (size tables.bucket), OFPGMFC_BAD_BUCKET)
+    ∷ (nat_lt (len_at rest) (size tables.bucket) || not (len_at rest % 8 == 0) || nat_lt (length rest) (len_at rest), OFPGMFC_BAD_BUCKET)
     ∷ fault_of (actions_said false (actions_in rest))
 
 -- a bucket whose counters are 0

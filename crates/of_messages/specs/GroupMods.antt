@@ -1,7 +1,7 @@
 -- GROUP_MOD (OpenFlow 1.3.5, 7.3.4.2): its command, the group's type and number, and its buckets.
 use Rattle.std.specs.Prelude.{ℕ, ◌+◌, ◌==◌, nat_lt, Bool, List, [], ◌∷◌, drop, Option, Some, None, Result, Ok, Err, if◌then◌else◌}
+use Rattle.of_wire.specs.declared.codes.TheConstants.{OFPBRC_BAD_LEN, OFPGMFC_BAD_COMMAND, OFPGMFC_BAD_TYPE, OFPGMFC_INVALID_GROUP}
 use Rattle.of_wire.specs.declared.code.Code.{Code}
-use Rattle.of_wire.specs.Refusals.{refusal}
 use Rattle.of_groups.specs.declared.bucket.Bucket.{Bucket}
 use Rattle.of_groups.specs.declared.group.GroupKind.{GroupKind}
 use Rattle.of_groups.specs.declared.group.GroupKind.TheVariants.{All, Indirect, FastFailover}
@@ -34,8 +34,8 @@ all_groups = 0xfffffffc
 -- OFPGMFC_INVALID_GROUP, OFPGMFC_BAD_TYPE, and then the refusal of its buckets
 abbrev pub group_of : ℕ → ℕ → List ℕ → Result NewGroup Code
 group_of type id rest = do
-  good ← unless ((is_above id, refusal 6 1) ∷ [])
-  kind ← known (kind_of type) (refusal 6 10)
+  good ← unless ((is_above id, OFPGMFC_INVALID_GROUP) ∷ [])
+  kind ← known (kind_of type) OFPGMFC_BAD_TYPE
   buckets ← buckets_said rest
   Ok (record { id = id; kind = kind; buckets = buckets })
 
@@ -43,7 +43,7 @@ group_of type id rest = do
 abbrev pub delete_of : ℕ → Result GroupMod Code
 delete_of number =
     if number == all_groups then Ok (Delete None)
-    else (if is_above number then Err (refusal 6 1) else Ok (Delete (Some number)))
+    else (if is_above number then Err OFPGMFC_INVALID_GROUP else Ok (Delete (Some number)))
 
 abbrev pub group_mod_for : GroupCommand → ℕ → ℕ → List ℕ → Result GroupMod Code
 group_mod_for command.Add type id rest = group_of type id rest >>= λ g. Ok (Add g)
@@ -52,8 +52,8 @@ group_mod_for command.Delete type id rest = delete_of id
 
 -- OFPGMFC_BAD_COMMAND, and then by the command
 abbrev pub group_mod_by : List ℕ → List ℕ → Result GroupMod Code
-group_mod_by (c ∷ type ∷ id ∷ []) rest = known (command_of c) (refusal 6 11) >>= λ command. group_mod_for command type id rest
-group_mod_by other rest = Err (refusal 1 6)
+group_mod_by (c ∷ type ∷ id ∷ []) rest = known (command_of c) OFPGMFC_BAD_COMMAND >>= λ command. group_mod_for command type id rest
+group_mod_by other rest = Err OFPBRC_BAD_LEN
 
 abbrev pub group_mod_of : List ℕ → Result GroupMod Code
 group_mod_of m = group_mod_by (numbers tables.group_mod 8 m) (drop (8 + size tables.group_mod) m)

@@ -1,8 +1,8 @@
 -- The header of a message (OpenFlow 1.3.5, 7.1), and the refusals before its body is read (7.4.4).
 use Rattle.std.specs.Prelude.{◌≡◌, ◌≤◌, ℕ, ◌+◌, ◌==◌, nat_lt, Bool, true, false, not, ◌&&◌, ◌||◌, List, [], ◌∷◌, length, drop, slice_index, find, Option, Some, None, is_some, if◌then◌else◌}
 use Rattle.byteorder.specs.Endian.{big_number}
+use Rattle.of_wire.specs.declared.codes.TheConstants.{OFPBRC_BAD_EXPERIMENTER, OFPBRC_BAD_LEN, OFPBRC_BAD_TYPE, OFPBRC_BAD_VERSION, OFPBRC_IS_SLAVE}
 use Rattle.of_wire.specs.declared.code.Code.{Code}
-use Rattle.of_wire.specs.Refusals.{refusal}
 use Rattle.of_formats.specs.Structs.{size}
 use Rattle.of_formats.specs.Tables.{MessageFormat, messages, Way, read, sent, both, neither, Rest, nothing, anything, matched}
 use Rattle.of_messages.specs.declared.head.Size.{Size}
@@ -119,12 +119,12 @@ actions_length m = big_number 2 (drop 16 m)
 -- for the length, the version (a HELLO may have any), the type (an EXPERIMENTER has a code of its own), and the size of the type; a PACKET_OUT must hold its actions
 abbrev pub head_refusals : List ℕ → List (Bool × Code)
 head_refusals m =
-    (nat_lt (length m) 8 || not (header_length m == length m), refusal 1 6)
-    ∷ (not (type_of m == hello) && not (version_of m == 4), refusal 1 0)
-    ∷ (type_of m == experimenter, refusal 1 3)
-    ∷ (not (is_supported (type_of m)), refusal 1 1)
-    ∷ (is_bad_size (size_of (type_of m)) (length m), refusal 1 6)
-    ∷ (type_of m == packet_out && nat_lt (length m) (24 + actions_length m), refusal 1 6)
+    (nat_lt (length m) 8 || not (header_length m == length m), OFPBRC_BAD_LEN)
+    ∷ (not (type_of m == hello) && not (version_of m == 4), OFPBRC_BAD_VERSION)
+    ∷ (type_of m == experimenter, OFPBRC_BAD_EXPERIMENTER)
+    ∷ (not (is_supported (type_of m)), OFPBRC_BAD_TYPE)
+    ∷ (is_bad_size (size_of (type_of m)) (length m), OFPBRC_BAD_LEN)
+    ∷ (type_of m == packet_out && nat_lt (length m) (24 + actions_length m), OFPBRC_BAD_LEN)
     ∷ []
 
 -- THE ROLE
@@ -144,7 +144,7 @@ is_change type = changes_by (format_of type)
 
 -- OFPBRC_IS_SLAVE
 abbrev pub role_refusals : Role → List ℕ → List (Bool × Code)
-role_refusals role m = (is_slave role && is_change (type_of m), refusal 1 10) ∷ []
+role_refusals role m = (is_slave role && is_change (type_of m), OFPBRC_IS_SLAVE) ∷ []
 
 -- WHAT HOLDS FOR A HEADER that is not refused
 

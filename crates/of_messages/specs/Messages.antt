@@ -1,7 +1,8 @@
 -- What the bytes of a message say (OpenFlow 1.3.5, 7.1 and 7.3), or the first refusal in the written order (7.4.4).
 use Rattle.std.specs.Prelude.{ℕ, ◌+◌, ◌==◌, nat_lt, Bool, true, false, not, ◌&&◌, ◌||◌, List, [], ◌∷◌, ◌++◌, take, drop, slice_index, Option, Some, None, is_none, Result, Ok, Err, if◌then◌else◌}
+use Rattle.of_wire.specs.declared.codes.TheConstants.{OFPBAC_MATCH_INCONSISTENT, OFPBRC_BAD_LEN, OFPBRC_BAD_PACKET, OFPBRC_BAD_PORT, OFPBRC_BAD_TYPE, OFPFMFC_BAD_COMMAND, OFPFMFC_BAD_FLAGS, OFPFMFC_BAD_TABLE_ID}
 use Rattle.of_wire.specs.declared.code.Code.{Code}
-use Rattle.of_wire.specs.Refusals.{refusal, first_of}
+use Rattle.of_wire.specs.Refusals.{first_of}
 use Rattle.of_oxm.specs.MatchReading.{match_of}
 use Rattle.of_actions.specs.declared.instruction.Instruction.{Instruction}
 use Rattle.of_actions.specs.Actions.{actions_said}
@@ -55,8 +56,8 @@ is_bad_table table command = nat_lt 15 table && not (is_delete command && table 
 -- the command, unless it, the table or the flags (five are known) are refused
 unfoldable pub command_said : ℕ → ℕ → ℕ → Result FlowModCommand Code
 command_said c table flags = do
-  command ← known (command_of c) (refusal 5 6)
-  good ← unless ((is_bad_table table command, refusal 5 2) ∷ (nat_lt 31 flags, refusal 5 7) ∷ [])
+  command ← known (command_of c) OFPFMFC_BAD_COMMAND
+  good ← unless ((is_bad_table table command, OFPFMFC_BAD_TABLE_ID) ∷ (nat_lt 31 flags, OFPFMFC_BAD_FLAGS) ∷ [])
   Ok command
 
 -- the two DELETE commands have no instructions, whatever follows the match
@@ -69,7 +70,7 @@ flow_mod_by (cookie ∷ cookie_mask ∷ table ∷ c ∷ idle ∷ hard ∷ priori
   command ← command_said c table flags
   m ← match_of rest
   instructions ← instructions_for command table (drop m.1 rest)
-  fit ← unless ((not (all_go_with m.0 instructions), refusal 2 10) ∷ [])
+  fit ← unless ((not (all_go_with m.0 instructions), OFPBAC_MATCH_INCONSISTENT) ∷ [])
   Ok (record {
     cookie = cookie;
     cookie_mask = cookie_mask;
@@ -85,7 +86,7 @@ flow_mod_by (cookie ∷ cookie_mask ∷ table ∷ c ∷ idle ∷ hard ∷ priori
     fields = m.0;
     instructions = instructions;
   })
-flow_mod_by other rest = Err (refusal 1 6)
+flow_mod_by other rest = Err OFPBRC_BAD_LEN
 
 abbrev pub flow_mod_of : List ℕ → Result FlowMod Code
 flow_mod_of m = flow_mod_by (numbers tables.flow_mod 8 m) (drop (8 + size tables.flow_mod) m)
@@ -100,17 +101,17 @@ is_ingress port = is_number port || port == controller
 abbrev pub packet_in_data : ℕ → List ℕ → Result PacketData Code
 packet_in_data buffer frame =
     if buffer == 0xffffffff
-    then (if is_none (frame_fault frame) then Ok (Frame frame) else Err (refusal 1 12))
+    then (if is_none (frame_fault frame) then Ok (Frame frame) else Err OFPBRC_BAD_PACKET)
     else Ok (Buffered buffer)
 
 -- OFPBRC_BAD_PORT
 abbrev pub packet_out_by : List ℕ → List ℕ → Result PacketOut Code
 packet_out_by (buffer ∷ in_port ∷ len ∷ []) rest = do
-  good ← unless ((not (is_ingress in_port), refusal 1 11) ∷ [])
+  good ← unless ((not (is_ingress in_port), OFPBRC_BAD_PORT) ∷ [])
   actions ← actions_said true (take len rest)
   packet ← packet_in_data buffer (drop len rest)
   Ok (record { in_port = in_port; actions = actions; packet = packet })
-packet_out_by other rest = Err (refusal 1 6)
+packet_out_by other rest = Err OFPBRC_BAD_LEN
 
 abbrev pub packet_out_of : List ℕ → Result PacketOut Code
 packet_out_of m = packet_out_by (numbers tables.packet_out 8 m) (drop (8 + size tables.packet_out) m)
@@ -137,7 +138,7 @@ body_of m =
     else if type_of m == role_request then role_request_of m >>= (λ v. Ok (IsRoleRequest v))
     else if type_of m == get_async_request then Ok GetAsyncRequest
     else if type_of m == set_async then Ok (SetAsync (async_masks_of m))
-    else Err (refusal 1 1)
+    else Err OFPBRC_BAD_TYPE
 
 abbrev pub message_by : List ℕ → Option Code → Result Message Code
 message_by m (Some code) = Err code

@@ -1,7 +1,8 @@
 -- MULTIPART_REQUEST (OpenFlow 1.3.5, 7.3.5).
 use Rattle.std.specs.Prelude.{ℕ, ◌+◌, ◌%◌, ◌==◌, Bool, not, ◌≡◌, ⊤, true, List, [], ◌∷◌, length, drop, Option, Some, None, is_none, Result, Ok, Err, if◌then◌else◌}
+use Rattle.of_wire.specs.declared.codes.TheConstants.{OFPBRC_BAD_LEN, OFPBRC_BAD_MULTIPART, OFPBRC_BAD_TABLE_ID, OFPBRC_MULTIPART_BUFFER_OVERFLOW}
 use Rattle.of_wire.specs.declared.code.Code.{Code}
-use Rattle.of_wire.specs.Refusals.{refusal, first_of}
+use Rattle.of_wire.specs.Refusals.{first_of}
 use Rattle.of_oxm.specs.MatchReading.{match_of}
 use Rattle.of_messages.specs.declared.head.Size.{Size}
 use Rattle.of_messages.specs.declared.head.Size.TheVariants.{Exact, Least}
@@ -45,9 +46,9 @@ size_asked (Some kind) = Some (size_of kind)
 -- OFPBRC_BAD_MULTIPART for an unsupported type, OFPBRC_MULTIPART_BUFFER_OVERFLOW for a request in parts (OFPMPF_REQ_MORE), OFPBRC_BAD_LEN
 abbrev pub refusals_by : List ℕ → ℕ → List (Bool × Code)
 refusals_by (type ∷ flags ∷ []) len =
-    (is_none (kind_of type), refusal 1 2)
-    ∷ (flags % 2 == 1, refusal 1 13)
-    ∷ (is_bad_size (size_asked (kind_of type)) len, refusal 1 6)
+    (is_none (kind_of type), OFPBRC_BAD_MULTIPART)
+    ∷ (flags % 2 == 1, OFPBRC_MULTIPART_BUFFER_OVERFLOW)
+    ∷ (is_bad_size (size_asked (kind_of type)) len, OFPBRC_BAD_LEN)
     ∷ []
 refusals_by other len = []
 
@@ -66,10 +67,10 @@ kind_in m = kind_by (numbers tables.multipart 8 m)
 -- OFPBRC_BAD_TABLE_ID, and then the refusal of the match; what follows the match is not read
 abbrev pub flow_stats_by : List ℕ → List ℕ → Result FlowStatsRequest Code
 flow_stats_by (table ∷ out_port ∷ out_group ∷ cookie ∷ cookie_mask ∷ []) rest = do
-  good ← unless ((not (names_table table), refusal 1 9) ∷ [])
+  good ← unless ((not (names_table table), OFPBRC_BAD_TABLE_ID) ∷ [])
   m ← match_of rest
   Ok (record { table = table; out_port = out_port; out_group = out_group; cookie = cookie; cookie_mask = cookie_mask; fields = m.0 })
-flow_stats_by other rest = Err (refusal 1 6)
+flow_stats_by other rest = Err OFPBRC_BAD_LEN
 
 abbrev pub flow_stats_of : List ℕ → Result FlowStatsRequest Code
 flow_stats_of m = flow_stats_by (numbers tables.flow_stats_request 16 m) (drop (16 + size tables.flow_stats_request) m)
@@ -103,7 +104,7 @@ request_of m kind.PortDescription = Ok PortDescription
 abbrev pub multipart_by : List ℕ → Option Code → Option MultipartKind → Result MultipartRequest Code
 multipart_by m (Some code) kind = Err code
 multipart_by m None (Some kind) = request_of m kind
-multipart_by m None None = Err (refusal 1 2)
+multipart_by m None None = Err OFPBRC_BAD_MULTIPART
 
 unfoldable pub multipart_of : List ℕ → Result MultipartRequest Code
 multipart_of m = multipart_by m (first_of (multipart_refusals m)) (kind_in m)

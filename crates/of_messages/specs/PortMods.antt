@@ -1,7 +1,7 @@
 -- PORT_MOD (OpenFlow 1.3.5, 7.3.4.3): the port with its hardware address, and the bits of its configuration under a mask.
 use Rattle.std.specs.Prelude.{ℕ, ◌==◌, bit_and, List, [], ◌∷◌, drop, slice_index, Result, Ok, Err, if◌then◌else◌}
+use Rattle.of_wire.specs.declared.codes.TheConstants.{OFPBRC_BAD_LEN, OFPPMFC_BAD_CONFIG}
 use Rattle.of_wire.specs.declared.code.Code.{Code}
-use Rattle.of_wire.specs.Refusals.{refusal}
 use Rattle.of_messages.specs.declared.port_mod.PortMod.{PortMod}
 use Rattle.of_formats.specs.Structs.{numbers, texts}
 use Rattle.of_formats.specs.Tables as tables
@@ -15,8 +15,8 @@ abbrev pub port_mod_by : List ℕ → List (List ℕ) → Result PortMod Code
 port_mod_by (port ∷ config ∷ mask ∷ []) (hw ∷ []) =
     if bit_and mask known_bits == mask
     then Ok (record { port = port; hw = hw; config = config; mask = mask })
-    else Err (refusal 7 2)
-port_mod_by other hw = Err (refusal 1 6)
+    else Err OFPPMFC_BAD_CONFIG
+port_mod_by other hw = Err OFPBRC_BAD_LEN
 
 abbrev pub port_mod_of : List ℕ → Result PortMod Code
 port_mod_of m = port_mod_by (numbers tables.port_mod 8 m) (texts tables.port_mod 8 m)

@@ -1,7 +1,7 @@
 -- The role of a controller (OpenFlow 1.3.5, 6.3.4 and 7.3.9), as it is requested and replied.
 use Rattle.std.specs.Prelude.{ℕ, ◌==◌, List, [], ◌∷◌, Option, Some, None, Result, Ok, Err, if◌then◌else◌}
+use Rattle.of_wire.specs.declared.codes.TheConstants.{OFPBRC_BAD_LEN, OFPRRFC_BAD_ROLE}
 use Rattle.of_wire.specs.declared.code.Code.{Code}
-use Rattle.of_wire.specs.Refusals.{refusal}
 use Rattle.of_messages.specs.declared.role.Role.{Role}
 use Rattle.of_messages.specs.declared.role.Role.TheVariants as role
 use Rattle.of_messages.specs.declared.role.RoleRequest.{RoleRequest}
@@ -21,8 +21,8 @@ asked_by number generation =
 
 -- OFPRRFC_BAD_ROLE
 abbrev pub role_request_by : List ℕ → Result RoleRequest Code
-role_request_by (role ∷ generation_id ∷ []) = known (asked_by role generation_id) (refusal 11 2)
-role_request_by other = Err (refusal 1 6)
+role_request_by (role ∷ generation_id ∷ []) = known (asked_by role generation_id) OFPRRFC_BAD_ROLE
+role_request_by other = Err OFPBRC_BAD_LEN
 
 abbrev pub role_request_of : List ℕ → Result RoleRequest Code
 role_request_of m = role_request_by (numbers tables.role 8 m)

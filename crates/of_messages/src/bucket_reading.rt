@@ -9,12 +9,9 @@ use crate::reading::rest_from;
 use byteorder::{BigEndian, ByteOrder};
 use of_actions::read_actions;
 use of_groups::{Bucket, Buckets};
-use of_wire::{Code, ReadError};
+use of_wire::ReadError;
+use of_wire::codes::{OFPGMFC_BAD_BUCKET, OFPGMFC_OUT_OF_BUCKETS};
 use std::alloc::Global;
-
-const OUT_OF_BUCKETS: Code = Code { kind: 6, code: 4 };
-
-const BAD_BUCKET: Code = Code { kind: 6, code: 12 };
 
 // The bucket that the bytes begin with, and its size.
 #[tactic(auto, unfolding(crate::specs::Buckets::bucket_refusals, crate::specs::Buckets::bucket_at))]
@@ -29,14 +26,14 @@ fn read_bucket(alloc: Global, rest: &[u8], seen: &[Bucket]) -> Result<(Bucket, u
     ensures first { IfErr result (Fails (λ code. first_of (bucket_refusals seen.now rest.now) ≡ Some code)) }
 {
     if seen.len() > 15 {
-        return Err(ReadError::Refused(OUT_OF_BUCKETS));
+        return Err(ReadError::Refused(OFPGMFC_OUT_OF_BUCKETS));
     }
     if rest.len() < 16 {
-        return Err(ReadError::Refused(BAD_BUCKET));
+        return Err(ReadError::Refused(OFPGMFC_BAD_BUCKET));
     }
     let len = BigEndian::read_u16(rest) as usize;
     if len < 16 || len % 8 != 0 || rest.len() < len {
-        return Err(ReadError::Refused(BAD_BUCKET));
+        return Err(ReadError::Refused(OFPGMFC_BAD_BUCKET));
     }
     let (bytes, _) = rest_from(rest, 16).split_at(len - 16);
     let actions = read_actions(alloc, bytes, false)?;

@@ -8,12 +8,9 @@ use crate::message_bytes::MessageBytes;
 use crate::reading::rest_from;
 use crate::writing::put_header;
 use byteorder::{BigEndian, ByteOrder};
+use of_wire::codes::{OFPSCFC_BAD_FLAGS, OFPTMFC_BAD_TABLE};
 use of_wire::{Bytes, Code, ReadError, put_u16};
 use std::alloc::{AllocError, Global};
-
-const BAD_FLAGS: Code = Code { kind: 10, code: 0 };
-
-const BAD_TABLE: Code = Code { kind: 8, code: 0 };
 
 /// How many tables there are.
 const TABLES: u8 = 16;
@@ -51,7 +48,7 @@ pub(crate) fn read_set_config(message: &[u8]) -> Result<SwitchConfig, ReadError>
     ensures { Reads result (set_config_of message.now) }
 {
     if BigEndian::read_u16(rest_from(message, 8)) != 0 {
-        return Err(ReadError::Refused(BAD_FLAGS));
+        return Err(ReadError::Refused(OFPSCFC_BAD_FLAGS));
     }
     let miss_send_len = BigEndian::read_u16(rest_from(message, 10));
     Ok(SwitchConfig { miss_send_len })
@@ -63,7 +60,7 @@ pub(crate) fn read_table_mod(message: &[u8]) -> Result<TableMod, ReadError>
 {
     let table = message[8];
     if !names_table(table) {
-        return Err(ReadError::Refused(BAD_TABLE));
+        return Err(ReadError::Refused(OFPTMFC_BAD_TABLE));
     }
     let config = BigEndian::read_u32(rest_from(message, 12));
     Ok(TableMod { table, config })

@@ -9,14 +9,9 @@ use crate::bucket_reading::read_buckets;
 use crate::reading::rest_from;
 use byteorder::{BigEndian, ByteOrder};
 use of_groups::{Buckets, GROUP_MAX, GroupKind};
-use of_wire::{Code, ReadError};
+use of_wire::ReadError;
+use of_wire::codes::{OFPGMFC_BAD_COMMAND, OFPGMFC_BAD_TYPE, OFPGMFC_INVALID_GROUP};
 use std::alloc::Global;
-
-const INVALID_GROUP: Code = Code { kind: 6, code: 1 };
-
-const BAD_TYPE: Code = Code { kind: 6, code: 10 };
-
-const BAD_COMMAND: Code = Code { kind: 6, code: 11 };
 
 /// OFPG_ALL: all groups, of a DELETE.
 const ALL_GROUPS: u32 = 0xffff_fffc;
@@ -79,10 +74,10 @@ fn read_group(alloc: Global, message: &[u8]) -> Result<NewGroup, ReadError>
 {
     let id = BigEndian::read_u32(rest_from(message, 12));
     if id > GROUP_MAX {
-        return Err(ReadError::Refused(INVALID_GROUP));
+        return Err(ReadError::Refused(OFPGMFC_INVALID_GROUP));
     }
     let Some(kind) = kind_from(message[10]) else {
-        return Err(ReadError::Refused(BAD_TYPE));
+        return Err(ReadError::Refused(OFPGMFC_BAD_TYPE));
     };
     let buckets = read_buckets(alloc, rest_from(message, 16))?;
     Ok(NewGroup { id, kind, buckets })
@@ -96,7 +91,7 @@ fn delete_from(number: u32) -> Result<GroupMod, ReadError>
     if number == ALL_GROUPS {
         Ok(GroupMod::Delete(None))
     } else if number > GROUP_MAX {
-        Err(ReadError::Refused(INVALID_GROUP))
+        Err(ReadError::Refused(OFPGMFC_INVALID_GROUP))
     } else {
         Ok(GroupMod::Delete(Some(number)))
     }
@@ -111,6 +106,6 @@ pub(crate) fn read_group_mod(alloc: Global, message: &[u8]) -> Result<GroupMod, 
         Some(GroupCommand::Add) => Ok(GroupMod::Add(read_group(alloc, message)?)),
         Some(GroupCommand::Modify) => Ok(GroupMod::Modify(read_group(alloc, message)?)),
         Some(GroupCommand::Delete) => delete_from(BigEndian::read_u32(rest_from(message, 12))),
-        None => Err(ReadError::Refused(BAD_COMMAND)),
+        None => Err(ReadError::Refused(OFPGMFC_BAD_COMMAND)),
     }
 }

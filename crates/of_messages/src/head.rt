@@ -6,6 +6,9 @@ ghost use Rattle.of_messages.specs.Heads.{HasHead, actions_length, head_refusals
 use crate::role::Role;
 use byteorder::{BigEndian, ByteOrder};
 use of_wire::Code;
+use of_wire::codes::{
+    OFPBRC_BAD_EXPERIMENTER, OFPBRC_BAD_LEN, OFPBRC_BAD_TYPE, OFPBRC_BAD_VERSION, OFPBRC_IS_SLAVE,
+};
 
 pub const HELLO: u8 = 0;
 
@@ -42,16 +45,6 @@ pub const ROLE_REQUEST: u8 = 24;
 pub const GET_ASYNC_REQUEST: u8 = 26;
 
 pub const SET_ASYNC: u8 = 28;
-
-const BAD_VERSION: Code = Code { kind: 1, code: 0 };
-
-pub const BAD_TYPE: Code = Code { kind: 1, code: 1 };
-
-const BAD_EXPERIMENTER: Code = Code { kind: 1, code: 3 };
-
-pub const BAD_LEN: Code = Code { kind: 1, code: 6 };
-
-const IS_SLAVE: Code = Code { kind: 1, code: 10 };
 
 /// How many bytes a message of a type has, with its header.
 #[derive(Clone, Copy)]
@@ -120,23 +113,23 @@ pub fn check_head(message: &[u8]) -> Result<(), Code>
     ensures head { OnOk result (HasHead message.now) }
 {
     if message.len() < 8 || BigEndian::read_u16(&message[2..]) as usize != message.len() {
-        return Err(BAD_LEN);
+        return Err(OFPBRC_BAD_LEN);
     }
     let kind = message[1];
     if kind != HELLO && message[0] != 4 {
-        return Err(BAD_VERSION);
+        return Err(OFPBRC_BAD_VERSION);
     }
     if kind == EXPERIMENTER {
-        return Err(BAD_EXPERIMENTER);
+        return Err(OFPBRC_BAD_EXPERIMENTER);
     }
     let Some(size) = size_of_type(kind) else {
-        return Err(BAD_TYPE);
+        return Err(OFPBRC_BAD_TYPE);
     };
     if size.is_bad(message.len()) {
-        return Err(BAD_LEN);
+        return Err(OFPBRC_BAD_LEN);
     }
     if kind == PACKET_OUT && message.len() < 24 + actions_length_in(message) {
-        return Err(BAD_LEN);
+        return Err(OFPBRC_BAD_LEN);
     }
     Ok(())
 }
@@ -161,7 +154,7 @@ pub(crate) fn check_sender(role: Role, message: &[u8]) -> Result<(), Code>
 {
     check_head(message)?;
     if role == Role::Slave && is_change(message[1]) {
-        return Err(IS_SLAVE);
+        return Err(OFPBRC_IS_SLAVE);
     }
     Ok(())
 }

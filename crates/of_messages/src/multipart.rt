@@ -7,18 +7,15 @@ ghost use Rattle.of_messages.specs.Heads.{IsSized};
 ghost use Rattle.of_messages.specs.Multiparts.{IsSoundRequest, flow_stats_of, kind_in, kind_of, multipart_of, multipart_refusals, number_in, one_or_all as asked, request_of, size_of};
 
 use crate::config::names_table;
-use crate::head::{BAD_LEN, Size};
+use crate::head::Size;
 use crate::reading::rest_from;
 use byteorder::{BigEndian, ByteOrder};
 use of_oxm::{Match, read_match};
+use of_wire::codes::{
+    OFPBRC_BAD_LEN, OFPBRC_BAD_MULTIPART, OFPBRC_BAD_TABLE_ID, OFPBRC_MULTIPART_BUFFER_OVERFLOW,
+};
 use of_wire::{Code, ReadError};
 use std::alloc::Global;
-
-const BAD_MULTIPART: Code = Code { kind: 1, code: 2 };
-
-const BAD_TABLE: Code = Code { kind: 1, code: 9 };
-
-const BUFFER_OVERFLOW: Code = Code { kind: 1, code: 13 };
 
 /// OFPP_ANY: all ports.
 const ALL_PORTS: u32 = 0xffff_ffff;
@@ -111,13 +108,13 @@ fn check_multipart(message: &[u8]) -> Result<MultipartKind, Code>
     ensures sized { IfOk result (λ kind. IsSized (Some (size_of kind)) (length message.now)) }
 {
     let Some(kind) = kind_from(BigEndian::read_u16(rest_from(message, 8))) else {
-        return Err(BAD_MULTIPART);
+        return Err(OFPBRC_BAD_MULTIPART);
     };
     if BigEndian::read_u16(rest_from(message, 10)) % 2 == 1 {
-        return Err(BUFFER_OVERFLOW);
+        return Err(OFPBRC_MULTIPART_BUFFER_OVERFLOW);
     }
     if size_of_kind(kind).is_bad(message.len()) {
-        return Err(BAD_LEN);
+        return Err(OFPBRC_BAD_LEN);
     }
     Ok(kind)
 }
@@ -129,7 +126,7 @@ fn read_flow_stats(alloc: Global, message: &[u8]) -> Result<FlowStatsRequest, Re
 {
     let table = message[16];
     if !names_table(table) {
-        return Err(ReadError::Refused(BAD_TABLE));
+        return Err(ReadError::Refused(OFPBRC_BAD_TABLE_ID));
     }
     let (fields, _) = read_match(alloc, rest_from(message, 48))?;
     Ok(FlowStatsRequest {

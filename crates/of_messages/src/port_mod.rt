@@ -6,9 +6,8 @@ ghost use Rattle.of_formats.specs.Structs.{bytes_from};
 
 use crate::reading::rest_from;
 use byteorder::{BigEndian, ByteOrder};
-use of_wire::{Code, ReadError};
-
-const BAD_CONFIG: Code = Code { kind: 7, code: 2 };
+use of_wire::ReadError;
+use of_wire::codes::OFPPMFC_BAD_CONFIG;
 
 /// OFPPC_PORT_DOWN, OFPPC_NO_RECV, OFPPC_NO_FWD and OFPPC_NO_PACKET_IN, 1, 4, 32 and 64.
 const KNOWN_BITS: u32 = 101;
@@ -66,7 +65,7 @@ pub(crate) fn read_port_mod(message: &[u8]) -> Result<PortMod, ReadError>
 {
     let mask = BigEndian::read_u32(rest_from(message, 28));
     if mask & KNOWN_BITS != mask {
-        return Err(ReadError::Refused(BAD_CONFIG));
+        return Err(ReadError::Refused(OFPPMFC_BAD_CONFIG));
     }
     Ok(PortMod {
         port: BigEndian::read_u32(rest_from(message, 8)),

@@ -11,7 +11,7 @@ use crate::async_masks::read_async_masks;
 use crate::config::{read_set_config, read_table_mod};
 use crate::group_mod::read_group_mod;
 use crate::head::{
-    BAD_TYPE, BARRIER_REQUEST, ECHO_REPLY, ECHO_REQUEST, ERROR, FEATURES_REQUEST, FLOW_MOD,
+    BARRIER_REQUEST, ECHO_REPLY, ECHO_REQUEST, ERROR, FEATURES_REQUEST, FLOW_MOD,
     GET_ASYNC_REQUEST, GET_CONFIG_REQUEST, GROUP_MOD, HELLO, MULTIPART_REQUEST, PACKET_OUT,
     PORT_MOD, ROLE_REQUEST, SET_ASYNC, SET_CONFIG, TABLE_MOD, actions_length_in, check_sender,
 };
@@ -25,18 +25,12 @@ use of_actions::{
 };
 use of_headers::check_length;
 use of_oxm::read_match;
+use of_wire::codes::{
+    OFPBRC_BAD_PACKET, OFPBRC_BAD_PORT, OFPBRC_BAD_TYPE, OFPFMFC_BAD_COMMAND, OFPFMFC_BAD_FLAGS,
+    OFPFMFC_BAD_TABLE_ID,
+};
 use of_wire::{Bytes, Code, ReadError};
 use std::alloc::Global;
-
-const BAD_COMMAND: Code = Code { kind: 5, code: 6 };
-
-const BAD_TABLE: Code = Code { kind: 5, code: 2 };
-
-const BAD_FLAGS: Code = Code { kind: 5, code: 7 };
-
-const BAD_PORT: Code = Code { kind: 1, code: 11 };
-
-const BAD_PACKET: Code = Code { kind: 1, code: 12 };
 
 // OFP_NO_BUFFER.
 const NO_BUFFER: u32 = 0xffff_ffff;
@@ -66,14 +60,14 @@ fn check_flow_mod(message: &[u8]) -> Result<FlowModCommand, Code>
     ensures table { IfOk result (λ command. is_delete command ≡ false → slice_index message.now 24 < 16) }
 {
     let Some(command) = FlowModCommand::of_byte(message[25]) else {
-        return Err(BAD_COMMAND);
+        return Err(OFPFMFC_BAD_COMMAND);
     };
     let table = message[24];
     if table > LAST_TABLE && !(command.is_delete() && table == ALL_TABLES) {
-        return Err(BAD_TABLE);
+        return Err(OFPFMFC_BAD_TABLE_ID);
     }
     if BigEndian::read_u16(rest_from(message, 44)) > ALL_FLAGS {
-        return Err(BAD_FLAGS);
+        return Err(OFPFMFC_BAD_FLAGS);
     }
     Ok(command)
 }
@@ -144,7 +138,7 @@ fn read_packet(alloc: Global, buffer: u32, frame: &[u8]) -> Result<PacketData, R
     }
     match check_length(frame) {
         Ok(()) => Ok(PacketData::Frame(Bytes::from_slice(alloc, frame)?)),
-        Err(_) => Err(ReadError::Refused(BAD_PACKET)),
+        Err(_) => Err(ReadError::Refused(OFPBRC_BAD_PACKET)),
     }
 }
 
@@ -155,7 +149,7 @@ fn read_packet_out(alloc: Global, message: &[u8]) -> Result<PacketOut, ReadError
 {
     let in_port = BigEndian::read_u32(rest_from(message, 12));
     if !is_ingress(in_port) {
-        return Err(ReadError::Refused(BAD_PORT));
+        return Err(ReadError::Refused(OFPBRC_BAD_PORT));
     }
     let (bytes, frame) = rest_from(message, 24).split_at(actions_length_in(message));
     let actions = read_actions(alloc, bytes, true)?;
@@ -193,7 +187,7 @@ fn read_body(alloc: Global, message: &[u8]) -> Result<Message, ReadError>
         ROLE_REQUEST => Message::RoleRequest(read_role_request(message)?),
         GET_ASYNC_REQUEST => Message::GetAsyncRequest,
         SET_ASYNC => Message::SetAsync(read_async_masks(message)),
-        _ => return Err(ReadError::Refused(BAD_TYPE)),
+        _ => return Err(ReadError::Refused(OFPBRC_BAD_TYPE)),
     })
 }
 

@@ -8,10 +8,9 @@ use crate::message_bytes::MessageBytes;
 use crate::reading::rest_from;
 use crate::writing::put_header;
 use byteorder::{BigEndian, ByteOrder};
+use of_wire::codes::OFPRRFC_BAD_ROLE;
 use of_wire::{Bytes, Code, ReadError, put_u32, put_u64};
 use std::alloc::{AllocError, Global};
-
-const BAD_ROLE: Code = Code { kind: 11, code: 2 };
 
 /// The size of a ROLE_REPLY.
 const SIZE: usize = 24;
@@ -54,7 +53,7 @@ pub(crate) fn read_role_request(message: &[u8]) -> Result<RoleRequest, ReadError
     let generation = BigEndian::read_u64(rest_from(message, 16));
     match request_from(number, generation) {
         Some(request) => Ok(request),
-        None => Err(ReadError::Refused(BAD_ROLE)),
+        None => Err(ReadError::Refused(OFPRRFC_BAD_ROLE)),
     }
 }
 

@@ -3,8 +3,8 @@ use Rattle.std.specs.Prelude.{◌≡◌, ℕ, ◌+◌, ◌*◌, ◌/◌, ◌%◌
 use Rattle.std.specs.List.{list_any}
 use Rattle.std.specs.Option.{option_map_or}
 use Rattle.byteorder.specs.Endian.{big_number, big_bytes}
+use Rattle.of_wire.specs.declared.codes.TheConstants.{OFPBMC_BAD_FIELD, OFPBMC_BAD_LEN, OFPBMC_BAD_MASK, OFPBMC_BAD_VALUE, OFPBMC_BAD_WILDCARDS, OFPBMC_DUP_FIELD}
 use Rattle.of_wire.specs.declared.code.Code.{Code}
-use Rattle.of_wire.specs.Refusals.{refusal}
 use Rattle.of_layers.specs.declared.field.Field.{Field}
 use Rattle.of_layers.specs.Fields.{number_of, bytes_of, ones_of, is_maskable, field_at}
 use Rattle.of_oxm.specs.declared.match_field.MatchField.{MatchField}
@@ -63,23 +63,23 @@ is_among f seen = list_any (λ e. number_of e.field == number_of f) seen
 -- the refusals of a field's value and mask: OFPBMC_BAD_MASK, OFPBMC_BAD_VALUE, OFPBMC_BAD_WILDCARDS
 abbrev pub value_refusals : Field → Bool → ℕ → ℕ → List (Bool × Code)
 value_refusals f masked value mask =
-    (masked && not (is_maskable f) && not (bit_and mask (ones_of f) == ones_of f), refusal 4 8)
-    ∷ (nat_lt (ones_of f) value, refusal 4 7)
-    ∷ (masked && not (bit_and value mask == value), refusal 4 5)
+    (masked && not (is_maskable f) && not (bit_and mask (ones_of f) == ones_of f), OFPBMC_BAD_MASK)
+    ∷ (nat_lt (ones_of f) value, OFPBMC_BAD_VALUE)
+    ∷ (masked && not (bit_and value mask == value), OFPBMC_BAD_WILDCARDS)
     ∷ []
 
 -- the refusals of a known field, after the fields `seen`
 abbrev pub known_field_refusals : Field → List MatchField → List ℕ → List (Bool × Code)
 known_field_refusals f seen rest =
     let masked = is_masked_at rest in
-    (not (slice_index rest 3 == body_len f masked), refusal 4 1)
-    ∷ (is_among f seen, refusal 4 10)
+    (not (slice_index rest 3 == body_len f masked), OFPBMC_BAD_LEN)
+    ∷ (is_among f seen, OFPBMC_DUP_FIELD)
     ∷ value_refusals f masked (value_at f rest) (mask_at f rest)
 
 -- the refusals of the field that bytes begin with, after the fields `seen`
 abbrev pub field_refusals : List MatchField → List ℕ → List (Bool × Code)
 field_refusals seen rest =
-    (nat_lt (length rest) 4, refusal 4 1)
-    ∷ (nat_lt (length rest) (4 + slice_index rest 3), refusal 4 1)
-    ∷ (not (big_number 2 rest == 0x8000), refusal 4 6)
-    ∷ option_map_or (λ f. known_field_refusals f seen rest) (field_at (number_at rest)) ((true, refusal 4 6) ∷ [])
+    (nat_lt (length rest) 4, OFPBMC_BAD_LEN)
+    ∷ (nat_lt (length rest) (4 + slice_index rest 3), OFPBMC_BAD_LEN)
+    ∷ (not (big_number 2 rest == 0x8000), OFPBMC_BAD_FIELD)
+    ∷ option_map_or (λ f. known_field_refusals f seen rest) (field_at (number_at rest)) ((true, OFPBMC_BAD_FIELD) ∷ [])

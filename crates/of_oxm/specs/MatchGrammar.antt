@@ -2,11 +2,12 @@
 use Rattle.std.specs.Prelude.{◌≡◌, ℕ, ◌+◌, ◌-◌, ◌*◌, ◌/◌, ◌^◌, ◌<◌, ◌==◌, nat_lt, Bool, true, false, not, ◌||◌, List, [], ◌∷◌, ◌++◌, length, take, drop, Option, Some, None, IsSome, Result, Ok, Err}
 use Rattle.std.specs.List.{flat_map}
 use Rattle.byteorder.specs.Endian.{big_number, big_bytes}
+use Rattle.of_wire.specs.declared.codes.TheConstants.{OFPBMC_BAD_LEN, OFPBMC_BAD_PREREQ, OFPBMC_BAD_TYPE}
 use Rattle.of_wire.specs.declared.code.Code.{Code}
 use Rattle.of_wire.specs.declared.code.ReadError.{ReadError}
 use Rattle.of_wire.specs.declared.code.ReadError.TheVariants as errors
 use Rattle.of_wire.specs.Failures.{Fails}
-use Rattle.of_wire.specs.Refusals.{refusal, first_of}
+use Rattle.of_wire.specs.Refusals.{first_of}
 use Rattle.of_oxm.specs.declared.match_field.MatchField.{MatchField}
 use Rattle.of_oxm.specs.MatchFieldWire.{IsSpelt, spelling, is_among, field_refusals}
 use Rattle.of_oxm.specs.Prerequisites.{prerequisites_met}
@@ -53,9 +54,9 @@ body_of bytes = take (match_len bytes - 4) (drop 4 bytes)
 -- the refusals of a match before its first field
 abbrev pub head_refusals : List ℕ → List (Bool × Code)
 head_refusals bytes =
-    (nat_lt (length bytes) 4, refusal 4 1)
-    ∷ (not (big_number 2 bytes == 1), refusal 4 0)
-    ∷ (nat_lt (match_len bytes) 4 || nat_lt (length bytes) (padded (match_len bytes)), refusal 4 1)
+    (nat_lt (length bytes) 4, OFPBMC_BAD_LEN)
+    ∷ (not (big_number 2 bytes == 1), OFPBMC_BAD_TYPE)
+    ∷ (nat_lt (match_len bytes) 4 || nat_lt (length bytes) (padded (match_len bytes)), OFPBMC_BAD_LEN)
     ∷ []
 
 -- The bytes are: type 1 (OFPMT_OXM), the length, the fields in some order, each once, and padding that the length leaves out; and the match is the normal form of the fields, with all prerequisites.
@@ -75,7 +76,7 @@ pub record SpellsMatch (bytes : List ℕ) (m : List MatchField) : Type 0 where
 pub data IsRefusedMatch (bytes : List ℕ) (code : Code) : Type 0 where
   head : first_of (head_refusals bytes) ≡ Some code → IsRefusedMatch bytes code
   field : first_of (head_refusals bytes) ≡ None → (fields : List MatchField) → Fields [] (body_of bytes) fields (Some code) → IsRefusedMatch bytes code
-  need : first_of (head_refusals bytes) ≡ None → (fields : List MatchField) → Fields [] (body_of bytes) fields None → prerequisites_met (normal fields) ≡ false → code ≡ refusal 4 9 → IsRefusedMatch bytes code
+  need : first_of (head_refusals bytes) ≡ None → (fields : List MatchField) → Fields [] (body_of bytes) fields None → prerequisites_met (normal fields) ≡ false → code ≡ OFPBMC_BAD_PREREQ → IsRefusedMatch bytes code
 
 -- ---- what a reader returns
 

@@ -1,8 +1,9 @@
 -- What the bytes of a match say, as a function: the match that they begin with and its padded size, or the code of the first refusal (OpenFlow 1.3.5, 7.2.3 and 7.4.4).
 use Rattle.std.specs.Prelude.{ℕ, ◌+◌, List, [], length, slice_index, Option, Some, None, Result, Ok, Err, if◌then◌else◌}
 use Rattle.std.specs.Option.{option_map}
+use Rattle.of_wire.specs.declared.codes.TheConstants.{OFPBMC_BAD_PREREQ}
 use Rattle.of_wire.specs.declared.code.Code.{Code}
-use Rattle.of_wire.specs.Refusals.{refusal, first_of}
+use Rattle.of_wire.specs.Refusals.{first_of}
 use Rattle.of_wire.specs.Items.{Items, items_of}
 use Rattle.of_layers.specs.Fields.{field_at}
 use Rattle.of_oxm.specs.declared.match_field.MatchField.{MatchField}
@@ -17,7 +18,7 @@ match_fields = record { refusals = field_refusals; value_at = λ rest. option_ma
 
 -- the normal form of fields, if it has all their prerequisites
 abbrev pub normal_match : ℕ → List MatchField → Result (List MatchField × ℕ) Code
-normal_match size fields = if prerequisites_met (normal fields) then Ok (normal fields, size) else Err (refusal 4 9)
+normal_match size fields = if prerequisites_met (normal fields) then Ok (normal fields, size) else Err OFPBMC_BAD_PREREQ
 
 abbrev pub then_normal : ℕ → Result (List MatchField) Code → Result (List MatchField × ℕ) Code
 then_normal size (Ok fields) = normal_match size fields

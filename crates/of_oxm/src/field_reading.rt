@@ -5,11 +5,14 @@ ghost use Rattle.of_wire.specs.Refusals.{first_of};
 ghost use Rattle.of_layers.specs.Fields.{field_at};
 ghost use Rattle.of_oxm.specs.MatchFieldWire.{field_refusals, known_field_refusals, match_field_of, number_at, is_among as is_among_fields};
 
-use crate::codes::{BAD_FIELD, BAD_LEN, BAD_MASK, BAD_VALUE, BAD_WILDCARDS, DUP_FIELD};
 use crate::match_field::MatchField;
 use byteorder::{BigEndian, ByteOrder};
 use of_layers::Field;
 use of_wire::Code;
+use of_wire::codes::{
+    OFPBMC_BAD_FIELD, OFPBMC_BAD_LEN, OFPBMC_BAD_MASK, OFPBMC_BAD_VALUE, OFPBMC_BAD_WILDCARDS,
+    OFPBMC_DUP_FIELD,
+};
 
 fn is_among(field: Field, seen: &[MatchField]) -> bool
     ensures { result ≡ is_among_fields field seen.now }
@@ -29,16 +32,16 @@ fn read_known_field(field: Field, rest: &[u8], seen: &[MatchField]) -> Result<Ma
     let masked = rest[2] % 2 == 1;
     let wanted = if masked { 2 * row.bytes } else { row.bytes };
     if rest[3] as usize != wanted {
-        return Err(BAD_LEN);
+        return Err(OFPBMC_BAD_LEN);
     }
     if is_among(field, seen) {
-        return Err(DUP_FIELD);
+        return Err(OFPBMC_DUP_FIELD);
     }
     let body = &rest[4..];
     let value = BigEndian::read_uint128(body, row.bytes);
     if !masked {
         if row.ones < value {
-            return Err(BAD_VALUE);
+            return Err(OFPBMC_BAD_VALUE);
         }
         return Ok(MatchField {
             field,
@@ -48,13 +51,13 @@ fn read_known_field(field: Field, rest: &[u8], seen: &[MatchField]) -> Result<Ma
     }
     let mask = BigEndian::read_uint128(&body[row.bytes..], row.bytes);
     if !row.maskable && mask & row.ones != row.ones {
-        return Err(BAD_MASK);
+        return Err(OFPBMC_BAD_MASK);
     }
     if row.ones < value {
-        return Err(BAD_VALUE);
+        return Err(OFPBMC_BAD_VALUE);
     }
     if value & mask != value {
-        return Err(BAD_WILDCARDS);
+        return Err(OFPBMC_BAD_WILDCARDS);
     }
     Ok(MatchField {
         field,
@@ -70,17 +73,17 @@ pub fn read_match_field(rest: &[u8], seen: &[MatchField]) -> Result<MatchField, 
         (λ code. first_of (field_refusals seen.now rest.now) ≡ Some code) }
 {
     if rest.len() < 4 {
-        return Err(BAD_LEN);
+        return Err(OFPBMC_BAD_LEN);
     }
     let len = rest[3] as usize;
     if rest.len() < 4 + len {
-        return Err(BAD_LEN);
+        return Err(OFPBMC_BAD_LEN);
     }
     if BigEndian::read_u16(rest) != 0x8000 {
-        return Err(BAD_FIELD);
+        return Err(OFPBMC_BAD_FIELD);
     }
     let Some(field) = Field::from_number(rest[2] / 2) else {
-        return Err(BAD_FIELD);
+        return Err(OFPBMC_BAD_FIELD);
     };
     read_known_field(field, rest, seen)
 }

@@ -1,7 +1,6 @@
 //! Matches of flows: how they are spelt on the wire, what they match, cover and overlap (OpenFlow 1.3.5, 7.2.3).
 #![tactic(auto)]
 
-mod codes;
 mod field_reading;
 mod flow_match;
 mod masks;

@@ -8,13 +8,13 @@ ghost use Rattle.of_oxm.specs.MatchReading.{match_of};
 ghost use Rattle.of_oxm.specs.declared.match_field.MatchField.{MatchField};
 ghost use Rattle.of_wire.specs.declared.code.Code.{Code};
 
-use crate::codes::{BAD_LEN, BAD_PREREQ, BAD_TYPE};
 use crate::field_reading::read_match_field;
 use crate::flow_match::Match;
 use crate::match_field::MatchField;
 use crate::normal_form::normal_form;
 use crate::prerequisites::prerequisites_met;
 use byteorder::{BigEndian, ByteOrder};
+use of_wire::codes::{OFPBMC_BAD_LEN, OFPBMC_BAD_PREREQ, OFPBMC_BAD_TYPE};
 use of_wire::{Code, ReadError};
 use std::alloc::Global;
 
@@ -46,15 +46,15 @@ fn read_head(bytes: &[u8]) -> Result<usize, Code>
     ensures first { IfErr result (λ code. first_of (head_refusals bytes.now) ≡ Some code) }
 {
     if bytes.len() < 4 {
-        return Err(BAD_LEN);
+        return Err(OFPBMC_BAD_LEN);
     }
     if BigEndian::read_u16(bytes) != 1 {
-        return Err(BAD_TYPE);
+        return Err(OFPBMC_BAD_TYPE);
     }
     let len = BigEndian::read_u16(&bytes[2..]) as usize;
     let size = (len + 7) / 8 * 8;
     if len < 4 || bytes.len() < size {
-        return Err(BAD_LEN);
+        return Err(OFPBMC_BAD_LEN);
     }
     Ok(len)
 }
@@ -84,7 +84,7 @@ fn parse(alloc: Global, bytes: &[u8]) -> Result<(Match, usize), ReadError>
     let read = read_fields(alloc, body)?;
     let fields = normal_form(alloc, read)?;
     if !prerequisites_met(&fields) {
-        return Err(ReadError::Refused(BAD_PREREQ));
+        return Err(ReadError::Refused(OFPBMC_BAD_PREREQ));
     }
     Ok((Match { fields }, (len + 7) / 8 * 8))
 }

@@ -10,8 +10,8 @@ use Rattle.of_actions.specs.Rising.{is_ascending}
 use Rattle.of_text.specs.Kept.{instructions_of}
 use Rattle.of_text.specs.Flows.{Flow, Step, Apply, Clear, Write, Metadata, Goto}
 use Rattle.of_text.specs.Rows.{ActionFits, BucketFits, FieldFits, HeadFits}
+use Rattle.of_wire.specs.declared.codes.TheConstants.{OFPGMFC_INVALID_GROUP}
 use Rattle.of_wire.specs.declared.code.Code.{Code}
-use Rattle.of_wire.specs.Refusals.{refusal}
 use Rattle.of_groups.specs.Buckets.{group_max}
 use Rattle.of_messages.specs.CanonicalGroups.{canonical_buckets}
 use Rattle.of_messages.specs.declared.group_mod.NewGroup.{NewGroup}
@@ -69,4 +69,4 @@ pub record IsSaidGroup (g : TextGroup) : Type 0 where
 
 -- the refusals of a group that a message decides without the switch: the first of `group_refusals`
 abbrev pub said_refusals : TextGroup → List (Bool × Code)
-said_refusals g = (nat_lt group_max g.head.id, refusal 6 1) ∷ buckets_refusals g.buckets
+said_refusals g = (nat_lt group_max g.head.id, OFPGMFC_INVALID_GROUP) ∷ buckets_refusals g.buckets

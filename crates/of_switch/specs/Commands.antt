@@ -3,9 +3,9 @@ use Rattle.std.specs.Prelude.{ℕ, ◌%◌, ◌^◌, ◌==◌, ◌&&◌, nat_le,
 use Rattle.std.specs.List.{list_any}
 use Rattle.std.specs.Option.{option_map}
 use Rattle.of_buffers.specs.Buffers.{Held, HeldFrames, held, used}
+use Rattle.of_wire.specs.declared.codes.TheConstants.{OFPBAC_BAD_OUT_GROUP, OFPBRC_BUFFER_UNKNOWN, OFPFMFC_BAD_TABLE_ID, OFPFMFC_OVERLAP, OFPFMFC_TABLE_FULL}
 use Rattle.of_wire.specs.Reasons.{flow_removed_number}
 use Rattle.of_wire.specs.declared.code.Code.{Code}
-use Rattle.of_wire.specs.Refusals.{refusal}
 use Rattle.of_messages.specs.declared.message.FlowMod.{FlowMod}
 use Rattle.of_messages.specs.declared.message.FlowModCommand.{FlowModCommand}
 use Rattle.of_messages.specs.declared.message.FlowModCommand.TheVariants.{Add, Modify, ModifyStrict, Delete, DeleteStrict}
@@ -86,16 +86,16 @@ names_absent_group groups instructions = list_any (has_action (is_to_absent_grou
 -- of an ADD: BAD_TABLE_ID (7.4.4: 5/2), OVERLAP with an entry (5/3), TABLE_FULL (5/1)
 abbrev pub add_refusals : FlowMod → Tables → List (Bool × Code)
 add_refusals m ts =
-    (is_add m.command && nat_le 16 m.table, refusal 5 2)
-    ∷ (is_add m.command && is_overlapped (flow_of m) (table_at m.table ts).flows, refusal 5 3)
-    ∷ (is_add m.command && is_full (flow_of m) (table_at m.table ts).flows, refusal 5 1)
+    (is_add m.command && nat_le 16 m.table, OFPFMFC_BAD_TABLE_ID)
+    ∷ (is_add m.command && is_overlapped (flow_of m) (table_at m.table ts).flows, OFPFMFC_OVERLAP)
+    ∷ (is_add m.command && is_full (flow_of m) (table_at m.table ts).flows, OFPFMFC_TABLE_FULL)
     ∷ []
 
 -- an action names a group that does not exist (2/9); the buffer is neither OFP_NO_BUFFER nor the id of a held frame (1/8); DELETE looks at neither
 abbrev pub flow_mod_refusals : FlowMod → Tables → List Group → HeldFrames → List (Bool × Code)
 flow_mod_refusals m ts groups b =
-    (not (is_delete m.command) && names_absent_group groups m.instructions, refusal 2 9)
-    ∷ (not (is_delete m.command) && not (m.buffer == no_buffer) && is_none (held m.buffer b), refusal 1 8)
+    (not (is_delete m.command) && names_absent_group groups m.instructions, OFPBAC_BAD_OUT_GROUP)
+    ∷ (not (is_delete m.command) && not (m.buffer == no_buffer) && is_none (held m.buffer b), OFPBRC_BUFFER_UNKNOWN)
     ∷ add_refusals m ts
 
 -- ---- what is done
@@ -158,8 +158,8 @@ without_packet (Frame bytes) b = b
 -- no frame is held under that id (1/8); an action names a group that does not exist (2/9)
 abbrev pub packet_out_refusals : PacketOut → List Group → HeldFrames → List (Bool × Code)
 packet_out_refusals m groups b =
-    (is_none (frame_of m.packet b), refusal 1 8)
-    ∷ (list_any (is_to_absent_group groups) m.actions, refusal 2 9)
+    (is_none (frame_of m.packet b), OFPBRC_BUFFER_UNKNOWN)
+    ∷ (list_any (is_to_absent_group groups) m.actions, OFPBAC_BAD_OUT_GROUP)
     ∷ []
 
 -- ---- FLOW_MOD with a held frame (7.3.4.1: buffer_id)

@@ -1,6 +1,7 @@
 -- What the handling of a message returns.
 use Rattle.std.specs.Prelude.{◌≡◌, ℕ, List, Option, Some, None, Result, Ok, Err}
 use Rattle.smallvec.specs.SmallVec.{SmallVec}
+use Rattle.of_wire.specs.declared.codes.TheConstants.{OFPBRC_BUFFER_UNKNOWN}
 use Rattle.of_wire.specs.declared.code.Code.{Code}
 use Rattle.of_wire.specs.Refusals.{refusal}
 use Rattle.std.specs.Option.{option_map_or}
@@ -25,4 +26,4 @@ Handles refusal d old (Err Memory) new = new ≡ old
 -- the frame of a PACKET_OUT is not given where no frame is held under its id, or memory runs out
 abbrev pub IsUnlessHeld : Option (List ℕ) → Fault → Type 0
 IsUnlessHeld frame Memory = Unit {0}
-IsUnlessHeld frame (Refused code) = (frame ≡ None) × (code ≡ refusal 1 8)
+IsUnlessHeld frame (Refused code) = (frame ≡ None) × (code ≡ OFPBRC_BUFFER_UNKNOWN)

@@ -2,8 +2,8 @@
 use Rattle.std.specs.Prelude.{Bool, false, not, List, [], ◌∷◌}
 use Rattle.std.specs.Option.{is_some, option_map_or}
 use Rattle.std.specs.Str.{bytes_eq}
+use Rattle.of_wire.specs.declared.codes.TheConstants.{OFPPMFC_BAD_HW_ADDR, OFPPMFC_BAD_PORT}
 use Rattle.of_wire.specs.declared.code.Code.{Code}
-use Rattle.of_wire.specs.Refusals.{refusal}
 use Rattle.of_messages.specs.declared.port_mod.PortMod.{PortMod}
 use Rattle.of_ports.specs.declared.port.Port.{Port}
 use Rattle.of_ports.specs.Config.{configured}
@@ -15,7 +15,7 @@ has_other_address m ports = option_map_or (λ p. not (bytes_eq p.hw m.hw)) (port
 
 -- there is no such port (7/0, BAD_PORT); it has another hardware address (7/1, BAD_HW_ADDR)
 abbrev pub port_mod_refusals : PortMod → List Port → List (Bool × Code)
-port_mod_refusals m ports = (not (is_some (port_at ports m.port)), refusal 7 0) ∷ (has_other_address m ports, refusal 7 1) ∷ []
+port_mod_refusals m ports = (not (is_some (port_at ports m.port)), OFPPMFC_BAD_PORT) ∷ (has_other_address m ports, OFPPMFC_BAD_HW_ADDR) ∷ []
 
 -- the bits of the configuration under the mask are those of the message, and the others stay
 abbrev pub modified_port : PortMod → Port → Port

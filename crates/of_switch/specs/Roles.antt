@@ -1,7 +1,7 @@
 -- What a ROLE_REQUEST does (OpenFlow 1.3.5, 6.3.4 and 7.3.9).
 use Rattle.std.specs.Prelude.{ℕ, ◌+◌, ◌-◌, ◌%◌, ◌^◌, nat_le, Bool, false, List, [], ◌∷◌, Option, Some, None}
+use Rattle.of_wire.specs.declared.codes.TheConstants.{OFPRRFC_STALE}
 use Rattle.of_wire.specs.declared.code.Code.{Code}
-use Rattle.of_wire.specs.Refusals.{refusal}
 use Rattle.of_messages.specs.declared.role.Role.TheVariants as role
 use Rattle.of_messages.specs.declared.role.RoleRequest.{RoleRequest}
 use Rattle.of_messages.specs.declared.role.RoleRequest.TheVariants.{NoChange, Equal, Master, Slave}
@@ -21,7 +21,7 @@ has_stale_generation (Slave generation) c = is_stale generation c.generation
 
 -- OFPRRFC_STALE (11/0)
 abbrev pub generation_refusals : RoleRequest → Control → List (Bool × Code)
-generation_refusals request c = (has_stale_generation request c, refusal 11 0) ∷ []
+generation_refusals request c = (has_stale_generation request c, OFPRRFC_STALE) ∷ []
 
 -- the role is set, and for a master or a slave the generation_id
 abbrev pub with_role : RoleRequest → Control → Control

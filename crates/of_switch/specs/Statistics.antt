@@ -1,7 +1,7 @@
 -- Why a MULTIPART_REQUEST is refused and what it is answered, by the state of the switch (OpenFlow 1.3.5, 7.3.5).
 use Rattle.std.specs.Prelude.{ℕ, Bool, false, not, List, [], ◌∷◌, Some, None}
+use Rattle.of_wire.specs.declared.codes.TheConstants.{OFPBRC_BAD_PORT}
 use Rattle.of_wire.specs.declared.code.Code.{Code}
-use Rattle.of_wire.specs.Refusals.{refusal}
 use Rattle.of_messages.specs.declared.multipart.FlowStatsRequest.{FlowStatsRequest}
 use Rattle.of_messages.specs.declared.multipart.MultipartRequest.{MultipartRequest}
 use Rattle.of_messages.specs.declared.multipart.MultipartRequest.TheVariants.{Description, Flow, Aggregate, Table, PortStats, Group, GroupDescription, GroupFeatures, PortDescription}
@@ -42,7 +42,7 @@ asks_absent_port PortDescription ports = false
 
 -- OFPBRC_BAD_PORT (1/11)
 abbrev pub multipart_refusals : MultipartRequest → List Port → List (Bool × Code)
-multipart_refusals request ports = (asks_absent_port request ports, refusal 1 11) ∷ []
+multipart_refusals request ports = (asks_absent_port request ports, OFPBRC_BAD_PORT) ∷ []
 
 -- the replies
 abbrev pub multipart_bytes : ℕ → MultipartRequest → Forwarding → List (List ℕ)

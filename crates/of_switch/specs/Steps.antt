@@ -1,7 +1,8 @@
 -- What each event does to the abstract switch.
 use Rattle.std.specs.Prelude.{◌≡◌, ℕ, max, Bool, List, [], ◌∷◌, ◌++◌, map, take, Option, Some, None, if◌then◌else◌}
+use Rattle.of_wire.specs.declared.codes.TheConstants.{OFPBRC_BAD_LEN, OFPHFC_INCOMPATIBLE}
 use Rattle.of_wire.specs.declared.code.Code.{Code}
-use Rattle.of_wire.specs.Refusals.{refusal, first_of}
+use Rattle.of_wire.specs.Refusals.{first_of}
 use Rattle.of_messages.specs.declared.message.Message.{Message}
 use Rattle.of_messages.specs.declared.message.Message.TheVariants.{EchoRequest, FeaturesRequest, GetConfigRequest, SetConfig, BarrierRequest, FlowMod as IsFlowMod, PacketOut as IsPacketOut, GroupMod as IsGroupMod, PortMod as IsPortMod, Multipart, RoleRequest as IsRoleRequest, GetAsyncRequest, SetAsync}
 use Rattle.of_messages.specs.declared.message.PacketOut.{PacketOut}
@@ -215,8 +216,8 @@ closing error k = does (Answer error ∷ Closed ∷ []) (without_connection k)
 -- HELLO_FAILED, INCOMPATIBLE (0/0) without data
 abbrev pub came : Next → Connection → Core → Option Done
 came Nothing c k = None
-came (BadStream xid) c k = Some (closing (error_bytes xid (refusal 1 6) (take 8 c.pending)) k)
-came (NotHello xid) c k = Some (closing (error_bytes xid (refusal 0 0) []) k)
+came (BadStream xid) c k = Some (closing (error_bytes xid OFPBRC_BAD_LEN (take 8 c.pending)) k)
+came (NotHello xid) c k = Some (closing (error_bytes xid OFPHFC_INCOMPATIBLE []) k)
 came (Opened size) c k = Some (does [] k)
 came (Refused xid size code) c k = Some (refused xid code (failed_of size c) k)
 came (Read xid size message) c k = Some (handled xid message (failed_of size c) k)

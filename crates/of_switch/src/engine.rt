@@ -60,27 +60,13 @@ use of_statistics::{
 };
 use of_table::{Cause, Entries, Entry, TableFault};
 use of_text::Config;
+use of_wire::codes::{
+    OFPBAC_BAD_OUT_GROUP, OFPBRC_BAD_PORT, OFPBRC_BUFFER_UNKNOWN, OFPFMFC_BAD_TABLE_ID,
+    OFPFMFC_OVERLAP, OFPFMFC_TABLE_FULL, OFPPMFC_BAD_HW_ADDR, OFPPMFC_BAD_PORT, OFPRRFC_STALE,
+};
 use of_wire::{Bytes, Code};
 use std::alloc::{AllocError, Global};
 use std::marker::Model;
-
-const BUFFER_UNKNOWN: Code = Code { kind: 1, code: 8 };
-
-const BAD_OUT_GROUP: Code = Code { kind: 2, code: 9 };
-
-const BAD_TABLE: Code = Code { kind: 5, code: 2 };
-
-const OVERLAP: Code = Code { kind: 5, code: 3 };
-
-const TABLE_FULL: Code = Code { kind: 5, code: 1 };
-
-const BAD_PORT: Code = Code { kind: 7, code: 0 };
-
-const BAD_HW_ADDR: Code = Code { kind: 7, code: 1 };
-
-const BAD_REQUESTED_PORT: Code = Code { kind: 1, code: 11 };
-
-const STALE: Code = Code { kind: 11, code: 0 };
 
 /// Why a message was not carried out.
 #[derive(Clone, Copy, Debug, PartialEq, Eq)]
@@ -373,7 +359,7 @@ impl<L: Lookup> Engine<L> {
         ensures { Handles (first_of (generation_refusals request self.old.control)) (role_asked xid request self.old) self.old result self.new }
     {
         if self.control.has_stale_generation(request) {
-            return Err(Fault::Refused(STALE));
+            return Err(Fault::Refused(OFPRRFC_STALE));
         }
         let control = self.control.with_role(request);
         let reply = write_role_reply(self.alloc, xid, control.role, control.generation)?;
@@ -386,7 +372,7 @@ impl<L: Lookup> Engine<L> {
         ensures { Handles (first_of (multipart_refusals request self.now.forwarding.ports)) (replied xid request self.now) self.now result self.now }
     {
         if asks_absent_port(&request, &self.plane.ports) {
-            return Err(Fault::Refused(BAD_REQUESTED_PORT));
+            return Err(Fault::Refused(OFPBRC_BAD_PORT));
         }
         Ok(self.replies(xid, request)?)
     }
@@ -439,7 +425,7 @@ impl<L: Lookup> Engine<L> {
         let frame = self.frame_of(packet_out.packet)?;
         let actions = packet_out.actions.as_slice();
         if any_to_absent_group(actions, &self.plane.groups) {
-            return Err(Fault::Refused(BAD_OUT_GROUP));
+            return Err(Fault::Refused(OFPBAC_BAD_OUT_GROUP));
         }
         let effects = self.plane.packet_out(
             self.alloc,
@@ -464,7 +450,7 @@ impl<L: Lookup> Engine<L> {
             PacketData::Frame(frame) => Ok(frame),
             PacketData::Buffered(id) => match self.plane.held.frame(id) {
                 Some(held) => Ok(Bytes::from_slice(self.alloc, held.frame())?),
-                None => Err(Fault::Refused(BUFFER_UNKNOWN)),
+                None => Err(Fault::Refused(OFPBRC_BUFFER_UNKNOWN)),
             },
         }
     }
@@ -477,13 +463,13 @@ impl<L: Lookup> Engine<L> {
             return Ok(self.delete_flows(flow_mod)?);
         }
         if self.names_absent_group(&flow_mod.instructions) {
-            return Err(Fault::Refused(BAD_OUT_GROUP));
+            return Err(Fault::Refused(OFPBAC_BAD_OUT_GROUP));
         }
         if flow_mod.buffer == NO_BUFFER {
             return self.put_flows(flow_mod);
         }
         if self.plane.held.frame(flow_mod.buffer).is_none() {
-            return Err(Fault::Refused(BUFFER_UNKNOWN));
+            return Err(Fault::Refused(OFPBRC_BUFFER_UNKNOWN));
         }
         self.put_and_begin(flow_mod)
     }
@@ -565,9 +551,9 @@ impl<L: Lookup> Engine<L> {
     {
         match self.plane.tables.add(flow_mod.table, flow_from(flow_mod)) {
             Ok(()) => Ok(Effects::new(self.alloc)),
-            Err(TableFault::BadTable) => Err(Fault::Refused(BAD_TABLE)),
-            Err(TableFault::Overlap) => Err(Fault::Refused(OVERLAP)),
-            Err(TableFault::Full) => Err(Fault::Refused(TABLE_FULL)),
+            Err(TableFault::BadTable) => Err(Fault::Refused(OFPFMFC_BAD_TABLE_ID)),
+            Err(TableFault::Overlap) => Err(Fault::Refused(OFPFMFC_OVERLAP)),
+            Err(TableFault::Full) => Err(Fault::Refused(OFPFMFC_TABLE_FULL)),
             Err(TableFault::NoMemory) => Err(Fault::Memory),
         }
     }
@@ -602,10 +588,10 @@ impl<L: Lookup> Engine<L> {
         ensures { Handles (first_of (port_mod_refusals port_mod self.old.forwarding.ports)) (after_port_mod port_mod self.old) self.old result self.new }
     {
         let Some(port) = self.plane.ports.port(port_mod.port) else {
-            return Err(Fault::Refused(BAD_PORT));
+            return Err(Fault::Refused(OFPPMFC_BAD_PORT));
         };
         if port.hw != port_mod.hw {
-            return Err(Fault::Refused(BAD_HW_ADDR));
+            return Err(Fault::Refused(OFPPMFC_BAD_HW_ADDR));
         }
         let config = port.config.with(port_mod.config, port_mod.mask);
         let modified = Port { config, ..*port };

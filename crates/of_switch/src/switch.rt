@@ -39,15 +39,12 @@ use of_session::{Next, Phase, Session};
 use of_table::{Entries, Entry};
 use of_text::Config;
 use of_wire::Code;
+use of_wire::codes::{OFPBRC_BAD_LEN, OFPHFC_INCOMPATIBLE};
 use std::alloc::{AllocError, Global};
 use std::marker::Model;
 
 /// How many bytes of a refused message an ERROR has at most (OpenFlow 1.3.5, 7.4.4).
 const ERROR_DATA: usize = 64;
-
-const HELLO_INCOMPATIBLE: Code = Code { kind: 0, code: 0 };
-
-const BAD_LEN: Code = Code { kind: 1, code: 6 };
 
 /// An OpenFlow 1.3 switch, whose lookups go by the classifier `L`.
 ///
@@ -168,11 +165,11 @@ impl<L: Lookup> Switch<L> {
         match next {
             Next::Nothing => Ok(None),
             Next::BadStream { xid } => {
-                let error = write_error(self.alloc, xid, BAD_LEN, self.session.first(8))?;
+                let error = write_error(self.alloc, xid, OFPBRC_BAD_LEN, self.session.first(8))?;
                 Ok(Some(self.close_with(error)?))
             }
             Next::NotHello { xid } => {
-                let error = write_error(self.alloc, xid, HELLO_INCOMPATIBLE, &[])?;
+                let error = write_error(self.alloc, xid, OFPHFC_INCOMPATIBLE, &[])?;
                 Ok(Some(self.close_with(error)?))
             }
             Next::Opened { .. } => Ok(Some(Effects::new(self.alloc))),

@@ -20,6 +20,10 @@ use of_groups::{
     watches_absent,
 };
 use of_oxm::Code;
+use of_wire::codes::{
+    OFPBAC_BAD_OUT_GROUP, OFPGMFC_BAD_WATCH, OFPGMFC_INVALID_GROUP, OFPGMFC_LOOP,
+    OFPGMFC_OUT_OF_BUCKETS, OFPGMFC_OUT_OF_GROUPS,
+};
 use std::alloc::{AllocError, Global};
 
 fn bucket_refusal(bucket: &BucketText) -> Option<Code>
@@ -55,7 +59,7 @@ fn buckets_refusal(buckets: &[BucketText]) -> Option<Code>
     ensures { result ≡ first_of (refusals_of_buckets (map view_bucket buckets.now)) }
 {
     let each = each_refusal(first_buckets(buckets));
-    let many = applied(16 < buckets.len(), refusal(6, 4));
+    let many = applied(16 < buckets.len(), OFPGMFC_OUT_OF_BUCKETS);
     first(each, many)
 }
 
@@ -64,7 +68,7 @@ fn told_refusal(group: &GroupText) -> Option<Code>
     ensures { result ≡ first_of (told_refusals (view_group group.now)) }
 {
     if GROUP_MAX < group.head.id {
-        return Some(refusal(6, 1));
+        return Some(OFPGMFC_INVALID_GROUP);
     }
     buckets_refusal(&group.buckets)
 }
@@ -75,11 +79,11 @@ fn kept_refusal(place: usize, group: &Group) -> Option<Code>
 {
     let buckets = group.buckets.as_slice();
     if has_bad_watch(group.kind, buckets) {
-        Some(refusal(6, 13))
+        Some(OFPGMFC_BAD_WATCH)
     } else if lacks_one_bucket(group.kind, buckets) {
-        Some(refusal(6, 1))
+        Some(OFPGMFC_INVALID_GROUP)
     } else if 256 <= place {
-        Some(refusal(6, 3))
+        Some(OFPGMFC_OUT_OF_GROUPS)
     } else {
         None
     }
@@ -143,14 +147,14 @@ fn judge_all(alloc: Global, groups: &[GroupText]) -> Result<Judged, AllocError>
 
 // The refusal of a group that names others, of which these exist, and that begins a chain of this length.
 fn naming_refusal(there: &[Group], group: &Group, length: u8) -> Option<Code>
-    ensures { result ≡ first_of ((any_sends (is_absent there.now) group.now.buckets, as_refusal 2 9) ∷ (any_watches (is_absent there.now) group.now.kind group.now.buckets, as_refusal 6 13) ∷ (nat_lt 3 length, as_refusal 6 7) ∷ []) }
+    ensures { result ≡ first_of ((any_sends (is_absent there.now) group.now.buckets, OFPBAC_BAD_OUT_GROUP) ∷ (any_watches (is_absent there.now) group.now.kind group.now.buckets, OFPGMFC_BAD_WATCH) ∷ (nat_lt 3 length, OFPGMFC_LOOP) ∷ []) }
 {
     if sends_to_absent(there, group) {
-        Some(refusal(2, 9))
+        Some(OFPBAC_BAD_OUT_GROUP)
     } else if watches_absent(there, group) {
-        Some(refusal(6, 13))
+        Some(OFPGMFC_BAD_WATCH)
     } else if 3 < length {
-        Some(refusal(6, 7))
+        Some(OFPGMFC_LOOP)
     } else {
         None
     }

@@ -4,6 +4,7 @@
 mod bytes;
 mod code;
 mod code_name;
+pub mod codes;
 mod reasons;
 mod slices;
 mod writing;
