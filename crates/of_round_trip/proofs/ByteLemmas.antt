@@ -1,5 +1,5 @@
 -- Messages are bytes: numbers below 256.
-use Rattle.std.proofs.Common.{◌≡◌, ℕ, ◌+◌, ◌-◌, ◌<◌, suc, zero, true, false, List, [], ◌∷◌, ◌++◌, length, Option, Some, None, arith, rules}
+use Rattle.std.proofs.Common.{◌≡◌, ℕ, ◌+◌, ◌-◌, ◌<◌, suc, zero, true, false, List, [], ◌∷◌, ◌++◌, length, take, drop, Option, Some, None, arith}
 use Rattle.std.specs.Prelude.{replicate}
 use Rattle.std.specs.List.{AllByRecursion, flat_map, list_all}
 use Rattle.std.proofs.Math.Nat.{mod-lt}
@@ -7,6 +7,9 @@ use Rattle.std.proofs.lemmas.Bool.Decides.{nat_tests}
 use Rattle.std.specs.Int.{byte_at}
 use Rattle.byteorder.specs.Endian.{big_bytes}
 use Rattle.hex.specs.Hex.{IsBytes}
+use Rattle.of_formats.specs.Structs.{Struct, written}
+use Rattle.of_formats.specs.Structs as structs
+use Rattle.of_formats.specs.Tables as tables
 use Rattle.of_layers.specs.declared.field.Field.{Field}
 use Rattle.of_layers.specs.Fields.{bytes_of}
 use Rattle.of_layers.proofs.Table.{number_below, bytes_most}
@@ -15,7 +18,7 @@ use Rattle.of_oxm.specs.MatchFieldWire.{spelling}
 use Rattle.of_oxm.specs.MatchGrammar.{padded}
 use Rattle.of_oxm.specs.Canonical.{canonical, written_len}
 use Rattle.of_actions.specs.declared.action.Action.{Action}
-use Rattle.of_actions.specs.declared.action.Action.TheVariants.{SetField}
+use Rattle.of_actions.specs.declared.action.Action.TheVariants.{Output, PushVlan, PopVlan, Group, SetNwTtl, DecNwTtl, SetField}
 use Rattle.of_actions.specs.declared.instruction.Instruction.{Instruction}
 use Rattle.of_actions.specs.declared.instruction.Instruction.TheVariants.{Apply, Clear, Write, Metadata, Goto}
 use Rattle.of_actions.specs.Supported.{is_supported, are_supported}
@@ -32,7 +35,7 @@ use Rattle.of_messages.specs.declared.message.FlowMod.{FlowMod}
 use Rattle.of_messages.specs.declared.message.FlowModCommand.{FlowModCommand}
 use Rattle.of_messages.specs.declared.message.FlowModCommand.TheVariants.{Add, Modify, ModifyStrict, Delete, DeleteStrict}
 use Rattle.of_messages.specs.declared.group_mod.NewGroup.{NewGroup}
-use Rattle.of_messages.specs.Written.{command_number, flow_mod_bytes, flow_mod_fixed_part, message}
+use Rattle.of_messages.specs.Written.{command_number, flow_mod_bytes, flow_mod_fixed_part, flow_mod_numbers, message}
 use Rattle.of_groups.specs.Groups.{kind_number}
 use Rattle.of_messages.specs.CanonicalGroups.{canonical_bucket, canonical_buckets, group_add_bytes, group_add_fixed_part}
 
@@ -76,6 +79,27 @@ each_bytes f (x ∷ xs) h = both h.0 (each_bytes f xs h.1)
 four : {a b c d : ℕ} {bs : List ℕ} → a < 256 → b < 256 → c < 256 → d < 256 → Bytes bs → Bytes (a ∷ b ∷ c ∷ d ∷ bs)
 four i j k l h = next i (next j (next k (next l h)))
 
+-- ---- structs
+
+-- the fields of one byte are below 256; the others are as many bytes as they are wide, whatever the number
+abbrev Small : Struct → List ℕ → Type 0
+Small [] ns = Unit {0}
+Small (structs.byte name ∷ s) [] = Unit {0}
+Small (structs.byte name ∷ s) (n ∷ ns) = (n < 256) × Small s ns
+Small (structs.number name w ∷ s) [] = Unit {0}
+Small (structs.number name w ∷ s) (n ∷ ns) = Small s ns
+Small (structs.plain name w ∷ s) ns = Unit {0}
+Small (structs.pad w ∷ s) ns = Small s ns
+
+struct_bytes : (s : Struct) (ns : List ℕ) → Small s ns → Bytes (written s ns)
+struct_bytes [] ns h = none
+struct_bytes (structs.byte name ∷ s) [] h = none
+struct_bytes (structs.byte name ∷ s) (n ∷ ns) h = next h.0 (struct_bytes s ns h.1)
+struct_bytes (structs.number name w ∷ s) [] h = none
+struct_bytes (structs.number name w ∷ s) (n ∷ ns) h = both (big w n) (struct_bytes s ns h)
+struct_bytes (structs.plain name w ∷ s) ns h = none
+struct_bytes (structs.pad w ∷ s) ns h = both (zeros w) (struct_bytes s ns h)
+
 -- ---- matches
 
 spelling_by : (f : Field) (v : ℕ) (mask : Option ℕ) → let e : MatchField = record { field = f; value = v; mask = mask } in Bytes (spelling e)
@@ -105,7 +129,12 @@ action_bytes (SetField f v) h =
     let number = number_below f in
     let size = bytes_most f in
     four (omega arith) (omega arith) (omega arith) (omega (arith, size)) (four (omega arith) (omega arith) (omega (arith, number)) (omega (arith, size)) (both (big (bytes_of f) v) (zeros (set_len f - (8 + bytes_of f)))))
-action_bytes other h = search (rules, next, big)
+action_bytes (Output port max_len) h = struct_bytes tables.action_output (0 ∷ 16 ∷ port ∷ max_len ∷ []) tt
+action_bytes (PushVlan type) h = struct_bytes tables.action_push (17 ∷ 8 ∷ type ∷ []) tt
+action_bytes PopVlan h = struct_bytes tables.action_header (18 ∷ 8 ∷ []) tt
+action_bytes (Group group) h = struct_bytes tables.action_group (22 ∷ 8 ∷ group ∷ []) tt
+action_bytes (SetNwTtl ttl) h = let low : ttl < 256 = grind (arith, nat_tests) in struct_bytes tables.action_nw_ttl (23 ∷ 8 ∷ ttl ∷ []) (low, tt)
+action_bytes DecNwTtl h = struct_bytes tables.action_header (24 ∷ 8 ∷ []) tt
 
 all_actions : (xs : List Action) → list_all (is_supported false) xs ≡ true → AllByRecursion (λ a. Bytes (canonical_action a)) xs
 all_actions [] h = tt
@@ -117,15 +146,15 @@ actions_bytes xs h = each_bytes canonical_action xs (all_actions xs (grind (arit
 -- ---- instructions
 
 after_bytes : (bytes : List ℕ) → Bytes bytes → Bytes (after_type bytes)
-after_bytes bytes h = both (big 2 (8 + length bytes)) (both (zeros 4) h)
+after_bytes bytes h = both (struct_bytes (drop 1 tables.instruction_actions) ((8 + length bytes) ∷ []) tt) h
 
 instruction_bytes : (i : Instruction) → is_served_body i ≡ true → Bytes (canonical_instruction i)
 unfolding canonical_instruction
-instruction_bytes (Apply actions) h = next (omega arith) (next (omega arith) (after_bytes (canonical_actions actions) (actions_bytes actions h)))
-instruction_bytes Clear h = four (omega arith) (omega arith) (omega arith) (omega arith) (zeros 4)
-instruction_bytes (Write actions) h = next (omega arith) (next (omega arith) (after_bytes (canonical_actions actions) (actions_bytes actions h)))
-instruction_bytes (Metadata value mask) h = four (omega arith) (omega arith) (omega arith) (omega arith) (both (zeros 4) (both (big 8 value) (big 8 mask)))
-instruction_bytes (Goto table) h = let low : table < 16 = grind (arith, nat_tests) in four (omega arith) (omega arith) (omega arith) (omega arith) (next (omega (arith, low)) (zeros 3))
+instruction_bytes (Apply actions) h = both (struct_bytes (take 1 tables.instruction_actions) (4 ∷ []) tt) (after_bytes (canonical_actions actions) (actions_bytes actions h))
+instruction_bytes Clear h = struct_bytes tables.instruction_actions (5 ∷ 8 ∷ []) tt
+instruction_bytes (Write actions) h = both (struct_bytes (take 1 tables.instruction_actions) (3 ∷ []) tt) (after_bytes (canonical_actions actions) (actions_bytes actions h))
+instruction_bytes (Metadata value mask) h = struct_bytes tables.instruction_write_metadata (2 ∷ 24 ∷ value ∷ mask ∷ []) tt
+instruction_bytes (Goto table) h = let low : table < 16 = grind (arith, nat_tests) in struct_bytes tables.instruction_goto_table (1 ∷ 8 ∷ table ∷ []) (omega (arith, low), tt)
 
 all_instructions : (is : List Instruction) → list_all is_served_body is ≡ true → AllByRecursion (λ i. Bytes (canonical_instruction i)) is
 all_instructions [] h = tt
@@ -137,7 +166,7 @@ instructions_bytes is h = each_bytes canonical_instruction is (all_instructions 
 -- ---- messages
 
 message_bytes : (kind xid : ℕ) (body : List ℕ) → kind < 256 → Bytes body → Bytes (message kind xid body)
-message_bytes kind xid body k h = next (omega arith) (next k (both (both (big 2 (8 + length body)) (big 4 xid)) h))
+message_bytes kind xid body k h = both (struct_bytes tables.header (4 ∷ kind ∷ (8 + length body) ∷ xid ∷ []) (omega arith, (k, tt))) h
 
 command_byte : (c : FlowModCommand) → command_number c < 256
 command_byte Add = omega arith
@@ -148,10 +177,7 @@ command_byte DeleteStrict = omega arith
 
 front_bytes : (m : FlowMod) → m.table < 256 → Bytes (flow_mod_fixed_part m)
 unfolding flow_mod_fixed_part
-front_bytes m table =
-    both (big 8 m.cookie) (both (big 8 m.cookie_mask) (both (next table (next (command_byte m.command) none))
-    (both (big 2 m.idle_timeout) (both (big 2 m.hard_timeout) (both (big 2 m.priority)
-    (both (big 4 m.buffer) (both (big 4 m.out_port) (both (big 4 m.out_group) (both (big 2 m.flags) (zeros 2))))))))))
+front_bytes m table = struct_bytes tables.flow_mod (flow_mod_numbers m) (table, (command_byte m.command, tt))
 
 pub flow_mod_are_bytes : (xid : ℕ) (m : FlowMod) → m.table < 256 → are_kept m.instructions ≡ true → IsBytes (flow_mod_bytes xid m)
 flow_mod_are_bytes xid m table kept =
@@ -164,13 +190,12 @@ kind_byte FastFailover = omega arith
 
 group_front_bytes : (g : NewGroup) → Bytes (group_add_fixed_part g)
 unfolding group_add_fixed_part
-group_front_bytes g = both (big 2 0) (both (next (kind_byte g.kind) (next (omega arith) none)) (big 4 g.id))
+group_front_bytes g = struct_bytes tables.group_mod (0 ∷ kind_number g.kind ∷ g.id ∷ []) (kind_byte g.kind, tt)
 
 bucket_bytes : (b : Bucket) → are_supported false b.actions ≡ true → Bytes (canonical_bucket b)
 unfolding canonical_bucket
 bucket_bytes b h =
-    both (big 2 (16 + length (canonical_actions b.actions)))
-    (both (big 2 b.weight) (both (big 4 b.watch_port) (both (big 4 b.watch_group) (both (zeros 4) (actions_bytes b.actions h)))))
+    both (struct_bytes tables.bucket ((16 + length (canonical_actions b.actions)) ∷ b.weight ∷ b.watch_port ∷ b.watch_group ∷ []) tt) (actions_bytes b.actions h)
 
 all_buckets : (bs : List Bucket) → list_all is_fit bs ≡ true → AllByRecursion (λ b. Bytes (canonical_bucket b)) bs
 all_buckets [] h = tt

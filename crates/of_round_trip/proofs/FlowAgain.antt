@@ -1,12 +1,14 @@
 -- A FLOW_MOD that is written is read again.
-use Rattle.std.proofs.Common.{◌≡◌, ℕ, ◌+◌, ◌-◌, ◌^◌, ◌<◌, ◌≤◌, Bool, true, false, cond, ltb, eqb, List, [], ◌∷◌, ◌++◌, length, drop, take, Option, None, Ok, Err, refl, sym, ◌∙◌, ap, append_assoc, arith}
-use Rattle.std.specs.Prelude.{slice_index, ◌||◌}
+use Rattle.std.proofs.Common.{◌≡◌, ℕ, ◌+◌, ◌-◌, ◌^◌, ◌<◌, ◌≤◌, Bool, true, false, ltb, eqb, List, [], ◌∷◌, ◌++◌, length, drop, take, None, Ok, refl, sym, ◌∙◌, ap, append_assoc, arith}
+use Rattle.std.specs.Prelude.{◌||◌}
 use Rattle.std.proofs.lemmas.Bool.{le-ltb, eq-eqb}
 use Rattle.std.proofs.lemmas.List.{append-nil, length-append, take_at, drop_at}
 use Rattle.byteorder.specs.Endian.{big_number, big_bytes}
 use Rattle.byteorder.specs.Numbers.{big_number-reads_back}
-use Rattle.of_wire.specs.declared.code.Code.{Code}
-use Rattle.of_wire.specs.Refusals.{first_of, refusal}
+use Rattle.of_wire.specs.Refusals.{first_of}
+use Rattle.of_formats.specs.Structs.{Fits, numbers}
+use Rattle.of_formats.specs.Tables as tables
+use Rattle.of_formats.proofs.StructLaws.{numbers_at, written_is_read}
 use Rattle.of_oxm.specs.declared.match_field.MatchField.{MatchField}
 use Rattle.of_oxm.specs.NormalForm.{IsMatch}
 use Rattle.of_oxm.specs.Canonical.{canonical}
@@ -24,11 +26,12 @@ use Rattle.of_actions.proofs.Computed.{is_computed}
 use Rattle.of_actions.proofs.InstructionLengths.{instructions_short}
 use Rattle.of_actions.proofs.InstructionsAgain.{instructions_spelt}
 use Rattle.of_messages.specs.declared.message.FlowMod.{FlowMod}
+use Rattle.of_messages.specs.declared.message.FlowModCommand.{FlowModCommand}
 use Rattle.of_messages.specs.declared.message.FlowModCommand.TheVariants.{Add}
 use Rattle.of_messages.specs.declared.message.Message.TheVariants.{FlowMod as IsFlowMod}
-use Rattle.of_messages.specs.Heads.{head_refusals, header_length, size_of, type_of, version_of}
-use Rattle.of_messages.specs.Messages.{body_of, flow_mod_by, flow_mod_of, flow_mod_refusals, flow_mod_with, message_from, message_of, then_instructions, then_match, command_of}
-use Rattle.of_messages.specs.Written.{flow_mod_bytes, flow_mod_fixed_part, command_number}
+use Rattle.of_messages.specs.Heads.{format_of, head_refusals, header_length, type_of, version_of}
+use Rattle.of_messages.specs.Messages.{body_of, command_said, flow_mod_by, flow_mod_of, instructions_for, message_from, message_of}
+use Rattle.of_messages.specs.Written.{flow_mod_bytes, flow_mod_fixed_part, flow_mod_numbers, command_number}
 
 -- ---- a match that is spelt is read, whatever follows it
 
@@ -79,18 +82,18 @@ pub record Says (m : FlowMod) (b : List ℕ) : Type 0 where
   pub type : type_of b ≡ 14
   pub size : header_length b ≡ length b
   pub long : 56 ≤ length b
-  pub cookie : big_number 8 (drop 8 b) ≡ m.cookie
-  pub cookie_mask : big_number 8 (drop 16 b) ≡ m.cookie_mask
-  pub table : slice_index b 24 ≡ m.table
-  pub command : slice_index b 25 ≡ 0
-  pub idle : big_number 2 (drop 26 b) ≡ m.idle_timeout
-  pub hard : big_number 2 (drop 28 b) ≡ m.hard_timeout
-  pub priority : big_number 2 (drop 30 b) ≡ m.priority
-  pub buffer : big_number 4 (drop 32 b) ≡ m.buffer
-  pub out_port : big_number 4 (drop 36 b) ≡ m.out_port
-  pub out_group : big_number 4 (drop 40 b) ≡ m.out_group
-  pub flags : big_number 2 (drop 44 b) ≡ m.flags
+  pub numbers_are : numbers tables.flow_mod 8 b ≡ flow_mod_numbers m
   pub rest_is : drop 48 b ≡ canonical m.fields ++ canonical_instructions m.instructions
+
+-- the numbers of a FLOW_MOD that is written are read again
+pub again : (xid : ℕ) (m : FlowMod) → Fits tables.flow_mod (flow_mod_numbers m) [] → numbers tables.flow_mod 8 (flow_mod_bytes xid m) ≡ flow_mod_numbers m
+unfolding flow_mod_fixed_part
+again xid m fits =
+    sym (numbers_at tables.flow_mod 8 0 (flow_mod_bytes xid m))
+    ∙ written_is_read tables.flow_mod (flow_mod_numbers m) [] (canonical m.fields ++ canonical_instructions m.instructions) fits
+
+low : (m : FlowMod) → IsAdd m → command_number m.command < 256
+low m a = omega (arith, ap command_number a.command)
 
 says : (xid : ℕ) (m : FlowMod) → IsAdd m → Says m (flow_mod_bytes xid m)
 unfolding flow_mod_fixed_part
@@ -110,22 +113,12 @@ says xid m a =
       type = refl;
       size = big_number-reads_back 2 (8 + length body) (drop 4 b) (omega (arith, parts, most, more)) ∙ size;
       long = omega (arith, parts, least);
-      cookie = big_number-reads_back 8 m.cookie (drop 16 b) a.cookie;
-      cookie_mask = big_number-reads_back 8 m.cookie_mask (drop 24 b) a.cookie_mask;
-      table = refl;
-      command = ap command_number a.command;
-      idle = big_number-reads_back 2 m.idle_timeout (drop 28 b) a.idle;
-      hard = big_number-reads_back 2 m.hard_timeout (drop 30 b) a.hard;
-      priority = big_number-reads_back 2 m.priority (drop 32 b) a.priority;
-      buffer = big_number-reads_back 4 m.buffer (drop 36 b) a.buffer;
-      out_port = big_number-reads_back 4 m.out_port (drop 40 b) a.out_port;
-      out_group = big_number-reads_back 4 m.out_group (drop 44 b) a.out_group;
-      flags = big_number-reads_back 2 m.flags (drop 46 b) (omega (arith, a.flags));
+      numbers_are = again xid m (a.cookie, (a.cookie_mask, (omega (arith, a.table), (low m a, (a.idle, (a.hard, (a.priority, (a.buffer, (a.out_port, (a.out_group, (omega (arith, a.flags), tt)))))))))));
       rest_is = refl;
     }
 
 pub head_passes : (m : FlowMod) (b : List ℕ) → Says m b → first_of (head_refusals b) ≡ None
-unfolding size_of
+unfolding format_of
 head_passes m b h =
     let long = h.long in
     let eight : ltb (length b) 8 ≡ false = le-ltb _ _ (omega (arith, long)) in
@@ -133,45 +126,30 @@ head_passes m b h =
     let size : eqb (header_length b) (length b) ≡ true = eq-eqb _ _ h.size in
     rw (h.type, h.version, eight, most, size) refl
 
-add_passes : (m : FlowMod) (b : List ℕ) → IsAdd m → Says m b → first_of (flow_mod_refusals b) ≡ None
-add_passes m b a h =
+command_read : (m : FlowMod) → IsAdd m → command_said (command_number m.command) m.table m.flags ≡ Ok m.command
+unfolding command_said
+command_read m a =
     let table : ltb 15 m.table ≡ false = le-ltb _ _ (omega (arith, a.table)) in
     let flags : ltb 31 m.flags ≡ false = le-ltb _ _ a.flags in
-    rw (h.command, h.table, h.flags, table, flags) refl
+    rw (a.command, table, flags) refl
 
-match_there : (m : FlowMod) (b : List ℕ) → IsAdd m → Says m b → match_of (drop 48 b) ≡ Ok (m.fields, length (canonical m.fields))
-match_there m b a h = ap match_of h.rest_is ∙ match_read (canonical m.fields) (canonical_instructions m.instructions) m.fields (canonical_spells m.fields a.fields)
+match_there : (m : FlowMod) (rest : List ℕ) → IsAdd m → rest ≡ canonical m.fields ++ canonical_instructions m.instructions → match_of rest ≡ Ok (m.fields, length (canonical m.fields))
+match_there m rest a is = ap match_of is ∙ match_read (canonical m.fields) (canonical_instructions m.instructions) m.fields (canonical_spells m.fields a.fields)
 
-instructions_there : (m : FlowMod) (b : List ℕ) → IsAdd m → Says m b → instructions_of (slice_index b 24) (drop (length (canonical m.fields)) (drop 48 b)) ≡ Ok m.instructions
-instructions_there m b a h =
-    ap (instructions_of (slice_index b 24)) (ap (drop (length (canonical m.fields))) h.rest_is ∙ drop_at (canonical m.fields) (canonical_instructions m.instructions) (length (canonical m.fields)) refl)
-    ∙ (ap (λ (t : ℕ). instructions_of t (canonical_instructions m.instructions)) h.table ∙ instructions_read m.table m.instructions a.kept a.fit)
-
-pub same_mod : (m : FlowMod) (b : List ℕ) → m.command ≡ Add → Says m b → flow_mod_with b Add m.fields m.instructions ≡ m
-same_mod m b add h = λ i. record {
-  cookie = h.cookie i;
-  cookie_mask = h.cookie_mask i;
-  table = h.table i;
-  command = (sym add) i;
-  idle_timeout = h.idle i;
-  hard_timeout = h.hard i;
-  priority = h.priority i;
-  buffer = h.buffer i;
-  out_port = h.out_port i;
-  out_group = h.out_group i;
-  flags = h.flags i;
-  fields = m.fields;
-  instructions = m.instructions;
-}
+instructions_there : (m : FlowMod) (rest : List ℕ) → IsAdd m → rest ≡ canonical m.fields ++ canonical_instructions m.instructions → instructions_for m.command m.table (drop (length (canonical m.fields)) rest) ≡ Ok m.instructions
+instructions_there m rest a is =
+    let n = length (canonical m.fields) in
+    ap (λ (c : FlowModCommand). instructions_for c m.table (drop n rest)) a.command
+    ∙ ap (instructions_of m.table) (ap (drop n) is ∙ drop_at (canonical m.fields) (canonical_instructions m.instructions) n refl)
+    ∙ instructions_read m.table m.instructions a.kept a.fit
 
 mod_again : (m : FlowMod) (b : List ℕ) → IsAdd m → Says m b → flow_mod_of b ≡ Ok m
 mod_again m b a h =
-    ap (λ (o : Option Code). flow_mod_by b o (command_of (slice_index b 25))) (add_passes m b a h)
-    ∙ (ap (λ (n : ℕ). flow_mod_by b None (command_of n)) h.command
-    ∙ (ap (then_match b Add) (match_there m b a h)
-    ∙ (ap (then_instructions b Add m.fields) (instructions_there m b a h)
-    ∙ (ap (λ (t : Bool). cond t (Ok (flow_mod_with b Add m.fields m.instructions)) (Err (refusal 2 10))) a.checked
-    ∙ ap Ok (same_mod m b a.command h)))))
+    let rest = drop 48 b in
+    let command = command_read m a in
+    let fields = match_there m rest a h.rest_is in
+    let instructions = instructions_there m rest a h.rest_is in
+    ap (λ (ns : List ℕ). flow_mod_by ns rest) h.numbers_are ∙ rw (command, fields, instructions, a.checked) refl
 
 body_again : (m : FlowMod) (b : List ℕ) → Says m b → first_of (head_refusals b) ≡ None → flow_mod_of b ≡ Ok m → message_of b ≡ Ok (IsFlowMod m)
 unfolding message_from body_of

@@ -9,6 +9,9 @@ use Rattle.byteorder.specs.Numbers.{big_number-reads_back}
 use Rattle.of_wire.specs.declared.code.Code.{Code}
 use Rattle.of_wire.specs.Items.{outcome}
 use Rattle.of_wire.specs.Refusals.{first_of, refusal}
+use Rattle.of_formats.specs.Reading.{◌>>=◌}
+use Rattle.of_formats.specs.Structs.{numbers}
+use Rattle.of_formats.specs.Tables as tables
 use Rattle.of_actions.specs.declared.action.Action.{Action}
 use Rattle.of_actions.specs.Actions.{actions_said}
 use Rattle.of_actions.specs.CanonicalActions.{canonical_actions}
@@ -20,10 +23,14 @@ use Rattle.of_groups.specs.Buckets.{group_max}
 use Rattle.of_groups.specs.Groups.{kind_number}
 use Rattle.of_messages.specs.Buckets.{actions_in, bucket_at, bucket_refusals, bucket_with, buckets, buckets_said, fault_of, len_at}
 use Rattle.of_messages.specs.CanonicalGroups.{canonical_bucket, canonical_buckets, group_add_bytes, group_add_fixed_part}
-use Rattle.of_messages.specs.GroupMods.{as_add, command_in, command_of, group_mod_of, group_of, kind_of, number_in, then_buckets, then_kind}
-use Rattle.of_messages.specs.Heads.{head_refusals, header_length, size_of, type_of, version_of}
-use Rattle.of_messages.specs.Messages.{as_group_mod, body_of, message_from, message_of}
+use Rattle.of_messages.specs.GroupMods.{command_of, group_mod_of, group_of, kind_of}
+use Rattle.of_messages.specs.Heads.{format_of, head_refusals, header_length, type_of, version_of}
+use Rattle.of_messages.specs.Messages.{body_of, message_from, message_of}
+use Rattle.of_messages.specs.declared.group_mod.GroupMod.{GroupMod}
+use Rattle.of_messages.specs.declared.group_mod.GroupMod.TheVariants.{Add}
 use Rattle.of_messages.specs.declared.group_mod.NewGroup.{NewGroup}
+use Rattle.of_messages.specs.declared.message.Message.{Message}
+use Rattle.of_messages.specs.declared.message.Message.TheVariants.{GroupMod as IsGroupMod}
 use Rattle.of_build.specs.Building.{new_of}
 use Rattle.of_text.specs.Groups.{TextBucket, TextGroup, bucket_of, buckets_of}
 use Rattle.of_text.specs.Refusals.{buckets_refusals, list_refusals, or_else}
@@ -84,7 +91,7 @@ own_none : (t : Bool) (rs : List (Bool × Code)) → first_of ((t, refusal 6 4) 
 own_none true rs none = absurd cc
 own_none false rs none = none
 
-same_bucket : (b : TextBucket) (rest : List ℕ) → Holds b rest → bucket_with rest (Ok b.actions) ≡ Some (bucket_of b)
+same_bucket : (b : TextBucket) (rest : List ℕ) → Holds b rest → bucket_with (numbers tables.bucket 0 rest) (Ok b.actions) ≡ Some (bucket_of b)
 same_bucket b rest h = ap Some (λ i. record { weight = h.weight i; watch_port = h.port i; watch_group = h.group i; actions = b.actions; packets = 0; bytes = 0 })
 
 bucket_step : (seen : List Bucket) (b : TextBucket) (x : List ℕ) → IsSaidBucket b → length (canonical_actions b.actions) < 65520 → IsStep buckets canonical_bucket own_bucket seen (bucket_of b) x
@@ -101,7 +108,7 @@ bucket_step seen b x fits short =
           bucket_left seen rest (16 + length (canonical_actions b.actions)) h.len (omega arith) (omega (arith, eights)) h.long
           ∙ ap (λ (r : Result (List Action) Code). first_of ((ltb 15 (length seen), refusal 6 4) ∷ fault_of r)) said
           ∙ ap (λ (o : Option Code). cond (ltb 15 (length seen)) (Some (refusal 6 4)) o) (fault_first b.actions refused);
-      at = λ none. ap (bucket_with rest) (said ∙ ap (outcome b.actions) (own_none (ltb 15 (length seen)) (list_refusals b.actions) none)) ∙ same_bucket b rest h;
+      at = λ none. ap (bucket_with (numbers tables.bucket 0 rest)) (said ∙ ap (outcome b.actions) (own_none (ltb 15 (length seen)) (list_refusals b.actions) none)) ∙ same_bucket b rest h;
       size = λ none. h.len ∙ omega arith;
     }
 
@@ -172,9 +179,9 @@ record Says (g : NewGroup) (m : List ℕ) : Type 0 where
   type : type_of m ≡ 15
   size : header_length m ≡ length m
   long : 16 ≤ length m
-  command : command_in m ≡ 0
+  command : big_number 2 (drop 8 m) ≡ 0
   kind : slice_index m 10 ≡ kind_number g.kind
-  number : number_in m ≡ g.id
+  number : big_number 4 (drop 12 m) ≡ g.id
   buckets : drop 16 m ≡ canonical_buckets g.buckets
 
 says : (xid : ℕ) (g : NewGroup) → g.id < 256 ^ 4 → length (canonical_buckets g.buckets) < 65520 → Says g (group_add_bytes xid g)
@@ -196,7 +203,7 @@ says xid g number short =
     }
 
 head_passes : (g : NewGroup) (m : List ℕ) → Says g m → first_of (head_refusals m) ≡ None
-unfolding size_of
+unfolding format_of
 head_passes g m h =
     let long = h.long in
     let eight : ltb (length m) 8 ≡ false = le-ltb _ _ (omega arith) in
@@ -214,22 +221,32 @@ abbrev new_outcome : NewGroup → Option Code → Result NewGroup Code
 new_outcome g None = Ok g
 new_outcome g (Some code) = Err code
 
-group_there : (g : TextGroup) (m : List ℕ) → Says (new_of g) m → IsSaidGroup g → group_of m ≡ new_outcome (new_of g) (first_of (said_refusals g))
-group_there g m h w =
-    ap (λ (n : ℕ). cond {A = Result NewGroup Code} (ltb group_max n) (Err (refusal 6 1)) (then_kind m (kind_of (slice_index m 10)))) h.number
-    ∙ ap (λ (k : Option GroupKind). cond {A = Result NewGroup Code} (ltb group_max g.head.id) (Err (refusal 6 1)) (then_kind m k)) (ap kind_of h.kind ∙ kind_again g.head.kind)
-    ∙ ap (λ (n : ℕ). cond {A = Result NewGroup Code} (ltb group_max g.head.id) (Err (refusal 6 1)) (then_buckets n g.head.kind (buckets_said (drop 16 m)))) h.number
-    ∙ ap (λ (r : Result (List Bucket) Code). cond {A = Result NewGroup Code} (ltb group_max g.head.id) (Err (refusal 6 1)) (then_buckets g.head.id g.head.kind r)) (ap buckets_said h.buckets ∙ buckets_told g.buckets w.buckets w.short)
-    ∙ by_number (ltb group_max g.head.id) (first_of (buckets_refusals g.buckets))
-  where
-    by_number : (t : Bool) (o : Option Code) → cond {A = Result NewGroup Code} t (Err (refusal 6 1)) (then_buckets g.head.id g.head.kind (outcome (buckets_of g) o)) ≡ new_outcome (new_of g) (cond t (Some (refusal 6 1)) o)
-    by_number true o = refl
-    by_number false None = refl
-    by_number false (Some code) = refl
+abbrev with_buckets : TextGroup → Result (List Bucket) Code → Result NewGroup Code
+with_buckets g r = r >>= λ bs. Ok (record { id = g.head.id; kind = g.head.kind; buckets = bs })
 
-mod_is : (g : NewGroup) (m : List ℕ) → Says g m → group_mod_of m ≡ as_add (group_of m)
+with_outcome : (g : TextGroup) (o : Option Code) → with_buckets g (outcome (buckets_of g) o) ≡ new_outcome (new_of g) o
+with_outcome g None = refl
+with_outcome g (Some code) = refl
+
+group_there : (g : TextGroup) → IsSaidGroup g → group_of (kind_number g.head.kind) g.head.id (canonical_buckets (buckets_of g)) ≡ new_outcome (new_of g) (first_of (said_refusals g))
+group_there g w = by_number (ltb group_max g.head.id) refl
+  where
+    by_number : (t : Bool) → ltb group_max g.head.id ≡ t → group_of (kind_number g.head.kind) g.head.id (canonical_buckets (buckets_of g)) ≡ new_outcome (new_of g) (first_of (said_refusals g))
+    by_number true over = rw over refl
+    by_number false under =
+        let kind = kind_again g.head.kind in
+        let told = buckets_told g.buckets w.buckets w.short in
+        rw (under, kind, told) (with_outcome g (first_of (buckets_refusals g.buckets)))
+
+abbrev as_add : Result NewGroup Code → Result GroupMod Code
+as_add r = r >>= λ g. Ok (Add g)
+
+abbrev as_group_mod : Result GroupMod Code → Result Message Code
+as_group_mod r = r >>= λ g. Ok (IsGroupMod g)
+
+mod_is : (g : NewGroup) (m : List ℕ) → Says g m → group_mod_of m ≡ as_add (group_of (kind_number g.kind) g.id (canonical_buckets g.buckets))
 unfolding command_of
-mod_is g m h = rw h.command refl
+mod_is g m h = rw (h.command, h.kind, h.number, h.buckets) refl
 
 body_is : (g : NewGroup) (m : List ℕ) → Says g m → first_of (head_refusals m) ≡ None → message_of m ≡ as_group_mod (group_mod_of m)
 unfolding message_from body_of
@@ -244,5 +261,5 @@ group_told xid g w =
     let m = group_add_bytes xid (new_of g) in
     let h = says xid (new_of g) w.number w.short in
     body_is (new_of g) m h (head_passes (new_of g) m h)
-    ∙ ap as_group_mod (mod_is (new_of g) m h ∙ ap as_add (group_there g m h w))
+    ∙ ap as_group_mod (mod_is (new_of g) m h ∙ ap as_add (group_there g w))
     ∙ as_message (new_of g) (first_of (said_refusals g))

@@ -1,6 +1,6 @@
 -- A FLOW_MOD of a flow of a text is refused with the text's code.
-use Rattle.std.proofs.Common.{◌≡◌, ℕ, ◌+◌, ◌<◌, Bool, true, false, not, cond, ltb, eqb, List, [], ◌∷◌, ◌++◌, length, drop, map, Option, Some, None, Result, Ok, Err, refl, sym, ◌∙◌, ap, append_assoc, arith, inl, inr}
-use Rattle.std.specs.Prelude.{◌⊎◌, bit_and, slice_index}
+use Rattle.std.proofs.Common.{◌≡◌, ℕ, ◌+◌, ◌<◌, Bool, true, false, not, ltb, eqb, List, [], ◌∷◌, ◌++◌, length, drop, map, Option, Some, None, Result, Ok, Err, refl, sym, ◌∙◌, ap, append_assoc, arith, inl, inr}
+use Rattle.std.specs.Prelude.{◌⊎◌, bit_and}
 use Rattle.std.specs.List.{flat_map, list_all}
 use Rattle.std.proofs.lemmas.Bool.{eq-eqb, le-ltb, lt-ltb, ne_eqb}
 use Rattle.std.proofs.lemmas.List.{drop_at, length-append}
@@ -9,24 +9,29 @@ use Rattle.byteorder.specs.Numbers.{big_number-reads_back}
 use Rattle.of_wire.specs.declared.code.Code.{Code}
 use Rattle.of_wire.specs.Items.{outcome}
 use Rattle.of_wire.specs.Refusals.{first_of, refusal}
+use Rattle.of_formats.specs.Reading.{◌>>=◌, unless}
 use Rattle.of_oxm.specs.declared.match_field.MatchField.{MatchField}
 use Rattle.of_oxm.specs.Canonical.{canonical}
 use Rattle.of_oxm.specs.MatchReading.{match_of}
+use Rattle.of_actions.specs.declared.instruction.Instruction.{Instruction}
 use Rattle.of_actions.specs.CanonicalInstructions.{canonical_instructions}
 use Rattle.of_actions.specs.FlowCheck.{all_go_with}
 use Rattle.of_actions.specs.InstructionReading as reading
 use Rattle.of_messages.specs.declared.message.FlowMod.{FlowMod}
+use Rattle.of_messages.specs.declared.message.FlowModCommand.{FlowModCommand}
 use Rattle.of_messages.specs.declared.message.FlowModCommand.TheVariants.{Add}
+use Rattle.of_messages.specs.declared.message.Message.{Message}
+use Rattle.of_messages.specs.declared.message.Message.TheVariants.{FlowMod as IsFlowMod}
 use Rattle.of_messages.specs.Heads.{head_refusals}
-use Rattle.of_messages.specs.Messages.{as_flow_mod, body_of, command_of, flow_mod_by, flow_mod_of, flow_mod_refusals, flow_mod_with, message_from, message_of, then_instructions, then_match}
-use Rattle.of_messages.specs.Written.{flow_mod_bytes, flow_mod_fixed_part}
+use Rattle.of_messages.specs.Messages.{body_of, command_said, flow_mod_by, flow_mod_of, instructions_for, message_from, message_of}
+use Rattle.of_messages.specs.Written.{flow_mod_bytes, flow_mod_fixed_part, flow_mod_numbers}
 use Rattle.of_build.specs.Building.{add_of}
 use Rattle.of_text.specs.Flows.{Flow, Step, Apply, Clear, Write, Metadata, Goto}
 use Rattle.of_text.specs.Kept.{instruction_of, instructions_of}
 use Rattle.of_text.specs.Refusals.{flow_refusals, goes_with, goto_refusals, match_refusals, or_else, step_refusals, steps_refusals}
 use Rattle.of_text.proofs.RefusalLemmas.{first_append}
 use Rattle.of_round_trip.specs.Refused.{IsSaid, match_outcome, message_outcome}
-use Rattle.of_round_trip.proofs.FlowAgain.{Says, head_passes, same_mod}
+use Rattle.of_round_trip.proofs.FlowAgain.{Says, again, head_passes}
 use Rattle.of_round_trip.proofs.Refusing.{canonical_least, match_told}
 use Rattle.of_round_trip.proofs.RefusingFlows.{instructions_told}
 
@@ -48,17 +53,7 @@ says_flow xid f w =
       type = refl;
       size = big_number-reads_back 2 (8 + length body) (drop 4 b) (omega (arith, short)) ∙ size;
       long = omega (arith, parts, least);
-      cookie = big_number-reads_back 8 m.cookie (drop 16 b) (omega (arith, head.2));
-      cookie_mask = big_number-reads_back 8 0 (drop 24 b) (omega arith);
-      table = refl;
-      command = refl;
-      idle = big_number-reads_back 2 m.idle_timeout (drop 28 b) (omega (arith, head.3));
-      hard = big_number-reads_back 2 m.hard_timeout (drop 30 b) (omega (arith, head.4));
-      priority = big_number-reads_back 2 m.priority (drop 32 b) (omega (arith, head.1));
-      buffer = big_number-reads_back 4 0xffffffff (drop 36 b) (omega arith);
-      out_port = big_number-reads_back 4 0xffffffff (drop 40 b) (omega arith);
-      out_group = big_number-reads_back 4 0xffffffff (drop 44 b) (omega arith);
-      flags = big_number-reads_back 2 m.flags (drop 46 b) (omega (arith, head.5));
+      numbers_are = again xid m (head.2, (omega arith, (omega (arith, head.0), (omega arith, (head.3, (head.4, (head.1, (omega arith, (omega arith, (omega arith, (head.5, tt)))))))))));
       rest_is = refl;
     }
 
@@ -70,14 +65,19 @@ flags_same : (n : ℕ) → (bit_and n 25 ≡ n) ⊎ (31 < n) → ltb 31 n ≡ no
 flags_same n (inl e) = le-ltb _ _ (omega (arith, e, and_le_r n 25)) ∙ sym (ap not (eq-eqb _ _ e))
 flags_same n (inr over) = lt-ltb _ _ over ∙ sym (ap not (ne_eqb _ _ (λ e. omega (arith, e, over, and_le_r n 25))))
 
-front_same : (f : Flow) (b : List ℕ) → Says (add_of f) b → IsSaid f → first_of (flow_mod_refusals b) ≡ first_of (front f)
-unfolding front
-front_same f b h w = let flags = flags_same f.head.flags w.flags in by_table (ltb 15 f.head.table) refl flags
+abbrev said_outcome : Option Code → Result FlowModCommand Code
+said_outcome None = Ok Add
+said_outcome (Some code) = Err code
+
+front_same : (f : Flow) → IsSaid f → command_said 0 f.head.table f.head.flags ≡ said_outcome (first_of (front f))
+unfolding front command_said
+front_same f w = by_tests (ltb 15 f.head.table) (eqb (bit_and f.head.flags 25) f.head.flags) refl refl (flags_same f.head.flags w.flags)
   where
-    by_table : (t : Bool) → ltb 15 f.head.table ≡ t → ltb 31 f.head.flags ≡ not (eqb (bit_and f.head.flags 25) f.head.flags)
-        → first_of (flow_mod_refusals b) ≡ first_of ((ltb 15 f.head.table, refusal 5 2) ∷ (not (eqb (bit_and f.head.flags 25) f.head.flags), refusal 5 7) ∷ [])
-    by_table true over flags = rw (h.command, h.table, over) refl
-    by_table false under flags = rw (h.command, h.table, h.flags, under, flags) refl
+    by_tests : (t u : Bool) → ltb 15 f.head.table ≡ t → eqb (bit_and f.head.flags 25) f.head.flags ≡ u → ltb 31 f.head.flags ≡ not (eqb (bit_and f.head.flags 25) f.head.flags)
+        → command_said 0 f.head.table f.head.flags ≡ said_outcome (first_of ((ltb 15 f.head.table, refusal 5 2) ∷ (not (eqb (bit_and f.head.flags 25) f.head.flags), refusal 5 7) ∷ []))
+    by_tests true u over known flags = rw over refl
+    by_tests false true under known flags = let fine : ltb 31 f.head.flags ≡ false = flags ∙ ap not known in rw (under, fine, known) refl
+    by_tests false false under known flags = let high : ltb 31 f.head.flags ≡ true = flags ∙ ap not known in rw (under, high, known) refl
 
 checked_same : (m : List MatchField) (steps : List Step) → all_go_with m (map instruction_of steps) ≡ list_all (goes_with m) steps
 checked_same m [] = refl
@@ -91,60 +91,88 @@ abbrev mod_outcome : FlowMod → Option Code → Result FlowMod Code
 mod_outcome m None = Ok m
 mod_outcome m (Some code) = Err code
 
--- the instructions, and the flow check
-steps_told : (f : Flow) (b : List ℕ) → Says (add_of f) b → (o : Option Code)
-    → then_instructions b Add f.fields (outcome (instructions_of f) o) ≡ mod_outcome (add_of f) (or_else o (first_of ((not (list_all (goes_with f.fields) f.steps), refusal 2 10) ∷ [])))
-steps_told f b h (Some code) = refl
-steps_told f b h None = by_check (list_all (goes_with f.fields) f.steps) refl
-  where
-    by_check : (t : Bool) → list_all (goes_with f.fields) f.steps ≡ t → then_instructions b Add f.fields (Ok (instructions_of f)) ≡ mod_outcome (add_of f) (first_of ((not (list_all (goes_with f.fields) f.steps), refusal 2 10) ∷ []))
-    by_check true goes =
-        let all : all_go_with f.fields (instructions_of f) ≡ true = checked_same f.fields f.steps ∙ goes in
-        ap (λ (t : Bool). cond {A = Result FlowMod Code} t (Ok (flow_mod_with b Add f.fields (instructions_of f))) (Err (refusal 2 10))) all
-        ∙ ap Ok (same_mod (add_of f) b refl h)
-        ∙ ap (λ (t : Bool). mod_outcome (add_of f) (first_of ((not t, refusal 2 10) ∷ []))) (sym goes)
-    by_check false lacks =
-        let some : all_go_with f.fields (instructions_of f) ≡ false = checked_same f.fields f.steps ∙ lacks in
-        ap (λ (t : Bool). cond {A = Result FlowMod Code} t (Ok (flow_mod_with b Add f.fields (instructions_of f))) (Err (refusal 2 10))) some
-        ∙ ap (λ (t : Bool). mod_outcome (add_of f) (first_of ((not t, refusal 2 10) ∷ []))) (sym lacks)
+-- ---- step by step, with the numbers of a flow
 
-instructions_there : (f : Flow) (b : List ℕ) → Says (add_of f) b → IsSaid f
-    → reading.instructions_of (slice_index b 24) (drop (length (canonical f.fields)) (drop 48 b)) ≡ outcome (instructions_of f) (first_of (flat_map (goto_refusals f.head.table) f.steps ++ flat_map step_refusals f.steps))
-instructions_there f b h w =
+abbrev made : Flow → FlowModCommand → List MatchField → List Instruction → FlowMod
+made f command fields instructions = record {
+  cookie = f.head.cookie;
+  cookie_mask = 0;
+  table = f.head.table;
+  command = command;
+  idle_timeout = f.head.idle;
+  hard_timeout = f.head.hard;
+  priority = f.head.priority;
+  buffer = 0xffffffff;
+  out_port = 0xffffffff;
+  out_group = 0xffffffff;
+  flags = f.head.flags;
+  fields = fields;
+  instructions = instructions;
+}
+
+abbrev then_instructions : Flow → FlowModCommand → List MatchField → Result (List Instruction) Code → Result FlowMod Code
+then_instructions f command fields r = r >>= λ is. unless ((not (all_go_with fields is), refusal 2 10) ∷ []) >>= λ fit. Ok (made f command fields is)
+
+abbrev then_match : Flow → List ℕ → FlowModCommand → Result (List MatchField × ℕ) Code → Result FlowMod Code
+then_match f rest command r = r >>= λ m. then_instructions f command m.0 (instructions_for command f.head.table (drop m.1 rest))
+
+abbrev then_command : Flow → List ℕ → Result FlowModCommand Code → Result FlowMod Code
+then_command f rest r = r >>= λ command. then_match f rest command (match_of rest)
+
+-- the instructions, and the flow check
+steps_told : (f : Flow) (o : Option Code)
+    → then_instructions f Add f.fields (outcome (instructions_of f) o) ≡ mod_outcome (add_of f) (or_else o (first_of ((not (list_all (goes_with f.fields) f.steps), refusal 2 10) ∷ [])))
+steps_told f (Some code) = refl
+steps_told f None = ap (λ (t : Bool). unless ((not t, refusal 2 10) ∷ []) >>= (λ fit. Ok (add_of f))) (checked_same f.fields f.steps) ∙ by_fit (list_all (goes_with f.fields) f.steps)
+  where
+    by_fit : (t : Bool) → (unless ((not t, refusal 2 10) ∷ []) >>= λ fit. Ok (add_of f)) ≡ mod_outcome (add_of f) (first_of ((not t, refusal 2 10) ∷ []))
+    by_fit true = refl
+    by_fit false = refl
+
+-- the bytes behind the numbers
+abbrev rest_of : Flow → List ℕ
+rest_of f = canonical f.fields ++ canonical_instructions (instructions_of f)
+
+instructions_there : (f : Flow) → IsSaid f
+    → reading.instructions_of f.head.table (drop (length (canonical f.fields)) (rest_of f)) ≡ outcome (instructions_of f) (first_of (flat_map (goto_refusals f.head.table) f.steps ++ flat_map step_refusals f.steps))
+instructions_there f w =
     let parts = length-append (canonical f.fields) (canonical_instructions (instructions_of f)) in
-    ap (reading.instructions_of (slice_index b 24)) (ap (drop (length (canonical f.fields))) h.rest_is ∙ drop_at (canonical f.fields) (canonical_instructions (instructions_of f)) (length (canonical f.fields)) refl)
-    ∙ ap (λ (t : ℕ). reading.instructions_of t (canonical_instructions (instructions_of f))) h.table
+    ap (reading.instructions_of f.head.table) (drop_at (canonical f.fields) (canonical_instructions (instructions_of f)) (length (canonical f.fields)) refl)
     ∙ instructions_told f.head.table f.steps w.steps w.in_order (omega (arith, parts, w.short))
 
 -- the match, and what follows it
-match_then : (f : Flow) (b : List ℕ) → Says (add_of f) b → IsSaid f → (o : Option Code)
-    → then_match b Add (match_outcome f.fields o) ≡ mod_outcome (add_of f) (or_else o (first_of (steps_refusals f.head.table f.fields f.steps)))
+match_then : (f : Flow) → IsSaid f → (o : Option Code)
+    → then_match f (rest_of f) Add (match_outcome f.fields o) ≡ mod_outcome (add_of f) (or_else o (first_of (steps_refusals f.head.table f.fields f.steps)))
 unfolding steps_refusals
-match_then f b h w (Some code) = refl
-match_then f b h w None =
+match_then f w (Some code) = refl
+match_then f w None =
     let nexts = flat_map (goto_refusals f.head.table) f.steps in
     let bodies = flat_map step_refusals f.steps in
     let check : List (Bool × Code) = (not (list_all (goes_with f.fields) f.steps), refusal 2 10) ∷ [] in
-    ap (then_instructions b Add f.fields) (instructions_there f b h w)
-    ∙ steps_told f b h (first_of (nexts ++ bodies))
+    ap (then_instructions f Add f.fields) (instructions_there f w)
+    ∙ steps_told f (first_of (nexts ++ bodies))
     ∙ ap (mod_outcome (add_of f)) (sym (first_append (nexts ++ bodies) check) ∙ ap first_of (append_assoc nexts bodies check))
 
-front_then : (f : Flow) (b : List ℕ) → Says (add_of f) b → IsSaid f → (o : Option Code)
-    → flow_mod_by b o (Some Add) ≡ mod_outcome (add_of f) (or_else o (first_of (match_refusals f.fields ++ steps_refusals f.head.table f.fields f.steps)))
-front_then f b h w (Some code) = refl
-front_then f b h w None =
+front_then : (f : Flow) → IsSaid f → (o : Option Code)
+    → then_command f (rest_of f) (said_outcome o) ≡ mod_outcome (add_of f) (or_else o (first_of (match_refusals f.fields ++ steps_refusals f.head.table f.fields f.steps)))
+front_then f w (Some code) = refl
+front_then f w None =
     let behind = steps_refusals f.head.table f.fields f.steps in
-    ap (then_match b Add) (ap match_of h.rest_is ∙ match_told f.fields (canonical_instructions (instructions_of f)) w.fields w.ascending)
-    ∙ match_then f b h w (first_of (match_refusals f.fields))
+    ap (then_match f (rest_of f) Add) (match_told f.fields (canonical_instructions (instructions_of f)) w.fields w.ascending)
+    ∙ match_then f w (first_of (match_refusals f.fields))
     ∙ ap (mod_outcome (add_of f)) (sym (first_append (match_refusals f.fields) behind))
 
 mod_told : (f : Flow) (b : List ℕ) → Says (add_of f) b → IsSaid f → flow_mod_of b ≡ mod_outcome (add_of f) (first_of (flow_refusals f))
 unfolding flow_refusals front
 mod_told f b h w =
-    ap (λ (o : Option Code). flow_mod_by b o (command_of (slice_index b 25))) (front_same f b h w)
-    ∙ ap (λ (n : ℕ). flow_mod_by b (first_of (front f)) (command_of n)) h.command
-    ∙ front_then f b h w (first_of (front f))
+    ap (λ (ns : List ℕ). flow_mod_by ns (drop 48 b)) h.numbers_are
+    ∙ ap (flow_mod_by (flow_mod_numbers (add_of f))) h.rest_is
+    ∙ ap (then_command f (rest_of f)) (front_same f w)
+    ∙ front_then f w (first_of (front f))
     ∙ ap (mod_outcome (add_of f)) (sym (first_append (front f) (match_refusals f.fields ++ steps_refusals f.head.table f.fields f.steps)))
+
+abbrev as_flow_mod : Result FlowMod Code → Result Message Code
+as_flow_mod r = r >>= λ v. Ok (IsFlowMod v)
 
 body_is : (m : FlowMod) (b : List ℕ) → Says m b → first_of (head_refusals b) ≡ None → message_of b ≡ as_flow_mod (flow_mod_of b)
 unfolding message_from body_of
