@@ -18,9 +18,10 @@ use Rattle.of_table.specs.declared.selection.Cause.TheVariants.{Group}
 use Rattle.of_table.specs.Selecting.{Notice}
 use Rattle.of_table.specs.Tables.{notices_in}
 use Rattle.of_messages.specs.declared.role.Role.{Role}
+use Rattle.of_formats.specs.Reading.{◌>>=◌}
 use Rattle.of_messages.specs.Heads.{flow_mod, group_mod, head_refusals, role_refusals, type_of, xid_of}
 use Rattle.of_messages.specs.GroupMods.{group_mod_of}
-use Rattle.of_messages.specs.Messages.{as_flow_mod, as_group_mod, body_of, flow_mod_of, is_delete, message_by, message_from}
+use Rattle.of_messages.specs.Messages.{body_of, flow_mod_of, is_delete, message_by, message_from}
 use Rattle.of_messages.specs.Written.{error_bytes, message}
 use Rattle.of_session.specs.declared.session.Phase.TheVariants.{Open}
 use Rattle.of_session.specs.declared.session.Next.{Next}
@@ -109,20 +110,20 @@ read_by_body role m said e = by_refusal (first_of (head_refusals m ++ role_refus
 flow_mod_said : (m : List ℕ) (said : Message) (k : Core) → type_of m ≡ 14 → body_of m ≡ Ok said → k.forwarding.held ≡ none_held → SaysNoError (done (xid_of m) said k)
 unfolding body_of
 flow_mod_said m said k type e none =
-    let body : as_flow_mod (flow_mod_of m) ≡ Ok said = sym (rw type refl) ∙ e in
+    let body : (flow_mod_of m >>= λ v. Ok (IsFlowMod v)) ≡ Ok said = sym (rw type refl) ∙ e in
     by_reading (flow_mod_of m) body
   where
-    by_reading : (r : Result FlowMod Code) → as_flow_mod r ≡ Ok said → SaysNoError (done (xid_of m) said k)
+    by_reading : (r : Result FlowMod Code) → (r >>= λ v. Ok (IsFlowMod v)) ≡ Ok said → SaysNoError (done (xid_of m) said k)
     by_reading (Ok v) h = let is : IsFlowMod v ≡ said = cc in subst (λ (x : Message). SaysNoError (done (xid_of m) x k)) is (flow_mod_says v k none)
     by_reading (Err code) h = absurd cc
 
 group_mod_said : (m : List ℕ) (said : Message) (k : Core) → type_of m ≡ 15 → body_of m ≡ Ok said → k.forwarding.held ≡ none_held → SaysNoError (done (xid_of m) said k)
 unfolding body_of
 group_mod_said m said k type e none =
-    let body : as_group_mod (group_mod_of m) ≡ Ok said = sym (rw type refl) ∙ e in
+    let body : (group_mod_of m >>= λ v. Ok (IsGroupMod v)) ≡ Ok said = sym (rw type refl) ∙ e in
     by_reading (group_mod_of m) body
   where
-    by_reading : (r : Result GroupMod Code) → as_group_mod r ≡ Ok said → SaysNoError (done (xid_of m) said k)
+    by_reading : (r : Result GroupMod Code) → (r >>= λ v. Ok (IsGroupMod v)) ≡ Ok said → SaysNoError (done (xid_of m) said k)
     by_reading (Ok v) h = let is : IsGroupMod v ≡ said = cc in subst (λ (x : Message). SaysNoError (done (xid_of m) x k)) is (group_mod_says v k none)
     by_reading (Err code) h = absurd cc
 
