@@ -1,4 +1,3 @@
-pub mod Appended
 pub mod ReplyLemmas
 pub mod ReportLemmas
 pub mod RequestLemmas

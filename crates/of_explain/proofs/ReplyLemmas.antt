@@ -5,7 +5,7 @@ use Rattle.std.specs.List.{flat_map}
 use Rattle.std.proofs.lemmas.List.{append-nil}
 use Rattle.std.proofs.lemmas.Bool.Decides.{nat_tests}
 use Rattle.of_explain.specs.Replies.{within, front_row, length_by, and_rows, first_rows, rows_of, reply_row}
-use Rattle.of_explain.specs.Messages.{number_at}
+use Rattle.of_explain.specs.Fields.{number_at}
 
 true_le : (a b : ℕ) → nat_le a b ≡ true → a ≤ b
 true_le a b h = grind (arith, nat_tests)

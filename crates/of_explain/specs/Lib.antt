@@ -1,5 +1,6 @@
 pub mod Names
 pub mod Notes
+pub mod Fields
 pub mod Messages
 pub mod Requests
 pub mod Replies

@@ -2,13 +2,17 @@
 use Rattle.std.specs.Prelude.{ℕ, zero, suc, nat_le, ◌==◌, List, [], ◌∷◌, ◌++◌, length, take, drop, map, codes, Option, Some, None, Result, Ok, Err, if◌then◌else◌}
 use Rattle.std.specs.List.{flat_map}
 use Rattle.of_wire.specs.declared.code.Code.{Code}
+use Rattle.of_formats.specs.Structs.{size}
+use Rattle.of_formats.specs.Tables as tables
 use Rattle.of_oxm.specs.declared.match_field.MatchField.{MatchField}
 use Rattle.of_oxm.specs.MatchReading.{match_of}
 use Rattle.of_text.specs.declared.row.Row.{Row}
 use Rattle.of_text.specs.declared.row.Row.TheVariants as rows
 use Rattle.of_text.specs.Lines.{ended}
+use Rattle.of_explain.specs.declared.fields.Form.TheVariants.{Plainly, Named, InHex}
 use Rattle.of_explain.specs.declared.names.Names.TheVariants.{GroupTypes}
-use Rattle.of_explain.specs.Messages.{number_at, number_field, name_field, hex_field}
+use Rattle.of_explain.specs.Fields.{Field, fields, number_in, told, words}
+use Rattle.of_explain.specs.Messages.{multipart_type}
 use Rattle.of_explain.specs.Requests.{row_line}
 
 -- ---- the rows
@@ -17,11 +21,11 @@ use Rattle.of_explain.specs.Requests.{row_line}
 unfoldable pub length_by : ℕ → Option ℕ → Option ℕ
 length_by type first =
     if type == 1 then first  -- FLOW (7.3.5.2)
-    else if type == 3 then Some 24  -- TABLE (7.3.5.4)
-    else if type == 4 then Some 112  -- PORT_STATS (7.3.5.6)
+    else if type == 3 then Some (size tables.table_stats)  -- TABLE (7.3.5.4)
+    else if type == 4 then Some (size tables.port_stats)  -- PORT_STATS (7.3.5.6)
     else if type == 6 then first  -- GROUP (7.3.5.9)
     else if type == 7 then first  -- GROUP_DESC (7.3.5.10)
-    else if type == 13 then Some 64  -- PORT_DESC (7.3.5.7)
+    else if type == 13 then Some (size tables.port)  -- PORT_DESC (7.3.5.7)
     else None
 
 -- a row has some bytes, and ends before the message does
@@ -30,7 +34,7 @@ within most None = None
 within most (Some size) = if nat_le 1 size then (if nat_le size most then Some size else None) else None
 
 unfoldable pub front_row : ℕ → List ℕ → Option ℕ
-front_row type body = within (length body) (length_by type (number_at 0 2 body))
+front_row type body = within (length body) (length_by type (number_in "length" 0 tables.flow_stats body))
 
 -- the row at the front, and then others
 abbrev pub and_rows : (List ℕ → List (List ℕ)) → List ℕ → Option ℕ → List (List ℕ)
@@ -48,45 +52,53 @@ rows_of type body = first_rows (length body) type body
 
 -- ---- what each says
 
-unfoldable pub entry_named : List ℕ → List ℕ
-entry_named r = number_field (codes "table") 2 1 r ++ number_field (codes " priority") 12 2 r ++ hex_field (codes " cookie") 24 8 r
+-- 7.3.5.2
+abbrev pub flow_row : List Field
+flow_row =
+    fields 0 tables.flow_stats
+    (told "table_id" "table" Plainly ∷ told "priority" " priority" Plainly ∷ told "cookie" " cookie" InHex
+    ∷ told "duration_sec" " seconds" Plainly ∷ told "packet_count" " packets" Plainly ∷ told "byte_count" " bytes" Plainly ∷ [])
 
-unfoldable pub entry_counted : List ℕ → List ℕ
-entry_counted r = number_field (codes " seconds") 4 4 r ++ number_field (codes " packets") 32 8 r ++ number_field (codes " bytes") 40 8 r
+-- 7.3.5.4
+abbrev pub table_row : List Field
+table_row =
+    fields 0 tables.table_stats
+    (told "table_id" "table" Plainly ∷ told "active_count" " flows" Plainly ∷ told "lookup_count" " lookups" Plainly
+    ∷ told "matched_count" " matched" Plainly ∷ [])
 
-unfoldable pub flow_row : List ℕ → List ℕ
-flow_row r = entry_named r ++ entry_counted r
+-- 7.3.5.6
+abbrev pub port_row : List Field
+port_row =
+    fields 0 tables.port_stats
+    (told "port_no" "port" Plainly ∷ told "rx_packets" " rx_packets" Plainly ∷ told "rx_bytes" " rx_bytes" Plainly ∷ told "rx_dropped" " rx_dropped" Plainly
+    ∷ told "tx_packets" " tx_packets" Plainly ∷ told "tx_bytes" " tx_bytes" Plainly ∷ told "tx_dropped" " tx_dropped" Plainly
+    ∷ told "duration_sec" " seconds" Plainly ∷ [])
 
-unfoldable pub table_row : List ℕ → List ℕ
-table_row r = number_field (codes "table") 0 1 r ++ number_field (codes " flows") 4 4 r ++ number_field (codes " lookups") 8 8 r ++ number_field (codes " matched") 16 8 r
+-- 7.3.5.9
+abbrev pub group_row : List Field
+group_row =
+    fields 0 tables.group_stats
+    (told "group_id" "group" Plainly ∷ told "ref_count" " references" Plainly ∷ told "packet_count" " packets" Plainly ∷ told "byte_count" " bytes" Plainly
+    ∷ told "duration_sec" " seconds" Plainly ∷ [])
 
-unfoldable pub port_received : List ℕ → List ℕ
-port_received r = number_field (codes "port") 0 4 r ++ number_field (codes " rx_packets") 8 8 r ++ number_field (codes " rx_bytes") 24 8 r ++ number_field (codes " rx_dropped") 40 8 r
+-- 7.3.5.10
+abbrev pub group_desc_row : List Field
+group_desc_row = fields 0 tables.group_desc (told "group_id" "group" Plainly ∷ told "type" " type" (Named GroupTypes) ∷ [])
 
-unfoldable pub port_sent : List ℕ → List ℕ
-port_sent r = number_field (codes " tx_packets") 16 8 r ++ number_field (codes " tx_bytes") 32 8 r ++ number_field (codes " tx_dropped") 48 8 r
+-- the configuration and the state are sums of bits (7.2.1)
+abbrev pub port_desc_row : List Field
+port_desc_row =
+    fields 0 tables.port
+    (told "port_no" "port" Plainly ∷ told "hw_addr" " hw" InHex ∷ told "config" " config" Plainly ∷ told "state" " state" Plainly ∷ [])
 
-unfoldable pub port_row : List ℕ → List ℕ
-port_row r = port_received r ++ port_sent r ++ number_field (codes " seconds") 104 4 r
-
-unfoldable pub group_row : List ℕ → List ℕ
-group_row r = number_field (codes "group") 4 4 r ++ number_field (codes " references") 8 4 r ++ number_field (codes " packets") 16 8 r ++ number_field (codes " bytes") 24 8 r ++ number_field (codes " seconds") 32 4 r
-
-unfoldable pub group_desc_row : List ℕ → List ℕ
-group_desc_row r = number_field (codes "group") 4 4 r ++ name_field (codes " type") GroupTypes 2 1 r
-
--- the configuration and the state are sums of bits
-unfoldable pub port_desc_row : List ℕ → List ℕ
-port_desc_row r = number_field (codes "port") 0 4 r ++ hex_field (codes " hw") 8 6 r ++ number_field (codes " config") 32 4 r ++ number_field (codes " state") 36 4 r
-
-unfoldable pub row_said : ℕ → List ℕ → List ℕ
-row_said type r =
-    if type == 1 then flow_row r
-    else if type == 3 then table_row r
-    else if type == 4 then port_row r
-    else if type == 6 then group_row r
-    else if type == 7 then group_desc_row r
-    else if type == 13 then port_desc_row r
+unfoldable pub row_told : ℕ → List Field
+row_told type =
+    if type == 1 then flow_row
+    else if type == 3 then table_row
+    else if type == 4 then port_row
+    else if type == 6 then group_row
+    else if type == 7 then group_desc_row
+    else if type == 13 then port_desc_row
     else []
 
 -- the match of an entry; one that is refused has no lines
@@ -95,7 +107,7 @@ match_rows (Ok found) = map rows.Match found.0
 match_rows (Err code) = []
 
 unfoldable pub row_match : ℕ → List ℕ → List Row
-row_match type r = if type == 1 then match_rows (match_of (drop 48 r)) else []
+row_match type r = if type == 1 then match_rows (match_of (drop (size tables.flow_stats) r)) else []
 
 -- four spaces further in
 unfoldable pub deeper_line : Row → List ℕ
@@ -106,7 +118,7 @@ deeper_lines said = flat_map deeper_line said
 
 -- a row in words, after eight spaces, and below it its match
 unfoldable pub reply_row : ℕ → List ℕ → List ℕ
-reply_row type r = (codes "        " ++ ended (row_said type r)) ++ deeper_lines (row_match type r)
+reply_row type r = (codes "        " ++ ended (words (row_told type) r)) ++ deeper_lines (row_match type r)
 
 -- ---- THE ROWS OF AN ANSWER: of a MULTIPART_REPLY those of its type, and of no other message
 
@@ -116,7 +128,7 @@ rows_by (Some type) body = flat_map (reply_row type) (rows_of type body)
 
 abbrev pub rows_if : Option ℕ → List ℕ → List ℕ
 rows_if None m = []
-rows_if (Some kind) m = if kind == 19 then rows_by (number_at 8 2 m) (drop 16 m) else []
+rows_if (Some kind) m = if kind == 19 then rows_by (multipart_type m) (drop 16 m) else []
 
 unfoldable pub reply_rows : List ℕ → List ℕ
-reply_rows m = rows_if (number_at 1 1 m) m
+reply_rows m = rows_if (number_in "type" 0 tables.header m) m

@@ -1,11 +1,30 @@
 //! Fields of messages in words.
-ghost use Rattle.std.specs.Prelude.{◌≡◌, ◌≤◌, ◌<◌, ◌^◌, ◌++◌, OnOk};
-ghost use Rattle.of_explain.specs.Messages.{and_name, and_number, bits_field, hex_field, name_field, number_at as a_number_at, number_field, some_field};
+ghost use Rattle.std.specs.Prelude.{◌≡◌, ◌≤◌, ◌<◌, ◌^◌, ◌++◌, map, IsTrue, OnOk};
+ghost use Rattle.of_explain.specs.Fields.{and_name, and_number, are_short, field_of, field_words, in_hex, number_at as a_number_at, unless_any, words};
 
 use crate::names::{Names, push_name};
 use crate::notes::push_with_number;
 use byteorder::{BigEndian, ByteOrder};
 use std::alloc::{AllocError, Global};
+
+/// How a field is told.
+#[derive(Clone, Copy)]
+pub enum Form {
+    /// Its number in decimal.
+    Plainly,
+    /// The name of its number.
+    Named(Names),
+    /// Its bytes in hex digits.
+    InHex,
+    /// Its number in decimal; nothing where that is 0xffffffff, which names none.
+    UnlessAny,
+    /// Its bytes in hex digits; nothing where they are zeros.
+    UnlessZero,
+}
+
+/// A field as it is told: the word before it, the place where it begins, its size in bytes, and its form.
+#[derive(Clone, Copy)]
+pub struct Field(pub &'static str, pub u16, pub u8, pub Form);
 
 /// The number of `size` bytes at a place of a message; None where the message ends before it.
 pub fn number_at(message: &[u8], at: usize, size: usize) -> Option<u64>
@@ -33,42 +52,26 @@ pub fn half_at(message: &[u8], at: usize) -> Option<u16>
     }
 }
 
-/// Appends a word and a number of a message.
-#[tactic(auto, unfolding(crate::specs::Messages::number_field))]
-pub fn push_number_field(
-    out: &mut Vec<u8>,
-    message: &[u8],
-    word: &[u8],
-    at: usize,
-    size: usize,
-) -> Result<(), AllocError>
-    requires place { at < 2 ^ 16 }
-    requires some { 1 ≤ size }
-    requires most { size ≤ 8 }
-    ensures { OnOk result (out.new.items ≡ out.old.items ++ number_field word.now at size message.now) }
+// Appends a word and a number.
+fn push_plainly(out: &mut Vec<u8>, word: &[u8], number: Option<u64>) -> Result<(), AllocError>
+    ensures { OnOk result (out.new.items ≡ out.old.items ++ and_number word.now number) }
 {
-    let Some(number) = number_at(message, at, size) else {
-        return Ok(());
-    };
-    push_with_number(out, word, number)
+    match number {
+        None => Ok(()),
+        Some(number) => push_with_number(out, word, number),
+    }
 }
 
-/// Appends a word and a number of a message by its name.
-#[tactic(auto, unfolding(crate::specs::Messages::name_field))]
-pub fn push_name_field(
+// Appends a word and a number by its name.
+fn push_by_name(
     out: &mut Vec<u8>,
-    message: &[u8],
     word: &[u8],
     names: Names,
-    at: usize,
-    size: usize,
+    number: Option<u64>,
 ) -> Result<(), AllocError>
-    requires place { at < 2 ^ 16 }
-    requires some { 1 ≤ size }
-    requires most { size ≤ 8 }
-    ensures { OnOk result (out.new.items ≡ out.old.items ++ name_field word.now names at size message.now) }
+    ensures { OnOk result (out.new.items ≡ out.old.items ++ and_name word.now names number) }
 {
-    let Some(number) = number_at(message, at, size) else {
+    let Some(number) = number else {
         return Ok(());
     };
     out.extend_from_slice(word)?;
@@ -76,9 +79,19 @@ pub fn push_name_field(
     push_name(out, names, number)
 }
 
-/// Appends a word and `size` bytes of a message in hex digits.
-#[tactic(auto, unfolding(crate::specs::Messages::hex_field))]
-pub fn push_hex_field(
+// Appends a word and a number; nothing where it is 0xffffffff.
+fn push_unless_any(out: &mut Vec<u8>, word: &[u8], number: Option<u64>) -> Result<(), AllocError>
+    ensures { OnOk result (out.new.items ≡ out.old.items ++ unless_any word.now number) }
+{
+    match number {
+        None | Some(0xffff_ffff) => Ok(()),
+        Some(number) => push_with_number(out, word, number),
+    }
+}
+
+// Appends a word and `size` bytes of a message in hex digits.
+#[tactic(auto, unfolding(crate::specs::Fields::in_hex))]
+fn push_in_hex(
     alloc: Global,
     out: &mut Vec<u8>,
     message: &[u8],
@@ -88,7 +101,7 @@ pub fn push_hex_field(
 ) -> Result<(), AllocError>
     requires place { at < 2 ^ 16 }
     requires size { size < 2 ^ 16 }
-    ensures { OnOk result (out.new.items ≡ out.old.items ++ hex_field word.now at size message.now) }
+    ensures { OnOk result (out.new.items ≡ out.old.items ++ in_hex word.now at size message.now) }
 {
     if at + size > message.len() {
         return Ok(());
@@ -99,42 +112,47 @@ pub fn push_hex_field(
     out.extend_from_slice(digits.as_bytes())
 }
 
-/// Appends a word and a number of four bytes of a message; nothing where all its bits are set, which names none.
-#[tactic(auto, unfolding(crate::specs::Messages::some_field))]
-pub fn push_some_field(
-    out: &mut Vec<u8>,
-    message: &[u8],
-    word: &[u8],
-    at: usize,
-) -> Result<(), AllocError>
-    requires place { at < 2 ^ 16 }
-    ensures { OnOk result (out.new.items ≡ out.old.items ++ some_field word.now at message.now) }
-{
-    let Some(number) = number_at(message, at, 4) else {
-        return Ok(());
-    };
-    if number == 0xffff_ffff {
-        return Ok(());
-    }
-    push_with_number(out, word, number)
-}
-
-/// Appends a word and eight bytes of a message in hex digits; nothing where they are zeros.
-#[tactic(auto, unfolding(crate::specs::Messages::bits_field))]
-pub fn push_bits_field(
+// Appends a field.
+fn push_field(
     alloc: Global,
     out: &mut Vec<u8>,
     message: &[u8],
-    word: &[u8],
-    at: usize,
+    field: &Field,
 ) -> Result<(), AllocError>
-    requires place { at < 2 ^ 16 }
-    ensures { OnOk result (out.new.items ≡ out.old.items ++ bits_field word.now at message.now) }
+    requires some { 1 ≤ (field_of field.now).size }
+    requires most { (field_of field.now).size ≤ 8 }
+    ensures { OnOk result (out.new.items ≡ out.old.items ++ field_words message.now (field_of field.now)) }
 {
-    if let Some(number) = number_at(message, at, 8) {
-        if number == 0 {
-            return Ok(());
-        }
+    let Field(word, at, size, form) = *field;
+    let word = word.as_bytes();
+    let at = usize::from(at);
+    let size = usize::from(size);
+    let number = number_at(message, at, size);
+    match form {
+        Form::Plainly => push_plainly(out, word, number),
+        Form::Named(names) => push_by_name(out, word, names, number),
+        Form::UnlessAny => push_unless_any(out, word, number),
+        Form::InHex => push_in_hex(alloc, out, message, word, at, size),
+        Form::UnlessZero => match number {
+            Some(0) => Ok(()),
+            _ => push_in_hex(alloc, out, message, word, at, size),
+        },
     }
-    push_hex_field(alloc, out, message, word, at, 8)
+}
+
+/// Appends fields, one after the other. What is beyond the end of the message is left out.
+#[tactic(auto, unfolding(crate::specs::Fields::words))]
+pub fn push_fields(
+    alloc: Global,
+    out: &mut Vec<u8>,
+    message: &[u8],
+    fields: &[Field],
+) -> Result<(), AllocError>
+    requires { IsTrue (are_short (map field_of fields.now)) }
+    ensures { OnOk result (out.new.items ≡ out.old.items ++ words (map field_of fields.now) message.now) }
+{
+    for field in fields {
+        push_field(alloc, out, message, field)?;
+    }
+    Ok(())
 }

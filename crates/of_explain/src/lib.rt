@@ -13,8 +13,10 @@ mod replies;
 mod requests;
 mod rows;
 mod said;
+mod told;
 
 pub use explaining::explain;
+pub use fields::{Field, Form};
 pub use laws::each_message_is_told;
 pub use messages::push_message;
 pub use names::Names;

@@ -9,8 +9,7 @@ use Rattle.of_groups.specs.declared.group.Group.{Group}
 use Rattle.of_messages.specs.CanonicalGroups.{canonical_buckets}
 use Rattle.of_messages.proofs.BucketsWritten.{buckets_short}
 use Rattle.of_table.specs.Tables.{Tables}
-use Rattle.of_statistics.specs.Durations.{duration}
-use Rattle.of_statistics.specs.Groups.{bucket_row, group_description, group_fixed_part, group_row, references, row_among}
+use Rattle.of_statistics.specs.Groups.{bucket_row, group_description, group_row, references, row_among}
 use Rattle.of_statistics.proofs.GroupRows.{group_row_short}
 use Rattle.of_grammar.specs.Cells.{u16}
 use Rattle.of_grammar.proofs.Writings.{spelling, written}
@@ -32,7 +31,7 @@ counters_text (b ∷ bs) rest =
 
 group_text : (all : List Group) (ts : Tables) (g : Group) (rest : List ℕ)
     → row_among all ts g ++ rest ≡ spelling (u16 (40 + 16 * length g.buckets) ∷ group_stats_cells (group_shown all ts g)) ++ (flat_map bucket_row g.buckets ++ rest)
-unfolding group_row group_fixed_part duration
+unfolding group_row
 group_text all ts g rest = refl
 
 pub group_written : (all : List Group) (ts : Tables) (g : Group) (rest : List ℕ) → IsShownGroup (group_shown all ts g) → IsGroup (group_shown all ts g) (row_among all ts g ++ rest) rest

@@ -1,5 +1,5 @@
 -- Replies that are written are spelt.
-use Rattle.std.proofs.Common.{◌≡◌, ◌≤◌, ◌<◌, ◌^◌, ◌-◌, ℕ, Bool, true, false, List, [], ◌∷◌, ◌++◌, length, map, refl, sym, ap, subst, ◌∙◌, arith}
+use Rattle.std.proofs.Common.{◌≡◌, ◌≤◌, ◌<◌, ◌^◌, ◌-◌, ℕ, Bool, true, false, List, [], ◌∷◌, ◌++◌, length, map, refl, sym, ap, subst, arith}
 use Rattle.std.specs.Prelude.{codes, replicate, Option}
 use Rattle.std.specs.List.{All, concat, flat_map}
 use Rattle.std.proofs.lemmas.List.{append-nil, length-append, length-replicate}
@@ -61,10 +61,6 @@ replied r more xid body tail e x fits short behind =
 
 -- ---- DESC, AGGREGATE and GROUP_FEATURES
 
--- five texts
-five : (a b c d e : List ℕ) → a ++ (b ++ (c ++ (d ++ e))) ≡ (a ++ (b ++ (c ++ (d ++ (e ++ []))))) ++ []
-five a b c d e = sym (append-nil _ ∙ ap (λ (t : List ℕ). a ++ (b ++ (c ++ (d ++ t)))) (append-nil e))
-
 length_text : (size : ℕ) (letters : List ℕ) → length letters ≤ size → length (padded size letters) ≡ size
 length_text size letters le = omega (arith, le, length-append letters (replicate (size - length letters) 0), length-replicate {A = ℕ} (size - length letters) 0)
 
@@ -75,7 +71,7 @@ description_fits =
 
 description_text : description_body ≡ spelling description_cells ++ []
 unfolding description_body
-description_text = five (padded 256 (codes "ofswitch")) (padded 256 (codes "software")) (padded 256 (codes "1")) (padded 32 (codes "0")) (padded 256 (codes "ofswitch"))
+description_text = sym (append-nil _)
 
 pub description_spelt : (xid : ℕ) → xid < 256 ^ 4 → SpellsReply xid false description (description_bytes xid)
 description_spelt xid x = replied description false xid description_body [] description_text x description_fits (omega (arith, length_description)) refl

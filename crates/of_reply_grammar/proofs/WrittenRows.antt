@@ -13,9 +13,8 @@ use Rattle.of_messages.specs.Written.{port_bits, port_bytes, port_names}
 use Rattle.of_messages.specs.declared.port_mod.PortDescription.{PortDescription}
 use Rattle.of_ports.specs.declared.port.Port.{Port}
 use Rattle.of_table.specs.Table.{Table}
-use Rattle.of_statistics.specs.Durations.{duration}
-use Rattle.of_statistics.specs.Flows.{Listed, flow_counts, flow_row, flow_times, from_tables, table_row}
-use Rattle.of_statistics.specs.Ports.{described, port_counts, port_row}
+use Rattle.of_statistics.specs.Flows.{Listed, flow_row, from_tables, table_row}
+use Rattle.of_statistics.specs.Ports.{described, port_row}
 use Rattle.of_statistics.proofs.FlowRows.{row_short}
 use Rattle.of_grammar.specs.Cells.{Cell, Fits, u16}
 use Rattle.of_grammar.specs.Told.{port_cells}
@@ -29,7 +28,7 @@ abbrev row_cells : ℕ → Listed → List Cell
 row_cells now l = u16 (48 + length (canonical l.entry.flow.fields) + length (canonical_instructions l.entry.flow.instructions)) ∷ flow_cells (flow_shown now l)
 
 flow_text : (now : ℕ) (l : Listed) (rest : List ℕ) → flow_row now l ++ rest ≡ spelling (row_cells now l) ++ (canonical l.entry.flow.fields ++ (canonical_instructions l.entry.flow.instructions ++ rest))
-unfolding flow_row flow_times flow_counts duration
+unfolding flow_row
 flow_text now l rest = ap (λ (t : List ℕ). spelling (row_cells now l) ++ t) (append_assoc (canonical l.entry.flow.fields) (canonical_instructions l.entry.flow.instructions) rest)
 
 pub flow_written : (now : ℕ) (l : Listed) (rest : List ℕ) → IsShownFlow now l → IsFlow (flow_shown now l) (flow_row now l ++ rest) rest
@@ -68,7 +67,7 @@ tables_written k (t ∷ ts) all = let rest = from_tables table_row (suc k) ts in
 -- ---- PORT_STATS
 
 port_text : (now : ℕ) (p : Port) (rest : List ℕ) → port_row now p ++ rest ≡ spelling (port_stats_cells (port_shown now p)) ++ rest
-unfolding port_row port_counts duration
+unfolding port_row
 port_text now p rest = refl
 
 pub port_written : (now : ℕ) (p : Port) (rest : List ℕ) → Fits (port_stats_cells (port_shown now p)) → IsPort (port_shown now p) (port_row now p ++ rest) rest

@@ -10,14 +10,6 @@ use Rattle.of_groups.specs.declared.group.Group.{Group}
 use Rattle.of_statistics.specs.Durations.{duration}
 use Rattle.of_statistics.specs.Groups.{bucket_row, group_fixed_part, group_row, group_description}
 
-length_front : (count : ℕ) (g : Group) → length (group_fixed_part count g) ≡ 32
-unfolding group_fixed_part
-length_front count g = refl
-
-length_duration : (now since : ℕ) → length (duration now since) ≡ 8
-unfolding duration
-length_duration now since = refl
-
 length_bucket : (b : Bucket) → length (bucket_row b) ≡ 16
 unfolding bucket_row
 length_bucket b = refl
@@ -27,17 +19,14 @@ length_buckets [] = refl
 length_buckets (b ∷ bs) = omega (arith, length_bucket b, length_buckets bs, length-append (bucket_row b) (flat_map bucket_row bs))
 
 pub group_row_is : (now count : ℕ) (g : Group) {s1 s2 : List ℕ} (s0 s3 : List ℕ) → s0 ≡ [] → s1 ≡ s0 ++ group_fixed_part count g → s2 ≡ s1 ++ duration now g.created → s3 ≡ s2 ++ flat_map bucket_row g.buckets → s3 ≡ group_row now count g
-unfolding group_row
+unfolding group_row group_fixed_part duration
 group_row_is now count g s0 s3 e0 e1 e2 e3 =
     let whole : s3 ≡ ([] ++ group_fixed_part count g ++ duration now g.created) ++ flat_map bucket_row g.buckets = cc in
     whole ∙ append_assoc (group_fixed_part count g) (duration now g.created) (flat_map bucket_row g.buckets)
 
 pub group_row_short : (now count : ℕ) (g : Group) → length g.buckets ≤ 16 → length (group_row now count g) ≤ 65519
 unfolding group_row
-group_row_short now count g few =
-    let time = duration now g.created in
-    let buckets = flat_map bucket_row g.buckets in
-    omega (arith, few, length_front count g, length_duration now g.created, length_buckets g.buckets, length-append (group_fixed_part count g) (time ++ buckets), length-append time buckets)
+group_row_short now count g few = omega (arith, few, length_buckets g.buckets)
 
 pub description_is : (size : ℕ) (g : Group) (buckets : List ℕ) {s1 s2 s3 : List ℕ} (s0 s4 : List ℕ) → buckets ≡ canonical_buckets g.buckets → size ≡ 8 + length buckets
     → s0 ≡ [] → s1 ≡ s0 ++ big_bytes 2 size → s2 ≡ s1 ++ kind_number g.kind ∷ 0 ∷ [] → s3 ≡ s2 ++ big_bytes 4 g.id → s4 ≡ s3 ++ buckets → s4 ≡ group_description g

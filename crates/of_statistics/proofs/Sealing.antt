@@ -3,7 +3,8 @@ use Rattle.std.proofs.Common.{◌≡◌, ◌≤◌, ◌<◌, ℕ, ◌+◌, true,
 use Rattle.std.specs.Prelude.{OnOk, nat_le, is_ok, replicate, if◌then◌else◌}
 use Rattle.std.proofs.lemmas.List.{length-drop, drop-append-le, take-append-le, take_all}
 use Rattle.std.proofs.lemmas.Bool.Decides.{nat_tests}
-use Rattle.byteorder.specs.Endian.{big_bytes}
+use Rattle.of_formats.specs.Structs.{written}
+use Rattle.of_formats.specs.Tables as tables
 use Rattle.of_messages.specs.Written.{header, IsMessage}
 use Rattle.of_messages.proofs.Lengths.{is_message}
 use Rattle.of_statistics.specs.Replies.{head_bytes, reply, more, most, with_row}
@@ -15,7 +16,7 @@ length_head size xid kind flags = refl
 head_is : (xid kind flags : ℕ) (body : List ℕ) → head_bytes (16 + length body) xid kind flags ++ body ≡ reply xid kind flags body
 unfolding head_bytes reply
 head_is xid kind flags body =
-    let behind = big_bytes 2 kind ++ (big_bytes 2 flags ++ (replicate 4 0 ++ body)) in
+    let behind = written tables.multipart (kind ∷ flags ∷ []) ++ body in
     let total : 16 + length body ≡ 8 + length behind = omega arith in
     ap (λ (n : ℕ). header 19 n xid ++ behind) total
 
@@ -31,7 +32,7 @@ written_back n new old is = take-append-le n new (drop (length new) old) (omega 
 
 pub reply_is_message : (xid kind flags : ℕ) (body : List ℕ) → length body ≤ 65519 → IsMessage (reply xid kind flags body)
 unfolding reply
-reply_is_message xid kind flags body le = is_message 19 xid (big_bytes 2 kind ++ (big_bytes 2 flags ++ (replicate 4 0 ++ body))) (omega (arith, le))
+reply_is_message xid kind flags body le = is_message 19 xid (written tables.multipart (kind ∷ flags ∷ []) ++ body) (omega (arith, le))
 
 -- a row that fits the open reply
 pub row_fits : {A E : Type 0} (r : Result A E) (xid kind : ℕ) (full : List (List ℕ)) (before after row : List ℕ) → 16 ≤ length before → length before + length row ≤ 65535 → after ≡ (if is_ok r then before ++ row else before)

@@ -7,12 +7,11 @@ use Rattle.std.proofs.lemmas.List.{length-append, length-replicate}
 use Rattle.of_table.specs.Table.{Table}
 use Rattle.of_ports.specs.declared.port.Port.{Port}
 use Rattle.of_ports.specs.Ports.{port_at}
-use Rattle.of_statistics.specs.Durations.{duration}
 use Rattle.of_statistics.specs.Descriptions.{padded, description}
 use Rattle.of_statistics.specs.declared.aggregate.Totals.{Totals}
 use Rattle.of_statistics.specs.Flows.{aggregate, from_tables, table_row}
 use Rattle.of_statistics.specs.Groups.{group_features}
-use Rattle.of_statistics.specs.Ports.{asked_ports, port_counts, port_row}
+use Rattle.of_statistics.specs.Ports.{asked_ports, port_row}
 
 -- a body after a head fits a message
 pub room : (head body out : List ℕ) → head ≡ replicate 16 0 → out ≡ head ++ body → length body ≤ 65519 → length out ≤ 65535
@@ -46,7 +45,7 @@ unfolding group_features
 length_features = refl
 
 length_stats : (now : ℕ) (p : Port) → length (port_row now p) ≡ 112
-unfolding port_row port_counts duration
+unfolding port_row
 length_stats now p = refl
 
 length_all_stats : (now : ℕ) (ports : List Port) → length (flat_map (port_row now) ports) ≡ 112 * length ports

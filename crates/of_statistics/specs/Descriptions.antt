@@ -1,19 +1,22 @@
 -- DESC (OpenFlow 1.3.5, 7.3.5.1): what the switch is, in words.
-use Rattle.std.specs.Prelude.{ℕ, ◌-◌, List, ◌++◌, length, replicate, codes}
+use Rattle.std.specs.Prelude.{ℕ, ◌-◌, List, [], ◌∷◌, ◌++◌, length, replicate, codes}
+use Rattle.of_formats.specs.Structs.{Struct, width, written_with}
+use Rattle.of_formats.specs.Tables as tables
 use Rattle.of_statistics.specs.Replies.{reply}
 
 -- a text, padded with zeros
 abbrev pub padded : ℕ → List ℕ → List ℕ
 padded size text = text ++ replicate (size - length text) 0
 
+-- texts, each as long as its field
+abbrev pub padded_to : Struct → List (List ℕ) → List (List ℕ)
+padded_to [] texts = []
+padded_to (slot ∷ s) [] = []
+padded_to (slot ∷ s) (text ∷ texts) = padded (width slot) text ∷ padded_to s texts
+
 -- the manufacturer, the hardware, the software, the serial number, and what a person would call this datapath
 unfoldable pub description : List ℕ
-description =
-    padded 256 (codes "ofswitch")
-    ++ (padded 256 (codes "software")
-    ++ (padded 256 (codes "1")
-    ++ (padded 32 (codes "0")
-    ++ padded 256 (codes "ofswitch"))))
+description = written_with tables.desc [] (padded_to tables.desc (codes "ofswitch" ∷ codes "software" ∷ codes "1" ∷ codes "0" ∷ codes "ofswitch" ∷ []))
 
 abbrev pub description_bytes : ℕ → List ℕ
 description_bytes xid = reply xid 0 0 description

@@ -1,16 +1,17 @@
 -- FLOW, AGGREGATE and TABLE (OpenFlow 1.3.5, 7.3.5.2, 7.3.5.3 and 7.3.5.4): statistics of entries and tables.
-use Rattle.std.specs.Prelude.{ℕ, suc, ◌+◌, ◌%◌, ◌^◌, List, [], ◌∷◌, ◌++◌, length, map, filter, replicate, if◌then◌else◌}
+use Rattle.std.specs.Prelude.{ℕ, suc, ◌+◌, ◌%◌, ◌^◌, List, [], ◌∷◌, ◌++◌, length, map, filter, take, drop, if◌then◌else◌}
 use Rattle.std.specs.List.{sum_by}
-use Rattle.byteorder.specs.Endian.{big_bytes}
+use Rattle.of_formats.specs.Structs.{size, written}
+use Rattle.of_formats.specs.Tables as tables
 use Rattle.of_oxm.specs.Canonical.{canonical}
 use Rattle.of_actions.specs.CanonicalInstructions.{canonical_instructions}
 use Rattle.of_table.specs.declared.selection.Selector.{Selector}
 use Rattle.of_table.specs.Table.{FlowEntry, Table, flags_number}
 use Rattle.of_table.specs.Tables.{Tables, is_in}
-use Rattle.of_table.specs.Selecting.{selects}
+use Rattle.of_table.specs.Selecting.{selects, nanoseconds_since}
 use Rattle.of_statistics.specs.declared.aggregate.Totals.{Totals}
 use Rattle.of_statistics.specs.Replies.{reply, replies}
-use Rattle.of_statistics.specs.Durations.{duration}
+use Rattle.of_statistics.specs.Durations.{seconds}
 
 -- what is listed for each table by its number, from number k on
 abbrev pub from_tables : {X : Type 0} → (ℕ → Table → List X) → ℕ → List Table → List X
@@ -32,32 +33,26 @@ listed w ts = from_tables (listed_in w) 0 ts.tables
 
 -- ---- FLOW
 
--- the length of the whole row: the fields before the match have 48 bytes
+-- the length of the whole row
 abbrev pub flow_row_size : FlowEntry → ℕ
-flow_row_size e = 48 + length (canonical e.flow.fields) + length (canonical_instructions e.flow.instructions)
-
--- after the length and the table: how long the entry has existed, priority, timeouts and flags
-unfoldable pub flow_times : ℕ → FlowEntry → List ℕ
-flow_times now e =
-    duration now e.created
-    ++ (big_bytes 2 e.flow.priority
-    ++ (big_bytes 2 e.flow.idle_timeout
-    ++ (big_bytes 2 e.flow.hard_timeout
-    ++ (big_bytes 2 (flags_number e.flow.flags)
-    ++ replicate 4 0))))
-
--- cookie and counters
-unfoldable pub flow_counts : FlowEntry → List ℕ
-flow_counts e = big_bytes 8 e.flow.cookie ++ (big_bytes 8 e.packets ++ big_bytes 8 e.bytes)
+flow_row_size e = size tables.flow_stats + length (canonical e.flow.fields) + length (canonical_instructions e.flow.instructions)
 
 unfoldable pub flow_row : ℕ → Listed → List ℕ
 flow_row now l =
-    big_bytes 2 (flow_row_size l.entry)
-    ++ ((l.table ∷ 0 ∷ [])
-    ++ (flow_times now l.entry
-    ++ (flow_counts l.entry
+    written tables.flow_stats
+    (flow_row_size l.entry ∷ l.table ∷ seconds now l.entry.created ∷ nanoseconds_since now l.entry.created ∷ l.entry.flow.priority
+    ∷ l.entry.flow.idle_timeout ∷ l.entry.flow.hard_timeout ∷ flags_number l.entry.flow.flags ∷ l.entry.flow.cookie ∷ l.entry.packets ∷ l.entry.bytes ∷ [])
     ++ (canonical l.entry.flow.fields
-    ++ canonical_instructions l.entry.flow.instructions))))
+    ++ canonical_instructions l.entry.flow.instructions)
+
+-- for contracts inside this crate: the fields from the durations to the flags, and cookie and counters
+unfoldable pub flow_times : ℕ → FlowEntry → List ℕ
+flow_times now e =
+    written (take 7 (drop 3 tables.flow_stats))
+    (seconds now e.created ∷ nanoseconds_since now e.created ∷ e.flow.priority ∷ e.flow.idle_timeout ∷ e.flow.hard_timeout ∷ flags_number e.flow.flags ∷ [])
+
+unfoldable pub flow_counts : FlowEntry → List ℕ
+flow_counts e = written (drop 10 tables.flow_stats) (e.flow.cookie ∷ e.packets ∷ e.bytes ∷ [])
 
 abbrev pub flow_rows : Selector → Tables → List (List ℕ)
 flow_rows w ts = map (flow_row ts.latest) (listed w ts)
@@ -81,18 +76,16 @@ asked w ts = map (λ l. l.entry) (listed w ts)
 abbrev pub totals : List FlowEntry → Totals
 totals es = record { packets = sum_by (λ e. e.packets) es % 2 ^ 64; bytes = sum_by (λ e. e.bytes) es % 2 ^ 64; flows = length es }
 
--- packets, bytes, entries, padding
 unfoldable pub aggregate : Totals → List ℕ
-aggregate t = big_bytes 8 t.packets ++ (big_bytes 8 t.bytes ++ (big_bytes 4 t.flows ++ replicate 4 0))
+aggregate t = written tables.aggregate_stats (t.packets ∷ t.bytes ∷ t.flows ∷ [])
 
 abbrev pub aggregate_bytes : ℕ → Selector → Tables → List ℕ
 aggregate_bytes xid w ts = reply xid 2 0 (aggregate (totals (asked w ts)))
 
 -- ---- TABLE
 
--- its number, padding, how many entries it has, and its counters
 unfoldable pub table_row : ℕ → Table → List ℕ
-table_row k t = (k ∷ replicate 3 0) ++ (big_bytes 4 (length t.flows) ++ (big_bytes 8 t.lookups ++ big_bytes 8 t.matched))
+table_row k t = written tables.table_stats (k ∷ length t.flows ∷ t.lookups ∷ t.matched ∷ [])
 
 -- one after the other
 abbrev pub table_rows : Tables → List ℕ

@@ -1,17 +1,18 @@
 -- GROUP, GROUP_DESC and GROUP_FEATURES (OpenFlow 1.3.5, 7.3.5.9, 7.3.5.10 and 7.3.5.11): what groups count, what they are, and which there can be.
-use Rattle.std.specs.Prelude.{ℕ, ◌+◌, ◌*◌, List, [], ◌∷◌, ◌++◌, length, map, replicate, Option, Some, None}
+use Rattle.std.specs.Prelude.{ℕ, ◌+◌, ◌*◌, List, [], ◌∷◌, ◌++◌, length, map, take, Option, Some, None}
 use Rattle.std.specs.List.{count_by, flat_map}
 use Rattle.std.specs.Option.{option_to_list}
-use Rattle.byteorder.specs.Endian.{big_bytes}
+use Rattle.of_formats.specs.Structs.{size, written}
+use Rattle.of_formats.specs.Tables as structs
 use Rattle.of_messages.specs.CanonicalGroups.{canonical_buckets}
 use Rattle.of_groups.specs.declared.bucket.Bucket.{Bucket}
 use Rattle.of_groups.specs.declared.group.Group.{Group}
 use Rattle.of_groups.specs.Groups.{find_group, sends_to, kind_number}
 use Rattle.of_table.specs.Table.{FlowEntry}
 use Rattle.of_table.specs.Tables.{Tables}
-use Rattle.of_table.specs.Selecting.{names_group}
+use Rattle.of_table.specs.Selecting.{names_group, nanoseconds_since}
 use Rattle.of_statistics.specs.Replies.{reply, replies}
-use Rattle.of_statistics.specs.Durations.{duration}
+use Rattle.of_statistics.specs.Durations.{seconds}
 use Rattle.of_statistics.specs.Flows.{from_tables}
 
 -- a group by its number, where it exists, or all of them
@@ -29,22 +30,21 @@ abbrev pub references : ℕ → List Group → Tables → ℕ
 references n groups ts = count_by (names_group (Some n)) (all_entries ts) + count_by (sends_to n) groups
 
 unfoldable pub bucket_row : Bucket → List ℕ
-bucket_row b = big_bytes 8 b.packets ++ big_bytes 8 b.bytes
+bucket_row b = written structs.bucket_counter (b.packets ∷ b.bytes ∷ [])
 
--- the length of the whole row, padding, the number, how many refer to it, padding, and counters
-unfoldable pub group_fixed_part : ℕ → Group → List ℕ
-group_fixed_part count g =
-    big_bytes 2 (40 + 16 * length g.buckets)
-    ++ (replicate 2 0
-    ++ (big_bytes 4 g.id
-    ++ (big_bytes 4 count
-    ++ (replicate 4 0
-    ++ (big_bytes 8 g.packets
-    ++ big_bytes 8 g.bytes)))))
+-- the length of the whole row
+abbrev pub group_row_size : Group → ℕ
+group_row_size g = size structs.group_stats + size structs.bucket_counter * length g.buckets
 
--- how long it has existed, and counters of its buckets
+-- with the number of references
 unfoldable pub group_row : ℕ → ℕ → Group → List ℕ
-group_row now count g = group_fixed_part count g ++ (duration now g.created ++ flat_map bucket_row g.buckets)
+group_row now count g =
+    written structs.group_stats (group_row_size g ∷ g.id ∷ count ∷ g.packets ∷ g.bytes ∷ seconds now g.created ∷ nanoseconds_since now g.created ∷ [])
+    ++ flat_map bucket_row g.buckets
+
+-- for contracts inside this crate: the fields before the durations
+unfoldable pub group_fixed_part : ℕ → Group → List ℕ
+group_fixed_part count g = written (take 7 structs.group_stats) (group_row_size g ∷ g.id ∷ count ∷ g.packets ∷ g.bytes ∷ [])
 
 -- a group among these, and with these tables
 abbrev pub row_among : List Group → Tables → Group → List ℕ
@@ -58,13 +58,10 @@ group_bytes xid which groups ts = replies xid 6 (group_rows which groups ts)
 
 -- ---- GROUP_DESC
 
--- the length of the whole row, the type, padding, the number, and the buckets
 unfoldable pub group_description : Group → List ℕ
 group_description g =
-    big_bytes 2 (8 + length (canonical_buckets g.buckets))
-    ++ ((kind_number g.kind ∷ 0 ∷ [])
-    ++ (big_bytes 4 g.id
-    ++ canonical_buckets g.buckets))
+    written structs.group_desc ((size structs.group_desc + length (canonical_buckets g.buckets)) ∷ kind_number g.kind ∷ g.id ∷ [])
+    ++ canonical_buckets g.buckets
 
 abbrev pub group_description_bytes : ℕ → List Group → List (List ℕ)
 group_description_bytes xid groups = replies xid 7 (map group_description groups)
@@ -86,10 +83,7 @@ group_actions = 0x03c60001
 -- of ALL, SELECT, INDIRECT and FAST-FAILOVER: how many groups there can be, and which actions; there is no SELECT
 unfoldable pub group_features : List ℕ
 group_features =
-    big_bytes 4 kinds_of_groups
-    ++ (big_bytes 4 group_capabilities
-    ++ (flat_map (big_bytes 4) (256 ∷ 0 ∷ 256 ∷ 256 ∷ [])
-    ++ flat_map (big_bytes 4) (group_actions ∷ 0 ∷ group_actions ∷ group_actions ∷ [])))
+    written structs.group_features (kinds_of_groups ∷ group_capabilities ∷ 256 ∷ 0 ∷ 256 ∷ 256 ∷ group_actions ∷ 0 ∷ group_actions ∷ group_actions ∷ [])
 
 abbrev pub group_features_bytes : ℕ → List ℕ
 group_features_bytes xid = reply xid 8 0 group_features

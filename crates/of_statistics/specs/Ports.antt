@@ -1,36 +1,31 @@
 -- PORT_STATS and PORT_DESC (OpenFlow 1.3.5, 7.3.5.6 and 7.3.5.7): what ports count, and what they are.
-use Rattle.std.specs.Prelude.{ℕ, List, ◌++◌, replicate, Option, Some, None}
+use Rattle.std.specs.Prelude.{ℕ, List, [], ◌∷◌, take, drop, Option, Some, None}
 use Rattle.std.specs.List.{flat_map}
 use Rattle.std.specs.Option.{option_to_list}
-use Rattle.byteorder.specs.Endian.{big_bytes}
+use Rattle.of_formats.specs.Structs.{written}
+use Rattle.of_formats.specs.Tables as tables
 use Rattle.of_messages.specs.declared.port_mod.PortDescription.{PortDescription}
 use Rattle.of_messages.specs.Written.{port_bytes}
 use Rattle.of_ports.specs.declared.port.Port.{Port}
 use Rattle.of_ports.specs.declared.counters.PortCounters.{PortCounters}
 use Rattle.of_ports.specs.Config.{config_bits}
 use Rattle.of_ports.specs.Ports.{port_at, state_bits}
+use Rattle.of_table.specs.Selecting.{nanoseconds_since}
 use Rattle.of_statistics.specs.Replies.{reply}
-use Rattle.of_statistics.specs.Durations.{duration}
+use Rattle.of_statistics.specs.Durations.{seconds}
 
--- packets, bytes and drops, in both directions, and receive errors
-unfoldable pub port_counts : PortCounters → List ℕ
-port_counts c =
-    big_bytes 8 c.rx_packets
-    ++ (big_bytes 8 c.tx_packets
-    ++ (big_bytes 8 c.rx_bytes
-    ++ (big_bytes 8 c.tx_bytes
-    ++ (big_bytes 8 c.rx_dropped
-    ++ (big_bytes 8 c.tx_dropped
-    ++ big_bytes 8 c.rx_errors)))))
-
--- the port's number, padding, its counters, five that are always 0 (tx_errors to collisions), and how long it has existed
+-- tx_errors and all from there to the collisions are always 0
 unfoldable pub port_row : ℕ → Port → List ℕ
 port_row now p =
-    big_bytes 4 p.number
-    ++ (replicate 4 0
-    ++ (port_counts p.counters
-    ++ (replicate 40 0
-    ++ duration now p.created)))
+    written tables.port_stats
+    (p.number ∷ p.counters.rx_packets ∷ p.counters.tx_packets ∷ p.counters.rx_bytes ∷ p.counters.tx_bytes ∷ p.counters.rx_dropped ∷ p.counters.tx_dropped
+    ∷ p.counters.rx_errors ∷ 0 ∷ 0 ∷ 0 ∷ 0 ∷ 0 ∷ seconds now p.created ∷ nanoseconds_since now p.created ∷ [])
+
+-- for contracts inside this crate: the fields from rx_packets to rx_errors
+unfoldable pub port_counts : PortCounters → List ℕ
+port_counts c =
+    written (take 7 (drop 2 tables.port_stats))
+    (c.rx_packets ∷ c.tx_packets ∷ c.rx_bytes ∷ c.tx_bytes ∷ c.rx_dropped ∷ c.tx_dropped ∷ c.rx_errors ∷ [])
 
 -- a port by its number, or all of them
 abbrev pub asked_ports : Option ℕ → List Port → List Port

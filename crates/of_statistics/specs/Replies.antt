@@ -1,16 +1,17 @@
 -- MULTIPART_REPLY (OpenFlow 1.3.5, 7.3.5), and rows that are packed greedily, each row whole, into replies.
-use Rattle.std.specs.Prelude.{◌≡◌, ◌<◌, ◌≤◌, ℕ, ◌+◌, nat_le, List, [], ◌∷◌, ◌++◌, length, drop, replicate, if◌then◌else◌}
+use Rattle.std.specs.Prelude.{◌≡◌, ◌<◌, ◌≤◌, ℕ, ◌+◌, nat_le, List, [], ◌∷◌, ◌++◌, length, drop, if◌then◌else◌}
 use Rattle.std.specs.List.{All, concat, flat_map}
-use Rattle.byteorder.specs.Endian.{big_bytes}
+use Rattle.of_formats.specs.Structs.{written}
+use Rattle.of_formats.specs.Tables as tables
 use Rattle.of_messages.specs.Written.{header, message}
 
--- the 16 bytes before the body: the header, the type of the request, flags, padding
-unfoldable pub head_bytes : ℕ → ℕ → ℕ → ℕ → List ℕ
-head_bytes size xid kind flags = header 19 size xid ++ (big_bytes 2 kind ++ (big_bytes 2 flags ++ replicate 4 0))
-
--- the type of the request, flags, padding, and the body
+-- the type of the request, flags, and the body
 unfoldable pub reply : ℕ → ℕ → ℕ → List ℕ → List ℕ
-reply xid kind flags body = message 19 xid (big_bytes 2 kind ++ (big_bytes 2 flags ++ (replicate 4 0 ++ body)))
+reply xid kind flags body = message 19 xid (written tables.multipart (kind ∷ flags ∷ []) ++ body)
+
+-- for contracts inside this crate: the 16 bytes before the body
+unfoldable pub head_bytes : ℕ → ℕ → ℕ → ℕ → List ℕ
+head_bytes size xid kind flags = header 19 size xid ++ written tables.multipart (kind ∷ flags ∷ [])
 
 -- OFPMPF_REPLY_MORE: more replies follow
 abbrev pub more : ℕ
