@@ -2,7 +2,7 @@
 ghost use Rattle.std.specs.Prelude.{◌≡◌, ◌++◌, ◌∷◌, [], ℕ, List, true, false, length, nat_le, nat_lt, not, map, take, IfOk, slice_index_or};
 ghost use Rattle.std.specs.List.{AllByRecursion, flat_map};
 ghost use Rattle.of_wire.specs.declared.code.Code.{Code as ACode};
-ghost use Rattle.of_wire.specs.Refusals.{first_of, refusal as as_refusal};
+ghost use Rattle.of_wire.specs.Refusals.{first_of};
 ghost use Rattle.of_groups.specs.Buckets.{any_sends};
 ghost use Rattle.of_groups.specs.Groups.{any_watches};
 ghost use Rattle.of_groups.specs.Faults.{is_absent, is_bad_watch, is_not_one};
@@ -14,7 +14,7 @@ ghost use Rattle.of_text.specs.Judging.{codes_from, kept_refusals, told_refusals
 ghost use Rattle.of_text.specs.Views.{view_bucket, view_group, view_groups};
 
 use crate::group::{BucketText, GroupText};
-use crate::refusals::{applied, first, list_refusal, refusal};
+use crate::refusals::{applied, first, list_refusal};
 use of_groups::{
     Buckets, GROUP_MAX, Group, chain_lengths, has_bad_watch, lacks_one_bucket, sends_to_absent,
     watches_absent,
