@@ -11,4 +11,4 @@ pub returns : goal.returns
 returns c =
     buckets_same c.args.buckets.now c.each_refusal-each.result c.applied-many.result _
     (c.each_refusal-each.ensures ∙ ap (λ bs. first_of (flat_map (λ (b : BucketText). list_refusals (view_bucket b).actions) bs)) c.first_buckets.ensures)
-    (rw c.refusal.ensures at c.applied-many.ensures) c.first.ensures
+    c.applied-many.ensures c.first.ensures
