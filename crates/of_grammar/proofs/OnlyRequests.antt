@@ -1,6 +1,5 @@
 -- What is in the places of a MULTIPART_REQUEST, and after them, it says.
-use Rattle.std.proofs.Common.{◌≡◌, ◌≤◌, ◌+◌, ◌%◌, ℕ, Bool, true, false, eqb, ltb, List, [], ◌∷◌, ◌++◌, length, drop, Option, Some, None, Result, Ok, refl, sym, ap, ◌∙◌, arith}
-use Rattle.std.specs.Prelude.{slice_index}
+use Rattle.std.proofs.Common.{◌≡◌, ◌≤◌, ◌+◌, ◌%◌, ℕ, true, false, eqb, ltb, List, [], ◌∷◌, ◌++◌, length, drop, Option, Some, None, Result, Ok, refl, sym, ap, ◌∙◌, arith}
 use Rattle.std.proofs.lemmas.Bool.{le-ltb, eq-eqb}
 use Rattle.std.proofs.lemmas.Bool.Decides.{nat_tests}
 use Rattle.std.proofs.lemmas.List.{length-append}
@@ -11,7 +10,6 @@ use Rattle.of_oxm.specs.MatchReading.{match_of}
 use Rattle.of_messages.specs.declared.multipart.FlowStatsRequest.{FlowStatsRequest}
 use Rattle.of_messages.specs.declared.multipart.MultipartRequest.{MultipartRequest}
 use Rattle.of_messages.specs.declared.multipart.MultipartRequest.TheVariants.{Description, Flow, Aggregate, Table, PortStats, Group, GroupDescription, GroupFeatures, PortDescription}
-use Rattle.of_messages.specs.Configs.{names_table}
 use Rattle.of_messages.specs.Multiparts.{kind_of, flow_stats_by, flow_stats_of, one_or_all, number_in, multipart_of}
 use Rattle.of_formats.specs.Reading.{◌>>=◌}
 use Rattle.of_formats.specs.Structs.{numbers}
