@@ -1,5 +1,6 @@
 //! Action sets.
-ghost use Rattle.std.specs.Prelude.{◌≡◌, ◌≤◌, ◌<◌, ◌==◌, [], ◌∷◌, true, false, not, length, filter, IsTrue};
+ghost use Rattle.std.specs.Prelude.{◌≡◌, ◌≤◌, ◌<◌, ◌==◌, [], ◌∷◌, true, false, not, length, filter, slice_get, slice_set, IsTrue};
+ghost use Rattle.std.specs.Option.{option_map_or};
 ghost use Rattle.std.specs.List.{list_all};
 ghost use Rattle.of_actions.specs.Supported.{is_supported};
 ghost use Rattle.of_actions.specs.Rising.{is_ascending};
@@ -146,16 +147,30 @@ impl Stored {
         requires one { IsTrue (is_supported false action) }
         ensures { items_in self.new ≡ with_action (items_in self.old) action }
     {
+        if let Stored::Few(few) = self {
+            if few.len() < FEW {
+                put_in(few, action);
+                return;
+            }
+        }
+        self.put_in_all(action);
+    }
+
+    // The same, with a place for each kind from now on. It is apart, so that what fills these places costs other sets nothing.
+    #[cold]
+    #[inline(never)]
+    fn put_in_all(&mut self, action: Action)
+        requires rising { IsTrue (is_ascending rank_of (items_in self.old)) }
+        requires served { IsTrue (list_all (is_supported false) (items_in self.old)) }
+        requires one { IsTrue (is_supported false action) }
+        ensures { items_in self.new ≡ with_action (items_in self.old) action }
+    {
         match self {
             Stored::All(all) => put_in(all, action),
             Stored::Few(few) => {
-                if few.len() < FEW {
-                    put_in(few, action);
-                } else {
-                    let mut all = all_of(few);
-                    put_in(&mut all, action);
-                    *self = Stored::All(all);
-                }
+                let mut all = all_of(few);
+                put_in(&mut all, action);
+                *self = Stored::All(all);
             }
         }
     }
@@ -180,15 +195,29 @@ fn put_in<const PLACES: usize>(actions: &mut ArrayVec<Action, PLACES>, action: A
     ensures { actions.new.items ≡ with_action actions.old.items action }
 {
     let kind = rank(action);
-    remove_kind(actions, kind);
     let place = place_of(actions, kind);
-    actions.insert(place, action);
+    if is_at(actions, place, kind) {
+        put_at(actions.as_mut_slice(), place, action);
+    } else {
+        actions.insert(place, action);
+    }
 }
 
-fn remove_kind<const PLACES: usize>(actions: &mut ArrayVec<Action, PLACES>, kind: u8)
-    ensures { actions.new.items ≡ filter (λ a. not (rank_of a == kind)) actions.old.items }
+// Whether the action at that place is of that kind.
+fn is_at(actions: &[Action], place: usize, kind: u8) -> bool
+    ensures { result ≡ option_map_or (λ a. rank_of a == kind) (slice_get actions.now place) false }
 {
-    actions.retain(|action| rank(*action) != kind);
+    match actions.get(place) {
+        Some(action) => rank(*action) == kind,
+        None => false,
+    }
+}
+
+fn put_at(actions: &mut [Action], place: usize, action: Action)
+    requires { place < length actions.old }
+    ensures { actions.new ≡ slice_set actions.old place action }
+{
+    actions[place] = action;
 }
 
 // OUTPUT ranks highest, so it is the last.

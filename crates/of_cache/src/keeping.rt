@@ -22,7 +22,8 @@ fn touch(rows: &mut Rows, region: &Region) -> Option<Answer>
     rows.get(region).copied()
 }
 
-// Whether the region holds the key.
+// Whether the region holds the key. It is not inlined, so that a key whose other fields are not looked at stays where it is.
+#[inline(never)]
 fn holds(region: &Region, key: &FieldKey) -> bool
     ensures { IsTrue result → Holds region.now (value key.now) }
 {

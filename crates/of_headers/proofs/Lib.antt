@@ -9,3 +9,4 @@ pub mod LocateLemmas
 pub mod WalkLemmas
 pub mod KeyLemmas
 pub mod PlaceLemmas
+pub mod SeenLemmas

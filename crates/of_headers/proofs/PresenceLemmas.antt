@@ -52,7 +52,7 @@ seen_by zero (suc (suc j)) x y a b = absurd (omega arith)
 seen_by (suc zero) (suc (suc j)) x y a b = absurd (omega arith)
 seen_by (suc (suc i)) j x y a b = absurd (omega arith)
 
-there_under : (p q n x y : ℕ) → there (bit_and p q) n (bit_and x y) ≡ seen (there q n y) (there p n x)
+pub there_under : (p q n x y : ℕ) → there (bit_and p q) n (bit_and x y) ≡ seen (there q n y) (there p n x)
 there_under p q n x y =
     ap (λ (b : ℕ). cond (b == 1) (Some (bit_and x y)) None) (bit_at_and p q n) ∙ seen_by (bit_at p n) (bit_at q n) x y (bit_at-lt p n) (bit_at-lt q n)
 

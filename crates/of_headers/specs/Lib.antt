@@ -7,3 +7,4 @@ pub mod Faults
 pub mod Parts
 pub mod Tags
 pub mod Known
+pub mod Seeing

@@ -8,6 +8,7 @@ ghost use Rattle.of_headers.specs.FieldMap.{value, field_map, seen, either};
 
 use crate::key::FieldKey;
 use crate::numbers::Numbers;
+use crate::seeing::are_seen;
 use of_layers::Field;
 
 /// The bit of a field in a word of presence.
@@ -72,7 +73,7 @@ impl FieldKey {
     pub fn is_under(&self, key: &FieldKey, mask: &FieldKey) -> bool
         ensures { IsTrue result → (f : TheField) → value self.now f ≡ seen (value mask.now f) (value key.now f) }
     {
-        self.numbers.is_both(&key.numbers, &mask.numbers)
+        are_seen(&self.numbers, &key.numbers, &mask.numbers)
     }
 
     /// The fields of both keys: of a field that both have, the bits that one or both values have.

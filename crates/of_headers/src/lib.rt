@@ -13,6 +13,7 @@ mod layout;
 mod numbers;
 mod place;
 mod reading;
+mod seeing;
 mod transport;
 
 pub use bytes::word_at;

@@ -1,6 +1,6 @@
 //! The numbers of a key: a place for each field.
 
-ghost use Rattle.std.specs.Prelude.{◌≡◌, ◌≤◌, bit_and, bit_or, slice_index, slice_set, IsTrue};
+ghost use Rattle.std.specs.Prelude.{◌≡◌, ◌≤◌, bit_and, bit_or, slice_index, slice_set};
 ghost use Rattle.of_layers.specs.Fields.{number_of, ones_of};
 ghost use Rattle.of_headers.specs.Numbers.{numbers_in, bits_both, bits_either};
 
@@ -188,42 +188,6 @@ impl Numbers {
             icmpv6_type: self.icmpv6_type & other.icmpv6_type,
             icmpv6_code: self.icmpv6_code & other.icmpv6_code,
         }
-    }
-
-    /// Whether these are the bits that both have, place by place. What differs most often is looked at first.
-    pub(crate) fn is_both(&self, one: &Numbers, other: &Numbers) -> bool
-        ensures numbers { IsTrue result → numbers_in self.now ≡ bits_both (numbers_in one.now) (numbers_in other.now) }
-        ensures present { IsTrue result → self.now.present ≡ bit_and one.now.present other.now.present }
-    {
-        self.present == one.present & other.present
-            && self.in_port == one.in_port & other.in_port
-            && self.tcp_src == one.tcp_src & other.tcp_src
-            && self.tcp_dst == one.tcp_dst & other.tcp_dst
-            && self.udp_src == one.udp_src & other.udp_src
-            && self.udp_dst == one.udp_dst & other.udp_dst
-            && self.ipv4_src == one.ipv4_src & other.ipv4_src
-            && self.ipv4_dst == one.ipv4_dst & other.ipv4_dst
-            && self.eth_dst == one.eth_dst & other.eth_dst
-            && self.eth_src == one.eth_src & other.eth_src
-            && self.eth_type == one.eth_type & other.eth_type
-            && self.vlan_vid == one.vlan_vid & other.vlan_vid
-            && self.vlan_pcp == one.vlan_pcp & other.vlan_pcp
-            && self.ip_dscp == one.ip_dscp & other.ip_dscp
-            && self.ip_ecn == one.ip_ecn & other.ip_ecn
-            && self.ip_proto == one.ip_proto & other.ip_proto
-            && self.metadata == one.metadata & other.metadata
-            && self.icmpv4_type == one.icmpv4_type & other.icmpv4_type
-            && self.icmpv4_code == one.icmpv4_code & other.icmpv4_code
-            && self.arp_op == one.arp_op & other.arp_op
-            && self.arp_spa == one.arp_spa & other.arp_spa
-            && self.arp_tpa == one.arp_tpa & other.arp_tpa
-            && self.arp_sha == one.arp_sha & other.arp_sha
-            && self.arp_tha == one.arp_tha & other.arp_tha
-            && self.ipv6_src == one.ipv6_src & other.ipv6_src
-            && self.ipv6_dst == one.ipv6_dst & other.ipv6_dst
-            && self.ipv6_flabel == one.ipv6_flabel & other.ipv6_flabel
-            && self.icmpv6_type == one.icmpv6_type & other.icmpv6_type
-            && self.icmpv6_code == one.icmpv6_code & other.icmpv6_code
     }
 
     /// The bits that one or both have, place by place.

@@ -22,7 +22,7 @@ use std::alloc::{AllocError, Global};
 pub fn run<W: World, S: StepLog>(
     alloc: Global,
     world: &mut W,
-    packet: Packet<'_>,
+    mut packet: Packet<'_>,
     log: &mut S,
 ) -> Result<Outcome, AllocError>
     requires { packet.action_set ≡ [] }
@@ -39,8 +39,7 @@ pub fn run<W: World, S: StepLog>(
     world.known();
     frame_is_known(&packet.frame);
     let mut outcome = Outcome::new(alloc);
-    let mut current = packet;
-    pipeline(world, &mut current, &mut outcome, log)?;
+    pipeline(world, &mut packet, &mut outcome, log)?;
     Ok(outcome)
 }
 
@@ -51,7 +50,7 @@ pub fn run<W: World, S: StepLog>(
 pub fn run_actions<W: World, S: StepLog>(
     alloc: Global,
     world: &mut W,
-    packet: Packet<'_>,
+    mut packet: Packet<'_>,
     actions: &[Action],
     log: &mut S,
 ) -> Result<Outcome, AllocError>
@@ -70,8 +69,7 @@ pub fn run_actions<W: World, S: StepLog>(
     world.known();
     frame_is_known(&packet.frame);
     let mut outcome = Outcome::new(alloc);
-    let mut current = packet;
-    act_all_outside(world, actions, &mut current, &mut outcome, log)?;
+    act_all_outside(world, actions, &mut packet, &mut outcome, log)?;
     log.step(Step::End)?;
     Ok(outcome)
 }
