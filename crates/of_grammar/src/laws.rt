@@ -2,7 +2,7 @@
 ghost use Rattle.std.specs.Prelude.{◌≡◌, ◌==◌, ◌++◌, ℕ, List, [], true, None, Ok, Err};
 ghost use Rattle.std.specs.List.{All, list_any};
 ghost use Rattle.of_wire.specs.declared.code.Code.{Code};
-ghost use Rattle.of_wire.specs.Refusals.{refusal};
+ghost use Rattle.of_wire.specs.declared.codes.TheConstants.{OFPBRC_IS_SLAVE};
 ghost use Rattle.of_actions.specs.Actions.{AreActions};
 ghost use Rattle.of_actions.specs.InstructionLists.{are_for, are_kept};
 ghost use Rattle.of_actions.specs.Instructions.{SpellsInstructions};
