@@ -14,3 +14,7 @@ pub mod Unread
 pub mod Instructions
 pub mod InstructionReading
 pub mod CanonicalInstructions
+pub mod OldActions
+pub mod OldHeaders
+pub mod OldCanonicalActions
+pub mod OldCanonicalInstructions

@@ -10,3 +10,5 @@ pub mod HelloLemmas
 pub mod BucketsWritten
 pub mod BucketsAgain
 pub mod GroupAgain
+pub mod Same
+pub mod SameWritten

@@ -11,3 +11,14 @@ pub mod Messages
 pub mod Written
 pub mod Promised
 pub mod CanonicalGroups
+pub mod OldHeads
+pub mod OldMessages
+pub mod OldGroupMods
+pub mod OldMultiparts
+pub mod OldPortMods
+pub mod OldRoles
+pub mod OldConfigs
+pub mod OldAsyncConfigs
+pub mod OldBuckets
+pub mod OldWritten
+pub mod OldCanonicalGroups

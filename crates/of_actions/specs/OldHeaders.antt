@@ -1,0 +1,66 @@
+-- The headers of instructions (OpenFlow 1.3.5, 7.2.4).
+use Rattle.std.specs.Prelude.{ℕ, ◌-◌, ◌%◌, ◌==◌, nat_lt, nat_le, Bool, true, not, ◌&&◌, ◌||◌, List, [], ◌∷◌, length, take, drop, slice_index, Option, Some, None, if◌then◌else◌}
+use Rattle.byteorder.specs.Endian.{big_number}
+use Rattle.of_wire.specs.declared.code.Code.{Code}
+use Rattle.of_wire.specs.Refusals.{refusal}
+use Rattle.of_wire.specs.Items.{Items, AreItems}
+use Rattle.of_wire.specs.Numbered.{is_used}
+use Rattle.of_actions.specs.Headers.{Header, goto, metadata, write, apply, clear}
+use Rattle.of_actions.specs.Beginnings.{type_at, len_at}
+
+-- its type on the wire
+abbrev pub kind_of : Header → ℕ
+kind_of (goto table) = 1
+kind_of (metadata value mask) = 2
+kind_of (write bytes) = 3
+kind_of (apply bytes) = 4
+kind_of clear = 5
+
+abbrev pub is_known : ℕ → Bool
+is_known kind = nat_le 1 kind && nat_le kind 5
+
+-- GOTO_TABLE and CLEAR_ACTIONS have 8 bytes, WRITE_METADATA has 24, and the other types have any size
+abbrev pub is_size : ℕ → ℕ → Bool
+is_size kind len = if (kind == 1) || (kind == 5) then len == 8 else if kind == 2 then len == 24 else true
+
+-- the table of a GOTO_TABLE
+abbrev pub table_at : List ℕ → ℕ
+table_at rest = slice_index rest 4
+
+-- a table that an entry of this table may lead to: a later one of the 16
+abbrev pub is_next : ℕ → ℕ → Bool
+is_next table to = nat_lt table to && nat_lt to 16
+
+-- The refusals of the instruction that begins `rest`, in order, after those of the headers `seen` (7.4.4): OFPBIC_BAD_LEN, OFPBIC_UNSUP_INST for a METER, OFPBIC_BAD_EXPERIMENTER, OFPBIC_UNKNOWN_INST, OFPBIC_UNSUP_INST for the second of a type, and OFPBIC_BAD_TABLE_ID.
+unfoldable pub header_refusals : ℕ → List Header → List ℕ → List (Bool × Code)
+header_refusals table seen rest =
+    (nat_lt (length rest) 4, refusal 3 7)
+    ∷ (nat_lt (len_at rest) 8 || not (len_at rest % 8 == 0) || nat_lt (length rest) (len_at rest), refusal 3 7)
+    ∷ (not (is_size (type_at rest) (len_at rest)), refusal 3 7)
+    ∷ (type_at rest == 6, refusal 3 1)
+    ∷ (type_at rest == 0xffff, refusal 3 5)
+    ∷ (not (is_known (type_at rest)), refusal 3 0)
+    ∷ (is_used kind_of (type_at rest) seen, refusal 3 1)
+    ∷ ((type_at rest == 1) && not (is_next table (table_at rest)), refusal 3 2)
+    ∷ []
+
+-- the bytes of its actions: after type, length and four bytes of padding
+abbrev pub actions_at : List ℕ → List ℕ
+actions_at rest = take (len_at rest - 8) (drop 8 rest)
+
+-- the header, where it is not refused: GOTO_TABLE, WRITE_METADATA, WRITE_ACTIONS, APPLY_ACTIONS, CLEAR_ACTIONS
+unfoldable pub header_at : List ℕ → Option Header
+header_at rest =
+    if type_at rest == 1 then Some (goto (table_at rest))
+    else if type_at rest == 2 then Some (metadata (big_number 8 (drop 8 rest)) (big_number 8 (drop 16 rest)))
+    else if type_at rest == 3 then Some (write (actions_at rest))
+    else if type_at rest == 4 then Some (apply (actions_at rest))
+    else if type_at rest == 5 then Some clear
+    else None
+
+abbrev pub headers_of : ℕ → Items Header
+headers_of table = record { refusals = header_refusals table; value_at = header_at; size_at = len_at }
+
+-- after the headers `seen`, bytes are instructions with these headers, and then they end or have a fault
+abbrev pub AreHeaders : ℕ → List Header → List ℕ → List Header → Option Code → Type 0
+AreHeaders table = AreItems (headers_of table)
