@@ -222,5 +222,5 @@ messages =
     ∷ message 26 "GET_ASYNC_REQUEST" [] nothing read false
     ∷ message 27 "GET_ASYNC_REPLY" async_config nothing sent false
     ∷ message 28 "SET_ASYNC" async_config nothing read false
-    ∷ message 29 "METER_MOD" [] anything neither false
+    ∷ message 29 "METER_MOD" [] anything neither true
     ∷ []
