@@ -2,7 +2,7 @@
 use Rattle.std.specs.Prelude.{◌≡◌, ℕ, Bool, true, false, nat_lt, List, Option, Some, None, Result, Ok, Err}
 use Rattle.of_text.specs.Configs.{Configuration}
 use Rattle.of_table.specs.Tables.{Tables}
-use Rattle.of_switch.specs.Loading.{loaded_tables}
+use Rattle.of_datapath.specs.Loading.{loaded_tables}
 use Rattle.of_replay.specs.Told.{Answer, then_bytes, given}
 use Rattle.of_replay.specs.Transfer.{then_answers, WrotePrefix}
 use Rattle.of_replay.specs.Assembling.{bad_line, HasFault}

@@ -34,15 +34,16 @@ use Rattle.of_messages.proofs.Appended.{length_flow_mod}
 use Rattle.of_messages.proofs.BucketsWritten.{buckets_short, length_front}
 use Rattle.of_session.specs.Stream.{length_of}
 use Rattle.of_build.specs.Building.{add_of, in_turn, new_of, of_length}
-use Rattle.of_switch.specs.declared.effect.Effect.{Effect}
+use Rattle.of_datapath.specs.declared.effect.Effect.{Effect}
 use Rattle.of_switch.specs.declared.event.Event.{Event}
 use Rattle.of_switch.specs.declared.event.Event.TheVariants.{Piece}
 use Rattle.of_switch.specs.declared.switch_error.SwitchError.{SwitchError}
 use Rattle.of_switch.specs.Calls.{feed_refusal}
-use Rattle.of_switch.specs.Loading.{config_of, loaded_tables}
+use Rattle.of_datapath.specs.Loading.{loaded_tables}
+use Rattle.of_switch.specs.Loading.{config_of}
 use Rattle.of_switch.specs.State.{State, new_core, start}
 use Rattle.of_switch.specs.Runs.{Gives, IsRefused, Report, Happened, Run, happened, piece_in, run, unless}
-use Rattle.of_switch.proofs.ConfiguringLemmas.{told_again}
+use Rattle.of_switch.proofs.ToldAgain.{told_again}
 use Rattle.of_round_trip.proofs.FlowsAdded.{AreSent, IsSent, flow_events, flows_lead}
 use Rattle.of_round_trip.proofs.GroupsAdded.{AreSentGroups, IsSentGroup, group_events, groups_lead}
 use Rattle.of_round_trip.proofs.Messages.{built, one_message}

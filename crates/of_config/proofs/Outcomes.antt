@@ -27,11 +27,11 @@ use Rattle.of_session.specs.declared.session.Phase.TheVariants.{Open}
 use Rattle.of_session.specs.declared.session.Next.{Next}
 use Rattle.of_session.specs.Stream.{length_of}
 use Rattle.of_session.specs.Session.{read_as}
-use Rattle.of_switch.specs.declared.control.AsyncConfig.{AsyncConfig}
-use Rattle.of_switch.specs.Control.{heard_of}
-use Rattle.of_switch.specs.declared.effect.Effect.{Effect}
-use Rattle.of_switch.specs.declared.effect.Effect.TheVariants.{Answer}
-use Rattle.of_switch.specs.Commands.{command_notices, frame_named, is_notice_admitted, notice_effect, notice_effects}
+use Rattle.of_datapath.specs.declared.control.AsyncConfig.{AsyncConfig}
+use Rattle.of_datapath.specs.Control.{heard_of}
+use Rattle.of_datapath.specs.declared.effect.Effect.{Effect}
+use Rattle.of_datapath.specs.declared.effect.Effect.TheVariants.{Answer}
+use Rattle.of_datapath.specs.Commands.{command_notices, frame_named, is_notice_admitted, notice_effect, notice_effects}
 use Rattle.of_switch.specs.State.{Core, State}
 use Rattle.of_switch.specs.Steps.{Done, Outcome, after_command, after_flow_mod, after_group_mod, begun, does, done, gives, handled, next_by, next_of, refused, state_refusals, then_does, unless_refused as unless_code}
 use Rattle.of_switch.specs.Runs.{piece_in}

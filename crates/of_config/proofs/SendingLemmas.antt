@@ -17,8 +17,8 @@ use Rattle.of_session.specs.Session.{read_as}
 use Rattle.of_session.proofs.Fronts.{message_front}
 use Rattle.of_text.specs.Configs.{Configuration}
 use Rattle.of_build.specs.Building.{hello}
-use Rattle.of_switch.specs.declared.effect.Effect.{Effect}
-use Rattle.of_switch.specs.declared.effect.Effect.TheVariants.{Answer}
+use Rattle.of_datapath.specs.declared.effect.Effect.{Effect}
+use Rattle.of_datapath.specs.declared.effect.Effect.TheVariants.{Answer}
 use Rattle.of_switch.specs.declared.switch_error.SwitchError.{SwitchError}
 use Rattle.of_switch.specs.State.{Core, State, new_core, start}
 use Rattle.of_switch.specs.Steps.{Outcome, coming, connected, fed, gives, next_by, next_of}

@@ -7,8 +7,8 @@ use Rattle.of_session.specs.declared.session.Phase.TheVariants.{Open}
 use Rattle.of_session.specs.Stream.{length_of}
 use Rattle.of_text.specs.Configs.{Configuration}
 use Rattle.of_build.specs.Building.{hello}
-use Rattle.of_switch.specs.declared.effect.Effect.{Effect}
-use Rattle.of_switch.specs.declared.effect.Effect.TheVariants.{Answer, Sent, Closed}
+use Rattle.of_datapath.specs.declared.effect.Effect.{Effect}
+use Rattle.of_datapath.specs.declared.effect.Effect.TheVariants.{Answer, Sent, Closed}
 use Rattle.of_switch.specs.State.{State, start}
 use Rattle.of_switch.specs.Steps.{connected}
 use Rattle.of_switch.specs.Runs.{piece_in}

@@ -5,7 +5,7 @@ ghost use Rattle.of_text.specs.Configs.{Configuration, IsConfig};
 ghost use Rattle.of_wire.specs.declared.code.Code.{Code};
 ghost use Rattle.of_messages.specs.Heads.{xid_of};
 ghost use Rattle.of_messages.specs.Written.{error_bytes};
-ghost use Rattle.of_switch.specs.declared.effect.Effect.TheVariants.{Answer};
+ghost use Rattle.of_datapath.specs.declared.effect.Effect.TheVariants.{Answer};
 ghost use Rattle.of_switch.specs.State.{State};
 ghost use Rattle.of_switch.specs.Steps.{gives};
 ghost use Rattle.of_switch.specs.Runs.{piece_in};

@@ -2,7 +2,7 @@
 use Rattle.std.proofs.Common.{◌≡◌, ℕ, List, ◌++◌, Result, Ok, Err, sym, ◌∙◌, ap, append_assoc, inl, inr}
 use Rattle.std.specs.Prelude.{◌⊎◌, OnOk}
 use Rattle.smallvec.specs.SmallVec.{SmallVec}
-use Rattle.of_switch.specs.declared.effect.Effect.{Effect}
+use Rattle.of_datapath.specs.declared.effect.Effect.{Effect}
 use Rattle.of_switch.specs.declared.switch_error.SwitchError.{SwitchError}
 use Rattle.of_switch.specs.declared.switch_error.SwitchError.TheVariants as error
 use Rattle.of_switch.specs.Runs.{Report, Gives, IsRefused}

@@ -8,12 +8,12 @@ use Rattle.of_ports.specs.declared.port.Port.{Port}
 use Rattle.of_ports.specs.Ports.{is_live, may_receive, port_at}
 use Rattle.of_machine.specs.declared.data.Step.{Step}
 use Rattle.of_machine.specs.declared.data.Step.TheVariants.{Miss, Entry, TtlExpired}
-use Rattle.of_switch.specs.declared.effect.Effect.{Effect}
-use Rattle.of_switch.specs.declared.effect.Effect.TheVariants.{Answer, Sent, Closed}
+use Rattle.of_datapath.specs.declared.effect.Effect.{Effect}
+use Rattle.of_datapath.specs.declared.effect.Effect.TheVariants.{Answer, Sent, Closed}
 use Rattle.of_switch.specs.declared.switch_error.SwitchError.{SwitchError}
 use Rattle.of_switch.specs.declared.switch_error.SwitchError.TheVariants as refusals
-use Rattle.of_switch.specs.DryRun.{steps_in}
-use Rattle.of_switch.specs.Plane.{Forwarding}
+use Rattle.of_datapath.specs.DryRun.{steps_in}
+use Rattle.of_datapath.specs.Datapath.{Forwarding}
 use Rattle.of_switch.specs.State.{State}
 use Rattle.of_switch.specs.Runs.{Report, Gives, IsRefused}
 use Rattle.of_replay.specs.Rows.{EventRow, Piece, Frame}

@@ -2,8 +2,8 @@
 use Rattle.std.specs.Prelude.{ℕ, List, [], ◌∷◌, ◌++◌, codes, decimal}
 use Rattle.std.specs.List.{flat_map}
 use Rattle.hex.specs.Hex.{encode_lower}
-use Rattle.of_switch.specs.declared.effect.Effect.{Effect}
-use Rattle.of_switch.specs.declared.effect.Effect.TheVariants.{Answer, Sent, Closed}
+use Rattle.of_datapath.specs.declared.effect.Effect.{Effect}
+use Rattle.of_datapath.specs.declared.effect.Effect.TheVariants.{Answer, Sent, Closed}
 use Rattle.of_switch.specs.declared.switch_error.SwitchError.{SwitchError}
 use Rattle.of_switch.specs.Calls.{number_of}
 use Rattle.of_switch.specs.declared.event.Event.{Event}

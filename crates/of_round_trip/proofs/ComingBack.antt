@@ -27,13 +27,14 @@ use Rattle.of_messages.specs.CanonicalGroups.{has_numbers}
 use Rattle.of_messages.specs.Written.{hello_bytes}
 use Rattle.of_session.specs.Session.{greeting}
 use Rattle.of_build.specs.Building.{BuildsOf, add_lines, build_text, group_lines, hello, in_turn, piece_line}
-use Rattle.of_switch.specs.declared.effect.Effect.TheVariants.{Answer}
+use Rattle.of_datapath.specs.declared.effect.Effect.TheVariants.{Answer}
 use Rattle.of_switch.specs.declared.event.Event.{Event}
 use Rattle.of_switch.specs.declared.event.Event.TheVariants.{Connect, Piece}
-use Rattle.of_switch.specs.Loading.{config_of, loaded_tables}
+use Rattle.of_datapath.specs.Loading.{loaded_tables}
+use Rattle.of_switch.specs.Loading.{config_of}
 use Rattle.of_switch.specs.State.{State, new_core, start}
 use Rattle.of_switch.specs.Runs.{Gives, Run, run}
-use Rattle.of_switch.proofs.ConfiguringLemmas.{told_again}
+use Rattle.of_switch.proofs.ToldAgain.{told_again}
 use Rattle.of_replay.specs.Disassembling.{text_after}
 use Rattle.of_replay.specs.Lexing.{lines_of}
 use Rattle.of_replay.specs.Play.{lines_read}

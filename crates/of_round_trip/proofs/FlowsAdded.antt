@@ -30,11 +30,11 @@ use Rattle.of_build.specs.Building.{add_of, add_lines}
 use Rattle.of_buffers.specs.Buffers.{none_held}
 use Rattle.of_switch.specs.declared.event.Event.{Event}
 use Rattle.of_switch.specs.declared.event.Event.TheVariants.{Piece}
-use Rattle.of_switch.specs.Commands.{flow_mod_refusals, flow_of, has_flag, names_absent_group}
-use Rattle.of_switch.specs.Loading.{loaded_entry, loaded_table, loaded_tables}
+use Rattle.of_datapath.specs.Commands.{flow_mod_refusals, flow_of, has_flag, names_absent_group}
+use Rattle.of_datapath.specs.Loading.{loaded_entry, loaded_table, loaded_tables}
 use Rattle.of_switch.specs.State.{State}
 use Rattle.of_switch.specs.Runs.{Gives, happened}
-use Rattle.of_switch.proofs.LoadLemmas.{filled, filled_all, filled_more, filled_next, filled_none}
+use Rattle.of_datapath.proofs.LoadLemmas.{filled, filled_all, filled_more, filled_next, filled_none}
 use Rattle.of_round_trip.proofs.ByteLemmas.{flow_mod_are_bytes}
 use Rattle.of_round_trip.proofs.FlowAgain.{IsAdd, flow_mod_again}
 use Rattle.of_round_trip.proofs.Messages.{built, one_message}

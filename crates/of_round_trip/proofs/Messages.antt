@@ -7,7 +7,7 @@ use Rattle.of_messages.specs.Written.{message}
 use Rattle.of_messages.proofs.Lengths.{is_message}
 use Rattle.of_session.specs.Stream.{IsMessage, length_of}
 use Rattle.of_buffers.specs.Buffers.{none_held}
-use Rattle.of_switch.specs.Control.{new_control}
+use Rattle.of_datapath.specs.Control.{new_control}
 use Rattle.of_switch.specs.State.{Core}
 
 pub one_message : (kind xid : ℕ) (body : List ℕ) → length body ≤ 65527 → IsMessage (message kind xid body)

@@ -16,7 +16,7 @@ use Rattle.of_session.specs.Stream.{Whole, IsMessage, beginning_of}
 use Rattle.of_session.specs.Session.{greeting}
 use Rattle.of_session.proofs.Fronts.{message_front}
 use Rattle.of_build.specs.Building.{hello}
-use Rattle.of_switch.specs.declared.effect.Effect.TheVariants.{Answer}
+use Rattle.of_datapath.specs.declared.effect.Effect.TheVariants.{Answer}
 use Rattle.of_switch.specs.declared.event.Event.{Event}
 use Rattle.of_switch.specs.declared.event.Event.TheVariants.{Connect, Piece}
 use Rattle.of_switch.specs.State.{Core, State, new_core, start}

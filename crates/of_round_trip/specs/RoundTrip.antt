@@ -2,7 +2,7 @@
 use Rattle.std.specs.Prelude.{◌≡◌, ℕ, List, [], ◌∷◌, None, replicate}
 use Rattle.of_text.specs.Configs.{Configuration}
 use Rattle.of_messages.specs.Written.{hello_bytes}
-use Rattle.of_switch.specs.declared.effect.Effect.TheVariants.{Answer}
+use Rattle.of_datapath.specs.declared.effect.Effect.TheVariants.{Answer}
 use Rattle.of_switch.specs.State.{start}
 use Rattle.of_switch.specs.Runs.{Gives, Run, run}
 use Rattle.of_switch.specs.Loading.{config_of, loaded}

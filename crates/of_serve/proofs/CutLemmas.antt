@@ -6,7 +6,7 @@ use Rattle.std.specs.declared.alloc.AllocError.{AllocError}
 use Rattle.std.proofs.lemmas.List.{append-nil}
 use Rattle.std.proofs.lemmas.Grind.{flat_map-append}
 use Rattle.of_session.specs.Session.{is_disconnected}
-use Rattle.of_switch.specs.declared.effect.Effect.{Effect}
+use Rattle.of_datapath.specs.declared.effect.Effect.{Effect}
 use Rattle.of_switch.specs.declared.event.Event.{Event}
 use Rattle.of_switch.specs.declared.event.Event.TheVariants.{Connect, Lost, Piece, Frame, Moment, Ports}
 use Rattle.of_switch.specs.declared.switch_error.SwitchError.{SwitchError}

@@ -3,7 +3,7 @@ use Rattle.std.proofs.Common.{◌≡◌, ℕ, Bool, true, false, List, [], ◌�
 use Rattle.std.specs.Prelude.{⊤, IfNone}
 use Rattle.std.specs.Option.{option_map}
 use Rattle.smallvec.specs.SmallVec.{SmallVec}
-use Rattle.of_switch.specs.declared.effect.Effect.{Effect}
+use Rattle.of_datapath.specs.declared.effect.Effect.{Effect}
 use Rattle.of_switch.specs.declared.switch_error.SwitchError.{SwitchError}
 use Rattle.of_switch.specs.declared.switch_error.SwitchError.TheVariants.{NoMemory}
 use Rattle.of_switch.specs.State.{State}

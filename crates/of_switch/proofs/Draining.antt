@@ -5,7 +5,7 @@ use Rattle.std.proofs.lemmas.Option.{same_Some}
 use Rattle.of_session.specs.declared.session.Next.{Next}
 use Rattle.of_session.specs.declared.session.Next.TheVariants.{Nothing, BadStream, NotHello, Opened, Read, Refused}
 use Rattle.of_session.proofs.Nexts.{IsSizedIn, next_sized}
-use Rattle.of_switch.specs.declared.effect.Effect.{Effect}
+use Rattle.of_datapath.specs.declared.effect.Effect.{Effect}
 use Rattle.of_switch.specs.State.{State}
 use Rattle.of_switch.specs.Steps.{Outcome, gives, coming, next_by, next_of}
 use Rattle.of_switch.specs.Runs.{behind, then_more, drain, drained}

@@ -1,7 +1,7 @@
 -- What a new switch does at short sequences of events, computed from the definitions.
 use Rattle.std.proofs.Common.{◌≡◌, ℕ, true, List, [], ◌∷◌, ◌++◌, take, drop, refl}
 use Rattle.std.specs.Prelude.{replicate}
-use Rattle.of_switch.specs.declared.effect.Effect.TheVariants.{Answer, Sent, Closed}
+use Rattle.of_datapath.specs.declared.effect.Effect.TheVariants.{Answer, Sent, Closed}
 use Rattle.of_switch.specs.declared.port_change.PortChange.TheVariants.{Add}
 use Rattle.of_switch.specs.declared.switch_error.SwitchError.TheVariants.{NotConnected}
 use Rattle.of_switch.specs.declared.event.Event.{Event}

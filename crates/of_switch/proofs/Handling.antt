@@ -7,8 +7,8 @@ use Rattle.of_messages.specs.Written.{error_bytes}
 use Rattle.of_session.specs.declared.session.Next.{Next}
 use Rattle.of_session.specs.declared.session.Next.TheVariants.{Nothing, BadStream, NotHello, Opened, Read, Refused}
 use Rattle.of_session.specs.Session.{taken}
-use Rattle.of_switch.specs.declared.effect.Effect.{Effect}
-use Rattle.of_switch.specs.declared.effect.Effect.TheVariants.{Answer}
+use Rattle.of_datapath.specs.declared.effect.Effect.{Effect}
+use Rattle.of_datapath.specs.declared.effect.Effect.TheVariants.{Answer}
 use Rattle.of_switch.specs.State.{Core, State}
 use Rattle.of_switch.specs.Steps.{does, done, state_refusals, refused, unless_refused, handled, gives, failed_of, coming, next_by, IsRefusedWith}
 

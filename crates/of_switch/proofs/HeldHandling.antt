@@ -18,14 +18,14 @@ use Rattle.of_table.specs.Entries.{table_of}
 use Rattle.of_table.specs.Table.{Table, added}
 use Rattle.of_table.specs.Tables.{NumberedTables, table_at, tables_of, with_table}
 use Rattle.of_table.proofs.CopiedLemmas.{restored, restored_modified}
-use Rattle.of_switch.specs.declared.control.AsyncConfig.{AsyncConfig}
-use Rattle.of_switch.specs.declared.control.Control.{Control}
-use Rattle.of_switch.specs.declared.effect.Effect.{Effect}
-use Rattle.of_switch.specs.Control.{heard_of}
-use Rattle.of_switch.specs.Commands.{commanded, commanded_by, flow_of, frame_of, has_flag, is_to_absent_group, packet_out_refusals, selector_of, unless_any, without_packet}
-use Rattle.of_switch.specs.Applying.{without_used}
-use Rattle.of_switch.specs.Numbers.{forwarding_of}
-use Rattle.of_switch.specs.Plane.{Forwarded, Forwarding, through, without_held}
+use Rattle.of_datapath.specs.declared.control.AsyncConfig.{AsyncConfig}
+use Rattle.of_datapath.specs.declared.control.Control.{Control}
+use Rattle.of_datapath.specs.declared.effect.Effect.{Effect}
+use Rattle.of_datapath.specs.Control.{heard_of}
+use Rattle.of_datapath.specs.Commands.{commanded, commanded_by, flow_of, frame_of, has_flag, is_to_absent_group, packet_out_refusals, selector_of, unless_any, without_packet}
+use Rattle.of_datapath.specs.Applying.{without_used}
+use Rattle.of_datapath.specs.Numbers.{forwarding_of}
+use Rattle.of_datapath.specs.Datapath.{Forwarded, Forwarding, through, without_held}
 use Rattle.of_switch.specs.State.{Core}
 use Rattle.of_switch.specs.Steps.{Done, after_command, after_packet_out, begun, does, forwarded, with_tables}
 

@@ -14,7 +14,7 @@ use Rattle.of_messages.specs.Heads.{xid_of}
 use Rattle.of_messages.specs.Messages.{message_from}
 use Rattle.of_wire.specs.declared.code.Code.{Code}
 use Rattle.std.specs.Prelude.{Result, Ok, Err, unwrap_or}
-use Rattle.of_switch.specs.declared.effect.Effect.{Effect}
+use Rattle.of_datapath.specs.declared.effect.Effect.{Effect}
 use Rattle.of_switch.specs.State.{State}
 use Rattle.of_switch.specs.Steps.{Outcome, gives, fed, coming, next_by, next_of}
 use Rattle.of_switch.specs.Runs.{behind, drained, piece_in, come, holding, handled_alone, handled_in_turn}

@@ -1,12 +1,3 @@
-pub mod PlaceNumbers
-pub mod GroupWorlds
-pub mod Worlds
-pub mod Looking
-pub mod Prefixes
-pub mod Hearing
-pub mod Tallying
-pub mod Telling
-pub mod Forwarding
 pub mod Draining
 pub mod Joining
 pub mod Handling
@@ -16,11 +7,8 @@ pub mod InTurn
 pub mod Running
 pub mod OnLiterals
 pub mod Examples
-pub mod LoadLemmas
-pub mod StandingLemmas
-pub mod ConfiguringLemmas
 pub mod StandingSteps
 pub mod HeldHandling
-pub mod HeldIds
 pub mod CallingLemmas
 pub mod GoingOn
+pub mod ToldAgain

@@ -12,13 +12,13 @@ use Rattle.of_table.specs.Tables.{NumberedTables, tables_of, added_to, modified_
 use Rattle.smallvec.specs.SmallVec.{SmallVec}
 use Rattle.std.specs.declared.alloc.AllocError.{AllocError}
 use Rattle.of_table.specs.declared.selection.Cause.{Cause}
-use Rattle.of_switch.specs.declared.effect.Effect.{Effect}
-use Rattle.of_switch.specs.Commands.{names_absent_group}
+use Rattle.of_datapath.specs.declared.effect.Effect.{Effect}
+use Rattle.of_datapath.specs.Commands.{names_absent_group}
 use Rattle.of_buffers.specs.Buffers.{HeldFrames}
-use Rattle.of_switch.specs.Numbers.{Contents, contents, forwarding_of}
-use Rattle.of_switch.specs.Plane.{Forwarded, Forwarding, forwards}
-use Rattle.of_switch.specs.Standing.{GroupsExist}
-use Rattle.of_switch.proofs.StandingLemmas.{removed_stands, flow_stands, modify_stands, put_stands, groups_left_stand}
+use Rattle.of_datapath.specs.Numbers.{Contents, contents, forwarding_of}
+use Rattle.of_datapath.specs.Datapath.{Forwarded, Forwarding, forwards}
+use Rattle.of_datapath.specs.Standing.{GroupsExist}
+use Rattle.of_datapath.proofs.StandingLemmas.{removed_stands, flow_stands, modify_stands, put_stands, groups_left_stand}
 
 -- a call does this, or runs out of memory
 pub called_stands : (r : Result (SmallVec Effect) AllocError) (d : Forwarded) (n m : NumberedTables) (gs hs : List Group) (ps qs : List Port) (b c : HeldFrames) → IfOk r (λ effects. d ≡ forwards effects.items (forwarding_of m hs qs c)) → OnErr r (contents m hs qs c ≡ contents n gs ps b) → GroupsExist d.forwarding → GroupsExist (forwarding_of n gs ps b) → GroupsExist (forwarding_of m hs qs c)

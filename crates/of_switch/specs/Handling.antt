@@ -7,7 +7,7 @@ use Rattle.of_wire.specs.Refusals.{refusal}
 use Rattle.std.specs.Option.{option_map_or}
 use Rattle.of_groups.specs.declared.group_fault.GroupFault.{GroupFault}
 use Rattle.of_groups.specs.Faults.{code_of}
-use Rattle.of_switch.specs.declared.effect.Effect.{Effect}
+use Rattle.of_datapath.specs.declared.effect.Effect.{Effect}
 use Rattle.of_switch.specs.declared.engine.Fault.{Fault}
 use Rattle.of_switch.specs.declared.engine.Fault.TheVariants.{Memory, Refused}
 use Rattle.of_switch.specs.State.{Core}

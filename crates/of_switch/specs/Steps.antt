@@ -27,21 +27,21 @@ use Rattle.of_groups.specs.declared.group.GroupKind.{GroupKind}
 use Rattle.of_groups.specs.Groups.{left, modified_group, new_group, with_group}
 use Rattle.of_buffers.specs.Buffers.{Held, forgotten}
 use Rattle.of_machine.specs.Rows.{acts, entering}
-use Rattle.of_switch.specs.Commands.{flow_mod_refusals, commanded, command_notices, notice_effects, packet_out_refusals, frame_of, frame_named, without_packet}
+use Rattle.of_datapath.specs.Commands.{flow_mod_refusals, commanded, command_notices, notice_effects, packet_out_refusals, frame_of, frame_named, without_packet}
 use Rattle.of_switch.specs.GroupMods.{group_mod_fault, refused_for}
-use Rattle.of_switch.specs.declared.control.AsyncConfig.{AsyncConfig}
-use Rattle.of_switch.specs.Control.{heard_of, heard_while, released}
-use Rattle.of_switch.specs.declared.effect.Effect.{Effect}
-use Rattle.of_switch.specs.declared.effect.Effect.TheVariants.{Answer, Closed}
+use Rattle.of_datapath.specs.declared.control.AsyncConfig.{AsyncConfig}
+use Rattle.of_datapath.specs.Control.{heard_of, heard_while, released}
+use Rattle.of_datapath.specs.declared.effect.Effect.{Effect}
+use Rattle.of_datapath.specs.declared.effect.Effect.TheVariants.{Answer, Closed}
 use Rattle.of_switch.specs.declared.port_change.PortChange.{PortChange}
 use Rattle.of_switch.specs.declared.port_change.PortChange.TheVariants.{Add, Remove, Link}
 use Rattle.of_ports.specs.declared.port.Port.{Port}
 use Rattle.of_ports.specs.Ports.{new_port, port_at, with_port, without_port, at_port, linked, with_config}
-use Rattle.of_switch.specs.PortStatus.{status_told, change_told}
+use Rattle.of_datapath.specs.PortStatus.{status_told, change_told}
 use Rattle.of_switch.specs.PortMods.{port_mod_refusals, modified_port}
-use Rattle.of_switch.specs.Roles.{generation_refusals, with_role}
-use Rattle.of_switch.specs.Statistics.{multipart_refusals, multipart_bytes}
-use Rattle.of_switch.specs.Plane.{Forwarded, framed, started, through}
+use Rattle.of_datapath.specs.Roles.{generation_refusals, with_role}
+use Rattle.of_datapath.specs.Statistics.{multipart_refusals, multipart_bytes}
+use Rattle.of_datapath.specs.Datapath.{Forwarded, framed, started, through}
 use Rattle.of_switch.specs.State.{Core, State}
 
 -- A MESSAGE (7.3): its effects and the core after it, whatever the connection

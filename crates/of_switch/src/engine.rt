@@ -16,33 +16,30 @@ ghost use Rattle.std.specs.Prelude.{IfErr, Some};
 ghost use Rattle.of_buffers.specs.Buffers.{held};
 ghost use Rattle.of_messages.specs.Messages.{is_delete as is_delete_command};
 ghost use Rattle.of_switch.specs.Handling.{IsUnlessHeld};
-ghost use Rattle.of_switch.specs.Commands.{add_refusals, frame_of as packet_frame, names_absent_group as naming_absent_group, packet_out_refusals, flow_mod_refusals, has_flag as with_flag, notice_effects, selector_of};
+ghost use Rattle.of_datapath.specs.Commands.{add_refusals, frame_of as packet_frame, names_absent_group as naming_absent_group, packet_out_refusals, flow_mod_refusals, has_flag as with_flag, notice_effects, selector_of};
 ghost use Rattle.of_table.specs.Sound.{AreRowsOf};
 ghost use Rattle.of_machine.specs.Sound.{IsSound};
 ghost use Rattle.of_machine.specs.Weights.{frame_step_bound};
-ghost use Rattle.of_switch.specs.Plane.{framed, winner_in, world_of};
-ghost use Rattle.of_switch.specs.DryRun.{GainsPrefix, steps_in};
+ghost use Rattle.of_datapath.specs.Datapath.{framed, winner_in, world_of};
+ghost use Rattle.of_datapath.specs.DryRun.{GainsPrefix, steps_in};
 ghost use Rattle.of_groups.specs.Groups.{modified_group, new_group};
 ghost use Rattle.of_groups.specs.Faults.{add_fault, delete_fault, modify_fault};
 ghost use Rattle.of_switch.specs.GroupMods.{group_mod_fault, refused_for};
-ghost use Rattle.of_switch.specs.Control.{heard_of, heard_while};
-ghost use Rattle.of_switch.specs.Roles.{generation_refusals};
-ghost use Rattle.of_switch.specs.Statistics.{multipart_bytes, multipart_refusals};
+ghost use Rattle.of_datapath.specs.Control.{heard_of, heard_while};
+ghost use Rattle.of_datapath.specs.Roles.{generation_refusals};
+ghost use Rattle.of_datapath.specs.Statistics.{multipart_bytes, multipart_refusals};
 ghost use Rattle.of_switch.specs.Handling.{Handles};
-ghost use Rattle.of_switch.specs.Loading.{configuration_of, loaded_core};
+ghost use Rattle.of_datapath.specs.Loading.{configuration_of};
+ghost use Rattle.of_switch.specs.Loading.{loaded_core};
 ghost use Rattle.of_switch.specs.Steps.{after_command, begun, does, done, after_flow_mod, then_does, forwarded, group_added, after_group_mod, group_modified, groups_deleted, linked_at, after_packet_out, port_added, after_port_mod, removed_at, replied, role_asked, state_refusals, with_tables, without_connection, moment_done};
 
-use crate::commands::{any_to_absent_group, flow_from, has_flag, names_absent_group, which_from};
-use crate::configuring::config_from;
-use crate::control::{AsyncConfig, Control};
-use crate::effect::{Effect, Effects};
-use crate::loading::load_tables;
-use crate::plane::Plane;
-use crate::port_status::{write_change, write_status};
-use crate::statistics::{answers, asked_by, asks_absent_port};
-use crate::told::NO_BUFFER;
 use of_actions::InstructionList;
 use of_classifier::Lookup;
+use of_datapath::{
+    AsyncConfig, Control, Datapath, Effect, Effects, NO_BUFFER, answers, any_to_absent_group,
+    asked_by, asks_absent_port, config_from, flow_from, has_flag, load_tables, names_absent_group,
+    which_from, write_change, write_status,
+};
 use of_groups::{Buckets, Chosen, GroupFault, GroupKind};
 use of_headers::FieldKey;
 use of_machine::StepLog;
@@ -108,20 +105,20 @@ impl From<GroupFault> for Fault {
 pub struct Engine<L: Lookup> {
     dpid: u64,
     control: Control,
-    plane: Plane<L>,
+    datapath: Datapath<L>,
     alloc: Global,
 }
 
 impl<L: Lookup> Model for Engine<L> {
     ghost use Rattle.of_switch.specs.State.{Core};
-    ghost use Rattle.of_switch.specs.Numbers.{forwarding_of};
-    ghost use Rattle.of_switch.specs.Standing.{GroupsExist};
+    ghost use Rattle.of_datapath.specs.Numbers.{forwarding_of};
+    ghost use Rattle.of_datapath.specs.Standing.{GroupsExist};
 
     ghost Value = { Core };
 
-    ghost view = { λ e. record { dpid = e.dpid; control = e.control; forwarding = forwarding_of e.plane.tables e.plane.groups e.plane.ports e.plane.held } };
+    ghost view = { λ e. record { dpid = e.dpid; control = e.control; forwarding = forwarding_of e.datapath.tables e.datapath.groups e.datapath.ports e.datapath.held } };
 
-    ghost invariant = { λ e. GroupsExist (forwarding_of e.plane.tables e.plane.groups e.plane.ports e.plane.held) };
+    ghost invariant = { λ e. GroupsExist (forwarding_of e.datapath.tables e.datapath.groups e.datapath.ports e.datapath.held) };
 }
 
 impl<L: Lookup> Engine<L> {
@@ -131,7 +128,7 @@ impl<L: Lookup> Engine<L> {
         Ok(Engine {
             dpid,
             control: Control::new(),
-            plane: Plane::new(alloc)?,
+            datapath: Datapath::new(alloc)?,
             alloc,
         })
     }
@@ -155,19 +152,19 @@ impl<L: Lookup> Engine<L> {
         ensures { self.new ≡ without_connection self.old }
     {
         self.control = self.control.released();
-        self.plane.held.forget();
+        self.datapath.held.forget();
     }
 
     pub fn has_port(&self, number: u32) -> bool
         ensures { result ≡ has_port number self.now.forwarding.ports }
     {
-        self.plane.ports.contains(number)
+        self.datapath.ports.contains(number)
     }
 
     pub fn has_all_ports(&self) -> bool
         ensures { result ≡ nat_le 64 (length self.now.forwarding.ports) }
     {
-        self.plane.ports.is_full()
+        self.datapath.ports.is_full()
     }
 
     /// Adds a port at the latest moment. The controller receives the asynchronous messages `heard`.
@@ -184,10 +181,10 @@ impl<L: Lookup> Engine<L> {
         ensures ok { IfOk result (λ effects. port_added heard (new_port number hw name is_up self.old.forwarding.tables.latest) self.old ≡ does effects.items self.new) }
         ensures err { OnErr result (self.new ≡ self.old) }
     {
-        let created = self.plane.tables.latest();
+        let created = self.datapath.tables.latest();
         let port = Port::new(number, hw, name, is_up, created);
         let effects = write_status(self.alloc, heard, PortStatusReason::Add, &port)?;
-        self.plane.ports.add(port)?;
+        self.datapath.ports.add(port)?;
         Ok(effects)
     }
 
@@ -196,11 +193,11 @@ impl<L: Lookup> Engine<L> {
         ensures ok { IfOk result (λ effects. removed_at heard number self.old (port_at self.old.forwarding.ports number) ≡ does effects.items self.new) }
         ensures err { OnErr result (self.new ≡ self.old) }
     {
-        let Some(port) = self.plane.ports.port(number) else {
+        let Some(port) = self.datapath.ports.port(number) else {
             return Ok(Effects::new(self.alloc));
         };
         let effects = write_status(self.alloc, heard, PortStatusReason::Delete, port)?;
-        self.plane.ports.remove(number);
+        self.datapath.ports.remove(number);
         Ok(effects)
     }
 
@@ -214,7 +211,7 @@ impl<L: Lookup> Engine<L> {
         ensures ok { IfOk result (λ effects. linked_at heard number is_link_up self.old (port_at self.old.forwarding.ports number) ≡ does effects.items self.new) }
         ensures err { OnErr result (self.new ≡ self.old) }
     {
-        let Some(port) = self.plane.ports.port(number) else {
+        let Some(port) = self.datapath.ports.port(number) else {
             return Ok(Effects::new(self.alloc));
         };
         let linked = Port {
@@ -222,7 +219,7 @@ impl<L: Lookup> Engine<L> {
             ..*port
         };
         let effects = write_change(self.alloc, heard, port, &linked)?;
-        self.plane.ports.set_link(number, is_link_up);
+        self.datapath.ports.set_link(number, is_link_up);
         Ok(effects)
     }
 
@@ -236,7 +233,7 @@ impl<L: Lookup> Engine<L> {
         ensures ok { IfOk result (λ effects. forwarded (framed heard number bytes.now self.old.forwarding) self.old ≡ does effects.items self.new) }
         ensures err { OnErr result (self.new ≡ self.old) }
     {
-        self.plane.frame(self.alloc, heard, number, bytes)
+        self.datapath.frame(self.alloc, heard, number, bytes)
     }
 
     /// What a frame that is received at a port would give, and its steps, with the asynchronous messages `heard`. Nothing changes.
@@ -252,21 +249,21 @@ impl<L: Lookup> Engine<L> {
         ensures bound { S.KEEPS ≡ true → length (S.list log.new) ≤ length (S.list log.old) + frame_step_bound }
         ensures err { OnErr result (S.KEEPS ≡ true → GainsPrefix (steps_in number bytes.now self.now.forwarding) (S.list log.old) (S.list log.new)) }
     {
-        self.plane.dry_run(self.alloc, heard, number, bytes, log)
+        self.datapath.dry_run(self.alloc, heard, number, bytes, log)
     }
 
     /// The tables and the groups have the invariants that the machine needs.
     pub fn known_world(&self)
         ensures { IsSound (world_of self.now.forwarding) }
     {
-        self.plane.known_world();
+        self.datapath.known_world();
     }
 
     /// The index by age of the entry of a table that wins for these fields.
     pub fn winner(&self, table: u8, key: &FieldKey) -> Option<usize>
         ensures { result ≡ winner_in self.now.forwarding table (value key.now) }
     {
-        self.plane.winner(table, key)
+        self.datapath.winner(table, key)
     }
 
     /// The entry of a table at an index by age, from 0.
@@ -274,7 +271,7 @@ impl<L: Lookup> Engine<L> {
         requires { table < 16 }
         ensures { option_map (λ e. entry_of e.now) result ≡ slice_get (table_at table self.now.forwarding.tables).flows place }
     {
-        self.plane.entry(table, place)
+        self.datapath.entry(table, place)
     }
 
     /// The entries of a table, oldest first.
@@ -283,7 +280,7 @@ impl<L: Lookup> Engine<L> {
         ensures flows { flows_of result ≡ (table_at table self.now.forwarding.tables).flows }
         ensures few { length result ≤ 4096 }
     {
-        self.plane.entries(table)
+        self.datapath.entries(table)
     }
 
     /// The classifier of a table, whose rows are its entries, oldest first.
@@ -291,21 +288,21 @@ impl<L: Lookup> Engine<L> {
         requires { table < 16 }
         ensures { AreRowsOf (table_at table self.now.forwarding.tables).flows (L.content result.now) }
     {
-        self.plane.part(table)
+        self.datapath.part(table)
     }
 
     /// The places of the buckets of a group that run; None where there is no such group.
     pub fn buckets_for(&self, group: u32) -> Option<Chosen>
         ensures { result ≡ (world_of self.now.forwarding).chosen group }
     {
-        self.plane.buckets_for(group)
+        self.datapath.buckets_for(group)
     }
 
     /// The ports, in ascending order of number.
     pub fn ports(&self) -> &[Port]
         ensures { result.now ≡ self.now.forwarding.ports }
     {
-        self.plane.ports.as_slice()
+        self.datapath.ports.as_slice()
     }
 
     /// Carries out a message of that transaction id, unless it is refused.
@@ -371,7 +368,7 @@ impl<L: Lookup> Engine<L> {
     fn multipart(&self, xid: u32, request: MultipartRequest) -> Result<Effects, Fault>
         ensures { Handles (first_of (multipart_refusals request self.now.forwarding.ports)) (replied xid request self.now) self.now result self.now }
     {
-        if asks_absent_port(&request, &self.plane.ports) {
+        if asks_absent_port(&request, &self.datapath.ports) {
             return Err(Fault::Refused(OFPBRC_BAD_PORT));
         }
         Ok(self.replies(xid, request)?)
@@ -381,12 +378,12 @@ impl<L: Lookup> Engine<L> {
     fn replies(&self, xid: u32, request: MultipartRequest) -> Result<Effects, AllocError>
         ensures { IfOk result (λ effects. effects.items ≡ map Effect.Answer (multipart_bytes xid request self.now.forwarding)) }
     {
-        let Plane {
+        let Datapath {
             tables,
             groups,
             ports,
             ..
-        } = &self.plane;
+        } = &self.datapath;
         let alloc = self.alloc;
         match request {
             MultipartRequest::Description => self.answer(description_reply(alloc, xid)?),
@@ -424,10 +421,10 @@ impl<L: Lookup> Engine<L> {
         };
         let frame = self.frame_of(packet_out.packet)?;
         let actions = packet_out.actions.as_slice();
-        if any_to_absent_group(actions, &self.plane.groups) {
+        if any_to_absent_group(actions, &self.datapath.groups) {
             return Err(Fault::Refused(OFPBAC_BAD_OUT_GROUP));
         }
-        let effects = self.plane.packet_out(
+        let effects = self.datapath.packet_out(
             self.alloc,
             self.control.heard_open(),
             packet_out.in_port,
@@ -448,7 +445,7 @@ impl<L: Lookup> Engine<L> {
     {
         match packet {
             PacketData::Frame(frame) => Ok(frame),
-            PacketData::Buffered(id) => match self.plane.held.frame(id) {
+            PacketData::Buffered(id) => match self.datapath.held.frame(id) {
                 Some(held) => Ok(Bytes::from_slice(self.alloc, held.frame())?),
                 None => Err(Fault::Refused(OFPBRC_BUFFER_UNKNOWN)),
             },
@@ -468,7 +465,7 @@ impl<L: Lookup> Engine<L> {
         if flow_mod.buffer == NO_BUFFER {
             return self.put_flows(flow_mod);
         }
-        if self.plane.held.frame(flow_mod.buffer).is_none() {
+        if self.datapath.held.frame(flow_mod.buffer).is_none() {
             return Err(Fault::Refused(OFPBRC_BUFFER_UNKNOWN));
         }
         self.put_and_begin(flow_mod)
@@ -484,12 +481,12 @@ impl<L: Lookup> Engine<L> {
         ensures { Handles (first_of (add_refusals flow_mod self.old.forwarding.tables)) (then_does (after_command flow_mod self.old) (begun flow_mod.buffer (held flow_mod.buffer self.old.forwarding.held))) self.old result self.new }
     {
         let id = flow_mod.buffer;
-        let mut before = self.plane.tables.copy_of(flow_mod.table)?;
+        let mut before = self.datapath.tables.copy_of(flow_mod.table)?;
         self.put_flows(flow_mod)?;
         match self.begin(id) {
             Ok(effects) => Ok(effects),
             Err(_) => {
-                self.plane.tables.swap(&mut before);
+                self.datapath.tables.swap(&mut before);
                 Err(Fault::Memory)
             }
         }
@@ -500,12 +497,12 @@ impl<L: Lookup> Engine<L> {
         ensures ok { IfOk result (λ effects. begun id (held id self.old.forwarding.held) self.old ≡ does effects.items self.new) }
         ensures err { OnErr result (self.new ≡ self.old) }
     {
-        let Some(held) = self.plane.held.frame(id) else {
+        let Some(held) = self.datapath.held.frame(id) else {
             return Ok(Effects::new(self.alloc));
         };
         let ingress = held.ingress();
         let frame = Bytes::from_slice(self.alloc, held.frame())?;
-        self.plane.start_held(
+        self.datapath.start_held(
             self.alloc,
             self.control.heard_open(),
             id,
@@ -539,7 +536,7 @@ impl<L: Lookup> Engine<L> {
     fn names_absent_group(&self, instructions: &InstructionList) -> bool
         ensures { result ≡ naming_absent_group self.now.forwarding.groups instructions.now }
     {
-        names_absent_group(instructions.as_slice(), &self.plane.groups)
+        names_absent_group(instructions.as_slice(), &self.datapath.groups)
     }
 
     fn add_flow(&mut self, flow_mod: FlowMod) -> Result<Effects, Fault>
@@ -549,7 +546,11 @@ impl<L: Lookup> Engine<L> {
         requires checked { all_go_with flow_mod.fields flow_mod.instructions ≡ true }
         ensures { Handles (first_of (add_refusals flow_mod self.old.forwarding.tables)) (after_command flow_mod self.old) self.old result self.new }
     {
-        match self.plane.tables.add(flow_mod.table, flow_from(flow_mod)) {
+        match self
+            .datapath
+            .tables
+            .add(flow_mod.table, flow_from(flow_mod))
+        {
             Ok(()) => Ok(Effects::new(self.alloc)),
             Err(TableFault::BadTable) => Err(Fault::Refused(OFPFMFC_BAD_TABLE_ID)),
             Err(TableFault::Overlap) => Err(Fault::Refused(OFPFMFC_OVERLAP)),
@@ -569,25 +570,25 @@ impl<L: Lookup> Engine<L> {
         let reset = has_flag(flow_mod.flags, 4);
         let instructions = flow_mod.instructions.copy()?;
         let which = which_from(flow_mod);
-        self.plane.tables.modify(&which, &instructions, reset)
+        self.datapath.tables.modify(&which, &instructions, reset)
     }
 
     fn delete_flows(&mut self, flow_mod: FlowMod) -> Result<Effects, AllocError>
         ensures ok { IfOk result (λ effects. does (notice_effects (heard_of self.old.control) self.old.forwarding.tables.latest (notices_in (Cause.Delete (selector_of flow_mod)) self.old.forwarding.tables)) (with_tables (left_in (Cause.Delete (selector_of flow_mod)) self.old.forwarding.tables) self.old) ≡ does effects.items self.new) }
         ensures err { OnErr result (self.new ≡ self.old) }
     {
-        let now = self.plane.tables.latest();
+        let now = self.datapath.tables.latest();
         let cause = Cause::Delete(which_from(flow_mod));
         let removal = self
-            .plane
+            .datapath
             .plan_removal(self.alloc, self.control.heard_open(), cause, now)?;
-        Ok(self.plane.carry_out(removal))
+        Ok(self.datapath.carry_out(removal))
     }
 
     fn port_mod(&mut self, port_mod: PortMod) -> Result<Effects, Fault>
         ensures { Handles (first_of (port_mod_refusals port_mod self.old.forwarding.ports)) (after_port_mod port_mod self.old) self.old result self.new }
     {
-        let Some(port) = self.plane.ports.port(port_mod.port) else {
+        let Some(port) = self.datapath.ports.port(port_mod.port) else {
             return Err(Fault::Refused(OFPPMFC_BAD_PORT));
         };
         if port.hw != port_mod.hw {
@@ -596,7 +597,7 @@ impl<L: Lookup> Engine<L> {
         let config = port.config.with(port_mod.config, port_mod.mask);
         let modified = Port { config, ..*port };
         let effects = write_change(self.alloc, self.control.heard_open(), port, &modified)?;
-        self.plane.ports.configure(port_mod.port, config);
+        self.datapath.ports.configure(port_mod.port, config);
         Ok(effects)
     }
 
@@ -618,8 +619,8 @@ impl<L: Lookup> Engine<L> {
         requires { id ≤ 0xffffff00 }
         ensures { Handles (first_of (refused_for (add_fault (new_group id kind buckets self.old.forwarding.tables.latest) self.old.forwarding.groups))) (group_added id kind buckets self.old) self.old result self.new }
     {
-        let now = self.plane.tables.latest();
-        self.plane.groups.add(id, kind, buckets, now)?;
+        let now = self.datapath.tables.latest();
+        self.datapath.groups.add(id, kind, buckets, now)?;
         Ok(Effects::new(self.alloc))
     }
 
@@ -627,7 +628,7 @@ impl<L: Lookup> Engine<L> {
         requires { id ≤ 0xffffff00 }
         ensures { Handles (first_of (refused_for (modify_fault (modified_group id kind buckets self.old.forwarding.groups) self.old.forwarding.groups))) (group_modified id kind buckets self.old) self.old result self.new }
     {
-        self.plane.groups.modify(id, kind, buckets)?;
+        self.datapath.groups.modify(id, kind, buckets)?;
         Ok(Effects::new(self.alloc))
     }
 
@@ -635,15 +636,15 @@ impl<L: Lookup> Engine<L> {
     fn delete_groups(&mut self, which: Option<u32>) -> Result<Effects, Fault>
         ensures { Handles (first_of (refused_for (delete_fault which self.old.forwarding.groups))) (groups_deleted which self.old) self.old result self.new }
     {
-        let now = self.plane.tables.latest();
-        let removal = self.plane.plan_removal(
+        let now = self.datapath.tables.latest();
+        let removal = self.datapath.plan_removal(
             self.alloc,
             self.control.heard_open(),
             Cause::Group(which),
             now,
         )?;
-        self.plane.groups.delete(which)?;
-        Ok(self.plane.carry_out(removal))
+        self.datapath.groups.delete(which)?;
+        Ok(self.datapath.carry_out(removal))
     }
 
     /// The groups and flows of a configuration replace those that are there.
@@ -652,10 +653,10 @@ impl<L: Lookup> Engine<L> {
         ensures err { OnErr result (self.new ≡ self.old) }
     {
         config.known();
-        let now = self.plane.tables.latest();
+        let now = self.datapath.tables.latest();
         let tables = load_tables(self.alloc, now, config)?;
-        self.plane.groups = config.to_groups(now)?;
-        self.plane.tables = tables;
+        self.datapath.groups = config.to_groups(now)?;
+        self.datapath.tables = tables;
         Ok(())
     }
 
@@ -663,7 +664,7 @@ impl<L: Lookup> Engine<L> {
     pub fn config(&self) -> Result<Config, AllocError>
         ensures { IfOk result (λ config. config ≡ configuration_of self.now.forwarding) }
     {
-        config_from(self.alloc, &self.plane)
+        config_from(self.alloc, &self.datapath)
     }
 
     /// The time is this many nanoseconds. The controller receives the asynchronous messages `heard`.
@@ -671,11 +672,11 @@ impl<L: Lookup> Engine<L> {
         ensures ok { IfOk result (λ effects. moment_done heard nanos self.old ≡ does effects.items self.new) }
         ensures err { OnErr result (self.new ≡ self.old) }
     {
-        let now = self.plane.tables.latest().max(nanos);
+        let now = self.datapath.tables.latest().max(nanos);
         let removal = self
-            .plane
+            .datapath
             .plan_removal(self.alloc, heard, Cause::Moment(nanos), now)?;
-        Ok(self.plane.carry_out(removal))
+        Ok(self.datapath.carry_out(removal))
     }
 }
 

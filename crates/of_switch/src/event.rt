@@ -1,6 +1,6 @@
-use crate::effect::Effects;
 use crate::port_change::PortChange;
 use crate::switch_error::SwitchError;
+use of_datapath::Effects;
 use of_wire::Bytes;
 
 /// What happens to a switch.

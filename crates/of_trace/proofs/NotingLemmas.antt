@@ -5,7 +5,7 @@ use Rattle.std.proofs.lemmas.Bool.{lt-ltb}
 use Rattle.std.proofs.lemmas.List.{append_assoc}
 use Rattle.of_layers.specs.declared.field.Field.{Field}
 use Rattle.of_table.specs.Tables.{table_at}
-use Rattle.of_switch.specs.Plane.{Forwarding}
+use Rattle.of_datapath.specs.Datapath.{Forwarding}
 use Rattle.of_trace.specs.declared.form.Asked.{Asked}
 use Rattle.of_trace.specs.Notes.{look_notes, table_notes}
 

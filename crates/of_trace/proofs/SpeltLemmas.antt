@@ -31,8 +31,8 @@ use Rattle.of_machine.proofs.Promises.{flow_served, list_served}
 use Rattle.of_machine.proofs.Sets.{run_set}
 use Rattle.of_machine.proofs.Weighing.{bounded}
 use Rattle.of_machine.proofs.Whole.{frame_fits, run_unfolds}
-use Rattle.of_switch.specs.Plane.{Forwarding, world_of}
-use Rattle.of_switch.specs.DryRun.{steps_in, arriving_steps, taken_in_steps}
+use Rattle.of_datapath.specs.Datapath.{Forwarding, world_of}
+use Rattle.of_datapath.specs.DryRun.{steps_in, arriving_steps, taken_in_steps}
 use Rattle.of_trace.specs.Spelt.{is_spelt, are_spelt}
 
 -- ---- work whose actions are those of flows

@@ -7,7 +7,7 @@ use Rattle.of_switch.specs.declared.port_change.PortChange.TheVariants.{Add}
 use Rattle.of_switch.specs.State.{State, start}
 use Rattle.of_switch.specs.Runs.{run}
 use Rattle.of_switch.specs.Steps.{frame_in}
-use Rattle.of_switch.specs.DryRun.{steps_in}
+use Rattle.of_datapath.specs.DryRun.{steps_in}
 use Rattle.of_switch.specs.Loading.{loaded}
 use Rattle.of_replay.specs.Told.{Answer, then_bytes, given}
 use Rattle.of_replay.specs.Transfer.{then_answers, WrotePrefix}

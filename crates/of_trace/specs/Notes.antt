@@ -23,8 +23,8 @@ use Rattle.of_text.specs.Lines.{ended, note}
 use Rattle.of_text.specs.declared.row.FlowHead.{FlowHead}
 use Rattle.of_text.specs.Rows.{spelling, value_word}
 use Rattle.of_text.specs.declared.row.Row.TheVariants as rows
-use Rattle.of_switch.specs.declared.effect.Effect.{Effect}
-use Rattle.of_switch.specs.Plane.{Forwarding, flow_in, world_of}
+use Rattle.of_datapath.specs.declared.effect.Effect.{Effect}
+use Rattle.of_datapath.specs.Datapath.{Forwarding, flow_in, world_of}
 use Rattle.of_replay.specs.Output.{text_of}
 use Rattle.of_trace.specs.declared.form.Asked.{Asked}
 use Rattle.of_trace.specs.declared.form.Asked.TheVariants.{Nothing, All, Priority}

@@ -7,7 +7,7 @@ use Rattle.of_actions.specs.declared.action.Action.TheVariants.{DecNwTtl}
 use Rattle.of_text.specs.Lines.{joined, ended}
 use Rattle.of_text.specs.Rows.{spelling}
 use Rattle.of_text.specs.declared.row.Row.TheVariants as rows
-use Rattle.of_switch.specs.declared.effect.Effect.{Effect}
+use Rattle.of_datapath.specs.declared.effect.Effect.{Effect}
 use Rattle.of_replay.specs.Output.{text_of}
 
 -- the entry of a table is named by its index by age, from 0

@@ -4,7 +4,7 @@ ghost use Rattle.std.specs.List.{AllByRecursion};
 ghost use Rattle.of_oxm.specs.NormalForm.{IsKept};
 ghost use Rattle.of_text.specs.Rows.{Fits, spelling};
 ghost use Rattle.of_headers.specs.FieldMap.{value};
-ghost use Rattle.of_switch.specs.Plane.{world_of};
+ghost use Rattle.of_datapath.specs.Datapath.{world_of};
 ghost use Rattle.of_table.specs.Tables.{table_at};
 ghost use Rattle.of_trace.specs.Spelt.{are_spelt, is_spelt};
 ghost use Rattle.of_trace.specs.Sights.{key_seen, sight_after, stepped};

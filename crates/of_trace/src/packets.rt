@@ -2,7 +2,7 @@
 ghost use Rattle.std.specs.Prelude.{◌≡◌, ◌++◌, ◌∷◌, IfOk, OnOk, replicate};
 ghost use Rattle.of_trace.specs.Notes.{entered};
 ghost use Rattle.of_trace.specs.Sights.{action_copies, after_step, output_copies, sight_after};
-ghost use Rattle.of_switch.specs.Plane.{world_of};
+ghost use Rattle.of_datapath.specs.Datapath.{world_of};
 
 use crate::sight::Sight;
 use of_actions::{Action, PORT_TABLE};

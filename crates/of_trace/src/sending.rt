@@ -1,7 +1,7 @@
 //! Notes on outputs and groups.
 ghost use Rattle.std.specs.Prelude.{◌≡◌, ◌++◌, OnOk};
 ghost use Rattle.std.specs.Option.{option_copied};
-ghost use Rattle.of_switch.specs.Plane.{world_of};
+ghost use Rattle.of_datapath.specs.Datapath.{world_of};
 ghost use Rattle.of_trace.specs.Notes.{bucket_notes, group_notes, is_many as goes_to_many, output_note, port_note, port_words};
 
 use crate::notes::push_number_note;

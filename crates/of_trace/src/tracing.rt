@@ -1,7 +1,7 @@
 //! Frames, traced.
 ghost use Rattle.std.specs.Prelude.{◌≡◌, ◌≤◌, IfOk, IfErr, length};
 ghost use Rattle.of_machine.specs.Weights.{frame_step_bound};
-ghost use Rattle.of_switch.specs.DryRun.{steps_in};
+ghost use Rattle.of_datapath.specs.DryRun.{steps_in};
 ghost use Rattle.of_switch.specs.Steps.{frame_in};
 
 use crate::traces::Trace;

@@ -1,6 +1,6 @@
 //! Traces to a sink.
 ghost use Rattle.std.specs.Prelude.{◌≡◌, ◌↔◌, ◌<◌};
-ghost use Rattle.of_switch.specs.DryRun.{steps_in};
+ghost use Rattle.of_datapath.specs.DryRun.{steps_in};
 ghost use Rattle.of_switch.specs.Steps.{frame_in};
 ghost use Rattle.of_trace.specs.Notes.{said};
 ghost use Rattle.of_trace.specs.Writing.{WritesText};

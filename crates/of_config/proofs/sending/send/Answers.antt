@@ -1,7 +1,7 @@
 use Rattle.std.proofs.Common.{Option, sym, ◌∙◌, ap}
 use Rattle.std.specs.Option.{option_map}
 use Rattle.smallvec.specs.SmallVec.{SmallVec}
-use Rattle.of_switch.specs.declared.effect.Effect.{Effect}
+use Rattle.of_datapath.specs.declared.effect.Effect.{Effect}
 use Rattle.of_switch.specs.Steps.{Outcome, gives}
 use Rattle.of_config.specs.Sending.{error_in}
 use Rattle.of_config.proofs.SendingLemmas.{IsSent, receives, sent_is}

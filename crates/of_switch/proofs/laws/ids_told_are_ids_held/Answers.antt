@@ -1,5 +1,5 @@
-use Rattle.of_switch.proofs.HeldIds.{told, found, whole, ids, distinct, next_is}
-use Rattle.of_switch.specs.Told.{given}
+use Rattle.of_datapath.proofs.HeldIds.{told, found, whole, ids, distinct, next_is}
+use Rattle.of_datapath.specs.Told.{given}
 use Rattle.of_switch.proofs.laws.ids_told_are_ids_held.Goals as goal
 
 pub returns-clause-told : goal.returns-clause-told

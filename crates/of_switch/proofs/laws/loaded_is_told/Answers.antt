@@ -1,4 +1,4 @@
-use Rattle.of_switch.proofs.ConfiguringLemmas.{told_again}
+use Rattle.of_switch.proofs.ToldAgain.{told_again}
 use Rattle.of_switch.proofs.laws.loaded_is_told.Goals as goal
 
 pub returns : goal.returns

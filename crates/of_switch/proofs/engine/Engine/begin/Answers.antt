@@ -1,17 +1,17 @@
 use Rattle.std.proofs.Common.{◌∙◌, sym, refl}
 use Rattle.std.proofs.lemmas.Result.{IfOk-weaker}
 use Rattle.of_buffers.specs.Buffers.{used}
-use Rattle.of_switch.specs.Numbers.{forwarding_of}
+use Rattle.of_datapath.specs.Numbers.{forwarding_of}
 use Rattle.of_switch.proofs.HeldHandling.{begun_is}
-use Rattle.of_switch.proofs.StandingLemmas.{held_stands, through_stands}
+use Rattle.of_datapath.proofs.StandingLemmas.{held_stands, through_stands}
 use Rattle.of_switch.proofs.StandingSteps.{called_stands}
 use Rattle.of_switch.proofs.engine.Engine.begin.Goals as goal
 
 pub invariant_of-self : goal.invariant_of-self
 invariant_of-self g c =
-    let plane = c.self.inside.plane in
-    let before = forwarding_of plane.tables plane.groups plane.ports plane.held in
-    called_stands c.start_held.result _ _ _ _ _ _ _ _ _ c.start_held.ensures.ok c.start_held.ensures.err (through_stands c.heard_open.result _ _ _ (held_stands (used c.args.id plane.held) before c.self.invariant)) c.self.invariant
+    let datapath = c.self.inside.datapath in
+    let before = forwarding_of datapath.tables datapath.groups datapath.ports datapath.held in
+    called_stands c.start_held.result _ _ _ _ _ _ _ _ _ c.start_held.ensures.ok c.start_held.ensures.err (through_stands c.heard_open.result _ _ _ (held_stands (used c.args.id datapath.held) before c.self.invariant)) c.self.invariant
 
 pub returns-clause-ok : goal.returns-clause-ok
 returns-clause-ok g c =

@@ -1,11 +1,11 @@
-use Rattle.of_switch.specs.Numbers.{forwarding_of}
-use Rattle.of_switch.specs.Plane.{framed}
-use Rattle.of_switch.proofs.StandingLemmas.{framed_stands}
+use Rattle.of_datapath.specs.Numbers.{forwarding_of}
+use Rattle.of_datapath.specs.Datapath.{framed}
+use Rattle.of_datapath.proofs.StandingLemmas.{framed_stands}
 use Rattle.of_switch.proofs.StandingSteps.{called_stands}
 use Rattle.of_switch.proofs.engine.Engine.frame.Goals as goal
 
 pub invariant_of-self : goal.invariant_of-self
 invariant_of-self g c =
-    let f = c.self.inside.plane in
+    let f = c.self.inside.datapath in
     let before = forwarding_of f.tables f.groups f.ports f.held in
     called_stands c.frame.result (framed c.args.heard c.args.number c.args.bytes.now before) _ _ _ _ _ _ _ _ c.frame.ensures.ok c.frame.ensures.err (framed_stands c.args.heard c.args.number c.args.bytes.now before c.self.invariant) c.self.invariant

@@ -1,4 +1,4 @@
-use Rattle.of_switch.proofs.StandingLemmas.{loaded_stands}
+use Rattle.of_datapath.proofs.StandingLemmas.{loaded_stands}
 use Rattle.of_switch.proofs.engine.Engine.load.Goals as goal
 
 pub invariant_of-self : goal.invariant_of-self

@@ -1,22 +1,22 @@
 use Rattle.std.proofs.Common.{◌≡◌, refl}
-use Rattle.of_switch.specs.Commands.{without_packet}
-use Rattle.of_switch.specs.Numbers.{forwarding_of}
-use Rattle.of_switch.specs.Applying.{without_used}
+use Rattle.of_datapath.specs.Commands.{without_packet}
+use Rattle.of_datapath.specs.Numbers.{forwarding_of}
+use Rattle.of_datapath.specs.Applying.{without_used}
 use Rattle.of_switch.proofs.HeldHandling.{out_is}
-use Rattle.of_switch.proofs.StandingLemmas.{held_stands, through_stands}
+use Rattle.of_datapath.proofs.StandingLemmas.{held_stands, through_stands}
 use Rattle.of_switch.proofs.StandingSteps.{called_stands}
 use Rattle.of_switch.proofs.engine.Engine.packet_out.Goals as goal
 use Rattle.of_switch.proofs.engine.Engine.packet_out.Goals.{in-Buffered, in-Frame}
 
 pub invariant_of-self-2 : goal.invariant_of-self-2
 invariant_of-self-2 g c =
-    let plane = c.self.inside.plane in
-    let before = forwarding_of plane.tables plane.groups plane.ports plane.held in
+    let datapath = c.self.inside.datapath in
+    let before = forwarding_of datapath.tables datapath.groups datapath.ports datapath.held in
     called_stands c.packet_out.result _ _ _ _ _ _ _ _ _ c.packet_out.ensures.ok c.packet_out.ensures.err (through_stands c.heard_open.result _ _ _ (held_stands _ before c.self.invariant)) c.self.invariant
 
 pub returns : goal.returns
 returns g c =
-    let held = c.self.inside.plane.held in
+    let held = c.self.inside.datapath.held in
     let uses : without_used c.match-packet_out.used held ≡ without_packet c.args.packet_out.packet held =
     elim c.match-packet_out.branch [
       | in-Buffered w ↦ rw (w.used-is, w.in-Buffered.is) refl

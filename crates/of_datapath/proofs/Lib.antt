@@ -1,0 +1,13 @@
+pub mod PlaceNumbers
+pub mod GroupWorlds
+pub mod Worlds
+pub mod Looking
+pub mod Prefixes
+pub mod Hearing
+pub mod Tallying
+pub mod Telling
+pub mod Forwarding
+pub mod LoadLemmas
+pub mod StandingLemmas
+pub mod ConfiguringLemmas
+pub mod HeldIds

@@ -1,0 +1,13 @@
+pub mod Control
+pub mod Told
+pub mod Datapath
+pub mod Numbers
+pub mod DryRun
+pub mod Applying
+pub mod Commands
+pub mod PortStatus
+pub mod Roles
+pub mod Statistics
+pub mod Loading
+pub mod Standing
+pub mod Configuring

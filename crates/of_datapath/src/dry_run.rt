@@ -1,0 +1,210 @@
+//! What a frame would do, found without changing anything.
+ghost use Rattle.std.specs.Prelude.{◌≡◌, ◌<◌, ◌≤◌, ◌+◌, ◌++◌, ◌∷◌, [], true, IfOk, OnOk, OnErr, length, slice_get};
+ghost use Rattle.std.specs.Option.{option_copied, option_map};
+ghost use Rattle.of_headers.specs.FieldMap.{value};
+ghost use Rattle.of_table.specs.Entries.{entry_of, flows_of, place_of as place_of_number};
+ghost use Rattle.of_table.specs.Tables.{table_at, tables_of};
+ghost use Rattle.of_table.specs.Sound.{AreRowsOf};
+ghost use Rattle.of_datapath.specs.Numbers.{Contents, contents, forwarding_of};
+ghost use Rattle.of_datapath.specs.Datapath.{framed, winner_in, world_of};
+ghost use Rattle.of_datapath.specs.DryRun.{GainsPrefix, received_steps, steps_in};
+ghost use Rattle.of_machine.specs.Sound.{IsSound};
+ghost use Rattle.of_machine.specs.Rows.{Lookup as LookUp, entering};
+ghost use Rattle.of_machine.specs.Weights.{frame_step_bound};
+ghost use Rattle.of_machine.specs.Runs.{run_of};
+ghost use Rattle.of_datapath.specs.Told.{effects_of};
+
+use crate::control::AsyncConfig;
+use crate::datapath::{Datapath, TABLES, known_groups};
+use crate::effect::Effects;
+use crate::told::told_from;
+use of_actions::Action;
+use of_classifier::Lookup;
+use of_groups::Chosen;
+use of_headers::{FieldKey, check_length};
+use of_machine::{Packet, PacketFrame, StepLog, World, run};
+use of_ports::Port;
+use of_table::{Entries, Entry, Flow};
+use std::alloc::{AllocError, Global};
+
+/// The tables, the groups and the ports, only borrowed: entries are found by `peek`, and named by their index by age.
+#[derive(Drop)]
+struct Looking<'a, L: Lookup> {
+    datapath: &'a Datapath<L>,
+}
+
+// The place of the entry of that number, from 0; how many there are where none has it.
+fn place_of(entries: Entries<'_>, number: usize) -> usize
+    requires { length entries ≤ 4096 }
+    ensures { result ≡ place_of_number number entries.entry }
+{
+    let mut left = entries;
+    let mut place = 0;
+    while let Some(entry) = left.next() {
+        if entry.number == number {
+            return place;
+        }
+        place += 1;
+    }
+    place
+}
+
+// The entry at a place, from 0.
+fn entry_at<'a>(entries: Entries<'a>, place: usize) -> Option<&'a Entry>
+    ensures { option_copied result ≡ slice_get entries.entry place }
+{
+    let mut left = entries;
+    let mut ahead = place;
+    while ahead > 0 {
+        left.next()?;
+        ahead -= 1;
+    }
+    left.next()
+}
+
+impl<L: Lookup> World for Looking<'_, L> {
+    ghost view = { λ w. world_of (forwarding_of w.datapath.now.tables w.datapath.now.groups w.datapath.now.ports w.datapath.now.held) };
+
+    ghost Content = { Contents };
+
+    ghost content = { λ w. contents w.datapath.now.tables w.datapath.now.groups w.datapath.now.ports w.datapath.now.held };
+
+    fn find(&mut self, table: u8, key: &FieldKey) -> Option<usize> {
+        self.datapath.tables.known();
+        if (table as usize) < TABLES {
+            let number = self.datapath.tables.peek(table, key)?;
+            Some(place_of(self.datapath.tables.entries(table), number))
+        } else {
+            None
+        }
+    }
+
+    fn flow(&self, table: u8, place: usize) -> &Flow {
+        self.datapath.tables.known();
+        match entry_at(self.datapath.tables.entries(table), place) {
+            Some(entry) => &entry.flow,
+            None => unreachable!(),
+        }
+    }
+
+    fn chosen(&self, group: u32) -> Option<Chosen> {
+        self.datapath.chosen(group)
+    }
+
+    fn bucket(&self, group: u32, place: u8) -> &[Action] {
+        self.datapath.bucket(group, place)
+    }
+
+    fn ports(&self) -> &[Port] {
+        self.datapath.ports.as_slice()
+    }
+
+    fn known(&self) {
+        self.datapath.tables.known();
+        known_groups(&self.datapath.groups);
+        self.datapath.ports.as_slice();
+    }
+}
+
+impl<L: Lookup> Datapath<L> {
+    /// The tables and the groups have the invariants that the machine needs.
+    pub fn known_world(&self)
+        ensures { IsSound (world_of (forwarding_of self.now.tables self.now.groups self.now.ports self.now.held)) }
+    {
+        Looking { datapath: self }.known();
+    }
+
+    /// The index by age of the entry of a table that wins for these fields (OpenFlow 1.3.5, 5.3).
+    pub fn winner(&self, table: u8, key: &FieldKey) -> Option<usize>
+        ensures { result ≡ winner_in (forwarding_of self.now.tables self.now.groups self.now.ports self.now.held) table (value key.now) }
+    {
+        let mut world = Looking { datapath: self };
+        world.find(table, key)
+    }
+
+    /// The entry of a table at an index by age, from 0.
+    pub fn entry(&self, table: u8, place: usize) -> Option<&Entry>
+        requires { table < 16 }
+        ensures { option_map (λ e. entry_of e.now) result ≡ slice_get (table_at table (tables_of self.now.tables)).flows place }
+    {
+        entry_at(self.tables.entries(table), place)
+    }
+
+    /// The entries of a table, oldest first.
+    pub fn entries(&self, table: u8) -> Entries<'_>
+        requires { table < 16 }
+        ensures flows { flows_of result ≡ (table_at table (tables_of self.now.tables)).flows }
+        ensures few { length result ≤ 4096 }
+    {
+        self.tables.known();
+        self.tables.entries(table)
+    }
+
+    /// The classifier of a table, whose rows are its entries, oldest first.
+    pub fn part(&self, table: u8) -> &L
+        requires { table < 16 }
+        ensures { AreRowsOf (table_at table (tables_of self.now.tables)).flows (L.content result.now) }
+    {
+        self.tables.part(table)
+    }
+
+    /// The places of the buckets of a group that run; None where there is no such group (OpenFlow 1.3.5, 5.6.1).
+    pub fn buckets_for(&self, group: u32) -> Option<Chosen>
+        ensures { result ≡ (world_of (forwarding_of self.now.tables self.now.groups self.now.ports self.now.held)).chosen group }
+    {
+        self.groups.buckets_for(group, &self.ports)
+    }
+
+    /// What a frame that is received at a port would give, and its steps (OpenFlow 1.3.5, 5.1), with these asynchronous messages.
+    pub fn dry_run<S: StepLog>(
+        &self,
+        alloc: Global,
+        heard: AsyncConfig,
+        number: u32,
+        bytes: &[u8],
+        log: &mut S,
+    ) -> Result<Effects, AllocError>
+        ensures effects { IfOk result (λ effects. effects.items ≡ (framed heard number bytes.now (forwarding_of self.now.tables self.now.groups self.now.ports self.now.held)).effects) }
+        ensures steps { OnOk result (S.KEEPS ≡ true → S.list log.new ≡ S.list log.old ++ steps_in number bytes.now (forwarding_of self.now.tables self.now.groups self.now.ports self.now.held)) }
+        ensures bound { S.KEEPS ≡ true → length (S.list log.new) ≤ length (S.list log.old) + frame_step_bound }
+        ensures err { OnErr result (S.KEEPS ≡ true → GainsPrefix (steps_in number bytes.now (forwarding_of self.now.tables self.now.groups self.now.ports self.now.held)) (S.list log.old) (S.list log.new)) }
+    {
+        let Some(port) = self.ports.port(number) else {
+            return Ok(Effects::new(alloc));
+        };
+        if !port.may_receive() || check_length(bytes).is_err() {
+            return Ok(Effects::new(alloc));
+        }
+        self.dry_run_received(alloc, heard, number, bytes, log)
+    }
+
+    // A received frame.
+    fn dry_run_received<S: StepLog>(
+        &self,
+        alloc: Global,
+        heard: AsyncConfig,
+        number: u32,
+        bytes: &[u8],
+        log: &mut S,
+    ) -> Result<Effects, AllocError>
+        requires long { 14 ≤ length bytes.now }
+        requires most { length bytes.now ≤ 9216 }
+        ensures effects { IfOk result (λ effects. effects.items ≡ effects_of heard self.now.ports self.now.held (run_of (world_of (forwarding_of self.now.tables self.now.groups self.now.ports self.now.held)) (entering bytes.now number) (LookUp 0 ∷ [])).items) }
+        ensures steps { OnOk result (S.KEEPS ≡ true → S.list log.new ≡ S.list log.old ++ received_steps number bytes.now (forwarding_of self.now.tables self.now.groups self.now.ports self.now.held)) }
+        ensures bound { S.KEEPS ≡ true → length (S.list log.new) ≤ length (S.list log.old) + frame_step_bound }
+        ensures err { OnErr result (S.KEEPS ≡ true → GainsPrefix (received_steps number bytes.now (forwarding_of self.now.tables self.now.groups self.now.ports self.now.held)) (S.list log.old) (S.list log.new)) }
+    {
+        let mut world = Looking { datapath: self };
+        world.known();
+        let packet = Packet::new(PacketFrame::new(bytes), number);
+        let outcome = run(alloc, &mut world, packet, log)?;
+        let told = told_from(
+            alloc,
+            heard,
+            &self.ports,
+            self.held.next_id(),
+            outcome.items,
+        )?;
+        Ok(told.effects)
+    }
+}

@@ -1,5 +1,0 @@
-use Rattle.of_switch.proofs.Tallying.{sent_more}
-use Rattle.of_switch.proofs.plane.Plane.count_sent.Goals as goal
-
-pub loop-effect-preserved : goal.loop-effect-preserved
-loop-effect-preserved g c = sent_more c.args.effects.now c.loop-effect.effect-index _ c.effect-item.result _ _ _ c.loop-effect-test.true c.effect-item.is c.loop-effect.invariant c.count_effect.ensures
