@@ -9,7 +9,7 @@ use Rattle.of_actions.specs.declared.action.Action.{Action}
 use Rattle.of_actions.specs.declared.instruction.Instruction.{Instruction}
 use Rattle.of_actions.specs.InstructionLists.{are_kept}
 use Rattle.of_actions.specs.Supported.{is_supported, are_supported}
-use Rattle.of_text.specs.declared.row.Row.TheVariants as rows
+use Rattle.of_lines.specs.declared.row.Row.TheVariants as rows
 use Rattle.of_text.specs.Rows.{Fits}
 use Rattle.of_text.specs.Flows.{step_rows}
 use Rattle.of_text.specs.Kept.{KeptFlow, IsKeptFlow, step_of}

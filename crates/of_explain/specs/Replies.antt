@@ -6,8 +6,8 @@ use Rattle.of_formats.specs.Structs.{size}
 use Rattle.of_formats.specs.Tables as tables
 use Rattle.of_oxm.specs.declared.match_field.MatchField.{MatchField}
 use Rattle.of_oxm.specs.MatchReading.{match_of}
-use Rattle.of_text.specs.declared.row.Row.{Row}
-use Rattle.of_text.specs.declared.row.Row.TheVariants as rows
+use Rattle.of_lines.specs.declared.row.Row.{Row}
+use Rattle.of_lines.specs.declared.row.Row.TheVariants as rows
 use Rattle.of_text.specs.Lines.{ended}
 use Rattle.of_explain.specs.declared.fields.Form.TheVariants.{Plainly, Named, InHex}
 use Rattle.of_explain.specs.declared.names.Names.TheVariants.{GroupTypes}

@@ -12,8 +12,8 @@ use Rattle.of_messages.specs.declared.multipart.MultipartRequest.{MultipartReque
 use Rattle.of_messages.specs.declared.multipart.MultipartRequest.TheVariants.{Flow, Aggregate}
 use Rattle.of_messages.specs.Messages.{message_of}
 use Rattle.of_session.specs.Stream.{First, Whole, Bad, Partial, beginning_of}
-use Rattle.of_text.specs.declared.row.Row.{Row}
-use Rattle.of_text.specs.declared.row.Row.TheVariants as rows
+use Rattle.of_lines.specs.declared.row.Row.{Row}
+use Rattle.of_lines.specs.declared.row.Row.TheVariants as rows
 use Rattle.of_text.specs.Rows.{spelling}
 use Rattle.of_text.specs.Flows.{step_rows}
 use Rattle.of_text.specs.Groups.{TextGroup, bucket_text, group_rows}

@@ -7,10 +7,10 @@ use Rattle.of_actions.specs.declared.action.Action.{Action}
 use Rattle.of_actions.specs.Rising.{is_ascending}
 use Rattle.of_text.specs.declared.flow.FlowText.{FlowText}
 use Rattle.of_text.specs.declared.group.GroupText.{GroupText}
-use Rattle.of_text.specs.declared.order.Place.{Place}
-use Rattle.of_text.specs.declared.order.Place.TheVariants.{Start, InGroup, InBucket, InFlow}
-use Rattle.of_text.specs.declared.row.Row.{Row}
-use Rattle.of_text.specs.declared.row.Row.TheVariants as rows
+use Rattle.of_lines.specs.declared.order.Place.{Place}
+use Rattle.of_lines.specs.declared.order.Place.TheVariants.{Start, InGroup, InBucket, InFlow}
+use Rattle.of_lines.specs.declared.row.Row.{Row}
+use Rattle.of_lines.specs.declared.row.Row.TheVariants as rows
 use Rattle.of_text.specs.Flows.{text_rows}
 use Rattle.of_text.specs.Groups.{TextBucket, TextGroup, bucket_rows, group_rows, rows_of_groups}
 use Rattle.of_text.specs.Order.{start, following, standing}

@@ -12,8 +12,8 @@ use Rattle.of_layers.proofs.Table.{value_below, number_below}
 use Rattle.of_oxm.specs.declared.match_field.MatchField.{MatchField}
 use Rattle.of_actions.specs.declared.action.Action.{Action}
 use Rattle.of_actions.specs.declared.action.Action.TheVariants as actions
-use Rattle.of_text.specs.declared.row.Row.{Row}
-use Rattle.of_text.specs.declared.row.Row.TheVariants as rows
+use Rattle.of_lines.specs.declared.row.Row.{Row}
+use Rattle.of_lines.specs.declared.row.Row.TheVariants as rows
 use Rattle.of_text.specs.Flows.{Flow, Step, Apply, Clear, Write, Metadata, Goto, flow_rows, step_rows}
 use Rattle.of_text.specs.Rows.{Fits, FieldFits, ActionFits, HeadFits, IsMask}
 use Rattle.of_text.specs.Order.{flow_next, flow_standing}

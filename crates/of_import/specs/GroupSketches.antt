@@ -5,7 +5,7 @@ use Rattle.std.specs.Str.{bytes_eq}
 use Rattle.of_actions.specs.declared.action.Action.{Action}
 use Rattle.of_groups.specs.declared.group.GroupKind.{GroupKind}
 use Rattle.of_groups.specs.declared.group.GroupKind.TheVariants.{All, Indirect, FastFailover}
-use Rattle.of_text.specs.declared.row.BucketHead.{BucketHead}
+use Rattle.of_lines.specs.declared.row.BucketHead.{BucketHead}
 use Rattle.of_text.specs.Groups.{TextBucket, TextGroup}
 use Rattle.of_import.specs.declared.why.Why.{Why}
 use Rattle.of_import.specs.declared.why.Why.TheVariants as whys

@@ -3,7 +3,7 @@ use Rattle.std.specs.Prelude.{ℕ, ◌^◌, ◌==◌, Bool, true, false, List, [
 use Rattle.std.specs.Str.{bytes_eq}
 use Rattle.of_oxm.specs.declared.match_field.MatchField.{MatchField}
 use Rattle.of_actions.specs.declared.action.Action.{Action}
-use Rattle.of_text.specs.declared.row.FlowHead.{FlowHead}
+use Rattle.of_lines.specs.declared.row.FlowHead.{FlowHead}
 use Rattle.of_text.specs.Flows.{Flow, Step, Apply, Clear, Write, Metadata, Goto}
 use Rattle.of_text.specs.Lines.{before, behind}
 use Rattle.of_import.specs.declared.why.Why.{Why}

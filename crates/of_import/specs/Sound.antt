@@ -1,7 +1,7 @@
 -- A FLOW WHOSE LINES MAY STAND IN A FLOW TEXT: each number fits its place, and its fields and instructions are in order.
 use Rattle.std.specs.Prelude.{ℕ, List, ◌++◌, map, IsSome}
 use Rattle.std.specs.List.{AllByRecursion, flat_map}
-use Rattle.of_text.specs.declared.row.Row.TheVariants as rows
+use Rattle.of_lines.specs.declared.row.Row.TheVariants as rows
 use Rattle.of_text.specs.Flows.{Flow, flow_rows, step_rows}
 use Rattle.of_text.specs.Groups.{TextGroup, group_rows}
 use Rattle.of_text.specs.Order.{flow_standing}

@@ -8,16 +8,16 @@ use Rattle.std.proofs.lemmas.List.{append-nil}
 use Rattle.std.proofs.lemmas.List.Elements.{filter-append}
 use Rattle.of_wire.specs.declared.code.Code.{Code}
 use Rattle.of_wire.specs.Refusals.{first_of}
-use Rattle.of_text.specs.declared.row.Row.{Row}
-use Rattle.of_text.specs.declared.row.Row.TheVariants as rows
-use Rattle.of_text.specs.Lines.{lines_of}
-use Rattle.of_text.specs.Rows.{Fits}
-use Rattle.of_text.specs.declared.order.Place.{Place}
-use Rattle.of_text.specs.declared.order.Place.TheVariants.{Start, InGroup, InBucket, InFlow}
-use Rattle.of_text.specs.declared.row.FlowHead.{FlowHead}
+use Rattle.of_lines.specs.declared.row.Row.{Row}
+use Rattle.of_lines.specs.declared.row.Row.TheVariants as rows
+use Rattle.of_lines.specs.Lines.{lines_of}
+use Rattle.of_lines.specs.Rows.{Fits}
+use Rattle.of_lines.specs.declared.order.Place.{Place}
+use Rattle.of_lines.specs.declared.order.Place.TheVariants.{Start, InGroup, InBucket, InFlow}
+use Rattle.of_lines.specs.declared.row.FlowHead.{FlowHead}
 use Rattle.of_text.specs.Groups.{TextGroup, rows_of_groups}
-use Rattle.of_text.specs.Reading.{◌>>=◌}
-use Rattle.of_text.specs.Order.{start, following, standing, flow_next, flow_standing}
+use Rattle.of_lines.specs.Reading.{◌>>=◌}
+use Rattle.of_lines.specs.Order.{start, following, standing, flow_next, flow_standing}
 use Rattle.of_text.specs.Flows.{Flow, flow_rows, rows_of, step_rows, text_rows}
 use Rattle.of_text.specs.Refusals.{all_there, flow_refusals, table_refusals}
 use Rattle.of_text.specs.Texts.{AreRows}

@@ -25,11 +25,11 @@ use Rattle.of_actions.specs.Supported.{is_supported, are_supported}
 use Rattle.of_actions.specs.Rising.{is_ascending}
 use Rattle.of_actions.specs.InstructionLists.{is_served_body, is_for, are_for, run_place}
 use Rattle.of_actions.specs.FlowCheck.{all_go_with}
-use Rattle.of_text.specs.declared.row.Row.{Row}
-use Rattle.of_text.specs.declared.row.Row.TheVariants as rows
-use Rattle.of_text.specs.Rows.{Fits, ActionFits, FieldFits, IsMask}
-use Rattle.of_text.specs.Order.{flow_next, flow_standing}
-use Rattle.of_text.specs.Reading.{◌>>=◌}
+use Rattle.of_lines.specs.declared.row.Row.{Row}
+use Rattle.of_lines.specs.declared.row.Row.TheVariants as rows
+use Rattle.of_lines.specs.Rows.{Fits, ActionFits, FieldFits, IsMask}
+use Rattle.of_lines.specs.Order.{flow_next, flow_standing}
+use Rattle.of_lines.specs.Reading.{◌>>=◌}
 use Rattle.of_text.specs.Groups.{TextGroup}
 use Rattle.of_text.specs.Flows.{Step, Apply, Clear, Write, Metadata, Goto, Flow, step_rows}
 use Rattle.of_text.specs.Refusals.{field_refusals, action_refusals, list_refusals, step_refusals, goto_refusals, goes_with, match_refusals, steps_refusals, flow_refusals, table_refusals, or_else}

@@ -17,13 +17,13 @@ use Rattle.of_groups.specs.Chains.{chain, leads}
 use Rattle.of_groups.specs.Faults.{is_absent, is_bad_watch, is_not_one}
 use Rattle.of_groups.specs.Sound.{is_fit_group, is_whole}
 use Rattle.of_groups.proofs.ChainLemmas.{not_long}
-use Rattle.of_text.specs.declared.order.Place.{Place}
-use Rattle.of_text.specs.declared.order.Place.TheVariants.{InGroup, InBucket}
-use Rattle.of_text.specs.declared.row.Row.{Row}
-use Rattle.of_text.specs.declared.row.Row.TheVariants as rows
-use Rattle.of_text.specs.Rows.{Fits}
-use Rattle.of_text.specs.Order.{start, following, standing}
-use Rattle.of_text.specs.Reading.{◌>>=◌}
+use Rattle.of_lines.specs.declared.order.Place.{Place}
+use Rattle.of_lines.specs.declared.order.Place.TheVariants.{InGroup, InBucket}
+use Rattle.of_lines.specs.declared.row.Row.{Row}
+use Rattle.of_lines.specs.declared.row.Row.TheVariants as rows
+use Rattle.of_lines.specs.Rows.{Fits}
+use Rattle.of_lines.specs.Order.{start, following, standing}
+use Rattle.of_lines.specs.Reading.{◌>>=◌}
 use Rattle.of_text.specs.Groups.{TextBucket, TextGroup, bucket_rows, group_rows, rows_of_groups, bucket_of, buckets_of, group_at, groups_at}
 use Rattle.of_text.specs.Flows.{text_rows}
 use Rattle.of_text.specs.Texts.{AreRows}

@@ -12,7 +12,7 @@ use Rattle.of_groups.specs.Chains.{chain}
 use Rattle.of_groups.specs.Faults.{is_absent}
 use Rattle.of_text.specs.declared.group.BucketText.{BucketText}
 use Rattle.of_text.specs.declared.group.GroupText.{GroupText}
-use Rattle.of_text.specs.Rows.{Fits}
+use Rattle.of_lines.specs.Rows.{Fits}
 use Rattle.of_text.specs.Groups.{TextBucket, TextGroup, group_rows, buckets_of, group_at}
 use Rattle.of_text.specs.Refusals.{or_else, list_refusals, buckets_refusals, group_refusals, counted_as, there_from, all_there, naming_refusals}
 use Rattle.of_text.specs.First.{refused_group}

@@ -6,8 +6,8 @@ use Rattle.std.proofs.lemmas.Bool.{and_parts}
 use Rattle.std.proofs.lemmas.List.{map-append}
 use Rattle.of_groups.specs.declared.bucket.Bucket.{Bucket}
 use Rattle.of_groups.specs.Buckets.{are_fit, is_fit}
-use Rattle.of_text.specs.declared.row.Row.{Row}
-use Rattle.of_text.specs.Rows.{Fits}
+use Rattle.of_lines.specs.declared.row.Row.{Row}
+use Rattle.of_lines.specs.Rows.{Fits}
 use Rattle.of_text.proofs.TextLemmas.{all_front, all_back, all_both}
 
 -- one more element, which is seen as the next one is

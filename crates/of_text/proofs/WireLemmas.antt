@@ -19,7 +19,7 @@ use Rattle.of_actions.specs.SetField.{settable, set_field_at, set_value_at, set_
 use Rattle.of_actions.specs.Actions.{type_refusals}
 use Rattle.of_actions.specs.Actions as actions
 use Rattle.of_actions.specs.CanonicalActions.{canonical_action, canonical_set_field}
-use Rattle.of_text.specs.Rows.{ActionFits, FieldFits, IsMask}
+use Rattle.of_lines.specs.Rows.{ActionFits, FieldFits, IsMask}
 use Rattle.of_text.specs.Refusals.{field_refusals, action_refusals}
 
 -- ---- a field of a match

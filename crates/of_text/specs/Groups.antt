@@ -4,10 +4,10 @@ use Rattle.std.specs.List.{flat_map}
 use Rattle.of_actions.specs.declared.action.Action.{Action}
 use Rattle.of_groups.specs.declared.bucket.Bucket.{Bucket}
 use Rattle.of_groups.specs.declared.group.Group.{Group}
-use Rattle.of_text.specs.declared.row.BucketHead.{BucketHead}
-use Rattle.of_text.specs.declared.row.GroupHead.{GroupHead}
-use Rattle.of_text.specs.declared.row.Row.{Row}
-use Rattle.of_text.specs.declared.row.Row.TheVariants as rows
+use Rattle.of_lines.specs.declared.row.BucketHead.{BucketHead}
+use Rattle.of_lines.specs.declared.row.GroupHead.{GroupHead}
+use Rattle.of_lines.specs.declared.row.Row.{Row}
+use Rattle.of_lines.specs.declared.row.Row.TheVariants as rows
 
 pub record TextBucket : Type 0 where
   pub head : BucketHead

@@ -1,7 +1,7 @@
 -- CONFIGURATIONS AS A SWITCH KEEPS THEM: by the invariants of its groups and its flow tables (OpenFlow 1.3.5, 5.1, 5.2 and 5.6).
 use Rattle.std.specs.Prelude.{◌≡◌, ℕ, suc, List, [], ◌∷◌, length}
 use Rattle.std.specs.List.{AllByRecursion}
-use Rattle.of_text.specs.Rows.{HeadFits}
+use Rattle.of_lines.specs.Rows.{HeadFits}
 use Rattle.of_text.specs.Groups.{TextGroup}
 use Rattle.of_text.specs.Flows.{Flow}
 use Rattle.of_text.specs.Kept.{AllStandBehind, AreKeptGroups, IsEntry}

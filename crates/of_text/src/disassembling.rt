@@ -3,8 +3,8 @@ ghost use Rattle.std.specs.Prelude.{◌≡◌, ◌++◌, ℕ, List, IfOk, OnOk, 
 ghost use Rattle.std.specs.List.{AllByRecursion};
 ghost use Rattle.of_text.specs.Groups.{group_rows, rows_of_groups};
 ghost use Rattle.of_text.specs.Flows.{rows_of, flow_rows};
-ghost use Rattle.of_text.specs.Lines.{lines_of};
-ghost use Rattle.of_text.specs.Rows.{Fits};
+ghost use Rattle.of_lines.specs.Lines.{lines_of};
+ghost use Rattle.of_lines.specs.Rows.{Fits};
 ghost use Rattle.of_text.specs.Texts.{lines_text};
 ghost use Rattle.of_text.specs.Views.{view, view_flows, view_group, view_groups};
 ghost use Rattle.of_text.specs.Configs.{Configuration, IsConfig, SpellConfig, all_flows, config_text, view_tables};
@@ -14,8 +14,8 @@ use crate::assembling::{TextFault, assemble};
 use crate::config::Config;
 use crate::flow::{FlowText, push_flow};
 use crate::group::{GroupText, push_group};
-use crate::row::Row;
 use crate::text::push_lines;
+use of_lines::Row;
 use std::alloc::{AllocError, Global};
 
 // Appends the lines of a flow. The rows are used again.

@@ -1,12 +1,12 @@
 //! Groups and flows from lines.
-ghost use Rattle.std.specs.Prelude.{◌≡◌, [], OnOk, IfOk, reverse};
+ghost use Rattle.std.specs.Prelude.{◌≡◌, [], ◌∷◌, OnOk, IfOk, reverse};
 ghost use Rattle.of_text.specs.Flows.{gather as gather_row, gathered, nothing};
-ghost use Rattle.of_text.specs.Views.{view_flows, view_groups, seen};
+ghost use Rattle.of_text.specs.Views.{view_flows, view_groups, view_step, seen};
 
 use crate::flow::{FlowText, StepText};
 use crate::group::{BucketText, GroupText};
-use crate::row::Row;
 use of_actions::Action;
+use of_lines::{BucketHead, FlowHead, GroupHead, Row};
 use of_oxm::MatchField;
 use std::alloc::{AllocError, Global};
 
@@ -31,45 +31,119 @@ fn take_turned<T: Drop>(alloc: Global, list: &mut Vec<T>) -> Vec<T>
     taken
 }
 
-// Puts the line first.
-fn gather(alloc: Global, g: &mut Gathering, row: Row) -> Result<(), AllocError>
-    ensures { OnOk result (seen g.new ≡ gather_row row (seen g.old)) }
-{
-    match row {
-        Row::Group(head) => {
-            let buckets = take_turned(alloc, &mut g.buckets);
-            g.actions.clear();
-            g.groups.push(GroupText { head, buckets })?;
+impl Gathering {
+    fn new(alloc: Global) -> Gathering
+        ensures { seen result ≡ nothing }
+    {
+        Gathering {
+            actions: Vec::new(alloc),
+            buckets: Vec::new(alloc),
+            groups: Vec::new(alloc),
+            steps: Vec::new(alloc),
+            fields: Vec::new(alloc),
+            flows: Vec::new(alloc),
         }
-        Row::Bucket(head) => {
-            let actions = take_turned(alloc, &mut g.actions);
-            g.buckets.push(BucketText { head, actions })?;
-        }
-        Row::Flow(head) => {
-            let fields = take_turned(alloc, &mut g.fields);
-            let steps = take_turned(alloc, &mut g.steps);
-            g.actions.clear();
-            g.flows.push(FlowText {
-                head,
-                fields,
-                steps,
-            })?;
-        }
-        Row::Match(e) => g.fields.push(e)?,
-        Row::Apply => {
-            let actions = take_turned(alloc, &mut g.actions);
-            g.steps.push(StepText::Apply(actions))?;
-        }
-        Row::Clear => g.steps.push(StepText::Clear)?,
-        Row::Write => {
-            let actions = take_turned(alloc, &mut g.actions);
-            g.steps.push(StepText::Write(actions))?;
-        }
-        Row::Metadata { value, mask } => g.steps.push(StepText::Metadata { value, mask })?,
-        Row::Goto(table) => g.steps.push(StepText::Goto(table))?,
-        Row::Do(action) => g.actions.push(action)?,
     }
-    Ok(())
+
+    // The group whose buckets were gathered.
+    fn gather_group(&mut self, alloc: Global, head: GroupHead) -> Result<(), AllocError>
+        ensures { OnOk result (seen self.new ≡ gather_row (Row.Group head) (seen self.old)) }
+    {
+        let buckets = take_turned(alloc, &mut self.buckets);
+        self.actions.clear();
+        self.groups.push(GroupText { head, buckets })?;
+        Ok(())
+    }
+
+    // The bucket whose actions were gathered.
+    fn gather_bucket(&mut self, alloc: Global, head: BucketHead) -> Result<(), AllocError>
+        ensures { OnOk result (seen self.new ≡ gather_row (Row.Bucket head) (seen self.old)) }
+    {
+        let actions = take_turned(alloc, &mut self.actions);
+        self.buckets.push(BucketText { head, actions })?;
+        Ok(())
+    }
+
+    // The flow whose fields and instructions were gathered.
+    fn gather_flow(&mut self, alloc: Global, head: FlowHead) -> Result<(), AllocError>
+        ensures { OnOk result (seen self.new ≡ gather_row (Row.Flow head) (seen self.old)) }
+    {
+        let fields = take_turned(alloc, &mut self.fields);
+        let steps = take_turned(alloc, &mut self.steps);
+        self.actions.clear();
+        self.flows.push(FlowText {
+            head,
+            fields,
+            steps,
+        })?;
+        Ok(())
+    }
+
+    // The actions that were gathered, in their order.
+    fn take_actions(&mut self, alloc: Global) -> Vec<Action>
+        ensures taken { result.items ≡ (seen self.old).actions }
+        ensures left { seen self.new ≡ record (seen self.old) { actions = [] } }
+    {
+        take_turned(alloc, &mut self.actions)
+    }
+
+    // An instruction.
+    fn push_step(&mut self, step: StepText) -> Result<(), AllocError>
+        ensures { OnOk result (seen self.new ≡ record (seen self.old) { steps = view_step step ∷ (seen self.old).steps }) }
+    {
+        self.steps.push(step)?;
+        Ok(())
+    }
+
+    // A field of a match.
+    fn push_field(&mut self, e: MatchField) -> Result<(), AllocError>
+        ensures { OnOk result (seen self.new ≡ gather_row (Row.Match e) (seen self.old)) }
+    {
+        self.fields.push(e)?;
+        Ok(())
+    }
+
+    // An action of a bucket or an instruction.
+    fn push_action(&mut self, action: Action) -> Result<(), AllocError>
+        ensures { OnOk result (seen self.new ≡ gather_row (Row.Do action) (seen self.old)) }
+    {
+        self.actions.push(action)?;
+        Ok(())
+    }
+
+    // Puts the line first.
+    fn gather(&mut self, alloc: Global, row: Row) -> Result<(), AllocError>
+        ensures { OnOk result (seen self.new ≡ gather_row row (seen self.old)) }
+    {
+        match row {
+            Row::Group(head) => self.gather_group(alloc, head),
+            Row::Bucket(head) => self.gather_bucket(alloc, head),
+            Row::Flow(head) => self.gather_flow(alloc, head),
+            Row::Match(e) => self.push_field(e),
+            Row::Apply => {
+                let actions = self.take_actions(alloc);
+                self.push_step(StepText::Apply(actions))
+            }
+            Row::Clear => self.push_step(StepText::Clear),
+            Row::Write => {
+                let actions = self.take_actions(alloc);
+                self.push_step(StepText::Write(actions))
+            }
+            Row::Metadata { value, mask } => self.push_step(StepText::Metadata { value, mask }),
+            Row::Goto(table) => self.push_step(StepText::Goto(table)),
+            Row::Do(action) => self.push_action(action),
+        }
+    }
+    // Puts lines first, the last of them before the others.
+    fn gather_all(&mut self, alloc: Global, rows: Vec<Row>) -> Result<(), AllocError>
+        ensures { OnOk result (seen self.new ≡ gathered (seen self.old) rows.items) }
+    {
+        let mut rows = rows;
+        while let Some(row) = rows.pop() {
+            self.gather(alloc, row)?;
+        }
+        Ok(())
+    }
 }
 
 /// The groups and the flows of a text, in their order.
@@ -84,20 +158,10 @@ pub fn items_of(alloc: Global, rows: Vec<Row>) -> Result<Items, AllocError>
     ensures groups { IfOk result (λ items. view_groups items.groups.items ≡ (gathered nothing rows.items).groups) }
     ensures flows { IfOk result (λ items. view_flows items.flows.items ≡ (gathered nothing rows.items).flows) }
 {
-    let mut rows = rows;
-    let mut g = Gathering {
-        actions: Vec::new(alloc),
-        buckets: Vec::new(alloc),
-        groups: Vec::new(alloc),
-        steps: Vec::new(alloc),
-        fields: Vec::new(alloc),
-        flows: Vec::new(alloc),
-    };
-    while let Some(row) = rows.pop() {
-        gather(alloc, &mut g, row)?;
-    }
+    let mut gathering = Gathering::new(alloc);
+    gathering.gather_all(alloc, rows)?;
     Ok(Items {
-        groups: take_turned(alloc, &mut g.groups),
-        flows: take_turned(alloc, &mut g.flows),
+        groups: take_turned(alloc, &mut gathering.groups),
+        flows: take_turned(alloc, &mut gathering.flows),
     })
 }

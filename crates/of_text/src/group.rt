@@ -8,9 +8,9 @@ ghost use Rattle.of_text.specs.Views.{view_bucket, view_group};
 
 use crate::entry::list_of;
 use crate::flow::push_actions;
-use crate::row::{BucketHead, GroupHead, Row};
 use of_actions::Action;
 use of_groups::{Bucket, Buckets, Group};
+use of_lines::{BucketHead, GroupHead, Row};
 use std::alloc::{AllocError, Global};
 
 /// A bucket of a group in text. Its actions need not be ones that a switch supports.

@@ -7,7 +7,7 @@ ghost use Rattle.of_groups.specs.Buckets.{any_sends};
 ghost use Rattle.of_groups.specs.Groups.{any_watches};
 ghost use Rattle.of_groups.specs.Faults.{is_absent, is_bad_watch, is_not_one};
 ghost use Rattle.of_text.specs.Groups.{TextGroup, bucket_rows, group_rows, rows_of_groups};
-ghost use Rattle.of_text.specs.Rows.{Fits};
+ghost use Rattle.of_lines.specs.Rows.{Fits};
 ghost use Rattle.of_text.specs.Refusals.{all_there, buckets_refusals as refusals_of_buckets, counted_as, group_refusals, list_refusals, naming_refusals};
 ghost use Rattle.of_text.specs.First.{refused_group};
 ghost use Rattle.of_text.specs.Judging.{codes_from, kept_refusals, told_refusals};

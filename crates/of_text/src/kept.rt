@@ -8,15 +8,15 @@ ghost use Rattle.of_text.specs.Configs.{Configuration, IsConfig, view_config};
 ghost use Rattle.of_text.specs.Groups.{bucket_rows, bucket_text as text_of_bucket, group_rows, group_text};
 ghost use Rattle.of_text.specs.Kept.{IsKeptFlow, in_text, step_of};
 ghost use Rattle.of_text.specs.KeptConfigs.{IsKeptConfig};
-ghost use Rattle.of_text.specs.Rows.{BucketFits, Fits};
+ghost use Rattle.of_lines.specs.Rows.{BucketFits, Fits};
 ghost use Rattle.of_text.specs.Views.{view, view_bucket, view_group, view_step};
 
 use crate::config::Config;
 use crate::flow::{FlowText, StepText};
 use crate::group::{BucketText, GroupText};
-use crate::row::{BucketHead, FlowHead, GroupHead};
 use of_actions::{Action, ActionList, Instruction, InstructionList};
 use of_groups::{Bucket, Group, GroupKind};
+use of_lines::{BucketHead, FlowHead, GroupHead};
 use of_oxm::{Match, MatchField};
 use std::alloc::{AllocError, Global};
 

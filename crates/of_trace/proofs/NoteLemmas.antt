@@ -20,7 +20,7 @@ use Rattle.of_machine.specs.declared.data.Step.TheVariants.{Miss, Entry, Apply, 
 use Rattle.of_text.specs.Lines.{ended, note}
 use Rattle.of_layers.specs.Fields.{name_of}
 use Rattle.of_text.specs.Rows.{spelling}
-use Rattle.of_text.specs.declared.row.Row.TheVariants as rows
+use Rattle.of_lines.specs.declared.row.Row.TheVariants as rows
 use Rattle.of_datapath.specs.declared.effect.Effect.{Effect}
 use Rattle.of_datapath.specs.Datapath.{Forwarding, world_of}
 use Rattle.of_replay.specs.Output.{text_of}

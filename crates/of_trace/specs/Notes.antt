@@ -20,9 +20,9 @@ use Rattle.of_machine.specs.declared.data.Step.{Step}
 use Rattle.of_machine.specs.declared.data.Step.TheVariants.{Miss, Entry, Metadata, Set, Act, TtlExpired, End}
 use Rattle.of_oxm.specs.declared.match_field.MatchField.{MatchField}
 use Rattle.of_text.specs.Lines.{ended, note}
-use Rattle.of_text.specs.declared.row.FlowHead.{FlowHead}
+use Rattle.of_lines.specs.declared.row.FlowHead.{FlowHead}
 use Rattle.of_text.specs.Rows.{spelling, value_word}
-use Rattle.of_text.specs.declared.row.Row.TheVariants as rows
+use Rattle.of_lines.specs.declared.row.Row.TheVariants as rows
 use Rattle.of_datapath.specs.declared.effect.Effect.{Effect}
 use Rattle.of_datapath.specs.Datapath.{Forwarding, flow_in, world_of}
 use Rattle.of_replay.specs.Output.{text_of}

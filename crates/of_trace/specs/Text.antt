@@ -6,7 +6,7 @@ use Rattle.of_machine.specs.declared.data.Step.TheVariants.{Miss, Entry, Apply, 
 use Rattle.of_actions.specs.declared.action.Action.TheVariants.{DecNwTtl}
 use Rattle.of_text.specs.Lines.{joined, ended}
 use Rattle.of_text.specs.Rows.{spelling}
-use Rattle.of_text.specs.declared.row.Row.TheVariants as rows
+use Rattle.of_lines.specs.declared.row.Row.TheVariants as rows
 use Rattle.of_datapath.specs.declared.effect.Effect.{Effect}
 use Rattle.of_replay.specs.Output.{text_of}
 

@@ -1,7 +1,7 @@
 use Rattle.std.proofs.Common.{◌≡◌, ℕ, List, None}
 use Rattle.of_text.specs.Groups.{TextGroup}
 use Rattle.of_text.specs.Flows.{Flow}
-use Rattle.of_text.specs.Lines.{lines_of}
+use Rattle.of_lines.specs.Lines.{lines_of}
 use Rattle.of_text.specs.Texts.{SpellItems}
 use Rattle.of_text.specs.First.{first_refusal}
 use Rattle.of_text.specs.Configs.{Configuration, SpellConfig, tables_of}

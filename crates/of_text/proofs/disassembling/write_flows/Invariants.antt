@@ -1,6 +1,6 @@
 use Rattle.std.proofs.Common.{◌≡◌, ◌++◌, drop}
 use Rattle.std.specs.List.{AllByRecursion}
-use Rattle.of_text.specs.Rows.{Fits}
+use Rattle.of_lines.specs.Rows.{Fits}
 use Rattle.of_text.specs.Flows.{rows_of}
 use Rattle.of_text.specs.Views.{view_flows}
 use Rattle.of_text.proofs.WriteLemmas.{flows_text}

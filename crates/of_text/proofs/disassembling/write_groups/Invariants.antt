@@ -1,6 +1,6 @@
 use Rattle.std.proofs.Common.{◌≡◌, ◌++◌, drop}
 use Rattle.std.specs.List.{AllByRecursion}
-use Rattle.of_text.specs.Rows.{Fits}
+use Rattle.of_lines.specs.Rows.{Fits}
 use Rattle.of_text.specs.Groups.{rows_of_groups}
 use Rattle.of_text.specs.Views.{view_groups}
 use Rattle.of_text.proofs.WriteLemmas.{groups_text}

@@ -1,7 +1,7 @@
 use Rattle.std.proofs.Common.{◌≡◌, ℕ, List, ◌∙◌, refl}
 use Rattle.of_text.specs.declared.text.TextError.{TextError}
 use Rattle.of_text.specs.declared.text.TextError.TheVariants.{Memory, Syntax}
-use Rattle.of_text.specs.Lines.{lines_of}
+use Rattle.of_lines.specs.Lines.{lines_of}
 use Rattle.of_text.specs.Groups.{TextGroup}
 use Rattle.of_text.specs.Flows.{Flow}
 use Rattle.of_text.specs.Texts.{SpellItems, Fails}

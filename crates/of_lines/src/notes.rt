@@ -1,6 +1,6 @@
 //! Notes: lines after four spaces, for people.
 ghost use Rattle.std.specs.Prelude.{◌≡◌, ◌++◌, ◌∷◌, [], OnOk, codes};
-ghost use Rattle.of_text.specs.Lines.{note};
+ghost use Rattle.of_lines.specs.Lines.{note};
 
 use std::alloc::AllocError;
 
