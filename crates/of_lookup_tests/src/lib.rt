@@ -9,3 +9,7 @@ mod cache;
 mod counting;
 #[cfg(test)]
 mod mask_groups;
+#[cfg(test)]
+mod scan;
+#[cfg(test)]
+mod steps;

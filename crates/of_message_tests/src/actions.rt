@@ -1,4 +1,4 @@
-use crate::checks::{Kind, are_refused, code_of, is_written, same_actions, same_code};
+use crate::checks::{Kind, are_refused, code_of, is_written, same};
 use of_actions::{
     Action, ActionList, Instruction, InstructionList, PORT_MAX, PORT_TABLE, check_flow, is_number,
     read_actions, read_instructions, write_actions, write_instructions,
@@ -44,11 +44,20 @@ fn rewritten(alloc: Global, kind: Kind, words: &str) -> Result<Vec<u8>, Fail> {
     }
 }
 
+fn is_rewritten(
+    rt: &impl Abort,
+    alloc: Global,
+    kind: Kind,
+    (bytes, wanted): (&str, &str),
+) -> Result<(), Fail> {
+    is_written(rt, alloc, &rewritten(alloc, kind, bytes)?, wanted)
+}
+
 /// Asserts of each row what is written of the list that is read from its bytes.
 fn are_written(rt: &impl Abort, alloc: Global, kind: Kind, text: &str) -> Result<(), Fail> {
     for line in text.lines() {
-        if let Some((bytes, wanted)) = sides(line)? {
-            is_written(rt, alloc, &rewritten(alloc, kind, bytes)?, wanted)?;
+        if let Some(row) = sides(line)? {
+            is_rewritten(rt, alloc, kind, row)?;
         }
     }
     Ok(())
@@ -65,16 +74,25 @@ fn written(rt: HostRuntime) -> Result<(), Fail> {
     )
 }
 
+const OUTPUT: Action = Action::Output {
+    port: 2,
+    max_len: 0,
+};
+
+/// What is written of a copy of a list.
+fn instructions_copied(alloc: Global, list: &InstructionList) -> Result<Vec<u8>, Fail> {
+    Ok(write_instructions(alloc, &list.copy()?)?)
+}
+
+fn is_one_output(rt: &impl Abort, alloc: Global, list: &InstructionList) -> Result<(), Fail> {
+    same(rt, rows::APPLY, &applies(list.as_slice(), &[OUTPUT]), &true);
+    is_written(rt, alloc, &instructions_copied(alloc, list)?, rows::APPLY)
+}
+
 #[test]
 fn apply_of_one_output(rt: HostRuntime) -> Result<(), Fail> {
     let list = instructions_in(rt.alloc(), rows::APPLY, 0)?;
-    let output = Action::Output {
-        port: 2,
-        max_len: 0,
-    };
-    assert!(rt; applies(list.as_slice(), &[output]));
-    let written = write_instructions(rt.alloc(), &list.copy()?)?;
-    is_written(&rt, rt.alloc(), &written, rows::APPLY)
+    is_one_output(&rt, rt.alloc(), &list)
 }
 
 /// Whether there is one instruction, which applies these actions.
@@ -95,33 +113,37 @@ fn made_actions(alloc: Global) -> Result<ActionList, Fail> {
 }
 
 /// Asserts that these bytes are read as those actions.
-fn is_read_back(
-    rt: &impl Abort,
-    alloc: Global,
-    actions: &ActionList,
-    words: &str,
-) -> Result<(), Fail> {
-    same_actions(rt, actions_in(alloc, words)?.as_slice(), actions.as_slice());
+fn are_read(rt: &impl Abort, alloc: Global, words: &str, wanted: &[Action]) -> Result<(), Fail> {
+    same(rt, words, &actions_in(alloc, words)?.as_slice(), &wanted);
     Ok(())
+}
+
+fn is_made(rt: &impl Abort, alloc: Global, actions: &ActionList) -> Result<(), Fail> {
+    let counts = (actions.len(), actions.is_empty());
+    same(rt, "one action", &counts, &(1, false));
+    let written = write_actions(alloc, actions)?;
+    is_written(rt, alloc, &written, rows::OUTPUT_TO_TABLE)
 }
 
 #[test]
 fn made_list_of_actions(rt: HostRuntime) -> Result<(), Fail> {
     let actions = made_actions(rt.alloc())?;
-    assert_eq!(rt; actions.len(), 1);
-    assert!(rt; !actions.is_empty());
-    let written = write_actions(rt.alloc(), &actions)?;
-    is_written(&rt, rt.alloc(), &written, rows::OUTPUT_TO_TABLE)?;
-    is_read_back(&rt, rt.alloc(), &actions, rows::OUTPUT_TO_TABLE)
+    is_made(&rt, rt.alloc(), &actions)?;
+    are_read(&rt, rt.alloc(), rows::OUTPUT_TO_TABLE, actions.as_slice())
+}
+
+/// Asserts with which code of `OFPET_BAD_ACTION` these actions of an entry are refused.
+fn is_bad_action(rt: &impl Abort, alloc: Global, bytes: &[u8], code: u16) {
+    let refusal = code_of(read_actions(alloc, bytes, false));
+    same(rt, "actions", &refusal, &Some(Code { kind: 2, code }));
 }
 
 #[test]
 fn output_to_table(rt: HostRuntime) -> Result<(), Fail> {
     let bytes = bytes_of(rt.alloc(), rows::OUTPUT_TO_TABLE)?;
-    let refusal = code_of(read_actions(rt.alloc(), &bytes, false));
-    let bad_port = Some(Code { kind: 2, code: 4 });
-    same_code(&rt, "to the tables", refusal, bad_port);
-    assert!(rt; is_number(PORT_MAX) && !is_number(0));
+    is_bad_action(&rt, rt.alloc(), &bytes, 4);
+    let numbers = (is_number(PORT_MAX), is_number(0));
+    same(&rt, "numbers of ports", &numbers, &(true, false));
     Ok(())
 }
 
@@ -132,13 +154,16 @@ fn made_instructions(alloc: Global) -> Result<InstructionList, Fail> {
     Ok(InstructionList::new(instructions).ok_or("in the order of running")?)
 }
 
+fn are_two(rt: &impl Abort, list: &InstructionList) {
+    let counts = (list.len(), list.is_empty());
+    same(rt, "two instructions", &counts, &(2, false));
+    let tables = (list.are_for(4), list.are_for(5));
+    same(rt, "of tables 4 and 5", &tables, &(true, false));
+}
+
 #[test]
 fn made_list_of_instructions(rt: HostRuntime) -> Result<(), Fail> {
-    let list = made_instructions(rt.alloc())?;
-    assert_eq!(rt; list.len(), 2);
-    assert!(rt; !list.is_empty());
-    assert!(rt; list.are_for(4));
-    assert!(rt; !list.are_for(5));
+    are_two(&rt, &made_instructions(rt.alloc())?);
     Ok(())
 }
 
@@ -158,13 +183,25 @@ const EACH_ACTION: [Action; 7] = [
     },
 ];
 
+/// What is written of a copy of a list.
+fn actions_copied(alloc: Global, list: &ActionList) -> Result<Vec<u8>, Fail> {
+    Ok(write_actions(alloc, &list.copy()?)?)
+}
+
+/// The actions of an entry.
+fn entry_actions(alloc: Global, words: &str) -> Result<ActionList, Fail> {
+    Ok(read_actions(alloc, &bytes_of(alloc, words)?, false)?)
+}
+
+fn are_each(rt: &impl Abort, alloc: Global, list: &ActionList) -> Result<(), Fail> {
+    same(rt, "each action", &list.as_slice(), &EACH_ACTION.as_slice());
+    is_written(rt, alloc, &actions_copied(alloc, list)?, rows::EACH_ACTION)
+}
+
 #[test]
 fn each_action(rt: HostRuntime) -> Result<(), Fail> {
-    let bytes = bytes_of(rt.alloc(), rows::EACH_ACTION)?;
-    let list = read_actions(rt.alloc(), &bytes, false)?;
-    same_actions(&rt, list.as_slice(), &EACH_ACTION);
-    let written = write_actions(rt.alloc(), &list.copy()?)?;
-    is_written(&rt, rt.alloc(), &written, rows::EACH_ACTION)
+    let list = entry_actions(rt.alloc(), rows::EACH_ACTION)?;
+    are_each(&rt, rt.alloc(), &list)
 }
 
 /// 64 actions.
@@ -176,14 +213,17 @@ fn most_actions(alloc: Global) -> Result<Vec<u8>, Fail> {
     Ok(bytes)
 }
 
+/// How many actions of an entry these bytes are.
+fn action_count(alloc: Global, bytes: &[u8]) -> Result<usize, Fail> {
+    Ok(read_actions(alloc, bytes, false)?.len())
+}
+
 #[test]
 fn too_many_actions(rt: HostRuntime) -> Result<(), Fail> {
     let mut bytes = most_actions(rt.alloc())?;
-    assert_eq!(rt; read_actions(rt.alloc(), &bytes, false)?.len(), 64);
+    same(&rt, "64 actions", &action_count(rt.alloc(), &bytes)?, &64);
     bytes.push(0)?;
-    let refusal = code_of(read_actions(rt.alloc(), &bytes, false));
-    let too_many = Some(Code { kind: 2, code: 7 });
-    same_code(&rt, "a byte behind 64 actions", refusal, too_many);
+    is_bad_action(&rt, rt.alloc(), &bytes, 7);
     Ok(())
 }
 
@@ -197,13 +237,17 @@ fn flow_check_of(
     Ok(check_flow(&fields, list.as_slice()).err())
 }
 
+fn checks(rt: &impl Abort, alloc: Global, list: &InstructionList) -> Result<(), Fail> {
+    let inconsistent = Some(Code { kind: 2, code: 10 });
+    let of_ip = flow_check_of(alloc, rows::MATCH_OF_IP, list)?;
+    same(rt, "with a match of IP", &of_ip, &inconsistent);
+    let of_udp = flow_check_of(alloc, rows::MATCH_OF_UDP, list)?;
+    same(rt, "with a match of UDP", &of_udp, &None);
+    Ok(())
+}
+
 #[test]
 fn flow_check(rt: HostRuntime) -> Result<(), Fail> {
     let list = instructions_in(rt.alloc(), rows::SET_UDP_DST, 0)?;
-    let inconsistent = Some(Code { kind: 2, code: 10 });
-    let of_ip = flow_check_of(rt.alloc(), rows::MATCH_OF_IP, &list)?;
-    same_code(&rt, "with a match of IP", of_ip, inconsistent);
-    let of_udp = flow_check_of(rt.alloc(), rows::MATCH_OF_UDP, &list)?;
-    same_code(&rt, "with a match of UDP", of_udp, None);
-    Ok(())
+    checks(&rt, rt.alloc(), &list)
 }

@@ -1,4 +1,4 @@
-use crate::checks::{Kind, are_read, are_refused, is_written};
+use crate::checks::{Kind, are_read, are_refused, is_written, same};
 use of_messages::{
     AsyncMasks, MessageBytes, Role, RoleMasks, SwitchConfig, agreed_version, write_async_reply,
     write_config_reply, write_features_reply, write_role_reply,
@@ -17,12 +17,17 @@ fn agreed(rt: &impl Abort, alloc: Global, words: &str) -> Result<u8, Fail> {
     Ok(agreed_version(&bytes))
 }
 
+fn agrees(rt: &impl Abort, alloc: Global, bytes: &str, version: &str) -> Result<(), Fail> {
+    let found = agreed(rt, alloc, bytes)?;
+    same(rt, bytes, &usize::from(found), &number_of(version)?);
+    Ok(())
+}
+
 #[test]
 fn hellos(rt: HostRuntime) -> Result<(), Fail> {
     for line in rows::HELLOS.lines() {
         if let Some((bytes, version)) = sides(line)? {
-            let found = agreed(&rt, rt.alloc(), bytes)?;
-            assert_eq!(rt; found as usize, number_of(version)?, "{line}");
+            agrees(&rt, rt.alloc(), bytes, version)?;
         }
     }
     Ok(())
@@ -89,12 +94,18 @@ fn write(alloc: Global, xid: u32, reply: &Reply) -> Result<MessageBytes, AllocEr
     }
 }
 
+fn is_reply(
+    rt: &impl Abort,
+    alloc: Global,
+    (reply, xid, wanted): &(Reply, u32, &str),
+) -> Result<(), Fail> {
+    is_written(rt, alloc, write(alloc, *xid, reply)?.as_slice(), wanted)
+}
+
 #[test]
 fn replies(rt: HostRuntime) -> Result<(), Fail> {
-    let alloc = rt.alloc();
-    for (reply, xid, wanted) in REPLIES {
-        let written = write(alloc, *xid, reply)?;
-        is_written(&rt, alloc, written.as_slice(), wanted)?;
+    for row in REPLIES {
+        is_reply(&rt, rt.alloc(), row)?;
     }
     Ok(())
 }

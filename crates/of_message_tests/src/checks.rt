@@ -5,6 +5,7 @@ use of_messages::{Message, Role, read_message, read_message_as};
 use of_test_rows::{bytes_of, number_of, sides};
 use of_wire::{Code, ReadError};
 use std::alloc::Global;
+use std::fmt::Debug;
 use std::process::Abort;
 use std::test::Fail;
 
@@ -29,12 +30,18 @@ pub(crate) fn code_of<T: Drop>(read: Result<T, ReadError>) -> Option<Code> {
     }
 }
 
+/// Half of a code, in decimal digits.
+fn half_of(digits: &str) -> Result<u16, Fail> {
+    Ok(u16::try_from(number_of(digits)?).ok().ok_or("16 bits")?)
+}
+
 /// The type and code that a row names.
-fn wanted_code(side: &str) -> Result<Option<Code>, Fail> {
+fn wanted_code(side: &str) -> Result<Code, Fail> {
     let (kind, code) = side.split_once(' ').ok_or("a type and a code")?;
-    let kind = u16::try_from(number_of(kind)?).ok().ok_or("a type")?;
-    let code = u16::try_from(number_of(code)?).ok().ok_or("a code")?;
-    Ok(Some(Code { kind, code }))
+    Ok(Code {
+        kind: half_of(kind)?,
+        code: half_of(code)?,
+    })
 }
 
 fn message_in(alloc: Global, kind: Kind, bytes: &[u8]) -> Result<Message, ReadError> {
@@ -58,6 +65,18 @@ fn refusal_of(alloc: Global, kind: Kind, bytes: &[u8]) -> Option<Code> {
     }
 }
 
+fn is_refused(
+    rt: &impl Abort,
+    alloc: Global,
+    kind: Kind,
+    line: &str,
+    (bytes, code): (&str, &str),
+) -> Result<(), Fail> {
+    let found = refusal_of(alloc, kind, &bytes_of(alloc, bytes)?);
+    same(rt, line, &found, &Some(wanted_code(code)?));
+    Ok(())
+}
+
 /// Asserts of each row with which type and code its bytes are refused.
 pub(crate) fn are_refused(
     rt: &impl Abort,
@@ -66,9 +85,8 @@ pub(crate) fn are_refused(
     text: &str,
 ) -> Result<(), Fail> {
     for line in text.lines() {
-        if let Some((bytes, code)) = sides(line)? {
-            let found = refusal_of(alloc, kind, &bytes_of(alloc, bytes)?);
-            same_code(rt, line, found, wanted_code(code)?);
+        if let Some(row) = sides(line)? {
+            is_refused(rt, alloc, kind, line, row)?;
         }
     }
     Ok(())
@@ -83,18 +101,33 @@ fn wanted_numbers(alloc: Global, side: &str) -> Result<Vec<u64>, Fail> {
     Ok(wanted)
 }
 
+fn numbers_of(alloc: Global, message: &Message) -> Result<Vec<u64>, Fail> {
+    Ok(numbers(alloc, message)?)
+}
+
 /// What the message of these bytes says, in numbers.
 fn read_numbers(alloc: Global, kind: Kind, words: &str) -> Result<Vec<u64>, Fail> {
-    Ok(numbers(alloc, &message_of(alloc, kind, words)?)?)
+    numbers_of(alloc, &message_of(alloc, kind, words)?)
+}
+
+fn is_read(
+    rt: &impl Abort,
+    alloc: Global,
+    kind: Kind,
+    line: &str,
+    (bytes, wanted): (&str, &str),
+) -> Result<(), Fail> {
+    let found = read_numbers(alloc, kind, bytes)?;
+    let wanted = wanted_numbers(alloc, wanted)?;
+    same(rt, line, &found.as_slice(), &wanted.as_slice());
+    Ok(())
 }
 
 /// Asserts of each row what the message of its bytes says, in numbers.
 pub(crate) fn are_read(rt: &impl Abort, alloc: Global, kind: Kind, text: &str) -> Result<(), Fail> {
     for line in text.lines() {
-        if let Some((bytes, wanted)) = sides(line)? {
-            let found = read_numbers(alloc, kind, bytes)?;
-            let wanted = wanted_numbers(alloc, wanted)?;
-            assert_eq!(rt; found.as_slice(), wanted.as_slice(), "{line}");
+        if let Some(row) = sides(line)? {
+            is_read(rt, alloc, kind, line, row)?;
         }
     }
     Ok(())
@@ -108,14 +141,10 @@ pub(crate) fn is_written(
     words: &str,
 ) -> Result<(), Fail> {
     let wanted = bytes_of(alloc, words)?;
-    assert_eq!(rt; written, wanted.as_slice(), "{words}");
+    same(rt, words, &written, &wanted.as_slice());
     Ok(())
 }
 
-pub(crate) fn same_actions(rt: &impl Abort, found: &[Action], wanted: &[Action]) {
-    assert_eq!(rt; found, wanted);
-}
-
-pub(crate) fn same_code(rt: &impl Abort, what: &str, found: Option<Code>, wanted: Option<Code>) {
-    assert_eq!(rt; found, wanted, "{what}");
+pub(crate) fn same<T: PartialEq + Debug>(rt: &impl Abort, what: &str, found: &T, wanted: &T) {
+    assert_eq!(rt; *found, *wanted, "{what}");
 }

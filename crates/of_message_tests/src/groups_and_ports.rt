@@ -1,4 +1,5 @@
-use crate::checks::{Kind, are_read, are_refused, is_written, message_of, same_actions};
+use crate::checks::{Kind, are_read, are_refused, is_written, same};
+use crate::shown::{Shown, is_shown};
 use of_actions::Action;
 use of_groups::{Bucket, GroupKind};
 use of_messages::{
@@ -44,16 +45,16 @@ const BUCKETS: &[WantedBucket] = &[
 
 /// Asserts what a bucket has.
 fn has(rt: &impl Abort, found: &Bucket, wanted: &WantedBucket) {
-    assert_eq!(rt;
-        (found.weight, found.watch_port, found.watch_group),
-        (wanted.weight, wanted.watch_port, wanted.watch_group)
-    );
-    same_actions(rt, found.actions.as_slice(), &[wanted.action]);
+    let watched = (found.weight, found.watch_port, found.watch_group);
+    let wanted_to_watch = (wanted.weight, wanted.watch_port, wanted.watch_group);
+    same(rt, "what a bucket watches", &watched, &wanted_to_watch);
+    let actions = found.actions.as_slice();
+    same(rt, "its actions", &actions, &[wanted.action].as_slice());
 }
 
 /// Asserts that a group has the two buckets.
 fn has_buckets(rt: &impl Abort, group: &NewGroup) {
-    assert_eq!(rt; group.buckets.len(), BUCKETS.len());
+    same(rt, "buckets", &group.buckets.len(), &BUCKETS.len());
     for (found, wanted) in group.buckets.as_slice().iter().zip(BUCKETS) {
         has(rt, found, wanted);
     }
@@ -61,14 +62,19 @@ fn has_buckets(rt: &impl Abort, group: &NewGroup) {
 
 /// Asserts what the group has that an ADD adds, and how the ADD is written.
 fn is_added(rt: &impl Abort, alloc: Global, group: &NewGroup) -> Result<(), Fail> {
-    assert_eq!(rt; group.id, 0x10);
-    assert_eq!(rt; group.kind, GroupKind::FastFailover);
+    let group_and_kind = (group.id, group.kind);
+    same(
+        rt,
+        "a group",
+        &group_and_kind,
+        &(0x10, GroupKind::FastFailover),
+    );
     has_buckets(rt, group);
     let written = write_group_mod(alloc, 9, group)?;
     is_written(rt, alloc, written.as_slice(), rows::ADD)
 }
 
-fn is_add(rt: &impl Abort, alloc: Global, message: &Message) -> Result<(), Fail> {
+pub(crate) fn is_add(rt: &impl Abort, alloc: Global, message: &Message) -> Result<(), Fail> {
     match message {
         Message::GroupMod(GroupMod::Add(group)) => is_added(rt, alloc, group),
         _ => Err("an ADD".into()),
@@ -77,8 +83,7 @@ fn is_add(rt: &impl Abort, alloc: Global, message: &Message) -> Result<(), Fail>
 
 #[test]
 fn add_of_two_buckets(rt: HostRuntime) -> Result<(), Fail> {
-    let message = message_of(rt.alloc(), Kind::Message, rows::ADD)?;
-    is_add(&rt, rt.alloc(), &message)
+    is_shown(&rt, rt.alloc(), rows::ADD, Shown::Add)
 }
 
 #[test]
@@ -93,10 +98,10 @@ const WANTED_PORT_MOD: PortMod = PortMod {
     mask: 0x65,
 };
 
-fn is_port_mod(rt: &impl Abort, message: &Message) -> Result<(), Fail> {
+pub(crate) fn is_port_mod(rt: &impl Abort, message: &Message) -> Result<(), Fail> {
     match message {
         Message::PortMod(found) => {
-            assert_eq!(rt; *found, WANTED_PORT_MOD);
+            same(rt, "a PORT_MOD", found, &WANTED_PORT_MOD);
             Ok(())
         }
         _ => Err("a PORT_MOD".into()),
@@ -105,8 +110,7 @@ fn is_port_mod(rt: &impl Abort, message: &Message) -> Result<(), Fail> {
 
 #[test]
 fn port_mod(rt: HostRuntime) -> Result<(), Fail> {
-    let message = message_of(rt.alloc(), Kind::Message, rows::PORT_MOD)?;
-    is_port_mod(&rt, &message)
+    is_shown(&rt, rt.alloc(), rows::PORT_MOD, Shown::PortMod)
 }
 
 #[test]

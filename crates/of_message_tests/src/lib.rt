@@ -20,3 +20,5 @@ mod messages;
 mod numbers;
 #[cfg(test)]
 mod requests;
+#[cfg(test)]
+mod shown;

@@ -1,5 +1,6 @@
 use crate::actions::applies;
-use crate::checks::{Kind, are_read, are_refused, is_written, message_of, same_actions};
+use crate::checks::{Kind, are_read, are_refused, is_written, same};
+use crate::shown::{Shown, is_shown};
 use of_actions::Action;
 use of_messages::{
     FlowMod, FlowRemoved, FlowRemovedReason, Message, MessageBytes, PacketData, PacketIn,
@@ -27,7 +28,8 @@ fn refused(rt: HostRuntime) -> Result<(), Fail> {
 #[test]
 fn older_version(rt: HostRuntime) {
     let older = check_head(&[1, 20, 0, 8, 0, 0, 0, 7]);
-    assert_eq!(rt; older, Err(Code { kind: 1, code: 0 }));
+    let refused = Err(Code { kind: 1, code: 0 });
+    same(&rt, "version 1", &older, &refused);
 }
 
 /// A frame of 60 bytes whose EtherType, 0x88b5, is for experiments.
@@ -103,28 +105,36 @@ const WRITTEN: &[(Written, &str)] = &[
     (Written::StartOfHeld(HELD), rows::PACKET_IN_OF_HELD),
 ];
 
+fn is_message(
+    rt: &impl Abort,
+    alloc: Global,
+    (message, wanted): &(Written, &str),
+) -> Result<(), Fail> {
+    is_written(rt, alloc, write(alloc, message)?.as_slice(), wanted)
+}
+
 #[test]
 fn written_messages(rt: HostRuntime) -> Result<(), Fail> {
-    let alloc = rt.alloc();
-    for (message, wanted) in WRITTEN {
-        let written = write(alloc, message)?;
-        is_written(&rt, alloc, written.as_slice(), wanted)?;
+    for row in WRITTEN {
+        is_message(&rt, rt.alloc(), row)?;
     }
     Ok(())
 }
 
 /// Asserts that an entry sends to port 2 what comes in at port 1.
 fn sends_on(rt: &impl Abort, flow_mod: &FlowMod) {
-    assert_eq!(rt; flow_mod.fields.len(), 1);
-    assert_eq!(rt; flow_mod.fields.fields()[0].value, 1);
+    assert!(rt; flow_mod.fields.len() == 1);
+    let port = flow_mod.fields.fields()[0].value;
+    same(rt, "its port", &port, &1);
     let output = Action::Output {
         port: 2,
         max_len: 0,
     };
-    assert!(rt; applies(flow_mod.instructions.as_slice(), &[output]));
+    let on = applies(flow_mod.instructions.as_slice(), &[output]);
+    same(rt, "it sends on", &on, &true);
 }
 
-fn is_flow_mod(rt: &impl Abort, message: &Message) -> Result<(), Fail> {
+pub(crate) fn is_flow_mod(rt: &impl Abort, message: &Message) -> Result<(), Fail> {
     match message {
         Message::FlowMod(flow_mod) => {
             sends_on(rt, flow_mod);
@@ -136,8 +146,7 @@ fn is_flow_mod(rt: &impl Abort, message: &Message) -> Result<(), Fail> {
 
 #[test]
 fn flow_mod(rt: HostRuntime) -> Result<(), Fail> {
-    let message = message_of(rt.alloc(), Kind::Message, rows::FLOW_MOD)?;
-    is_flow_mod(&rt, &message)
+    is_shown(&rt, rt.alloc(), rows::FLOW_MOD, Shown::FlowMod)
 }
 
 const REMOVED: FlowRemoved = FlowRemoved {
@@ -166,22 +175,22 @@ fn goes_to_tables(rt: &impl Abort, packet_out: &PacketOut, in_port: u32) {
         port: 0xffff_fff9,
         max_len: 0,
     };
-    assert_eq!(rt; packet_out.in_port, in_port);
-    same_actions(rt, packet_out.actions.as_slice(), &[to_table]);
+    same(rt, "the port", &packet_out.in_port, &in_port);
+    let actions = packet_out.actions.as_slice();
+    same(rt, "the actions", &actions, &[to_table].as_slice());
 }
 
 /// Asserts that a PACKET_OUT names this buffer, or else brings the frame with it.
 fn brings(rt: &impl Abort, packet: &PacketData, buffer: Option<u32>) {
-    match packet {
-        PacketData::Frame(frame) => {
-            assert_eq!(rt; buffer, None);
-            assert_eq!(rt; frame.as_slice(), FRAME.as_slice());
-        }
-        PacketData::Buffered(number) => assert_eq!(rt; Some(*number), buffer),
-    }
+    let (found, frame) = match packet {
+        PacketData::Frame(frame) => (None, frame.as_slice()),
+        PacketData::Buffered(number) => (Some(*number), FRAME.as_slice()),
+    };
+    same(rt, "the buffer", &found, &buffer);
+    same(rt, "the frame", &frame, &FRAME.as_slice());
 }
 
-fn is_packet_out(
+pub(crate) fn is_packet_out(
     rt: &impl Abort,
     message: &Message,
     in_port: u32,
@@ -199,22 +208,18 @@ fn is_packet_out(
 
 #[test]
 fn packet_out(rt: HostRuntime) -> Result<(), Fail> {
-    let message = message_of(rt.alloc(), Kind::Message, rows::PACKET_OUT)?;
-    is_packet_out(&rt, &message, 1, None)
+    let shown = Shown::PacketOut(1, None);
+    is_shown(&rt, rt.alloc(), rows::PACKET_OUT, shown)
 }
 
 #[test]
 fn packet_out_of_a_buffer(rt: HostRuntime) -> Result<(), Fail> {
-    let message = message_of(rt.alloc(), Kind::Message, rows::PACKET_OUT_BUFFERED)?;
-    is_packet_out(&rt, &message, 0xffff_fffd, Some(3))
+    let shown = Shown::PacketOut(0xffff_fffd, Some(3));
+    is_shown(&rt, rt.alloc(), rows::PACKET_OUT_BUFFERED, shown)
 }
 
 #[test]
 fn what_follows_the_actions_of_a_buffer(rt: HostRuntime) -> Result<(), Fail> {
-    let message = message_of(
-        rt.alloc(),
-        Kind::Message,
-        rows::PACKET_OUT_BUFFERED_AND_MORE,
-    )?;
-    is_packet_out(&rt, &message, 0xffff_fffd, Some(3))
+    let shown = Shown::PacketOut(0xffff_fffd, Some(3));
+    is_shown(&rt, rt.alloc(), rows::PACKET_OUT_BUFFERED_AND_MORE, shown)
 }

@@ -1,5 +1,5 @@
 //! What is done with a classifier, from an empty one on, and what it answers.
-use super::{Entry, Frame, Row, Step};
+use crate::steps::{Entry, Frame, Question, Row, Step};
 
 const PORT_1_AT_10: Entry = Entry {
     fields: &[0, 1, 0, 12, 0x80, 0, 0, 4, 0, 0, 0, 1, 0, 0, 0, 0],
@@ -37,16 +37,19 @@ const ANY_AT_0: Entry = Entry {
 };
 
 const PORT_1_88B5: Frame = Frame {
+    source: 1,
     in_port: 1,
     ether_type: 0x88b5,
 };
 
 const PORT_4_88B5: Frame = Frame {
+    source: 1,
     in_port: 4,
     ether_type: 0x88b5,
 };
 
 const PORT_4_ARP: Frame = Frame {
+    source: 1,
     in_port: 4,
     ether_type: 0x0806,
 };
@@ -73,14 +76,32 @@ pub(super) const AGES: &[Row] = &[
     ("the older one", Step::Find(PORT_1_88B5, Some(0), 2)),
     ("renew 0", Step::Renew(TYPE_88B5_AT_10)),
     ("after renewing", Step::Find(PORT_1_88B5, Some(1), 2)),
-    ("the winner of it", Step::Winner(PORT_1_88B5, Some(1))),
-    ("and by peek", Step::Peek(PORT_1_88B5, Some(1))),
+    (
+        "the winner of it",
+        Step::Ask(Question::Winner(PORT_1_88B5), Some(1)),
+    ),
+    (
+        "and by peek",
+        Step::Ask(Question::Peek(PORT_1_88B5), Some(1)),
+    ),
     ("add 2", Step::Add(PORT_1_AT_10)),
-    ("the older of two", Step::Same(PORT_1_AT_10, Some(1))),
-    ("another priority", Step::Same(PORT_1_AT_9, None)),
-    ("another match", Step::Same(PORT_2_AT_10, None)),
+    (
+        "the older of two",
+        Step::Ask(Question::Same(PORT_1_AT_10), Some(1)),
+    ),
+    (
+        "another priority",
+        Step::Ask(Question::Same(PORT_1_AT_9), None),
+    ),
+    (
+        "another match",
+        Step::Ask(Question::Same(PORT_2_AT_10), None),
+    ),
     ("take 1", Step::Take(PORT_1_AT_10)),
-    ("the other of two", Step::Same(PORT_1_AT_10, Some(2))),
+    (
+        "the other of two",
+        Step::Ask(Question::Same(PORT_1_AT_10), Some(2)),
+    ),
     ("each number once", Step::Known),
     ("the renewed one", Step::Find(PORT_1_88B5, Some(0), 2)),
     ("take 0", Step::Take(TYPE_88B5_AT_10)),
