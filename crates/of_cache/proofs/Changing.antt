@@ -1,9 +1,10 @@
 -- The entries and the rows of a cached classifier, changed together.
-use Rattle.std.proofs.Common.{◌≡◌, ℕ, ◌-◌, Bool, not, List, [], ◌∷◌, ◌++◌, take, Option, Some, None, refl, sym, ◌∙◌, ap, subst, inl, inr, ◌⊎◌, ⊎_elim}
-use Rattle.std.specs.Prelude.{filter, ◌&&◌, option_map}
+use Rattle.std.proofs.Common.{◌≡◌, ℕ, ◌-◌, arith, true, length, Bool, not, List, [], ◌∷◌, ◌++◌, take, Option, Some, None, refl, sym, ◌∙◌, ap, subst, inl, inr, ◌⊎◌, ⊎_elim}
+use Rattle.std.specs.Prelude.{filter, ◌&&◌, ◌==◌, option_map, Result, Ok, Err, OnOk}
+use Rattle.std.proofs.lemmas.Bool.{eqb-true}
 use Rattle.std.specs.List.{Contains}
 use Rattle.lru.specs.LruCache.{LruCache}
-use Rattle.lru.proofs.Splits.{Contains-cons, Contains-middle, Contains-with}
+use Rattle.lru.proofs.Splits.{Contains-cons, Contains-head, Contains-middle, Contains-nil, Contains-with}
 use Rattle.of_layers.specs.declared.field.Field.{Field}
 use Rattle.of_headers.specs.declared.key.FieldKey.{FieldKey}
 use Rattle.of_headers.specs.FieldMap.{value, seen}
@@ -56,6 +57,19 @@ added masks content after rows new mask key number priority m fine looks asks e 
   subst (λ (xs : List Row). AreSound xs new) (sym e) (subst (λ (es : List AnsweredRegion). AreSound (content ++ made_row number priority m ∷ []) es) (sym (f ∙ same_staying mask key m priority rows looks asks)) (stays_added content rows number priority m fine h.0)),
   subst (AreListed masks) (sym f) (listed_filter masks (λ row. not (goes (Added mask key priority) row)) rows h.1),
 )
+
+-- ---- there is no row
+
+pub none_listed : (masks : List FieldMask) (rows : List AnsweredRegion) → (length masks == 0) ≡ true → AreListed masks rows → rows ≡ []
+none_listed masks [] e h = refl
+none_listed masks (row ∷ rows) e h = let listed = h row (Contains-head row rows) in absurd (omega (arith, listed.1, eqb-true (length masks) 0 e))
+
+pub on_ok : {A E P : Type 0} (r : Result A E) → P → OnOk r P
+on_ok (Ok x) p = p
+on_ok (Err e) p = tt
+
+pub none_right : (content : List Row) (masks : List FieldMask) (rows : List AnsweredRegion) → rows ≡ [] → AreSound content rows × AreListed masks rows
+none_right content masks rows e = subst (λ (es : List AnsweredRegion). AreSound content es × AreListed masks es) (sym e) (record { right = λ row c. absurd (Contains-nil row c); regions = λ row c. absurd (Contains-nil row c) }, λ row c. absurd (Contains-nil row c))
 
 -- ---- a look-up
 

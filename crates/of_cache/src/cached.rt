@@ -132,6 +132,9 @@ impl<L: Lookup> Lookup for Cached<L> {
         ensures capacity { self.new.capacity ≡ self.old.capacity }
     {
         fields.known();
+        if self.masks.is_empty() {
+            return self.inner.add(fields, priority);
+        }
         let mask = mask_of(&fields);
         let key = key_of(&fields);
         let number = self.inner.add(fields, priority)?;

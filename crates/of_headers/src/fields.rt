@@ -51,6 +51,15 @@ impl FieldKey {
         FieldKey { numbers }
     }
 
+    /// Puts one more field into the key, or another value of it.
+    pub fn put(&mut self, field: Field, number: u128)
+        requires { number ≤ ones_of field }
+        ensures { (f : TheField) → value self.new f ≡ (if number_of f == number_of field then Some number else value self.old f) }
+    {
+        self.numbers.present |= bit(field);
+        self.numbers.set(field, number);
+    }
+
     /// The key of the same frame at this port, with this metadata.
     #[tactic(auto, unfolding(of_layers::specs::Fields::row_of))]
     pub fn received(self, in_port: u32, metadata: u64) -> FieldKey

@@ -62,9 +62,9 @@ module _ {S : Type 0} where
   pub occupied_more : (old new : HashMap MaskedKey (Vec ℕ) S) (key : FieldKey) (n : ℕ) (ns : List ℕ) (w : Vec ℕ) → UpdatesBy the_key.eq-value.it (the_key.eq-value.it (masked_key key)) old new (Some w) → w.items ≡ ns ++ n ∷ [] → AreOccupiedBut key old → AreOccupied new
   occupied_more old new key n ns w u items h = all_occupied new key (λ there empty. more_than_none ns n (sym items ∙ (sym (ap items_of u.1) ∙ empty))) (others_occupied old new key (Some w) u h)
 
-pub vacant_cell : (o : Option (Vec ℕ)) → is_some o ≡ false → items_of o ≡ []
-vacant_cell None h = refl
-vacant_cell (Some v) h = absurd cc
+pub no_items : (o : Option (Vec ℕ)) → (IsSome o → ⊥) → items_of o ≡ []
+no_items None h = refl
+no_items (Some v) h = absurd (h refl)
 
 pub room_made : {S E : Type 0} (r : Result (Unit {0}) E) (cells : HashMap MaskedKey (Vec ℕ) S) (key : FieldKey) (v : Vec ℕ) → get_by (the_key.eq-value.it (masked_key key)) cells ≡ Some v → OnOk r (vec_len v + 1 ≤ vec_capacity v) → OnOk r (HasRoomAt cells key)
 room_made (Ok x) cells key v stands room = record { cell = v; stands = stands; room = omega arith }

@@ -10,46 +10,31 @@ use std::collections::HashMap;
 
 pub(crate) type Cells = HashMap<MaskedKey, Vec<usize>>;
 
-// Makes sure that there is a list under a key.
-fn make_cell(cells: &mut Cells, alloc: Global, key: &FieldKey) -> Result<(), AllocError>
+// Inserts a list with capacity for one number under a key that has none.
+fn insert_cell(cells: &mut Cells, alloc: Global, key: MaskedKey) -> Result<(), AllocError>
+    requires { HasCell cells.old key.fields → ⊥ }
     ensures same { (k : AKey) → cell_at cells.new k ≡ cell_at cells.old k }
-    ensures there { OnOk result (HasCell cells.new key.now) }
-    ensures occupied { AreOccupied cells.old → AreOccupiedBut key.now cells.new }
+    ensures room { OnOk result (HasRoomAt cells.new key.fields) }
+    ensures occupied { OnOk result (AreOccupied cells.old → AreOccupiedBut key.fields cells.new) }
     ensures err { OnErr result (AreOccupied cells.old → AreOccupied cells.new) }
 {
-    let key = MaskedKey { fields: *key };
-    if cells.contains_key(&key) {
-        return Ok(());
-    }
-    cells.insert(key, Vec::new(alloc))?;
+    let cell = Vec::with_capacity(alloc, 1)?;
+    cells.insert(key, cell)?;
     Ok(())
-}
-
-fn reserve_cell(cells: &mut Cells, key: &FieldKey) -> Result<(), AllocError>
-    requires { HasCell cells.old key.now }
-    ensures same { (k : AKey) → cell_at cells.new k ≡ cell_at cells.old k }
-    ensures room { OnOk result (HasRoomAt cells.new key.now) }
-    ensures occupied { AreOccupiedBut key.now cells.old → AreOccupiedBut key.now cells.new }
-{
-    match cells.get_mut(&MaskedKey { fields: *key }) {
-        Some(cell) => cell.reserve(1),
-        None => unreachable!(),
-    }
 }
 
 /// Reserves capacity for one more number under a key, whose list may be empty until the number is there.
 pub(crate) fn make_room(cells: &mut Cells, alloc: Global, key: &FieldKey) -> Result<(), AllocError>
     ensures same { (k : AKey) → cell_at cells.new k ≡ cell_at cells.old k }
     ensures room { OnOk result (HasRoomAt cells.new key.now) }
-    ensures occupied { AreOccupied cells.old → AreOccupiedBut key.now cells.new }
+    ensures occupied { OnOk result (AreOccupied cells.old → AreOccupiedBut key.now cells.new) }
     ensures err { OnErr result (AreOccupied cells.old → AreOccupied cells.new) }
 {
-    make_cell(cells, alloc, key)?;
-    let reserved = reserve_cell(cells, key);
-    if reserved.is_err() {
-        drop_vacant(cells, key);
+    let key = MaskedKey { fields: *key };
+    match cells.get_mut(&key) {
+        Some(cell) => cell.reserve(1),
+        None => insert_cell(cells, alloc, key),
     }
-    reserved
 }
 
 /// Puts a number under a key.

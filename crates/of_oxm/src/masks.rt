@@ -54,7 +54,7 @@ fn masks_in(fields: &[MatchField]) -> FieldKey
 {
     let mut masks = FieldKey::empty();
     for e in fields {
-        masks = masks.with(e.field, mask(e));
+        masks.put(e.field, mask(e));
     }
     masks
 }
@@ -66,7 +66,7 @@ fn values_in(fields: &[MatchField]) -> FieldKey
 {
     let mut values = FieldKey::empty();
     for e in fields {
-        values = values.with(e.field, e.value);
+        values.put(e.field, e.value);
     }
     values
 }

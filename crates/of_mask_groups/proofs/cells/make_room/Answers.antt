@@ -1,8 +1,20 @@
-use Rattle.of_mask_groups.proofs.CellLemmas.{but_one, on_failure}
+use Rattle.std.proofs.Common.{Some, sym, ◌∙◌, ap}
+use Rattle.of_mask_groups.specs.Cells.{items_of}
+use Rattle.of_mask_groups.proofs.CellLemmas.{all_occupied, but_one, cells_kept, is_there, on_failure, others_occupied, room_made}
 use Rattle.of_mask_groups.proofs.cells.make_room.Goals as goal
 
-pub returns-then-is_err-clause-occupied : goal.returns-then-is_err-clause-occupied
-returns-then-is_err-clause-occupied c = λ h. but_one c.drop_vacant.new.cells c.args.key.now (c.drop_vacant.ensures.occupied (c.reserve_cell-reserved.ensures.occupied (c.make_cell.ensures.occupied h)))
+pub returns-in-Some-clause-same : goal.returns-in-Some-clause-same
+returns-in-Some-clause-same c = cells_kept c.args.cells.now (c.get_mut.follows.lender c.reserve.new.self) c.args.key.now (Some c.reserve.new.self) ((c.get_mut.follows.holds c.reserve.new.self).3 (is_there (sym c.in-Some.ensures.value))) (c.reserve.ensures.items ∙ ap items_of c.in-Some.ensures.value)
 
-pub returns-then-is_err-clause-err : goal.returns-then-is_err-clause-err
-returns-then-is_err-clause-err c = on_failure c.reserve_cell-reserved.result (λ h. c.drop_vacant.ensures.occupied (c.reserve_cell-reserved.ensures.occupied (c.make_cell.ensures.occupied h)))
+pub returns-in-Some-clause-room : goal.returns-in-Some-clause-room
+returns-in-Some-clause-room c = room_made c.reserve.result (c.get_mut.follows.lender c.reserve.new.self) c.args.key.now c.reserve.new.self ((c.get_mut.follows.holds c.reserve.new.self).3 (is_there (sym c.in-Some.ensures.value))).1 c.reserve.ensures.ok
+
+pub returns-in-Some-clause-err : goal.returns-in-Some-clause-err
+returns-in-Some-clause-err c =
+    let old = c.args.cells.now in
+    let new = c.get_mut.follows.lender c.reserve.new.self in
+    let key = c.args.key.now in
+    let there = is_there (sym c.in-Some.ensures.value) in
+    let changed = (c.get_mut.follows.holds c.reserve.new.self).3 there in
+    let same = ap items_of changed.1 ∙ (c.reserve.ensures.items ∙ ap items_of c.in-Some.ensures.value) in
+    on_failure c.reserve.result (λ h. all_occupied new key (λ _ empty. h key there (sym same ∙ empty)) (others_occupied old new key (Some c.reserve.new.self) changed (but_one old key h)))
