@@ -16,7 +16,7 @@ ghost use Rattle.of_classifier.specs.Winner.{winner_of, number_of};
 pub use laws::one_winner;
 use of_headers::FieldKey;
 use of_oxm::{FieldMask, Match};
-pub use scan::Scan;
+pub use scan::{Scan, is_same, mask_of_all};
 use std::alloc::{AllocError, Global};
 
 /// An entry of a classifier.
@@ -85,6 +85,3 @@ pub trait Lookup: Sized + Drop {
     fn known(&self)
         ensures { IsTrue (is_distinct row_number (content self.now)) };
 }
-
-#[cfg(test)]
-mod tests;

@@ -118,7 +118,7 @@ fn best_of(rows: &[Row], key: &FieldKey) -> Option<usize>
 }
 
 /// The bits that the rows look at: the same ones match field maps that agree in them.
-pub(crate) fn mask_of_all(rows: &[Row]) -> FieldMask
+pub fn mask_of_all(rows: &[Row]) -> FieldMask
     ensures mask { (f : Field) → mask_at result f ≡ looked_by rows.now f }
     ensures alike { (map key : Field → Option ℕ) → Agree (mask_at result) map key → matching rows.now map ≡ matching rows.now key }
 {
@@ -141,7 +141,7 @@ fn better(best: Option<(usize, u16)>, row: &Row) -> Option<(usize, u16)>
 }
 
 /// Whether an entry is of that match and priority.
-pub(crate) fn is_same(row: &Row, fields: &Match, priority: u16) -> bool
+pub fn is_same(row: &Row, fields: &Match, priority: u16) -> bool
     ensures { result ≡ is_same_row fields.now priority row.now }
 {
     row.priority == priority && row.fields.equals(fields)

@@ -1,4 +1,4 @@
-use crate::checks::same_text;
+use crate::checks::same;
 use crate::keys::{key_of, says};
 use of_headers::{FrameFault, Headers, check_length, read, read_inside, same_fields};
 use of_layers::{Field, Place};
@@ -30,14 +30,19 @@ fn has(
     says(rt, alloc, bytes, &key, wanted)
 }
 
-/// Asserts of each row which fields a frame of these bytes has beside the port, the metadata and its addresses.
+/// Asserts which fields a frame of these bytes has beside the port, the metadata and its addresses.
+fn has_beside(rt: &impl Abort, alloc: Global, (bytes, fields): (&str, &str)) -> Result<(), Fail> {
+    let wanted = format!(in alloc;
+        "InPort=7 Metadata=9 EthDst=20000000002 EthSrc=20000000001 {fields}"
+    )?;
+    has(rt, alloc, (7, 9), bytes, wanted.as_str())
+}
+
+/// Asserts that of each row.
 fn have(rt: &impl Abort, alloc: Global, text: &str) -> Result<(), Fail> {
     for line in text.lines() {
-        if let Some((bytes, fields)) = sides(line)? {
-            let wanted = format!(in alloc;
-                "InPort=7 Metadata=9 EthDst=20000000002 EthSrc=20000000001 {fields}"
-            )?;
-            has(rt, alloc, (7, 9), bytes, wanted.as_str())?;
+        if let Some(row) = sides(line)? {
+            has_beside(rt, alloc, row)?;
         }
     }
     Ok(())
@@ -66,17 +71,24 @@ fn places_in(rt: &impl Abort, alloc: Global, words: &str) -> Result<String, Fail
     places_of(alloc, &read(&frame, 7, 9).expect(rt, "a frame"))
 }
 
-/// Asserts of each row where the fields of a frame of these bytes stand.
+/// Asserts where the fields of a frame of these bytes stand.
+fn stands(rt: &impl Abort, alloc: Global, (bytes, places): (&str, &str)) -> Result<(), Fail> {
+    let found = places_in(rt, alloc, bytes)?;
+    same(rt, bytes, &found.as_str(), &places);
+    Ok(())
+}
+
+/// Asserts that of each row.
 fn stand(rt: &impl Abort, alloc: Global, text: &str) -> Result<(), Fail> {
     for line in text.lines() {
-        if let Some((bytes, places)) = sides(line)? {
-            same_text(rt, line, places_in(rt, alloc, bytes)?.as_str(), places);
+        if let Some(row) = sides(line)? {
+            stands(rt, alloc, row)?;
         }
     }
     Ok(())
 }
 
-const FIELDS: [&str; 6] = [
+const FIELDS: &[&str] = &[
     rows::TAGS,
     rows::ARP,
     rows::IPV4_HEADERS,
@@ -108,19 +120,20 @@ fn tagged_frame(rt: HostRuntime) -> Result<(), Fail> {
 fn cut_tag(rt: HostRuntime) {
     let frame = b"\x02\0\0\0\0\x02\x02\0\0\0\0\x01\x81\0\xa0\x05";
     let headers = read_inside(frame, 1, 0).expect(&rt, "a frame");
-    assert_eq!(rt; headers.layout.tags, 0);
-    assert_eq!(rt; headers.key().numbers.eth_type, 0x8100);
+    let found = (headers.layout.tags, headers.key().numbers.eth_type);
+    same(&rt, "no tag, and the type of one", &found, &(0, 0x8100));
 }
 
 #[test]
 fn short_frame(rt: HostRuntime) {
     let frame = b"\x02\0\0\0\0\x02\x02\0\0\0\0\x01\x81";
-    assert!(rt; matches!(read(frame, 1, 0), Err(FrameFault::Short)));
-    assert!(rt; matches!(check_length(frame), Err(FrameFault::Short)));
+    let read_so = matches!(read(frame, 1, 0), Err(FrameFault::Short));
+    let checked_so = matches!(check_length(frame), Err(FrameFault::Short));
+    same(&rt, "13 bytes", &(read_so, checked_so), &(true, true));
 }
 
 /// A key, a mask, and what is seen of the key under it.
-const UNDER: [(&str, &str, &str); 2] = [
+const UNDER: &[(&str, &str, &str)] = &[
     (
         "EthType=800 Ipv4Src=a0b0c0d",
         "Ipv4Src=ffff0000 Ipv4Dst=ffffffff",
@@ -136,14 +149,14 @@ fn is_seen(
     (key, mask, wanted): (&str, &str, &str),
 ) -> Result<(), Fail> {
     let seen = key_of(rt, alloc, key)?.under(&key_of(rt, alloc, mask)?);
-    assert_eq!(rt; seen, key_of(rt, alloc, wanted)?, "{key} under {mask}");
+    same(rt, mask, &seen, &key_of(rt, alloc, wanted)?);
     says(rt, alloc, mask, &seen, wanted)
 }
 
 #[test]
 fn key_under_a_mask(rt: HostRuntime) -> Result<(), Fail> {
     for row in UNDER {
-        is_seen(&rt, rt.alloc(), row)?;
+        is_seen(&rt, rt.alloc(), *row)?;
     }
     same_fields();
     Ok(())

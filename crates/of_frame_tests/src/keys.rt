@@ -2,7 +2,7 @@
 ghost use Rattle.std.specs.Prelude.{◌≤◌, IfOk};
 ghost use Rattle.of_layers.specs.Fields.{ones_of};
 
-use crate::checks::same_text;
+use crate::checks::same;
 use of_headers::FieldKey;
 use of_layers::Field;
 use std::alloc::Global;
@@ -69,6 +69,6 @@ pub(crate) fn says(
     key: &FieldKey,
     wanted: &str,
 ) -> Result<(), Fail> {
-    same_text(rt, what, text_of(alloc, key)?.as_str(), wanted);
+    same(rt, what, &text_of(alloc, key)?.as_str(), &wanted);
     Ok(())
 }

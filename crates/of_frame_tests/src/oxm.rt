@@ -1,4 +1,4 @@
-use crate::checks::{same_bytes, same_number};
+use crate::checks::same;
 use crate::keys::{key_of, says};
 use of_headers::FieldKey;
 use of_layers::Field;
@@ -21,12 +21,18 @@ fn code_of(alloc: Global, bytes: &[u8]) -> Option<usize> {
     }
 }
 
-/// Asserts of each row with which code its bytes are refused.
+/// Asserts with which code bytes are refused.
+fn is_refused(rt: &impl Abort, alloc: Global, (bytes, code): (&str, &str)) -> Result<(), Fail> {
+    let found = code_of(alloc, &bytes_of(alloc, bytes)?);
+    same(rt, bytes, &found, &Some(number_of(code)?));
+    Ok(())
+}
+
+/// Asserts that of each row.
 fn are_refused(rt: &impl Abort, alloc: Global, text: &str) -> Result<(), Fail> {
     for line in text.lines() {
-        if let Some((bytes, code)) = sides(line)? {
-            let found = code_of(alloc, &bytes_of(alloc, bytes)?).ok_or("it is refused")?;
-            same_number(rt, line, found, number_of(code)?);
+        if let Some(row) = sides(line)? {
+            is_refused(rt, alloc, row)?;
         }
     }
     Ok(())
@@ -37,7 +43,7 @@ fn match_of(rt: &impl Abort, alloc: Global, words: &str) -> Result<Match, Fail> 
     let bytes = bytes_of(alloc, words)?;
     match read_match(alloc, &bytes) {
         Ok((found, size)) => {
-            same_number(rt, words, size, bytes.len());
+            same(rt, words, &size, &bytes.len());
             Ok(found)
         }
         Err(_) => Err("the bytes are a match".into()),
@@ -57,7 +63,7 @@ fn are_written(rt: &impl Abort, alloc: Global, text: &str) -> Result<(), Fail> {
 fn is_written(rt: &impl Abort, alloc: Global, bytes: &str, wanted: &str) -> Result<(), Fail> {
     let written = write_match(alloc, &match_of(rt, alloc, bytes)?)?;
     let wanted = bytes_of(alloc, wanted)?;
-    same_bytes(rt, bytes, written.as_slice(), &wanted);
+    same(rt, bytes, &written.as_slice(), &wanted.as_slice());
     Ok(())
 }
 
@@ -68,24 +74,25 @@ fn read_and_written(rt: HostRuntime) -> Result<(), Fail> {
 }
 
 fn asks_for_port_one(rt: &impl Abort, found: &Match) {
-    same_number(rt, "port 1", found.len(), 1);
-    assert!(rt;
-        matches!(
-            found.fields(),
-            [MatchField {
-                field: Field::InPort,
-                value: 1,
-                mask: None
-            }]
-        )
+    let of_port_one = matches!(
+        found.fields(),
+        [MatchField {
+            field: Field::InPort,
+            value: 1,
+            mask: None
+        }]
     );
+    same(rt, "port 1", &(found.len(), of_port_one), &(1, true));
 }
 
 /// Asserts that a match is one that was made.
 fn is_like(rt: &impl Abort, found: &Match, made: &Match) {
-    assert!(rt; found.equals(made));
-    assert!(rt; covers(found, made));
-    assert!(rt; overlaps(found, made));
+    let alike = (
+        found.equals(made),
+        covers(found, made),
+        overlaps(found, made),
+    );
+    same(rt, "port 1", &alike, &(true, true, true));
 }
 
 #[test]
@@ -133,8 +140,8 @@ fn asks(rt: &impl Abort, alloc: Global, row: &Asking) -> Result<(), Fail> {
     let found = match_of(rt, alloc, row.bytes)?;
     let matched = key_of(rt, alloc, row.matched)?;
     let other = key_of(rt, alloc, row.other)?;
-    assert!(rt; matches(&found, &matched), "{}", row.bytes);
-    assert!(rt; !matches(&found, &other), "{}", row.bytes);
+    let answers = (matches(&found, &matched), matches(&found, &other));
+    same(rt, row.bytes, &answers, &(true, false));
     is_asked(
         rt,
         alloc,
@@ -162,8 +169,7 @@ fn is_asked(
 
 /// Asserts that a match sees in a key what it wants to see.
 fn sees(rt: &impl Abort, row: &Asking, mask: &FieldMask, asked: &FieldKey, matched: &FieldKey) {
-    let seen = mask.masked(matched);
-    assert!(rt; seen == *asked, "{}", row.bytes);
+    same(rt, row.bytes, &mask.masked(matched), asked);
 }
 
 #[test]

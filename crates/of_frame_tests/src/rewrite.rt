@@ -1,4 +1,4 @@
-use crate::checks::same_bytes;
+use crate::checks::same;
 use crate::keys::value_of;
 use crate::rewrite::steps::{Row, Step, frame_of, play_all};
 use of_layers::Field;
@@ -146,7 +146,7 @@ fn changes(
 ) -> Result<(), Fail> {
     let wanted = changed(rt, alloc, before, runs)?;
     let found = after_setting(rt, alloc, before, set)?;
-    same_bytes(rt, line, found.bytes(), &wanted);
+    same(rt, line, &found.bytes(), &wanted.as_slice());
     Ok(())
 }
 
@@ -162,7 +162,7 @@ fn set_in(rt: &impl Abort, alloc: Global, frame: &str, text: &str) -> Result<(),
 }
 
 /// A frame, and rows of what setting a field changes in it.
-const SETS: [(&str, &str); 8] = [
+const SETS: &[(&str, &str)] = &[
     (rows::ARP, rows::SET_IN_ARP),
     (rows::ARP_TAGGED, rows::SET_IN_ARP_TAGGED),
     (rows::TCP_OVER_IPV4, rows::SET_IN_TCP_OVER_IPV4),

@@ -10,6 +10,6 @@ mod counting;
 #[cfg(test)]
 mod mask_groups;
 #[cfg(test)]
-mod scan;
-#[cfg(test)]
 mod steps;
+#[cfg(test)]
+mod two_entries;

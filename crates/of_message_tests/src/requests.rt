@@ -1,4 +1,4 @@
-use crate::checks::same;
+use crate::checks::{is_written, same};
 use of_actions::{Action, ActionList};
 use of_messages::{
     Message, MessageBytes, MultipartRequest, PacketData, PacketOut, TableMod, read_message,
@@ -19,44 +19,53 @@ fn xid_of(message: &[u8]) -> Result<u32, Fail> {
     }
 }
 
+/// What is written of a message.
 fn written(alloc: Global, xid: u32, message: &Message) -> Result<MessageBytes, Fail> {
     Ok(write_message(alloc, xid, message)?)
 }
 
-/// What is written of the message that is read of some bytes.
-fn rewritten(alloc: Global, read: &[u8]) -> Result<MessageBytes, Fail> {
+fn written_again(alloc: Global, read: &[u8]) -> Result<MessageBytes, Fail> {
     let xid = xid_of(read)?;
     written(alloc, xid, &read_message(alloc, read)?)
 }
 
-/// Asserts that the message which is read of some bytes is written as those.
-fn is_written(
-    rt: &impl Abort,
-    alloc: Global,
-    line: &str,
-    (read, wanted): (&str, &str),
-) -> Result<(), Fail> {
-    let written = rewritten(alloc, &bytes_of(alloc, read)?)?;
-    let wanted = bytes_of(alloc, wanted)?;
-    same(rt, line, &written.as_slice(), &wanted.as_slice());
-    Ok(())
+/// What is written of the message that is read of some bytes.
+fn rewritten(alloc: Global, words: &str) -> Result<MessageBytes, Fail> {
+    written_again(alloc, &bytes_of(alloc, words)?)
 }
 
-#[test]
-fn each_kind(rt: HostRuntime) -> Result<(), Fail> {
-    for line in rows::EACH_KIND.lines() {
-        if let Some(row) = sides(line)? {
-            is_written(&rt, rt.alloc(), line, row)?;
+/// Asserts of each row that the message which is read of its bytes is written as those behind them.
+fn are_written(rt: &impl Abort, alloc: Global, text: &str) -> Result<(), Fail> {
+    for line in text.lines() {
+        if let Some((read, wanted)) = sides(line)? {
+            is_written(rt, alloc, rewritten(alloc, read)?.as_slice(), wanted)?;
         }
     }
     Ok(())
 }
 
-/// Asserts that no bytes spell a message.
-fn is_not_spelt(rt: &impl Abort, alloc: Global, message: &Message) {
-    let refusal = write_message(alloc, 1, message).err();
-    same(rt, "no bytes", &refusal, &Some(WriteError::NotSpelt));
+#[test]
+fn each_kind(rt: HostRuntime) -> Result<(), Fail> {
+    are_written(&rt, rt.alloc(), rows::EACH_KIND)
 }
+
+/// A message that no bytes spell.
+#[derive(Clone, Copy)]
+enum Unspelt {
+    /// Of a table that is not there.
+    Table,
+    /// For the counters of port ANY, as of one port.
+    PortStats,
+    /// From this port, with this buffer.
+    PacketOut(u32, u32),
+}
+
+const UNSPELT: &[Unspelt] = &[
+    Unspelt::Table,
+    Unspelt::PortStats,
+    Unspelt::PacketOut(0, 7),
+    Unspelt::PacketOut(1, 0xffff_ffff),
+];
 
 fn packet_out(alloc: Global, in_port: u32, buffer: u32) -> Result<Message, Fail> {
     let mut actions = Vec::new(alloc);
@@ -68,22 +77,33 @@ fn packet_out(alloc: Global, in_port: u32, buffer: u32) -> Result<Message, Fail>
     }))
 }
 
-/// Asserts that no bytes spell a PACKET_OUT from that port with that buffer.
-fn is_no_packet_out(rt: &impl Abort, alloc: Global, in_port: u32, buffer: u32) -> Result<(), Fail> {
-    is_not_spelt(rt, alloc, &packet_out(alloc, in_port, buffer)?);
+fn message_of(alloc: Global, unspelt: Unspelt) -> Result<Message, Fail> {
+    match unspelt {
+        Unspelt::Table => Ok(Message::TableMod(TableMod {
+            table: 16,
+            config: 0,
+        })),
+        Unspelt::PortStats => Ok(Message::Multipart(MultipartRequest::PortStats(Some(
+            0xffff_ffff,
+        )))),
+        Unspelt::PacketOut(in_port, buffer) => packet_out(alloc, in_port, buffer),
+    }
+}
+
+/// Asserts that no bytes spell a message.
+fn is_not_spelt(rt: &impl Abort, alloc: Global, message: &Message) {
+    let refusal = write_message(alloc, 1, message).err();
+    same(rt, "no bytes", &refusal, &Some(WriteError::NotSpelt));
+}
+
+fn are_not_spelt(rt: &impl Abort, alloc: Global) -> Result<(), Fail> {
+    for unspelt in UNSPELT {
+        is_not_spelt(rt, alloc, &message_of(alloc, *unspelt)?);
+    }
     Ok(())
 }
 
 #[test]
 fn without_bytes(rt: HostRuntime) -> Result<(), Fail> {
-    let alloc = rt.alloc();
-    let table = TableMod {
-        table: 16,
-        config: 0,
-    };
-    is_not_spelt(&rt, alloc, &Message::TableMod(table));
-    let any_port = MultipartRequest::PortStats(Some(0xffff_ffff));
-    is_not_spelt(&rt, alloc, &Message::Multipart(any_port));
-    is_no_packet_out(&rt, alloc, 0, 7)?;
-    is_no_packet_out(&rt, alloc, 1, 0xffff_ffff)
+    are_not_spelt(&rt, rt.alloc())
 }

@@ -6,6 +6,7 @@ ghost use Rattle.of_actions.specs.Rising.{is_ascending};
 
 mod rows;
 
+use crate::checks::same;
 use of_actions::{Action, ActionList, Instruction, InstructionList};
 use of_headers::FieldKey;
 use of_machine::{
@@ -150,7 +151,7 @@ fn logged(
 ) -> Result<Outcome, Fail> {
     let mut log = Steps::new(alloc);
     let outcome = run(alloc, world, packet(rt, row.frame), &mut log)?;
-    assert_eq!(rt; log.list.as_slice(), steps, "{}", row.what);
+    same(rt, row.what, &log.list.as_slice(), &steps);
     Ok(outcome)
 }
 
@@ -159,50 +160,51 @@ fn packet_out(
     alloc: Global,
     world: &mut OneEntry,
     row: &Row,
-    actions: &[Action],
+    actions: &ActionList,
     steps: &[Step],
 ) -> Result<Outcome, Fail> {
-    let actions = list(alloc, actions)?;
     let mut log = Steps::new(alloc);
     let packet = packet(rt, row.frame);
     let outcome = run_actions(alloc, world, packet, actions.as_slice(), &mut log)?;
-    assert_eq!(rt; log.list.as_slice(), steps, "{}", row.what);
+    same(rt, row.what, &log.list.as_slice(), &steps);
     Ok(outcome)
 }
 
 // Asserts that a packet came from port 1, and went to the controller by the entry of a row.
-fn was_told(rt: &impl Abort, what: &str, told: &ToController) {
-    assert_eq!(rt; told.table, 0, "{what}");
-    assert_eq!(rt; told.cookie, 7, "{what}");
-    assert_eq!(rt; told.ingress, 1, "{what}");
-    assert_eq!(rt; told.metadata, 0, "{what}");
+fn came_by_entry(rt: &impl Abort, what: &str, told: &ToController) {
+    let from = (told.table, told.cookie, told.ingress, told.metadata);
+    same(rt, what, &from, &(0, 7, 1, 0));
+}
+
+fn was_sent(rt: &impl Abort, what: &str, by: u32, frame: &[u8], wanted: &Wanted) {
+    match wanted {
+        Wanted::Sent { port, bytes } => same(rt, what, &(by, frame), &(*port, *bytes)),
+        Wanted::Told { .. } => same(rt, what, &"sent", &"told"),
+    }
+}
+
+fn was_told(rt: &impl Abort, what: &str, told: &ToController, wanted: &Wanted) {
+    came_by_entry(rt, what, told);
+    let found = (told.reason, told.max_len, told.frame.as_slice());
+    match wanted {
+        Wanted::Told {
+            reason,
+            max_len,
+            bytes,
+        } => same(rt, what, &found, &(*reason, *max_len, *bytes)),
+        Wanted::Sent { .. } => same(rt, what, &"told", &"sent"),
+    }
 }
 
 fn is_wanted(rt: &impl Abort, what: &str, item: &Item, wanted: &Wanted) {
-    match (item, wanted) {
-        (Item::Sent { port: by, frame }, Wanted::Sent { port, bytes }) => {
-            assert_eq!(rt; *by, *port, "{what}");
-            assert_eq!(rt; frame.as_slice(), *bytes, "{what}");
-        }
-        (
-            Item::PacketIn(told),
-            Wanted::Told {
-                reason,
-                max_len,
-                bytes,
-            },
-        ) => {
-            was_told(rt, what, told);
-            assert_eq!(rt; told.reason, *reason, "{what}");
-            assert_eq!(rt; told.max_len, *max_len, "{what}");
-            assert_eq!(rt; told.frame.as_slice(), *bytes, "{what}");
-        }
-        _ => assert!(rt; false, "{what}: an item of the other kind"),
+    match item {
+        Item::Sent { port, frame } => was_sent(rt, what, *port, frame.as_slice(), wanted),
+        Item::PacketIn(told) => was_told(rt, what, told, wanted),
     }
 }
 
 fn are_wanted(rt: &impl Abort, row: &Row, items: &[Item]) {
-    assert_eq!(rt; items.len(), row.items.len(), "{}", row.what);
+    same(rt, row.what, &items.len(), &row.items.len());
     for (item, wanted) in items.iter().zip(row.items) {
         is_wanted(rt, row.what, item, wanted);
     }
@@ -210,22 +212,35 @@ fn are_wanted(rt: &impl Abort, row: &Row, items: &[Item]) {
 
 fn are_counted(rt: &impl Abort, row: &Row, counts: &[Count]) {
     if let Some(wanted) = row.counts {
-        assert_eq!(rt; counts, wanted, "{}", row.what);
+        same(rt, row.what, &counts, &wanted);
     }
+}
+
+fn outcome_of(
+    rt: &impl Abort,
+    alloc: Global,
+    world: &mut OneEntry,
+    row: &Row,
+) -> Result<Outcome, Fail> {
+    match row.way {
+        Way::Logged(steps) => logged(rt, alloc, world, row, steps),
+        Way::Unlogged => Ok(run(alloc, world, packet(rt, row.frame), &mut NoLog)?),
+        Way::PacketOut { actions, steps } => {
+            packet_out(rt, alloc, world, row, &list(alloc, actions)?, steps)
+        }
+    }
+}
+
+fn play_in(rt: &impl Abort, alloc: Global, world: &mut OneEntry, row: &Row) -> Result<(), Fail> {
+    let outcome = outcome_of(rt, alloc, world, row)?;
+    are_wanted(rt, row, outcome.items.as_slice());
+    are_counted(rt, row, outcome.counts.as_slice());
+    Ok(())
 }
 
 fn play(rt: &impl Abort, alloc: Global, row: &Row) -> Result<(), Fail> {
     let mut world = world(alloc, row)?;
-    let outcome = match row.way {
-        Way::Logged(steps) => logged(rt, alloc, &mut world, row, steps)?,
-        Way::Unlogged => run(alloc, &mut world, packet(rt, row.frame), &mut NoLog)?,
-        Way::PacketOut { actions, steps } => {
-            packet_out(rt, alloc, &mut world, row, actions, steps)?
-        }
-    };
-    are_wanted(rt, row, outcome.items.as_slice());
-    are_counted(rt, row, outcome.counts.as_slice());
-    Ok(())
+    play_in(rt, alloc, &mut world, row)
 }
 
 #[test]

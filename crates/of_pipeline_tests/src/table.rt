@@ -3,6 +3,7 @@ ghost use Rattle.of_actions.specs.InstructionLists.{are_for};
 
 mod scripts;
 
+use crate::checks::same;
 use of_actions::{Action, ActionList, Instruction, InstructionList, check_flow};
 use of_cache::Cached;
 use of_classifier::{Lookup, Scan};
@@ -107,13 +108,23 @@ fn output_to(alloc: Global, port: u32) -> Result<InstructionList, Fail>
     Ok(InstructionList::new(instructions).ok_or("one instruction is a list")?)
 }
 
-fn modify<L: Lookup>(alloc: Global, tables: &mut FlowTables<L>, output: u32) -> Result<(), Fail> {
-    let outputs = output_to(alloc, output)?;
+fn modify_to<L: Lookup>(
+    alloc: Global,
+    tables: &mut FlowTables<L>,
+    outputs: &InstructionList,
+) -> Result<(), Fail>
+    requires { (k : ℕ) → are_for k outputs.now ≡ true }
+{
     let which = which_of_port_one(alloc, None)?;
     if check_flow(&which.fields, outputs.as_slice()).is_err() {
         return Err(Fail::from("an OUTPUT sets no field"));
     }
-    Ok(tables.modify(&which, &outputs, true)?)
+    Ok(tables.modify(&which, outputs, true)?)
+}
+
+fn modify<L: Lookup>(alloc: Global, tables: &mut FlowTables<L>, output: u32) -> Result<(), Fail> {
+    let outputs = output_to(alloc, output)?;
+    modify_to(alloc, tables, &outputs)
 }
 
 fn looked<L: Lookup>(rt: &impl Abort, tables: &mut FlowTables<L>, table: u8) {
@@ -176,16 +187,15 @@ fn entry_count<L: Lookup>(rt: &impl Abort, tables: &FlowTables<L>, table: u8) ->
 }
 
 fn is_entry(rt: &impl Abort, place: usize, entry: &Entry, wanted: &EntryRow) {
-    assert_eq!(rt; entry.flow.cookie, wanted.cookie, "step {place}");
-    assert_eq!(rt; entry.packets, wanted.packets, "step {place}");
-    assert_eq!(rt; entry.bytes, wanted.bytes, "step {place}");
-    assert_eq!(rt; entry.created, wanted.created, "step {place}");
-    assert_eq!(rt; entry.last, wanted.last, "step {place}");
-    assert_eq!(rt;
-        entry.flow.instructions.len(),
-        wanted.instructions,
-        "step {place}"
+    let counts = (entry.packets, entry.bytes, entry.created, entry.last);
+    same(
+        rt,
+        place,
+        &counts,
+        &(wanted.packets, wanted.bytes, wanted.created, wanted.last),
     );
+    let flow = (entry.flow.cookie, entry.flow.instructions.len());
+    same(rt, place, &flow, &(wanted.cookie, wanted.instructions));
 }
 
 fn are_entries<L: Lookup>(
@@ -200,16 +210,16 @@ fn are_entries<L: Lookup>(
     for row in wanted {
         match entries.next() {
             Some(entry) => is_entry(rt, place, entry, row),
-            None => assert!(rt; false, "step {place}: too few entries"),
+            None => same(rt, place, &"too few entries", &""),
         }
     }
-    assert!(rt; entries.next().is_none(), "step {place}: too many entries");
+    same(rt, place, &entries.next().is_none(), &true);
 }
 
 fn is_notice(rt: &impl Abort, place: usize, removed: &Removed<'_>, wanted: &Notice) {
-    assert_eq!(rt; removed.table, wanted.table, "step {place}");
-    assert_eq!(rt; removed.reason, wanted.reason, "step {place}");
-    assert_eq!(rt; removed.entry.flow.cookie, wanted.cookie, "step {place}");
+    let found = (removed.table, removed.reason, removed.entry.flow.cookie);
+    let wanted = (wanted.table, wanted.reason, wanted.cookie);
+    same(rt, place, &found, &wanted);
 }
 
 fn are_listed<L: Lookup>(
@@ -220,10 +230,33 @@ fn are_listed<L: Lookup>(
     wanted: &[Notice],
 ) -> Result<(), Fail> {
     let removed = tables.listed(cause)?;
-    assert_eq!(rt; removed.len(), wanted.len(), "step {place}");
+    same(rt, place, &removed.len(), &wanted.len());
     for (notice, row) in removed.iter().zip(wanted) {
         is_notice(rt, place, notice, row);
     }
+    Ok(())
+}
+
+fn is_given<L: Lookup>(
+    rt: &impl Abort,
+    place: usize,
+    tables: &mut FlowTables<L>,
+    (table, flow): (u8, Flow),
+    wanted: Result<(), TableFault>,
+) -> Result<(), Fail> {
+    same(rt, place, &add(tables, table, flow)?, &wanted);
+    Ok(())
+}
+
+fn is_hit<L: Lookup>(
+    rt: &impl Abort,
+    place: usize,
+    tables: &mut FlowTables<L>,
+    (table, in_port, bytes): (u8, u32, usize),
+    cookie: u64,
+) -> Result<(), Fail> {
+    let found = hit(rt, tables, table, in_port, bytes)?;
+    same(rt, place, &found, &Some(cookie));
     Ok(())
 }
 
@@ -235,28 +268,38 @@ fn change<L: Lookup>(
     change: Change,
 ) -> Result<(), Fail> {
     match change {
-        Change::Add { table, flow } => add(tables, table, flow_of(alloc, &flow)?)??,
-        Change::Refuse { table, flow, fault } => {
-            let given = add(tables, table, flow_of(alloc, &flow)?)?;
-            assert_eq!(rt; given, Err(fault), "step {place}");
+        Change::Add { table, flow } => {
+            is_given(rt, place, tables, (table, flow_of(alloc, &flow)?), Ok(()))
         }
-        Change::Modify { output } => modify(alloc, tables, output)?,
-        Change::Remove(gone) => tables.remove(&cause_of(alloc, gone)?),
-        Change::Looked(table) => looked(rt, tables, table),
+        Change::Refuse { table, flow, fault } => {
+            is_given(
+                rt,
+                place,
+                tables,
+                (table, flow_of(alloc, &flow)?),
+                Err(fault),
+            )
+        }
+        Change::Modify { output } => modify(alloc, tables, output),
+        Change::Remove(gone) => {
+            tables.remove(&cause_of(alloc, gone)?);
+            Ok(())
+        }
+        Change::Looked(table) => {
+            looked(rt, tables, table);
+            Ok(())
+        }
         Change::Hit {
             table,
             in_port,
             cookie,
             bytes,
-        } => {
-            let found = hit(rt, tables, table, in_port, bytes)?;
-            assert_eq!(rt; found, Some(cookie), "step {place}");
-        }
+        } => is_hit(rt, place, tables, (table, in_port, bytes), cookie),
         Change::Miss { table, in_port } => {
-            assert!(rt; is_missed(rt, tables, table, in_port)?, "step {place}");
+            same(rt, place, &is_missed(rt, tables, table, in_port)?, &true);
+            Ok(())
         }
     }
-    Ok(())
 }
 
 fn see<L: Lookup>(
@@ -272,25 +315,23 @@ fn see<L: Lookup>(
             in_port,
             cookie,
         } => {
-            let found = peeked(rt, tables, table, in_port)?;
-            assert_eq!(rt; found, cookie, "step {place}");
+            same(rt, place, &peeked(rt, tables, table, in_port)?, &cookie);
         }
         Sight::Counters {
             table,
             lookups,
             matched,
         } => {
-            let counters = counters(rt, tables, table);
-            assert_eq!(rt; counters, (lookups, matched), "step {place}");
+            same(rt, place, &counters(rt, tables, table), &(lookups, matched));
         }
         Sight::Entries { table, entries } => are_entries(rt, place, tables, table, entries),
         Sight::EntryCount { table, count } => {
-            assert_eq!(rt; entry_count(rt, tables, table), count, "step {place}");
+            same(rt, place, &entry_count(rt, tables, table), &count);
         }
         Sight::Listed { cause, notices } => {
             are_listed(rt, place, tables, &cause_of(alloc, cause)?, notices)?;
         }
-        Sight::Latest(moment) => assert_eq!(rt; tables.latest(), moment, "step {place}"),
+        Sight::Latest(moment) => same(rt, place, &tables.latest(), &moment),
     }
     Ok(())
 }
@@ -310,19 +351,40 @@ fn swap<L: Lookup>(tables: &mut FlowTables<L>, copied: &mut Option<Copied<L>>) {
     }
 }
 
+fn play_one<L: Lookup>(
+    rt: &impl Abort,
+    alloc: Global,
+    place: usize,
+    tables: &mut FlowTables<L>,
+    copied: &mut Option<Copied<L>>,
+    step: Step,
+) -> Result<(), Fail> {
+    match step {
+        Step::Do(it) => change(rt, alloc, place, tables, it)?,
+        Step::See(it) => see(rt, alloc, place, tables, it)?,
+        Step::Copy(table) => *copied = Some(copy(rt, tables, table)?),
+        Step::Swap => swap(tables, copied),
+    }
+    Ok(())
+}
+
+fn play_on<L: Lookup>(
+    rt: &impl Abort,
+    alloc: Global,
+    tables: &mut FlowTables<L>,
+    steps: &[Step],
+) -> Result<(), Fail> {
+    let mut copied = None;
+    for (place, step) in steps.iter().enumerate() {
+        play_one(rt, alloc, place, tables, &mut copied, *step)?;
+    }
+    Ok(())
+}
+
 fn play<L: Lookup>(rt: &impl Abort, alloc: Global, steps: &[Step]) -> Result<(), Fail> {
     let mut tables = FlowTables::<L>::new(alloc)?;
     tables.known();
-    let mut copied = None;
-    for (place, step) in steps.iter().enumerate() {
-        match *step {
-            Step::Do(it) => change(rt, alloc, place, &mut tables, it)?,
-            Step::See(it) => see(rt, alloc, place, &tables, it)?,
-            Step::Copy(table) => copied = Some(copy(rt, &tables, table)?),
-            Step::Swap => swap(&mut tables, &mut copied),
-        }
-    }
-    Ok(())
+    play_on(rt, alloc, &mut tables, steps)
 }
 
 #[test]

@@ -1,3 +1,4 @@
+use crate::checks::same;
 use of_cache::{Cached, Row};
 use of_mask_groups::MaskGroups;
 use of_switch::{PortChange, Switch};
@@ -47,15 +48,19 @@ fn prepare(switch: &mut Switch<Lookups>) -> Result<(), Fail> {
 }
 
 fn looks_at_in_port(rt: &impl Abort, rows: &[Row]) {
-    assert_eq!(rt; rows.len(), 1);
-    assert_eq!(rt; rows[0].region.mask.masks.numbers.present, 1);
-    assert_eq!(rt; rows[0].region.key.numbers.in_port, 1);
-    assert!(rt; rows[0].answer.is_some());
+    assert!(rt; rows.len() == 1);
+    let Row { region, answer } = &rows[0];
+    let looks_at = (
+        region.mask.masks.numbers.present,
+        region.key.numbers.in_port,
+    );
+    same(rt, "the row", &looks_at, &(1, 1));
+    same(rt, "its answer", &answer.is_some(), &true);
 }
 
 fn one_row(rt: &impl Abort, alloc: Global, switch: &mut Switch<Lookups>) -> Result<(), Fail> {
     prepare(switch)?;
-    assert_eq!(rt; switch.frame(1, &FRAME)?.len(), 1);
+    same(rt, "a frame", &switch.frame(1, &FRAME)?.len(), &1);
     looks_at_in_port(rt, &switch.part(0).rows(alloc)?);
     Ok(())
 }

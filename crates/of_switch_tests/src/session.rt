@@ -1,3 +1,4 @@
+use crate::checks::same;
 use of_messages::{Message, Role};
 use of_session::{Beginning, Next, Phase, Session, Stream, splits_once};
 use std::process::Abort;
@@ -26,30 +27,22 @@ const PIECES: &[Piece] = &[
     Piece::Left(&[]),
 ];
 
-fn are_bytes(rt: &impl Abort, place: usize, bytes: &[u8], wanted: &[u8]) {
-    assert_eq!(rt; bytes, wanted, "place {place}");
-}
-
 fn take(rt: &impl Abort, place: usize, stream: &mut Stream, wanted: &[u8]) {
     let size = wanted.len();
     assert!(rt; size <= stream.left().len(), "piece {place}");
-    are_bytes(rt, place, stream.first(size), wanted);
+    same(rt, place, &stream.first(size), &wanted);
     stream.take(size);
 }
 
 fn are_left(rt: &impl Abort, place: usize, stream: &Stream, wanted: &[u8]) {
-    are_bytes(rt, place, stream.left(), wanted);
-    assert_eq!(rt; stream.kept(), wanted.len(), "piece {place}");
-}
-
-fn is_front(rt: &impl Abort, place: usize, front: Beginning, wanted: Beginning) {
-    assert_eq!(rt; front, wanted, "piece {place}");
+    same(rt, place, &stream.left(), &wanted);
+    same(rt, place, &stream.kept(), &wanted.len());
 }
 
 fn play(rt: &impl Abort, place: usize, stream: &mut Stream, piece: Piece) -> Result<(), Fail> {
     match piece {
         Piece::Feed(bytes) => stream.feed(bytes)?,
-        Piece::Beginning(front) => is_front(rt, place, stream.front(), front),
+        Piece::Beginning(front) => same(rt, place, &stream.front(), &front),
         Piece::Take(bytes) => take(rt, place, stream, bytes),
         Piece::Left(bytes) => are_left(rt, place, stream, bytes),
         Piece::Clear => stream.clear(),
@@ -126,25 +119,17 @@ fn next_of(session: &Session) -> Result<Seen, Fail> {
 fn is_first(rt: &impl Abort, place: usize, session: &Session, bytes: &[u8]) {
     let size = bytes.len();
     assert!(rt; size <= session.pending().len(), "step {place}");
-    are_bytes(rt, place, session.first(size), bytes);
-}
-
-fn is_seen(rt: &impl Abort, place: usize, seen: Seen, wanted: Seen) {
-    assert_eq!(rt; seen, wanted, "step {place}");
-}
-
-fn is_phase(rt: &impl Abort, place: usize, phase: Phase, wanted: Phase) {
-    assert_eq!(rt; phase, wanted, "step {place}");
+    same(rt, place, &session.first(size), &bytes);
 }
 
 fn go_on(rt: &impl Abort, place: usize, session: &mut Session, step: Step) -> Result<(), Fail> {
     match step {
         Step::Connect => session.connect(),
         Step::Feed(bytes) => session.feed(bytes)?,
-        Step::Next(wanted) => is_seen(rt, place, next_of(session)?, wanted),
+        Step::Next(wanted) => same(rt, place, &next_of(session)?, &wanted),
         Step::First(bytes) => is_first(rt, place, session, bytes),
         Step::Taken => session.taken(),
-        Step::Phase(phase) => is_phase(rt, place, session.phase(), phase),
+        Step::Phase(phase) => same(rt, place, &session.phase(), &phase),
         Step::Close => session.close(),
     }
     Ok(())

@@ -1,3 +1,4 @@
+use crate::checks::same;
 use of_classifier::Scan;
 use of_switch::{
     Effect, Effects, Event, PortChange, Report, Switch, SwitchError, piece_handles_its_messages,
@@ -31,19 +32,17 @@ enum Given {
 // One effect, which is an answer of these bytes.
 fn is_answer(rt: &impl Abort, place: usize, effects: &[Effect], bytes: &[u8]) {
     match effects {
-        [Effect::Answer(answer)] => {
-            assert_eq!(rt; answer.as_slice(), bytes, "step {place}");
-        }
-        _ => assert!(rt; false, "step {place} gives one answer"),
+        [Effect::Answer(answer)] => same(rt, place, &answer.as_slice(), &bytes),
+        _ => same(rt, place, &"other effects", &"one answer"),
     }
 }
 
 fn are_given(rt: &impl Abort, place: usize, effects: &[Effect], given: Given) {
     match given {
         Given::Any => {}
-        Given::Nothing => assert!(rt; effects.is_empty(), "step {place}"),
+        Given::Nothing => same(rt, place, &effects.len(), &0),
         Given::Answer(bytes) => is_answer(rt, place, effects, bytes),
-        Given::Refused(_) => assert!(rt; false, "step {place} is refused"),
+        Given::Refused(_) => same(rt, place, &"effects", &"a refusal"),
     }
 }
 
@@ -98,7 +97,14 @@ fn play(
     let effects = happen(switch, step)?;
     are_given(rt, place, effects.as_slice(), given);
     if let Step::Message(_) = step {
-        assert!(rt; is_all_handled(switch)?, "step {place} is one message");
+        same(rt, place, &is_all_handled(switch)?, &true);
+    }
+    Ok(())
+}
+
+fn play_all(rt: &impl Abort, switch: &mut Switch<Scan>) -> Result<(), Fail> {
+    for (place, (step, given)) in ECHO.iter().enumerate() {
+        play(rt, place, switch, *step, *given)?;
     }
     Ok(())
 }
@@ -106,10 +112,7 @@ fn play(
 #[test]
 fn echo(rt: HostRuntime) -> Result<(), Fail> {
     let mut switch = Switch::<Scan>::new(rt.alloc(), 1)?;
-    for (place, (step, given)) in ECHO.iter().enumerate() {
-        play(&rt, place, &mut switch, *step, *given)?;
-    }
-    Ok(())
+    play_all(&rt, &mut switch)
 }
 
 #[test]
@@ -164,26 +167,31 @@ fn events_of(alloc: Global, rows: &[(Happening, Given)]) -> Result<Vec<Event>, F
 fn is_reported(rt: &impl Abort, place: usize, report: &Report, given: Given) {
     match (report, given) {
         (Report::Gives(effects), _) => are_given(rt, place, effects.as_slice(), given),
-        (Report::Refused(why), Given::Refused(wanted)) => {
-            assert_eq!(rt; *why, wanted, "event {place}");
-        }
-        (Report::Refused(_), _) => assert!(rt; matches!(given, Given::Any), "event {place}"),
+        (Report::Refused(why), Given::Refused(wanted)) => same(rt, place, why, &wanted),
+        (Report::Refused(_), _) => same(rt, place, &matches!(given, Given::Any), &true),
     }
 }
 
 fn are_reported(rt: &impl Abort, reports: &[Report], rows: &[(Happening, Given)]) {
-    assert_eq!(rt; reports.len(), rows.len());
+    same(rt, "all events", &reports.len(), &rows.len());
     for (place, (report, (_, given))) in reports.iter().zip(rows).enumerate() {
         is_reported(rt, place, report, *given);
     }
 }
 
+fn run(alloc: Global, switch: &mut Switch<Scan>, reports: &mut Vec<Report>) -> Result<(), Fail> {
+    Ok(switch.run(&events_of(alloc, EVENTS)?, reports)?)
+}
+
+fn run_all(rt: &impl Abort, alloc: Global, switch: &mut Switch<Scan>) -> Result<(), Fail> {
+    let mut reports = Vec::new(alloc);
+    run(alloc, switch, &mut reports)?;
+    are_reported(rt, &reports, EVENTS);
+    Ok(())
+}
+
 #[test]
 fn events(rt: HostRuntime) -> Result<(), Fail> {
     let mut switch = Switch::<Scan>::new(rt.alloc(), 1)?;
-    let events = events_of(rt.alloc(), EVENTS)?;
-    let mut reports = Vec::new(rt.alloc());
-    switch.run(&events, &mut reports)?;
-    are_reported(&rt, &reports, EVENTS);
-    Ok(())
+    run_all(&rt, rt.alloc(), &mut switch)
 }

@@ -1,7 +1,7 @@
 //! A frame that is changed step by step.
 ghost use Rattle.std.specs.Prelude.{◌≡◌, ◌≤◌, ◌<◌, ◌^◌, length};
 
-use crate::checks::{same_bytes, same_number};
+use crate::checks::same;
 use crate::keys::says;
 use of_headers::{Known, read_inside};
 use of_layers::Field;
@@ -44,7 +44,7 @@ pub(super) enum Step {
 }
 
 /// How much is known of the headers of a frame.
-#[derive(Clone, Copy, PartialEq, Eq)]
+#[derive(Clone, Copy)]
 pub(super) enum Kept {
     Nothing,
     /// Where its layers begin.
@@ -78,8 +78,7 @@ fn set(rt: &impl Abort, frame: &mut Frame, what: &str, field: Field, value: u128
 }
 
 fn age(rt: &impl Abort, frame: &mut Frame, what: &str, wanted: Ttl) {
-    let answer = frame.dec_ttl();
-    assert_eq!(rt; answer, wanted, "{what}");
+    same(rt, what, &frame.dec_ttl(), &wanted);
 }
 
 /// Writes over the source address. What the loan's contract says of the bytes behind it is enough for this one.
@@ -108,28 +107,30 @@ fn has(
     frame.read_headers();
     let key = frame.key(7, 9);
     let anew = read_inside(frame.bytes(), 7, 9).expect(rt, what).key();
-    assert!(rt; key == anew, "{what}");
+    same(rt, what, &key, &anew);
     let wanted = format!(in alloc; "InPort=7 Metadata=9 {wanted}")?;
     says(rt, alloc, what, &key, wanted.as_str())
 }
 
-fn known_of(frame: &Frame) -> Kept {
-    match frame.known() {
-        Known::Nothing => Kept::Nothing,
-        Known::Places(_) => Kept::Places,
-        Known::Fields(_) => Kept::Fields,
-    }
+/// Whether so much is known of the headers.
+fn knows(frame: &Frame, kept: Kept) -> bool {
+    matches!(
+        (kept, frame.known()),
+        (Kept::Nothing, Known::Nothing)
+            | (Kept::Places, Known::Places(_))
+            | (Kept::Fields, Known::Fields(_))
+    )
 }
 
 /// Asserts what a step shows that changes nothing.
 fn shows(rt: &impl Abort, frame: &Frame, what: &str, step: &Step) {
     match step {
-        Step::Lends(field, wanted) => assert!(rt; frame.lends(*field) == *wanted, "{what}"),
-        Step::Knows(wanted) => assert!(rt; known_of(frame) == *wanted, "{what}"),
-        Step::Length(wanted) => same_number(rt, what, frame.len(), *wanted),
-        Step::Is(wanted) => same_bytes(rt, what, frame.bytes(), wanted),
-        Step::Begins(wanted) => assert!(rt; frame.bytes().starts_with(wanted), "{what}"),
-        Step::Ends(wanted) => assert!(rt; frame.bytes().ends_with(wanted), "{what}"),
+        Step::Lends(field, wanted) => same(rt, what, &frame.lends(*field), wanted),
+        Step::Knows(wanted) => same(rt, what, &knows(frame, *wanted), &true),
+        Step::Length(wanted) => same(rt, what, &frame.len(), wanted),
+        Step::Is(wanted) => same(rt, what, &frame.bytes(), wanted),
+        Step::Begins(wanted) => same(rt, what, &frame.bytes().starts_with(wanted), &true),
+        Step::Ends(wanted) => same(rt, what, &frame.bytes().ends_with(wanted), &true),
         _ => {}
     }
 }
@@ -143,7 +144,7 @@ fn play(rt: &impl Abort, alloc: Global, frame: &mut Frame, row: &Row) -> Result<
         Step::Set(field, value) => set(rt, frame, what, *field, *value),
         Step::SetTtl(value) => frame.set_ttl(*value),
         Step::Age(wanted) => age(rt, frame, what, *wanted),
-        Step::Lent(field, wanted) => same_number(rt, what, frame.field_mut(*field).len(), *wanted),
+        Step::Lent(field, wanted) => same(rt, what, &frame.field_mut(*field).len(), wanted),
         Step::FillSource(byte) => fill_source(frame, *byte),
         Step::Write(field, bytes) => write(rt, frame, what, *field, bytes),
         Step::Read => frame.read_headers(),

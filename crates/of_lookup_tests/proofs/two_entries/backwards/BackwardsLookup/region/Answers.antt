@@ -7,8 +7,8 @@ use Rattle.of_classifier.specs.declared.Row.{Row}
 use Rattle.of_classifier.specs.Rows.{row_priority}
 use Rattle.of_classifier.specs.Winner.{is_matching, matching}
 use Rattle.of_classifier.specs.Looking.{looked_by}
-use Rattle.of_classifier.proofs.tests.backwards.Reversed.{filter-reverse}
-use Rattle.of_classifier.proofs.tests.backwards.BackwardsLookup.region.Goals as goal
+use Rattle.of_lookup_tests.proofs.two_entries.backwards.Reversed.{filter-reverse}
+use Rattle.of_lookup_tests.proofs.two_entries.backwards.BackwardsLookup.region.Goals as goal
 
 pub returns-clause-alike : goal.returns-clause-alike
 returns-clause-alike c = λ map a.

@@ -1,9 +1,9 @@
 use Rattle.std.proofs.Common.{◌∙◌, sym, ap}
 use Rattle.of_headers.specs.FieldMap.{value}
 use Rattle.of_classifier.specs.Scanning.{pair_of}
-use Rattle.of_classifier.proofs.tests.backwards.Older.{winner_older, winner_same}
-use Rattle.of_classifier.proofs.tests.backwards.best_of.Goals as goal
-use Rattle.of_classifier.proofs.tests.backwards.best_of.Goals.{then-matches, else-matches}
+use Rattle.of_lookup_tests.proofs.two_entries.backwards.Older.{winner_older, winner_same}
+use Rattle.of_lookup_tests.proofs.two_entries.backwards.best_of.Goals as goal
+use Rattle.of_lookup_tests.proofs.two_entries.backwards.best_of.Goals.{then-matches, else-matches}
 
 pub loop-row-preserved : goal.loop-row-preserved
 loop-row-preserved c =

@@ -2,7 +2,7 @@ use Rattle.std.specs.Prelude.{reverse}
 use Rattle.of_wire.proofs.NumberedLemmas.{distinct-without}
 use Rattle.of_classifier.specs.Rows.{row_number}
 use Rattle.of_classifier.proofs.Given.{given-without}
-use Rattle.of_classifier.proofs.tests.backwards.BackwardsLookup.take.Goals as goal
+use Rattle.of_lookup_tests.proofs.two_entries.backwards.BackwardsLookup.take.Goals as goal
 
 pub invariant_of-self : goal.invariant_of-self
 invariant_of-self c =

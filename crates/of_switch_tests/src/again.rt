@@ -1,4 +1,5 @@
-use crate::rows::ROWS;
+//! Events that are done again where there was no memory: `tools/fail-alloc --again` refuses each allocation in turn.
+use crate::checks::same;
 use of_cache::Cached;
 use of_classifier::{Lookup, Scan};
 use of_mask_groups::MaskGroups;
@@ -8,6 +9,8 @@ use of_wire::Bytes;
 use std::alloc::{AllocError, Global};
 use std::process::Abort;
 use std::test::Fail;
+
+mod rows;
 
 /// How the running switch looks entries up.
 type Lookups = Cached<MaskGroups>;
@@ -118,7 +121,7 @@ fn play_events<L: Lookup>(
     switch: &mut Switch<L>,
     reports: &mut Vec<Report>,
 ) -> Result<(), Fail> {
-    for event in events_of(alloc, ROWS)? {
+    for event in events_of(alloc, rows::ROWS)? {
         play(alloc, switch, event, reports)?;
     }
     Ok(())
@@ -136,9 +139,18 @@ fn given_again<L: Lookup>(alloc: Global) -> Result<Vec<u8>, Fail> {
     Ok(given(alloc, &reports)?)
 }
 
+fn run_events<L: Lookup>(
+    alloc: Global,
+    switch: &mut Switch<L>,
+    reports: &mut Vec<Report>,
+) -> Result<(), Fail> {
+    let events = events_of(alloc, rows::ROWS)?;
+    Ok(switch.run(&events, reports)?)
+}
+
 fn run_all<L: Lookup>(alloc: Global, reports: &mut Vec<Report>) -> Result<(), Fail> {
     let mut switch = Switch::<L>::new(alloc, 1)?;
-    Ok(switch.run(&events_of(alloc, ROWS)?, reports)?)
+    run_events(alloc, &mut switch, reports)
 }
 
 // What one call of all events gives.
@@ -155,8 +167,8 @@ fn are_given_again<L: Lookup>(rt: &impl Abort, alloc: Global) -> Result<(), Fail
     // two frames of the tie 44, FLOW_REMOVED 64; two frames behind misses 44; a frame of 60 bytes 64, PACKET_IN 102;
     // a tagged frame 26, MULTIPART_REPLY 128; four frames of the group 88, three PORT_STATUS 240, FLOW_REMOVED 64, a tagged frame 26;
     // three PACKET_INs of 14 bytes 168, the three held frames 66, ERROR 52
-    assert_eq!(rt; wanted.len(), 1484);
-    assert_eq!(rt; again.as_slice(), wanted.as_slice());
+    same(rt, "the length", &wanted.len(), &1484);
+    same(rt, "the bytes", &again.as_slice(), &wanted.as_slice());
     Ok(())
 }
 

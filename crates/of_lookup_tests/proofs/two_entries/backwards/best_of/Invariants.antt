@@ -3,7 +3,7 @@ use Rattle.std.specs.Prelude.{reverse}
 use Rattle.of_headers.specs.FieldMap.{value}
 use Rattle.of_classifier.specs.Winner.{winner_of}
 use Rattle.of_classifier.specs.Scanning.{pair_of}
-use Rattle.of_classifier.proofs.tests.backwards.best_of.Given as goal
+use Rattle.of_lookup_tests.proofs.two_entries.backwards.best_of.Given as goal
 
 -- the best of those before, which are the younger ones
 abbrev pub invariant-loop-row : goal.invariant-loop-row

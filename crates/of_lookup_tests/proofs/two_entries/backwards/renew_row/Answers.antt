@@ -1,8 +1,8 @@
 use Rattle.std.proofs.Common.{ap, ◌∙◌}
 use Rattle.std.specs.Prelude.{reverse}
 use Rattle.of_classifier.specs.Rows.{row_number}
-use Rattle.of_classifier.proofs.tests.backwards.Reversed.{renewed_first, renewed_nowhere}
-use Rattle.of_classifier.proofs.tests.backwards.renew_row.Goals as goal
+use Rattle.of_lookup_tests.proofs.two_entries.backwards.Reversed.{renewed_first, renewed_nowhere}
+use Rattle.of_lookup_tests.proofs.two_entries.backwards.renew_row.Goals as goal
 
 pub returns-in-Ok : goal.returns-in-Ok
 returns-in-Ok c =

@@ -1,4 +1,4 @@
-//! A second classifier, for the tests alone: its list is the other way round.
+//! A classifier like `Scan` whose list is the other way round.
 ghost use Rattle.std.specs.Prelude.{◌≡◌, ◌==◌, IsTrue, Some, MatchOption, nat_lt, reverse, position, if◌then◌else◌};
 ghost use Rattle.of_headers.specs.FieldMap.{value};
 ghost use Rattle.of_classifier.specs.Looking.{looked_by};
@@ -7,8 +7,7 @@ ghost use Rattle.of_classifier.specs.declared.Row.{Row};
 ghost use Rattle.of_classifier.specs.Rows.{row_number};
 ghost use Rattle.of_classifier.specs.Winner.{winner_of, number_of};
 
-use crate::scan::{is_same, mask_of_all};
-use crate::{Lookup, Row};
+use of_classifier::{Lookup, Row, is_same, mask_of_all};
 use of_headers::FieldKey;
 use of_oxm::{FieldMask, Match, matches};
 use slab::Slab;

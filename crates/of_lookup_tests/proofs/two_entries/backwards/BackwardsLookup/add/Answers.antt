@@ -2,8 +2,8 @@ use Rattle.std.specs.Prelude.{reverse}
 use Rattle.of_wire.proofs.NumberedLemmas.{distinct-push}
 use Rattle.of_classifier.specs.Rows.{made_row, row_number}
 use Rattle.of_classifier.proofs.Given.{unused_of_vacant, given-push}
-use Rattle.of_classifier.proofs.tests.backwards.Reversed.{reverse-cons}
-use Rattle.of_classifier.proofs.tests.backwards.BackwardsLookup.add.Goals as goal
+use Rattle.of_lookup_tests.proofs.two_entries.backwards.Reversed.{reverse-cons}
+use Rattle.of_lookup_tests.proofs.two_entries.backwards.BackwardsLookup.add.Goals as goal
 
 pub invariant_of-self-2 : goal.invariant_of-self-2
 invariant_of-self-2 c =
