@@ -76,6 +76,10 @@ ttl_in value = given whys.Value (number_in 256 value) >>= λ n. Ok (actions.SetN
 abbrev pub group_in : List ℕ → Result Action Why
 group_in value = given whys.Value (number_in (2 ^ 32) value) >>= λ n. Ok (actions.Group n)
 
+-- to a port; this is why, where the word is none
+abbrev pub output_in : Why → List ℕ → Result Action Why
+output_in why word = port_in why word >>= λ port. Ok (output_to port)
+
 -- a word without a value
 abbrev pub alone : List ℕ → Option Action → Result (Option Action) Why
 alone value action = if length value == 0 then Ok action else Err whys.Unknown
@@ -85,7 +89,7 @@ some r = r >>= λ action. Ok (Some action)
 
 -- the action of a verb; none of `drop`
 unfoldable pub done_by : List MatchField → Verb → List ℕ → Result (Option Action) Why
-done_by settings Output value = some (port_in whys.PortName value >>= λ port. Ok (output_to port))
+done_by settings Output value = some (output_in whys.PortName value)
 done_by settings Controller value = some (controller_in value)
 done_by settings Group value = some (group_in value)
 done_by settings Drop value = alone value None
@@ -100,7 +104,7 @@ done_by settings other value = Err whys.Unknown
 
 -- a word that is no verb: a port
 abbrev pub sent_to : List ℕ → Result (Option Action) Why
-sent_to word = some (port_in whys.Unknown word >>= λ port. Ok (output_to port))
+sent_to word = some (output_in whys.Unknown word)
 
 abbrev pub done_named : List MatchField → Option ActionWord → List ℕ → Result (Option Action) Why
 done_named settings (Some verb) word = done_by settings (verb_of verb) (value_of word)

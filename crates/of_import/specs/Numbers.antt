@@ -20,12 +20,15 @@ digit b =
     else if nat_le 65 b && nat_le b 70 then Some (b - 55)
     else None
 
+-- the value of a digit of this base
+abbrev pub digit_in : ℕ → ℕ → Option ℕ
+digit_in base b = digit b >>= below base
+
 -- the number, below the limit, that digits of this base make, after digits of that value
 abbrev pub digits_in : ℕ → ℕ → ℕ → List ℕ → Option ℕ
 digits_in base limit v [] = Some v
 digits_in base limit v (b ∷ bs) = do
-  any ← digit b
-  d ← below base any
+  d ← digit_in base b
   next ← below limit (base * v + d)
   digits_in base limit next bs
 

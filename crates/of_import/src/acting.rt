@@ -1,6 +1,6 @@
 //! What a word says as an action.
-ghost use Rattle.std.specs.Prelude.{◌≡◌, ◌≤◌, ◌<◌, ◌^◌, ◌++◌, IfOk, Ok, Err, Some, None, IfErr};
-ghost use Rattle.of_import.specs.Acting.{acted, acted_all, action_in as action_of, alone as alone_of, is_push as is_push_action, is_tag as is_tag_verb, controller_in as controller_of, done_by as done_of, group_in as group_of, is_matched as is_matched_by, length_in as length_of, listed, new_value as new_value_of, output_to as output_of, push_vlan_in as push_vlan_of, set_by as set_of, set_field_in as set_field_of, tag_first, tags as tags_of, ttl_in as ttl_of};
+ghost use Rattle.std.specs.Prelude.{◌≡◌, ◌≤◌, ◌<◌, ◌^◌, ◌++◌, IfOk, Ok, Err, Some, None, IfErr, OnOk};
+ghost use Rattle.of_import.specs.Acting.{acted, acted_all, action_in as action_of, alone as alone_of, is_push as is_push_action, is_tag as is_tag_verb, controller_in as controller_of, done_by as done_of, group_in as group_of, is_matched as is_matched_by, length_in as length_of, listed, new_value as new_value_of, output_in as sent_to, output_to as output_of, push_vlan_in as push_vlan_of, set_by as set_of, set_field_in as set_field_of, some as some_of, tag_first, tags as tags_of, ttl_in as ttl_of};
 ghost use Rattle.std.specs.List.{list_any};
 ghost use Rattle.of_import.specs.Words.{words_from};
 ghost use Rattle.of_import.specs.Stops.{Stops};
@@ -18,6 +18,7 @@ use of_actions::{Action, PORT_CONTROLLER};
 use of_layers::Field;
 use of_oxm::MatchField;
 use of_text::{cut, is};
+use std::alloc::AllocError;
 
 // Of a whole packet for the controller, OFPCML_NO_BUFFER.
 fn output_to(port: u32) -> Action
@@ -127,22 +128,39 @@ fn alone(value: &[u8], action: Option<Action>) -> Result<Option<Action>, Why>
     }
 }
 
+// A packet's way to a port, or why the word is none.
+fn output_in(otherwise: Why, word: &[u8]) -> Result<Action, Why>
+    ensures { result ≡ sent_to otherwise word.now }
+{
+    let port = port_in(otherwise, word)?;
+    Ok(output_to(port))
+}
+
+fn some(action: Result<Action, Why>) -> Result<Option<Action>, Why>
+    ensures { result ≡ some_of action }
+{
+    match action {
+        Ok(action) => Ok(Some(action)),
+        Err(why) => Err(why),
+    }
+}
+
 // The action of a verb; none of `drop`.
 #[tactic(auto, unfolding(crate::specs::Acting::done_by))]
 fn done_by(settings: &[MatchField], verb: Verb, value: &[u8]) -> Result<Option<Action>, Why>
     ensures { result ≡ done_of settings.now verb value.now }
 {
     match verb {
-        Verb::Output => Ok(Some(output_to(port_in(Why::PortName, value)?))),
-        Verb::Controller => Ok(Some(controller_in(value)?)),
-        Verb::Group => Ok(Some(group_in(value)?)),
+        Verb::Output => some(output_in(Why::PortName, value)),
+        Verb::Controller => some(controller_in(value)),
+        Verb::Group => some(group_in(value)),
         Verb::Drop => alone(value, None),
-        Verb::PushVlan => Ok(Some(push_vlan_in(value)?)),
+        Verb::PushVlan => some(push_vlan_in(value)),
         Verb::PopVlan => alone(value, Some(Action::PopVlan)),
-        Verb::SetField => Ok(Some(set_field_in(settings, value)?)),
-        Verb::Mod(word) | Verb::Tag(word) => Ok(Some(set_by(settings, word, value)?)),
+        Verb::SetField => some(set_field_in(settings, value)),
+        Verb::Mod(word) | Verb::Tag(word) => some(set_by(settings, word, value)),
         Verb::DecTtl => alone(value, Some(Action::DecNwTtl)),
-        Verb::SetTtl => Ok(Some(ttl_in(value)?)),
+        Verb::SetTtl => some(ttl_in(value)),
         Verb::Write | Verb::Clear | Verb::Metadata | Verb::Goto => Err(Why::Unknown),
     }
 }
@@ -153,7 +171,7 @@ fn action_in(settings: &[MatchField], word: &[u8]) -> Result<Option<Action>, Why
 {
     match ActionWord::named(name_of(word)) {
         Some(named) => done_by(settings, named.verb(), value_of(word)),
-        None => Ok(Some(output_to(port_in(Why::Unknown, word)?))),
+        None => some(output_in(Why::Unknown, word)),
     }
 }
 
@@ -196,6 +214,25 @@ fn tags(word: &[u8]) -> bool
     }
 }
 
+// Appends a tag, where the word asks for one and there is none.
+fn push_tag(settings: &[MatchField], done: &mut Vec<Action>, word: &[u8]) -> Result<(), AllocError>
+    ensures { OnOk result (done.new.items ≡ done.old.items ++ tag_first settings.now done.old.items word.now) }
+{
+    if tags(word) && !is_matched(settings) && !is_pushed(done) {
+        done.push(Action::PushVlan(0x8100))?;
+    }
+    Ok(())
+}
+
+fn push_one(done: &mut Vec<Action>, action: Option<Action>) -> Result<(), AllocError>
+    ensures { OnOk result (done.new.items ≡ done.old.items ++ listed action) }
+{
+    if let Some(action) = action {
+        done.push(action)?;
+    }
+    Ok(())
+}
+
 /// Appends what a word says as an action, after these settings of the match.
 #[tactic(auto, unfolding(crate::specs::Acting::acted))]
 pub fn act(settings: &[MatchField], done: &mut Vec<Action>, word: &[u8]) -> Result<(), Stop>
@@ -203,12 +240,8 @@ pub fn act(settings: &[MatchField], done: &mut Vec<Action>, word: &[u8]) -> Resu
     ensures stopped { IfErr result (Stops (acted settings.now done.old.items word.now)) }
 {
     let action = action_in(settings, word)?;
-    if tags(word) && !is_matched(settings) && !is_pushed(done) {
-        done.push(Action::PushVlan(0x8100))?;
-    }
-    if let Some(action) = action {
-        done.push(action)?;
-    }
+    push_tag(settings, done, word)?;
+    push_one(done, action)?;
     Ok(())
 }
 

@@ -5,7 +5,7 @@ ghost use Rattle.of_import.specs.ActionWords.{action_named, text_of, verb_of};
 use crate::field_word::FieldWord;
 
 /// What a word for an action or an instruction does.
-#[derive(Clone, Copy, Debug, PartialEq, Eq)]
+#[derive(Clone, Copy)]
 pub enum Verb {
     /// OFPAT_OUTPUT to a port.
     Output,
@@ -38,7 +38,7 @@ pub enum Verb {
 }
 
 /// A word for an action or an instruction.
-#[derive(Clone, Copy, Debug, PartialEq, Eq)]
+#[derive(Clone, Copy)]
 pub enum ActionWord {
     Output,
     Controller,

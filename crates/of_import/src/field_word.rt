@@ -5,7 +5,7 @@ ghost use Rattle.of_import.specs.FieldWords.{field_word_named, form_of, target_o
 use of_layers::Field;
 
 /// A word for a match field.
-#[derive(Clone, Copy, Debug, PartialEq, Eq)]
+#[derive(Clone, Copy)]
 pub enum FieldWord {
     InPort,
     Metadata,
@@ -51,7 +51,7 @@ pub enum FieldWord {
 }
 
 /// Which field a word is for.
-#[derive(Clone, Copy, Debug, PartialEq, Eq)]
+#[derive(Clone, Copy)]
 pub enum Target {
     /// This one.
     Exact(Field),
@@ -72,7 +72,7 @@ pub enum Target {
 }
 
 /// How its value is written.
-#[derive(Clone, Copy, Debug, PartialEq, Eq)]
+#[derive(Clone, Copy, PartialEq, Eq)]
 pub enum Form {
     /// A number, which a mask may follow.
     Number,

@@ -1,5 +1,5 @@
 //! The flow of its words.
-ghost use Rattle.std.specs.Prelude.{◌≡◌, ◌++◌, IfOk, IfErr, OnOk, Ok, map, IfSome, ◌<◌, ◌^◌};
+ghost use Rattle.std.specs.Prelude.{◌≡◌, ◌++◌, ◌&&◌, IfOk, IfErr, OnOk, Ok, map, IfSome, ◌<◌, ◌^◌};
 ghost use Rattle.std.specs.List.{list_all};
 ghost use Rattle.of_import.specs.Finished.{action_fits as action_fits_so, field_fits as field_fits_so, flow_of, goto_step, metadata_step, steps_of, when};
 ghost use Rattle.of_import.specs.Matches.{fields_of as fields_in};
@@ -45,17 +45,35 @@ fn push_goto(steps: &mut Vec<StepText>, goto: Option<u8>) -> Result<(), AllocErr
     Ok(())
 }
 
-// The instructions, in execution order.
-fn steps_from(alloc: Global, sketch: FlowSketch) -> Result<Vec<StepText>, AllocError>
-    ensures { IfOk result (λ steps. map view_step steps.items ≡ steps_of (seen sketch)) }
+// Takes the actions out.
+fn take(actions: &mut Vec<Action>) -> Vec<Action>
+    ensures { result.items ≡ actions.old.items }
+{
+    let none = Vec::new(*actions.allocator());
+    std::mem::replace(actions, none)
+}
+
+// Appends the instructions, in execution order, and takes their actions out of the sketch.
+fn push_steps(steps: &mut Vec<StepText>, sketch: &mut FlowSketch) -> Result<(), AllocError>
+    ensures { OnOk result (map view_step steps.new.items ≡ map view_step steps.old.items ++ steps_of (seen sketch.old)) }
+{
+    let applies = !sketch.apply.is_empty();
+    push_when(steps, applies, StepText::Apply(take(&mut sketch.apply)))?;
+    push_when(steps, sketch.clears, StepText::Clear)?;
+    push_when(
+        steps,
+        sketch.writes,
+        StepText::Write(take(&mut sketch.write)),
+    )?;
+    push_metadata(steps, sketch.metadata)?;
+    push_goto(steps, sketch.goto)
+}
+
+fn steps_from(alloc: Global, sketch: &mut FlowSketch) -> Result<Vec<StepText>, AllocError>
+    ensures { IfOk result (λ steps. map view_step steps.items ≡ steps_of (seen sketch.old)) }
 {
     let mut steps = Vec::new(alloc);
-    let applies = !sketch.apply.is_empty();
-    push_when(&mut steps, applies, StepText::Apply(sketch.apply))?;
-    push_when(&mut steps, sketch.clears, StepText::Clear)?;
-    push_when(&mut steps, sketch.writes, StepText::Write(sketch.write))?;
-    push_metadata(&mut steps, sketch.metadata)?;
-    push_goto(&mut steps, sketch.goto)?;
+    push_steps(&mut steps, sketch)?;
     Ok(steps)
 }
 
@@ -95,6 +113,12 @@ pub fn actions_fit(actions: &[Action]) -> bool
     actions.iter().all(|action| action_fits(*action))
 }
 
+fn numbers_fit(fields: &[MatchField], sketch: &FlowSketch) -> bool
+    ensures { result ≡ (list_all field_fits_so fields.now && list_all action_fits_so sketch.now.apply.items && list_all action_fits_so sketch.now.write.items) }
+{
+    fields_fit(fields) && actions_fit(&sketch.apply) && actions_fit(&sketch.write)
+}
+
 // What the type of the head says of its numbers.
 fn known_head(head: FlowHead)
     ensures { HeadFits head }
@@ -115,23 +139,21 @@ fn known_goto(goto: Option<u8>)
 }
 
 #[tactic(auto, unfolding(crate::specs::Finished::flow_of))]
-fn finished(alloc: Global, sketch: FlowSketch) -> Result<FlowText, Stop>
-    ensures told { IfOk result (λ flow. flow_of (seen sketch) ≡ Ok (view flow)) }
-    ensures stopped { IfErr result (Stops (flow_of (seen sketch))) }
+fn finished(alloc: Global, sketch: &mut FlowSketch) -> Result<FlowText, Stop>
+    ensures told { IfOk result (λ flow. flow_of (seen sketch.old) ≡ Ok (view flow)) }
+    ensures stopped { IfErr result (Stops (flow_of (seen sketch.old))) }
 {
     if !sketch.acting {
         return Err(Stop::Refused(Why::Missing));
     }
     let fields = fields_of(alloc, &sketch.settings)?;
-    if !fields_fit(&fields) || !actions_fit(&sketch.apply) || !actions_fit(&sketch.write) {
+    if !numbers_fit(&fields, sketch) {
         return Err(Stop::Refused(Why::Value));
     }
-    let head = sketch.head;
-    let steps = steps_from(alloc, sketch)?;
     Ok(FlowText {
-        head,
+        head: sketch.head,
         fields,
-        steps,
+        steps: steps_from(alloc, sketch)?,
     })
 }
 
@@ -144,7 +166,8 @@ pub fn finish_flow(alloc: Global, sketch: FlowSketch) -> Result<FlowText, Stop>
     known_head(sketch.head);
     known_metadata(sketch.metadata);
     known_goto(sketch.goto);
-    match finished(alloc, sketch) {
+    let mut sketch = sketch;
+    match finished(alloc, &mut sketch) {
         Ok(flow) => Ok(flow),
         Err(stop) => Err(stop),
     }

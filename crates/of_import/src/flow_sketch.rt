@@ -20,7 +20,7 @@ use of_text::{FlowHead, cut, is};
 use std::alloc::Global;
 
 /// What the words of a line say of a flow, so far.
-#[derive(Debug, Drop)]
+#[derive(Drop)]
 pub struct FlowSketch {
     pub head: FlowHead,
     pub settings: Vec<MatchField>,

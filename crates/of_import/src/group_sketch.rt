@@ -21,7 +21,7 @@ use of_text::{BucketHead, BucketText, GroupHead, GroupText, is};
 use std::alloc::{AllocError, Global};
 
 /// What the words of a line say of a group, so far.
-#[derive(Debug, Drop)]
+#[derive(Drop)]
 pub struct GroupSketch {
     pub id: Option<u32>,
     pub kind: Option<GroupKind>,

@@ -3,7 +3,7 @@ ghost use Rattle.std.specs.Prelude.{◌≡◌};
 ghost use Rattle.of_import.specs.HeadWords.{head_named, part_of, text_of};
 
 /// What a word is of a flow.
-#[derive(Clone, Copy, Debug, PartialEq, Eq)]
+#[derive(Clone, Copy)]
 pub enum Part {
     Cookie,
     Table,
@@ -19,7 +19,7 @@ pub enum Part {
 }
 
 /// A word for a flow beside its match and its actions.
-#[derive(Clone, Copy, Debug, PartialEq, Eq)]
+#[derive(Clone, Copy)]
 pub enum HeadWord {
     Cookie,
     Table,

@@ -23,7 +23,7 @@ use of_text::{FlowText, GroupText, cut, is};
 use std::alloc::Global;
 
 /// What a line says.
-#[derive(Debug, Drop)]
+#[derive(Drop)]
 pub enum Said {
     Nothing,
     Group(GroupText),

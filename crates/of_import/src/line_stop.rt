@@ -6,7 +6,7 @@ use crate::why::Why;
 use std::alloc::AllocError;
 
 /// Why reading a line stops.
-#[derive(Debug, Drop)]
+#[derive(Drop)]
 pub enum LineStop {
     NoMemory,
     /// This word is refused.

@@ -1,6 +1,6 @@
 //! Numbers in words.
-ghost use Rattle.std.specs.Prelude.{◌≡◌, ◌≤◌, ◌<◌, ◌^◌, IfSome, Some, None};
-ghost use Rattle.of_import.specs.Numbers.{digit as digit_of, digits_in as value_of_digits, some_digits as value_of_some, number_in as number_of};
+ghost use Rattle.std.specs.Prelude.{◌≡◌, ◌≤◌, ◌<◌, ◌+◌, ◌*◌, ◌^◌, IfSome, Some, None};
+ghost use Rattle.of_import.specs.Numbers.{below, digit as digit_of, digit_in as digit_below, digits_in as value_of_digits, some_digits as value_of_some, number_in as number_of};
 
 use of_text::{cut, is};
 
@@ -17,6 +17,29 @@ fn digit(byte: u8) -> Option<u8>
     }
 }
 
+// The value of a digit of this base.
+fn digit_in(base: u128, byte: u8) -> Option<u128>
+    requires { base ≤ 16 }
+    ensures value { result ≡ digit_below base byte }
+    ensures small { IfSome result (λ d. d < base) }
+{
+    let digit = u128::from(digit(byte)?);
+    if digit < base { Some(digit) } else { None }
+}
+
+// The number that one more digit makes, below the limit.
+fn with_digit(base: u128, limit: u128, value: u128, digit: u128) -> Option<u128>
+    requires base { base ≤ 16 }
+    requires limit { limit ≤ 2 ^ 64 }
+    requires value { value ≤ limit }
+    requires digit { digit < base }
+    ensures value { result ≡ below limit (base * value + digit) }
+    ensures small { IfSome result (λ n. n < limit) }
+{
+    let next = base * value + digit;
+    if next < limit { Some(next) } else { None }
+}
+
 // The number, below the limit, that digits of this base make.
 #[tactic(auto, using(crate::proofs::NumberLemmas::first_digit))]
 fn digits_in(base: u128, limit: u128, digits: &[u8]) -> Option<u128>
@@ -27,14 +50,8 @@ fn digits_in(base: u128, limit: u128, digits: &[u8]) -> Option<u128>
 {
     let mut value: u128 = 0;
     for byte in digits {
-        let digit = u128::from(digit(*byte)?);
-        if digit >= base {
-            return None;
-        }
-        value = base * value + digit;
-        if value >= limit {
-            return None;
-        }
+        let digit = digit_in(base, *byte)?;
+        value = with_digit(base, limit, value, digit)?;
     }
     Some(value)
 }

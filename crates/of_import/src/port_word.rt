@@ -5,7 +5,7 @@ ghost use Rattle.of_import.specs.PortWords.{number_of, port_word_named, text_of}
 use of_actions::{PORT_ALL, PORT_CONTROLLER, PORT_FLOOD, PORT_IN_PORT};
 
 /// The name of a reserved port (OpenFlow 1.3.5, 4.5), in upper or lower case.
-#[derive(Clone, Copy, Debug, PartialEq, Eq)]
+#[derive(Clone, Copy)]
 pub enum PortWord {
     InPort,
     SmallInPort,

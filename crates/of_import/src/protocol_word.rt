@@ -3,7 +3,7 @@ ghost use Rattle.std.specs.Prelude.{◌≡◌};
 ghost use Rattle.of_import.specs.ProtocolWords.{ethertype_of, protocol_named, protocol_of, text_of};
 
 /// A word for a protocol, which stands for fields of a match.
-#[derive(Clone, Copy, Debug, PartialEq, Eq)]
+#[derive(Clone, Copy)]
 pub enum ProtocolWord {
     Ip,
     Ipv6,

@@ -6,7 +6,7 @@ use crate::why::Why;
 use std::alloc::{AllocError, AllocFailed};
 
 /// Why reading stops at a word.
-#[derive(Clone, Copy, Debug, PartialEq, Eq)]
+#[derive(Clone, Copy)]
 pub enum Stop {
     NoMemory,
     Refused(Why),
