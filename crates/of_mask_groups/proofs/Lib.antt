@@ -18,3 +18,4 @@ pub mod SameLemmas
 pub mod Holding
 pub mod Turning
 pub mod Looking
+pub mod Placing

@@ -1,18 +1,22 @@
 //! The classifier by groups of masks.
-ghost use Rattle.std.specs.Prelude.{◌≡◌, ℕ, ◌<◌, ◌≤◌, IsTrue, Some, None, IfOk, OnErr, vec_len, vec_capacity};
+ghost use Rattle.std.specs.Prelude.{◌≡◌, ℕ, ◌<◌, ◌≤◌, IsTrue, Some, None, IfOk, OnErr, length, slice_index_or, vec_len, vec_capacity};
+ghost use Rattle.of_layers.specs.declared.field.Field.{Field};
+ghost use Rattle.of_oxm.specs.Masks.{looked_at, mask_at};
+ghost use Rattle.of_oxm.specs.NormalForm.{IsMatch};
+ghost use Rattle.of_mask_groups.specs.declared.group.Group.{Group as AGroup};
 ghost use Rattle.slab.specs.Slab.{get, Updates, HasRoomFor};
 ghost use Rattle.of_headers.specs.FieldMap.{value};
 ghost use Rattle.of_classifier.specs.Winner.{winner_of, number_of as number_of_row};
 ghost use Rattle.of_mask_groups.specs.Covering.{number_of_found};
 ghost use Rattle.of_mask_groups.specs.Aged.{by_age, AreAged};
-ghost use Rattle.of_mask_groups.specs.Grouping.{AreGrouped};
+ghost use Rattle.of_mask_groups.specs.Grouping.{AreGrouped, LooksLike};
 ghost use Rattle.of_classifier.specs.Looking.{looked_by};
 ghost use Rattle.of_mask_groups.specs.Probing.{probes_of, reached};
 
 use crate::entry::Entry;
 use crate::found::Found;
 use crate::group::Group;
-use crate::groups::{put_back, take_group};
+use crate::groups::{place_of, put_back, take_group};
 use crate::probing::{mask_of_groups, probe_groups};
 use crate::rank::Rank;
 use crate::renumbering::{next_age, set_age};
@@ -160,13 +164,70 @@ fn insert_entry(
     ensures held { vec_len groups.new ≤ vec_capacity groups.new }
 {
     entry.fields.known();
+    let mask = mask_of(&entry.fields);
+    match place_of(groups, &mask) {
+        Some(place) if entry.priority <= groups[place].best => {
+            insert_in_place(entries, groups, alloc, entry, place)
+        }
+        _ => insert_apart(entries, groups, alloc, entry, &mask),
+    }
+}
+
+// The same into the group at a place, which is of the entry's mask, and has an entry of at least its priority: so it stays there.
+fn insert_in_place(
+    entries: &mut Slab<Entry>,
+    groups: &mut [Group],
+    alloc: Global,
+    entry: Entry,
+    place: usize,
+) -> Result<usize, AllocError>
+    requires grouped { AreGrouped entries.old groups.old }
+    requires room { HasRoomFor entries.old 1 }
+    requires normal { IsMatch entry.fields }
+    requires within { place < length groups.old }
+    requires looks { (g : AGroup) → slice_index_or groups.old place g ≡ g → LooksLike g entry }
+    requires low { (g : AGroup) → slice_index_or groups.old place g ≡ g → entry.priority ≤ g.best }
+    ensures vacant { IfOk result (λ number. get entries.old number ≡ None) }
+    ensures updates { IfOk result (λ number. Updates entries.old entries.new number (Some entry)) }
+    ensures err { OnErr result (entries.new ≡ entries.old) }
+    ensures grouped { AreGrouped entries.new groups.new }
+{
+    let number = entries.vacant_key();
+    let rank = Rank {
+        priority: entry.priority,
+        number,
+    };
+    groups[place].insert(alloc, &key_of(&entry.fields), rank)?;
+    entries.insert_reserved(entry);
+    Ok(number)
+}
+
+// The same where the group of the entry's mask is new, or moves forward: it is taken out, and put back.
+fn insert_apart(
+    entries: &mut Slab<Entry>,
+    groups: &mut Vec<Group>,
+    alloc: Global,
+    entry: Entry,
+    mask: &FieldMask,
+) -> Result<usize, AllocError>
+    requires grouped { AreGrouped entries.old groups.old.items }
+    requires room { HasRoomFor entries.old 1 }
+    requires group_room { vec_len groups.old < vec_capacity groups.old }
+    requires normal { IsMatch entry.fields }
+    requires mask { (f : Field) → mask_at mask.now f ≡ looked_at entry.fields f }
+    ensures vacant { IfOk result (λ number. get entries.old number ≡ None) }
+    ensures updates { IfOk result (λ number. Updates entries.old entries.new number (Some entry)) }
+    ensures err { OnErr result (entries.new ≡ entries.old) }
+    ensures grouped { AreGrouped entries.new groups.new.items }
+    ensures held { vec_len groups.new ≤ vec_capacity groups.new }
+{
     let key = key_of(&entry.fields);
     let number = entries.vacant_key();
     let rank = Rank {
         priority: entry.priority,
         number,
     };
-    let mut group = take_group(groups, alloc, &mask_of(&entry.fields));
+    let mut group = take_group(groups, alloc, mask);
     match group.insert(alloc, &key, rank) {
         Ok(()) => {
             entries.insert_reserved(entry);

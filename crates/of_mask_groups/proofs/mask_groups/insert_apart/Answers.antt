@@ -6,8 +6,8 @@ use Rattle.of_mask_groups.specs.Grouping.{AreGrouped}
 use Rattle.of_mask_groups.proofs.Splitting.{split_same, grouped_left}
 use Rattle.of_mask_groups.proofs.Turning.{split_more}
 use Rattle.of_mask_groups.proofs.Adding.{looks_by, asks_by, some_more}
-use Rattle.of_mask_groups.proofs.mask_groups.insert_entry.Goals as goal
-use Rattle.of_mask_groups.proofs.mask_groups.insert_entry.Goals.{then-not-is_empty, else-not-is_empty}
+use Rattle.of_mask_groups.proofs.mask_groups.insert_apart.Goals as goal
+use Rattle.of_mask_groups.proofs.mask_groups.insert_apart.Goals.{then-not-is_empty, else-not-is_empty}
 
 pub put_back-requires-clause-falling : goal.put_back-requires-clause-falling
 put_back-requires-clause-falling c = (c.take_group-group.ensures.split c.args.entries.now c.requires.grouped).falling
@@ -27,8 +27,8 @@ returns-in-Ok-clause-grouped c =
     let u : Updates old new n (Some e) = subst (λ k. Updates old new k (Some e)) same c.insert_reserved.ensures.updates in
     let more = c.in-Ok.ensures.ok in
     c.put_back.ensures.grouped new
-    (split_more old new c.take_group-group.new.groups.items g h c.key_of-key.result n e c.vacant_key-number.ensures.vacant u c.known.ensures
-    (looks_by g c.mask_of.result e c.take_group-group.ensures.mask c.mask_of.ensures) (asks_by c.key_of-key.result e c.key_of-key.ensures)
+    (split_more old new c.take_group-group.new.groups.items g h c.key_of-key.result n e c.vacant_key-number.ensures.vacant u c.requires.normal
+    (looks_by g c.args.mask.now e c.take_group-group.ensures.mask c.requires.mask) (asks_by c.key_of-key.result e c.key_of-key.ensures)
     more (c.take_group-group.ensures.split old c.requires.grouped))
     (some_more g h c.key_of-key.result e.priority n more)
 
