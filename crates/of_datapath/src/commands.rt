@@ -20,6 +20,7 @@ pub const ALL_TABLES: u8 = 255;
 /// OFPP_ANY and OFPG_ANY: no port and no group is asked for.
 pub const ANY: u32 = 0xffff_ffff;
 
+/// Whether a FLOW_MOD's flags have this one (OpenFlow 1.3.5, 7.3.4.1).
 pub fn has_flag(flags: u16, flag: u16) -> bool
     ensures { result ≡ with_flag flags flag }
 {
@@ -74,7 +75,7 @@ pub fn names_absent_group(instructions: &[Instruction], groups: &Groups) -> bool
     instructions.iter().any(|instruction| instruction_names_absent_group(instruction, groups))
 }
 
-/// The flow that a FLOW_MOD adds.
+/// The flow that a FLOW_MOD adds (OpenFlow 1.3.5, 6.4).
 pub fn flow_from(flow_mod: FlowMod) -> Flow
     ensures { result ≡ flow_of flow_mod }
 {
@@ -108,7 +109,7 @@ fn out_from(command: FlowModCommand, number: u32) -> Option<u32>
     }
 }
 
-/// The entries that a MODIFY or DELETE command selects.
+/// The entries that a MODIFY or DELETE command selects (OpenFlow 1.3.5, 6.4).
 pub fn which_from(flow_mod: FlowMod) -> Selector
     ensures { result ≡ selector_of flow_mod }
 {

@@ -94,7 +94,7 @@ impl Control {
         }
     }
 
-    /// The asynchronous messages for the controller, by the phase of its connection.
+    /// The asynchronous messages for the controller, by the phase of its connection: none before its HELLO was accepted.
     pub fn heard(&self, phase: Phase) -> AsyncConfig
         ensures { result ≡ heard_while phase self.now }
     {

@@ -1,11 +1,13 @@
+//! What a frame, a command or a moment gives.
+
 use of_messages::MessageBytes;
 use of_wire::Bytes;
 use smallvec::SmallVec;
 
-/// What a call of the switch gives, in order. Up to two effects need no allocation.
+/// What a call gives, in order. Up to two effects need no allocation.
 pub type Effects = SmallVec<Effect, 2>;
 
-/// One thing that a call of the switch gives.
+/// One thing that a call gives: what leaves, or the end of the connection.
 #[derive(Debug, Default, Drop)]
 pub enum Effect {
     /// A message to the controller.

@@ -97,7 +97,7 @@ fn tables_at<L: Lookup>(alloc: Global, latest: u64) -> Result<FlowTables<L>, All
     Ok(tables)
 }
 
-/// The flow tables of a configuration, with entries that are added at this moment.
+/// The flow tables of a configuration, with entries that are added at this moment, in nanoseconds. It fails only if memory runs out.
 pub fn load_tables<L: Lookup>(
     alloc: Global,
     latest: u64,

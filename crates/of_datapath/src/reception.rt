@@ -1,3 +1,5 @@
+//! The reception of a frame at a port.
+
 use of_ports::PortCount;
 
 /// What a port counts of a frame that it received.

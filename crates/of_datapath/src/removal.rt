@@ -1,3 +1,5 @@
+//! Entries that are about to be removed.
+
 use crate::effect::Effects;
 use of_table::Cause;
 

@@ -18,7 +18,7 @@ fn unless_any(number: u32) -> Option<u32>
     if number == ANY { None } else { Some(number) }
 }
 
-/// The entries that a request selects.
+/// The entries that a request for statistics of flows selects (OpenFlow 1.3.5, 7.3.5.2).
 pub fn asked_by(request: FlowStatsRequest) -> Selector
     ensures { result ≡ asked request }
 {
