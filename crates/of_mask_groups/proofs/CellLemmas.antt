@@ -1,6 +1,6 @@
 -- The lists under the keys of a map, one of which changes.
 use Rattle.std.proofs.Common.{◌≡◌, ℕ, Bool, true, false, cond, Option, Some, None, List, [], ◌∷◌, ◌++◌, subst, refl, sym, ◌∙◌, ap, arith}
-use Rattle.std.specs.Prelude.{is_some, IsSome, Result, Ok, Err, OnOk, OnErr, ◌≤◌, ◌+◌, vec_len, vec_capacity}
+use Rattle.std.specs.Prelude.{IsSome, Result, Ok, Err, OnOk, OnErr, ◌≤◌, ◌+◌, vec_len, vec_capacity}
 use Rattle.std.specs.Global.{Vec}
 use Rattle.std.specs.HashMap.{HashMap, get_by, UpdatesBy}
 use Rattle.of_headers.specs.declared.key.FieldKey.{FieldKey}

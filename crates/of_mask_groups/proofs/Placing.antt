@@ -9,7 +9,7 @@ use Rattle.of_mask_groups.specs.declared.group.Group.{Group}
 use Rattle.of_mask_groups.specs.Grouping.{LooksLike, AsksFor, IsGroup, AreFalling, AreGrouped, HasMore, IsPlaceFor, IsSame}
 use Rattle.of_mask_groups.proofs.Adding.{some_more}
 use Rattle.of_mask_groups.proofs.Members.{at_place, in_cons, not_in_nil}
-use Rattle.of_mask_groups.proofs.Splitting.{no_rank, put_in, split_removed, split_same}
+use Rattle.of_mask_groups.proofs.Splitting.{put_in, split_removed, split_same}
 use Rattle.of_mask_groups.proofs.Turning.{split_more}
 
 -- the groups without the one at a place
