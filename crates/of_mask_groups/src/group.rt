@@ -3,10 +3,11 @@ ghost use Rattle.std.specs.Prelude.{◌≡◌, ◌+◌, ◌<◌, ◌^◌, IsTrue
 ghost use Rattle.of_headers.specs.declared.key.FieldKey.{FieldKey as AKey};
 ghost use Rattle.of_mask_groups.specs.Cells.{cell_at, AreOccupied};
 ghost use Rattle.of_mask_groups.specs.Grouping.{HasMore, HasLess, IsSame};
+ghost use Rattle.of_mask_groups.specs.Ranks.{IsHighest};
 
 use crate::cells::{Cells, drop_number, drop_vacant, make_room, push_number};
 use crate::masked::MaskedKey;
-use crate::rank::{Rank, highest};
+use crate::rank::Rank;
 use of_headers::FieldKey;
 use of_oxm::FieldMask;
 use std::alloc::{AllocError, Global};
@@ -70,12 +71,13 @@ impl Group {
         ensures ok { OnOk result (HasMore self.old self.new key.now rank.priority rank.number) }
         ensures err { OnErr result (IsSame self.old self.new) }
     {
-        make_room(&mut self.cells, alloc, key)?;
+        let key = MaskedKey { fields: *key };
+        make_room(&mut self.cells, alloc, &key)?;
         if let Err(error) = self.ranks.insert(rank) {
-            drop_vacant(&mut self.cells, key);
+            drop_vacant(&mut self.cells, &key);
             return Err(error.into());
         }
-        push_number(&mut self.cells, key, rank.number);
+        push_number(&mut self.cells, &key, rank.number);
         self.best = highest(&self.ranks);
         Ok(())
     }
@@ -85,7 +87,17 @@ impl Group {
         ensures { HasLess self.old self.new key.now rank.priority rank.number }
     {
         self.ranks.remove(&rank);
-        drop_number(&mut self.cells, key, rank.number);
+        drop_number(&mut self.cells, &MaskedKey { fields: *key }, rank.number);
         self.best = highest(&self.ranks);
+    }
+}
+
+// The highest priority, or 0 where there is none.
+fn highest(ranks: &BTreeSet<Rank>) -> u16
+    ensures { IsHighest ranks.now result }
+{
+    match ranks.last() {
+        Some(rank) => rank.priority,
+        None => 0,
     }
 }
