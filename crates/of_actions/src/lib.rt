@@ -25,6 +25,4 @@ pub use instruction::Instruction;
 pub use instruction_list::InstructionList;
 pub use instruction_reading::{one_instruction_reading, read_instructions};
 pub use instruction_writing::write_instructions;
-pub use port_number::{
-    PORT_ALL, PORT_CONTROLLER, PORT_FLOOD, PORT_IN_PORT, PORT_MAX, PORT_TABLE, is_number,
-};
+pub use port_number::is_number;

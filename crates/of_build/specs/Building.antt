@@ -1,5 +1,6 @@
 -- EVENT FILES THAT BUILD A CONFIGURATION on a new switch: a controller connects, says HELLO, and adds each group by a GROUP_MOD and each flow by a FLOW_MOD.
 use Rattle.std.specs.Prelude.{◌≡◌, ℕ, ◌+◌, ◌==◌, Bool, List, [], ◌∷◌, ◌++◌, codes, filter, length, if◌then◌else◌}
+use Rattle.of_wire.specs.declared.limits.TheConstants.{OFP_NO_BUFFER, OFPP_ANY, OFPG_ANY}
 use Rattle.hex.specs.Hex.{encode_lower}
 use Rattle.of_messages.specs.declared.message.FlowMod.{FlowMod}
 use Rattle.of_messages.specs.declared.message.FlowModCommand.TheVariants.{Add}
@@ -23,9 +24,9 @@ add_of f = record {
   idle_timeout = f.head.idle;
   hard_timeout = f.head.hard;
   priority = f.head.priority;
-  buffer = 0xffffffff;
-  out_port = 0xffffffff;
-  out_group = 0xffffffff;
+  buffer = OFP_NO_BUFFER;
+  out_port = OFPP_ANY;
+  out_group = OFPG_ANY;
   flags = f.head.flags;
   fields = f.fields;
   instructions = instructions_of f;

@@ -17,13 +17,8 @@ ghost use Rattle.of_build.specs.Building.{BuildsOf, add_lines, add_of as add_is,
 use of_groups::chain_lengths;
 use of_messages::{FlowMod, FlowModCommand, NewGroup, write_flow_mod, write_group_mod};
 use of_text::{Config, FlowText, GroupText, TextFault, assemble};
+use of_wire::limits::{OFP_NO_BUFFER, OFPG_ANY, OFPP_ANY, TABLES};
 use std::alloc::{AllocError, Global};
-
-/// How many flow tables there are.
-const TABLES: u8 = 16;
-
-/// OFPP_ANY, OFPG_ANY and OFP_NO_BUFFER.
-const ANY: u32 = 0xffff_ffff;
 
 /// A HELLO of version 4 without elements (OpenFlow 1.3.5, 7.5.1).
 const HELLO: [u8; 8] = [4, 0, 0, 8, 0, 0, 0, 0];
@@ -60,9 +55,9 @@ fn add_of(table: u8, flow: &FlowText) -> Result<FlowMod, AllocError>
         idle_timeout: flow.head.idle,
         hard_timeout: flow.head.hard,
         priority: flow.head.priority,
-        buffer: ANY,
-        out_port: ANY,
-        out_group: ANY,
+        buffer: OFP_NO_BUFFER,
+        out_port: OFPP_ANY,
+        out_group: OFPG_ANY,
         flags: flow.head.flags,
         fields: flow.to_match()?,
         instructions: flow.to_instructions()?,

@@ -10,10 +10,8 @@ use crate::verdict::Verdict;
 use of_classifier::Lookup;
 use of_remarks::Remark;
 use of_switch::Switch;
+use of_wire::limits::TABLES;
 use std::alloc::{AllocError, Global};
-
-/// How many tables a switch has (OpenFlow 1.3.5, 5.1).
-const TABLES: u8 = 16;
 
 // Appends the verdicts on the entries of a table.
 fn check_table<L: Lookup>(

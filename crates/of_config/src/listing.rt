@@ -16,13 +16,8 @@ use of_groups::chain_lengths;
 use of_messages::{FlowMod, FlowModCommand, NewGroup, write_flow_mod, write_group_mod};
 use of_text::{Config, FlowText, GroupText};
 use of_wire::Bytes;
+use of_wire::limits::{OFP_NO_BUFFER, OFPG_ANY, OFPP_ANY, TABLES};
 use std::alloc::{AllocError, Global};
-
-/// How many flow tables there are.
-const TABLES: u8 = 16;
-
-/// OFPP_ANY, OFPG_ANY and OFP_NO_BUFFER.
-const ANY: u32 = 0xffff_ffff;
 
 // The FLOW_MOD that adds a flow of that table.
 fn flow_message(alloc: Global, xid: u32, table: u8, flow: &FlowText) -> Result<Bytes, AllocError>
@@ -38,9 +33,9 @@ fn flow_message(alloc: Global, xid: u32, table: u8, flow: &FlowText) -> Result<B
         idle_timeout: flow.head.idle,
         hard_timeout: flow.head.hard,
         priority: flow.head.priority,
-        buffer: ANY,
-        out_port: ANY,
-        out_group: ANY,
+        buffer: OFP_NO_BUFFER,
+        out_port: OFPP_ANY,
+        out_group: OFPG_ANY,
         flags: flow.head.flags,
         fields: flow.to_match()?,
         instructions: flow.to_instructions()?,

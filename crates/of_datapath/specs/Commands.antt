@@ -2,6 +2,7 @@
 use Rattle.std.specs.Prelude.{ℕ, ◌%◌, ◌^◌, ◌==◌, ◌&&◌, nat_le, bit_and, Bool, true, false, not, List, [], ◌∷◌, map, filter, Option, Some, None, is_none, if◌then◌else◌}
 use Rattle.std.specs.List.{list_any}
 use Rattle.std.specs.Option.{option_map}
+use Rattle.of_wire.specs.declared.limits.TheConstants.{OFPTT_ALL, OFPP_ANY}
 use Rattle.of_buffers.specs.Buffers.{Held, HeldFrames, held, used}
 use Rattle.of_wire.specs.declared.codes.TheConstants.{OFPBAC_BAD_OUT_GROUP, OFPBRC_BUFFER_UNKNOWN, OFPFMFC_BAD_TABLE_ID, OFPFMFC_OVERLAP, OFPFMFC_TABLE_FULL}
 use Rattle.of_wire.specs.Reasons.{flow_removed_number}
@@ -60,11 +61,11 @@ unless_any any n = if n == any then None else Some n
 
 -- DELETE alone filters by out_port and out_group
 abbrev pub out_of : FlowModCommand → ℕ → Option ℕ
-out_of command n = if is_delete command then unless_any 0xffffffff n else None
+out_of command n = if is_delete command then unless_any OFPP_ANY n else None
 
 abbrev pub selector_of : FlowMod → Selector
 selector_of m = record {
-  table = unless_any 255 m.table;
+  table = unless_any OFPTT_ALL m.table;
   fields = m.fields;
   priority = if is_strict m.command then Some m.priority else None;
   cookie = m.cookie;

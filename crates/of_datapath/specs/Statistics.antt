@@ -1,5 +1,6 @@
 -- Why a MULTIPART_REQUEST is refused and what it is answered, by the state of the switch (OpenFlow 1.3.5, 7.3.5).
 use Rattle.std.specs.Prelude.{ℕ, Bool, false, not, List, [], ◌∷◌, Some, None}
+use Rattle.of_wire.specs.declared.limits.TheConstants.{OFPTT_ALL, OFPP_ANY, OFPG_ANY}
 use Rattle.of_wire.specs.declared.codes.TheConstants.{OFPBRC_BAD_PORT}
 use Rattle.of_wire.specs.declared.code.Code.{Code}
 use Rattle.of_messages.specs.declared.multipart.FlowStatsRequest.{FlowStatsRequest}
@@ -18,13 +19,13 @@ use Rattle.of_datapath.specs.Datapath.{Forwarding}
 -- the entries that are asked for: those that a DELETE with the same values would select
 abbrev pub asked : FlowStatsRequest → Selector
 asked r = record {
-  table = unless_any 255 r.table;
+  table = unless_any OFPTT_ALL r.table;
   fields = r.fields;
   priority = None;
   cookie = r.cookie;
   cookie_mask = r.cookie_mask;
-  out_port = unless_any 0xffffffff r.out_port;
-  out_group = unless_any 0xffffffff r.out_group;
+  out_port = unless_any OFPP_ANY r.out_port;
+  out_group = unless_any OFPG_ANY r.out_group;
 }
 
 -- one port is asked for, and it does not exist

@@ -1,6 +1,7 @@
 -- What a switch sends of the items that a packet's run gave: frames out of ports, and PACKET_INs to the controller (OpenFlow 1.3.5, 7.4.1), whose frames are held where only their first bytes are sent.
 use Rattle.std.specs.Prelude.{ℕ, ◌^◌, ◌==◌, nat_lt, Bool, true, false, not, ◌&&◌, List, [], ◌∷◌, length, take, filter, flat_map, unwrap_or, is_none, if◌then◌else◌}
 use Rattle.std.specs.Option.{option_map_or}
+use Rattle.of_wire.specs.declared.limits.TheConstants.{OFP_NO_BUFFER}
 use Rattle.of_wire.specs.Reasons.{packet_in_number}
 use Rattle.of_headers.specs.Faults.{frame_fault}
 use Rattle.of_buffers.specs.Buffers.{Held, HeldFrames, following, hold_all}
@@ -57,7 +58,7 @@ abbrev pub held_of : ToController → Held
 held_of p = record { frame = p.frame; ingress = p.ingress }
 
 abbrev pub no_buffer : ℕ
-no_buffer = 0xffffffff
+no_buffer = OFP_NO_BUFFER
 
 -- an asynchronous message has the transaction id 0
 abbrev pub packet_in_of : ToController → ℕ → List ℕ → Effect

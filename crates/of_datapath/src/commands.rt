@@ -12,13 +12,8 @@ use of_actions::{Action, Instruction};
 use of_groups::Groups;
 use of_messages::{FlowMod, FlowModCommand, FlowRemoved, write_flow_removed};
 use of_table::{Flow, FlowFlags, NANOS, Removed, Selector};
+use of_wire::limits::{OFPP_ANY, OFPTT_ALL};
 use std::alloc::{AllocError, Global};
-
-/// OFPTT_ALL: all tables.
-pub const ALL_TABLES: u8 = 255;
-
-/// OFPP_ANY and OFPG_ANY: no port and no group is asked for.
-pub const ANY: u32 = 0xffff_ffff;
 
 /// Whether a FLOW_MOD's flags have this one (OpenFlow 1.3.5, 7.3.4.1).
 pub fn has_flag(flags: u16, flag: u16) -> bool
@@ -102,7 +97,7 @@ fn is_strict(command: FlowModCommand) -> bool
 fn out_from(command: FlowModCommand, number: u32) -> Option<u32>
     ensures { result ≡ out_of command number }
 {
-    if command.is_delete() && number != ANY {
+    if command.is_delete() && number != OFPP_ANY {
         Some(number)
     } else {
         None
@@ -114,7 +109,7 @@ pub fn which_from(flow_mod: FlowMod) -> Selector
     ensures { result ≡ selector_of flow_mod }
 {
     Selector {
-        table: if flow_mod.table == ALL_TABLES {
+        table: if flow_mod.table == OFPTT_ALL {
             None
         } else {
             Some(flow_mod.table)

@@ -18,10 +18,8 @@ use of_classifier::Lookup;
 use of_groups::Group;
 use of_table::{Entries, Flow, FlowTables};
 use of_text::{Config, FlowHead, FlowText, GroupText};
+use of_wire::limits::TABLES;
 use std::alloc::{AllocError, Global};
-
-/// How many flow tables there are.
-const TABLES: u8 = 16;
 
 fn flow_text(alloc: Global, table: u8, flow: &Flow) -> Result<FlowText, AllocError>
     ensures text { IfOk result (λ text. view text ≡ in_text (flow_kept table flow.now)) }

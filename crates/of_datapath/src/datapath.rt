@@ -29,10 +29,8 @@ use of_headers::{FieldKey, check_length};
 use of_machine::{Count, NoLog, Outcome, Packet, PacketFrame, World, run, run_actions};
 use of_ports::{Port, PortCount, Ports};
 use of_table::{Cause, Flow, FlowTables};
+use of_wire::limits::TABLES;
 use std::alloc::{AllocError, Global};
-
-/// How many flow tables there are.
-pub const TABLES: usize = 16;
 
 /// The flow tables, the groups, the ports, and the frames that are held for the controller.
 #[derive(Drop)]
@@ -59,7 +57,7 @@ impl<L: Lookup> World for Datapath<L> {
 
     fn find(&mut self, table: u8, key: &FieldKey) -> Option<usize> {
         self.tables.known();
-        if (table as usize) < TABLES {
+        if table < TABLES {
             self.tables.lookup(table, key)
         } else {
             None
@@ -318,7 +316,7 @@ impl<L: Lookup> Datapath<L> {
         ensures numbers { all_numbers self.new.tables ≡ all_numbers self.old.tables }
     {
         self.tables.known();
-        if (table as usize) < TABLES {
+        if table < TABLES {
             self.tables.looked(table);
         }
     }
@@ -328,7 +326,7 @@ impl<L: Lookup> Datapath<L> {
         ensures numbers { all_numbers self.new.tables ≡ all_numbers self.old.tables }
     {
         self.tables.known();
-        if (table as usize) < TABLES {
+        if table < TABLES {
             self.tables.count(table, number, bytes);
         }
     }

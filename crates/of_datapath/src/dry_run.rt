@@ -15,7 +15,7 @@ ghost use Rattle.of_machine.specs.Runs.{run_of};
 ghost use Rattle.of_datapath.specs.Told.{effects_of};
 
 use crate::control::AsyncConfig;
-use crate::datapath::{Datapath, TABLES, known_groups};
+use crate::datapath::{Datapath, known_groups};
 use crate::effect::Effects;
 use crate::told::told_from;
 use of_actions::Action;
@@ -25,6 +25,7 @@ use of_headers::{FieldKey, check_length};
 use of_machine::{Packet, PacketFrame, StepLog, World, run};
 use of_ports::Port;
 use of_table::{Entries, Entry, Flow};
+use of_wire::limits::TABLES;
 use std::alloc::{AllocError, Global};
 
 /// The tables, the groups and the ports, only borrowed: entries are found by `peek`, and named by their index by age.
@@ -71,7 +72,7 @@ impl<L: Lookup> World for Looking<'_, L> {
 
     fn find(&mut self, table: u8, key: &FieldKey) -> Option<usize> {
         self.datapath.tables.known();
-        if (table as usize) < TABLES {
+        if table < TABLES {
             let number = self.datapath.tables.peek(table, key)?;
             Some(place_of(self.datapath.tables.entries(table), number))
         } else {

@@ -15,10 +15,8 @@ use crate::commands::has_flag;
 use of_classifier::Lookup;
 use of_table::{Cause, Flow, FlowFlags, FlowTables, TableFault};
 use of_text::{Config, FlowText};
+use of_wire::limits::TABLES;
 use std::alloc::{AllocError, Global};
-
-/// How many flow tables there are.
-const TABLES: u8 = 16;
 
 fn flags_from(flags: u16) -> FlowFlags
     ensures { result ≡ kept_flags (flags_of flags) }

@@ -4,18 +4,22 @@ ghost use Rattle.of_datapath.specs.Statistics.{asked, asks_absent_port as asks_f
 ghost use Rattle.of_datapath.specs.Commands.{unless_any as none_for};
 ghost use Rattle.of_datapath.specs.declared.effect.Effect.TheVariants.{Answer};
 
-use crate::commands::{ALL_TABLES, ANY};
 use crate::effect::{Effect, Effects};
 use of_messages::{FlowStatsRequest, MessageBytes, MultipartRequest};
 use of_ports::Ports;
 use of_table::Selector;
+use of_wire::limits::{OFPP_ANY, OFPTT_ALL};
 use std::alloc::{AllocError, Global};
 
 // A number that may mean any.
 fn unless_any(number: u32) -> Option<u32>
     ensures { result ≡ none_for 0xffffffff number }
 {
-    if number == ANY { None } else { Some(number) }
+    if number == OFPP_ANY {
+        None
+    } else {
+        Some(number)
+    }
 }
 
 /// The entries that a request for statistics of flows selects (OpenFlow 1.3.5, 7.3.5.2).
@@ -23,7 +27,7 @@ pub fn asked_by(request: FlowStatsRequest) -> Selector
     ensures { result ≡ asked request }
 {
     Selector {
-        table: if request.table == ALL_TABLES {
+        table: if request.table == OFPTT_ALL {
             None
         } else {
             Some(request.table)

@@ -14,13 +14,8 @@ use of_machine::{Item, Items, PacketInReason, ToController};
 use of_messages::{PacketIn, write_packet_in};
 use of_ports::Ports;
 use of_wire::front_of;
+use of_wire::limits::{OFP_NO_BUFFER, OFPCML_NO_BUFFER};
 use std::alloc::{AllocError, Global};
-
-/// OFP_NO_BUFFER: the whole frame is in the message (OpenFlow 1.3.5, 7.4.1).
-pub const NO_BUFFER: u32 = 0xffff_ffff;
-
-/// OFPCML_NO_BUFFER: the whole frame is sent (OpenFlow 1.3.5, 7.2.5).
-const NO_LIMIT: u16 = 0xffff;
 
 /// What is sent of what a run emitted, and the frames that are held for it, both in order.
 #[derive(Drop)]
@@ -71,7 +66,7 @@ fn is_held(heard: AsyncConfig, packet: &ToController) -> bool
     ensures { result ≡ is_to_be_held heard packet.now }
 {
     let limit = limit_of(heard, packet);
-    limit != NO_LIMIT
+    limit != OFPCML_NO_BUFFER
         && usize::from(limit) < packet.frame.len()
         && check_length(packet.frame.as_slice()).is_ok()
 }
@@ -129,7 +124,7 @@ impl Told {
         ensures held { OnOk result (self.new.held.items ≡ self.old.held.items ++ frames_for heard (Item.PacketIn packet)) }
     {
         if !is_held(heard, &packet) {
-            let whole = packet_in(alloc, &packet, NO_BUFFER, packet.frame.as_slice())?;
+            let whole = packet_in(alloc, &packet, OFP_NO_BUFFER, packet.frame.as_slice())?;
             return Ok(self.effects.push(whole)?);
         }
         let limit = usize::from(limit_of(heard, &packet));

@@ -1,6 +1,7 @@
 -- Buckets of a group (OpenFlow 1.3.5, 5.6, 5.6.1 and 5.8).
 use Rattle.std.specs.Prelude.{ℕ, zero, suc, ◌+◌, ◌%◌, ◌^◌, ◌==◌, nat_le, nat_lt, Bool, false, not, ◌&&◌, ◌||◌, List, [], ◌∷◌, length}
 use Rattle.std.specs.List.{list_any, list_all}
+use Rattle.of_wire.specs.declared.limits.TheConstants.{OFPG_ANY, OFPG_MAX}
 use Rattle.of_actions.specs.declared.action.Action.{Action}
 use Rattle.of_actions.specs.declared.action.Action.TheVariants.{Group}
 use Rattle.of_actions.specs.Supported.{are_supported}
@@ -42,7 +43,7 @@ any_sends is_so buckets = list_any (λ b. list_any (sends is_so) b.actions) buck
 
 -- OFPP_ANY and OFPG_ANY: a bucket watches no port, or no group
 abbrev pub none_watched : ℕ
-none_watched = 0xffffffff
+none_watched = OFPG_ANY
 
 -- the bucket watches a group whose number passes the test
 abbrev pub watches : (ℕ → Bool) → Bucket → Bool
@@ -50,7 +51,7 @@ watches is_so b = not (b.watch_group == none_watched) && is_so b.watch_group
 
 -- OFPG_MAX, the highest number of a group (6.5)
 abbrev pub group_max : ℕ
-group_max = 0xffffff00
+group_max = OFPG_MAX
 
 -- a bucket of FAST-FAILOVER may watch a port, a group, or both: this one watches something else, or nothing
 abbrev pub is_badly_watched : Bucket → Bool

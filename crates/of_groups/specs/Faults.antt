@@ -1,6 +1,7 @@
 -- Why a change of groups is refused (OpenFlow 1.3.5, 6.5 and 7.4.4), in the written order. What the message alone decides was refused before.
 use Rattle.std.specs.Prelude.{ℕ, ◌==◌, nat_le, Bool, false, not, List, length, Option, Some, None, Result, Ok, Err, if◌then◌else◌}
 use Rattle.std.specs.List.{list_any}
+use Rattle.of_wire.specs.declared.limits.TheConstants.{MOST_GROUPS}
 use Rattle.of_wire.specs.declared.codes.TheConstants.{OFPBAC_BAD_OUT_GROUP, OFPGMFC_BAD_WATCH, OFPGMFC_CHAINED_GROUP, OFPGMFC_GROUP_EXISTS, OFPGMFC_INVALID_GROUP, OFPGMFC_LOOP, OFPGMFC_OUT_OF_GROUPS, OFPGMFC_UNKNOWN_GROUP}
 use Rattle.of_wire.specs.declared.code.Code.{Code}
 use Rattle.of_groups.specs.declared.bucket.Bucket.{Bucket}
@@ -68,7 +69,7 @@ add_fault g groups =
     if is_bad_watch g.kind g.buckets then Some BadWatch
     else if is_not_one g.kind g.buckets then Some NotOneBucket
     else if is_there g.id groups then Some Exists
-    else if nat_le 256 (length groups) then Some Full
+    else if nat_le MOST_GROUPS (length groups) then Some Full
     else naming_fault g (with_group g groups)
 
 abbrev pub modify_fault : Group → List Group → Option GroupFault

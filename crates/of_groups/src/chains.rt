@@ -10,9 +10,7 @@ use crate::group::Group;
 use crate::lookup::place_of;
 use crate::naming::{NumberTest, any_named};
 use arrayvec::ArrayVec;
-
-/// How many groups there are at most.
-pub(crate) const MOST_GROUPS: usize = 256;
+use of_wire::limits::MOST_GROUPS;
 
 /// Which groups are known to have this many more after them.
 #[derive(Drop)]

@@ -8,12 +8,13 @@ ghost use Rattle.of_groups.specs.Rounds.{absent_with};
 ghost use Rattle.of_groups.specs.Faults.{fault_in, is_bad_watch, is_not_one, naming_fault, add_fault, modify_fault};
 
 use crate::bucket::Bucket;
-use crate::chains::{MOST_GROUPS, makes_long};
-use crate::group::{GROUP_MAX, Group, GroupKind};
+use crate::chains::makes_long;
+use crate::group::{Group, GroupKind};
 use crate::group_fault::GroupFault;
 use crate::lookup::is_there;
-use crate::naming::{NONE_WATCHED, NumberTest, any_sends, any_watches};
+use crate::naming::{NumberTest, any_sends, any_watches};
 use of_actions::is_number;
+use of_wire::limits::{MOST_GROUPS, OFPG_ANY, OFPG_MAX, OFPP_ANY};
 
 /// Whether no group of a number exists, with the new one among them.
 #[derive(Drop)]
@@ -33,9 +34,9 @@ impl NumberTest for IsAbsent<'_> {
 fn is_badly_watched(bucket: &Bucket) -> bool
     ensures { result ≡ watches_badly bucket.now }
 {
-    (bucket.watch_port != NONE_WATCHED && !is_number(bucket.watch_port))
-        || (bucket.watch_group != NONE_WATCHED && bucket.watch_group > GROUP_MAX)
-        || (bucket.watch_port == NONE_WATCHED && bucket.watch_group == NONE_WATCHED)
+    (bucket.watch_port != OFPP_ANY && !is_number(bucket.watch_port))
+        || (bucket.watch_group != OFPG_ANY && bucket.watch_group > OFPG_MAX)
+        || (bucket.watch_port == OFPP_ANY && bucket.watch_group == OFPG_ANY)
 }
 
 fn any_badly_watched(buckets: &[Bucket]) -> bool

@@ -4,9 +4,6 @@ ghost use Rattle.of_groups.specs.Groups.{kind_number};
 
 use crate::buckets::Buckets;
 
-/// OFPG_MAX: the highest number of a group (OpenFlow 1.3.5, 7.3.4.2).
-pub const GROUP_MAX: u32 = 0xffff_ff00;
-
 /// The type of a group (OpenFlow 1.3.5, 5.6.1).
 #[derive(Clone, Copy, Debug, PartialEq, Eq)]
 pub enum GroupKind {

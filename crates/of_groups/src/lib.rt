@@ -21,7 +21,7 @@ pub use bucket::Bucket;
 pub use buckets::Buckets;
 pub use checking::{has_bad_watch, lacks_one_bucket};
 pub use chosen::Chosen;
-pub use group::{GROUP_MAX, Group, GroupKind};
+pub use group::{Group, GroupKind};
 pub use group_fault::GroupFault;
 pub use groups::Groups;
 pub use laws::{chain_is_longest, liveness_is_by_kind};

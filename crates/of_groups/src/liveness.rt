@@ -8,10 +8,7 @@ use crate::bucket::Bucket;
 use crate::chosen::Chosen;
 use crate::group::{Group, GroupKind};
 use crate::lookup::find_group;
-use crate::naming::NONE_WATCHED;
-
-/// How many groups a chain has at most.
-const LONGEST_CHAIN: u8 = 3;
+use of_wire::limits::{LONGEST_CHAIN, OFPG_ANY, OFPP_ANY};
 
 /// The ports of the switch, as groups see them.
 pub trait LivePorts {
@@ -26,8 +23,8 @@ pub trait LivePorts {
 fn is_live_bucket<P: LivePorts>(groups: &[Group], ports: &P, levels: u8, bucket: &Bucket) -> bool
     ensures { result ≡ bucket_lives (P.live ports.now) (lives_within groups.now (P.live ports.now) levels) bucket.now }
 {
-    (bucket.watch_port != NONE_WATCHED && ports.is_live(bucket.watch_port))
-        || (bucket.watch_group != NONE_WATCHED
+    (bucket.watch_port != OFPP_ANY && ports.is_live(bucket.watch_port))
+        || (bucket.watch_group != OFPG_ANY
             && is_live_within(groups, ports, levels, bucket.watch_group))
 }
 

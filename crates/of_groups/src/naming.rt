@@ -7,9 +7,7 @@ ghost use Rattle.of_groups.specs.Groups.{any_watches as some_watches, any_named 
 use crate::bucket::Bucket;
 use crate::group::{Group, GroupKind};
 use of_actions::Action;
-
-/// No port and no group is watched: OFPP_ANY and OFPG_ANY.
-pub(crate) const NONE_WATCHED: u32 = 0xffff_ffff;
+use of_wire::limits::OFPG_ANY;
 
 /// A test of the number of a group.
 pub(crate) trait NumberTest {
@@ -58,7 +56,7 @@ pub(crate) fn any_sends<T: NumberTest>(buckets: &[Bucket], test: &T) -> bool
 fn watches<T: NumberTest>(bucket: &Bucket, test: &T) -> bool
     ensures { result ≡ is_watching (T.holds test.now) bucket.now }
 {
-    bucket.watch_group != NONE_WATCHED && test.holds(bucket.watch_group)
+    bucket.watch_group != OFPG_ANY && test.holds(bucket.watch_group)
 }
 
 fn any_watches_so<T: NumberTest>(buckets: &[Bucket], test: &T) -> bool

@@ -6,9 +6,9 @@ ghost use Rattle.of_machine.specs.Gained.{Gains};
 
 use crate::data::{Count, Item, Outcome, Packet, ToController};
 use crate::packet_frame::PacketFrame;
-use of_actions::{PORT_ALL, PORT_CONTROLLER, PORT_FLOOD, PORT_IN_PORT};
 use of_ports::{Port, find_port};
 use of_wire::{Bytes, PacketInReason};
+use of_wire::limits::{OFPP_ALL, OFPP_CONTROLLER, OFPP_FLOOD, OFPP_IN_PORT};
 use std::alloc::{AllocError, Global};
 
 /// What an output to this port, or to a reserved one that is not TABLE, emits; `max_len` is for the controller alone
@@ -22,13 +22,13 @@ pub(crate) fn emit(
 ) -> Result<(), AllocError>
     ensures { OnOk result (Gains outcome.old (emission ports.now packet.now port max_len) outcome.new) }
 {
-    if port == PORT_IN_PORT {
+    if port == OFPP_IN_PORT {
         return send(find_port(ports, packet.ingress), packet, outcome);
     }
-    if port == PORT_FLOOD || port == PORT_ALL {
+    if port == OFPP_FLOOD || port == OFPP_ALL {
         return flood(ports, packet, outcome);
     }
-    if port == PORT_CONTROLLER {
+    if port == OFPP_CONTROLLER {
         return to_controller(reason_of_output(packet), Some(max_len), packet, outcome);
     }
     if port == packet.ingress {

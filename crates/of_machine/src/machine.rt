@@ -17,9 +17,6 @@ use of_rewrite::Ttl;
 use of_wire::PacketInReason;
 use std::alloc::AllocError;
 
-/// How many groups a chain of groups has at most.
-pub(crate) const LONGEST_CHAIN: u8 = 3;
-
 /// Whether a packet's work goes on.
 #[derive(Clone, Copy)]
 pub(crate) enum Going {

@@ -10,10 +10,11 @@ ghost use Rattle.of_machine.specs.Sound.{IsSound};
 ghost use Rattle.of_machine.specs.Weights.{frame_step_bound, packet_out_step_bound};
 
 use crate::data::{Outcome, Packet, Step};
-use crate::machine::{Going, LONGEST_CHAIN, act, frame_is_known};
+use crate::machine::{Going, act, frame_is_known};
 use crate::tables::pipeline;
 use crate::world::{StepLog, World};
-use of_actions::{Action, PORT_TABLE};
+use of_actions::{Action, };
+use of_wire::limits::{LONGEST_CHAIN, OFPP_TABLE};
 use std::alloc::{AllocError, Global};
 
 /// Runs a packet from table 0 to its end (OpenFlow 1.3.5, 5.1), in at most 143,271,552 steps.
@@ -125,7 +126,7 @@ fn goes_to_tables(action: Action) -> bool
     ensures { result ≡ is_to_tables action }
 {
     match action {
-        Action::Output { port, .. } => port == PORT_TABLE,
+        Action::Output { port, .. } => port == OFPP_TABLE,
         _ => false,
     }
 }

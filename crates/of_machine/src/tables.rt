@@ -8,10 +8,11 @@ ghost use Rattle.of_machine.specs.Runs.{Ends, Follows, Fails, IsUp, IsLater, nex
 ghost use Rattle.of_machine.specs.Sound.{IsSound};
 
 use crate::data::{Count, Outcome, Packet, Step};
-use crate::machine::{Going, LONGEST_CHAIN, act_all, run_set};
+use crate::machine::{Going, act_all, run_set};
 use crate::world::{StepLog, World};
 use of_actions::Instruction;
 use of_table::Flow;
+use of_wire::limits::LONGEST_CHAIN;
 use std::alloc::AllocError;
 
 /// What comes after an instruction.

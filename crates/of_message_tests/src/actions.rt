@@ -1,12 +1,13 @@
 use crate::checks::{Kind, are_refused, code_of, is_written, same};
 use of_actions::{
-    Action, ActionList, Instruction, InstructionList, PORT_MAX, PORT_TABLE, check_flow, is_number,
+    Action, ActionList, Instruction, InstructionList, check_flow, is_number,
     read_actions, read_instructions, write_actions, write_instructions,
 };
 use of_layers::Field;
 use of_oxm::read_match;
 use of_test_rows::{bytes_of, sides};
 use of_wire::Code;
+use of_wire::limits::{OFPP_MAX, OFPP_TABLE};
 use std::alloc::Global;
 use std::process::Abort;
 use std::test::Fail;
@@ -106,7 +107,7 @@ pub(crate) fn applies(instructions: &[Instruction], wanted: &[Action]) -> bool {
 fn made_actions(alloc: Global) -> Result<ActionList, Fail> {
     let mut actions = Vec::new(alloc);
     actions.push(Action::Output {
-        port: PORT_TABLE,
+        port: OFPP_TABLE,
         max_len: 0xffff,
     })?;
     Ok(ActionList::new(actions).ok_or("one action is a list")?)
@@ -142,7 +143,7 @@ fn is_bad_action(rt: &impl Abort, alloc: Global, bytes: &[u8], code: u16) {
 fn output_to_table(rt: HostRuntime) -> Result<(), Fail> {
     let bytes = bytes_of(rt.alloc(), rows::OUTPUT_TO_TABLE)?;
     is_bad_action(&rt, rt.alloc(), &bytes, 4);
-    let numbers = (is_number(PORT_MAX), is_number(0));
+    let numbers = (is_number(OFPP_MAX), is_number(0));
     same(&rt, "numbers of ports", &numbers, &(true, false));
     Ok(())
 }

@@ -1,5 +1,6 @@
 -- GROUP_MOD (OpenFlow 1.3.5, 7.3.4.2): its command, the group's type and number, and its buckets.
 use Rattle.std.specs.Prelude.{ℕ, ◌+◌, ◌==◌, nat_lt, Bool, List, [], ◌∷◌, drop, Option, Some, None, Result, Ok, Err, if◌then◌else◌}
+use Rattle.of_wire.specs.declared.limits.TheConstants.{OFPG_ALL}
 use Rattle.of_wire.specs.declared.codes.TheConstants.{OFPBRC_BAD_LEN, OFPGMFC_BAD_COMMAND, OFPGMFC_BAD_TYPE, OFPGMFC_INVALID_GROUP}
 use Rattle.of_wire.specs.declared.code.Code.{Code}
 use Rattle.of_groups.specs.declared.bucket.Bucket.{Bucket}
@@ -29,7 +30,7 @@ is_above number = nat_lt group_max number
 
 -- OFPG_ALL
 abbrev pub all_groups : ℕ
-all_groups = 0xfffffffc
+all_groups = OFPG_ALL
 
 -- OFPGMFC_INVALID_GROUP, OFPGMFC_BAD_TYPE, and then the refusal of its buckets
 abbrev pub group_of : ℕ → ℕ → List ℕ → Result NewGroup Code

@@ -1,5 +1,6 @@
 -- What the bytes of a message say (OpenFlow 1.3.5, 7.1 and 7.3), or the first refusal in the written order (7.4.4).
-use Rattle.std.specs.Prelude.{ℕ, ◌+◌, ◌==◌, nat_lt, Bool, true, false, not, ◌&&◌, ◌||◌, List, [], ◌∷◌, ◌++◌, take, drop, slice_index, Option, Some, None, is_none, Result, Ok, Err, if◌then◌else◌}
+use Rattle.std.specs.Prelude.{ℕ, ◌+◌, ◌==◌, nat_lt, nat_le, Bool, true, false, not, ◌&&◌, ◌||◌, List, [], ◌∷◌, ◌++◌, take, drop, slice_index, Option, Some, None, is_none, Result, Ok, Err, if◌then◌else◌}
+use Rattle.of_wire.specs.declared.limits.TheConstants.{OFPTT_ALL, OFP_NO_BUFFER, TABLES}
 use Rattle.of_wire.specs.declared.codes.TheConstants.{OFPBAC_MATCH_INCONSISTENT, OFPBRC_BAD_LEN, OFPBRC_BAD_PACKET, OFPBRC_BAD_PORT, OFPBRC_BAD_TYPE, OFPFMFC_BAD_COMMAND, OFPFMFC_BAD_FLAGS, OFPFMFC_BAD_TABLE_ID}
 use Rattle.of_wire.specs.declared.code.Code.{Code}
 use Rattle.of_wire.specs.Refusals.{first_of}
@@ -51,7 +52,7 @@ is_delete other = false
 
 -- the last table is 15; 255 is all tables, which only the two DELETE commands may name
 abbrev pub is_bad_table : ℕ → FlowModCommand → Bool
-is_bad_table table command = nat_lt 15 table && not (is_delete command && table == 255)
+is_bad_table table command = nat_le TABLES table && not (is_delete command && table == OFPTT_ALL)
 
 -- the command, unless it, the table or the flags (five are known) are refused
 unfoldable pub command_said : ℕ → ℕ → ℕ → Result FlowModCommand Code
@@ -100,7 +101,7 @@ is_ingress port = is_number port || port == controller
 -- with OFP_NO_BUFFER the frame follows the actions: OFPBRC_BAD_PACKET where it is too short or too long; with a buffer, what follows is not read
 abbrev pub packet_in_data : ℕ → List ℕ → Result PacketData Code
 packet_in_data buffer frame =
-    if buffer == 0xffffffff
+    if buffer == OFP_NO_BUFFER
     then (if is_none (frame_fault frame) then Ok (Frame frame) else Err OFPBRC_BAD_PACKET)
     else Ok (Buffered buffer)
 

@@ -1,5 +1,6 @@
 -- MULTIPART_REQUEST (OpenFlow 1.3.5, 7.3.5).
 use Rattle.std.specs.Prelude.{ℕ, ◌+◌, ◌%◌, ◌==◌, Bool, not, ◌≡◌, ⊤, true, List, [], ◌∷◌, length, drop, Option, Some, None, is_none, Result, Ok, Err, if◌then◌else◌}
+use Rattle.of_wire.specs.declared.limits.TheConstants.{OFPP_ANY, OFPG_ALL}
 use Rattle.of_wire.specs.declared.codes.TheConstants.{OFPBRC_BAD_LEN, OFPBRC_BAD_MULTIPART, OFPBRC_BAD_TABLE_ID, OFPBRC_MULTIPART_BUFFER_OVERFLOW}
 use Rattle.of_wire.specs.declared.code.Code.{Code}
 use Rattle.of_wire.specs.Refusals.{first_of}
@@ -94,8 +95,8 @@ request_of m kind.Description = Ok Description
 request_of m kind.Flow = flow_stats_of m >>= λ r. Ok (Flow r)
 request_of m kind.Aggregate = flow_stats_of m >>= λ r. Ok (Aggregate r)
 request_of m kind.Table = Ok Table
-request_of m kind.PortStats = Ok (PortStats (one_or_all 0xffffffff (number_in m)))
-request_of m kind.Group = Ok (Group (one_or_all 0xfffffffc (number_in m)))
+request_of m kind.PortStats = Ok (PortStats (one_or_all OFPP_ANY (number_in m)))
+request_of m kind.Group = Ok (Group (one_or_all OFPG_ALL (number_in m)))
 request_of m kind.GroupDescription = Ok GroupDescription
 request_of m kind.GroupFeatures = Ok GroupFeatures
 request_of m kind.PortDescription = Ok PortDescription

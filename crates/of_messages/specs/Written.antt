@@ -13,7 +13,7 @@ use Rattle.of_messages.specs.Heads.{version_of, header_length}
 use Rattle.of_messages.specs.Roles.{role_number, generation_number}
 use Rattle.of_messages.specs.declared.async_masks.AsyncMasks.{AsyncMasks}
 use Rattle.of_messages.specs.declared.config.SwitchConfig.{SwitchConfig}
-use Rattle.of_messages.specs.declared.features.TheConstants.{BUFFERS}
+use Rattle.of_wire.specs.declared.limits.TheConstants.{BUFFERS}
 use Rattle.of_messages.specs.declared.role.Role.{Role}
 use Rattle.of_messages.specs.declared.message.FlowMod.{FlowMod}
 use Rattle.of_messages.specs.declared.message.FlowModCommand.{FlowModCommand}

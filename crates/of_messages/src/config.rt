@@ -9,14 +9,9 @@ use crate::reading::rest_from;
 use crate::writing::put_header;
 use byteorder::{BigEndian, ByteOrder};
 use of_wire::codes::{OFPSCFC_BAD_FLAGS, OFPTMFC_BAD_TABLE};
+use of_wire::limits::{OFPTT_ALL, TABLES};
 use of_wire::{Bytes, Code, ReadError, put_u16};
 use std::alloc::{AllocError, Global};
-
-/// How many tables there are.
-const TABLES: u8 = 16;
-
-/// OFPTT_ALL: each table.
-const ALL_TABLES: u8 = 255;
 
 /// The size of a GET_CONFIG_REPLY.
 const SIZE: usize = 12;
@@ -40,7 +35,7 @@ pub struct TableMod {
 pub(crate) fn names_table(table: u8) -> bool
     ensures { result ≡ is_named table }
 {
-    table < TABLES || table == ALL_TABLES
+    table < TABLES || table == OFPTT_ALL
 }
 
 pub(crate) fn read_set_config(message: &[u8]) -> Result<SwitchConfig, ReadError>

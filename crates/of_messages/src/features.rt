@@ -4,16 +4,12 @@ ghost use Rattle.of_messages.specs.Written.{features_body, features_reply_bytes}
 
 use crate::message_bytes::MessageBytes;
 use crate::writing::put_header;
+use of_wire::limits::{BUFFERS, TABLES};
 use of_wire::{Bytes, put_u32, put_u64};
 use std::alloc::{AllocError, Global};
 
 /// The size of a FEATURES_REPLY.
 const SIZE: usize = 32;
-
-const TABLES: u8 = 16;
-
-/// How many packets a switch holds at once for its controller: n_buffers (OpenFlow 1.3.5, 7.3.1).
-pub const BUFFERS: u32 = 256;
 
 /// OFPC_FLOW_STATS, OFPC_TABLE_STATS, OFPC_PORT_STATS and OFPC_GROUP_STATS.
 const CAPABILITIES: u32 = 15;

@@ -8,13 +8,11 @@ ghost use Rattle.of_messages.specs.Promised.{IsSoundGroupMod};
 use crate::bucket_reading::read_buckets;
 use crate::reading::rest_from;
 use byteorder::{BigEndian, ByteOrder};
-use of_groups::{Buckets, GROUP_MAX, GroupKind};
+use of_groups::{Buckets, GroupKind};
 use of_wire::ReadError;
 use of_wire::codes::{OFPGMFC_BAD_COMMAND, OFPGMFC_BAD_TYPE, OFPGMFC_INVALID_GROUP};
+use of_wire::limits::{OFPG_ALL, OFPG_MAX};
 use std::alloc::Global;
-
-/// OFPG_ALL: all groups, of a DELETE.
-const ALL_GROUPS: u32 = 0xffff_fffc;
 
 /// A group as a GROUP_MOD asks for it.
 #[derive(Drop)]
@@ -73,7 +71,7 @@ fn read_group(alloc: Global, message: &[u8]) -> Result<NewGroup, ReadError>
     ensures number { IfOk result (λ group. group.id ≤ 0xffffff00) }
 {
     let id = BigEndian::read_u32(rest_from(message, 12));
-    if id > GROUP_MAX {
+    if id > OFPG_MAX {
         return Err(ReadError::Refused(OFPGMFC_INVALID_GROUP));
     }
     let Some(kind) = kind_from(message[10]) else {
@@ -88,9 +86,9 @@ fn delete_from(number: u32) -> Result<GroupMod, ReadError>
     ensures reads { Reads result (delete_of number) }
     ensures sound { IfOk result IsSoundGroupMod }
 {
-    if number == ALL_GROUPS {
+    if number == OFPG_ALL {
         Ok(GroupMod::Delete(None))
-    } else if number > GROUP_MAX {
+    } else if number > OFPG_MAX {
         Err(ReadError::Refused(OFPGMFC_INVALID_GROUP))
     } else {
         Ok(GroupMod::Delete(Some(number)))

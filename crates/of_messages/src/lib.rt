@@ -22,7 +22,7 @@ mod writing;
 
 pub use async_masks::{AsyncMasks, RoleMasks, write_async_reply};
 pub use config::{SwitchConfig, TableMod, write_config_reply};
-pub use features::{BUFFERS, write_features_reply};
+pub use features::write_features_reply;
 pub use flow_mod_writing::write_flow_mod;
 pub use group_mod::{GroupMod, NewGroup};
 pub use group_mod_writing::{write_buckets, write_group_mod};

@@ -14,14 +14,9 @@ use of_oxm::{Match, read_match};
 use of_wire::codes::{
     OFPBRC_BAD_LEN, OFPBRC_BAD_MULTIPART, OFPBRC_BAD_TABLE_ID, OFPBRC_MULTIPART_BUFFER_OVERFLOW,
 };
+use of_wire::limits::{OFPG_ALL, OFPP_ANY};
 use of_wire::{Code, ReadError};
 use std::alloc::Global;
-
-/// OFPP_ANY: all ports.
-const ALL_PORTS: u32 = 0xffff_ffff;
-
-/// OFPG_ALL: all groups.
-const ALL_GROUPS: u32 = 0xffff_fffc;
 
 /// Which flows are asked for (OpenFlow 1.3.5, 7.3.5.2 and 7.3.5.3).
 #[derive(Debug, Drop)]
@@ -169,8 +164,8 @@ fn read_request(
         MultipartKind::Flow => MultipartRequest::Flow(read_flow_stats(alloc, message)?),
         MultipartKind::Aggregate => MultipartRequest::Aggregate(read_flow_stats(alloc, message)?),
         MultipartKind::Table => MultipartRequest::Table,
-        MultipartKind::PortStats => MultipartRequest::PortStats(asked_in(message, ALL_PORTS)),
-        MultipartKind::Group => MultipartRequest::Group(asked_in(message, ALL_GROUPS)),
+        MultipartKind::PortStats => MultipartRequest::PortStats(asked_in(message, OFPP_ANY)),
+        MultipartKind::Group => MultipartRequest::Group(asked_in(message, OFPG_ALL)),
         MultipartKind::GroupDescription => MultipartRequest::GroupDescription,
         MultipartKind::GroupFeatures => MultipartRequest::GroupFeatures,
         MultipartKind::PortDescription => MultipartRequest::PortDescription,

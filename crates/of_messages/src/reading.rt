@@ -20,25 +20,16 @@ use crate::multipart::read_multipart;
 use crate::port_mod::read_port_mod;
 use crate::role::{Role, read_role_request};
 use byteorder::{BigEndian, ByteOrder};
-use of_actions::{
-    InstructionList, PORT_CONTROLLER, check_flow, is_number, read_actions, read_instructions,
-};
+use of_actions::{InstructionList, check_flow, is_number, read_actions, read_instructions};
 use of_headers::check_length;
 use of_oxm::read_match;
 use of_wire::codes::{
     OFPBRC_BAD_PACKET, OFPBRC_BAD_PORT, OFPBRC_BAD_TYPE, OFPFMFC_BAD_COMMAND, OFPFMFC_BAD_FLAGS,
     OFPFMFC_BAD_TABLE_ID,
 };
+use of_wire::limits::{OFP_NO_BUFFER, OFPP_CONTROLLER, OFPTT_ALL, TABLES};
 use of_wire::{Bytes, Code, ReadError};
 use std::alloc::Global;
-
-// OFP_NO_BUFFER.
-const NO_BUFFER: u32 = 0xffff_ffff;
-
-const LAST_TABLE: u8 = 15;
-
-// OFPTT_ALL.
-const ALL_TABLES: u8 = 255;
 
 // The flags that are known, each a bit.
 const ALL_FLAGS: u16 = 31;
@@ -63,7 +54,7 @@ fn check_flow_mod(message: &[u8]) -> Result<FlowModCommand, Code>
         return Err(OFPFMFC_BAD_COMMAND);
     };
     let table = message[24];
-    if table > LAST_TABLE && !(command.is_delete() && table == ALL_TABLES) {
+    if table >= TABLES && !(command.is_delete() && table == OFPTT_ALL) {
         return Err(OFPFMFC_BAD_TABLE_ID);
     }
     if BigEndian::read_u16(rest_from(message, 44)) > ALL_FLAGS {
@@ -125,7 +116,7 @@ fn read_flow_mod(alloc: Global, message: &[u8]) -> Result<FlowMod, ReadError>
 fn is_ingress(port: u32) -> bool
     ensures { result ≡ may_be_ingress port }
 {
-    is_number(port) || port == PORT_CONTROLLER
+    is_number(port) || port == OFPP_CONTROLLER
 }
 
 // The frame of a PACKET_OUT, or the number of its buffer.
@@ -133,7 +124,7 @@ fn read_packet(alloc: Global, buffer: u32, frame: &[u8]) -> Result<PacketData, R
     ensures reads { Reads result (packet_in_data buffer frame.now) }
     ensures sound { IfOk result IsSoundPacket }
 {
-    if buffer != NO_BUFFER {
+    if buffer != OFP_NO_BUFFER {
         return Ok(PacketData::Buffered(buffer));
     }
     match check_length(frame) {

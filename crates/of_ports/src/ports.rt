@@ -9,11 +9,9 @@ use crate::counters::PortCount;
 use crate::editing::{Edit, edit_at, insert_port, remove_port};
 use crate::port::Port;
 use of_groups::LivePorts;
+use of_wire::limits::MOST_PORTS;
 use std::alloc::{AllocError, Global};
 use std::marker::Model;
-
-/// How many ports there are at most.
-const MOST_PORTS: usize = 64;
 
 /// The ports of a switch, in ascending order of number: at most 64 (OpenFlow 1.3.5, 4.1 and 7.2.1).
 #[derive(Drop)]

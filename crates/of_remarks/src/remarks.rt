@@ -8,9 +8,10 @@ ghost use Rattle.of_remarks.specs.Remarks.{end_remarks, flow_remarks, flows_rema
 use crate::actions::{is_used_later, required_port, silent, some_output_to};
 use crate::groups::is_named;
 use crate::remark::Remark;
-use crate::tables::{TABLES, flows_of, has_miss, is_among, reached_tables};
+use crate::tables::{flows_of, has_miss, is_among, reached_tables};
 use of_oxm::MatchField;
 use of_text::{Config, FlowText, GroupText, StepText};
+use of_wire::limits::TABLES;
 use std::alloc::{AllocError, Global};
 
 // Appends a remark, where it applies.

@@ -5,10 +5,8 @@ ghost use Rattle.of_text.specs.Views.{view, view_flows, view_step};
 ghost use Rattle.of_remarks.specs.Tables.{flows_at, goes_to as is_going_to, leads as is_leading, is_led_to as are_leading, is_miss as is_table_miss, is_reached as is_reached_in, reached_below};
 
 use of_text::{Config, FlowText, StepText};
+use of_wire::limits::TABLES;
 use std::alloc::{AllocError, Global};
-
-/// How many tables a switch has (OpenFlow 1.3.5, 5.1).
-pub const TABLES: u8 = 16;
 
 /// The flow entries of a table, of which there are none beyond the last table.
 pub fn flows_of(config: &Config, table: u8) -> &[FlowText]

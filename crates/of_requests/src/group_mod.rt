@@ -14,10 +14,8 @@ ghost use Rattle.of_requests.specs.Written.{IsWritten};
 use crate::header::begin;
 use of_messages::{GroupMod, NewGroup, write_buckets};
 use of_wire::{Bytes, put_u16, put_u32};
+use of_wire::limits::OFPG_ALL;
 use std::alloc::{AllocError, Global};
-
-/// OFPG_ALL.
-pub(crate) const ALL_GROUPS: u32 = 0xffff_fffc;
 
 // The fields before the buckets, 8 bytes.
 fn put_group(out: &mut Vec<u8>, command: u16, group: &NewGroup) -> Result<(), AllocError>
@@ -52,7 +50,7 @@ fn write_delete(alloc: Global, xid: u32, which: Option<u32>) -> Result<Bytes, Al
     let mut out = begin(alloc, 15, 8, xid)?;
     put_u16(&mut out, 2)?;
     put_u16(&mut out, 0)?;
-    put_u32(&mut out, which.unwrap_or(ALL_GROUPS))?;
+    put_u32(&mut out, which.unwrap_or(OFPG_ALL))?;
     Ok(Bytes::new(out))
 }
 

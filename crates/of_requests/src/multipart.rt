@@ -9,15 +9,12 @@ ghost use Rattle.of_grammar.specs.Requests.{flows_cells};
 ghost use Rattle.of_requests.specs.Sound.{is_sound};
 ghost use Rattle.of_requests.specs.Written.{IsWritten};
 
-use crate::group_mod::ALL_GROUPS;
 use crate::header::begin;
 use of_messages::{FlowStatsRequest, MultipartRequest};
 use of_oxm::write_match;
 use of_wire::{Bytes, put_u16, put_u32, put_u64};
+use of_wire::limits::{OFPG_ALL, OFPP_ANY};
 use std::alloc::{AllocError, Global};
-
-/// OFPP_ANY.
-pub(crate) const ANY_PORT: u32 = 0xffff_ffff;
 
 // The type of a request, no flags, and padding.
 fn put_type(out: &mut Vec<u8>, number: u16) -> Result<(), AllocError>
@@ -123,8 +120,8 @@ pub(crate) fn write_multipart(
         MultipartRequest::Flow(r) => write_flows(alloc, xid, 1, r),
         MultipartRequest::Aggregate(r) => write_flows(alloc, xid, 2, r),
         MultipartRequest::Table => write_bare(alloc, xid, 3),
-        MultipartRequest::PortStats(port) => write_asked(alloc, xid, 4, port.unwrap_or(ANY_PORT)),
-        MultipartRequest::Group(group) => write_asked(alloc, xid, 6, group.unwrap_or(ALL_GROUPS)),
+        MultipartRequest::PortStats(port) => write_asked(alloc, xid, 4, port.unwrap_or(OFPP_ANY)),
+        MultipartRequest::Group(group) => write_asked(alloc, xid, 6, group.unwrap_or(OFPG_ALL)),
         MultipartRequest::GroupDescription => write_bare(alloc, xid, 7),
         MultipartRequest::GroupFeatures => write_bare(alloc, xid, 8),
         MultipartRequest::PortDescription => write_bare(alloc, xid, 13),

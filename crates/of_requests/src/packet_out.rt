@@ -10,17 +10,15 @@ use crate::header::begin;
 use of_actions::write_actions;
 use of_messages::{PacketData, PacketOut};
 use of_wire::{Bytes, put_u16, put_u32};
+use of_wire::limits::OFP_NO_BUFFER;
 use std::alloc::{AllocError, Global};
-
-/// OFP_NO_BUFFER.
-pub(crate) const NO_BUFFER: u32 = 0xffff_ffff;
 
 fn buffer(packet: &PacketData) -> u32
     ensures { result ≡ buffer_of packet.now }
 {
     match packet {
         PacketData::Buffered(number) => *number,
-        PacketData::Frame(_) => NO_BUFFER,
+        PacketData::Frame(_) => OFP_NO_BUFFER,
     }
 }
 

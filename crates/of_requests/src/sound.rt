@@ -5,13 +5,11 @@ ghost use Rattle.of_messages.specs.Configs.{names_table as is_named};
 ghost use Rattle.of_messages.specs.Messages.{is_ingress as may_be_ingress};
 ghost use Rattle.of_requests.specs.Sound.{counts_nothing as is_fresh, is_one as is_asked, is_sound as has_bytes, is_sound_flow_mod, is_sound_group, is_sound_group_mod, is_sound_packet, is_sound_request};
 
-use crate::group_mod::ALL_GROUPS;
-use crate::multipart::ANY_PORT;
-use crate::packet_out::NO_BUFFER;
-use of_actions::{PORT_CONTROLLER, check_flow, is_number};
-use of_groups::{Bucket, GROUP_MAX};
+use of_actions::{check_flow, is_number};
+use of_groups::{Bucket, };
 use of_headers::check_length;
 use of_messages::{FlowMod, GroupMod, Message, MultipartRequest, NewGroup, PacketData};
+use of_wire::limits::{OFPG_ALL, OFPG_MAX, OFPP_ANY, OFPP_CONTROLLER, OFP_NO_BUFFER};
 
 /// OFPPC_PORT_DOWN, OFPPC_NO_RECV, OFPPC_NO_FWD and OFPPC_NO_PACKET_IN.
 const PORT_BITS: u32 = 1 | 4 | 32 | 64;
@@ -30,7 +28,7 @@ fn is_packet(packet: &PacketData) -> bool
     ensures { result ≡ is_sound_packet packet.now }
 {
     match packet {
-        PacketData::Buffered(number) => *number != NO_BUFFER,
+        PacketData::Buffered(number) => *number != OFP_NO_BUFFER,
         PacketData::Frame(frame) => check_length(frame.as_slice()).is_ok(),
     }
 }
@@ -38,7 +36,7 @@ fn is_packet(packet: &PacketData) -> bool
 fn may_come_from(port: u32) -> bool
     ensures { result ≡ may_be_ingress port }
 {
-    is_number(port) || port == PORT_CONTROLLER
+    is_number(port) || port == OFPP_CONTROLLER
 }
 
 fn is_flow_mod(m: &FlowMod) -> bool
@@ -67,7 +65,7 @@ fn count_nothing(buckets: &[Bucket]) -> bool
 fn is_group(group: &NewGroup) -> bool
     ensures { result ≡ is_sound_group group.now }
 {
-    group.id <= GROUP_MAX && count_nothing(group.buckets.as_slice())
+    group.id <= OFPG_MAX && count_nothing(group.buckets.as_slice())
 }
 
 fn is_group_mod(m: &GroupMod) -> bool
@@ -76,7 +74,7 @@ fn is_group_mod(m: &GroupMod) -> bool
     match m {
         GroupMod::Add(group) | GroupMod::Modify(group) => is_group(group),
         GroupMod::Delete(None) => true,
-        GroupMod::Delete(Some(number)) => *number <= GROUP_MAX,
+        GroupMod::Delete(Some(number)) => *number <= OFPG_MAX,
     }
 }
 
@@ -92,8 +90,8 @@ fn is_request(request: &MultipartRequest) -> bool
 {
     match request {
         MultipartRequest::Flow(r) | MultipartRequest::Aggregate(r) => is_table_or_all(r.table),
-        MultipartRequest::PortStats(port) => is_asked_for(ANY_PORT, *port),
-        MultipartRequest::Group(group) => is_asked_for(ALL_GROUPS, *group),
+        MultipartRequest::PortStats(port) => is_asked_for(OFPP_ANY, *port),
+        MultipartRequest::Group(group) => is_asked_for(OFPG_ALL, *group),
         _ => true,
     }
 }

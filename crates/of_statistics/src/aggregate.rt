@@ -7,11 +7,11 @@ ghost use Rattle.of_statistics.specs.Flows.{aggregate, aggregate_bytes, asked, t
 ghost use Rattle.of_statistics.specs.Adding.{asked_of, plus_all, plus_asked};
 
 use crate::replies::{begun, sealed};
-use crate::tables::TABLES;
 use of_classifier::Lookup;
 use of_messages::MessageBytes;
 use of_table::{Entries, Entry, FlowTables, Selector, is_in, selects};
 use of_wire::{put_u32, put_u64};
+use of_wire::limits::TABLES;
 use std::alloc::{AllocError, Global};
 
 /// OFPMP_AGGREGATE.

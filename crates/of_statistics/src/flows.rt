@@ -6,7 +6,6 @@ ghost use Rattle.of_statistics.specs.Replies.{with_rows};
 ghost use Rattle.of_statistics.specs.Flows.{flow_bytes, flow_counts, flow_row as row_of, flow_times, listed_in, rows_of_entries, rows_of_one};
 
 use crate::replies::Replies;
-use crate::tables::TABLES;
 use crate::writing::put_duration;
 use of_actions::write_instructions;
 use of_classifier::Lookup;
@@ -14,6 +13,7 @@ use of_messages::MessageBytes;
 use of_oxm::write_match;
 use of_table::{Entries, Entry, FlowTables, Selector, is_in, selects};
 use of_wire::{put_u16, put_u64};
+use of_wire::limits::TABLES;
 use std::alloc::{AllocError, Global};
 
 /// OFPMP_FLOW.

@@ -6,10 +6,10 @@ ghost use Rattle.of_table.specs.Selecting.{names_group as naming};
 ghost use Rattle.of_table.specs.Tables.{tables_of};
 ghost use Rattle.of_statistics.specs.Groups.{all_entries, references as references_to};
 
-use crate::tables::TABLES;
 use of_classifier::Lookup;
 use of_groups::Groups;
 use of_table::{Entries, FlowTables, names_group};
+use of_wire::limits::TABLES;
 
 // How many of these entries name the group.
 fn named_by(entries: Entries<'_>, group: u32) -> usize

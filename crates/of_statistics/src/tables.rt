@@ -8,10 +8,8 @@ use of_classifier::Lookup;
 use of_messages::MessageBytes;
 use of_table::{Entries, FlowTables};
 use of_wire::{put_u32, put_u64};
+use of_wire::limits::TABLES;
 use std::alloc::{AllocError, Global};
-
-/// How many tables there are.
-pub(crate) const TABLES: u8 = 16;
 
 /// OFPMP_TABLE.
 const TABLE: u16 = 3;

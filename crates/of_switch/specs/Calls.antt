@@ -1,5 +1,6 @@
 -- Calls on a switch: each is refused by the first refusal of its written order, or does what the abstract switch does; and one that runs out of memory leaves the switch as it was.
 use Rattle.std.specs.Prelude.{◌≡◌, ℕ, nat_le, Bool, not, List, [], ◌∷◌, length, Option, Some, None, Result, Ok, Err, if◌then◌else◌}
+use Rattle.of_wire.specs.declared.limits.TheConstants.{MOST_PORTS}
 use Rattle.of_session.specs.Session.{is_disconnected}
 use Rattle.of_switch.specs.declared.switch_error.SwitchError.{SwitchError}
 use Rattle.of_switch.specs.declared.switch_error.SwitchError.TheVariants.{NoMemory, NotConnected, Connected, PortExists, NoSuchPort, TooManyPorts, BadPortNumber}
@@ -47,7 +48,7 @@ abbrev pub new_refusal : ℕ → State → Option SwitchError
 new_refusal number s =
     first_refusal ((not (is_number number), BadPortNumber)
     ∷ (has_port number s.core.forwarding.ports, PortExists)
-    ∷ (nat_le 64 (length s.core.forwarding.ports), TooManyPorts)
+    ∷ (nat_le MOST_PORTS (length s.core.forwarding.ports), TooManyPorts)
     ∷ [])
 
 abbrev pub port_refusal : PortChange → State → Option SwitchError

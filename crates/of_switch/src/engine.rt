@@ -36,7 +36,7 @@ ghost use Rattle.of_switch.specs.Steps.{after_command, begun, does, done, after_
 use of_actions::InstructionList;
 use of_classifier::Lookup;
 use of_datapath::{
-    AsyncConfig, Control, Datapath, Effect, Effects, NO_BUFFER, answers, any_to_absent_group,
+    AsyncConfig, Control, Datapath, Effect, Effects, answers, any_to_absent_group,
     asked_by, asks_absent_port, config_from, flow_from, has_flag, load_tables, names_absent_group,
     which_from, write_change, write_status,
 };
@@ -62,6 +62,7 @@ use of_wire::codes::{
     OFPFMFC_OVERLAP, OFPFMFC_TABLE_FULL, OFPPMFC_BAD_HW_ADDR, OFPPMFC_BAD_PORT, OFPRRFC_STALE,
 };
 use of_wire::{Bytes, Code};
+use of_wire::limits::OFP_NO_BUFFER;
 use std::alloc::{AllocError, Global};
 use std::marker::Model;
 
@@ -462,7 +463,7 @@ impl<L: Lookup> Engine<L> {
         if self.names_absent_group(&flow_mod.instructions) {
             return Err(Fault::Refused(OFPBAC_BAD_OUT_GROUP));
         }
-        if flow_mod.buffer == NO_BUFFER {
+        if flow_mod.buffer == OFP_NO_BUFFER {
             return self.put_flows(flow_mod);
         }
         if self.datapath.held.frame(flow_mod.buffer).is_none() {

@@ -2,6 +2,7 @@
 use Rattle.std.specs.Prelude.{ℕ, ◌+◌, ◌%◌, ◌^◌, ◌==◌, ◌&&◌, ◌++◌, Bool, false, not, List, [], ◌∷◌, length, Option, Some, None, zero, suc, filter, find, nat_le, slice_get, if◌then◌else◌}
 use Rattle.std.specs.List.{list_any}
 use Rattle.std.specs.Option.{option_map}
+use Rattle.of_wire.specs.declared.limits.TheConstants.{MOST_ENTRIES}
 use Rattle.of_layers.specs.declared.field.Field.{Field}
 use Rattle.of_oxm.specs.Relations.{overlaps_match}
 use Rattle.of_oxm.specs.SameMatch.{is_same_match}
@@ -70,7 +71,7 @@ is_overlapped flow flows = flow.flags.check_overlap && list_any (λ e. e.flow.pr
 
 -- the flow would be one more than 4,096 entries
 abbrev pub is_full : Flow → List FlowEntry → Bool
-is_full flow flows = not (list_any (is_same flow) flows) && nat_le 4096 (length flows)
+is_full flow flows = not (list_any (is_same flow) flows) && nat_le MOST_ENTRIES (length flows)
 
 -- why a flow is not added, where it is not
 abbrev pub add_fault : Flow → List FlowEntry → Option TableFault

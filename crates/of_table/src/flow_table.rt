@@ -31,11 +31,9 @@ use crate::table_fault::TableFault;
 use of_classifier::Lookup;
 use of_headers::FieldKey;
 use of_oxm::Match;
+use of_wire::limits::MOST_ENTRIES;
 use std::alloc::{AllocError, Global};
 use std::marker::Model;
-
-/// How many entries a table has at most.
-const MOST_ENTRIES: usize = 4096;
 
 /// A flow table: its entries, oldest first, and its counters (OpenFlow 1.3.5, 5.2 and 5.8).
 ///

@@ -26,12 +26,10 @@ use crate::walk::Entries;
 use of_actions::InstructionList;
 use of_classifier::Lookup;
 use of_headers::FieldKey;
+use of_wire::limits::TABLES;
 use std::alloc::{AllocError, Global};
 use std::marker::Model;
 use std::mem;
-
-/// How many tables a switch has.
-const TABLES: usize = 16;
 
 /// Sixteen flow tables, numbered from 0, and the latest moment that they know of (OpenFlow 1.3.5, 5.1).
 #[derive(Drop)]
@@ -85,7 +83,7 @@ impl<L: Lookup> FlowTables<L> {
         ensures ok { OnOk result (AddsFlow table flow self.old self.new) }
         ensures err { OnErr result (self.new ≡ self.old) }
     {
-        if table as usize >= TABLES {
+        if table >= TABLES {
             return Err(TableFault::BadTable);
         }
         let now = self.latest;
@@ -293,7 +291,7 @@ fn empty_tables<L: Lookup>(alloc: Global) -> Result<Vec<FlowTable<L>>, AllocErro
     ensures { IfOk result (λ v. v.items ≡ no_tables.tables) }
 {
     let mut tables = Vec::new(alloc);
-    while tables.len() < TABLES {
+    while tables.len() < TABLES as usize {
         tables.push(FlowTable::new(alloc)?)?;
     }
     Ok(tables)

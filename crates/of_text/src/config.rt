@@ -5,13 +5,11 @@ ghost use Rattle.of_text.specs.Kept.{AreKeptGroups, IsEntry, AllStandBehind};
 ghost use Rattle.of_text.specs.Configs.{IsConfig, tables_of, with_flow, view_tables};
 ghost use Rattle.of_text.specs.Views.{view, view_flows, view_groups};
 
+use of_wire::limits::TABLES;
 use crate::flow::FlowText;
 use crate::group::GroupText;
 use std::alloc::{AllocError, Global};
 use std::marker::Model;
-
-/// How many tables a switch has.
-const TABLES: usize = 16;
 
 /// Groups in ascending order of number, and the flows of sixteen tables, oldest first (OpenFlow 1.3.5, 5.1, 5.2 and 5.6).
 ///
@@ -70,7 +68,7 @@ pub fn empty_tables(alloc: Global) -> Result<Vec<Vec<FlowText>>, AllocError>
     ensures { IfOk result (λ tables. view_tables tables.items ≡ tables_of []) }
 {
     let mut tables = Vec::new(alloc);
-    while tables.len() < TABLES {
+    while tables.len() < TABLES as usize {
         tables.push(Vec::new(alloc))?;
     }
     Ok(tables)

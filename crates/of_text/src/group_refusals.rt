@@ -16,7 +16,7 @@ ghost use Rattle.of_text.specs.Views.{view_bucket, view_group, view_groups};
 use crate::group::{BucketText, GroupText};
 use crate::refusals::{applied, first, list_refusal};
 use of_groups::{
-    Buckets, GROUP_MAX, Group, chain_lengths, has_bad_watch, lacks_one_bucket, sends_to_absent,
+    Buckets, Group, chain_lengths, has_bad_watch, lacks_one_bucket, sends_to_absent,
     watches_absent,
 };
 use of_oxm::Code;
@@ -24,6 +24,7 @@ use of_wire::codes::{
     OFPBAC_BAD_OUT_GROUP, OFPGMFC_BAD_WATCH, OFPGMFC_INVALID_GROUP, OFPGMFC_LOOP,
     OFPGMFC_OUT_OF_BUCKETS, OFPGMFC_OUT_OF_GROUPS,
 };
+use of_wire::limits::OFPG_MAX;
 use std::alloc::{AllocError, Global};
 
 fn bucket_refusal(bucket: &BucketText) -> Option<Code>
@@ -67,7 +68,7 @@ fn buckets_refusal(buckets: &[BucketText]) -> Option<Code>
 fn told_refusal(group: &GroupText) -> Option<Code>
     ensures { result ≡ first_of (told_refusals (view_group group.now)) }
 {
-    if GROUP_MAX < group.head.id {
+    if OFPG_MAX < group.head.id {
         return Some(OFPGMFC_INVALID_GROUP);
     }
     buckets_refusal(&group.buckets)

@@ -29,10 +29,8 @@ use of_replay::push_effects;
 use of_switch::Switch;
 use of_table::Flow;
 use of_text::{FlowHead, Row, begin_note, end_note, push_note, push_row};
+use of_wire::limits::TABLES;
 use std::alloc::{AllocError, Global};
-
-/// How many flow tables there are.
-const TABLES: u8 = 16;
 
 // Appends a line of flow text as a note.
 fn push_row_note(out: &mut Vec<u8>, row: Row) -> Result<(), AllocError>

@@ -5,12 +5,13 @@ ghost use Rattle.of_trace.specs.Sights.{action_copies, after_step, output_copies
 ghost use Rattle.of_datapath.specs.Datapath.{world_of};
 
 use crate::sight::Sight;
-use of_actions::{Action, PORT_TABLE};
+use of_actions::{Action, };
 use of_classifier::Lookup;
 use of_headers::check_length;
 use of_machine::Step;
 use of_rewrite::Frame;
 use of_switch::Switch;
+use of_wire::limits::OFPP_TABLE;
 use std::alloc::{AllocError, Global};
 use std::collections::VecDeque;
 
@@ -60,7 +61,7 @@ fn put_fresh(
 ) -> Result<(), AllocError>
     ensures { OnOk result (packets.new.items ≡ output_copies port sight.now ++ packets.old.items) }
 {
-    if port == PORT_TABLE {
+    if port == OFPP_TABLE {
         let mut fresh = sight.copy(alloc)?;
         fresh.metadata = 0;
         packets.push_front(fresh)?;

@@ -5,11 +5,11 @@ ghost use Rattle.of_datapath.specs.Datapath.{world_of};
 ghost use Rattle.of_trace.specs.Notes.{bucket_notes, group_notes, is_many as goes_to_many, output_note, port_note, port_words};
 
 use crate::notes::push_number_note;
-use of_actions::{PORT_ALL, PORT_CONTROLLER, PORT_FLOOD, PORT_IN_PORT, PORT_TABLE};
 use of_classifier::Lookup;
 use of_ports::{Port, find_port};
 use of_switch::Switch;
 use of_text::{begin_note, end_note, push_note, push_number};
+use of_wire::limits::{OFPP_ALL, OFPP_CONTROLLER, OFPP_FLOOD, OFPP_IN_PORT, OFPP_TABLE};
 use std::alloc::AllocError;
 
 // Why a port that exists sends nothing.
@@ -43,7 +43,7 @@ fn push_port_note(out: &mut Vec<u8>, number: u32, port: Option<&Port>) -> Result
 fn is_many(port: u32) -> bool
     ensures { result ≡ goes_to_many port }
 {
-    port == PORT_FLOOD || port == PORT_ALL || port == PORT_CONTROLLER || port == PORT_TABLE
+    port == OFPP_FLOOD || port == OFPP_ALL || port == OFPP_CONTROLLER || port == OFPP_TABLE
 }
 
 /// Appends why an output sends nothing, where its port does not.
@@ -55,7 +55,7 @@ pub fn push_output_note(
 ) -> Result<(), AllocError>
     ensures { OnOk result (out.new.items ≡ out.old.items ++ output_note ports.now ingress port) }
 {
-    if port == PORT_IN_PORT {
+    if port == OFPP_IN_PORT {
         return push_port_note(out, ingress, find_port(ports, ingress));
     }
     if is_many(port) {

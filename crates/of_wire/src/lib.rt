@@ -5,6 +5,7 @@ mod bytes;
 mod code;
 mod code_name;
 pub mod codes;
+pub mod limits;
 mod reasons;
 mod slices;
 mod writing;

@@ -1,8 +1,9 @@
 //! What becomes of a packet that came by port 1 in a world of one entry, as rows.
 
-use of_actions::{Action, PORT_CONTROLLER, PORT_TABLE};
+use of_actions::{Action, };
 use of_layers::Field;
 use of_machine::{Count, PacketInReason, Step};
+use of_wire::limits::{OFPP_CONTROLLER, OFPP_TABLE};
 
 /// The entry's one instruction, without its actions.
 #[derive(Clone, Copy)]
@@ -63,17 +64,17 @@ pub const TO_THREE: Action = Action::Output {
 };
 
 const TO_CONTROLLER: Action = Action::Output {
-    port: PORT_CONTROLLER,
+    port: OFPP_CONTROLLER,
     max_len: 0xffff,
 };
 
 const EIGHT_TO_CONTROLLER: Action = Action::Output {
-    port: PORT_CONTROLLER,
+    port: OFPP_CONTROLLER,
     max_len: 8,
 };
 
 const TO_TABLES: Action = Action::Output {
-    port: PORT_TABLE,
+    port: OFPP_TABLE,
     max_len: 0,
 };
 
