@@ -3,9 +3,9 @@ ghost use Rattle.std.specs.Prelude.{◌≡◌, ◌≤◌, IfOk, Some, None, if�
 ghost use Rattle.std.specs.Option.{option_copied};
 ghost use Rattle.of_buffers.specs.Buffers.{following, forgotten, given_since, held, hold, is_id, last_id, none_held, used};
 
-use of_wire::limits::BUFFERS;
 use crate::held_frame::HeldFrame;
 use circular_buffer::HeapCircularBuffer;
+use of_wire::limits::BUFFERS;
 use std::alloc::{AllocError, Global};
 use std::marker::Model;
 

@@ -7,8 +7,8 @@ ghost use Rattle.of_machine.specs.Gained.{Gains};
 use crate::data::{Count, Item, Outcome, Packet, ToController};
 use crate::packet_frame::PacketFrame;
 use of_ports::{Port, find_port};
-use of_wire::{Bytes, PacketInReason};
 use of_wire::limits::{OFPP_ALL, OFPP_CONTROLLER, OFPP_FLOOD, OFPP_IN_PORT};
+use of_wire::{Bytes, PacketInReason};
 use std::alloc::{AllocError, Global};
 
 /// What an output to this port, or to a reserved one that is not TABLE, emits; `max_len` is for the controller alone

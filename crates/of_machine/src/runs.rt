@@ -13,7 +13,7 @@ use crate::data::{Outcome, Packet, Step};
 use crate::machine::{Going, act, frame_is_known};
 use crate::tables::pipeline;
 use crate::world::{StepLog, World};
-use of_actions::{Action, };
+use of_actions::Action;
 use of_wire::limits::{LONGEST_CHAIN, OFPP_TABLE};
 use std::alloc::{AllocError, Global};
 

@@ -1,7 +1,7 @@
 use crate::checks::{Kind, are_refused, code_of, is_written, same};
 use of_actions::{
-    Action, ActionList, Instruction, InstructionList, check_flow, is_number,
-    read_actions, read_instructions, write_actions, write_instructions,
+    Action, ActionList, Instruction, InstructionList, check_flow, is_number, read_actions,
+    read_instructions, write_actions, write_instructions,
 };
 use of_layers::Field;
 use of_oxm::read_match;

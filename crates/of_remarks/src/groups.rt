@@ -5,7 +5,7 @@ ghost use Rattle.of_text.specs.Views.{view, view_flows, view_step, view_bucket, 
 ghost use Rattle.of_remarks.specs.Actions.{some_action};
 ghost use Rattle.of_remarks.specs.Groups.{flow_names as is_flow_naming, group_names as is_group_naming, is_named as is_named_in, is_to_group as is_sending_to, is_watching as is_watching_kind, table_names as is_table_naming};
 
-use crate::tables::{flows_of};
+use crate::tables::flows_of;
 use of_actions::Action;
 use of_groups::GroupKind;
 use of_text::{BucketText, Config, FlowText, GroupText, StepText};

@@ -13,8 +13,8 @@ ghost use Rattle.of_requests.specs.Written.{IsWritten};
 
 use crate::header::begin;
 use of_messages::{GroupMod, NewGroup, write_buckets};
-use of_wire::{Bytes, put_u16, put_u32};
 use of_wire::limits::OFPG_ALL;
+use of_wire::{Bytes, put_u16, put_u32};
 use std::alloc::{AllocError, Global};
 
 // The fields before the buckets, 8 bytes.

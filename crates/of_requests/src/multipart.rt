@@ -12,8 +12,8 @@ ghost use Rattle.of_requests.specs.Written.{IsWritten};
 use crate::header::begin;
 use of_messages::{FlowStatsRequest, MultipartRequest};
 use of_oxm::write_match;
-use of_wire::{Bytes, put_u16, put_u32, put_u64};
 use of_wire::limits::{OFPG_ALL, OFPP_ANY};
+use of_wire::{Bytes, put_u16, put_u32, put_u64};
 use std::alloc::{AllocError, Global};
 
 // The type of a request, no flags, and padding.

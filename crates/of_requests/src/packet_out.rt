@@ -9,8 +9,8 @@ ghost use Rattle.of_requests.specs.Written.{IsWritten};
 use crate::header::begin;
 use of_actions::write_actions;
 use of_messages::{PacketData, PacketOut};
-use of_wire::{Bytes, put_u16, put_u32};
 use of_wire::limits::OFP_NO_BUFFER;
+use of_wire::{Bytes, put_u16, put_u32};
 use std::alloc::{AllocError, Global};
 
 fn buffer(packet: &PacketData) -> u32

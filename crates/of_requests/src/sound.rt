@@ -6,10 +6,10 @@ ghost use Rattle.of_messages.specs.Messages.{is_ingress as may_be_ingress};
 ghost use Rattle.of_requests.specs.Sound.{counts_nothing as is_fresh, is_one as is_asked, is_sound as has_bytes, is_sound_flow_mod, is_sound_group, is_sound_group_mod, is_sound_packet, is_sound_request};
 
 use of_actions::{check_flow, is_number};
-use of_groups::{Bucket, };
+use of_groups::Bucket;
 use of_headers::check_length;
 use of_messages::{FlowMod, GroupMod, Message, MultipartRequest, NewGroup, PacketData};
-use of_wire::limits::{OFPG_ALL, OFPG_MAX, OFPP_ANY, OFPP_CONTROLLER, OFP_NO_BUFFER};
+use of_wire::limits::{OFP_NO_BUFFER, OFPG_ALL, OFPG_MAX, OFPP_ANY, OFPP_CONTROLLER};
 
 /// OFPPC_PORT_DOWN, OFPPC_NO_RECV, OFPPC_NO_FWD and OFPPC_NO_PACKET_IN.
 const PORT_BITS: u32 = 1 | 4 | 32 | 64;

@@ -12,8 +12,8 @@ use of_classifier::Lookup;
 use of_messages::MessageBytes;
 use of_oxm::write_match;
 use of_table::{Entries, Entry, FlowTables, Selector, is_in, selects};
-use of_wire::{put_u16, put_u64};
 use of_wire::limits::TABLES;
+use of_wire::{put_u16, put_u64};
 use std::alloc::{AllocError, Global};
 
 /// OFPMP_FLOW.

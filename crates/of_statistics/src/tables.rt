@@ -7,8 +7,8 @@ use crate::replies::{begun, sealed};
 use of_classifier::Lookup;
 use of_messages::MessageBytes;
 use of_table::{Entries, FlowTables};
-use of_wire::{put_u32, put_u64};
 use of_wire::limits::TABLES;
+use of_wire::{put_u32, put_u64};
 use std::alloc::{AllocError, Global};
 
 /// OFPMP_TABLE.

@@ -36,8 +36,8 @@ ghost use Rattle.of_switch.specs.Steps.{after_command, begun, does, done, after_
 use of_actions::InstructionList;
 use of_classifier::Lookup;
 use of_datapath::{
-    AsyncConfig, Control, Datapath, Effect, Effects, answers, any_to_absent_group,
-    asked_by, asks_absent_port, config_from, flow_from, has_flag, load_tables, names_absent_group,
+    AsyncConfig, Control, Datapath, Effect, Effects, answers, any_to_absent_group, asked_by,
+    asks_absent_port, config_from, flow_from, has_flag, load_tables, names_absent_group,
     which_from, write_change, write_status,
 };
 use of_groups::{Buckets, Chosen, GroupFault, GroupKind};
@@ -61,8 +61,8 @@ use of_wire::codes::{
     OFPBAC_BAD_OUT_GROUP, OFPBRC_BAD_PORT, OFPBRC_BUFFER_UNKNOWN, OFPFMFC_BAD_TABLE_ID,
     OFPFMFC_OVERLAP, OFPFMFC_TABLE_FULL, OFPPMFC_BAD_HW_ADDR, OFPPMFC_BAD_PORT, OFPRRFC_STALE,
 };
-use of_wire::{Bytes, Code};
 use of_wire::limits::OFP_NO_BUFFER;
+use of_wire::{Bytes, Code};
 use std::alloc::{AllocError, Global};
 use std::marker::Model;
 
@@ -179,7 +179,8 @@ impl<L: Lookup> Engine<L> {
     ) -> Result<Effects, AllocError>
         requires new { has_port number self.old.forwarding.ports ≡ false }
         requires room { length self.old.forwarding.ports < 64 }
-        ensures ok { IfOk result (λ effects. port_added heard (new_port number hw name is_up self.old.forwarding.tables.latest) self.old ≡ does effects.items self.new) }
+        ensures ok { IfOk result (λ effects. port_added heard (new_port number hw name is_up self.old.forwarding.tables.latest) self.old ≡
+            does effects.items self.new) }
         ensures err { OnErr result (self.new ≡ self.old) }
     {
         let created = self.datapath.tables.latest();
@@ -209,7 +210,8 @@ impl<L: Lookup> Engine<L> {
         number: u32,
         is_link_up: bool,
     ) -> Result<Effects, AllocError>
-        ensures ok { IfOk result (λ effects. linked_at heard number is_link_up self.old (port_at self.old.forwarding.ports number) ≡ does effects.items self.new) }
+        ensures ok { IfOk result (λ effects. linked_at heard number is_link_up self.old (port_at self.old.forwarding.ports number) ≡
+            does effects.items self.new) }
         ensures err { OnErr result (self.new ≡ self.old) }
     {
         let Some(port) = self.datapath.ports.port(number) else {
@@ -565,7 +567,8 @@ impl<L: Lookup> Engine<L> {
         requires group { naming_absent_group self.old.forwarding.groups flow_mod.instructions ≡ false }
         requires fit { are_for flow_mod.table flow_mod.instructions ≡ true }
         requires checked { all_go_with flow_mod.fields flow_mod.instructions ≡ true }
-        ensures ok { OnOk result (self.new ≡ with_tables (modified_in (selector_of flow_mod) flow_mod.instructions (with_flag flow_mod.flags 4) self.old.forwarding.tables) self.old) }
+        ensures ok { OnOk result (self.new ≡
+            with_tables (modified_in (selector_of flow_mod) flow_mod.instructions (with_flag flow_mod.flags 4) self.old.forwarding.tables) self.old) }
         ensures err { OnErr result (self.new ≡ self.old) }
     {
         let reset = has_flag(flow_mod.flags, 4);

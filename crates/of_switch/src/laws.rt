@@ -24,20 +24,23 @@ ghost use Rattle.of_switch.specs.Runs.{Report, RunsAll, StopsWithin, behind, com
 ///
 /// What the first piece gives comes before what the second gives; where the first ends the connection, the second is lost.
 pub fn two_pieces()
-    ensures { (first second : List ℕ) (s : State) → is_disconnected s.connection.phase ≡ false → piece_in (first ++ second) s ≡ behind (piece_in first s).effects (drained (come second (piece_in first s).state)) }
+    ensures { (first second : List ℕ) (s : State) → is_disconnected s.connection.phase ≡ false →
+        piece_in (first ++ second) s ≡ behind (piece_in first s).effects (drained (come second (piece_in first s).state)) }
 {}
 
 /// A piece handles the messages in the bytes that waited and its own, one after the other, up to the one that ends the connection.
 ///
 /// What is left at the end is malformed and ends the connection, or it waits. After a piece nothing is left to handle.
 pub fn piece_handles_its_messages()
-    ensures in_turn { (piece : List ℕ) (s : State) (messages : List (List ℕ)) (rest : List ℕ) → is_disconnected s.connection.phase ≡ false → Splits (s.connection.pending ++ piece) messages rest → piece_in piece s ≡ handled_in_turn (messages ++ rest ∷ []) s }
+    ensures in_turn { (piece : List ℕ) (s : State) (messages : List (List ℕ)) (rest : List ℕ) → is_disconnected s.connection.phase ≡ false →
+        Splits (s.connection.pending ++ piece) messages rest → piece_in piece s ≡ handled_in_turn (messages ++ rest ∷ []) s }
     ensures all { (piece : List ℕ) (s : State) → next_of (piece_in piece s).state ≡ None }
 {}
 
 /// A message that is refused is answered by an ERROR of its code with its first 64 bytes, and changes nothing else.
 pub fn refusal_changes_nothing()
-    ensures { (s : State) (xid size : ℕ) (code : ErrorCode) → IsRefusedWith (coming s) s.core xid size code → next_of s ≡ Some (gives (Answer (error_bytes xid code (failed_of size s.connection)) ∷ []) (record s { connection = taken size s.connection })) }
+    ensures { (s : State) (xid size : ℕ) (code : ErrorCode) → IsRefusedWith (coming s) s.core xid size code →
+        next_of s ≡ Some (gives (Answer (error_bytes xid code (failed_of size s.connection)) ∷ []) (record s { connection = taken size s.connection })) }
 {}
 
 /// The configuration of a switch that a configuration was loaded into is that configuration.
@@ -52,12 +55,20 @@ pub fn loaded_is_told()
 /// it, if fewer than 256 came later. Else it has OFP_NO_BUFFER and the whole frame. No two of them have the same id, unless the ids
 /// have gone round between them; and the next run's ids go on after the last.
 pub fn ids_told_are_ids_held()
-    ensures told { (heard : AsyncConfig) (ports : List Port) (b : HeldFrames) (items first rest : List Item) (p : ToController) → given heard ports items ≡ first ++ PacketIn p ∷ rest → is_held heard p ≡ true → slice_get (effects_of heard ports b items) (length first) ≡ Some (packet_in_of p (id_after_all heard b.next first) (take (limit_of heard p) p.frame)) }
-    ensures held { (heard : AsyncConfig) (ports : List Port) (b : HeldFrames) (items first rest : List Item) (p : ToController) → is_id b.next ≡ true → given heard ports items ≡ first ++ PacketIn p ∷ rest → is_held heard p ≡ true → length (flat_map (frames_for heard) rest) < most_held → held (id_after_all heard b.next first) (held_after heard ports b items) ≡ Some (held_of p) }
-    ensures whole { (heard : AsyncConfig) (ports : List Port) (b : HeldFrames) (items first rest : List Item) (p : ToController) → given heard ports items ≡ first ++ PacketIn p ∷ rest → is_held heard p ≡ false → slice_get (effects_of heard ports b items) (length first) ≡ Some (packet_in_of p no_buffer p.frame) }
+    ensures told { (heard : AsyncConfig) (ports : List Port) (b : HeldFrames) (items first rest : List Item) (p : ToController) →
+        given heard ports items ≡ first ++ PacketIn p ∷ rest → is_held heard p ≡ true →
+        slice_get (effects_of heard ports b items) (length first) ≡ Some (packet_in_of p (id_after_all heard b.next first) (take (limit_of heard p) p.frame)) }
+    ensures held { (heard : AsyncConfig) (ports : List Port) (b : HeldFrames) (items first rest : List Item) (p : ToController) → is_id b.next ≡ true →
+        given heard ports items ≡ first ++ PacketIn p ∷ rest → is_held heard p ≡ true → length (flat_map (frames_for heard) rest) < most_held →
+        held (id_after_all heard b.next first) (held_after heard ports b items) ≡ Some (held_of p) }
+    ensures whole { (heard : AsyncConfig) (ports : List Port) (b : HeldFrames) (items first rest : List Item) (p : ToController) →
+        given heard ports items ≡ first ++ PacketIn p ∷ rest → is_held heard p ≡ false →
+        slice_get (effects_of heard ports b items) (length first) ≡ Some (packet_in_of p no_buffer p.frame) }
     ensures ids { (heard : AsyncConfig) (b : HeldFrames) (first : List Item) → is_id b.next ≡ true → is_id (id_after_all heard b.next first) ≡ true }
-    ensures distinct { (heard : AsyncConfig) (b : HeldFrames) (first more : List Item) (p : ToController) → is_id b.next ≡ true → is_held heard p ≡ true → length (flat_map (frames_for heard) more) + 1 < last_id → id_after_all heard b.next (first ++ PacketIn p ∷ more) ≢ id_after_all heard b.next first }
-    ensures next { (heard : AsyncConfig) (ports : List Port) (b : HeldFrames) (items : List Item) → (held_after heard ports b items).next ≡ id_after_all heard b.next (given heard ports items) }
+    ensures distinct { (heard : AsyncConfig) (b : HeldFrames) (first more : List Item) (p : ToController) → is_id b.next ≡ true → is_held heard p ≡ true →
+        length (flat_map (frames_for heard) more) + 1 < last_id → id_after_all heard b.next (first ++ PacketIn p ∷ more) ≢ id_after_all heard b.next first }
+    ensures next { (heard : AsyncConfig) (ports : List Port) (b : HeldFrames) (items : List Item) →
+        (held_after heard ports b items).next ≡ id_after_all heard b.next (given heard ports items) }
 {}
 
 /// A call for which memory ran out changes nothing: what other calls do is as if it had not been made, whether it is made again or not.
@@ -66,7 +77,8 @@ pub fn ids_told_are_ids_held()
 /// between two messages and went on later, with nothing else between, is as if it had been handled at once.
 pub fn no_memory_changes_nothing()
     ensures others { (calls : List Made) (s t : State) → AreMade calls s t → AreMade (others calls) s t }
-    ensures run { (calls : List Made) (deeds : List Deed) (s t : State) → AreMade calls s t → others calls ≡ flat_map calls_of deeds → run (map event_of deeds) s ≡ record { reports = map report_of deeds; state = t } }
+    ensures run { (calls : List Made) (deeds : List Deed) (s t : State) → AreMade calls s t → others calls ≡ flat_map calls_of deeds →
+        run (map event_of deeds) s ≡ record { reports = map report_of deeds; state = t } }
 {}
 
 /// An event for which memory ran out in `run` goes on when `run` is called with what is left of it: the event again, if nothing was
@@ -75,6 +87,9 @@ pub fn no_memory_changes_nothing()
 /// When that has happened, what was given and the state after it are as if the event had not been interrupted; if it is interrupted
 /// again, as if it had been interrupted once.
 pub fn interrupted_events_go_on()
-    ensures happened { (event : Event) (s t u : State) (more last : List Report) → StopsWithin (event ∷ []) s t [] more → RunsAll (rest_of event more ∷ []) t u [] last → (u ≡ (run (event ∷ []) s).state) × (effects_in (more ++ last) ≡ effects_in (run (event ∷ []) s).reports) }
-    ensures again { (event : Event) (s t u : State) (more last : List Report) → StopsWithin (event ∷ []) s t [] more → StopsWithin (rest_of event more ∷ []) t u [] last → StopsWithin (event ∷ []) s u [] (more ++ last) }
+    ensures happened { (event : Event) (s t u : State) (more last : List Report) → StopsWithin (event ∷ []) s t [] more →
+        RunsAll (rest_of event more ∷ []) t u [] last → (u ≡ (run (event ∷ []) s).state) ×
+        (effects_in (more ++ last) ≡ effects_in (run (event ∷ []) s).reports) }
+    ensures again { (event : Event) (s t u : State) (more last : List Report) → StopsWithin (event ∷ []) s t [] more →
+        StopsWithin (rest_of event more ∷ []) t u [] last → StopsWithin (event ∷ []) s u [] (more ++ last) }
 {}

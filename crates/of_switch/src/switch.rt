@@ -141,7 +141,8 @@ impl<L: Lookup> Switch<L> {
 
     // Handles the first whole message or the malformed header. It refuses nothing: it fails where memory runs out.
     fn handle_next(&mut self) -> Result<Option<Effects>, AllocError>
-        ensures ok { IfOk result (λ found. (next_of self.old ≡ option_map (λ effects. gives effects.items self.new) found) × IfNone found (self.new ≡ self.old)) }
+        ensures ok { IfOk result (λ found. (next_of self.old ≡ option_map (λ effects. gives effects.items self.new) found) ×
+            IfNone found (self.new ≡ self.old)) }
         ensures err { OnErr result (self.new ≡ self.old) }
     {
         let next = self.session.next(self.engine.role())?;
@@ -234,7 +235,8 @@ impl<L: Lookup> Switch<L> {
         ensures effects { IfOk result (λ effects. effects.items ≡ (frame_in port frame.now self.now).effects) }
         ensures steps { OnOk result (S.KEEPS ≡ true → S.list log.new ≡ S.list log.old ++ steps_in port frame.now self.now.core.forwarding) }
         ensures bound { S.KEEPS ≡ true → length (S.list log.new) ≤ length (S.list log.old) + frame_step_bound }
-        ensures err { IfErr result (λ e. (e ≡ SwitchError.NoMemory) × (S.KEEPS ≡ true → GainsPrefix (steps_in port frame.now self.now.core.forwarding) (S.list log.old) (S.list log.new))) }
+        ensures err { IfErr result (λ e. (e ≡ SwitchError.NoMemory) ×
+            (S.KEEPS ≡ true → GainsPrefix (steps_in port frame.now self.now.core.forwarding) (S.list log.old) (S.list log.new))) }
     {
         Ok(self.engine.dry_run(self.heard(), port, frame, log)?)
     }

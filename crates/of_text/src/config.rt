@@ -5,9 +5,9 @@ ghost use Rattle.of_text.specs.Kept.{AreKeptGroups, IsEntry, AllStandBehind};
 ghost use Rattle.of_text.specs.Configs.{IsConfig, tables_of, with_flow, view_tables};
 ghost use Rattle.of_text.specs.Views.{view, view_flows, view_groups};
 
-use of_wire::limits::TABLES;
 use crate::flow::FlowText;
 use crate::group::GroupText;
+use of_wire::limits::TABLES;
 use std::alloc::{AllocError, Global};
 use std::marker::Model;
 

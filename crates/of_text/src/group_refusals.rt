@@ -16,8 +16,7 @@ ghost use Rattle.of_text.specs.Views.{view_bucket, view_group, view_groups};
 use crate::group::{BucketText, GroupText};
 use crate::refusals::{applied, first, list_refusal};
 use of_groups::{
-    Buckets, Group, chain_lengths, has_bad_watch, lacks_one_bucket, sends_to_absent,
-    watches_absent,
+    Buckets, Group, chain_lengths, has_bad_watch, lacks_one_bucket, sends_to_absent, watches_absent,
 };
 use of_oxm::Code;
 use of_wire::codes::{

@@ -5,7 +5,7 @@ ghost use Rattle.of_trace.specs.Sights.{action_copies, after_step, output_copies
 ghost use Rattle.of_datapath.specs.Datapath.{world_of};
 
 use crate::sight::Sight;
-use of_actions::{Action, };
+use of_actions::Action;
 use of_classifier::Lookup;
 use of_headers::check_length;
 use of_machine::Step;

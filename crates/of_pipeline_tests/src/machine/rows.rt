@@ -1,6 +1,6 @@
 //! What becomes of a packet that came by port 1 in a world of one entry, as rows.
 
-use of_actions::{Action, };
+use of_actions::Action;
 use of_layers::Field;
 use of_machine::{Count, PacketInReason, Step};
 use of_wire::limits::{OFPP_CONTROLLER, OFPP_TABLE};
