@@ -28,8 +28,8 @@ looks_by g mask e s m = record { bits = λ f. s.bits f ∙ m f }
 pub asks_by : (key : FieldKey) (e : Entry) → ((f : Field) → value key f ≡ value_of e.fields f) → AsksFor key e
 asks_by key e h = record { values = h }
 
-pub some_more : (g h : Group) (key : FieldKey) (p n : ℕ) → HasMore g h key p n → h.ranks.keys ≡ [] → ⊥
-some_more g h key p n m none = no_rank h.ranks p n none m.itself
+pub some_more : (g h : Group) (d p n : ℕ) → HasMore g h d p n → h.ranks.keys ≡ [] → ⊥
+some_more g h d p n m none = no_rank h.ranks p n none m.itself
 
 -- an entry is in the group of its mask that is taken out
 pub in_split : (entries : Slab Entry) (gs : List Group) (g : Group) (n : ℕ) (e : Entry) → AreSplit entries gs g → get entries n ≡ Some e → LooksLike g e → IsIn g n e

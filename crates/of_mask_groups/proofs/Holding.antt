@@ -27,7 +27,7 @@ index_kept : (old new : Slab Entry) (g : Group) → ((n : ℕ) (e : Entry) → g
 index_kept old new g stays h = record {
   settled = h.settled;
   members = λ p n c. (let m = h.members p n c in let s = stays n m.entry m.stands m.looks in record { entry = s.entry; stands = s.stands; looks = looks_same g m.entry s.entry (sym s.fields) m.looks; priority = s.priority ∙ m.priority });
-  cells = λ k n c. (let m = h.cells k n c in let s = stays n m.entry m.stands m.looks in record { entry = s.entry; stands = s.stands; looks = looks_same g m.entry s.entry (sym s.fields) m.looks; asks = asks_same k m.entry s.entry (sym s.fields) m.asks; ranked = subst (λ p. is_ranked g p n ≡ true) (sym s.priority) m.ranked });
+  cells = λ k n c. (let m = h.cells k n c in let s = stays n m.entry m.stands m.looks in record { entry = s.entry; stands = s.stands; looks = looks_same g m.entry s.entry (sym s.fields) m.looks; asks = λ j a. m.asks j (asks_same j s.entry m.entry s.fields a); ranked = subst (λ p. is_ranked g p n ≡ true) (sym s.priority) m.ranked });
   occupied = h.occupied;
 }
 

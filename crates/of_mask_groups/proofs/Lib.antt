@@ -3,7 +3,6 @@ pub mod Best
 pub mod Aging
 pub mod Counting
 pub mod Sights
-pub mod KeyTest
 pub mod Falling
 pub mod Searching
 pub mod Winning

@@ -6,6 +6,7 @@ use Rattle.of_headers.specs.declared.key.FieldKey.{FieldKey}
 use Rattle.of_oxm.specs.NormalForm.{IsMatch}
 use Rattle.of_mask_groups.specs.declared.entry.Entry.{Entry}
 use Rattle.of_mask_groups.specs.declared.group.Group.{Group}
+use Rattle.of_mask_groups.specs.Cells.{key_digest}
 use Rattle.of_mask_groups.specs.Grouping.{LooksLike, AsksFor, IsGroup, AreFalling, AreGrouped, HasMore, IsPlaceFor, IsSame}
 use Rattle.of_mask_groups.proofs.Adding.{some_more}
 use Rattle.of_mask_groups.proofs.Members.{at_place, in_cons, not_in_nil}
@@ -49,20 +50,20 @@ its_place gs i g h f lt at same =
       after = λ y c. subst (λ b. y.best ≤ b) (sym here) (after_rest gs i g y f lt c);
     }
 
-best_stays : (entries : Slab Entry) (g h : Group) (key : FieldKey) (p n : ℕ) → IsGroup entries g → HasMore g h key p n → p ≤ g.best → h.best ≡ g.best
-best_stays entries g h key p n a m low =
+best_stays : (entries : Slab Entry) (g h : Group) (d p n : ℕ) → IsGroup entries g → HasMore g h d p n → p ≤ g.best → h.best ≡ g.best
+best_stays entries g h d p n a m low =
     let lower : g.best ≤ h.best = ⊎_elim (λ none. absurd (a.some none)) (λ t. m.settled.above g.best t.0 (m.kept g.best t.0 t.1)) a.index.settled.top in
-    let upper : h.best ≤ g.best = ⊎_elim (λ none. absurd (some_more g h key p n m none)) (λ t. ⊎_elim (λ r. a.index.settled.above h.best t.0 r) (λ e. subst (λ b. b ≤ g.best) (sym e.0) low) (m.ranks h.best t.0 t.1)) m.settled.top in
+    let upper : h.best ≤ g.best = ⊎_elim (λ none. absurd (some_more g h d p n m none)) (λ t. ⊎_elim (λ r. a.index.settled.above h.best t.0 r) (λ e. subst (λ b. b ≤ g.best) (sym e.0) low) (m.ranks h.best t.0 t.1)) m.settled.top in
     omega (arith, lower, upper)
 
 group_at : (entries : Slab Entry) (gs : List Group) (i : ℕ) (g : Group) → i < length gs → g ≡ get_or gs i g → AreGrouped entries gs → IsGroup entries g
 group_at entries gs i g lt at a = a.each g (subst (λ z. Contains gs z) (sym at) (at_place gs i g lt))
 
-pub more_at : (old new : Slab Entry) (gs : List Group) (i : ℕ) (g h : Group) (key : FieldKey) (n : ℕ) (e : Entry) → i < length gs → g ≡ get_or gs i g → AreGrouped old gs → get old n ≡ None → Updates old new n (Some e) → IsMatch e.fields → LooksLike g e → AsksFor key e → HasMore g h key e.priority n → e.priority ≤ g.best → AreGrouped new (set gs i h)
+pub more_at : (old new : Slab Entry) (gs : List Group) (i : ℕ) (g h : Group) (key : FieldKey) (n : ℕ) (e : Entry) → i < length gs → g ≡ get_or gs i g → AreGrouped old gs → get old n ≡ None → Updates old new n (Some e) → IsMatch e.fields → LooksLike g e → AsksFor key e → HasMore g h (key_digest key) e.priority n → e.priority ≤ g.best → AreGrouped new (set gs i h)
 more_at old new gs i g h key n e lt at a vacant u fine looks asks m low =
-    let same = best_stays old g h key e.priority n (group_at old gs i g lt at a) m low in
+    let same = best_stays old g h (key_digest key) e.priority n (group_at old gs i g lt at a) m low in
     let split = split_more old new (rest gs i) g h key n e vacant u fine looks asks m (split_removed old gs i g lt at a) in
-    subst (AreGrouped new) (sym (set_is gs i h lt)) (put_in new (rest gs i) h i split (its_place gs i g h a.falling lt at same) (some_more g h key e.priority n m))
+    subst (AreGrouped new) (sym (set_is gs i h lt)) (put_in new (rest gs i) h i split (its_place gs i g h a.falling lt at same) (some_more g h (key_digest key) e.priority n m))
 
 pub same_at : (entries : Slab Entry) (gs : List Group) (i : ℕ) (g h : Group) → i < length gs → g ≡ get_or gs i g → IsSame g h → AreGrouped entries gs → AreGrouped entries (set gs i h)
 same_at entries gs i g h lt at s a =

@@ -10,7 +10,7 @@ use Rattle.of_oxm.specs.declared.masks.FieldMask.{FieldMask}
 use Rattle.of_oxm.specs.Masks.{looked_at, value_of, mask_at}
 use Rattle.of_mask_groups.specs.declared.entry.Entry.{Entry}
 use Rattle.of_mask_groups.specs.declared.group.Group.{Group}
-use Rattle.of_mask_groups.specs.Cells.{cell_at, AreOccupied, CellMore, CellLess}
+use Rattle.of_mask_groups.specs.Cells.{key_digest, cell_at, AreOccupied, CellMore, CellLess}
 use Rattle.of_mask_groups.specs.Ranks.{has_rank, IsHighest}
 
 -- ---- an entry and a group
@@ -34,19 +34,19 @@ pub record IsMember (entries : Slab Entry) (g : Group) (p n : ℕ) : Type 0 wher
   pub looks : LooksLike g entry
   pub priority : entry.priority ≡ p
 
--- an entry of the group that asks for the key
-pub record IsInCell (entries : Slab Entry) (g : Group) (k : FieldKey) (n : ℕ) : Type 0 where
+-- an entry of the group that asks for a key of that digest
+pub record IsInCell (entries : Slab Entry) (g : Group) (d n : ℕ) : Type 0 where
   pub entry : Entry
   pub stands : get entries n ≡ Some entry
   pub looks : LooksLike g entry
-  pub asks : AsksFor k entry
+  pub asks : (k : FieldKey) → AsksFor k entry → key_digest k ≡ d
   pub ranked : is_ranked g entry.priority n ≡ true
 
 -- the group has entries of its mask alone
 pub record IsIndex (entries : Slab Entry) (g : Group) : Type 0 where
   pub settled : IsHighest g.ranks g.best
   pub members : (p n : ℕ) → is_ranked g p n ≡ true → IsMember entries g p n
-  pub cells : (k : FieldKey) (n : ℕ) → Contains (cell_at g.cells k) n → IsInCell entries g k n
+  pub cells : (d n : ℕ) → Contains (cell_at g.cells d) n → IsInCell entries g d n
   pub occupied : AreOccupied g.cells
 
 -- and at least one
@@ -65,11 +65,11 @@ abbrev pub AreFalling : List Group → Type 0
 AreFalling [] = Unit {0}
 AreFalling (g ∷ gs) = ((h : Group) → Contains gs h → ComesBefore g h) × AreFalling gs
 
--- this group has the entry's number, under its priority and in the cell of its key
+-- this group has the entry's number, under its priority and the digest of its key
 pub record IsIn (g : Group) (n : ℕ) (e : Entry) : Type 0 where
   pub looks : LooksLike g e
   pub ranked : is_ranked g e.priority n ≡ true
-  pub cell : (k : FieldKey) → AsksFor k e → Contains (cell_at g.cells k) n
+  pub cell : (k : FieldKey) → AsksFor k e → Contains (cell_at g.cells (key_digest k)) n
 
 -- a group has it
 pub record IsIndexed (groups : List Group) (n : ℕ) (e : Entry) : Type 0 where
@@ -106,23 +106,23 @@ pub record IsPlaceFor (gs : List Group) (p k : ℕ) : Type 0 where
 
 -- ---- a group that changes
 
--- the group has one more number, of this priority and in the cell of this key
-pub record HasMore (g h : Group) (k : FieldKey) (p n : ℕ) : Type 0 where
+-- the group has one more number, of this priority and under this digest
+pub record HasMore (g h : Group) (d p n : ℕ) : Type 0 where
   pub mask : h.mask ≡ g.mask
   pub settled : IsHighest h.ranks h.best
   pub ranks : (q m : ℕ) → is_ranked h q m ≡ true → (is_ranked g q m ≡ true) ⊎ ((q ≡ p) × (m ≡ n))
   pub kept : (q m : ℕ) → is_ranked g q m ≡ true → is_ranked h q m ≡ true
   pub itself : is_ranked h p n ≡ true
-  pub cells : CellMore g.cells h.cells k n
+  pub cells : CellMore g.cells h.cells d n
   pub occupied : AreOccupied g.cells → AreOccupied h.cells
 
 -- the group lacks that number
-pub record HasLess (g h : Group) (k : FieldKey) (p n : ℕ) : Type 0 where
+pub record HasLess (g h : Group) (d p n : ℕ) : Type 0 where
   pub mask : h.mask ≡ g.mask
   pub settled : IsHighest h.ranks h.best
   pub ranks : (q m : ℕ) → is_ranked h q m ≡ true → (is_ranked g q m ≡ true) × (((q ≡ p) × (m ≡ n)) → ⊥)
   pub kept : (q m : ℕ) → (((q ≡ p) × (m ≡ n)) → ⊥) → is_ranked g q m ≡ true → is_ranked h q m ≡ true
-  pub cells : CellLess g.cells h.cells k n
+  pub cells : CellLess g.cells h.cells d n
   pub occupied : AreOccupied g.cells → AreOccupied h.cells
 
 -- the group is the same
@@ -130,5 +130,5 @@ pub record IsSame (g h : Group) : Type 0 where
   pub mask : h.mask ≡ g.mask
   pub best : h.best ≡ g.best
   pub ranks : h.ranks.keys ≡ g.ranks.keys
-  pub cells : (k : FieldKey) → cell_at h.cells k ≡ cell_at g.cells k
+  pub cells : (d : ℕ) → cell_at h.cells d ≡ cell_at g.cells d
   pub occupied : AreOccupied g.cells → AreOccupied h.cells

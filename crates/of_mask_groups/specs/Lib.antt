@@ -1,6 +1,5 @@
 pub mod Covering
 pub mod Ranks
-pub mod SameKey
 pub mod Cells
 pub mod Grouping
 pub mod Aged

@@ -9,13 +9,8 @@ use Rattle.of_oxm.specs.Relations.{matches_map}
 use Rattle.of_mask_groups.specs.declared.entry.Entry.{Entry}
 use Rattle.of_mask_groups.specs.declared.found.Found.{Found}
 use Rattle.of_mask_groups.specs.declared.group.Group.{Group}
-use Rattle.of_mask_groups.specs.Covering.{found_of, IsFound, covered}
+use Rattle.of_mask_groups.specs.Covering.{found_of, IsHit, covered}
 use Rattle.of_mask_groups.specs.Grouping.{LooksLike}
-
--- what is found is an entry that matches
-pub record IsHit (entries : Slab Entry) (key : Field → Option ℕ) (f : Found) : Type 0 where
-  pub found : IsFound entries f
-  pub matches : matches_map found.entry.fields key ≡ true
 
 -- So many groups are probed: the best of their entries that match is known, and none of them could be left out.
 pub record AreProbed (entries : Slab Entry) (key : Field → Option ℕ) (groups : List Group) (best : Option Found) (probes : ℕ) : Type 0 where

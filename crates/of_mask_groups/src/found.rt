@@ -1,9 +1,12 @@
 //! The best of some entries: of the highest priority, and the oldest of these.
 ghost use Rattle.std.specs.Prelude.{◌≡◌};
 ghost use Rattle.slab.specs.Slab.{get};
+ghost use Rattle.of_headers.specs.FieldMap.{value};
 ghost use Rattle.of_mask_groups.specs.Covering.{better_of, better_with, IsBestOf};
 
 use crate::entry::Entry;
+use of_headers::FieldKey;
+use of_oxm::matches;
 use slab::Slab;
 
 /// What the search knows of an entry that it found.
@@ -26,12 +29,17 @@ fn better(best: Option<Found>, other: Found) -> Option<Found>
     }
 }
 
-// The better of the best so far and the entry of a number, if there is one.
-fn better_at(entries: &Slab<Entry>, best: Option<Found>, number: usize) -> Option<Found>
-    ensures { result ≡ better_with best number (get entries.now number) }
+// The better of the best so far and the entry of a number, if it matches the key.
+fn better_at(
+    entries: &Slab<Entry>,
+    best: Option<Found>,
+    number: usize,
+    key: &FieldKey,
+) -> Option<Found>
+    ensures { result ≡ better_with (value key.now) best number (get entries.now number) }
 {
     match entries.get(number) {
-        Some(entry) => better(
+        Some(entry) if matches(&entry.fields, key) => better(
             best,
             Found {
                 number,
@@ -39,21 +47,22 @@ fn better_at(entries: &Slab<Entry>, best: Option<Found>, number: usize) -> Optio
                 age: entry.age,
             },
         ),
-        None => best,
+        _ => best,
     }
 }
 
-/// The best of the best so far and the entries of these numbers.
+/// The best of the best so far and of those entries of these numbers that match the key.
 pub(crate) fn best_among(
     entries: &Slab<Entry>,
     numbers: &[usize],
+    key: &FieldKey,
     best: Option<Found>,
 ) -> Option<Found>
-    ensures { IsBestOf entries.now best numbers.now result }
+    ensures { IsBestOf entries.now (value key.now) best numbers.now result }
 {
     let mut best = best;
     for number in numbers {
-        best = better_at(entries, best, *number);
+        best = better_at(entries, best, *number, key);
     }
     best
 }

@@ -1,14 +1,11 @@
 //! The entries of one mask.
-ghost use Rattle.std.specs.Prelude.{◌≡◌, ◌+◌, ◌<◌, ◌^◌, IsTrue, ◌↔◌, [], OnOk, OnErr};
-ghost use Rattle.of_headers.specs.declared.key.FieldKey.{FieldKey as AKey};
+ghost use Rattle.std.specs.Prelude.{◌≡◌, ℕ, ◌+◌, ◌<◌, ◌^◌, IsTrue, ◌↔◌, [], OnOk, OnErr};
 ghost use Rattle.of_mask_groups.specs.Cells.{cell_at, AreOccupied};
 ghost use Rattle.of_mask_groups.specs.Grouping.{HasMore, HasLess, IsSame};
 ghost use Rattle.of_mask_groups.specs.Ranks.{IsHighest};
 
 use crate::cells::{Cells, drop_number, drop_vacant, make_room, push_number};
-use crate::masked::MaskedKey;
 use crate::rank::Rank;
-use of_headers::FieldKey;
 use of_oxm::FieldMask;
 use std::alloc::{AllocError, Global};
 use std::collections::{BTreeSet, HashMap};
@@ -21,7 +18,7 @@ pub(crate) struct Group {
     pub(crate) best: u16,
     /// Its entries by priority.
     ranks: BTreeSet<Rank>,
-    /// The numbers of its entries, by the key that their matches ask for.
+    /// The numbers of its entries, by the digest of the key that their matches ask for.
     cells: Cells,
 }
 
@@ -30,7 +27,7 @@ impl Group {
     pub(crate) fn empty(alloc: Global, mask: FieldMask) -> Group
         ensures mask { result.mask ≡ mask }
         ensures ranks { result.ranks.keys ≡ [] }
-        ensures cells { (k : AKey) → cell_at result.cells k ≡ [] }
+        ensures cells { (d : ℕ) → cell_at result.cells d ≡ [] }
         ensures occupied { AreOccupied result.cells }
     {
         Group {
@@ -48,46 +45,45 @@ impl Group {
         self.ranks.is_empty()
     }
 
-    /// The numbers of the entries that ask for this key. It counts as one probe.
-    pub(crate) fn probe<'a>(&'a self, key: &MaskedKey, probes: &mut usize) -> &'a [usize]
+    /// The numbers of the entries that ask for a key of this digest. It counts as one probe.
+    pub(crate) fn probe<'a>(&'a self, digest: u64, probes: &mut usize) -> &'a [usize]
         requires { probes.old + 1 < 2 ^ 64 }
-        ensures numbers { result.now ≡ cell_at self.now.cells key.now.fields }
+        ensures numbers { result.now ≡ cell_at self.now.cells digest }
         ensures counted { probes.new ≡ probes.old + 1 }
     {
         *probes += 1;
-        match self.cells.get(key) {
+        match self.cells.get(&digest) {
             Some(cell) => cell.as_slice(),
             None => &[],
         }
     }
 
-    /// Inserts an entry that asks for this key. Where memory runs out the group stays.
+    /// Inserts an entry that asks for a key of this digest. Where memory runs out the group stays.
     pub(crate) fn insert(
         &mut self,
         alloc: Global,
-        key: &FieldKey,
+        digest: u64,
         rank: Rank,
     ) -> Result<(), AllocError>
-        ensures ok { OnOk result (HasMore self.old self.new key.now rank.priority rank.number) }
+        ensures ok { OnOk result (HasMore self.old self.new digest rank.priority rank.number) }
         ensures err { OnErr result (IsSame self.old self.new) }
     {
-        let key = MaskedKey { fields: *key };
-        make_room(&mut self.cells, alloc, &key)?;
+        make_room(&mut self.cells, alloc, digest)?;
         if let Err(error) = self.ranks.insert(rank) {
-            drop_vacant(&mut self.cells, &key);
+            drop_vacant(&mut self.cells, digest);
             return Err(error.into());
         }
-        push_number(&mut self.cells, &key, rank.number);
+        push_number(&mut self.cells, digest, rank.number);
         self.best = highest(&self.ranks);
         Ok(())
     }
 
-    /// Removes an entry that asks for this key.
-    pub(crate) fn remove(&mut self, key: &FieldKey, rank: Rank)
-        ensures { HasLess self.old self.new key.now rank.priority rank.number }
+    /// Removes an entry that asks for a key of this digest.
+    pub(crate) fn remove(&mut self, digest: u64, rank: Rank)
+        ensures { HasLess self.old self.new digest rank.priority rank.number }
     {
         self.ranks.remove(&rank);
-        drop_number(&mut self.cells, &MaskedKey { fields: *key }, rank.number);
+        drop_number(&mut self.cells, digest, rank.number);
         self.best = highest(&self.ranks);
     }
 }

@@ -1,4 +1,4 @@
-//! A classifier by groups of masks: one hashed map of masked keys for each distinct mask.
+//! A classifier by groups of masks: one hashed map for each distinct mask.
 #![tactic(auto)]
 
 mod cells;
@@ -7,7 +7,6 @@ mod found;
 mod group;
 mod groups;
 mod mask_groups;
-mod masked;
 mod probing;
 mod rank;
 mod renumbering;

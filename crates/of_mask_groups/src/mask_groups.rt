@@ -197,7 +197,7 @@ fn insert_in_place(
         priority: entry.priority,
         number,
     };
-    groups[place].insert(alloc, &key_of(&entry.fields), rank)?;
+    groups[place].insert(alloc, key_of(&entry.fields).digest(), rank)?;
     entries.insert_reserved(entry);
     Ok(number)
 }
@@ -221,14 +221,14 @@ fn insert_apart(
     ensures grouped { AreGrouped entries.new groups.new.items }
     ensures held { vec_len groups.new ≤ vec_capacity groups.new }
 {
-    let key = key_of(&entry.fields);
+    let digest = key_of(&entry.fields).digest();
     let number = entries.vacant_key();
     let rank = Rank {
         priority: entry.priority,
         number,
     };
     let mut group = take_group(groups, alloc, mask);
-    match group.insert(alloc, &key, rank) {
+    match group.insert(alloc, digest, rank) {
         Ok(()) => {
             entries.insert_reserved(entry);
             put_back(groups, group);
@@ -252,13 +252,13 @@ fn take_entry(entries: &mut Slab<Entry>, groups: &mut Vec<Group>, alloc: Global,
     ensures held { vec_len groups.new ≤ vec_capacity groups.new }
 {
     if let Some(entry) = entries.try_remove(number) {
-        let key = key_of(&entry.fields);
+        let digest = key_of(&entry.fields).digest();
         let rank = Rank {
             priority: entry.priority,
             number,
         };
         let mut group = take_group(groups, alloc, &mask_of(&entry.fields));
-        group.remove(&key, rank);
+        group.remove(digest, rank);
         if !group.is_empty() {
             put_back(groups, group);
         }

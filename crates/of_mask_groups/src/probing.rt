@@ -11,7 +11,6 @@ ghost use Rattle.of_mask_groups.specs.Probed.{AreProbed, IsDone, groups_look};
 use crate::entry::Entry;
 use crate::found::{Found, best_among};
 use crate::group::Group;
-use crate::masked::MaskedKey;
 use of_headers::FieldKey;
 use of_oxm::FieldMask;
 use slab::Slab;
@@ -33,11 +32,8 @@ pub(crate) fn probe_groups(
         if is_above(best, group.best) {
             return (best, probes);
         }
-        let masked = MaskedKey {
-            fields: group.mask.masked(key),
-        };
-        let numbers = group.probe(&masked, &mut probes);
-        best = best_among(entries, numbers, best);
+        let numbers = group.probe(group.mask.masked(key).digest(), &mut probes);
+        best = best_among(entries, numbers, key, best);
     }
     (best, probes)
 }

@@ -10,7 +10,6 @@ ghost use Rattle.of_mask_groups.specs.SameEntry.{IsOldestSame, older_same};
 use crate::entry::Entry;
 use crate::group::Group;
 use crate::groups::place_of;
-use crate::masked::MaskedKey;
 use of_oxm::{Match, key_of, mask_of};
 use slab::Slab;
 
@@ -28,10 +27,7 @@ pub(crate) fn same_in(
     match place_of(groups, &mask) {
         Some(place) => {
             let mut probes = 0;
-            let key = MaskedKey {
-                fields: key_of(fields),
-            };
-            let numbers = groups[place].probe(&key, &mut probes);
+            let numbers = groups[place].probe(key_of(fields).digest(), &mut probes);
             oldest_same(entries, numbers, fields, priority)
         }
         None => None,

@@ -4,16 +4,16 @@ use Rattle.of_mask_groups.proofs.CellLemmas.{all_occupied, but_one, cells_kept, 
 use Rattle.of_mask_groups.proofs.cells.make_room.Goals as goal
 
 pub returns-in-Some-clause-same : goal.returns-in-Some-clause-same
-returns-in-Some-clause-same c = cells_kept c.args.cells.now (c.get_mut.follows.lender c.reserve.new.self) c.args.key.now.fields (Some c.reserve.new.self) ((c.get_mut.follows.holds c.reserve.new.self).3 (is_there (sym c.in-Some.ensures.value))) (c.reserve.ensures.items ∙ ap items_of c.in-Some.ensures.value)
+returns-in-Some-clause-same c = cells_kept c.args.cells.now (c.get_mut.follows.lender c.reserve.new.self) c.args.digest (Some c.reserve.new.self) ((c.get_mut.follows.holds c.reserve.new.self).3 (is_there (sym c.in-Some.ensures.value))) (c.reserve.ensures.items ∙ ap items_of c.in-Some.ensures.value)
 
 pub returns-in-Some-clause-room : goal.returns-in-Some-clause-room
-returns-in-Some-clause-room c = room_made c.reserve.result (c.get_mut.follows.lender c.reserve.new.self) c.args.key.now.fields c.reserve.new.self ((c.get_mut.follows.holds c.reserve.new.self).3 (is_there (sym c.in-Some.ensures.value))).1 c.reserve.ensures.ok
+returns-in-Some-clause-room c = room_made c.reserve.result (c.get_mut.follows.lender c.reserve.new.self) c.args.digest c.reserve.new.self ((c.get_mut.follows.holds c.reserve.new.self).3 (is_there (sym c.in-Some.ensures.value))).1 c.reserve.ensures.ok
 
 pub returns-in-Some-clause-err : goal.returns-in-Some-clause-err
 returns-in-Some-clause-err c =
     let old = c.args.cells.now in
     let new = c.get_mut.follows.lender c.reserve.new.self in
-    let key = c.args.key.now.fields in
+    let key = c.args.digest in
     let there = is_there (sym c.in-Some.ensures.value) in
     let changed = (c.get_mut.follows.holds c.reserve.new.self).3 there in
     let same = ap items_of changed.1 ∙ (c.reserve.ensures.items ∙ ap items_of c.in-Some.ensures.value) in
