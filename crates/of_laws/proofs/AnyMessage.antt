@@ -14,11 +14,11 @@ use Rattle.of_laws.specs.AnyMessage.{AreAlike, SpellsAny, controller, told, repl
 use Rattle.of_laws.specs.Replied.{Reply, SpellsReply, reply_fixed_part}
 
 -- what stands in the header
-record Header (xid kind : ℕ) (bytes : List ℕ) : Type 0 where
-  long : 8 ≤ length bytes
-  len : header_length bytes ≡ length bytes
-  kind_is : type_of bytes ≡ kind
-  xid_is : xid ≡ xid_of bytes
+pub record Header (xid kind : ℕ) (bytes : List ℕ) : Type 0 where
+  pub long : 8 ≤ length bytes
+  pub len : header_length bytes ≡ length bytes
+  pub kind_is : type_of bytes ≡ kind
+  pub xid_is : xid ≡ xid_of bytes
 
 -- ---- of a message of a controller
 
@@ -34,7 +34,7 @@ front_long : (m : Message) (n x : ℕ) → 8 ≤ size (fixed_part_cells m n x)
 front_long Hello n x = omega arith
 front_long other n x = omega arith
 
-of_controller : (x : ℕ) (m : Message) (bytes : List ℕ) → Spells x m bytes → Header x (type m) bytes
+pub of_controller : (x : ℕ) (m : Message) (bytes : List ℕ) → Spells x m bytes → Header x (type m) bytes
 of_controller x m bytes s =
     let cells = fixed_part_cells m (length bytes) x in
     let p = placed m (length bytes) x bytes (says 0 cells bytes bytes s.tail refl s.front) in

@@ -1,12 +1,12 @@
 -- Buckets that were computed from bytes are those that the bytes are, and back.
-use Rattle.std.proofs.Common.{◌≡◌, ℕ, ◌+◌, ◌-◌, ◌%◌, ◌≤◌, true, false, not, ltb, eqb, List, [], ◌∷◌, ◌++◌, length, take, drop, Some, None, Result, Ok, Err, refl, sym, ap, subst, ◌∙◌, arith}
+use Rattle.std.proofs.Common.{◌≡◌, ℕ, ◌+◌, ◌-◌, ◌%◌, ◌≤◌, Bool, true, false, not, ltb, eqb, List, [], ◌∷◌, ◌++◌, length, take, drop, Some, None, Result, Ok, Err, refl, sym, ap, subst, ◌∙◌, arith}
 use Rattle.std.specs.Prelude.{IsSome, ◌||◌}
 use Rattle.std.proofs.lemmas.Bool.{le-ltb, eq-eqb}
 use Rattle.std.proofs.lemmas.Bool.Decides.{nat_tests}
 use Rattle.std.proofs.lemmas.List.{length-append, length-take, length-drop, drop-drop, take-append-drop, take_at, drop_at}
 use Rattle.byteorder.specs.Endian.{big_number}
 use Rattle.of_wire.specs.declared.code.Code.{Code}
-use Rattle.of_wire.specs.Refusals.{first_of}
+use Rattle.of_wire.specs.Refusals.{first_of, refusal}
 use Rattle.of_wire.specs.Items.{AreItems}
 use Rattle.of_wire.proofs.FirstLemmas.{none_applies}
 use Rattle.of_wire.proofs.ItemsRead.{items_are}
@@ -27,15 +27,23 @@ use Rattle.of_laws.proofs.Places.{says, rest_is, size_is, front_of}
 -- ---- from buckets to bytes
 
 -- over a variable, where nothing has computed to bytes yet
-none_refused : (seen : List Bucket) (rest : List ℕ) (n : ℕ) (actions : List Action) → length seen ≤ 15 → len_at rest ≡ n → 16 ≤ n → n % 8 ≡ 0 → n ≤ length rest → actions_said false (actions_in rest) ≡ Ok actions → first_of (bucket_refusals seen rest) ≡ None
+pub bucket_left : (seen : List Bucket) (rest : List ℕ) (n : ℕ) → len_at rest ≡ n → 16 ≤ n → n % 8 ≡ 0 → n ≤ length rest
+    → first_of (bucket_refusals seen rest) ≡ first_of ((ltb 15 (length seen), refusal 6 4) ∷ fault_of (actions_said false (actions_in rest)))
 unfolding bucket_refusals
-none_refused seen rest n actions few len low eight whole said =
+bucket_left seen rest n len low eights whole =
+    let short : ltb (length rest) 16 ≡ false = le-ltb _ _ (omega (arith, low, whole)) in
+    let low' : ltb n 16 ≡ false = le-ltb _ _ low in
+    let eight' : eqb (n % 8) 0 ≡ true = eq-eqb _ _ eights in
+    let whole' : ltb (length rest) n ≡ false = le-ltb _ _ whole in
+    let third : ((ltb (len_at rest) 16 || not (eqb (len_at rest % 8) 0)) || ltb (length rest) (len_at rest)) ≡ false =
+    ap (λ (k : ℕ). (ltb k 16 || not (eqb (k % 8) 0)) || ltb (length rest) k) len ∙ ap (λ (b : Bool). (b || not (eqb (n % 8) 0)) || ltb (length rest) n) low' ∙ ap (λ (b : Bool). not b || ltb (length rest) n) eight' ∙ whole' in
+    ap (λ (s : Bool). first_of ((ltb 15 (length seen), refusal 6 4) ∷ (s, refusal 6 12) ∷ ((ltb (len_at rest) 16 || not (eqb (len_at rest % 8) 0)) || ltb (length rest) (len_at rest), refusal 6 12) ∷ fault_of (actions_said false (actions_in rest)))) short
+    ∙ ap (λ (s : Bool). first_of ((ltb 15 (length seen), refusal 6 4) ∷ (false, refusal 6 12) ∷ (s, refusal 6 12) ∷ fault_of (actions_said false (actions_in rest)))) third
+
+none_refused : (seen : List Bucket) (rest : List ℕ) (n : ℕ) (actions : List Action) → length seen ≤ 15 → len_at rest ≡ n → 16 ≤ n → n % 8 ≡ 0 → n ≤ length rest → actions_said false (actions_in rest) ≡ Ok actions → first_of (bucket_refusals seen rest) ≡ None
+none_refused seen rest n actions few len low eights whole said =
     let room : ltb 15 (length seen) ≡ false = le-ltb _ _ few in
-    let short : ltb (length rest) 16 ≡ false = le-ltb _ _ (omega arith) in
-    let low' : ltb (len_at rest) 16 ≡ false = le-ltb _ _ (omega arith) in
-    let eight' : eqb (len_at rest % 8) 0 ≡ true = eq-eqb _ _ (ap (λ (k : ℕ). k % 8) len ∙ eight) in
-    let whole' : ltb (length rest) (len_at rest) ≡ false = le-ltb _ _ (omega arith) in
-    rw (room, short, low', eight', whole') (ap (λ (r : Result (List Action) Code). first_of (fault_of r)) said)
+    bucket_left seen rest n len low eights whole ∙ rw room (ap (λ (r : Result (List Action) Code). first_of (fault_of r)) said)
 
 -- what bytes say that begin with a bucket
 record Begun (b : Bucket) (rest after : List ℕ) : Type 0 where

@@ -2,7 +2,7 @@
 use Rattle.std.proofs.Common.{◌≡◌, ℕ, suc, ◌+◌, ◌<◌, ◌≤◌, eqb, Bool, true, false, not, List, [], ◌∷◌, ◌++◌, length, None, refl, ◌∙◌, ap, subst, arith}
 use Rattle.std.specs.Prelude.{map, replicate, slice_index_or}
 use Rattle.std.specs.List.{AllByRecursion, flat_map, list_all}
-use Rattle.std.proofs.lemmas.Bool.{and_from, and_parts, eq-eqb, lt-ltb}
+use Rattle.std.proofs.lemmas.Bool.{and_from, and_parts, eq-eqb, lt-ltb, not-true}
 use Rattle.std.proofs.lemmas.List.{length-map}
 use Rattle.of_groups.specs.declared.group.Group.{Group}
 use Rattle.of_groups.specs.Chains.{AreShort}
@@ -63,10 +63,6 @@ there_among all (g ∷ gs) among = (
   there_among all gs (λ m h. among m (or_true (eqb g.head.id m) (is_there m (groups_at 0 gs)) h)),
 )
 
-not_true : (b : Bool) → not b ≡ true → b ≡ false
-not_true true h = absurd cc
-not_true false h = refl
-
 each_sent : (all : List Group) (gs : List TextGroup) → AreShort all → AllByRecursion Fits (rows_of_groups gs) → AllByRecursion (λ (g : TextGroup). g.head.id ≤ 0xffffff00) gs → list_all is_fit_group (groups_at 0 gs) ≡ true
     → list_all (is_whole all) (groups_at 0 gs) ≡ true → AllByRecursion (λ (g : TextGroup). is_there g.head.id all ≡ true) gs → AllByRecursion (IsSentGroup all) gs
 each_sent all [] short fits numbers fit whole there = tt
@@ -78,7 +74,7 @@ each_sent all (g ∷ gs) short fits numbers fit whole there =
         number = numbers.0;
         numbers = numbers_fit g.buckets rows.1;
         fit = f.0;
-        whole = not_true (any_named (is_absent all) (group_at 0 g)) w.0;
+        whole = not-true (any_named (is_absent all) (group_at 0 g)) w.0;
         some = chain_there all g.head.id there.0;
         short = chain_at_most all g.head.id short;
       },

@@ -5,7 +5,7 @@ use Rattle.std.specs.List.{AllByRecursion, list_all}
 use Rattle.std.specs.Option.{option_map}
 use Rattle.std.specs.Str.{IsAscii, bytes_eq, chars, is_utf8}
 use lib.Utf8.{encode}
-use Rattle.std.proofs.lemmas.Bool.{and_from, and_parts, le-leb, ltb-true, ne_eqb}
+use Rattle.std.proofs.lemmas.Bool.{and_from, and_parts, le-leb, ltb-true, ne_eqb, and_right}
 use Rattle.std.proofs.lemmas.List.{append-nil}
 use Rattle.std.proofs.lemmas.Str.{IsUtf8-from_ascii, is_utf8-from_IsUtf8}
 use Rattle.std.proofs.lemmas.Str.Ascii.{IsAscii-cons}
@@ -82,15 +82,11 @@ space bytes =
     position-later (λ (b : ℕ). eqb b 32) 99 (32 ∷ encode_lower bytes) refl
     ∙ ap (option_map (λ n. n + 1)) (position-first (λ (b : ℕ). eqb b 32) 32 (encode_lower bytes) refl)
 
-and_none : (b : Bool) → (b && false) ≡ false
-and_none true = refl
-and_none false = refl
-
 pub bytes_again : (bytes : List ℕ) → 0 < length bytes → IsBytes bytes → bytes_of (encode_lower bytes) ≡ Some bytes
 unfolding encode_with
 bytes_again [] some each = absurd (omega (arith, some))
 bytes_again (b ∷ bs) some each =
-    let other : bytes_eq (encode_lower (b ∷ bs)) (codes "-") ≡ false = and_none (eqb (slice_index lower_digits (b / 16)) 45) in
+    let other : bytes_eq (encode_lower (b ∷ bs)) (codes "-") ≡ false = and_right (eqb (slice_index lower_digits (b / 16)) 45) _ refl in
     let size = length-encode_with lower_digits (b ∷ bs) in
     let long : eqb (length (encode_lower (b ∷ bs))) 0 ≡ false = ne_eqb (length (encode_lower (b ∷ bs))) 0 (λ e. omega (arith, e, size)) in
     rw (other, long, decode_of-encode_lower (b ∷ bs) each) refl

@@ -1,8 +1,8 @@
 -- Flows that are added, each after those before it.
-use Rattle.std.proofs.Common.{◌≡◌, ℕ, zero, suc, ◌+◌, ◌<◌, ◌≤◌, eqb, Bool, true, false, not, List, [], ◌∷◌, ◌++◌, length, drop, get_or, set, None, refl, sym, ◌∙◌, ap, subst, append_assoc, arith}
+use Rattle.std.proofs.Common.{◌≡◌, ℕ, zero, suc, ◌+◌, ◌<◌, ◌≤◌, eqb, Bool, true, false, not, List, [], ◌∷◌, ◌++◌, length, drop, get_or, set, None, refl, sym, ◌∙◌, ap, subst, append_assoc, arith, Ok}
 use Rattle.std.specs.Prelude.{◌&&◌, ◌||◌, map, nat_le, bit_and, replicate}
 use Rattle.std.specs.List.{AllByRecursion, list_any}
-use Rattle.std.proofs.lemmas.Bool.{and_parts, eq-eqb, eqb-true}
+use Rattle.std.proofs.lemmas.Bool.{and_parts, eq-eqb, eqb-true, and_right}
 use Rattle.std.proofs.lemmas.Bool.Decides.{nat_tests}
 use Rattle.std.proofs.lemmas.Nat.{and_le_r}
 use Rattle.std.proofs.lemmas.List.{append-nil, map-append, length-map, length-append}
@@ -11,6 +11,9 @@ use Rattle.of_oxm.proofs.Written.{canonical_short}
 use Rattle.of_oxm.specs.Canonical.{canonical}
 use Rattle.of_actions.specs.CanonicalInstructions.{canonical_instructions}
 use Rattle.of_actions.proofs.InstructionLengths.{instructions_short}
+use Rattle.of_actions.specs.InstructionLists.{are_for}
+use Rattle.of_formats.specs.Structs.{Fits}
+use Rattle.of_formats.specs.Tables as tables
 use Rattle.of_groups.specs.Buckets.{sends}
 use Rattle.of_groups.specs.Faults.{is_absent}
 use Rattle.of_table.specs.Selecting.{has_action}
@@ -24,7 +27,8 @@ use Rattle.of_text.specs.Refusals.{names_absent, is_same as is_same_text}
 use Rattle.of_text.specs.Configs.{all_flows}
 use Rattle.of_text.specs.Rows.{HeadFits}
 use Rattle.of_messages.specs.declared.message.Message.TheVariants.{FlowMod as IsFlowMod}
-use Rattle.of_messages.specs.Written.{flow_mod_bytes, flow_mod_fixed_part}
+use Rattle.of_messages.specs.Messages.{message_of}
+use Rattle.of_messages.specs.Written.{flow_mod_bytes, flow_mod_fixed_part, flow_mod_numbers}
 use Rattle.of_messages.proofs.Appended.{length_flow_mod}
 use Rattle.of_build.specs.Building.{add_of, add_lines}
 use Rattle.of_buffers.specs.Buffers.{none_held}
@@ -36,7 +40,7 @@ use Rattle.of_switch.specs.State.{State}
 use Rattle.of_switch.specs.Runs.{Gives, happened}
 use Rattle.of_datapath.proofs.LoadLemmas.{filled, filled_all, filled_more, filled_next, filled_none}
 use Rattle.of_laws.proofs.ByteLemmas.{flow_mod_are_bytes}
-use Rattle.of_laws.proofs.FlowAgain.{IsAdd, flow_mod_again}
+use Rattle.of_laws.proofs.FlowAgain.{flow_mod_again}
 use Rattle.of_laws.proofs.StreamMessages.{built, one_message}
 use Rattle.of_laws.proofs.Pieces.{Leads, handles, leads_first, ready}
 use Rattle.of_laws.proofs.EventRowsRead.{IsShown, Means, means_end, means_piece}
@@ -86,26 +90,13 @@ pub record IsSent (table : ℕ) (f : TextFlow) : Type 0 where
   pub entry : IsEntry table f
   pub head : HeadFits f.head
 
-is_add : (table : ℕ) (f : TextFlow) → IsSent table f → bit_and f.head.flags 25 ≡ f.head.flags → IsAdd (add_of f)
-is_add table f s flags =
+flow_read : (xid table : ℕ) (f : TextFlow) → IsSent table f → bit_and f.head.flags 25 ≡ f.head.flags → message_of (flow_mod_bytes xid (add_of f)) ≡ Ok (IsFlowMod (add_of f))
+flow_read xid table f s flags =
     let few = few_flags f.head.flags flags in
-    record {
-      cookie = s.head.2;
-      cookie_mask = omega arith;
-      table = omega (arith, s.own, s.low);
-      command = refl;
-      idle = s.head.3;
-      hard = s.head.4;
-      priority = s.head.1;
-      buffer = omega arith;
-      out_port = omega arith;
-      out_group = omega arith;
-      flags = omega (arith, few);
-      fields = s.entry.fields;
-      kept = s.entry.kept;
-      fit = rw (s.own) s.entry.leads_on;
-      checked = s.entry.checked;
-    }
+    let low : f.head.table < 16 = omega (arith, s.own, s.low) in
+    let fit : are_for f.head.table (instructions_of f) ≡ true = rw (s.own) s.entry.leads_on in
+    let fits : Fits tables.flow_mod (flow_mod_numbers (add_of f)) [] = (s.head.2, (omega arith, (omega arith, (omega arith, (s.head.3, (s.head.4, (s.head.1, (omega arith, (omega arith, (omega arith, (omega (arith, few), tt))))))))))) in
+    flow_mod_again xid (add_of f) fits (record { table = low; flags = omega (arith, few); fit = s.entry.checked }) s.entry.fields s.entry.kept fit (λ deleted. absurd cc)
 
 step_named : (gs : List TextGroup) (s : Step) → has_action (sends (is_absent (groups_at 0 gs))) (instruction_of s) ≡ names_absent gs s
 step_named gs (Apply actions) = refl
@@ -118,10 +109,6 @@ steps_named : (gs : List TextGroup) (ss : List Step) → names_absent_group (gro
 steps_named gs [] = refl
 steps_named gs (s ∷ ss) = rw (step_named gs s, steps_named gs ss) refl
 
-and_low : (b c : Bool) → c ≡ false → (b && c) ≡ false
-and_low true c h = h
-and_low false c h = refl
-
 not_refused : (gs : List TextGroup) (ts : Tables) (f : TextFlow) → f.head.table < 16 → bit_and f.head.flags 25 ≡ f.head.flags → list_any (names_absent gs) f.steps ≡ false → length (table_at f.head.table ts).flows < 4096
     → first_of (flow_mod_refusals (add_of f) ts (groups_at 0 gs) none_held) ≡ None
 not_refused gs ts f low flags there room =
@@ -129,7 +116,7 @@ not_refused gs ts f low flags there room =
     let high : nat_le 16 f.head.table ≡ false = grind (arith, nat_tests) in
     let check : has_flag f.head.flags 2 ≡ false = unchecked f.head.flags flags in
     let some : nat_le 4096 (length (table_at f.head.table ts).flows) ≡ false = grind (arith, nat_tests) in
-    let full : is_full (flow_of (add_of f)) (table_at f.head.table ts).flows ≡ false = and_low (not (list_any (is_same (flow_of (add_of f))) (table_at f.head.table ts).flows)) _ some in
+    let full : is_full (flow_of (add_of f)) (table_at f.head.table ts).flows ≡ false = and_right (not (list_any (is_same (flow_of (add_of f))) (table_at f.head.table ts).flows)) _ some in
     rw (named, high, check, full) refl
 
 message_size : (xid : ℕ) (f : TextFlow) (table : ℕ) → IsSent table f → length (flow_mod_fixed_part (add_of f) ++ (canonical f.fields ++ canonical_instructions (instructions_of f))) ≤ 4296
@@ -144,7 +131,7 @@ handled_flow dpid xid table gs ts f s flags there room =
     handles (flow_mod_bytes xid (add_of f)) (built dpid (groups_at 0 gs) ts) (built dpid (groups_at 0 gs) (added_to f.head.table (flow_of (add_of f)) ts)) (IsFlowMod (add_of f))
     (one_message 14 xid (flow_mod_fixed_part (add_of f) ++ (canonical f.fields ++ canonical_instructions (instructions_of f))) (omega (arith, few)))
     refl
-    (flow_mod_again xid (add_of f) (is_add table f s flags))
+    (flow_read xid table f s flags)
     (not_refused gs ts f (omega (arith, s.own, s.low)) flags there room)
     refl
 

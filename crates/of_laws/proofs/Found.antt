@@ -2,7 +2,6 @@
 use Rattle.std.proofs.Common.{◌≡◌, ◌≤◌, ◌+◌, ℕ, Bool, true, false, not, eqb, List, [], length, drop, Result, Ok, Err, refl, sym, ap, subst, ◌∙◌, arith}
 use Rattle.std.specs.Prelude.{◌&&◌}
 use Rattle.std.proofs.lemmas.Bool.{eqb-true, ltb-false}
-use Rattle.std.proofs.Math.ListN.{drop_of_length-le}
 use Rattle.of_wire.specs.declared.code.Code.{Code}
 use Rattle.of_wire.proofs.Numbers.{IsBytes}
 use Rattle.of_messages.specs.declared.config.SwitchConfig.{SwitchConfig}
@@ -28,10 +27,12 @@ use Rattle.of_messages.specs.Roles.{role_request_of}
 use Rattle.of_laws.specs.Grammar.{fixed_part_cells, group_mod_cells, role_cells, IsValid, Spells, Tail}
 use Rattle.of_laws.specs.Requests.{request_cells}
 use Rattle.of_laws.proofs.FoundLarge.{packet_out_found, flow_mod_found, group_mod_found}
-use Rattle.of_laws.proofs.FoundRequests.{request_found}
+use Rattle.of_laws.proofs.FoundRequests.{ended, exact, request_found}
 use Rattle.of_laws.proofs.FoundSmall.{async_found, config_found, port_mod_found, role_found, table_mod_found}
 use Rattle.of_laws.proofs.Heads.{Kind, hello, error, echo_request, echo_reply, features_request, get_config_request, set_config, packet_out, flow_mod, group_mod, port_mod, table_mod, multipart, barrier_request, role_request, get_async_request, set_async, type_number, body_by, as_flow_mod, as_packet_out, as_group_mod, as_port_mod, as_table_mod, as_set_config, as_role_request, as_multipart, Head, said}
 use Rattle.of_laws.proofs.Places.{Says, size, front_of}
+use Rattle.of_laws.proofs.OnlyLarge.{group_size}
+use Rattle.of_laws.proofs.OnlySmall.{role_size}
 
 made : (v : Message) (m : List ℕ) (n : ℕ) → IsBytes m → size (fixed_part_cells v (length m) (xid_of m)) ≡ n → n ≤ length m → Says 0 (fixed_part_cells v (length m) (xid_of m)) m → Tail v (drop n m) → IsValid v → Spells (xid_of m) v m
 made v m n fits size_is long says behind valid =
@@ -48,32 +49,7 @@ version_4 : (k : Kind) (m : List ℕ) → eqb (type_number k) 0 ≡ false → He
 version_4 k m other h =
     let version : (not (eqb (type_number k) 0) && not (eqb (version_of m) 4)) ≡ false = h.version in
     let left : not (eqb (version_of m) 4) ≡ false = sym (ap (λ (b : Bool). not b && not (eqb (version_of m) 4)) other) ∙ version in
-    by_test (eqb (version_of m) 4) refl left
-  where
-    by_test : (b : Bool) → eqb (version_of m) 4 ≡ b → not b ≡ false → version_of m ≡ 4
-    by_test true is e = eqb-true _ _ is
-    by_test false is e = absurd cc
-
-exact : (n k : ℕ) → not (eqb n k) ≡ false → n ≡ k
-exact n k h = by_test (eqb n k) refl h
-  where
-    by_test : (b : Bool) → eqb n k ≡ b → not b ≡ false → n ≡ k
-    by_test true is e = eqb-true n k is
-    by_test false is e = absurd cc
-
-ended : (n : ℕ) (m : List ℕ) → length m ≡ n → drop n m ≡ []
-ended n m e = drop_of_length-le m (omega arith)
-
-role_size : (r : RoleRequest) → size (role_cells r) ≡ 16
-role_size NoChange = refl
-role_size Equal = refl
-role_size (Master generation) = refl
-role_size (Slave generation) = refl
-
-group_size : (g : GroupMod) → size (group_mod_cells g) ≡ 8
-group_size (group.Add g) = refl
-group_size (group.Modify g) = refl
-group_size (group.Delete which) = refl
+    exact _ _ left
 
 by_body : (k : Kind) (m : List ℕ) (v : Message) → IsBytes m → Head m k → body_by k m ≡ Ok v → Spells (xid_of m) v m
 unfolding body_by

@@ -1,7 +1,7 @@
 -- What was read as a PACKET_OUT, a FLOW_MOD or a GROUP_MOD is in its places, and after them.
 use Rattle.std.proofs.Common.{◌≡◌, ◌≤◌, ◌<◌, ◌+◌, ℕ, Bool, true, false, not, eqb, ltb, cond, List, [], ◌∷◌, ◌++◌, length, take, drop, Some, None, Result, Ok, Err, refl, sym, subst, ◌∙◌, arith, inl, inr}
 use Rattle.std.specs.Prelude.{slice_index, ◌&&◌, ◌||◌, is_none}
-use Rattle.std.proofs.lemmas.Bool.{eqb-true, eqb-false, ltb-false}
+use Rattle.std.proofs.lemmas.Bool.{eqb-true, eqb-false, ltb-false, not-false}
 use Rattle.std.proofs.lemmas.Bool.Decides.{nat_tests}
 use Rattle.std.proofs.lemmas.List.{length-drop, length-take, take-append-drop}
 use Rattle.byteorder.specs.Endian.{big_number}
@@ -42,10 +42,6 @@ use Rattle.of_laws.proofs.InstructionTails.{instructions_found}
 use Rattle.of_laws.proofs.MatchTails.{match_found}
 use Rattle.of_laws.proofs.OnlyLarge.{actions_in, frame_in, command_in, number_in, group_in, as_add, as_modify, by_add, by_modify, by_delete}
 use Rattle.of_laws.proofs.Places.{Says, begins}
-
-pub not_false : (a : Bool) → not a ≡ false → a ≡ true
-not_false true h = refl
-not_false false h = absurd cc
 
 -- ---- PACKET_OUT
 
@@ -101,7 +97,7 @@ packet_out_found p m fits long h =
     subst (λ (x : PacketOut). PacketOutSays x m) (same_ok packet.2) (record {
       says = (d.number, (refl, tt));
       behind = tail_found made m fits long actions.1 d.is;
-      valid = (ingress port (not_false _ fine.0.0), d.valid);
+      valid = (ingress port (not-false _ fine.0.0), d.valid);
     })
 
 -- ---- FLOW_MOD
@@ -124,7 +120,7 @@ any_table : (t : ℕ) → (ltb 15 t && not (true && eqb t 255)) ≡ false → Na
 any_table t h = by_low (ltb 15 t) refl h
   where
     by_low : (b : Bool) → ltb 15 t ≡ b → (b && not (eqb t 255)) ≡ false → NamesTable t
-    by_low true is e = inr (eqb-true t 255 (not_false _ e))
+    by_low true is e = inr (eqb-true t 255 (not-false _ e))
     by_low false is e = inl (omega (arith, ltb-false 15 t is))
 
 table_found : (c : FlowModCommand) (t : ℕ) → is_bad_table t c ≡ false → MayName (deletes c) t
@@ -198,7 +194,7 @@ flow_mod_found f m fits h =
         spelt = match_found rest q.0.0 n (IsBytes-drop 48 m fits) q.1;
         are = instructions_for_found made c.0 (drop n rest) is.1;
       };
-      valid = record { table = k.may; flags = k.low; fit = not_false _ go.0.0 };
+      valid = record { table = k.may; flags = k.low; fit = not-false _ go.0.0 };
     })
 
 -- ---- GROUP_MOD

@@ -1,10 +1,9 @@
 -- What was read as a MULTIPART_REQUEST is in its places, and after them.
 use Rattle.std.proofs.Common.{◌≡◌, ◌≤◌, ◌+◌, ◌%◌, ℕ, Bool, true, false, not, eqb, ltb, cond, List, [], ◌∷◌, length, take, drop, Option, Some, None, Result, Ok, Err, refl, sym, ap, subst, ◌∙◌, arith}
 use Rattle.std.specs.Prelude.{slice_index, ◌==◌, if◌then◌else◌, is_none}
-use Rattle.std.proofs.lemmas.Bool.{eqb-true, eqb-false, ltb-false}
+use Rattle.std.proofs.lemmas.Bool.{eqb-true, eqb-false, ltb-false, not-false}
 use Rattle.std.proofs.lemmas.Bool.Decides.{nat_tests}
-use Rattle.std.proofs.lemmas.List.{take-append-drop}
-use Rattle.std.proofs.Math.ListN.{drop_of_length-le}
+use Rattle.std.proofs.lemmas.List.{drop_all, take-append-drop}
 use Rattle.byteorder.specs.Endian.{big_number}
 use Rattle.of_wire.specs.declared.code.Code.{Code}
 use Rattle.of_wire.specs.Refusals.{refusal, first_of}
@@ -19,7 +18,6 @@ use Rattle.of_messages.specs.Heads.{is_bad_size}
 use Rattle.of_messages.specs.Multiparts.{kind_of, kind_in, size_asked, multipart_refusals, multipart_by, flow_stats_of, one_or_all, number_in, multipart_of}
 use Rattle.of_formats.proofs.Binding.{bound, passed, same_ok}
 use Rattle.of_laws.specs.Requests.{BeginsMatch, IsOne, IsValidRequest, NamesTable, RequestTail, all_groups, any_port, flows_cells, or_all, request_cells}
-use Rattle.of_laws.proofs.FoundLarge.{not_false}
 use Rattle.of_laws.proofs.FoundSmall.{named}
 use Rattle.of_laws.proofs.MatchTails.{match_found}
 use Rattle.of_laws.proofs.OnlyRequests.{Asks, as_flow, as_aggregate, asks_0, asks_1, asks_2, asks_3, asks_4, asks_6, asks_7, asks_8, asks_13}
@@ -41,7 +39,7 @@ flows_found r m fits h =
     subst (λ (x : FlowStatsRequest). FlowsSay x m) (same_ok q.2) (record {
       says = (refl, (refl, (refl, (refl, (refl, tt)))));
       behind = record { front = take n rest; rest = drop n rest; whole = sym (take-append-drop n rest); spelt = match_found rest q.0.0 n (IsBytes-drop 48 m fits) q.1 };
-      valid = named (slice_index m 16) (not_false _ t.0.0);
+      valid = named (slice_index m 16) (not-false _ t.0.0);
     })
 
 -- ---- of one, or of all
@@ -138,15 +136,11 @@ pub record RequestSays (r : MultipartRequest) (m : List ℕ) : Type 0 where
   pub behind : RequestTail r (drop (8 + size (request_cells r)) m)
   pub valid : IsValidRequest r
 
-sized : (n k : ℕ) → not (eqb n k) ≡ false → n ≡ k
-sized n k h = by_test (eqb n k) refl h
-  where
-    by_test : (b : Bool) → eqb n k ≡ b → not b ≡ false → n ≡ k
-    by_test true is e = eqb-true n k is
-    by_test false is e = absurd cc
+pub exact : (n k : ℕ) → not (eqb n k) ≡ false → n ≡ k
+exact n k h = eqb-true n k (not-false (eqb n k) h)
 
-short : (n : ℕ) (m : List ℕ) → length m ≡ n → drop n m ≡ []
-short n m e = drop_of_length-le m (omega arith)
+pub ended : (n : ℕ) (m : List ℕ) → length m ≡ n → drop n m ≡ []
+ended n m e = drop_all n m (omega arith)
 
 -- a request without a body
 plain_says : (r : MultipartRequest) (m : List ℕ) → length m ≡ 16 → size (request_cells r) ≡ 8 → Says 8 (request_cells r) m → RequestTail r (drop 16 m) → IsValidRequest r → RequestSays r m
@@ -156,10 +150,10 @@ plain_says r m long none says behind valid =
 
 by_asked : (a : Asked) (r : MultipartRequest) (m : List ℕ) → IsBytes m → Asks (number_of a) m → is_bad a (length m) ≡ false → multipart_of m ≡ Ok r → RequestSays r m
 by_asked description r m fits a size h =
-    let long = sized _ _ size in
+    let long = exact _ _ size in
     let e : ◌≡◌ {A = Result MultipartRequest Code} (Ok Description) (Ok r) = sym (asks_0 m a long) ∙ h in
     let same : Description ≡ r = cc in
-    subst (λ (x : MultipartRequest). RequestSays x m) same (plain_says Description m long refl (a.type_is, (a.one_part, tt)) (short 16 m long) tt)
+    subst (λ (x : MultipartRequest). RequestSays x m) same (plain_says Description m long refl (a.type_is, (a.one_part, tt)) (ended 16 m long) tt)
 by_asked flow r m fits a size h = by_flows (flow_stats_of m) refl (sym (asks_1 m a size) ∙ h)
   where
     by_flows : (s : Result FlowStatsRequest Code) → flow_stats_of m ≡ s → as_flow s ≡ Ok r → RequestSays r m
@@ -179,39 +173,39 @@ by_asked aggregate r m fits a size h = by_flows (flow_stats_of m) refl (sym (ask
         let long = ltb-false _ _ size in
         subst (λ (x : MultipartRequest). RequestSays x m) same (record { says = (a.type_is, (a.one_part, s.says)); long = omega (arith, long); behind = s.behind; valid = s.valid })
 by_asked table r m fits a size h =
-    let long = sized _ _ size in
+    let long = exact _ _ size in
     let e : ◌≡◌ {A = Result MultipartRequest Code} (Ok Table) (Ok r) = sym (asks_3 m a long) ∙ h in
     let same : Table ≡ r = cc in
-    subst (λ (x : MultipartRequest). RequestSays x m) same (plain_says Table m long refl (a.type_is, (a.one_part, tt)) (short 16 m long) tt)
+    subst (λ (x : MultipartRequest). RequestSays x m) same (plain_says Table m long refl (a.type_is, (a.one_part, tt)) (ended 16 m long) tt)
 by_asked port_stats r m fits a size h =
-    let long = sized _ _ size in
+    let long = exact _ _ size in
     let which = one_or_all any_port (number_in m) in
     let e : ◌≡◌ {A = Result MultipartRequest Code} (Ok (PortStats which)) (Ok r) = sym (asks_4 m a long) ∙ h in
     let same : PortStats which ≡ r = cc in
     let one = one_known any_port (number_in m) in
-    subst (λ (x : MultipartRequest). RequestSays x m) same (record { says = (a.type_is, (a.one_part, (one.0, tt))); long = omega arith; behind = short 24 m long; valid = one.1 })
+    subst (λ (x : MultipartRequest). RequestSays x m) same (record { says = (a.type_is, (a.one_part, (one.0, tt))); long = omega arith; behind = ended 24 m long; valid = one.1 })
 by_asked group r m fits a size h =
-    let long = sized _ _ size in
+    let long = exact _ _ size in
     let which = one_or_all all_groups (number_in m) in
     let e : ◌≡◌ {A = Result MultipartRequest Code} (Ok (Group which)) (Ok r) = sym (asks_6 m a long) ∙ h in
     let same : Group which ≡ r = cc in
     let one = one_known all_groups (number_in m) in
-    subst (λ (x : MultipartRequest). RequestSays x m) same (record { says = (a.type_is, (a.one_part, (one.0, tt))); long = omega arith; behind = short 24 m long; valid = one.1 })
+    subst (λ (x : MultipartRequest). RequestSays x m) same (record { says = (a.type_is, (a.one_part, (one.0, tt))); long = omega arith; behind = ended 24 m long; valid = one.1 })
 by_asked group_description r m fits a size h =
-    let long = sized _ _ size in
+    let long = exact _ _ size in
     let e : ◌≡◌ {A = Result MultipartRequest Code} (Ok GroupDescription) (Ok r) = sym (asks_7 m a long) ∙ h in
     let same : GroupDescription ≡ r = cc in
-    subst (λ (x : MultipartRequest). RequestSays x m) same (plain_says GroupDescription m long refl (a.type_is, (a.one_part, tt)) (short 16 m long) tt)
+    subst (λ (x : MultipartRequest). RequestSays x m) same (plain_says GroupDescription m long refl (a.type_is, (a.one_part, tt)) (ended 16 m long) tt)
 by_asked group_features r m fits a size h =
-    let long = sized _ _ size in
+    let long = exact _ _ size in
     let e : ◌≡◌ {A = Result MultipartRequest Code} (Ok GroupFeatures) (Ok r) = sym (asks_8 m a long) ∙ h in
     let same : GroupFeatures ≡ r = cc in
-    subst (λ (x : MultipartRequest). RequestSays x m) same (plain_says GroupFeatures m long refl (a.type_is, (a.one_part, tt)) (short 16 m long) tt)
+    subst (λ (x : MultipartRequest). RequestSays x m) same (plain_says GroupFeatures m long refl (a.type_is, (a.one_part, tt)) (ended 16 m long) tt)
 by_asked port_description r m fits a size h =
-    let long = sized _ _ size in
+    let long = exact _ _ size in
     let e : ◌≡◌ {A = Result MultipartRequest Code} (Ok PortDescription) (Ok r) = sym (asks_13 m a long) ∙ h in
     let same : PortDescription ≡ r = cc in
-    subst (λ (x : MultipartRequest). RequestSays x m) same (plain_says PortDescription m long refl (a.type_is, (a.one_part, tt)) (short 16 m long) tt)
+    subst (λ (x : MultipartRequest). RequestSays x m) same (plain_says PortDescription m long refl (a.type_is, (a.one_part, tt)) (ended 16 m long) tt)
 
 even_known : (n : ℕ) → eqb (n % 2) 1 ≡ false → n % 2 ≡ 0
 even_known n h = let odd : ¬ (n % 2 ≡ 1) = eqb-false (n % 2) 1 h in omega arith

@@ -19,9 +19,9 @@ use Rattle.of_messages.specs.Roles.{asked_by, role_request_of}
 use Rattle.of_formats.specs.Structs.{bytes_from}
 use Rattle.of_formats.proofs.Binding.{is_known}
 use Rattle.of_laws.specs.Cells.{byte, u16, u32, pad, plain}
-use Rattle.of_laws.specs.Grammar.{role_cells}
+use Rattle.of_laws.specs.Grammar.{role_cells, async_config_cells}
 use Rattle.of_laws.specs.Requests.{NamesTable}
-use Rattle.of_laws.proofs.OnlySmall.{async_cells, six_bytes}
+use Rattle.of_laws.proofs.OnlySmall.{six_bytes}
 use Rattle.of_laws.proofs.Places.{Says}
 
 pub config_found : (c : SwitchConfig) (m : List ℕ) → set_config_of m ≡ Ok c → Says 8 (u16 0 ∷ u16 c.miss_send_len ∷ []) m
@@ -109,5 +109,5 @@ role_found r m h = by_role r (is_known (asked_by (big_number 4 (drop 8 m)) (big_
 
 -- ---- SET_ASYNC
 
-pub async_found : (a : AsyncMasks) (m : List ℕ) → async_masks_of m ≡ a → Says 8 (async_cells a) m
-async_found a m h = subst (λ (x : AsyncMasks). Says 8 (async_cells x) m) h (refl, (refl, (refl, (refl, (refl, (refl, tt))))))
+pub async_found : (a : AsyncMasks) (m : List ℕ) → async_masks_of m ≡ a → Says 8 (async_config_cells a) m
+async_found a m h = subst (λ (x : AsyncMasks). Says 8 (async_config_cells x) m) h (refl, (refl, (refl, (refl, (refl, (refl, tt))))))

@@ -3,7 +3,7 @@ use Rattle.std.proofs.Common.{◌≡◌, ℕ, suc, ◌+◌, ◌<◌, ◌≤◌, 
 use Rattle.std.specs.Prelude.{◌&&◌, ◌||◌, map, filter, nat_le, nat_lt}
 use Rattle.std.specs.List.{AllByRecursion, list_all}
 use Rattle.std.specs.Option.{option_map_or}
-use Rattle.std.proofs.lemmas.Bool.{and_parts, eq-eqb, eqb-true}
+use Rattle.std.proofs.lemmas.Bool.{and_parts, eq-eqb, eqb-true, not-true}
 use Rattle.std.proofs.lemmas.Bool.Decides.{nat_tests}
 use Rattle.std.proofs.lemmas.List.{append-nil, length-append, length-map}
 use Rattle.of_wire.specs.Refusals.{first_of}
@@ -62,15 +62,11 @@ record Fit (g : TextGroup) : Type 0 where
   watch : is_bad_watch g.head.kind (buckets_of g) ≡ false
   one : is_not_one g.head.kind (buckets_of g) ≡ false
 
-not_true : (b : Bool) → not b ≡ true → b ≡ false
-not_true true h = absurd cc
-not_true false h = refl
-
 fit_parts : (all : List Group) (g : TextGroup) → IsSentGroup all g → Fit g
 fit_parts all g s =
     let outer = and_parts (are_fit (buckets_of g) && not (is_bad_watch g.head.kind (buckets_of g))) (not (is_not_one g.head.kind (buckets_of g))) s.fit in
     let inner = and_parts (are_fit (buckets_of g)) (not (is_bad_watch g.head.kind (buckets_of g))) outer.0 in
-    record { buckets = inner.0; watch = not_true _ inner.1; one = not_true _ outer.1 }
+    record { buckets = inner.0; watch = not-true _ inner.1; one = not-true _ outer.1 }
 
 second_false : (a b : Bool) → (a || b) ≡ false → b ≡ false
 second_false true b h = absurd cc

@@ -1,7 +1,7 @@
 -- The header of a message, and its kind by its type.
 use Rattle.std.proofs.Common.{◌≡◌, ◌≤◌, ◌+◌, ℕ, Bool, true, false, not, eqb, ltb, List, ◌++◌, length, drop, Option, Some, None, Result, Ok, Err, refl, sym, ap, ◌∙◌, arith}
 use Rattle.std.specs.Prelude.{◌&&◌, if◌then◌else◌, ◌==◌}
-use Rattle.std.proofs.lemmas.Bool.{le-ltb, eq-eqb}
+use Rattle.std.proofs.lemmas.Bool.{le-ltb, eq-eqb, not-false}
 use Rattle.std.proofs.lemmas.Bool.Decides.{nat_tests}
 use Rattle.of_wire.specs.declared.code.Code.{Code}
 use Rattle.of_wire.specs.Refusals.{refusal, first_of}
@@ -324,10 +324,6 @@ pub record Said (m : List ℕ) (v : Message) : Type 0 where
   pub head : Head m kind
   pub body : body_by kind m ≡ Ok v
 
-not_false : (a : Bool) → not a ≡ false → a ≡ true
-not_false true h = refl
-not_false false h = absurd cc
-
 head_said : (k : Kind) (m : List ℕ) → first_of (head_refusals m ++ role_refusals role.Equal m) ≡ None → type_of m ≡ type_number k → Head m k
 head_said k m none is =
     let n = none_applies (head_refusals m ++ role_refusals role.Equal m) none in
@@ -349,7 +345,7 @@ said m v e = by_first (first_of (head_refusals m ++ role_refusals role.Equal m))
   where
     by_kind : first_of (head_refusals m ++ role_refusals role.Equal m) ≡ None → (o : Option Kind) → kind_of (type_of m) ≡ o → body_of m ≡ Ok v → Said m v
     by_kind none None is f =
-        let served : is_supported (type_of m) ≡ true = not_false _ (none_applies (head_refusals m ++ role_refusals role.Equal m) none).1.1.1.0 in
+        let served : is_supported (type_of m) ≡ true = not-false _ (none_applies (head_refusals m ++ role_refusals role.Equal m) none).1.1.1.0 in
         let both : true ≡ false = sym served ∙ kind_none (type_of m) is in
         absurd cc
     by_kind none (Some k) is f =

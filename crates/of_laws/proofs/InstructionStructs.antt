@@ -1,14 +1,14 @@
 -- Instructions that are read are their structs, and back.
-use Rattle.std.proofs.Common.{◌≡◌, ℕ, ◌+◌, ◌-◌, ◌%◌, ◌^◌, ◌<◌, ◌≤◌, Bool, true, false, not, eqb, ltb, List, [], ◌∷◌, ◌++◌, length, take, drop, Some, None, refl, sym, ap, subst, ◌∙◌, arith}
+use Rattle.std.proofs.Common.{◌≡◌, ℕ, ◌+◌, ◌-◌, ◌%◌, ◌^◌, ◌<◌, ◌≤◌, Bool, true, false, not, eqb, ltb, List, [], ◌∷◌, ◌++◌, length, take, drop, Some, None, refl, sym, ap, subst, ◌∙◌, arith, cond}
 use Rattle.std.specs.Prelude.{◌==◌, ◌&&◌}
 use Rattle.std.specs.List.{list_all}
-use Rattle.std.proofs.lemmas.Bool.{eq-eqb, le-ltb, lt-ltb}
+use Rattle.std.proofs.lemmas.Bool.{eq-eqb, le-ltb, lt-ltb, not-false}
 use Rattle.std.proofs.lemmas.Bool.Decides.{nat_tests, eqb_tells}
 use Rattle.std.proofs.lemmas.List.{append-nil, append_assoc, length-append, length-drop, length-take-le, take-append-drop, take_at, drop-drop, drop_at}
 use Rattle.std.proofs.lemmas.List.Folds.{list_all-append, list_any-append}
 use Rattle.byteorder.specs.Endian.{big_number}
 use Rattle.byteorder.specs.Numbers.{big_from-lt}
-use Rattle.of_wire.specs.Refusals.{first_of}
+use Rattle.of_wire.specs.Refusals.{first_of, refusal}
 use Rattle.of_wire.specs.Numbered.{is_distinct, is_used, only}
 use Rattle.of_wire.proofs.FirstLemmas.{none_applies}
 use Rattle.of_wire.proofs.NumberedLemmas.{distinct-push}
@@ -40,10 +40,6 @@ and_true a b p q = rw (p, q) refl
 first : (a b : Bool) → (a && b) ≡ true → a ≡ true
 first true b h = refl
 first false b h = absurd cc
-
-not_false : (a : Bool) → not a ≡ false → a ≡ true
-not_false true h = refl
-not_false false h = absurd cc
 
 -- ---- the header that bytes begin with, by its type
 
@@ -83,7 +79,7 @@ head table seen rest none =
     record {
       long = grind (arith, nat_tests);
       whole = grind (arith, nat_tests);
-      sized = not_false _ n.1.1.0;
+      sized = not-false _ n.1.1.0;
       unused = n.1.1.1.1.1.1.0;
       next = n.1.1.1.1.1.1.1.0;
     }
@@ -92,7 +88,7 @@ head table seen rest none =
 next_table : (table : ℕ) (seen : List Header) (rest : List ℕ) → Head table seen rest → type_at rest ≡ 1 → is_next table (table_at rest) ≡ true
 next_table table seen rest h kind =
     let is : (type_at rest == 1) ≡ true = eq-eqb _ _ kind in
-    not_false _ (sym (ap (λ (b : Bool). b && not (is_next table (table_at rest))) is) ∙ h.next)
+    not-false _ (sym (ap (λ (b : Bool). b && not (is_next table (table_at rest))) is) ∙ h.next)
 
 leads : (table : ℕ) (seen : List Header) (rest : List ℕ) (h : Header) → first_of (header_refusals table seen rest) ≡ None → header_at rest ≡ Some h → leads_on table h ≡ true
 leads table seen rest (goto to) none at =
@@ -278,16 +274,17 @@ record Passes (table : ℕ) (seen : List Header) (i : Instruction) (bytes rest :
   body : IsBody header i
 
 -- a type that is known and not refused as such
-record IsServed (kind n : ℕ) : Type 0 where
-  sized : is_size kind n ≡ true
-  meter : eqb kind 6 ≡ false
-  experimenter : eqb kind 0xffff ≡ false
-  known : is_known kind ≡ true
+pub record IsServed (kind n : ℕ) : Type 0 where
+  pub sized : is_size kind n ≡ true
+  pub meter : eqb kind 6 ≡ false
+  pub experimenter : eqb kind 0xffff ≡ false
+  pub known : is_known kind ≡ true
 
-none_refused : (table : ℕ) (seen : List Header) (rest : List ℕ) (n kind : ℕ) → len_at rest ≡ n → 8 ≤ n → n % 8 ≡ 0 → n ≤ length rest → type_at rest ≡ kind → IsServed kind n → is_used kind_of kind seen ≡ false
-    → ((kind == 1) && not (is_next table (table_at rest))) ≡ false → first_of (header_refusals table seen rest) ≡ None
+-- all but the last test pass
+pub last_left : (table : ℕ) (seen : List Header) (rest : List ℕ) (n kind : ℕ) → len_at rest ≡ n → 8 ≤ n → n % 8 ≡ 0 → n ≤ length rest → type_at rest ≡ kind → IsServed kind n → is_used kind_of kind seen ≡ false
+    → first_of (header_refusals table seen rest) ≡ cond ((kind == 1) && not (is_next table (table_at rest))) (Some (refusal 3 2)) None
 unfolding header_refusals
-none_refused table seen rest n kind len low eight whole type served unused next =
+last_left table seen rest n kind len low eight whole type served unused =
     let short : ltb (length rest) 4 ≡ false = le-ltb _ _ (omega arith) in
     let low' : ltb n 8 ≡ false = le-ltb _ _ low in
     let eight' : eqb (n % 8) 0 ≡ true = eq-eqb _ _ eight in
@@ -296,9 +293,14 @@ none_refused table seen rest n kind len low eight whole type served unused next 
     let meter = served.meter in
     let experimenter = served.experimenter in
     let known = served.known in
-    rw (short, len, low', eight', whole', type, sized, meter, experimenter, known, unused, next) refl
+    rw (short, len, low', eight', whole', type, sized, meter, experimenter, known, unused) refl
 
-served_as : (kind n : ℕ) → is_size kind n ≡ true → eqb kind 6 ≡ false → eqb kind 0xffff ≡ false → is_known kind ≡ true → IsServed kind n
+none_refused : (table : ℕ) (seen : List Header) (rest : List ℕ) (n kind : ℕ) → len_at rest ≡ n → 8 ≤ n → n % 8 ≡ 0 → n ≤ length rest → type_at rest ≡ kind → IsServed kind n → is_used kind_of kind seen ≡ false
+    → ((kind == 1) && not (is_next table (table_at rest))) ≡ false → first_of (header_refusals table seen rest) ≡ None
+none_refused table seen rest n kind len low eight whole type served unused next =
+    last_left table seen rest n kind len low eight whole type served unused ∙ ap (λ (b : Bool). cond b (Some (refusal 3 2)) None) next
+
+pub served_as : (kind n : ℕ) → is_size kind n ≡ true → eqb kind 6 ≡ false → eqb kind 0xffff ≡ false → is_known kind ≡ true → IsServed kind n
 served_as kind n a b c d = record { sized = a; meter = b; experimenter = c; known = d }
 
 -- what follows a struct without actions

@@ -1,7 +1,7 @@
 -- Instructions that were computed from bytes are those that the bytes spell.
 use Rattle.std.proofs.Common.{◌≡◌, ℕ, Bool, true, false, not, ltb, List, [], ◌∷◌, length, None, Result, Ok, Err, refl, sym, subst, arith}
 use Rattle.std.specs.Prelude.{IsSome}
-use Rattle.std.proofs.lemmas.Bool.{ltb-false}
+use Rattle.std.proofs.lemmas.Bool.{ltb-false, not-false}
 use Rattle.std.proofs.lemmas.Bool.Decides.{nat_tests}
 use Rattle.of_wire.specs.declared.code.Code.{Code}
 use Rattle.of_wire.specs.Items.{TakesBytes, items_of}
@@ -24,17 +24,13 @@ headers_take table seen bytes some none =
     let low : ltb (len_at bytes) 8 ≡ false = first_false _ _ (first_false _ _ (none_applies (header_refusals table seen bytes) none).1.0) in
     omega (arith, ltb-false (len_at bytes) 8 low)
 
-not_false : (a : Bool) → not a ≡ false → a ≡ true
-not_false true h = refl
-not_false false h = absurd cc
-
 some_header : (bytes : List ℕ) → is_known (type_at bytes) ≡ true → IsSome (header_at bytes)
 unfolding header_at
 some_header bytes known = grind (arith, nat_tests)
 
 headers_have : (table : ℕ) → HasValues (headers_of table)
 unfolding header_refusals
-headers_have table seen bytes some none = some_header bytes (not_false _ (none_applies (header_refusals table seen bytes) none).1.1.1.1.1.0)
+headers_have table seen bytes some none = some_header bytes (not-false _ (none_applies (header_refusals table seen bytes) none).1.1.1.1.1.0)
 
 list_found : (bytes : List ℕ) (make : List Action → Instruction) (i : Instruction) (r : Result (List Action) Code) → actions_said false bytes ≡ r → with_actions make r ≡ Ok i → HasActions bytes make i
 list_found bytes make i (Err code) is h = absurd cc

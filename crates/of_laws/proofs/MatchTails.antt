@@ -1,5 +1,5 @@
 -- A match that was computed from bytes is the one that they begin with, and back.
-use Rattle.std.proofs.Common.{◌≡◌, ℕ, ◌+◌, ◌-◌, ◌≤◌, Bool, true, false, ltb, cond, List, [], ◌∷◌, ◌++◌, length, get_or, take, drop, Option, Some, None, Result, Ok, Err, refl, sym, ap, subst, ◌∙◌, arith}
+use Rattle.std.proofs.Common.{◌≡◌, ℕ, ◌+◌, ◌-◌, ◌≤◌, Bool, true, false, ltb, cond, List, [], ◌∷◌, ◌++◌, length, get_or, take, drop, Option, Some, None, Result, Ok, Err, refl, sym, ap, subst, ◌∙◌, arith, ◌<◌, ◌^◌}
 use Rattle.std.specs.Prelude.{◌||◌, IsSome}
 use Rattle.std.specs.Option.{option_map, option_map_or}
 use Rattle.std.proofs.lemmas.Bool.{le-ltb}
@@ -86,7 +86,39 @@ match_found bytes m n fits h = by_head (first_of (head_refusals bytes)) refl h
     by_head (Some code) none e = absurd cc
     by_head None none e = by_fields none (items_of match_fields (length (body_of bytes)) [] (body_of bytes)) refl e
 
+-- what is read as a match, and in how many bytes
+abbrev pub fields_in : Result (List MatchField × ℕ) Code → List MatchField
+fields_in (Ok r) = r.0
+fields_in (Err code) = []
+
+abbrev pub size_in : Result (List MatchField × ℕ) Code → ℕ
+size_in (Ok r) = r.1
+size_in (Err code) = 0
+
 -- ---- from a match to bytes
+
+-- what bytes are that begin with a head, with what stands for fields, and with padding
+pub record Headed (fields bytes : List ℕ) (len : ℕ) : Type 0 where
+  pub none : first_of (head_refusals bytes) ≡ None
+  pub len_is : match_len bytes ≡ len
+  pub body : body_of bytes ≡ fields
+
+pub headed : (fields padding x : List ℕ) (len : ℕ) → len ≡ 4 + length fields → len < 2 ^ 16 → length (0 ∷ 1 ∷ (big_bytes 2 len ++ (fields ++ padding))) ≡ padded len → Headed fields ((0 ∷ 1 ∷ (big_bytes 2 len ++ (fields ++ padding))) ++ x) len
+headed fields padding x len len_is fits size =
+    let written : List ℕ = 0 ∷ 1 ∷ (big_bytes 2 len ++ (fields ++ padding)) in
+    let all = written ++ x in
+    let same : match_len all ≡ len = ap (big_number 2) (append_assoc (big_bytes 2 len) (fields ++ padding) x) ∙ big_number-reads_back 2 len ((fields ++ padding) ++ x) (omega (arith, fits)) in
+    let long : padded len ≤ length all = omega (arith, size, length-append written x) in
+    let low : 4 ≤ len = omega (arith, len_is) in
+    let le : len ≤ padded len = omega arith in
+    let third : (ltb (match_len all) 4 || ltb (length all) (padded (match_len all))) ≡ false =
+    ap (λ (n : ℕ). ltb n 4 || ltb (length all) (padded n)) same ∙ ap (λ (b : Bool). b || ltb (length all) (padded len)) (le-ltb _ _ low) ∙ le-ltb _ _ long in
+    let applies : NoneApplies (head_refusals all) = (le-ltb _ _ (omega (arith, long, low, le)), (refl, (third, tt))) in
+    record {
+      none = none_first (head_refusals all) applies;
+      len_is = same;
+      body = ap (λ (n : ℕ). take (n - 4) (drop 4 all)) same ∙ ap (take (len - 4)) (append_assoc fields padding x) ∙ take_at fields (padding ++ x) (len - 4) (omega (arith, len_is));
+    }
 
 -- what bytes are that begin with a spelling
 record Begun (a bytes : List ℕ) (fields : List MatchField) (len : ℕ) : Type 0 where
@@ -98,20 +130,11 @@ begun : (a x : List ℕ) (m : List MatchField) (s : SpellsMatch a m) → Begun a
 begun a x m s =
     let sp = spellings s.fields in
     let written : List ℕ = 0 ∷ 1 ∷ (big_bytes 2 s.len ++ (sp ++ s.padding)) in
-    let all = written ++ x in
-    let len_is : match_len all ≡ s.len = ap (big_number 2) (append_assoc (big_bytes 2 s.len) (sp ++ s.padding) x) ∙ big_number-reads_back 2 s.len ((sp ++ s.padding) ++ x) (omega (arith, s.len_fits)) in
-    let size : length written ≡ padded s.len = ap length (sym s.whole) ∙ s.size in
-    let long : padded s.len ≤ length all = omega (arith, size, length-append written x) in
-    let low : 4 ≤ s.len = omega (arith, s.len_is) in
-    let le : s.len ≤ padded s.len = omega arith in
-    let third : (ltb (match_len all) 4 || ltb (length all) (padded (match_len all))) ≡ false =
-    ap (λ (n : ℕ). ltb n 4 || ltb (length all) (padded n)) len_is ∙ ap (λ (b : Bool). b || ltb (length all) (padded s.len)) (le-ltb _ _ low) ∙ le-ltb _ _ long in
-    let applies : NoneApplies (head_refusals all) = (le-ltb _ _ (omega (arith, long, low, le)), (refl, (third, tt))) in
-    let body : body_of all ≡ sp = ap (λ (n : ℕ). take (n - 4) (drop 4 all)) len_is ∙ ap (take (s.len - 4)) (append_assoc sp s.padding x) ∙ take_at sp (s.padding ++ x) (s.len - 4) (omega (arith, s.len_is)) in
-    let facts : Begun written all s.fields s.len = record {
-      none = none_first (head_refusals all) applies;
-      len_is = sym len_is;
-      walk = record { rest = []; whole = body ∙ sym (append-nil sp); fine = s.fine; ended = refl };
+    let h = headed sp s.padding x s.len s.len_is s.len_fits (ap length (sym s.whole) ∙ s.size) in
+    let facts : Begun written (written ++ x) s.fields s.len = record {
+      none = h.none;
+      len_is = sym h.len_is;
+      walk = record { rest = []; whole = h.body ∙ sym (append-nil sp); fine = s.fine; ended = refl };
     } in
     subst (λ (w : List ℕ). Begun w (w ++ x) s.fields s.len) (sym s.whole) facts
 

@@ -73,22 +73,3 @@ one_reply x y more again r s bytes h k =
     let a = head x more r bytes h in
     let b = head y again s bytes k in
     (sym a.xid ∙ b.xid, one_flag more again (sym a.flag ∙ b.flag), one_kind r s bytes h.tail k.tail (sym a.kind ∙ b.kind) a.laid b.laid)
-
--- ---- no reply begins another one
-
-record Sized (bytes : List ℕ) : Type 0 where
-  long : 8 ≤ length bytes
-  len : header_length bytes ≡ length bytes
-
-sized : (x : ℕ) (more : Bool) (r : Reply) (bytes : List ℕ) → SpellsReply x more r bytes → Sized bytes
-sized x more r bytes s =
-    let cells = reply_fixed_part r more (length bytes) x in
-    let y = says 0 cells bytes bytes s.tail refl s.front in
-    let long = size_is cells bytes s.tail s.front in
-    record { long = omega (arith, long); len = y.1.1.0 }
-
-pub no_front : (x y : ℕ) (more again : Bool) (r s : Reply) (bytes rest : List ℕ) → SpellsReply x more r bytes → SpellsReply y again s (bytes ++ rest) → rest ≡ []
-no_front x y more again r s bytes rest h k =
-    let a = sized x more r bytes h in
-    let b = sized y again s (bytes ++ rest) k in
-    ends_it bytes rest a.long a.len b.len

@@ -15,9 +15,10 @@ use Rattle.of_messages.specs.declared.port_mod.PortDescription.{PortDescription}
 use Rattle.of_ports.specs.declared.counters.PortCounters.{PortCounters}
 use Rattle.of_laws.specs.Cells.{Cell, u16}
 use Rattle.of_laws.specs.Told.{port_cells}
-use Rattle.of_laws.proofs.MatchTails.{match_only}
+use Rattle.of_laws.proofs.MatchTails.{fields_in, match_only, size_in}
 use Rattle.of_laws.proofs.Places.{says, size, rest_is, size_is}
 use Rattle.of_laws.specs.ReplyRows.{AreRows, FlowStats, IsFlow, flow_cells, TableStats, IsTable, table_cells, PortStats, IsPort, port_stats_cells, IsDescribedPort}
+use Rattle.of_laws.proofs.OneTold.{same_description}
 
 -- ---- rows of one kind
 
@@ -43,14 +44,6 @@ by_reading : {X : Type 0} (x y read : X) (rest others behind : List ℕ) → rea
 by_reading x y read rest others behind is_x is_y is_rest is_others = (sym is_x ∙ is_y, sym is_rest ∙ is_others)
 
 -- ---- FLOW
-
-abbrev fields_in : Result (List MatchField × ℕ) Code → List MatchField
-fields_in (Ok r) = r.0
-fields_in (Err code) = []
-
-abbrev size_in : Result (List MatchField × ℕ) Code → ℕ
-size_in (Ok r) = r.1
-size_in (Err code) = 0
 
 abbrev instructions_in : Result (List Instruction) Code → List Instruction
 instructions_in (Ok is) = is
@@ -189,9 +182,6 @@ port_some s m rest h = omega (arith, size_is (port_stats_cells s) m rest h)
 
 abbrev description_at : List ℕ → PortDescription
 description_at m = record { number = big_number 4 m; hw = take 6 (drop 8 m); name = take 16 (drop 16 m); config = big_number 4 (drop 32 m); state = big_number 4 (drop 36 m) }
-
-same_description : (p : PortDescription) (a b c : ℕ) (hw name : List ℕ) → a ≡ p.number → hw ≡ p.hw → name ≡ p.name → b ≡ p.config → c ≡ p.state → record { number = a; hw = hw; name = name; config = b; state = c } ≡ p
-same_description p a b c hw name pa ph pn pb pc = rw (pa, ph, pn, pb, pc) refl
 
 description_read : (p : PortDescription) (m rest : List ℕ) → IsDescribedPort p m rest → description_at m ≡ p
 description_read p m rest h = let y = says 0 (port_cells p) m m rest refl h in same_description p _ _ _ _ _ y.0 y.1.0 y.1.1.0 y.1.1.1.0 y.1.1.1.1.0

@@ -25,7 +25,7 @@ use Rattle.of_messages.specs.declared.role.Role.TheVariants as role
 use Rattle.of_wire.specs.Reasons.{packet_in_number, flow_removed_number}
 use Rattle.of_laws.specs.Cells.{pad}
 use Rattle.of_laws.specs.Told.{Told, hello, error, echo_reply, features_reply, config_reply, packet_in, flow_removed, port_status, barrier_reply, role_reply, async_reply, switch_message_type, told_cells, switch_message_fixed_part, told_fields, MatchThenData, ToldTail, SpellsSwitchMessage, port_reason, role_value}
-use Rattle.of_laws.proofs.MatchTails.{match_only}
+use Rattle.of_laws.proofs.MatchTails.{fields_in, match_only, size_in}
 use Rattle.of_laws.proofs.OnlySmall.{async_only}
 use Rattle.of_laws.proofs.Places.{Says, says, size, rest_is}
 
@@ -42,14 +42,6 @@ port_reason_at n = if n == 0 then status.Add else if n == 1 then status.Delete e
 
 abbrev role_at : ℕ → Role
 role_at n = if n == 1 then role.Equal else if n == 2 then role.Master else role.Slave
-
-abbrev fields_in : Result (List MatchField × ℕ) Code → List MatchField
-fields_in (Ok r) = r.0
-fields_in (Err code) = []
-
-abbrev size_in : Result (List MatchField × ℕ) Code → ℕ
-size_in (Ok r) = r.1
-size_in (Err code) = 0
 
 abbrev first_value : List MatchField → ℕ
 first_value [] = 0
@@ -127,8 +119,8 @@ same_removed : (r : FlowRemoved) (s : FlowRemovedReason) (a b c d e f g h i : �
     → record { cookie = a; priority = b; reason = s; table = c; duration_sec = d; duration_nsec = e; idle_timeout = f; hard_timeout = g; packets = h; bytes = i } ≡ r
 same_removed r s a b c d e f g h i pa pb ps pc pd pe pf pg ph pi = rw (pa, pb, ps, pc, pd, pe, pf, pg, ph, pi) refl
 
-same_port : (p : PortDescription) (a b c : ℕ) (hw name : List ℕ) → a ≡ p.number → hw ≡ p.hw → name ≡ p.name → b ≡ p.config → c ≡ p.state → record { number = a; hw = hw; name = name; config = b; state = c } ≡ p
-same_port p a b c hw name pa ph pn pb pc = rw (pa, ph, pn, pb, pc) refl
+pub same_description : (p : PortDescription) (a b c : ℕ) (hw name : List ℕ) → a ≡ p.number → hw ≡ p.hw → name ≡ p.name → b ≡ p.config → c ≡ p.state → record { number = a; hw = hw; name = name; config = b; state = c } ≡ p
+same_description p a b c hw name pa ph pn pb pc = rw (pa, ph, pn, pb, pc) refl
 
 metadata_again : (p : PacketIn) → second_value (told_fields p) ≡ p.metadata
 metadata_again p = by_test (eqb p.metadata 0) refl
@@ -159,7 +151,7 @@ removed_again r fields m tail there y spelt =
 
 port_again : (s : PortStatusReason) (p : PortDescription) (m : List ℕ) → Says 8 (told_cells (port_status s p)) m → port_status (port_reason_at (slice_index m 8)) (port_at m) ≡ port_status s p
 port_again s p m y =
-    let same : port_at m ≡ p = same_port p _ _ _ _ _ y.1.0 y.1.1.0 y.1.1.1.0 y.1.1.1.1.0 y.1.1.1.1.1.0 in
+    let same : port_at m ≡ p = same_description p _ _ _ _ _ y.1.0 y.1.1.0 y.1.1.1.0 y.1.1.1.1.0 y.1.1.1.1.1.0 in
     ap (λ (r : PortStatusReason). port_status r (port_at m)) (ap port_reason_at y.0 ∙ port_reason_again s) ∙ ap (port_status s) same
 
 again : (t : Told) (m tail : List ℕ) → tail ≡ drop (8 + size (told_cells t)) m → Says 8 (told_cells t) m → ToldTail t tail → told_at (switch_message_type t) m ≡ t

@@ -1,7 +1,7 @@
 -- What spells a message is read as that message.
 use Rattle.std.proofs.Common.{◌≡◌, ◌≤◌, ◌+◌, ℕ, Bool, true, false, not, eqb, List, [], length, drop, Ok, refl, sym, ap, ◌∙◌, arith}
 use Rattle.std.specs.Prelude.{◌&&◌}
-use Rattle.std.proofs.lemmas.Bool.{le-ltb, eq-eqb}
+use Rattle.std.proofs.lemmas.Bool.{le-ltb, eq-eqb, and_right}
 use Rattle.std.proofs.lemmas.List.{length-append}
 use Rattle.of_messages.specs.declared.message.Message.{Message}
 use Rattle.of_messages.specs.declared.message.Message.TheVariants.{Hello, Error, EchoRequest, EchoReply, FeaturesRequest, GetConfigRequest, SetConfig, PacketOut as IsPacketOut, FlowMod as IsFlowMod, GroupMod as IsGroupMod, PortMod as IsPortMod, TableMod as IsTableMod, Multipart, BarrierRequest, RoleRequest as IsRoleRequest, GetAsyncRequest, SetAsync}
@@ -15,23 +15,19 @@ use Rattle.of_messages.specs.Messages.{message_of}
 use Rattle.of_laws.specs.Grammar.{MatchThenInstructions, fixed_part_cells, group_mod_cells, role_cells, IsValid, Spells, Tail}
 use Rattle.of_laws.specs.Requests.{request_cells}
 use Rattle.of_laws.proofs.Heads.{Kind, hello, error, echo_request, echo_reply, features_request, get_config_request, set_config, packet_out, flow_mod, group_mod, port_mod, table_mod, multipart, barrier_request, role_request, get_async_request, set_async, type_number, is_bad, is_short, needs_version, body_by, as_flow_mod, as_packet_out, as_group_mod, as_port_mod, as_table_mod, as_set_config, as_role_request, as_multipart, said_by}
-use Rattle.of_laws.proofs.OnlyLarge.{tailed, packet_out_only, flow_mod_only, group_mod_only}
+use Rattle.of_laws.proofs.OnlyLarge.{group_size, tailed, packet_out_only, flow_mod_only, group_mod_only}
 use Rattle.of_laws.proofs.OnlyRequests.{request_only}
-use Rattle.of_laws.proofs.OnlySmall.{async_only, config_only, port_mod_only, role_only, table_mod_only}
+use Rattle.of_laws.proofs.OnlySmall.{async_only, config_only, port_mod_only, role_only, role_size, table_mod_only}
 use Rattle.of_laws.proofs.Places.{Says, size, says, rest_is, size_is}
 
-and_none : (a : Bool) → (a && false) ≡ false
-and_none true = refl
-and_none false = refl
-
 -- a message of version 4, whose size its kind may have
-of_kind : (k : Kind) (m : List ℕ) → 8 ≤ length m → version_of m ≡ 4 → type_of m ≡ type_number k → header_length m ≡ length m → is_bad k (length m) ≡ false → is_short k m ≡ false → message_of m ≡ body_by k m
+pub of_kind : (k : Kind) (m : List ℕ) → 8 ≤ length m → version_of m ≡ 4 → type_of m ≡ type_number k → header_length m ≡ length m → is_bad k (length m) ≡ false → is_short k m ≡ false → message_of m ≡ body_by k m
 of_kind k m long version type_is len fits actions =
     said_by k m (record {
       long = long;
       len = len;
       type_is = type_is;
-      version = ap (needs_version k) version ∙ and_none (not (eqb (type_number k) 0));
+      version = ap (needs_version k) version ∙ and_right (not (eqb (type_number k) 0)) false refl;
       fits = fits;
       actions = actions;
     })
@@ -47,18 +43,6 @@ record Placed (xid : ℕ) (v : Message) (m tail : List ℕ) : Type 0 where
 
 ended : (xs : List ℕ) → xs ≡ [] → length xs ≡ 0
 ended xs e = ap length e
-
--- what comes before the tail, where the fields go by cases
-group_size : (g : GroupMod) → size (group_mod_cells g) ≡ 8
-group_size (group.Add g) = refl
-group_size (group.Modify g) = refl
-group_size (group.Delete which) = refl
-
-role_size : (r : RoleRequest) → size (role_cells r) ≡ 16
-role_size NoChange = refl
-role_size Equal = refl
-role_size (Master generation) = refl
-role_size (Slave generation) = refl
 
 -- a match has 8 bytes at least
 flow_long : (f : FlowMod) (tail : List ℕ) → MatchThenInstructions f tail → 8 ≤ length tail
@@ -167,22 +151,7 @@ only xid v m s =
 -- the transaction id is where it is looked for
 xid_placed : (xid : ℕ) (v : Message) (m : List ℕ) → Says 0 (fixed_part_cells v (length m) xid) m → xid_of m ≡ xid
 xid_placed xid Hello m y = y.1.1.0
-xid_placed xid Error m y = y.1.1.1.0
-xid_placed xid (EchoRequest echoed) m y = y.1.1.1.0
-xid_placed xid EchoReply m y = y.1.1.1.0
-xid_placed xid FeaturesRequest m y = y.1.1.1.0
-xid_placed xid GetConfigRequest m y = y.1.1.1.0
-xid_placed xid (SetConfig config) m y = y.1.1.1.0
-xid_placed xid (IsPacketOut packet) m y = y.1.1.1.0
-xid_placed xid (IsFlowMod flow) m y = y.1.1.1.0
-xid_placed xid (IsGroupMod g) m y = y.1.1.1.0
-xid_placed xid (IsPortMod port) m y = y.1.1.1.0
-xid_placed xid (IsTableMod table) m y = y.1.1.1.0
-xid_placed xid (Multipart request) m y = y.1.1.1.0
-xid_placed xid BarrierRequest m y = y.1.1.1.0
-xid_placed xid (IsRoleRequest request) m y = y.1.1.1.0
-xid_placed xid GetAsyncRequest m y = y.1.1.1.0
-xid_placed xid (SetAsync masks) m y = y.1.1.1.0
+xid_placed xid other m y = y.1.1.1.0
 
 pub xid_is : (xid : ℕ) (v : Message) (m : List ℕ) → Spells xid v m → xid ≡ xid_of m
 xid_is xid v m s = let cells = fixed_part_cells v (length m) xid in sym (xid_placed xid v m (says 0 cells m m s.tail refl s.front))

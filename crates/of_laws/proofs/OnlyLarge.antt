@@ -35,7 +35,7 @@ use Rattle.of_laws.specs.Grammar.{IsData, IsValidData, IsIngress, IsValidPacketO
 use Rattle.of_laws.specs.Requests.{NamesTable, all_groups, or_all}
 use Rattle.of_laws.proofs.BucketTails.{buckets_only}
 use Rattle.of_laws.proofs.MatchTails.{match_only}
-use Rattle.of_laws.proofs.Places.{Says, says, rest_is, size_is}
+use Rattle.of_laws.proofs.Places.{Says, says, size, rest_is, size_is}
 
 -- ---- PACKET_OUT
 
@@ -139,19 +139,22 @@ numbers_are f m s =
     let a = s.1.1.1.1 in
     rw (s.0, s.1.0, s.1.1.0, s.1.1.1.0, a.0, a.1.0, a.1.1.0, a.1.1.1.0, a.1.1.1.1.0, a.1.1.1.1.1.0, a.1.1.1.1.1.1.0) refl
 
+-- its numbers, and what follows them
+pub flow_mod_read : (f : FlowMod) (rest : List ℕ) → MatchThenInstructions f rest → IsValidFlowMod f → flow_mod_by (flow_mod_numbers f) rest ≡ Ok f
+flow_mod_read f rest h valid =
+    let command = command_read f.command f.table f.flags valid.table valid.flags in
+    let fields : match_of rest ≡ Ok (f.fields, length h.fields) = ap match_of h.whole ∙ match_only h.fields h.instructions f.fields h.spelt in
+    let after : drop (length h.fields) rest ≡ h.instructions = ap (drop (length h.fields)) h.whole ∙ drop_at h.fields h.instructions (length h.fields) refl in
+    let instructions : instructions_for f.command f.table (drop (length h.fields) rest) ≡ Ok f.instructions = ap (instructions_for f.command f.table) after ∙ instructions_only f f.command h.instructions h.are in
+    rw (command, fields, instructions, valid.fit) refl
+
 pub flow_mod_only : (f : FlowMod) (m tail : List ℕ) → tail ≡ drop 48 m → Says 8 (flow_mod_cells f) m → MatchThenInstructions f tail → IsValidFlowMod f → flow_mod_of m ≡ Ok f
 flow_mod_only f m tail there s h valid =
-    let rest = drop 48 m in
-    let command = command_read f.command f.table f.flags valid.table valid.flags in
-    let whole : rest ≡ h.fields ++ h.instructions = sym there ∙ h.whole in
-    let fields : match_of rest ≡ Ok (f.fields, length h.fields) = ap match_of whole ∙ match_only h.fields h.instructions f.fields h.spelt in
-    let after : drop (length h.fields) rest ≡ h.instructions = ap (drop (length h.fields)) whole ∙ drop_at h.fields h.instructions (length h.fields) refl in
-    let instructions : instructions_for f.command f.table (drop (length h.fields) rest) ≡ Ok f.instructions = ap (instructions_for f.command f.table) after ∙ instructions_only f f.command h.instructions h.are in
-    ap (λ (ns : List ℕ). flow_mod_by ns rest) (numbers_are f m s) ∙ rw (command, fields, instructions, valid.fit) refl
+    ap (λ (ns : List ℕ). flow_mod_by ns (drop 48 m)) (numbers_are f m s) ∙ ap (flow_mod_by (flow_mod_numbers f)) (sym there) ∙ flow_mod_read f tail h valid
 
 -- ---- GROUP_MOD
 
-kind_again : (k : GroupKind) → kind_of (kind_number k) ≡ Some k
+pub kind_again : (k : GroupKind) → kind_of (kind_number k) ≡ Some k
 unfolding kind_of
 kind_again All = refl
 kind_again Indirect = refl
@@ -207,6 +210,11 @@ delete_only (Some number) valid =
     let other : eqb number 0xfffffffc ≡ false = grind (arith, nat_tests) in
     let low = below number valid in
     rw (other, low) refl
+
+pub group_size : (g : GroupMod) → size (group_mod_cells g) ≡ 8
+group_size (group.Add g) = refl
+group_size (group.Modify g) = refl
+group_size (group.Delete which) = refl
 
 pub group_mod_only : (g : GroupMod) (m tail : List ℕ) → tail ≡ drop 16 m → Says 8 (group_mod_cells g) m → GroupTail g tail → IsValidGroupMod g → group_mod_of m ≡ Ok g
 group_mod_only (group.Add g) m tail there s h valid =

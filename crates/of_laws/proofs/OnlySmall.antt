@@ -19,9 +19,9 @@ use Rattle.of_formats.specs.Reading.{known}
 use Rattle.of_formats.specs.Structs.{bytes_from}
 use Rattle.of_formats.proofs.StructLaws.{bytes_taken}
 use Rattle.of_laws.specs.Cells.{Cell, byte, u16, u32, pad, plain}
-use Rattle.of_laws.specs.Grammar.{role_cells}
+use Rattle.of_laws.specs.Grammar.{async_config_cells, role_cells}
 use Rattle.of_laws.specs.Requests.{NamesTable}
-use Rattle.of_laws.proofs.Places.{Says}
+use Rattle.of_laws.proofs.Places.{Says, size}
 
 pub config_only : (c : SwitchConfig) (m : List ℕ) → Says 8 (u16 0 ∷ u16 c.miss_send_len ∷ []) m → set_config_of m ≡ Ok c
 config_only c m h = rw (h.0, h.1.0) refl
@@ -79,14 +79,17 @@ role_only Equal m h = asks m 1 Equal h.0 (asked_1 _)
 role_only (Master generation) m h = asks m 2 (Master generation) h.0 (asked_2 _ ∙ ap (λ (g : ℕ). Some (Master g)) h.1.0)
 role_only (Slave generation) m h = asks m 3 (Slave generation) h.0 (asked_3 _ ∙ ap (λ (g : ℕ). Some (Slave g)) h.1.0)
 
+pub role_size : (r : RoleRequest) → size (role_cells r) ≡ 16
+role_size NoChange = refl
+role_size Equal = refl
+role_size (Master generation) = refl
+role_size (Slave generation) = refl
+
 -- ---- SET_ASYNC
 
 same_masks : (a : AsyncMasks) (p q r s t u : ℕ) → p ≡ a.packet_in.master → q ≡ a.packet_in.slave → r ≡ a.port_status.master → s ≡ a.port_status.slave → t ≡ a.flow_removed.master → u ≡ a.flow_removed.slave
     → record { packet_in = record { master = p; slave = q }; port_status = record { master = r; slave = s }; flow_removed = record { master = t; slave = u } } ≡ a
 same_masks a p q r s t u e f g h i j = rw (e, f, g, h, i, j) refl
 
-abbrev pub async_cells : AsyncMasks → List Cell
-async_cells a = u32 a.packet_in.master ∷ u32 a.packet_in.slave ∷ u32 a.port_status.master ∷ u32 a.port_status.slave ∷ u32 a.flow_removed.master ∷ u32 a.flow_removed.slave ∷ []
-
-pub async_only : (a : AsyncMasks) (m : List ℕ) → Says 8 (async_cells a) m → async_masks_of m ≡ a
+pub async_only : (a : AsyncMasks) (m : List ℕ) → Says 8 (async_config_cells a) m → async_masks_of m ≡ a
 async_only a m h = same_masks a _ _ _ _ _ _ h.0 h.1.0 h.1.1.0 h.1.1.1.0 h.1.1.1.1.0 h.1.1.1.1.1.0

@@ -5,7 +5,7 @@ use Rattle.std.specs.Option.{option_map}
 use Rattle.byteorder.specs.Endian.{big_bytes, big_number}
 use Rattle.byteorder.specs.Numbers.{big_number-reads_back}
 use Rattle.std.specs.List.{AllByRecursion, flat_map}
-use Rattle.std.proofs.lemmas.Bool.{eqb-true, le-leb, le-ltb, lt-ltb, ltb-false, ltb-true, ne_eqb}
+use Rattle.std.proofs.lemmas.Bool.{eqb-true, le-leb, le-ltb, lt-ltb, ltb-false, ltb-true, ne_eqb, not-false}
 use Rattle.std.proofs.lemmas.List.{append-nil, drop_at, length-append, length-replicate, take_at}
 use Rattle.of_wire.specs.declared.code.Code.{Code}
 use Rattle.of_wire.specs.Items.{Items, item_then, items_of, outcome}
@@ -35,12 +35,9 @@ use Rattle.of_actions.proofs.ActionsAgain.{action_again}
 use Rattle.of_text.specs.Refusals.{action_refusals, field_refusals, list_refusals, match_refusals, or_else}
 use Rattle.of_text.specs.Rows.{ActionFits, FieldFits, IsMask as RowMask}
 use Rattle.of_laws.specs.Refused.{match_outcome}
+use Rattle.of_laws.proofs.MatchTails.{headed}
 use Rattle.of_text.proofs.RefusalLemmas.{first_append}
 use Rattle.of_text.proofs.WireLemmas.{action_as_on_wire, field_as_on_wire}
-
-not_false : (a : Bool) → not a ≡ false → a ≡ true
-not_false true h = refl
-not_false false h = absurd cc
 
 pub take-nil : {X : Type 0} (k : ℕ) → take {A = X} k [] ≡ []
 take-nil zero = refl
@@ -118,17 +115,17 @@ own_action seen a = (ltb 63 (length seen), refusal 2 7) ∷ action_refusals a
 supported : (a : Action) → ActionFits a → first_of (action_refusals a) ≡ None → is_supported false a ≡ true
 unfolding is_supported
 supported (Output port max_len) fits none =
-    let ok = not_false (is_port false port) (none_applies (action_refusals (Output port max_len)) none).0 in
+    let ok = not-false (is_port false port) (none_applies (action_refusals (Output port max_len)) none).0 in
     let low : ltb max_len 65536 ≡ true = lt-ltb max_len 65536 (omega (arith, fits.1)) in
     rw (ok, low) refl
-supported (PushVlan type) fits none = not_false (is_tag_type type) (none_applies (action_refusals (PushVlan type)) none).0
+supported (PushVlan type) fits none = not-false (is_tag_type type) (none_applies (action_refusals (PushVlan type)) none).0
 supported PopVlan fits none = refl
 supported (Group group) fits none = lt-ltb group 4294967296 (omega (arith, fits))
 supported (SetNwTtl ttl) fits none = lt-ltb ttl 256 (omega (arith, fits))
 supported DecNwTtl fits none = refl
 supported (SetField f value) fits none =
     let tests = none_applies (action_refusals (SetField f value)) none in
-    let may = not_false (is_settable f) tests.0 in
+    let may = not-false (is_settable f) tests.0 in
     let most : leb value (ones_of f) ≡ true = le-leb value (ones_of f) (ltb-false (ones_of f) value tests.1.0) in
     rw (may, most) refl
 
@@ -229,7 +226,7 @@ mask_sound f v (Some m) fits none =
     let tests = none_applies (field_refusals (record { field = f; value = v; mask = Some m })) none in
     let within : bit_and m (ones_of f) ≡ m = under_ones f m (let low = fits.not_all in omega arith) in
     let other : eqb (bit_and m (ones_of f)) (ones_of f) ≡ false = ne_eqb _ _ (λ e. let low = fits.not_all in omega (arith, e, within)) in
-    let covered = not_false (eqb (bit_and v m) v) tests.1.1.0 in
+    let covered = not-false (eqb (bit_and v m) v) tests.1.1.0 in
     record { maskable = maskable (is_maskable f) (rw other at tests.0); some = fits.some; not_all = fits.not_all; within = within; covers = eqb-true _ _ covered }
   where
     maskable : (b : Bool) → (not b && not false) ≡ false → b ≡ true
@@ -325,21 +322,11 @@ begun es x up =
     let sp = spellings es in
     let len = written_len es in
     let zeros : List ℕ = replicate (padded len - len) 0 in
-    let all = canonical es ++ x in
-    let len_is : match_len all ≡ len = ap (big_number 2) (append_assoc (big_bytes 2 len) (sp ++ zeros) x) ∙ big_number-reads_back 2 len ((sp ++ zeros) ++ x) (omega (arith, written_fits es up)) in
     let padding : length zeros ≡ padded len - len = length-replicate (padded len - len) 0 in
     let le : len ≤ padded len = omega arith in
     let size : length (canonical es) ≡ padded len = omega (arith, length-append sp zeros, padding, le) in
-    let long : padded len ≤ length all = omega (arith, size, length-append (canonical es) x) in
-    let low : 4 ≤ len = omega arith in
-    let third : (ltb (match_len all) 4 || ltb (length all) (padded (match_len all))) ≡ false =
-    ap (λ (n : ℕ). ltb n 4 || ltb (length all) (padded n)) len_is ∙ ap (λ (b : Bool). b || ltb (length all) (padded len)) (le-ltb _ _ low) ∙ le-ltb _ _ long in
-    let applies : NoneApplies (head_refusals all) = (le-ltb _ _ (omega (arith, long, low, le)), (refl, (third, tt))) in
-    record {
-      none = none_first (head_refusals all) applies;
-      body = ap (λ (n : ℕ). take (n - 4) (drop 4 all)) len_is ∙ ap (take (len - 4)) (append_assoc sp zeros x) ∙ take_at sp (zeros ++ x) (len - 4) (omega arith);
-      size = ap padded len_is ∙ sym size;
-    }
+    let h = headed sp zeros x len (omega arith) (written_fits es up) size in
+    record { none = h.none; body = h.body; size = ap padded h.len_is ∙ sym size }
 
 pub match_told : (es : List MatchField) (x : List ℕ) → AllByRecursion FieldFits es → IsAscending es → match_of (canonical es ++ x) ≡ match_outcome es (first_of (match_refusals es))
 unfolding match_of match_refusals

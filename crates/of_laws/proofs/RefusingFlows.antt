@@ -30,6 +30,7 @@ use Rattle.of_text.specs.Refusals.{goto_refusals, list_refusals, or_else, step_r
 use Rattle.of_text.proofs.RefusalLemmas.{first_append}
 use Rattle.of_laws.specs.Refused.{StepFits}
 use Rattle.of_laws.proofs.Refusing.{AreSteps, IsStep, actions_told, walk, walked}
+use Rattle.of_laws.proofs.InstructionStructs.{last_left, served_as}
 
 -- ---- headers
 
@@ -65,31 +66,6 @@ next_refusals table clear = []
 
 unfoldable own_header : ℕ → List Header → Header → List (Bool × Code)
 own_header table seen h = next_refusals table h
-
--- a type that is known and not refused as such
-record IsServed (kind n : ℕ) : Type 0 where
-  sized : is_size kind n ≡ true
-  meter : eqb kind 6 ≡ false
-  experimenter : eqb kind 0xffff ≡ false
-  known : is_known kind ≡ true
-
-served_as : (kind n : ℕ) → is_size kind n ≡ true → eqb kind 6 ≡ false → eqb kind 0xffff ≡ false → is_known kind ≡ true → IsServed kind n
-served_as kind n a b c d = record { sized = a; meter = b; experimenter = c; known = d }
-
--- all but the last test pass
-last_left : (table : ℕ) (seen : List Header) (rest : List ℕ) (n kind : ℕ) → len_at rest ≡ n → 8 ≤ n → n % 8 ≡ 0 → n ≤ length rest → type_at rest ≡ kind → IsServed kind n → is_used kind_of kind seen ≡ false
-    → first_of (header_refusals table seen rest) ≡ cond ((kind == 1) && not (is_next table (table_at rest))) (Some (refusal 3 2)) None
-unfolding header_refusals
-last_left table seen rest n kind len low eight whole type served unused =
-    let short : ltb (length rest) 4 ≡ false = le-ltb _ _ (omega arith) in
-    let low' : ltb n 8 ≡ false = le-ltb _ _ low in
-    let eight' : eqb (n % 8) 0 ≡ true = eq-eqb _ _ eight in
-    let whole' : ltb (length rest) n ≡ false = le-ltb _ _ whole in
-    let sized = served.sized in
-    let meter = served.meter in
-    let experimenter = served.experimenter in
-    let known = served.known in
-    rw (short, len, low', eight', whole', type, sized, meter, experimenter, known, unused) refl
 
 own_goto : (table to : ℕ) → first_of (next_refusals table (goto to)) ≡ cond (not (is_next table to)) (Some (refusal 3 2)) None
 own_goto table to = refl

@@ -37,6 +37,11 @@ use Rattle.of_text.specs.Refusals.{buckets_refusals, list_refusals, or_else}
 use Rattle.of_text.proofs.RefusalLemmas.{first_append}
 use Rattle.of_laws.specs.Refused.{IsSaidBucket, IsSaidGroup, group_outcome, said_refusals}
 use Rattle.of_laws.proofs.Refusing.{AreSteps, IsStep, actions_told, take-nil, walk, walked}
+use Rattle.of_laws.proofs.BucketTails.{bucket_left}
+use Rattle.of_laws.proofs.Heads.{as_group_mod, body_by, group_mod}
+use Rattle.of_laws.proofs.Only.{of_kind}
+use Rattle.of_laws.proofs.OnlyLarge.{as_add, by_add, kind_again}
+use Rattle.of_laws.proofs.WrittenRequests.{kind_same}
 
 -- ---- one bucket
 
@@ -46,19 +51,6 @@ own_bucket seen b = (ltb 15 (length seen), refusal 6 4) ∷ list_refusals b.acti
 fault_first : (actions : List Action) (o : Option Code) → first_of (fault_of (outcome actions o)) ≡ o
 fault_first actions None = refl
 fault_first actions (Some code) = refl
-
-bucket_left : (seen : List Bucket) (rest : List ℕ) (n : ℕ) → len_at rest ≡ n → 16 ≤ n → n % 8 ≡ 0 → n ≤ length rest
-    → first_of (bucket_refusals seen rest) ≡ first_of ((ltb 15 (length seen), refusal 6 4) ∷ fault_of (actions_said false (actions_in rest)))
-unfolding bucket_refusals
-bucket_left seen rest n len low eights whole =
-    let short : ltb (length rest) 16 ≡ false = le-ltb _ _ (omega (arith, low, whole)) in
-    let low' : ltb n 16 ≡ false = le-ltb _ _ low in
-    let eight' : eqb (n % 8) 0 ≡ true = eq-eqb _ _ eights in
-    let whole' : ltb (length rest) n ≡ false = le-ltb _ _ whole in
-    let third : ((ltb (len_at rest) 16 || not (eqb (len_at rest % 8) 0)) || ltb (length rest) (len_at rest)) ≡ false =
-    ap (λ (k : ℕ). (ltb k 16 || not (eqb (k % 8) 0)) || ltb (length rest) k) len ∙ ap (λ (b : Bool). (b || not (eqb (n % 8) 0)) || ltb (length rest) n) low' ∙ ap (λ (b : Bool). not b || ltb (length rest) n) eight' ∙ whole' in
-    ap (λ (s : Bool). first_of ((ltb 15 (length seen), refusal 6 4) ∷ (s, refusal 6 12) ∷ ((ltb (len_at rest) 16 || not (eqb (len_at rest % 8) 0)) || ltb (length rest) (len_at rest), refusal 6 12) ∷ fault_of (actions_said false (actions_in rest)))) short
-    ∙ ap (λ (s : Bool). first_of ((ltb 15 (length seen), refusal 6 4) ∷ (false, refusal 6 12) ∷ (s, refusal 6 12) ∷ fault_of (actions_said false (actions_in rest)))) third
 
 -- what the bytes of a bucket say
 record Holds (b : TextBucket) (rest : List ℕ) : Type 0 where
@@ -202,21 +194,6 @@ says xid g number short =
       buckets = refl;
     }
 
-head_passes : (g : NewGroup) (m : List ℕ) → Says g m → first_of (head_refusals m) ≡ None
-unfolding format_of
-head_passes g m h =
-    let long = h.long in
-    let eight : ltb (length m) 8 ≡ false = le-ltb _ _ (omega arith) in
-    let sixteen : ltb (length m) 16 ≡ false = le-ltb _ _ long in
-    let size : eqb (header_length m) (length m) ≡ true = eq-eqb _ _ h.size in
-    rw (h.type, h.version, eight, sixteen, size) refl
-
-kind_again : (kind : GroupKind) → kind_of (kind_number kind) ≡ Some kind
-unfolding kind_of
-kind_again All = refl
-kind_again Indirect = refl
-kind_again FastFailover = refl
-
 abbrev new_outcome : NewGroup → Option Code → Result NewGroup Code
 new_outcome g None = Ok g
 new_outcome g (Some code) = Err code
@@ -234,23 +211,18 @@ group_there g w = by_number (ltb group_max g.head.id) refl
     by_number : (t : Bool) → ltb group_max g.head.id ≡ t → group_of (kind_number g.head.kind) g.head.id (canonical_buckets (buckets_of g)) ≡ new_outcome (new_of g) (first_of (said_refusals g))
     by_number true over = rw over refl
     by_number false under =
-        let kind = kind_again g.head.kind in
+        let kind : kind_of (kind_number g.head.kind) ≡ Some g.head.kind = ap kind_of (kind_same g.head.kind) ∙ kind_again g.head.kind in
         let told = buckets_told g.buckets w.buckets w.short in
         rw (under, kind, told) (with_outcome g (first_of (buckets_refusals g.buckets)))
 
-abbrev as_add : Result NewGroup Code → Result GroupMod Code
-as_add r = r >>= λ g. Ok (Add g)
-
-abbrev as_group_mod : Result GroupMod Code → Result Message Code
-as_group_mod r = r >>= λ g. Ok (IsGroupMod g)
-
 mod_is : (g : NewGroup) (m : List ℕ) → Says g m → group_mod_of m ≡ as_add (group_of (kind_number g.kind) g.id (canonical_buckets g.buckets))
-unfolding command_of
-mod_is g m h = rw (h.command, h.kind, h.number, h.buckets) refl
+mod_is g m h = by_add m h.command ∙ rw (h.kind, h.number, h.buckets) refl
 
-body_is : (g : NewGroup) (m : List ℕ) → Says g m → first_of (head_refusals m) ≡ None → message_of m ≡ as_group_mod (group_mod_of m)
-unfolding message_from body_of
-body_is g m h head = rw (head, h.type) refl
+body_is : (g : NewGroup) (m : List ℕ) → Says g m → message_of m ≡ as_group_mod (group_mod_of m)
+unfolding body_by
+body_is g m h =
+    let long = h.long in
+    of_kind group_mod m (omega (arith, long)) h.version h.type h.size (le-ltb _ _ long) refl
 
 as_message : (g : NewGroup) (o : Option Code) → as_group_mod (as_add (new_outcome g o)) ≡ group_outcome g o
 as_message g None = refl
@@ -260,6 +232,6 @@ pub group_told : (xid : ℕ) (g : TextGroup) → IsSaidGroup g → message_of (g
 group_told xid g w =
     let m = group_add_bytes xid (new_of g) in
     let h = says xid (new_of g) w.number w.short in
-    body_is (new_of g) m h (head_passes (new_of g) m h)
+    body_is (new_of g) m h
     ∙ ap as_group_mod (mod_is (new_of g) m h ∙ ap as_add (group_there g w))
     ∙ as_message (new_of g) (first_of (said_refusals g))

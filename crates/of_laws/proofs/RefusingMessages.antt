@@ -31,31 +31,15 @@ use Rattle.of_text.specs.Kept.{instruction_of, instructions_of}
 use Rattle.of_text.specs.Refusals.{flow_refusals, goes_with, goto_refusals, match_refusals, or_else, step_refusals, steps_refusals}
 use Rattle.of_text.proofs.RefusalLemmas.{first_append}
 use Rattle.of_laws.specs.Refused.{IsSaid, match_outcome, message_outcome}
-use Rattle.of_laws.proofs.FlowAgain.{Says, again, head_passes}
-use Rattle.of_laws.proofs.Refusing.{canonical_least, match_told}
+use Rattle.of_laws.proofs.FlowAgain.{Says, body_is, says}
+use Rattle.of_laws.proofs.Refusing.{match_told}
 use Rattle.of_laws.proofs.RefusingFlows.{instructions_told}
+use Rattle.of_laws.proofs.Heads.{as_flow_mod}
 
 says_flow : (xid : ℕ) (f : Flow) → IsSaid f → Says (add_of f) (flow_mod_bytes xid (add_of f))
-unfolding flow_mod_fixed_part
 says_flow xid f w =
-    let m = add_of f in
-    let b = flow_mod_bytes xid m in
-    let tail = canonical f.fields ++ canonical_instructions (instructions_of f) in
-    let body = flow_mod_fixed_part m ++ tail in
-    let long : length b ≡ 48 + length tail = omega arith in
-    let size : 8 + length body ≡ length b = omega arith in
-    let parts = length-append (canonical f.fields) (canonical_instructions (instructions_of f)) in
-    let least = canonical_least f.fields in
-    let short = w.short in
     let head = w.head in
-    record {
-      version = refl;
-      type = refl;
-      size = big_number-reads_back 2 (8 + length body) (drop 4 b) (omega (arith, short)) ∙ size;
-      long = omega (arith, parts, least);
-      numbers_are = again xid m (head.2, (omega arith, (omega (arith, head.0), (omega arith, (head.3, (head.4, (head.1, (omega arith, (omega arith, (omega arith, (head.5, tt)))))))))));
-      rest_is = refl;
-    }
+    says xid (add_of f) (head.2, (omega arith, (omega (arith, head.0), (omega arith, (head.3, (head.4, (head.1, (omega arith, (omega arith, (omega arith, (head.5, tt))))))))))) w.short
 
 -- the table and the flags
 unfoldable front : Flow → List (Bool × Code)
@@ -171,13 +155,6 @@ mod_told f b h w =
     ∙ front_then f w (first_of (front f))
     ∙ ap (mod_outcome (add_of f)) (sym (first_append (front f) (match_refusals f.fields ++ steps_refusals f.head.table f.fields f.steps)))
 
-abbrev as_flow_mod : Result FlowMod Code → Result Message Code
-as_flow_mod r = r >>= λ v. Ok (IsFlowMod v)
-
-body_is : (m : FlowMod) (b : List ℕ) → Says m b → first_of (head_refusals b) ≡ None → message_of b ≡ as_flow_mod (flow_mod_of b)
-unfolding message_from body_of
-body_is m b h head = rw (head, h.type) refl
-
 as_message : (m : FlowMod) (o : Option Code) → as_flow_mod (mod_outcome m o) ≡ message_outcome m o
 as_message m None = refl
 as_message m (Some code) = refl
@@ -187,4 +164,4 @@ flow_told xid f w =
     let m = add_of f in
     let b = flow_mod_bytes xid m in
     let h = says_flow xid f w in
-    body_is m b h (head_passes m b h) ∙ ap as_flow_mod (mod_told f b h w) ∙ as_message m (first_of (flow_refusals f))
+    body_is m b h ∙ ap as_flow_mod (mod_told f b h w) ∙ as_message m (first_of (flow_refusals f))

@@ -11,9 +11,9 @@ use Rattle.of_messages.specs.declared.role.Role.TheVariants as role
 use Rattle.of_messages.specs.Heads.{type_of, format_of, is_slave, is_change, head_refusals, role_refusals, xid_of}
 use Rattle.of_messages.specs.Messages.{body_of, message_by, message_from, message_of}
 use Rattle.of_laws.specs.Grammar.{type, changes, fixed_part_cells, MaySend, Spells}
+use Rattle.of_laws.proofs.AnyMessage.{of_controller}
 use Rattle.of_laws.proofs.Found.{found}
 use Rattle.of_laws.proofs.Only.{only}
-use Rattle.of_laws.proofs.Places.{Says, says}
 
 -- ---- refusals of which the first part does not apply
 
@@ -55,27 +55,8 @@ change_same (IsRoleRequest request) = refl
 change_same GetAsyncRequest = refl
 change_same (SetAsync masks) = refl
 
-type_placed : (xid : ℕ) (v : Message) (m : List ℕ) → Says 0 (fixed_part_cells v (length m) xid) m → type_of m ≡ type v
-type_placed xid Hello m y = y.0
-type_placed xid Error m y = y.1.0
-type_placed xid (EchoRequest echoed) m y = y.1.0
-type_placed xid EchoReply m y = y.1.0
-type_placed xid FeaturesRequest m y = y.1.0
-type_placed xid GetConfigRequest m y = y.1.0
-type_placed xid (SetConfig config) m y = y.1.0
-type_placed xid (IsPacketOut packet) m y = y.1.0
-type_placed xid (IsFlowMod flow) m y = y.1.0
-type_placed xid (IsGroupMod group) m y = y.1.0
-type_placed xid (IsPortMod port) m y = y.1.0
-type_placed xid (IsTableMod table) m y = y.1.0
-type_placed xid (Multipart request) m y = y.1.0
-type_placed xid BarrierRequest m y = y.1.0
-type_placed xid (IsRoleRequest request) m y = y.1.0
-type_placed xid GetAsyncRequest m y = y.1.0
-type_placed xid (SetAsync masks) m y = y.1.0
-
 change_of : (xid : ℕ) (v : Message) (m : List ℕ) → Spells xid v m → is_change (type_of m) ≡ changes v
-change_of xid v m s = ap is_change (type_placed xid v m (says 0 (fixed_part_cells v (length m) xid) m m s.tail refl s.front)) ∙ change_same v
+change_of xid v m s = ap is_change (of_controller xid v m s).kind_is ∙ change_same v
 
 -- ---- each role
 

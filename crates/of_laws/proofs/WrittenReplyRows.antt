@@ -21,6 +21,7 @@ use Rattle.of_laws.specs.Told.{port_cells}
 use Rattle.of_laws.proofs.Writings.{spelling, written}
 use Rattle.of_laws.specs.ReplyRows.{AreRows, IsFlow, flow_cells, TableStats, IsTable, table_cells, IsPort, port_stats_cells, IsDescribedPort}
 use Rattle.of_laws.specs.Shown.{IsShownFlow, flow_shown, port_shown}
+use Rattle.of_laws.proofs.WrittenTold.{description_text}
 
 -- ---- FLOW
 
@@ -74,14 +75,6 @@ pub port_written : (now : ℕ) (p : Port) (rest : List ℕ) → Fits (port_stats
 port_written now p rest fits = rw (port_text now p rest) (written (port_stats_cells (port_shown now p)) rest fits)
 
 -- ---- PORT_DESC
-
--- what follows the number of a port
-behind_number : (hw name bits : List ℕ) → (hw ++ (replicate 2 0 ++ name)) ++ bits ≡ hw ++ (replicate 2 0 ++ (name ++ bits))
-behind_number hw name bits = append_assoc hw (replicate 2 0 ++ name) bits
-
-description_text : (p : PortDescription) → port_bytes p ≡ spelling (port_cells p)
-unfolding port_names port_bits
-description_text p = ap (λ (t : List ℕ). big_bytes 4 p.number ++ (replicate 4 0 ++ t)) (behind_number p.hw p.name (port_bits p))
 
 pub port_described : (p : PortDescription) (rest : List ℕ) → Fits (port_cells p) → IsDescribedPort p (port_bytes p ++ rest) rest
 port_described p rest fits = rw (description_text p) (written (port_cells p) rest fits)

@@ -29,12 +29,12 @@ use Rattle.of_messages.specs.declared.message.Message.TheVariants.{FlowMod as Is
 use Rattle.of_messages.proofs.BucketsWritten.{buckets_short}
 use Rattle.of_laws.specs.Buckets.{AreBuckets, bucket_cells}
 use Rattle.of_laws.specs.Cells.{Fits}
-use Rattle.of_laws.specs.Grammar.{HasInstructions, IsValidFlowMod, Spells, command_number, deletes, flow_mod_cells, group_cells, kind_number}
+use Rattle.of_laws.specs.Grammar.{HasInstructions, IsValidFlowMod, MatchThenInstructions, Spells, command_number, deletes, flow_mod_cells, group_cells, kind_number}
 use Rattle.of_laws.proofs.Writings.{fronted, spelling, written}
 
 -- ---- FLOW_MOD
 
-command_same : (c : FlowModCommand) → number_of_command c ≡ command_number c
+pub command_same : (c : FlowModCommand) → number_of_command c ≡ command_number c
 command_same Add = refl
 command_same Modify = refl
 command_same ModifyStrict = refl
@@ -57,21 +57,28 @@ has_instructions m ModifyStrict kept fit none = instructions_spelt m.table m.ins
 has_instructions m Delete kept fit none = none refl
 has_instructions m DeleteStrict kept fit none = none refl
 
+pub tail_is : (m : FlowMod) → IsMatch m.fields → are_kept m.instructions ≡ true → are_for m.table m.instructions ≡ true → (deletes m.command ≡ true → m.instructions ≡ []) → MatchThenInstructions m (canonical m.fields ++ canonical_instructions m.instructions)
+tail_is m match kept fit none =
+    record {
+      fields = canonical m.fields;
+      instructions = canonical_instructions m.instructions;
+      whole = refl;
+      spelt = canonical_spells m.fields match;
+      are = has_instructions m m.command kept fit none;
+    }
+
+pub tail_short : (m : FlowMod) → IsMatch m.fields → are_kept m.instructions ≡ true → length (canonical m.fields ++ canonical_instructions m.instructions) ≤ 4256
+tail_short m match kept = omega (arith, length-append (canonical m.fields) (canonical_instructions m.instructions), canonical_short m.fields match.rising, instructions_short m.instructions kept)
+
 pub flow_mod_spelt : (xid : ℕ) (m : FlowMod) → xid < 256 ^ 4 → Fits (flow_mod_cells m) → IsValidFlowMod m → IsMatch m.fields → are_kept m.instructions ≡ true → are_for m.table m.instructions ≡ true
     → (deletes m.command ≡ true → m.instructions ≡ []) → Spells xid (IsFlowMod m) (flow_mod_bytes xid m)
 flow_mod_spelt xid m x fits valid match kept fit none =
     let tail = canonical m.fields ++ canonical_instructions m.instructions in
-    let short : length tail ≤ 4256 = omega (arith, length-append (canonical m.fields) (canonical_instructions m.instructions), canonical_short m.fields match.rising, instructions_short m.instructions kept) in
+    let short = tail_short m match kept in
     record {
       tail = tail;
       front = fronted 14 xid (flow_mod_cells m) (flow_mod_fixed_part m ++ tail) tail (beginning_is m tail) (omega arith) x fits (omega (arith, length-front m tail));
-      behind = record {
-        fields = canonical m.fields;
-        instructions = canonical_instructions m.instructions;
-        whole = refl;
-        spelt = canonical_spells m.fields match;
-        are = has_instructions m m.command kept fit none;
-      };
+      behind = tail_is m match kept fit none;
       valid = valid;
     }
 

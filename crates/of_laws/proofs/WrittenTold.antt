@@ -25,7 +25,7 @@ use Rattle.of_messages.specs.declared.role.Role.{Role}
 use Rattle.of_messages.specs.declared.role.Role.TheVariants as role
 use Rattle.of_messages.proofs.PacketFields.{with_metadata, without_metadata}
 use Rattle.of_laws.specs.Cells.{Fits}
-use Rattle.of_laws.specs.Told.{Told, hello, error, echo_reply, features_reply, config_reply, packet_in, flow_removed, port_status, barrier_reply, role_reply, async_reply, switch_message_type, told_cells, told_fields, ToldTail, SpellsSwitchMessage, port_reason, role_value, removed_cells, packet_in_cells}
+use Rattle.of_laws.specs.Told.{Told, hello, error, echo_reply, features_reply, config_reply, packet_in, flow_removed, port_status, barrier_reply, role_reply, async_reply, switch_message_type, told_cells, told_fields, ToldTail, SpellsSwitchMessage, port_reason, role_value, removed_cells, packet_in_cells, port_cells}
 use Rattle.of_laws.proofs.Writings.{fronted, spelling}
 
 type_fits : (t : Told) → switch_message_type t < 256
@@ -110,9 +110,13 @@ status_same status.Modify = refl
 behind_number : (hw name bits : List ℕ) → (hw ++ (replicate 2 0 ++ name)) ++ bits ≡ hw ++ (replicate 2 0 ++ (name ++ bits))
 behind_number hw name bits = append_assoc hw (replicate 2 0 ++ name) bits
 
-port_text : (r : PortStatusReason) (p : PortDescription) → (status_number r ∷ replicate 7 0) ++ port_bytes p ≡ spelling (told_cells (port_status r p)) ++ []
+pub description_text : (p : PortDescription) → port_bytes p ≡ spelling (port_cells p)
 unfolding port_names port_bits
-port_text r p = rw (status_same r) (ap (λ (t : List ℕ). (port_reason r ∷ replicate 7 0) ++ (big_bytes 4 p.number ++ (replicate 4 0 ++ t))) (behind_number p.hw p.name (port_bits p)) ∙ sym (append-nil _))
+description_text p = ap (λ (t : List ℕ). big_bytes 4 p.number ++ (replicate 4 0 ++ t)) (behind_number p.hw p.name (port_bits p))
+
+port_text : (r : PortStatusReason) (p : PortDescription) → (status_number r ∷ replicate 7 0) ++ port_bytes p ≡ spelling (told_cells (port_status r p)) ++ []
+port_text r p =
+    ap (λ (n : ℕ). (n ∷ replicate 7 0) ++ port_bytes p) (status_same r) ∙ ap (λ (t : List ℕ). (port_reason r ∷ replicate 7 0) ++ t) (description_text p) ∙ sym (append-nil _)
 
 pub port_told : (xid : ℕ) (r : PortStatusReason) (p : PortDescription) → xid < 256 ^ 4 → Fits (told_cells (port_status r p)) → SpellsSwitchMessage xid (port_status r p) (port_status_bytes xid r p)
 unfolding port_names port_bits
