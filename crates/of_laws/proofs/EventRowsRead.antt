@@ -1,6 +1,6 @@
 -- The rows of a file of pieces.
 use Rattle.std.proofs.Common.{◌≡◌, ℕ, ◌+◌, ◌<◌, ◌≤◌, ◌/◌, ◌%◌, suc, zero, eqb, Bool, true, false, not, List, [], ◌∷◌, ◌++◌, length, codes, Some, None, refl, sym, ◌∙◌, ap, subst, append_assoc, arith}
-use Rattle.std.specs.Prelude.{nat_le, nat_lt, position, slice_index, ◌&&◌}
+use Rattle.std.specs.Prelude.{nat_le, nat_lt, position, slice_index}
 use Rattle.std.specs.List.{AllByRecursion, list_all}
 use Rattle.std.specs.Option.{option_map}
 use Rattle.std.specs.Str.{IsAscii, bytes_eq, chars, is_utf8}
@@ -33,7 +33,7 @@ last_line front [] rest h = refl
 last_line front (b ∷ bs) rest h = rw h.0 (last_line (front ++ b ∷ []) bs rest h.1)
 
 -- a line, and then the lines of the rest
-pub next_line : (line rest : List ℕ) → IsOne line → lines_of (line ++ 10 ∷ rest) ≡ line ∷ lines_of rest
+next_line : (line rest : List ℕ) → IsOne line → lines_of (line ++ 10 ∷ rest) ≡ line ∷ lines_of rest
 next_line line rest h = rw (whole_line [] line rest h, last_line [] line rest h) refl
 
 -- ---- the digits
@@ -91,7 +91,7 @@ bytes_again (b ∷ bs) some each =
     let long : eqb (length (encode_lower (b ∷ bs))) 0 ≡ false = ne_eqb (length (encode_lower (b ∷ bs))) 0 (λ e. omega (arith, e, size)) in
     rw (other, long, decode_of-encode_lower (b ∷ bs) each) refl
 
-pub row_shown : (bytes : List ℕ) → IsShown bytes → row_of (shown bytes) ≡ Some (Piece bytes)
+row_shown : (bytes : List ℕ) → IsShown bytes → row_of (shown bytes) ≡ Some (Piece bytes)
 row_shown bytes h = rw (shown_line bytes h.few, space bytes, bytes_again bytes h.some h.each) refl
 
 -- ---- files

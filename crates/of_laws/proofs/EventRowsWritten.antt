@@ -124,7 +124,7 @@ digits_more n ds some h = (
 digits : (n : ℕ) → n < 2 ^ 64 → Digits n (decimal n)
 digits n lt = decimal_by_steps Digits one_digit digits_more n lt
 
-pub two_digits : (n d e : ℕ) (ds : List ℕ) → decimal n ≡ d ∷ e ∷ ds → 10 ≤ n
+two_digits : (n d e : ℕ) (ds : List ℕ) → decimal n ≡ d ∷ e ∷ ds → 10 ≤ n
 two_digits n d e ds is = by_low (ltb n 10) refl
   where
     by_low : (b : Bool) → ltb n 10 ≡ b → 10 ≤ n

@@ -1,13 +1,12 @@
 -- What was read as a message spells it.
-use Rattle.std.proofs.Common.{◌≡◌, ◌≤◌, ◌+◌, ℕ, Bool, true, false, not, eqb, List, [], length, drop, Result, Ok, Err, refl, sym, ap, subst, ◌∙◌, arith}
+use Rattle.std.proofs.Common.{◌≡◌, ◌≤◌, ◌+◌, ℕ, Bool, false, not, eqb, List, length, drop, Result, Ok, Err, refl, sym, ap, subst, ◌∙◌, arith}
 use Rattle.std.specs.Prelude.{◌&&◌}
-use Rattle.std.proofs.lemmas.Bool.{eqb-true, ltb-false}
+use Rattle.std.proofs.lemmas.Bool.{ltb-false}
 use Rattle.of_wire.specs.declared.code.Code.{Code}
 use Rattle.of_wire.proofs.Numbers.{IsBytes}
 use Rattle.of_messages.specs.declared.config.SwitchConfig.{SwitchConfig}
 use Rattle.of_messages.specs.declared.config.TableMod.{TableMod}
 use Rattle.of_messages.specs.declared.group_mod.GroupMod.{GroupMod}
-use Rattle.of_messages.specs.declared.group_mod.GroupMod.TheVariants as group
 use Rattle.of_messages.specs.declared.message.FlowMod.{FlowMod}
 use Rattle.of_messages.specs.declared.message.Message.{Message}
 use Rattle.of_messages.specs.declared.message.Message.TheVariants.{Hello, Error, EchoRequest, EchoReply, FeaturesRequest, GetConfigRequest, SetConfig, PacketOut as IsPacketOut, FlowMod as IsFlowMod, GroupMod as IsGroupMod, PortMod as IsPortMod, TableMod as IsTableMod, Multipart, BarrierRequest, RoleRequest as IsRoleRequest, GetAsyncRequest, SetAsync}
@@ -15,7 +14,6 @@ use Rattle.of_messages.specs.declared.message.PacketOut.{PacketOut}
 use Rattle.of_messages.specs.declared.multipart.MultipartRequest.{MultipartRequest}
 use Rattle.of_messages.specs.declared.port_mod.PortMod.{PortMod}
 use Rattle.of_messages.specs.declared.role.RoleRequest.{RoleRequest}
-use Rattle.of_messages.specs.declared.role.RoleRequest.TheVariants.{NoChange, Equal, Master, Slave}
 use Rattle.of_messages.specs.AsyncConfigs.{async_masks_of}
 use Rattle.of_messages.specs.Configs.{set_config_of, table_mod_of}
 use Rattle.of_messages.specs.GroupMods.{group_mod_of}
@@ -24,7 +22,7 @@ use Rattle.of_messages.specs.Messages.{message_of, flow_mod_of, packet_out_of}
 use Rattle.of_messages.specs.Multiparts.{multipart_of}
 use Rattle.of_messages.specs.PortMods.{port_mod_of}
 use Rattle.of_messages.specs.Roles.{role_request_of}
-use Rattle.of_laws.specs.Grammar.{fixed_part_cells, group_mod_cells, role_cells, IsValid, Spells, Tail}
+use Rattle.of_laws.specs.Grammar.{fixed_part_cells, IsValid, Spells, Tail}
 use Rattle.of_laws.specs.Requests.{request_cells}
 use Rattle.of_laws.proofs.FoundLarge.{packet_out_found, flow_mod_found, group_mod_found}
 use Rattle.of_laws.proofs.FoundRequests.{ended, exact, request_found}

@@ -1,11 +1,9 @@
 -- No bytes spell two replies: type and flags are in their places, and after the fields no bytes are two lists of rows.
-use Rattle.std.proofs.Common.{◌≡◌, ◌≤◌, ℕ, ◌+◌, Bool, true, false, List, [], ◌++◌, length, drop, refl, sym, ap, subst, ◌∙◌, arith}
+use Rattle.std.proofs.Common.{◌≡◌, ℕ, ◌+◌, Bool, true, false, List, length, drop, refl, sym, ap, subst, ◌∙◌, arith}
 use Rattle.byteorder.specs.Endian.{big_number}
 use Rattle.of_laws.proofs.OneReplyGroup.{group_one, group_some, described_one as described_group_one, described_some as described_group_some}
 use Rattle.of_laws.proofs.OneReplyRow.{IsOne, HasBytes, rows_one, flow_one, flow_some, table_one, table_some, port_one, port_some, described_one, described_some}
-use Rattle.of_messages.specs.Heads.{header_length}
-use Rattle.of_laws.proofs.OneMessage.{ends_it}
-use Rattle.of_laws.proofs.Places.{Says, says, size, rest_is, size_is}
+use Rattle.of_laws.proofs.Places.{Says, says, size, rest_is}
 use Rattle.of_laws.specs.Replied.{Reply, SpellsReply, ReplyTail, aggregate, described_groups, described_ports, description, flags, flows, group_features, groups, ports, reply_cells, reply_fixed_part, reply_type, tables}
 use Rattle.of_laws.specs.ReplyRows.{AggregateStats, AreRows, IsDescribed, IsDescribedPort, IsFlow, IsGroup, IsPort, IsTable}
 

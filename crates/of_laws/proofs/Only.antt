@@ -1,18 +1,13 @@
 -- What spells a message is read as that message.
-use Rattle.std.proofs.Common.{◌≡◌, ◌≤◌, ◌+◌, ℕ, Bool, true, false, not, eqb, List, [], length, drop, Ok, refl, sym, ap, ◌∙◌, arith}
-use Rattle.std.specs.Prelude.{◌&&◌}
+use Rattle.std.proofs.Common.{◌≡◌, ◌≤◌, ◌+◌, ℕ, false, not, eqb, List, [], length, drop, Ok, refl, sym, ap, ◌∙◌, arith}
 use Rattle.std.proofs.lemmas.Bool.{le-ltb, eq-eqb, and_right}
 use Rattle.std.proofs.lemmas.List.{length-append}
 use Rattle.of_messages.specs.declared.message.Message.{Message}
 use Rattle.of_messages.specs.declared.message.Message.TheVariants.{Hello, Error, EchoRequest, EchoReply, FeaturesRequest, GetConfigRequest, SetConfig, PacketOut as IsPacketOut, FlowMod as IsFlowMod, GroupMod as IsGroupMod, PortMod as IsPortMod, TableMod as IsTableMod, Multipart, BarrierRequest, RoleRequest as IsRoleRequest, GetAsyncRequest, SetAsync}
-use Rattle.of_messages.specs.declared.group_mod.GroupMod.{GroupMod}
-use Rattle.of_messages.specs.declared.group_mod.GroupMod.TheVariants as group
 use Rattle.of_messages.specs.declared.message.FlowMod.{FlowMod}
-use Rattle.of_messages.specs.declared.role.RoleRequest.{RoleRequest}
-use Rattle.of_messages.specs.declared.role.RoleRequest.TheVariants.{NoChange, Equal, Master, Slave}
 use Rattle.of_messages.specs.Heads.{version_of, type_of, header_length, xid_of}
 use Rattle.of_messages.specs.Messages.{message_of}
-use Rattle.of_laws.specs.Grammar.{MatchThenInstructions, fixed_part_cells, group_mod_cells, role_cells, IsValid, Spells, Tail}
+use Rattle.of_laws.specs.Grammar.{MatchThenInstructions, fixed_part_cells, IsValid, Spells, Tail}
 use Rattle.of_laws.specs.Requests.{request_cells}
 use Rattle.of_laws.proofs.Heads.{Kind, hello, error, echo_request, echo_reply, features_request, get_config_request, set_config, packet_out, flow_mod, group_mod, port_mod, table_mod, multipart, barrier_request, role_request, get_async_request, set_async, type_number, is_bad, is_short, needs_version, body_by, as_flow_mod, as_packet_out, as_group_mod, as_port_mod, as_table_mod, as_set_config, as_role_request, as_multipart, said_by}
 use Rattle.of_laws.proofs.OnlyLarge.{group_size, tailed, packet_out_only, flow_mod_only, group_mod_only}

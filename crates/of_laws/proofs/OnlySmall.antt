@@ -18,7 +18,7 @@ use Rattle.of_messages.specs.Roles.{asked_by, role_request_of}
 use Rattle.of_formats.specs.Reading.{known}
 use Rattle.of_formats.specs.Structs.{bytes_from}
 use Rattle.of_formats.proofs.StructLaws.{bytes_taken}
-use Rattle.of_laws.specs.Cells.{Cell, byte, u16, u32, pad, plain}
+use Rattle.of_laws.specs.Cells.{byte, u16, u32, pad, plain}
 use Rattle.of_laws.specs.Grammar.{async_config_cells, role_cells}
 use Rattle.of_laws.specs.Requests.{NamesTable}
 use Rattle.of_laws.proofs.Places.{Says, size}

@@ -60,7 +60,7 @@ handles m k k' message one role is none does_it =
 
 -- ---- connecting
 
-pub connects : (dpid : ℕ) → happened Connect (start dpid) ≡ record { report = Gives (Answer hello_bytes ∷ []); state = record { connection = greeting; core = new_core dpid } }
+connects : (dpid : ℕ) → happened Connect (start dpid) ≡ record { report = Gives (Answer hello_bytes ∷ []); state = record { connection = greeting; core = new_core dpid } }
 connects dpid = refl
 
 pub greets : (k : Core) → happened (Piece hello) (record { connection = greeting; core = k }) ≡ record { report = Gives []; state = ready k }
@@ -73,7 +73,7 @@ greets k = refl
 abbrev pub Leads : List Event → State → State → Type 0
 Leads es s t = run es s ≡ record { reports = replicate (length es) (Gives []); state = t }
 
-pub leads_none : (s : State) → Leads [] s s
+leads_none : (s : State) → Leads [] s s
 leads_none s = refl
 
 pub leads_first : (e : Event) (es : List Event) (s t u : State) → happened e s ≡ record { report = Gives []; state = t } → Leads es t u → Leads (e ∷ es) s u

@@ -16,7 +16,7 @@ use Rattle.of_text.specs.Groups.{TextGroup, group_at, groups_at}
 
 -- ---- the first, or else the other
 
-abbrev pub or_other : {X : Type 0} → Option X → Option X → Option X
+abbrev or_other : {X : Type 0} → Option X → Option X → Option X
 or_other None o = o
 or_other (Some x) o = Some x
 

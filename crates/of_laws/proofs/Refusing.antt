@@ -2,11 +2,9 @@
 use Rattle.std.proofs.Common.{◌≡◌, ℕ, ◌+◌, ◌-◌, ◌<◌, ◌≤◌, zero, suc, Bool, true, false, not, eqb, leb, ltb, cond, List, [], ◌∷◌, ◌++◌, length, take, drop, Option, Some, None, Result, Ok, Err, refl, sym, ap, ◌∙◌, arith, append_assoc, zero-add}
 use Rattle.std.specs.Prelude.{◌&&◌, ◌||◌, IfSome, bit_and, replicate}
 use Rattle.std.specs.Option.{option_map}
-use Rattle.byteorder.specs.Endian.{big_bytes, big_number}
-use Rattle.byteorder.specs.Numbers.{big_number-reads_back}
 use Rattle.std.specs.List.{AllByRecursion, flat_map}
 use Rattle.std.proofs.lemmas.Bool.{eqb-true, le-leb, le-ltb, lt-ltb, ltb-false, ltb-true, ne_eqb, not-false}
-use Rattle.std.proofs.lemmas.List.{append-nil, drop_at, length-append, length-replicate, take_at}
+use Rattle.std.proofs.lemmas.List.{append-nil, drop_at, length-append, length-replicate}
 use Rattle.of_wire.specs.declared.code.Code.{Code}
 use Rattle.of_wire.specs.Items.{Items, item_then, items_of, outcome}
 use Rattle.of_wire.specs.Refusals.{first_of, refusal}
@@ -21,7 +19,7 @@ use Rattle.of_oxm.specs.MatchReading.{match_by, match_fields, match_of, then_nor
 use Rattle.of_oxm.specs.NormalForm.{IsAscending, IsKept, IsKeptMask, kept, normal, with_field, with_kept_field}
 use Rattle.of_oxm.specs.Prerequisites.{prerequisites_met}
 use Rattle.of_oxm.specs.declared.match_field.MatchField.{MatchField}
-use Rattle.of_oxm.proofs.MatchFieldLemmas.{NoneApplies, field_again, none_first}
+use Rattle.of_oxm.proofs.MatchFieldLemmas.{field_again}
 use Rattle.of_oxm.proofs.Normal.{among_append, under_ones}
 use Rattle.of_oxm.proofs.Written.{kept_spelt, written_fits}
 use Rattle.of_actions.specs.declared.action.Action.{Action}

@@ -1,8 +1,7 @@
 -- A FLOW_MOD of a flow of a text is refused with the text's code.
-use Rattle.std.proofs.Common.{◌≡◌, ℕ, ◌+◌, ◌-◌, ◌%◌, ◌^◌, ◌<◌, ◌≤◌, Bool, true, false, not, eqb, ltb, cond, List, [], ◌∷◌, ◌++◌, length, map, take, drop, Option, Some, None, Result, Ok, Err, refl, sym, ap, ◌∙◌, arith}
-use Rattle.std.specs.Prelude.{◌==◌, ◌&&◌, replicate}
+use Rattle.std.proofs.Common.{◌≡◌, ℕ, ◌+◌, ◌-◌, ◌%◌, ◌^◌, ◌<◌, Bool, true, false, not, eqb, cond, List, [], ◌∷◌, ◌++◌, length, map, take, drop, Option, Some, None, Result, Ok, Err, refl, sym, ap, ◌∙◌, arith}
+use Rattle.std.specs.Prelude.{replicate}
 use Rattle.std.specs.List.{AllByRecursion, flat_map, list_all}
-use Rattle.std.proofs.lemmas.Bool.{eq-eqb, le-ltb}
 use Rattle.std.proofs.lemmas.Bool.Decides.{nat_tests, eqb_tells}
 use Rattle.std.proofs.lemmas.List.{length-append, take_at}
 use Rattle.std.proofs.lemmas.List.Folds.{list_any-append}
@@ -14,10 +13,10 @@ use Rattle.of_wire.specs.Numbered.{is_distinct, is_used}
 use Rattle.of_wire.specs.Refusals.{first_of, refusal}
 use Rattle.of_actions.specs.declared.instruction.Instruction.{Instruction}
 use Rattle.of_actions.specs.declared.instruction.Instruction.TheVariants as instructions
-use Rattle.of_actions.specs.Beginnings.{len_at, type_at}
+use Rattle.of_actions.specs.Beginnings.{len_at}
 use Rattle.of_actions.specs.CanonicalActions.{canonical_actions}
 use Rattle.of_actions.specs.CanonicalInstructions.{after_type, canonical_instruction, canonical_instructions}
-use Rattle.of_actions.specs.Headers.{Header, goto, metadata, write, apply, clear, header_at, header_refusals, headers_of, is_known, is_next, is_size, kind_of, table_at}
+use Rattle.of_actions.specs.Headers.{Header, goto, metadata, write, apply, clear, header_at, headers_of, is_next, kind_of}
 use Rattle.of_actions.specs.InstructionLists.{run_place, type_of}
 use Rattle.of_actions.specs.InstructionReading.{bodies_of, body_of, instructions_of, prepended, then_bodies, then_ordered, with_actions}
 use Rattle.of_actions.specs.Rising.{is_ascending}

@@ -1,8 +1,8 @@
 -- A GROUP_MOD of a group of a text is refused with the text's code, where the message decides it.
-use Rattle.std.proofs.Common.{◌≡◌, ℕ, suc, ◌+◌, ◌-◌, ◌%◌, ◌^◌, ◌<◌, ◌≤◌, Bool, true, false, not, cond, ltb, eqb, List, [], ◌∷◌, ◌++◌, length, drop, map, take, Option, Some, None, Result, Ok, Err, refl, sym, ◌∙◌, ap, append_assoc, arith, zero-add}
-use Rattle.std.specs.Prelude.{◌||◌, slice_index}
+use Rattle.std.proofs.Common.{◌≡◌, ℕ, suc, ◌+◌, ◌-◌, ◌^◌, ◌<◌, ◌≤◌, Bool, true, false, cond, ltb, List, [], ◌∷◌, ◌++◌, length, drop, map, take, Option, Some, None, Result, Ok, Err, refl, sym, ◌∙◌, ap, append_assoc, arith, zero-add}
+use Rattle.std.specs.Prelude.{slice_index}
 use Rattle.std.specs.List.{AllByRecursion, flat_map}
-use Rattle.std.proofs.lemmas.Bool.{eq-eqb, le-ltb, lt-ltb, ltb-false, ltb-true}
+use Rattle.std.proofs.lemmas.Bool.{le-ltb, lt-ltb, ltb-false, ltb-true}
 use Rattle.std.proofs.lemmas.List.{length-append, take_at}
 use Rattle.byteorder.specs.Endian.{big_number}
 use Rattle.byteorder.specs.Numbers.{big_number-reads_back}
@@ -17,20 +17,14 @@ use Rattle.of_actions.specs.Actions.{actions_said}
 use Rattle.of_actions.specs.CanonicalActions.{canonical_actions}
 use Rattle.of_actions.proofs.ActionsAgain.{length-canonical}
 use Rattle.of_groups.specs.declared.bucket.Bucket.{Bucket}
-use Rattle.of_groups.specs.declared.group.GroupKind.{GroupKind}
-use Rattle.of_groups.specs.declared.group.GroupKind.TheVariants.{All, Indirect, FastFailover}
 use Rattle.of_groups.specs.Buckets.{group_max}
 use Rattle.of_groups.specs.Groups.{kind_number}
-use Rattle.of_messages.specs.Buckets.{actions_in, bucket_at, bucket_refusals, bucket_with, buckets, buckets_said, fault_of, len_at}
+use Rattle.of_messages.specs.Buckets.{actions_in, bucket_at, bucket_with, buckets, buckets_said, fault_of, len_at}
 use Rattle.of_messages.specs.CanonicalGroups.{canonical_bucket, canonical_buckets, group_add_bytes, group_add_fixed_part}
-use Rattle.of_messages.specs.GroupMods.{command_of, group_mod_of, group_of, kind_of}
-use Rattle.of_messages.specs.Heads.{format_of, head_refusals, header_length, type_of, version_of}
-use Rattle.of_messages.specs.Messages.{body_of, message_from, message_of}
-use Rattle.of_messages.specs.declared.group_mod.GroupMod.{GroupMod}
-use Rattle.of_messages.specs.declared.group_mod.GroupMod.TheVariants.{Add}
+use Rattle.of_messages.specs.GroupMods.{group_mod_of, group_of, kind_of}
+use Rattle.of_messages.specs.Heads.{header_length, type_of, version_of}
+use Rattle.of_messages.specs.Messages.{message_of}
 use Rattle.of_messages.specs.declared.group_mod.NewGroup.{NewGroup}
-use Rattle.of_messages.specs.declared.message.Message.{Message}
-use Rattle.of_messages.specs.declared.message.Message.TheVariants.{GroupMod as IsGroupMod}
 use Rattle.of_build.specs.Building.{new_of}
 use Rattle.of_text.specs.Groups.{TextBucket, TextGroup, bucket_of, buckets_of}
 use Rattle.of_text.specs.Refusals.{buckets_refusals, list_refusals, or_else}

@@ -1,11 +1,10 @@
 -- A FLOW_MOD of a flow of a text is refused with the text's code.
-use Rattle.std.proofs.Common.{◌≡◌, ℕ, ◌+◌, ◌<◌, Bool, true, false, not, ltb, eqb, List, [], ◌∷◌, ◌++◌, length, drop, map, Option, Some, None, Result, Ok, Err, refl, sym, ◌∙◌, ap, append_assoc, arith, inl, inr}
+use Rattle.std.proofs.Common.{◌≡◌, ℕ, ◌<◌, Bool, true, false, not, ltb, eqb, List, [], ◌∷◌, ◌++◌, length, drop, map, Option, Some, None, Result, Ok, Err, refl, sym, ◌∙◌, ap, append_assoc, arith, inl, inr}
 use Rattle.std.specs.Prelude.{◌⊎◌, bit_and}
 use Rattle.std.specs.List.{flat_map, list_all}
 use Rattle.std.proofs.lemmas.Bool.{eq-eqb, le-ltb, lt-ltb, ne_eqb}
 use Rattle.std.proofs.lemmas.List.{drop_at, length-append}
 use Rattle.std.proofs.lemmas.Nat.{and_le_r}
-use Rattle.byteorder.specs.Numbers.{big_number-reads_back}
 use Rattle.of_wire.specs.declared.code.Code.{Code}
 use Rattle.of_wire.specs.Items.{outcome}
 use Rattle.of_wire.specs.Refusals.{first_of, refusal}
@@ -20,11 +19,8 @@ use Rattle.of_actions.specs.InstructionReading as reading
 use Rattle.of_messages.specs.declared.message.FlowMod.{FlowMod}
 use Rattle.of_messages.specs.declared.message.FlowModCommand.{FlowModCommand}
 use Rattle.of_messages.specs.declared.message.FlowModCommand.TheVariants.{Add}
-use Rattle.of_messages.specs.declared.message.Message.{Message}
-use Rattle.of_messages.specs.declared.message.Message.TheVariants.{FlowMod as IsFlowMod}
-use Rattle.of_messages.specs.Heads.{head_refusals}
-use Rattle.of_messages.specs.Messages.{body_of, command_said, flow_mod_by, flow_mod_of, instructions_for, message_from, message_of}
-use Rattle.of_messages.specs.Written.{flow_mod_bytes, flow_mod_fixed_part, flow_mod_numbers}
+use Rattle.of_messages.specs.Messages.{command_said, flow_mod_by, flow_mod_of, instructions_for, message_of}
+use Rattle.of_messages.specs.Written.{flow_mod_bytes, flow_mod_numbers}
 use Rattle.of_build.specs.Building.{add_of}
 use Rattle.of_text.specs.Flows.{Flow, Step, Apply, Clear, Write, Metadata, Goto}
 use Rattle.of_text.specs.Kept.{instruction_of, instructions_of}

@@ -1,5 +1,5 @@
 -- What a controller of a role may send.
-use Rattle.std.proofs.Common.{◌≡◌, ℕ, Bool, true, false, cond, List, [], ◌∷◌, ◌++◌, length, Option, Some, None, Ok, Err, refl, sym, ap, ◌∙◌}
+use Rattle.std.proofs.Common.{◌≡◌, ℕ, Bool, true, false, cond, List, [], ◌∷◌, ◌++◌, Option, Some, None, Ok, Err, refl, sym, ap, ◌∙◌}
 use Rattle.std.specs.Prelude.{◌&&◌}
 use Rattle.of_wire.specs.declared.code.Code.{Code}
 use Rattle.of_wire.specs.Refusals.{refusal, first_of}
@@ -10,7 +10,7 @@ use Rattle.of_messages.specs.declared.role.Role.{Role}
 use Rattle.of_messages.specs.declared.role.Role.TheVariants as role
 use Rattle.of_messages.specs.Heads.{type_of, format_of, is_slave, is_change, head_refusals, role_refusals, xid_of}
 use Rattle.of_messages.specs.Messages.{body_of, message_by, message_from, message_of}
-use Rattle.of_laws.specs.Grammar.{type, changes, fixed_part_cells, MaySend, Spells}
+use Rattle.of_laws.specs.Grammar.{type, changes, MaySend, Spells}
 use Rattle.of_laws.proofs.AnyMessage.{of_controller}
 use Rattle.of_laws.proofs.Found.{found}
 use Rattle.of_laws.proofs.Only.{only}

@@ -8,14 +8,14 @@ use Rattle.of_laws.specs.Cells.{Cell, byte, number, plain, pad, even, u16, u32, 
 use Rattle.of_laws.proofs.Places.{size}
 pub use Rattle.of_laws.specs.Cells.{canonical_cells as spelling}
 
-pub length-text : (c : Cell) (cs : List Cell) → Fits (c ∷ cs) → length (text c) ≡ width c
+length-text : (c : Cell) (cs : List Cell) → Fits (c ∷ cs) → length (text c) ≡ width c
 length-text (byte n) cs f = refl
 length-text (number w n) cs f = length-bytes_high_first w n
 length-text (plain w xs) cs f = f.0
 length-text (pad w) cs f = length-replicate w 0
 length-text (even w) cs f = length-bytes_high_first w 0
 
-pub fits_rest : (c : Cell) (cs : List Cell) → Fits (c ∷ cs) → Fits cs
+fits_rest : (c : Cell) (cs : List Cell) → Fits (c ∷ cs) → Fits cs
 fits_rest (byte n) cs f = f.1
 fits_rest (number w n) cs f = f.1
 fits_rest (plain w xs) cs f = f.1

@@ -3,7 +3,6 @@ use Rattle.std.proofs.Common.{◌≡◌, ◌≤◌, ◌<◌, ◌^◌, ℕ, suc, 
 use Rattle.std.specs.Prelude.{replicate}
 use Rattle.std.specs.List.{flat_map, AllByRecursion as ByRecursion}
 use Rattle.std.proofs.lemmas.List.{append_assoc, length-append}
-use Rattle.byteorder.specs.Endian.{big_bytes}
 use Rattle.of_oxm.specs.Canonical.{canonical}
 use Rattle.of_oxm.proofs.Written.{canonical_short, canonical_spells}
 use Rattle.of_actions.specs.CanonicalInstructions.{canonical_instructions}

@@ -50,7 +50,7 @@ unfolding flow_mod_fixed_part
 length-front m tail = omega arith
 
 -- the two DELETE commands have none
-pub has_instructions : (m : FlowMod) (c : FlowModCommand) → are_kept m.instructions ≡ true → are_for m.table m.instructions ≡ true → (deletes c ≡ true → m.instructions ≡ []) → HasInstructions m (deletes c) (canonical_instructions m.instructions)
+has_instructions : (m : FlowMod) (c : FlowModCommand) → are_kept m.instructions ≡ true → are_for m.table m.instructions ≡ true → (deletes c ≡ true → m.instructions ≡ []) → HasInstructions m (deletes c) (canonical_instructions m.instructions)
 has_instructions m Add kept fit none = instructions_spelt m.table m.instructions kept fit
 has_instructions m Modify kept fit none = instructions_spelt m.table m.instructions kept fit
 has_instructions m ModifyStrict kept fit none = instructions_spelt m.table m.instructions kept fit
