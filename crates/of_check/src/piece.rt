@@ -11,8 +11,8 @@ ghost use Rattle.of_check.specs.Verdicts.{IsPacket, Packet, fields_of};
 ghost use Rattle.of_check.specs.Pieces.{In, is_lacking as lacking, is_apart as apart, is_settled as settled};
 
 use crate::rules::leads_to;
-use of_field_laws::{fields_of_every_frame, values_within_their_bits};
 use of_headers::{Field, FieldKey};
+use of_laws::{fields_of_every_frame, values_within_their_bits};
 use of_layers::Prerequisite;
 use of_oxm::{FieldMask, Match, MatchField, key_of, mask_of, matched_is_seen};
 

@@ -44,11 +44,11 @@ use Rattle.of_switch.specs.Loading.{config_of}
 use Rattle.of_switch.specs.State.{State, new_core, start}
 use Rattle.of_switch.specs.Runs.{Gives, IsRefused, Report, Happened, Run, happened, piece_in, run, unless}
 use Rattle.of_switch.proofs.ToldAgain.{told_again}
-use Rattle.of_round_trip.proofs.FlowsAdded.{AreSent, IsSent, flow_events, flows_lead}
-use Rattle.of_round_trip.proofs.GroupsAdded.{AreSentGroups, IsSentGroup, group_events, groups_lead}
-use Rattle.of_round_trip.proofs.Messages.{built, one_message}
-use Rattle.of_round_trip.proofs.Pieces.{Leads, ready}
-use Rattle.of_round_trip.proofs.Present.{all_kept}
+use Rattle.of_laws.proofs.FlowsAdded.{AreSent, IsSent, flow_events, flows_lead}
+use Rattle.of_laws.proofs.GroupsAdded.{AreSentGroups, IsSentGroup, group_events, groups_lead}
+use Rattle.of_laws.proofs.StreamMessages.{built, one_message}
+use Rattle.of_laws.proofs.Pieces.{Leads, ready}
+use Rattle.of_laws.proofs.Present.{all_kept}
 use Rattle.of_config.specs.Listing.{flow_adds, group_adds, messages_of}
 use Rattle.of_config.specs.Sending.{config_by, config_from, is_command}
 use Rattle.of_config.proofs.SendingLemmas.{greeted_is}

@@ -18,13 +18,13 @@ use Rattle.of_messages.specs.declared.message.PacketData.{PacketData}
 use Rattle.of_messages.specs.declared.message.PacketData.TheVariants.{Buffered, Frame}
 use Rattle.of_messages.specs.declared.multipart.MultipartRequest.{MultipartRequest}
 use Rattle.of_messages.specs.declared.multipart.MultipartRequest.TheVariants.{Flow, Aggregate, PortStats, Group}
-use Rattle.of_grammar.specs.Buckets.{AreBuckets}
-use Rattle.of_grammar.specs.Grammar.{HasInstructions, IsValidData, IsValidFlowMod, IsValidGroupMod, IsValidNumber, MayName, MatchThenInstructions, Spells, GroupTail, deletes, fixed_part_cells}
-use Rattle.of_grammar.specs.Requests.{IsOne, IsValidRequest, all_groups, any_port}
-use Rattle.of_grammar.proofs.OnlyLarge.{ingress, no_fault}
-use Rattle.of_grammar.proofs.OnlySmall.{table_named}
-use Rattle.of_grammar.proofs.InstructionStructs.{spelt_for}
-use Rattle.of_grammar.proofs.Places.{size_is}
+use Rattle.of_laws.specs.Buckets.{AreBuckets}
+use Rattle.of_laws.specs.Grammar.{HasInstructions, IsValidData, IsValidFlowMod, IsValidGroupMod, IsValidNumber, MayName, MatchThenInstructions, Spells, GroupTail, deletes, fixed_part_cells}
+use Rattle.of_laws.specs.Requests.{IsOne, IsValidRequest, all_groups, any_port}
+use Rattle.of_laws.proofs.OnlyLarge.{ingress, no_fault}
+use Rattle.of_laws.proofs.OnlySmall.{table_named}
+use Rattle.of_laws.proofs.InstructionStructs.{spelt_for}
+use Rattle.of_laws.proofs.Places.{size_is}
 use Rattle.of_requests.specs.Sound.{counts_nothing, has_no_instructions, is_one, is_sound, is_sound_command, is_sound_group_mod, is_sound_number, is_sound_packet, is_sound_request}
 
 and_true : (a b : Bool) → a ≡ true → b ≡ true → (a && b) ≡ true

@@ -7,10 +7,10 @@ use Rattle.of_messages.specs.Written.{IsMessage, header, message}
 use Rattle.of_messages.specs.declared.message.Message.{Message}
 use Rattle.of_messages.specs.declared.message.Message.TheVariants.{Hello, Error, EchoRequest, EchoReply, FeaturesRequest, GetConfigRequest, SetConfig, PacketOut as IsPacketOut, FlowMod as IsFlowMod, GroupMod as IsGroupMod, PortMod as IsPortMod, TableMod as IsTableMod, Multipart, BarrierRequest, RoleRequest as IsRoleRequest, GetAsyncRequest, SetAsync}
 use Rattle.of_messages.proofs.Lengths.{is_message}
-use Rattle.of_grammar.specs.Cells.{Cell, byte, u16, u32, Begins, Fits, canonical_cells}
-use Rattle.of_grammar.specs.Grammar.{type, version, cells, Tail, IsValid, Spells}
-use Rattle.of_grammar.proofs.Places.{size}
-use Rattle.of_grammar.proofs.Writings.{fronted, length-spelling}
+use Rattle.of_laws.specs.Cells.{Cell, byte, u16, u32, Begins, Fits, canonical_cells}
+use Rattle.of_laws.specs.Grammar.{type, version, cells, Tail, IsValid, Spells}
+use Rattle.of_laws.proofs.Places.{size}
+use Rattle.of_laws.proofs.Writings.{fronted, length-spelling}
 use Rattle.of_requests.specs.Canonical.{canonical, canonical_tail}
 use Rattle.of_requests.specs.Written.{IsWritten}
 

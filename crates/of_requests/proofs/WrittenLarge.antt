@@ -31,14 +31,14 @@ use Rattle.of_messages.specs.declared.message.PacketOut.{PacketOut}
 use Rattle.of_messages.specs.declared.multipart.FlowStatsRequest.{FlowStatsRequest}
 use Rattle.of_messages.specs.declared.multipart.MultipartRequest.TheVariants.{Flow, Aggregate, PortStats, Group}
 use Rattle.of_messages.proofs.BucketsWritten.{buckets_short}
-use Rattle.of_grammar.specs.Buckets.{AreBuckets}
-use Rattle.of_grammar.specs.Cells.{u16, u32, even, pad, Fits, canonical_cells}
-use Rattle.of_grammar.specs.Grammar.{IsData, IsValidData, IsValidFlowMod, IsValidNumber, MayName, Spells, buffer_of, deletes, flow_mod_cells, group_cells}
-use Rattle.of_grammar.specs.Requests.{BeginsMatch, IsOne, all_groups, any_port, flows_cells, or_all}
-use Rattle.of_grammar.proofs.FoundLarge.{frame_fits, ingress}
-use Rattle.of_grammar.proofs.FoundSmall.{named}
-use Rattle.of_grammar.proofs.Writings.{written}
-use Rattle.of_grammar.proofs.WrittenRequests.{beginning_is, buckets_spelt, flow_mod_spelt}
+use Rattle.of_laws.specs.Buckets.{AreBuckets}
+use Rattle.of_laws.specs.Cells.{u16, u32, even, pad, Fits, canonical_cells}
+use Rattle.of_laws.specs.Grammar.{IsData, IsValidData, IsValidFlowMod, IsValidNumber, MayName, Spells, buffer_of, deletes, flow_mod_cells, group_cells}
+use Rattle.of_laws.specs.Requests.{BeginsMatch, IsOne, all_groups, any_port, flows_cells, or_all}
+use Rattle.of_laws.proofs.FoundLarge.{frame_fits, ingress}
+use Rattle.of_laws.proofs.FoundSmall.{named}
+use Rattle.of_laws.proofs.Writings.{written}
+use Rattle.of_laws.proofs.WrittenRequests.{beginning_is, buckets_spelt, flow_mod_spelt}
 use Rattle.of_requests.specs.Canonical.{canonical, frame_of}
 use Rattle.of_requests.specs.Sound.{counts_nothing, has_no_instructions, is_one, is_sound, is_sound_command, is_sound_group, is_sound_number, is_sound_packet}
 use Rattle.of_requests.specs.Written.{IsWritten}

@@ -12,9 +12,9 @@ use Rattle.of_messages.specs.declared.message.PacketData.{PacketData}
 use Rattle.of_messages.specs.declared.message.PacketData.TheVariants.{Buffered, Frame}
 use Rattle.of_messages.specs.declared.multipart.MultipartRequest.TheVariants.{Flow, Aggregate}
 use Rattle.of_formats.specs.Tables as tables
-use Rattle.of_grammar.specs.Cells.{canonical_cells}
-use Rattle.of_grammar.specs.Grammar.{type, cells}
-use Rattle.of_grammar.specs.StructCells.{cells_of}
+use Rattle.of_laws.specs.Cells.{canonical_cells}
+use Rattle.of_laws.specs.Grammar.{type, cells}
+use Rattle.of_laws.specs.StructCells.{cells_of}
 
 -- nothing follows the actions where the packet is held by the switch
 abbrev pub frame_of : PacketData → List ℕ

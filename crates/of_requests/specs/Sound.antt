@@ -19,8 +19,8 @@ use Rattle.of_messages.specs.declared.message.PacketData.{PacketData}
 use Rattle.of_messages.specs.declared.message.PacketData.TheVariants.{Buffered, Frame}
 use Rattle.of_messages.specs.declared.multipart.MultipartRequest.{MultipartRequest}
 use Rattle.of_messages.specs.declared.multipart.MultipartRequest.TheVariants.{Flow, Aggregate, PortStats, Group}
-use Rattle.of_grammar.specs.Grammar.{no_buffer}
-use Rattle.of_grammar.specs.Requests.{any_port, all_groups}
+use Rattle.of_laws.specs.Grammar.{no_buffer}
+use Rattle.of_laws.specs.Requests.{any_port, all_groups}
 
 -- a held packet has a number, and a frame 14 to 9,216 bytes
 abbrev pub is_sound_packet : PacketData → Bool

@@ -3,9 +3,9 @@ use Rattle.std.specs.Prelude.{◌≡◌, ◌<◌, ℕ, List, [], ◌∷◌, slic
 use Rattle.of_formats.specs.Tables as tables
 use Rattle.of_messages.specs.declared.async_masks.RoleMasks.{RoleMasks}
 use Rattle.of_messages.specs.declared.message.Message.{Message}
-use Rattle.of_grammar.specs.Cells.{Cell}
-use Rattle.of_grammar.specs.Grammar.{Spells}
-use Rattle.of_grammar.specs.StructCells.{cells_of}
+use Rattle.of_laws.specs.Cells.{Cell}
+use Rattle.of_laws.specs.Grammar.{Spells}
+use Rattle.of_laws.specs.StructCells.{cells_of}
 use Rattle.of_requests.specs.Canonical.{canonical}
 
 -- its one spelling, which spells it

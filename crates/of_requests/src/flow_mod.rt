@@ -1,8 +1,8 @@
 //! FLOW_MOD (OpenFlow 1.3.5, 7.3.4.1).
 ghost use Rattle.std.specs.Prelude.{◌≡◌, ◌<◌, ◌^◌, true, IfOk};
 ghost use Rattle.of_messages.specs.declared.message.Message.TheVariants.{FlowMod as IsFlowMod};
-ghost use Rattle.of_grammar.specs.Cells.{Fits};
-ghost use Rattle.of_grammar.specs.Grammar.{flow_mod_cells};
+ghost use Rattle.of_laws.specs.Cells.{Fits};
+ghost use Rattle.of_laws.specs.Grammar.{flow_mod_cells};
 ghost use Rattle.of_requests.specs.Sound.{is_sound};
 ghost use Rattle.of_requests.specs.Written.{IsWritten};
 

@@ -6,8 +6,8 @@ ghost use Rattle.of_messages.specs.CanonicalGroups.{canonical_buckets, has_numbe
 ghost use Rattle.of_messages.specs.Written.{header};
 ghost use Rattle.of_messages.specs.declared.group_mod.GroupMod.TheVariants.{Delete};
 ghost use Rattle.of_messages.specs.declared.message.Message.TheVariants.{GroupMod as IsGroupMod};
-ghost use Rattle.of_grammar.specs.Cells.{canonical_cells, Fits};
-ghost use Rattle.of_grammar.specs.Grammar.{group_cells};
+ghost use Rattle.of_laws.specs.Cells.{canonical_cells, Fits};
+ghost use Rattle.of_laws.specs.Grammar.{group_cells};
 ghost use Rattle.of_requests.specs.Sound.{is_sound};
 ghost use Rattle.of_requests.specs.Written.{IsWritten};
 

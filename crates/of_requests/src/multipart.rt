@@ -4,8 +4,8 @@ ghost use Rattle.of_oxm.specs.Canonical.{canonical};
 ghost use Rattle.of_oxm.specs.NormalForm.{IsMatch};
 ghost use Rattle.of_messages.specs.Written.{header};
 ghost use Rattle.of_messages.specs.declared.message.Message.TheVariants.{Multipart};
-ghost use Rattle.of_grammar.specs.Cells.{canonical_cells, Fits, byte, u16, u32, u64, even, pad};
-ghost use Rattle.of_grammar.specs.Requests.{flows_cells};
+ghost use Rattle.of_laws.specs.Cells.{canonical_cells, Fits, byte, u16, u32, u64, even, pad};
+ghost use Rattle.of_laws.specs.Requests.{flows_cells};
 ghost use Rattle.of_requests.specs.Sound.{is_sound};
 ghost use Rattle.of_requests.specs.Written.{IsWritten};
 

@@ -1,7 +1,7 @@
 //! PACKET_OUT (OpenFlow 1.3.5, 7.3.7).
 ghost use Rattle.std.specs.Prelude.{◌≡◌, ◌<◌, ◌≤◌, ◌^◌, true, length, IfOk};
 ghost use Rattle.of_messages.specs.declared.message.Message.TheVariants.{PacketOut as IsPacketOut};
-ghost use Rattle.of_grammar.specs.Grammar.{buffer_of};
+ghost use Rattle.of_laws.specs.Grammar.{buffer_of};
 ghost use Rattle.of_requests.specs.Canonical.{frame_of as frame_in};
 ghost use Rattle.of_requests.specs.Sound.{is_sound, is_sound_packet};
 ghost use Rattle.of_requests.specs.Written.{IsWritten};

@@ -2,8 +2,8 @@
 ghost use Rattle.std.specs.Prelude.{◌≡◌, ◌++◌, true, IfOk, OnOk};
 ghost use Rattle.byteorder.specs.Endian.{big_bytes};
 ghost use Rattle.of_messages.specs.declared.message.Message.TheVariants.{SetConfig, PortMod as IsPortMod, TableMod as IsTableMod, RoleRequest as IsRoleRequest, SetAsync};
-ghost use Rattle.of_grammar.specs.Cells.{canonical_cells, Fits};
-ghost use Rattle.of_grammar.specs.Grammar.{cells, role_cells};
+ghost use Rattle.of_laws.specs.Cells.{canonical_cells, Fits};
+ghost use Rattle.of_laws.specs.Grammar.{cells, role_cells};
 ghost use Rattle.of_requests.specs.Sound.{is_sound};
 ghost use Rattle.of_requests.specs.Written.{IsWritten, masks_cells};
 

@@ -1,7 +1,7 @@
 //! Any message of a controller as bytes.
 ghost use Rattle.std.specs.Prelude.{◌≡◌, ℕ, List, true, Ok, IfOk, IfErr};
 ghost use Rattle.of_messages.specs.Messages.{message_of, xid_of};
-ghost use Rattle.of_grammar.specs.Grammar.{Spells};
+ghost use Rattle.of_laws.specs.Grammar.{Spells};
 ghost use Rattle.of_requests.specs.Canonical.{canonical as canonical_bytes};
 ghost use Rattle.of_requests.specs.Sound.{is_sound as has_bytes};
 ghost use Rattle.of_requests.specs.Written.{AreBytes, IsWritten};

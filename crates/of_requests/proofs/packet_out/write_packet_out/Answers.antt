@@ -3,7 +3,7 @@ use Rattle.of_actions.specs.Actions.{AreActions}
 use Rattle.of_actions.specs.CanonicalActions.{canonical_actions}
 use Rattle.of_messages.specs.Written.{header}
 use Rattle.of_messages.specs.declared.message.Message.TheVariants.{PacketOut as IsPacketOut}
-use Rattle.of_grammar.specs.Grammar.{buffer_of}
+use Rattle.of_laws.specs.Grammar.{buffer_of}
 use Rattle.of_requests.specs.Canonical.{frame_of}
 use Rattle.of_requests.proofs.Written.{front_written}
 use Rattle.of_requests.proofs.WrittenLarge.{packet_out_parts, packet_out_text}

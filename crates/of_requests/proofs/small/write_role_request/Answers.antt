@@ -3,8 +3,8 @@ use Rattle.byteorder.specs.Endian.{big_bytes}
 use Rattle.of_messages.specs.declared.message.Message.TheVariants.{RoleRequest as IsRoleRequest}
 use Rattle.of_messages.specs.declared.role.RoleRequest.{RoleRequest}
 use Rattle.of_messages.specs.declared.role.RoleRequest.TheVariants.{NoChange, Equal, Master, Slave}
-use Rattle.of_grammar.specs.Grammar.{role_cells}
-use Rattle.of_grammar.proofs.Places.{size}
+use Rattle.of_laws.specs.Grammar.{role_cells}
+use Rattle.of_laws.proofs.Places.{size}
 use Rattle.of_requests.proofs.Written.{fields_written, three}
 use Rattle.of_requests.proofs.small.write_role_request.Goals as goal
 

@@ -1,6 +1,6 @@
 use Rattle.std.proofs.Common.{refl, ◌∙◌, arith}
 use Rattle.of_messages.specs.declared.message.Message.TheVariants.{SetAsync}
-use Rattle.of_grammar.specs.Cells.{canonical_cells}
+use Rattle.of_laws.specs.Cells.{canonical_cells}
 use Rattle.of_requests.specs.Written.{masks_cells}
 use Rattle.of_requests.proofs.Written.{fields_written, three}
 use Rattle.of_requests.proofs.small.write_set_async.Goals as goal

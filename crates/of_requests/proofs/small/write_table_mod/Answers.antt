@@ -1,6 +1,6 @@
 use Rattle.std.proofs.Common.{refl, ◌∙◌, arith}
 use Rattle.of_messages.specs.declared.message.Message.TheVariants.{TableMod as IsTableMod}
-use Rattle.of_grammar.proofs.FoundSmall.{named}
+use Rattle.of_laws.proofs.FoundSmall.{named}
 use Rattle.of_requests.proofs.Written.{fields_written}
 use Rattle.of_requests.proofs.small.write_table_mod.Goals as goal
 

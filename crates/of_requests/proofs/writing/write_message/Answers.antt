@@ -1,8 +1,8 @@
 use Rattle.std.proofs.Common.{◌≡◌, false, sym, ◌∙◌}
-use Rattle.of_grammar.specs.Grammar.{Spells}
+use Rattle.of_laws.specs.Grammar.{Spells}
 use Rattle.of_messages.specs.Messages.{xid_of}
-use Rattle.of_grammar.proofs.Found.{found}
-use Rattle.of_grammar.proofs.Only.{only, xid_is}
+use Rattle.of_laws.proofs.Found.{found}
+use Rattle.of_laws.proofs.Only.{only, xid_is}
 use Rattle.of_requests.specs.Sound.{is_sound}
 use Rattle.of_requests.proofs.Unspelt.{not_spelt}
 use Rattle.of_requests.proofs.Written.{is_one_message}

@@ -2,7 +2,7 @@ use Rattle.std.specs.Prelude.{IsSome}
 use Rattle.std.specs.List.{AllByRecursion}
 use Rattle.std.proofs.lemmas.List.Elements.{recursion_from_All}
 use Rattle.of_layers.specs.declared.field.Field.{Field}
-use Rattle.of_field_laws.specs.Always.{always}
+use Rattle.of_laws.specs.Always.{always}
 use Rattle.of_check.specs.Verdicts.{fields_of}
 use Rattle.of_check.proofs.piece.Piece.of_frames.Goals as goal
 

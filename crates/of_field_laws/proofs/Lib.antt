@@ -1,3 +1,0 @@
-mod AlwaysThere
-mod Widths
-mod FrameValues

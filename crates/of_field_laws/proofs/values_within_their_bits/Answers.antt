@@ -1,5 +1,0 @@
-use Rattle.of_field_laws.proofs.FrameValues.{values_within}
-use Rattle.of_field_laws.proofs.values_within_their_bits.Goals as goal
-
-pub returns : goal.returns
-returns c = values_within

@@ -1,0 +1,249 @@
+-- THE GRAMMAR: which bytes spell which message of a controller (OpenFlow 1.3.5, 7).
+use Rattle.std.specs.Prelude.{◌≡◌, ◌≤◌, ◌<◌, ℕ, bit_and, ◌⊎◌, ⊤, Bool, true, false, List, [], ◌∷◌, ◌++◌, length, take, drop, Option, Some, None}
+use Rattle.of_oxm.specs.MatchGrammar.{SpellsMatch}
+use Rattle.of_actions.specs.Actions.{AreActions}
+use Rattle.of_actions.specs.FlowCheck.{all_go_with}
+use Rattle.of_actions.specs.Instructions.{SpellsInstructions}
+use Rattle.of_actions.specs.PortNumbers.{controller}
+use Rattle.of_groups.specs.declared.group.GroupKind.{GroupKind}
+use Rattle.of_groups.specs.declared.group.GroupKind.TheVariants.{All, Indirect, FastFailover}
+use Rattle.of_messages.specs.declared.async_masks.AsyncMasks.{AsyncMasks}
+use Rattle.of_messages.specs.declared.group_mod.GroupMod.{GroupMod}
+use Rattle.of_messages.specs.declared.group_mod.GroupMod.TheVariants as group
+use Rattle.of_messages.specs.declared.group_mod.NewGroup.{NewGroup}
+use Rattle.of_messages.specs.declared.message.FlowMod.{FlowMod}
+use Rattle.of_messages.specs.declared.message.FlowModCommand.{FlowModCommand}
+use Rattle.of_messages.specs.declared.message.FlowModCommand.TheVariants.{Add, Modify, ModifyStrict, Delete, DeleteStrict}
+use Rattle.of_messages.specs.declared.message.Message.{Message}
+use Rattle.of_messages.specs.declared.message.Message.TheVariants.{Hello, Error, EchoRequest, EchoReply, FeaturesRequest, GetConfigRequest, SetConfig, PacketOut as IsPacketOut, FlowMod as IsFlowMod, GroupMod as IsGroupMod, PortMod as IsPortMod, TableMod as IsTableMod, Multipart, BarrierRequest, RoleRequest as IsRoleRequest, GetAsyncRequest, SetAsync}
+use Rattle.of_messages.specs.declared.message.PacketData.{PacketData}
+use Rattle.of_messages.specs.declared.message.PacketData.TheVariants.{Buffered, Frame}
+use Rattle.of_messages.specs.declared.message.PacketOut.{PacketOut}
+use Rattle.of_messages.specs.declared.role.Role.{Role}
+use Rattle.of_messages.specs.declared.role.Role.TheVariants as role
+use Rattle.of_messages.specs.declared.role.RoleRequest.{RoleRequest}
+use Rattle.of_messages.specs.declared.role.RoleRequest.TheVariants.{NoChange, Equal, Master, Slave}
+use Rattle.of_laws.specs.Buckets.{AreBuckets}
+use Rattle.of_laws.specs.StructCells.{cells_of, without}
+use Rattle.of_formats.specs.Tables as tables
+use Rattle.of_laws.specs.Cells.{Cell, byte, pad, Begins}
+use Rattle.of_laws.specs.Requests.{NamesTable, all_groups, or_all, request_cells, RequestTail, IsValidRequest}
+
+-- THE HEADER (7.1, struct ofp_header)
+
+-- the types of messages, OFPT_*
+abbrev pub type : Message → ℕ
+type Hello = 0
+type Error = 1
+type (EchoRequest echoed) = 2
+type EchoReply = 3
+type FeaturesRequest = 5
+type GetConfigRequest = 7
+type (SetConfig config) = 9
+type (IsPacketOut m) = 13
+type (IsFlowMod m) = 14
+type (IsGroupMod m) = 15
+type (IsPortMod m) = 16
+type (IsTableMod m) = 17
+type (Multipart request) = 18
+type BarrierRequest = 20
+type (IsRoleRequest request) = 24
+type GetAsyncRequest = 26
+type (SetAsync masks) = 28
+
+-- a HELLO may be of any version (6.3.1), all others are of version 4
+abbrev pub version : Message → Cell
+version Hello = pad 1
+version other = byte 4
+
+-- PACKET_OUT (7.3.7, struct ofp_packet_out)
+
+-- OFP_NO_BUFFER
+abbrev pub no_buffer : ℕ
+no_buffer = 0xffffffff
+
+abbrev pub buffer_of : PacketData → ℕ
+buffer_of (Buffered number) = number
+buffer_of (Frame frame) = no_buffer
+
+-- the frame follows the actions; for a buffered packet what follows is ignored
+abbrev pub IsData : PacketData → List ℕ → Type 0
+IsData (Buffered number) bytes = ⊤
+IsData (Frame frame) bytes = bytes ≡ frame
+
+-- after the ingress port: how many bytes the actions have, padding, the actions, and the packet
+pub record ActionsThenData (m : PacketOut) (tail : List ℕ) : Type 0 where
+  pub actions : List ℕ
+  pub packet : List ℕ
+  pub front : Begins (cells_of (drop 2 tables.packet_out) (length actions ∷ []) []) tail (actions ++ packet)
+  pub are : AreActions true [] actions m.actions None
+  pub is : IsData m.packet packet
+
+-- OFPBRC_BAD_PACKET for a frame that is shorter than 14 bytes or longer than 9,216
+abbrev pub IsValidData : PacketData → Type 0
+IsValidData (Buffered number) = ¬ (number ≡ no_buffer)
+IsValidData (Frame frame) = (14 ≤ length frame) × (length frame ≤ 9216)
+
+-- a port, 1 to OFPP_MAX, or OFPP_CONTROLLER: else OFPBRC_BAD_PORT
+abbrev pub IsIngress : ℕ → Type 0
+IsIngress port = ((1 ≤ port) × (port ≤ 0xffffff00)) ⊎ (port ≡ controller)
+
+abbrev pub IsValidPacketOut : PacketOut → Type 0
+IsValidPacketOut m = IsIngress m.in_port × IsValidData m.packet
+
+-- FLOW_MOD (7.3.4.1, struct ofp_flow_mod)
+
+-- OFPFC_*
+abbrev pub command_number : FlowModCommand → ℕ
+command_number Add = 0
+command_number Modify = 1
+command_number ModifyStrict = 2
+command_number Delete = 3
+command_number DeleteStrict = 4
+
+abbrev pub flow_mod_numbers : FlowMod → List ℕ
+flow_mod_numbers m =
+    m.cookie ∷ m.cookie_mask ∷ m.table ∷ command_number m.command ∷ m.idle_timeout ∷ m.hard_timeout ∷ m.priority ∷ m.buffer ∷ m.out_port ∷ m.out_group ∷ m.flags ∷ []
+
+abbrev pub flow_mod_cells : FlowMod → List Cell
+flow_mod_cells m = cells_of tables.flow_mod (flow_mod_numbers m) []
+
+abbrev pub deletes : FlowModCommand → Bool
+deletes Delete = true
+deletes DeleteStrict = true
+deletes other = false
+
+-- the two DELETE commands have no instructions, whatever follows
+abbrev pub HasInstructions : FlowMod → Bool → List ℕ → Type 0
+HasInstructions m false bytes = SpellsInstructions m.table bytes m.instructions
+HasInstructions m true bytes = m.instructions ≡ []
+
+-- the match, and the instructions
+pub record MatchThenInstructions (m : FlowMod) (tail : List ℕ) : Type 0 where
+  pub fields : List ℕ
+  pub instructions : List ℕ
+  pub whole : tail ≡ fields ++ instructions
+  pub spelt : SpellsMatch fields m.fields
+  pub are : HasInstructions m (deletes m.command) instructions
+
+-- OFPFMFC_BAD_TABLE_ID: a table, 0 to 15, or OFPTT_ALL for the two DELETE commands
+abbrev pub MayName : Bool → ℕ → Type 0
+MayName false table = table < 16
+MayName true table = NamesTable table
+
+-- OFPFMFC_BAD_FLAGS for a flag beyond the five, and OFPBAC_MATCH_INCONSISTENT where a set-field action lacks its prerequisites in the match
+pub record IsValidFlowMod (m : FlowMod) : Type 0 where
+  pub table : MayName (deletes m.command) m.table
+  pub flags : m.flags < 32
+  pub fit : all_go_with m.fields m.instructions ≡ true
+
+-- GROUP_MOD (7.3.4.2, struct ofp_group_mod)
+
+-- OFPGT_*
+abbrev pub kind_number : GroupKind → ℕ
+kind_number All = 0
+kind_number Indirect = 2
+kind_number FastFailover = 3
+
+abbrev pub group_cells : ℕ → NewGroup → List Cell
+group_cells command g = cells_of tables.group_mod (command ∷ kind_number g.kind ∷ g.id ∷ []) []
+
+-- OFPGC_*; of a DELETE the type and the buckets are ignored
+abbrev pub group_mod_cells : GroupMod → List Cell
+group_mod_cells (group.Add g) = group_cells 0 g
+group_mod_cells (group.Modify g) = group_cells 1 g
+group_mod_cells (group.Delete which) = cells_of (without "type" tables.group_mod) (2 ∷ or_all all_groups which ∷ []) []
+
+abbrev pub GroupTail : GroupMod → List ℕ → Type 0
+GroupTail (group.Add g) tail = AreBuckets g.buckets tail
+GroupTail (group.Modify g) tail = AreBuckets g.buckets tail
+GroupTail (group.Delete which) tail = ⊤
+
+-- up to OFPG_MAX, else OFPGMFC_INVALID_GROUP; and OFPGMFC_OUT_OF_BUCKETS for more than 16 buckets
+abbrev pub IsValidGroup : NewGroup → Type 0
+IsValidGroup g = (g.id ≤ 0xffffff00) × (length g.buckets ≤ 16)
+
+abbrev pub IsValidNumber : Option ℕ → Type 0
+IsValidNumber None = ⊤
+IsValidNumber (Some number) = number ≤ 0xffffff00
+
+abbrev pub IsValidGroupMod : GroupMod → Type 0
+IsValidGroupMod (group.Add g) = IsValidGroup g
+IsValidGroupMod (group.Modify g) = IsValidGroup g
+IsValidGroupMod (group.Delete which) = IsValidNumber which
+
+-- ROLE_REQUEST (7.3.9, struct ofp_role_request)
+
+-- OFPCR_ROLE_*, padding, and the generation_id, which counts for a MASTER and a SLAVE alone
+abbrev pub role_cells : RoleRequest → List Cell
+role_cells NoChange = cells_of (without "generation_id" tables.role) (0 ∷ []) []
+role_cells Equal = cells_of (without "generation_id" tables.role) (1 ∷ []) []
+role_cells (Master generation) = cells_of tables.role (2 ∷ generation ∷ []) []
+role_cells (Slave generation) = cells_of tables.role (3 ∷ generation ∷ []) []
+
+-- SET_ASYNC (7.3.10, struct ofp_async_config): while the controller is master or equal, and while it is a slave
+abbrev pub async_config_cells : AsyncMasks → List Cell
+async_config_cells a =
+    cells_of tables.async_config (a.packet_in.master ∷ a.packet_in.slave ∷ a.port_status.master ∷ a.port_status.slave ∷ a.flow_removed.master ∷ a.flow_removed.slave ∷ []) []
+
+-- EACH MESSAGE
+
+-- Its fields after the header: struct ofp_error_msg (7.4.4), whose type and code are ignored, ofp_switch_config (7.3.2), whose flags are 0 (OFPSCFC_BAD_FLAGS), ofp_port_mod (7.3.4.3), ofp_table_mod (7.3.3), and those above.
+abbrev pub cells : Message → List Cell
+cells Error = cells_of (without "type" (without "code" tables.error_msg)) [] []
+cells (SetConfig config) = cells_of tables.switch_config (0 ∷ config.miss_send_len ∷ []) []
+cells (IsPacketOut m) = cells_of (take 2 tables.packet_out) (buffer_of m.packet ∷ m.in_port ∷ []) []
+cells (IsFlowMod m) = flow_mod_cells m
+cells (IsGroupMod m) = group_mod_cells m
+cells (IsPortMod m) = cells_of tables.port_mod (m.port ∷ m.config ∷ m.mask ∷ []) (m.hw ∷ [])
+cells (IsTableMod m) = cells_of tables.table_mod (m.table ∷ m.config ∷ []) []
+cells (Multipart request) = request_cells request
+cells (IsRoleRequest request) = role_cells request
+cells (SetAsync masks) = async_config_cells masks
+cells other = []
+
+-- What follows these: nothing, data, or what is ignored (elements of a HELLO, data of an ERROR and of an ECHO_REPLY).
+abbrev pub Tail : Message → List ℕ → Type 0
+Tail Hello tail = ⊤
+Tail Error tail = ⊤
+Tail (EchoRequest echoed) tail = tail ≡ echoed
+Tail EchoReply tail = ⊤
+Tail (IsPacketOut m) tail = ActionsThenData m tail
+Tail (IsFlowMod m) tail = MatchThenInstructions m tail
+Tail (IsGroupMod m) tail = GroupTail m tail
+Tail (Multipart request) tail = RequestTail request tail
+Tail other tail = tail ≡ []
+
+-- Numbers that fit their bytes, but that no message may have: OFPPMFC_BAD_CONFIG for a mask beyond OFPPC_PORT_DOWN, NO_RECV, NO_FWD and NO_PACKET_IN (1, 4, 32 and 64), OFPTMFC_BAD_TABLE, and those above.
+abbrev pub IsValid : Message → Type 0
+IsValid (IsPacketOut m) = IsValidPacketOut m
+IsValid (IsFlowMod m) = IsValidFlowMod m
+IsValid (IsGroupMod m) = IsValidGroupMod m
+IsValid (IsPortMod m) = bit_and m.mask 101 ≡ m.mask
+IsValid (IsTableMod m) = NamesTable m.table
+IsValid (Multipart request) = IsValidRequest request
+IsValid other = ⊤
+
+-- version, type, length of the message, transaction id, and the fields of the message
+abbrev pub fixed_part_cells : Message → ℕ → ℕ → List Cell
+fixed_part_cells m size xid = version m ∷ cells_of (drop 1 tables.header) (type m ∷ size ∷ xid ∷ []) [] ++ cells m
+
+-- these bytes, all of them, spell the message with this transaction id
+pub record Spells (xid : ℕ) (m : Message) (bytes : List ℕ) : Type 0 where
+  pub tail : List ℕ
+  pub front : Begins (fixed_part_cells m (length bytes) xid) bytes tail
+  pub behind : Tail m tail
+  pub valid : IsValid m
+
+-- WHO MAY SEND IT (6.3.4): a slave may not change the switch or send a packet, else OFPBRC_IS_SLAVE
+abbrev pub changes : Message → Bool
+changes (IsPacketOut m) = true
+changes (IsFlowMod m) = true
+changes (IsGroupMod m) = true
+changes (IsPortMod m) = true
+changes (IsTableMod m) = true
+changes other = false
+
+abbrev pub MaySend : Role → Message → Type 0
+MaySend role.Slave m = changes m ≡ false
+MaySend other m = ⊤

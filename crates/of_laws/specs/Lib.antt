@@ -1,0 +1,16 @@
+pub mod Always
+pub mod StructCells
+pub mod Cells
+pub mod ActionStructs
+pub mod InstructionStructs
+pub mod Buckets
+pub mod Requests
+pub mod Grammar
+pub mod Told
+pub mod ReplyRows
+pub mod Replied
+pub mod Shown
+pub mod AnyMessage
+pub mod RoundTrip
+pub mod RowText
+pub mod Refused

@@ -1,0 +1,70 @@
+//! Laws of the round trip of flow texts, by the file that `asm` writes, and of the rows of such files.
+ghost use Rattle.std.specs.Prelude.{◌≡◌, ◌<◌, ◌++◌, ℕ, List, length, map, None, Some, false, true};
+ghost use Rattle.std.specs.List.{AllByRecursion, flat_map};
+ghost use Rattle.of_wire.specs.Items.{outcome};
+ghost use Rattle.of_wire.specs.Refusals.{first_of};
+ghost use Rattle.of_oxm.specs.Canonical.{canonical};
+ghost use Rattle.of_oxm.specs.MatchReading.{match_of};
+ghost use Rattle.of_oxm.specs.NormalForm.{IsAscending};
+ghost use Rattle.of_oxm.specs.declared.match_field.MatchField.{MatchField};
+ghost use Rattle.of_actions.specs.declared.action.Action.{Action};
+ghost use Rattle.of_actions.specs.Actions.{actions_said};
+ghost use Rattle.of_actions.specs.CanonicalActions.{canonical_actions};
+ghost use Rattle.of_actions.specs.CanonicalInstructions.{canonical_instructions};
+ghost use Rattle.of_actions.specs.InstructionLists.{run_place};
+ghost use Rattle.of_actions.specs.InstructionReading.{instructions_of};
+ghost use Rattle.of_actions.specs.Rising.{is_ascending};
+ghost use Rattle.of_messages.specs.CanonicalGroups.{group_add_bytes};
+ghost use Rattle.of_messages.specs.Messages.{message_of};
+ghost use Rattle.of_messages.specs.Written.{flow_mod_bytes};
+ghost use Rattle.of_text.specs.Groups.{TextGroup};
+ghost use Rattle.of_text.specs.Flows.{Flow, Step};
+ghost use Rattle.of_text.specs.Kept.{instruction_of};
+ghost use Rattle.of_text.specs.Refusals.{flow_refusals, goto_refusals, list_refusals, match_refusals, step_refusals};
+ghost use Rattle.of_text.specs.Rows.{ActionFits, FieldFits};
+ghost use Rattle.of_build.specs.Building.{BuildsOf, add_of, build_text, new_of};
+ghost use Rattle.of_text.specs.Configs.{Configuration, SpellConfig, config_text};
+ghost use Rattle.of_text.specs.Lines.{lines_of as text_lines};
+ghost use Rattle.of_replay.specs.Lexing.{lines_of};
+ghost use Rattle.of_replay.specs.Disassembling.{text_after};
+ghost use Rattle.of_replay.specs.Play.{lines_read};
+ghost use Rattle.of_replay.specs.Rows.{EventRow, events_in, row_of, rows_of};
+ghost use Rattle.of_laws.specs.RoundTrip.{ComesBack};
+ghost use Rattle.of_laws.specs.Refused.{IsSaid, IsSaidGroup, StepFits, group_outcome, match_outcome, message_outcome, said_refusals};
+ghost use Rattle.of_laws.specs.RowText.{HasLine, file_text, row_text};
+
+/// The file that is built of a flow text, run on a new switch with any datapath_id, ends with the configuration that the text spells.
+///
+/// No row of the file is bad, no event is refused, and no message is answered: the switch sends its own HELLO alone. But for its
+/// connection it is then a new switch that the configuration was loaded into: groups and flows in their order, counters of 0.
+pub fn text_comes_back()
+    ensures { (text : List ℕ) (config : Configuration) (dpid : ℕ) → SpellConfig (text_lines text) config → ComesBack dpid (build_text config) config }
+{}
+
+/// What `dis` writes of the file that `asm` wrote for a flow text is the canonical text of the configuration that the text spells.
+pub fn dis_undoes_asm()
+    ensures good { (text file : List ℕ) → BuildsOf text file → (rows_of (lines_read true file)).bad ≡ None }
+    ensures canonical { (text file : List ℕ) (config : Configuration) → BuildsOf text file → SpellConfig (text_lines text) config → text_after (rows_of (lines_read true file)) ≡ config_text config }
+{}
+
+/// The text of each row of an event file is read as that row, if it is no longer than a line may be; and the text of a file of
+/// such rows as their events, in their order.
+pub fn written_rows_are_read()
+    ensures row { (row : EventRow) → HasLine row → row_of (row_text row) ≡ Some row }
+    ensures file { (rows : List EventRow) → AllByRecursion HasLine rows → rows_of (lines_of (file_text rows)) ≡ record { events = flat_map events_in rows; bad = None } }
+{}
+
+/// What is written of a flow text is refused for the text's first refusal, and else read: lists of actions, matches and
+/// instructions, the FLOW_MOD that adds a flow, and the GROUP_MOD that adds a group (OpenFlow 1.3.5, 7.4.4).
+///
+/// Of a group the message decides its number and its buckets; what it watches, and how many there are, only the switch does.
+pub fn texts_are_refused_as_messages()
+    ensures actions { (actions : List Action) → AllByRecursion ActionFits actions → actions_said false (canonical_actions actions) ≡ outcome actions (first_of (list_refusals actions)) }
+    ensures fields { (fields : List MatchField) (rest : List ℕ) → AllByRecursion FieldFits fields → IsAscending fields → match_of (canonical fields ++ rest) ≡ match_outcome fields (first_of (match_refusals fields)) }
+    ensures instructions { (table : ℕ) (steps : List Step) → AllByRecursion StepFits steps → is_ascending run_place (map instruction_of steps) ≡ true
+        → length (canonical_instructions (map instruction_of steps)) < 65528
+        → instructions_of table (canonical_instructions (map instruction_of steps))
+        ≡ outcome (map instruction_of steps) (first_of (flat_map (goto_refusals table) steps ++ flat_map step_refusals steps)) }
+    ensures flow { (xid : ℕ) (f : Flow) → IsSaid f → message_of (flow_mod_bytes xid (add_of f)) ≡ message_outcome (add_of f) (first_of (flow_refusals f)) }
+    ensures group { (xid : ℕ) (g : TextGroup) → IsSaidGroup g → message_of (group_add_bytes xid (new_of g)) ≡ group_outcome (new_of g) (first_of (said_refusals g)) }
+{}

@@ -1,8 +1,0 @@
-mod ManyRows
-mod WrittenRows
-mod WrittenGroups
-mod WrittenReplies
-mod OneRow
-mod OneGroup
-mod OneReply
-mod AnyMessage

@@ -1,4 +1,0 @@
-pub mod Rows
-pub mod Replied
-pub mod Shown
-pub mod AnyMessage

@@ -1,3 +1,0 @@
-pub mod RoundTrip
-pub mod RowText
-pub mod Refused
