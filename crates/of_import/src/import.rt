@@ -148,16 +148,7 @@ pub fn import_tables(alloc: Global, text: &[u8], skip: bool) -> Result<Import, I
     ensures found { IfOk result (λ r. IsImport (lines_of text.now) skip r.text.items r.faults.items) }
     ensures failed { IfErr result (NoImport (lines_of text.now) skip) }
 {
-    let parsed = match read_tables(alloc, text) {
-        Ok(parsed) => parsed,
-        Err(_) => return Err(ImportError::NoMemory),
-    };
-    let parsed = match accepted(parsed, skip) {
-        Ok(parsed) => parsed,
-        Err(e) => return Err(e),
-    };
-    match configure(alloc, parsed) {
-        Ok((config, faults)) => written(alloc, &config, faults),
-        Err(e) => Err(e),
-    }
+    let parsed = accepted(read_tables(alloc, text)?, skip)?;
+    let (config, faults) = configure(alloc, parsed)?;
+    written(alloc, &config, faults)
 }

@@ -86,10 +86,7 @@ fn read_flow(alloc: Global, text: &[u8]) -> Result<LineContent, LineStop>
     ensures stopped { IfErr result (LineStops (parsed_flow text.now)) }
 {
     let mut partial = PartialFlow::blank(alloc);
-    match add_flow_words(alloc, &mut partial, text) {
-        Ok(()) => {}
-        Err(stop) => return Err(stop),
-    }
+    add_flow_words(alloc, &mut partial, text)?;
     match finish_flow(alloc, partial) {
         Ok(flow) => Ok(LineContent::Flow(flow)),
         Err(stop) => Err(stop_at(alloc, b"actions", stop)),
@@ -102,10 +99,7 @@ fn read_group(alloc: Global, text: &[u8]) -> Result<LineContent, LineStop>
     ensures stopped { IfErr result (LineStops (parsed_group text.now)) }
 {
     let mut partial = PartialGroup::blank(alloc);
-    match add_group_words(alloc, &mut partial, text) {
-        Ok(()) => {}
-        Err(stop) => return Err(stop),
-    }
+    add_group_words(alloc, &mut partial, text)?;
     match partial.finish() {
         Ok(group) => Ok(LineContent::Group(group)),
         Err(stop) => Err(stop_at(alloc, b"type", stop)),
