@@ -1,5 +1,5 @@
 -- From what was read to its configuration.
-use Rattle.std.proofs.Common.{◌≡◌, ℕ, ◌<◌, Bool, false, List, ◌++◌, Option, Some, None, sym, ap, ◌∙◌, subst}
+use Rattle.std.proofs.Common.{◌≡◌, ℕ, List, ◌++◌, Option, Some, sym, ap, ◌∙◌, subst}
 use Rattle.std.specs.Prelude.{map, slice_index_or}
 use Rattle.of_wire.specs.declared.code.Code.{Code}
 use Rattle.of_text.specs.declared.assembling.FillError.{FillError}
@@ -9,14 +9,10 @@ use Rattle.of_text.specs.Groups.{TextGroup}
 use Rattle.of_text.specs.Configs.{Configuration, SpellConfig, config_text}
 use Rattle.of_text.specs.Lines.{lines_of}
 use Rattle.of_text.specs.First.{first_refusal, RefusedWithout}
-use Rattle.of_import.specs.declared.import.ImportError.{ImportError}
-use Rattle.of_import.specs.declared.import.ImportError.TheVariants.{NoMemory, Faults, Refused}
-use Rattle.of_import.specs.declared.reading.FlowLine.{FlowLine}
-use Rattle.of_import.specs.declared.reading.GroupLine.{GroupLine}
-use Rattle.of_import.specs.Imports.{RefusedOf, NoImport}
-use Rattle.of_import.specs.SeenTallies.{view_flow_line, view_group_line}
-use Rattle.of_import.specs.Tallies.{Tally, tally_of}
-use Rattle.of_import.proofs.RowLemmas.{said_group_lines, said_flow_lines}
+use Rattle.of_import.specs.declared.parsed_lines.FlowLine.{FlowLine}
+use Rattle.of_import.specs.declared.parsed_lines.GroupLine.{GroupLine}
+use Rattle.of_import.specs.ParsedLinesViews.{view_flow_line, view_group_line}
+use Rattle.of_import.proofs.RowLemmas.{parsed_group_lines, parsed_flow_lines}
 
 pub refusal_same : (a b : List TextGroup) (f g : List Flow) (o : Option (ℕ × Code)) → a ≡ b → f ≡ g → first_refusal a f ≡ o → first_refusal b g ≡ o
 refusal_same a b f g o p q h = rw (← p, ← q) h
@@ -24,13 +20,8 @@ refusal_same a b f g o p q h = rw (← p, ← q) h
 pub refused_first : (first : Option (ℕ × Code)) (e : FillError) (place : ℕ) (code : Code) → e ≡ fills.Refused place code → RefusedWithout first e → first ≡ Some (place, code)
 refused_first first e place code is h = subst (RefusedWithout first) is h
 
-pub lines_said : (place line : ℕ) (lines shown : List ℕ) (gs : List GroupLine) (fs : List FlowLine) → shown ≡ lines → lines ≡ map (λ g. g.line) gs ++ map (λ f. f.line) fs → line ≡ slice_index_or shown place 0 → line ≡ slice_index_or (map (λ g. g.0) (map view_group_line gs) ++ map (λ f. f.0) (map view_flow_line fs)) place 0
-lines_said place line lines shown gs fs s e h = h ∙ ap (λ (xs : List ℕ). slice_index_or xs place 0) (s ∙ (e ∙ (ap (λ (xs : List ℕ). xs ++ map (λ f. f.line) fs) (said_group_lines gs) ∙ ap (λ (xs : List ℕ). map (λ g. g.0) (map view_group_line gs) ++ xs) (said_flow_lines fs))))
-
-pub no_import : (lines : List (List ℕ)) (skip : Bool) (t : Tally) (e : ImportError) → t ≡ tally_of lines → RefusedOf t e → NoImport lines skip e
-no_import lines skip t NoMemory same h = tt
-no_import lines skip t (Faults faults) same h = absurd h
-no_import lines skip t (Refused line code) same h = subst (λ (x : Tally). RefusedOf x (Refused line code)) same h
+pub lines_parsed : (place line : ℕ) (lines shown : List ℕ) (gs : List GroupLine) (fs : List FlowLine) → shown ≡ lines → lines ≡ map (λ g. g.line) gs ++ map (λ f. f.line) fs → line ≡ slice_index_or shown place 0 → line ≡ slice_index_or (map (λ g. g.0) (map view_group_line gs) ++ map (λ f. f.0) (map view_flow_line fs)) place 0
+lines_parsed place line lines shown gs fs s e h = h ∙ ap (λ (xs : List ℕ). slice_index_or xs place 0) (s ∙ (e ∙ (ap (λ (xs : List ℕ). xs ++ map (λ f. f.line) fs) (parsed_group_lines gs) ∙ ap (λ (xs : List ℕ). map (λ g. g.0) (map view_group_line gs) ++ xs) (parsed_flow_lines fs))))
 
 pub spelt_text : (text : List ℕ) (c : Configuration) → text ≡ config_text c → SpellConfig (lines_of (config_text c)) c → SpellConfig (lines_of text) c
 spelt_text text c e h = subst (λ (x : List ℕ). SpellConfig (lines_of x) c) (sym e) h

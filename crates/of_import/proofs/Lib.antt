@@ -1,8 +1,5 @@
-pub mod NumberLemmas
-pub mod WordLemmas
-pub mod TellLemmas
+pub mod LineLemmas
 pub mod SoundLemmas
-pub mod TallyLemmas
+pub mod ParsedLinesLemmas
 pub mod RowLemmas
 pub mod ImportLemmas
-pub mod PieceLemmas

@@ -1,8 +1,7 @@
 -- What was read may stand in a flow text.
-use Rattle.std.proofs.Common.{◌≡◌, ℕ, ◌<◌, ltb, Bool, true, false, List, [], ◌∷◌, ◌++◌, Option, Some, None, refl, sym, ap, ◌∙◌, subst, arith}
-use Rattle.std.specs.Prelude.{map, nat_lt, ◌&&◌, IsSome}
+use Rattle.std.proofs.Common.{◌≡◌, ℕ, true, List, [], ◌∷◌, ◌++◌, Some, refl, ap, ◌∙◌}
+use Rattle.std.specs.Prelude.{map, nat_lt}
 use Rattle.std.specs.List.{AllByRecursion, flat_map, list_all}
-use Rattle.std.proofs.lemmas.Bool.{lt-ltb, ltb-true}
 use Rattle.of_actions.specs.declared.action.Action.{Action}
 use Rattle.of_actions.specs.Rising.{is_ascending}
 use Rattle.of_text.specs.declared.flow.FlowText.{FlowText}
@@ -14,16 +13,15 @@ use Rattle.of_lines.specs.declared.row.Row.TheVariants as rows
 use Rattle.of_text.specs.Flows.{text_rows}
 use Rattle.of_text.specs.Groups.{TextBucket, TextGroup, bucket_rows, group_rows, rows_of_groups}
 use Rattle.of_text.specs.Order.{start, following, standing}
-use Rattle.of_text.specs.Reading.{◌>>=◌}
 use Rattle.of_text.specs.Rows.{Fits}
 use Rattle.of_text.specs.Texts.{AreRows}
 use Rattle.of_text.specs.Views.{view, view_group, view_groups, view_flows}
 use Rattle.of_text.proofs.TextLemmas.{standing_both, all_both}
-use Rattle.of_text.proofs.ConfigLemmas.{IsWhole, Parts, rows_from}
-use Rattle.of_import.specs.declared.reading.FlowLine.{FlowLine}
-use Rattle.of_import.specs.declared.reading.GroupLine.{GroupLine}
-use Rattle.of_import.specs.declared.reading.Reading.{Reading}
-use Rattle.of_import.specs.SeenTallies.{id_of, view_group_line, view_flow_line, IsSoundReading}
+use Rattle.of_text.proofs.ConfigLemmas.{IsWhole, rows_from}
+use Rattle.of_import.specs.declared.parsed_lines.FlowLine.{FlowLine}
+use Rattle.of_import.specs.declared.parsed_lines.GroupLine.{GroupLine}
+use Rattle.of_import.specs.declared.parsed_lines.ParsedLines.{ParsedLines as Declared}
+use Rattle.of_import.specs.ParsedLinesViews.{id_of, view_group_line, view_flow_line, AreSoundLines}
 use Rattle.of_import.specs.Sound.{IsSound}
 use Rattle.of_import.proofs.SoundLemmas.{and_parts}
 
@@ -108,24 +106,24 @@ viewed_whole [] h = tt
 viewed_whole (f ∷ fs) h = (record { fits = h.0.fits; order = h.0.order }, viewed_whole fs h.1)
 
 -- the lines of what was read
-pub reading_rows : (r : Reading) (gs : List GroupText) (fs : List FlowText) → IsSoundReading r → gs ≡ map (λ g. g.group) r.groups.items → fs ≡ map (λ f. f.flow) r.flows.items → AreRows (text_rows (view_groups gs) (view_flows fs))
-reading_rows r gs fs s g f =
+pub parsed_rows : (r : Declared) (gs : List GroupText) (fs : List FlowText) → AreSoundLines r → gs ≡ map (λ g. g.group) r.groups.items → fs ≡ map (λ f. f.flow) r.flows.items → AreRows (text_rows (view_groups gs) (view_flows fs))
+parsed_rows r gs fs s g f =
     let place = groups_stand (view_groups (map (λ g. g.group) r.groups.items)) (viewed_rise r.groups.items s.rising) in
     rw (g, f) (rows_from (view_groups (map (λ g. g.group) r.groups.items)) (view_flows (map (λ f. f.flow) r.flows.items)) (record { fits = viewed_fit r.groups.items s.groups; place = place.0; order = place.1; whole = viewed_whole r.flows.items s.flows }))
 
--- the groups and flows that were said
-pub said_groups : (gs : List GroupLine) → view_groups (map (λ g. g.group) gs) ≡ map (λ g. g.1) (map view_group_line gs)
-said_groups [] = refl
-said_groups (g ∷ gs) = ap (λ xs. view_group g.group ∷ xs) (said_groups gs)
+-- the groups and flows that were read
+pub parsed_groups : (gs : List GroupLine) → view_groups (map (λ g. g.group) gs) ≡ map (λ g. g.1) (map view_group_line gs)
+parsed_groups [] = refl
+parsed_groups (g ∷ gs) = ap (λ xs. view_group g.group ∷ xs) (parsed_groups gs)
 
-pub said_flows : (fs : List FlowLine) → view_flows (map (λ f. f.flow) fs) ≡ map (λ f. f.1) (map view_flow_line fs)
-said_flows [] = refl
-said_flows (f ∷ fs) = ap (λ xs. view f.flow ∷ xs) (said_flows fs)
+pub parsed_flows : (fs : List FlowLine) → view_flows (map (λ f. f.flow) fs) ≡ map (λ f. f.1) (map view_flow_line fs)
+parsed_flows [] = refl
+parsed_flows (f ∷ fs) = ap (λ xs. view f.flow ∷ xs) (parsed_flows fs)
 
-pub said_group_lines : (gs : List GroupLine) → map (λ g. g.line) gs ≡ map (λ g. g.0) (map view_group_line gs)
-said_group_lines [] = refl
-said_group_lines (g ∷ gs) = ap (λ xs. g.line ∷ xs) (said_group_lines gs)
+pub parsed_group_lines : (gs : List GroupLine) → map (λ g. g.line) gs ≡ map (λ g. g.0) (map view_group_line gs)
+parsed_group_lines [] = refl
+parsed_group_lines (g ∷ gs) = ap (λ xs. g.line ∷ xs) (parsed_group_lines gs)
 
-pub said_flow_lines : (fs : List FlowLine) → map (λ f. f.line) fs ≡ map (λ f. f.0) (map view_flow_line fs)
-said_flow_lines [] = refl
-said_flow_lines (f ∷ fs) = ap (λ xs. f.line ∷ xs) (said_flow_lines fs)
+pub parsed_flow_lines : (fs : List FlowLine) → map (λ f. f.line) fs ≡ map (λ f. f.0) (map view_flow_line fs)
+parsed_flow_lines [] = refl
+parsed_flow_lines (f ∷ fs) = ap (λ xs. f.line ∷ xs) (parsed_flow_lines fs)

@@ -1,5 +1,5 @@
 -- The flow of its words may stand in a flow text.
-use Rattle.std.proofs.Common.{◌≡◌, ℕ, ◌+◌, ◌<◌, ◌≤◌, ◌^◌, eqb, leb, ltb, Bool, true, false, cond, List, [], ◌∷◌, ◌++◌, length, Option, Some, None, Result, Ok, Err, refl, sym, ap, subst, ◌∙◌, append_assoc, arith}
+use Rattle.std.proofs.Common.{◌≡◌, ℕ, ◌+◌, ◌<◌, ◌≤◌, ◌^◌, eqb, Bool, true, false, cond, List, [], ◌∷◌, ◌++◌, length, Option, Some, None, Ok, Err, refl, sym, ap, subst, ◌∙◌, append_assoc, arith}
 use Rattle.std.specs.Prelude.{map, not, nat_lt, nat_le, ◌&&◌, ◌||◌, IsSome, IfSome, reverse, find, filter_map}
 use Rattle.std.specs.List.{AllByRecursion, flat_map, list_all}
 use Rattle.std.specs.Option.{option_map_or}
@@ -7,23 +7,22 @@ use Rattle.std.proofs.lemmas.Bool.{le-leb, leb-true, ltb-true, eqb-true}
 use Rattle.std.proofs.lemmas.List.Folds.{list_all-map}
 use Rattle.of_layers.specs.declared.field.Field.{Field}
 use Rattle.of_layers.specs.declared.field.TheConstants.Field as constants
-use Rattle.of_layers.specs.Fields.{number_of, ones_of, bytes_of, row_of}
+use Rattle.of_layers.specs.Fields.{number_of, ones_of, row_of}
 use Rattle.of_layers.proofs.Table.{value_below, number_below}
 use Rattle.of_oxm.specs.declared.match_field.MatchField.{MatchField}
 use Rattle.of_actions.specs.declared.action.Action.{Action}
 use Rattle.of_actions.specs.declared.action.Action.TheVariants as actions
 use Rattle.of_lines.specs.declared.row.Row.{Row}
 use Rattle.of_lines.specs.declared.row.Row.TheVariants as rows
-use Rattle.of_text.specs.Flows.{Flow, Step, Apply, Clear, Write, Metadata, Goto, flow_rows, step_rows}
-use Rattle.of_text.specs.Rows.{Fits, FieldFits, ActionFits, HeadFits, IsMask}
+use Rattle.of_text.specs.Flows.{Flow, Step, Apply, Clear, Write, step_rows}
+use Rattle.of_text.specs.Rows.{Fits, ActionFits, HeadFits, IsMask}
 use Rattle.of_text.specs.Order.{flow_next, flow_standing}
-use Rattle.of_text.specs.Reading.{◌>>=◌}
-use Rattle.of_import.specs.Settings.{last_of}
-use Rattle.of_import.specs.Matches.{fields_of}
-use Rattle.of_import.specs.Sketches.{Sketch}
+use Rattle.of_ovs_words.specs.Settings.{last_of}
+use Rattle.of_ovs_words.specs.Matches.{fields_of}
+use Rattle.of_import.specs.PartialFlows.{PartialFlow}
 use Rattle.of_import.specs.Finished.{when, metadata_step, goto_step, steps_of, field_fits, action_fits, numbers_fit, flow_of}
-use Rattle.of_import.specs.declared.why.Why.TheVariants as whys
-use Rattle.of_import.specs.GroupSketches.{bucket_fits}
+use Rattle.of_ovs_words.specs.declared.why.Why.TheVariants as whys
+use Rattle.of_import.specs.PartialGroups.{bucket_fits}
 use Rattle.of_text.specs.Groups.{TextBucket, bucket_rows}
 use Rattle.std.proofs.lemmas.List.{append-nil}
 use Rattle.of_import.specs.Sound.{IsSound}
@@ -183,7 +182,7 @@ past_both least front back rest middle most a b =
     joined [] back rest = refl
     joined (s ∷ front) back rest = simp append_assoc (ap (λ xs. step_rows s ++ xs) (joined front back rest))
 
-steps_past : (s : Sketch) (least : ℕ) (rest : List Row) → least ≤ 40 → Past least (steps_of s) rest 45
+steps_past : (s : PartialFlow) (least : ℕ) (rest : List Row) → least ≤ 40 → Past least (steps_of s) rest 45
 steps_past s least rest h =
     let a = when (not (eqb (length s.apply) 0)) (Apply s.apply) in
     let c = when s.clears Clear in
@@ -202,8 +201,8 @@ steps_past s least rest h =
 
 -- ---- flows
 
--- what the types of a sketch say of its numbers
-pub record IsTyped (s : Sketch) : Type 0 where
+-- what the types of a flow that is being read say of its numbers
+pub record IsTyped (s : PartialFlow) : Type 0 where
   pub head : HeadFits s.head
   pub metadata : IfSome s.metadata (λ m. (m.0 < 2 ^ 64) × (m.1 < 2 ^ 64))
   pub goto : IfSome s.goto (λ table. table < 2 ^ 8)
@@ -235,7 +234,7 @@ goto_fits : (g : Option ℕ) → IfSome g (λ table. table < 2 ^ 8) → AllByRec
 goto_fits None h = tt
 goto_fits (Some table) h = (h, tt)
 
-steps_fit : (s : Sketch) → IsTyped s → list_all action_fits s.apply ≡ true → list_all action_fits s.write ≡ true → AllByRecursion Fits (flat_map step_rows (steps_of s))
+steps_fit : (s : PartialFlow) → IsTyped s → list_all action_fits s.apply ≡ true → list_all action_fits s.write ≡ true → AllByRecursion Fits (flat_map step_rows (steps_of s))
 steps_fit s t a w =
     fits_both (((when (not (eqb (length s.apply) 0)) (Apply s.apply) ++ when s.clears Clear) ++ when s.writes (Write s.write)) ++ metadata_step s.metadata) (goto_step s.goto)
     (fits_both ((when (not (eqb (length s.apply) 0)) (Apply s.apply) ++ when s.clears Clear) ++ when s.writes (Write s.write)) (metadata_step s.metadata)
@@ -248,8 +247,8 @@ steps_fit s t a w =
 is_some : (o : Option ℕ) (n : ℕ) → o ≡ Some n → IsSome o
 is_some o n e = rw e refl
 
-pub sketch_sound : (s : Sketch) → IsTyped s → numbers_fit s ≡ true → IsSound (record { head = s.head; fields = fields_of s.settings; steps = steps_of s })
-sketch_sound s t n =
+pub partial_flow_sound : (s : PartialFlow) → IsTyped s → numbers_fit s ≡ true → IsSound (record { head = s.head; fields = fields_of s.settings; steps = steps_of s })
+partial_flow_sound s t n =
     let both = and_parts (list_all field_fits (fields_of s.settings) && list_all action_fits s.apply) (list_all action_fits s.write) n in
     let first = and_parts (list_all field_fits (fields_of s.settings)) (list_all action_fits s.apply) both.0 in
     let front = fields_stand s.settings 0 constants.ALL (flat_map step_rows (steps_of s)) (omega arith) all_rise in
@@ -261,20 +260,20 @@ sketch_sound s t n =
     }
 
 -- a flow that is of its words
-pub flow_sound : (s : Sketch) (f : Flow) → IsTyped s → flow_of s ≡ Ok f → IsSound f
+pub flow_sound : (s : PartialFlow) (f : Flow) → IsTyped s → flow_of s ≡ Ok f → IsSound f
 unfolding flow_of
-flow_sound s f t e = by_acting s.acting refl
+flow_sound s f t e = by_actions s.in_actions refl
   where
-    by_numbers : (b : Bool) → numbers_fit s ≡ b → s.acting ≡ true → IsSound f
+    by_numbers : (b : Bool) → numbers_fit s ≡ b → s.in_actions ≡ true → IsSound f
     by_numbers true n a =
         let given : Ok (record { head = s.head; fields = fields_of s.settings; steps = steps_of s }) ≡ Ok f = rw (a, n) at e in
         let same : record { head = s.head; fields = fields_of s.settings; steps = steps_of s } ≡ f = cc in
-        subst IsSound same (sketch_sound s t n)
+        subst IsSound same (partial_flow_sound s t n)
     by_numbers false n a = let given : Err whys.Value ≡ Ok f = rw (a, n) at e in absurd cc
 
-    by_acting : (b : Bool) → s.acting ≡ b → IsSound f
-    by_acting true a = by_numbers (numbers_fit s) refl a
-    by_acting false a = let given : Err whys.Missing ≡ Ok f = rw a at e in absurd cc
+    by_actions : (b : Bool) → s.in_actions ≡ b → IsSound f
+    by_actions true a = by_numbers (numbers_fit s) refl a
+    by_actions false a = let given : Err whys.Missing ≡ Ok f = rw a at e in absurd cc
 
 -- ---- groups
 

@@ -1,13 +1,13 @@
 -- A FLOW WHOSE LINES MAY STAND IN A FLOW TEXT: each number fits its place, and its fields and instructions are in order.
-use Rattle.std.specs.Prelude.{ℕ, List, ◌++◌, map, IsSome}
+use Rattle.std.specs.Prelude.{◌++◌, map, IsSome}
 use Rattle.std.specs.List.{AllByRecursion, flat_map}
 use Rattle.of_lines.specs.declared.row.Row.TheVariants as rows
 use Rattle.of_text.specs.Flows.{Flow, flow_rows, step_rows}
-use Rattle.of_text.specs.Groups.{TextGroup, group_rows}
+use Rattle.of_text.specs.Groups.{group_rows}
 use Rattle.of_text.specs.Order.{flow_standing}
 use Rattle.of_text.specs.Rows.{Fits}
-use Rattle.of_import.specs.declared.line.Said.{Said}
-use Rattle.of_import.specs.declared.line.Said.TheVariants as variants
+use Rattle.of_import.specs.declared.line.LineContent.{LineContent as Declared}
+use Rattle.of_import.specs.declared.line.LineContent.TheVariants as variants
 use Rattle.of_text.specs.Views.{view, view_group}
 
 pub record IsSound (f : Flow) : Type 0 where
@@ -15,7 +15,7 @@ pub record IsSound (f : Flow) : Type 0 where
   pub order : IsSome (flow_standing 0 (map rows.Match f.fields ++ flat_map step_rows f.steps))
 
 -- the same of what a line says
-abbrev pub SaysSound : Said → Type 0
-SaysSound variants.Nothing = Unit {0}
-SaysSound (variants.Group g) = AllByRecursion Fits (group_rows (view_group g))
-SaysSound (variants.Flow f) = IsSound (view f)
+abbrev pub IsSoundContent : Declared → Type 0
+IsSoundContent variants.Nothing = Unit {0}
+IsSoundContent (variants.Group g) = AllByRecursion Fits (group_rows (view_group g))
+IsSoundContent (variants.Flow f) = IsSound (view f)

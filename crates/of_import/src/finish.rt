@@ -1,19 +1,17 @@
 //! The flow of its words.
-ghost use Rattle.std.specs.Prelude.{◌≡◌, ◌++◌, ◌&&◌, IfOk, IfErr, OnOk, Ok, map, IfSome, ◌<◌, ◌^◌};
+ghost use Rattle.std.specs.Prelude.{◌≡◌, ◌++◌, ◌&&◌, IfOk, IfErr, OnOk, Ok, map, IfSome, [], ◌<◌, ◌^◌};
 ghost use Rattle.std.specs.List.{list_all};
 ghost use Rattle.of_import.specs.Finished.{action_fits as action_fits_so, field_fits as field_fits_so, flow_of, goto_step, metadata_step, steps_of, when};
-ghost use Rattle.of_import.specs.Matches.{fields_of as fields_in};
-ghost use Rattle.of_import.specs.Seen.{seen};
+ghost use Rattle.of_ovs_words.specs.Matches.{fields_of as fields_in};
+ghost use Rattle.of_import.specs.PartialFlowViews.{view_partial_flow};
 ghost use Rattle.of_text.specs.Rows.{HeadFits};
 ghost use Rattle.of_import.specs.Sound.{IsSound};
-ghost use Rattle.of_import.specs.Stops.{Stops};
+ghost use Rattle.of_ovs_words.specs.Stops.{Stops};
 ghost use Rattle.of_text.specs.Views.{view, view_step};
 
-use crate::flow_sketch::FlowSketch;
-use crate::settings::fields_of;
-use crate::stop::Stop;
-use crate::why::Why;
+use crate::partial_flow::PartialFlow;
 use of_actions::Action;
+use of_ovs_words::{Stop, Why, fields_of};
 use of_oxm::MatchField;
 use of_text::{FlowHead, FlowText, StepText};
 use std::alloc::{AllocError, Global};
@@ -45,35 +43,40 @@ fn push_goto(steps: &mut Vec<StepText>, goto: Option<u8>) -> Result<(), AllocErr
     Ok(())
 }
 
-// Takes the actions out.
-fn take(actions: &mut Vec<Action>) -> Vec<Action>
-    ensures { result.items ≡ actions.old.items }
+/// Takes the actions out.
+pub fn take_actions(actions: &mut Vec<Action>) -> Vec<Action>
+    ensures taken { result.items ≡ actions.old.items }
+    ensures none { actions.new.items ≡ [] }
 {
     let none = Vec::new(*actions.allocator());
     std::mem::replace(actions, none)
 }
 
-// Appends the instructions, in execution order, and takes their actions out of the sketch.
-fn push_steps(steps: &mut Vec<StepText>, sketch: &mut FlowSketch) -> Result<(), AllocError>
-    ensures { OnOk result (map view_step steps.new.items ≡ map view_step steps.old.items ++ steps_of (seen sketch.old)) }
+// Appends the instructions, in execution order, and takes their actions out of the flow.
+fn push_steps(steps: &mut Vec<StepText>, partial: &mut PartialFlow) -> Result<(), AllocError>
+    ensures { OnOk result (map view_step steps.new.items ≡ map view_step steps.old.items ++ steps_of (view_partial_flow partial.old)) }
 {
-    let applies = !sketch.apply.is_empty();
-    push_when(steps, applies, StepText::Apply(take(&mut sketch.apply)))?;
-    push_when(steps, sketch.clears, StepText::Clear)?;
+    let applies = !partial.apply.is_empty();
     push_when(
         steps,
-        sketch.writes,
-        StepText::Write(take(&mut sketch.write)),
+        applies,
+        StepText::Apply(take_actions(&mut partial.apply)),
     )?;
-    push_metadata(steps, sketch.metadata)?;
-    push_goto(steps, sketch.goto)
+    push_when(steps, partial.clears, StepText::Clear)?;
+    push_when(
+        steps,
+        partial.writes,
+        StepText::Write(take_actions(&mut partial.write)),
+    )?;
+    push_metadata(steps, partial.metadata)?;
+    push_goto(steps, partial.goto)
 }
 
-fn steps_from(alloc: Global, sketch: &mut FlowSketch) -> Result<Vec<StepText>, AllocError>
-    ensures { IfOk result (λ steps. map view_step steps.items ≡ steps_of (seen sketch.old)) }
+fn steps_from(alloc: Global, partial: &mut PartialFlow) -> Result<Vec<StepText>, AllocError>
+    ensures { IfOk result (λ steps. map view_step steps.items ≡ steps_of (view_partial_flow partial.old)) }
 {
     let mut steps = Vec::new(alloc);
-    push_steps(&mut steps, sketch)?;
+    push_steps(&mut steps, partial)?;
     Ok(steps)
 }
 
@@ -113,10 +116,10 @@ pub fn actions_fit(actions: &[Action]) -> bool
     actions.iter().all(|action| action_fits(*action))
 }
 
-fn numbers_fit(fields: &[MatchField], sketch: &FlowSketch) -> bool
-    ensures { result ≡ (list_all field_fits_so fields.now && list_all action_fits_so sketch.now.apply.items && list_all action_fits_so sketch.now.write.items) }
+fn numbers_fit(fields: &[MatchField], partial: &PartialFlow) -> bool
+    ensures { result ≡ (list_all field_fits_so fields.now && list_all action_fits_so partial.now.apply.items && list_all action_fits_so partial.now.write.items) }
 {
-    fields_fit(fields) && actions_fit(&sketch.apply) && actions_fit(&sketch.write)
+    fields_fit(fields) && actions_fit(&partial.apply) && actions_fit(&partial.write)
 }
 
 // What the type of the head says of its numbers.
@@ -139,35 +142,35 @@ fn known_goto(goto: Option<u8>)
 }
 
 #[tactic(auto, unfolding(crate::specs::Finished::flow_of))]
-fn finished(alloc: Global, sketch: &mut FlowSketch) -> Result<FlowText, Stop>
-    ensures told { IfOk result (λ flow. flow_of (seen sketch.old) ≡ Ok (view flow)) }
-    ensures stopped { IfErr result (Stops (flow_of (seen sketch.old))) }
+fn finished(alloc: Global, partial: &mut PartialFlow) -> Result<FlowText, Stop>
+    ensures finished { IfOk result (λ flow. flow_of (view_partial_flow partial.old) ≡ Ok (view flow)) }
+    ensures stopped { IfErr result (Stops (flow_of (view_partial_flow partial.old))) }
 {
-    if !sketch.acting {
+    if !partial.in_actions {
         return Err(Stop::Refused(Why::Missing));
     }
-    let fields = fields_of(alloc, &sketch.settings)?;
-    if !numbers_fit(&fields, sketch) {
+    let fields = fields_of(alloc, &partial.settings)?;
+    if !numbers_fit(&fields, partial) {
         return Err(Stop::Refused(Why::Value));
     }
     Ok(FlowText {
-        head: sketch.head,
+        head: partial.head,
         fields,
-        steps: steps_from(alloc, sketch)?,
+        steps: steps_from(alloc, partial)?,
     })
 }
 
 /// The flow that its words say.
-pub fn finish_flow(alloc: Global, sketch: FlowSketch) -> Result<FlowText, Stop>
-    ensures told { IfOk result (λ flow. flow_of (seen sketch) ≡ Ok (view flow)) }
+pub fn finish_flow(alloc: Global, partial: PartialFlow) -> Result<FlowText, Stop>
+    ensures finished { IfOk result (λ flow. flow_of (view_partial_flow partial) ≡ Ok (view flow)) }
     ensures sound { IfOk result (λ flow. IsSound (view flow)) }
-    ensures stopped { IfErr result (Stops (flow_of (seen sketch))) }
+    ensures stopped { IfErr result (Stops (flow_of (view_partial_flow partial))) }
 {
-    known_head(sketch.head);
-    known_metadata(sketch.metadata);
-    known_goto(sketch.goto);
-    let mut sketch = sketch;
-    match finished(alloc, &mut sketch) {
+    known_head(partial.head);
+    known_metadata(partial.metadata);
+    known_goto(partial.goto);
+    let mut partial = partial;
+    match finished(alloc, &mut partial) {
         Ok(flow) => Ok(flow),
         Err(stop) => Err(stop),
     }

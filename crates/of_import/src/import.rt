@@ -4,11 +4,11 @@ ghost use Rattle.of_text.specs.Configs.{SpellConfig, config_text, tables_of};
 ghost use Rattle.of_text.specs.First.{first_refusal};
 ghost use Rattle.of_text.specs.Lines.{lines_of};
 ghost use Rattle.of_import.specs.Imports.{FaultsOf, IsConfigOf, IsImport, NoImport, RefusedOf};
-ghost use Rattle.of_import.specs.SeenTallies.{IsSoundReading, seen_tally};
-ghost use Rattle.of_import.specs.Tallies.{flows_said, groups_said, line_at};
+ghost use Rattle.of_import.specs.ParsedLinesViews.{AreSoundLines, view_parsed_lines};
+ghost use Rattle.of_import.specs.ParsedLines.{flows_parsed, groups_parsed, line_at};
 ghost use Rattle.of_import.specs.declared.import.ImportError.TheVariants.{NoMemory};
 
-use crate::reading::{FlowLine, GroupLine, LineFault, Reading, read_tables};
+use crate::parsed_lines::{FlowLine, GroupLine, LineFault, ParsedLines, read_tables};
 use of_oxm::Code;
 use of_text::{Config, FillError, FlowText, GroupText, disassemble, texts_are_of_configs};
 use std::alloc::{AllocError, AllocFailed, Global};
@@ -47,7 +47,7 @@ impl<T: Drop> From<AllocFailed<T>> for ImportError {
 }
 
 // The groups, whose lines are appended.
-fn split_groups(
+fn unzip_groups(
     alloc: Global,
     lines: &mut Vec<usize>,
     groups: Vec<GroupLine>,
@@ -64,7 +64,7 @@ fn split_groups(
 }
 
 // The flows, whose lines are appended.
-fn split_flows(
+fn unzip_flows(
     alloc: Global,
     lines: &mut Vec<usize>,
     flows: Vec<FlowLine>,
@@ -90,20 +90,20 @@ fn line_of(lines: &[usize], place: usize) -> usize
 }
 
 // The configuration of what was read, and the faults.
-fn configure(alloc: Global, reading: Reading) -> Result<(Config, Vec<LineFault>), ImportError>
-    requires { IsSoundReading reading }
-    ensures found { IfOk result (λ r. IsConfigOf (seen_tally reading) r.0) }
-    ensures faults { IfOk result (λ r. r.1.items ≡ reading.faults.items) }
-    ensures failed { IfErr result (RefusedOf (seen_tally reading)) }
+fn configure(alloc: Global, parsed: ParsedLines) -> Result<(Config, Vec<LineFault>), ImportError>
+    requires { AreSoundLines parsed }
+    ensures found { IfOk result (λ r. IsConfigOf (view_parsed_lines parsed) r.0) }
+    ensures faults { IfOk result (λ r. r.1.items ≡ parsed.faults.items) }
+    ensures failed { IfErr result (RefusedOf (view_parsed_lines parsed)) }
 {
-    let Reading {
+    let ParsedLines {
         groups,
         flows,
         faults,
-    } = reading;
+    } = parsed;
     let mut lines = Vec::new(alloc);
-    let groups = split_groups(alloc, &mut lines, groups)?;
-    let flows = split_flows(alloc, &mut lines, flows)?;
+    let groups = unzip_groups(alloc, &mut lines, groups)?;
+    let flows = unzip_flows(alloc, &mut lines, flows)?;
     match Config::of_items(alloc, groups, flows) {
         Ok(config) => Ok((config, faults)),
         Err(FillError::NoMemory) => Err(ImportError::NoMemory),
@@ -115,15 +115,15 @@ fn configure(alloc: Global, reading: Reading) -> Result<(Config, Vec<LineFault>)
 }
 
 // Without faults, unless they are skipped.
-fn accepted(reading: Reading, skip: bool) -> Result<Reading, ImportError>
-    ensures same { IfOk result (λ r. r ≡ reading) }
+fn accepted(parsed: ParsedLines, skip: bool) -> Result<ParsedLines, ImportError>
+    ensures same { IfOk result (λ r. r ≡ parsed) }
     ensures none { IfOk result (λ r. skip ≡ false → length r.faults.items ≡ 0) }
-    ensures faults { IfErr result (FaultsOf reading skip) }
+    ensures faults { IfErr result (FaultsOf parsed skip) }
 {
-    if !skip && !reading.faults.is_empty() {
-        Err(ImportError::Faults(reading.faults))
+    if !skip && !parsed.faults.is_empty() {
+        Err(ImportError::Faults(parsed.faults))
     } else {
-        Ok(reading)
+        Ok(parsed)
     }
 }
 
@@ -148,16 +148,7 @@ pub fn import_tables(alloc: Global, text: &[u8], skip: bool) -> Result<Import, I
     ensures found { IfOk result (λ r. IsImport (lines_of text.now) skip r.text.items r.faults.items) }
     ensures failed { IfErr result (NoImport (lines_of text.now) skip) }
 {
-    let reading = match read_tables(alloc, text) {
-        Ok(reading) => reading,
-        Err(_) => return Err(ImportError::NoMemory),
-    };
-    let reading = match accepted(reading, skip) {
-        Ok(reading) => reading,
-        Err(e) => return Err(e),
-    };
-    match configure(alloc, reading) {
-        Ok((config, faults)) => written(alloc, &config, faults),
-        Err(e) => Err(e),
-    }
+    let parsed = accepted(read_tables(alloc, text)?, skip)?;
+    let (config, faults) = configure(alloc, parsed)?;
+    written(alloc, &config, faults)
 }

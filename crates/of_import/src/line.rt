@@ -3,28 +3,27 @@ ghost use Rattle.std.specs.Prelude.{◌≡◌, ◌++◌, ◌||◌, codes, IfOk, 
 ghost use Rattle.std.specs.List.{AllByRecursion};
 ghost use Rattle.std.specs.Str.{bytes_eq};
 ghost use Rattle.of_text.specs.Lines.{before};
-ghost use Rattle.of_import.specs.Words.{words_from};
-ghost use Rattle.of_import.specs.Sketches.{blank, told};
-ghost use Rattle.of_import.specs.GroupSketches.{no_group, told_group};
-ghost use Rattle.of_import.specs.Sayings.{content as content_of, flow_said, group_said, is_heading as is_heading_text, line_says, said as said_of, told_words, trimmed as trimmed_of};
+ghost use Rattle.of_ovs_words.specs.Words.{words_from};
+ghost use Rattle.of_import.specs.PartialFlows.{blank, with_word};
+ghost use Rattle.of_import.specs.PartialGroups.{no_group, with_group_word};
+ghost use Rattle.of_import.specs.LineContents.{parsed_flow, parsed_group, is_heading as is_heading_text, parsed_line, parsed_text as parsed_text_of, with_words, trimmed as trimmed_of};
 ghost use Rattle.of_import.specs.LineStops.{IsAt, LineStops};
-ghost use Rattle.of_import.specs.Sound.{SaysSound};
-ghost use Rattle.of_import.specs.Seen.{seen};
-ghost use Rattle.of_import.specs.SeenGroups.{seen_group};
-ghost use Rattle.of_import.specs.SeenLines.{view_said};
+ghost use Rattle.of_import.specs.Sound.{IsSoundContent};
+ghost use Rattle.of_import.specs.PartialFlowViews.{view_partial_flow};
+ghost use Rattle.of_import.specs.PartialGroupViews.{view_partial_group};
+ghost use Rattle.of_import.specs.LineContentViews.{view_line_content};
 
 use crate::finish::finish_flow;
-use crate::flow_sketch::FlowSketch;
-use crate::group_sketch::GroupSketch;
 use crate::line_stop::LineStop;
-use crate::stop::Stop;
-use crate::words::{cut_word, is_gap, name_of};
+use crate::partial_flow::PartialFlow;
+use crate::partial_group::PartialGroup;
+use of_ovs_words::{Stop, cut_word, is_gap, name_of};
 use of_text::{FlowText, GroupText, cut, is};
 use std::alloc::Global;
 
 /// What a line says.
 #[derive(Drop)]
-pub enum Said {
+pub enum LineContent {
     Nothing,
     Group(GroupText),
     Flow(FlowText),
@@ -44,16 +43,16 @@ fn stop_at(alloc: Global, word: &[u8], stop: Stop) -> LineStop
 }
 
 // Adds what words say of a flow.
-fn tell_flow(alloc: Global, sketch: &mut FlowSketch, text: &[u8]) -> Result<(), LineStop>
-    ensures told { IfOk result (λ _. told_words told (seen sketch.old) (words_from 0 text.now) ≡ Ok (seen sketch.new)) }
-    ensures stopped { IfErr result (LineStops (told_words told (seen sketch.old) (words_from 0 text.now))) }
+fn add_flow_words(alloc: Global, partial: &mut PartialFlow, text: &[u8]) -> Result<(), LineStop>
+    ensures added { IfOk result (λ _. with_words with_word (view_partial_flow partial.old) (words_from 0 text.now) ≡ Ok (view_partial_flow partial.new)) }
+    ensures stopped { IfErr result (LineStops (with_words with_word (view_partial_flow partial.old) (words_from 0 text.now))) }
 {
     let mut rest = text;
     while !rest.is_empty() {
         let (word, after) = cut_word(rest);
         rest = after;
         if !word.is_empty() {
-            match sketch.tell(word) {
+            match partial.add_word(word) {
                 Ok(()) => {}
                 Err(stop) => return Err(stop_at(alloc, word, stop)),
             }
@@ -63,16 +62,16 @@ fn tell_flow(alloc: Global, sketch: &mut FlowSketch, text: &[u8]) -> Result<(), 
 }
 
 // Adds what words say of a group.
-fn tell_group(alloc: Global, sketch: &mut GroupSketch, text: &[u8]) -> Result<(), LineStop>
-    ensures told { IfOk result (λ _. told_words told_group (seen_group sketch.old) (words_from 0 text.now) ≡ Ok (seen_group sketch.new)) }
-    ensures stopped { IfErr result (LineStops (told_words told_group (seen_group sketch.old) (words_from 0 text.now))) }
+fn add_group_words(alloc: Global, partial: &mut PartialGroup, text: &[u8]) -> Result<(), LineStop>
+    ensures added { IfOk result (λ _. with_words with_group_word (view_partial_group partial.old) (words_from 0 text.now) ≡ Ok (view_partial_group partial.new)) }
+    ensures stopped { IfErr result (LineStops (with_words with_group_word (view_partial_group partial.old) (words_from 0 text.now))) }
 {
     let mut rest = text;
     while !rest.is_empty() {
         let (word, after) = cut_word(rest);
         rest = after;
         if !word.is_empty() {
-            match sketch.tell(word) {
+            match partial.add_word(word) {
                 Ok(()) => {}
                 Err(stop) => return Err(stop_at(alloc, word, stop)),
             }
@@ -81,34 +80,28 @@ fn tell_group(alloc: Global, sketch: &mut GroupSketch, text: &[u8]) -> Result<()
     Ok(())
 }
 
-fn read_flow(alloc: Global, text: &[u8]) -> Result<Said, LineStop>
-    ensures told { IfOk result (λ said. flow_said text.now ≡ Ok (view_said said)) }
-    ensures sound { IfOk result SaysSound }
-    ensures stopped { IfErr result (LineStops (flow_said text.now)) }
+fn read_flow(alloc: Global, text: &[u8]) -> Result<LineContent, LineStop>
+    ensures parsed { IfOk result (λ content. parsed_flow text.now ≡ Ok (view_line_content content)) }
+    ensures sound { IfOk result IsSoundContent }
+    ensures stopped { IfErr result (LineStops (parsed_flow text.now)) }
 {
-    let mut sketch = FlowSketch::blank(alloc);
-    match tell_flow(alloc, &mut sketch, text) {
-        Ok(()) => {}
-        Err(stop) => return Err(stop),
-    }
-    match finish_flow(alloc, sketch) {
-        Ok(flow) => Ok(Said::Flow(flow)),
+    let mut partial = PartialFlow::blank(alloc);
+    add_flow_words(alloc, &mut partial, text)?;
+    match finish_flow(alloc, partial) {
+        Ok(flow) => Ok(LineContent::Flow(flow)),
         Err(stop) => Err(stop_at(alloc, b"actions", stop)),
     }
 }
 
-fn read_group(alloc: Global, text: &[u8]) -> Result<Said, LineStop>
-    ensures told { IfOk result (λ said. group_said text.now ≡ Ok (view_said said)) }
-    ensures sound { IfOk result SaysSound }
-    ensures stopped { IfErr result (LineStops (group_said text.now)) }
+fn read_group(alloc: Global, text: &[u8]) -> Result<LineContent, LineStop>
+    ensures parsed { IfOk result (λ content. parsed_group text.now ≡ Ok (view_line_content content)) }
+    ensures sound { IfOk result IsSoundContent }
+    ensures stopped { IfErr result (LineStops (parsed_group text.now)) }
 {
-    let mut sketch = GroupSketch::blank(alloc);
-    match tell_group(alloc, &mut sketch, text) {
-        Ok(()) => {}
-        Err(stop) => return Err(stop),
-    }
-    match sketch.finish() {
-        Ok(group) => Ok(Said::Group(group)),
+    let mut partial = PartialGroup::blank(alloc);
+    add_group_words(alloc, &mut partial, text)?;
+    match partial.finish() {
+        Ok(group) => Ok(LineContent::Group(group)),
         Err(stop) => Err(stop_at(alloc, b"type", stop)),
     }
 }
@@ -133,13 +126,13 @@ fn is_heading(text: &[u8]) -> bool
     is(word, b"OFPST") || is(word, b"NXST")
 }
 
-fn read_text(alloc: Global, text: &[u8]) -> Result<Said, LineStop>
-    ensures told { IfOk result (λ said. said_of text.now ≡ Ok (view_said said)) }
-    ensures sound { IfOk result SaysSound }
-    ensures stopped { IfErr result (LineStops (said_of text.now)) }
+fn read_text(alloc: Global, text: &[u8]) -> Result<LineContent, LineStop>
+    ensures parsed { IfOk result (λ content. parsed_text_of text.now ≡ Ok (view_line_content content)) }
+    ensures sound { IfOk result IsSoundContent }
+    ensures stopped { IfErr result (LineStops (parsed_text_of text.now)) }
 {
     if text.is_empty() || is_heading(text) {
-        Ok(Said::Nothing)
+        Ok(LineContent::Nothing)
     } else if is(name_of(text), b"group_id") {
         read_group(alloc, text)
     } else {
@@ -148,11 +141,11 @@ fn read_text(alloc: Global, text: &[u8]) -> Result<Said, LineStop>
 }
 
 /// What a line says, or which word of it is refused.
-#[tactic(auto, unfolding(crate::specs::Sayings::line_says))]
-pub fn read_line(alloc: Global, line: &[u8]) -> Result<Said, LineStop>
-    ensures told { IfOk result (λ said. line_says line.now ≡ Ok (view_said said)) }
-    ensures sound { IfOk result SaysSound }
-    ensures stopped { IfErr result (LineStops (line_says line.now)) }
+#[tactic(auto, unfolding(crate::specs::LineContents::parsed_line))]
+pub fn read_line(alloc: Global, line: &[u8]) -> Result<LineContent, LineStop>
+    ensures parsed { IfOk result (λ content. parsed_line line.now ≡ Ok (view_line_content content)) }
+    ensures sound { IfOk result IsSoundContent }
+    ensures stopped { IfErr result (LineStops (parsed_line line.now)) }
 {
     let (text, _) = cut(line, b'#');
     read_text(alloc, trimmed(text))

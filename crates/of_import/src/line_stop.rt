@@ -2,7 +2,7 @@
 ghost use Rattle.std.specs.Prelude.{◌≡◌};
 ghost use Rattle.of_import.specs.declared.line_stop.LineStop.TheVariants.{NoMemory};
 
-use crate::why::Why;
+use of_ovs_words::Why;
 use std::alloc::AllocError;
 
 /// Why reading a line stops.

@@ -1,5 +1,5 @@
 use Rattle.std.proofs.Common.{◌≡◌, drop}
-use Rattle.of_import.specs.Sayings.{trimmed}
+use Rattle.of_import.specs.LineContents.{trimmed}
 use Rattle.of_import.proofs.line.trimmed.Given as goal
 
 abbrev pub invariant-loop-i : goal.invariant-loop-i

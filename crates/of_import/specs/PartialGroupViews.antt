@@ -1,0 +1,8 @@
+-- A group that is being read, apart from its layout in memory.
+use Rattle.std.specs.Prelude.{map}
+use Rattle.of_text.specs.Views.{view_bucket}
+use Rattle.of_import.specs.declared.partial_group.PartialGroup.{PartialGroup as Declared}
+use Rattle.of_import.specs.PartialGroups.{PartialGroup}
+
+abbrev pub view_partial_group : Declared → PartialGroup
+view_partial_group s = record { id = s.id; kind = s.kind; begun = s.begun; head = s.head; actions = s.actions.items; buckets = map view_bucket s.buckets.items }

@@ -1,0 +1,87 @@
+-- WHAT THE WORDS OF A LINE SAY OF A GROUP, one after the other (ovs-ofctl(8)).
+use Rattle.std.specs.Prelude.{ℕ, ◌^◌, ◌&&◌, nat_lt, Bool, true, false, ◌==◌, List, [], ◌∷◌, ◌++◌, codes, length, Option, Some, None, Result, Ok, Err, if◌then◌else◌}
+use Rattle.std.specs.List.{list_all}
+use Rattle.std.specs.Str.{bytes_eq}
+use Rattle.of_actions.specs.declared.action.Action.{Action}
+use Rattle.of_groups.specs.declared.group.GroupKind.{GroupKind}
+use Rattle.of_groups.specs.declared.group.GroupKind.TheVariants.{All, Indirect, FastFailover}
+use Rattle.of_lines.specs.declared.row.BucketHead.{BucketHead}
+use Rattle.of_text.specs.Groups.{TextBucket, TextGroup}
+use Rattle.of_ovs_words.specs.declared.why.Why.{Why}
+use Rattle.of_ovs_words.specs.declared.why.Why.TheVariants as whys
+use Rattle.of_ovs_words.specs.Words.{name_of, value_of}
+use Rattle.of_ovs_words.specs.Outcomes.{◌>>=◌, numbered}
+use Rattle.of_ovs_words.specs.Ports.{port_in}
+use Rattle.of_ovs_words.specs.Actions.{with_action}
+use Rattle.of_import.specs.Finished.{action_fits}
+
+pub record PartialGroup : Type 0 where
+  pub id : Option ℕ
+  pub kind : Option GroupKind
+  -- a bucket is begun, and this is what is said of it
+  pub begun : Bool
+  pub head : BucketHead
+  pub actions : List Action
+  -- those before it
+  pub buckets : List TextBucket
+
+-- a bucket that watches nothing (OpenFlow 1.3.5, 7.3.4.2)
+abbrev pub new_bucket : BucketHead
+new_bucket = record { weight = 0; watch_port = 0xffffffff; watch_group = 0xffffffff }
+
+abbrev pub no_group : PartialGroup
+no_group = record { id = None; kind = None; begun = false; head = new_bucket; actions = []; buckets = [] }
+
+abbrev pub closed : PartialGroup → List TextBucket
+closed s = if s.begun then s.buckets ++ record { head = s.head; actions = s.actions } ∷ [] else s.buckets
+
+abbrev pub with_new_bucket : PartialGroup → PartialGroup
+with_new_bucket s = record s { begun = true; head = new_bucket; actions = []; buckets = closed s }
+
+abbrev pub kind_in : List ℕ → Result GroupKind Why
+kind_in value =
+    if bytes_eq value (codes "all") then Ok All
+    else if bytes_eq value (codes "indirect") then Ok Indirect
+    else if bytes_eq value (codes "ff") then Ok FastFailover
+    else if bytes_eq value (codes "fast_failover") then Ok FastFailover
+    else Err whys.Unknown
+
+abbrev pub with_bucket_action : PartialGroup → List ℕ → Result PartialGroup Why
+with_bucket_action s word = with_action [] s.actions word >>= λ actions. Ok (record s { actions = actions })
+
+abbrev pub first_action : PartialGroup → List ℕ → Result PartialGroup Why
+first_action s value = if length value == 0 then Ok s else with_bucket_action s value
+
+-- a word of a bucket, by its name and its value
+unfoldable pub with_bucket_word : PartialGroup → List ℕ → Result PartialGroup Why
+with_bucket_word s word =
+    if bytes_eq (name_of word) (codes "weight") then (numbered 65536 (value_of word) >>= λ n. Ok (record s { head = record s.head { weight = n } }))
+    else if bytes_eq (name_of word) (codes "watch_port") then (port_in whys.PortName (value_of word) >>= λ n. Ok (record s { head = record s.head { watch_port = n } }))
+    else if bytes_eq (name_of word) (codes "watch_group") then (numbered (2 ^ 32) (value_of word) >>= λ n. Ok (record s { head = record s.head { watch_group = n } }))
+    else if bytes_eq (name_of word) (codes "bucket_id") then Ok s
+    else if bytes_eq (name_of word) (codes "actions") then first_action s (value_of word)
+    else with_bucket_action s word
+
+abbrev pub with_first_word : PartialGroup → List ℕ → Result PartialGroup Why
+with_first_word s value = if length value == 0 then Ok s else with_bucket_word s value
+
+-- ONE MORE WORD of a group
+unfoldable pub with_group_word : PartialGroup → List ℕ → Result PartialGroup Why
+with_group_word s word =
+    if bytes_eq (name_of word) (codes "bucket") then with_first_word (with_new_bucket s) (value_of word)
+    else if s.begun then with_bucket_word s word
+    else if bytes_eq (name_of word) (codes "group_id") then (numbered (2 ^ 32) (value_of word) >>= λ n. Ok (record s { id = Some n }))
+    else if bytes_eq (name_of word) (codes "type") then (kind_in (value_of word) >>= λ kind. Ok (record s { kind = Some kind }))
+    else Err whys.Unknown
+
+abbrev pub bucket_fits : TextBucket → Bool
+bucket_fits b = nat_lt b.head.weight (2 ^ 16) && nat_lt b.head.watch_port (2 ^ 32) && nat_lt b.head.watch_group (2 ^ 32) && list_all action_fits b.actions
+
+abbrev pub group_by : PartialGroup → Option ℕ → Option GroupKind → Result TextGroup Why
+group_by s (Some id) (Some kind) = Ok (record { head = record { id = id; kind = kind }; buckets = closed s })
+group_by s (Some id) None = Err whys.Missing
+group_by s None kind = Err whys.Missing
+
+-- THE GROUP of its words, in whose buckets each number fits its place
+unfoldable pub group_of : PartialGroup → Result TextGroup Why
+group_of s = if list_all bucket_fits (closed s) then group_by s s.id s.kind else Err whys.Value

@@ -1,0 +1,16 @@
+pub mod Words
+pub mod Numbers
+pub mod Values
+pub mod Outcomes
+pub mod PortWords
+pub mod Ports
+pub mod FieldWords
+pub mod ProtocolWords
+pub mod HeadWords
+pub mod ActionWords
+pub mod Settings
+pub mod Tci
+pub mod Matches
+pub mod Stops
+pub mod Actions
+pub mod Ipv6

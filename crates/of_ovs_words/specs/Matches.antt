@@ -1,0 +1,43 @@
+-- WHAT WORDS SAY OF A MATCH, one after the other: settings of fields (ovs-fields(7)).
+use Rattle.std.specs.Prelude.{ℕ, ◌==◌, Bool, true, false, List, [], ◌∷◌, ◌++◌, length, filter_map, Option, Some, None, Result, Ok, Err, if◌then◌else◌}
+use Rattle.of_layers.specs.declared.field.Field.TheVariants as fields
+use Rattle.of_layers.specs.declared.field.TheConstants.Field as constants
+use Rattle.of_oxm.specs.declared.match_field.MatchField.{MatchField}
+use Rattle.of_ovs_words.specs.declared.why.Why.{Why}
+use Rattle.of_ovs_words.specs.declared.why.Why.TheVariants as whys
+use Rattle.of_ovs_words.specs.declared.protocol_word.ProtocolWord.{ProtocolWord}
+use Rattle.of_ovs_words.specs.declared.field_word.FieldWord.{FieldWord}
+use Rattle.of_ovs_words.specs.declared.field_word.Form.{Form}
+use Rattle.of_ovs_words.specs.declared.field_word.Form.TheVariants.{Tci}
+use Rattle.of_ovs_words.specs.Outcomes.{◌>>=◌, given, one}
+use Rattle.of_ovs_words.specs.ProtocolWords.{ethertype_of, protocol_of}
+use Rattle.of_ovs_words.specs.FieldWords.{target_of, form_of}
+use Rattle.of_ovs_words.specs.Settings.{exact, field_for, setting_in, last_of}
+use Rattle.of_ovs_words.specs.Tci.{tci_settings}
+
+abbrev pub protocol_settings : Option ℕ → List MatchField
+protocol_settings None = []
+protocol_settings (Some n) = exact fields.IpProto n ∷ []
+
+abbrev pub with_protocol : List MatchField → ProtocolWord → List ℕ → Result (List MatchField) Why
+with_protocol settings word value = if length value == 0 then Ok (settings ++ exact fields.EthType (ethertype_of word) ∷ [] ++ protocol_settings (protocol_of word)) else Err whys.Unknown
+
+abbrev pub with_setting : List MatchField → FieldWord → List ℕ → Result (List MatchField) Why
+with_setting settings word value = do
+  f ← given whys.Protocol (field_for (target_of word) settings)
+  e ← setting_in (form_of word) f value
+  Ok (settings ++ one e)
+
+abbrev pub with_tci : List MatchField → List ℕ → Result (List MatchField) Why
+with_tci settings value = tci_settings value >>= λ es. Ok (settings ++ one es.0 ++ one es.1)
+
+abbrev pub is_tci : Form → Bool
+is_tci Tci = true
+is_tci other = false
+
+unfoldable pub with_field : List MatchField → FieldWord → List ℕ → Result (List MatchField) Why
+with_field settings word value = if is_tci (form_of word) then with_tci settings value else with_setting settings word value
+
+-- the fields of a match: of each the last setting, in ascending order of number
+abbrev pub fields_of : List MatchField → List MatchField
+fields_of settings = filter_map (λ f. last_of f settings) constants.ALL

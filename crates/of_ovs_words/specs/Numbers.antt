@@ -1,0 +1,44 @@
+-- NUMBERS IN WORDS: decimal, or hexadecimal after 0x.
+use Rattle.std.specs.Prelude.{ℕ, ◌+◌, ◌-◌, ◌*◌, ◌==◌, ◌&&◌, not, nat_le, nat_lt, List, [], ◌∷◌, length, codes, Option, Some, None, if◌then◌else◌}
+use Rattle.std.specs.Str.{bytes_eq}
+use Rattle.of_lines.specs.Lines.{before, behind}
+
+-- the second step, if the first gave a value
+infixl 10 ◌>>=◌
+abbrev pub ◌>>=◌ : {A B : Type 0} → Option A → (A → Option B) → Option B
+None >>= f = None
+(Some a) >>= f = f a
+
+abbrev pub below : ℕ → ℕ → Option ℕ
+below limit n = if nat_lt n limit then Some n else None
+
+-- the value of a digit, in either case
+abbrev pub digit : ℕ → Option ℕ
+digit b =
+    if nat_le 48 b && nat_le b 57 then Some (b - 48)
+    else if nat_le 97 b && nat_le b 102 then Some (b - 87)
+    else if nat_le 65 b && nat_le b 70 then Some (b - 55)
+    else None
+
+-- the value of a digit of this base
+abbrev pub digit_in : ℕ → ℕ → Option ℕ
+digit_in base b = digit b >>= below base
+
+-- the number, below the limit, that digits of this base make, after digits of that value
+abbrev pub digits_in : ℕ → ℕ → ℕ → List ℕ → Option ℕ
+digits_in base limit v [] = Some v
+digits_in base limit v (b ∷ bs) = do
+  d ← digit_in base b
+  next ← below limit (base * v + d)
+  digits_in base limit next bs
+
+-- one digit at least
+abbrev pub some_digits : ℕ → ℕ → List ℕ → Option ℕ
+some_digits base limit [] = None
+some_digits base limit (b ∷ bs) = digits_in base limit 0 (b ∷ bs) >>= below limit
+
+abbrev pub number_in : ℕ → List ℕ → Option ℕ
+number_in limit word =
+    if bytes_eq (before 120 word) (codes "0") && not (length (behind 120 word) == 0)
+    then some_digits 16 limit (behind 120 word)
+    else some_digits 10 limit word

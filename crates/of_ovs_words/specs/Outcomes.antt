@@ -1,0 +1,25 @@
+-- What a word gives, or why it is refused.
+use Rattle.std.specs.Prelude.{ℕ, List, [], ◌∷◌, Option, Some, None, Result, Ok, Err}
+use Rattle.of_ovs_words.specs.declared.why.Why.{Why}
+use Rattle.of_ovs_words.specs.declared.why.Why.TheVariants as whys
+use Rattle.of_ovs_words.specs.Numbers.{number_in}
+
+-- the second step, if the first gave a value
+infixl 10 ◌>>=◌
+abbrev pub ◌>>=◌ : {A B E : Type 0} → Result A E → (A → Result B E) → Result B E
+(Err why) >>= f = Err why
+(Ok a) >>= f = f a
+
+-- the value, or else this is why
+abbrev pub given : {A : Type 0} → Why → Option A → Result A Why
+given why None = Err why
+given why (Some a) = Ok a
+
+-- a number below the limit
+abbrev pub numbered : ℕ → List ℕ → Result ℕ Why
+numbered limit word = given whys.Value (number_in limit word)
+
+-- an item, if there is one
+abbrev pub one : {A : Type 0} → Option A → List A
+one None = []
+one (Some a) = a ∷ []

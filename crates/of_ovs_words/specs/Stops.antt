@@ -1,0 +1,9 @@
+-- Why reading stops: memory ran out, or this is refused.
+use Rattle.std.specs.Prelude.{◌≡◌, Result, Err}
+use Rattle.of_ovs_words.specs.declared.why.Why.{Why}
+use Rattle.of_ovs_words.specs.declared.stop.Stop.{Stop}
+use Rattle.of_ovs_words.specs.declared.stop.Stop.TheVariants.{NoMemory, Refused}
+
+abbrev pub Stops : {A : Type 0} → Result A Why → Stop → Type 0
+Stops outcome NoMemory = Unit {0}
+Stops outcome (Refused why) = outcome ≡ Err why

@@ -1,0 +1,89 @@
+//! What words say of a match, one after the other.
+ghost use Rattle.std.specs.Prelude.{◌≡◌, ◌≤◌, ◌<◌, ◌++◌, ◌∷◌, [], IfOk, IfErr, OnOk, Ok, filter_map};
+ghost use Rattle.of_ovs_words.specs.Settings.{exact, last_of};
+ghost use Rattle.of_ovs_words.specs.Matches.{fields_of as fields_in, with_field, with_protocol, with_setting, with_tci};
+ghost use Rattle.of_ovs_words.specs.Stops.{Stops};
+
+use crate::field_word::{FieldWord, Form};
+use crate::lists::push_one;
+use crate::protocol_word::ProtocolWord;
+use crate::setting::{field_for, last, setting_in};
+use crate::stop::Stop;
+use crate::tci::tci_settings;
+use crate::why::Why;
+use of_layers::Field;
+use of_oxm::MatchField;
+use std::alloc::{AllocError, Global};
+
+fn push_exact(settings: &mut Vec<MatchField>, field: Field, value: u128) -> Result<(), AllocError>
+    ensures { OnOk result (settings.new.items ≡ settings.old.items ++ exact field value ∷ []) }
+{
+    settings.push(MatchField {
+        field,
+        value,
+        mask: None,
+    })?;
+    Ok(())
+}
+
+/// Appends what a word for a protocol says.
+pub fn set_protocol(
+    settings: &mut Vec<MatchField>,
+    word: ProtocolWord,
+    value: &[u8],
+) -> Result<(), Stop>
+    ensures added { IfOk result (λ _. with_protocol settings.old.items word value.now ≡ Ok settings.new.items) }
+    ensures stopped { IfErr result (Stops (with_protocol settings.old.items word value.now)) }
+{
+    if !value.is_empty() {
+        return Err(Stop::Refused(Why::Unknown));
+    }
+    push_exact(settings, Field::EthType, u128::from(word.ethertype()))?;
+    if let Some(number) = word.protocol() {
+        push_exact(settings, Field::IpProto, u128::from(number))?;
+    }
+    Ok(())
+}
+
+fn set_one(settings: &mut Vec<MatchField>, word: FieldWord, value: &[u8]) -> Result<(), Stop>
+    ensures added { IfOk result (λ _. with_setting settings.old.items word value.now ≡ Ok settings.new.items) }
+    ensures stopped { IfErr result (Stops (with_setting settings.old.items word value.now)) }
+{
+    let field = field_for(word.target(), settings).ok_or(Why::Protocol)?;
+    let setting = setting_in(word.form(), field, value)?;
+    push_one(settings, setting)?;
+    Ok(())
+}
+
+fn set_tci(settings: &mut Vec<MatchField>, value: &[u8]) -> Result<(), Stop>
+    ensures added { IfOk result (λ _. with_tci settings.old.items value.now ≡ Ok settings.new.items) }
+    ensures stopped { IfErr result (Stops (with_tci settings.old.items value.now)) }
+{
+    let (vid, pcp) = tci_settings(value)?;
+    push_one(settings, vid)?;
+    push_one(settings, pcp)?;
+    Ok(())
+}
+
+/// Appends what a word for a field says.
+#[tactic(auto, unfolding(crate::specs::Matches::with_field))]
+pub fn set_field(settings: &mut Vec<MatchField>, word: FieldWord, value: &[u8]) -> Result<(), Stop>
+    ensures added { IfOk result (λ _. with_field settings.old.items word value.now ≡ Ok settings.new.items) }
+    ensures stopped { IfErr result (Stops (with_field settings.old.items word value.now)) }
+{
+    if word.form() == Form::Tci {
+        set_tci(settings, value)
+    } else {
+        set_one(settings, word, value)
+    }
+}
+
+/// The fields of a match: of each the last setting, in ascending order of number.
+pub fn fields_of(alloc: Global, settings: &[MatchField]) -> Result<Vec<MatchField>, AllocError>
+    ensures { IfOk result (λ fields. fields.items ≡ fields_in settings.now) }
+{
+    Field::ALL
+        .iter()
+        .filter_map(|field| last(settings, *field))
+        .collect(alloc)
+}
