@@ -106,9 +106,9 @@ impl<L: Lookup> Model for Engine<L> {
 
     ghost Value = { Core };
 
-    ghost view = { λ e. record { dpid = e.dpid; control = e.control; forwarding = forwarding_of e.datapath.tables e.datapath.groups e.datapath.ports e.datapath.held } };
+    ghost view = { λ e. record { dpid = e.dpid; control = e.control; forwarding = forwarding_of e.datapath } };
 
-    ghost invariant = { λ e. GroupsExist (forwarding_of e.datapath.tables e.datapath.groups e.datapath.ports e.datapath.held) };
+    ghost invariant = { λ e. GroupsExist (forwarding_of e.datapath) };
 }
 
 impl<L: Lookup> Engine<L> {
@@ -132,7 +132,7 @@ impl<L: Lookup> Engine<L> {
 
     /// The flow tables, the groups, the ports and the held frames.
     pub fn datapath(&self) -> &Datapath<L>
-        ensures { self.now.forwarding ≡ forwarding_of result.now.tables result.now.groups result.now.ports result.now.held }
+        ensures { self.now.forwarding ≡ forwarding_of result.now }
     {
         &self.datapath
     }

@@ -203,7 +203,7 @@ impl<L: Lookup> Switch<L> {
 
     /// The flow tables, the groups, the ports and the held frames (OpenFlow 1.3.5, 2), which answer what is asked of them.
     pub fn datapath(&self) -> &Datapath<L>
-        ensures { self.now.core.forwarding ≡ forwarding_of result.now.tables result.now.groups result.now.ports result.now.held }
+        ensures { self.now.core.forwarding ≡ forwarding_of result.now }
     {
         self.engine.datapath()
     }
