@@ -25,7 +25,7 @@ fn check_table<L: Lookup>(
     ensures { OnOk result (AreFindings (entries_below table switch.now.core.forwarding.tables) switch.now.core.forwarding.tables findings.old.items → AreFindings (entries_below (suc table) switch.now.core.forwarding.tables) switch.now.core.forwarding.tables findings.new.items) }
 {
     let mut place = 0;
-    for _entry in switch.entries(table) {
+    for _entry in switch.datapath().entries(table) {
         let verdict = check_entry(alloc, switch, table, place, steps)?;
         findings.push(Finding {
             table,

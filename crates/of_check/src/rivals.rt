@@ -41,7 +41,7 @@ pub fn first_cover<L: Lookup>(
     ensures none { IfNone result ((j : ℕ) → ¬ (Covers (table_at table switch.now.core.forwarding.tables).flows j place)) }
 {
     let mut at = 0;
-    for entry in switch.entries(table) {
+    for entry in switch.datapath().entries(table) {
         if is_cover(entry, at, own, place) {
             return Some(at);
         }
@@ -72,7 +72,7 @@ pub fn rivals_of<'a, L: Lookup>(
 {
     let mut rivals = Vec::new(alloc);
     let mut at = 0;
-    for entry in switch.entries(table) {
+    for entry in switch.datapath().entries(table) {
         if is_rival(entry, at, own, place, piece) {
             rivals.push(Rival { place: at, entry })?;
         }

@@ -191,7 +191,7 @@ pub fn check_entry<L: Lookup>(
     requires { table < 16 }
     ensures { IfOk result (Holds (table_at table switch.now.core.forwarding.tables).flows place) }
 {
-    let Some(own) = switch.entry(table, place) else {
+    let Some(own) = switch.datapath().entry(table, place) else {
         return Ok(Verdict::Open);
     };
     match first_cover(switch, table, place, own) {

@@ -36,7 +36,7 @@ fn wins<L: Lookup>(
     let Ok(headers) = read(frame, in_port, metadata) else {
         return false;
     };
-    match switch.winner(table, &headers.key()) {
+    match switch.datapath().winner(table, &headers.key()) {
         Some(winner) => winner == place,
         None => false,
     }

@@ -49,7 +49,7 @@ use Rattle.of_datapath.specs.Commands.{flags_of}
 use Rattle.of_datapath.specs.Configuring.{AreKeptEntries, AreKeptFrom}
 use Rattle.of_datapath.specs.Loading.{configuration_of, loaded_entry, loaded_table, loaded_tables, flow_kept, entry_text, table_text, texts_from}
 use Rattle.of_buffers.specs.Buffers.{HeldFrames}
-use Rattle.of_datapath.specs.Numbers.{forwarding_of}
+use Rattle.of_datapath.specs.Numbers.{without_numbers}
 use Rattle.of_datapath.specs.Standing.{names_existing_groups, all_name_existing_groups, is_numbered, GroupsExist}
 use Rattle.of_datapath.proofs.StandingLemmas.{absent_mapped}
 
@@ -367,7 +367,7 @@ texts_length : (k : ℕ) (ts : List Table) → length (texts_from k ts) ≡ leng
 texts_length k [] = refl
 texts_length k (t ∷ ts) = ap suc (texts_length (suc k) ts)
 
-pub kept_config : (n : NumberedTables) (gs : List Group) (ports : List Port) (held : HeldFrames) (groups : List TextGroup) (tables : List (List TextFlow)) → length n.tables ≡ 16 → ((k : ℕ) → AreSound k (table_at k (tables_of n)).flows) → AreSoundGroups gs → GroupsExist (forwarding_of n gs ports held)
+pub kept_config : (n : NumberedTables) (gs : List Group) (ports : List Port) (held : HeldFrames) (groups : List TextGroup) (tables : List (List TextFlow)) → length n.tables ≡ 16 → ((k : ℕ) → AreSound k (table_at k (tables_of n)).flows) → AreSoundGroups gs → GroupsExist (without_numbers n gs ports held)
     → groups ≡ map group_text gs → AllByRecursion Fits (rows_of_groups groups) → tables ≡ texts_from 0 (tables_of n).tables → AreKeptFrom 0 (tables_of n).tables → IsKeptConfig (record { groups = groups; tables = tables })
 kept_config n gs ports held groups tables many sound groups_sound standing g fits t kept =
     let count : length (texts_from 0 (tables_of n).tables) ≡ 16 = texts_length 0 (tables_of n).tables ∙ (length-map n.tables table_of ∙ many) in

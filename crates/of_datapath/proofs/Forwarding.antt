@@ -19,15 +19,15 @@ use Rattle.of_datapath.specs.Applying.{with_held, with_reception, without_used}
 use Rattle.of_datapath.specs.declared.reception.Reception.{Reception}
 use Rattle.of_datapath.specs.Datapath.{Forwarding, world_of, applied, forwards, all_sent, all_tallied}
 use Rattle.of_buffers.specs.Buffers.{Held, HeldFrames, given_since, hold_all, is_id, none_held, used}
-use Rattle.of_datapath.specs.Numbers.{Contents, contents, forwarding_of, numbered_world, place_in, all_placed}
+use Rattle.of_datapath.specs.Numbers.{Contents, contents, without_numbers, numbered_world, place_in, all_placed}
 use Rattle.of_datapath.proofs.Worlds.{AreDistinct, renumbered_world}
 
 -- what is done by places, of a run by numbers
 by_places : (heard : AsyncConfig) (seen : List Port) (p : Packet) (work : List Work) (t : NumberedTables) (groups : List Group) (ports : List Port) (f : Forwarding) → AreDistinct t
-    → applied heard seen (run_of (world_of (forwarding_of t groups ports none_held)) p work) f ≡ applied heard seen (renumbered (place_in t) (run_of (numbered_world t groups ports) p work)) f
+    → applied heard seen (run_of (world_of (without_numbers t groups ports none_held)) p work) f ≡ applied heard seen (renumbered (place_in t) (run_of (numbered_world t groups ports) p work)) f
 by_places heard seen p work t groups ports f distinct =
     ap (λ (m : Machine). applied heard seen m f)
-    (run_is_renumbered (place_in t) (numbered_world t groups ports) (world_of (forwarding_of t groups ports none_held)) (renumbered_world t groups ports distinct) p work)
+    (run_is_renumbered (place_in t) (numbered_world t groups ports) (world_of (without_numbers t groups ports none_held)) (renumbered_world t groups ports distinct) p work)
 
 -- what a run by numbers gives and counts
 pub way_is : (heard : AsyncConfig) (p packet : Packet) (work : List Work) (t : NumberedTables) (groups : List Group) (ports : List Port) (items : List Item) (counts : List Count) (effects : List Effect) (seen : List Port) (next : ℕ) (before after : Forwarding)
@@ -39,7 +39,7 @@ pub way_is : (heard : AsyncConfig) (p packet : Packet) (work : List Work) (t : N
     → next ≡ before.held.next
     → effects ≡ each_told heard next (given heard seen items)
     → after ≡ all_sent effects (all_tallied (all_placed t counts) (record before { held = hold_all (flat_map (frames_for heard) (given heard seen items)) before.held }))
-    → applied heard ports (run_of (world_of (forwarding_of t groups ports none_held)) p work) before ≡ forwards effects after
+    → applied heard ports (run_of (world_of (without_numbers t groups ports none_held)) p work) before ≡ forwards effects after
 way_is heard p packet work t groups ports items counts effects seen next before after distinct enters is_items is_counts same id told ends =
     let m = run_of (numbered_world t groups ports) p work in
     let the_items : items ≡ m.items = is_items ∙ ap (λ (q : Packet). (run_of (numbered_world t groups ports) q work).items) enters in
@@ -64,14 +64,14 @@ pub went : (heard : AsyncConfig) (p packet : Packet) (work : List Work) (t : Num
     → counts ≡ (run_of (numbered_world t groups ports) packet work).counts
     → mid ≡ contents t groups ports held
     → held.next ≡ before.held.next
-    → ((frames : List Held) → with_held id frames (with_reception reception (forwarding_of t groups ports held)) ≡ record before { held = hold_all frames before.held })
+    → ((frames : List Held) → with_held id frames (with_reception reception (without_numbers t groups ports held)) ≡ record before { held = hold_all frames before.held })
     → effects ≡ each_told heard mid.held.next (given heard mid.ports items)
-    → after ≡ all_sent effects (all_tallied (all_placed mid.tables counts) (with_held id (flat_map (frames_for heard) (given heard mid.ports items)) (with_reception reception (forwarding_of mid.tables mid.groups mid.ports mid.held))))
-    → applied heard ports (run_of (world_of (forwarding_of t groups ports none_held)) p work) before ≡ forwards effects after
+    → after ≡ all_sent effects (all_tallied (all_placed mid.tables counts) (with_held id (flat_map (frames_for heard) (given heard mid.ports items)) (with_reception reception (without_numbers mid.tables mid.groups mid.ports mid.held))))
+    → applied heard ports (run_of (world_of (without_numbers t groups ports none_held)) p work) before ≡ forwards effects after
 went heard p packet work t groups ports held mid items counts effects reception id before after distinct enters is_items is_counts same next begins told ends =
     let frames = flat_map (frames_for heard) (given heard mid.ports items) in
     let here : after ≡ all_sent effects (all_tallied (all_placed t counts) (record before { held = hold_all frames before.held })) =
-    ends ∙ ap (λ (k : Contents). all_sent effects (all_tallied (all_placed k.tables counts) (with_held id frames (with_reception reception (forwarding_of k.tables k.groups k.ports k.held))))) same
+    ends ∙ ap (λ (k : Contents). all_sent effects (all_tallied (all_placed k.tables counts) (with_held id frames (with_reception reception (without_numbers k.tables k.groups k.ports k.held))))) same
     ∙ ap (λ (f : Forwarding). all_sent effects (all_tallied (all_placed t counts) f)) (begins frames) in
     way_is heard p packet work t groups ports items counts effects mid.ports mid.held.next before after distinct enters is_items is_counts (ap (λ (k : Contents). k.ports) same) (ap (λ (k : Contents). k.held.next) same ∙ next) told here
 

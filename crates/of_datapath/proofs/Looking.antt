@@ -25,29 +25,29 @@ use Rattle.of_ports.specs.Ports.{is_live_at, number_of}
 use Rattle.of_actions.specs.Rising.{is_ascending}
 use Rattle.of_datapath.specs.Datapath.{world_of, winner_in, flow_in}
 use Rattle.of_buffers.specs.Buffers.{none_held}
-use Rattle.of_datapath.specs.Numbers.{forwarding_of, entries_at}
+use Rattle.of_datapath.specs.Numbers.{without_numbers, entries_at}
 use Rattle.of_datapath.proofs.GroupWorlds.{are_buckets}
 use Rattle.of_datapath.proofs.Worlds.{AreFit, table_is, flow_some, flow_none, flow_fit, both}
 
 module _ (n : NumberedTables) (groups : List Group) (ports : List Port) where
   -- the winner and the flow of a place, by the entries
-  pub winner_is : (t : ℕ) (fields : Field → Option ℕ) → winner_in (forwarding_of n groups ports none_held) t fields ≡ winner_place fields (flows_of (entries_at n t))
+  pub winner_is : (t : ℕ) (fields : Field → Option ℕ) → winner_in (without_numbers n groups ports none_held) t fields ≡ winner_place fields (flows_of (entries_at n t))
   winner_is t fields = ap (λ (x : Table). winner_place fields x.flows) (table_is n t)
 
-  pub flow_is : (t place : ℕ) → flow_in (forwarding_of n groups ports none_held) t place ≡ flow_at place (flows_of (entries_at n t))
+  pub flow_is : (t place : ℕ) → flow_in (without_numbers n groups ports none_held) t place ≡ flow_at place (flows_of (entries_at n t))
   flow_is t place = ap (λ (x : Table). flow_at place x.flows) (table_is n t)
 
-  there : (t : ℕ) (fields : Field → Option ℕ) (place : ℕ) → winner_in (forwarding_of n groups ports none_held) t fields ≡ Some place → flow_in (forwarding_of n groups ports none_held) t place ≢ None
+  there : (t : ℕ) (fields : Field → Option ℕ) (place : ℕ) → winner_in (without_numbers n groups ports none_held) t fields ≡ Some place → flow_in (without_numbers n groups ports none_held) t place ≢ None
   there t fields place h none =
       let es = entries_at n t in
       let within = winner_within fields es place (sym (winner_is t fields) ∙ h) in
       flow_some place (flows_of es) (omega (arith, within, length-map es entry_of)) (sym (flow_is t place) ∙ none)
 
-  fit_here : AreFit n → (t place : ℕ) (f : Flow) → flow_in (forwarding_of n groups ports none_held) t place ≡ Some f → (are_kept f.instructions ≡ true) × (are_for t f.instructions ≡ true)
+  fit_here : AreFit n → (t place : ℕ) (f : Flow) → flow_in (without_numbers n groups ports none_held) t place ≡ Some f → (are_kept f.instructions ≡ true) × (are_for t f.instructions ≡ true)
   fit_here fit t place f e = both (are_kept f.instructions) (are_for t f.instructions) (flow_fit t place (table_at t (tables_of n)).flows f (fit t).fit e)
 
   -- the invariants of the world by places
-  pub sound_by_places : AreFit n → AreSoundGroups groups → is_ascending number_of ports ≡ true → IsSound (world_of (forwarding_of n groups ports none_held))
+  pub sound_by_places : AreFit n → AreSoundGroups groups → is_ascending number_of ports ≡ true → IsSound (world_of (without_numbers n groups ports none_held))
   sound_by_places fit sound rising = record {
     rising = rising;
     found = λ t fields place h. there t fields place h;
@@ -56,11 +56,11 @@ module _ (n : NumberedTables) (groups : List Group) (ports : List Port) where
     short = λ g. chain_at_most groups g sound.short;
     chained = λ g places e. (groups_serve groups (is_live_at ports) g places sound e).chained;
     few = λ g places e. (groups_serve groups (is_live_at ports) g places sound e).few;
-    buckets = λ g places e. are_buckets (world_of (forwarding_of n groups ports none_held)) groups (λ g. refl) (λ g place. refl) g places (groups_serve groups (is_live_at ports) g places sound e).buckets;
+    buckets = λ g places e. are_buckets (world_of (without_numbers n groups ports none_held)) groups (λ g. refl) (λ g place. refl) g places (groups_serve groups (is_live_at ports) g places sound e).buckets;
   }
 
   -- a flow that exists is in one of the sixteen tables
-  pub is_table_by_place : (t place : ℕ) → length n.tables ≡ 16 → flow_in (forwarding_of n groups ports none_held) t place ≢ None → t < 16
+  pub is_table_by_place : (t place : ℕ) → length n.tables ≡ 16 → flow_in (without_numbers n groups ports none_held) t place ≢ None → t < 16
   is_table_by_place t place sixteen h = elim (cases_lt t 16) [
     | inl lt ↦ lt
     | inr le ↦ absurd (h (flow_is t place ∙ past (ap (λ (x : Numbered). x.entries) (get_or_past n.tables t no_entries (omega (arith, le, sixteen))))))
@@ -70,7 +70,7 @@ module _ (n : NumberedTables) (groups : List Group) (ports : List Port) where
       past e = ap (λ (es : List Entry). flow_at place (flows_of es)) e ∙ flow_none place [] (omega arith)
 
   -- beyond them no entry wins
-  pub no_winner_by_place : (t : ℕ) (fields : Field → Option ℕ) → length n.tables ≤ t → winner_in (forwarding_of n groups ports none_held) t fields ≡ None
+  pub no_winner_by_place : (t : ℕ) (fields : Field → Option ℕ) → length n.tables ≤ t → winner_in (without_numbers n groups ports none_held) t fields ≡ None
   no_winner_by_place t fields le =
       winner_is t fields ∙ (ap (λ (x : Numbered). winner_place fields (flows_of x.entries)) (get_or_past n.tables t no_entries le))
 

@@ -30,7 +30,7 @@ use Rattle.of_ports.specs.Ports.{is_live_at, number_of}
 use Rattle.of_actions.specs.Rising.{is_ascending}
 use Rattle.of_datapath.specs.Datapath.{world_of}
 use Rattle.of_buffers.specs.Buffers.{none_held}
-use Rattle.of_datapath.specs.Numbers.{forwarding_of, entries_at, number_at, numbered_winner, numbered_flow, numbered_world, place_in}
+use Rattle.of_datapath.specs.Numbers.{without_numbers, entries_at, number_at, numbered_winner, numbered_flow, numbered_world, place_in}
 use Rattle.of_datapath.proofs.GroupWorlds.{are_buckets}
 use Rattle.of_datapath.proofs.PlaceNumbers.{itself, number_at_place, place_of_number}
 
@@ -61,7 +61,7 @@ pub table_is : (n : NumberedTables) (t : ℕ) → table_at t (tables_of n) ≡ t
 table_is n t = get_or-map table_of n.tables t no_entries
 
 -- the two worlds are one but for the numbers
-pub renumbered_world : (n : NumberedTables) (groups : List Group) (ports : List Port) → AreDistinct n → IsRenumbered (place_in n) (numbered_world n groups ports) (world_of (forwarding_of n groups ports none_held))
+pub renumbered_world : (n : NumberedTables) (groups : List Group) (ports : List Port) → AreDistinct n → IsRenumbered (place_in n) (numbered_world n groups ports) (world_of (without_numbers n groups ports none_held))
 renumbered_world n groups ports distinct = record {
   ports = refl;
   winner = λ t fields. ap (λ (x : Table). winner_place fields x.flows) (table_is n t) ∙ same_place (entries_at n t) fields (winner_place fields (flows_of (entries_at n t))) (distinct t) refl;

@@ -18,10 +18,11 @@ use Rattle.of_machine.specs.TheWorld.{TheWorld}
 use Rattle.of_machine.specs.Renumbering.{renumbered_count}
 use Rattle.of_ports.specs.Ports.{is_live_at}
 use Rattle.of_datapath.specs.Datapath.{Forwarding}
+use Rattle.of_datapath.specs.declared.datapath.Datapath.{Datapath}
 
 -- without the numbers
-abbrev pub forwarding_of : NumberedTables → List Group → List Port → HeldFrames → Forwarding
-forwarding_of n groups ports held = record { tables = tables_of n; groups = groups; ports = ports; held = held }
+abbrev pub without_numbers : NumberedTables → List Group → List Port → HeldFrames → Forwarding
+without_numbers n groups ports held = record { tables = tables_of n; groups = groups; ports = ports; held = held }
 
 -- with them
 pub record Contents : Type 0 where
@@ -32,6 +33,13 @@ pub record Contents : Type 0 where
 
 abbrev pub contents : NumberedTables → List Group → List Port → HeldFrames → Contents
 contents n groups ports held = record { tables = n; groups = groups; ports = ports; held = held }
+
+-- what a datapath holds: without the numbers, and with them
+abbrev pub forwarding_of : {L : Type 0} → Datapath L → Forwarding
+forwarding_of d = without_numbers d.tables d.groups d.ports d.held
+
+abbrev pub contents_of : {L : Type 0} → Datapath L → Contents
+contents_of d = contents d.tables d.groups d.ports d.held
 
 -- the entries of a table
 abbrev pub entries_at : NumberedTables → ℕ → List Entry

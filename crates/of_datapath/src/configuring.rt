@@ -76,8 +76,8 @@ fn groups_text(alloc: Global, groups: &[Group]) -> Result<Vec<GroupText>, AllocE
 
 /// The configuration of the tables and groups, without counters and times; each group that an entry names has to exist. It fails only if memory runs out.
 pub fn config_from<L: Lookup>(alloc: Global, datapath: &Datapath<L>) -> Result<Config, AllocError>
-    requires { GroupsExist (forwarding_of datapath.now.tables datapath.now.groups datapath.now.ports datapath.now.held) }
-    ensures { IfOk result (λ config. config ≡ configuration_of (forwarding_of datapath.now.tables datapath.now.groups datapath.now.ports datapath.now.held)) }
+    requires { GroupsExist (forwarding_of datapath.now) }
+    ensures { IfOk result (λ config. config ≡ configuration_of (forwarding_of datapath.now)) }
 {
     datapath.tables.known();
     let flows = tables_text(alloc, &datapath.tables)?;

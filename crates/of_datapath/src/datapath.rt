@@ -13,7 +13,7 @@ ghost use Rattle.of_buffers.specs.Buffers.{last_id};
 ghost use Rattle.of_datapath.specs.Told.{each_told, frames_for, given};
 ghost use Rattle.of_datapath.specs.Applying.{with_held, with_reception, without_used};
 ghost use Rattle.of_datapath.specs.Datapath.{all_sent, all_tallied, forwards, framed, idle, received, sent, tallied, through, without_held};
-ghost use Rattle.of_datapath.specs.Numbers.{Contents, all_placed, contents, forwarding_of, numbered_world, place_in, placed};
+ghost use Rattle.of_datapath.specs.Numbers.{Contents, all_placed, contents_of, forwarding_of, numbered_world, place_in, placed};
 
 use crate::commands::notices;
 use crate::control::AsyncConfig;
@@ -53,7 +53,7 @@ impl<L: Lookup> World for Datapath<L> {
 
     ghost Content = { Contents };
 
-    ghost content = { λ p. contents p.tables p.groups p.ports p.held };
+    ghost content = { λ p. contents_of p };
 
     fn find(&mut self, table: u8, key: &FieldKey) -> Option<usize> {
         self.tables.known();
@@ -91,7 +91,7 @@ impl<L: Lookup> World for Datapath<L> {
 impl<L: Lookup> Datapath<L> {
     /// Without flows, groups, ports and held frames.
     pub fn new(alloc: Global) -> Result<Self, AllocError>
-        ensures { IfOk result (λ p. forwarding_of p.tables p.groups p.ports p.held ≡ idle) }
+        ensures { IfOk result (λ p. forwarding_of p ≡ idle) }
     {
         Ok(Datapath {
             tables: FlowTables::new(alloc)?,
@@ -109,8 +109,8 @@ impl<L: Lookup> Datapath<L> {
         number: u32,
         bytes: &[u8],
     ) -> Result<Effects, AllocError>
-        ensures ok { IfOk result (λ effects. framed heard number bytes.now (forwarding_of self.old.tables self.old.groups self.old.ports self.old.held) ≡ forwards effects.items (forwarding_of self.new.tables self.new.groups self.new.ports self.new.held)) }
-        ensures err { OnErr result (contents self.new.tables self.new.groups self.new.ports self.new.held ≡ contents self.old.tables self.old.groups self.old.ports self.old.held) }
+        ensures ok { IfOk result (λ effects. framed heard number bytes.now (forwarding_of self.old) ≡ forwards effects.items (forwarding_of self.new)) }
+        ensures err { OnErr result (contents_of self.new ≡ contents_of self.old) }
     {
         let Some(port) = self.ports.port(number) else {
             return Ok(Effects::new(alloc));
@@ -136,8 +136,8 @@ impl<L: Lookup> Datapath<L> {
     ) -> Result<Effects, AllocError>
         requires long { 14 ≤ length bytes.now }
         requires most { length bytes.now ≤ 9216 }
-        ensures ok { IfOk result (λ effects. received heard number bytes.now (forwarding_of self.old.tables self.old.groups self.old.ports self.old.held) ≡ forwards effects.items (forwarding_of self.new.tables self.new.groups self.new.ports self.new.held)) }
-        ensures err { OnErr result (contents self.new.tables self.new.groups self.new.ports self.new.held ≡ contents self.old.tables self.old.groups self.old.ports self.old.held) }
+        ensures ok { IfOk result (λ effects. received heard number bytes.now (forwarding_of self.old) ≡ forwards effects.items (forwarding_of self.new)) }
+        ensures err { OnErr result (contents_of self.new ≡ contents_of self.old) }
     {
         self.tables.known();
         let packet = Packet::new(PacketFrame::new(bytes), number);
@@ -162,8 +162,8 @@ impl<L: Lookup> Datapath<L> {
         requires long { 14 ≤ length bytes.now }
         requires most { length bytes.now ≤ 9216 }
         requires served { IsTrue (are_supported true actions.now) }
-        ensures ok { IfOk result (λ effects. through heard (entering bytes.now in_port) (acts actions.now) (forwarding_of self.old.tables self.old.groups self.old.ports (without_used used self.old.held)) ≡ forwards effects.items (forwarding_of self.new.tables self.new.groups self.new.ports self.new.held)) }
-        ensures err { OnErr result (contents self.new.tables self.new.groups self.new.ports self.new.held ≡ contents self.old.tables self.old.groups self.old.ports self.old.held) }
+        ensures ok { IfOk result (λ effects. through heard (entering bytes.now in_port) (acts actions.now) (record (forwarding_of self.old) { held = without_used used self.old.held }) ≡ forwards effects.items (forwarding_of self.new)) }
+        ensures err { OnErr result (contents_of self.new ≡ contents_of self.old) }
     {
         self.tables.known();
         let packet = Packet::new(PacketFrame::new(bytes), in_port);
@@ -182,8 +182,8 @@ impl<L: Lookup> Datapath<L> {
     ) -> Result<Effects, AllocError>
         requires long { 14 ≤ length bytes.now }
         requires most { length bytes.now ≤ 9216 }
-        ensures ok { IfOk result (λ effects. through heard (entering bytes.now ingress) (LookUp 0 ∷ []) (without_held id (forwarding_of self.old.tables self.old.groups self.old.ports self.old.held)) ≡ forwards effects.items (forwarding_of self.new.tables self.new.groups self.new.ports self.new.held)) }
-        ensures err { OnErr result (contents self.new.tables self.new.groups self.new.ports self.new.held ≡ contents self.old.tables self.old.groups self.old.ports self.old.held) }
+        ensures ok { IfOk result (λ effects. through heard (entering bytes.now ingress) (LookUp 0 ∷ []) (without_held id (forwarding_of self.old)) ≡ forwards effects.items (forwarding_of self.new)) }
+        ensures err { OnErr result (contents_of self.new ≡ contents_of self.old) }
     {
         self.tables.known();
         let packet = Packet::new(PacketFrame::new(bytes), ingress);
@@ -203,8 +203,8 @@ impl<L: Lookup> Datapath<L> {
         requires { AllShort 65485 outcome.items.items }
         ensures ok { IfOk result (λ effects.
             (effects.items ≡ each_told heard self.old.held.next (given heard self.old.ports outcome.items.items))
-            × (forwarding_of self.new.tables self.new.groups self.new.ports self.new.held ≡ all_sent effects.items (all_tallied (all_placed self.old.tables outcome.counts.items) (with_held used (flat_map (frames_for heard) (given heard self.old.ports outcome.items.items)) (with_reception reception (forwarding_of self.old.tables self.old.groups self.old.ports self.old.held)))))) }
-        ensures err { OnErr result (contents self.new.tables self.new.groups self.new.ports self.new.held ≡ contents self.old.tables self.old.groups self.old.ports self.old.held) }
+            × (forwarding_of self.new ≡ all_sent effects.items (all_tallied (all_placed self.old.tables outcome.counts.items) (with_held used (flat_map (frames_for heard) (given heard self.old.ports outcome.items.items)) (with_reception reception (forwarding_of self.old)))))) }
+        ensures err { OnErr result (contents_of self.new ≡ contents_of self.old) }
     {
         let Outcome { items, counts } = outcome;
         let told = told_from(alloc, heard, &self.ports, self.held.next_id(), items)?;
@@ -252,7 +252,7 @@ impl<L: Lookup> Datapath<L> {
     /// Removes entries, and returns the notices.
     pub fn carry_out(&mut self, removal: Removal) -> Effects
         ensures notices { result.items ≡ removal.notices.items }
-        ensures forwarding { forwarding_of self.new.tables self.new.groups self.new.ports self.new.held ≡ record (forwarding_of self.old.tables self.old.groups self.old.ports self.old.held) { tables = left_in removal.cause (tables_of self.old.tables) } }
+        ensures forwarding { forwarding_of self.new ≡ record (forwarding_of self.old) { tables = left_in removal.cause (tables_of self.old.tables) } }
     {
         self.tables.remove(&removal.cause);
         removal.notices
@@ -260,7 +260,7 @@ impl<L: Lookup> Datapath<L> {
 
     // Counts the reception of a frame.
     fn count_reception(&mut self, reception: Option<Reception>)
-        ensures forwarding { forwarding_of self.new.tables self.new.groups self.new.ports self.new.held ≡ with_reception reception (forwarding_of self.old.tables self.old.groups self.old.ports self.old.held) }
+        ensures forwarding { forwarding_of self.new ≡ with_reception reception (forwarding_of self.old) }
         ensures numbers { self.new.tables ≡ self.old.tables }
     {
         if let Some(Reception { port, what }) = reception {
@@ -270,7 +270,7 @@ impl<L: Lookup> Datapath<L> {
 
     // A held frame is used, and others are held.
     fn hold(&mut self, used: Option<u32>, frames: Vec<HeldFrame>)
-        ensures forwarding { forwarding_of self.new.tables self.new.groups self.new.ports self.new.held ≡ with_held used frames.items (forwarding_of self.old.tables self.old.groups self.old.ports self.old.held) }
+        ensures forwarding { forwarding_of self.new ≡ with_held used frames.items (forwarding_of self.old) }
         ensures numbers { self.new.tables ≡ self.old.tables }
     {
         if let Some(id) = used {
@@ -283,7 +283,7 @@ impl<L: Lookup> Datapath<L> {
 
     // Counts what a run counted.
     fn tally_all(&mut self, counts: &[Count])
-        ensures { forwarding_of self.new.tables self.new.groups self.new.ports self.new.held ≡ all_tallied (all_placed self.old.tables counts.now) (forwarding_of self.old.tables self.old.groups self.old.ports self.old.held) }
+        ensures { forwarding_of self.new ≡ all_tallied (all_placed self.old.tables counts.now) (forwarding_of self.old) }
     {
         for count in counts {
             self.tally(count);
@@ -291,7 +291,7 @@ impl<L: Lookup> Datapath<L> {
     }
 
     fn tally(&mut self, count: &Count)
-        ensures forwarding { forwarding_of self.new.tables self.new.groups self.new.ports self.new.held ≡ tallied (placed self.old.tables count.now) (forwarding_of self.old.tables self.old.groups self.old.ports self.old.held) }
+        ensures forwarding { forwarding_of self.new ≡ tallied (placed self.old.tables count.now) (forwarding_of self.old) }
         ensures numbers { all_numbers self.new.tables ≡ all_numbers self.old.tables }
     {
         match *count {
@@ -312,7 +312,7 @@ impl<L: Lookup> Datapath<L> {
     }
 
     fn looked(&mut self, table: u8)
-        ensures forwarding { forwarding_of self.new.tables self.new.groups self.new.ports self.new.held ≡ record (forwarding_of self.old.tables self.old.groups self.old.ports self.old.held) { tables = looked_in table (tables_of self.old.tables) } }
+        ensures forwarding { forwarding_of self.new ≡ record (forwarding_of self.old) { tables = looked_in table (tables_of self.old.tables) } }
         ensures numbers { all_numbers self.new.tables ≡ all_numbers self.old.tables }
     {
         self.tables.known();
@@ -322,7 +322,7 @@ impl<L: Lookup> Datapath<L> {
     }
 
     fn matched(&mut self, table: u8, number: usize, bytes: usize)
-        ensures forwarding { forwarding_of self.new.tables self.new.groups self.new.ports self.new.held ≡ record (forwarding_of self.old.tables self.old.groups self.old.ports self.old.held) { tables = matched_in table (place_in self.old.tables table number) bytes (tables_of self.old.tables) } }
+        ensures forwarding { forwarding_of self.new ≡ record (forwarding_of self.old) { tables = matched_in table (place_in self.old.tables table number) bytes (tables_of self.old.tables) } }
         ensures numbers { all_numbers self.new.tables ≡ all_numbers self.old.tables }
     {
         self.tables.known();
@@ -333,7 +333,7 @@ impl<L: Lookup> Datapath<L> {
 
     // Counts what is sent.
     fn count_sent(&mut self, effects: &[Effect])
-        ensures { forwarding_of self.new.tables self.new.groups self.new.ports self.new.held ≡ all_sent effects.now (forwarding_of self.old.tables self.old.groups self.old.ports self.old.held) }
+        ensures { forwarding_of self.new ≡ all_sent effects.now (forwarding_of self.old) }
     {
         for effect in effects {
             self.count_effect(effect);
@@ -341,7 +341,7 @@ impl<L: Lookup> Datapath<L> {
     }
 
     fn count_effect(&mut self, effect: &Effect)
-        ensures { forwarding_of self.new.tables self.new.groups self.new.ports self.new.held ≡ sent effect.now (forwarding_of self.old.tables self.old.groups self.old.ports self.old.held) }
+        ensures { forwarding_of self.new ≡ sent effect.now (forwarding_of self.old) }
     {
         match effect {
             Effect::Sent { port, frame } => {

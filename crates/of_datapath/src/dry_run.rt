@@ -5,7 +5,7 @@ ghost use Rattle.of_headers.specs.FieldMap.{value};
 ghost use Rattle.of_table.specs.Entries.{entry_of, flows_of, place_of as place_of_number};
 ghost use Rattle.of_table.specs.Tables.{table_at, tables_of};
 ghost use Rattle.of_table.specs.Sound.{AreRowsOf};
-ghost use Rattle.of_datapath.specs.Numbers.{Contents, contents, forwarding_of};
+ghost use Rattle.of_datapath.specs.Numbers.{Contents, contents_of, forwarding_of};
 ghost use Rattle.of_datapath.specs.Datapath.{framed, winner_in, world_of};
 ghost use Rattle.of_datapath.specs.DryRun.{GainsPrefix, received_steps, steps_in};
 ghost use Rattle.of_machine.specs.Sound.{IsSound};
@@ -64,11 +64,11 @@ fn entry_at<'a>(entries: Entries<'a>, place: usize) -> Option<&'a Entry>
 }
 
 impl<L: Lookup> World for Looking<'_, L> {
-    ghost view = { λ w. world_of (forwarding_of w.datapath.now.tables w.datapath.now.groups w.datapath.now.ports w.datapath.now.held) };
+    ghost view = { λ w. world_of (forwarding_of w.datapath.now) };
 
     ghost Content = { Contents };
 
-    ghost content = { λ w. contents w.datapath.now.tables w.datapath.now.groups w.datapath.now.ports w.datapath.now.held };
+    ghost content = { λ w. contents_of w.datapath.now };
 
     fn find(&mut self, table: u8, key: &FieldKey) -> Option<usize> {
         self.datapath.tables.known();
@@ -108,22 +108,23 @@ impl<L: Lookup> World for Looking<'_, L> {
 }
 
 impl<L: Lookup> Datapath<L> {
-    /// The tables and the groups have the invariants that the machine needs.
+    /// The tables and the groups have the invariants that the machine needs: the instructions of entries are valid in their tables,
+    /// each winner exists, and no chain of groups has more than three (OpenFlow 1.3.5, 5.6 and 5.9).
     pub fn known_world(&self)
-        ensures { IsSound (world_of (forwarding_of self.now.tables self.now.groups self.now.ports self.now.held)) }
+        ensures { IsSound (world_of (forwarding_of self.now)) }
     {
         Looking { datapath: self }.known();
     }
 
-    /// The index by age of the entry of a table that wins for these fields (OpenFlow 1.3.5, 5.3).
+    /// The entry of a table that a packet of these fields would hit, by its index by age, from 0 (OpenFlow 1.3.5, 5.3). Nothing changes.
     pub fn winner(&self, table: u8, key: &FieldKey) -> Option<usize>
-        ensures { result ≡ winner_in (forwarding_of self.now.tables self.now.groups self.now.ports self.now.held) table (value key.now) }
+        ensures { result ≡ winner_in (forwarding_of self.now) table (value key.now) }
     {
         let mut world = Looking { datapath: self };
         world.find(table, key)
     }
 
-    /// The entry of a table at an index by age, from 0.
+    /// The entry of a table at an index by age, from 0 (OpenFlow 1.3.5, 5.2). None where there is no such entry.
     pub fn entry(&self, table: u8, place: usize) -> Option<&Entry>
         requires { table < 16 }
         ensures { option_map (λ e. entry_of e.now) result ≡ slice_get (table_at table (tables_of self.now.tables)).flows place }
@@ -131,7 +132,7 @@ impl<L: Lookup> Datapath<L> {
         entry_at(self.tables.entries(table), place)
     }
 
-    /// The entries of a table, oldest first.
+    /// The entries of a table, oldest first (OpenFlow 1.3.5, 5.2).
     pub fn entries(&self, table: u8) -> Entries<'_>
         requires { table < 16 }
         ensures flows { flows_of result ≡ (table_at table (tables_of self.now.tables)).flows }
@@ -141,7 +142,7 @@ impl<L: Lookup> Datapath<L> {
         self.tables.entries(table)
     }
 
-    /// The classifier of a table, whose rows are its entries, oldest first.
+    /// The classifier of a table: its rows are the entries of the table, oldest first (OpenFlow 1.3.5, 5.2). It takes no memory.
     pub fn part(&self, table: u8) -> &L
         requires { table < 16 }
         ensures { AreRowsOf (table_at table (tables_of self.now.tables)).flows (L.content result.now) }
@@ -149,9 +150,10 @@ impl<L: Lookup> Datapath<L> {
         self.tables.part(table)
     }
 
-    /// The places of the buckets of a group that run; None where there is no such group (OpenFlow 1.3.5, 5.6.1).
+    /// The places of the buckets of a group that run, as its ports and groups are now; None where there is no such group
+    /// (OpenFlow 1.3.5, 5.6.1).
     pub fn buckets_for(&self, group: u32) -> Option<Chosen>
-        ensures { result ≡ (world_of (forwarding_of self.now.tables self.now.groups self.now.ports self.now.held)).chosen group }
+        ensures { result ≡ (world_of (forwarding_of self.now)).chosen group }
     {
         self.groups.buckets_for(group, &self.ports)
     }
@@ -165,10 +167,10 @@ impl<L: Lookup> Datapath<L> {
         bytes: &[u8],
         log: &mut S,
     ) -> Result<Effects, AllocError>
-        ensures effects { IfOk result (λ effects. effects.items ≡ (framed heard number bytes.now (forwarding_of self.now.tables self.now.groups self.now.ports self.now.held)).effects) }
-        ensures steps { OnOk result (S.KEEPS ≡ true → S.list log.new ≡ S.list log.old ++ steps_in number bytes.now (forwarding_of self.now.tables self.now.groups self.now.ports self.now.held)) }
+        ensures effects { IfOk result (λ effects. effects.items ≡ (framed heard number bytes.now (forwarding_of self.now)).effects) }
+        ensures steps { OnOk result (S.KEEPS ≡ true → S.list log.new ≡ S.list log.old ++ steps_in number bytes.now (forwarding_of self.now)) }
         ensures bound { S.KEEPS ≡ true → length (S.list log.new) ≤ length (S.list log.old) + frame_step_bound }
-        ensures err { OnErr result (S.KEEPS ≡ true → GainsPrefix (steps_in number bytes.now (forwarding_of self.now.tables self.now.groups self.now.ports self.now.held)) (S.list log.old) (S.list log.new)) }
+        ensures err { OnErr result (S.KEEPS ≡ true → GainsPrefix (steps_in number bytes.now (forwarding_of self.now)) (S.list log.old) (S.list log.new)) }
     {
         let Some(port) = self.ports.port(number) else {
             return Ok(Effects::new(alloc));
@@ -190,10 +192,10 @@ impl<L: Lookup> Datapath<L> {
     ) -> Result<Effects, AllocError>
         requires long { 14 ≤ length bytes.now }
         requires most { length bytes.now ≤ 9216 }
-        ensures effects { IfOk result (λ effects. effects.items ≡ effects_of heard self.now.ports self.now.held (run_of (world_of (forwarding_of self.now.tables self.now.groups self.now.ports self.now.held)) (entering bytes.now number) (LookUp 0 ∷ [])).items) }
-        ensures steps { OnOk result (S.KEEPS ≡ true → S.list log.new ≡ S.list log.old ++ received_steps number bytes.now (forwarding_of self.now.tables self.now.groups self.now.ports self.now.held)) }
+        ensures effects { IfOk result (λ effects. effects.items ≡ effects_of heard self.now.ports self.now.held (run_of (world_of (forwarding_of self.now)) (entering bytes.now number) (LookUp 0 ∷ [])).items) }
+        ensures steps { OnOk result (S.KEEPS ≡ true → S.list log.new ≡ S.list log.old ++ received_steps number bytes.now (forwarding_of self.now)) }
         ensures bound { S.KEEPS ≡ true → length (S.list log.new) ≤ length (S.list log.old) + frame_step_bound }
-        ensures err { OnErr result (S.KEEPS ≡ true → GainsPrefix (received_steps number bytes.now (forwarding_of self.now.tables self.now.groups self.now.ports self.now.held)) (S.list log.old) (S.list log.new)) }
+        ensures err { OnErr result (S.KEEPS ≡ true → GainsPrefix (received_steps number bytes.now (forwarding_of self.now)) (S.list log.old) (S.list log.new)) }
     {
         let mut world = Looking { datapath: self };
         world.known();

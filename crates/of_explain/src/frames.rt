@@ -12,7 +12,7 @@ use crate::notes::{push_number_note, push_port_and_size, push_with_number};
 use of_classifier::Lookup;
 use of_headers::check_length;
 use of_machine::{Step, Steps};
-use of_ports::{Port, find_port};
+use of_ports::Port;
 use of_switch::{Effect, Switch, SwitchError};
 use of_text::{begin_note, end_note, push_note};
 use std::alloc::{AllocError, Global};
@@ -132,7 +132,8 @@ pub fn push_way<L: Lookup>(
 {
     let mut log = Steps::new(alloc);
     switch.dry_run(number, frame, &mut log)?;
-    push_arrival(out, find_port(switch.ports(), number), number, frame)?;
+    let port = switch.datapath().ports.port(number);
+    push_arrival(out, port, number, frame)?;
     push_steps(out, &log.list)?;
     Ok(())
 }

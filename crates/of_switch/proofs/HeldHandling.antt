@@ -24,7 +24,7 @@ use Rattle.of_datapath.specs.declared.effect.Effect.{Effect}
 use Rattle.of_datapath.specs.Control.{heard_of}
 use Rattle.of_datapath.specs.Commands.{commanded, commanded_by, flow_of, frame_of, has_flag, is_to_absent_group, packet_out_refusals, selector_of, unless_any, without_packet}
 use Rattle.of_datapath.specs.Applying.{without_used}
-use Rattle.of_datapath.specs.Numbers.{forwarding_of}
+use Rattle.of_datapath.specs.Numbers.{without_numbers}
 use Rattle.of_datapath.specs.Datapath.{Forwarded, Forwarding, through, without_held}
 use Rattle.of_switch.specs.State.{Core}
 use Rattle.of_switch.specs.Steps.{Done, after_command, after_packet_out, begun, does, forwarded, with_tables}
@@ -65,10 +65,10 @@ command_restored DeleteStrict m c before after put low table copy is = absurd cc
 -- with the tables as they were, so is the switch
 pub taken_back : (m : FlowMod) (c : NumberedCopy) (k k' : Core) (effects : List Effect) (dpid : ℕ) (control : Control) (before after swapped : NumberedTables) (gs : List Group) (ps : List Port) (b : HeldFrames)
     → tables_of before ≡ k.forwarding.tables → is_delete m.command ≡ false → m.table < 16 → c.table ≡ m.table → table_of c.copy ≡ table_at m.table (tables_of before)
-    → after_command m k ≡ does effects k' → record { dpid = dpid; control = control; forwarding = forwarding_of after gs ps b } ≡ k' → swapped ≡ swapped_in c after
-    → record { dpid = dpid; control = control; forwarding = forwarding_of swapped gs ps b } ≡ k
+    → after_command m k ≡ does effects k' → record { dpid = dpid; control = control; forwarding = without_numbers after gs ps b } ≡ k' → swapped ≡ swapped_in c after
+    → record { dpid = dpid; control = control; forwarding = without_numbers swapped gs ps b } ≡ k
 taken_back m c k k' effects dpid control before after swapped gs ps b here put low table copy does_is there is =
-    let now : record { dpid = dpid; control = control; forwarding = forwarding_of after gs ps b } ≡ with_tables (commanded m k.forwarding.tables) k = there ∙ ap (λ (d : Done). d.core) (sym does_is) in
+    let now : record { dpid = dpid; control = control; forwarding = without_numbers after gs ps b } ≡ with_tables (commanded m k.forwarding.tables) k = there ∙ ap (λ (d : Done). d.core) (sym does_is) in
     let tables : tables_of after ≡ commanded m (tables_of before) = ap (λ (x : Core). x.forwarding.tables) now ∙ ap (commanded m) (sym here) in
     let back : tables_of swapped ≡ k.forwarding.tables = ap tables_of is ∙ (command_restored m.command m c before after put low table copy tables ∙ here) in
     let its_dpid : dpid ≡ k.dpid = ap (λ (x : Core). x.dpid) now in

@@ -1,14 +1,10 @@
 //! What messages, frames and moments do, whatever the connection.
-ghost use Rattle.std.specs.Prelude.{◌≡◌, ◌<◌, ◌≤◌, ◌∷◌, ◌++◌, ◌+◌, [], true, false, IfOk, OnOk, OnErr, length, nat_le, map};
+ghost use Rattle.std.specs.Prelude.{◌≡◌, ◌<◌, ◌≤◌, ◌∷◌, [], true, false, IfOk, OnOk, OnErr, length, map};
 ghost use Rattle.of_wire.specs.Refusals.{first_of};
 ghost use Rattle.of_switch.specs.State.{new_core};
 ghost use Rattle.of_ports.specs.Ports.{has_port, new_port, port_at};
 ghost use Rattle.of_switch.specs.PortMods.{port_mod_refusals};
-ghost use Rattle.of_headers.specs.FieldMap.{value};
-ghost use Rattle.std.specs.Prelude.{slice_get};
-ghost use Rattle.std.specs.Option.{option_map};
-ghost use Rattle.of_table.specs.Entries.{entry_of, flows_of};
-ghost use Rattle.of_table.specs.Tables.{modified_in, left_in, notices_in, table_at};
+ghost use Rattle.of_table.specs.Tables.{modified_in, left_in, notices_in};
 ghost use Rattle.of_actions.specs.FlowCheck.{all_go_with};
 ghost use Rattle.of_actions.specs.InstructionLists.{are_for};
 ghost use Rattle.of_messages.specs.Promised.{IsSoundFlowMod, IsSoundGroupMod, IsSoundMessage, IsSoundPacket};
@@ -17,15 +13,12 @@ ghost use Rattle.of_buffers.specs.Buffers.{held};
 ghost use Rattle.of_messages.specs.Messages.{is_delete as is_delete_command};
 ghost use Rattle.of_switch.specs.Handling.{IsUnlessHeld};
 ghost use Rattle.of_datapath.specs.Commands.{add_refusals, frame_of as packet_frame, names_absent_group as naming_absent_group, packet_out_refusals, flow_mod_refusals, has_flag as with_flag, notice_effects, selector_of};
-ghost use Rattle.of_table.specs.Sound.{AreRowsOf};
-ghost use Rattle.of_machine.specs.Sound.{IsSound};
-ghost use Rattle.of_machine.specs.Weights.{frame_step_bound};
-ghost use Rattle.of_datapath.specs.Datapath.{framed, winner_in, world_of};
-ghost use Rattle.of_datapath.specs.DryRun.{GainsPrefix, steps_in};
+ghost use Rattle.of_datapath.specs.Datapath.{framed};
+ghost use Rattle.of_datapath.specs.Numbers.{forwarding_of};
 ghost use Rattle.of_groups.specs.Groups.{modified_group, new_group};
 ghost use Rattle.of_groups.specs.Faults.{add_fault, delete_fault, modify_fault};
 ghost use Rattle.of_switch.specs.GroupMods.{group_mod_fault, refused_for};
-ghost use Rattle.of_datapath.specs.Control.{heard_of, heard_while};
+ghost use Rattle.of_datapath.specs.Control.{heard_of};
 ghost use Rattle.of_datapath.specs.Roles.{generation_refusals};
 ghost use Rattle.of_datapath.specs.Statistics.{multipart_bytes, multipart_refusals};
 ghost use Rattle.of_switch.specs.Handling.{Handles};
@@ -40,22 +33,19 @@ use of_datapath::{
     asks_absent_port, config_from, flow_from, has_flag, load_tables, names_absent_group,
     which_from, write_change, write_status,
 };
-use of_groups::{Buckets, Chosen, GroupFault, GroupKind};
-use of_headers::FieldKey;
-use of_machine::StepLog;
+use of_groups::{Buckets, GroupFault, GroupKind};
 use of_messages::{
     FlowMod, FlowModCommand, GroupMod, Message, MessageBytes, MultipartRequest, NewGroup,
-    PacketData, PacketOut, PortMod, PortStatusReason, Role, RoleRequest, write_async_reply,
+    PacketData, PacketOut, PortMod, PortStatusReason, RoleRequest, write_async_reply,
     write_barrier_reply, write_config_reply, write_echo_reply, write_features_reply,
     write_role_reply,
 };
 use of_ports::Port;
-use of_session::Phase;
 use of_statistics::{
     aggregate_reply, description_reply, flow_replies, group_description_replies,
     group_features_reply, group_replies, port_description_reply, port_stats_reply, table_reply,
 };
-use of_table::{Cause, Entries, Entry, TableFault};
+use of_table::{Cause, TableFault};
 use of_text::Config;
 use of_wire::codes::{
     OFPBAC_BAD_OUT_GROUP, OFPBRC_BAD_PORT, OFPBRC_BUFFER_UNKNOWN, OFPFMFC_BAD_TABLE_ID,
@@ -117,9 +107,9 @@ impl<L: Lookup> Model for Engine<L> {
 
     ghost Value = { Core };
 
-    ghost view = { λ e. record { dpid = e.dpid; control = e.control; forwarding = forwarding_of e.datapath.tables e.datapath.groups e.datapath.ports e.datapath.held } };
+    ghost view = { λ e. record { dpid = e.dpid; control = e.control; forwarding = forwarding_of e.datapath } };
 
-    ghost invariant = { λ e. GroupsExist (forwarding_of e.datapath.tables e.datapath.groups e.datapath.ports e.datapath.held) };
+    ghost invariant = { λ e. GroupsExist (forwarding_of e.datapath) };
 }
 
 impl<L: Lookup> Engine<L> {
@@ -134,18 +124,18 @@ impl<L: Lookup> Engine<L> {
         })
     }
 
-    /// The asynchronous messages for the controller, by the phase of its connection.
-    pub fn heard(&self, phase: Phase) -> AsyncConfig
-        ensures { result ≡ heard_while phase self.now.control }
+    /// What the controller has set.
+    pub fn control(&self) -> &Control
+        ensures { result.now ≡ self.now.control }
     {
-        self.control.heard(phase)
+        &self.control
     }
 
-    /// The role of the controller.
-    pub fn role(&self) -> Role
-        ensures { result ≡ self.now.control.role }
+    /// The flow tables, the groups, the ports and the held frames.
+    pub fn datapath(&self) -> &Datapath<L>
+        ensures { self.now.forwarding ≡ forwarding_of result.now }
     {
-        self.control.role
+        &self.datapath
     }
 
     /// The connection is lost, and with it what the controller set for itself and the frames that are held for it.
@@ -154,18 +144,6 @@ impl<L: Lookup> Engine<L> {
     {
         self.control = self.control.released();
         self.datapath.held.forget();
-    }
-
-    pub fn has_port(&self, number: u32) -> bool
-        ensures { result ≡ has_port number self.now.forwarding.ports }
-    {
-        self.datapath.ports.contains(number)
-    }
-
-    pub fn has_all_ports(&self) -> bool
-        ensures { result ≡ nat_le 64 (length self.now.forwarding.ports) }
-    {
-        self.datapath.ports.is_full()
     }
 
     /// Adds a port at the latest moment. The controller receives the asynchronous messages `heard`.
@@ -237,75 +215,6 @@ impl<L: Lookup> Engine<L> {
         ensures err { OnErr result (self.new ≡ self.old) }
     {
         self.datapath.frame(self.alloc, heard, number, bytes)
-    }
-
-    /// What a frame that is received at a port would give, and its steps, with the asynchronous messages `heard`. Nothing changes.
-    pub fn dry_run<S: StepLog>(
-        &self,
-        heard: AsyncConfig,
-        number: u32,
-        bytes: &[u8],
-        log: &mut S,
-    ) -> Result<Effects, AllocError>
-        ensures effects { IfOk result (λ effects. effects.items ≡ (framed heard number bytes.now self.now.forwarding).effects) }
-        ensures steps { OnOk result (S.KEEPS ≡ true → S.list log.new ≡ S.list log.old ++ steps_in number bytes.now self.now.forwarding) }
-        ensures bound { S.KEEPS ≡ true → length (S.list log.new) ≤ length (S.list log.old) + frame_step_bound }
-        ensures err { OnErr result (S.KEEPS ≡ true → GainsPrefix (steps_in number bytes.now self.now.forwarding) (S.list log.old) (S.list log.new)) }
-    {
-        self.datapath.dry_run(self.alloc, heard, number, bytes, log)
-    }
-
-    /// The tables and the groups have the invariants that the machine needs.
-    pub fn known_world(&self)
-        ensures { IsSound (world_of self.now.forwarding) }
-    {
-        self.datapath.known_world();
-    }
-
-    /// The index by age of the entry of a table that wins for these fields.
-    pub fn winner(&self, table: u8, key: &FieldKey) -> Option<usize>
-        ensures { result ≡ winner_in self.now.forwarding table (value key.now) }
-    {
-        self.datapath.winner(table, key)
-    }
-
-    /// The entry of a table at an index by age, from 0.
-    pub fn entry(&self, table: u8, place: usize) -> Option<&Entry>
-        requires { table < 16 }
-        ensures { option_map (λ e. entry_of e.now) result ≡ slice_get (table_at table self.now.forwarding.tables).flows place }
-    {
-        self.datapath.entry(table, place)
-    }
-
-    /// The entries of a table, oldest first.
-    pub fn entries(&self, table: u8) -> Entries<'_>
-        requires { table < 16 }
-        ensures flows { flows_of result ≡ (table_at table self.now.forwarding.tables).flows }
-        ensures few { length result ≤ 4096 }
-    {
-        self.datapath.entries(table)
-    }
-
-    /// The classifier of a table, whose rows are its entries, oldest first.
-    pub fn part(&self, table: u8) -> &L
-        requires { table < 16 }
-        ensures { AreRowsOf (table_at table self.now.forwarding.tables).flows (L.content result.now) }
-    {
-        self.datapath.part(table)
-    }
-
-    /// The places of the buckets of a group that run; None where there is no such group.
-    pub fn buckets_for(&self, group: u32) -> Option<Chosen>
-        ensures { result ≡ (world_of self.now.forwarding).chosen group }
-    {
-        self.datapath.buckets_for(group)
-    }
-
-    /// The ports, in ascending order of number.
-    pub fn ports(&self) -> &[Port]
-        ensures { result.now ≡ self.now.forwarding.ports }
-    {
-        self.datapath.ports.as_slice()
     }
 
     /// Carries out a message of that transaction id, unless it is refused.

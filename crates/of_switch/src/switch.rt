@@ -6,15 +6,9 @@ ghost use Rattle.of_messages.specs.Written.{error_bytes};
 ghost use Rattle.of_session.specs.Session.{IsSound, IsWithin};
 ghost use Rattle.of_switch.specs.State.{start};
 ghost use Rattle.of_datapath.specs.DryRun.{GainsPrefix, steps_in};
-ghost use Rattle.of_headers.specs.FieldMap.{value};
-ghost use Rattle.std.specs.Prelude.{slice_get};
+ghost use Rattle.of_datapath.specs.Numbers.{forwarding_of};
 ghost use Rattle.of_machine.specs.Weights.{frame_step_bound};
-ghost use Rattle.of_table.specs.Sound.{AreRowsOf};
-ghost use Rattle.of_machine.specs.Sound.{IsSound as IsSoundWorld};
-ghost use Rattle.of_datapath.specs.Datapath.{winner_in, world_of};
-ghost use Rattle.of_table.specs.Entries.{entry_of, flows_of};
-ghost use Rattle.of_table.specs.Tables.{table_at};
-ghost use Rattle.of_switch.specs.Steps.{came, closing as closing_with, connected, does, failed_of, fed, frame_in, heard_in, lost as lost_from, moment_in, gives, next_of, port_changed, refused as refused_by};
+ghost use Rattle.of_switch.specs.Steps.{came, closing as closing_with, connected, does, failed_of, fed, frame_in, heard_in, lost as lost_from, moment_in, gives, next_of, port_changed};
 ghost use Rattle.of_switch.specs.Calls.{Call, absent_refusal, connect_refusal, feed_refusal, new_refusal, port_refusal};
 ghost use Rattle.of_switch.specs.Loading.{config_of, loaded};
 ghost use Rattle.of_switch.specs.Runs.{RunsAll, StopsWithin, reports_of};
@@ -28,14 +22,10 @@ use crate::port_change::PortChange;
 use crate::switch_error::SwitchError;
 use of_actions::is_number;
 use of_classifier::Lookup;
-use of_datapath::{AsyncConfig, Effect, Effects};
-use of_groups::Chosen;
-use of_headers::FieldKey;
+use of_datapath::{AsyncConfig, Datapath, Effect, Effects};
 use of_machine::StepLog;
 use of_messages::{MessageBytes, write_error, write_hello};
-use of_ports::Port;
 use of_session::{Next, Phase, Session};
-use of_table::{Entries, Entry};
 use of_text::Config;
 use of_wire::Code;
 use of_wire::codes::{OFPBRC_BAD_LEN, OFPHFC_INCOMPATIBLE};
@@ -145,7 +135,7 @@ impl<L: Lookup> Switch<L> {
             IfNone found (self.new ≡ self.old)) }
         ensures err { OnErr result (self.new ≡ self.old) }
     {
-        let next = self.session.next(self.engine.role())?;
+        let next = self.session.next(self.engine.control().role)?;
         let Some(effects) = self.answer(next)? else {
             return Ok(None);
         };
@@ -197,7 +187,7 @@ impl<L: Lookup> Switch<L> {
     fn heard(&self) -> AsyncConfig
         ensures { result ≡ heard_in self.now }
     {
-        self.engine.heard(self.session.phase())
+        self.engine.control().heard(self.session.phase())
     }
 
     // The ERROR that answers the next message, with its first bytes.
@@ -210,6 +200,13 @@ impl<L: Lookup> Switch<L> {
             self.alloc,
             Effect::Answer(write_error(self.alloc, xid, code, failed)?),
         )
+    }
+
+    /// The flow tables, the groups, the ports and the held frames (OpenFlow 1.3.5, 2), which answer what is asked of them.
+    pub fn datapath(&self) -> &Datapath<L>
+        ensures { self.now.core.forwarding ≡ forwarding_of result.now }
+    {
+        self.engine.datapath()
     }
 
     /// Receives a frame at a port.
@@ -238,62 +235,9 @@ impl<L: Lookup> Switch<L> {
         ensures err { IfErr result (λ e. (e ≡ SwitchError.NoMemory) ×
             (S.KEEPS ≡ true → GainsPrefix (steps_in port frame.now self.now.core.forwarding) (S.list log.old) (S.list log.new))) }
     {
-        Ok(self.engine.dry_run(self.heard(), port, frame, log)?)
-    }
-
-    /// The tables and the groups have the invariants that the machine needs: the instructions of entries are valid in their tables,
-    /// each winner exists, and no chain of groups has more than three (OpenFlow 1.3.5, 5.6 and 5.9).
-    pub fn known_world(&self)
-        ensures { IsSoundWorld (world_of self.now.core.forwarding) }
-    {
-        self.engine.known_world();
-    }
-
-    /// The entry of a table that a packet of these fields would hit, by its index by age, from 0 (OpenFlow 1.3.5, 5.3). Nothing changes.
-    pub fn winner(&self, table: u8, key: &FieldKey) -> Option<usize>
-        ensures { result ≡ winner_in self.now.core.forwarding table (value key.now) }
-    {
-        self.engine.winner(table, key)
-    }
-
-    /// The entry of a table at an index by age, from 0 (OpenFlow 1.3.5, 5.2). None where there is no such entry.
-    pub fn entry(&self, table: u8, place: usize) -> Option<&Entry>
-        requires { table < 16 }
-        ensures { option_map (λ e. entry_of e.now) result ≡ slice_get (table_at table self.now.core.forwarding.tables).flows place }
-    {
-        self.engine.entry(table, place)
-    }
-
-    /// The entries of a table, oldest first (OpenFlow 1.3.5, 5.2).
-    pub fn entries(&self, table: u8) -> Entries<'_>
-        requires { table < 16 }
-        ensures flows { flows_of result ≡ (table_at table self.now.core.forwarding.tables).flows }
-        ensures few { length result ≤ 4096 }
-    {
-        self.engine.entries(table)
-    }
-
-    /// The classifier of a table: its rows are the entries of the table, oldest first (OpenFlow 1.3.5, 5.2). It takes no memory.
-    pub fn part(&self, table: u8) -> &L
-        requires { table < 16 }
-        ensures { AreRowsOf (table_at table self.now.core.forwarding.tables).flows (L.content result.now) }
-    {
-        self.engine.part(table)
-    }
-
-    /// The places of the buckets of a group that run, as its ports and groups are now; None where there is no such group
-    /// (OpenFlow 1.3.5, 5.6.1).
-    pub fn buckets_for(&self, group: u32) -> Option<Chosen>
-        ensures { result ≡ (world_of self.now.core.forwarding).chosen group }
-    {
-        self.engine.buckets_for(group)
-    }
-
-    /// The ports, in ascending order of number (OpenFlow 1.3.5, 7.2.1).
-    pub fn ports(&self) -> &[Port]
-        ensures { result.now ≡ self.now.core.forwarding.ports }
-    {
-        self.engine.ports()
+        let heard = self.heard();
+        let datapath = self.datapath();
+        Ok(datapath.dry_run(self.alloc, heard, port, frame, log)?)
     }
 
     /// The time is this many nanoseconds, or the latest moment if that is later: expired entries are removed (OpenFlow 1.3.5, 5.5).
@@ -342,10 +286,11 @@ impl<L: Lookup> Switch<L> {
         if !is_number(number) {
             return Err(SwitchError::BadPortNumber);
         }
-        if self.engine.has_port(number) {
+        let ports = &self.datapath().ports;
+        if ports.contains(number) {
             return Err(SwitchError::PortExists);
         }
-        if self.engine.has_all_ports() {
+        if ports.is_full() {
             return Err(SwitchError::TooManyPorts);
         }
         Ok(())
@@ -358,7 +303,7 @@ impl<L: Lookup> Switch<L> {
         if !is_number(number) {
             return Err(SwitchError::BadPortNumber);
         }
-        if !self.engine.has_port(number) {
+        if !self.datapath().ports.contains(number) {
             return Err(SwitchError::NoSuchPort);
         }
         Ok(())

@@ -61,7 +61,7 @@ fn looks_at_in_port(rt: &impl Abort, rows: &[Row]) {
 fn one_row(rt: &impl Abort, alloc: Global, switch: &mut Switch<Lookups>) -> Result<(), Fail> {
     prepare(switch)?;
     same(rt, "a frame", &switch.frame(1, &FRAME)?.len(), &1);
-    looks_at_in_port(rt, &switch.part(0).rows(alloc)?);
+    looks_at_in_port(rt, &switch.datapath().part(0).rows(alloc)?);
     Ok(())
 }
 

@@ -46,11 +46,12 @@ fn why_matching<L: Lookup>(
     ensures explains { Explains (table_at table switch.now.core.forwarding.tables).flows (value key.now) place result }
     ensures is { result ≡ Some (standing (table_at table switch.now.core.forwarding.tables).flows place (entry_of entry.now) (winner_place (value key.now) (table_at table switch.now.core.forwarding.tables).flows)) }
 {
-    let winner = switch.winner(table, key)?;
+    let datapath = switch.datapath();
+    let winner = datapath.winner(table, key)?;
     if winner == place {
         return Some(Reason::Won);
     }
-    let better = switch.entry(table, winner)?;
+    let better = datapath.entry(table, winner)?;
     if entry.flow.priority < better.flow.priority {
         Some(Reason::LowerPriority(winner))
     } else {
@@ -68,7 +69,7 @@ pub fn why<L: Lookup>(switch: &Switch<L>, table: u8, key: &FieldKey, place: usiz
     ensures explains { Explains (table_at table switch.now.core.forwarding.tables).flows (value key.now) place result }
     ensures is { result ≡ reason_in (table_at table switch.now.core.forwarding.tables).flows (value key.now) place }
 {
-    let entry = switch.entry(table, place)?;
+    let entry = switch.datapath().entry(table, place)?;
     match first_difference(entry.flow.fields.fields(), key) {
         Some(field) => Some(Reason::Differs {
             field: *field,

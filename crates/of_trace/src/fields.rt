@@ -73,7 +73,7 @@ fn push_seen_field<L: Lookup>(
     requires { table < 16 }
     ensures { OnOk result (out.new.items ≡ out.old.items ++ seen_note (table_at table switch.now.core.forwarding.tables).flows (value key.now) field) }
 {
-    if looks_at(switch.entries(table), field) {
+    if looks_at(switch.datapath().entries(table), field) {
         begin_note(out)?;
         out.extend_from_slice(b"sees ")?;
         out.extend_from_slice(field.name())?;

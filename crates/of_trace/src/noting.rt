@@ -87,7 +87,7 @@ fn push_entry_notes<L: Lookup>(
     if table >= TABLES {
         return Ok(());
     }
-    match switch.entry(table, place) {
+    match switch.datapath().entry(table, place) {
         Some(entry) => push_flow_notes(out, table, &entry.flow),
         None => Ok(()),
     }
@@ -148,7 +148,10 @@ fn push_sending_notes<L: Lookup>(
     ensures { OnOk result (out.new.items ≡ out.old.items ++ sending_notes switch.now.core.forwarding sight.now action) }
 {
     match action {
-        Action::Output { port, .. } => push_output_note(out, switch.ports(), sight.ingress, port),
+        Action::Output { port, .. } => {
+            let ports = &switch.datapath().ports;
+            push_output_note(out, ports.as_slice(), sight.ingress, port)
+        }
         Action::Group(group) => push_group_notes(out, switch, group),
         _ => Ok(()),
     }

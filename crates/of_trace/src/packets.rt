@@ -81,7 +81,7 @@ fn put_action_copies<L: Lookup>(
 {
     match action {
         Action::Output { port, .. } => put_fresh(alloc, packets, sight, port),
-        Action::Group(group) => match switch.buckets_for(group) {
+        Action::Group(group) => match switch.datapath().buckets_for(group) {
             None => Ok(()),
             Some(places) => put_copies(alloc, packets, sight, places.as_slice().len()),
         },

@@ -91,7 +91,7 @@ pub fn push_reasons<L: Lookup>(
     ensures { OnOk result (out.new.items ≡ out.old.items ++ reasons_from asked table (value key.now) (table_at table switch.now.core.forwarding.tables).flows 0 (table_at table switch.now.core.forwarding.tables).flows) }
 {
     let mut place = 0;
-    for entry in switch.entries(table) {
+    for entry in switch.datapath().entries(table) {
         if asks(asked, table, entry) {
             push_reason_note(out, entry, place, why(switch, table, key, place))?;
         }

@@ -85,7 +85,7 @@ pub fn push_group_notes<L: Lookup>(
 ) -> Result<(), AllocError>
     ensures { OnOk result (out.new.items ≡ out.old.items ++ group_notes group ((world_of switch.now.core.forwarding).chosen group)) }
 {
-    let Some(places) = switch.buckets_for(group) else {
+    let Some(places) = switch.datapath().buckets_for(group) else {
         return push_number_note(out, b"there is no group", group);
     };
     if places.as_slice().is_empty() {

@@ -24,7 +24,7 @@ pub fn trace<L: Lookup>(
     ensures effects { IfOk result (λ trace. trace.effects.items ≡ (frame_in port frame.now switch.now).effects) }
     ensures err { IfErr result (λ e. e ≡ SwitchError.NoMemory) }
 {
-    switch.known_world();
+    switch.datapath().known_world();
     let mut log = Steps::new(alloc);
     let effects = switch.dry_run(port, frame, &mut log)?;
     let Steps { list } = log;

@@ -6,6 +6,7 @@ use Rattle.of_headers.specs.FieldMap.{value}
 use Rattle.of_table.specs.Table.{winner_place}
 use Rattle.of_table.specs.Tables.{table_at}
 use Rattle.of_headers.specs.Faults.{frame_fault}
+use Rattle.of_datapath.specs.Datapath.{Forwarding, winner_in}
 use Rattle.of_check.proofs.TryingLemmas.{long_enough}
 use Rattle.of_check.proofs.trying.wins.Goals as goal
 
@@ -23,5 +24,6 @@ returns-in-Some g c same =
       };
       wins =
           ap (λ (m : Field → Option ℕ). winner_place m flows) (sym c.in-Ok.ensures.key ∙ ap value (sym c.key.ensures))
+          ∙ ap (λ (f : Forwarding). winner_in f c.args.table (value c.key.result)) c.datapath.ensures
           ∙ sym c.winner.ensures ∙ c.in-Some.is ∙ ap Some place_is;
     }

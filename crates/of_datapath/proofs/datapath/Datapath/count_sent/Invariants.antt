@@ -4,4 +4,4 @@ use Rattle.of_datapath.specs.Numbers.{forwarding_of}
 use Rattle.of_datapath.proofs.datapath.Datapath.count_sent.Given as goal
 
 abbrev pub invariant-loop-effect : goal.invariant-loop-effect
-invariant-loop-effect g l = all_sent (drop l.effect-index l.effects) (forwarding_of l.self.tables l.self.groups l.self.ports l.self.held) ≡ all_sent l.effects (forwarding_of l.fn.self.tables l.fn.self.groups l.fn.self.ports l.fn.self.held)
+invariant-loop-effect g l = all_sent (drop l.effect-index l.effects) (forwarding_of l.self) ≡ all_sent l.effects (forwarding_of l.fn.self)

@@ -10,7 +10,7 @@ use Rattle.of_switch.proofs.engine.Engine.begin.Goals as goal
 pub invariant_of-self : goal.invariant_of-self
 invariant_of-self g c =
     let datapath = c.self.inside.datapath in
-    let before = forwarding_of datapath.tables datapath.groups datapath.ports datapath.held in
+    let before = forwarding_of datapath in
     called_stands c.start_held.result _ _ _ _ _ _ _ _ _ c.start_held.ensures.ok c.start_held.ensures.err (through_stands c.heard_open.result _ _ _ (held_stands (used c.args.id datapath.held) before c.self.invariant)) c.self.invariant
 
 pub returns-clause-ok : goal.returns-clause-ok

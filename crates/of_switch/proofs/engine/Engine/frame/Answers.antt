@@ -7,5 +7,5 @@ use Rattle.of_switch.proofs.engine.Engine.frame.Goals as goal
 pub invariant_of-self : goal.invariant_of-self
 invariant_of-self g c =
     let f = c.self.inside.datapath in
-    let before = forwarding_of f.tables f.groups f.ports f.held in
+    let before = forwarding_of f in
     called_stands c.frame.result (framed c.args.heard c.args.number c.args.bytes.now before) _ _ _ _ _ _ _ _ c.frame.ensures.ok c.frame.ensures.err (framed_stands c.args.heard c.args.number c.args.bytes.now before c.self.invariant) c.self.invariant

@@ -11,7 +11,7 @@ use Rattle.of_switch.proofs.engine.Engine.packet_out.Goals.{in-Buffered, in-Fram
 pub invariant_of-self-2 : goal.invariant_of-self-2
 invariant_of-self-2 g c =
     let datapath = c.self.inside.datapath in
-    let before = forwarding_of datapath.tables datapath.groups datapath.ports datapath.held in
+    let before = forwarding_of datapath in
     called_stands c.packet_out.result _ _ _ _ _ _ _ _ _ c.packet_out.ensures.ok c.packet_out.ensures.err (through_stands c.heard_open.result _ _ _ (held_stands _ before c.self.invariant)) c.self.invariant
 
 pub returns : goal.returns
