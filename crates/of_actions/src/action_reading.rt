@@ -97,5 +97,6 @@ pub fn read_actions(alloc: Global, bytes: &[u8], packet_out: bool) -> Result<Act
 
 /// No bytes spell two lists of actions, or have two codes, or both.
 pub fn one_reading()
-    ensures { (packet_out : Bool) (bytes : List ℕ) (some others : List AnAction) (o p : Option ErrorCode) → AreActions packet_out [] bytes some o → AreActions packet_out [] bytes others p → (some ≡ others) × (o ≡ p) }
+    ensures { (packet_out : Bool) (bytes : List ℕ) (some others : List AnAction) (o p : Option ErrorCode) → AreActions packet_out [] bytes some o →
+        AreActions packet_out [] bytes others p → (some ≡ others) × (o ≡ p) }
 {}

@@ -25,7 +25,8 @@ pub fn write_actions(alloc: Global, actions: &ActionList) -> Result<Vec<u8>, All
     ensures short { IfOk result (λ v. length v.items ≤ 1536) }
     // A PACKET_OUT may have each list of actions, and an instruction each that is supported there.
     ensures spelt { IfOk result (λ v. AreActions true [] v.items actions.now None) }
-    ensures spelt_where_served { IfOk result (λ v. (packet_out : Bool) → IsTrue (are_supported packet_out actions.now) → AreActions packet_out [] v.items actions.now None) }
+    ensures spelt_where_served { IfOk result (λ v. (packet_out : Bool) → IsTrue (are_supported packet_out actions.now) →
+        AreActions packet_out [] v.items actions.now None) }
 {
     let mut out = Vec::new(alloc);
     put_actions(&mut out, actions.as_slice())?;

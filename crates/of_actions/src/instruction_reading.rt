@@ -82,7 +82,9 @@ pub fn read_instructions(
 
 /// No bytes spell two lists of instructions, none that spell one have a code, and none have two.
 pub fn one_instruction_reading()
-    ensures list { (table : ℕ) (bytes : List ℕ) (some others : List AnInstruction) → SpellsInstructions table bytes some → SpellsInstructions table bytes others → some ≡ others }
-    ensures spelt { (table : ℕ) (bytes : List ℕ) (list : List AnInstruction) (code : ErrorCode) → SpellsInstructions table bytes list → ¬ IsRefused table bytes code }
+    ensures list { (table : ℕ) (bytes : List ℕ) (some others : List AnInstruction) → SpellsInstructions table bytes some →
+        SpellsInstructions table bytes others → some ≡ others }
+    ensures spelt { (table : ℕ) (bytes : List ℕ) (list : List AnInstruction) (code : ErrorCode) → SpellsInstructions table bytes list →
+        ¬ IsRefused table bytes code }
     ensures code { (table : ℕ) (bytes : List ℕ) (c d : ErrorCode) → IsRefused table bytes c → IsRefused table bytes d → c ≡ d }
 {}

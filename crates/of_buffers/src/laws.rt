@@ -6,9 +6,12 @@ ghost use Rattle.of_buffers.specs.Buffers.{Held as AHeld, HeldFrames as AreHeld,
 /// gone round.
 pub fn an_id_serves_until_used()
     ensures first { (h : AHeld) (b : AreHeld) → is_id b.next ≡ true → held b.next (hold h b) ≡ Some h }
-    ensures kept { (id : ℕ) (hs : List AHeld) (b : AreHeld) → is_id b.next ≡ true → is_id id ≡ true → given_since id b + length hs < most_held → held id (hold_all hs b) ≡ held id b }
-    ensures once { (id : ℕ) (hs : List AHeld) (b : AreHeld) → is_id b.next ≡ true → is_id id ≡ true → given_since id b + length hs < last_id → held id (hold_all hs (used id b)) ≡ None }
-    ensures given_up { (id : ℕ) (hs : List AHeld) (b : AreHeld) → is_id b.next ≡ true → is_id id ≡ true → length b.places ≤ most_held → most_held ≤ given_since id b + length hs → given_since id b + length hs < last_id → held id (hold_all hs b) ≡ None }
+    ensures kept { (id : ℕ) (hs : List AHeld) (b : AreHeld) → is_id b.next ≡ true → is_id id ≡ true → given_since id b + length hs < most_held →
+        held id (hold_all hs b) ≡ held id b }
+    ensures once { (id : ℕ) (hs : List AHeld) (b : AreHeld) → is_id b.next ≡ true → is_id id ≡ true → given_since id b + length hs < last_id →
+        held id (hold_all hs (used id b)) ≡ None }
+    ensures given_up { (id : ℕ) (hs : List AHeld) (b : AreHeld) → is_id b.next ≡ true → is_id id ≡ true → length b.places ≤ most_held →
+        most_held ≤ given_since id b + length hs → given_since id b + length hs < last_id → held id (hold_all hs b) ≡ None }
 {}
 
 /// Frames that are held one after the other have ids of their own: each that which was next when it was held.
@@ -17,8 +20,10 @@ pub fn an_id_serves_until_used()
 /// round between them.
 pub fn frames_have_ids_of_their_own()
     ensures next { (hs : List AHeld) (b : AreHeld) → is_id b.next ≡ true → is_id (hold_all hs b).next ≡ true }
-    ensures held { (first rest : List AHeld) (h : AHeld) (b : AreHeld) → is_id b.next ≡ true → length rest < most_held → held (hold_all first b).next (hold_all (first ++ h ∷ rest) b) ≡ Some h }
-    ensures distinct { (first more : List AHeld) (h : AHeld) (b : AreHeld) → is_id b.next ≡ true → length more + 1 < last_id → (hold_all (first ++ h ∷ more) b).next ≢ (hold_all first b).next }
+    ensures held { (first rest : List AHeld) (h : AHeld) (b : AreHeld) → is_id b.next ≡ true → length rest < most_held →
+        held (hold_all first b).next (hold_all (first ++ h ∷ rest) b) ≡ Some h }
+    ensures distinct { (first more : List AHeld) (h : AHeld) (b : AreHeld) → is_id b.next ≡ true → length more + 1 < last_id →
+        (hold_all (first ++ h ∷ more) b).next ≢ (hold_all first b).next }
 {}
 
 /// At most 256 frames are held.

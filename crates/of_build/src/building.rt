@@ -204,7 +204,8 @@ pub fn build_of(alloc: Global, text: &[u8]) -> Result<Vec<u8>, TextFault>
     // What is built is that of the configuration that the text spells.
     ensures built { IfOk result (λ file. BuildsOf text.now file.items) }
     // What the text spells is built, unless memory runs out.
-    ensures only { (config : Configuration) → SpellConfig (lines_of text.now) config → MatchResult result (λ file. file.items ≡ build_text config) (λ e. e ≡ TextFault.NoMemory) }
+    ensures only { (config : Configuration) → SpellConfig (lines_of text.now) config →
+        MatchResult result (λ file. file.items ≡ build_text config) (λ e. e ≡ TextFault.NoMemory) }
     // Which line is at fault.
     ensures failed { IfErr result (FailsFirst (lines_of text.now)) }
 {

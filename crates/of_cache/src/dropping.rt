@@ -30,7 +30,8 @@ fn last_of(rows: &Rows, cause: &Cause) -> Option<(Region, bool)>
 
 // The last row goes, or comes first.
 fn turn(rows: &mut Rows, cause: &Cause)
-    ensures entries { (before : List AnsweredRegion) (row : AnsweredRegion) → rows.old.entries ≡ before ++ row ∷ [] → rows.new.entries ≡ (if does_go cause.now row then before else row ∷ before) }
+    ensures entries { (before : List AnsweredRegion) (row : AnsweredRegion) → rows.old.entries ≡ before ++ row ∷ [] →
+        rows.new.entries ≡ (if does_go cause.now row then before else row ∷ before) }
     ensures capacity { rows.new.cap ≡ rows.old.cap }
 {
     let _len = rows.len();

@@ -28,7 +28,8 @@ pub fn regions_are_agreement()
 pub fn meeting_is_common_map()
     ensures common { (m : List AMatchField) (region : ARegion) → IsMatch m → IsRegion region → IsWithinBits (mask_at region.mask) → meets m region ≡ true →
         (map : AField → Option ℕ) × IsWithinBits map × Holds region map × (matches_map m map ≡ true) }
-    ensures meets { (m : List AMatchField) (region : ARegion) (map : AField → Option ℕ) → IsMatch m → Holds region map → matches_map m map ≡ true → meets m region ≡ true }
+    ensures meets { (m : List AMatchField) (region : ARegion) (map : AField → Option ℕ) → IsMatch m → Holds region map → matches_map m map ≡ true →
+        meets m region ≡ true }
 {}
 
 /// Rows that are right stay right where an entry is added, removed or renewed, but for those that go.

@@ -22,7 +22,8 @@ fn check_table<L: Lookup>(
     findings: &mut Vec<Finding>,
 ) -> Result<(), AllocError>
     requires { table < 16 }
-    ensures { OnOk result (AreFindings (entries_below table switch.now.core.forwarding.tables) switch.now.core.forwarding.tables findings.old.items → AreFindings (entries_below (suc table) switch.now.core.forwarding.tables) switch.now.core.forwarding.tables findings.new.items) }
+    ensures { OnOk result (AreFindings (entries_below table switch.now.core.forwarding.tables) switch.now.core.forwarding.tables findings.old.items →
+        AreFindings (entries_below (suc table) switch.now.core.forwarding.tables) switch.now.core.forwarding.tables findings.new.items) }
 {
     let mut place = 0;
     for _entry in switch.datapath().entries(table) {

@@ -11,10 +11,12 @@ ghost use Rattle.of_check.specs.Verdicts.{IsPacket, NeverWins, Packet, fields_of
 
 /// An entry that never wins is the winner of no packet.
 pub fn never_is_never()
-    ensures { (flows : List FlowEntry) (k : ℕ) (by : List ℕ) → NeverWins flows k by → (p : Packet) → IsPacket p → ¬ (winner_place (fields_of p) flows ≡ Some k) }
+    ensures { (flows : List FlowEntry) (k : ℕ) (by : List ℕ) → NeverWins flows k by → (p : Packet) → IsPacket p →
+        ¬ (winner_place (fields_of p) flows ≡ Some k) }
 {}
 
 /// A frame that has a field has those that stand with it in a header (OpenFlow 1.3.5, 7.2.3.7).
 pub fn fields_go_together()
-    ensures { (frame : List ℕ) (in_port metadata : ℕ) → AreBytes frame → 14 ≤ length frame → (f g : Field) → Contains (leads_to f) g → IsSome (field_map (layers_of frame) in_port metadata f) → IsSome (field_map (layers_of frame) in_port metadata g) }
+    ensures { (frame : List ℕ) (in_port metadata : ℕ) → AreBytes frame → 14 ≤ length frame → (f g : Field) → Contains (leads_to f) g →
+        IsSome (field_map (layers_of frame) in_port metadata f) → IsSome (field_map (layers_of frame) in_port metadata g) }
 {}

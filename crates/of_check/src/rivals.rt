@@ -23,7 +23,8 @@ pub struct Rival<'a> {
 
 // Whether an entry goes before another, and its match covers that one's (OpenFlow 1.3.5, 5.3 and 6.4).
 fn is_cover(entry: &Entry, at: usize, own: &Entry, place: usize) -> bool
-    ensures { IsTrue result ↔ (((own.now.flow.priority < entry.now.flow.priority) ⊎ ((entry.now.flow.priority ≡ own.now.flow.priority) × (at < place))) × (covers_match entry.now.flow.fields own.now.flow.fields ≡ true)) }
+    ensures { IsTrue result ↔ (((own.now.flow.priority < entry.now.flow.priority) ⊎ ((entry.now.flow.priority ≡ own.now.flow.priority) × (at < place))) ×
+        (covers_match entry.now.flow.fields own.now.flow.fields ≡ true)) }
 {
     goes_before(entry, at, own, place) && covers(&entry.flow.fields, &own.flow.fields)
 }

@@ -100,7 +100,8 @@ fn step<L: Lookup>(
     requires table { table < 16 }
     requires there { slice_get (table_at table switch.now.core.forwarding.tables).flows place ≡ Some (entry_of own.now) }
     requires rivals { AreRivals (table_at table switch.now.core.forwarding.tables).flows rivals.now }
-    requires left { search.old.missed ≡ false → UnderWay (table_at table switch.now.core.forwarding.tables).flows place (search.old.pieces.items ++ piece ∷ []) search.old.by.items }
+    requires left { search.old.missed ≡ false → UnderWay (table_at table switch.now.core.forwarding.tables).flows place (search.old.pieces.items ++ piece ∷ [])
+        search.old.by.items }
     ensures left { OnOk result (IsSearch (table_at table switch.now.core.forwarding.tables).flows place search.new) }
     ensures won { IfOk result (λ found. IfSome found (Holds (table_at table switch.now.core.forwarding.tables).flows place)) }
 {

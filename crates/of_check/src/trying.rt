@@ -31,7 +31,8 @@ fn wins<L: Lookup>(
     metadata: u64,
 ) -> bool
     requires { table < 16 }
-    ensures { result ≡ true → WinsWith (table_at table switch.now.core.forwarding.tables).flows place (record { frame = frame.now; in_port = in_port; metadata = metadata }) }
+    ensures { result ≡ true → WinsWith (table_at table switch.now.core.forwarding.tables).flows place
+        (record { frame = frame.now; in_port = in_port; metadata = metadata }) }
 {
     let Ok(headers) = read(frame, in_port, metadata) else {
         return false;

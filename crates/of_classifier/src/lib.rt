@@ -54,7 +54,8 @@ pub trait Lookup: Sized + Drop {
     /// agrees with the key in them.
     fn region(&self, key: &FieldKey) -> (Option<usize>, FieldMask)
         ensures answer { result.0 ≡ number_of (winner_of (content self.now) (value key.now)) }
-        ensures alike { (map : Field → Option ℕ) → Agree (mask_at result.1) map (value key.now) → winner_of (content self.now) map ≡ winner_of (content self.now) (value key.now) }
+        ensures alike { (map : Field → Option ℕ) → Agree (mask_at result.1) map (value key.now) →
+            winner_of (content self.now) map ≡ winner_of (content self.now) (value key.now) }
         ensures mask { (f : Field) → mask_at result.1 f ≡ looked (content self.now) (value key.now) f };
 
     /// The priority of the entry of that number.

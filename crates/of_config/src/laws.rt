@@ -33,7 +33,9 @@ pub fn messages_give_it_back()
 pub fn each_is_taken_or_the_first_is_named()
     ensures given { (messages : List (List ℕ)) (c : Configuration) → config_by messages ≡ Ok c → (s : State) × Takes messages greeted s × (config_of s ≡ c) }
     ensures refused { (messages : List (List ℕ)) (place : ℕ) (code : Code) → config_by messages ≡ Err (Refused place code)
-        → (m : List ℕ) × (s : State) × ComesTo messages place m s × (is_command m ≡ true) × (piece_in m s ≡ gives (Answer (error_bytes (xid_of m) code (take 64 m)) ∷ []) s) }
-    ensures no_command { (messages : List (List ℕ)) (place : ℕ) → config_by messages ≡ Err (NotACommand place) → (m : List ℕ) × (s : State) × ComesTo messages place m s × (is_command m ≡ false) }
+        → (m : List ℕ) × (s : State) × ComesTo messages place m s × (is_command m ≡ true) ×
+        (piece_in m s ≡ gives (Answer (error_bytes (xid_of m) code (take 64 m)) ∷ []) s) }
+    ensures no_command { (messages : List (List ℕ)) (place : ℕ) → config_by messages ≡ Err (NotACommand place) →
+        (m : List ℕ) × (s : State) × ComesTo messages place m s × (is_command m ≡ false) }
     ensures memory { (messages : List (List ℕ)) → config_by messages ≡ Err NoMemory → ⊥ }
 {}

@@ -93,7 +93,8 @@ fn take(switch: &mut Switch<Scan>, place: usize, message: &[u8]) -> Result<(), C
     // Whatever follows it.
     ensures goes_on { OnOk result ((later : List (List ℕ)) → config_from place (message.now ∷ later) switch.old ≡ config_from (place + 1) later switch.new) }
     ensures ready { OnOk result (IsReady switch.new) }
-    ensures failed { IfErr result (λ fault. (fault ≡ ConfigFault.NoMemory) ⊎ ((later : List (List ℕ)) → config_from place (message.now ∷ later) switch.old ≡ Err fault)) }
+    ensures failed { IfErr result (λ fault. (fault ≡ ConfigFault.NoMemory) ⊎
+        ((later : List (List ℕ)) → config_from place (message.now ∷ later) switch.old ≡ Err fault)) }
 {
     if !is_command(message) {
         return Err(ConfigFault::NotACommand { place });

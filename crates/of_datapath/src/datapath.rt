@@ -162,7 +162,8 @@ impl<L: Lookup> Datapath<L> {
         requires long { 14 ≤ length bytes.now }
         requires most { length bytes.now ≤ 9216 }
         requires served { IsTrue (are_supported true actions.now) }
-        ensures ok { IfOk result (λ effects. through heard (entering bytes.now in_port) (acts actions.now) (record (forwarding_of self.old) { held = without_used used self.old.held }) ≡ forwards effects.items (forwarding_of self.new)) }
+        ensures ok { IfOk result (λ effects. through heard (entering bytes.now in_port) (acts actions.now)
+            (record (forwarding_of self.old) { held = without_used used self.old.held }) ≡ forwards effects.items (forwarding_of self.new)) }
         ensures err { OnErr result (contents_of self.new ≡ contents_of self.old) }
     {
         self.tables.known();
@@ -182,7 +183,8 @@ impl<L: Lookup> Datapath<L> {
     ) -> Result<Effects, AllocError>
         requires long { 14 ≤ length bytes.now }
         requires most { length bytes.now ≤ 9216 }
-        ensures ok { IfOk result (λ effects. through heard (entering bytes.now ingress) (LookUp 0 ∷ []) (without_held id (forwarding_of self.old)) ≡ forwards effects.items (forwarding_of self.new)) }
+        ensures ok { IfOk result (λ effects. through heard (entering bytes.now ingress) (LookUp 0 ∷ []) (without_held id (forwarding_of self.old)) ≡
+            forwards effects.items (forwarding_of self.new)) }
         ensures err { OnErr result (contents_of self.new ≡ contents_of self.old) }
     {
         self.tables.known();
@@ -203,7 +205,9 @@ impl<L: Lookup> Datapath<L> {
         requires { AllShort 65485 outcome.items.items }
         ensures ok { IfOk result (λ effects.
             (effects.items ≡ each_told heard self.old.held.next (given heard self.old.ports outcome.items.items))
-            × (forwarding_of self.new ≡ all_sent effects.items (all_tallied (all_placed self.old.tables outcome.counts.items) (with_held used (flat_map (frames_for heard) (given heard self.old.ports outcome.items.items)) (with_reception reception (forwarding_of self.old)))))) }
+            × (forwarding_of self.new ≡ all_sent effects.items (all_tallied (all_placed self.old.tables outcome.counts.items)
+            (with_held used (flat_map (frames_for heard) (given heard self.old.ports outcome.items.items))
+            (with_reception reception (forwarding_of self.old)))))) }
         ensures err { OnErr result (contents_of self.new ≡ contents_of self.old) }
     {
         let Outcome { items, counts } = outcome;
@@ -322,7 +326,8 @@ impl<L: Lookup> Datapath<L> {
     }
 
     fn matched(&mut self, table: u8, number: usize, bytes: usize)
-        ensures forwarding { forwarding_of self.new ≡ record (forwarding_of self.old) { tables = matched_in table (place_in self.old.tables table number) bytes (tables_of self.old.tables) } }
+        ensures forwarding { forwarding_of self.new ≡ record (forwarding_of self.old)
+            { tables = matched_in table (place_in self.old.tables table number) bytes (tables_of self.old.tables) } }
         ensures numbers { all_numbers self.new.tables ≡ all_numbers self.old.tables }
     {
         self.tables.known();

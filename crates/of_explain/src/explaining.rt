@@ -23,11 +23,14 @@ pub fn explain<L: Lookup, S: Source, W: Sink>(
 ) -> Ended
     requires reads { S.reads reader.old ≡ 0 }
     requires failures { W.failures writer.old ≡ 0 }
-    ensures output { Tells (start dpid) explained result (S.answers reader.old) (S.answers reader.new) (S.ends reader.old) (S.ends reader.new) (W.taken writer.old) (W.taken writer.new) }
-    ensures done { result ≡ Ended.Done → (S.failures reader.new ≡ S.failures reader.old) × (S.ends reader.new ≡ S.ends reader.old + 1) × (W.failures writer.new ≡ 0) }
+    ensures output { Tells (start dpid) explained result (S.answers reader.old) (S.answers reader.new) (S.ends reader.old) (S.ends reader.new)
+        (W.taken writer.old) (W.taken writer.new) }
+    ensures done { result ≡ Ended.Done → (S.failures reader.new ≡ S.failures reader.old) × (S.ends reader.new ≡ S.ends reader.old + 1) ×
+        (W.failures writer.new ≡ 0) }
     ensures reads { S.reads reader.new ≤ 1000000 }
     ensures once { S.failures reader.new ≤ S.failures reader.old + 1 }
-    ensures read_fault { result ≡ Ended.ReadFault → (S.failures reader.old < S.failures reader.new) ⊎ ((S.reads reader.new ≡ 1000000) × (S.ends reader.new ≡ S.ends reader.old)) }
+    ensures read_fault { result ≡ Ended.ReadFault → (S.failures reader.old < S.failures reader.new) ⊎
+        ((S.reads reader.new ≡ 1000000) × (S.ends reader.new ≡ S.ends reader.old)) }
     ensures failed_read { S.failures reader.old < S.failures reader.new → (result ≡ Ended.ReadFault) ⊎ (result ≡ Ended.WriteFault) }
     ensures write_fault { (result ≡ Ended.WriteFault) ↔ (0 < W.failures writer.new) }
 {

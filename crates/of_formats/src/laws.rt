@@ -9,5 +9,6 @@ pub fn structs_are_read_and_written(a: &[u8], b: &[u8])
     ensures texts { (s : Struct) (ns : List ℕ) (xs : List (List ℕ)) (rest : List ℕ) → Fits s ns xs → texts s 0 (written_with s ns xs ++ rest) ≡ xs }
     ensures size { (s : Struct) (ns : List ℕ) (xs : List (List ℕ)) → Fits s ns xs → length (written_with s ns xs) ≡ size s }
     ensures fit { (s : Struct) (at : ℕ) → Fits s (numbers s at a.now) (texts s at a.now) }
-    ensures same { (s : Struct) → size s ≤ length a.now → size s ≤ length b.now → numbers s 0 a.now ≡ numbers s 0 b.now → texts s 0 a.now ≡ texts s 0 b.now → cleared s a.now ≡ cleared s b.now }
+    ensures same { (s : Struct) → size s ≤ length a.now → size s ≤ length b.now → numbers s 0 a.now ≡ numbers s 0 b.now → texts s 0 a.now ≡ texts s 0 b.now →
+        cleared s a.now ≡ cleared s b.now }
 {}

@@ -43,7 +43,8 @@ impl Headers {
 
     /// Where a field is in the frame, as [`Layout::place`] says.
     pub fn place(&self, field: Field) -> Option<Place>
-        ensures { (s : List ℕ) → 14 ≤ length s → 8 * length s < 2 ^ 64 → self.now.layout ≡ layout_of (layers_of s) → result ≡ locate field (cells (layers_of s)) }
+        ensures { (s : List ℕ) → 14 ≤ length s → 8 * length s < 2 ^ 64 → self.now.layout ≡ layout_of (layers_of s) →
+            result ≡ locate field (cells (layers_of s)) }
     {
         self.layout.place(field)
     }

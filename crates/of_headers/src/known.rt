@@ -67,7 +67,8 @@ impl Known {
     /// What is known once a VLAN tag was pushed: where the layers begin, if that was known.
     pub fn pushed(self) -> Known
         ensures places { HasPlaces self → HasPlaces result }
-        ensures known { (kind : ℕ) (s t : List ℕ) → length (layers_of s).tags + 1 < 2 ^ 64 → IsKnownOf self s → layers_of t ≡ pushed kind (layers_of s) → IsKnownOf result t }
+        ensures known { (kind : ℕ) (s t : List ℕ) → length (layers_of s).tags + 1 < 2 ^ 64 → IsKnownOf self s → layers_of t ≡ pushed kind (layers_of s) →
+            IsKnownOf result t }
     {
         match self {
             Known::Nothing => Known::Nothing,

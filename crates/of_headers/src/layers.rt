@@ -34,7 +34,8 @@ const ENDS: u32 = (1 << Field::InPort as u32)
 /// Puts the addresses of a frame without tags into a key, and what is known of its ingress port.
 pub(crate) fn add_ends(frame: &[u8], in_port: u32, metadata: u64, key: &mut FieldKey)
     requires { 12 ≤ length frame.now }
-    ensures { (f : TheField) → value key.new f ≡ option_or (look f (cells_in untagged (in_port ∷ metadata ∷ six frame.now 0 ∷ six frame.now 6 ∷ 0 ∷ []))) (value key.old f) }
+    ensures { (f : TheField) → value key.new f ≡ option_or (look f (cells_in untagged (in_port ∷ metadata ∷ six frame.now 0 ∷ six frame.now 6 ∷ 0 ∷ [])))
+        (value key.old f) }
 {
     key.numbers.present |= ENDS;
     key.numbers.in_port = in_port;
@@ -64,7 +65,8 @@ const TAG: u32 = (1 << Field::VlanVid as u32) | (1 << Field::VlanPcp as u32);
 /// Puts the fields of the outermost tag into a key.
 pub(crate) fn add_tag(frame: &[u8], key: &mut FieldKey)
     requires { 16 ≤ length frame.now }
-    ensures { (f : TheField) → value key.new f ≡ option_or (look f (cells_in tagged ((4096 + word frame.now 14 % 4096) ∷ (word frame.now 14 / 8192) ∷ []))) (value key.old f) }
+    ensures { (f : TheField) → value key.new f ≡ option_or (look f (cells_in tagged ((4096 + word frame.now 14 % 4096) ∷ (word frame.now 14 / 8192) ∷ [])))
+        (value key.old f) }
 {
     let tag = word_at(frame, 14);
     key.numbers.present |= TAG;
@@ -196,7 +198,8 @@ const IPV6: u32 = (1 << Field::IpDscp as u32)
 pub(crate) fn add_ipv6(packet: &[u8], named: usize, key: &mut FieldKey)
     requires header { 40 ≤ length packet.now }
     requires within { named < length packet.now }
-    ensures { (f : TheField) → value key.new f ≡ option_or (look f (cells_in (ipv6 (item_named IpProto 8)) (slice_set (ipv6_numbers packet.now) 5 (slice_index packet.now named)))) (value key.old f) }
+    ensures { (f : TheField) → value key.new f ≡ option_or (look f (cells_in (ipv6 (item_named IpProto 8))
+        (slice_set (ipv6_numbers packet.now) 5 (slice_index packet.now named)))) (value key.old f) }
 {
     let class = word_at(packet, 0);
     key.numbers.present |= IPV6;
@@ -211,7 +214,8 @@ pub(crate) fn add_ipv6(packet: &[u8], named: usize, key: &mut FieldKey)
 /// A field's place in an IPv6 header; what it carries is named by a byte of it, or of its last extension header.
 #[tactic(auto, unfolding(of_layers::specs::Fields::row_of))]
 pub(crate) fn ipv6_place(named: usize, field: Field) -> Option<Place>
-    ensures { (p : List ℕ) → 8 * named < 2 ^ 64 → result ≡ (if number_of field == 10 then Some (record { first = 8 * named; bits = 8 }) else locate_at 0 (number_of field) (cells_in (ipv6 (item_named IpProto 8)) (ipv6_numbers p))) }
+    ensures { (p : List ℕ) → 8 * named < 2 ^ 64 → result ≡ (if number_of field == 10 then Some (record { first = 8 * named; bits = 8 }) else locate_at 0
+        (number_of field) (cells_in (ipv6 (item_named IpProto 8)) (ipv6_numbers p))) }
 {
     match field {
         Field::IpDscp => bits_at(4, 6),

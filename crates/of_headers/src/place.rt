@@ -27,7 +27,8 @@ fn behind(at: usize, place: Option<Place>) -> Option<Place>
 impl Network {
     /// A field's place in what follows a frame's type, from there on.
     fn place(&self, field: Field) -> Option<Place>
-        ensures { (kind : ℕ) (p : List ℕ) → 8 * length p < 2 ^ 64 → self.now ≡ network_of (body_of kind p) → result ≡ locate_at 0 (number_of field) (body_cells (body_of kind p)) }
+        ensures { (kind : ℕ) (p : List ℕ) → 8 * length p < 2 ^ 64 → self.now ≡ network_of (body_of kind p) →
+            result ≡ locate_at 0 (number_of field) (body_cells (body_of kind p)) }
     {
         match *self {
             Network::Plain => None,

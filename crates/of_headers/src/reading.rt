@@ -40,7 +40,8 @@ fn add_ipv6_packet(packet: &[u8], named: usize, payload: Payload, key: &mut Fiel
 /// Puts a frame's type into a key, and the fields of what follows it.
 fn add_body(kind: u16, packet: &[u8], network: Network, key: &mut FieldKey)
     requires { network ≡ network_of (body_of kind packet.now) }
-    ensures { (f : TheField) → value key.new f ≡ option_or (look f (cells_in ether_type (kind ∷ []) ++ body_cells (body_of kind packet.now))) (value key.old f) }
+    ensures { (f : TheField) → value key.new f ≡ option_or (look f (cells_in ether_type (kind ∷ []) ++ body_cells (body_of kind packet.now)))
+        (value key.old f) }
 {
     match network {
         Network::Plain => {}

@@ -1,5 +1,6 @@
 -- THE GRAMMAR: which bytes spell which message of a controller (OpenFlow 1.3.5, 7).
 use Rattle.std.specs.Prelude.{◌≡◌, ◌≤◌, ◌<◌, ℕ, bit_and, ◌⊎◌, ⊤, Bool, true, false, List, [], ◌∷◌, ◌++◌, length, take, drop, Option, Some, None}
+use Rattle.of_wire.specs.declared.limits.TheConstants.{OFP_NO_BUFFER}
 use Rattle.of_oxm.specs.MatchGrammar.{SpellsMatch}
 use Rattle.of_actions.specs.Actions.{AreActions}
 use Rattle.of_actions.specs.FlowCheck.{all_go_with}
@@ -60,7 +61,7 @@ version other = byte 4
 
 -- OFP_NO_BUFFER
 abbrev pub no_buffer : ℕ
-no_buffer = 0xffffffff
+no_buffer = OFP_NO_BUFFER
 
 abbrev pub buffer_of : PacketData → ℕ
 buffer_of (Buffered number) = number

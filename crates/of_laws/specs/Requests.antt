@@ -1,5 +1,6 @@
 -- MULTIPART_REQUEST (OpenFlow 1.3.5, 7.3.5, struct ofp_multipart_request), and the bodies of its types.
 use Rattle.std.specs.Prelude.{◌≡◌, ◌<◌, ℕ, ◌⊎◌, ⊤, List, [], ◌∷◌, ◌++◌, Option, Some, None}
+use Rattle.of_wire.specs.declared.limits.TheConstants.{OFPP_ANY, OFPG_ALL}
 use Rattle.of_oxm.specs.declared.match_field.MatchField.{MatchField}
 use Rattle.of_oxm.specs.MatchGrammar.{SpellsMatch}
 use Rattle.of_messages.specs.declared.multipart.FlowStatsRequest.{FlowStatsRequest}
@@ -23,10 +24,10 @@ request_type PortDescription = 13
 
 -- OFPP_ANY, and OFPG_ALL
 abbrev pub any_port : ℕ
-any_port = 0xffffffff
+any_port = OFPP_ANY
 
 abbrev pub all_groups : ℕ
-all_groups = 0xfffffffc
+all_groups = OFPG_ALL
 
 abbrev pub or_all : ℕ → Option ℕ → ℕ
 or_all all None = all

@@ -37,7 +37,8 @@ pub(crate) fn act<W: World, S: StepLog>(
     requires sound { IsSound (W.view world.now) }
     requires served { IsTrue (is_supported false action) }
     requires below { IsBelow (W.view world.now) (levels + 1) action }
-    ensures ok { IfOk result (λ going. Acts (W.view world.now) S.KEEPS packet.old (ActWork action ∷ []) outcome.old (S.list log.old) going packet.new outcome.new (S.list log.new)) }
+    ensures ok { IfOk result (λ going. Acts (W.view world.now) S.KEEPS packet.old (ActWork action ∷ []) outcome.old (S.list log.old) going packet.new
+        outcome.new (S.list log.new)) }
     ensures err { OnErr result (Breaks (W.view world.now) S.KEEPS packet.old (ActWork action ∷ []) outcome.old (S.list log.old) (S.list log.new)) }
 {
     match action {
@@ -65,7 +66,8 @@ fn age<S: StepLog>(
     outcome: &mut Outcome,
     log: &mut S,
 ) -> Result<Going, AllocError>
-    ensures ok { IfOk result (λ going. (w : TheWorld) → Acts w S.KEEPS packet.old (ActWork Action.DecNwTtl ∷ []) outcome.old (S.list log.old) going packet.new outcome.new (S.list log.new)) }
+    ensures ok { IfOk result (λ going. (w : TheWorld) → Acts w S.KEEPS packet.old (ActWork Action.DecNwTtl ∷ []) outcome.old (S.list log.old) going packet.new
+        outcome.new (S.list log.new)) }
     ensures err { OnErr result ((w : TheWorld) → Breaks w S.KEEPS packet.old (ActWork Action.DecNwTtl ∷ []) outcome.old (S.list log.old) (S.list log.new)) }
 {
     frame_is_known(&packet.frame);
@@ -107,7 +109,8 @@ pub(crate) fn act_all<W: World, S: StepLog>(
     requires sound { IsSound (W.view world.now) }
     requires served { IsTrue (list_all (is_supported false) actions.now) }
     requires below { AllBelow (W.view world.now) (levels + 1) actions.now }
-    ensures ok { IfOk result (λ going. Acts (W.view world.now) S.KEEPS packet.old (acts actions.now) outcome.old (S.list log.old) going packet.new outcome.new (S.list log.new)) }
+    ensures ok { IfOk result (λ going. Acts (W.view world.now) S.KEEPS packet.old (acts actions.now) outcome.old (S.list log.old) going packet.new outcome.new
+        (S.list log.new)) }
     ensures err { OnErr result (Breaks (W.view world.now) S.KEEPS packet.old (acts actions.now) outcome.old (S.list log.old) (S.list log.new)) }
 {
     for action in actions {
@@ -131,8 +134,11 @@ fn to_group<W: World, S: StepLog>(
 ) -> Result<(), AllocError>
     requires sound { IsSound (W.view world.now) }
     requires below { (W.view world.now).chain group ≤ levels }
-    ensures ok { OnOk result ((rest : List Work) (others : List Task) → Moves (W.view world.now) S.KEEPS (point (task packet.now (ActWork (Action.Group group) ∷ rest) ∷ others) outcome.old (S.list log.old)) (point (task packet.now rest ∷ others) outcome.new (S.list log.new))) }
-    ensures err { OnErr result (Breaks (W.view world.now) S.KEEPS packet.now (ActWork (Action.Group group) ∷ []) outcome.old (S.list log.old) (S.list log.new)) }
+    ensures ok { OnOk result ((rest : List Work) (others : List Task) → Moves (W.view world.now) S.KEEPS
+        (point (task packet.now (ActWork (Action.Group group) ∷ rest) ∷ others) outcome.old (S.list log.old))
+        (point (task packet.now rest ∷ others) outcome.new (S.list log.new))) }
+    ensures err { OnErr result (Breaks (W.view world.now) S.KEEPS packet.now (ActWork (Action.Group group) ∷ []) outcome.old (S.list log.old)
+        (S.list log.new)) }
 {
     match world.chosen(group) {
         None => log.step(Step::Act(Action::Group(group))),
@@ -159,7 +165,8 @@ fn count_uses(
     bytes: usize,
     outcome: &mut Outcome,
 ) -> Result<(), AllocError>
-    ensures counts { OnOk result (outcome.new.counts.items ≡ outcome.old.counts.items ++ (Count.Group group bytes ∷ map (λ place. Count.Bucket group place bytes) places.now)) }
+    ensures counts { OnOk result (outcome.new.counts.items ≡ outcome.old.counts.items ++
+        (Count.Group group bytes ∷ map (λ place. Count.Bucket group place bytes) places.now)) }
     ensures items { OnOk result (outcome.new.items.items ≡ outcome.old.items.items) }
 {
     outcome.counts.push(Count::Group { group, bytes })?;
@@ -187,8 +194,10 @@ fn run_buckets<W: World, S: StepLog>(
     requires sound { IsSound (W.view world.now) }
     requires there { AllBuckets (W.view world.now) group places.now }
     requires below { (W.view world.now).chain group ≤ levels + 1 }
-    ensures ok { OnOk result (AllEnd (W.view world.now) S.KEEPS (copies (W.view world.now) group packet.now places.now) outcome.old (S.list log.old) outcome.new (S.list log.new)) }
-    ensures err { OnErr result (AllFail (W.view world.now) S.KEEPS (copies (W.view world.now) group packet.now places.now) outcome.old (S.list log.old) (S.list log.new)) }
+    ensures ok { OnOk result (AllEnd (W.view world.now) S.KEEPS (copies (W.view world.now) group packet.now places.now) outcome.old (S.list log.old) outcome.new
+        (S.list log.new)) }
+    ensures err { OnErr result (AllFail (W.view world.now) S.KEEPS (copies (W.view world.now) group packet.now places.now) outcome.old (S.list log.old)
+        (S.list log.new)) }
 {
     for place in places {
         let mut copy = packet.copy_without_actions();

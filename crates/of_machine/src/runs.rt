@@ -87,7 +87,8 @@ fn act_all_outside<W: World, S: StepLog>(
     requires served { IsTrue (list_all (is_supported true) actions.now) }
     ensures kept { W.view world.new ≡ W.view world.old }
     ensures content { W.content world.new ≡ W.content world.old }
-    ensures ok { IfOk result (λ going. Acts (W.view world.old) S.KEEPS packet.old (acts actions.now) outcome.old (S.list log.old) going packet.new outcome.new (S.list log.new)) }
+    ensures ok { IfOk result (λ going. Acts (W.view world.old) S.KEEPS packet.old (acts actions.now) outcome.old (S.list log.old) going packet.new outcome.new
+        (S.list log.new)) }
     ensures err { OnErr result (Breaks (W.view world.old) S.KEEPS packet.old (acts actions.now) outcome.old (S.list log.old) (S.list log.new)) }
 {
     for action in actions {
@@ -111,7 +112,8 @@ fn act_outside<W: World, S: StepLog>(
     requires served { IsTrue (is_supported true action) }
     ensures kept { W.view world.new ≡ W.view world.old }
     ensures content { W.content world.new ≡ W.content world.old }
-    ensures ok { IfOk result (λ going. Acts (W.view world.old) S.KEEPS packet.old (ActWork action ∷ []) outcome.old (S.list log.old) going packet.new outcome.new (S.list log.new)) }
+    ensures ok { IfOk result (λ going. Acts (W.view world.old) S.KEEPS packet.old (ActWork action ∷ []) outcome.old (S.list log.old) going packet.new
+        outcome.new (S.list log.new)) }
     ensures err { OnErr result (Breaks (W.view world.old) S.KEEPS packet.old (ActWork action ∷ []) outcome.old (S.list log.old) (S.list log.new)) }
 {
     if goes_to_tables(action) {
@@ -143,7 +145,9 @@ fn to_tables<W: World, S: StepLog>(
     requires table { IsTrue (is_to_tables action) }
     ensures kept { W.view world.new ≡ W.view world.old }
     ensures content { W.content world.new ≡ W.content world.old }
-    ensures ok { OnOk result ((rest : List Work) (others : List Task) → Moves (W.view world.old) S.KEEPS (point (task packet.now (ActWork action ∷ rest) ∷ others) outcome.old (S.list log.old)) (point (task packet.now rest ∷ others) outcome.new (S.list log.new))) }
+    ensures ok { OnOk result ((rest : List Work) (others : List Task) → Moves (W.view world.old) S.KEEPS
+        (point (task packet.now (ActWork action ∷ rest) ∷ others) outcome.old (S.list log.old))
+        (point (task packet.now rest ∷ others) outcome.new (S.list log.new))) }
     ensures err { OnErr result (Breaks (W.view world.old) S.KEEPS packet.now (ActWork action ∷ []) outcome.old (S.list log.old) (S.list log.new)) }
 {
     let mut copy = packet.copy_without_actions();

@@ -50,8 +50,10 @@ fn instruct<W: World, S: StepLog>(
     requires sound { IsSound (W.view world.now) }
     requires served { IsTrue (is_served_body instruction.now) }
     requires onward { IsTrue (is_for table instruction.now) }
-    ensures ok { IfOk result (λ next. (rest : List Instruction) → Follows (W.view world.now) S.KEEPS packet.old (works (instruction.now ∷ rest)) outcome.old (S.list log.old) (next_works next rest) packet.new outcome.new (S.list log.new)) }
-    ensures err { OnErr result ((rest : List Instruction) → Fails (W.view world.now) S.KEEPS packet.old (works (instruction.now ∷ rest)) outcome.old (S.list log.old) (S.list log.new)) }
+    ensures ok { IfOk result (λ next. (rest : List Instruction) → Follows (W.view world.now) S.KEEPS packet.old (works (instruction.now ∷ rest)) outcome.old
+        (S.list log.old) (next_works next rest) packet.new outcome.new (S.list log.new)) }
+    ensures err { OnErr result ((rest : List Instruction) → Fails (W.view world.now) S.KEEPS packet.old (works (instruction.now ∷ rest)) outcome.old
+        (S.list log.old) (S.list log.new)) }
     ensures up { IfOk result (λ next. IsUp table next) }
 {
     match instruction {
@@ -106,7 +108,8 @@ fn follow<W: World, S: StepLog>(
     requires sound { IsSound (W.view world.now) }
     requires served { IsTrue (list_all is_served_body instructions.now) }
     requires onward { IsTrue (are_for table instructions.now) }
-    ensures ok { IfOk result (λ then. Follows (W.view world.now) S.KEEPS packet.old (works instructions.now) outcome.old (S.list log.old) (then_works then) packet.new outcome.new (S.list log.new)) }
+    ensures ok { IfOk result (λ then. Follows (W.view world.now) S.KEEPS packet.old (works instructions.now) outcome.old (S.list log.old) (then_works then)
+        packet.new outcome.new (S.list log.new)) }
     ensures err { OnErr result (Fails (W.view world.now) S.KEEPS packet.old (works instructions.now) outcome.old (S.list log.old) (S.list log.new)) }
     ensures later { IfOk result (λ then. IsLater table then) }
 {
@@ -131,7 +134,8 @@ fn look_up<W: World, S: StepLog>(
     requires { IsSound (W.view world.old) }
     ensures kept { W.view world.new ≡ W.view world.old }
     ensures content { W.content world.new ≡ W.content world.old }
-    ensures ok { IfOk result (λ then. Follows (W.view world.old) S.KEEPS packet.old (LookupWork table ∷ []) outcome.old (S.list log.old) (then_works then) packet.new outcome.new (S.list log.new)) }
+    ensures ok { IfOk result (λ then. Follows (W.view world.old) S.KEEPS packet.old (LookupWork table ∷ []) outcome.old (S.list log.old) (then_works then)
+        packet.new outcome.new (S.list log.new)) }
     ensures err { OnErr result (Fails (W.view world.old) S.KEEPS packet.old (LookupWork table ∷ []) outcome.old (S.list log.old) (S.list log.new)) }
     ensures later { IfOk result (λ then. IsLater table then) }
 {

@@ -24,7 +24,9 @@ fn number_of(command: FlowModCommand) -> u8
 
 // The first half: cookies, table, command and timeouts.
 fn put_head(out: &mut Vec<u8>, m: &FlowMod) -> Result<(), AllocError>
-    ensures { OnOk result (out.new.items ≡ out.old.items ++ (big_bytes 8 m.now.cookie ++ (big_bytes 8 m.now.cookie_mask ++ ((m.now.table ∷ command_number m.now.command ∷ []) ++ (big_bytes 2 m.now.idle_timeout ++ big_bytes 2 m.now.hard_timeout))))) }
+    ensures { OnOk result (out.new.items ≡ out.old.items ++ (big_bytes 8 m.now.cookie ++
+        (big_bytes 8 m.now.cookie_mask ++ ((m.now.table ∷ command_number m.now.command ∷ []) ++
+        (big_bytes 2 m.now.idle_timeout ++ big_bytes 2 m.now.hard_timeout))))) }
 {
     put_u64(out, m.cookie)?;
     put_u64(out, m.cookie_mask)?;
@@ -35,7 +37,8 @@ fn put_head(out: &mut Vec<u8>, m: &FlowMod) -> Result<(), AllocError>
 
 // The second half: from the priority to the padding.
 fn put_tail(out: &mut Vec<u8>, m: &FlowMod) -> Result<(), AllocError>
-    ensures { OnOk result (out.new.items ≡ out.old.items ++ (big_bytes 2 m.now.priority ++ (big_bytes 4 m.now.buffer ++ (big_bytes 4 m.now.out_port ++ (big_bytes 4 m.now.out_group ++ (big_bytes 2 m.now.flags ++ replicate 2 0)))))) }
+    ensures { OnOk result (out.new.items ≡ out.old.items ++ (big_bytes 2 m.now.priority ++
+        (big_bytes 4 m.now.buffer ++ (big_bytes 4 m.now.out_port ++ (big_bytes 4 m.now.out_group ++ (big_bytes 2 m.now.flags ++ replicate 2 0)))))) }
 {
     put_u16(out, m.priority)?;
     put_u32(out, m.buffer)?;

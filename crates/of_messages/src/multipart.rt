@@ -98,7 +98,8 @@ fn size_of_kind(kind: MultipartKind) -> Size
 // What a request asks for, whose type, flags and length are not refused.
 fn check_multipart(message: &[u8]) -> Result<MultipartKind, Code>
     requires { 16 ≤ length message.now }
-    ensures refusal { MatchResult result (λ _. first_of (multipart_refusals message.now) ≡ None) (λ code. first_of (multipart_refusals message.now) ≡ Some code) }
+    ensures refusal { MatchResult result (λ _. first_of (multipart_refusals message.now) ≡ None)
+        (λ code. first_of (multipart_refusals message.now) ≡ Some code) }
     ensures kind { IfOk result (λ kind. kind_in message.now ≡ Some kind) }
     ensures sized { IfOk result (λ kind. IsSized (Some (size_of kind)) (length message.now)) }
 {

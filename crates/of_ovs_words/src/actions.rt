@@ -15,10 +15,11 @@ use crate::setting::{field_for, fitting_in, last};
 use crate::stop::Stop;
 use crate::why::Why;
 use crate::words::{cut_word, name_of, value_of};
-use of_actions::{Action, PORT_CONTROLLER};
+use of_actions::Action;
 use of_layers::Field;
 use of_lines::{cut, is};
 use of_oxm::MatchField;
+use of_wire::limits::OFPP_CONTROLLER;
 use std::alloc::AllocError;
 
 // The length in CONTROLLER, CONTROLLER:128 or controller(max_len=128).
@@ -41,7 +42,7 @@ fn controller_in(value: &[u8]) -> Result<Action, Why>
 {
     let max_len = length_in(value)?;
     Ok(Action::Output {
-        port: PORT_CONTROLLER,
+        port: OFPP_CONTROLLER,
         max_len,
     })
 }
@@ -105,7 +106,7 @@ fn output_in(otherwise: Why, word: &[u8]) -> Result<Action, Why>
     let port = port_in(otherwise, word)?;
     Ok(Action::Output {
         port,
-        max_len: if port == PORT_CONTROLLER { 0xffff } else { 0 },
+        max_len: if port == OFPP_CONTROLLER { 0xffff } else { 0 },
     })
 }
 

@@ -2,7 +2,7 @@
 ghost use Rattle.std.specs.Prelude.{◌≡◌};
 ghost use Rattle.of_ovs_words.specs.PortWords.{number_of, port_word_named, text_of};
 
-use of_actions::{PORT_ALL, PORT_CONTROLLER, PORT_FLOOD, PORT_IN_PORT};
+use of_wire::limits::{OFPP_ALL, OFPP_CONTROLLER, OFPP_FLOOD, OFPP_IN_PORT};
 
 /// The name of a reserved port (OpenFlow 1.3.5, 4.5), in upper or lower case.
 #[derive(Clone, Copy)]
@@ -77,10 +77,10 @@ impl PortWord {
         ensures { result ≡ number_of self }
     {
         match self {
-            PortWord::InPort | PortWord::SmallInPort => Some(PORT_IN_PORT),
-            PortWord::Flood | PortWord::SmallFlood => Some(PORT_FLOOD),
-            PortWord::All | PortWord::SmallAll => Some(PORT_ALL),
-            PortWord::Controller | PortWord::SmallController => Some(PORT_CONTROLLER),
+            PortWord::InPort | PortWord::SmallInPort => Some(OFPP_IN_PORT),
+            PortWord::Flood | PortWord::SmallFlood => Some(OFPP_FLOOD),
+            PortWord::All | PortWord::SmallAll => Some(OFPP_ALL),
+            PortWord::Controller | PortWord::SmallController => Some(OFPP_CONTROLLER),
             PortWord::Local
             | PortWord::SmallLocal
             | PortWord::Normal

@@ -71,13 +71,15 @@ fn is_watching(kind: GroupKind) -> bool
 }
 
 fn bucket_names(kind: GroupKind, bucket: &BucketText, id: u32) -> bool
-    ensures { result ≡ (list_any (is_sending_to id) (view_bucket bucket.now).actions || (is_watching_kind kind && ((view_bucket bucket.now).head.watch_group == id))) }
+    ensures { result ≡ (list_any (is_sending_to id) (view_bucket bucket.now).actions ||
+        (is_watching_kind kind && ((view_bucket bucket.now).head.watch_group == id))) }
 {
     some_to_group(&bucket.actions, id) || is_watching(kind) && bucket.head.watch_group == id
 }
 
 fn buckets_name(kind: GroupKind, buckets: &[BucketText], id: u32) -> bool
-    ensures { result ≡ list_any (λ b. list_any (is_sending_to id) (view_bucket b).actions || (is_watching_kind kind && ((view_bucket b).head.watch_group == id))) buckets.now }
+    ensures { result ≡ list_any (λ b. list_any (is_sending_to id) (view_bucket b).actions ||
+        (is_watching_kind kind && ((view_bucket b).head.watch_group == id))) buckets.now }
 {
     buckets.iter().any(|bucket| bucket_names(kind, bucket, id))
 }

@@ -73,8 +73,10 @@ fn text_of<L: Lookup>(alloc: Global, switch: &Switch<L>) -> Result<Vec<u8>, Ende
 pub fn dis<L: Lookup, S: Source, W: Sink>(alloc: Global, reader: &mut S, writer: &mut W) -> Ended
     requires reads { S.reads reader.old ≡ 0 }
     requires failures { W.failures writer.old ≡ 0 }
-    ensures output { Disassembles result (S.answers reader.old) (S.answers reader.new) (S.ends reader.old) (S.ends reader.new) (W.taken writer.old) (W.taken writer.new) }
-    ensures faults { Faults result (S.reads reader.new) (S.ends reader.old) (S.ends reader.new) (S.failures reader.old) (S.failures reader.new) (W.failures writer.new) }
+    ensures output { Disassembles result (S.answers reader.old) (S.answers reader.new) (S.ends reader.old) (S.ends reader.new) (W.taken writer.old)
+        (W.taken writer.new) }
+    ensures faults { Faults result (S.reads reader.new) (S.ends reader.old) (S.ends reader.new) (S.failures reader.old) (S.failures reader.new)
+        (W.failures writer.new) }
     ensures reads { S.reads reader.new ≤ 1000000 }
 {
     match read_switch::<L, S>(alloc, reader) {

@@ -57,8 +57,10 @@ pub fn write_built<W: Sink>(text: Result<Vec<u8>, Ended>, writer: &mut W) -> End
 pub fn asm<S: Source, W: Sink>(alloc: Global, reader: &mut S, writer: &mut W) -> Ended
     requires reads { S.reads reader.old ≡ 0 }
     requires failures { W.failures writer.old ≡ 0 }
-    ensures output { Assembles result (S.answers reader.old) (S.answers reader.new) (S.ends reader.old) (S.ends reader.new) (W.taken writer.old) (W.taken writer.new) }
-    ensures faults { Faults result (S.reads reader.new) (S.ends reader.old) (S.ends reader.new) (S.failures reader.old) (S.failures reader.new) (W.failures writer.new) }
+    ensures output { Assembles result (S.answers reader.old) (S.answers reader.new) (S.ends reader.old) (S.ends reader.new) (W.taken writer.old)
+        (W.taken writer.new) }
+    ensures faults { Faults result (S.reads reader.new) (S.ends reader.old) (S.ends reader.new) (S.failures reader.old) (S.failures reader.new)
+        (W.failures writer.new) }
     ensures reads { S.reads reader.new ≤ 1000000 }
 {
     let Ok(mut buffer) = zeros(alloc, READ_SIZE) else {

@@ -66,7 +66,8 @@ impl<L: Lookup> Replaying<L> {
 
     // Plays the open line, and prints its text.
     fn tell<T: RowPrinter<L>>(&mut self, teller: &T) -> Result<(), Halt>
-        ensures tells { LineTells T.tale result self.old.number self.old.open (row_of self.old.open) self.old.switch self.new.switch self.old.printer self.new.printer }
+        ensures tells { LineTells T.tale result self.old.number self.old.open (row_of self.old.open) self.old.switch self.new.switch self.old.printer
+            self.new.printer }
         ensures number { self.new.number ≡ self.old.number }
     {
         let row = match read_row(self.open.bytes(), &mut self.bytes) {
@@ -96,7 +97,8 @@ impl<L: Lookup> Replaying<L> {
     fn line<T: RowPrinter<L>, W: Sink>(&mut self, teller: &T, writer: &mut W) -> Result<(), Halt>
         requires few { self.old.number < 2 ^ 63 }
         requires well { W.failures writer.old ≡ 0 }
-        ensures goes { LineGoes T.tale result self.old.number self.old.open (row_of self.old.open) self.old.switch self.new.switch self.old.printer self.new.printer (W.taken writer.old) (W.taken writer.new) }
+        ensures goes { LineGoes T.tale result self.old.number self.old.open (row_of self.old.open) self.old.switch self.new.switch self.old.printer
+            self.new.printer (W.taken writer.old) (W.taken writer.new) }
         ensures open { OnOk result (self.new.open ≡ []) }
         ensures number { OnOk result (self.new.number ≡ self.old.number + 1) }
         ensures waits { OnOk result (length self.new.printer < 65536) }
@@ -132,8 +134,10 @@ impl<L: Lookup> Replaying<L> {
     ) -> Result<(), Halt>
         requires few { self.old.number + length piece.now < 2 ^ 63 }
         requires well { W.failures writer.old ≡ 0 }
-        ensures goes { (begun : State) (bytes : List ℕ) (first : Option (List ℕ)) → Within begun T.tale bytes [] self.old.open self.old.number self.old.switch self.old.printer first (W.taken writer.old)
-            → PieceGoes begun T.tale result bytes (bytes ++ piece.now) self.new.open self.new.number self.new.switch self.new.printer first (W.taken writer.new) }
+        ensures goes { (begun : State) (bytes : List ℕ) (first : Option (List ℕ)) →
+            Within begun T.tale bytes [] self.old.open self.old.number self.old.switch self.old.printer first (W.taken writer.old)
+            → PieceGoes begun T.tale result bytes (bytes ++ piece.now) self.new.open self.new.number self.new.switch self.new.printer first
+            (W.taken writer.new) }
         ensures number { OnOk result (self.new.number ≤ self.old.number + length piece.now) }
         ensures writes { WritesFail result (W.failures writer.new) }
     {
@@ -159,8 +163,10 @@ impl<L: Lookup> Replaying<L> {
     ) -> Result<(), Halt>
         requires few { self.old.number + length piece.now < 2 ^ 63 }
         requires well { W.failures writer.old ≡ 0 }
-        ensures goes { (begun : State) (bytes : List ℕ) (first : Option (List ℕ)) → Within begun T.tale bytes [] self.old.open self.old.number self.old.switch self.old.printer first (W.taken writer.old)
-            → PieceGoes begun T.tale result bytes (bytes ++ piece.now) self.new.open self.new.number self.new.switch self.new.printer first (W.taken writer.new) }
+        ensures goes { (begun : State) (bytes : List ℕ) (first : Option (List ℕ)) →
+            Within begun T.tale bytes [] self.old.open self.old.number self.old.switch self.old.printer first (W.taken writer.old)
+            → PieceGoes begun T.tale result bytes (bytes ++ piece.now) self.new.open self.new.number self.new.switch self.new.printer first
+            (W.taken writer.new) }
         ensures number { OnOk result (self.new.number ≤ self.old.number + length piece.now) }
         ensures written { OnOk result (self.new.printer ≡ []) }
         ensures writes { WritesFail result (W.failures writer.new) }
@@ -196,7 +202,8 @@ impl<L: Lookup> Replaying<L> {
         requires well { W.failures writer.old ≡ 0 }
         requires start { (self.old.open ≡ []) × (self.old.number ≡ 1) × (self.old.printer ≡ []) }
         ensures played { OnOk result (PlayedAll self.old.switch (S.answers reader.old) (S.answers reader.new) self.new.switch) }
-        ensures plays { PlaysRead self.old.switch T.tale result (S.answers reader.old) (S.answers reader.new) (S.ends reader.old) (S.ends reader.new) self.new.printer (W.taken writer.old) (W.taken writer.new) }
+        ensures plays { PlaysRead self.old.switch T.tale result (S.answers reader.old) (S.answers reader.new) (S.ends reader.old) (S.ends reader.new)
+            self.new.printer (W.taken writer.old) (W.taken writer.new) }
         ensures reads { ReadsFail result (S.reads reader.new) (S.ends reader.old) (S.ends reader.new) (S.failures reader.old) (S.failures reader.new) }
         ensures few { S.reads reader.new ≤ 1000000 }
         ensures writes { WritesFail result (W.failures writer.new) }
@@ -225,7 +232,8 @@ impl<L: Lookup> Replaying<L> {
         requires well { W.failures writer.old ≡ 0 }
         requires start { (self.old.open ≡ []) × (self.old.number ≡ 1) × (self.old.printer ≡ []) }
         ensures played { OnOk result (PlayedAll self.old.switch (S.answers reader.old) (S.answers reader.new) self.new.switch) }
-        ensures plays { Tells self.old.switch T.tale (ended_so result) (S.answers reader.old) (S.answers reader.new) (S.ends reader.old) (S.ends reader.new) (W.taken writer.old) (W.taken writer.new) }
+        ensures plays { Tells self.old.switch T.tale (ended_so result) (S.answers reader.old) (S.answers reader.new) (S.ends reader.old) (S.ends reader.new)
+            (W.taken writer.old) (W.taken writer.new) }
         ensures reads { ReadsFail result (S.reads reader.new) (S.ends reader.old) (S.ends reader.new) (S.failures reader.old) (S.failures reader.new) }
         ensures few { S.reads reader.new ≤ 1000000 }
         ensures writes { WritesFail result (W.failures writer.new) }

@@ -14,9 +14,11 @@ ghost use Rattle.of_rewrite.specs.Checksum.{updated, never_zero, sums_to_ones, A
 /// `udp`: writing a computed 0 as all ones changes nothing of that.
 /// `off`: what it sums up to otherwise stays the same too, so that a checksum that was wrong stays wrong by as much.
 pub fn stays_right()
-    ensures kept { (c : ℕ) (old new : List ℕ) → c < 65536 → AreWords old → length old ≡ length new → 0 < sum new → IsTrue (sums_to_ones (c ∷ old)) → IsTrue (sums_to_ones (updated c old new ∷ new)) }
+    ensures kept { (c : ℕ) (old new : List ℕ) → c < 65536 → AreWords old → length old ≡ length new → 0 < sum new → IsTrue (sums_to_ones (c ∷ old)) →
+        IsTrue (sums_to_ones (updated c old new ∷ new)) }
     ensures staying { (c w : ℕ) (a x b y : List ℕ) → length a ≡ length x → updated c (a ++ (w ∷ b)) (x ++ (w ∷ y)) ≡ updated c (a ++ b) (x ++ y) }
-    ensures off { (c : ℕ) (old new : List ℕ) → c < 65536 → AreWords old → length old ≡ length new → (updated c old new + sum new) % 65535 ≡ (c + sum old) % 65535 }
+    ensures off { (c : ℕ) (old new : List ℕ) → c < 65536 → AreWords old → length old ≡ length new →
+        (updated c old new + sum new) % 65535 ≡ (c + sum old) % 65535 }
     ensures udp { (c : ℕ) (new : List ℕ) → IsTrue (sums_to_ones (c ∷ new)) → IsTrue (sums_to_ones (never_zero c ∷ new)) }
 {}
 
@@ -25,5 +27,6 @@ pub fn stays_right()
 ///
 /// So the fields that a frame gives at places that were kept are those of its bytes.
 pub fn known_stays_right()
-    ensures { (calls : List Call) (known : Known) (frame : List ℕ) → IsFrame frame → AreAllowed calls frame → IsKnownOf known frame → IsKnownOf (known_after_all calls frame known) (frame_after_all calls frame) }
+    ensures { (calls : List Call) (known : Known) (frame : List ℕ) → IsFrame frame → AreAllowed calls frame → IsKnownOf known frame →
+        IsKnownOf (known_after_all calls frame known) (frame_after_all calls frame) }
 {}

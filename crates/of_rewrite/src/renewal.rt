@@ -147,7 +147,8 @@ fn settle(may_lack: bool, kind: Transport, old: u16, sum: Sum) -> u16
 /// Writes the checksum of what an IP packet carries.
 fn put_carried(bytes: &mut [u8], packet: usize, payload: Payload, may_lack: bool, sum: Sum)
     requires { packet + payload.at + size_of payload.transport ≤ length bytes.old }
-    ensures { bytes.new ≡ written_at (moved (packet + payload.at) (checksum_byte payload.transport)) (settled may_lack payload.transport (word_or_zero bytes.old (moved (packet + payload.at) (checksum_byte payload.transport))) sum) bytes.old }
+    ensures { bytes.new ≡ written_at (moved (packet + payload.at) (checksum_byte payload.transport))
+        (settled may_lack payload.transport (word_or_zero bytes.old (moved (packet + payload.at) (checksum_byte payload.transport))) sum) bytes.old }
 {
     if let Some(byte) = checksum_in(payload.transport) {
         let at = packet + payload.at + byte;

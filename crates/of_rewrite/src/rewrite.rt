@@ -30,7 +30,8 @@ pub fn set_number(bytes: &mut [u8], layout: Layout, place: Place, value: u128)
     requires most { place.bits ≤ 128 }
     requires fits { place.first + place.bits < 2 ^ 64 }
     requires room { (place.first + place.bits + 15) / 16 * 2 ≤ length bytes.old }
-    ensures { (name : ℕ) → Replaceable name → locate_at 0 name (cells (layers_of bytes.old)) ≡ Some place → bits_of bytes.new ≡ spelt (number_set name value (layers_of bytes.old)) }
+    ensures { (name : ℕ) → Replaceable name → locate_at 0 name (cells (layers_of bytes.old)) ≡ Some place →
+        bits_of bytes.new ≡ spelt (number_set name value (layers_of bytes.old)) }
 {
     all_bytes(bytes);
     let sums = sums_in(bytes, layout);

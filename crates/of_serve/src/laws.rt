@@ -10,5 +10,6 @@ pub fn connections_take_prefixes()
     ensures fronts { (s : ServeState) (ts : Turns) → AreTurns s ts → AllTookPrefixes (connections s ts) }
     ensures taken { (s : ServeState) (ts : Turns) → took (Some []) ts ≡ Some (map (λ c. c.taken) (connections s ts)) }
     ensures cut_prefixes { (s : ServeState) (ts : Turns) (t : CutTurn) → AreTurns s ts → IsCutTurn t (stand s ts) → AllTookPrefixes (cut_connections s ts t) }
-    ensures cut_taken { (s : ServeState) (ts : Turns) (t : CutTurn) → then_onto (then_known (took (Some []) ts) t.known) t.taken ≡ Some (map (λ c. c.taken) (cut_connections s ts t)) }
+    ensures cut_taken { (s : ServeState) (ts : Turns) (t : CutTurn) → then_onto (then_known (took (Some []) ts) t.known) t.taken ≡
+        Some (map (λ c. c.taken) (cut_connections s ts t)) }
 {}

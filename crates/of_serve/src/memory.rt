@@ -150,7 +150,8 @@ impl MemoryPeers {
         ensures some { OnTrue result (0 < length self.old.taken.items) }
         ensures not { OnFalse result (self.new.taken.items ≡ self.old.taken.items) }
         ensures told { told self.new ≡ told self.old }
-        ensures same { (self.new.accepts ≡ self.old.accepts) × (self.new.reads ≡ self.old.reads) × (self.new.accept_failures ≡ self.old.accept_failures) × (self.new.write_failures ≡ self.old.write_failures) }
+        ensures same { (self.new.accepts ≡ self.old.accepts) × (self.new.reads ≡ self.old.reads) × (self.new.accept_failures ≡ self.old.accept_failures) ×
+            (self.new.write_failures ≡ self.old.write_failures) }
     {
         match self.taken.first_mut() {
             Some(taken) => taken.bytes.extend_from_slice(bytes).is_ok(),
@@ -163,7 +164,8 @@ impl MemoryPeers {
         ensures told { told self.new ≡ told self.old }
         ensures taken { self.new.taken.items ≡ self.old.taken.items }
         ensures late { (self.new.late_accepts ≡ self.old.late_accepts) × (self.new.late_reads ≡ self.old.late_reads) }
-        ensures same { (self.new.accepts ≡ self.old.accepts) × (self.new.reads ≡ self.old.reads) × (self.new.accept_failures ≡ self.old.accept_failures) × (self.new.write_failures ≡ self.old.write_failures) }
+        ensures same { (self.new.accepts ≡ self.old.accepts) × (self.new.reads ≡ self.old.reads) × (self.new.accept_failures ≡ self.old.accept_failures) ×
+            (self.new.write_failures ≡ self.old.write_failures) }
     {
         while let Some(Line::Gives(_) | Line::End) = self.script.get(self.at) {
             let _ = self.script.remove(self.at);
@@ -176,7 +178,8 @@ impl MemoryPeers {
         ensures ended { OnFalse result ((self.new.at ≡ length self.new.script.items) × (told self.new ≡ told self.old)) }
         ensures taken { self.new.taken.items ≡ self.old.taken.items }
         ensures late { (self.new.late_accepts ≡ self.old.late_accepts) × (self.new.late_reads ≡ self.old.late_reads) }
-        ensures same { (self.new.accepts ≡ self.old.accepts) × (self.new.reads ≡ self.old.reads) × (self.new.accept_failures ≡ self.old.accept_failures) × (self.new.write_failures ≡ self.old.write_failures) }
+        ensures same { (self.new.accepts ≡ self.old.accepts) × (self.new.reads ≡ self.old.reads) × (self.new.accept_failures ≡ self.old.accept_failures) ×
+            (self.new.write_failures ≡ self.old.write_failures) }
     {
         let place = self.at;
         if place < self.script.len() {
@@ -194,7 +197,8 @@ impl MemoryPeers {
         ensures fault { result ≡ Accepted.Fault }
         ensures told { told self.new ≡ told self.old ++ Answered Failed ∷ [] }
         ensures failures { self.new.accept_failures ≡ self.old.accept_failures + 1 }
-        ensures same { (self.new.accepts ≡ self.old.accepts) × (self.new.reads ≡ self.old.reads) × (self.new.write_failures ≡ self.old.write_failures) × (self.new.taken.items ≡ self.old.taken.items) }
+        ensures same { (self.new.accepts ≡ self.old.accepts) × (self.new.reads ≡ self.old.reads) × (self.new.write_failures ≡ self.old.write_failures) ×
+            (self.new.taken.items ≡ self.old.taken.items) }
     {
         self.accept_failures += 1;
         if self.spoil() {
@@ -208,7 +212,8 @@ impl MemoryPeers {
         requires { self.old.late_reads < self.old.reads }
         ensures fault { result ≡ Reading.Fault }
         ensures told { told self.new ≡ told self.old ++ Answered Failed ∷ [] }
-        ensures same { (self.new.accepts ≡ self.old.accepts) × (self.new.reads ≡ self.old.reads) × (self.new.accept_failures ≡ self.old.accept_failures) × (self.new.write_failures ≡ self.old.write_failures) × (self.new.taken.items ≡ self.old.taken.items) }
+        ensures same { (self.new.accepts ≡ self.old.accepts) × (self.new.reads ≡ self.old.reads) × (self.new.accept_failures ≡ self.old.accept_failures) ×
+            (self.new.write_failures ≡ self.old.write_failures) × (self.new.taken.items ≡ self.old.taken.items) }
     {
         if self.spoil() {
             return Reading::Fault;
@@ -221,8 +226,10 @@ impl MemoryPeers {
     fn begin(&mut self) -> bool
         ensures took { OnTrue result (self.new.taken.items ≡ [] ∷ self.old.taken.items) }
         ensures not { OnFalse result (self.new.taken.items ≡ self.old.taken.items) }
-        ensures told { (self.new.script.items ≡ self.old.script.items) × (self.new.at ≡ self.old.at) × (self.new.late_accepts ≡ self.old.late_accepts) × (self.new.late_reads ≡ self.old.late_reads) }
-        ensures same { (self.new.accepts ≡ self.old.accepts) × (self.new.reads ≡ self.old.reads) × (self.new.accept_failures ≡ self.old.accept_failures) × (self.new.write_failures ≡ self.old.write_failures) }
+        ensures told { (self.new.script.items ≡ self.old.script.items) × (self.new.at ≡ self.old.at) × (self.new.late_accepts ≡ self.old.late_accepts) ×
+            (self.new.late_reads ≡ self.old.late_reads) }
+        ensures same { (self.new.accepts ≡ self.old.accepts) × (self.new.reads ≡ self.old.reads) × (self.new.accept_failures ≡ self.old.accept_failures) ×
+            (self.new.write_failures ≡ self.old.write_failures) }
     {
         let taken = Taken {
             bytes: Vec::new(self.alloc),

@@ -50,7 +50,8 @@ pub trait Peers {
         ensures came { came self.new ≡ then_told (came self.old) (Answered (answer_of result buffer.new) ∷ []) }
         ensures took { took self.new ≡ took self.old }
         ensures reads { reads self.new ≡ reads self.old + 1 }
-        ensures same { (accepts self.new ≡ accepts self.old) × (accept_failures self.new ≡ accept_failures self.old) × (write_failures self.new ≡ write_failures self.old) };
+        ensures same { (accepts self.new ≡ accepts self.old) × (accept_failures self.new ≡ accept_failures self.old) ×
+            (write_failures self.new ≡ write_failures self.old) };
 
     /// Writes some of the bytes, from the start, to the open connection.
     fn write(&mut self, bytes: &[u8]) -> Writing

@@ -30,7 +30,9 @@ fn take_turns<L: Lookup, P: Peers, C: Clock, K: Sink>(
     requires fresh { (P.accepts peers.old ≡ 0) × (P.reads peers.old ≡ 0) }
     requires whole { (P.accept_failures peers.old ≡ 0) × (P.write_failures peers.old ≡ 0) }
     requires well { K.failures out.old ≡ 0 }
-    ensures serves { Serves (ended_so result) turns (standing gathering.old.state rows.old) (tells (P.came peers.old) (C.times clock.old) (P.took peers.old) (K.taken out.old)) (tells (P.came peers.new) (C.times clock.new) (P.took peers.new) (K.taken out.new)) }
+    ensures serves { Serves (ended_so result) turns (standing gathering.old.state rows.old)
+        (tells (P.came peers.old) (C.times clock.old) (P.took peers.old) (K.taken out.old))
+        (tells (P.came peers.new) (C.times clock.new) (P.took peers.new) (K.taken out.new)) }
     ensures done { OnOk result (P.accepts peers.new + P.reads peers.new ≡ turns) }
     ensures most { P.accepts peers.new + P.reads peers.new ≤ turns }
     ensures failures { Fails result 0 (P.accept_failures peers.new) }
@@ -63,7 +65,8 @@ pub fn serve<L: Lookup, P: Peers, C: Clock, K: Sink>(
     requires fresh { (P.accepts peers.old ≡ 0) × (P.reads peers.old ≡ 0) }
     requires whole { (P.accept_failures peers.old ≡ 0) × (P.write_failures peers.old ≡ 0) }
     requires well { K.failures out.old ≡ 0 }
-    ensures serves { Serves result turns (standing (start dpid) rows.items) (tells (P.came peers.old) (C.times clock.old) (P.took peers.old) (K.taken out.old)) (tells (P.came peers.new) (C.times clock.new) (P.took peers.new) (K.taken out.new)) }
+    ensures serves { Serves result turns (standing (start dpid) rows.items) (tells (P.came peers.old) (C.times clock.old) (P.took peers.old) (K.taken out.old))
+        (tells (P.came peers.new) (C.times clock.new) (P.took peers.new) (K.taken out.new)) }
     ensures done { result ≡ Ended.Done → P.accepts peers.new + P.reads peers.new ≡ turns }
     ensures most { P.accepts peers.new + P.reads peers.new ≤ turns }
     ensures read_fault { (result ≡ Ended.ReadFault) ↔ (0 < P.accept_failures peers.new) }

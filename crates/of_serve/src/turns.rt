@@ -19,7 +19,8 @@ pub fn write_answers<P: Peers>(peers: &mut P, bytes: &[u8]) -> bool
     ensures takes { Takes result bytes.now (P.took peers.old) (P.took peers.new) }
     ensures failures { P.write_failures peers.new ≡ P.write_failures peers.old + failed_writes result }
     ensures came { P.came peers.new ≡ P.came peers.old }
-    ensures same { (P.accepts peers.new ≡ P.accepts peers.old) × (P.reads peers.new ≡ P.reads peers.old) × (P.accept_failures peers.new ≡ P.accept_failures peers.old) }
+    ensures same { (P.accepts peers.new ≡ P.accepts peers.old) × (P.reads peers.new ≡ P.reads peers.old) ×
+        (P.accept_failures peers.new ≡ P.accept_failures peers.old) }
 {
     let mut at = 0;
     while at < bytes.len() {
@@ -42,7 +43,8 @@ pub fn listen<L: Lookup, P: Peers>(
     ensures hears { Hears result gathering.old gathering.new (P.came peers.old) (P.came peers.new) }
     ensures took { P.took peers.new ≡ P.took peers.old }
     ensures reads { P.reads peers.new ≡ P.reads peers.old + 1 }
-    ensures same { (P.accepts peers.new ≡ P.accepts peers.old) × (P.accept_failures peers.new ≡ P.accept_failures peers.old) × (P.write_failures peers.new ≡ P.write_failures peers.old) }
+    ensures same { (P.accepts peers.new ≡ P.accepts peers.old) × (P.accept_failures peers.new ≡ P.accept_failures peers.old) ×
+        (P.write_failures peers.new ≡ P.write_failures peers.old) }
 {
     match peers.read(buffer) {
         Reading::Bytes(n) => gathering.hear(front_of(buffer, n)),
@@ -64,12 +66,14 @@ fn read_turn<L: Lookup, P: Peers, C: Clock>(
 ) -> Result<(), AllocError>
     requires room { 0 < length buffer.old }
     requires few { P.accepts peers.old + P.reads peers.old < 2 ^ 63 }
-    ensures reads { OnOk result (TellsReads gathering.old gathering.new rows.old rows.new (P.came peers.old) (P.came peers.new) (C.times clock.old) (C.times clock.new)) }
+    ensures reads { OnOk result (TellsReads gathering.old gathering.new rows.old rows.new (P.came peers.old) (P.came peers.new) (C.times clock.old)
+        (C.times clock.new)) }
     ensures cuts { OnErr result (CutsReads gathering.old gathering.new rows.old (P.came peers.old) (P.came peers.new) (C.times clock.old) (C.times clock.new)) }
     ensures took { P.took peers.new ≡ P.took peers.old }
     ensures counts { OnOk result (P.reads peers.new ≡ P.reads peers.old + 1) }
     ensures count { (P.reads peers.old ≤ P.reads peers.new) × (P.reads peers.new ≤ P.reads peers.old + 1) }
-    ensures same { (P.accepts peers.new ≡ P.accepts peers.old) × (P.accept_failures peers.new ≡ P.accept_failures peers.old) × (P.write_failures peers.new ≡ P.write_failures peers.old) }
+    ensures same { (P.accepts peers.new ≡ P.accepts peers.old) × (P.accept_failures peers.new ≡ P.accept_failures peers.old) ×
+        (P.write_failures peers.new ≡ P.write_failures peers.old) }
 {
     let now = clock.now();
     gathering.play(Row::Moment { nanos: now }, &[])?;
@@ -131,7 +135,8 @@ fn answer<L: Lookup, P: Peers>(gathering: &mut Gathering<L>, peers: &mut P)
     ensures answered { IsAnswered gathering.old gathering.new (P.took peers.old) (P.took peers.new) }
     ensures came { P.came peers.new ≡ P.came peers.old }
     ensures failures { (P.write_failures peers.old ≤ P.write_failures peers.new) × (P.write_failures peers.new ≤ P.write_failures peers.old + 1) }
-    ensures same { (P.accepts peers.new ≡ P.accepts peers.old) × (P.reads peers.new ≡ P.reads peers.old) × (P.accept_failures peers.new ≡ P.accept_failures peers.old) }
+    ensures same { (P.accepts peers.new ≡ P.accepts peers.old) × (P.reads peers.new ≡ P.reads peers.old) ×
+        (P.accept_failures peers.new ≡ P.accept_failures peers.old) }
 {
     if !write_answers(peers, gathering.answers()) {
         gathering.lose();
@@ -153,7 +158,8 @@ pub fn turn<L: Lookup, P: Peers, C: Clock, K: Sink>(
     requires few_failures { P.write_failures peers.old < 2 ^ 63 }
     requires well { K.failures out.old ≡ 0 }
     ensures goes { Goes result (standing gathering.old.state rows.old) gathering.new rows.new
-        (tells (P.came peers.old) (C.times clock.old) (P.took peers.old) (K.taken out.old)) (tells (P.came peers.new) (C.times clock.new) (P.took peers.new) (K.taken out.new)) }
+        (tells (P.came peers.old) (C.times clock.old) (P.took peers.old) (K.taken out.old))
+        (tells (P.came peers.new) (C.times clock.new) (P.took peers.new) (K.taken out.new)) }
     ensures counts { Counts result (P.accepts peers.old + P.reads peers.old) (P.accepts peers.new + P.reads peers.new) }
     ensures failures { Fails result (P.accept_failures peers.old) (P.accept_failures peers.new) }
     ensures write_failures { P.write_failures peers.new ≤ P.write_failures peers.old + 1 }

@@ -147,5 +147,6 @@ fn front_in(bytes: &[u8]) -> Beginning
 pub fn splits_once()
     ensures one { (stream : List ℕ) → (messages : List (List ℕ)) × (rest : List ℕ) × Splits stream messages rest }
     ensures only { (stream : List ℕ) (ms ns : List (List ℕ)) (r s : List ℕ) → Splits stream ms r → Splits stream ns s → (ms ≡ ns) × (r ≡ s) }
-    ensures more { (stream piece : List ℕ) (ms ns : List (List ℕ)) (r s : List ℕ) → Splits stream ms r → Splits (r ++ piece) ns s → Splits (stream ++ piece) (ms ++ ns) s }
+    ensures more { (stream piece : List ℕ) (ms ns : List (List ℕ)) (r s : List ℕ) → Splits stream ms r → Splits (r ++ piece) ns s →
+        Splits (stream ++ piece) (ms ++ ns) s }
 {}

@@ -325,7 +325,8 @@ impl<L: Lookup> Engine<L> {
 
     fn packet_out(&mut self, packet_out: PacketOut) -> Result<Effects, Fault>
         requires { IsSoundPacket packet_out.packet }
-        ensures { Handles (first_of (packet_out_refusals packet_out self.old.forwarding.groups self.old.forwarding.held)) (after_packet_out packet_out self.old) self.old result self.new }
+        ensures { Handles (first_of (packet_out_refusals packet_out self.old.forwarding.groups self.old.forwarding.held)) (after_packet_out packet_out self.old)
+            self.old result self.new }
     {
         let used = match &packet_out.packet {
             PacketData::Buffered(id) => Some(*id),
@@ -366,7 +367,8 @@ impl<L: Lookup> Engine<L> {
 
     fn flow_mod(&mut self, flow_mod: FlowMod) -> Result<Effects, Fault>
         requires { IsSoundFlowMod flow_mod }
-        ensures { Handles (first_of (flow_mod_refusals flow_mod self.old.forwarding.tables self.old.forwarding.groups self.old.forwarding.held)) (after_flow_mod flow_mod self.old) self.old result self.new }
+        ensures { Handles (first_of (flow_mod_refusals flow_mod self.old.forwarding.tables self.old.forwarding.groups self.old.forwarding.held))
+            (after_flow_mod flow_mod self.old) self.old result self.new }
     {
         if flow_mod.command.is_delete() {
             return Ok(self.delete_flows(flow_mod)?);
@@ -390,7 +392,8 @@ impl<L: Lookup> Engine<L> {
         requires group { naming_absent_group self.old.forwarding.groups flow_mod.instructions ≡ false }
         requires fit { are_for flow_mod.table flow_mod.instructions ≡ true }
         requires checked { all_go_with flow_mod.fields flow_mod.instructions ≡ true }
-        ensures { Handles (first_of (add_refusals flow_mod self.old.forwarding.tables)) (then_does (after_command flow_mod self.old) (begun flow_mod.buffer (held flow_mod.buffer self.old.forwarding.held))) self.old result self.new }
+        ensures { Handles (first_of (add_refusals flow_mod self.old.forwarding.tables))
+            (then_does (after_command flow_mod self.old) (begun flow_mod.buffer (held flow_mod.buffer self.old.forwarding.held))) self.old result self.new }
     {
         let id = flow_mod.buffer;
         let mut before = self.datapath.tables.copy_of(flow_mod.table)?;
@@ -487,7 +490,9 @@ impl<L: Lookup> Engine<L> {
     }
 
     fn delete_flows(&mut self, flow_mod: FlowMod) -> Result<Effects, AllocError>
-        ensures ok { IfOk result (λ effects. does (notice_effects (heard_of self.old.control) self.old.forwarding.tables.latest (notices_in (Cause.Delete (selector_of flow_mod)) self.old.forwarding.tables)) (with_tables (left_in (Cause.Delete (selector_of flow_mod)) self.old.forwarding.tables) self.old) ≡ does effects.items self.new) }
+        ensures ok { IfOk result (λ effects. does (notice_effects (heard_of self.old.control) self.old.forwarding.tables.latest
+            (notices_in (Cause.Delete (selector_of flow_mod)) self.old.forwarding.tables))
+            (with_tables (left_in (Cause.Delete (selector_of flow_mod)) self.old.forwarding.tables) self.old) ≡ does effects.items self.new) }
         ensures err { OnErr result (self.new ≡ self.old) }
     {
         let now = self.datapath.tables.latest();
@@ -516,7 +521,8 @@ impl<L: Lookup> Engine<L> {
 
     fn group_mod(&mut self, group_mod: GroupMod) -> Result<Effects, Fault>
         requires { IsSoundGroupMod group_mod }
-        ensures { Handles (first_of (refused_for (group_mod_fault group_mod self.old.forwarding.tables.latest self.old.forwarding.groups))) (after_group_mod group_mod self.old) self.old result self.new }
+        ensures { Handles (first_of (refused_for (group_mod_fault group_mod self.old.forwarding.tables.latest self.old.forwarding.groups)))
+            (after_group_mod group_mod self.old) self.old result self.new }
     {
         match group_mod {
             GroupMod::Add(NewGroup { id, kind, buckets }) => self.add_group(id, kind, buckets),
@@ -530,7 +536,8 @@ impl<L: Lookup> Engine<L> {
     // Adds a group at the latest moment.
     fn add_group(&mut self, id: u32, kind: GroupKind, buckets: Buckets) -> Result<Effects, Fault>
         requires { id ≤ 0xffffff00 }
-        ensures { Handles (first_of (refused_for (add_fault (new_group id kind buckets self.old.forwarding.tables.latest) self.old.forwarding.groups))) (group_added id kind buckets self.old) self.old result self.new }
+        ensures { Handles (first_of (refused_for (add_fault (new_group id kind buckets self.old.forwarding.tables.latest) self.old.forwarding.groups)))
+            (group_added id kind buckets self.old) self.old result self.new }
     {
         let now = self.datapath.tables.latest();
         self.datapath.groups.add(id, kind, buckets, now)?;
@@ -539,7 +546,8 @@ impl<L: Lookup> Engine<L> {
 
     fn modify_group(&mut self, id: u32, kind: GroupKind, buckets: Buckets) -> Result<Effects, Fault>
         requires { id ≤ 0xffffff00 }
-        ensures { Handles (first_of (refused_for (modify_fault (modified_group id kind buckets self.old.forwarding.groups) self.old.forwarding.groups))) (group_modified id kind buckets self.old) self.old result self.new }
+        ensures { Handles (first_of (refused_for (modify_fault (modified_group id kind buckets self.old.forwarding.groups) self.old.forwarding.groups)))
+            (group_modified id kind buckets self.old) self.old result self.new }
     {
         self.datapath.groups.modify(id, kind, buckets)?;
         Ok(Effects::new(self.alloc))

@@ -40,7 +40,8 @@ pub(crate) fn modify_tables<L: Lookup>(
     requires copies { wanted_from which.now 0 tables.old ≤ copies.old.count }
     ensures tables { tables.new ≡ each_from (modified_numbered which.now copies.old.instructions reset) 0 tables.old }
     ensures length { length tables.new ≡ length tables.old }
-    ensures sound { ((k : ℕ) → is_within which.now.table k ≡ true → are_fit k copies.old.instructions ≡ true) → all_go_with which.now.fields copies.old.instructions ≡ true → AllSound 0 (map table_of tables.old) → AllSound 0 (map table_of tables.new) }
+    ensures sound { ((k : ℕ) → is_within which.now.table k ≡ true → are_fit k copies.old.instructions ≡ true) →
+        all_go_with which.now.fields copies.old.instructions ≡ true → AllSound 0 (map table_of tables.old) → AllSound 0 (map table_of tables.new) }
 {
     for (number, table) in tables.iter_mut().enumerate() {
         table.modify(number as u8, which, copies, reset);

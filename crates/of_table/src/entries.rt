@@ -197,7 +197,8 @@ pub(crate) fn count_at(
     now: u64,
 ) -> u64
     requires { replaced + place < length entries.old.items }
-    ensures due { (at : ℕ) → at < result → all_stay (Cause.Moment at) (drop replaced entries.old.items) ≡ true → all_stay (Cause.Moment at) (drop replaced entries.new.items) ≡ true }
+    ensures due { (at : ℕ) → at < result → all_stay (Cause.Moment at) (drop replaced entries.old.items) ≡ true →
+        all_stay (Cause.Moment at) (drop replaced entries.new.items) ≡ true }
     ensures flows { flows_of (drop replaced entries.new.items) ≡ counted_at now place bytes (flows_of (drop replaced entries.old.items)) }
     ensures numbers { numbers_of (drop replaced entries.new.items) ≡ numbers_of (drop replaced entries.old.items) }
     ensures rows { rows_of (drop replaced entries.new.items) ≡ rows_of (drop replaced entries.old.items) }

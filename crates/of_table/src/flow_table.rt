@@ -259,7 +259,8 @@ impl<L: Lookup> FlowTable<L> {
         requires { wanted_in which.now table self.old ≤ copies.old.count }
         ensures table { self.new ≡ modified_numbered which.now copies.old.instructions reset table self.old }
         ensures copies { copies.new ≡ record copies.old { count = copies.old.count - wanted_in which.now table self.old } }
-        ensures sound { (is_within which.now.table table ≡ true → are_fit table copies.old.instructions ≡ true) → all_go_with which.now.fields copies.old.instructions ≡ true → AreSound table (table_of self.old).flows → AreSound table (table_of self.new).flows }
+        ensures sound { (is_within which.now.table table ≡ true → are_fit table copies.old.instructions ≡ true) →
+            all_go_with which.now.fields copies.old.instructions ≡ true → AreSound table (table_of self.old).flows → AreSound table (table_of self.new).flows }
     {
         if is_in(which, table) {
             let span = self.span_of(which);

@@ -188,7 +188,8 @@ impl<L: Lookup> FlowTables<L> {
     /// No counter changes.
     pub fn lookup(&mut self, table: u8, key: &FieldKey) -> Option<usize>
         requires { table < 16 }
-        ensures place { winner_place (value key.now) (flows_of (numbered_at table self.old).entries) ≡ option_map (λ number. place_of number (numbered_at table self.old).entries) result }
+        ensures place { winner_place (value key.now) (flows_of (numbered_at table self.old).entries) ≡
+            option_map (λ number. place_of number (numbered_at table self.old).entries) result }
         ensures there { IfSome result (λ number. IsTrue (is_there number (numbered_at table self.old).entries)) }
         ensures kept { self.new ≡ self.old }
     {
@@ -198,7 +199,8 @@ impl<L: Lookup> FlowTables<L> {
     /// As `lookup`, for tables that are only borrowed.
     pub fn peek(&self, table: u8, key: &FieldKey) -> Option<usize>
         requires { table < 16 }
-        ensures place { winner_place (value key.now) (flows_of (numbered_at table self.now).entries) ≡ option_map (λ number. place_of number (numbered_at table self.now).entries) result }
+        ensures place { winner_place (value key.now) (flows_of (numbered_at table self.now).entries) ≡
+            option_map (λ number. place_of number (numbered_at table self.now).entries) result }
         ensures there { IfSome result (λ number. IsTrue (is_there number (numbered_at table self.now).entries)) }
     {
         self.tables[table as usize].peek(key)

@@ -15,7 +15,10 @@ pub fn swaps_undo()
 
 /// However its table was changed since it was made, a copy that is swapped in leaves the tables as a reader saw them then: so after an ADD, and after a MODIFY of this table alone. Where nothing was changed, a reader sees no difference.
 pub fn copies_restore()
-    ensures changed { (c : NumberedCopy) (t : Table) (before after : NumberedTables) → table_of c.copy ≡ table_at c.table (tables_of before) → tables_of after ≡ with_table c.table t (tables_of before) → tables_of (swapped_in c after) ≡ tables_of before }
-    ensures modified { (c : NumberedCopy) (w : ASelector) (instructions : List AnInstruction) (reset : Bool) (before after : NumberedTables) → w.table ≡ Some c.table → table_of c.copy ≡ table_at c.table (tables_of before) → tables_of after ≡ modified_in w instructions reset (tables_of before) → tables_of (swapped_in c after) ≡ tables_of before }
+    ensures changed { (c : NumberedCopy) (t : Table) (before after : NumberedTables) → table_of c.copy ≡ table_at c.table (tables_of before) →
+        tables_of after ≡ with_table c.table t (tables_of before) → tables_of (swapped_in c after) ≡ tables_of before }
+    ensures modified { (c : NumberedCopy) (w : ASelector) (instructions : List AnInstruction) (reset : Bool) (before after : NumberedTables) →
+        w.table ≡ Some c.table → table_of c.copy ≡ table_at c.table (tables_of before) → tables_of after ≡ modified_in w instructions reset (tables_of before) →
+        tables_of (swapped_in c after) ≡ tables_of before }
     ensures unchanged { (c : NumberedCopy) (n : NumberedTables) → table_of c.copy ≡ table_at c.table (tables_of n) → tables_of (swapped_in c n) ≡ tables_of n }
 {}

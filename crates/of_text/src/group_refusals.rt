@@ -147,7 +147,8 @@ fn judge_all(alloc: Global, groups: &[GroupText]) -> Result<Judged, AllocError>
 
 // The refusal of a group that names others, of which these exist, and that begins a chain of this length.
 fn naming_refusal(there: &[Group], group: &Group, length: u8) -> Option<Code>
-    ensures { result ≡ first_of ((any_sends (is_absent there.now) group.now.buckets, OFPBAC_BAD_OUT_GROUP) ∷ (any_watches (is_absent there.now) group.now.kind group.now.buckets, OFPGMFC_BAD_WATCH) ∷ (nat_lt 3 length, OFPGMFC_LOOP) ∷ []) }
+    ensures { result ≡ first_of ((any_sends (is_absent there.now) group.now.buckets, OFPBAC_BAD_OUT_GROUP) ∷
+        (any_watches (is_absent there.now) group.now.kind group.now.buckets, OFPGMFC_BAD_WATCH) ∷ (nat_lt 3 length, OFPGMFC_LOOP) ∷ []) }
 {
     if sends_to_absent(there, group) {
         Some(OFPBAC_BAD_OUT_GROUP)

@@ -44,7 +44,8 @@ fn why_matching<L: Lookup>(
     requires there { slice_get (table_at table switch.now.core.forwarding.tables).flows place ≡ Some (entry_of entry.now) }
     requires matches { matches_map entry.now.flow.fields (value key.now) ≡ true }
     ensures explains { Explains (table_at table switch.now.core.forwarding.tables).flows (value key.now) place result }
-    ensures is { result ≡ Some (standing (table_at table switch.now.core.forwarding.tables).flows place (entry_of entry.now) (winner_place (value key.now) (table_at table switch.now.core.forwarding.tables).flows)) }
+    ensures is { result ≡ Some (standing (table_at table switch.now.core.forwarding.tables).flows place (entry_of entry.now)
+        (winner_place (value key.now) (table_at table switch.now.core.forwarding.tables).flows)) }
 {
     let datapath = switch.datapath();
     let winner = datapath.winner(table, key)?;

@@ -92,7 +92,8 @@ fn push_seen_of<L: Lookup>(
     fields: &[Field],
 ) -> Result<(), AllocError>
     requires { table < 16 }
-    ensures { OnOk result (out.new.items ≡ out.old.items ++ flat_map (seen_note (table_at table switch.now.core.forwarding.tables).flows (value key.now)) fields.now) }
+    ensures { OnOk result (out.new.items ≡ out.old.items ++ flat_map (seen_note (table_at table switch.now.core.forwarding.tables).flows (value key.now))
+        fields.now) }
 {
     for field in fields {
         push_seen_field(out, switch, table, key, *field)?;

@@ -18,7 +18,8 @@ ghost use Rattle.of_trace.specs.Text.{trace_text};
 /// them and in turn, those that the lines of these steps tell.
 pub fn steps_tell_packets()
     ensures { (w : TheWorld) (frame : List ℕ) (port k : ℕ) → IsSound w → IsFrame frame → length frame ≤ 9216 →
-        sights_of (after w k (starting (entering frame port) (Lookup 0 ∷ []))).tasks ≡ all_stepped w (after w k (starting (entering frame port) (Lookup 0 ∷ []))).lines (sight_of (entering frame port) ∷ []) }
+        sights_of (after w k (starting (entering frame port) (Lookup 0 ∷ []))).tasks ≡
+        all_stepped w (after w k (starting (entering frame port) (Lookup 0 ∷ []))).lines (sight_of (entering frame port) ∷ []) }
 {}
 
 /// The text of a trace in any of its forms is the plain text with notes inserted below its lines: nothing else is added, and nothing

@@ -88,7 +88,8 @@ pub fn push_reasons<L: Lookup>(
     asked: Asked,
 ) -> Result<(), AllocError>
     requires { table < 16 }
-    ensures { OnOk result (out.new.items ≡ out.old.items ++ reasons_from asked table (value key.now) (table_at table switch.now.core.forwarding.tables).flows 0 (table_at table switch.now.core.forwarding.tables).flows) }
+    ensures { OnOk result (out.new.items ≡ out.old.items ++ reasons_from asked table (value key.now) (table_at table switch.now.core.forwarding.tables).flows 0
+        (table_at table switch.now.core.forwarding.tables).flows) }
 {
     let mut place = 0;
     for entry in switch.datapath().entries(table) {

@@ -26,7 +26,8 @@ pub fn write_trace<L: Lookup, W: Sink>(
     writer: &mut W,
 ) -> Ended
     requires { W.failures writer.old ≡ 0 }
-    ensures output { WritesText (said form switch.now.core.forwarding port frame.now (steps_in port frame.now switch.now.core.forwarding) (frame_in port frame.now switch.now).effects) result (W.taken writer.old) (W.taken writer.new) }
+    ensures output { WritesText (said form switch.now.core.forwarding port frame.now (steps_in port frame.now switch.now.core.forwarding)
+        (frame_in port frame.now switch.now).effects) result (W.taken writer.old) (W.taken writer.new) }
     ensures write_fault { (result ≡ Ended.WriteFault) ↔ (0 < W.failures writer.new) }
 {
     let Ok(traced) = trace(alloc, switch, port, frame) else {

@@ -126,7 +126,8 @@ impl<'r> Sockets<'r> {
 impl Sockets<'_> {
     // Says on standard error what became of the connection, once.
     fn say_end(&mut self, why: &str)
-        ensures { (self.new.accepts ≡ self.old.accepts) × (self.new.reads ≡ self.old.reads) × (self.new.accept_failures ≡ self.old.accept_failures) × (self.new.write_failures ≡ self.old.write_failures) }
+        ensures { (self.new.accepts ≡ self.old.accepts) × (self.new.reads ≡ self.old.reads) × (self.new.accept_failures ≡ self.old.accept_failures) ×
+            (self.new.write_failures ≡ self.old.write_failures) }
     {
         if !self.quiet && !self.ended {
             let _ = eprintln!(self.rt; "connection ended: {why}");
@@ -137,7 +138,8 @@ impl Sockets<'_> {
     // The connection that begins, if somebody came.
     fn begin(&mut self, met: Option<(TcpStream, SocketAddr)>) -> Accepted
         ensures met { result ≢ Accepted.Fault }
-        ensures same { (self.new.accepts ≡ self.old.accepts) × (self.new.reads ≡ self.old.reads) × (self.new.accept_failures ≡ self.old.accept_failures) × (self.new.write_failures ≡ self.old.write_failures) }
+        ensures same { (self.new.accepts ≡ self.old.accepts) × (self.new.reads ≡ self.old.reads) × (self.new.accept_failures ≡ self.old.accept_failures) ×
+            (self.new.write_failures ≡ self.old.write_failures) }
     {
         let Some((stream, address)) = met else {
             return Accepted::Nothing;

@@ -121,7 +121,8 @@ fn best_of(rows: &[Row], key: &FieldKey) -> Option<usize>
 
 // The best so far after one more row, which is older.
 fn elder(best: Option<(usize, u16)>, row: &Row) -> Option<(usize, u16)>
-    ensures { MatchOption best (result ≡ Some (row.now.number, row.now.priority)) (λ b. result ≡ (if nat_lt row.now.priority b.1 then Some b else Some (row.now.number, row.now.priority))) }
+    ensures { MatchOption best (result ≡ Some (row.now.number, row.now.priority))
+        (λ b. result ≡ (if nat_lt row.now.priority b.1 then Some b else Some (row.now.number, row.now.priority))) }
 {
     match best {
         Some((number, priority)) if row.priority < priority => Some((number, priority)),
