@@ -16,8 +16,8 @@ use of_wire::codes::{OFPBAC_BAD_LEN, OFPBAC_TOO_MANY};
 use of_wire::{Code, ReadError};
 use std::alloc::Global;
 
-/// How many bytes an action has at least (OpenFlow 1.3.5, 7.2.5).
-const LEAST_ACTION: usize = 8;
+/// How many bytes most actions have: an OUTPUT, and a SET_FIELD of up to eight bytes.
+const MOST_OFTEN: usize = 16;
 
 /// How many actions a list has at most.
 const MOST_ACTIONS: usize = 64;
@@ -54,7 +54,7 @@ fn read_all(alloc: Global, bytes: &[u8], packet_out: bool) -> Result<Vec<Action>
     ensures served { IfOk result (λ v. IsTrue (are_supported packet_out v.items)) }
     ensures refused { IfErr result (Fails (λ code. (before : List AnAction) × AreActions packet_out [] bytes.now before (Some code))) }
 {
-    let mut actions = Vec::with_capacity(alloc, (bytes.len() / LEAST_ACTION).min(MOST_ACTIONS))?;
+    let mut actions = Vec::with_capacity(alloc, bytes.len().div_ceil(MOST_OFTEN).min(MOST_ACTIONS))?;
     let mut rest = bytes;
     while !rest.is_empty() {
         match read_action(rest, &actions, packet_out) {
