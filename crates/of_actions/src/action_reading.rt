@@ -54,7 +54,10 @@ fn read_all(alloc: Global, bytes: &[u8], packet_out: bool) -> Result<Vec<Action>
     ensures served { IfOk result (λ v. IsTrue (are_supported packet_out v.items)) }
     ensures refused { IfErr result (Fails (λ code. (before : List AnAction) × AreActions packet_out [] bytes.now before (Some code))) }
 {
-    let mut actions = Vec::with_capacity(alloc, bytes.len().div_ceil(MOST_OFTEN).min(MOST_ACTIONS))?;
+    let mut actions = Vec::with_capacity(
+        alloc,
+        bytes.len().div_ceil(MOST_OFTEN).min(MOST_ACTIONS),
+    )?;
     let mut rest = bytes;
     while !rest.is_empty() {
         match read_action(rest, &actions, packet_out) {

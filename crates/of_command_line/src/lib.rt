@@ -9,18 +9,13 @@ ghost use Rattle.of_command_line.specs.declared.NoRequest.TheVariants.{NoMemory}
 use clap::ArgMatches;
 use clap::error::{Error, ErrorKind};
 use command::command;
+use of_wire::limits::{OFPP_MAX, TABLES};
 use std::alloc::{AllocError, Global};
 use std::net::SocketAddr;
 use std::str::FromStr;
 
 /// A switch that has the flows of a flow text has the ports 1 to this one.
 const LAST_PORT: u32 = 64;
-
-/// The highest number that a port can have, OFPP_MAX (OpenFlow 1.3.5, 7.2.1).
-const MAX_PORT: u32 = 0xffff_ff00;
-
-/// How many flow tables there are.
-const TABLES: u8 = 16;
 
 /// Where controllers find a switch (OpenFlow 1.3.5, 6.3.1).
 const DEFAULT_ADDRESS: &str = "127.0.0.1:6653";
@@ -241,7 +236,7 @@ fn row_of(alloc: Global, word: Option<&str>) -> Result<Option<u32>, NoRequest> {
 fn port_of(alloc: Global, kind: FileKind, word: &str) -> Result<u32, NoRequest> {
     let last = match kind {
         FileKind::Flows => LAST_PORT,
-        FileKind::Events => MAX_PORT,
+        FileKind::Events => OFPP_MAX,
     };
     match u32::from_str_radix(word, 10) {
         Ok(port) if port >= 1 && port <= last => Ok(port),

@@ -117,7 +117,8 @@ pub fn actions_fit(actions: &[Action]) -> bool
 }
 
 fn numbers_fit(fields: &[MatchField], partial: &PartialFlow) -> bool
-    ensures { result ≡ (list_all field_fits_so fields.now && list_all action_fits_so partial.now.apply.items && list_all action_fits_so partial.now.write.items) }
+    ensures { result ≡ (list_all field_fits_so fields.now && list_all action_fits_so partial.now.apply.items &&
+        list_all action_fits_so partial.now.write.items) }
 {
     fields_fit(fields) && actions_fit(&partial.apply) && actions_fit(&partial.write)
 }

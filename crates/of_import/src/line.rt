@@ -63,7 +63,8 @@ fn add_flow_words(alloc: Global, partial: &mut PartialFlow, text: &[u8]) -> Resu
 
 // Adds what words say of a group.
 fn add_group_words(alloc: Global, partial: &mut PartialGroup, text: &[u8]) -> Result<(), LineStop>
-    ensures added { IfOk result (λ _. with_words with_group_word (view_partial_group partial.old) (words_from 0 text.now) ≡ Ok (view_partial_group partial.new)) }
+    ensures added { IfOk result (λ _. with_words with_group_word (view_partial_group partial.old) (words_from 0 text.now) ≡
+        Ok (view_partial_group partial.new)) }
     ensures stopped { IfErr result (LineStops (with_words with_group_word (view_partial_group partial.old) (words_from 0 text.now))) }
 {
     let mut rest = text;

@@ -98,7 +98,8 @@ impl PartialGroup {
 
     // The bucket that is begun goes to those before it.
     fn close(&mut self) -> Result<(), AllocError>
-        ensures { OnOk result (view_partial_group self.new ≡ record (view_partial_group self.old) { begun = false; actions = []; buckets = closed (view_partial_group self.old) }) }
+        ensures { OnOk result (view_partial_group self.new ≡ record (view_partial_group self.old)
+            { begun = false; actions = []; buckets = closed (view_partial_group self.old) }) }
     {
         let actions = take_actions(&mut self.actions);
         if self.begun {

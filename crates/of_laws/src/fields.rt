@@ -17,5 +17,6 @@ pub fn fields_of_every_frame()
 /// The value of a field of a frame has no bit beyond those of the field (OpenFlow 1.3.5, 7.2.3.7), where the ingress port has 32
 /// bits and the metadata 64.
 pub fn values_within_their_bits()
-    ensures { (frame : List ℕ) (in_port metadata : ℕ) → AreBytes frame → 14 ≤ length frame → in_port < 2 ^ 32 → metadata < 2 ^ 64 → (f : Field) (v : ℕ) → field_map (layers_of frame) in_port metadata f ≡ Some v → v ≤ ones_of f }
+    ensures { (frame : List ℕ) (in_port metadata : ℕ) → AreBytes frame → 14 ≤ length frame → in_port < 2 ^ 32 → metadata < 2 ^ 64 → (f : Field) (v : ℕ) →
+        field_map (layers_of frame) in_port metadata f ≡ Some v → v ≤ ones_of f }
 {}

@@ -52,8 +52,10 @@ pub fn no_spelling_begins_another()
 /// Bytes are read as these actions, in a PACKET_OUT or in an instruction, exactly where they are the actions' structs and the
 /// actions may be sent (OpenFlow 1.3.5, 7.2.5): so what is accepted differs from what is written in padding alone.
 pub fn actions_are_structs(packet_out: bool, bytes: &[u8])
-    ensures found { (actions : List Action) → AreActions packet_out [] bytes.now actions None → AreStructs actions bytes.now × (are_supported packet_out actions ≡ true) }
-    ensures only { (actions : List Action) → AreStructs actions bytes.now → are_supported packet_out actions ≡ true → AreActions packet_out [] bytes.now actions None }
+    ensures found { (actions : List Action) → AreActions packet_out [] bytes.now actions None →
+        AreStructs actions bytes.now × (are_supported packet_out actions ≡ true) }
+    ensures only { (actions : List Action) → AreStructs actions bytes.now → are_supported packet_out actions ≡ true →
+        AreActions packet_out [] bytes.now actions None }
 {}
 
 /// `action_types` lists the type of each action, and no other (OpenFlow 1.3.5, 7.2.5): those that GROUP_FEATURES reports.
@@ -66,6 +68,8 @@ pub fn action_types_are_all()
 /// two of one type, and such an entry may have them (OpenFlow 1.3.5, 5.9 and 7.2.4): so what is accepted differs from what is
 /// written in padding and order alone.
 pub fn instructions_are_structs(table: u8, bytes: &[u8])
-    ensures found { (instructions : List Instruction) → SpellsInstructions table bytes.now instructions → AreInAnyOrder instructions bytes.now × (are_kept instructions ≡ true) × (are_for table instructions ≡ true) }
-    ensures only { (instructions : List Instruction) → AreInAnyOrder instructions bytes.now → are_kept instructions ≡ true → are_for table instructions ≡ true → SpellsInstructions table bytes.now instructions }
+    ensures found { (instructions : List Instruction) → SpellsInstructions table bytes.now instructions →
+        AreInAnyOrder instructions bytes.now × (are_kept instructions ≡ true) × (are_for table instructions ≡ true) }
+    ensures only { (instructions : List Instruction) → AreInAnyOrder instructions bytes.now → are_kept instructions ≡ true → are_for table instructions ≡ true →
+        SpellsInstructions table bytes.now instructions }
 {}

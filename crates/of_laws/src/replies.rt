@@ -21,12 +21,14 @@ ghost use Rattle.of_laws.specs.Shown.{aggregate_shown, flow_shown, group_describ
 
 /// No bytes spell two replies, or have two transaction ids, or say both that more follow and that none do.
 pub fn one_reply()
-    ensures { (x y : ℕ) (more again : Bool) (r s : Reply) (bytes : List ℕ) → SpellsReply x more r bytes → SpellsReply y again s bytes → (x ≡ y) × (more ≡ again) × (r ≡ s) }
+    ensures { (x y : ℕ) (more again : Bool) (r s : Reply) (bytes : List ℕ) → SpellsReply x more r bytes → SpellsReply y again s bytes →
+        (x ≡ y) × (more ≡ again) × (r ≡ s) }
 {}
 
 /// No reply begins another one.
 pub fn no_reply_begins_another()
-    ensures { (x y : ℕ) (more again : Bool) (r s : Reply) (bytes rest : List ℕ) → SpellsReply x more r bytes → SpellsReply y again s (bytes ++ rest) → rest ≡ [] }
+    ensures { (x y : ℕ) (more again : Bool) (r s : Reply) (bytes rest : List ℕ) → SpellsReply x more r bytes → SpellsReply y again s (bytes ++ rest) →
+        rest ≡ [] }
 {}
 
 /// No message begins another one, whichever side sends the two: the header's length is that of all bytes (OpenFlow 1.3.5, 7.1).
@@ -44,12 +46,21 @@ pub fn no_message_begins_another()
 /// rows, in their order.
 pub fn written_replies_are_spelt()
     ensures description { (xid : ℕ) → xid < 256 ^ 4 → SpellsReply xid false description (description_bytes xid) }
-    ensures flow { (xid : ℕ) (which : Selector) (ts : Tables) → xid < 256 ^ 4 → All (IsShownFlow ts.latest) (listed which ts) → SpellAll xid (λ part. flows (map (flow_shown ts.latest) part)) (listed which ts) (flow_bytes xid which ts) }
-    ensures aggregate { (xid : ℕ) (which : Selector) (ts : Tables) → xid < 256 ^ 4 → Fits (reply_cells (aggregate (aggregate_shown (asked which ts)))) → SpellsReply xid false (aggregate (aggregate_shown (asked which ts))) (aggregate_bytes xid which ts) }
-    ensures table { (xid : ℕ) (ts : Tables) → xid < 256 ^ 4 → length ts.tables ≤ 16 → All (λ s. Fits (table_cells s)) (tables_shown ts) → SpellsReply xid false (tables (tables_shown ts)) (table_bytes xid ts) }
-    ensures port_stats { (xid now : ℕ) (which : Option ℕ) (all : List Port) → xid < 256 ^ 4 → length all ≤ 64 → All (λ p. Fits (port_stats_cells (port_shown now p))) (asked_ports which all) → SpellsReply xid false (ports (map (port_shown now) (asked_ports which all))) (port_stats_bytes xid now which all) }
-    ensures group { (xid : ℕ) (which : Option ℕ) (all : List Group) (ts : Tables) → xid < 256 ^ 4 → All (λ g. IsShownGroup (group_shown all ts g)) (asked_groups which all) → SpellAll xid (λ part. groups (map (group_shown all ts) part)) (asked_groups which all) (group_bytes xid which all ts) }
-    ensures group_description { (xid : ℕ) (all : List Group) → xid < 256 ^ 4 → All IsDescribable all → SpellAll xid (λ part. described_groups (map group_described part)) all (group_description_bytes xid all) }
+    ensures flow { (xid : ℕ) (which : Selector) (ts : Tables) → xid < 256 ^ 4 → All (IsShownFlow ts.latest) (listed which ts) →
+        SpellAll xid (λ part. flows (map (flow_shown ts.latest) part)) (listed which ts) (flow_bytes xid which ts) }
+    ensures aggregate { (xid : ℕ) (which : Selector) (ts : Tables) → xid < 256 ^ 4 → Fits (reply_cells (aggregate (aggregate_shown (asked which ts)))) →
+        SpellsReply xid false (aggregate (aggregate_shown (asked which ts))) (aggregate_bytes xid which ts) }
+    ensures table { (xid : ℕ) (ts : Tables) → xid < 256 ^ 4 → length ts.tables ≤ 16 → All (λ s. Fits (table_cells s)) (tables_shown ts) →
+        SpellsReply xid false (tables (tables_shown ts)) (table_bytes xid ts) }
+    ensures port_stats { (xid now : ℕ) (which : Option ℕ) (all : List Port) → xid < 256 ^ 4 → length all ≤ 64 →
+        All (λ p. Fits (port_stats_cells (port_shown now p))) (asked_ports which all) →
+        SpellsReply xid false (ports (map (port_shown now) (asked_ports which all))) (port_stats_bytes xid now which all) }
+    ensures group { (xid : ℕ) (which : Option ℕ) (all : List Group) (ts : Tables) → xid < 256 ^ 4 →
+        All (λ g. IsShownGroup (group_shown all ts g)) (asked_groups which all) →
+        SpellAll xid (λ part. groups (map (group_shown all ts) part)) (asked_groups which all) (group_bytes xid which all ts) }
+    ensures group_description { (xid : ℕ) (all : List Group) → xid < 256 ^ 4 → All IsDescribable all →
+        SpellAll xid (λ part. described_groups (map group_described part)) all (group_description_bytes xid all) }
     ensures group_features { (xid : ℕ) → xid < 256 ^ 4 → SpellsReply xid false group_features (group_features_bytes xid) }
-    ensures port_description { (xid : ℕ) (all : List Port) → xid < 256 ^ 4 → length all ≤ 64 → All (λ p. Fits (port_cells (described p))) all → SpellsReply xid false (described_ports (map described all)) (port_description_bytes xid all) }
+    ensures port_description { (xid : ℕ) (all : List Port) → xid < 256 ^ 4 → length all ≤ 64 → All (λ p. Fits (port_cells (described p))) all →
+        SpellsReply xid false (described_ports (map described all)) (port_description_bytes xid all) }
 {}

@@ -44,14 +44,16 @@ pub fn text_comes_back()
 /// What `dis` writes of the file that `asm` wrote for a flow text is the canonical text of the configuration that the text spells.
 pub fn dis_undoes_asm()
     ensures good { (text file : List ℕ) → BuildsOf text file → (rows_of (lines_read true file)).bad ≡ None }
-    ensures canonical { (text file : List ℕ) (config : Configuration) → BuildsOf text file → SpellConfig (text_lines text) config → text_after (rows_of (lines_read true file)) ≡ config_text config }
+    ensures canonical { (text file : List ℕ) (config : Configuration) → BuildsOf text file → SpellConfig (text_lines text) config →
+        text_after (rows_of (lines_read true file)) ≡ config_text config }
 {}
 
 /// The text of each row of an event file is read as that row, if it is no longer than a line may be; and the text of a file of
 /// such rows as their events, in their order.
 pub fn written_rows_are_read()
     ensures row { (row : EventRow) → HasLine row → row_of (row_text row) ≡ Some row }
-    ensures file { (rows : List EventRow) → AllByRecursion HasLine rows → rows_of (lines_of (file_text rows)) ≡ record { events = flat_map events_in rows; bad = None } }
+    ensures file { (rows : List EventRow) → AllByRecursion HasLine rows →
+        rows_of (lines_of (file_text rows)) ≡ record { events = flat_map events_in rows; bad = None } }
 {}
 
 /// What is written of a flow text is refused for the text's first refusal, and else read: lists of actions, matches and
@@ -59,12 +61,15 @@ pub fn written_rows_are_read()
 ///
 /// Of a group the message decides its number and its buckets; what it watches, and how many there are, only the switch does.
 pub fn texts_are_refused_as_messages()
-    ensures actions { (actions : List Action) → AllByRecursion ActionFits actions → actions_said false (canonical_actions actions) ≡ outcome actions (first_of (list_refusals actions)) }
-    ensures fields { (fields : List MatchField) (rest : List ℕ) → AllByRecursion FieldFits fields → IsAscending fields → match_of (canonical fields ++ rest) ≡ match_outcome fields (first_of (match_refusals fields)) }
+    ensures actions { (actions : List Action) → AllByRecursion ActionFits actions →
+        actions_said false (canonical_actions actions) ≡ outcome actions (first_of (list_refusals actions)) }
+    ensures fields { (fields : List MatchField) (rest : List ℕ) → AllByRecursion FieldFits fields → IsAscending fields →
+        match_of (canonical fields ++ rest) ≡ match_outcome fields (first_of (match_refusals fields)) }
     ensures instructions { (table : ℕ) (steps : List Step) → AllByRecursion StepFits steps → is_ascending run_place (map instruction_of steps) ≡ true
         → length (canonical_instructions (map instruction_of steps)) < 65528
         → instructions_of table (canonical_instructions (map instruction_of steps))
         ≡ outcome (map instruction_of steps) (first_of (flat_map (goto_refusals table) steps ++ flat_map step_refusals steps)) }
     ensures flow { (xid : ℕ) (f : Flow) → IsSaid f → message_of (flow_mod_bytes xid (add_of f)) ≡ message_outcome (add_of f) (first_of (flow_refusals f)) }
-    ensures group { (xid : ℕ) (g : TextGroup) → IsSaidGroup g → message_of (group_add_bytes xid (new_of g)) ≡ group_outcome (new_of g) (first_of (said_refusals g)) }
+    ensures group { (xid : ℕ) (g : TextGroup) → IsSaidGroup g → message_of (group_add_bytes xid (new_of g)) ≡
+        group_outcome (new_of g) (first_of (said_refusals g)) }
 {}

@@ -10,7 +10,7 @@ use crate::writing::put_header;
 use byteorder::{BigEndian, ByteOrder};
 use of_wire::codes::{OFPSCFC_BAD_FLAGS, OFPTMFC_BAD_TABLE};
 use of_wire::limits::{OFPTT_ALL, TABLES};
-use of_wire::{Bytes, Code, ReadError, put_u16};
+use of_wire::{Bytes, ReadError, put_u16};
 use std::alloc::{AllocError, Global};
 
 /// The size of a GET_CONFIG_REPLY.

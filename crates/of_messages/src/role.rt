@@ -9,7 +9,7 @@ use crate::reading::rest_from;
 use crate::writing::put_header;
 use byteorder::{BigEndian, ByteOrder};
 use of_wire::codes::OFPRRFC_BAD_ROLE;
-use of_wire::{Bytes, Code, ReadError, put_u32, put_u64};
+use of_wire::{Bytes, ReadError, put_u32, put_u64};
 use std::alloc::{AllocError, Global};
 
 /// The size of a ROLE_REPLY.
