@@ -1,5 +1,5 @@
 //! What forwards frames: the flow tables, the groups and the ports, and the frames that are held.
-ghost use Rattle.std.specs.Prelude.{◌≡◌, ◌≤◌, IfOk, OnOk, OnErr, length};
+ghost use Rattle.std.specs.Prelude.{◌≡◌, ◌≤◌, IfOk, OnErr, length};
 ghost use Rattle.of_table.specs.Tables.{all_numbers, tables_of, looked_in, matched_in};
 ghost use Rattle.of_groups.specs.Sound.{AreSound};
 ghost use Rattle.std.specs.Prelude.{IsTrue, true, [], ◌∷◌};
@@ -9,7 +9,6 @@ ghost use Rattle.of_machine.specs.Rows.{Lookup as LookUp, acts, entering};
 ghost use Rattle.of_table.specs.Tables.{left_in, notices_in};
 ghost use Rattle.of_datapath.specs.Commands.{notice_effects};
 ghost use Rattle.std.specs.Prelude.{flat_map};
-ghost use Rattle.of_buffers.specs.Buffers.{last_id};
 ghost use Rattle.of_datapath.specs.Told.{each_told, frames_for, given};
 ghost use Rattle.of_datapath.specs.Applying.{with_held, with_reception, without_used};
 ghost use Rattle.of_datapath.specs.Datapath.{all_sent, all_tallied, forwards, framed, idle, received, sent, tallied, through, without_held};
