@@ -23,4 +23,3 @@ pub use loading::load_tables;
 pub use port_status::{write_change, write_status};
 pub use removal::Removal;
 pub use statistics::{answers, asked_by, asks_absent_port};
-pub use told::NO_BUFFER;
