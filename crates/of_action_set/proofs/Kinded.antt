@@ -1,4 +1,4 @@
--- The kinds of actions that some bytes spell: 30 ranks.
+-- The kinds of actions that some bytes encode: 30 ranks.
 use Rattle.std.proofs.Common.{◌≡◌, ℕ, ◌≤◌, ◌<◌, ◌+◌, ◌++◌, Bool, true, false, not, cond, eqb, ltb, List, [], ◌∷◌, length, refl, sym, arith}
 use Rattle.std.specs.Prelude.{filter, find, map, Option, None}
 use Rattle.std.specs.List.{list_all}

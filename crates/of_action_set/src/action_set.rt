@@ -120,7 +120,7 @@ impl ActionSet {
         }
     }
 
-    /// The invariant of each set: its actions are in ascending order of rank, and some bytes spell each.
+    /// The invariant of each set: its actions are in ascending order of rank, and some bytes encode each.
     pub fn known(&self)
         ensures rising { IsTrue (is_ascending rank_of self.now) }
         ensures served { IsTrue (list_all (is_supported false) self.now) }

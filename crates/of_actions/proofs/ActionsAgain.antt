@@ -149,9 +149,9 @@ all_again packet_out seen (a ∷ xs) few served =
     let others : list_all (is_supported packet_out) xs ≡ true = grind (arith, nat_tests) in
     (λ x. action_again packet_out a seen x (omega arith) this, all_again packet_out (seen ++ a ∷ []) xs (omega (arith, length-append seen (a ∷ []))) others)
 
--- a supported list is spelt by what is written
-pub canonical_spelt : (packet_out : Bool) (actions : List Action) → are_supported packet_out actions ≡ true → AreActions packet_out [] (canonical_actions actions) actions None
-canonical_spelt packet_out actions h =
+-- a supported list is encoded by what is written
+pub canonical_encoded : (packet_out : Bool) (actions : List Action) → are_supported packet_out actions ≡ true → AreActions packet_out [] (canonical_actions actions) actions None
+canonical_encoded packet_out actions h =
     let s = is_served_list packet_out actions h in
     written_items (actions_of packet_out) canonical_action [] actions (all_again packet_out [] actions (omega (arith, s.few)) s.all)
 

@@ -46,7 +46,7 @@ all_read hs i done reading e =
 -- ---- headers begin one list of instructions, or have one fault
 
 one_list : (bytes : List ℕ) (make : List Action → Instruction) (v w : Instruction) → HasActions bytes make v → HasActions bytes make w → v ≡ w
-one_list bytes make v w a b = a.is ∙ (ap make (one_walk (actions_of false) [] bytes a.actions b.actions None None a.spelt b.spelt).0 ∙ sym b.is)
+one_list bytes make v w a b = a.is ∙ (ap make (one_walk (actions_of false) [] bytes a.actions b.actions None None a.encoded b.encoded).0 ∙ sym b.is)
 
 one_body : (h : Header) (v w : Instruction) → IsBody h v → IsBody h w → v ≡ w
 one_body (goto table) v w a b = a ∙ sym b
@@ -69,7 +69,7 @@ one_fault clear o p a b = absurd a
 
 no_fault : (bytes : List ℕ) (make : List Action → Instruction) (v : Instruction) (o : Option Code) → HasActions bytes make v → HasFault bytes o → ⊥
 no_fault bytes make v None a b = b
-no_fault bytes make v (Some c) a b = let same = (one_walk (actions_of false) [] bytes a.actions b.0 None (Some c) a.spelt b.1).1 in cc
+no_fault bytes make v (Some c) a b = let same = (one_walk (actions_of false) [] bytes a.actions b.0 None (Some c) a.encoded b.1).1 in cc
 
 not_both : (h : Header) (v : Instruction) (o : Option Code) → IsBody h v → IsFault h o → ⊥
 not_both (goto table) v o a b = b

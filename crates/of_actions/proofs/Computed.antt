@@ -15,7 +15,7 @@ use Rattle.of_actions.specs.declared.instruction.Instruction.TheVariants.{Apply,
 use Rattle.of_actions.specs.Actions.{actions_said}
 use Rattle.of_actions.specs.Beginnings.{len_at}
 use Rattle.of_actions.specs.Headers.{Header, goto, metadata, write, apply, clear, headers_of, header_refusals, AreHeaders}
-use Rattle.of_actions.specs.Instructions.{HasActions, HasFault, IsBody, IsFault, AreBodies, SpellsInstructions, IsRefused}
+use Rattle.of_actions.specs.Instructions.{HasActions, HasFault, IsBody, IsFault, AreBodies, EncodesInstructions, IsRefused}
 use Rattle.of_actions.specs.InstructionReading.{with_actions, body_of, prepended, bodies_of, then_bodies, then_ordered, instructions_of}
 use Rattle.of_actions.proofs.ActionsComputed.{actions_are}
 
@@ -27,7 +27,7 @@ headers_take table seen bytes some none =
 
 -- the actions of a body, computed
 list_is : (bytes : List ℕ) (make : List Action → Instruction) (i : Instruction) → HasActions bytes make i → with_actions make (actions_said false bytes) ≡ Ok i
-list_is bytes make i a = ap (with_actions make) (actions_are false bytes a.actions None a.spelt) ∙ ap Ok (sym a.is)
+list_is bytes make i a = ap (with_actions make) (actions_are false bytes a.actions None a.encoded) ∙ ap Ok (sym a.is)
 
 list_fault : (bytes : List ℕ) (make : List Action → Instruction) (code : Code) → HasFault bytes (Some code) → with_actions make (actions_said false bytes) ≡ Err code
 list_fault bytes make code b = ap (with_actions make) (actions_are false bytes b.0 (Some code) b.1)
@@ -69,9 +69,9 @@ bodies_are (h ∷ hs) (i ∷ is) fault b =
 headers_are : (table : ℕ) (bytes : List ℕ) (hs : List Header) (fault : Option Code) → AreHeaders table [] bytes hs fault → items_of (headers_of table) (length bytes) [] bytes ≡ outcome hs fault
 headers_are table bytes hs fault h = items_are (headers_of table) (length bytes) [] bytes hs fault (headers_take table) (omega arith) h
 
-spelt_computed : (table : ℕ) (bytes : List ℕ) (is : List Instruction) → SpellsInstructions table bytes is → instructions_of table bytes ≡ Ok is
+encoded_computed : (table : ℕ) (bytes : List ℕ) (is : List Instruction) → EncodesInstructions table bytes is → instructions_of table bytes ≡ Ok is
 unfolding instructions_of
-spelt_computed table bytes is h =
+encoded_computed table bytes is h =
     ap (λ (r : Result (List Header) Code). then_ordered (then_bodies r)) (headers_are table bytes h.headers None h.whole)
     ∙ (ap then_ordered (bodies_are h.headers h.message None h.bodies) ∙ ap Ok (sym h.order))
 
@@ -85,6 +85,6 @@ error_computed : (table : ℕ) (bytes : List ℕ) (e : ReadError) → Fails (IsR
 error_computed table bytes errors.Memory h = tt
 error_computed table bytes (errors.Refused code) h = refused_computed table bytes code h
 
-pub is_computed : (table : ℕ) (bytes : List ℕ) (r : Result (List Instruction) ReadError) → IfOk r (λ list. SpellsInstructions table bytes list) → IfErr r (Fails (IsRefused table bytes)) → Reads r (instructions_of table bytes)
-is_computed table bytes (Ok list) found refused = spelt_computed table bytes list found
+pub is_computed : (table : ℕ) (bytes : List ℕ) (r : Result (List Instruction) ReadError) → IfOk r (λ list. EncodesInstructions table bytes list) → IfErr r (Fails (IsRefused table bytes)) → Reads r (instructions_of table bytes)
+is_computed table bytes (Ok list) found refused = encoded_computed table bytes list found
 is_computed table bytes (Err e) found refused = error_computed table bytes e refused

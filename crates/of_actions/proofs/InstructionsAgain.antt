@@ -18,10 +18,10 @@ use Rattle.of_actions.specs.Beginnings.{type_at, len_at}
 use Rattle.of_actions.specs.Rising.{is_ascending}
 use Rattle.of_actions.specs.InstructionLists.{type_of, run_place, is_served_body, are_kept, is_for, are_for}
 use Rattle.of_actions.specs.Headers.{Header, goto, metadata, write, apply, clear, kind_of, is_known, is_size, is_next, table_at, headers_of, header_refusals, header_at}
-use Rattle.of_actions.specs.Instructions.{AreBodies, SpellsInstructions}
+use Rattle.of_actions.specs.Instructions.{AreBodies, EncodesInstructions}
 use Rattle.of_actions.specs.CanonicalActions.{canonical_actions}
 use Rattle.of_actions.specs.CanonicalInstructions.{after_type, canonical_instruction, canonical_instructions}
-use Rattle.of_actions.proofs.ActionsAgain.{canonical_spelt, canonical_short}
+use Rattle.of_actions.proofs.ActionsAgain.{canonical_encoded, canonical_short}
 use Rattle.of_actions.proofs.Bodies.{distinct_place}
 use Rattle.of_actions.proofs.RunOrders.{order_same, rising_once}
 
@@ -201,17 +201,17 @@ bodies [] served = refl
 bodies (Goto table ∷ is) served = (refl, bodies is (grind (arith, nat_tests)))
 bodies (Metadata value mask ∷ is) served = (refl, bodies is (grind (arith, nat_tests)))
 bodies (Write actions ∷ is) served =
-    (record { actions = actions; spelt = canonical_spelt false actions (grind (arith, nat_tests)); is = refl }, bodies is (grind (arith, nat_tests)))
+    (record { actions = actions; encoded = canonical_encoded false actions (grind (arith, nat_tests)); is = refl }, bodies is (grind (arith, nat_tests)))
 bodies (Apply actions ∷ is) served =
-    (record { actions = actions; spelt = canonical_spelt false actions (grind (arith, nat_tests)); is = refl }, bodies is (grind (arith, nat_tests)))
+    (record { actions = actions; encoded = canonical_encoded false actions (grind (arith, nat_tests)); is = refl }, bodies is (grind (arith, nat_tests)))
 bodies (Clear ∷ is) served = (refl, bodies is (grind (arith, nat_tests)))
 
 all_new : (is : List Instruction) → are_new [] is ≡ true
 all_new [] = refl
 all_new (i ∷ is) = all_new is
 
-pub instructions_spelt : (table : ℕ) (is : List Instruction) → are_kept is ≡ true → are_for table is ≡ true → SpellsInstructions table (canonical_instructions is) is
-instructions_spelt table is kept valid =
+pub instructions_encoded : (table : ℕ) (is : List Instruction) → are_kept is ≡ true → are_for table is ≡ true → EncodesInstructions table (canonical_instructions is) is
+instructions_encoded table is kept valid =
     let rising : is_ascending run_place is ≡ true = grind (arith, nat_tests) in
     let served : list_all is_served_body is ≡ true = grind (arith, nat_tests) in
     let once : is_distinct type_of is ≡ true = sym (distinct_place is) ∙ rising_once is rising in

@@ -1,4 +1,4 @@
--- A reader of items answers the one list that bytes spell, or their one code.
+-- A reader of items answers the one list that bytes encode, or their one code.
 use Rattle.std.proofs.Common.{ℕ, List, [], Some, None, Result, Ok, Err, refl}
 use Rattle.std.specs.Prelude.{IfOk, IfErr}
 use Rattle.of_wire.specs.declared.code.Code.{Code}

@@ -1,4 +1,4 @@
--- The one spelling of a list of actions that is written: padding is zeros (OpenFlow 1.3.5, 7.2.5).
+-- The one encoding of a list of actions that is written: padding is zeros (OpenFlow 1.3.5, 7.2.5).
 use Rattle.std.specs.Prelude.{ℕ, ◌+◌, ◌-◌, ◌*◌, List, [], ◌∷◌, ◌++◌, replicate}
 use Rattle.std.specs.List.{flat_map}
 use Rattle.byteorder.specs.Endian.{big_bytes}

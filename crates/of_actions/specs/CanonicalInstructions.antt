@@ -1,4 +1,4 @@
--- The one spelling of instructions that is written, in the order of the list: padding is zeros (OpenFlow 1.3.5, 7.2.4).
+-- The one encoding of instructions that is written, in the order of the list: padding is zeros (OpenFlow 1.3.5, 7.2.4).
 use Rattle.std.specs.Prelude.{ℕ, ◌+◌, List, [], ◌∷◌, ◌++◌, length, take, drop}
 use Rattle.std.specs.List.{flat_map}
 use Rattle.of_formats.specs.Structs.{written}

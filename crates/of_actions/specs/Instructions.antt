@@ -11,7 +11,7 @@ use Rattle.of_actions.specs.RunOrder.{in_run_order}
 -- the bytes are actions, and the instruction has them
 pub record HasActions (bytes : List ℕ) (make : List Action → Instruction) (i : Instruction) : Type 0 where
   pub actions : List Action
-  pub spelt : AreActions false [] bytes actions None
+  pub encoded : AreActions false [] bytes actions None
   pub is : i ≡ make actions
 
 -- the header begins this instruction
@@ -41,15 +41,15 @@ AreBodies [] (i ∷ is) fault = ⊥
 AreBodies (h ∷ hs) [] fault = IsFault h fault
 AreBodies (h ∷ hs) (i ∷ is) fault = IsBody h i × AreBodies hs is fault
 
--- The bytes spell these instructions of an entry of the table: no header is refused, each begins its instruction, and the list has them in the order of execution.
-pub record SpellsInstructions (table : ℕ) (bytes : List ℕ) (instructions : List Instruction) : Type 0 where
+-- The bytes encode these instructions of an entry of the table: no header is refused, each begins its instruction, and the list has them in the order of execution.
+pub record EncodesInstructions (table : ℕ) (bytes : List ℕ) (instructions : List Instruction) : Type 0 where
   pub headers : List Header
   pub whole : AreHeaders table [] bytes headers None
   pub message : List Instruction
   pub bodies : AreBodies headers message None
   pub order : instructions ≡ in_run_order message
 
--- Bytes that spell no instructions have one code: of the first header that is refused, else of the first fault in an instruction, in the order of the message.
+-- Bytes that encode no instructions have one code: of the first header that is refused, else of the first fault in an instruction, in the order of the message.
 pub data IsRefused (table : ℕ) (bytes : List ℕ) (code : Code) : Type 0 where
   header : (before : List Header) → AreHeaders table [] bytes before (Some code) → IsRefused table bytes code
   body : (headers : List Header) → AreHeaders table [] bytes headers None → (before : List Instruction) → AreBodies headers before (Some code) → IsRefused table bytes code

@@ -1,4 +1,4 @@
--- What a reader returns where the bytes are known to spell a value, or to have a code.
+-- What a reader returns where the bytes are known to encode a value, or to have a code.
 use Rattle.std.specs.Prelude.{◌≡◌, Result, Ok, Err}
 use Rattle.of_wire.specs.declared.code.Code.{Code}
 use Rattle.of_wire.specs.declared.code.ReadError.{ReadError}

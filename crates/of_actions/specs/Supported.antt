@@ -1,4 +1,4 @@
--- Supported actions: those that some bytes spell, in a PACKET_OUT or in an instruction (OpenFlow 1.3.5, 5.12 and 7.2.5).
+-- Supported actions: those that some bytes encode, in a PACKET_OUT or in an instruction (OpenFlow 1.3.5, 5.12 and 7.2.5).
 use Rattle.std.specs.Prelude.{nat_lt, nat_le, Bool, true, ◌&&◌, List, length}
 use Rattle.std.specs.List.{list_all}
 use Rattle.of_layers.specs.Fields.{is_settable, ones_of}

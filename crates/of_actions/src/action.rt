@@ -48,7 +48,7 @@ pub enum Action {
 }
 
 impl Action {
-    /// Whether some bytes spell it: in a PACKET_OUT, or in an instruction (OpenFlow 1.3.5, 7.2.5).
+    /// Whether some bytes encode it: in a PACKET_OUT, or in an instruction (OpenFlow 1.3.5, 7.2.5).
     #[tactic(auto, unfolding(crate::specs::Supported::is_supported))]
     pub(crate) fn is_supported(self, packet_out: bool) -> bool
         ensures { result ≡ is_supported packet_out self }

@@ -73,7 +73,7 @@ fn all_served(actions: &[Action], packet_out: bool) -> bool
     actions.iter().all(|action| action.is_supported(packet_out))
 }
 
-/// Whether some bytes spell these actions: of a PACKET_OUT, or of an instruction.
+/// Whether some bytes encode these actions: of a PACKET_OUT, or of an instruction.
 pub(crate) fn are_supported(actions: &[Action], packet_out: bool) -> bool
     ensures { result ≡ are_served_actions packet_out actions.now }
 {

@@ -84,7 +84,7 @@ fn parse_actions(alloc: Global, bytes: &[u8], packet_out: bool) -> Result<Action
 /// All of the bytes as actions (OpenFlow 1.3.5, 7.2.5): those of a PACKET_OUT, or of an instruction.
 /// Actions are refused one by one, by the error of the first fault.
 pub fn read_actions(alloc: Global, bytes: &[u8], packet_out: bool) -> Result<ActionList, ReadError>
-    // What is read is spelt so, and what is spelt is read, unless memory runs out.
+    // What is read is encoded so, and what is encoded is read, unless memory runs out.
     ensures found { IfOk result (λ list. AreActions packet_out [] bytes.now list None) }
     ensures only { (list : List AnAction) → AreActions packet_out [] bytes.now list None → Reads result list }
     // Other bytes have one code, and it is answered, unless memory runs out.
@@ -98,7 +98,7 @@ pub fn read_actions(alloc: Global, bytes: &[u8], packet_out: bool) -> Result<Act
     parse_actions(alloc, bytes, packet_out)
 }
 
-/// No bytes spell two lists of actions, or have two codes, or both.
+/// No bytes encode two lists of actions, or have two codes, or both.
 pub fn one_reading()
     ensures { (packet_out : Bool) (bytes : List ℕ) (some others : List AnAction) (o p : Option ErrorCode) → AreActions packet_out [] bytes some o →
         AreActions packet_out [] bytes others p → (some ≡ others) × (o ≡ p) }

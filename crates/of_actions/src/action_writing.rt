@@ -19,13 +19,13 @@ fn put_actions(out: &mut Vec<u8>, actions: &[Action]) -> Result<(), AllocError>
     Ok(())
 }
 
-/// The one spelling of a list of actions that is written (OpenFlow 1.3.5, 7.2.5): at most 1,536 bytes.
+/// The one encoding of a list of actions that is written (OpenFlow 1.3.5, 7.2.5): at most 1,536 bytes.
 pub fn write_actions(alloc: Global, actions: &ActionList) -> Result<Vec<u8>, AllocError>
     ensures canonical { IfOk result (λ v. v.items ≡ canonical_actions actions.now) }
     ensures short { IfOk result (λ v. length v.items ≤ 1536) }
     // A PACKET_OUT may have each list of actions, and an instruction each that is supported there.
-    ensures spelt { IfOk result (λ v. AreActions true [] v.items actions.now None) }
-    ensures spelt_where_served { IfOk result (λ v. (packet_out : Bool) → IsTrue (are_supported packet_out actions.now) →
+    ensures encoded { IfOk result (λ v. AreActions true [] v.items actions.now None) }
+    ensures encoded_where_served { IfOk result (λ v. (packet_out : Bool) → IsTrue (are_supported packet_out actions.now) →
         AreActions packet_out [] v.items actions.now None) }
 {
     let mut out = Vec::new(alloc);

@@ -46,7 +46,7 @@ impl Instruction {
         }
     }
 
-    /// Whether some bytes spell it.
+    /// Whether some bytes encode it.
     pub(crate) fn is_served_body(&self) -> bool
         ensures { result ≡ is_body_served self.now }
     {

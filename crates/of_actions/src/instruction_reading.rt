@@ -5,7 +5,7 @@ ghost use Rattle.of_wire.specs.declared.code.Code.{Code as ErrorCode};
 ghost use Rattle.of_wire.specs.Failures.{Fails, Reads as AnswersAs};
 ghost use Rattle.of_actions.specs.declared.instruction.Instruction.{Instruction as AnInstruction};
 ghost use Rattle.of_actions.specs.InstructionLists.{is_served_body, are_for};
-ghost use Rattle.of_actions.specs.Instructions.{AreBodies, IsBody, IsFault, IsRefused, SpellsInstructions};
+ghost use Rattle.of_actions.specs.Instructions.{AreBodies, IsBody, IsFault, IsRefused, EncodesInstructions};
 ghost use Rattle.of_actions.specs.InstructionReading.{instructions_of};
 ghost use Rattle.of_actions.specs.Readings.{Reads, Refuses};
 ghost use Rattle.of_actions.specs.Unread.{is_sound};
@@ -49,7 +49,7 @@ fn read_bodies(alloc: Global, headers: &[UnreadInstruction]) -> Result<Vec<Instr
 }
 
 fn parse_instructions(alloc: Global, bytes: &[u8], table: u8) -> Result<InstructionList, ReadError>
-    ensures found { IfOk result (λ list. SpellsInstructions table bytes.now list) }
+    ensures found { IfOk result (λ list. EncodesInstructions table bytes.now list) }
     ensures valid { IfOk result (λ list. IsTrue (are_for table list)) }
     ensures refused { IfErr result (Fails (IsRefused table bytes.now)) }
 {
@@ -66,9 +66,9 @@ pub fn read_instructions(
     bytes: &[u8],
     table: u8,
 ) -> Result<InstructionList, ReadError>
-    // What is read is spelt so, and what is spelt is read, unless memory runs out.
-    ensures found { IfOk result (λ list. SpellsInstructions table bytes.now list) }
-    ensures only { (list : List AnInstruction) → SpellsInstructions table bytes.now list → Reads result list }
+    // What is read is encoded so, and what is encoded is read, unless memory runs out.
+    ensures found { IfOk result (λ list. EncodesInstructions table bytes.now list) }
+    ensures only { (list : List AnInstruction) → EncodesInstructions table bytes.now list → Reads result list }
     // Other bytes have one code, and it is answered, unless memory runs out.
     ensures refused { IfErr result (Fails (IsRefused table bytes.now)) }
     ensures exact { (code : ErrorCode) → IsRefused table bytes.now code → Refuses result code }
@@ -80,11 +80,11 @@ pub fn read_instructions(
     parse_instructions(alloc, bytes, table)
 }
 
-/// No bytes spell two lists of instructions, none that spell one have a code, and none have two.
+/// No bytes encode two lists of instructions, none that encode one have a code, and none have two.
 pub fn one_instruction_reading()
-    ensures list { (table : ℕ) (bytes : List ℕ) (some others : List AnInstruction) → SpellsInstructions table bytes some →
-        SpellsInstructions table bytes others → some ≡ others }
-    ensures spelt { (table : ℕ) (bytes : List ℕ) (list : List AnInstruction) (code : ErrorCode) → SpellsInstructions table bytes list →
+    ensures list { (table : ℕ) (bytes : List ℕ) (some others : List AnInstruction) → EncodesInstructions table bytes some →
+        EncodesInstructions table bytes others → some ≡ others }
+    ensures encoded { (table : ℕ) (bytes : List ℕ) (list : List AnInstruction) (code : ErrorCode) → EncodesInstructions table bytes list →
         ¬ IsRefused table bytes code }
     ensures code { (table : ℕ) (bytes : List ℕ) (c d : ErrorCode) → IsRefused table bytes c → IsRefused table bytes d → c ≡ d }
 {}

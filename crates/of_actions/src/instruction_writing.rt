@@ -2,7 +2,7 @@
 ghost use Rattle.std.specs.Prelude.{◌≡◌, ◌≤◌, ◌<◌, ◌++◌, ◌∷◌, ℕ, length, IsTrue, OnOk, IfOk};
 ghost use Rattle.byteorder.specs.Endian.{big_bytes};
 ghost use Rattle.of_actions.specs.InstructionLists.{are_for};
-ghost use Rattle.of_actions.specs.Instructions.{SpellsInstructions};
+ghost use Rattle.of_actions.specs.Instructions.{EncodesInstructions};
 ghost use Rattle.of_actions.specs.CanonicalActions.{canonical_actions};
 ghost use Rattle.of_actions.specs.CanonicalInstructions.{after_type, canonical_instruction, canonical_instructions};
 
@@ -66,7 +66,7 @@ fn put_instructions(
     Ok(())
 }
 
-/// The one spelling of instructions that is written (OpenFlow 1.3.5, 7.2.4): at most 3,128 bytes.
+/// The one encoding of instructions that is written (OpenFlow 1.3.5, 7.2.4): at most 3,128 bytes.
 pub fn write_instructions(
     alloc: Global,
     instructions: &InstructionList,
@@ -74,7 +74,7 @@ pub fn write_instructions(
     ensures canonical { IfOk result (λ v. v.items ≡ canonical_instructions instructions.now) }
     ensures short { IfOk result (λ v. length v.items ≤ 3128) }
     // They are read again for each table whose entries may have them.
-    ensures spelt { IfOk result (λ v. (table : ℕ) → IsTrue (are_for table instructions.now) → SpellsInstructions table v.items instructions.now) }
+    ensures encoded { IfOk result (λ v. (table : ℕ) → IsTrue (are_for table instructions.now) → EncodesInstructions table v.items instructions.now) }
 {
     let mut out = Vec::new(alloc);
     put_instructions(&mut out, alloc, instructions.as_slice())?;

@@ -1,4 +1,4 @@
-//! Actions and instructions, and their spellings (OpenFlow 1.3.5, 5.9 to 5.12, 7.2.4 and 7.2.5).
+//! Actions and instructions, and their encodings (OpenFlow 1.3.5, 5.9 to 5.12, 7.2.4 and 7.2.5).
 #![tactic(auto)]
 
 mod action;

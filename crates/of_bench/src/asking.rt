@@ -2,7 +2,7 @@
 
 use crate::clock::{Timed, time};
 use crate::lookups::Lookups;
-use crate::switching::{add, adds, piece, switch_after};
+use crate::switching::{add, adds, chunk, switch_after};
 use of_switch::Switch;
 use std::alloc::{AllocError, Global};
 use std::io;
@@ -34,7 +34,7 @@ pub struct Asking {
 
 impl Timed for Asking {
     fn call(&mut self, _turn: u64) -> u64 {
-        piece(&mut self.switch, &self.request).unwrap_or(0)
+        chunk(&mut self.switch, &self.request).unwrap_or(0)
     }
 }
 
@@ -89,7 +89,7 @@ fn stream(alloc: Global) -> Result<Vec<u8>, AllocError> {
     Ok(bytes)
 }
 
-/// 10,000 ADDs in one piece, of which each replaces an entry but in the first turn.
+/// 10,000 ADDs in one chunk, of which each replaces an entry but in the first turn.
 pub fn time_flow_mod_stream(rt: &HostRuntime) -> io::Result<()> {
     time_asking(rt, "flow_mod_stream", 0, stream(rt.alloc()))
 }

@@ -4,7 +4,7 @@ use crate::clock::{Timed, time};
 use crate::flows::{PORT_MATCH, push_flow};
 use crate::frames::TCP;
 use crate::lookups::Lookups;
-use crate::switching::{piece, switch_after};
+use crate::switching::{chunk, switch_after};
 use of_switch::{Effect, Switch};
 use std::alloc::{AllocError, Global};
 use std::io;
@@ -42,7 +42,7 @@ impl Timed for Holding {
         self.request[9] = id[1];
         self.request[10] = id[2];
         self.request[11] = id[3];
-        piece(&mut self.switch, &self.request).unwrap_or(0)
+        chunk(&mut self.switch, &self.request).unwrap_or(0)
     }
 }
 

@@ -43,7 +43,7 @@ fn port(number: u32) -> PortChange {
 }
 
 /// Receives bytes of the controller, and handles each whole message; `None` where that was refused or out of memory.
-pub fn piece(switch: &mut Switch<Lookups>, bytes: &[u8]) -> Option<u64> {
+pub fn chunk(switch: &mut Switch<Lookups>, bytes: &[u8]) -> Option<u64> {
     switch.feed(bytes).ok()?;
     let mut effects: u64 = 0;
     for _ in 0..=bytes.len() {
@@ -61,8 +61,8 @@ fn prepare(switch: &mut Switch<Lookups>, ports: u32, messages: &[u8]) -> Option<
         switch.port_change(port(number)).ok()?;
     }
     switch.connected().ok()?;
-    piece(switch, &HELLO)?;
-    match piece(switch, messages)? {
+    chunk(switch, &HELLO)?;
+    match chunk(switch, messages)? {
         0 => Some(()),
         _ => None,
     }
@@ -98,7 +98,7 @@ struct FlowMod {
 
 impl Timed for FlowMod {
     fn call(&mut self, turn: u64) -> u64 {
-        piece(&mut self.switch, &add(0, (turn % 4) as u16, 0)).unwrap_or(0)
+        chunk(&mut self.switch, &add(0, (turn % 4) as u16, 0)).unwrap_or(0)
     }
 }
 

@@ -16,14 +16,14 @@ use Rattle.of_text.specs.Kept.{IsEntry}
 use Rattle.of_text.specs.Views.{view, view_flows, view_group, view_groups}
 use Rattle.of_text.specs.Configs.{all_flows}
 use Rattle.of_text.proofs.WriteLemmas.{next_flow}
-use Rattle.of_build.specs.Building.{add_of, new_of, those, piece_line, add_lines, group_lines}
+use Rattle.of_build.specs.Building.{add_of, new_of, those, chunk_line, add_lines, group_lines}
 
 pub entries_next : (table : ℕ) (fs : List FlowText) (i : ℕ) (x : FlowText) → i < length fs → x ≡ get_or fs i x → AllByRecursion (IsEntry table) (view_flows (drop i fs)) → IsEntry table (view x) × AllByRecursion (IsEntry table) (view_flows (drop (i + 1) fs))
 entries_next table fs i x lt is h = let k : AllByRecursion (IsEntry table) (view x ∷ view_flows (drop (i + 1) fs)) = subst (AllByRecursion (IsEntry table)) (next_flow fs i x lt is) h in (k.0, k.1)
 
-pub rows_next : (fs : List FlowText) (i xid : ℕ) (x : FlowText) (old new all : List ℕ) → i < length fs → x ≡ get_or fs i x → new ≡ old ++ piece_line (flow_mod_bytes xid (add_of (view x))) → old ++ add_lines xid (view_flows (drop i fs)) ≡ all → new ++ add_lines (xid + 1) (view_flows (drop (i + 1) fs)) ≡ all
+pub rows_next : (fs : List FlowText) (i xid : ℕ) (x : FlowText) (old new all : List ℕ) → i < length fs → x ≡ get_or fs i x → new ≡ old ++ chunk_line (flow_mod_bytes xid (add_of (view x))) → old ++ add_lines xid (view_flows (drop i fs)) ≡ all → new ++ add_lines (xid + 1) (view_flows (drop (i + 1) fs)) ≡ all
 rows_next fs i xid x old new all lt is n h =
-    let line = piece_line (flow_mod_bytes xid (add_of (view x))) in
+    let line = chunk_line (flow_mod_bytes xid (add_of (view x))) in
     let rest = add_lines (xid + 1) (view_flows (drop (i + 1) fs)) in
     ap (λ (o : List ℕ). o ++ rest) n
     ∙ (append_assoc old line rest
@@ -33,7 +33,7 @@ rows_next fs i xid x old new all lt is n h =
 both_lines : (xid : ℕ) (a b : List Flow) → add_lines xid (a ++ b) ≡ add_lines xid a ++ add_lines (xid + length a) b
 both_lines xid [] b = ap (λ (n : ℕ). add_lines n b) (omega arith)
 both_lines xid (f ∷ fs) b =
-    let line = piece_line (flow_mod_bytes xid (add_of f)) in
+    let line = chunk_line (flow_mod_bytes xid (add_of f)) in
     let later : (xid + 1) + length fs ≡ xid + length (f ∷ fs) = omega arith in
     ap (λ (o : List ℕ). line ++ o) (both_lines (xid + 1) fs b ∙ ap (λ (n : ℕ). add_lines (xid + 1) fs ++ add_lines n b) later)
     ∙ sym (append_assoc line (add_lines (xid + 1) fs) (add_lines (xid + length (f ∷ fs)) b))
@@ -59,7 +59,7 @@ table_next ts k xid next size flows old new all lt f s x n h =
 both_groups : (xid : ℕ) (a b : List TextGroup) → group_lines xid (a ++ b) ≡ group_lines xid a ++ group_lines (xid + length a) b
 both_groups xid [] b = ap (λ (n : ℕ). group_lines n b) (omega arith)
 both_groups xid (g ∷ gs) b =
-    let line = piece_line (group_add_bytes xid (new_of g)) in
+    let line = chunk_line (group_add_bytes xid (new_of g)) in
     let later : (xid + 1) + length gs ≡ xid + length (g ∷ gs) = omega arith in
     ap (λ (o : List ℕ). line ++ o) (both_groups (xid + 1) gs b ∙ ap (λ (n : ℕ). group_lines (xid + 1) gs ++ group_lines n b) later)
     ∙ sym (append_assoc line (group_lines (xid + 1) gs) (group_lines (xid + length (g ∷ gs)) b))

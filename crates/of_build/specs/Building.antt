@@ -12,7 +12,7 @@ use Rattle.of_text.specs.Groups.{TextGroup, buckets_of, groups_at}
 use Rattle.of_text.specs.Flows.{Flow}
 use Rattle.of_text.specs.Kept.{instructions_of}
 use Rattle.of_text.specs.Lines.{lines_of}
-use Rattle.of_text.specs.Configs.{Configuration, SpellConfig, all_flows}
+use Rattle.of_text.specs.Configs.{Configuration, EncodeConfig, all_flows}
 
 -- the FLOW_MOD that adds a flow (OpenFlow 1.3.5, 7.3.4.1): no buffer, any port and any group (all ones), masks of 0
 abbrev pub add_of : Flow → FlowMod
@@ -32,14 +32,14 @@ add_of f = record {
   instructions = instructions_of f;
 }
 
--- the row of a piece of the controller's bytes
-abbrev pub piece_line : List ℕ → List ℕ
-piece_line bytes = codes "c " ++ encode_lower bytes ++ 10 ∷ []
+-- the row of a chunk of the controller's bytes
+abbrev pub chunk_line : List ℕ → List ℕ
+chunk_line bytes = codes "c " ++ encode_lower bytes ++ 10 ∷ []
 
 -- a row for each flow, with transaction ids from this one on
 abbrev pub add_lines : ℕ → List Flow → List ℕ
 add_lines xid [] = []
-add_lines xid (f ∷ fs) = piece_line (flow_mod_bytes xid (add_of f)) ++ add_lines (xid + 1) fs
+add_lines xid (f ∷ fs) = chunk_line (flow_mod_bytes xid (add_of f)) ++ add_lines (xid + 1) fs
 
 -- the group that a GROUP_MOD adds (7.3.4.2)
 abbrev pub new_of : TextGroup → NewGroup
@@ -48,7 +48,7 @@ new_of g = record { id = g.head.id; kind = g.head.kind; buckets = buckets_of g }
 -- a row for each group, with transaction ids from this one on
 abbrev pub group_lines : ℕ → List TextGroup → List ℕ
 group_lines xid [] = []
-group_lines xid (g ∷ gs) = piece_line (group_add_bytes xid (new_of g)) ++ group_lines (xid + 1) gs
+group_lines xid (g ∷ gs) = chunk_line (group_add_bytes xid (new_of g)) ++ group_lines (xid + 1) gs
 
 -- the group alone, if it is wanted
 abbrev pub those : Bool → TextGroup → List TextGroup
@@ -70,12 +70,12 @@ hello = 4 ∷ 0 ∷ 0 ∷ 8 ∷ 0 ∷ 0 ∷ 0 ∷ 0 ∷ []
 unfoldable pub build_text : Configuration → List ℕ
 build_text c =
     codes "connect\n"
-    ++ (piece_line hello
+    ++ (chunk_line hello
     ++ (group_lines 1 (in_turn c.groups)
     ++ add_lines (1 + length (in_turn c.groups)) (all_flows c.tables)))
 
--- THE FILE OF A TEXT: that of the configuration that the text spells
+-- THE FILE OF A TEXT: that of the configuration that the text encodes
 pub record BuildsOf (text file : List ℕ) : Type 0 where
   pub config : Configuration
-  pub spelt : SpellConfig (lines_of text) config
+  pub encoded : EncodeConfig (lines_of text) config
   pub is : file ≡ build_text config

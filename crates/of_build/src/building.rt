@@ -8,11 +8,11 @@ ghost use Rattle.of_groups.specs.Sound.{is_fit_group};
 ghost use Rattle.of_text.specs.Groups.{buckets_of, groups_at};
 ghost use Rattle.of_text.specs.Kept.{IsEntry};
 ghost use Rattle.of_text.specs.Views.{view, view_flows, view_group, view_groups};
-ghost use Rattle.of_text.specs.Configs.{Configuration, SpellConfig, all_flows};
+ghost use Rattle.of_text.specs.Configs.{Configuration, EncodeConfig, all_flows};
 ghost use Rattle.of_text.specs.First.{FailsFirst};
 ghost use Rattle.of_text.specs.Lines.{lines_of};
 ghost use Rattle.of_messages.specs.Written.{flow_mod_bytes};
-ghost use Rattle.of_build.specs.Building.{BuildsOf, add_lines, add_of as add_is, build_text, group_lines, in_turn, of_length, piece_line, those};
+ghost use Rattle.of_build.specs.Building.{BuildsOf, add_lines, add_of as add_is, build_text, group_lines, in_turn, of_length, chunk_line, those};
 
 use of_groups::chain_lengths;
 use of_messages::{FlowMod, FlowModCommand, NewGroup, write_flow_mod, write_group_mod};
@@ -31,9 +31,9 @@ pub fn push_hex(alloc: Global, out: &mut Vec<u8>, bytes: &[u8]) -> Result<(), Al
     out.extend_from_slice(text.as_bytes())
 }
 
-// Appends the row of a piece of the controller's bytes.
-fn push_piece(alloc: Global, out: &mut Vec<u8>, bytes: &[u8]) -> Result<(), AllocError>
-    ensures { OnOk result (out.new.items ≡ out.old.items ++ piece_line bytes.now) }
+// Appends the row of a chunk of the controller's bytes.
+fn push_chunk(alloc: Global, out: &mut Vec<u8>, bytes: &[u8]) -> Result<(), AllocError>
+    ensures { OnOk result (out.new.items ≡ out.old.items ++ chunk_line bytes.now) }
 {
     out.extend_from_slice(b"c ")?;
     push_hex(alloc, out, bytes)?;
@@ -73,11 +73,11 @@ fn push_flow(
     flow: &FlowText,
 ) -> Result<(), AllocError>
     requires { IsEntry table (view flow.now) }
-    ensures { OnOk result (out.new.items ≡ out.old.items ++ piece_line (flow_mod_bytes xid (add_is (view flow.now)))) }
+    ensures { OnOk result (out.new.items ≡ out.old.items ++ chunk_line (flow_mod_bytes xid (add_is (view flow.now)))) }
 {
     let flow_mod = add_of(table, flow)?;
     let bytes = write_flow_mod(alloc, xid, &flow_mod)?;
-    push_piece(alloc, out, bytes.as_slice())
+    push_chunk(alloc, out, bytes.as_slice())
 }
 
 // Appends a row for each flow of a table, with transaction ids from this one on, and returns the next.
@@ -123,7 +123,7 @@ fn push_group(
         buckets: group.to_buckets()?,
     };
     let bytes = write_group_mod(alloc, xid, &new_group)?;
-    push_piece(alloc, out, bytes.as_slice())?;
+    push_chunk(alloc, out, bytes.as_slice())?;
     Ok(xid + 1)
 }
 
@@ -193,7 +193,7 @@ pub fn build(alloc: Global, config: &Config) -> Result<Vec<u8>, AllocError>
 {
     let mut out = Vec::new(alloc);
     out.extend_from_slice(b"connect\n")?;
-    push_piece(alloc, &mut out, &HELLO)?;
+    push_chunk(alloc, &mut out, &HELLO)?;
     let first = push_all_groups(alloc, &mut out, config)?;
     push_tables(alloc, &mut out, first, config)?;
     Ok(out)
@@ -201,10 +201,10 @@ pub fn build(alloc: Global, config: &Config) -> Result<Vec<u8>, AllocError>
 
 /// The event file that builds the configuration of a flow text, or the fault of the text.
 pub fn build_of(alloc: Global, text: &[u8]) -> Result<Vec<u8>, TextFault>
-    // What is built is that of the configuration that the text spells.
+    // What is built is that of the configuration that the text encodes.
     ensures built { IfOk result (λ file. BuildsOf text.now file.items) }
-    // What the text spells is built, unless memory runs out.
-    ensures only { (config : Configuration) → SpellConfig (lines_of text.now) config →
+    // What the text encodes is built, unless memory runs out.
+    ensures only { (config : Configuration) → EncodeConfig (lines_of text.now) config →
         MatchResult result (λ file. file.items ≡ build_text config) (λ e. e ≡ TextFault.NoMemory) }
     // Which line is at fault.
     ensures failed { IfErr result (FailsFirst (lines_of text.now)) }

@@ -6,7 +6,7 @@ use Rattle.of_datapath.specs.Loading.{loaded_tables}
 use Rattle.of_replay.specs.Told.{Answer, then_bytes, given}
 use Rattle.of_replay.specs.Transfer.{then_answers, WrotePrefix}
 use Rattle.of_replay.specs.Assembling.{bad_line, HasFault}
-use Rattle.of_replay.specs.ConfigFiles.{Spells}
+use Rattle.of_replay.specs.ConfigFiles.{Encodes}
 use Rattle.of_replay.specs.declared.event_file.Ended.{Ended}
 use Rattle.of_replay.specs.declared.event_file.Ended.TheVariants.{Done, BadRow, Text, ReadFault, WriteFault, NoMemory}
 use Rattle.of_check.specs.declared.finding.Finding.{Finding}
@@ -26,8 +26,8 @@ WritesFindings ts c (Err other) old new = ⊥
 
 -- how such a run ends, by the bytes that were read
 abbrev pub EndsChecking : Result Bool Ended → Bool → List ℕ → Option (List ℕ) → Option (List ℕ) → Type 0
-EndsChecking (Ok found) ended file old new = (config : Configuration) × (ended ≡ true) × Spells file config × WritesFindings (tables_in config) config (Ok found) old new
-EndsChecking (Err WriteFault) ended file old new = (config : Configuration) × (ended ≡ true) × Spells file config × WritesFindings (tables_in config) config (Err WriteFault) old new
+EndsChecking (Ok found) ended file old new = (config : Configuration) × (ended ≡ true) × Encodes file config × WritesFindings (tables_in config) config (Ok found) old new
+EndsChecking (Err WriteFault) ended file old new = (config : Configuration) × (ended ≡ true) × Encodes file config × WritesFindings (tables_in config) config (Err WriteFault) old new
 EndsChecking (Err (BadRow n)) ended file old new = (ended ≡ true) × (bad_line file ≡ Some n) × (new ≡ old)
 EndsChecking (Err (Text f)) ended file old new = (ended ≡ true) × (bad_line file ≡ None) × HasFault file f × (new ≡ old)
 EndsChecking (Err ReadFault) ended file old new = (ended ≡ false) × (new ≡ old)

@@ -36,18 +36,18 @@ use Rattle.of_session.specs.Stream.{length_of}
 use Rattle.of_build.specs.Building.{add_of, in_turn, new_of, of_length}
 use Rattle.of_datapath.specs.declared.effect.Effect.{Effect}
 use Rattle.of_switch.specs.declared.event.Event.{Event}
-use Rattle.of_switch.specs.declared.event.Event.TheVariants.{Piece}
+use Rattle.of_switch.specs.declared.event.Event.TheVariants.{Chunk}
 use Rattle.of_switch.specs.declared.switch_error.SwitchError.{SwitchError}
 use Rattle.of_switch.specs.Calls.{feed_refusal}
 use Rattle.of_datapath.specs.Loading.{loaded_tables}
 use Rattle.of_switch.specs.Loading.{config_of}
 use Rattle.of_switch.specs.State.{State, new_core, start}
-use Rattle.of_switch.specs.Runs.{Gives, IsRefused, Report, Happened, Run, happened, piece_in, run, unless}
+use Rattle.of_switch.specs.Runs.{Gives, IsRefused, Report, Happened, Run, happened, chunk_in, run, unless}
 use Rattle.of_switch.proofs.ToldAgain.{told_again}
 use Rattle.of_laws.proofs.FlowsAdded.{AreSent, IsSent, flow_events, flows_lead}
 use Rattle.of_laws.proofs.GroupsAdded.{AreSentGroups, IsSentGroup, group_events, groups_lead}
 use Rattle.of_laws.proofs.StreamMessages.{built, one_message}
-use Rattle.of_laws.proofs.Pieces.{Leads, ready}
+use Rattle.of_laws.proofs.Chunks.{Leads, ready}
 use Rattle.of_laws.proofs.Present.{all_kept}
 use Rattle.of_config.specs.Listing.{flow_adds, group_adds, messages_of}
 use Rattle.of_config.specs.Sending.{config_by, config_from, is_command}
@@ -186,29 +186,29 @@ all_are c k =
 
 -- ---- the run
 
-flow_pieces : (xid : ℕ) (fs : List TextFlow) → flow_events xid fs ≡ map Piece (flow_adds xid fs)
-flow_pieces xid [] = refl
-flow_pieces xid (f ∷ fs) = ap (λ (es : List Event). Piece (flow_mod_bytes xid (add_of f)) ∷ es) (flow_pieces (xid + 1) fs)
+flow_chunks : (xid : ℕ) (fs : List TextFlow) → flow_events xid fs ≡ map Chunk (flow_adds xid fs)
+flow_chunks xid [] = refl
+flow_chunks xid (f ∷ fs) = ap (λ (es : List Event). Chunk (flow_mod_bytes xid (add_of f)) ∷ es) (flow_chunks (xid + 1) fs)
 
-group_pieces : (xid : ℕ) (gs : List TextGroup) (more : List Event) → group_events xid gs more ≡ map Piece (group_adds xid gs) ++ more
-group_pieces xid [] more = refl
-group_pieces xid (g ∷ gs) more = ap (λ (es : List Event). Piece (group_add_bytes xid (new_of g)) ∷ es) (group_pieces (xid + 1) gs more)
+group_chunks : (xid : ℕ) (gs : List TextGroup) (more : List Event) → group_events xid gs more ≡ map Chunk (group_adds xid gs) ++ more
+group_chunks xid [] more = refl
+group_chunks xid (g ∷ gs) more = ap (λ (es : List Event). Chunk (group_add_bytes xid (new_of g)) ∷ es) (group_chunks (xid + 1) gs more)
 
-pieces : (c : Configuration) → group_events 1 (in_turn c.groups) (flow_events (1 + length (in_turn c.groups)) (all_flows c.tables)) ≡ map Piece (messages_of c)
+chunks : (c : Configuration) → group_events 1 (in_turn c.groups) (flow_events (1 + length (in_turn c.groups)) (all_flows c.tables)) ≡ map Chunk (messages_of c)
 unfolding messages_of
-pieces c =
+chunks c =
     let next = 1 + length (in_turn c.groups) in
-    group_pieces 1 (in_turn c.groups) (flow_events next (all_flows c.tables))
-    ∙ (ap (λ (es : List Event). map Piece (group_adds 1 (in_turn c.groups)) ++ es) (flow_pieces next (all_flows c.tables))
-    ∙ sym (map-append Piece (group_adds 1 (in_turn c.groups)) (flow_adds next (all_flows c.tables))))
+    group_chunks 1 (in_turn c.groups) (flow_events next (all_flows c.tables))
+    ∙ (ap (λ (es : List Event). map Chunk (group_adds 1 (in_turn c.groups)) ++ es) (flow_chunks next (all_flows c.tables))
+    ∙ sym (map-append Chunk (group_adds 1 (in_turn c.groups)) (flow_adds next (all_flows c.tables))))
 
 abbrev end_of : Configuration → State
 end_of c = ready (built 1 (groups_at 0 c.groups) (loaded_tables 0 c.tables))
 
-messages_lead : (c : Configuration) → IsConfig c → Leads (map Piece (messages_of c)) (ready (new_core 1)) (end_of c)
+messages_lead : (c : Configuration) → IsConfig c → Leads (map Chunk (messages_of c)) (ready (new_core 1)) (end_of c)
 messages_lead c k =
     let flows = flow_events (1 + length (in_turn c.groups)) (all_flows c.tables) in
-    subst (λ (es : List Event). Leads es (ready (new_core 1)) (end_of c)) (pieces c)
+    subst (λ (es : List Event). Leads es (ready (new_core 1)) (end_of c)) (chunks c)
     (groups_lead 1 c.groups (empty_tables no_tables) flows (end_of c) refl (groups_sent c.groups (config_groups c k)) (flows_lead 1 (1 + length (in_turn c.groups)) c.groups c.tables (many c k) (all_sent c k)) 1)
 
 first_gives : (a b : List Effect) (xs ys : List Report) → Gives a ∷ xs ≡ Gives b ∷ ys → a ≡ b
@@ -218,24 +218,24 @@ others_give : (a b : List Effect) (xs ys : List Report) → Gives a ∷ xs ≡ G
 others_give a b xs ys h = cc
 
 -- messages to which the switch has nothing to say are accepted
-accepted : (ms : List (List ℕ)) (s t : State) (place : ℕ) → AreCommands ms → Leads (map Piece ms) s t → config_from place ms s ≡ Ok (config_of t)
+accepted : (ms : List (List ℕ)) (s t : State) (place : ℕ) → AreCommands ms → Leads (map Chunk ms) s t → config_from place ms s ≡ Ok (config_of t)
 accepted [] s t place are leads = ap (λ (r : Run). Ok (config_of r.state)) leads
-accepted (m ∷ ms) s t place are leads = by_refusal (feed_refusal s) refl (accepted ms (piece_in m s).state t (place + 1) are.1)
+accepted (m ∷ ms) s t place are leads = by_refusal (feed_refusal s) refl (accepted ms (chunk_in m s).state t (place + 1) are.1)
   where
-    by_refusal : (r : Option SwitchError) → feed_refusal s ≡ r → (Leads (map Piece ms) (piece_in m s).state t → config_from (place + 1) ms (piece_in m s).state ≡ Ok (config_of t)) → config_from place (m ∷ ms) s ≡ Ok (config_of t)
+    by_refusal : (r : Option SwitchError) → feed_refusal s ≡ r → (Leads (map Chunk ms) (chunk_in m s).state t → config_from (place + 1) ms (chunk_in m s).state ≡ Ok (config_of t)) → config_from place (m ∷ ms) s ≡ Ok (config_of t)
     by_refusal (Some e) is next =
-        let here : happened (Piece m) s ≡ unless (Some e) s (piece_in m s) = ap (λ (r : Option SwitchError). unless r s (piece_in m s)) is in
-        absurd (let whole : IsRefused e ∷ (run (map Piece ms) s).reports ≡ Gives [] ∷ replicate (length (map Piece ms)) (Gives []) = ap (λ (h : Happened). h.report ∷ (run (map Piece ms) h.state).reports) (sym here) ∙ ap (λ (r : Run). r.reports) leads in cc)
+        let here : happened (Chunk m) s ≡ unless (Some e) s (chunk_in m s) = ap (λ (r : Option SwitchError). unless r s (chunk_in m s)) is in
+        absurd (let whole : IsRefused e ∷ (run (map Chunk ms) s).reports ≡ Gives [] ∷ replicate (length (map Chunk ms)) (Gives []) = ap (λ (h : Happened). h.report ∷ (run (map Chunk ms) h.state).reports) (sym here) ∙ ap (λ (r : Run). r.reports) leads in cc)
     by_refusal None is next =
-        let o = piece_in m s in
-        let here : happened (Piece m) s ≡ record { report = Gives o.effects; state = o.state } = ap (λ (r : Option SwitchError). unless r s o) is in
-        let rest = run (map Piece ms) o.state in
-        let whole : record { reports = Gives o.effects ∷ rest.reports; state = rest.state } ≡ record { reports = Gives [] ∷ replicate (length (map Piece ms)) (Gives []); state = t } =
-        ap (λ (h : Happened). record { reports = h.report ∷ (run (map Piece ms) h.state).reports; state = (run (map Piece ms) h.state).state }) (sym here) ∙ leads in
-        let told : Gives o.effects ∷ rest.reports ≡ Gives [] ∷ replicate (length (map Piece ms)) (Gives []) = ap (λ (r : Run). r.reports) whole in
-        let none : o.effects ≡ [] = first_gives o.effects [] rest.reports (replicate (length (map Piece ms)) (Gives [])) told in
-        let others : rest.reports ≡ replicate (length (map Piece ms)) (Gives []) = others_give o.effects [] rest.reports (replicate (length (map Piece ms)) (Gives [])) told in
-        let later : Leads (map Piece ms) o.state t = λ i. record { reports = others i; state = ap (λ (r : Run). r.state) whole i } in
+        let o = chunk_in m s in
+        let here : happened (Chunk m) s ≡ record { report = Gives o.effects; state = o.state } = ap (λ (r : Option SwitchError). unless r s o) is in
+        let rest = run (map Chunk ms) o.state in
+        let whole : record { reports = Gives o.effects ∷ rest.reports; state = rest.state } ≡ record { reports = Gives [] ∷ replicate (length (map Chunk ms)) (Gives []); state = t } =
+        ap (λ (h : Happened). record { reports = h.report ∷ (run (map Chunk ms) h.state).reports; state = (run (map Chunk ms) h.state).state }) (sym here) ∙ leads in
+        let told : Gives o.effects ∷ rest.reports ≡ Gives [] ∷ replicate (length (map Chunk ms)) (Gives []) = ap (λ (r : Run). r.reports) whole in
+        let none : o.effects ≡ [] = first_gives o.effects [] rest.reports (replicate (length (map Chunk ms)) (Gives [])) told in
+        let others : rest.reports ≡ replicate (length (map Chunk ms)) (Gives []) = others_give o.effects [] rest.reports (replicate (length (map Chunk ms)) (Gives [])) told in
+        let later : Leads (map Chunk ms) o.state t = λ i. record { reports = others i; state = ap (λ (r : Run). r.state) whole i } in
         rw (are.0, none) (next later)
 
 pub comes_back : (c : Configuration) → IsConfig c → config_by (messages_of c) ≡ Ok c

@@ -12,7 +12,7 @@ use Rattle.of_text.specs.Flows.{Flow}
 use Rattle.of_text.specs.Views.{view, view_flows}
 use Rattle.of_text.specs.Configs.{Configuration, all_flows}
 use Rattle.of_text.proofs.WriteLemmas.{next_flow}
-use Rattle.of_build.specs.Building.{add_lines, add_of, build_text, group_lines, hello, in_turn, new_of, piece_line, those}
+use Rattle.of_build.specs.Building.{add_lines, add_of, build_text, group_lines, hello, in_turn, new_of, chunk_line, those}
 use Rattle.of_config.specs.Listing.{flow_adds, group_adds, messages_of}
 
 -- ---- flows
@@ -112,23 +112,23 @@ three_passes a b c start one two three x y z h1 n1 h2 n2 h3 n3 =
 
 -- ---- the rows of the file
 
-rows_of_both : (a b : List (List ℕ)) → flat_map piece_line (a ++ b) ≡ flat_map piece_line a ++ flat_map piece_line b
+rows_of_both : (a b : List (List ℕ)) → flat_map chunk_line (a ++ b) ≡ flat_map chunk_line a ++ flat_map chunk_line b
 rows_of_both [] b = refl
-rows_of_both (m ∷ a) b = ap (λ (o : List ℕ). piece_line m ++ o) (rows_of_both a b) ∙ sym (append_assoc (piece_line m) (flat_map piece_line a) (flat_map piece_line b))
+rows_of_both (m ∷ a) b = ap (λ (o : List ℕ). chunk_line m ++ o) (rows_of_both a b) ∙ sym (append_assoc (chunk_line m) (flat_map chunk_line a) (flat_map chunk_line b))
 
-rows_of_groups : (xid : ℕ) (gs : List TextGroup) → group_lines xid gs ≡ flat_map piece_line (group_adds xid gs)
+rows_of_groups : (xid : ℕ) (gs : List TextGroup) → group_lines xid gs ≡ flat_map chunk_line (group_adds xid gs)
 rows_of_groups xid [] = refl
-rows_of_groups xid (g ∷ gs) = ap (λ (o : List ℕ). piece_line (group_add_bytes xid (new_of g)) ++ o) (rows_of_groups (xid + 1) gs)
+rows_of_groups xid (g ∷ gs) = ap (λ (o : List ℕ). chunk_line (group_add_bytes xid (new_of g)) ++ o) (rows_of_groups (xid + 1) gs)
 
-rows_of_flows : (xid : ℕ) (fs : List Flow) → add_lines xid fs ≡ flat_map piece_line (flow_adds xid fs)
+rows_of_flows : (xid : ℕ) (fs : List Flow) → add_lines xid fs ≡ flat_map chunk_line (flow_adds xid fs)
 rows_of_flows xid [] = refl
-rows_of_flows xid (f ∷ fs) = ap (λ (o : List ℕ). piece_line (flow_mod_bytes xid (add_of f)) ++ o) (rows_of_flows (xid + 1) fs)
+rows_of_flows xid (f ∷ fs) = ap (λ (o : List ℕ). chunk_line (flow_mod_bytes xid (add_of f)) ++ o) (rows_of_flows (xid + 1) fs)
 
-pub file_rows : (c : Configuration) → build_text c ≡ codes "connect\n" ++ (piece_line hello ++ flat_map piece_line (messages_of c))
+pub file_rows : (c : Configuration) → build_text c ≡ codes "connect\n" ++ (chunk_line hello ++ flat_map chunk_line (messages_of c))
 unfolding build_text messages_of
 file_rows c =
     let next = 1 + length (in_turn c.groups) in
-    ap (λ (o : List ℕ). codes "connect\n" ++ (piece_line hello ++ o))
+    ap (λ (o : List ℕ). codes "connect\n" ++ (chunk_line hello ++ o))
     (ap (λ (o : List ℕ). o ++ add_lines next (all_flows c.tables)) (rows_of_groups 1 (in_turn c.groups))
-    ∙ (ap (λ (o : List ℕ). flat_map piece_line (group_adds 1 (in_turn c.groups)) ++ o) (rows_of_flows next (all_flows c.tables))
+    ∙ (ap (λ (o : List ℕ). flat_map chunk_line (group_adds 1 (in_turn c.groups)) ++ o) (rows_of_flows next (all_flows c.tables))
     ∙ sym (rows_of_both (group_adds 1 (in_turn c.groups)) (flow_adds next (all_flows c.tables)))))

@@ -34,13 +34,13 @@ use Rattle.of_datapath.specs.declared.effect.Effect.TheVariants.{Answer}
 use Rattle.of_datapath.specs.Commands.{command_notices, frame_named, is_notice_admitted, notice_effect, notice_effects}
 use Rattle.of_switch.specs.State.{Core, State}
 use Rattle.of_switch.specs.Steps.{Done, Outcome, after_command, after_flow_mod, after_group_mod, begun, does, done, gives, handled, next_by, next_of, refused, state_refusals, then_does, unless_refused as unless_code}
-use Rattle.of_switch.specs.Runs.{piece_in}
+use Rattle.of_switch.specs.Runs.{chunk_in}
 use Rattle.of_switch.specs.Loading.{config_of}
 use Rattle.of_text.specs.Configs.{Configuration}
 use Rattle.of_config.specs.declared.fault.ConfigFault.TheVariants.{NoMemory, NotACommand, Refused}
 use Rattle.of_config.specs.Sending.{IsReady, code_of, config_by, config_from, error_in, greeted, is_command, or_else, unless_refused}
 use Rattle.of_config.specs.Outcomes.{ComesTo, Takes}
-use Rattle.of_config.proofs.SendingLemmas.{greeted_is, having, is_message, is_ready, none_left, read_whole, ready, whole_piece}
+use Rattle.of_config.proofs.SendingLemmas.{greeted_is, having, is_message, is_ready, none_left, read_whole, ready, whole_chunk}
 
 -- ---- an ERROR, read again
 
@@ -164,40 +164,40 @@ IsAnswered m s o = ((code : Code) × (o ≡ gives (answer_to m code ∷ []) s)) 
 abbrev outcome_of : List ℕ → Done → Outcome
 outcome_of m d = gives d.effects (record { connection = record { phase = Open; pending = drop (length m) m }; core = d.core })
 
-piece_is : (m : List ℕ) (k : Core) (d : Done) → next_of (having m k) ≡ Some (outcome_of m d) → piece_in m (ready k) ≡ gives d.effects (ready d.core)
-piece_is m k d e =
-    whole_piece m k (outcome_of m d) e (ap (λ (bytes : List ℕ). record { phase = Open; pending = bytes }) (none_left m))
+chunk_is : (m : List ℕ) (k : Core) (d : Done) → next_of (having m k) ≡ Some (outcome_of m d) → chunk_in m (ready k) ≡ gives d.effects (ready d.core)
+chunk_is m k d e =
+    whole_chunk m k (outcome_of m d) e (ap (λ (bytes : List ℕ). record { phase = Open; pending = bytes }) (none_left m))
     ∙ ap (λ (bytes : List ℕ). gives d.effects (record { connection = record { phase = Open; pending = bytes }; core = d.core })) (none_left m)
 
 take_whole : (m : List ℕ) → take (length m) m ≡ m
 take_whole m = take_all (length m) m (omega arith)
 
-is_refused : (m : List ℕ) (k : Core) (code : Code) → next_of (having m k) ≡ Some (outcome_of m (refused (xid_of m) code (take 64 (take (length m) m)) k)) → IsAnswered m (ready k) (piece_in m (ready k))
+is_refused : (m : List ℕ) (k : Core) (code : Code) → next_of (having m k) ≡ Some (outcome_of m (refused (xid_of m) code (take 64 (take (length m) m)) k)) → IsAnswered m (ready k) (chunk_in m (ready k))
 is_refused m k code e =
-    inl (code, piece_is m k (refused (xid_of m) code (take 64 (take (length m) m)) k) e ∙ ap (λ (bytes : List ℕ). gives (Answer (error_bytes (xid_of m) code (take 64 bytes)) ∷ []) (ready k)) (take_whole m))
+    inl (code, chunk_is m k (refused (xid_of m) code (take 64 (take (length m) m)) k) e ∙ ap (λ (bytes : List ℕ). gives (Answer (error_bytes (xid_of m) code (take 64 bytes)) ∷ []) (ready k)) (take_whole m))
 
-is_done : (m : List ℕ) (k : Core) (d : Done) → next_of (having m k) ≡ Some (outcome_of m d) → SaysNoError d → IsAnswered m (ready k) (piece_in m (ready k))
-is_done m k d e says = inr (subst (λ (o : Outcome). (error_in o.effects ≡ None) × IsQuiet o.state) (sym (piece_is m k d e)) (says.none, record { open_ = refl; held_none = says.held_none }))
+is_done : (m : List ℕ) (k : Core) (d : Done) → next_of (having m k) ≡ Some (outcome_of m d) → SaysNoError d → IsAnswered m (ready k) (chunk_in m (ready k))
+is_done m k d e says = inr (subst (λ (o : Outcome). (error_in o.effects ≡ None) × IsQuiet o.state) (sym (chunk_is m k d e)) (says.none, record { open_ = refl; held_none = says.held_none }))
 
-answered_by : (m : List ℕ) (k : Core) (r : Result Message Code) → is_command m ≡ true → k.forwarding.held ≡ none_held → message_from k.control.role m ≡ r → next_of (having m k) ≡ next_by (read_as m r) (having m k) → IsAnswered m (ready k) (piece_in m (ready k))
+answered_by : (m : List ℕ) (k : Core) (r : Result Message Code) → is_command m ≡ true → k.forwarding.held ≡ none_held → message_from k.control.role m ≡ r → next_of (having m k) ≡ next_by (read_as m r) (having m k) → IsAnswered m (ready k) (chunk_in m (ready k))
 unfolding handled
 answered_by m k (Err code) one none said e = is_refused m k code e
 answered_by m k (Ok message) one none said e = by_state (first_of (state_refusals message k)) refl
   where
-    by_state : (o : Option Code) → first_of (state_refusals message k) ≡ o → IsAnswered m (ready k) (piece_in m (ready k))
+    by_state : (o : Option Code) → first_of (state_refusals message k) ≡ o → IsAnswered m (ready k) (chunk_in m (ready k))
     by_state (Some code) f = is_refused m k code (e ∙ ap (λ (o : Option Code). Some (outcome_of m (unless_code o (xid_of m) (take 64 (take (length m) m)) k (done (xid_of m) message k)))) f)
     by_state None f = is_done m k (done (xid_of m) message k) (e ∙ ap (λ (o : Option Code). Some (outcome_of m (unless_code o (xid_of m) (take 64 (take (length m) m)) k (done (xid_of m) message k)))) f) (done_says m message k one said none)
 
-answered : (m : List ℕ) (s : State) → IsQuiet s → is_command m ≡ true → IsAnswered m s (piece_in m s)
+answered : (m : List ℕ) (s : State) → IsQuiet s → is_command m ≡ true → IsAnswered m s (chunk_in m s)
 answered m s q one =
-    subst (λ (t : State). IsAnswered m t (piece_in m t)) (sym (is_ready s q.open_))
+    subst (λ (t : State). IsAnswered m t (chunk_in m t)) (sym (is_ready s q.open_))
     (answered_by m s.core (message_from s.core.control.role m) one q.held_none refl (ap (λ (n : Next). next_by n (having m s.core)) (read_whole m s.core (is_message m one))))
 
 -- the one ERROR is the one that is found
-refused_so : (m : List ℕ) (s : State) (code : Code) → IsQuiet s → is_command m ≡ true → error_in (piece_in m s).effects ≡ Some code → piece_in m s ≡ gives (answer_to m code ∷ []) s
+refused_so : (m : List ℕ) (s : State) (code : Code) → IsQuiet s → is_command m ≡ true → error_in (chunk_in m s).effects ≡ Some code → chunk_in m s ≡ gives (answer_to m code ∷ []) s
 refused_so m s code q one e = by_outcome (answered m s q one)
   where
-    by_outcome : IsAnswered m s (piece_in m s) → piece_in m s ≡ gives (answer_to m code ∷ []) s
+    by_outcome : IsAnswered m s (chunk_in m s) → chunk_in m s ≡ gives (answer_to m code ∷ []) s
     by_outcome (inl a) =
         let told : or_else (code_of (error_bytes (xid_of m) a.0 (take 64 m))) None ≡ Some code = ap (λ (o : Outcome). error_in o.effects) (sym a.1) ∙ e in
         let again : Some (code_again a.0 (take 64 m)) ≡ Some code = ap (λ (o : Option Code). or_else o None) (sym (error_told (xid_of m) a.0 (take 64 m))) ∙ told in
@@ -205,10 +205,10 @@ refused_so m s code q one e = by_outcome (answered m s q one)
         a.1 ∙ ap (λ (bytes : List ℕ). gives (Answer bytes ∷ []) s) (same_error (xid_of m) code a.0 (take 64 m) is)
     by_outcome (inr a) = absurd (let both : None ≡ Some code = sym a.0 ∙ e in cc)
 
-stays_quiet : (m : List ℕ) (s : State) → IsQuiet s → is_command m ≡ true → error_in (piece_in m s).effects ≡ None → IsQuiet (piece_in m s).state
+stays_quiet : (m : List ℕ) (s : State) → IsQuiet s → is_command m ≡ true → error_in (chunk_in m s).effects ≡ None → IsQuiet (chunk_in m s).state
 stays_quiet m s q one e = by_outcome (answered m s q one)
   where
-    by_outcome : IsAnswered m s (piece_in m s) → IsQuiet (piece_in m s).state
+    by_outcome : IsAnswered m s (chunk_in m s) → IsQuiet (chunk_in m s).state
     by_outcome (inl a) =
         let told : or_else (code_of (error_bytes (xid_of m) a.0 (take 64 m))) None ≡ None = ap (λ (o : Outcome). error_in o.effects) (sym a.1) ∙ e in
         absurd (let again : Some (code_again a.0 (take 64 m)) ≡ None = ap (λ (o : Option Code). or_else o None) (sym (error_told (xid_of m) a.0 (take 64 m))) ∙ told in cc)
@@ -228,7 +228,7 @@ record Comes (from : ℕ) (first : State) (messages : List (List ℕ)) (place : 
 comes_here : (from : ℕ) (s : State) (m : List ℕ) (ms : List (List ℕ)) (place : ℕ) → from ≡ place → IsQuiet s → Comes from s (m ∷ ms) place m s
 comes_here from s m ms place e q = record { before = []; later = ms; parted = refl; place_is = omega (arith, e); taken = refl; quiet = q }
 
-comes_later : (from : ℕ) (s : State) (n : List ℕ) (ms : List (List ℕ)) (place : ℕ) (m : List ℕ) (t : State) → is_command n ≡ true → error_in (piece_in n s).effects ≡ None → Comes (from + 1) (piece_in n s).state ms place m t → Comes from s (n ∷ ms) place m t
+comes_later : (from : ℕ) (s : State) (n : List ℕ) (ms : List (List ℕ)) (place : ℕ) (m : List ℕ) (t : State) → is_command n ≡ true → error_in (chunk_in n s).effects ≡ None → Comes (from + 1) (chunk_in n s).state ms place m t → Comes from s (n ∷ ms) place m t
 comes_later from s n ms place m t one none c = record {
   before = n ∷ c.before;
   later = c.later;
@@ -240,23 +240,23 @@ comes_later from s n ms place m t one none c = record {
 
 all_taken : (ms : List (List ℕ)) (place : ℕ) (s : State) (c : Configuration) → config_from place ms s ≡ Ok c → (t : State) × Takes ms s t × (config_of t ≡ c)
 all_taken [] place s c e = (s, refl, cc)
-all_taken (m ∷ ms) place s c e = by_tests (is_command m) (error_in (piece_in m s).effects) refl refl e (all_taken ms (place + 1) (piece_in m s).state c)
+all_taken (m ∷ ms) place s c e = by_tests (is_command m) (error_in (chunk_in m s).effects) refl refl e (all_taken ms (place + 1) (chunk_in m s).state c)
   where
-    by_tests : (b : Bool) (r : Option Code) → is_command m ≡ b → error_in (piece_in m s).effects ≡ r → cond b (unless_refused r place (config_from (place + 1) ms (piece_in m s).state)) (Err (NotACommand place)) ≡ Ok c
-        → (config_from (place + 1) ms (piece_in m s).state ≡ Ok c → (t : State) × Takes ms (piece_in m s).state t × (config_of t ≡ c)) → (t : State) × Takes (m ∷ ms) s t × (config_of t ≡ c)
+    by_tests : (b : Bool) (r : Option Code) → is_command m ≡ b → error_in (chunk_in m s).effects ≡ r → cond b (unless_refused r place (config_from (place + 1) ms (chunk_in m s).state)) (Err (NotACommand place)) ≡ Ok c
+        → (config_from (place + 1) ms (chunk_in m s).state ≡ Ok c → (t : State) × Takes ms (chunk_in m s).state t × (config_of t ≡ c)) → (t : State) × Takes (m ∷ ms) s t × (config_of t ≡ c)
     by_tests false r p q h next = absurd cc
     by_tests true (Some code) p q h next = absurd cc
     by_tests true None p q h next = let others = next h in (others.0, (p, q, others.1), others.2)
 
 abbrev IsRefusedAt : ℕ → State → List (List ℕ) → ℕ → Code → Type 0
-IsRefusedAt from first ms place code = (m : List ℕ) × (s : State) × Comes from first ms place m s × (is_command m ≡ true) × (error_in (piece_in m s).effects ≡ Some code)
+IsRefusedAt from first ms place code = (m : List ℕ) × (s : State) × Comes from first ms place m s × (is_command m ≡ true) × (error_in (chunk_in m s).effects ≡ Some code)
 
 first_refused : (ms : List (List ℕ)) (from place : ℕ) (code : Code) (s : State) → IsQuiet s → config_from from ms s ≡ Err (Refused place code) → IsRefusedAt from s ms place code
 first_refused [] from place code s quiet e = absurd cc
-first_refused (m ∷ ms) from place code s quiet e = by_tests (is_command m) (error_in (piece_in m s).effects) refl refl e (first_refused ms (from + 1) place code (piece_in m s).state)
+first_refused (m ∷ ms) from place code s quiet e = by_tests (is_command m) (error_in (chunk_in m s).effects) refl refl e (first_refused ms (from + 1) place code (chunk_in m s).state)
   where
-    by_tests : (b : Bool) (r : Option Code) → is_command m ≡ b → error_in (piece_in m s).effects ≡ r → cond b (unless_refused r from (config_from (from + 1) ms (piece_in m s).state)) (Err (NotACommand from)) ≡ Err (Refused place code)
-        → (IsQuiet (piece_in m s).state → config_from (from + 1) ms (piece_in m s).state ≡ Err (Refused place code) → IsRefusedAt (from + 1) (piece_in m s).state ms place code) → IsRefusedAt from s (m ∷ ms) place code
+    by_tests : (b : Bool) (r : Option Code) → is_command m ≡ b → error_in (chunk_in m s).effects ≡ r → cond b (unless_refused r from (config_from (from + 1) ms (chunk_in m s).state)) (Err (NotACommand from)) ≡ Err (Refused place code)
+        → (IsQuiet (chunk_in m s).state → config_from (from + 1) ms (chunk_in m s).state ≡ Err (Refused place code) → IsRefusedAt (from + 1) (chunk_in m s).state ms place code) → IsRefusedAt from s (m ∷ ms) place code
     by_tests false r p q h next = absurd cc
     by_tests true (Some other) p q h next =
         let here : from ≡ place = cc in
@@ -271,10 +271,10 @@ IsNoneAt from first ms place = (m : List ℕ) × (s : State) × Comes from first
 
 first_other : (ms : List (List ℕ)) (from place : ℕ) (s : State) → IsQuiet s → config_from from ms s ≡ Err (NotACommand place) → IsNoneAt from s ms place
 first_other [] from place s quiet e = absurd cc
-first_other (m ∷ ms) from place s quiet e = by_tests (is_command m) (error_in (piece_in m s).effects) refl refl e (first_other ms (from + 1) place (piece_in m s).state)
+first_other (m ∷ ms) from place s quiet e = by_tests (is_command m) (error_in (chunk_in m s).effects) refl refl e (first_other ms (from + 1) place (chunk_in m s).state)
   where
-    by_tests : (b : Bool) (r : Option Code) → is_command m ≡ b → error_in (piece_in m s).effects ≡ r → cond b (unless_refused r from (config_from (from + 1) ms (piece_in m s).state)) (Err (NotACommand from)) ≡ Err (NotACommand place)
-        → (IsQuiet (piece_in m s).state → config_from (from + 1) ms (piece_in m s).state ≡ Err (NotACommand place) → IsNoneAt (from + 1) (piece_in m s).state ms place) → IsNoneAt from s (m ∷ ms) place
+    by_tests : (b : Bool) (r : Option Code) → is_command m ≡ b → error_in (chunk_in m s).effects ≡ r → cond b (unless_refused r from (config_from (from + 1) ms (chunk_in m s).state)) (Err (NotACommand from)) ≡ Err (NotACommand place)
+        → (IsQuiet (chunk_in m s).state → config_from (from + 1) ms (chunk_in m s).state ≡ Err (NotACommand place) → IsNoneAt (from + 1) (chunk_in m s).state ms place) → IsNoneAt from s (m ∷ ms) place
     by_tests false r p q h next = let here : from ≡ place = cc in (m, s, comes_here from s m ms place here quiet, p)
     by_tests true (Some other) p q h next = absurd cc
     by_tests true None p q h next =
@@ -283,9 +283,9 @@ first_other (m ∷ ms) from place s quiet e = by_tests (is_command m) (error_in 
 
 memory_is_there : (ms : List (List ℕ)) (place : ℕ) (s : State) → config_from place ms s ≡ Err NoMemory → ⊥
 memory_is_there [] place s e = absurd cc
-memory_is_there (m ∷ ms) place s e = by_tests (is_command m) (error_in (piece_in m s).effects) e (memory_is_there ms (place + 1) (piece_in m s).state)
+memory_is_there (m ∷ ms) place s e = by_tests (is_command m) (error_in (chunk_in m s).effects) e (memory_is_there ms (place + 1) (chunk_in m s).state)
   where
-    by_tests : (b : Bool) (r : Option Code) → cond b (unless_refused r place (config_from (place + 1) ms (piece_in m s).state)) (Err (NotACommand place)) ≡ Err NoMemory → (config_from (place + 1) ms (piece_in m s).state ≡ Err NoMemory → ⊥) → ⊥
+    by_tests : (b : Bool) (r : Option Code) → cond b (unless_refused r place (config_from (place + 1) ms (chunk_in m s).state)) (Err (NotACommand place)) ≡ Err NoMemory → (config_from (place + 1) ms (chunk_in m s).state ≡ Err NoMemory → ⊥) → ⊥
     by_tests false r h next = absurd cc
     by_tests true (Some code) h next = absurd cc
     by_tests true None h next = next h
@@ -303,7 +303,7 @@ unfolding config_by
 given ms c e = all_taken ms 0 greeted c e
 
 pub refused_at : (ms : List (List ℕ)) (place : ℕ) (code : Code) → config_by ms ≡ Err (Refused place code)
-    → (m : List ℕ) × (s : State) × ComesTo ms place m s × (is_command m ≡ true) × (piece_in m s ≡ gives (Answer (error_bytes (xid_of m) code (take 64 m)) ∷ []) s)
+    → (m : List ℕ) × (s : State) × ComesTo ms place m s × (is_command m ≡ true) × (chunk_in m s ≡ gives (Answer (error_bytes (xid_of m) code (take 64 m)) ∷ []) s)
 unfolding config_by
 refused_at ms place code e =
     let r = first_refused ms 0 place code greeted greeted_quiet e in

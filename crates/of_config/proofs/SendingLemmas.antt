@@ -23,7 +23,7 @@ use Rattle.of_switch.specs.declared.switch_error.SwitchError.{SwitchError}
 use Rattle.of_switch.specs.State.{Core, State, new_core, start}
 use Rattle.of_switch.specs.Steps.{Outcome, coming, connected, fed, gives, next_by, next_of}
 use Rattle.of_switch.specs.Calls.{Call, connect_refusal, feed_refusal}
-use Rattle.of_switch.specs.Runs.{behind, drain, piece_in}
+use Rattle.of_switch.specs.Runs.{behind, drain, chunk_in}
 use Rattle.of_switch.proofs.Joining.{drained_more, drained_none}
 use Rattle.of_config.specs.declared.fault.ConfigFault.{ConfigFault}
 use Rattle.of_config.specs.declared.fault.ConfigFault.TheVariants.{NoMemory, NotACommand, Refused}
@@ -92,15 +92,15 @@ is_handled m k h = let one = is_message m h in handled_by m k (message_from k.co
 waits_for_none : (s : State) → IsReady s → next_of s ≡ None
 waits_for_none s h = ap next_of (is_ready s h)
 
--- what one call of `next` gives is what the whole piece gives
-pub whole_piece : (m : List ℕ) (k : Core) (o : Outcome) → next_of (having m k) ≡ Some o → IsReady o.state → piece_in m (ready k) ≡ o
-whole_piece m k o e after =
+-- what one call of `next` gives is what the whole chunk gives
+pub whole_chunk : (m : List ℕ) (k : Core) (o : Outcome) → next_of (having m k) ≡ Some o → IsReady o.state → chunk_in m (ready k) ≡ o
+whole_chunk m k o e after =
     drained_more (having m k) o e
     ∙ (ap (behind o.effects) (drained_none o.state (waits_for_none o.state after))
     ∙ ap (λ (es : List Effect). gives es o.state) (append-nil o.effects))
 
 pub record IsSent (m : List ℕ) (s t : State) (effects : List Effect) : Type 0 where
-  pub whole : piece_in m s ≡ gives effects t
+  pub whole : chunk_in m s ≡ gives effects t
   pub after : IsReady t
 
 same_some : (o p : Outcome) → Some o ≡ Some p → o ≡ p
@@ -113,7 +113,7 @@ sent_is m s between t effects one h f e =
     let is = is_handled m s.core one in
     let same : is.outcome ≡ gives effects t = same_some is.outcome (gives effects t) (sym is.next ∙ (ap next_of (sym at) ∙ e)) in
     record {
-      whole = ap (piece_in m) here ∙ (whole_piece m s.core is.outcome is.next is.after ∙ same);
+      whole = ap (chunk_in m) here ∙ (whole_chunk m s.core is.outcome is.next is.after ∙ same);
       after = subst (λ (o : Outcome). IsReady o.state) same is.after;
     }
 
@@ -174,11 +174,11 @@ receives m s t h called = by_refusal (feed_refusal s) (ap feed_refusal (is_ready
 -- ---- a message in its place
 
 -- what follows an accepted message, one that is refused, and one that is no command
-pub goes_on : (place : ℕ) (m : List ℕ) (s t : State) (later : List (List ℕ)) → is_command m ≡ true → None ≡ error_in (piece_in m s).effects → t ≡ (piece_in m s).state → config_from place (m ∷ later) s ≡ config_from (place + 1) later t
+pub goes_on : (place : ℕ) (m : List ℕ) (s t : State) (later : List (List ℕ)) → is_command m ≡ true → None ≡ error_in (chunk_in m s).effects → t ≡ (chunk_in m s).state → config_from place (m ∷ later) s ≡ config_from (place + 1) later t
 goes_on place m s t later one none is =
     rw (one, sym none) (ap (config_from (place + 1) later) (sym is))
 
-pub refused_here : (place : ℕ) (m : List ℕ) (s : State) (later : List (List ℕ)) (code : Code) → is_command m ≡ true → Some code ≡ error_in (piece_in m s).effects → config_from place (m ∷ later) s ≡ Err (Refused place code)
+pub refused_here : (place : ℕ) (m : List ℕ) (s : State) (later : List (List ℕ)) (code : Code) → is_command m ≡ true → Some code ≡ error_in (chunk_in m s).effects → config_from place (m ∷ later) s ≡ Err (Refused place code)
 refused_here place m s later code one some = rw (one, sym some) refl
 
 pub none_here : (place : ℕ) (m : List ℕ) (s : State) (later : List (List ℕ)) → is_command m ≡ false → config_from place (m ∷ later) s ≡ Err (NotACommand place)

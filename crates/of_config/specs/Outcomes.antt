@@ -1,13 +1,13 @@
 -- How the sending of messages ends, in words: all are taken by the switch, or those before the first that is not.
 use Rattle.std.specs.Prelude.{◌≡◌, ℕ, true, List, [], ◌∷◌, ◌++◌, length, None}
 use Rattle.of_switch.specs.State.{State}
-use Rattle.of_switch.specs.Runs.{piece_in}
+use Rattle.of_switch.specs.Runs.{chunk_in}
 use Rattle.of_config.specs.Sending.{error_in, greeted, is_command}
 
 -- THE SWITCH TAKES THE MESSAGES, one by one, and is then this one: each is a command, and none is answered by an ERROR
 abbrev pub Takes : List (List ℕ) → State → State → Type 0
 Takes [] s t = t ≡ s
-Takes (m ∷ ms) s t = (is_command m ≡ true) × (error_in (piece_in m s).effects ≡ None) × Takes ms (piece_in m s).state t
+Takes (m ∷ ms) s t = (is_command m ≡ true) × (error_in (chunk_in m s).effects ≡ None) × Takes ms (chunk_in m s).state t
 
 -- THE MESSAGE AT A PLACE comes to a switch that has taken those before it
 pub record ComesTo (messages : List (List ℕ)) (place : ℕ) (m : List ℕ) (s : State) : Type 0 where

@@ -11,7 +11,7 @@ use Rattle.of_datapath.specs.declared.effect.Effect.{Effect}
 use Rattle.of_datapath.specs.declared.effect.Effect.TheVariants.{Answer, Sent, Closed}
 use Rattle.of_switch.specs.State.{State, start}
 use Rattle.of_switch.specs.Steps.{connected}
-use Rattle.of_switch.specs.Runs.{piece_in}
+use Rattle.of_switch.specs.Runs.{chunk_in}
 use Rattle.of_switch.specs.Loading.{config_of}
 use Rattle.of_config.specs.declared.fault.ConfigFault.{ConfigFault}
 use Rattle.of_config.specs.declared.fault.ConfigFault.TheVariants.{NotACommand, Refused}
@@ -42,7 +42,7 @@ error_in (Closed ∷ effects) = error_in effects
 
 -- a new switch with datapath_id 1, to which a controller connected that sent its HELLO (6.3.1)
 unfoldable pub greeted : State
-greeted = (piece_in hello (connected (start 1)).state).state
+greeted = (chunk_in hello (connected (start 1)).state).state
 
 -- the connection is open, and nothing waits
 abbrev pub IsReady : State → Type 0
@@ -57,7 +57,7 @@ unless_refused (Some code) place later = Err (Refused place code)
 abbrev pub config_from : ℕ → List (List ℕ) → State → Result Configuration ConfigFault
 config_from place [] s = Ok (config_of s)
 config_from place (m ∷ ms) s =
-    let sent = piece_in m s in
+    let sent = chunk_in m s in
     if is_command m then unless_refused (error_in sent.effects) place (config_from (place + 1) ms sent.state) else Err (NotACommand place)
 
 -- THE CONFIGURATION OF A LIST OF MESSAGES

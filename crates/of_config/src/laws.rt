@@ -8,17 +8,17 @@ ghost use Rattle.of_messages.specs.Written.{error_bytes};
 ghost use Rattle.of_datapath.specs.declared.effect.Effect.TheVariants.{Answer};
 ghost use Rattle.of_switch.specs.State.{State};
 ghost use Rattle.of_switch.specs.Steps.{gives};
-ghost use Rattle.of_switch.specs.Runs.{piece_in};
+ghost use Rattle.of_switch.specs.Runs.{chunk_in};
 ghost use Rattle.of_switch.specs.Loading.{config_of};
 ghost use Rattle.of_config.specs.declared.fault.ConfigFault.TheVariants.{NoMemory, NotACommand, Refused};
 ghost use Rattle.of_config.specs.Outcomes.{ComesTo, Takes};
-ghost use Rattle.of_build.specs.Building.{build_text, hello, piece_line};
+ghost use Rattle.of_build.specs.Building.{build_text, hello, chunk_line};
 ghost use Rattle.of_config.specs.Listing.{messages_of};
 ghost use Rattle.of_config.specs.Sending.{config_by, greeted, is_command};
 
 /// The event file of a configuration is a connection, a HELLO, and a row for each message of the configuration, in their order.
 pub fn file_has_the_messages()
-    ensures { (c : Configuration) → build_text c ≡ codes "connect\n" ++ (piece_line hello ++ flat_map piece_line (messages_of c)) }
+    ensures { (c : Configuration) → build_text c ≡ codes "connect\n" ++ (chunk_line hello ++ flat_map chunk_line (messages_of c)) }
 {}
 
 /// The configuration that the messages of a configuration give is that configuration.
@@ -34,7 +34,7 @@ pub fn each_is_taken_or_the_first_is_named()
     ensures given { (messages : List (List ℕ)) (c : Configuration) → config_by messages ≡ Ok c → (s : State) × Takes messages greeted s × (config_of s ≡ c) }
     ensures refused { (messages : List (List ℕ)) (place : ℕ) (code : Code) → config_by messages ≡ Err (Refused place code)
         → (m : List ℕ) × (s : State) × ComesTo messages place m s × (is_command m ≡ true) ×
-        (piece_in m s ≡ gives (Answer (error_bytes (xid_of m) code (take 64 m)) ∷ []) s) }
+        (chunk_in m s ≡ gives (Answer (error_bytes (xid_of m) code (take 64 m)) ∷ []) s) }
     ensures no_command { (messages : List (List ℕ)) (place : ℕ) → config_by messages ≡ Err (NotACommand place) →
         (m : List ℕ) × (s : State) × ComesTo messages place m s × (is_command m ≡ false) }
     ensures memory { (messages : List (List ℕ)) → config_by messages ≡ Err NoMemory → ⊥ }

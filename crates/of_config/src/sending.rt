@@ -1,6 +1,6 @@
 //! The configuration that messages give.
 ghost use Rattle.std.specs.Prelude.{◌≡◌, ◌+◌, ◌⊎◌, ℕ, List, ◌∷◌, true, Ok, Err, IfOk, IfErr, OnOk};
-ghost use Rattle.of_switch.specs.Runs.{piece_in};
+ghost use Rattle.of_switch.specs.Runs.{chunk_in};
 ghost use Rattle.of_config.specs.Sending.{IsReady, code_of as code_is, config_by, config_from, error_in, greeted as greeted_switch, is_command as is_one_command};
 
 use crate::fault::ConfigFault;
@@ -76,8 +76,8 @@ fn greeted(alloc: Global) -> Result<Switch<Scan>, SwitchError>
 fn send(switch: &mut Switch<Scan>, command: &[u8]) -> Result<Option<Code>, SwitchError>
     requires command { is_one_command command.now ≡ true }
     requires ready { IsReady switch.old }
-    ensures code { IfOk result (λ code. code ≡ error_in (piece_in command.now switch.old).effects) }
-    ensures state { OnOk result (switch.new ≡ (piece_in command.now switch.old).state) }
+    ensures code { IfOk result (λ code. code ≡ error_in (chunk_in command.now switch.old).effects) }
+    ensures state { OnOk result (switch.new ≡ (chunk_in command.now switch.old).state) }
     ensures ready { OnOk result (IsReady switch.new) }
 {
     switch.feed(command)?;

@@ -21,10 +21,10 @@ const NAMES: &[&str] = &[
     "hello",
     "wrong-version",
     "first-path",
-    "three-pieces",
+    "three-chunks",
     "single-bytes",
-    "one-piece",
-    "two-messages-in-one-piece",
+    "one-chunk",
+    "two-messages-in-one-chunk",
     "bad-header-length",
     "replaced-flow",
     "frame-lengths",
@@ -114,7 +114,7 @@ const NAMES: &[&str] = &[
 const RANDOM: u32 = 80;
 
 /// How many bytes a read gives at most.
-const PIECE: usize = 1000;
+const CHUNK: usize = 1000;
 
 /// How the running switch looks entries up.
 type Lookups = Cached<MaskGroups>;
@@ -153,10 +153,10 @@ fn verdicts(rt: &HostRuntime, events: &[u8], expected: &[u8]) -> &'static str {
 }
 
 fn verdict<L: Lookup>(rt: &HostRuntime, events: &[u8], expected: &[u8]) -> &'static str {
-    let Ok(mut source) = MemorySource::new(rt.alloc(), events, PIECE, 0) else {
+    let Ok(mut source) = MemorySource::new(rt.alloc(), events, CHUNK, 0) else {
         return "no memory";
     };
-    let mut sink = MemorySink::new(rt.alloc(), PIECE, 0);
+    let mut sink = MemorySink::new(rt.alloc(), CHUNK, 0);
     match replay::<L, _, _>(rt.alloc(), 1, &mut source, &mut sink) {
         Ended::Done if sink.bytes() == expected => AS_EXPECTED,
         Ended::Done => "other output",

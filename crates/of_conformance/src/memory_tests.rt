@@ -4,7 +4,7 @@ use of_replay::{Reading, Sink, Source, Writing};
 use std::test::Fail;
 
 #[test]
-fn source_is_read_in_pieces_to_its_end(rt: HostRuntime) -> Result<(), Fail> {
+fn source_is_read_in_chunks_to_its_end(rt: HostRuntime) -> Result<(), Fail> {
     let mut source = MemorySource::new(rt.alloc(), b"0123456789", 4, 0)?;
     let mut buffer = [0; 8];
     assert_eq!(rt; source.read(&mut buffer), Reading::Bytes(4));
@@ -30,7 +30,7 @@ fn source_fails_from_the_second_read_on(rt: HostRuntime) -> Result<(), Fail> {
 }
 
 #[test]
-fn sink_takes_pieces_and_fails_at_the_third_write(rt: HostRuntime) {
+fn sink_takes_chunks_and_fails_at_the_third_write(rt: HostRuntime) {
     let mut sink = MemorySink::new(rt.alloc(), 3, 3);
     assert_eq!(rt; sink.write(b"01234"), Writing::Wrote(3));
     assert_eq!(rt; sink.write(b"34"), Writing::Wrote(2));

@@ -16,13 +16,13 @@ use Rattle.of_datapath.specs.DryRun.{steps_in}
 use Rattle.of_datapath.specs.Datapath.{Forwarding}
 use Rattle.of_switch.specs.State.{State}
 use Rattle.of_switch.specs.Runs.{Report, Gives, IsRefused}
-use Rattle.of_replay.specs.Rows.{EventRow, Piece, Frame}
+use Rattle.of_replay.specs.Rows.{EventRow, Chunk, Frame}
 use Rattle.of_replay.specs.RowTexts.{RowText, row_happened}
 use Rattle.of_text.specs.Lines.{ended, note}
 use Rattle.of_explain.specs.Notes.{number_note, port_and_size, with_number}
 use Rattle.of_explain.specs.Messages.{message_words}
 use Rattle.of_explain.specs.Replies.{reply_rows}
-use Rattle.of_explain.specs.Requests.{piece_notes}
+use Rattle.of_explain.specs.Requests.{chunk_notes}
 
 -- a line as in the file; an empty one is left out
 abbrev pub echoed : List ℕ → List ℕ
@@ -97,7 +97,7 @@ nothing_leaves (e ∷ es) = []
 
 -- what it does on the switch before it
 abbrev pub row_notes : State → EventRow → List ℕ
-row_notes s (Piece bytes) = piece_notes s.connection.pending bytes
+row_notes s (Chunk bytes) = chunk_notes s.connection.pending bytes
 row_notes s (Frame port bytes) = way_notes port bytes s.core.forwarding
 row_notes s other = []
 

@@ -14,7 +14,7 @@ use Rattle.of_messages.specs.Messages.{message_of}
 use Rattle.of_session.specs.Stream.{First, Whole, Bad, Partial, beginning_of}
 use Rattle.of_lines.specs.declared.row.Row.{Row}
 use Rattle.of_lines.specs.declared.row.Row.TheVariants as rows
-use Rattle.of_text.specs.Rows.{spelling}
+use Rattle.of_text.specs.Rows.{encoding}
 use Rattle.of_text.specs.Flows.{step_rows}
 use Rattle.of_text.specs.Groups.{TextGroup, bucket_text, group_rows}
 use Rattle.of_text.specs.Kept.{step_of}
@@ -56,7 +56,7 @@ rows_said (Err code) = []
 
 -- a line of flow text, after eight spaces
 abbrev pub row_line : Row → List ℕ
-row_line row = codes "        " ++ ended (spelling row)
+row_line row = codes "        " ++ ended (encoding row)
 
 abbrev pub row_lines : List Row → List ℕ
 row_lines said = flat_map row_line said
@@ -85,6 +85,6 @@ first_messages (suc n) bytes = and_others (first_messages n) (beginning_of bytes
 unfoldable pub messages_of : List ℕ → List (List ℕ)
 messages_of bytes = first_messages (length bytes) bytes
 
--- THE NOTES OF A PIECE, after the bytes that wait
-abbrev pub piece_notes : List ℕ → List ℕ → List ℕ
-piece_notes waiting piece = flat_map request_notes (messages_of (waiting ++ piece))
+-- THE NOTES OF A CHUNK, after the bytes that wait
+abbrev pub chunk_notes : List ℕ → List ℕ → List ℕ
+chunk_notes waiting chunk = flat_map request_notes (messages_of (waiting ++ chunk))

@@ -3,7 +3,7 @@ ghost use Rattle.std.specs.Prelude.{◌≡◌, ◌++◌, OnOk};
 ghost use Rattle.std.specs.List.{AllByRecursion, flat_map};
 ghost use Rattle.of_text.specs.Rows.{Fits};
 ghost use Rattle.of_text.specs.Lines.{note};
-ghost use Rattle.of_explain.specs.Requests.{messages_of, piece_notes, request_notes, row_line, row_lines, said_words};
+ghost use Rattle.of_explain.specs.Requests.{messages_of, chunk_notes, request_notes, row_line, row_lines, said_words};
 
 use crate::messages::push_message;
 use crate::said::lines_said;
@@ -73,17 +73,17 @@ fn push_requests(alloc: Global, out: &mut Vec<u8>, stream: &mut Stream) -> Resul
     }
 }
 
-/// Appends each message that a piece of the controller's bytes completes, after those that wait.
-pub fn push_piece(
+/// Appends each message that a chunk of the controller's bytes completes, after those that wait.
+pub fn push_chunk(
     alloc: Global,
     out: &mut Vec<u8>,
     waiting: &[u8],
-    piece: &[u8],
+    chunk: &[u8],
 ) -> Result<(), AllocError>
-    ensures { OnOk result (out.new.items ≡ out.old.items ++ piece_notes waiting.now piece.now) }
+    ensures { OnOk result (out.new.items ≡ out.old.items ++ chunk_notes waiting.now chunk.now) }
 {
     let mut stream = Stream::new(alloc);
     stream.feed(waiting)?;
-    stream.feed(piece)?;
+    stream.feed(chunk)?;
     push_requests(alloc, out, &mut stream)
 }

@@ -7,7 +7,7 @@ ghost use Rattle.of_switch.specs.Runs.{Gives};
 
 use crate::effects::{push_effects, push_refusal};
 use crate::frames::{push_nothing, push_way};
-use crate::requests::push_piece;
+use crate::requests::push_chunk;
 use of_classifier::Lookup;
 use of_replay::{Row, RowPrinter, play_row};
 use of_switch::{Effect, Effects, Switch, SwitchError};
@@ -37,7 +37,7 @@ fn push_row<L: Lookup>(
     ensures err { IfErr result (λ e. e ≡ NoMemory) }
 {
     match row {
-        Row::Piece => Ok(push_piece(alloc, out, switch.pending(), bytes)?),
+        Row::Chunk => Ok(push_chunk(alloc, out, switch.pending(), bytes)?),
         Row::Frame { port } => push_way(alloc, out, switch, port, bytes),
         Row::Passed | Row::Connect | Row::Lost | Row::Moment { .. } | Row::Ports(_) => Ok(()),
     }
@@ -49,7 +49,7 @@ fn push_end(out: &mut Vec<u8>, row: Row, effects: &[Effect]) -> Result<(), Alloc
 {
     match row {
         Row::Frame { .. } => push_nothing(out, effects),
-        Row::Passed | Row::Connect | Row::Lost | Row::Piece | Row::Moment { .. } | Row::Ports(_) =>
+        Row::Passed | Row::Connect | Row::Lost | Row::Chunk | Row::Moment { .. } | Row::Ports(_) =>
             { Ok(()) }
     }
 }

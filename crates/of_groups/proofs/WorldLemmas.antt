@@ -91,7 +91,7 @@ places_few port group FastFailover buckets few = let l = at_most_one (position (
 
 -- ---- buckets that run
 
--- a bucket that exists: some bytes spell its actions, and the groups to which they send begin shorter chains
+-- a bucket that exists: some bytes encode its actions, and the groups to which they send begin shorter chains
 pub record IsServed (groups : List Group) (n place : ℕ) : Type 0 where
   pub actions : List Action
   pub there : bucket_at groups n place ≡ Some actions
@@ -151,7 +151,7 @@ serves_by groups port n places (Some g) sound found e =
       buckets = all_served groups sound n g found (places_of port (is_live_group groups port) g.kind g.buckets) (places_below port (is_live_group groups port) g.kind g.buckets);
     })
 
--- at most 16 buckets of a group run; they exist, some bytes spell their actions, and the groups that these name begin shorter chains
+-- at most 16 buckets of a group run; they exist, some bytes encode their actions, and the groups that these name begin shorter chains
 pub groups_serve : (groups : List Group) (port : ℕ → Bool) (n : ℕ) (places : List ℕ) → AreSound groups → chosen groups port n ≡ Some places → Serves groups n places
 groups_serve groups port n places sound e = serves_by groups port n places (find_group n groups) sound refl e
 

@@ -23,4 +23,4 @@ pub use key::FieldKey;
 pub use known::Known;
 pub use layout::{Layout, Network, Payload, is_tag, layout_in};
 pub use numbers::Numbers;
-pub use of_layers::{Field, FieldRow, Place, Prerequisite, Transport, spelt_by_one};
+pub use of_layers::{Field, FieldRow, Place, Prerequisite, Transport, encoded_by_one};

@@ -6,7 +6,7 @@ use Rattle.of_text.specs.declared.assembling.FillError.{FillError}
 use Rattle.of_text.specs.declared.assembling.FillError.TheVariants as fills
 use Rattle.of_text.specs.Flows.{Flow}
 use Rattle.of_text.specs.Groups.{TextGroup}
-use Rattle.of_text.specs.Configs.{Configuration, SpellConfig, config_text}
+use Rattle.of_text.specs.Configs.{Configuration, EncodeConfig, config_text}
 use Rattle.of_text.specs.Lines.{lines_of}
 use Rattle.of_text.specs.First.{first_refusal, RefusedWithout}
 use Rattle.of_import.specs.declared.parsed_lines.FlowLine.{FlowLine}
@@ -23,5 +23,5 @@ refused_first first e place code is h = subst (RefusedWithout first) is h
 pub lines_parsed : (place line : ℕ) (lines shown : List ℕ) (gs : List GroupLine) (fs : List FlowLine) → shown ≡ lines → lines ≡ map (λ g. g.line) gs ++ map (λ f. f.line) fs → line ≡ slice_index_or shown place 0 → line ≡ slice_index_or (map (λ g. g.0) (map view_group_line gs) ++ map (λ f. f.0) (map view_flow_line fs)) place 0
 lines_parsed place line lines shown gs fs s e h = h ∙ ap (λ (xs : List ℕ). slice_index_or xs place 0) (s ∙ (e ∙ (ap (λ (xs : List ℕ). xs ++ map (λ f. f.line) fs) (parsed_group_lines gs) ∙ ap (λ (xs : List ℕ). map (λ g. g.0) (map view_group_line gs) ++ xs) (parsed_flow_lines fs))))
 
-pub spelt_text : (text : List ℕ) (c : Configuration) → text ≡ config_text c → SpellConfig (lines_of (config_text c)) c → SpellConfig (lines_of text) c
-spelt_text text c e h = subst (λ (x : List ℕ). SpellConfig (lines_of x) c) (sym e) h
+pub encoded_text : (text : List ℕ) (c : Configuration) → text ≡ config_text c → EncodeConfig (lines_of (config_text c)) c → EncodeConfig (lines_of text) c
+encoded_text text c e h = subst (λ (x : List ℕ). EncodeConfig (lines_of x) c) (sym e) h

@@ -1,6 +1,6 @@
 -- THE CONFIGURATION OF A TABLE OF OPEN VSWITCH: the groups and the flows that its lines say, of which none is refused.
 use Rattle.std.specs.Prelude.{◌≡◌, ◌<◌, ℕ, Bool, false, List, map, length, None, Some}
-use Rattle.of_text.specs.Configs.{Configuration, SpellConfig, tables_of, config_text}
+use Rattle.of_text.specs.Configs.{Configuration, EncodeConfig, tables_of, config_text}
 use Rattle.of_text.specs.Lines.{lines_of}
 use Rattle.of_text.specs.First.{first_refusal}
 use Rattle.of_import.specs.declared.parsed_lines.LineFault.{LineFault}
@@ -21,7 +21,7 @@ pub record IsImport (lines : List (List ℕ)) (skip : Bool) (text : List ℕ) (f
   pub config : Configuration
   pub is : IsConfigOf (parsed_lines_of lines) config
   pub text_is : text ≡ config_text config
-  pub spelt : SpellConfig (lines_of text) config
+  pub encoded : EncodeConfig (lines_of text) config
   pub faults_are : map view_fault faults ≡ (parsed_lines_of lines).faults
   pub none : skip ≡ false → length faults ≡ 0
 

@@ -1,6 +1,6 @@
 //! Tables of Open vSwitch as configurations.
 ghost use Rattle.std.specs.Prelude.{◌≡◌, ◌<◌, ◌++◌, [], false, Some, None, map, length, slice_index_or, IfOk, IfErr, OnOk};
-ghost use Rattle.of_text.specs.Configs.{SpellConfig, config_text, tables_of};
+ghost use Rattle.of_text.specs.Configs.{EncodeConfig, config_text, tables_of};
 ghost use Rattle.of_text.specs.First.{first_refusal};
 ghost use Rattle.of_text.specs.Lines.{lines_of};
 ghost use Rattle.of_import.specs.Imports.{FaultsOf, IsConfigOf, IsImport, NoImport, RefusedOf};
@@ -130,7 +130,7 @@ fn accepted(parsed: ParsedLines, skip: bool) -> Result<ParsedLines, ImportError>
 // The text of a configuration.
 fn written(alloc: Global, config: &Config, faults: Vec<LineFault>) -> Result<Import, ImportError>
     ensures text { IfOk result (λ r. r.text.items ≡ config_text config.now) }
-    ensures spelt { IfOk result (λ r. SpellConfig (lines_of r.text.items) config.now) }
+    ensures encoded { IfOk result (λ r. EncodeConfig (lines_of r.text.items) config.now) }
     ensures faults { IfOk result (λ r. r.faults.items ≡ faults.items) }
     ensures failed { IfErr result (λ e. e ≡ NoMemory) }
 {

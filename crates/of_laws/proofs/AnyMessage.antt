@@ -5,13 +5,13 @@ use Rattle.std.specs.List.{list_any}
 use Rattle.of_messages.specs.Heads.{header_length, type_of, xid_of}
 use Rattle.of_messages.specs.declared.message.Message.{Message}
 use Rattle.of_messages.specs.declared.message.Message.TheVariants.{Hello, Error, EchoRequest, EchoReply, FeaturesRequest, GetConfigRequest, SetConfig, PacketOut as IsPacketOut, FlowMod as IsFlowMod, GroupMod as IsGroupMod, PortMod as IsPortMod, TableMod as IsTableMod, Multipart, BarrierRequest, RoleRequest as IsRoleRequest, GetAsyncRequest, SetAsync}
-use Rattle.of_laws.specs.Grammar.{Spells, fixed_part_cells, type}
-use Rattle.of_laws.specs.Told.{Told, SpellsSwitchMessage, hello, error, echo_reply, features_reply, config_reply, packet_in, flow_removed, port_status, barrier_reply, role_reply, async_reply, switch_message_fixed_part, switch_message_type}
+use Rattle.of_laws.specs.Grammar.{Encodes, fixed_part_cells, type}
+use Rattle.of_laws.specs.Told.{Told, EncodesSwitchMessage, hello, error, echo_reply, features_reply, config_reply, packet_in, flow_removed, port_status, barrier_reply, role_reply, async_reply, switch_message_fixed_part, switch_message_type}
 use Rattle.of_laws.proofs.OneMessage.{ends_it}
 use Rattle.of_laws.proofs.Only.{xid_is}
 use Rattle.of_laws.proofs.Places.{Says, says, size, size_is}
-use Rattle.of_laws.specs.AnyMessage.{AreAlike, SpellsAny, controller, told, reply}
-use Rattle.of_laws.specs.Replied.{Reply, SpellsReply, reply_fixed_part}
+use Rattle.of_laws.specs.AnyMessage.{AreAlike, EncodesAny, controller, told, reply}
+use Rattle.of_laws.specs.Replied.{Reply, EncodesReply, reply_fixed_part}
 
 -- what stands in the header
 pub record Header (xid kind : ℕ) (bytes : List ℕ) : Type 0 where
@@ -34,7 +34,7 @@ front_long : (m : Message) (n x : ℕ) → 8 ≤ size (fixed_part_cells m n x)
 front_long Hello n x = omega arith
 front_long other n x = omega arith
 
-pub of_controller : (x : ℕ) (m : Message) (bytes : List ℕ) → Spells x m bytes → Header x (type m) bytes
+pub of_controller : (x : ℕ) (m : Message) (bytes : List ℕ) → Encodes x m bytes → Header x (type m) bytes
 of_controller x m bytes s =
     let cells = fixed_part_cells m (length bytes) x in
     let p = placed m (length bytes) x bytes (says 0 cells bytes bytes s.tail refl s.front) in
@@ -43,14 +43,14 @@ of_controller x m bytes s =
 
 -- ---- of a message of the switch, and of a reply
 
-of_told : (x : ℕ) (t : Told) (bytes : List ℕ) → SpellsSwitchMessage x t bytes → Header x (switch_message_type t) bytes
+of_told : (x : ℕ) (t : Told) (bytes : List ℕ) → EncodesSwitchMessage x t bytes → Header x (switch_message_type t) bytes
 of_told x t bytes s =
     let cells = switch_message_fixed_part t (length bytes) x in
     let y = says 0 cells bytes bytes s.tail refl s.front in
     let long = size_is cells bytes s.tail s.front in
     record { long = omega (arith, long); len = y.1.1.0; kind_is = y.1.0; xid_is = sym y.1.1.1.0 }
 
-of_reply : (x : ℕ) (more : Bool) (r : Reply) (bytes : List ℕ) → SpellsReply x more r bytes → Header x 19 bytes
+of_reply : (x : ℕ) (more : Bool) (r : Reply) (bytes : List ℕ) → EncodesReply x more r bytes → Header x 19 bytes
 of_reply x more r bytes s =
     let cells = reply_fixed_part r more (length bytes) x in
     let y = says 0 cells bytes bytes s.tail refl s.front in
@@ -64,18 +64,18 @@ record Sized (xid : ℕ) (bytes : List ℕ) : Type 0 where
   len : header_length bytes ≡ length bytes
   xid_is : xid ≡ xid_of bytes
 
-sized : (x : ℕ) (bytes : List ℕ) → SpellsAny x bytes → Sized x bytes
+sized : (x : ℕ) (bytes : List ℕ) → EncodesAny x bytes → Sized x bytes
 sized x bytes (controller m s) = let h = of_controller x m bytes s in record { long = h.long; len = h.len; xid_is = h.xid_is }
 sized x bytes (told t s) = let h = of_told x t bytes s in record { long = h.long; len = h.len; xid_is = h.xid_is }
 sized x bytes (reply more r s) = let h = of_reply x more r bytes s in record { long = h.long; len = h.len; xid_is = h.xid_is }
 
-pub no_front : (x y : ℕ) (bytes rest : List ℕ) → SpellsAny x bytes → SpellsAny y (bytes ++ rest) → rest ≡ []
+pub no_front : (x y : ℕ) (bytes rest : List ℕ) → EncodesAny x bytes → EncodesAny y (bytes ++ rest) → rest ≡ []
 no_front x y bytes rest s t =
     let a = sized x bytes s in
     let b = sized y (bytes ++ rest) t in
     ends_it bytes rest a.long a.len b.len
 
-pub one_xid : (x y : ℕ) (bytes : List ℕ) → SpellsAny x bytes → SpellsAny y bytes → x ≡ y
+pub one_xid : (x y : ℕ) (bytes : List ℕ) → EncodesAny x bytes → EncodesAny y bytes → x ≡ y
 one_xid x y bytes s t = (sized x bytes s).xid_is ∙ sym (sized y bytes t).xid_is
 
 -- ---- kinds of both sides
@@ -122,15 +122,15 @@ alike (IsRoleRequest request) t e = absurd (not_told 24 t refl e)
 alike GetAsyncRequest t e = absurd (not_told 26 t refl e)
 alike (SetAsync masks) t e = absurd (not_told 28 t refl e)
 
-pub both_sides : (x y : ℕ) (m : Message) (t : Told) (bytes : List ℕ) → Spells x m bytes → SpellsSwitchMessage y t bytes → AreAlike m t
+pub both_sides : (x y : ℕ) (m : Message) (t : Told) (bytes : List ℕ) → Encodes x m bytes → EncodesSwitchMessage y t bytes → AreAlike m t
 both_sides x y m t bytes s r = alike m t (sym (of_controller x m bytes s).kind_is ∙ (of_told y t bytes r).kind_is)
 
 no_reply : (m : Message) → type m ≡ 19 → ⊥
 no_reply Hello e = omega (arith, e)
 no_reply other e = omega (arith, e)
 
-pub no_request_is_reply : (x y : ℕ) (m : Message) (more : Bool) (r : Reply) (bytes : List ℕ) → Spells x m bytes → SpellsReply y more r bytes → ⊥
+pub no_request_is_reply : (x y : ℕ) (m : Message) (more : Bool) (r : Reply) (bytes : List ℕ) → Encodes x m bytes → EncodesReply y more r bytes → ⊥
 no_request_is_reply x y m more r bytes s t = no_reply m (sym (of_controller x m bytes s).kind_is ∙ (of_reply y more r bytes t).kind_is)
 
-pub no_told_is_reply : (x y : ℕ) (t : Told) (more : Bool) (r : Reply) (bytes : List ℕ) → SpellsSwitchMessage x t bytes → SpellsReply y more r bytes → ⊥
+pub no_told_is_reply : (x y : ℕ) (t : Told) (more : Bool) (r : Reply) (bytes : List ℕ) → EncodesSwitchMessage x t bytes → EncodesReply y more r bytes → ⊥
 no_told_is_reply x y t more r bytes s u = not_told 19 t refl (sym (of_reply y more r bytes u).kind_is ∙ (of_told x t bytes s).kind_is)

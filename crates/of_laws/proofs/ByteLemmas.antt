@@ -14,7 +14,7 @@ use Rattle.of_layers.specs.declared.field.Field.{Field}
 use Rattle.of_layers.specs.Fields.{bytes_of}
 use Rattle.of_layers.proofs.Table.{number_below, bytes_most}
 use Rattle.of_oxm.specs.declared.match_field.MatchField.{MatchField}
-use Rattle.of_oxm.specs.MatchFieldWire.{spelling}
+use Rattle.of_oxm.specs.MatchFieldWire.{encoding}
 use Rattle.of_oxm.specs.MatchGrammar.{padded}
 use Rattle.of_oxm.specs.Canonical.{canonical, written_len}
 use Rattle.of_actions.specs.declared.action.Action.{Action}
@@ -102,24 +102,24 @@ struct_bytes (structs.pad w ∷ s) ns h = both (zeros w) (struct_bytes s ns h)
 
 -- ---- matches
 
-spelling_by : (f : Field) (v : ℕ) (mask : Option ℕ) → let e : MatchField = record { field = f; value = v; mask = mask } in Bytes (spelling e)
-unfolding spelling
-spelling_by f v None =
+encoding_by : (f : Field) (v : ℕ) (mask : Option ℕ) → let e : MatchField = record { field = f; value = v; mask = mask } in Bytes (encoding e)
+unfolding encoding
+encoding_by f v None =
     let number = number_below f in
     let size = bytes_most f in
     four (omega arith) (omega arith) (omega (arith, number)) (omega (arith, size)) (both (big (bytes_of f) v) none)
-spelling_by f v (Some m) =
+encoding_by f v (Some m) =
     let number = number_below f in
     let size = bytes_most f in
     four (omega arith) (omega arith) (omega (arith, number)) (omega (arith, size)) (both (big (bytes_of f) v) (big (bytes_of f) m))
 
-all_spellings : (m : List MatchField) → AllByRecursion (λ e. Bytes (spelling e)) m
-all_spellings [] = tt
-all_spellings (e ∷ es) = (spelling_by e.field e.value e.mask, all_spellings es)
+all_encodings : (m : List MatchField) → AllByRecursion (λ e. Bytes (encoding e)) m
+all_encodings [] = tt
+all_encodings (e ∷ es) = (encoding_by e.field e.value e.mask, all_encodings es)
 
 match_bytes : (m : List MatchField) → Bytes (canonical m)
 unfolding canonical
-match_bytes m = next (omega arith) (next (omega arith) (both (big 2 (written_len m)) (both (each_bytes spelling m (all_spellings m)) (zeros (padded (written_len m) - written_len m)))))
+match_bytes m = next (omega arith) (next (omega arith) (both (big 2 (written_len m)) (both (each_bytes encoding m (all_encodings m)) (zeros (padded (written_len m) - written_len m)))))
 
 -- ---- actions
 

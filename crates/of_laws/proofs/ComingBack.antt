@@ -16,9 +16,9 @@ use Rattle.of_text.specs.Rows.{Fits}
 use Rattle.of_text.specs.Groups.{TextBucket, TextGroup, bucket_of, bucket_rows, group_at, group_rows, groups_at, rows_of_groups}
 use Rattle.of_text.specs.Flows.{Flow as TextFlow, flow_rows, rows_of as rows_of_flows}
 use Rattle.of_text.specs.Kept.{AllStandBehind, AreKeptGroups, IsEntry}
-use Rattle.of_text.specs.Configs.{Configuration, IsConfig, SpellConfig, all_flows, config_text}
+use Rattle.of_text.specs.Configs.{Configuration, IsConfig, EncodeConfig, all_flows, config_text}
 use Rattle.of_text.specs.Lines.{lines_of as text_lines}
-use Rattle.of_text.proofs.ConfigLemmas.{AllFor, all_for, config_fits, one_config, spelt_config}
+use Rattle.of_text.proofs.ConfigLemmas.{AllFor, all_for, config_fits, one_config, encoded_config}
 use Rattle.of_text.proofs.EntryLemmas.{config_entries, config_stands}
 use Rattle.of_text.proofs.FillLemmas.{sixteen, table_at as text_table_at}
 use Rattle.of_text.proofs.GroupLemmas.{config_groups}
@@ -26,10 +26,10 @@ use Rattle.of_text.proofs.TextLemmas.{all_back, all_front}
 use Rattle.of_messages.specs.CanonicalGroups.{has_numbers}
 use Rattle.of_messages.specs.Written.{hello_bytes}
 use Rattle.of_session.specs.Session.{greeting}
-use Rattle.of_build.specs.Building.{BuildsOf, add_lines, build_text, group_lines, hello, in_turn, piece_line}
+use Rattle.of_build.specs.Building.{BuildsOf, add_lines, build_text, group_lines, hello, in_turn, chunk_line}
 use Rattle.of_datapath.specs.declared.effect.Effect.TheVariants.{Answer}
 use Rattle.of_switch.specs.declared.event.Event.{Event}
-use Rattle.of_switch.specs.declared.event.Event.TheVariants.{Connect, Piece}
+use Rattle.of_switch.specs.declared.event.Event.TheVariants.{Connect, Chunk}
 use Rattle.of_datapath.specs.Loading.{loaded_tables}
 use Rattle.of_switch.specs.Loading.{config_of}
 use Rattle.of_switch.specs.State.{State, new_core, start}
@@ -44,8 +44,8 @@ use Rattle.of_laws.proofs.ByteLemmas.{are_bytes}
 use Rattle.of_laws.proofs.FlowsAdded.{AreSent, IsSent, flow_events, flows_lead, flows_shown}
 use Rattle.of_laws.proofs.GroupsAdded.{AreSentGroups, IsSentGroup, group_events, groups_lead, groups_shown}
 use Rattle.of_laws.proofs.StreamMessages.{built}
-use Rattle.of_laws.proofs.Pieces.{Leads, greets, leads_first, ready}
-use Rattle.of_laws.proofs.EventRowsRead.{IsShown, Means, means_connect, means_piece}
+use Rattle.of_laws.proofs.Chunks.{Leads, greets, leads_first, ready}
+use Rattle.of_laws.proofs.EventRowsRead.{IsShown, Means, means_connect, means_chunk}
 
 -- ---- the groups of a configuration
 
@@ -135,39 +135,39 @@ later c = group_events 1 (in_turn c.groups) (flow_events (1 + length (in_turn c.
 hello_shown : IsShown hello
 hello_shown = record { each = are_bytes hello (record { each = (omega arith, (omega arith, (omega arith, (omega arith, (omega arith, (omega arith, (omega arith, (omega arith, tt)))))))) }); some = omega arith; few = omega arith }
 
-file_means : (c : Configuration) → IsConfig c → Means (build_text c) (Connect ∷ Piece hello ∷ later c)
+file_means : (c : Configuration) → IsConfig c → Means (build_text c) (Connect ∷ Chunk hello ∷ later c)
 unfolding build_text later
 file_means c k =
     let flows = add_lines (1 + length (in_turn c.groups)) (all_flows c.tables) in
     let sent = groups_sent c.groups (config_groups c k) in
-    means_connect (piece_line hello ++ (group_lines 1 (in_turn c.groups) ++ flows)) (Piece hello ∷ later c)
-    (means_piece hello (group_lines 1 (in_turn c.groups) ++ flows) (later c) hello_shown
+    means_connect (chunk_line hello ++ (group_lines 1 (in_turn c.groups) ++ flows)) (Chunk hello ∷ later c)
+    (means_chunk hello (group_lines 1 (in_turn c.groups) ++ flows) (later c) hello_shown
     (groups_shown 1 c.groups flows (flow_events (1 + length (in_turn c.groups)) (all_flows c.tables)) sent
     (flows_shown c.groups 0 c.tables (all_sent c k) (1 + length (in_turn c.groups)))))
 
 -- ---- the run
 
-ends : (dpid : ℕ) (c : Configuration) → IsConfig c → Leads (Piece hello ∷ later c) (record { connection = greeting; core = new_core dpid }) (ready (built dpid (groups_at 0 c.groups) (loaded_tables 0 c.tables)))
+ends : (dpid : ℕ) (c : Configuration) → IsConfig c → Leads (Chunk hello ∷ later c) (record { connection = greeting; core = new_core dpid }) (ready (built dpid (groups_at 0 c.groups) (loaded_tables 0 c.tables)))
 unfolding later
 ends dpid c k =
     let end : State = ready (built dpid (groups_at 0 c.groups) (loaded_tables 0 c.tables)) in
     let flows = flow_events (1 + length (in_turn c.groups)) (all_flows c.tables) in
-    leads_first (Piece hello) (later c) (record { connection = greeting; core = new_core dpid }) (ready (new_core dpid)) end (greets (new_core dpid))
+    leads_first (Chunk hello) (later c) (record { connection = greeting; core = new_core dpid }) (ready (new_core dpid)) end (greets (new_core dpid))
     (groups_lead dpid c.groups (empty_tables no_tables) flows end refl (groups_sent c.groups (config_groups c k)) (flows_lead dpid (1 + length (in_turn c.groups)) c.groups c.tables (many c k) (all_sent c k)) 1)
 
 whole_run : (dpid : ℕ) (c : Configuration) → IsConfig c
-    → run (Connect ∷ Piece hello ∷ later c) (start dpid) ≡ record { reports = Gives (Answer hello_bytes ∷ []) ∷ replicate (length (Piece hello ∷ later c)) (Gives []); state = ready (built dpid (groups_at 0 c.groups) (loaded_tables 0 c.tables)) }
+    → run (Connect ∷ Chunk hello ∷ later c) (start dpid) ≡ record { reports = Gives (Answer hello_bytes ∷ []) ∷ replicate (length (Chunk hello ∷ later c)) (Gives []); state = ready (built dpid (groups_at 0 c.groups) (loaded_tables 0 c.tables)) }
 whole_run dpid c k = ap (λ (r : Run). record { reports = Gives (Answer hello_bytes ∷ []) ∷ r.reports; state = r.state }) (ends dpid c k)
 
-pub comes_back : (text : List ℕ) (config : Configuration) (dpid : ℕ) → SpellConfig (text_lines text) config → ComesBack dpid (build_text config) config
+pub comes_back : (text : List ℕ) (config : Configuration) (dpid : ℕ) → EncodeConfig (text_lines text) config → ComesBack dpid (build_text config) config
 comes_back text config dpid s =
-    let k = spelt_config (text_lines text) config s in
+    let k = encoded_config (text_lines text) config s in
     let rows = file_means config k in
-    let all : run_of dpid (build_text config) ≡ record { reports = Gives (Answer hello_bytes ∷ []) ∷ replicate (length (Piece hello ∷ later config)) (Gives []); state = ready (built dpid (groups_at 0 config.groups) (loaded_tables 0 config.tables)) } =
+    let all : run_of dpid (build_text config) ≡ record { reports = Gives (Answer hello_bytes ∷ []) ∷ replicate (length (Chunk hello ∷ later config)) (Gives []); state = ready (built dpid (groups_at 0 config.groups) (loaded_tables 0 config.tables)) } =
     ap (λ (r : Rows). run r.events (start dpid)) rows ∙ whole_run dpid config k in
     record {
       good = ap (λ (r : Rows). r.bad) rows;
-      others = length (Piece hello ∷ later config);
+      others = length (Chunk hello ∷ later config);
       quiet = ap (λ (r : Run). r.reports) all;
       core_is = ap (λ (r : Run). r.state.core) all;
       config_is = ap (λ (r : Run). config_of r.state) all ∙ told_again config (start dpid) k;
@@ -176,10 +176,10 @@ comes_back text config dpid s =
 -- ---- and back to text
 
 pub good_again : (text file : List ℕ) → BuildsOf text file → (rows_of (lines_read true file)).bad ≡ None
-good_again text file b = ap (λ (bytes : List ℕ). (rows_of (lines_of bytes)).bad) b.is ∙ (comes_back text b.config 1 b.spelt).good
+good_again text file b = ap (λ (bytes : List ℕ). (rows_of (lines_of bytes)).bad) b.is ∙ (comes_back text b.config 1 b.encoded).good
 
-pub text_again : (text file : List ℕ) (config : Configuration) → BuildsOf text file → SpellConfig (text_lines text) config → text_after (rows_of (lines_read true file)) ≡ config_text config
+pub text_again : (text file : List ℕ) (config : Configuration) → BuildsOf text file → EncodeConfig (text_lines text) config → text_after (rows_of (lines_read true file)) ≡ config_text config
 text_again text file config b s =
-    let same : b.config ≡ config = one_config (text_lines text) b.config config b.spelt s in
+    let same : b.config ≡ config = one_config (text_lines text) b.config config b.encoded s in
     ap (λ (bytes : List ℕ). text_after (rows_of (lines_of bytes))) b.is
-    ∙ (ap config_text (comes_back text b.config 1 b.spelt).config_is ∙ ap config_text same)
+    ∙ (ap config_text (comes_back text b.config 1 b.encoded).config_is ∙ ap config_text same)

@@ -1,4 +1,4 @@
--- The rows of a file of pieces.
+-- The rows of a file of chunks.
 use Rattle.std.proofs.Common.{◌≡◌, ℕ, ◌+◌, ◌<◌, ◌≤◌, ◌/◌, ◌%◌, suc, zero, eqb, Bool, true, false, not, List, [], ◌∷◌, ◌++◌, length, codes, Some, None, refl, sym, ◌∙◌, ap, subst, append_assoc, arith}
 use Rattle.std.specs.Prelude.{nat_le, nat_lt, position, slice_index}
 use Rattle.std.specs.List.{AllByRecursion, list_all}
@@ -12,11 +12,11 @@ use Rattle.std.proofs.lemmas.Str.Ascii.{IsAscii-cons}
 use Rattle.hex.specs.Hex.{IsBytes, encode_lower, encode_with, lower_digits}
 use Rattle.hex.proofs.HexLemmas.{IsAscii-encode_with, decode_of-encode_lower, length-encode_with}
 use Rattle.of_table.proofs.PlaceLemmas.{position-first, position-later}
-use Rattle.of_build.specs.Building.{piece_line}
+use Rattle.of_build.specs.Building.{chunk_line}
 use Rattle.of_switch.specs.declared.event.Event.{Event}
 use Rattle.of_switch.specs.declared.event.Event.TheVariants as event
 use Rattle.of_replay.specs.Lexing.{whole_from, last_from, lines_of, is_line, bytes_of}
-use Rattle.of_replay.specs.Rows.{EventRow, Piece, Connect, events_in, row_of, rows_of}
+use Rattle.of_replay.specs.Rows.{EventRow, Chunk, Connect, events_in, row_of, rows_of}
 
 -- ---- lines
 
@@ -58,7 +58,7 @@ unfolding encode_with
 hex_one [] = tt
 hex_one (b ∷ bs) = (no_lf (b / 16), (no_lf (b % 16), hex_one bs))
 
--- ---- the row of a piece
+-- ---- the row of a chunk
 
 -- bytes that are written as one row
 pub record IsShown (bytes : List ℕ) : Type 0 where
@@ -91,7 +91,7 @@ bytes_again (b ∷ bs) some each =
     let long : eqb (length (encode_lower (b ∷ bs))) 0 ≡ false = ne_eqb (length (encode_lower (b ∷ bs))) 0 (λ e. omega (arith, e, size)) in
     rw (other, long, decode_of-encode_lower (b ∷ bs) each) refl
 
-row_shown : (bytes : List ℕ) → IsShown bytes → row_of (shown bytes) ≡ Some (Piece bytes)
+row_shown : (bytes : List ℕ) → IsShown bytes → row_of (shown bytes) ≡ Some (Chunk bytes)
 row_shown bytes h = rw (shown_line bytes h.few, space bytes, bytes_again bytes h.some h.each) refl
 
 -- ---- files
@@ -103,10 +103,10 @@ Means file events = rows_of (lines_of file) ≡ record { events = events; bad = 
 pub means_row : (line rest : List ℕ) (row : EventRow) (events : List Event) → IsOne line → row_of line ≡ Some row → Means rest events → Means (line ++ 10 ∷ rest) (events_in row ++ events)
 means_row line rest row events one is others = rw (next_line line rest one, is, others) refl
 
-pub means_piece : (bytes rest : List ℕ) (events : List Event) → IsShown bytes → Means rest events → Means (piece_line bytes ++ rest) (event.Piece bytes ∷ events)
-means_piece bytes rest events h others =
-    let text : piece_line bytes ++ rest ≡ shown bytes ++ 10 ∷ rest = ap (λ (x : List ℕ). 99 ∷ 32 ∷ x) (append_assoc (encode_lower bytes) (10 ∷ []) rest) in
-    subst (λ (file : List ℕ). Means file (event.Piece bytes ∷ events)) (sym text) (means_row (shown bytes) rest (Piece bytes) events (refl, (refl, hex_one bytes)) (row_shown bytes h) others)
+pub means_chunk : (bytes rest : List ℕ) (events : List Event) → IsShown bytes → Means rest events → Means (chunk_line bytes ++ rest) (event.Chunk bytes ∷ events)
+means_chunk bytes rest events h others =
+    let text : chunk_line bytes ++ rest ≡ shown bytes ++ 10 ∷ rest = ap (λ (x : List ℕ). 99 ∷ 32 ∷ x) (append_assoc (encode_lower bytes) (10 ∷ []) rest) in
+    subst (λ (file : List ℕ). Means file (event.Chunk bytes ∷ events)) (sym text) (means_row (shown bytes) rest (Chunk bytes) events (refl, (refl, hex_one bytes)) (row_shown bytes h) others)
 
 pub connect_is : row_of (codes "connect") ≡ Some Connect
 unfolding is_utf8 chars encode

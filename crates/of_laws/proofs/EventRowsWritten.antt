@@ -19,7 +19,7 @@ use Rattle.of_switch.specs.declared.port_change.PortChange.{PortChange}
 use Rattle.of_switch.specs.declared.port_change.PortChange.TheVariants.{Add, Remove, Link}
 use Rattle.of_text.specs.Lines.{before, further, is_passed, joined}
 use Rattle.of_replay.specs.Lexing.{after_word, below, bytes_of, decimal as decimal_in, digits_value, first_word, hw_of, is_digit, is_line, is_name_byte, moment_of, name_of, number_of, state_of}
-use Rattle.of_replay.specs.Rows.{EventRow, Passed, Connect, Lost, Piece, Frame, Moment, Ports, added_port, change_of, events_in, frame_row, linked_port, named_row, piece_row, port_of, removed_port, row_of}
+use Rattle.of_replay.specs.Rows.{EventRow, Passed, Connect, Lost, Chunk, Frame, Moment, Ports, added_port, change_of, events_in, frame_row, linked_port, named_row, chunk_row, port_of, removed_port, row_of}
 use Rattle.of_laws.specs.RowText.{HasChangeText, HasLine, HasText, IsName, bytes_word, change_words, file_text, name_word, row_text, row_words, state_word}
 use Rattle.of_laws.proofs.EventRowsRead.{IsOne, Means, bytes_again, connect_is, means_end, means_row}
 
@@ -231,8 +231,8 @@ last_again f w v h = ap f (append-nil w) ∙ h
 frame_again : (words more bytes : List ℕ) (port : ℕ) → number_of (first_word words) ≡ Some port → after_word words ≡ Some more → bytes_of more ≡ Some bytes → frame_row words ≡ Some (Frame port bytes)
 frame_again words more bytes port a b c = rw (a, b, c) refl
 
-piece_again : (word bytes : List ℕ) → bytes_of word ≡ Some bytes → piece_row word ≡ Some (Piece bytes)
-piece_again word bytes a = rw a refl
+chunk_again : (word bytes : List ℕ) → bytes_of word ≡ Some bytes → chunk_row word ≡ Some (Chunk bytes)
+chunk_again word bytes a = rw a refl
 
 added_again : (words more last word hw name : List ℕ) (number : ℕ) (up : Bool) → number_of (first_word words) ≡ Some number → after_word words ≡ Some more → hw_of (first_word more) ≡ Some hw → after_word more ≡ Some last
     → name_of (first_word last) ≡ Some name → after_word last ≡ Some word → state_of word ≡ Some up → added_port words ≡ Some (Add number hw name up)
@@ -286,7 +286,7 @@ are_words : (row : EventRow) → HasText row → AreWords (row_words row)
 are_words Passed h = tt
 are_words Connect h = (word_tested (codes "connect") refl, tt)
 are_words Lost h = (word_tested (codes "lost") refl, tt)
-are_words (Piece bytes) h = (word_tested (codes "c") refl, (bytes_word_is bytes h, tt))
+are_words (Chunk bytes) h = (word_tested (codes "c") refl, (bytes_word_is bytes h, tt))
 are_words (Frame port bytes) h = (word_tested (codes "f") refl, ((digits port (let lt = h.0 in omega arith)).0, (bytes_word_is bytes h.1, tt)))
 are_words (Moment nanos) h = (word_tested (codes "t") refl, ((digits nanos h).0, tt))
 are_words (Ports change) h = (word_tested (codes "port") refl, change_are_words change h)
@@ -302,9 +302,9 @@ pub row_again : (row : EventRow) → HasText row → length (row_text row) ≤ 1
 row_again Passed h few = passed_is (line_is [] tt few)
 row_again Connect h few = connect_is
 row_again Lost h few = lost_is
-row_again (Piece bytes) h few =
-    let line = line_is (row_text (Piece bytes)) (joined_line (row_words (Piece bytes)) (are_words (Piece bytes) h)) few in
-    named (codes "c") (bytes_word bytes ++ []) (word_tested (codes "c") refl) line refl ∙ piece_again (bytes_word bytes ++ []) bytes (last_again bytes_of (bytes_word bytes) bytes (bytes_word_again bytes h))
+row_again (Chunk bytes) h few =
+    let line = line_is (row_text (Chunk bytes)) (joined_line (row_words (Chunk bytes)) (are_words (Chunk bytes) h)) few in
+    named (codes "c") (bytes_word bytes ++ []) (word_tested (codes "c") refl) line refl ∙ chunk_again (bytes_word bytes ++ []) bytes (last_again bytes_of (bytes_word bytes) bytes (bytes_word_again bytes h))
 row_again (Frame port bytes) h few =
     let line = line_is (row_text (Frame port bytes)) (joined_line (row_words (Frame port bytes)) (are_words (Frame port bytes) h)) few in
     let word = bytes_word bytes ++ [] in

@@ -33,7 +33,7 @@ use Rattle.of_messages.proofs.Appended.{length_flow_mod}
 use Rattle.of_build.specs.Building.{add_of, add_lines}
 use Rattle.of_buffers.specs.Buffers.{none_held}
 use Rattle.of_switch.specs.declared.event.Event.{Event}
-use Rattle.of_switch.specs.declared.event.Event.TheVariants.{Piece}
+use Rattle.of_switch.specs.declared.event.Event.TheVariants.{Chunk}
 use Rattle.of_datapath.specs.Commands.{flow_mod_refusals, flow_of, has_flag, names_absent_group}
 use Rattle.of_datapath.specs.Loading.{loaded_entry, loaded_table, loaded_tables}
 use Rattle.of_switch.specs.State.{State}
@@ -42,8 +42,8 @@ use Rattle.of_datapath.proofs.LoadLemmas.{filled, filled_all, filled_more, fille
 use Rattle.of_laws.proofs.ByteLemmas.{flow_mod_are_bytes}
 use Rattle.of_laws.proofs.FlowAgain.{flow_mod_again}
 use Rattle.of_laws.proofs.StreamMessages.{built, one_message}
-use Rattle.of_laws.proofs.Pieces.{Leads, handles, leads_first, ready}
-use Rattle.of_laws.proofs.EventRowsRead.{IsShown, Means, means_end, means_piece}
+use Rattle.of_laws.proofs.Chunks.{Leads, handles, leads_first, ready}
+use Rattle.of_laws.proofs.EventRowsRead.{IsShown, Means, means_end, means_chunk}
 
 -- ---- flags: 2 asks for a check
 
@@ -125,7 +125,7 @@ message_size xid f table s =
 
 -- its FLOW_MOD is handled
 handled_flow : (dpid xid table : ℕ) (gs : List TextGroup) (ts : Tables) (f : TextFlow) → IsSent table f → bit_and f.head.flags 25 ≡ f.head.flags → list_any (names_absent gs) f.steps ≡ false → length (table_at f.head.table ts).flows < 4096
-    → happened (Piece (flow_mod_bytes xid (add_of f))) (ready (built dpid (groups_at 0 gs) ts)) ≡ record { report = Gives []; state = ready (built dpid (groups_at 0 gs) (added_to f.head.table (flow_of (add_of f)) ts)) }
+    → happened (Chunk (flow_mod_bytes xid (add_of f))) (ready (built dpid (groups_at 0 gs) ts)) ≡ record { report = Gives []; state = ready (built dpid (groups_at 0 gs) (added_to f.head.table (flow_of (add_of f)) ts)) }
 handled_flow dpid xid table gs ts f s flags there room =
     let few = message_size xid f table s in
     handles (flow_mod_bytes xid (add_of f)) (built dpid (groups_at 0 gs) ts) (built dpid (groups_at 0 gs) (added_to f.head.table (flow_of (add_of f)) ts)) (IsFlowMod (add_of f))
@@ -183,7 +183,7 @@ one_more ts k before f lt unlike =
 
 abbrev pub flow_events : ℕ → List TextFlow → List Event
 flow_events xid [] = []
-flow_events xid (f ∷ fs) = Piece (flow_mod_bytes xid (add_of f)) ∷ flow_events (xid + 1) fs
+flow_events xid (f ∷ fs) = Chunk (flow_mod_bytes xid (add_of f)) ∷ flow_events (xid + 1) fs
 
 -- flows of one table, and then others
 table_leads : (dpid : ℕ) (gs : List TextGroup) (ts : List Table) (k : ℕ) (before fs rest : List TextFlow) (t : State) → k < length ts → AllByRecursion (IsSent k) fs → AllStandBehind gs before fs
@@ -198,7 +198,7 @@ table_leads dpid gs ts k before (f ∷ fs) rest t lt sent stand others xid =
     let next : added_to f.head.table (flow_of (add_of f)) (having ts k before) ≡ having ts k (before ++ f ∷ []) = ap (λ (n : ℕ). added_to n (flow_of (add_of f)) (having ts k before)) own ∙ one_more ts k before f lt stand.0.unlike in
     let all : before ++ f ∷ fs ≡ (before ++ f ∷ []) ++ fs = sym (append_assoc before (f ∷ []) fs) in
     let later = table_leads dpid gs ts k (before ++ f ∷ []) fs rest t lt sent.1 stand.1 (λ x. subst (λ (b : List TextFlow). Leads (flow_events x rest) (ready (built dpid (groups_at 0 gs) (having ts k b))) t) all (others x)) (xid + 1) in
-    leads_first (Piece (flow_mod_bytes xid (add_of f))) (flow_events (xid + 1) (fs ++ rest)) (ready (built dpid (groups_at 0 gs) (having ts k before))) (ready (built dpid (groups_at 0 gs) (having ts k (before ++ f ∷ [])))) t
+    leads_first (Chunk (flow_mod_bytes xid (add_of f))) (flow_events (xid + 1) (fs ++ rest)) (ready (built dpid (groups_at 0 gs) (having ts k before))) (ready (built dpid (groups_at 0 gs) (having ts k (before ++ f ∷ [])))) t
     (first ∙ ap (λ (u : Tables). record { report = Gives []; state = ready (built dpid (groups_at 0 gs) u) }) next) later
 
 -- ---- table by table
@@ -260,7 +260,7 @@ flows_lead dpid xid gs ts n sent =
 shown_table : (xid k : ℕ) (fs rest : List TextFlow) → AllByRecursion (IsSent k) fs → ((x : ℕ) → Means (add_lines x rest) (flow_events x rest)) → Means (add_lines xid (fs ++ rest)) (flow_events xid (fs ++ rest))
 shown_table xid k [] rest sent others = others xid
 shown_table xid k (f ∷ fs) rest sent others =
-    means_piece (flow_mod_bytes xid (add_of f)) (add_lines (xid + 1) (fs ++ rest)) (flow_events (xid + 1) (fs ++ rest)) (shown_flow xid k f sent.0) (shown_table (xid + 1) k fs rest sent.1 others)
+    means_chunk (flow_mod_bytes xid (add_of f)) (add_lines (xid + 1) (fs ++ rest)) (flow_events (xid + 1) (fs ++ rest)) (shown_flow xid k f sent.0) (shown_table (xid + 1) k fs rest sent.1 others)
 
 pub flows_shown : (gs : List TextGroup) (k : ℕ) (ts : List (List TextFlow)) → AreSent gs k ts → (xid : ℕ) → Means (add_lines xid (all_flows ts)) (flow_events xid (all_flows ts))
 flows_shown gs k [] sent xid = means_end

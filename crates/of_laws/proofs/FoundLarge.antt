@@ -191,7 +191,7 @@ flow_mod_found f m fits h =
         fields = take n rest;
         instructions = drop n rest;
         whole = sym (take-append-drop n rest);
-        spelt = match_found rest q.0.0 n (IsBytes-drop 48 m fits) q.1;
+        encoded = match_found rest q.0.0 n (IsBytes-drop 48 m fits) q.1;
         are = instructions_for_found made c.0 (drop n rest) is.1;
       };
       valid = record { table = k.may; flags = k.low; fit = not-false _ go.0.0 };

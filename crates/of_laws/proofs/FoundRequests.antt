@@ -38,7 +38,7 @@ flows_found r m fits h =
     let n = q.0.1 in
     subst (λ (x : FlowStatsRequest). FlowsSay x m) (same_ok q.2) (record {
       says = (refl, (refl, (refl, (refl, (refl, tt)))));
-      behind = record { front = take n rest; rest = drop n rest; whole = sym (take-append-drop n rest); spelt = match_found rest q.0.0 n (IsBytes-drop 48 m fits) q.1 };
+      behind = record { front = take n rest; rest = drop n rest; whole = sym (take-append-drop n rest); encoded = match_found rest q.0.0 n (IsBytes-drop 48 m fits) q.1 };
       valid = named (slice_index m 16) (not-false _ t.0.0);
     })
 

@@ -28,17 +28,17 @@ use Rattle.of_messages.specs.declared.message.Message.TheVariants.{GroupMod as I
 use Rattle.of_messages.specs.CanonicalGroups.{as_written, canonical_buckets, group_add_bytes, group_add_fixed_part, has_numbers}
 use Rattle.of_messages.proofs.BucketsWritten.{buckets_short, length_front}
 use Rattle.of_messages.proofs.GroupAgain.{group_add_again}
-use Rattle.of_build.specs.Building.{group_lines, in_turn, new_of, of_length, piece_line}
+use Rattle.of_build.specs.Building.{group_lines, in_turn, new_of, of_length, chunk_line}
 use Rattle.of_switch.specs.declared.event.Event.{Event}
-use Rattle.of_switch.specs.declared.event.Event.TheVariants.{Piece}
+use Rattle.of_switch.specs.declared.event.Event.TheVariants.{Chunk}
 use Rattle.of_switch.specs.GroupMods.{refused_for}
 use Rattle.of_switch.specs.State.{State}
 use Rattle.of_switch.specs.Runs.{Gives, happened}
 use Rattle.of_laws.proofs.ByteLemmas.{group_add_are_bytes}
 use Rattle.of_laws.proofs.StreamMessages.{built, one_message}
-use Rattle.of_laws.proofs.Pieces.{Leads, handles, leads_first, ready}
+use Rattle.of_laws.proofs.Chunks.{Leads, handles, leads_first, ready}
 use Rattle.of_laws.proofs.Present.{all_kept, all_present, chain_among, comes_in, find_both, found_in_all, length_kept, next_present, none_as_high, none_present, not_found, not_yet, passed_over, present, rising_parts, shorter_found, stands_between}
-use Rattle.of_laws.proofs.EventRowsRead.{IsShown, Means, means_piece}
+use Rattle.of_laws.proofs.EventRowsRead.{IsShown, Means, means_chunk}
 
 -- ---- a group that may be sent
 
@@ -196,7 +196,7 @@ group_size : (g : TextGroup) → are_fit (buckets_of g) ≡ true → length (gro
 group_size g fit = omega (arith, length_front (new_of g), length-append (group_add_fixed_part (new_of g)) (canonical_buckets (buckets_of g)), buckets_short (buckets_of g) fit)
 
 handled_group : (dpid xid : ℕ) (all groups : List Group) (ts : Tables) (g : TextGroup) → ts.latest ≡ 0 → IsSentGroup all g → add_fault (group_at 0 g) groups ≡ None
-    → happened (Piece (group_add_bytes xid (new_of g))) (ready (built dpid groups ts)) ≡ record { report = Gives []; state = ready (built dpid (with_group (group_at 0 g) groups) ts) }
+    → happened (Chunk (group_add_bytes xid (new_of g))) (ready (built dpid groups ts)) ≡ record { report = Gives []; state = ready (built dpid (with_group (group_at 0 g) groups) ts) }
 handled_group dpid xid all groups ts g now s none =
     let fit = fit_parts all g s in
     let new : new_group g.head.id g.head.kind (as_written (new_of g)).buckets ts.latest ≡ group_at 0 g = ap (λ (n : ℕ). new_group g.head.id g.head.kind (as_written (new_of g)).buckets n) now ∙ as_new g in
@@ -219,7 +219,7 @@ shown_group xid all g s =
 
 abbrev pub group_events : ℕ → List TextGroup → List Event → List Event
 group_events xid [] more = more
-group_events xid (g ∷ gs) more = Piece (group_add_bytes xid (new_of g)) ∷ group_events (xid + 1) gs more
+group_events xid (g ∷ gs) more = Chunk (group_add_bytes xid (new_of g)) ∷ group_events (xid + 1) gs more
 
 abbrev of_len : List TextGroup → ℕ → TextGroup → Bool
 of_len gs n g = eqb (len_in gs g.head.id) n
@@ -242,8 +242,8 @@ turn_leads dpid gs ts n before (g ∷ rest) others more t now all parted sent la
     by_test true e next =
         let x : Next gs before rest g n = record { parted = parted; all = all; one = sent.0; length_is = eqb-true _ _ e } in
         let first = handled_group dpid xid (groups_at 0 gs) (there gs n before (g ∷ rest)) ts g now sent.0 (no_fault gs before rest g n x) in
-        let after : State → Type 0 = λ (u : State). happened (Piece (group_add_bytes xid (new_of g))) (ready (built dpid (there gs n before (g ∷ rest)) ts)) ≡ record { report = Gives []; state = u } in
-        leads_first (Piece (group_add_bytes xid (new_of g))) (group_events (xid + 1) (filter (of_len gs n) rest ++ others) more) (ready (built dpid (there gs n before (g ∷ rest)) ts)) (ready (built dpid (there gs n (before ++ g ∷ []) rest) ts)) t
+        let after : State → Type 0 = λ (u : State). happened (Chunk (group_add_bytes xid (new_of g))) (ready (built dpid (there gs n before (g ∷ rest)) ts)) ≡ record { report = Gives []; state = u } in
+        leads_first (Chunk (group_add_bytes xid (new_of g))) (group_events (xid + 1) (filter (of_len gs n) rest ++ others) more) (ready (built dpid (there gs n before (g ∷ rest)) ts)) (ready (built dpid (there gs n (before ++ g ∷ []) rest) ts)) t
         (subst (λ (hs : List Group). after (ready (built dpid hs ts))) (comes gs before rest g n x) first) (next (xid + 1))
     by_test false e next = subst (λ (hs : List TextGroup). Leads (group_events xid (filter (of_len gs n) rest ++ others) more) (ready (built dpid (groups_at 0 hs) ts)) t) (sym (passed_over (len_in gs) n before rest g e)) (next xid)
 
@@ -278,8 +278,8 @@ groups_lead dpid gs ts more t now all rest xid =
 shown_all : (all : List Group) (xid : ℕ) (gs : List TextGroup) (rest : List ℕ) (more : List Event) → AllByRecursion (IsSentGroup all) gs → Means rest more → Means (group_lines xid gs ++ rest) (group_events xid gs more)
 shown_all all xid [] rest more sent others = others
 shown_all all xid (g ∷ gs) rest more sent others =
-    subst (λ (file : List ℕ). Means file (group_events xid (g ∷ gs) more)) (sym (append_assoc (piece_line (group_add_bytes xid (new_of g))) (group_lines (xid + 1) gs) rest))
-    (means_piece (group_add_bytes xid (new_of g)) (group_lines (xid + 1) gs ++ rest) (group_events (xid + 1) gs more) (shown_group xid all g sent.0) (shown_all all (xid + 1) gs rest more sent.1 others))
+    subst (λ (file : List ℕ). Means file (group_events xid (g ∷ gs) more)) (sym (append_assoc (chunk_line (group_add_bytes xid (new_of g))) (group_lines (xid + 1) gs) rest))
+    (means_chunk (group_add_bytes xid (new_of g)) (group_lines (xid + 1) gs ++ rest) (group_events (xid + 1) gs more) (shown_group xid all g sent.0) (shown_all all (xid + 1) gs rest more sent.1 others))
 
 pub groups_shown : (xid : ℕ) (gs : List TextGroup) (rest : List ℕ) (more : List Event) → AreSentGroups gs → Means rest more → Means (group_lines xid (in_turn gs) ++ rest) (group_events xid (in_turn gs) more)
 groups_shown xid gs rest more all others =

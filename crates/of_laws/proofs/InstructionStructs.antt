@@ -20,7 +20,7 @@ use Rattle.of_actions.specs.Actions.{AreActions}
 use Rattle.of_actions.specs.Beginnings.{type_at, len_at}
 use Rattle.of_actions.specs.Headers.{Header, goto, metadata, write, apply, clear, kind_of, is_known, is_size, is_next, table_at, actions_at, header_refusals, header_at, AreHeaders}
 use Rattle.of_actions.specs.InstructionLists.{type_of, run_place, is_served_body, are_kept, is_for, are_for}
-use Rattle.of_actions.specs.Instructions.{IsBody, IsFault, AreBodies, SpellsInstructions}
+use Rattle.of_actions.specs.Instructions.{IsBody, IsFault, AreBodies, EncodesInstructions}
 use Rattle.of_actions.specs.RunOrder.{in_run_order}
 use Rattle.of_actions.specs.Supported.{are_supported, is_supported}
 use Rattle.of_actions.specs.Unread.{leads_on}
@@ -105,9 +105,9 @@ all_lead : (table : ℕ) (seen hs : List Header) (bytes : List ℕ) → AreHeade
 all_lead table seen [] bytes h = refl
 all_lead table seen (x ∷ xs) bytes h = and_true _ _ (leads table seen bytes x h.1 h.2) (all_lead table (seen ++ x ∷ []) xs (drop (len_at bytes) bytes) h.3)
 
--- an entry of the table may have what bytes spell for it
-pub spelt_for : (table : ℕ) (bytes : List ℕ) (is : List Instruction) → SpellsInstructions table bytes is → are_for table is ≡ true
-spelt_for table bytes is s = order_for table s.message is (bodies_for table s.headers s.message s.bodies (all_lead table [] s.headers bytes s.whole)) s.order
+-- an entry of the table may have what bytes encode for it
+pub encoded_for : (table : ℕ) (bytes : List ℕ) (is : List Instruction) → EncodesInstructions table bytes is → are_for table is ≡ true
+encoded_for table bytes is s = order_for table s.message is (bodies_for table s.headers s.message s.bodies (all_lead table [] s.headers bytes s.whole)) s.order
 
 -- ---- from what is read to structs
 
@@ -138,11 +138,11 @@ listed rest long whole =
 
 with_actions : (k : ℕ) (actions : List Action) (rest given : List ℕ) → IsBytes rest → type_at rest ≡ k → 8 ≤ len_at rest → len_at rest ≤ length rest → given ≡ actions_at rest → AreActions false [] given actions None
     → Begins (u16 k ∷ u16 (8 + length (actions_at rest)) ∷ pad 4 ∷ []) rest (actions_at rest ++ drop (len_at rest) rest) × AreStructs actions (actions_at rest) × (are_supported false actions ≡ true)
-with_actions k actions rest given fits kind long whole same spelt =
+with_actions k actions rest given fits kind long whole same encoded =
     let l = listed rest long whole in
     let cells : List Cell = u16 k ∷ u16 (8 + length (actions_at rest)) ∷ pad 4 ∷ [] in
     let front : Begins cells rest (drop 8 rest) = front_of cells rest fits (omega (arith, long, whole)) (kind, (l.size_is, tt)) in
-    let body = actions_found false (actions_at rest) (IsBytes-take (len_at rest - 8) (drop 8 rest) (IsBytes-drop 8 rest fits)) actions (subst (λ (b : List ℕ). AreActions false [] b actions None) same spelt) in
+    let body = actions_found false (actions_at rest) (IsBytes-take (len_at rest - 8) (drop 8 rest) (IsBytes-drop 8 rest fits)) actions (subst (λ (b : List ℕ). AreActions false [] b actions None) same encoded) in
     (subst (λ (x : List ℕ). Begins cells rest x) l.parts front, body.0, body.1)
 
 eight : (k n : ℕ) → k ≡ 1 → is_size k n ≡ true → n ≡ 8
@@ -181,14 +181,14 @@ one table seen (write bytes) i rest fits none at body =
     let kind : type_at rest ≡ 3 = sym (kind_is rest (write bytes) at) in
     let there : Some (write (actions_at rest)) ≡ Some (write bytes) = sym (at_write rest kind) ∙ at in
     let same : bytes ≡ actions_at rest = cc in
-    let w = with_actions 3 body.actions rest bytes fits kind p.long p.whole same body.spelt in
+    let w = with_actions 3 body.actions rest bytes fits kind p.long p.whole same body.encoded in
     subst (λ (x : Instruction). One x rest) (sym body.is) (record { is = record { actions = actions_at rest; front = w.0; are = w.1 }; served = w.2 })
 one table seen (apply bytes) i rest fits none at body =
     let p = head table seen rest none in
     let kind : type_at rest ≡ 4 = sym (kind_is rest (apply bytes) at) in
     let there : Some (apply (actions_at rest)) ≡ Some (apply bytes) = sym (at_apply rest kind) ∙ at in
     let same : bytes ≡ actions_at rest = cc in
-    let w = with_actions 4 body.actions rest bytes fits kind p.long p.whole same body.spelt in
+    let w = with_actions 4 body.actions rest bytes fits kind p.long p.whole same body.encoded in
     subst (λ (x : Instruction). One x rest) (sym body.is) (record { is = record { actions = actions_at rest; front = w.0; are = w.1 }; served = w.2 })
 one table seen clear i rest fits none at body =
     let p = head table seen rest none in
@@ -240,12 +240,12 @@ found_items table seen (x ∷ xs) (i ∷ is) bytes fits h b =
       once = λ once. rw (← append_assoc seen (x ∷ []) xs) (others.once (distinct-push kind_of seen x once unused));
     }
 
-pub found : (table : ℕ) (bytes : List ℕ) → IsBytes bytes → (is : List Instruction) → SpellsInstructions table bytes is → AreInAnyOrder is bytes × (are_kept is ≡ true) × (are_for table is ≡ true)
+pub found : (table : ℕ) (bytes : List ℕ) → IsBytes bytes → (is : List Instruction) → EncodesInstructions table bytes is → AreInAnyOrder is bytes × (are_kept is ≡ true) × (are_for table is ≡ true)
 found table bytes fits is s =
     let f = found_items table [] s.headers s.message bytes fits s.whole s.bodies in
     let places : is_distinct run_place s.message ≡ true = places_once s.headers s.message s.bodies (f.once refl) in
     let types : is_distinct type_of s.message ≡ true = sym (distinct_place s.message) ∙ places in
-    (record { message = s.message; structs = f.are; once = same_once s.message ∙ types; order = s.order }, order_kept s.message is places f.served s.order, spelt_for table bytes is s)
+    (record { message = s.message; structs = f.are; once = same_once s.message ∙ types; order = s.order }, order_kept s.message is places f.served s.order, encoded_for table bytes is s)
 
 -- ---- from structs to what is read
 
@@ -360,10 +360,10 @@ passes table seen (Metadata value mask) bytes rest s served valid unused =
     (at_metadata bytes y.0 ∙ ap (λ (n : ℕ). Some (metadata n (big_number 8 (drop 16 bytes)))) y.1.1.0 ∙ ap (λ (n : ℕ). Some (metadata value n)) y.1.1.1.0) refl
 passes table seen (Write actions) bytes rest s served valid unused =
     let y = says 0 (instruction_cells (Write actions) (length s.actions)) bytes bytes (s.actions ++ rest) refl s.front in
-    pass_listed table seen (Write actions) write actions bytes rest s.actions 3 s.front s.are served (served_as 3 (8 + length s.actions) refl refl refl refl) unused refl (at_write bytes y.0) (λ spelt. record { actions = actions; spelt = spelt; is = refl })
+    pass_listed table seen (Write actions) write actions bytes rest s.actions 3 s.front s.are served (served_as 3 (8 + length s.actions) refl refl refl refl) unused refl (at_write bytes y.0) (λ encoded. record { actions = actions; encoded = encoded; is = refl })
 passes table seen (Apply actions) bytes rest s served valid unused =
     let y = says 0 (instruction_cells (Apply actions) (length s.actions)) bytes bytes (s.actions ++ rest) refl s.front in
-    pass_listed table seen (Apply actions) apply actions bytes rest s.actions 4 s.front s.are served (served_as 4 (8 + length s.actions) refl refl refl refl) unused refl (at_apply bytes y.0) (λ spelt. record { actions = actions; spelt = spelt; is = refl })
+    pass_listed table seen (Apply actions) apply actions bytes rest s.actions 4 s.front s.are served (served_as 4 (8 + length s.actions) refl refl refl refl) unused refl (at_apply bytes y.0) (λ encoded. record { actions = actions; encoded = encoded; is = refl })
 passes table seen Clear bytes rest s served valid unused =
     let y = says 0 (instruction_cells Clear (length s.actions)) bytes bytes (s.actions ++ rest) refl s.front in
     pass_plain table seen Clear clear bytes rest s 8 5 refl refl (omega arith) refl y.1.0 y.0 (served_as 5 8 refl refl refl refl) unused refl (at_clear bytes y.0) refl
@@ -462,7 +462,7 @@ only_items table seen (i ∷ is) bytes served valid new once h =
       bodies = (p.body, more.bodies);
     }
 
-pub only_structs : (table : ℕ) (bytes : List ℕ) (is : List Instruction) → AreInAnyOrder is bytes → are_kept is ≡ true → are_for table is ≡ true → SpellsInstructions table bytes is
+pub only_structs : (table : ℕ) (bytes : List ℕ) (is : List Instruction) → AreInAnyOrder is bytes → are_kept is ≡ true → are_for table is ≡ true → EncodesInstructions table bytes is
 only_structs table bytes is s kept valid =
     let all : list_all is_served_body is ≡ true = grind (arith, nat_tests, kept) in
     let served : list_all is_served_body s.message ≡ true = from_order is_served_body s.message (ap (list_all is_served_body) (sym s.order) ∙ all) in

@@ -1,4 +1,4 @@
--- Instructions that were computed from bytes are those that the bytes spell.
+-- Instructions that were computed from bytes are those that the bytes encode.
 use Rattle.std.proofs.Common.{◌≡◌, ℕ, true, false, ltb, List, [], ◌∷◌, length, None, Result, Ok, Err, refl, sym, subst, arith}
 use Rattle.std.specs.Prelude.{IsSome}
 use Rattle.std.proofs.lemmas.Bool.{ltb-false, not-false}
@@ -12,7 +12,7 @@ use Rattle.of_actions.specs.declared.instruction.Instruction.TheVariants.{Apply,
 use Rattle.of_actions.specs.Actions.{actions_said}
 use Rattle.of_actions.specs.Beginnings.{type_at, len_at}
 use Rattle.of_actions.specs.Headers.{Header, goto, metadata, write, apply, clear, is_known, headers_of, header_refusals, header_at}
-use Rattle.of_actions.specs.Instructions.{HasActions, IsBody, AreBodies, SpellsInstructions}
+use Rattle.of_actions.specs.Instructions.{HasActions, IsBody, AreBodies, EncodesInstructions}
 use Rattle.of_actions.specs.InstructionReading.{with_actions, body_of, prepended, bodies_of, then_bodies, then_ordered, instructions_of}
 use Rattle.of_actions.specs.RunOrder.{in_run_order}
 use Rattle.of_laws.proofs.Items.{HasValues, are_items}
@@ -34,7 +34,7 @@ headers_have table seen bytes some none = some_header bytes (not-false _ (none_a
 
 list_found : (bytes : List ℕ) (make : List Action → Instruction) (i : Instruction) (r : Result (List Action) Code) → actions_said false bytes ≡ r → with_actions make r ≡ Ok i → HasActions bytes make i
 list_found bytes make i (Err code) is h = absurd cc
-list_found bytes make i (Ok actions) is h = let same : make actions ≡ i = cc in record { actions = actions; spelt = actions_found false bytes actions is; is = sym same }
+list_found bytes make i (Ok actions) is h = let same : make actions ≡ i = cc in record { actions = actions; encoded = actions_found false bytes actions is; is = sym same }
 
 body_found : (h : Header) (i : Instruction) → body_of h ≡ Ok i → IsBody h i
 body_found (goto table) i e = let same : Goto table ≡ i = cc in sym same
@@ -56,11 +56,11 @@ bodies_found (h ∷ hs) is e = by_parts (body_of h) refl (bodies_of hs) refl is 
         let same : (i ∷ others) ≡ all = cc in
         subst (λ (x : List Instruction). AreBodies (h ∷ hs) x None) same (body_found h i is, next others are)
 
-pub instructions_found : (table : ℕ) (bytes : List ℕ) (is : List Instruction) → instructions_of table bytes ≡ Ok is → SpellsInstructions table bytes is
+pub instructions_found : (table : ℕ) (bytes : List ℕ) (is : List Instruction) → instructions_of table bytes ≡ Ok is → EncodesInstructions table bytes is
 unfolding instructions_of
 instructions_found table bytes is e = by_headers (items_of (headers_of table) (length bytes) [] bytes) refl e
   where
-    by_bodies : (hs : List Header) → items_of (headers_of table) (length bytes) [] bytes ≡ Ok hs → (r : Result (List Instruction) Code) → bodies_of hs ≡ r → then_ordered r ≡ Ok is → SpellsInstructions table bytes is
+    by_bodies : (hs : List Header) → items_of (headers_of table) (length bytes) [] bytes ≡ Ok hs → (r : Result (List Instruction) Code) → bodies_of hs ≡ r → then_ordered r ≡ Ok is → EncodesInstructions table bytes is
     by_bodies hs whole (Err code) bodies f = absurd cc
     by_bodies hs whole (Ok message) bodies f =
         let order : in_run_order message ≡ is = cc in
@@ -72,6 +72,6 @@ instructions_found table bytes is e = by_headers (items_of (headers_of table) (l
           order = sym order;
         }
 
-    by_headers : (r : Result (List Header) Code) → items_of (headers_of table) (length bytes) [] bytes ≡ r → then_ordered (then_bodies r) ≡ Ok is → SpellsInstructions table bytes is
+    by_headers : (r : Result (List Header) Code) → items_of (headers_of table) (length bytes) [] bytes ≡ r → then_ordered (then_bodies r) ≡ Ok is → EncodesInstructions table bytes is
     by_headers (Err code) whole f = absurd cc
     by_headers (Ok hs) whole f = by_bodies hs whole (bodies_of hs) refl f

@@ -33,7 +33,7 @@ mod OneReplyGroup
 mod OneReply
 mod AnyMessage
 mod EventRowsRead
-pub mod Pieces
+pub mod Chunks
 mod ByteLemmas
 mod FlowAgain
 pub mod StreamMessages

@@ -4,7 +4,7 @@ use Rattle.std.specs.List.{All, concat, flat_map, AllByRecursion as ByRecursion}
 use Rattle.std.proofs.lemmas.List.Elements.{recursion_from_All, All-from_recursion}
 use Rattle.of_statistics.specs.Replies.{AreReplies, most, reply, replies}
 use Rattle.of_statistics.proofs.Cutting.{cut, fit}
-use Rattle.of_laws.specs.Replied.{Reply, SpellAll, SpellsReply, flags}
+use Rattle.of_laws.specs.Replied.{Reply, EncodeAll, EncodesReply, flags}
 use Rattle.of_laws.specs.ReplyRows.{AreRows}
 
 -- ---- rows that are written
@@ -57,29 +57,29 @@ behind : {X : Type 0} (Holds : X → Type 0) (xs ys : List X) → ByRecursion Ho
 behind Holds [] ys all = all
 behind Holds (x ∷ xs) ys all = behind Holds xs ys all.1
 
--- one reply with all the rows is spelt, where they fit in it
-abbrev pub IsSpelt : {X : Type 0} → ℕ → ℕ → (List X → Reply) → (X → List ℕ) → (X → Type 0) → Type 0
-IsSpelt {X} xid kind told row Holds = (more : Bool) (xs : List X) → ByRecursion Holds xs → length (concat (map row xs)) ≤ most → SpellsReply xid more (told xs) (reply xid kind (flags more) (concat (map row xs)))
+-- one reply with all the rows is encoded, where they fit in it
+abbrev pub IsEncoded : {X : Type 0} → ℕ → ℕ → (List X → Reply) → (X → List ℕ) → (X → Type 0) → Type 0
+IsEncoded {X} xid kind told row Holds = (more : Bool) (xs : List X) → ByRecursion Holds xs → length (concat (map row xs)) ≤ most → EncodesReply xid more (told xs) (reply xid kind (flags more) (concat (map row xs)))
 
-one_spelt : {X : Type 0} (xid kind : ℕ) (told : List X → Reply) (row : X → List ℕ) (Holds : X → Type 0) → IsSpelt xid kind told row Holds
-    → (more : Bool) (xs : List X) (rows : List (List ℕ)) (m : List ℕ) → map row xs ≡ rows → ByRecursion Holds xs → m ≡ reply xid kind (flags more) (concat rows) → length m ≤ 65535 → SpellsReply xid more (told xs) m
-one_spelt xid kind told row Holds spelt more xs rows m same all is fits =
+one_encoded : {X : Type 0} (xid kind : ℕ) (told : List X → Reply) (row : X → List ℕ) (Holds : X → Type 0) → IsEncoded xid kind told row Holds
+    → (more : Bool) (xs : List X) (rows : List (List ℕ)) (m : List ℕ) → map row xs ≡ rows → ByRecursion Holds xs → m ≡ reply xid kind (flags more) (concat rows) → length m ≤ 65535 → EncodesReply xid more (told xs) m
+one_encoded xid kind told row Holds encoded more xs rows m same all is fits =
     let whole : m ≡ reply xid kind (flags more) (concat (map row xs)) = is ∙ ap (λ (rs : List (List ℕ)). reply xid kind (flags more) (concat rs)) (sym same) in
     let short : length (concat (map row xs)) ≤ most = omega (arith, fits, ap length whole, length_reply xid kind (flags more) (concat (map row xs))) in
-    subst (λ (b : List ℕ). SpellsReply xid more (told xs) b) (sym whole) (spelt more xs all short)
+    subst (λ (b : List ℕ). EncodesReply xid more (told xs) b) (sym whole) (encoded more xs all short)
 
-all_spelt : {X : Type 0} (xid kind : ℕ) (told : List X → Reply) (row : X → List ℕ) (Holds : X → Type 0) → IsSpelt xid kind told row Holds
-    → (ms : List (List ℕ)) (xs : List X) (rows : List (List ℕ)) → map row xs ≡ rows → ByRecursion Holds xs → ByRecursion (λ m. length m ≤ 65535) ms → AreReplies xid kind rows ms → SpellAll xid told xs ms
-all_spelt xid kind told row Holds spelt [] xs rows same all fits are = are
-all_spelt xid kind told row Holds spelt (m ∷ []) xs rows same all fits are = one_spelt xid kind told row Holds spelt false xs rows m same all are fits.0
-all_spelt {X} xid kind told row Holds spelt (m ∷ n ∷ ms) xs rows same all fits are =
+all_encoded : {X : Type 0} (xid kind : ℕ) (told : List X → Reply) (row : X → List ℕ) (Holds : X → Type 0) → IsEncoded xid kind told row Holds
+    → (ms : List (List ℕ)) (xs : List X) (rows : List (List ℕ)) → map row xs ≡ rows → ByRecursion Holds xs → ByRecursion (λ m. length m ≤ 65535) ms → AreReplies xid kind rows ms → EncodeAll xid told xs ms
+all_encoded xid kind told row Holds encoded [] xs rows same all fits are = are
+all_encoded xid kind told row Holds encoded (m ∷ []) xs rows same all fits are = one_encoded xid kind told row Holds encoded false xs rows m same all are fits.0
+all_encoded {X} xid kind told row Holds encoded (m ∷ n ∷ ms) xs rows same all fits are =
     let s = split row xs are.0 (are.1 ∷ are.2) (same ∙ are.3) in
     let each : ByRecursion Holds (s.these ++ s.others) = subst (λ (t : List X). ByRecursion Holds t) s.whole all in (
       s.these,
       s.others,
       s.whole,
-      one_spelt xid kind told row Holds spelt true s.these are.0 m s.here (prepended Holds s.these s.others each) are.4.holds fits.0,
-      all_spelt xid kind told row Holds spelt (n ∷ ms) s.others (are.1 ∷ are.2) s.there (behind Holds s.these s.others each) fits.1 are.5,
+      one_encoded xid kind told row Holds encoded true s.these are.0 m s.here (prepended Holds s.these s.others each) are.4.holds fits.0,
+      all_encoded xid kind told row Holds encoded (n ∷ ms) s.others (are.1 ∷ are.2) s.there (behind Holds s.these s.others each) fits.1 are.5,
     )
 
 short_rows : {X : Type 0} (row : X → List ℕ) (Holds : X → Type 0) → ((x : X) → Holds x → length (row x) ≤ most) → (xs : List X) → ByRecursion Holds xs → ByRecursion (λ r. length r ≤ most) (map row xs)
@@ -87,11 +87,11 @@ short_rows row Holds short [] all = tt
 short_rows row Holds short (x ∷ xs) all = (short x all.0, short_rows row Holds short xs all.1)
 
 -- where each row fits, so does each reply
-pub spell_all : {X : Type 0} (xid kind : ℕ) (told : List X → Reply) (row : X → List ℕ) (Holds : X → Type 0) → IsSpelt xid kind told row Holds → ((x : X) → Holds x → length (row x) ≤ most)
-    → (xs : List X) → All Holds xs → SpellAll xid told xs (replies xid kind (map row xs))
-spell_all xid kind told row Holds spelt short xs all =
+pub encode_all : {X : Type 0} (xid kind : ℕ) (told : List X → Reply) (row : X → List ℕ) (Holds : X → Type 0) → IsEncoded xid kind told row Holds → ((x : X) → Holds x → length (row x) ≤ most)
+    → (xs : List X) → All Holds xs → EncodeAll xid told xs (replies xid kind (map row xs))
+encode_all xid kind told row Holds encoded short xs all =
     let each = recursion_from_All Holds xs all in
     let rows = map row xs in
     let room = All-from_recursion (λ r. length r ≤ most) rows (short_rows row Holds short xs each) in
     let fits = recursion_from_All (λ m. length m ≤ 65535) (replies xid kind rows) (fit xid kind rows room) in
-    all_spelt xid kind told row Holds spelt (replies xid kind rows) xs rows refl each fits (cut xid kind rows)
+    all_encoded xid kind told row Holds encoded (replies xid kind rows) xs rows refl each fits (cut xid kind rows)

@@ -13,14 +13,14 @@ use Rattle.of_wire.proofs.Numbers.{IsBytes, IsBytes-drop, IsBytes-take}
 use Rattle.of_layers.specs.declared.field.Field.{Field}
 use Rattle.of_layers.specs.Fields.{field_at}
 use Rattle.of_oxm.specs.declared.match_field.MatchField.{MatchField}
-use Rattle.of_oxm.specs.MatchFieldWire.{spelling, number_at, match_field_of, field_refusals, known_field_refusals}
-use Rattle.of_oxm.specs.MatchGrammar.{spellings, AreFieldsAfter, Fields, match_len, padded, body_of, head_refusals, SpellsMatch}
+use Rattle.of_oxm.specs.MatchFieldWire.{encoding, number_at, match_field_of, field_refusals, known_field_refusals}
+use Rattle.of_oxm.specs.MatchGrammar.{encodings, AreFieldsAfter, Fields, match_len, padded, body_of, head_refusals, EncodesMatch}
 use Rattle.of_oxm.specs.MatchReading.{match_fields, then_normal, match_by, match_of}
 use Rattle.of_oxm.specs.NormalForm.{normal}
 use Rattle.of_oxm.specs.Prerequisites.{prerequisites_met}
 use Rattle.of_oxm.proofs.Computed.{found_computed}
 use Rattle.of_oxm.proofs.MatchFieldLemmas.{NoneApplies, none_first, IsRead, field_takes}
-use Rattle.of_oxm.proofs.Whole.{whole_spelt}
+use Rattle.of_oxm.proofs.Whole.{whole_encoded}
 use Rattle.of_laws.proofs.ActionTails.{behind_none}
 use Rattle.of_laws.proofs.Items.{HasValues, are_items}
 
@@ -43,7 +43,7 @@ field_read seen rest e (Some f) fits none at value =
     subst (λ (x : MatchField). IsRead x seen rest) same (field_takes f seen rest fits none at)
 
 record Read (seen : List MatchField) (bytes : List ℕ) (fields : List MatchField) : Type 0 where
-  whole : bytes ≡ spellings fields
+  whole : bytes ≡ encodings fields
   fine : AreFieldsAfter seen fields
 
 read_so : (seen fs : List MatchField) (bytes : List ℕ) → IsBytes bytes → AreItems match_fields seen bytes fs None → Read seen bytes fs
@@ -53,36 +53,36 @@ read_so seen (e ∷ es) bytes fits h =
     let one = field_read seen bytes e (field_at (number_at bytes)) fits h.1 refl h.2 in
     let after = drop (4 + get_or bytes 3 0) bytes in
     let others = read_so (seen ++ e ∷ []) es after (IsBytes-drop (4 + get_or bytes 3 0) bytes fits) h.3 in
-    record { whole = one.text ∙ ap (λ (x : List ℕ). spelling e ++ x) others.whole; fine = (one.spelt, one.first, others.fine) }
+    record { whole = one.text ∙ ap (λ (x : List ℕ). encoding e ++ x) others.whole; fine = (one.encoded, one.first, others.fine) }
 
 fields_found : (body : List ℕ) (fields : List MatchField) → IsBytes body → items_of match_fields (length body) [] body ≡ Ok fields → Fields [] body fields None
 fields_found body fields fits h =
     let r = read_so [] fields body fits (are_items match_fields body fields fields_take fields_have h) in
-    record { rest = []; whole = r.whole ∙ sym (append-nil (spellings fields)); fine = r.fine; ended = refl }
+    record { rest = []; whole = r.whole ∙ sym (append-nil (encodings fields)); fine = r.fine; ended = refl }
 
 parts : (a c : List MatchField) (b d : ℕ) → ◌≡◌ {A = Result (List MatchField × ℕ) Code} (Ok (a, b)) (Ok (c, d)) → (a ≡ c) × (b ≡ d)
 parts a c b d e = let both : (a, b) ≡ (c, d) = cc in (ap (λ (p : List MatchField × ℕ). p.0) both, ap (λ (p : List MatchField × ℕ). p.1) both)
 
-pub match_found : (bytes : List ℕ) (m : List MatchField) (n : ℕ) → IsBytes bytes → match_of bytes ≡ Ok (m, n) → SpellsMatch (take n bytes) m
+pub match_found : (bytes : List ℕ) (m : List MatchField) (n : ℕ) → IsBytes bytes → match_of bytes ≡ Ok (m, n) → EncodesMatch (take n bytes) m
 unfolding match_of
 match_found bytes m n fits h = by_head (first_of (head_refusals bytes)) refl h
   where
     by_met : (none : first_of (head_refusals bytes) ≡ None) (fields : List MatchField) → Fields [] (body_of bytes) fields None → (met : Bool) → prerequisites_met (normal fields) ≡ met
-        → cond {A = Result (List MatchField × ℕ) Code} met (Ok (normal fields, padded (match_len bytes))) (Err (record { kind = 4; code = 9 })) ≡ Ok (m, n) → SpellsMatch (take n bytes) m
+        → cond {A = Result (List MatchField × ℕ) Code} met (Ok (normal fields, padded (match_len bytes))) (Err (record { kind = 4; code = 9 })) ≡ Ok (m, n) → EncodesMatch (take n bytes) m
     by_met none fields walk false met e = absurd cc
     by_met none fields walk true met e =
         let both = parts (normal fields) m (padded (match_len bytes)) n e in
         let same = both.0 in
         let size = both.1 in
-        subst (λ (k : ℕ). SpellsMatch (take k bytes) m) size
-        (whole_spelt bytes (body_of bytes) (match_len bytes) fields m fits none refl refl walk (sym same) (ap prerequisites_met (sym same) ∙ met))
+        subst (λ (k : ℕ). EncodesMatch (take k bytes) m) size
+        (whole_encoded bytes (body_of bytes) (match_len bytes) fields m fits none refl refl walk (sym same) (ap prerequisites_met (sym same) ∙ met))
 
-    by_fields : (none : first_of (head_refusals bytes) ≡ None) (r : Result (List MatchField) Code) → items_of match_fields (length (body_of bytes)) [] (body_of bytes) ≡ r → then_normal (padded (match_len bytes)) r ≡ Ok (m, n) → SpellsMatch (take n bytes) m
+    by_fields : (none : first_of (head_refusals bytes) ≡ None) (r : Result (List MatchField) Code) → items_of match_fields (length (body_of bytes)) [] (body_of bytes) ≡ r → then_normal (padded (match_len bytes)) r ≡ Ok (m, n) → EncodesMatch (take n bytes) m
     by_fields none (Err code) is e = absurd cc
     by_fields none (Ok fields) is e =
         by_met none fields (fields_found (body_of bytes) fields (IsBytes-take (match_len bytes - 4) (drop 4 bytes) (IsBytes-drop 4 bytes fits)) is) (prerequisites_met (normal fields)) refl e
 
-    by_head : (o : Option Code) → first_of (head_refusals bytes) ≡ o → match_by bytes o ≡ Ok (m, n) → SpellsMatch (take n bytes) m
+    by_head : (o : Option Code) → first_of (head_refusals bytes) ≡ o → match_by bytes o ≡ Ok (m, n) → EncodesMatch (take n bytes) m
     by_head (Some code) none e = absurd cc
     by_head None none e = by_fields none (items_of match_fields (length (body_of bytes)) [] (body_of bytes)) refl e
 
@@ -120,15 +120,15 @@ headed fields padding x len len_is fits size =
       body = ap (λ (n : ℕ). take (n - 4) (drop 4 all)) same ∙ ap (take (len - 4)) (append_assoc fields padding x) ∙ take_at fields (padding ++ x) (len - 4) (omega (arith, len_is));
     }
 
--- what bytes are that begin with a spelling
+-- what bytes are that begin with an encoding
 record Begun (a bytes : List ℕ) (fields : List MatchField) (len : ℕ) : Type 0 where
   none : first_of (head_refusals bytes) ≡ None
   len_is : len ≡ match_len bytes
   walk : Fields [] (body_of bytes) fields None
 
-begun : (a x : List ℕ) (m : List MatchField) (s : SpellsMatch a m) → Begun a (a ++ x) s.fields s.len
+begun : (a x : List ℕ) (m : List MatchField) (s : EncodesMatch a m) → Begun a (a ++ x) s.fields s.len
 begun a x m s =
-    let sp = spellings s.fields in
+    let sp = encodings s.fields in
     let written : List ℕ = 0 ∷ 1 ∷ (big_bytes 2 s.len ++ (sp ++ s.padding)) in
     let h = headed sp s.padding x s.len s.len_is s.len_fits (ap length (sym s.whole) ∙ s.size) in
     let facts : Begun written (written ++ x) s.fields s.len = record {
@@ -138,7 +138,7 @@ begun a x m s =
     } in
     subst (λ (w : List ℕ). Begun w (w ++ x) s.fields s.len) (sym s.whole) facts
 
-pub match_only : (a x : List ℕ) (m : List MatchField) → SpellsMatch a m → match_of (a ++ x) ≡ Ok (m, length a)
+pub match_only : (a x : List ℕ) (m : List MatchField) → EncodesMatch a m → match_of (a ++ x) ≡ Ok (m, length a)
 match_only a x m s =
     let b = begun a x m s in
     found_computed (a ++ x) (body_of (a ++ x)) s.len s.fields m b.none b.len_is refl b.walk s.normal_form s.met ∙ ap (λ (n : ℕ). Ok (m, n)) (sym s.size)

@@ -1,10 +1,10 @@
--- No bytes spell two replies: type and flags are in their places, and after the fields no bytes are two lists of rows.
+-- No bytes encode two replies: type and flags are in their places, and after the fields no bytes are two lists of rows.
 use Rattle.std.proofs.Common.{◌≡◌, ℕ, ◌+◌, Bool, true, false, List, length, drop, refl, sym, ap, subst, ◌∙◌, arith}
 use Rattle.byteorder.specs.Endian.{big_number}
 use Rattle.of_laws.proofs.OneReplyGroup.{group_one, group_some, described_one as described_group_one, described_some as described_group_some}
 use Rattle.of_laws.proofs.OneReplyRow.{IsOne, HasBytes, rows_one, flow_one, flow_some, table_one, table_some, port_one, port_some, described_one, described_some}
 use Rattle.of_laws.proofs.Places.{Says, says, size, rest_is}
-use Rattle.of_laws.specs.Replied.{Reply, SpellsReply, ReplyTail, aggregate, described_groups, described_ports, description, flags, flows, group_features, groups, ports, reply_cells, reply_fixed_part, reply_type, tables}
+use Rattle.of_laws.specs.Replied.{Reply, EncodesReply, ReplyTail, aggregate, described_groups, described_ports, description, flags, flows, group_features, groups, ports, reply_cells, reply_fixed_part, reply_type, tables}
 use Rattle.of_laws.specs.ReplyRows.{AggregateStats, AreRows, IsDescribed, IsDescribedPort, IsFlow, IsGroup, IsPort, IsTable}
 
 -- what is where: after the fields, which say what they say, comes the rest
@@ -19,7 +19,7 @@ record Head (x : ℕ) (more : Bool) (r : Reply) (m tail : List ℕ) : Type 0 whe
   flag : big_number 2 (drop 10 m) ≡ flags more
   laid : Laid r m tail
 
-head : (x : ℕ) (more : Bool) (r : Reply) (m : List ℕ) (s : SpellsReply x more r m) → Head x more r m s.tail
+head : (x : ℕ) (more : Bool) (r : Reply) (m : List ℕ) (s : EncodesReply x more r m) → Head x more r m s.tail
 head x more r m s =
     let cells = reply_fixed_part r more (length m) x in
     let y = says 0 cells m m s.tail refl s.front in
@@ -66,7 +66,7 @@ one_kind (described_groups xs) other m a b e h k = absurd (omega (arith, e))
 one_kind group_features other m a b e h k = absurd (omega (arith, e))
 one_kind (described_ports xs) other m a b e h k = absurd (omega (arith, e))
 
-pub one_reply : (x y : ℕ) (more again : Bool) (r s : Reply) (bytes : List ℕ) → SpellsReply x more r bytes → SpellsReply y again s bytes → (x ≡ y) × (more ≡ again) × (r ≡ s)
+pub one_reply : (x y : ℕ) (more again : Bool) (r s : Reply) (bytes : List ℕ) → EncodesReply x more r bytes → EncodesReply y again s bytes → (x ≡ y) × (more ≡ again) × (r ≡ s)
 one_reply x y more again r s bytes h k =
     let a = head x more r bytes h in
     let b = head y again s bytes k in

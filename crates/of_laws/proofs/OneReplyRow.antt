@@ -5,11 +5,11 @@ use Rattle.std.proofs.lemmas.List.{append_assoc, length-append, take_at, drop_at
 use Rattle.byteorder.specs.Endian.{big_number}
 use Rattle.of_wire.specs.declared.code.Code.{Code}
 use Rattle.of_oxm.specs.declared.match_field.MatchField.{MatchField}
-use Rattle.of_oxm.specs.MatchGrammar.{SpellsMatch}
+use Rattle.of_oxm.specs.MatchGrammar.{EncodesMatch}
 use Rattle.of_oxm.specs.MatchReading.{match_of}
 use Rattle.of_actions.specs.declared.instruction.Instruction.{Instruction}
 use Rattle.of_actions.specs.InstructionReading.{instructions_of}
-use Rattle.of_actions.specs.Instructions.{SpellsInstructions}
+use Rattle.of_actions.specs.Instructions.{EncodesInstructions}
 use Rattle.of_actions.proofs.Computed.{is_computed}
 use Rattle.of_messages.specs.declared.port_mod.PortDescription.{PortDescription}
 use Rattle.of_ports.specs.declared.counters.PortCounters.{PortCounters}
@@ -59,9 +59,9 @@ record FlowTail (table : ℕ) (fields : List MatchField) (instructions : List In
   behind : drop (len - 48) tail ≡ rest
 
 flow_tail : (table : ℕ) (fields : List MatchField) (instructions : List Instruction) (f i rest tail : List ℕ) (len : ℕ)
-    → f ++ (i ++ rest) ≡ tail → len ≡ 48 + length f + length i → SpellsMatch f fields → SpellsInstructions table i instructions → FlowTail table fields instructions len tail rest
-flow_tail table fields instructions f i rest tail len whole size spelt are =
-    let said : match_of tail ≡ Ok (fields, length f) = ap match_of (sym whole) ∙ match_only f (i ++ rest) fields spelt in
+    → f ++ (i ++ rest) ≡ tail → len ≡ 48 + length f + length i → EncodesMatch f fields → EncodesInstructions table i instructions → FlowTail table fields instructions len tail rest
+flow_tail table fields instructions f i rest tail len whole size encoded are =
+    let said : match_of tail ≡ Ok (fields, length f) = ap match_of (sym whole) ∙ match_only f (i ++ rest) fields encoded in
     let n : size_in (match_of tail) ≡ length f = ap size_in said in
     let behind : drop (size_in (match_of tail)) tail ≡ i ++ rest = ap (λ (k : ℕ). drop k tail) n ∙ ap (drop (length f)) (sym whole) ∙ drop_at f (i ++ rest) (length f) refl in
     let k : len - 48 - size_in (match_of tail) ≡ length i = omega (arith, n, size) in
@@ -101,7 +101,7 @@ flow_read : (s : FlowStats) (m rest : List ℕ) → IsFlow s m rest → FlowRead
 flow_read s m rest h =
     let cells : List Cell = u16 (48 + length h.fields + length h.instructions) ∷ flow_cells s in
     let y = says 0 cells m m (h.fields ++ (h.instructions ++ rest)) refl h.front in
-    let t = flow_tail s.table s.fields s.instructions h.fields h.instructions rest (drop 48 m) (big_number 2 m) (rest_is cells m (h.fields ++ (h.instructions ++ rest)) h.front) y.0 h.spelt h.are in
+    let t = flow_tail s.table s.fields s.instructions h.fields h.instructions rest (drop 48 m) (big_number 2 m) (rest_is cells m (h.fields ++ (h.instructions ++ rest)) h.front) y.0 h.encoded h.are in
     let table : slice_index m 2 ≡ s.table = y.1.0 in
     let a = y.1.1.1.1 in
     let are = ap (λ (k : ℕ). instructions_in (instructions_of k (instruction_bytes (big_number 2 m) (drop 48 m)))) table ∙ t.are in

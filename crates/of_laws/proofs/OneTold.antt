@@ -1,4 +1,4 @@
--- No bytes spell two messages of a switch: what is sent can be read from its places.
+-- No bytes encode two messages of a switch: what is sent can be read from its places.
 use Rattle.std.proofs.Common.{◌≡◌, ℕ, ◌+◌, Bool, true, false, eqb, cond, List, [], ◌∷◌, ◌++◌, length, take, drop, None, Ok, refl, sym, ap, ◌∙◌, arith}
 use Rattle.std.specs.Prelude.{slice_index, ◌==◌, if◌then◌else◌}
 use Rattle.std.proofs.lemmas.Bool.{eqb-true}
@@ -7,7 +7,7 @@ use Rattle.byteorder.specs.Endian.{big_number}
 use Rattle.of_wire.specs.declared.code.Code.{Code}
 use Rattle.of_layers.specs.declared.field.Field.TheVariants.{Metadata}
 use Rattle.of_oxm.specs.declared.match_field.MatchField.{MatchField}
-use Rattle.of_oxm.specs.MatchGrammar.{SpellsMatch}
+use Rattle.of_oxm.specs.MatchGrammar.{EncodesMatch}
 use Rattle.of_oxm.specs.MatchReading.{match_of}
 use Rattle.of_messages.specs.AsyncConfigs.{async_masks_of}
 use Rattle.of_messages.specs.Heads.{type_of, xid_of}
@@ -24,7 +24,7 @@ use Rattle.of_messages.specs.declared.role.Role.{Role}
 use Rattle.of_messages.specs.declared.role.Role.TheVariants as role
 use Rattle.of_wire.specs.Reasons.{packet_in_number, flow_removed_number}
 use Rattle.of_laws.specs.Cells.{pad}
-use Rattle.of_laws.specs.Told.{Told, hello, error, echo_reply, features_reply, config_reply, packet_in, flow_removed, port_status, barrier_reply, role_reply, async_reply, switch_message_type, told_cells, switch_message_fixed_part, told_fields, MatchThenData, ToldTail, SpellsSwitchMessage, port_reason, role_value}
+use Rattle.of_laws.specs.Told.{Told, hello, error, echo_reply, features_reply, config_reply, packet_in, flow_removed, port_status, barrier_reply, role_reply, async_reply, switch_message_type, told_cells, switch_message_fixed_part, told_fields, MatchThenData, ToldTail, EncodesSwitchMessage, port_reason, role_value}
 use Rattle.of_laws.proofs.MatchTails.{fields_in, match_only, size_in}
 use Rattle.of_laws.proofs.OnlySmall.{async_only}
 use Rattle.of_laws.proofs.Places.{Says, says, size, rest_is}
@@ -134,7 +134,7 @@ packet_again : (p : PacketIn) («data» m tail : List ℕ) → tail ≡ drop 24 
     → packet_in (packet_at m (fields_in (match_of (drop 24 m)))) (drop 2 (drop (size_in (match_of (drop 24 m))) (drop 24 m))) ≡ packet_in p «data»
 packet_again p «data» m tail there y h =
     let whole : drop 24 m ≡ h.fields ++ h.rest = sym there ∙ h.whole in
-    let said : match_of (drop 24 m) ≡ Ok (told_fields p, length h.fields) = ap match_of whole ∙ match_only h.fields h.rest (told_fields p) h.spelt in
+    let said : match_of (drop 24 m) ≡ Ok (told_fields p, length h.fields) = ap match_of whole ∙ match_only h.fields h.rest (told_fields p) h.encoded in
     let fields : fields_in (match_of (drop 24 m)) ≡ told_fields p = ap fields_in said in
     let behind : drop (size_in (match_of (drop 24 m))) (drop 24 m) ≡ h.rest = ap (λ (n : ℕ). drop n (drop 24 m)) (ap size_in said) ∙ ap (drop (length h.fields)) whole ∙ drop_at h.fields h.rest (length h.fields) refl in
     let told_data : drop 2 (drop (size_in (match_of (drop 24 m))) (drop 24 m)) ≡ «data» = ap (drop 2) behind ∙ sym (rest_is (pad 2 ∷ []) h.rest «data» h.behind) in
@@ -142,10 +142,10 @@ packet_again p «data» m tail there y h =
     same_packet p _ _ _ _ _ _ _ y.0 y.1.0 (ap packet_reason_at y.1.1.0 ∙ packet_reason_again p.reason) y.1.1.1.0 y.1.1.1.1.0 (ap first_value fields) (ap second_value fields ∙ metadata_again p) in
     ap (λ (q : PacketIn). packet_in q (drop 2 (drop (size_in (match_of (drop 24 m))) (drop 24 m)))) same ∙ ap (packet_in p) told_data
 
-removed_again : (r : FlowRemoved) (fields : List MatchField) (m tail : List ℕ) → tail ≡ drop 48 m → Says 8 (told_cells (flow_removed r fields)) m → SpellsMatch tail fields → flow_removed (removed_at m) (fields_in (match_of (drop 48 m))) ≡ flow_removed r fields
-removed_again r fields m tail there y spelt =
+removed_again : (r : FlowRemoved) (fields : List MatchField) (m tail : List ℕ) → tail ≡ drop 48 m → Says 8 (told_cells (flow_removed r fields)) m → EncodesMatch tail fields → flow_removed (removed_at m) (fields_in (match_of (drop 48 m))) ≡ flow_removed r fields
+removed_again r fields m tail there y encoded =
     let a = y.1.1.1.1 in
-    let said : match_of (drop 48 m) ≡ Ok (fields, length tail) = ap match_of (sym there ∙ sym (append-nil tail)) ∙ match_only tail [] fields spelt in
+    let said : match_of (drop 48 m) ≡ Ok (fields, length tail) = ap match_of (sym there ∙ sym (append-nil tail)) ∙ match_only tail [] fields encoded in
     let same : removed_at m ≡ r = same_removed r _ _ _ _ _ _ _ _ _ _ y.0 y.1.0 (ap removed_reason_at y.1.1.0 ∙ removed_reason_again r.reason) y.1.1.1.0 a.0 a.1.0 a.1.1.0 a.1.1.1.0 a.1.1.1.1.0 a.1.1.1.1.1.0 in
     ap (λ (q : FlowRemoved). flow_removed q (fields_in (match_of (drop 48 m)))) same ∙ ap (flow_removed r) (ap fields_in said)
 
@@ -171,7 +171,7 @@ record Tells (x : ℕ) (t : Told) (m : List ℕ) : Type 0 where
   xid : x ≡ xid_of m
   value : told_at (type_of m) m ≡ t
 
-tells : (x : ℕ) (t : Told) (m : List ℕ) → SpellsSwitchMessage x t m → Tells x t m
+tells : (x : ℕ) (t : Told) (m : List ℕ) → EncodesSwitchMessage x t m → Tells x t m
 tells x t m s =
     let cells = switch_message_fixed_part t (length m) x in
     let y = says 0 cells m m s.tail refl s.front in
@@ -181,7 +181,7 @@ tells x t m s =
     place : (t : Told) → size (switch_message_fixed_part t (length m) x) ≡ 8 + size (told_cells t)
     place t = omega arith
 
-pub one_told : (x y : ℕ) (t u : Told) (bytes : List ℕ) → SpellsSwitchMessage x t bytes → SpellsSwitchMessage y u bytes → (x ≡ y) × (t ≡ u)
+pub one_told : (x y : ℕ) (t u : Told) (bytes : List ℕ) → EncodesSwitchMessage x t bytes → EncodesSwitchMessage y u bytes → (x ≡ y) × (t ≡ u)
 one_told x y t u bytes s r =
     let a = tells x t bytes s in
     let b = tells y u bytes r in

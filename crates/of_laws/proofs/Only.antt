@@ -1,4 +1,4 @@
--- What spells a message is read as that message.
+-- What encodes a message is read as that message.
 use Rattle.std.proofs.Common.{◌≡◌, ◌≤◌, ◌+◌, ℕ, false, not, eqb, List, [], length, drop, Ok, refl, sym, ap, ◌∙◌, arith}
 use Rattle.std.proofs.lemmas.Bool.{le-ltb, eq-eqb, and_right}
 use Rattle.std.proofs.lemmas.List.{length-append}
@@ -7,7 +7,7 @@ use Rattle.of_messages.specs.declared.message.Message.TheVariants.{Hello, Error,
 use Rattle.of_messages.specs.declared.message.FlowMod.{FlowMod}
 use Rattle.of_messages.specs.Heads.{version_of, type_of, header_length, xid_of}
 use Rattle.of_messages.specs.Messages.{message_of}
-use Rattle.of_laws.specs.Grammar.{MatchThenInstructions, fixed_part_cells, IsValid, Spells, Tail}
+use Rattle.of_laws.specs.Grammar.{MatchThenInstructions, fixed_part_cells, IsValid, Encodes, Tail}
 use Rattle.of_laws.specs.Requests.{request_cells}
 use Rattle.of_laws.proofs.Heads.{Kind, hello, error, echo_request, echo_reply, features_request, get_config_request, set_config, packet_out, flow_mod, group_mod, port_mod, table_mod, multipart, barrier_request, role_request, get_async_request, set_async, type_number, is_bad, is_short, needs_version, body_by, as_flow_mod, as_packet_out, as_group_mod, as_port_mod, as_table_mod, as_set_config, as_role_request, as_multipart, said_by}
 use Rattle.of_laws.proofs.OnlyLarge.{group_size, tailed, packet_out_only, flow_mod_only, group_mod_only}
@@ -42,7 +42,7 @@ ended xs e = ap length e
 -- a match has 8 bytes at least
 flow_long : (f : FlowMod) (tail : List ℕ) → MatchThenInstructions f tail → 8 ≤ length tail
 flow_long f tail h =
-    let s = h.spelt in
+    let s = h.encoded in
     let len = s.len_is in
     let size = s.size in
     omega (arith, ap length h.whole, length-append h.fields h.instructions)
@@ -138,7 +138,7 @@ reads_as xid (SetAsync masks) m tail p t valid =
 
 -- ---- a message
 
-pub only : (xid : ℕ) (v : Message) (m : List ℕ) → Spells xid v m → message_of m ≡ Ok v
+pub only : (xid : ℕ) (v : Message) (m : List ℕ) → Encodes xid v m → message_of m ≡ Ok v
 only xid v m s =
     let cells = fixed_part_cells v (length m) xid in
     reads_as xid v m s.tail (record { places = says 0 cells m m s.tail refl s.front; long = size_is cells m s.tail s.front; behind = rest_is cells m s.tail s.front }) s.behind s.valid
@@ -148,5 +148,5 @@ xid_placed : (xid : ℕ) (v : Message) (m : List ℕ) → Says 0 (fixed_part_cel
 xid_placed xid Hello m y = y.1.1.0
 xid_placed xid other m y = y.1.1.1.0
 
-pub xid_is : (xid : ℕ) (v : Message) (m : List ℕ) → Spells xid v m → xid ≡ xid_of m
+pub xid_is : (xid : ℕ) (v : Message) (m : List ℕ) → Encodes xid v m → xid ≡ xid_of m
 xid_is xid v m s = let cells = fixed_part_cells v (length m) xid in sym (xid_placed xid v m (says 0 cells m m s.tail refl s.front))

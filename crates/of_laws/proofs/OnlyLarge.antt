@@ -143,7 +143,7 @@ numbers_are f m s =
 pub flow_mod_read : (f : FlowMod) (rest : List ℕ) → MatchThenInstructions f rest → IsValidFlowMod f → flow_mod_by (flow_mod_numbers f) rest ≡ Ok f
 flow_mod_read f rest h valid =
     let command = command_read f.command f.table f.flags valid.table valid.flags in
-    let fields : match_of rest ≡ Ok (f.fields, length h.fields) = ap match_of h.whole ∙ match_only h.fields h.instructions f.fields h.spelt in
+    let fields : match_of rest ≡ Ok (f.fields, length h.fields) = ap match_of h.whole ∙ match_only h.fields h.instructions f.fields h.encoded in
     let after : drop (length h.fields) rest ≡ h.instructions = ap (drop (length h.fields)) h.whole ∙ drop_at h.fields h.instructions (length h.fields) refl in
     let instructions : instructions_for f.command f.table (drop (length h.fields) rest) ≡ Ok f.instructions = ap (instructions_for f.command f.table) after ∙ instructions_only f f.command h.instructions h.are in
     rw (command, fields, instructions, valid.fit) refl

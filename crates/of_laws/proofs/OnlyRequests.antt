@@ -79,7 +79,7 @@ flows_only : (r : FlowStatsRequest) (m tail : List ℕ) → tail ≡ drop 48 m �
 flows_only r m tail there s h valid =
     let named = table_named r.table valid in
     let whole : drop 48 m ≡ h.front ++ h.rest = sym there ∙ h.whole in
-    let fields : match_of (drop 48 m) ≡ Ok (r.fields, length h.front) = ap match_of whole ∙ match_only h.front h.rest r.fields h.spelt in
+    let fields : match_of (drop 48 m) ≡ Ok (r.fields, length h.front) = ap match_of whole ∙ match_only h.front h.rest r.fields h.encoded in
     ap (λ (ns : List ℕ). flow_stats_by ns (drop 48 m)) (numbers_are r m s) ∙ rw (named, fields) refl
 
 -- ---- of one, or of all
@@ -93,7 +93,7 @@ one_again all (Some number) valid = let other : eqb number all ≡ false = grind
 -- a match has 8 bytes at least
 fields_long : (fields : List MatchField) (bytes : List ℕ) → BeginsMatch fields bytes → 8 ≤ length bytes
 fields_long fields bytes h =
-    let s = h.spelt in
+    let s = h.encoded in
     let len = s.len_is in
     let size = s.size in
     omega (arith, ap length h.whole, length-append h.front h.rest)

@@ -13,15 +13,15 @@ use Rattle.of_layers.specs.Fields.{is_maskable, is_settable, number_of, ones_of}
 use Rattle.of_layers.specs.Reading.{is_tag_type}
 use Rattle.of_layers.specs.declared.field.Field.{Field}
 use Rattle.of_oxm.specs.Canonical.{canonical, written_len}
-use Rattle.of_oxm.specs.MatchFieldWire.{is_among, match_field_of, spelling}
-use Rattle.of_oxm.specs.MatchGrammar.{body_of, head_refusals, match_len, padded, spellings}
+use Rattle.of_oxm.specs.MatchFieldWire.{is_among, match_field_of, encoding}
+use Rattle.of_oxm.specs.MatchGrammar.{body_of, head_refusals, match_len, padded, encodings}
 use Rattle.of_oxm.specs.MatchReading.{match_by, match_fields, match_of, then_normal}
 use Rattle.of_oxm.specs.NormalForm.{IsAscending, IsKept, IsKeptMask, kept, normal, with_field, with_kept_field}
 use Rattle.of_oxm.specs.Prerequisites.{prerequisites_met}
 use Rattle.of_oxm.specs.declared.match_field.MatchField.{MatchField}
 use Rattle.of_oxm.proofs.MatchFieldLemmas.{field_again}
 use Rattle.of_oxm.proofs.Normal.{among_append, under_ones}
-use Rattle.of_oxm.proofs.Written.{kept_spelt, written_fits}
+use Rattle.of_oxm.proofs.Written.{kept_encoded, written_fits}
 use Rattle.of_actions.specs.declared.action.Action.{Action}
 use Rattle.of_actions.specs.declared.action.Action.TheVariants.{Output, PushVlan, PopVlan, Group, SetNwTtl, DecNwTtl, SetField}
 use Rattle.of_actions.specs.Actions.{actions_of, actions_said}
@@ -213,11 +213,11 @@ actions_told actions fits =
 
 -- ---- the fields of a match
 
-some_field : (e : MatchField) → 0 < length (spelling e)
-unfolding spelling
+some_field : (e : MatchField) → 0 < length (encoding e)
+unfolding encoding
 some_field e = omega arith
 
--- a field that is not refused has a spelling, and its mask is kept
+-- a field that is not refused has an encoding, and its mask is kept
 mask_sound : (f : Field) (v : ℕ) (mask : Option ℕ) → IfSome mask (RowMask f) → first_of (field_refusals (record { field = f; value = v; mask = mask })) ≡ None → IfSome mask (IsKeptMask f v)
 mask_sound f v None fits none = tt
 mask_sound f v (Some m) fits none =
@@ -239,14 +239,14 @@ field_kept e fits none =
 unfoldable own_field : List MatchField → MatchField → List (Bool × Code)
 own_field seen e = field_refusals e
 
-field_step : (seen : List MatchField) (e : MatchField) (x : List ℕ) → FieldFits e → is_among e.field seen ≡ false → IsStep match_fields spelling own_field seen e x
+field_step : (seen : List MatchField) (e : MatchField) (x : List ℕ) → FieldFits e → is_among e.field seen ≡ false → IsStep match_fields encoding own_field seen e x
 unfolding own_field
 field_step seen e x fits new =
     record {
       some = some_field e;
       first = field_as_on_wire e seen x fits new;
-      at = λ none. let f = field_again e seen x (kept_spelt e (field_kept e fits none)) new in ap (option_map (λ (g : Field). match_field_of g (spelling e ++ x))) f.at ∙ ap Some f.same;
-      size = λ none. (field_again e seen x (kept_spelt e (field_kept e fits none)) new).size_is;
+      at = λ none. let f = field_again e seen x (kept_encoded e (field_kept e fits none)) new in ap (option_map (λ (g : Field). match_field_of g (encoding e ++ x))) f.at ∙ ap Some f.same;
+      size = λ none. (field_again e seen x (kept_encoded e (field_kept e fits none)) new).size_is;
     }
 
 not_among : (e : MatchField) (seen es : List MatchField) → AllByRecursion (λ x. is_among x.field seen ≡ false) es → AllByRecursion (λ x. number_of e.field < number_of x.field) es → AllByRecursion (λ x. is_among x.field (seen ++ e ∷ []) ≡ false) es
@@ -259,7 +259,7 @@ none_before : (es : List MatchField) → AllByRecursion (λ x. is_among x.field 
 none_before [] = tt
 none_before (e ∷ es) = (refl, none_before es)
 
-field_steps : (seen es : List MatchField) → AllByRecursion FieldFits es → IsAscending es → AllByRecursion (λ x. is_among x.field seen ≡ false) es → AreSteps match_fields spelling own_field seen es
+field_steps : (seen es : List MatchField) → AllByRecursion FieldFits es → IsAscending es → AllByRecursion (λ x. is_among x.field seen ≡ false) es → AreSteps match_fields encoding own_field seen es
 field_steps seen [] fits up new = tt
 field_steps seen (e ∷ es) fits up new = (λ x. field_step seen e x fits.0 new.0, field_steps (seen ++ e ∷ []) es fits.1 up.1 (not_among e seen es new.1 up.0))
 
@@ -268,9 +268,9 @@ unfolding own_field
 fields_same seen [] = refl
 fields_same seen (e ∷ es) = ap (λ (rs : List (Bool × Code)). field_refusals e ++ rs) (fields_same (seen ++ e ∷ []) es)
 
-fields_told : (es : List MatchField) → AllByRecursion FieldFits es → IsAscending es → items_of match_fields (length (spellings es)) [] (spellings es) ≡ outcome es (first_of (flat_map field_refusals es))
+fields_told : (es : List MatchField) → AllByRecursion FieldFits es → IsAscending es → items_of match_fields (length (encodings es)) [] (encodings es) ≡ outcome es (first_of (flat_map field_refusals es))
 fields_told es fits up =
-    walk match_fields spelling own_field (length (spellings es)) [] es (omega arith) (field_steps [] es fits up (none_before es)) ∙ ap (λ (rs : List (Bool × Code)). outcome es (first_of rs)) (fields_same [] es)
+    walk match_fields encoding own_field (length (encodings es)) [] es (omega arith) (field_steps [] es fits up (none_before es)) ∙ ap (λ (rs : List (Bool × Code)). outcome es (first_of rs)) (fields_same [] es)
 
 -- ---- fields of which none is refused are their own normal form
 
@@ -302,7 +302,7 @@ normal_same (e ∷ es) each up =
 pub canonical_least : (es : List MatchField) → 8 ≤ length (canonical es)
 unfolding canonical
 canonical_least es =
-    let sp = spellings es in
+    let sp = encodings es in
     let len = written_len es in
     let zeros : List ℕ = replicate (padded len - len) 0 in
     let padding : length zeros ≡ padded len - len = length-replicate (padded len - len) 0 in
@@ -311,13 +311,13 @@ canonical_least es =
 -- what bytes say that begin with such a match
 record Begun (es : List MatchField) (bytes : List ℕ) : Type 0 where
   none : first_of (head_refusals bytes) ≡ None
-  body : body_of bytes ≡ spellings es
+  body : body_of bytes ≡ encodings es
   size : padded (match_len bytes) ≡ length (canonical es)
 
 begun : (es : List MatchField) (x : List ℕ) → IsAscending es → Begun es (canonical es ++ x)
 unfolding canonical
 begun es x up =
-    let sp = spellings es in
+    let sp = encodings es in
     let len = written_len es in
     let zeros : List ℕ = replicate (padded len - len) 0 in
     let padding : length zeros ≡ padded len - len = length-replicate (padded len - len) 0 in
@@ -335,7 +335,7 @@ match_told es x fits up =
     let need : List (Bool × Code) = (not (prerequisites_met es), refusal 4 9) ∷ [] in
     ap (match_by bytes) b.none
     ∙ ap (λ (y : List ℕ). then_normal (padded (match_len bytes)) (items_of match_fields (length y) [] y)) b.body
-    ∙ ap (λ (n : ℕ). then_normal n (items_of match_fields (length (spellings es)) [] (spellings es))) b.size
+    ∙ ap (λ (n : ℕ). then_normal n (items_of match_fields (length (encodings es)) [] (encodings es))) b.size
     ∙ ap (then_normal (length (canonical es))) (fields_told es fits up)
     ∙ by_fields (first_of refused) refl
     ∙ ap (match_outcome es) (sym (first_append refused need))

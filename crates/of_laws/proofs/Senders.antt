@@ -10,7 +10,7 @@ use Rattle.of_messages.specs.declared.role.Role.{Role}
 use Rattle.of_messages.specs.declared.role.Role.TheVariants as role
 use Rattle.of_messages.specs.Heads.{type_of, format_of, is_slave, is_change, head_refusals, role_refusals, xid_of}
 use Rattle.of_messages.specs.Messages.{body_of, message_by, message_from, message_of}
-use Rattle.of_laws.specs.Grammar.{type, changes, MaySend, Spells}
+use Rattle.of_laws.specs.Grammar.{type, changes, MaySend, Encodes}
 use Rattle.of_laws.proofs.AnyMessage.{of_controller}
 use Rattle.of_laws.proofs.Found.{found}
 use Rattle.of_laws.proofs.Only.{only}
@@ -55,7 +55,7 @@ change_same (IsRoleRequest request) = refl
 change_same GetAsyncRequest = refl
 change_same (SetAsync masks) = refl
 
-change_of : (xid : ℕ) (v : Message) (m : List ℕ) → Spells xid v m → is_change (type_of m) ≡ changes v
+change_of : (xid : ℕ) (v : Message) (m : List ℕ) → Encodes xid v m → is_change (type_of m) ≡ changes v
 change_of xid v m s = ap is_change (of_controller xid v m s).kind_is ∙ change_same v
 
 -- ---- each role
@@ -81,19 +81,19 @@ allowed role.Equal v may = refl
 allowed role.Master v may = refl
 allowed role.Slave v may = may
 
-pub only_as : (r : Role) (xid : ℕ) (v : Message) (m : List ℕ) → Spells xid v m → MaySend r v → message_from r m ≡ Ok v
+pub only_as : (r : Role) (xid : ℕ) (v : Message) (m : List ℕ) → Encodes xid v m → MaySend r v → message_from r m ≡ Ok v
 only_as r xid v m s may =
     let said = only xid v m s in
     let test : (is_slave r && is_change (type_of m)) ≡ false = ap (λ (b : Bool). is_slave r && b) (change_of xid v m s) ∙ allowed r v may in
     by_role r m (head_none m v said) ∙ ap (λ (b : Bool). message_by m (cond b (Some (refusal 1 10)) None)) test ∙ body_same m v said
 
-pub refused_as : (xid : ℕ) (v : Message) (m : List ℕ) → Spells xid v m → changes v ≡ true → message_from role.Slave m ≡ Err (refusal 1 10)
+pub refused_as : (xid : ℕ) (v : Message) (m : List ℕ) → Encodes xid v m → changes v ≡ true → message_from role.Slave m ≡ Err (refusal 1 10)
 refused_as xid v m s change =
     let test : is_change (type_of m) ≡ true = change_of xid v m s ∙ change in
     by_role role.Slave m (head_none m v (only xid v m s)) ∙ ap (λ (b : Bool). message_by m (cond b (Some (refusal 1 10)) None)) test
 
 pub record Sent (r : Role) (v : Message) (m : List ℕ) : Type 0 where
-  pub spelt : Spells (xid_of m) v m
+  pub encoded : Encodes (xid_of m) v m
   pub may : MaySend r v
 
 may_send : (r : Role) (v : Message) → (is_slave r && changes v) ≡ false → MaySend r v
@@ -108,8 +108,8 @@ found_as r m v fits h = by_first (first_of (head_refusals m ++ role_refusals r m
     by_test : (b : Bool) → (is_slave r && is_change (type_of m)) ≡ b → cond b (Some (refusal 1 10)) None ≡ None → first_of (head_refusals m) ≡ None → body_of m ≡ Ok v → Sent r v m
     by_test true is e none body = absurd cc
     by_test false is e none body =
-        let spelt = found m v fits (by_role role.Equal m none ∙ body) in
-        record { spelt = spelt; may = may_send r v (ap (λ (b : Bool). is_slave r && b) (sym (change_of (xid_of m) v m spelt)) ∙ is) }
+        let encoded = found m v fits (by_role role.Equal m none ∙ body) in
+        record { encoded = encoded; may = may_send r v (ap (λ (b : Bool). is_slave r && b) (sym (change_of (xid_of m) v m encoded)) ∙ is) }
 
     by_first : (o : Option Code) → first_of (head_refusals m ++ role_refusals r m) ≡ o → message_by m o ≡ Ok v → Sent r v m
     by_first (Some code) none e = absurd cc

@@ -1,4 +1,4 @@
--- Replies that are written are spelt.
+-- Replies that are written are encoded.
 use Rattle.std.proofs.Common.{◌≡◌, ◌≤◌, ◌<◌, ◌^◌, ◌-◌, ℕ, Bool, true, false, List, [], ◌∷◌, ◌++◌, length, map, refl, sym, ap, subst, arith}
 use Rattle.std.specs.Prelude.{codes, replicate, Option}
 use Rattle.std.specs.List.{All, concat, flat_map}
@@ -18,17 +18,17 @@ use Rattle.of_statistics.specs.Replies.{most, reply}
 use Rattle.of_statistics.proofs.Sizes.{length_aggregate, length_description, length_features, length_tables, stats_short}
 use Rattle.of_laws.specs.Cells.{Cell, Fits, u16, pad}
 use Rattle.of_laws.specs.Told.{port_cells}
-use Rattle.of_laws.specs.Replied.{Reply, SpellAll, SpellsReply, ReplyTail, aggregate, described_groups, described_ports, description, description_cells, features_cells, flags, flows, group_features, groups, ports, reply_cells, reply_type, tables}
+use Rattle.of_laws.specs.Replied.{Reply, EncodeAll, EncodesReply, ReplyTail, aggregate, described_groups, described_ports, description, description_cells, features_cells, flags, flows, group_features, groups, ports, reply_cells, reply_type, tables}
 use Rattle.of_laws.specs.ReplyRows.{AreRows, IsDescribed, IsDescribedPort, IsFlow, IsGroup, IsPort, port_stats_cells, table_cells}
 use Rattle.of_laws.specs.Shown.{aggregate_shown, flow_shown, group_described, group_shown, IsDescribable, IsShownFlow, IsShownGroup, port_shown, tables_shown}
-use Rattle.of_laws.proofs.ManyReplyRows.{IsSpelt, flat_is, rows_written, spell_all}
+use Rattle.of_laws.proofs.ManyReplyRows.{IsEncoded, flat_is, rows_written, encode_all}
 use Rattle.of_laws.proofs.WrittenReplyGroups.{described_short, group_described_so, group_short, group_written}
 use Rattle.of_laws.proofs.WrittenReplyRows.{flow_short, flow_written, length_ports, port_described, port_written, tables_written}
-use Rattle.of_laws.proofs.Writings.{fronted, spelling}
+use Rattle.of_laws.proofs.Writings.{fronted, encoding}
 
 -- ---- a reply
 
-head_text : (kind flag : ℕ) (cs : List Cell) (body tail : List ℕ) → body ≡ spelling cs ++ tail → big_bytes 2 kind ++ (big_bytes 2 flag ++ (replicate 4 0 ++ body)) ≡ spelling (u16 kind ∷ u16 flag ∷ pad 4 ∷ cs) ++ tail
+head_text : (kind flag : ℕ) (cs : List Cell) (body tail : List ℕ) → body ≡ encoding cs ++ tail → big_bytes 2 kind ++ (big_bytes 2 flag ++ (replicate 4 0 ++ body)) ≡ encoding (u16 kind ∷ u16 flag ∷ pad 4 ∷ cs) ++ tail
 head_text kind flag cs body tail e = ap (λ (b : List ℕ). big_bytes 2 kind ++ (big_bytes 2 flag ++ (replicate 4 0 ++ b))) e
 
 type_fits : (r : Reply) → reply_type r < 256 ^ 2
@@ -46,8 +46,8 @@ flags_fit : (more : Bool) → flags more < 256 ^ 2
 flags_fit false = omega arith
 flags_fit true = omega arith
 
-replied : (r : Reply) (more : Bool) (xid : ℕ) (body tail : List ℕ) → body ≡ spelling (reply_cells r) ++ tail → xid < 256 ^ 4 → Fits (reply_cells r) → length body ≤ most → ReplyTail r tail
-    → SpellsReply xid more r (reply xid (reply_type r) (flags more) body)
+replied : (r : Reply) (more : Bool) (xid : ℕ) (body tail : List ℕ) → body ≡ encoding (reply_cells r) ++ tail → xid < 256 ^ 4 → Fits (reply_cells r) → length body ≤ most → ReplyTail r tail
+    → EncodesReply xid more r (reply xid (reply_type r) (flags more) body)
 unfolding reply
 replied r more xid body tail e x fits short behind =
     let kind = reply_type r in
@@ -69,43 +69,43 @@ description_fits =
     let name = length_text 256 (codes "ofswitch") (omega arith) in
     (name, (length_text 256 (codes "software") (omega arith), (length_text 256 (codes "1") (omega arith), (length_text 32 (codes "0") (omega arith), (name, tt)))))
 
-description_text : description_body ≡ spelling description_cells ++ []
+description_text : description_body ≡ encoding description_cells ++ []
 unfolding description_body
 description_text = sym (append-nil _)
 
-pub description_spelt : (xid : ℕ) → xid < 256 ^ 4 → SpellsReply xid false description (description_bytes xid)
-description_spelt xid x = replied description false xid description_body [] description_text x description_fits (omega (arith, length_description)) refl
+pub description_encoded : (xid : ℕ) → xid < 256 ^ 4 → EncodesReply xid false description (description_bytes xid)
+description_encoded xid x = replied description false xid description_body [] description_text x description_fits (omega (arith, length_description)) refl
 
-aggregate_text : (w : Selector) (ts : Tables) → aggregate_body (totals (asked w ts)) ≡ spelling (reply_cells (aggregate (aggregate_shown (asked w ts)))) ++ []
+aggregate_text : (w : Selector) (ts : Tables) → aggregate_body (totals (asked w ts)) ≡ encoding (reply_cells (aggregate (aggregate_shown (asked w ts)))) ++ []
 unfolding aggregate_body
 aggregate_text w ts = refl
 
-pub aggregate_spelt : (xid : ℕ) (which : Selector) (ts : Tables) → xid < 256 ^ 4 → Fits (reply_cells (aggregate (aggregate_shown (asked which ts))))
-    → SpellsReply xid false (aggregate (aggregate_shown (asked which ts))) (aggregate_bytes xid which ts)
-aggregate_spelt xid which ts x fits =
+pub aggregate_encoded : (xid : ℕ) (which : Selector) (ts : Tables) → xid < 256 ^ 4 → Fits (reply_cells (aggregate (aggregate_shown (asked which ts))))
+    → EncodesReply xid false (aggregate (aggregate_shown (asked which ts))) (aggregate_bytes xid which ts)
+aggregate_encoded xid which ts x fits =
     let t = totals (asked which ts) in
     replied (aggregate (aggregate_shown (asked which ts))) false xid (aggregate_body t) [] (aggregate_text which ts) x fits (omega (arith, length_aggregate t)) refl
 
-features_text : features_body ≡ spelling features_cells ++ []
+features_text : features_body ≡ encoding features_cells ++ []
 unfolding features_body
 features_text = refl
 
 features_fit : Fits features_cells
 features_fit = (omega arith, (omega arith, (omega arith, (omega arith, (omega arith, (omega arith, (omega arith, (omega arith, (omega arith, (omega arith, tt))))))))))
 
-pub features_spelt : (xid : ℕ) → xid < 256 ^ 4 → SpellsReply xid false group_features (group_features_bytes xid)
-features_spelt xid x = replied group_features false xid features_body [] features_text x features_fit (omega (arith, length_features)) refl
+pub features_encoded : (xid : ℕ) → xid < 256 ^ 4 → EncodesReply xid false group_features (group_features_bytes xid)
+features_encoded xid x = replied group_features false xid features_body [] features_text x features_fit (omega (arith, length_features)) refl
 
 -- ---- TABLE, PORT_STATS and PORT_DESC: one reply with all rows
 
-pub table_spelt : (xid : ℕ) (ts : Tables) → xid < 256 ^ 4 → length ts.tables ≤ 16 → All (λ s. Fits (table_cells s)) (tables_shown ts) → SpellsReply xid false (tables (tables_shown ts)) (table_bytes xid ts)
-table_spelt xid ts x few all =
+pub table_encoded : (xid : ℕ) (ts : Tables) → xid < 256 ^ 4 → length ts.tables ≤ 16 → All (λ s. Fits (table_cells s)) (tables_shown ts) → EncodesReply xid false (tables (tables_shown ts)) (table_bytes xid ts)
+table_encoded xid ts x few all =
     let rows = from_tables table_row 0 ts.tables in
     replied (tables (tables_shown ts)) false xid rows rows refl x tt (omega (arith, few, length_tables 0 ts.tables)) (tables_written 0 ts.tables (recursion_from_All (λ s. Fits (table_cells s)) (tables_shown ts) all))
 
-pub port_stats_spelt : (xid now : ℕ) (which : Option ℕ) (all : List Port) → xid < 256 ^ 4 → length all ≤ 64 → All (λ p. Fits (port_stats_cells (port_shown now p))) (asked_ports which all)
-    → SpellsReply xid false (ports (map (port_shown now) (asked_ports which all))) (port_stats_bytes xid now which all)
-port_stats_spelt xid now which all x few each =
+pub port_stats_encoded : (xid now : ℕ) (which : Option ℕ) (all : List Port) → xid < 256 ^ 4 → length all ≤ 64 → All (λ p. Fits (port_stats_cells (port_shown now p))) (asked_ports which all)
+    → EncodesReply xid false (ports (map (port_shown now) (asked_ports which all))) (port_stats_bytes xid now which all)
+port_stats_encoded xid now which all x few each =
     let these = asked_ports which all in
     let rows = flat_map (port_row now) these in
     let Holds : Port → Type 0 = λ p. Fits (port_stats_cells (port_shown now p)) in
@@ -113,8 +113,8 @@ port_stats_spelt xid now which all x few each =
     let behind = subst (λ (b : List ℕ). AreRows IsPort (map (port_shown now) these) b) (sym (flat_is (port_row now) these)) are in
     replied (ports (map (port_shown now) these)) false xid rows rows refl x tt (omega (arith, stats_short now which all few)) behind
 
-pub port_description_spelt : (xid : ℕ) (all : List Port) → xid < 256 ^ 4 → length all ≤ 64 → All (λ p. Fits (port_cells (described p))) all → SpellsReply xid false (described_ports (map described all)) (port_description_bytes xid all)
-port_description_spelt xid all x few each =
+pub port_description_encoded : (xid : ℕ) (all : List Port) → xid < 256 ^ 4 → length all ≤ 64 → All (λ p. Fits (port_cells (described p))) all → EncodesReply xid false (described_ports (map described all)) (port_description_bytes xid all)
+port_description_encoded xid all x few each =
     let row : Port → List ℕ = λ p. port_bytes (described p) in
     let rows = flat_map row all in
     let Holds : Port → Type 0 = λ p. Fits (port_cells (described p)) in
@@ -125,30 +125,30 @@ port_description_spelt xid all x few each =
 
 -- ---- FLOW, GROUP and GROUP_DESC: as many replies as it takes
 
-flows_spelt : (xid now : ℕ) → xid < 256 ^ 4 → IsSpelt xid 1 (λ part. flows (map (flow_shown now) part)) (flow_row now) (IsShownFlow now)
-flows_spelt xid now x more part all short =
+flows_encoded : (xid now : ℕ) → xid < 256 ^ 4 → IsEncoded xid 1 (λ part. flows (map (flow_shown now) part)) (flow_row now) (IsShownFlow now)
+flows_encoded xid now x more part all short =
     let rows = concat (map (flow_row now) part) in
     replied (flows (map (flow_shown now) part)) more xid rows rows refl x tt short (rows_written IsFlow (flow_shown now) (flow_row now) (IsShownFlow now) (flow_written now) part all)
 
-pub flow_spelt : (xid : ℕ) (which : Selector) (ts : Tables) → xid < 256 ^ 4 → All (IsShownFlow ts.latest) (listed which ts) → SpellAll xid (λ part. flows (map (flow_shown ts.latest) part)) (listed which ts) (flow_bytes xid which ts)
-flow_spelt xid which ts x all =
+pub flow_encoded : (xid : ℕ) (which : Selector) (ts : Tables) → xid < 256 ^ 4 → All (IsShownFlow ts.latest) (listed which ts) → EncodeAll xid (λ part. flows (map (flow_shown ts.latest) part)) (listed which ts) (flow_bytes xid which ts)
+flow_encoded xid which ts x all =
     let now = ts.latest in
-    spell_all xid 1 (λ part. flows (map (flow_shown now) part)) (flow_row now) (IsShownFlow now) (flows_spelt xid now x) (flow_short now) (listed which ts) all
+    encode_all xid 1 (λ part. flows (map (flow_shown now) part)) (flow_row now) (IsShownFlow now) (flows_encoded xid now x) (flow_short now) (listed which ts) all
 
-groups_spelt : (xid : ℕ) (all : List Group) (ts : Tables) → xid < 256 ^ 4 → IsSpelt xid 6 (λ part. groups (map (group_shown all ts) part)) (row_among all ts) (λ g. IsShownGroup (group_shown all ts g))
-groups_spelt xid all ts x more part each short =
+groups_encoded : (xid : ℕ) (all : List Group) (ts : Tables) → xid < 256 ^ 4 → IsEncoded xid 6 (λ part. groups (map (group_shown all ts) part)) (row_among all ts) (λ g. IsShownGroup (group_shown all ts g))
+groups_encoded xid all ts x more part each short =
     let rows = concat (map (row_among all ts) part) in
     replied (groups (map (group_shown all ts) part)) more xid rows rows refl x tt short (rows_written IsGroup (group_shown all ts) (row_among all ts) (λ g. IsShownGroup (group_shown all ts g)) (group_written all ts) part each)
 
-pub group_spelt : (xid : ℕ) (which : Option ℕ) (all : List Group) (ts : Tables) → xid < 256 ^ 4 → All (λ g. IsShownGroup (group_shown all ts g)) (asked_groups which all)
-    → SpellAll xid (λ part. groups (map (group_shown all ts) part)) (asked_groups which all) (group_bytes xid which all ts)
-group_spelt xid which all ts x each =
-    spell_all xid 6 (λ part. groups (map (group_shown all ts) part)) (row_among all ts) (λ g. IsShownGroup (group_shown all ts g)) (groups_spelt xid all ts x) (group_short all ts) (asked_groups which all) each
+pub group_encoded : (xid : ℕ) (which : Option ℕ) (all : List Group) (ts : Tables) → xid < 256 ^ 4 → All (λ g. IsShownGroup (group_shown all ts g)) (asked_groups which all)
+    → EncodeAll xid (λ part. groups (map (group_shown all ts) part)) (asked_groups which all) (group_bytes xid which all ts)
+group_encoded xid which all ts x each =
+    encode_all xid 6 (λ part. groups (map (group_shown all ts) part)) (row_among all ts) (λ g. IsShownGroup (group_shown all ts g)) (groups_encoded xid all ts x) (group_short all ts) (asked_groups which all) each
 
-descriptions_spelt : (xid : ℕ) → xid < 256 ^ 4 → IsSpelt xid 7 (λ part. described_groups (map group_described part)) group_description IsDescribable
-descriptions_spelt xid x more part all short =
+descriptions_encoded : (xid : ℕ) → xid < 256 ^ 4 → IsEncoded xid 7 (λ part. described_groups (map group_described part)) group_description IsDescribable
+descriptions_encoded xid x more part all short =
     let rows = concat (map group_description part) in
     replied (described_groups (map group_described part)) more xid rows rows refl x tt short (rows_written IsDescribed group_described group_description IsDescribable group_described_so part all)
 
-pub group_description_spelt : (xid : ℕ) (all : List Group) → xid < 256 ^ 4 → All IsDescribable all → SpellAll xid (λ part. described_groups (map group_described part)) all (group_description_bytes xid all)
-group_description_spelt xid all x each = spell_all xid 7 (λ part. described_groups (map group_described part)) group_description IsDescribable (descriptions_spelt xid x) described_short all each
+pub group_description_encoded : (xid : ℕ) (all : List Group) → xid < 256 ^ 4 → All IsDescribable all → EncodeAll xid (λ part. described_groups (map group_described part)) all (group_description_bytes xid all)
+group_description_encoded xid all x each = encode_all xid 7 (λ part. described_groups (map group_described part)) group_description IsDescribable (descriptions_encoded xid x) described_short all each

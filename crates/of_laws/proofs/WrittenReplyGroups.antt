@@ -1,4 +1,4 @@
--- Rows of groups that are written are spelt.
+-- Rows of groups that are written are encoded.
 use Rattle.std.proofs.Common.{◌≡◌, ◌≤◌, ◌<◌, ◌^◌, ℕ, ◌+◌, ◌*◌, true, List, [], ◌∷◌, ◌++◌, length, map, refl, ap, ◌∙◌, arith}
 use Rattle.std.specs.List.{flat_map, list_all}
 use Rattle.std.proofs.lemmas.Bool.Decides.{nat_tests}
@@ -12,8 +12,8 @@ use Rattle.of_table.specs.Tables.{Tables}
 use Rattle.of_statistics.specs.Groups.{bucket_row, group_description, group_row, references, row_among}
 use Rattle.of_statistics.proofs.GroupRows.{group_row_short}
 use Rattle.of_laws.specs.Cells.{u16}
-use Rattle.of_laws.proofs.Writings.{spelling, written}
-use Rattle.of_laws.proofs.WrittenRequests.{buckets_spelt, kind_fits, kind_same}
+use Rattle.of_laws.proofs.Writings.{encoding, written}
+use Rattle.of_laws.proofs.WrittenRequests.{buckets_encoded, kind_fits, kind_same}
 use Rattle.of_laws.specs.ReplyRows.{BucketStats, IsGroup, group_stats_cells, bucket_stats_cells, IsDescribed, group_cells}
 use Rattle.of_laws.specs.Shown.{IsShownGroup, group_shown, IsDescribable, group_described}
 
@@ -22,7 +22,7 @@ use Rattle.of_laws.specs.Shown.{IsShownGroup, group_shown, IsDescribable, group_
 abbrev bucket_shown : Bucket → BucketStats
 bucket_shown b = record { packets = b.packets; bytes = b.bytes }
 
-counters_text : (bs : List Bucket) (rest : List ℕ) → flat_map bucket_row bs ++ rest ≡ spelling (bucket_stats_cells (map bucket_shown bs)) ++ rest
+counters_text : (bs : List Bucket) (rest : List ℕ) → flat_map bucket_row bs ++ rest ≡ encoding (bucket_stats_cells (map bucket_shown bs)) ++ rest
 unfolding bucket_row
 counters_text [] rest = refl
 counters_text (b ∷ bs) rest =
@@ -30,7 +30,7 @@ counters_text (b ∷ bs) rest =
     append_assoc behind (flat_map bucket_row bs) rest ∙ ap (λ (t : List ℕ). behind ++ t) (counters_text bs rest)
 
 group_text : (all : List Group) (ts : Tables) (g : Group) (rest : List ℕ)
-    → row_among all ts g ++ rest ≡ spelling (u16 (40 + 16 * length g.buckets) ∷ group_stats_cells (group_shown all ts g)) ++ (flat_map bucket_row g.buckets ++ rest)
+    → row_among all ts g ++ rest ≡ encoding (u16 (40 + 16 * length g.buckets) ∷ group_stats_cells (group_shown all ts g)) ++ (flat_map bucket_row g.buckets ++ rest)
 unfolding group_row
 group_text all ts g rest = refl
 
@@ -52,7 +52,7 @@ group_short all ts g h = let few = h.few in group_row_short ts.latest (reference
 
 -- ---- GROUP_DESC
 
-described_text : (g : Group) (rest : List ℕ) → group_description g ++ rest ≡ spelling (u16 (8 + length (canonical_buckets g.buckets)) ∷ group_cells (group_described g)) ++ (canonical_buckets g.buckets ++ rest)
+described_text : (g : Group) (rest : List ℕ) → group_description g ++ rest ≡ encoding (u16 (8 + length (canonical_buckets g.buckets)) ∷ group_cells (group_described g)) ++ (canonical_buckets g.buckets ++ rest)
 unfolding group_description
 described_text g rest = rw (kind_same g.kind) refl
 
@@ -65,7 +65,7 @@ group_described_so g rest h =
     record {
       buckets = buckets;
       front = rw (described_text g rest) (written (u16 (8 + length buckets) ∷ group_cells (group_described g)) (buckets ++ rest) (size, (kind_fits g.kind, (h.id, tt))));
-      are = buckets_spelt g.buckets h.numbers all;
+      are = buckets_encoded g.buckets h.numbers all;
     }
 
 length_described : (g : Group) → length (group_description g) ≡ 8 + length (canonical_buckets g.buckets)

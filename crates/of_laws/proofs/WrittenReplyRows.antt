@@ -1,13 +1,13 @@
--- Rows of entries, tables and ports that are written are spelt.
+-- Rows of entries, tables and ports that are written are encoded.
 use Rattle.std.proofs.Common.{◌≡◌, ◌≤◌, ◌<◌, ◌^◌, ℕ, suc, ◌+◌, ◌*◌, List, [], ◌∷◌, ◌++◌, length, refl, ap, arith}
 use Rattle.std.specs.Prelude.{replicate}
 use Rattle.std.specs.List.{flat_map, AllByRecursion as ByRecursion}
 use Rattle.std.proofs.lemmas.List.{append_assoc, length-append}
 use Rattle.of_oxm.specs.Canonical.{canonical}
-use Rattle.of_oxm.proofs.Written.{canonical_short, canonical_spells}
+use Rattle.of_oxm.proofs.Written.{canonical_short, canonical_encodes}
 use Rattle.of_actions.specs.CanonicalInstructions.{canonical_instructions}
 use Rattle.of_actions.proofs.InstructionLengths.{instructions_short}
-use Rattle.of_actions.proofs.InstructionsAgain.{instructions_spelt}
+use Rattle.of_actions.proofs.InstructionsAgain.{instructions_encoded}
 use Rattle.of_messages.specs.Written.{port_bits, port_bytes, port_names}
 use Rattle.of_messages.specs.declared.port_mod.PortDescription.{PortDescription}
 use Rattle.of_ports.specs.declared.port.Port.{Port}
@@ -17,7 +17,7 @@ use Rattle.of_statistics.specs.Ports.{described, port_row}
 use Rattle.of_statistics.proofs.FlowRows.{row_short}
 use Rattle.of_laws.specs.Cells.{Cell, Fits, u16}
 use Rattle.of_laws.specs.Told.{port_cells}
-use Rattle.of_laws.proofs.Writings.{spelling, written}
+use Rattle.of_laws.proofs.Writings.{encoding, written}
 use Rattle.of_laws.specs.ReplyRows.{AreRows, IsFlow, flow_cells, TableStats, IsTable, table_cells, IsPort, port_stats_cells, IsDescribedPort}
 use Rattle.of_laws.specs.Shown.{IsShownFlow, flow_shown, port_shown}
 use Rattle.of_laws.proofs.WrittenTold.{description_text}
@@ -27,9 +27,9 @@ use Rattle.of_laws.proofs.WrittenTold.{description_text}
 abbrev row_cells : ℕ → Listed → List Cell
 row_cells now l = u16 (48 + length (canonical l.entry.flow.fields) + length (canonical_instructions l.entry.flow.instructions)) ∷ flow_cells (flow_shown now l)
 
-flow_text : (now : ℕ) (l : Listed) (rest : List ℕ) → flow_row now l ++ rest ≡ spelling (row_cells now l) ++ (canonical l.entry.flow.fields ++ (canonical_instructions l.entry.flow.instructions ++ rest))
+flow_text : (now : ℕ) (l : Listed) (rest : List ℕ) → flow_row now l ++ rest ≡ encoding (row_cells now l) ++ (canonical l.entry.flow.fields ++ (canonical_instructions l.entry.flow.instructions ++ rest))
 unfolding flow_row
-flow_text now l rest = ap (λ (t : List ℕ). spelling (row_cells now l) ++ t) (append_assoc (canonical l.entry.flow.fields) (canonical_instructions l.entry.flow.instructions) rest)
+flow_text now l rest = ap (λ (t : List ℕ). encoding (row_cells now l) ++ t) (append_assoc (canonical l.entry.flow.fields) (canonical_instructions l.entry.flow.instructions) rest)
 
 pub flow_written : (now : ℕ) (l : Listed) (rest : List ℕ) → IsShownFlow now l → IsFlow (flow_shown now l) (flow_row now l ++ rest) rest
 flow_written now l rest h =
@@ -41,8 +41,8 @@ flow_written now l rest h =
       fields = fields;
       instructions = instructions;
       front = rw (flow_text now l rest) (written (row_cells now l) (fields ++ (instructions ++ rest)) (size, h.numbers));
-      spelt = canonical_spells l.entry.flow.fields match;
-      are = instructions_spelt l.table l.entry.flow.instructions h.kept h.fit;
+      encoded = canonical_encodes l.entry.flow.fields match;
+      are = instructions_encoded l.table l.entry.flow.instructions h.kept h.fit;
     }
 
 pub flow_short : (now : ℕ) (l : Listed) → IsShownFlow now l → length (flow_row now l) ≤ 65519
@@ -53,7 +53,7 @@ flow_short now l h = let match = h.match in row_short now l (canonical_short l.e
 abbrev shown : ℕ → Table → TableStats
 shown k t = record { table = k; active = length t.flows; lookups = t.lookups; matched = t.matched }
 
-table_text : (k : ℕ) (t : Table) (rest : List ℕ) → table_row k t ++ rest ≡ spelling (table_cells (shown k t)) ++ rest
+table_text : (k : ℕ) (t : Table) (rest : List ℕ) → table_row k t ++ rest ≡ encoding (table_cells (shown k t)) ++ rest
 unfolding table_row
 table_text k t rest = refl
 
@@ -66,7 +66,7 @@ tables_written k (t ∷ ts) all = let rest = from_tables table_row (suc k) ts in
 
 -- ---- PORT_STATS
 
-port_text : (now : ℕ) (p : Port) (rest : List ℕ) → port_row now p ++ rest ≡ spelling (port_stats_cells (port_shown now p)) ++ rest
+port_text : (now : ℕ) (p : Port) (rest : List ℕ) → port_row now p ++ rest ≡ encoding (port_stats_cells (port_shown now p)) ++ rest
 unfolding port_row
 port_text now p rest = refl
 

@@ -1,18 +1,18 @@
--- A FLOW_MOD and a GROUP_MOD that are written are spelt.
+-- A FLOW_MOD and a GROUP_MOD that are written are encoded.
 use Rattle.std.proofs.Common.{◌≡◌, ℕ, ◌+◌, ◌^◌, ◌<◌, ◌≤◌, true, false, List, [], ◌∷◌, ◌++◌, length, map, refl, arith}
 use Rattle.std.specs.List.{list_all}
 use Rattle.std.proofs.lemmas.Bool.Decides.{nat_tests}
 use Rattle.std.proofs.lemmas.List.{length-append, length-map}
 use Rattle.of_oxm.specs.Canonical.{canonical}
 use Rattle.of_oxm.specs.NormalForm.{IsMatch}
-use Rattle.of_oxm.proofs.Written.{canonical_short, canonical_spells}
+use Rattle.of_oxm.proofs.Written.{canonical_short, canonical_encodes}
 use Rattle.of_actions.specs.CanonicalActions.{canonical_actions}
 use Rattle.of_actions.specs.CanonicalInstructions.{canonical_instructions}
 use Rattle.of_actions.specs.InstructionLists.{are_for, are_kept}
 use Rattle.of_actions.specs.Supported.{are_supported}
-use Rattle.of_actions.proofs.ActionsAgain.{canonical_spelt, canonical_short as actions_short}
+use Rattle.of_actions.proofs.ActionsAgain.{canonical_encoded, canonical_short as actions_short}
 use Rattle.of_actions.proofs.InstructionLengths.{instructions_short}
-use Rattle.of_actions.proofs.InstructionsAgain.{instructions_spelt}
+use Rattle.of_actions.proofs.InstructionsAgain.{instructions_encoded}
 use Rattle.of_groups.specs.Buckets.{are_fit, fresh, is_fit}
 use Rattle.of_groups.specs.declared.bucket.Bucket.{Bucket}
 use Rattle.of_groups.specs.declared.group.GroupKind.{GroupKind}
@@ -29,8 +29,8 @@ use Rattle.of_messages.specs.declared.message.Message.TheVariants.{FlowMod as Is
 use Rattle.of_messages.proofs.BucketsWritten.{buckets_short}
 use Rattle.of_laws.specs.Buckets.{AreBuckets, bucket_cells}
 use Rattle.of_laws.specs.Cells.{Fits}
-use Rattle.of_laws.specs.Grammar.{HasInstructions, IsValidFlowMod, MatchThenInstructions, Spells, command_number, deletes, flow_mod_cells, group_cells, kind_number}
-use Rattle.of_laws.proofs.Writings.{fronted, spelling, written}
+use Rattle.of_laws.specs.Grammar.{HasInstructions, IsValidFlowMod, MatchThenInstructions, Encodes, command_number, deletes, flow_mod_cells, group_cells, kind_number}
+use Rattle.of_laws.proofs.Writings.{fronted, encoding, written}
 
 -- ---- FLOW_MOD
 
@@ -41,7 +41,7 @@ command_same ModifyStrict = refl
 command_same Delete = refl
 command_same DeleteStrict = refl
 
-pub beginning_is : (m : FlowMod) (tail : List ℕ) → flow_mod_fixed_part m ++ tail ≡ spelling (flow_mod_cells m) ++ tail
+pub beginning_is : (m : FlowMod) (tail : List ℕ) → flow_mod_fixed_part m ++ tail ≡ encoding (flow_mod_cells m) ++ tail
 unfolding flow_mod_fixed_part
 beginning_is m tail = rw (command_same m.command) refl
 
@@ -51,9 +51,9 @@ length-front m tail = omega arith
 
 -- the two DELETE commands have none
 has_instructions : (m : FlowMod) (c : FlowModCommand) → are_kept m.instructions ≡ true → are_for m.table m.instructions ≡ true → (deletes c ≡ true → m.instructions ≡ []) → HasInstructions m (deletes c) (canonical_instructions m.instructions)
-has_instructions m Add kept fit none = instructions_spelt m.table m.instructions kept fit
-has_instructions m Modify kept fit none = instructions_spelt m.table m.instructions kept fit
-has_instructions m ModifyStrict kept fit none = instructions_spelt m.table m.instructions kept fit
+has_instructions m Add kept fit none = instructions_encoded m.table m.instructions kept fit
+has_instructions m Modify kept fit none = instructions_encoded m.table m.instructions kept fit
+has_instructions m ModifyStrict kept fit none = instructions_encoded m.table m.instructions kept fit
 has_instructions m Delete kept fit none = none refl
 has_instructions m DeleteStrict kept fit none = none refl
 
@@ -63,16 +63,16 @@ tail_is m match kept fit none =
       fields = canonical m.fields;
       instructions = canonical_instructions m.instructions;
       whole = refl;
-      spelt = canonical_spells m.fields match;
+      encoded = canonical_encodes m.fields match;
       are = has_instructions m m.command kept fit none;
     }
 
 pub tail_short : (m : FlowMod) → IsMatch m.fields → are_kept m.instructions ≡ true → length (canonical m.fields ++ canonical_instructions m.instructions) ≤ 4256
 tail_short m match kept = omega (arith, length-append (canonical m.fields) (canonical_instructions m.instructions), canonical_short m.fields match.rising, instructions_short m.instructions kept)
 
-pub flow_mod_spelt : (xid : ℕ) (m : FlowMod) → xid < 256 ^ 4 → Fits (flow_mod_cells m) → IsValidFlowMod m → IsMatch m.fields → are_kept m.instructions ≡ true → are_for m.table m.instructions ≡ true
-    → (deletes m.command ≡ true → m.instructions ≡ []) → Spells xid (IsFlowMod m) (flow_mod_bytes xid m)
-flow_mod_spelt xid m x fits valid match kept fit none =
+pub flow_mod_encoded : (xid : ℕ) (m : FlowMod) → xid < 256 ^ 4 → Fits (flow_mod_cells m) → IsValidFlowMod m → IsMatch m.fields → are_kept m.instructions ≡ true → are_for m.table m.instructions ≡ true
+    → (deletes m.command ≡ true → m.instructions ≡ []) → Encodes xid (IsFlowMod m) (flow_mod_bytes xid m)
+flow_mod_encoded xid m x fits valid match kept fit none =
     let tail = canonical m.fields ++ canonical_instructions m.instructions in
     let short = tail_short m match kept in
     record {
@@ -84,7 +84,7 @@ flow_mod_spelt xid m x fits valid match kept fit none =
 
 -- ---- GROUP_MOD
 
-bucket_front : (b : Bucket) (rest : List ℕ) → canonical_bucket b ++ rest ≡ spelling (bucket_cells (16 + length (canonical_actions b.actions)) (fresh b)) ++ (canonical_actions b.actions ++ rest)
+bucket_front : (b : Bucket) (rest : List ℕ) → canonical_bucket b ++ rest ≡ encoding (bucket_cells (16 + length (canonical_actions b.actions)) (fresh b)) ++ (canonical_actions b.actions ++ rest)
 unfolding canonical_bucket
 bucket_front b rest = refl
 
@@ -97,9 +97,9 @@ bucket_fits b h short =
     let group : b.watch_group < 256 ^ 4 = grind (arith, nat_tests) in
     (omega (arith, short), (weight, (port, (group, tt))))
 
-pub buckets_spelt : (bs : List Bucket) → list_all has_numbers bs ≡ true → list_all is_fit bs ≡ true → AreBuckets (map fresh bs) (canonical_buckets bs)
-buckets_spelt [] numbers fit = refl
-buckets_spelt (b ∷ bs) numbers fit =
+pub buckets_encoded : (bs : List Bucket) → list_all has_numbers bs ≡ true → list_all is_fit bs ≡ true → AreBuckets (map fresh bs) (canonical_buckets bs)
+buckets_encoded [] numbers fit = refl
+buckets_encoded (b ∷ bs) numbers fit =
     let this : has_numbers b ≡ true = grind (arith, nat_tests) in
     let others : list_all has_numbers bs ≡ true = grind (arith, nat_tests) in
     let served : are_supported false b.actions ≡ true = grind (arith, nat_tests) in
@@ -113,12 +113,12 @@ buckets_spelt (b ∷ bs) numbers fit =
       record {
         actions = text;
         front = rw (bucket_front b rest) (written cells (text ++ rest) (bucket_fits b this size.short));
-        are = canonical_spelt false b.actions served;
+        are = canonical_encoded false b.actions served;
         eights = omega arith;
         packets = refl;
         bytes_used = refl;
       },
-      buckets_spelt bs others fit_others,
+      buckets_encoded bs others fit_others,
     )
 
 pub kind_same : (k : GroupKind) → number_of k ≡ kind_number k
@@ -126,7 +126,7 @@ kind_same All = refl
 kind_same Indirect = refl
 kind_same FastFailover = refl
 
-group_fixed_part : (g : NewGroup) (tail : List ℕ) → group_add_fixed_part g ++ tail ≡ spelling (group_cells 0 (as_written g)) ++ tail
+group_fixed_part : (g : NewGroup) (tail : List ℕ) → group_add_fixed_part g ++ tail ≡ encoding (group_cells 0 (as_written g)) ++ tail
 unfolding group_add_fixed_part
 group_fixed_part g tail = rw (kind_same g.kind) refl
 
@@ -139,8 +139,8 @@ kind_fits All = omega arith
 kind_fits Indirect = omega arith
 kind_fits FastFailover = omega arith
 
-pub group_add_spelt : (xid : ℕ) (g : NewGroup) → xid < 256 ^ 4 → g.id ≤ 0xffffff00 → list_all has_numbers g.buckets ≡ true → are_fit g.buckets ≡ true → Spells xid (IsGroupMod (group.Add (as_written g))) (group_add_bytes xid g)
-group_add_spelt xid g x most numbers fit =
+pub group_add_encoded : (xid : ℕ) (g : NewGroup) → xid < 256 ^ 4 → g.id ≤ 0xffffff00 → list_all has_numbers g.buckets ≡ true → are_fit g.buckets ≡ true → Encodes xid (IsGroupMod (group.Add (as_written g))) (group_add_bytes xid g)
+group_add_encoded xid g x most numbers fit =
     let tail = canonical_buckets g.buckets in
     let few : length g.buckets ≤ 16 = grind (arith, nat_tests) in
     let all : list_all is_fit g.buckets ≡ true = grind (arith, nat_tests) in
@@ -149,6 +149,6 @@ group_add_spelt xid g x most numbers fit =
     record {
       tail = tail;
       front = fronted 15 xid (group_cells 0 (as_written g)) (group_add_fixed_part g ++ tail) tail (group_fixed_part g tail) (omega arith) x fits (omega (arith, length-group g tail));
-      behind = buckets_spelt g.buckets numbers all;
+      behind = buckets_encoded g.buckets numbers all;
       valid = (most, omega (arith, length-map g.buckets fresh));
     }

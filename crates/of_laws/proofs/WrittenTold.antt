@@ -1,4 +1,4 @@
--- What a switch writes is spelt.
+-- What a switch writes is encoded.
 use Rattle.std.proofs.Common.{◌≡◌, ℕ, ◌+◌, ◌^◌, ◌<◌, ◌≤◌, Bool, true, false, eqb, List, [], ◌∷◌, ◌++◌, length, cond, None, refl, sym, ap, ◌∙◌, arith}
 use Rattle.std.specs.Prelude.{replicate}
 use Rattle.std.proofs.lemmas.List.{append-nil, append_assoc, length-append}
@@ -11,7 +11,7 @@ use Rattle.of_oxm.specs.declared.match_field.MatchField.{MatchField}
 use Rattle.of_oxm.specs.Canonical.{canonical}
 use Rattle.of_oxm.specs.NormalForm.{IsKept, IsMatch}
 use Rattle.of_oxm.specs.Prerequisites.{prerequisites_met}
-use Rattle.of_oxm.proofs.Written.{canonical_short, canonical_spells}
+use Rattle.of_oxm.proofs.Written.{canonical_short, canonical_encodes}
 use Rattle.of_messages.specs.Roles.{role_number}
 use Rattle.of_messages.specs.Written.{message, hello_bytes, error_bytes, echo_reply_bytes, barrier_reply_bytes, features_body, features_reply_bytes, config_reply_bytes, async_reply_bytes, flow_removed_fixed_part, flow_removed_bytes, packet_fields, packet_in_fixed_part, packet_in_bytes, status_number, port_names, port_bits, port_bytes, port_status_bytes}
 use Rattle.of_messages.specs.declared.async_masks.AsyncMasks.{AsyncMasks}
@@ -25,8 +25,8 @@ use Rattle.of_messages.specs.declared.role.Role.{Role}
 use Rattle.of_messages.specs.declared.role.Role.TheVariants as role
 use Rattle.of_messages.proofs.PacketFields.{with_metadata, without_metadata}
 use Rattle.of_laws.specs.Cells.{Fits}
-use Rattle.of_laws.specs.Told.{Told, hello, error, echo_reply, features_reply, config_reply, packet_in, flow_removed, port_status, barrier_reply, role_reply, async_reply, switch_message_type, told_cells, told_fields, ToldTail, SpellsSwitchMessage, port_reason, role_value, removed_cells, packet_in_cells, port_cells}
-use Rattle.of_laws.proofs.Writings.{fronted, spelling}
+use Rattle.of_laws.specs.Told.{Told, hello, error, echo_reply, features_reply, config_reply, packet_in, flow_removed, port_status, barrier_reply, role_reply, async_reply, switch_message_type, told_cells, told_fields, ToldTail, EncodesSwitchMessage, port_reason, role_value, removed_cells, packet_in_cells, port_cells}
+use Rattle.of_laws.proofs.Writings.{fronted, encoding}
 
 type_fits : (t : Told) → switch_message_type t < 256
 type_fits (hello bitmap) = omega arith
@@ -41,26 +41,26 @@ type_fits barrier_reply = omega arith
 type_fits (role_reply r generation) = omega arith
 type_fits (async_reply masks) = omega arith
 
-told : (t : Told) (xid : ℕ) (body tail : List ℕ) → body ≡ spelling (told_cells t) ++ tail → xid < 256 ^ 4 → Fits (told_cells t) → length body ≤ 65527 → ToldTail t tail → SpellsSwitchMessage xid t (message (switch_message_type t) xid body)
+told : (t : Told) (xid : ℕ) (body tail : List ℕ) → body ≡ encoding (told_cells t) ++ tail → xid < 256 ^ 4 → Fits (told_cells t) → length body ≤ 65527 → ToldTail t tail → EncodesSwitchMessage xid t (message (switch_message_type t) xid body)
 told t xid body tail e x fits short behind = record { tail = tail; front = fronted (switch_message_type t) xid (told_cells t) body tail e (type_fits t) x fits short; behind = behind }
 
-pub hello_told : SpellsSwitchMessage 0 (hello 16) hello_bytes
+pub hello_told : EncodesSwitchMessage 0 (hello 16) hello_bytes
 hello_told = told (hello 16) 0 (big_bytes 2 1 ++ (big_bytes 2 8 ++ big_bytes 4 16)) [] refl (omega arith) (omega arith, (omega arith, (omega arith, tt))) (omega arith) refl
 
-pub error_told : (xid : ℕ) (code : Code) (failed : List ℕ) → xid < 256 ^ 4 → Fits (told_cells (error code failed)) → length failed ≤ 65523 → SpellsSwitchMessage xid (error code failed) (error_bytes xid code failed)
+pub error_told : (xid : ℕ) (code : Code) (failed : List ℕ) → xid < 256 ^ 4 → Fits (told_cells (error code failed)) → length failed ≤ 65523 → EncodesSwitchMessage xid (error code failed) (error_bytes xid code failed)
 error_told xid code failed x fits short = told (error code failed) xid (big_bytes 2 code.kind ++ (big_bytes 2 code.code ++ failed)) failed refl x fits (omega arith) refl
 
-pub echo_told : (xid : ℕ) (echoed : List ℕ) → xid < 256 ^ 4 → length echoed ≤ 65527 → SpellsSwitchMessage xid (echo_reply echoed) (echo_reply_bytes xid echoed)
+pub echo_told : (xid : ℕ) (echoed : List ℕ) → xid < 256 ^ 4 → length echoed ≤ 65527 → EncodesSwitchMessage xid (echo_reply echoed) (echo_reply_bytes xid echoed)
 echo_told xid echoed x short = told (echo_reply echoed) xid echoed echoed refl x tt short refl
 
-pub features_told : (xid dpid : ℕ) → xid < 256 ^ 4 → dpid < 256 ^ 8 → SpellsSwitchMessage xid (features_reply dpid) (features_reply_bytes xid dpid)
+pub features_told : (xid dpid : ℕ) → xid < 256 ^ 4 → dpid < 256 ^ 8 → EncodesSwitchMessage xid (features_reply dpid) (features_reply_bytes xid dpid)
 unfolding features_body
 features_told xid dpid x fits = told (features_reply dpid) xid (features_body dpid) [] refl x (fits, (omega arith, (omega arith, (omega arith, (omega arith, tt))))) (omega arith) refl
 
-pub config_told : (xid : ℕ) (config : SwitchConfig) → xid < 256 ^ 4 → config.miss_send_len < 256 ^ 2 → SpellsSwitchMessage xid (config_reply config) (config_reply_bytes xid config)
+pub config_told : (xid : ℕ) (config : SwitchConfig) → xid < 256 ^ 4 → config.miss_send_len < 256 ^ 2 → EncodesSwitchMessage xid (config_reply config) (config_reply_bytes xid config)
 config_told xid config x fits = told (config_reply config) xid (big_bytes 2 0 ++ big_bytes 2 config.miss_send_len) [] refl x (omega arith, (fits, tt)) (omega arith) refl
 
-pub barrier_told : (xid : ℕ) → xid < 256 ^ 4 → SpellsSwitchMessage xid barrier_reply (barrier_reply_bytes xid)
+pub barrier_told : (xid : ℕ) → xid < 256 ^ 4 → EncodesSwitchMessage xid barrier_reply (barrier_reply_bytes xid)
 barrier_told xid x = told barrier_reply xid [] [] refl x tt (omega arith) refl
 
 -- ---- ROLE_REPLY and GET_ASYNC_REPLY
@@ -75,19 +75,19 @@ role_fits role.Equal = omega arith
 role_fits role.Master = omega arith
 role_fits role.Slave = omega arith
 
-role_text : (r : Role) (generation : ℕ) → big_bytes 4 (role_number r) ++ (replicate 4 0 ++ big_bytes 8 generation) ≡ spelling (told_cells (role_reply r generation)) ++ []
+role_text : (r : Role) (generation : ℕ) → big_bytes 4 (role_number r) ++ (replicate 4 0 ++ big_bytes 8 generation) ≡ encoding (told_cells (role_reply r generation)) ++ []
 role_text r generation = rw (role_same r) refl
 
-pub role_told : (xid : ℕ) (r : Role) (generation : ℕ) → xid < 256 ^ 4 → generation < 256 ^ 8 → SpellsSwitchMessage xid (role_reply r generation) (message 25 xid (big_bytes 4 (role_number r) ++ (replicate 4 0 ++ big_bytes 8 generation)))
+pub role_told : (xid : ℕ) (r : Role) (generation : ℕ) → xid < 256 ^ 4 → generation < 256 ^ 8 → EncodesSwitchMessage xid (role_reply r generation) (message 25 xid (big_bytes 4 (role_number r) ++ (replicate 4 0 ++ big_bytes 8 generation)))
 role_told xid r generation x fits =
     told (role_reply r generation) xid (big_bytes 4 (role_number r) ++ (replicate 4 0 ++ big_bytes 8 generation)) [] (role_text r generation) x (role_fits r, (fits, tt)) (omega arith) refl
 
-pub async_told : (xid : ℕ) (masks : AsyncMasks) → xid < 256 ^ 4 → Fits (told_cells (async_reply masks)) → SpellsSwitchMessage xid (async_reply masks) (async_reply_bytes xid masks)
+pub async_told : (xid : ℕ) (masks : AsyncMasks) → xid < 256 ^ 4 → Fits (told_cells (async_reply masks)) → EncodesSwitchMessage xid (async_reply masks) (async_reply_bytes xid masks)
 async_told xid masks x fits = told (async_reply masks) xid _ [] refl x fits (omega arith) refl
 
 -- ---- FLOW_REMOVED
 
-removed_text : (r : FlowRemoved) (tail : List ℕ) → flow_removed_fixed_part r ++ tail ≡ spelling (removed_cells r) ++ tail
+removed_text : (r : FlowRemoved) (tail : List ℕ) → flow_removed_fixed_part r ++ tail ≡ encoding (removed_cells r) ++ tail
 unfolding flow_removed_fixed_part
 removed_text r tail = refl
 
@@ -95,9 +95,9 @@ length-removed : (r : FlowRemoved) (tail : List ℕ) → length (flow_removed_fi
 unfolding flow_removed_fixed_part
 length-removed r tail = omega arith
 
-pub removed_told : (xid : ℕ) (r : FlowRemoved) (fields : List MatchField) → xid < 256 ^ 4 → Fits (told_cells (flow_removed r fields)) → IsMatch fields → SpellsSwitchMessage xid (flow_removed r fields) (flow_removed_bytes xid r fields)
+pub removed_told : (xid : ℕ) (r : FlowRemoved) (fields : List MatchField) → xid < 256 ^ 4 → Fits (told_cells (flow_removed r fields)) → IsMatch fields → EncodesSwitchMessage xid (flow_removed r fields) (flow_removed_bytes xid r fields)
 removed_told xid r fields x fits match =
-    told (flow_removed r fields) xid (flow_removed_fixed_part r ++ canonical fields) (canonical fields) (removed_text r (canonical fields)) x fits (omega (arith, length-removed r (canonical fields), canonical_short fields match.rising)) (canonical_spells fields match)
+    told (flow_removed r fields) xid (flow_removed_fixed_part r ++ canonical fields) (canonical fields) (removed_text r (canonical fields)) x fits (omega (arith, length-removed r (canonical fields), canonical_short fields match.rising)) (canonical_encodes fields match)
 
 -- ---- PORT_STATUS
 
@@ -110,15 +110,15 @@ status_same status.Modify = refl
 behind_number : (hw name bits : List ℕ) → (hw ++ (replicate 2 0 ++ name)) ++ bits ≡ hw ++ (replicate 2 0 ++ (name ++ bits))
 behind_number hw name bits = append_assoc hw (replicate 2 0 ++ name) bits
 
-pub description_text : (p : PortDescription) → port_bytes p ≡ spelling (port_cells p)
+pub description_text : (p : PortDescription) → port_bytes p ≡ encoding (port_cells p)
 unfolding port_names port_bits
 description_text p = ap (λ (t : List ℕ). big_bytes 4 p.number ++ (replicate 4 0 ++ t)) (behind_number p.hw p.name (port_bits p))
 
-port_text : (r : PortStatusReason) (p : PortDescription) → (status_number r ∷ replicate 7 0) ++ port_bytes p ≡ spelling (told_cells (port_status r p)) ++ []
+port_text : (r : PortStatusReason) (p : PortDescription) → (status_number r ∷ replicate 7 0) ++ port_bytes p ≡ encoding (told_cells (port_status r p)) ++ []
 port_text r p =
     ap (λ (n : ℕ). (n ∷ replicate 7 0) ++ port_bytes p) (status_same r) ∙ ap (λ (t : List ℕ). (port_reason r ∷ replicate 7 0) ++ t) (description_text p) ∙ sym (append-nil _)
 
-pub port_told : (xid : ℕ) (r : PortStatusReason) (p : PortDescription) → xid < 256 ^ 4 → Fits (told_cells (port_status r p)) → SpellsSwitchMessage xid (port_status r p) (port_status_bytes xid r p)
+pub port_told : (xid : ℕ) (r : PortStatusReason) (p : PortDescription) → xid < 256 ^ 4 → Fits (told_cells (port_status r p)) → EncodesSwitchMessage xid (port_status r p) (port_status_bytes xid r p)
 unfolding port_names port_bits
 port_told xid r p x fits =
     let hw : length p.hw ≡ 6 = fits.1.1.0 in
@@ -128,7 +128,7 @@ port_told xid r p x fits =
 
 -- ---- PACKET_IN
 
-packet_text : (p : PacketIn) (tail : List ℕ) → packet_in_fixed_part p ++ tail ≡ spelling (packet_in_cells p) ++ tail
+packet_text : (p : PacketIn) (tail : List ℕ) → packet_in_fixed_part p ++ tail ≡ encoding (packet_in_cells p) ++ tail
 unfolding packet_in_fixed_part
 packet_text p tail = refl
 
@@ -170,7 +170,7 @@ fields_match p low high = by_test (eqb p.metadata 0) refl
     by_test true is = one_match p.in_port low
     by_test false is = both_match p.in_port p.metadata low high
 
-pub packet_told : (xid : ℕ) (p : PacketIn) («data» : List ℕ) → xid < 256 ^ 4 → Fits (told_cells (packet_in p «data»)) → p.in_port < 256 ^ 4 → p.metadata < 256 ^ 8 → length «data» ≤ 65485 → SpellsSwitchMessage xid (packet_in p «data») (packet_in_bytes xid p «data»)
+pub packet_told : (xid : ℕ) (p : PacketIn) («data» : List ℕ) → xid < 256 ^ 4 → Fits (told_cells (packet_in p «data»)) → p.in_port < 256 ^ 4 → p.metadata < 256 ^ 8 → length «data» ≤ 65485 → EncodesSwitchMessage xid (packet_in p «data») (packet_in_bytes xid p «data»)
 packet_told xid p «data» x fits low high short =
     let match = fields_match p low high in
     let fields = canonical (told_fields p) in
@@ -178,4 +178,4 @@ packet_told xid p «data» x fits low high short =
     let tail = fields ++ rest in
     told (packet_in p «data») xid (packet_in_fixed_part p ++ tail) tail (packet_text p tail) x fits
     (omega (arith, length-packet p tail, length-append fields rest, fields_short p.in_port p.metadata))
-    (record { fields = fields; rest = rest; whole = refl; spelt = canonical_spells (told_fields p) match; behind = (omega arith, tt, refl) })
+    (record { fields = fields; rest = rest; whole = refl; encoded = canonical_encodes (told_fields p) match; behind = (omega arith, tt, refl) })

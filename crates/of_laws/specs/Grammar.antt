@@ -1,10 +1,10 @@
--- THE GRAMMAR: which bytes spell which message of a controller (OpenFlow 1.3.5, 7).
+-- THE GRAMMAR: which bytes encode which message of a controller (OpenFlow 1.3.5, 7).
 use Rattle.std.specs.Prelude.{◌≡◌, ◌≤◌, ◌<◌, ℕ, bit_and, ◌⊎◌, ⊤, Bool, true, false, List, [], ◌∷◌, ◌++◌, length, take, drop, Option, Some, None}
 use Rattle.of_wire.specs.declared.limits.TheConstants.{OFP_NO_BUFFER}
-use Rattle.of_oxm.specs.MatchGrammar.{SpellsMatch}
+use Rattle.of_oxm.specs.MatchGrammar.{EncodesMatch}
 use Rattle.of_actions.specs.Actions.{AreActions}
 use Rattle.of_actions.specs.FlowCheck.{all_go_with}
-use Rattle.of_actions.specs.Instructions.{SpellsInstructions}
+use Rattle.of_actions.specs.Instructions.{EncodesInstructions}
 use Rattle.of_actions.specs.PortNumbers.{controller}
 use Rattle.of_groups.specs.declared.group.GroupKind.{GroupKind}
 use Rattle.of_groups.specs.declared.group.GroupKind.TheVariants.{All, Indirect, FastFailover}
@@ -116,7 +116,7 @@ deletes other = false
 
 -- the two DELETE commands have no instructions, whatever follows
 abbrev pub HasInstructions : FlowMod → Bool → List ℕ → Type 0
-HasInstructions m false bytes = SpellsInstructions m.table bytes m.instructions
+HasInstructions m false bytes = EncodesInstructions m.table bytes m.instructions
 HasInstructions m true bytes = m.instructions ≡ []
 
 -- the match, and the instructions
@@ -124,7 +124,7 @@ pub record MatchThenInstructions (m : FlowMod) (tail : List ℕ) : Type 0 where
   pub fields : List ℕ
   pub instructions : List ℕ
   pub whole : tail ≡ fields ++ instructions
-  pub spelt : SpellsMatch fields m.fields
+  pub encoded : EncodesMatch fields m.fields
   pub are : HasInstructions m (deletes m.command) instructions
 
 -- OFPFMFC_BAD_TABLE_ID: a table, 0 to 15, or OFPTT_ALL for the two DELETE commands
@@ -229,8 +229,8 @@ IsValid other = ⊤
 abbrev pub fixed_part_cells : Message → ℕ → ℕ → List Cell
 fixed_part_cells m size xid = version m ∷ cells_of (drop 1 tables.header) (type m ∷ size ∷ xid ∷ []) [] ++ cells m
 
--- these bytes, all of them, spell the message with this transaction id
-pub record Spells (xid : ℕ) (m : Message) (bytes : List ℕ) : Type 0 where
+-- these bytes, all of them, encode the message with this transaction id
+pub record Encodes (xid : ℕ) (m : Message) (bytes : List ℕ) : Type 0 where
   pub tail : List ℕ
   pub front : Begins (fixed_part_cells m (length bytes) xid) bytes tail
   pub behind : Tail m tail

@@ -30,7 +30,7 @@ StepFits (Write actions) = AllByRecursion ActionFits actions
 StepFits (Metadata value mask) = (value < 2 ^ 64) × (mask < 2 ^ 64)
 StepFits (Goto table) = table < 2 ^ 8
 
--- a match with the size of its spelling, or its first refusal
+-- a match with the size of its encoding, or its first refusal
 abbrev pub match_outcome : List MatchField → Option Code → Result (List MatchField × ℕ) Code
 match_outcome fields None = Ok (fields, length (canonical fields))
 match_outcome fields (Some code) = Err code

@@ -1,4 +1,4 @@
--- MULTIPART_REPLY: which bytes spell which reply of this switch (OpenFlow 1.3.5, 7.3.5, struct ofp_multipart_reply).
+-- MULTIPART_REPLY: which bytes encode which reply of this switch (OpenFlow 1.3.5, 7.3.5, struct ofp_multipart_reply).
 use Rattle.std.specs.Prelude.{◌≡◌, ℕ, ◌-◌, ◌^◌, Bool, true, false, List, [], ◌∷◌, ◌++◌, length, replicate, codes}
 use Rattle.std.specs.List.{sum_by}
 use Rattle.of_messages.specs.declared.group_mod.NewGroup.{NewGroup}
@@ -81,14 +81,14 @@ flags true = 1
 abbrev pub reply_fixed_part : Reply → Bool → ℕ → ℕ → List Cell
 reply_fixed_part r more size xid = cells_of (structs.header ++ structs.multipart) (4 ∷ 19 ∷ size ∷ xid ∷ reply_type r ∷ flags more ∷ []) [] ++ reply_cells r
 
--- these bytes, all of them, spell the reply with this transaction id
-pub record SpellsReply (xid : ℕ) (more : Bool) (r : Reply) (bytes : List ℕ) : Type 0 where
+-- these bytes, all of them, encode the reply with this transaction id
+pub record EncodesReply (xid : ℕ) (more : Bool) (r : Reply) (bytes : List ℕ) : Type 0 where
   pub tail : List ℕ
   pub front : Begins (reply_fixed_part r more (length bytes) xid) bytes tail
   pub behind : ReplyTail r tail
 
--- these messages spell all the rows, in their order: each some of them, and each but the last says that more follow
-abbrev pub SpellAll : {X : Type 0} → ℕ → (List X → Reply) → List X → List (List ℕ) → Type 0
-SpellAll {X} xid reply rows [] = ⊥
-SpellAll {X} xid reply rows (m ∷ []) = SpellsReply xid false (reply rows) m
-SpellAll {X} xid reply rows (m ∷ n ∷ ms) = (front : List X) × (behind : List X) × (rows ≡ front ++ behind) × SpellsReply xid true (reply front) m × SpellAll xid reply behind (n ∷ ms)
+-- these messages encode all the rows, in their order: each some of them, and each but the last says that more follow
+abbrev pub EncodeAll : {X : Type 0} → ℕ → (List X → Reply) → List X → List (List ℕ) → Type 0
+EncodeAll {X} xid reply rows [] = ⊥
+EncodeAll {X} xid reply rows (m ∷ []) = EncodesReply xid false (reply rows) m
+EncodeAll {X} xid reply rows (m ∷ n ∷ ms) = (front : List X) × (behind : List X) × (rows ≡ front ++ behind) × EncodesReply xid true (reply front) m × EncodeAll xid reply behind (n ∷ ms)

@@ -1,9 +1,9 @@
--- The rows of replies to multipart requests: which bytes spell which row, whatever follows (OpenFlow 1.3.5, 7.3.5).
+-- The rows of replies to multipart requests: which bytes encode which row, whatever follows (OpenFlow 1.3.5, 7.3.5).
 use Rattle.std.specs.Prelude.{◌≡◌, ℕ, ◌+◌, ◌*◌, List, [], ◌∷◌, ◌++◌, length, drop}
 use Rattle.of_oxm.specs.declared.match_field.MatchField.{MatchField}
-use Rattle.of_oxm.specs.MatchGrammar.{SpellsMatch}
+use Rattle.of_oxm.specs.MatchGrammar.{EncodesMatch}
 use Rattle.of_actions.specs.declared.instruction.Instruction.{Instruction}
-use Rattle.of_actions.specs.Instructions.{SpellsInstructions}
+use Rattle.of_actions.specs.Instructions.{EncodesInstructions}
 use Rattle.of_ports.specs.declared.counters.PortCounters.{PortCounters}
 use Rattle.of_messages.specs.declared.group_mod.NewGroup.{NewGroup}
 use Rattle.of_messages.specs.declared.port_mod.PortDescription.{PortDescription}
@@ -46,8 +46,8 @@ pub record IsFlow (s : FlowStats) (bytes rest : List ℕ) : Type 0 where
   pub fields : List ℕ
   pub instructions : List ℕ
   pub front : Begins (u16 (48 + length fields + length instructions) ∷ flow_cells s) bytes (fields ++ (instructions ++ rest))
-  pub spelt : SpellsMatch fields s.fields
-  pub are : SpellsInstructions s.table instructions s.instructions
+  pub encoded : EncodesMatch fields s.fields
+  pub are : EncodesInstructions s.table instructions s.instructions
 
 -- AGGREGATE (7.3.5.3, struct ofp_aggregate_stats_reply): what entries have counted in all, and how many they are
 

@@ -2,7 +2,7 @@
 use Rattle.std.specs.Prelude.{◌≡◌, ◌<◌, ℕ, ◌⊎◌, ⊤, List, [], ◌∷◌, ◌++◌, Option, Some, None}
 use Rattle.of_wire.specs.declared.limits.TheConstants.{OFPP_ANY, OFPG_ALL}
 use Rattle.of_oxm.specs.declared.match_field.MatchField.{MatchField}
-use Rattle.of_oxm.specs.MatchGrammar.{SpellsMatch}
+use Rattle.of_oxm.specs.MatchGrammar.{EncodesMatch}
 use Rattle.of_messages.specs.declared.multipart.FlowStatsRequest.{FlowStatsRequest}
 use Rattle.of_messages.specs.declared.multipart.MultipartRequest.{MultipartRequest}
 use Rattle.of_messages.specs.declared.multipart.MultipartRequest.TheVariants.{Description, Flow, Aggregate, Table, PortStats, Group, GroupDescription, GroupFeatures, PortDescription}
@@ -54,7 +54,7 @@ pub record BeginsMatch (fields : List MatchField) (bytes : List ℕ) : Type 0 wh
   pub front : List ℕ
   pub rest : List ℕ
   pub whole : bytes ≡ front ++ rest
-  pub spelt : SpellsMatch front fields
+  pub encoded : EncodesMatch front fields
 
 abbrev pub RequestTail : MultipartRequest → List ℕ → Type 0
 RequestTail (Flow r) tail = BeginsMatch r.fields tail

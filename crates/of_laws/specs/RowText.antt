@@ -6,7 +6,7 @@ use Rattle.of_switch.specs.declared.port_change.PortChange.{PortChange}
 use Rattle.of_switch.specs.declared.port_change.PortChange.TheVariants.{Add, Remove, Link}
 use Rattle.of_text.specs.Lines.{before, joined}
 use Rattle.of_replay.specs.Lexing.{is_name_byte}
-use Rattle.of_replay.specs.Rows.{EventRow, Passed, Connect, Lost, Piece, Frame, Moment, Ports}
+use Rattle.of_replay.specs.Rows.{EventRow, Passed, Connect, Lost, Chunk, Frame, Moment, Ports}
 
 -- hex digits in lower case, or `-` for no bytes
 abbrev pub bytes_word : List ℕ → List ℕ
@@ -30,7 +30,7 @@ abbrev pub row_words : EventRow → List (List ℕ)
 row_words Passed = []
 row_words Connect = codes "connect" ∷ []
 row_words Lost = codes "lost" ∷ []
-row_words (Piece bytes) = codes "c" ∷ bytes_word bytes ∷ []
+row_words (Chunk bytes) = codes "c" ∷ bytes_word bytes ∷ []
 row_words (Frame port bytes) = codes "f" ∷ decimal port ∷ bytes_word bytes ∷ []
 row_words (Moment nanos) = codes "t" ∷ decimal nanos ∷ []
 row_words (Ports change) = codes "port" ∷ change_words change
@@ -56,7 +56,7 @@ abbrev pub HasText : EventRow → Type 0
 HasText Passed = ⊤
 HasText Connect = ⊤
 HasText Lost = ⊤
-HasText (Piece bytes) = IsBytes bytes
+HasText (Chunk bytes) = IsBytes bytes
 HasText (Frame port bytes) = (port < 2 ^ 32) × IsBytes bytes
 HasText (Moment nanos) = nanos < 2 ^ 64
 HasText (Ports change) = HasChangeText change

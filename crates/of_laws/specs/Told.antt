@@ -1,10 +1,10 @@
--- WHAT A SWITCH SENDS: which bytes spell which message of this switch (OpenFlow 1.3.5, 7), but for the replies to multipart requests (Replied).
+-- WHAT A SWITCH SENDS: which bytes encode which message of this switch (OpenFlow 1.3.5, 7), but for the replies to multipart requests (Replied).
 use Rattle.std.specs.Prelude.{◌≡◌, ◌==◌, ℕ, if◌then◌else◌, List, [], ◌∷◌, ◌++◌, length, None}
 use Rattle.of_wire.specs.declared.code.Code.{Code}
 use Rattle.of_wire.specs.Reasons.{packet_in_number, flow_removed_number}
 use Rattle.of_layers.specs.declared.field.Field.TheVariants.{InPort, Metadata}
 use Rattle.of_oxm.specs.declared.match_field.MatchField.{MatchField}
-use Rattle.of_oxm.specs.MatchGrammar.{SpellsMatch}
+use Rattle.of_oxm.specs.MatchGrammar.{EncodesMatch}
 use Rattle.of_messages.specs.declared.async_masks.AsyncMasks.{AsyncMasks}
 use Rattle.of_messages.specs.declared.config.SwitchConfig.{SwitchConfig}
 use Rattle.of_messages.specs.declared.message.FlowRemoved.{FlowRemoved}
@@ -104,7 +104,7 @@ pub record MatchThenData (p : PacketIn) («data» tail : List ℕ) : Type 0 wher
   pub fields : List ℕ
   pub rest : List ℕ
   pub whole : tail ≡ fields ++ rest
-  pub spelt : SpellsMatch fields (told_fields p)
+  pub encoded : EncodesMatch fields (told_fields p)
   pub behind : Begins (pad 2 ∷ []) rest «data»
 
 abbrev pub ToldTail : Told → List ℕ → Type 0
@@ -114,7 +114,7 @@ ToldTail (echo_reply echoed) tail = tail ≡ echoed
 ToldTail (features_reply dpid) tail = tail ≡ []
 ToldTail (config_reply config) tail = tail ≡ []
 ToldTail (packet_in p «data») tail = MatchThenData p «data» tail
-ToldTail (flow_removed r fields) tail = SpellsMatch tail fields
+ToldTail (flow_removed r fields) tail = EncodesMatch tail fields
 ToldTail (port_status reason port) tail = tail ≡ []
 ToldTail barrier_reply tail = tail ≡ []
 ToldTail (role_reply role generation) tail = tail ≡ []
@@ -123,8 +123,8 @@ ToldTail (async_reply masks) tail = tail ≡ []
 abbrev pub switch_message_fixed_part : Told → ℕ → ℕ → List Cell
 switch_message_fixed_part t size xid = cells_of tables.header (4 ∷ switch_message_type t ∷ size ∷ xid ∷ []) [] ++ told_cells t
 
--- these bytes, all of them, spell this message with this transaction id
-pub record SpellsSwitchMessage (xid : ℕ) (t : Told) (bytes : List ℕ) : Type 0 where
+-- these bytes, all of them, encode this message with this transaction id
+pub record EncodesSwitchMessage (xid : ℕ) (t : Told) (bytes : List ℕ) : Type 0 where
   pub tail : List ℕ
   pub front : Begins (switch_message_fixed_part t (length bytes) xid) bytes tail
   pub behind : ToldTail t tail

@@ -5,7 +5,7 @@ ghost use Rattle.of_wire.specs.declared.code.Code.{Code};
 ghost use Rattle.of_wire.specs.declared.codes.TheConstants.{OFPBRC_IS_SLAVE};
 ghost use Rattle.of_actions.specs.Actions.{AreActions};
 ghost use Rattle.of_actions.specs.InstructionLists.{are_for, are_kept};
-ghost use Rattle.of_actions.specs.Instructions.{SpellsInstructions};
+ghost use Rattle.of_actions.specs.Instructions.{EncodesInstructions};
 ghost use Rattle.of_actions.specs.Supported.{are_supported};
 ghost use Rattle.of_actions.specs.declared.action.Action.{Action};
 ghost use Rattle.of_actions.specs.declared.instruction.Instruction.{Instruction};
@@ -13,40 +13,40 @@ ghost use Rattle.of_messages.specs.Messages.{message_from, message_of, xid_of};
 ghost use Rattle.of_messages.specs.declared.message.Message.{Message};
 ghost use Rattle.of_messages.specs.declared.role.Role.TheVariants.{Slave};
 ghost use Rattle.of_laws.specs.ActionStructs.{action_type, action_types, AreStructs};
-ghost use Rattle.of_laws.specs.Grammar.{changes, MaySend, Spells};
+ghost use Rattle.of_laws.specs.Grammar.{changes, MaySend, Encodes};
 ghost use Rattle.of_laws.specs.InstructionStructs.{AreInAnyOrder};
-ghost use Rattle.of_laws.specs.Told.{SpellsSwitchMessage, Told};
+ghost use Rattle.of_laws.specs.Told.{EncodesSwitchMessage, Told};
 
 use of_messages::Role;
 
-/// What `of_messages::read_message` returns for bytes is the message that they spell, and it returns a message for all bytes
-/// that spell one (OpenFlow 1.3.5, 7), whatever type of message it is. For others it returns the first code of the written
+/// What `of_messages::read_message` returns for bytes is the message that they encode, and it returns a message for all bytes
+/// that encode one (OpenFlow 1.3.5, 7), whatever type of message it is. For others it returns the first code of the written
 /// order.
 pub fn read_exactly(bytes: &[u8])
-    ensures found { (m : Message) → message_of bytes.now ≡ Ok m → Spells (xid_of bytes.now) m bytes.now }
-    ensures only { (xid : ℕ) (m : Message) → Spells xid m bytes.now → (xid ≡ xid_of bytes.now) × (message_of bytes.now ≡ Ok m) }
-    ensures other { ((xid : ℕ) (m : Message) → ¬ Spells xid m bytes.now) → (code : Code) × (message_of bytes.now ≡ Err code) }
+    ensures found { (m : Message) → message_of bytes.now ≡ Ok m → Encodes (xid_of bytes.now) m bytes.now }
+    ensures only { (xid : ℕ) (m : Message) → Encodes xid m bytes.now → (xid ≡ xid_of bytes.now) × (message_of bytes.now ≡ Ok m) }
+    ensures other { ((xid : ℕ) (m : Message) → ¬ Encodes xid m bytes.now) → (code : Code) × (message_of bytes.now ≡ Err code) }
 {}
 
-/// The same for a controller's role, as `of_messages::read_message_as` returns it: what is read is spelt, and its sender may
-/// send it; what is spelt and may be sent is read; and what is spelt and a slave may not send is refused as that, OFPBRC_IS_SLAVE
+/// The same for a controller's role, as `of_messages::read_message_as` returns it: what is read is encoded, and its sender may
+/// send it; what is encoded and may be sent is read; and what is encoded and a slave may not send is refused as that, OFPBRC_IS_SLAVE
 /// (OpenFlow 1.3.5, 6.3.4).
 pub fn read_as_exactly(role: Role, bytes: &[u8])
-    ensures found { (m : Message) → message_from role bytes.now ≡ Ok m → Spells (xid_of bytes.now) m bytes.now × MaySend role m }
-    ensures only { (xid : ℕ) (m : Message) → Spells xid m bytes.now → MaySend role m → message_from role bytes.now ≡ Ok m }
-    ensures slave { (xid : ℕ) (m : Message) → Spells xid m bytes.now → changes m ≡ true → message_from Slave bytes.now ≡ Err OFPBRC_IS_SLAVE }
+    ensures found { (m : Message) → message_from role bytes.now ≡ Ok m → Encodes (xid_of bytes.now) m bytes.now × MaySend role m }
+    ensures only { (xid : ℕ) (m : Message) → Encodes xid m bytes.now → MaySend role m → message_from role bytes.now ≡ Ok m }
+    ensures slave { (xid : ℕ) (m : Message) → Encodes xid m bytes.now → changes m ≡ true → message_from Slave bytes.now ≡ Err OFPBRC_IS_SLAVE }
 {}
 
-/// No bytes spell two messages of a controller or of this switch, or have two transaction ids.
+/// No bytes encode two messages of a controller or of this switch, or have two transaction ids.
 pub fn one_message()
-    ensures message { (x y : ℕ) (v w : Message) (bytes : List ℕ) → Spells x v bytes → Spells y w bytes → (x ≡ y) × (v ≡ w) }
-    ensures told { (x y : ℕ) (t u : Told) (bytes : List ℕ) → SpellsSwitchMessage x t bytes → SpellsSwitchMessage y u bytes → (x ≡ y) × (t ≡ u) }
+    ensures message { (x y : ℕ) (v w : Message) (bytes : List ℕ) → Encodes x v bytes → Encodes y w bytes → (x ≡ y) × (v ≡ w) }
+    ensures told { (x y : ℕ) (t u : Told) (bytes : List ℕ) → EncodesSwitchMessage x t bytes → EncodesSwitchMessage y u bytes → (x ≡ y) × (t ≡ u) }
 {}
 
-/// No spelling begins another one's, of messages of a controller or of this switch.
-pub fn no_spelling_begins_another()
-    ensures message { (x y : ℕ) (v w : Message) (bytes more : List ℕ) → Spells x v bytes → Spells y w (bytes ++ more) → more ≡ [] }
-    ensures told { (x y : ℕ) (t u : Told) (bytes more : List ℕ) → SpellsSwitchMessage x t bytes → SpellsSwitchMessage y u (bytes ++ more) → more ≡ [] }
+/// No encoding begins another one's, of messages of a controller or of this switch.
+pub fn no_encoding_begins_another()
+    ensures message { (x y : ℕ) (v w : Message) (bytes more : List ℕ) → Encodes x v bytes → Encodes y w (bytes ++ more) → more ≡ [] }
+    ensures told { (x y : ℕ) (t u : Told) (bytes more : List ℕ) → EncodesSwitchMessage x t bytes → EncodesSwitchMessage y u (bytes ++ more) → more ≡ [] }
 {}
 
 /// Bytes are read as these actions, in a PACKET_OUT or in an instruction, exactly where they are the actions' structs and the
@@ -68,8 +68,8 @@ pub fn action_types_are_all()
 /// two of one type, and such an entry may have them (OpenFlow 1.3.5, 5.9 and 7.2.4): so what is accepted differs from what is
 /// written in padding and order alone.
 pub fn instructions_are_structs(table: u8, bytes: &[u8])
-    ensures found { (instructions : List Instruction) → SpellsInstructions table bytes.now instructions →
+    ensures found { (instructions : List Instruction) → EncodesInstructions table bytes.now instructions →
         AreInAnyOrder instructions bytes.now × (are_kept instructions ≡ true) × (are_for table instructions ≡ true) }
     ensures only { (instructions : List Instruction) → AreInAnyOrder instructions bytes.now → are_kept instructions ≡ true → are_for table instructions ≡ true →
-        SpellsInstructions table bytes.now instructions }
+        EncodesInstructions table bytes.now instructions }
 {}

@@ -23,7 +23,7 @@ ghost use Rattle.of_text.specs.Kept.{instruction_of};
 ghost use Rattle.of_text.specs.Refusals.{flow_refusals, goto_refusals, list_refusals, match_refusals, step_refusals};
 ghost use Rattle.of_text.specs.Rows.{ActionFits, FieldFits};
 ghost use Rattle.of_build.specs.Building.{BuildsOf, add_of, build_text, new_of};
-ghost use Rattle.of_text.specs.Configs.{Configuration, SpellConfig, config_text};
+ghost use Rattle.of_text.specs.Configs.{Configuration, EncodeConfig, config_text};
 ghost use Rattle.of_text.specs.Lines.{lines_of as text_lines};
 ghost use Rattle.of_replay.specs.Lexing.{lines_of};
 ghost use Rattle.of_replay.specs.Disassembling.{text_after};
@@ -33,18 +33,18 @@ ghost use Rattle.of_laws.specs.RoundTrip.{ComesBack};
 ghost use Rattle.of_laws.specs.Refused.{IsSaid, IsSaidGroup, StepFits, group_outcome, match_outcome, message_outcome, said_refusals};
 ghost use Rattle.of_laws.specs.RowText.{HasLine, file_text, row_text};
 
-/// The file that is built of a flow text, run on a new switch with any datapath_id, ends with the configuration that the text spells.
+/// The file that is built of a flow text, run on a new switch with any datapath_id, ends with the configuration that the text encodes.
 ///
 /// No row of the file is bad, no event is refused, and no message is answered: the switch sends its own HELLO alone. But for its
 /// connection it is then a new switch that the configuration was loaded into: groups and flows in their order, counters of 0.
 pub fn text_comes_back()
-    ensures { (text : List ℕ) (config : Configuration) (dpid : ℕ) → SpellConfig (text_lines text) config → ComesBack dpid (build_text config) config }
+    ensures { (text : List ℕ) (config : Configuration) (dpid : ℕ) → EncodeConfig (text_lines text) config → ComesBack dpid (build_text config) config }
 {}
 
-/// What `dis` writes of the file that `asm` wrote for a flow text is the canonical text of the configuration that the text spells.
+/// What `dis` writes of the file that `asm` wrote for a flow text is the canonical text of the configuration that the text encodes.
 pub fn dis_undoes_asm()
     ensures good { (text file : List ℕ) → BuildsOf text file → (rows_of (lines_read true file)).bad ≡ None }
-    ensures canonical { (text file : List ℕ) (config : Configuration) → BuildsOf text file → SpellConfig (text_lines text) config →
+    ensures canonical { (text file : List ℕ) (config : Configuration) → BuildsOf text file → EncodeConfig (text_lines text) config →
         text_after (rows_of (lines_read true file)) ≡ config_text config }
 {}
 

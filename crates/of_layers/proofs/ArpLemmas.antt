@@ -1,14 +1,14 @@
--- ARP: spelt by its numbers, by no others, and well formed.
+-- ARP: encoded by its numbers, by no others, and well formed.
 use Rattle.std.proofs.Common.{◌≡◌, ℕ, ◌≤◌, true, List, ◌++◌, length, get_or, drop, sym, ap, ◌∙◌, arith, append_assoc}
 use Rattle.std.specs.Prelude.{◌==◌, ◌&&◌, nat_le}
 use Rattle.std.proofs.lemmas.Bool.{leb-true, le-leb, eqb-true, eq-eqb}
 use Rattle.std.proofs.lemmas.List.{length-append}
 use Rattle.of_layers.specs.Bits.{bits, bits_of}
-use Rattle.of_layers.specs.Layers.{Arp, arp, cells_in, byte_cells, body_cells, spelt}
+use Rattle.of_layers.specs.Layers.{Arp, arp, cells_in, byte_cells, body_cells, encoded}
 use Rattle.of_layers.specs.Reading.{word, double, six, is_arp, arp_numbers, arp_of}
 use Rattle.of_layers.specs.WellFormed.{AreBytes, Fits, IsArp}
 use Rattle.of_layers.proofs.BitLemmas.{length-bits_of}
-use Rattle.of_layers.proofs.SpellingLemmas.{AreBytes-drop, then_bits, byte_from, word_from, double_from, six_from, word_small, double_small, six_small, spelt-append, spelt_bytes}
+use Rattle.of_layers.proofs.EncodingLemmas.{AreBytes-drop, then_bits, byte_from, word_from, double_from, six_from, word_small, double_small, six_small, encoded-append, encoded_bytes}
 use Rattle.of_layers.proofs.FrontLemmas.{front_same, bytes_same, length_fits}
 use Rattle.of_layers.proofs.TestLemmas.{and_true, all_true}
 
@@ -33,8 +33,8 @@ has_arp p e =
       protocol_length = eqb-true (get_or p 5 0) 4 a.1;
     }
 
-numbers_spelt : (p : List ℕ) → AreBytes p → 28 ≤ length p → bits_of p ≡ spelt (cells_in arp (arp_numbers p)) ++ bits_of (drop 28 p)
-numbers_spelt p b h = simp append_assoc
+numbers_encoded : (p : List ℕ) → AreBytes p → 28 ≤ length p → bits_of p ≡ encoded (cells_in arp (arp_numbers p)) ++ bits_of (drop 28 p)
+numbers_encoded p b h = simp append_assoc
     (then_bits (bits 16 (word p 0)) (word_from p 0 b (omega arith))
     (then_bits (bits 16 (word p 2)) (word_from p 2 b (omega arith))
     (then_bits (bits 8 (get_or p 4 0)) (byte_from p 4 (omega arith))
@@ -48,11 +48,11 @@ numbers_spelt p b h = simp append_assoc
 numbers_fit : (p : List ℕ) → AreBytes p → Fits arp (arp_numbers p)
 numbers_fit p b = (word_small p 0 b, (word_small p 2 b, (b 4, (b 5, (word_small p 6 b, (six_small p 8 b, (double_small p 14 b, (six_small p 18 b, (double_small p 24 b, tt)))))))))
 
-pub arp_spelt : (p : List ℕ) → AreBytes p → is_arp p ≡ true → bits_of p ≡ spelt (body_cells (arp_of p))
+pub arp_encoded : (p : List ℕ) → AreBytes p → is_arp p ≡ true → bits_of p ≡ encoded (body_cells (arp_of p))
 unfolding arp_of
-arp_spelt p b e =
-    numbers_spelt p b (has_arp p e).whole ∙ ap (λ (t : List ℕ). spelt (cells_in arp (arp_numbers p)) ++ t) (sym (spelt_bytes (drop 28 p)))
-    ∙ sym (spelt-append (cells_in arp (arp_numbers p)) (byte_cells (drop 28 p)))
+arp_encoded p b e =
+    numbers_encoded p b (has_arp p e).whole ∙ ap (λ (t : List ℕ). encoded (cells_in arp (arp_numbers p)) ++ t) (sym (encoded_bytes (drop 28 p)))
+    ∙ sym (encoded-append (cells_in arp (arp_numbers p)) (byte_cells (drop 28 p)))
 
 pub arp_fits : (p : List ℕ) → AreBytes p → is_arp p ≡ true → IsArp (arp_numbers p) (drop 28 p)
 arp_fits p b e =
@@ -66,13 +66,13 @@ arp_fits p b e =
       rest_fits = AreBytes-drop 28 p b;
     }
 
-pub arp_is : (ns rest p : List ℕ) → IsArp ns rest → AreBytes p → bits_of p ≡ spelt (body_cells (Arp ns rest)) → (Arp ns rest ≡ arp_of p) × (is_arp p ≡ true)
+pub arp_is : (ns rest p : List ℕ) → IsArp ns rest → AreBytes p → bits_of p ≡ encoded (body_cells (Arp ns rest)) → (Arp ns rest ≡ arp_of p) × (is_arp p ≡ true)
 unfolding arp_of
 arp_is ns rest p h b e =
-    let parts : bits_of p ≡ spelt (cells_in arp ns) ++ bits_of rest =
-    e ∙ spelt-append (cells_in arp ns) (byte_cells rest) ∙ ap (λ (t : List ℕ). spelt (cells_in arp ns) ++ t) (spelt_bytes rest) in
-    let whole : 28 ≤ length p = omega (arith, length-bits_of p, ap length parts, length-append (spelt (cells_in arp ns)) (bits_of rest), length_fits arp ns h.numbers) in
-    let r = front_same arp ns (arp_numbers p) (bits_of rest) (bits_of (drop 28 p)) h.numbers (numbers_fit p b) (sym parts ∙ numbers_spelt p b whole) in
+    let parts : bits_of p ≡ encoded (cells_in arp ns) ++ bits_of rest =
+    e ∙ encoded-append (cells_in arp ns) (byte_cells rest) ∙ ap (λ (t : List ℕ). encoded (cells_in arp ns) ++ t) (encoded_bytes rest) in
+    let whole : 28 ≤ length p = omega (arith, length-bits_of p, ap length parts, length-append (encoded (cells_in arp ns)) (bits_of rest), length_fits arp ns h.numbers) in
+    let r = front_same arp ns (arp_numbers p) (bits_of rest) (bits_of (drop 28 p)) h.numbers (numbers_fit p b) (sym parts ∙ numbers_encoded p b whole) in
     let q : rest ≡ drop 28 p = bytes_same rest (drop 28 p) h.rest_fits (AreBytes-drop 28 p b) r.1 in (
       λ j. Arp (r.0 j) (q j),
       all_true

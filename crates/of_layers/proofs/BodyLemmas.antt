@@ -1,17 +1,17 @@
--- What follows the type: spelt by its body, by no other, and well formed.
+-- What follows the type: encoded by its body, by no other, and well formed.
 use Rattle.std.proofs.Common.{◌≡◌, ℕ, Bool, true, false, cond, List, refl, sym, ap, ◌∙◌}
 use Rattle.std.specs.Prelude.{◌==◌, ◌&&◌, ◌||◌}
 use Rattle.std.proofs.lemmas.Bool.{eqb-true, eq-eqb}
 use Rattle.of_layers.specs.Bits.{bits_of}
-use Rattle.of_layers.specs.Layers.{Body, Plain, Arp, Ipv4, Ipv6, body_cells, spelt}
+use Rattle.of_layers.specs.Layers.{Body, Plain, Arp, Ipv4, Ipv6, body_cells, encoded}
 use Rattle.of_layers.specs.Reading.{is_arp, is_ipv4, is_ipv6, arp_of, ipv4_of, ipv6_of, body_of}
 use Rattle.of_layers.specs.WellFormed.{AreBytes, has_packet, IsBody}
-use Rattle.of_layers.proofs.SpellingLemmas.{spelt_bytes}
+use Rattle.of_layers.proofs.EncodingLemmas.{encoded_bytes}
 use Rattle.of_layers.proofs.FrontLemmas.{bytes_same}
 use Rattle.of_layers.proofs.TestLemmas.{and_true}
-use Rattle.of_layers.proofs.ArpLemmas.{arp_spelt, arp_fits, arp_is}
-use Rattle.of_layers.proofs.Ipv4Lemmas.{ipv4_spelt, ipv4_fits, ipv4_is}
-use Rattle.of_layers.proofs.Ipv6Lemmas.{ipv6_spelt, ipv6_fits, ipv6_is}
+use Rattle.of_layers.proofs.ArpLemmas.{arp_encoded, arp_fits, arp_is}
+use Rattle.of_layers.proofs.Ipv4Lemmas.{ipv4_encoded, ipv4_fits, ipv4_is}
+use Rattle.of_layers.proofs.Ipv6Lemmas.{ipv6_encoded, ipv6_fits, ipv6_is}
 
 -- the first of three that is there, or none
 by_body : (P : Body → Type 0) (a b c : Bool) (w x y z : Body) → (a ≡ true → P w) → (b ≡ true → P x) → (c ≡ true → P y) → ((a || b || c) ≡ false → P z) → P (cond a w (cond b x (cond c y z)))
@@ -32,13 +32,13 @@ body_by : (P : Body → Type 0) (type : ℕ) (p : List ℕ) →
 unfolding body_of
 body_by P type p = by_body P ((type == 0x0806) && is_arp p) ((type == 0x0800) && is_ipv4 p) ((type == 0x86dd) && is_ipv6 p) (arp_of p) (ipv4_of p) (ipv6_of p) (Plain p)
 
-pub body_spelt : (type : ℕ) (p : List ℕ) → AreBytes p → bits_of p ≡ spelt (body_cells (body_of type p))
-body_spelt type p b =
-    body_by (λ x. bits_of p ≡ spelt (body_cells x)) type p
-    (λ e. arp_spelt p b (and_true (type == 0x0806) (is_arp p) e).1)
-    (λ e. ipv4_spelt p b (and_true (type == 0x0800) (is_ipv4 p) e).1)
-    (λ e. ipv6_spelt p b (and_true (type == 0x86dd) (is_ipv6 p) e).1)
-    (λ e. sym (spelt_bytes p))
+pub body_encoded : (type : ℕ) (p : List ℕ) → AreBytes p → bits_of p ≡ encoded (body_cells (body_of type p))
+body_encoded type p b =
+    body_by (λ x. bits_of p ≡ encoded (body_cells x)) type p
+    (λ e. arp_encoded p b (and_true (type == 0x0806) (is_arp p) e).1)
+    (λ e. ipv4_encoded p b (and_true (type == 0x0800) (is_ipv4 p) e).1)
+    (λ e. ipv6_encoded p b (and_true (type == 0x86dd) (is_ipv6 p) e).1)
+    (λ e. sym (encoded_bytes p))
 
 arp_body : (type : ℕ) (p : List ℕ) → AreBytes p → ((type == 0x0806) && is_arp p) ≡ true → IsBody type (arp_of p)
 unfolding arp_of
@@ -83,9 +83,9 @@ body_ipv6 type p t e =
     let c : ((type == 0x86dd) && is_ipv6 p) ≡ true = both (eq-eqb type 0x86dd t) e in
     rw (a, b, c) refl
 
-pub body_is : (type : ℕ) (x : Body) (p : List ℕ) → IsBody type x → AreBytes p → bits_of p ≡ spelt (body_cells x) → x ≡ body_of type p
+pub body_is : (type : ℕ) (x : Body) (p : List ℕ) → IsBody type x → AreBytes p → bits_of p ≡ encoded (body_cells x) → x ≡ body_of type p
 body_is type (Plain q) p h b e =
-    let same : q ≡ p = bytes_same q p h.0 b (sym (e ∙ spelt_bytes q)) in
+    let same : q ≡ p = bytes_same q p h.0 b (sym (e ∙ encoded_bytes q)) in
     sym (body_plain type q h.1) ∙ ap (body_of type) same
 body_is type (Arp ns rest) p h b e = let r = arp_is ns rest p h.1 b e in r.0 ∙ sym (body_arp type p h.0 r.1)
 body_is type (Ipv4 ns opts carried rest) p h b e = let r = ipv4_is ns opts carried rest p h.1 b e in r.0 ∙ sym (body_ipv4 type p h.0 r.1)

@@ -1,4 +1,4 @@
--- What an IP packet carries: spelt by its numbers and the bytes after them, by no others, and well formed.
+-- What an IP packet carries: encoded by its numbers and the bytes after them, by no others, and well formed.
 use Rattle.std.proofs.Common.{◌≡◌, ℕ, ◌*◌, ◌≤◌, Bool, true, false, cond, List, ◌++◌, length, get_or, drop, refl, sym, ap, ◌∙◌, arith, append_assoc}
 use Rattle.std.specs.Prelude.{nat_le}
 use Rattle.std.proofs.lemmas.Bool.{leb-true}
@@ -6,19 +6,19 @@ use Rattle.std.proofs.lemmas.List.{length-append, length-drop}
 use Rattle.of_layers.specs.declared.transport.Transport.{Transport}
 use Rattle.of_layers.specs.declared.transport.Transport.TheVariants.{Nothing, Tcp, Udp, Icmpv4, Icmpv6}
 use Rattle.of_layers.specs.Bits.{bits, bits_of}
-use Rattle.of_layers.specs.Layers.{Carried, items_of, size_of, cells_in, byte_cells, carried_cells, spelt}
+use Rattle.of_layers.specs.Layers.{Carried, items_of, size_of, cells_in, byte_cells, carried_cells, encoded}
 use Rattle.of_layers.specs.Reading.{word, double, whole_in, numbers_of, carried_as, carried_of}
 use Rattle.of_layers.specs.WellFormed.{AreBytes, Fits, IsCarried, bytes_in}
 use Rattle.of_layers.proofs.BitLemmas.{length-bits_of}
-use Rattle.of_layers.proofs.SpellingLemmas.{AreBytes-drop, then_bits, byte_from, word_from, double_from, word_small, double_small, spelt-append, spelt_bytes}
+use Rattle.of_layers.proofs.EncodingLemmas.{AreBytes-drop, then_bits, byte_from, word_from, double_from, word_small, double_small, encoded-append, encoded_bytes}
 use Rattle.of_layers.proofs.FrontLemmas.{front_same, bytes_same, total, length_fits}
 
 -- ---- the headers
 
-numbers_spelt : (kind : Transport) (s : List ℕ) → AreBytes s → size_of kind ≤ length s → bits_of s ≡ spelt (cells_in (items_of kind) (numbers_of kind s)) ++ bits_of (drop (size_of kind) s)
+numbers_encoded : (kind : Transport) (s : List ℕ) → AreBytes s → size_of kind ≤ length s → bits_of s ≡ encoded (cells_in (items_of kind) (numbers_of kind s)) ++ bits_of (drop (size_of kind) s)
 unfolding numbers_of
-numbers_spelt Nothing s b h = refl
-numbers_spelt Tcp s b h = simp append_assoc
+numbers_encoded Nothing s b h = refl
+numbers_encoded Tcp s b h = simp append_assoc
     (then_bits (bits 16 (word s 0)) (word_from s 0 b (omega arith))
     (then_bits (bits 16 (word s 2)) (word_from s 2 b (omega arith))
     (then_bits (bits 32 (double s 4)) (double_from s 4 b (omega arith))
@@ -27,16 +27,16 @@ numbers_spelt Tcp s b h = simp append_assoc
     (then_bits (bits 16 (word s 14)) (word_from s 14 b (omega arith))
     (then_bits (bits 16 (word s 16)) (word_from s 16 b (omega arith))
     (word_from s 18 b (omega arith)))))))))
-numbers_spelt Udp s b h = simp append_assoc
+numbers_encoded Udp s b h = simp append_assoc
     (then_bits (bits 16 (word s 0)) (word_from s 0 b (omega arith))
     (then_bits (bits 16 (word s 2)) (word_from s 2 b (omega arith))
     (then_bits (bits 16 (word s 4)) (word_from s 4 b (omega arith))
     (word_from s 6 b (omega arith)))))
-numbers_spelt Icmpv4 s b h = simp append_assoc
+numbers_encoded Icmpv4 s b h = simp append_assoc
     (then_bits (bits 8 (get_or s 0 0)) (byte_from s 0 (omega arith))
     (then_bits (bits 8 (get_or s 1 0)) (byte_from s 1 (omega arith))
     (word_from s 2 b (omega arith))))
-numbers_spelt Icmpv6 s b h = simp append_assoc
+numbers_encoded Icmpv6 s b h = simp append_assoc
     (then_bits (bits 8 (get_or s 0 0)) (byte_from s 0 (omega arith))
     (then_bits (bits 8 (get_or s 1 0)) (byte_from s 1 (omega arith))
     (word_from s 2 b (omega arith))))
@@ -67,13 +67,13 @@ room kind n = room_by (nat_le (size_of kind) n) kind n refl
 
 -- ---- what is read
 
-as_spelt : (kind : Transport) (s : List ℕ) → AreBytes s → size_of kind ≤ length s → bits_of s ≡ spelt (carried_cells (carried_as kind s))
-as_spelt kind s b h =
-    numbers_spelt kind s b h ∙ ap (λ (t : List ℕ). spelt (cells_in (items_of kind) (numbers_of kind s)) ++ t) (sym (spelt_bytes (drop (size_of kind) s)))
-    ∙ sym (spelt-append (cells_in (items_of kind) (numbers_of kind s)) (byte_cells (drop (size_of kind) s)))
+as_encoded : (kind : Transport) (s : List ℕ) → AreBytes s → size_of kind ≤ length s → bits_of s ≡ encoded (carried_cells (carried_as kind s))
+as_encoded kind s b h =
+    numbers_encoded kind s b h ∙ ap (λ (t : List ℕ). encoded (cells_in (items_of kind) (numbers_of kind s)) ++ t) (sym (encoded_bytes (drop (size_of kind) s)))
+    ∙ sym (encoded-append (cells_in (items_of kind) (numbers_of kind s)) (byte_cells (drop (size_of kind) s)))
 
-pub carried_spelt : (kind : Transport) (s : List ℕ) → AreBytes s → bits_of s ≡ spelt (carried_cells (carried_of kind s))
-carried_spelt kind s b = as_spelt (whole_in kind (length s)) s b (room kind (length s))
+pub carried_encoded : (kind : Transport) (s : List ℕ) → AreBytes s → bits_of s ≡ encoded (carried_cells (carried_of kind s))
+carried_encoded kind s b = as_encoded (whole_in kind (length s)) s b (room kind (length s))
 
 as_bytes : (kind : Transport) (s : List ℕ) → size_of kind ≤ length s → bytes_in (carried_as kind s) ≡ length s
 as_bytes kind s h = omega (arith, length-drop (size_of kind) s)
@@ -90,24 +90,24 @@ carries kind s b = record {
 
 -- ---- nothing else
 
-pub length_carried : (kind : Transport) (c : Carried) → IsCarried kind c → length (spelt (carried_cells c)) ≡ 8 * bytes_in c
+pub length_carried : (kind : Transport) (c : Carried) → IsCarried kind c → length (encoded (carried_cells c)) ≡ 8 * bytes_in c
 length_carried kind c h =
     omega (
       arith,
-      ap length (spelt-append (cells_in (items_of c.kind) c.numbers) (byte_cells c.rest)),
-      length-append (spelt (cells_in (items_of c.kind) c.numbers)) (spelt (byte_cells c.rest)),
+      ap length (encoded-append (cells_in (items_of c.kind) c.numbers) (byte_cells c.rest)),
+      length-append (encoded (cells_in (items_of c.kind) c.numbers)) (encoded (byte_cells c.rest)),
       length_fits (items_of c.kind) c.numbers h.numbers,
       total_is c.kind,
-      ap length (spelt_bytes c.rest),
+      ap length (encoded_bytes c.rest),
       length-bits_of c.rest,
     )
 
-pub carried_is : (kind : Transport) (c : Carried) (s : List ℕ) → IsCarried kind c → AreBytes s → bits_of s ≡ spelt (carried_cells c) → c ≡ carried_of kind s
+pub carried_is : (kind : Transport) (c : Carried) (s : List ℕ) → IsCarried kind c → AreBytes s → bits_of s ≡ encoded (carried_cells c) → c ≡ carried_of kind s
 carried_is kind c s h b e =
     let size : bytes_in c ≡ length s = omega (arith, length_carried kind c h, ap length e, length-bits_of s) in
-    let parts : bits_of s ≡ spelt (cells_in (items_of c.kind) c.numbers) ++ bits_of c.rest =
-    e ∙ spelt-append (cells_in (items_of c.kind) c.numbers) (byte_cells c.rest) ∙ ap (λ (t : List ℕ). spelt (cells_in (items_of c.kind) c.numbers) ++ t) (spelt_bytes c.rest) in
-    let r = front_same (items_of c.kind) c.numbers (numbers_of c.kind s) (bits_of c.rest) (bits_of (drop (size_of c.kind) s)) h.numbers (numbers_fit c.kind s b) (sym parts ∙ numbers_spelt c.kind s b (omega arith)) in
+    let parts : bits_of s ≡ encoded (cells_in (items_of c.kind) c.numbers) ++ bits_of c.rest =
+    e ∙ encoded-append (cells_in (items_of c.kind) c.numbers) (byte_cells c.rest) ∙ ap (λ (t : List ℕ). encoded (cells_in (items_of c.kind) c.numbers) ++ t) (encoded_bytes c.rest) in
+    let r = front_same (items_of c.kind) c.numbers (numbers_of c.kind s) (bits_of c.rest) (bits_of (drop (size_of c.kind) s)) h.numbers (numbers_fit c.kind s b) (sym parts ∙ numbers_encoded c.kind s b (omega arith)) in
     let q : c.rest ≡ drop (size_of c.kind) s = bytes_same c.rest (drop (size_of c.kind) s) h.rest (AreBytes-drop (size_of c.kind) s b) r.1 in
     let same : c ≡ carried_as c.kind s = λ j. record { kind = c.kind; numbers = r.0 j; rest = q j } in
     same ∙ ap (λ (k : Transport). carried_as k s) (h.there ∙ ap (whole_in kind) size)

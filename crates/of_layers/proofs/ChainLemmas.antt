@@ -1,4 +1,4 @@
--- The extension headers of IPv6: spelt one by one, by no others, and well formed.
+-- The extension headers of IPv6: encoded one by one, by no others, and well formed.
 use Rattle.std.proofs.Common.{◌≡◌, ℕ, zero, suc, ◌+◌, ◌*◌, ◌/◌, ◌%◌, ◌≤◌, Bool, true, false, cond, List, [], ◌∷◌, ◌++◌, length, get_or, take, drop, refl, sym, ap, subst, ◌∙◌, arith, append_assoc}
 use Rattle.std.specs.Prelude.{◌==◌, ◌&&◌, ◌||◌, not, nat_le}
 use Rattle.std.proofs.lemmas.Bool.{leb-true, le-leb, lt-leb, eqb-true}
@@ -6,29 +6,29 @@ use Rattle.std.proofs.lemmas.List.{length-append, length-drop, length-take, drop
 use Rattle.of_layers.specs.declared.transport.Transport.{Transport}
 use Rattle.of_layers.specs.declared.transport.Transport.TheVariants.{Nothing}
 use Rattle.of_layers.specs.Bits.{bits, bits_of}
-use Rattle.of_layers.specs.Layers.{Cell, Carried, Extension, Options, Fragment, plain, options, fragment, size_of, cells_in, byte_cells, next_before, all_bytes, extension_cells, carried_cells, spelt}
+use Rattle.of_layers.specs.Layers.{Cell, Carried, Extension, Options, Fragment, plain, options, fragment, size_of, cells_in, byte_cells, next_before, all_bytes, extension_cells, carried_cells, encoded}
 use Rattle.of_layers.specs.Reading.{word, over_ipv6, carried_of, has_options, is_fragment, extension_size, has_extension, is_later, options_numbers, fragment_numbers, extension_of, Chain, behind, ends_as, chain_of}
 use Rattle.of_layers.specs.WellFormed.{AreBytes, Fits, IsCarried, AreExtensions, bytes_in}
 use Rattle.of_layers.proofs.BitLemmas.{bits_cut, length-bits_of, bits_of-append}
-use Rattle.of_layers.proofs.SpellingLemmas.{AreBytes-drop, AreBytes-take, then_bits, byte_from, word_from, double_from, word_small, double_small, spelt-append, spelt_bytes}
+use Rattle.of_layers.proofs.EncodingLemmas.{AreBytes-drop, AreBytes-take, then_bits, byte_from, word_from, double_from, word_small, double_small, encoded-append, encoded_bytes}
 use Rattle.of_layers.proofs.FrontLemmas.{front_same, take_front, drop_parts, length_fits}
-use Rattle.of_layers.proofs.CarriedLemmas.{carried_spelt, carries, length_carried, carried_is}
+use Rattle.of_layers.proofs.CarriedLemmas.{carried_encoded, carries, length_carried, carried_is}
 use Rattle.of_layers.proofs.TestLemmas.{and_true, or_then, same_either}
 
 -- ---- one header
 
-plain_options : (s : List ℕ) → 2 ≤ length s → bits_of s ≡ spelt (cells_in (options (plain 8)) (options_numbers s)) ++ bits_of (drop 2 s)
+plain_options : (s : List ℕ) → 2 ≤ length s → bits_of s ≡ encoded (cells_in (options (plain 8)) (options_numbers s)) ++ bits_of (drop 2 s)
 plain_options s h = simp append_assoc (then_bits (bits 8 (get_or s 0 0)) (byte_from s 0 (omega arith)) (byte_from s 1 (omega arith)))
 
-options_spelt : (es : List Extension) (s : List ℕ) → 2 ≤ length s → bits_of s ≡ spelt (cells_in (options (next_before es)) (options_numbers s)) ++ bits_of (drop 2 s)
-options_spelt [] s h = plain_options s h
-options_spelt (e ∷ es) s h = plain_options s h
+options_encoded : (es : List Extension) (s : List ℕ) → 2 ≤ length s → bits_of s ≡ encoded (cells_in (options (next_before es)) (options_numbers s)) ++ bits_of (drop 2 s)
+options_encoded [] s h = plain_options s h
+options_encoded (e ∷ es) s h = plain_options s h
 
 options_fit : (es : List Extension) (s : List ℕ) → AreBytes s → Fits (options (next_before es)) (options_numbers s)
 options_fit [] s b = (b 0, (b 1, tt))
 options_fit (e ∷ es) s b = (b 0, (b 1, tt))
 
-length_options : (es : List Extension) (ns : List ℕ) → Fits (options (next_before es)) ns → length (spelt (cells_in (options (next_before es)) ns)) ≡ 16
+length_options : (es : List Extension) (ns : List ℕ) → Fits (options (next_before es)) ns → length (encoded (cells_in (options (next_before es)) ns)) ≡ 16
 length_options [] ns f = length_fits (options (next_before [])) ns f
 length_options (e ∷ es) ns f = length_fits (options (plain 8)) ns f
 
@@ -38,16 +38,16 @@ offset_bits w =
     bits_cut 15 1 w ∙ ap (λ (t : List ℕ). t ++ bits 1 (w % 2)) (bits_cut 13 2 (w / 2) ∙ ap (λ (x : ℕ). bits 13 x ++ bits 2 (w / 2 % 4)) e)
     ∙ append_assoc (bits 13 (w / 8)) (bits 2 (w / 2 % 4)) (bits 1 (w % 2))
 
-plain_fragment : (s : List ℕ) → AreBytes s → 8 ≤ length s → bits_of s ≡ spelt (cells_in (fragment (plain 8)) (fragment_numbers s)) ++ bits_of (drop 8 s)
+plain_fragment : (s : List ℕ) → AreBytes s → 8 ≤ length s → bits_of s ≡ encoded (cells_in (fragment (plain 8)) (fragment_numbers s)) ++ bits_of (drop 8 s)
 plain_fragment s b h = simp append_assoc
     (then_bits (bits 8 (get_or s 0 0)) (byte_from s 0 (omega arith))
     (then_bits (bits 8 (get_or s 1 0)) (byte_from s 1 (omega arith))
     (word_from s 2 b (omega arith) ∙ ap (λ (t : List ℕ). t ++ bits_of (drop 4 s)) (offset_bits (word s 2))
     ∙ ap (λ (t : List ℕ). (bits 13 (word s 2 / 8) ++ (bits 2 (word s 2 / 2 % 4) ++ bits 1 (word s 2 % 2))) ++ t) (double_from s 4 b (omega arith)) ∙ simp append_assoc)))
 
-fragment_spelt : (es : List Extension) (s : List ℕ) → AreBytes s → 8 ≤ length s → bits_of s ≡ spelt (cells_in (fragment (next_before es)) (fragment_numbers s)) ++ bits_of (drop 8 s)
-fragment_spelt [] s b h = plain_fragment s b h
-fragment_spelt (e ∷ es) s b h = plain_fragment s b h
+fragment_encoded : (es : List Extension) (s : List ℕ) → AreBytes s → 8 ≤ length s → bits_of s ≡ encoded (cells_in (fragment (next_before es)) (fragment_numbers s)) ++ bits_of (drop 8 s)
+fragment_encoded [] s b h = plain_fragment s b h
+fragment_encoded (e ∷ es) s b h = plain_fragment s b h
 
 plain_fits : (s : List ℕ) → AreBytes s → Fits (fragment (plain 8)) (fragment_numbers s)
 plain_fits s b = (b 0, (b 1, (omega (arith, word_small s 2 b), (omega arith, (omega arith, (double_small s 4 b, tt))))))
@@ -56,7 +56,7 @@ fragment_fits : (es : List Extension) (s : List ℕ) → AreBytes s → Fits (fr
 fragment_fits [] s b = plain_fits s b
 fragment_fits (e ∷ es) s b = plain_fits s b
 
-length_fragment : (es : List Extension) (ns : List ℕ) → Fits (fragment (next_before es)) ns → length (spelt (cells_in (fragment (next_before es)) ns)) ≡ 64
+length_fragment : (es : List Extension) (ns : List ℕ) → Fits (fragment (next_before es)) ns → length (encoded (cells_in (fragment (next_before es)) ns)) ≡ 64
 length_fragment [] ns f = length_fits (fragment (next_before [])) ns f
 length_fragment (e ∷ es) ns f = length_fits (fragment (plain 8)) ns f
 
@@ -107,13 +107,13 @@ left_by false kind s e = rw e refl
 left : (kind : ℕ) (s : List ℕ) → has_extension kind (carried_of (over_ipv6 kind) s).rest ≡ has_extension kind s
 left kind s = left_by (is_fragment kind || has_options kind) kind s refl
 
--- ---- what is read spells
+-- ---- what is read encodes
 
 abbrev pub chain_cells : Chain → List Cell
 chain_cells c = extension_cells c.extensions ++ carried_cells c.carried
 
-front_spelt : (a b c : List Cell) → spelt ((a ++ b) ++ c) ≡ spelt a ++ spelt (b ++ c)
-front_spelt a b c = ap spelt (append_assoc a b c) ∙ spelt-append a (b ++ c)
+front_encoded : (a b c : List Cell) → encoded ((a ++ b) ++ c) ≡ encoded a ++ encoded (b ++ c)
+front_encoded a b c = ap encoded (append_assoc a b c) ∙ encoded-append a (b ++ c)
 
 -- the three ways to go on
 by_chain : (P : Chain → Type 0) (h l : Bool) (e : Extension) (x y z : Chain) → (h ≡ true → l ≡ true → P (behind e x)) → (h ≡ true → l ≡ false → P (behind e y)) → (h ≡ false → P z) → P (cond h (behind e (cond l x y)) z)
@@ -121,36 +121,36 @@ by_chain P true true e x y z f g k = f refl refl
 by_chain P true false e x y z f g k = g refl refl
 by_chain P false l e x y z f g k = k refl
 
-extension_by : (f : Bool) (s : List ℕ) (c : Chain) → AreBytes s → 8 ≤ length s → cond f 8 (8 * (get_or s 1 0 + 1)) ≤ length s → bits_of (drop (cond f 8 (8 * (get_or s 1 0 + 1))) s) ≡ spelt (chain_cells c) →
-    bits_of s ≡ spelt (chain_cells (behind (cond f (Fragment (fragment_numbers s)) (Options (options_numbers s) (drop 2 (take (cond f 8 (8 * (get_or s 1 0 + 1))) s)))) c))
+extension_by : (f : Bool) (s : List ℕ) (c : Chain) → AreBytes s → 8 ≤ length s → cond f 8 (8 * (get_or s 1 0 + 1)) ≤ length s → bits_of (drop (cond f 8 (8 * (get_or s 1 0 + 1))) s) ≡ encoded (chain_cells c) →
+    bits_of s ≡ encoded (chain_cells (behind (cond f (Fragment (fragment_numbers s)) (Options (options_numbers s) (drop 2 (take (cond f 8 (8 * (get_or s 1 0 + 1))) s)))) c))
 extension_by true s c b h k e =
-    fragment_spelt c.extensions s b h ∙ ap (λ (t : List ℕ). spelt (cells_in (fragment (next_before c.extensions)) (fragment_numbers s)) ++ t) e
-    ∙ sym (front_spelt (cells_in (fragment (next_before c.extensions)) (fragment_numbers s)) (extension_cells c.extensions) (carried_cells c.carried))
+    fragment_encoded c.extensions s b h ∙ ap (λ (t : List ℕ). encoded (cells_in (fragment (next_before c.extensions)) (fragment_numbers s)) ++ t) e
+    ∙ sym (front_encoded (cells_in (fragment (next_before c.extensions)) (fragment_numbers s)) (extension_cells c.extensions) (carried_cells c.carried))
 extension_by false s c b h k e =
     let n : ℕ = 8 * (get_or s 1 0 + 1) in
     let bytes : List ℕ = drop 2 (take (8 * (get_or s 1 0 + 1)) s) in
     let header : List Cell = cells_in (options (next_before c.extensions)) (options_numbers s) in
-    let tail : bits_of (drop 2 s) ≡ spelt ((byte_cells bytes ++ extension_cells c.extensions) ++ carried_cells c.carried) =
+    let tail : bits_of (drop 2 s) ≡ encoded ((byte_cells bytes ++ extension_cells c.extensions) ++ carried_cells c.carried) =
     ap bits_of (drop_parts 2 n s (omega arith) (omega arith)) ∙ bits_of-append bytes (drop n s) ∙ ap (λ (t : List ℕ). bits_of bytes ++ t) e
-    ∙ ap (λ (t : List ℕ). t ++ spelt (chain_cells c)) (sym (spelt_bytes bytes)) ∙ sym (front_spelt (byte_cells bytes) (extension_cells c.extensions) (carried_cells c.carried)) in
-    options_spelt c.extensions s (omega arith) ∙ ap (λ (t : List ℕ). spelt header ++ t) tail
-    ∙ sym (front_spelt header (byte_cells bytes ++ extension_cells c.extensions) (carried_cells c.carried))
+    ∙ ap (λ (t : List ℕ). t ++ encoded (chain_cells c)) (sym (encoded_bytes bytes)) ∙ sym (front_encoded (byte_cells bytes) (extension_cells c.extensions) (carried_cells c.carried)) in
+    options_encoded c.extensions s (omega arith) ∙ ap (λ (t : List ℕ). encoded header ++ t) tail
+    ∙ sym (front_encoded header (byte_cells bytes ++ extension_cells c.extensions) (carried_cells c.carried))
 
-extension_spelt : (kind : ℕ) (s : List ℕ) (c : Chain) → AreBytes s → has_extension kind s ≡ true → bits_of (drop (extension_size kind s) s) ≡ spelt (chain_cells c) → bits_of s ≡ spelt (chain_cells (behind (extension_of kind s) c))
-extension_spelt kind s c b h e = let x : HasExtension kind s = extension_there kind s h in extension_by (is_fragment kind) s c b x.least x.whole e
+extension_encoded : (kind : ℕ) (s : List ℕ) (c : Chain) → AreBytes s → has_extension kind s ≡ true → bits_of (drop (extension_size kind s) s) ≡ encoded (chain_cells c) → bits_of s ≡ encoded (chain_cells (behind (extension_of kind s) c))
+extension_encoded kind s c b h e = let x : HasExtension kind s = extension_there kind s h in extension_by (is_fragment kind) s c b x.least x.whole e
 
 later_size : (kind : ℕ) (s : List ℕ) → is_later kind s ≡ true → extension_size kind s ≡ 8
 later_size kind s l = ap (λ (f : Bool). cond f 8 (8 * (get_or s 1 0 + 1))) (and_true (is_fragment kind) (not ((word s 2 / 8) == 0)) l).0
 
-pub chain_spelt : (most kind : ℕ) (s : List ℕ) → AreBytes s → bits_of s ≡ spelt (chain_cells (chain_of most kind s))
+pub chain_encoded : (most kind : ℕ) (s : List ℕ) → AreBytes s → bits_of s ≡ encoded (chain_cells (chain_of most kind s))
 unfolding chain_of
-chain_spelt zero kind s b = carried_spelt (over_ipv6 kind) s b
-chain_spelt (suc most) kind s b =
+chain_encoded zero kind s b = carried_encoded (over_ipv6 kind) s b
+chain_encoded (suc most) kind s b =
     let size : ℕ = extension_size kind s in
-    by_chain (λ c. bits_of s ≡ spelt (chain_cells c)) (has_extension kind s) (is_later kind s) (extension_of kind s) (ends_as Nothing (drop 8 s)) (chain_of most (get_or s 0 0) (drop size s)) (ends_as (over_ipv6 kind) s)
-    (λ h l. extension_spelt kind s (ends_as Nothing (drop 8 s)) b h (ap (λ (k : ℕ). bits_of (drop k s)) (later_size kind s l) ∙ carried_spelt Nothing (drop 8 s) (AreBytes-drop 8 s b)))
-    (λ h l. extension_spelt kind s (chain_of most (get_or s 0 0) (drop size s)) b h (chain_spelt most (get_or s 0 0) (drop size s) (AreBytes-drop size s b)))
-    (λ h. carried_spelt (over_ipv6 kind) s b)
+    by_chain (λ c. bits_of s ≡ encoded (chain_cells c)) (has_extension kind s) (is_later kind s) (extension_of kind s) (ends_as Nothing (drop 8 s)) (chain_of most (get_or s 0 0) (drop size s)) (ends_as (over_ipv6 kind) s)
+    (λ h l. extension_encoded kind s (ends_as Nothing (drop 8 s)) b h (ap (λ (k : ℕ). bits_of (drop k s)) (later_size kind s l) ∙ carried_encoded Nothing (drop 8 s) (AreBytes-drop 8 s b)))
+    (λ h l. extension_encoded kind s (chain_of most (get_or s 0 0) (drop size s)) b h (chain_encoded most (get_or s 0 0) (drop size s) (AreBytes-drop size s b)))
+    (λ h. carried_encoded (over_ipv6 kind) s b)
 
 -- ---- it is well formed
 
@@ -197,32 +197,32 @@ chain_fits (suc most) kind s l b =
     (λ h. end_fits kind s b h)
 
 -- how many bits well-formed ones have
-pub length_chain : (kind : ℕ) (es : List Extension) (c : Carried) → AreExtensions kind es c → length (spelt (extension_cells es ++ carried_cells c)) ≡ 8 * (all_bytes es + bytes_in c)
+pub length_chain : (kind : ℕ) (es : List Extension) (c : Carried) → AreExtensions kind es c → length (encoded (extension_cells es ++ carried_cells c)) ≡ 8 * (all_bytes es + bytes_in c)
 length_chain kind [] c h = omega (arith, length_carried (over_ipv6 kind) c h.0)
 length_chain kind (Options ns bytes ∷ es) c h =
     let header : List Cell = cells_in (options (next_before es)) ns in
     omega (
       arith,
-      ap length (front_spelt header (byte_cells bytes ++ extension_cells es) (carried_cells c)),
-      length-append (spelt header) (spelt ((byte_cells bytes ++ extension_cells es) ++ carried_cells c)),
+      ap length (front_encoded header (byte_cells bytes ++ extension_cells es) (carried_cells c)),
+      length-append (encoded header) (encoded ((byte_cells bytes ++ extension_cells es) ++ carried_cells c)),
       length_options es ns h.1,
-      ap length (front_spelt (byte_cells bytes) (extension_cells es) (carried_cells c)),
-      length-append (spelt (byte_cells bytes)) (spelt (extension_cells es ++ carried_cells c)),
-      ap length (spelt_bytes bytes),
+      ap length (front_encoded (byte_cells bytes) (extension_cells es) (carried_cells c)),
+      length-append (encoded (byte_cells bytes)) (encoded (extension_cells es ++ carried_cells c)),
+      ap length (encoded_bytes bytes),
       length-bits_of bytes,
       length_chain (get_or ns 0 0) es c h.4,
     )
 length_chain kind (Fragment ns ∷ es) c h =
     let header : List Cell = cells_in (fragment (next_before es)) ns in
-    let tail : length (spelt (extension_cells es ++ carried_cells c)) ≡ 8 * (all_bytes es + bytes_in c) =
-    elim (get_or ns 2 0 == 0) as (λ t. (get_or ns 2 0 == 0) ≡ t → length (spelt (extension_cells es ++ carried_cells c)) ≡ 8 * (all_bytes es + bytes_in c)) [
+    let tail : length (encoded (extension_cells es ++ carried_cells c)) ≡ 8 * (all_bytes es + bytes_in c) =
+    elim (get_or ns 2 0 == 0) as (λ t. (get_or ns 2 0 == 0) ≡ t → length (encoded (extension_cells es ++ carried_cells c)) ≡ 8 * (all_bytes es + bytes_in c)) [
       | true ↦ λ z. length_chain (get_or ns 0 0) es c (h.2 z)
-      | false ↦ λ z. let r = h.3 z in subst (λ x. length (spelt (extension_cells x ++ carried_cells c)) ≡ 8 * (all_bytes x + bytes_in c)) (sym r.0) (omega (arith, length_carried Nothing c r.1))
+      | false ↦ λ z. let r = h.3 z in subst (λ x. length (encoded (extension_cells x ++ carried_cells c)) ≡ 8 * (all_bytes x + bytes_in c)) (sym r.0) (omega (arith, length_carried Nothing c r.1))
     ] refl in
     omega (
       arith,
-      ap length (front_spelt header (extension_cells es) (carried_cells c)),
-      length-append (spelt header) (spelt (extension_cells es ++ carried_cells c)),
+      ap length (front_encoded header (extension_cells es) (carried_cells c)),
+      length-append (encoded header) (encoded (extension_cells es ++ carried_cells c)),
       length_fragment es ns h.1,
       tail,
     )
@@ -230,7 +230,7 @@ length_chain kind (Fragment ns ∷ es) c h =
 pub chain_bytes : (most kind : ℕ) (s : List ℕ) → length s ≤ most → AreBytes s → all_bytes (chain_of most kind s).extensions + bytes_in (chain_of most kind s).carried ≡ length s
 chain_bytes most kind s l b =
     let c : Chain = chain_of most kind s in
-    omega (arith, length_chain kind c.extensions c.carried (chain_fits most kind s l b), ap length (chain_spelt most kind s b), length-bits_of s)
+    omega (arith, length_chain kind c.extensions c.carried (chain_fits most kind s l b), ap length (chain_encoded most kind s b), length-bits_of s)
 
 -- ---- no others
 
@@ -259,12 +259,12 @@ le_of : (a b c : ℕ) → a ≡ b → a ≤ c → b ≤ c
 le_of a b c e h = omega arith
 
 options_is : (kind : ℕ) (ns bytes : List ℕ) (es : List Extension) (rest s : List ℕ) → has_options kind ≡ true → Fits (options (next_before es)) ns → 2 + length bytes ≡ 8 * (get_or ns 1 0 + 1) → AreBytes bytes → AreBytes s →
-    bits_of s ≡ spelt (cells_in (options (next_before es)) ns) ++ (bits_of bytes ++ rest) → ExtensionIs kind ns (Options ns bytes) rest s
+    bits_of s ≡ encoded (cells_in (options (next_before es)) ns) ++ (bits_of bytes ++ rest) → ExtensionIs kind ns (Options ns bytes) rest s
 options_is kind ns bytes es rest s o f l g b e =
     let none : is_fragment kind ≡ false = no_fragment kind o in
     let long : 16 + 8 * length bytes + length rest ≡ 8 * length s =
-    omega (arith, ap length e, length-bits_of s, length-append (spelt (cells_in (options (next_before es)) ns)) (bits_of bytes ++ rest), length_options es ns f, length-append (bits_of bytes) rest, length-bits_of bytes) in
-    let r = front_same (options (next_before es)) ns (options_numbers s) (bits_of bytes ++ rest) (bits_of (drop 2 s)) f (options_fit es s b) (sym e ∙ options_spelt es s (omega arith)) in
+    omega (arith, ap length e, length-bits_of s, length-append (encoded (cells_in (options (next_before es)) ns)) (bits_of bytes ++ rest), length_options es ns f, length-append (bits_of bytes) rest, length-bits_of bytes) in
+    let r = front_same (options (next_before es)) ns (options_numbers s) (bits_of bytes ++ rest) (bits_of (drop 2 s)) f (options_fit es s b) (sym e ∙ options_encoded es s (omega arith)) in
     let t = take_front bytes (drop 2 s) rest g (AreBytes-drop 2 s b) r.1 in
     let size : 2 + length bytes ≡ extension_size kind s = l ∙ ap (λ (x : List ℕ). 8 * (get_or x 1 0 + 1)) r.0 ∙ sym (ap (λ (x : Bool). cond x 8 (8 * (get_or s 1 0 + 1))) none) in
     let all : bytes ≡ drop 2 (take (extension_size kind s) s) = t.0 ∙ sym (drop-take 2 (length bytes) s) ∙ ap (λ (n : ℕ). drop 2 (take n s)) size in
@@ -283,11 +283,11 @@ record FragmentIs (kind : ℕ) (ns rest s : List ℕ) : Type 0 where
   offset : get_or ns 2 0 ≡ word s 2 / 8
 
 fragment_is : (kind : ℕ) (ns : List ℕ) (es : List Extension) (rest s : List ℕ) → is_fragment kind ≡ true → Fits (fragment (next_before es)) ns → AreBytes s →
-    bits_of s ≡ spelt (cells_in (fragment (next_before es)) ns) ++ rest → FragmentIs kind ns rest s
+    bits_of s ≡ encoded (cells_in (fragment (next_before es)) ns) ++ rest → FragmentIs kind ns rest s
 fragment_is kind ns es rest s o f b e =
-    let long : 64 + length rest ≡ 8 * length s = omega (arith, ap length e, length-bits_of s, length-append (spelt (cells_in (fragment (next_before es)) ns)) rest, length_fragment es ns f) in
+    let long : 64 + length rest ≡ 8 * length s = omega (arith, ap length e, length-bits_of s, length-append (encoded (cells_in (fragment (next_before es)) ns)) rest, length_fragment es ns f) in
     let least : 8 ≤ length s = omega arith in
-    let r = front_same (fragment (next_before es)) ns (fragment_numbers s) rest (bits_of (drop 8 s)) f (fragment_fits es s b) (sym e ∙ fragment_spelt es s b least) in
+    let r = front_same (fragment (next_before es)) ns (fragment_numbers s) rest (bits_of (drop 8 s)) f (fragment_fits es s b) (sym e ∙ fragment_encoded es s b least) in
     let size : 8 ≡ extension_size kind s = sym (ap (λ (x : Bool). cond x 8 (8 * (get_or s 1 0 + 1))) o) in
     record {
       front = record {
@@ -307,16 +307,16 @@ later_is : (kind : ℕ) (s ns : List ℕ) (t : Bool) → is_fragment kind ≡ tr
 later_is kind s ns t f o z = ap (λ (x : Bool). x && not ((word s 2 / 8) == 0)) f ∙ ap (λ (n : ℕ). not (n == 0)) (sym o) ∙ ap not z
 
 -- after a later fragment
-later_same : (most kind : ℕ) (ns : List ℕ) (es : List Extension) (c : Carried) (s : List ℕ) → AreBytes s → ExtensionIs kind ns (Fragment ns) (spelt (extension_cells es ++ carried_cells c)) s → is_later kind s ≡ true → es ≡ [] → IsCarried Nothing c →
+later_same : (most kind : ℕ) (ns : List ℕ) (es : List Extension) (c : Carried) (s : List ℕ) → AreBytes s → ExtensionIs kind ns (Fragment ns) (encoded (extension_cells es ++ carried_cells c)) s → is_later kind s ≡ true → es ≡ [] → IsCarried Nothing c →
     ◌≡◌ {A = Chain} (record { extensions = Fragment ns ∷ es; carried = c }) (chain_of (suc most) kind s)
 later_same most kind ns es c s b x later none h =
-    let bytes : bits_of (drop 8 s) ≡ spelt (carried_cells c) =
-    ap (λ (n : ℕ). bits_of (drop n s)) (sym (later_size kind s later)) ∙ sym x.rest_is ∙ ap (λ (fs : List Extension). spelt (extension_cells fs ++ carried_cells c)) none in
+    let bytes : bits_of (drop 8 s) ≡ encoded (carried_cells c) =
+    ap (λ (n : ℕ). bits_of (drop n s)) (sym (later_size kind s later)) ∙ sym x.rest_is ∙ ap (λ (fs : List Extension). encoded (extension_cells fs ++ carried_cells c)) none in
     let same : c ≡ carried_of Nothing (drop 8 s) = carried_is Nothing c (drop 8 s) h (AreBytes-drop 8 s b) bytes in
     same_behind (Fragment ns) (extension_of kind s) es c (ends_as Nothing (drop 8 s)) x.is (λ j. record { extensions = none j; carried = same j }) ∙ sym (chain_later most kind s x.there later)
 
 -- after any other extension header
-next_same : (most kind : ℕ) (ns : List ℕ) (e : Extension) (es : List Extension) (c : Carried) (s : List ℕ) → ExtensionIs kind ns e (spelt (extension_cells es ++ carried_cells c)) s → is_later kind s ≡ false →
+next_same : (most kind : ℕ) (ns : List ℕ) (e : Extension) (es : List Extension) (c : Carried) (s : List ℕ) → ExtensionIs kind ns e (encoded (extension_cells es ++ carried_cells c)) s → is_later kind s ≡ false →
     ◌≡◌ {A = Chain} (record { extensions = es; carried = c }) (chain_of most (get_or s 0 0) (drop (extension_size kind s) s)) → ◌≡◌ {A = Chain} (record { extensions = e ∷ es; carried = c }) (chain_of (suc most) kind s)
 next_same most kind ns e es c s x first i =
     same_behind e (extension_of kind s) es c (chain_of most (get_or s 0 0) (drop (extension_size kind s) s)) x.is i ∙ sym (chain_next most kind s x.there first)
@@ -324,21 +324,21 @@ next_same most kind ns e es c s x first i =
 shorter : (most kind : ℕ) (s : List ℕ) → 8 ≤ length s → length s ≤ suc most → length (drop (extension_size kind s) s) ≤ most
 shorter most kind s h l = let least : 8 ≤ extension_size kind s = least_size kind s in omega (arith, length-drop (extension_size kind s) s, least)
 
-options_front : (kind : ℕ) (ns bytes : List ℕ) (es : List Extension) (c : Carried) (s : List ℕ) → AreExtensions kind (Options ns bytes ∷ es) c → AreBytes s → bits_of s ≡ spelt (extension_cells (Options ns bytes ∷ es) ++ carried_cells c) →
-    ExtensionIs kind ns (Options ns bytes) (spelt (extension_cells es ++ carried_cells c)) s
+options_front : (kind : ℕ) (ns bytes : List ℕ) (es : List Extension) (c : Carried) (s : List ℕ) → AreExtensions kind (Options ns bytes ∷ es) c → AreBytes s → bits_of s ≡ encoded (extension_cells (Options ns bytes ∷ es) ++ carried_cells c) →
+    ExtensionIs kind ns (Options ns bytes) (encoded (extension_cells es ++ carried_cells c)) s
 options_front kind ns bytes es c s h b e =
     let header : List Cell = cells_in (options (next_before es)) ns in
-    let rest : List ℕ = spelt (extension_cells es ++ carried_cells c) in
-    let parts : bits_of s ≡ spelt header ++ (bits_of bytes ++ rest) =
-    e ∙ front_spelt header (byte_cells bytes ++ extension_cells es) (carried_cells c)
-    ∙ ap (λ (t : List ℕ). spelt header ++ t) (front_spelt (byte_cells bytes) (extension_cells es) (carried_cells c) ∙ ap (λ (t : List ℕ). t ++ rest) (spelt_bytes bytes)) in
+    let rest : List ℕ = encoded (extension_cells es ++ carried_cells c) in
+    let parts : bits_of s ≡ encoded header ++ (bits_of bytes ++ rest) =
+    e ∙ front_encoded header (byte_cells bytes ++ extension_cells es) (carried_cells c)
+    ∙ ap (λ (t : List ℕ). encoded header ++ t) (front_encoded (byte_cells bytes) (extension_cells es) (carried_cells c) ∙ ap (λ (t : List ℕ). t ++ rest) (encoded_bytes bytes)) in
     options_is kind ns bytes es rest s h.0 h.1 h.2 h.3 b parts
 
-fragment_front : (kind : ℕ) (ns : List ℕ) (es : List Extension) (c : Carried) (s : List ℕ) → AreExtensions kind (Fragment ns ∷ es) c → AreBytes s → bits_of s ≡ spelt (extension_cells (Fragment ns ∷ es) ++ carried_cells c) →
-    FragmentIs kind ns (spelt (extension_cells es ++ carried_cells c)) s
-fragment_front kind ns es c s h b e = fragment_is kind ns es (spelt (extension_cells es ++ carried_cells c)) s h.0 h.1 b (e ∙ front_spelt (cells_in (fragment (next_before es)) ns) (extension_cells es) (carried_cells c))
+fragment_front : (kind : ℕ) (ns : List ℕ) (es : List Extension) (c : Carried) (s : List ℕ) → AreExtensions kind (Fragment ns ∷ es) c → AreBytes s → bits_of s ≡ encoded (extension_cells (Fragment ns ∷ es) ++ carried_cells c) →
+    FragmentIs kind ns (encoded (extension_cells es ++ carried_cells c)) s
+fragment_front kind ns es c s h b e = fragment_is kind ns es (encoded (extension_cells es ++ carried_cells c)) s h.0 h.1 b (e ∙ front_encoded (cells_in (fragment (next_before es)) ns) (extension_cells es) (carried_cells c))
 
-pub chain_is : (es : List Extension) (c : Carried) (most kind : ℕ) (s : List ℕ) → length s ≤ most → AreExtensions kind es c → AreBytes s → bits_of s ≡ spelt (extension_cells es ++ carried_cells c) →
+pub chain_is : (es : List Extension) (c : Carried) (most kind : ℕ) (s : List ℕ) → length s ≤ most → AreExtensions kind es c → AreBytes s → bits_of s ≡ encoded (extension_cells es ++ carried_cells c) →
     ◌≡◌ {A = Chain} (record { extensions = es; carried = c }) (chain_of most kind s)
 chain_is [] c most kind s l h b e =
     let same : c ≡ carried_of (over_ipv6 kind) s = carried_is (over_ipv6 kind) c s h.0 b e in

@@ -1,34 +1,34 @@
--- A frame is the spelling of the layers that are read from it, these are well formed, and no others spell it.
+-- A frame is the encoding of the layers that are read from it, these are well formed, and no others encode it.
 use Rattle.std.proofs.Common.{◌≡◌, ℕ, zero, suc, ◌+◌, ◌*◌, ◌^◌, ◌<◌, ◌≤◌, true, false, List, [], ◌∷◌, ◌++◌, length, get_or, drop, refl, sym, ap, ◌∙◌, arith, append_assoc}
 use Rattle.std.proofs.lemmas.List.{drop-drop, length-drop, length-append}
 use Rattle.of_layers.specs.Bits.{bits, bits_of}
-use Rattle.of_layers.specs.Layers.{Layers, cells_in, inner_cells, tag_cells, body_cells, addresses, outer_tag, inner_tag, ether_type, Body, spelt, Spells}
+use Rattle.of_layers.specs.Layers.{Layers, cells_in, inner_cells, tag_cells, body_cells, addresses, outer_tag, inner_tag, ether_type, Body, encoded, Encodes}
 use Rattle.of_layers.specs.Reading.{word, six, tag_count, tags_of, tag_numbers, is_tag_type, body_of, layers_of}
 use Rattle.of_layers.specs.WellFormed.{AreBytes, AreTags, IsLayers}
 use Rattle.of_layers.proofs.BitLemmas.{bits_front, length-bits, length-bits_of}
 use Rattle.of_layers.proofs.TagLemmas.{tag_step, tag_stop, tag_short, tag_room, count_tag, end_count, few_left}
-use Rattle.of_layers.proofs.SpellingLemmas.{AreBytes-drop, then_bits, word_from, six_from, spelt-append, tag_spelt, inner_spelt, spelt_tags, ends_spelt}
+use Rattle.of_layers.proofs.EncodingLemmas.{AreBytes-drop, then_bits, word_from, six_from, encoded-append, tag_encoded, inner_encoded, encoded_tags, ends_encoded}
 use Rattle.of_layers.proofs.FrontLemmas.{front_same, length_fits, word_behind, tag_fits, ends_fit}
-use Rattle.of_layers.proofs.BodyLemmas.{body_spelt, body_fits, body_is}
+use Rattle.of_layers.proofs.BodyLemmas.{body_encoded, body_fits, body_is}
 
--- ---- they spell it
+-- ---- they encode it
 
-pub frame_spelt : (frame : List ℕ) → AreBytes frame → 14 ≤ length frame → Spells (layers_of frame) frame
+pub frame_encoded : (frame : List ℕ) → AreBytes frame → 14 ≤ length frame → Encodes (layers_of frame) frame
 unfolding layers_of
-frame_spelt frame b h =
+frame_encoded frame b h =
     let n : ℕ = tag_count (drop 12 frame) in
     let at : ℕ = 12 + 4 * n in
     let long : 12 + length (drop 12 frame) ≡ length frame = omega (arith, length-drop 12 frame) in
     let room : 4 * n + 2 ≤ length (drop 12 frame) = tag_room (drop 12 frame) (omega arith) in
-    let tags : bits_of (drop 12 frame) ≡ spelt (tag_cells (tags_of n (drop 12 frame))) ++ bits_of (drop at frame) =
-    inner_spelt n (drop 12 frame) (omega arith) (AreBytes-drop 12 frame b)
-    ∙ ap (λ (t : List ℕ). t ++ bits_of (drop (4 * n) (drop 12 frame))) (sym (spelt_tags n (drop 12 frame)))
-    ∙ ap (λ (t : List ℕ). spelt (tag_cells (tags_of n (drop 12 frame))) ++ bits_of t) (drop-drop (4 * n) 12 frame) in
-    let last : bits_of (drop at frame) ≡ bits 16 (word frame at) ++ spelt (body_cells (body_of (word frame at) (drop (at + 2) frame))) =
-    word_from frame at b (omega arith) ∙ ap (λ (t : List ℕ). bits 16 (word frame at) ++ t) (body_spelt (word frame at) (drop (at + 2) frame) (AreBytes-drop (at + 2) frame b)) in
+    let tags : bits_of (drop 12 frame) ≡ encoded (tag_cells (tags_of n (drop 12 frame))) ++ bits_of (drop at frame) =
+    inner_encoded n (drop 12 frame) (omega arith) (AreBytes-drop 12 frame b)
+    ∙ ap (λ (t : List ℕ). t ++ bits_of (drop (4 * n) (drop 12 frame))) (sym (encoded_tags n (drop 12 frame)))
+    ∙ ap (λ (t : List ℕ). encoded (tag_cells (tags_of n (drop 12 frame))) ++ bits_of t) (drop-drop (4 * n) 12 frame) in
+    let last : bits_of (drop at frame) ≡ bits 16 (word frame at) ++ encoded (body_cells (body_of (word frame at) (drop (at + 2) frame))) =
+    word_from frame at b (omega arith) ∙ ap (λ (t : List ℕ). bits 16 (word frame at) ++ t) (body_encoded (word frame at) (drop (at + 2) frame) (AreBytes-drop (at + 2) frame b)) in
     then_bits (bits 48 (six frame 0)) (six_from frame 0 b (omega arith))
     (then_bits (bits 48 (six frame 6)) (six_from frame 6 b (omega arith))
-    (tags ∙ ap (λ (t : List ℕ). spelt (tag_cells (tags_of n (drop 12 frame))) ++ t) last ∙ sym (spelt-append (tag_cells (tags_of n (drop 12 frame))) _)))
+    (tags ∙ ap (λ (t : List ℕ). encoded (tag_cells (tags_of n (drop 12 frame))) ++ t) last ∙ sym (encoded-append (tag_cells (tags_of n (drop 12 frame))) _)))
 
 -- ---- they are well formed
 
@@ -45,7 +45,7 @@ are_layers frame b h =
     let pb : AreBytes (drop (12 + 4 * tag_count (drop 12 frame) + 2) frame) = AreBytes-drop (12 + 4 * tag_count (drop 12 frame) + 2) frame b in
     let none : tag_count (drop (12 + 4 * tag_count (drop 12 frame)) frame) ≡ 0 = ap tag_count (sym (drop-drop (4 * tag_count (drop 12 frame)) 12 frame)) ∙ end_count (tag_count (drop 12 frame)) (drop 12 frame) refl in
     let here : word (drop (12 + 4 * tag_count (drop 12 frame)) frame) 0 ≡ word frame (12 + 4 * tag_count (drop 12 frame)) = word_behind frame (12 + 4 * tag_count (drop 12 frame)) 0 ∙ ap (word frame) (omega arith) in
-    let size : length (spelt (body_cells (body_of (word frame at) p))) ≡ 8 * length (drop (12 + 4 * tag_count (drop 12 frame) + 2) frame) = sym (ap length (body_spelt (word frame at) p pb)) ∙ length-bits_of p in
+    let size : length (encoded (body_cells (body_of (word frame at) p))) ≡ 8 * length (drop (12 + 4 * tag_count (drop 12 frame) + 2) frame) = sym (ap length (body_encoded (word frame at) p pb)) ∙ length-bits_of p in
     record {
       ends = ends_fit frame b;
       tags = are_tags (tag_count (drop 12 frame)) (drop 12 frame) refl (AreBytes-drop 12 frame b);
@@ -55,7 +55,7 @@ are_layers frame b h =
       body = body_fits (word frame at) p pb;
     }
 
--- ---- no others spell it
+-- ---- no others encode it
 
 -- what the tags that bytes begin with are
 record TagsAre (ts : List (List ℕ)) (type : ℕ) (rest s : List ℕ) : Type 0 where
@@ -76,22 +76,22 @@ tags_end type rest s small last b e =
     record { count = none; tags = refl; type_is = r.0; rest_is = r.1; room = omega arith }
 
 tags_are : (ts : List (List ℕ)) (type : ℕ) (rest s : List ℕ) → AreTags ts → type < 2 ^ 16 → (is_tag_type type ≡ true → length rest < 32) → AreBytes s →
-    bits_of s ≡ spelt (inner_cells ts) ++ (bits 16 type ++ rest) → TagsAre ts type rest s
+    bits_of s ≡ encoded (inner_cells ts) ++ (bits 16 type ++ rest) → TagsAre ts type rest s
 tags_are [] type rest s t small last b e = tags_end type rest s small last b e
 tags_are (t ∷ ts) type rest s h small last b e =
-    let parts : bits_of s ≡ spelt (cells_in inner_tag t) ++ (spelt (inner_cells ts) ++ (bits 16 type ++ rest)) =
-    e ∙ ap (λ (x : List ℕ). x ++ (bits 16 type ++ rest)) (spelt-append (cells_in inner_tag t) (inner_cells ts)) ∙ append_assoc (spelt (cells_in inner_tag t)) (spelt (inner_cells ts)) (bits 16 type ++ rest) in
+    let parts : bits_of s ≡ encoded (cells_in inner_tag t) ++ (encoded (inner_cells ts) ++ (bits 16 type ++ rest)) =
+    e ∙ ap (λ (x : List ℕ). x ++ (bits 16 type ++ rest)) (encoded-append (cells_in inner_tag t) (inner_cells ts)) ∙ append_assoc (encoded (cells_in inner_tag t)) (encoded (inner_cells ts)) (bits 16 type ++ rest) in
     let long : 32 + 16 ≤ 8 * length s = omega (
       arith,
       length-bits_of s,
       ap length parts,
-      length-append (spelt (cells_in inner_tag t)) (spelt (inner_cells ts) ++ (bits 16 type ++ rest)),
+      length-append (encoded (cells_in inner_tag t)) (encoded (inner_cells ts) ++ (bits 16 type ++ rest)),
       length_fits inner_tag t h.0,
-      length-append (spelt (inner_cells ts)) (bits 16 type ++ rest),
+      length-append (encoded (inner_cells ts)) (bits 16 type ++ rest),
       length-append (bits 16 type) rest,
       length-bits 16 type,
     ) in
-    let r = front_same inner_tag t (tag_numbers s) (spelt (inner_cells ts) ++ (bits 16 type ++ rest)) (bits_of (drop 4 s)) h.0 (tag_fits s b) (sym parts ∙ tag_spelt s b (omega arith)) in
+    let r = front_same inner_tag t (tag_numbers s) (encoded (inner_cells ts) ++ (bits 16 type ++ rest)) (bits_of (drop 4 s)) h.0 (tag_fits s b) (sym parts ∙ tag_encoded s b (omega arith)) in
     let tag : is_tag_type (word s 0) ≡ true = ap (λ (x : List ℕ). is_tag_type (get_or x 0 0)) (sym r.0) ∙ h.1 in
     let i = tags_are ts type rest (drop 4 s) h.2 small last (AreBytes-drop 4 s b) (sym r.1) in
     let n : ℕ = length ts in
@@ -106,37 +106,37 @@ tags_are (t ∷ ts) type rest s h small last b e =
 same_layers : (a b : List ℕ) (t u : List (List ℕ)) (k m : ℕ) (x y : Body) → a ≡ b → t ≡ u → k ≡ m → x ≡ y → ◌≡◌ {A = Layers} (record { ends = a; tags = t; type = k; body = x }) (record { ends = b; tags = u; type = m; body = y })
 same_layers a b t u k m x y p q r s = λ j. record { ends = p j; tags = q j; type = r j; body = s j }
 
-outer_inner : (t : List ℕ) → spelt (cells_in outer_tag t) ≡ spelt (cells_in inner_tag t)
+outer_inner : (t : List ℕ) → encoded (cells_in outer_tag t) ≡ encoded (cells_in inner_tag t)
 outer_inner [] = refl
 outer_inner (a ∷ []) = refl
 outer_inner (a ∷ b ∷ []) = refl
 outer_inner (a ∷ b ∷ c ∷ []) = refl
 outer_inner (a ∷ b ∷ c ∷ d ∷ r) = refl
 
-tags_spelt : (ts : List (List ℕ)) → spelt (tag_cells ts) ≡ spelt (inner_cells ts)
-tags_spelt [] = refl
-tags_spelt (t ∷ ts) = spelt-append (cells_in outer_tag t) (inner_cells ts) ∙ ap (λ (x : List ℕ). x ++ spelt (inner_cells ts)) (outer_inner t) ∙ sym (spelt-append (cells_in inner_tag t) (inner_cells ts))
+tags_encoded : (ts : List (List ℕ)) → encoded (tag_cells ts) ≡ encoded (inner_cells ts)
+tags_encoded [] = refl
+tags_encoded (t ∷ ts) = encoded-append (cells_in outer_tag t) (inner_cells ts) ∙ ap (λ (x : List ℕ). x ++ encoded (inner_cells ts)) (outer_inner t) ∙ sym (encoded-append (cells_in inner_tag t) (inner_cells ts))
 
-pub only_layers : (l : Layers) (frame : List ℕ) → IsLayers l → AreBytes frame → Spells l frame → l ≡ layers_of frame
+pub only_layers : (l : Layers) (frame : List ℕ) → IsLayers l → AreBytes frame → Encodes l frame → l ≡ layers_of frame
 unfolding layers_of
 only_layers l frame h b e =
-    let body : List ℕ = spelt (body_cells l.body) in
-    let parts : bits_of frame ≡ spelt (cells_in addresses l.ends) ++ (spelt (inner_cells l.tags) ++ (bits 16 l.type ++ spelt (body_cells l.body))) =
-    e ∙ spelt-append (cells_in addresses l.ends) (tag_cells l.tags ++ (cells_in ether_type (l.type ∷ []) ++ body_cells l.body))
-    ∙ ap (λ (x : List ℕ). spelt (cells_in addresses l.ends) ++ x) (spelt-append (tag_cells l.tags) (cells_in ether_type (l.type ∷ []) ++ body_cells l.body)
-    ∙ ap (λ (x : List ℕ). x ++ (bits 16 l.type ++ spelt (body_cells l.body))) (tags_spelt l.tags)) in
+    let body : List ℕ = encoded (body_cells l.body) in
+    let parts : bits_of frame ≡ encoded (cells_in addresses l.ends) ++ (encoded (inner_cells l.tags) ++ (bits 16 l.type ++ encoded (body_cells l.body))) =
+    e ∙ encoded-append (cells_in addresses l.ends) (tag_cells l.tags ++ (cells_in ether_type (l.type ∷ []) ++ body_cells l.body))
+    ∙ ap (λ (x : List ℕ). encoded (cells_in addresses l.ends) ++ x) (encoded-append (tag_cells l.tags) (cells_in ether_type (l.type ∷ []) ++ body_cells l.body)
+    ∙ ap (λ (x : List ℕ). x ++ (bits 16 l.type ++ encoded (body_cells l.body))) (tags_encoded l.tags)) in
     let long : 96 + 16 ≤ 8 * length frame = omega (
       arith,
       length-bits_of frame,
       ap length parts,
-      length-append (spelt (cells_in addresses l.ends)) (spelt (inner_cells l.tags) ++ (bits 16 l.type ++ spelt (body_cells l.body))),
+      length-append (encoded (cells_in addresses l.ends)) (encoded (inner_cells l.tags) ++ (bits 16 l.type ++ encoded (body_cells l.body))),
       length_fits addresses l.ends h.ends,
-      length-append (spelt (inner_cells l.tags)) (bits 16 l.type ++ spelt (body_cells l.body)),
-      length-append (bits 16 l.type) (spelt (body_cells l.body)),
+      length-append (encoded (inner_cells l.tags)) (bits 16 l.type ++ encoded (body_cells l.body)),
+      length-append (bits 16 l.type) (encoded (body_cells l.body)),
       length-bits 16 l.type,
     ) in
-    let r = front_same addresses l.ends (six frame 0 ∷ six frame 6 ∷ []) (spelt (inner_cells l.tags) ++ (bits 16 l.type ++ spelt (body_cells l.body))) (bits_of (drop 12 frame)) h.ends (ends_fit frame b) (sym parts ∙ ends_spelt frame b (omega arith)) in
-    let t = tags_are l.tags l.type (spelt (body_cells l.body)) (drop 12 frame) h.tags h.type h.last (AreBytes-drop 12 frame b) (sym r.1) in
+    let r = front_same addresses l.ends (six frame 0 ∷ six frame 6 ∷ []) (encoded (inner_cells l.tags) ++ (bits 16 l.type ++ encoded (body_cells l.body))) (bits_of (drop 12 frame)) h.ends (ends_fit frame b) (sym parts ∙ ends_encoded frame b (omega arith)) in
+    let t = tags_are l.tags l.type (encoded (body_cells l.body)) (drop 12 frame) h.tags h.type h.last (AreBytes-drop 12 frame b) (sym r.1) in
     let n : tag_count (drop 12 frame) ≡ length l.tags = t.count in
     let type : l.type ≡ word frame (12 + 4 * length l.tags) = t.type_is ∙ word_behind frame 12 (4 * length l.tags) in
     let behind : drop (4 * length l.tags + 2) (drop 12 frame) ≡ drop (12 + 4 * length l.tags + 2) frame = drop-drop (4 * length l.tags + 2) 12 frame ∙ ap (λ (k : ℕ). drop k frame) (omega arith) in

@@ -2,21 +2,21 @@
 use Rattle.std.proofs.Common.{◌≡◌, ℕ, suc, ◌+◌, ◌*◌, ◌≤◌, List, [], ◌∷◌, ◌++◌, length, get_or, take, drop, refl, sym, ap, ◌∙◌, arith, append_assoc}
 use Rattle.std.proofs.lemmas.List.{get_or-drop, length-append, append-nil, take_all, length-take, length-take-le, take-append-drop, drop-append-le}
 use Rattle.of_layers.specs.Bits.{bits, bits_of}
-use Rattle.of_layers.specs.Layers.{Item, cells_in, addresses, inner_tag, spelt}
+use Rattle.of_layers.specs.Layers.{Item, cells_in, addresses, inner_tag, encoded}
 use Rattle.of_layers.specs.Reading.{word, six, tag_numbers}
 use Rattle.of_layers.specs.WellFormed.{AreBytes, Fits}
 use Rattle.of_layers.proofs.BitLemmas.{bits_front, append_same, length-bits, length-bits_of, bits_of-append}
-use Rattle.of_layers.proofs.SpellingLemmas.{AreBytes-drop}
+use Rattle.of_layers.proofs.EncodingLemmas.{AreBytes-drop}
 
-pub front_same : (is : List Item) (ns ms : List ℕ) (x y : List ℕ) → Fits is ns → Fits is ms → spelt (cells_in is ns) ++ x ≡ spelt (cells_in is ms) ++ y → (ns ≡ ms) × (x ≡ y)
+pub front_same : (is : List Item) (ns ms : List ℕ) (x y : List ℕ) → Fits is ns → Fits is ms → encoded (cells_in is ns) ++ x ≡ encoded (cells_in is ms) ++ y → (ns ≡ ms) × (x ≡ y)
 front_same [] [] [] x y f g e = (refl, e)
 front_same [] [] (m ∷ ms) x y f g e = absurd g
 front_same [] (n ∷ ns) ms x y f g e = absurd f
 front_same (i ∷ is) [] ms x y f g e = absurd f
 front_same (i ∷ is) (n ∷ ns) [] x y f g e = absurd g
 front_same (i ∷ is) (n ∷ ns) (m ∷ ms) x y f g e =
-    let a : bits i.width n ++ (spelt (cells_in is ns) ++ x) ≡ bits i.width m ++ (spelt (cells_in is ms) ++ y) = sym (append_assoc (bits i.width n) (spelt (cells_in is ns)) x) ∙ e ∙ append_assoc (bits i.width m) (spelt (cells_in is ms)) y in
-    let r = bits_front i.width n m (spelt (cells_in is ns) ++ x) (spelt (cells_in is ms) ++ y) f.0 g.0 a in
+    let a : bits i.width n ++ (encoded (cells_in is ns) ++ x) ≡ bits i.width m ++ (encoded (cells_in is ms) ++ y) = sym (append_assoc (bits i.width n) (encoded (cells_in is ns)) x) ∙ e ∙ append_assoc (bits i.width m) (encoded (cells_in is ms)) y in
+    let r = bits_front i.width n m (encoded (cells_in is ns) ++ x) (encoded (cells_in is ms) ++ y) f.0 g.0 a in
     let t = front_same is ns ms x y f.1 g.1 r.1 in
     (λ j. r.0 j ∷ t.0 j, t.1)
 
@@ -34,11 +34,11 @@ abbrev pub total : List Item → ℕ
 total [] = 0
 total (i ∷ is) = i.width + total is
 
-pub length_fits : (is : List Item) (ns : List ℕ) → Fits is ns → length (spelt (cells_in is ns)) ≡ total is
+pub length_fits : (is : List Item) (ns : List ℕ) → Fits is ns → length (encoded (cells_in is ns)) ≡ total is
 length_fits [] [] f = refl
 length_fits [] (n ∷ ns) f = absurd f
 length_fits (i ∷ is) [] f = absurd f
-length_fits (i ∷ is) (n ∷ ns) f = length-append (bits i.width n) (spelt (cells_in is ns)) ∙ omega (arith, length-bits i.width n, length_fits is ns f.1)
+length_fits (i ∷ is) (n ∷ ns) f = length-append (bits i.width n) (encoded (cells_in is ns)) ∙ omega (arith, length-bits i.width n, length_fits is ns f.1)
 
 pub bytes_same : (q s : List ℕ) → AreBytes q → AreBytes s → bits_of q ≡ bits_of s → q ≡ s
 bytes_same q s f g e =

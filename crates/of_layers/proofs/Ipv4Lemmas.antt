@@ -1,16 +1,16 @@
--- IPv4: spelt by its numbers, options and what it carries, by no others, and well formed.
+-- IPv4: encoded by its numbers, options and what it carries, by no others, and well formed.
 use Rattle.std.proofs.Common.{◌≡◌, ℕ, ◌+◌, ◌*◌, ◌/◌, ◌%◌, ◌≤◌, min, true, List, ◌++◌, length, get_or, take, drop, refl, sym, ap, ◌∙◌, arith, append_assoc}
 use Rattle.std.specs.Prelude.{◌==◌, ◌&&◌, nat_le}
 use Rattle.std.proofs.lemmas.Bool.{leb-true, le-leb, eqb-true, eq-eqb}
 use Rattle.std.proofs.lemmas.List.{length-append, length-drop, length-take, drop-drop, drop-take, take_min, drop_min}
 use Rattle.of_layers.specs.Bits.{bits, bits_of}
-use Rattle.of_layers.specs.Layers.{Cell, Carried, Ipv4, ipv4, cells_in, byte_cells, carried_cells, body_cells, spelt}
+use Rattle.of_layers.specs.Layers.{Cell, Carried, Ipv4, ipv4, cells_in, byte_cells, carried_cells, body_cells, encoded}
 use Rattle.of_layers.specs.Reading.{word, double, carried_of, header_size, is_ipv4, ipv4_numbers, over_ipv4, kind_behind, ipv4_inside, ipv4_kind, ipv4_of}
 use Rattle.of_layers.specs.WellFormed.{AreBytes, Fits, IsIpv4, bytes_in}
 use Rattle.of_layers.proofs.BitLemmas.{length-bits_of, bits_of-append}
-use Rattle.of_layers.proofs.SpellingLemmas.{AreBytes-drop, AreBytes-take, then_bits, byte_from, word_from, double_from, cut_byte, cut_word, word_small, double_small, spelt-append, spelt_bytes}
+use Rattle.of_layers.proofs.EncodingLemmas.{AreBytes-drop, AreBytes-take, then_bits, byte_from, word_from, double_from, cut_byte, cut_word, word_small, double_small, encoded-append, encoded_bytes}
 use Rattle.of_layers.proofs.FrontLemmas.{front_same, take_front, cut_bits, drop_parts, length_fits}
-use Rattle.of_layers.proofs.CarriedLemmas.{carried_spelt, carried_bytes, carries, length_carried, carried_is}
+use Rattle.of_layers.proofs.CarriedLemmas.{carried_encoded, carried_bytes, carries, length_carried, carried_is}
 use Rattle.of_layers.proofs.TestLemmas.{min_of, and_true, all_true}
 
 record HasIpv4 (p : List ℕ) : Type 0 where
@@ -34,8 +34,8 @@ has_ipv4 p e =
       total = leb-true (header_size p) (word p 2) a.1;
     }
 
-numbers_spelt : (p : List ℕ) → AreBytes p → 20 ≤ length p → bits_of p ≡ spelt (cells_in ipv4 (ipv4_numbers p)) ++ bits_of (drop 20 p)
-numbers_spelt p b h = simp append_assoc
+numbers_encoded : (p : List ℕ) → AreBytes p → 20 ≤ length p → bits_of p ≡ encoded (cells_in ipv4 (ipv4_numbers p)) ++ bits_of (drop 20 p)
+numbers_encoded p b h = simp append_assoc
     (then_bits (bits 4 (get_or p 0 0 / 16)) (cut_byte 4 4 p 0 refl (omega arith)) (ap (λ (t : List ℕ). bits 4 (get_or p 0 0 % 16) ++ t)
     (then_bits (bits 6 (get_or p 1 0 / 4)) (cut_byte 6 2 p 1 refl (omega arith)) (ap (λ (t : List ℕ). bits 2 (get_or p 1 0 % 4) ++ t)
     (then_bits (bits 16 (word p 2)) (word_from p 2 b (omega arith))
@@ -51,23 +51,23 @@ numbers_fit : (p : List ℕ) → AreBytes p → Fits ipv4 (ipv4_numbers p)
 numbers_fit p b =
     (omega (arith, b 0), (omega arith, (omega (arith, b 1), (omega arith, (word_small p 2 b, (word_small p 4 b, (omega (arith, word_small p 6 b), (omega arith, (b 8, (b 9, (word_small p 10 b, (double_small p 12 b, (double_small p 16 b, tt)))))))))))))
 
-pub ipv4_spelt : (p : List ℕ) → AreBytes p → is_ipv4 p ≡ true → bits_of p ≡ spelt (body_cells (ipv4_of p))
+pub ipv4_encoded : (p : List ℕ) → AreBytes p → is_ipv4 p ≡ true → bits_of p ≡ encoded (body_cells (ipv4_of p))
 unfolding ipv4_of
-ipv4_spelt p b e =
+ipv4_encoded p b e =
     let h : HasIpv4 p = has_ipv4 p e in
     let opts : List ℕ = drop 20 (take (header_size p) p) in
     let rest : List ℕ = drop (word p 2) p in
     let cs : List Cell = carried_cells (carried_of (ipv4_kind p) (ipv4_inside p)) in
-    let carried : bits_of (ipv4_inside p) ≡ spelt cs = carried_spelt (ipv4_kind p) (ipv4_inside p) (AreBytes-drop (header_size p) (take (word p 2) p) (AreBytes-take (word p 2) p b)) in
-    let after : bits_of (drop (header_size p) p) ≡ spelt (cs ++ byte_cells rest) =
+    let carried : bits_of (ipv4_inside p) ≡ encoded cs = carried_encoded (ipv4_kind p) (ipv4_inside p) (AreBytes-drop (header_size p) (take (word p 2) p) (AreBytes-take (word p 2) p b)) in
+    let after : bits_of (drop (header_size p) p) ≡ encoded (cs ++ byte_cells rest) =
     ap bits_of (drop_parts (header_size p) (word p 2) p h.total h.inside) ∙ bits_of-append (ipv4_inside p) rest
-    ∙ ap (λ (t : List ℕ). t ++ bits_of rest) carried ∙ ap (λ (t : List ℕ). spelt cs ++ t) (sym (spelt_bytes rest)) ∙ sym (spelt-append cs (byte_cells rest)) in
-    let tail : bits_of (drop 20 p) ≡ spelt (byte_cells opts ++ (cs ++ byte_cells rest)) =
+    ∙ ap (λ (t : List ℕ). t ++ bits_of rest) carried ∙ ap (λ (t : List ℕ). encoded cs ++ t) (sym (encoded_bytes rest)) ∙ sym (encoded-append cs (byte_cells rest)) in
+    let tail : bits_of (drop 20 p) ≡ encoded (byte_cells opts ++ (cs ++ byte_cells rest)) =
     ap bits_of (drop_parts 20 (header_size p) p h.size h.whole) ∙ bits_of-append opts (drop (header_size p) p)
-    ∙ ap (λ (t : List ℕ). bits_of opts ++ t) after ∙ ap (λ (t : List ℕ). t ++ spelt (cs ++ byte_cells rest)) (sym (spelt_bytes opts))
-    ∙ sym (spelt-append (byte_cells opts) (cs ++ byte_cells rest)) in
-    numbers_spelt p b h.whole ∙ ap (λ (t : List ℕ). spelt (cells_in ipv4 (ipv4_numbers p)) ++ t) tail
-    ∙ sym (spelt-append (cells_in ipv4 (ipv4_numbers p)) (byte_cells opts ++ (cs ++ byte_cells rest)))
+    ∙ ap (λ (t : List ℕ). bits_of opts ++ t) after ∙ ap (λ (t : List ℕ). t ++ encoded (cs ++ byte_cells rest)) (sym (encoded_bytes opts))
+    ∙ sym (encoded-append (byte_cells opts) (cs ++ byte_cells rest)) in
+    numbers_encoded p b h.whole ∙ ap (λ (t : List ℕ). encoded (cells_in ipv4 (ipv4_numbers p)) ++ t) tail
+    ∙ sym (encoded-append (cells_in ipv4 (ipv4_numbers p)) (byte_cells opts ++ (cs ++ byte_cells rest)))
 
 pub ipv4_fits : (p : List ℕ) → AreBytes p → is_ipv4 p ≡ true → IsIpv4 (ipv4_numbers p) (drop 20 (take (header_size p) p)) (carried_of (ipv4_kind p) (ipv4_inside p)) (drop (word p 2) p)
 ipv4_fits p b e =
@@ -92,36 +92,36 @@ same_ipv4 ns ms o p t u r q a b c d = λ j. Ipv4 (a j) (b j) (c j) (d j)
 le_of : (a b c d : ℕ) → a ≡ b → c ≡ d → a ≤ c → b ≤ d
 le_of a b c d p q h = omega arith
 
-pub ipv4_is : (ns o : List ℕ) (t : Carried) (rest p : List ℕ) → IsIpv4 ns o t rest → AreBytes p → bits_of p ≡ spelt (body_cells (Ipv4 ns o t rest)) → (Ipv4 ns o t rest ≡ ipv4_of p) × (is_ipv4 p ≡ true)
+pub ipv4_is : (ns o : List ℕ) (t : Carried) (rest p : List ℕ) → IsIpv4 ns o t rest → AreBytes p → bits_of p ≡ encoded (body_cells (Ipv4 ns o t rest)) → (Ipv4 ns o t rest ≡ ipv4_of p) × (is_ipv4 p ≡ true)
 unfolding ipv4_of
 ipv4_is ns o t rest p h b e =
     let kind = kind_behind (get_or ns 7 0) (over_ipv4 (get_or ns 9 0)) in
-    let behind : List ℕ = bits_of o ++ (spelt (carried_cells t) ++ bits_of rest) in
-    let parts : bits_of p ≡ spelt (cells_in ipv4 ns) ++ (bits_of o ++ (spelt (carried_cells t) ++ bits_of rest)) =
-    e ∙ spelt-append (cells_in ipv4 ns) (byte_cells o ++ (carried_cells t ++ byte_cells rest))
-    ∙ ap (λ (x : List ℕ). spelt (cells_in ipv4 ns) ++ x) (spelt-append (byte_cells o) (carried_cells t ++ byte_cells rest)
-    ∙ ap (λ (x : List ℕ). x ++ spelt (carried_cells t ++ byte_cells rest)) (spelt_bytes o)
-    ∙ ap (λ (x : List ℕ). bits_of o ++ x) (spelt-append (carried_cells t) (byte_cells rest) ∙ ap (λ (x : List ℕ). spelt (carried_cells t) ++ x) (spelt_bytes rest))) in
-    let size : length (spelt (carried_cells t)) ≡ 8 * bytes_in t = length_carried kind t h.carries in
+    let behind : List ℕ = bits_of o ++ (encoded (carried_cells t) ++ bits_of rest) in
+    let parts : bits_of p ≡ encoded (cells_in ipv4 ns) ++ (bits_of o ++ (encoded (carried_cells t) ++ bits_of rest)) =
+    e ∙ encoded-append (cells_in ipv4 ns) (byte_cells o ++ (carried_cells t ++ byte_cells rest))
+    ∙ ap (λ (x : List ℕ). encoded (cells_in ipv4 ns) ++ x) (encoded-append (byte_cells o) (carried_cells t ++ byte_cells rest)
+    ∙ ap (λ (x : List ℕ). x ++ encoded (carried_cells t ++ byte_cells rest)) (encoded_bytes o)
+    ∙ ap (λ (x : List ℕ). bits_of o ++ x) (encoded-append (carried_cells t) (byte_cells rest) ∙ ap (λ (x : List ℕ). encoded (carried_cells t) ++ x) (encoded_bytes rest))) in
+    let size : length (encoded (carried_cells t)) ≡ 8 * bytes_in t = length_carried kind t h.carries in
     let all : length p ≡ 20 + length o + bytes_in t + length rest =
     omega (
       arith,
       ap length parts,
       length-bits_of p,
-      length-append (spelt (cells_in ipv4 ns)) behind,
+      length-append (encoded (cells_in ipv4 ns)) behind,
       length_fits ipv4 ns h.numbers,
-      length-append (bits_of o) (spelt (carried_cells t) ++ bits_of rest),
+      length-append (bits_of o) (encoded (carried_cells t) ++ bits_of rest),
       length-bits_of o,
-      length-append (spelt (carried_cells t)) (bits_of rest),
+      length-append (encoded (carried_cells t)) (bits_of rest),
       size,
       length-bits_of rest,
     ) in
-    let r = front_same ipv4 ns (ipv4_numbers p) behind (bits_of (drop 20 p)) h.numbers (numbers_fit p b) (sym parts ∙ numbers_spelt p b (omega arith)) in
+    let r = front_same ipv4 ns (ipv4_numbers p) behind (bits_of (drop 20 p)) h.numbers (numbers_fit p b) (sym parts ∙ numbers_encoded p b (omega arith)) in
     let at : 20 + length o ≡ header_size p = h.words ∙ ap (λ (x : List ℕ). 4 * get_or x 1 0) r.0 in
     let version : get_or p 0 0 / 16 ≡ 4 = ap (λ (x : List ℕ). get_or x 0 0) (sym r.0) ∙ h.version in
     let total : get_or ns 4 0 ≡ word p 2 = ap (λ (x : List ℕ). get_or x 4 0) r.0 in
-    let f = take_front o (drop 20 p) (spelt (carried_cells t) ++ bits_of rest) h.options_fit (AreBytes-drop 20 p b) r.1 in
-    let cut = cut_bits (spelt (carried_cells t)) rest (drop (20 + length o) p) (bytes_in t) size h.rest_fits (AreBytes-drop (20 + length o) p b) (f.1 ∙ ap bits_of (drop-drop (length o) 20 p)) in
+    let f = take_front o (drop 20 p) (encoded (carried_cells t) ++ bits_of rest) h.options_fit (AreBytes-drop 20 p b) r.1 in
+    let cut = cut_bits (encoded (carried_cells t)) rest (drop (20 + length o) p) (bytes_in t) size h.rest_fits (AreBytes-drop (20 + length o) p b) (f.1 ∙ ap bits_of (drop-drop (length o) 20 p)) in
     let least : 20 + length o + bytes_in t ≡ min (word p 2) (length p) = h.inside ∙ min_of (get_or ns 4 0) (word p 2) (20 + length o + bytes_in t + length rest) (length p) total (sym all) in
     let inside : take (bytes_in t) (drop (20 + length o) p) ≡ ipv4_inside p =
     sym (drop-take (20 + length o) (bytes_in t) p) ∙ ap (λ (x : ℕ). drop (20 + length o) (take x p)) least ∙ ap (drop (20 + length o)) (take_min (word p 2) p) ∙ ap (λ (x : ℕ). drop x (take (word p 2) p)) at in

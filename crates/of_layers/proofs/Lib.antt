@@ -1,7 +1,7 @@
 pub mod Table
 pub mod BitLemmas
 pub mod TagLemmas
-pub mod SpellingLemmas
+pub mod EncodingLemmas
 pub mod FrontLemmas
 pub mod TestLemmas
 pub mod ArpLemmas

@@ -1,4 +1,4 @@
--- The layers of a frame, and how they are spelt: addresses and type (IEEE 802.3, 3.1.1), VLAN tags (IEEE 802.1Q, 9.3), ARP (RFC 826), IPv4 (RFC 791, 3.1), IPv6 with its extension headers (RFC 8200, 3 and 4), TCP (RFC 9293, 3.1), UDP (RFC 768), ICMP (RFC 792), ICMPv6 (RFC 4443, 2.1).
+-- The layers of a frame, and how they are encoded: addresses and type (IEEE 802.3, 3.1.1), VLAN tags (IEEE 802.1Q, 9.3), ARP (RFC 826), IPv4 (RFC 791, 3.1), IPv6 with its extension headers (RFC 8200, 3 and 4), TCP (RFC 9293, 3.1), UDP (RFC 768), ICMP (RFC 792), ICMPv6 (RFC 4443, 2.1).
 use Rattle.std.specs.Prelude.{◌≡◌, ℕ, ◌+◌, List, [], ◌∷◌, ◌++◌, length, Option, Some, None}
 use Rattle.of_layers.specs.declared.field.Field.{Field}
 use Rattle.of_layers.specs.declared.field.Field.TheVariants.{EthDst, EthSrc, EthType, VlanVid, VlanPcp, IpDscp, IpEcn, IpProto, Ipv4Src, Ipv4Dst, TcpSrc, TcpDst, UdpSrc, UdpDst, Icmpv4Type, Icmpv4Code, ArpOp, ArpSpa, ArpTpa, ArpSha, ArpTha, Ipv6Src, Ipv6Dst, Ipv6Flabel, Icmpv6Type, Icmpv6Code}
@@ -119,7 +119,7 @@ pub record Layers : Type 0 where
   pub type : ℕ
   pub body : Body
 
--- ---- spelling: each number in its place
+-- ---- encoding: each number in its place
 
 pub record Cell : Type 0 where
   pub name : Option ℕ
@@ -165,10 +165,10 @@ body_cells (Ipv6 ns extensions carried rest) = cells_in (ipv6 (next_before exten
 abbrev pub cells : Layers → List Cell
 cells l = cells_in addresses l.ends ++ (tag_cells l.tags ++ (cells_in ether_type (l.type ∷ []) ++ body_cells l.body))
 
-abbrev pub spelt : List Cell → List ℕ
-spelt [] = []
-spelt (c ∷ cs) = bits c.width c.value ++ spelt cs
+abbrev pub encoded : List Cell → List ℕ
+encoded [] = []
+encoded (c ∷ cs) = bits c.width c.value ++ encoded cs
 
--- the frame is the spelling of the layers
-abbrev pub Spells : Layers → List ℕ → Type 0
-Spells l frame = bits_of frame ≡ spelt (cells l)
+-- the frame is the encoding of the layers
+abbrev pub Encodes : Layers → List ℕ → Type 0
+Encodes l frame = bits_of frame ≡ encoded (cells l)

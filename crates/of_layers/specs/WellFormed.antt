@@ -2,7 +2,7 @@
 use Rattle.std.specs.Prelude.{◌≡◌, ℕ, ◌+◌, ◌*◌, ◌^◌, ◌<◌, ◌≤◌, min, Bool, true, false, ◌&&◌, ◌||◌, ◌==◌, List, [], ◌∷◌, length, slice_index}
 use Rattle.of_layers.specs.declared.transport.Transport.{Transport}
 use Rattle.of_layers.specs.declared.transport.Transport.TheVariants.{Nothing}
-use Rattle.of_layers.specs.Layers.{Item, Layers, addresses, inner_tag, arp, ipv4, ipv6, options, fragment, items_of, size_of, Carried, Extension, Options, Fragment, Body, Plain, Arp, Ipv4, Ipv6, all_bytes, next_before, body_cells, spelt}
+use Rattle.of_layers.specs.Layers.{Item, Layers, addresses, inner_tag, arp, ipv4, ipv6, options, fragment, items_of, size_of, Carried, Extension, Options, Fragment, Body, Plain, Arp, Ipv4, Ipv6, all_bytes, next_before, body_cells, encoded}
 use Rattle.of_layers.specs.Reading.{is_tag_type, over_ipv4, over_ipv6, whole_in, kind_behind, has_options, is_fragment, has_extension, is_arp, is_ipv4, is_ipv6}
 
 abbrev pub AreBytes : List ℕ → Type 0
@@ -91,5 +91,5 @@ pub record IsLayers (l : Layers) : Type 0 where
   pub ends : Fits addresses l.ends
   pub tags : AreTags l.tags
   pub type : l.type < 2 ^ 16
-  pub last : is_tag_type l.type ≡ true → length (spelt (body_cells l.body)) < 32
+  pub last : is_tag_type l.type ≡ true → length (encoded (body_cells l.body)) < 32
   pub body : IsBody l.type l.body

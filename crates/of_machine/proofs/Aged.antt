@@ -3,7 +3,7 @@ use Rattle.std.proofs.Common.{◌≡◌, ◌≢◌, ℕ, ◌-◌, true, false, c
 use Rattle.std.specs.Prelude.{nat_le}
 use Rattle.of_layers.specs.Layers.{Layers, cells, ttl}
 use Rattle.of_layers.specs.Reading.{layers_of}
-use Rattle.of_layers.proofs.FrameLemmas.{frame_spelt}
+use Rattle.of_layers.proofs.FrameLemmas.{frame_encoded}
 use Rattle.of_rewrite.specs.declared.frame.Ttl.TheVariants.{Done, Expired}
 use Rattle.of_rewrite.specs.TimeToLive.{ttl_of, dec_ttl_result, ttl_decremented_from}
 use Rattle.of_rewrite.specs.Frames.{IsFrame, bytes_in, frame_ttl_decremented}
@@ -20,4 +20,4 @@ from_same (Some t) l not_done = (elim (nat_le t 1) as (λ b. cond b Expired Done
 pub aged_same : (s : List ℕ) → IsFrame s → dec_ttl_result (ttl_of (layers_of s)) ≢ Done → frame_ttl_decremented s ≡ s
 unfolding frame_ttl_decremented
 aged_same s h not_done =
-    ap bytes_in (from_same (ttl_of (layers_of s)) (layers_of s) not_done) ∙ sym (bytes_are (cells (layers_of s)) s h.1 (frame_spelt s h.1 h.0))
+    ap bytes_in (from_same (ttl_of (layers_of s)) (layers_of s) not_done) ∙ sym (bytes_are (cells (layers_of s)) s h.1 (frame_encoded s h.1 h.0))

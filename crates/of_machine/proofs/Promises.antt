@@ -19,7 +19,7 @@ use Rattle.of_machine.specs.TheWorld.{TheWorld}
 use Rattle.of_machine.specs.Sound.{longest, IsSound, IsBelow, AllBelow, IsBucket, AllBuckets}
 use Rattle.of_machine.specs.Outside.{is_to_tables}
 
--- ---- actions that some bytes spell
+-- ---- actions that some bytes encode
 
 pub tag_type : (t : ℕ) → IsTrue (is_supported false (PushVlan t)) → IsTrue (is_tag_type t)
 unfolding is_supported

@@ -23,7 +23,7 @@ abbrev pub AllBelow : TheWorld → ℕ → List Action → Type 0
 AllBelow w n [] = ⊤
 AllBelow w n (a ∷ rest) = IsBelow w n a × AllBelow w n rest
 
--- a bucket that exists: some bytes spell its actions, and the groups that they name have shorter chains than its own
+-- a bucket that exists: some bytes encode its actions, and the groups that they name have shorter chains than its own
 pub record IsBucket (w : TheWorld) (group place : ℕ) : Type 0 where
   pub actions : List Action
   pub there : w.bucket group place ≡ Some actions
@@ -37,7 +37,7 @@ AllBuckets w group (place ∷ rest) = IsBucket w group place × AllBuckets w gro
 pub record IsSound (w : TheWorld) : Type 0 where
   -- each winner is the number of an entry
   pub found : (t : ℕ) (m : Field → Option ℕ) (n : ℕ) → w.winner t m ≡ Some n → w.flow t n ≢ None
-  -- the instructions of an entry are in the order of execution, one of a type, and some bytes spell them
+  -- the instructions of an entry are in the order of execution, one of a type, and some bytes encode them
   pub kept : (t n : ℕ) (f : Flow) → w.flow t n ≡ Some f → IsTrue (are_kept f.instructions)
   -- and go on to later tables only
   pub onward : (t n : ℕ) (f : Flow) → w.flow t n ≡ Some f → IsTrue (are_for t f.instructions)

@@ -49,9 +49,9 @@ fn each_kind(rt: HostRuntime) -> Result<(), Fail> {
     are_written(&rt, rt.alloc(), rows::EACH_KIND)
 }
 
-/// A message that no bytes spell.
+/// A message that no bytes encode.
 #[derive(Clone, Copy)]
-enum Unspelt {
+enum Unencoded {
     /// Of a table that is not there.
     Table,
     /// For the counters of port ANY, as of one port.
@@ -60,11 +60,11 @@ enum Unspelt {
     PacketOut(u32, u32),
 }
 
-const UNSPELT: &[Unspelt] = &[
-    Unspelt::Table,
-    Unspelt::PortStats,
-    Unspelt::PacketOut(0, 7),
-    Unspelt::PacketOut(1, 0xffff_ffff),
+const UNENCODED: &[Unencoded] = &[
+    Unencoded::Table,
+    Unencoded::PortStats,
+    Unencoded::PacketOut(0, 7),
+    Unencoded::PacketOut(1, 0xffff_ffff),
 ];
 
 fn packet_out(alloc: Global, in_port: u32, buffer: u32) -> Result<Message, Fail> {
@@ -77,33 +77,33 @@ fn packet_out(alloc: Global, in_port: u32, buffer: u32) -> Result<Message, Fail>
     }))
 }
 
-fn message_of(alloc: Global, unspelt: Unspelt) -> Result<Message, Fail> {
-    match unspelt {
-        Unspelt::Table => Ok(Message::TableMod(TableMod {
+fn message_of(alloc: Global, unencoded: Unencoded) -> Result<Message, Fail> {
+    match unencoded {
+        Unencoded::Table => Ok(Message::TableMod(TableMod {
             table: 16,
             config: 0,
         })),
-        Unspelt::PortStats => Ok(Message::Multipart(MultipartRequest::PortStats(Some(
+        Unencoded::PortStats => Ok(Message::Multipart(MultipartRequest::PortStats(Some(
             0xffff_ffff,
         )))),
-        Unspelt::PacketOut(in_port, buffer) => packet_out(alloc, in_port, buffer),
+        Unencoded::PacketOut(in_port, buffer) => packet_out(alloc, in_port, buffer),
     }
 }
 
-/// Asserts that no bytes spell a message.
-fn is_not_spelt(rt: &impl Abort, alloc: Global, message: &Message) {
+/// Asserts that no bytes encode a message.
+fn is_not_encoded(rt: &impl Abort, alloc: Global, message: &Message) {
     let refusal = write_message(alloc, 1, message).err();
-    same(rt, "no bytes", &refusal, &Some(WriteError::NotSpelt));
+    same(rt, "no bytes", &refusal, &Some(WriteError::NotEncoded));
 }
 
-fn are_not_spelt(rt: &impl Abort, alloc: Global) -> Result<(), Fail> {
-    for unspelt in UNSPELT {
-        is_not_spelt(rt, alloc, &message_of(alloc, *unspelt)?);
+fn are_not_encoded(rt: &impl Abort, alloc: Global) -> Result<(), Fail> {
+    for unencoded in UNENCODED {
+        is_not_encoded(rt, alloc, &message_of(alloc, *unencoded)?);
     }
     Ok(())
 }
 
 #[test]
 fn without_bytes(rt: HostRuntime) -> Result<(), Fail> {
-    are_not_spelt(&rt, rt.alloc())
+    are_not_encoded(&rt, rt.alloc())
 }

@@ -16,7 +16,7 @@ use Rattle.of_actions.specs.declared.action.Action.{Action}
 use Rattle.of_actions.specs.Actions.{actions_said}
 use Rattle.of_actions.specs.CanonicalActions.{canonical_actions}
 use Rattle.of_actions.specs.Supported.{are_supported}
-use Rattle.of_actions.proofs.ActionsAgain.{canonical_spelt, canonical_short}
+use Rattle.of_actions.proofs.ActionsAgain.{canonical_encoded, canonical_short}
 use Rattle.of_actions.proofs.ActionsComputed.{actions_are}
 use Rattle.of_groups.specs.declared.bucket.Bucket.{Bucket}
 use Rattle.of_groups.specs.Buckets.{fresh, is_fit, are_fit}
@@ -63,7 +63,7 @@ read b seen rest behind few served h =
     let cut : len_at rest - 16 ≡ length text = omega arith in
     let front : take (length text) (text ++ behind) ≡ text = take-append-le (length text) text behind (omega arith) ∙ take_all (length text) text (omega arith) in
     let there : actions_in rest ≡ text = ap (λ (k : ℕ). take k (drop 16 rest)) cut ∙ ap (λ (y : List ℕ). take (length text) y) h.rest_is ∙ front in
-    let said : actions_said false (actions_in rest) ≡ Ok b.actions = ap (λ (y : List ℕ). actions_said false y) there ∙ actions_are false text b.actions None (canonical_spelt false b.actions served) in
+    let said : actions_said false (actions_in rest) ≡ Ok b.actions = ap (λ (y : List ℕ). actions_said false y) there ∙ actions_are false text b.actions None (canonical_encoded false b.actions served) in
     record {
       some = omega arith;
       none = none_refused seen rest b.actions few (omega arith) (omega arith) (omega arith) said;

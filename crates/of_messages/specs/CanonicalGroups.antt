@@ -1,4 +1,4 @@
--- GROUP_MOD (OpenFlow 1.3.5, 7.3.4.2), as a controller sends it to add a group: the one spelling that is written, with padding of zeros.
+-- GROUP_MOD (OpenFlow 1.3.5, 7.3.4.2), as a controller sends it to add a group: the one encoding that is written, with padding of zeros.
 use Rattle.std.specs.Prelude.{ℕ, ◌+◌, ◌^◌, nat_lt, Bool, ◌&&◌, List, [], ◌∷◌, ◌++◌, length, map}
 use Rattle.std.specs.List.{flat_map}
 use Rattle.of_actions.specs.CanonicalActions.{canonical_actions}

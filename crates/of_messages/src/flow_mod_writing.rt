@@ -56,7 +56,7 @@ fn put_front(out: &mut Vec<u8>, m: &FlowMod) -> Result<(), AllocError>
     put_tail(out, m)
 }
 
-/// A FLOW_MOD (OpenFlow 1.3.5, 7.3.4.1), its match and instructions in the one spelling that is written.
+/// A FLOW_MOD (OpenFlow 1.3.5, 7.3.4.1), its match and instructions in the one encoding that is written.
 #[tactic(auto, using(crate::proofs::Appended::length_flow_mod))]
 pub fn write_flow_mod(alloc: Global, xid: u32, m: &FlowMod) -> Result<Bytes, AllocError>
     ensures { IfOk result (λ bytes. bytes ≡ flow_mod_bytes xid m.now) }

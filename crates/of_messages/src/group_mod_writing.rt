@@ -38,7 +38,7 @@ fn put_buckets(out: &mut Vec<u8>, alloc: Global, buckets: &[Bucket]) -> Result<(
     Ok(())
 }
 
-/// The bytes of buckets (OpenFlow 1.3.5, 7.3.4.2), in the one spelling that is written: 24,832 at most. What is counted in
+/// The bytes of buckets (OpenFlow 1.3.5, 7.3.4.2), in the one encoding that is written: 24,832 at most. What is counted in
 /// them is not part of it.
 #[tactic(auto, using(crate::proofs::BucketsWritten::buckets_short))]
 pub fn write_buckets(alloc: Global, buckets: &Buckets) -> Result<Vec<u8>, AllocError>
@@ -61,7 +61,7 @@ fn put_front(out: &mut Vec<u8>, group: &NewGroup) -> Result<(), AllocError>
     put_u32(out, group.id)
 }
 
-/// The GROUP_MOD that adds a group (OpenFlow 1.3.5, 7.3.4.2), its buckets in the one spelling that is written. What is
+/// The GROUP_MOD that adds a group (OpenFlow 1.3.5, 7.3.4.2), its buckets in the one encoding that is written. What is
 /// counted in them is not part of it.
 pub fn write_group_mod(alloc: Global, xid: u32, group: &NewGroup) -> Result<Bytes, AllocError>
     ensures canonical { IfOk result (λ bytes. bytes ≡ group_add_bytes xid group.now) }

@@ -1,4 +1,4 @@
-//! OpenFlow messages: their values, and the bytes that spell them.
+//! OpenFlow messages: their values, and the bytes that encode them.
 #![tactic(auto)]
 
 mod async_masks;

@@ -182,7 +182,7 @@ fn read_body(alloc: Global, message: &[u8]) -> Result<Message, ReadError>
     })
 }
 
-/// The message that the bytes spell, all of them, and that a controller of that role may send.
+/// The message that the bytes encode, all of them, and that a controller of that role may send.
 ///
 /// Other bytes are refused with one code, by the first that applies: what `check_head` checks; a PACKET_OUT, FLOW_MOD,
 /// GROUP_MOD, PORT_MOD or TABLE_MOD of a slave (1/10); and then by the message.
@@ -210,7 +210,7 @@ pub fn read_message_as(alloc: Global, role: Role, message: &[u8]) -> Result<Mess
     }
 }
 
-/// The message that the bytes spell, all of them, whoever sends it: `read_message_as` of a controller whose role is equal.
+/// The message that the bytes encode, all of them, whoever sends it: `read_message_as` of a controller whose role is equal.
 pub fn read_message(alloc: Global, message: &[u8]) -> Result<Message, ReadError>
     ensures reads { Reads result (message_of message.now) }
     ensures sound { IfOk result IsSoundMessage }

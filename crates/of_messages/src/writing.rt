@@ -100,11 +100,11 @@ pub fn write_flow_removed(
 ) -> Result<MessageBytes, AllocError>
     ensures { IfOk result (λ bytes. bytes ≡ flow_removed_bytes xid removed.now fields.now) }
 {
-    let spelling = write_match(alloc, fields)?;
+    let encoding = write_match(alloc, fields)?;
     let mut out = Vec::new(alloc);
-    put_header(&mut out, 11, 48 + spelling.len(), xid)?;
+    put_header(&mut out, 11, 48 + encoding.len(), xid)?;
     put_flow_removed(&mut out, removed)?;
-    out.extend_from_slice(&spelling)?;
+    out.extend_from_slice(&encoding)?;
     Ok(MessageBytes::new(Bytes::new(out)))
 }
 

@@ -12,8 +12,8 @@ use Rattle.of_wire.proofs.ItemsRead.{items_are}
 use Rattle.of_layers.specs.declared.field.Field.{Field}
 use Rattle.of_layers.specs.Fields.{field_at}
 use Rattle.of_oxm.specs.declared.match_field.MatchField.{MatchField}
-use Rattle.of_oxm.specs.MatchFieldWire.{spelling, number_at, match_field_of}
-use Rattle.of_oxm.specs.MatchGrammar.{match_len, padded, body_of, head_refusals, spellings, AreFieldsAfter, IsEnd, Fields, IsFaulty}
+use Rattle.of_oxm.specs.MatchFieldWire.{encoding, number_at, match_field_of}
+use Rattle.of_oxm.specs.MatchGrammar.{match_len, padded, body_of, head_refusals, encodings, AreFieldsAfter, IsEnd, Fields, IsFaulty}
 use Rattle.of_oxm.specs.NormalForm.{normal}
 use Rattle.of_oxm.specs.Prerequisites.{prerequisites_met}
 use Rattle.of_oxm.specs.MatchReading.{match_fields, then_normal, match_by, match_of}
@@ -23,19 +23,19 @@ ends_so : (seen : List MatchField) (rest : List ℕ) (fault : Option Code) → I
 ends_so seen [] fault h = h
 ends_so seen (b ∷ bs) fault h = h
 
-are_items : (seen fs : List MatchField) (bytes rest : List ℕ) (fault : Option Code) → bytes ≡ spellings fs ++ rest → AreFieldsAfter seen fs → IsEnd (seen ++ fs) rest fault → AreItems match_fields seen bytes fs fault
+are_items : (seen fs : List MatchField) (bytes rest : List ℕ) (fault : Option Code) → bytes ≡ encodings fs ++ rest → AreFieldsAfter seen fs → IsEnd (seen ++ fs) rest fault → AreItems match_fields seen bytes fs fault
 are_items seen [] bytes rest fault whole fine ended =
     let here : IsEnd seen rest fault = subst (λ (s : List MatchField). IsEnd s rest fault) (append-nil seen) ended in
     subst (λ (x : List ℕ). ItemsEnd match_fields seen x fault) (sym whole) (ends_so seen rest fault here)
 are_items seen (e ∷ es) bytes rest fault whole fine ended =
-    let x = spellings es ++ rest in
+    let x = encodings es ++ rest in
     let found = field_again e seen x fine.0 fine.1 in
-    let text : bytes ≡ spelling e ++ x = whole ∙ append_assoc (spelling e) (spellings es) rest in
-    let size : 4 + get_or (spelling e ++ x) 3 0 ≡ length (spelling e) = found.size_is in
-    let some : 0 < length (spelling e ++ x) = omega (arith, length-append (spelling e) x, size) in
-    let cut : drop (4 + get_or (spelling e ++ x) 3 0) (spelling e ++ x) ≡ x = ap (λ (n : ℕ). drop n (spelling e ++ x)) size ∙ drop_at (spelling e) x (length (spelling e)) refl in
-    let value : option_map (λ (f : Field). match_field_of f (spelling e ++ x)) (field_at (number_at (spelling e ++ x))) ≡ Some e = ap (λ (o : Option Field). option_map (λ (f : Field). match_field_of f (spelling e ++ x)) o) found.at ∙ ap Some found.same in
-    let others = are_items (seen ++ e ∷ []) es (drop (4 + get_or (spelling e ++ x) 3 0) (spelling e ++ x)) rest fault cut fine.2 (subst (λ (s : List MatchField). IsEnd s rest fault) (sym (append_assoc seen (e ∷ []) es)) ended) in
+    let text : bytes ≡ encoding e ++ x = whole ∙ append_assoc (encoding e) (encodings es) rest in
+    let size : 4 + get_or (encoding e ++ x) 3 0 ≡ length (encoding e) = found.size_is in
+    let some : 0 < length (encoding e ++ x) = omega (arith, length-append (encoding e) x, size) in
+    let cut : drop (4 + get_or (encoding e ++ x) 3 0) (encoding e ++ x) ≡ x = ap (λ (n : ℕ). drop n (encoding e ++ x)) size ∙ drop_at (encoding e) x (length (encoding e)) refl in
+    let value : option_map (λ (f : Field). match_field_of f (encoding e ++ x)) (field_at (number_at (encoding e ++ x))) ≡ Some e = ap (λ (o : Option Field). option_map (λ (f : Field). match_field_of f (encoding e ++ x)) o) found.at ∙ ap Some found.same in
+    let others = are_items (seen ++ e ∷ []) es (drop (4 + get_or (encoding e ++ x) 3 0) (encoding e ++ x)) rest fault cut fine.2 (subst (λ (s : List MatchField). IsEnd s rest fault) (sym (append_assoc seen (e ∷ []) es)) ended) in
     subst (λ (b : List ℕ). AreItems match_fields seen b (e ∷ es) fault) (sym text) (some, found.none, value, others)
 
 -- the fields of a body, computed

@@ -1,4 +1,4 @@
--- Bytes begin with one spelling of a match, or have one code.
+-- Bytes begin with one encoding of a match, or have one code.
 use Rattle.std.proofs.Common.{◌≡◌, ℕ, ◌-◌, ◌≤◌, Bool, true, false, ltb, List, [], ◌∷◌, ◌++◌, length, take, drop, Some, None, Result, Ok, Err, refl, sym, ap, subst, ◌∙◌, arith}
 use Rattle.std.specs.Prelude.{◌||◌, IfOk, IfErr}
 use Rattle.std.proofs.lemmas.Bool.{le-ltb}
@@ -11,21 +11,21 @@ use Rattle.of_wire.specs.declared.code.ReadError.TheVariants as errors
 use Rattle.of_oxm.specs.declared.match_field.MatchField.{MatchField}
 use Rattle.of_wire.specs.Refusals.{first_of}
 use Rattle.of_oxm.specs.NormalForm.{normal}
-use Rattle.of_oxm.specs.MatchGrammar.{spellings, Fields, match_len, padded, body_of, head_refusals, SpellsMatch, IsRefusedMatch, ReadsAs, RefusesAs}
+use Rattle.of_oxm.specs.MatchGrammar.{encodings, Fields, match_len, padded, body_of, head_refusals, EncodesMatch, IsRefusedMatch, ReadsAs, RefusesAs}
 use Rattle.of_oxm.specs.Prerequisites.{prerequisites_met}
 use Rattle.of_wire.specs.Failures.{Fails}
 use Rattle.of_oxm.proofs.MatchFieldLemmas.{NoneApplies, none_first}
 use Rattle.of_oxm.proofs.Walk.{one_reading}
 
--- what bytes are that begin with a spelling
+-- what bytes are that begin with an encoding
 pub record Begins (a bytes : List ℕ) (fields : List MatchField) : Type 0 where
   pub none : first_of (head_refusals bytes) ≡ None
   pub walk : Fields [] (body_of bytes) fields None
   pub front : a ≡ take (padded (match_len bytes)) bytes
 
-begins : (a x : List ℕ) (m : List MatchField) (s : SpellsMatch a m) → Begins a (a ++ x) s.fields
+begins : (a x : List ℕ) (m : List MatchField) (s : EncodesMatch a m) → Begins a (a ++ x) s.fields
 begins a x m s =
-    let sp = spellings s.fields in
+    let sp = encodings s.fields in
     let written : List ℕ = 0 ∷ 1 ∷ (big_bytes 2 s.len ++ (sp ++ s.padding)) in
     let all = written ++ x in
     let len_is : match_len all ≡ s.len = ap (big_number 2) (append_assoc (big_bytes 2 s.len) (sp ++ s.padding) x) ∙ big_number-reads_back 2 s.len ((sp ++ s.padding) ++ x) (omega (arith, s.len_fits)) in
@@ -44,14 +44,14 @@ begins a x m s =
     } in
     subst (λ (w : List ℕ). Begins w (w ++ x) s.fields) (sym s.whole) facts
 
-pub one_match : (a b x y : List ℕ) (m n : List MatchField) → SpellsMatch a m → SpellsMatch b n → a ++ x ≡ b ++ y → (a ≡ b) × (m ≡ n)
+pub one_match : (a b x y : List ℕ) (m n : List MatchField) → EncodesMatch a m → EncodesMatch b n → a ++ x ≡ b ++ y → (a ≡ b) × (m ≡ n)
 one_match a b x y m n s t e =
     let p = begins a x m s in
     let q = subst (λ (bytes : List ℕ). Begins b bytes t.fields) (sym e) (begins b y n t) in
     let same = one_reading [] s.fields t.fields (body_of (a ++ x)) None None p.walk q.walk in
     (p.front ∙ sym q.front, s.normal_form ∙ ap normal same.0 ∙ sym t.normal_form)
 
-pub not_both : (a x : List ℕ) (m : List MatchField) (code : Code) → SpellsMatch a m → IsRefusedMatch (a ++ x) code → ⊥
+pub not_both : (a x : List ℕ) (m : List MatchField) (code : Code) → EncodesMatch a m → IsRefusedMatch (a ++ x) code → ⊥
 not_both a x m code s (IsRefusedMatch.head h) = let p = begins a x m s in cc
 not_both a x m code s (IsRefusedMatch.field none fields walk) =
     let p = begins a x m s in
@@ -78,16 +78,16 @@ one_code bytes c d (IsRefusedMatch.need none fields walk met code_is) (IsRefused
     let same = one_reading [] fields fields' (body_of bytes) None (Some d) walk walk' in absurd cc
 one_code bytes c d (IsRefusedMatch.need none fields walk met code_is) (IsRefusedMatch.need none' fields' walk' met' code_is') = code_is ∙ sym code_is'
 
--- what was read is what the bytes spell
-pub is_only : (bytes : List ℕ) (r : Result (List MatchField × ℕ) ReadError) → IfOk r (λ q. q.1 ≤ length bytes) → IfOk r (λ q. SpellsMatch (take q.1 bytes) q.0) → IfErr r (Fails (IsRefusedMatch bytes))
-    → (a x : List ℕ) (m : List MatchField) → SpellsMatch a m → bytes ≡ a ++ x → ReadsAs m (length a) r
+-- what was read is what the bytes encode
+pub is_only : (bytes : List ℕ) (r : Result (List MatchField × ℕ) ReadError) → IfOk r (λ q. q.1 ≤ length bytes) → IfOk r (λ q. EncodesMatch (take q.1 bytes) q.0) → IfErr r (Fails (IsRefusedMatch bytes))
+    → (a x : List ℕ) (m : List MatchField) → EncodesMatch a m → bytes ≡ a ++ x → ReadsAs m (length a) r
 is_only bytes (Ok q) size found refused a x m s e =
     let same = one_match (take q.1 bytes) a (drop q.1 bytes) x q.0 m found s (take-append-drop q.1 bytes ∙ e) in
     (same.1, sym (let e : length (take q.1 bytes) ≡ q.1 = omega (arith, size, length-take q.1 bytes) in e) ∙ ap length same.0)
 is_only bytes (Err errors.Memory) size found refused a x m s e = refl
 is_only bytes (Err (errors.Refused code)) size found refused a x m s e = absurd (not_both a x m code s (subst (λ (b : List ℕ). IsRefusedMatch b code) e refused))
 
-pub is_exact : (bytes : List ℕ) (r : Result (List MatchField × ℕ) ReadError) → IfOk r (λ q. SpellsMatch (take q.1 bytes) q.0) → IfErr r (Fails (IsRefusedMatch bytes)) → (code : Code) → IsRefusedMatch bytes code → RefusesAs code r
+pub is_exact : (bytes : List ℕ) (r : Result (List MatchField × ℕ) ReadError) → IfOk r (λ q. EncodesMatch (take q.1 bytes) q.0) → IfErr r (Fails (IsRefusedMatch bytes)) → (code : Code) → IsRefusedMatch bytes code → RefusesAs code r
 is_exact bytes (Ok q) found refused code h = not_both (take q.1 bytes) (drop q.1 bytes) q.0 code found (subst (λ (b : List ℕ). IsRefusedMatch b code) (sym (take-append-drop q.1 bytes)) h)
 is_exact bytes (Err errors.Memory) found refused code h = tt
 is_exact bytes (Err (errors.Refused c)) found refused code h = one_code bytes c code refused h

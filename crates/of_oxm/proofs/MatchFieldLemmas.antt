@@ -1,4 +1,4 @@
--- What a field's refusals leave is a spelling, and a spelling has no refusal.
+-- What a field's refusals leave is an encoding, and an encoding has no refusal.
 use Rattle.std.proofs.Common.{◌≡◌, ℕ, suc, ◌+◌, ◌*◌, ◌/◌, ◌%◌, ◌<◌, ◌≤◌, ◌⊎◌, Bool, true, false, eqb, List, [], ◌∷◌, ◌++◌, length, get_or, take, drop, Option, Some, None, refl, sym, ap, ◌∙◌, arith, inl, inr}
 use Rattle.std.specs.Prelude.{bit_and, not, ◌&&◌, IfSome}
 use Rattle.std.specs.List.{list_any}
@@ -12,7 +12,7 @@ use Rattle.of_layers.specs.declared.field.Field.{Field}
 use Rattle.of_oxm.specs.declared.match_field.MatchField.{MatchField}
 use Rattle.of_layers.specs.Fields.{number_of, bytes_of, ones_of, is_maskable, field_at}
 use Rattle.of_wire.specs.Refusals.{first_of}
-use Rattle.of_oxm.specs.MatchFieldWire.{spelling, IsSpelt, IsMask, body_len, is_masked_at, number_at, value_at, mask_at, match_field_of, field_refusals, known_field_refusals}
+use Rattle.of_oxm.specs.MatchFieldWire.{encoding, IsEncoded, IsMask, body_len, is_masked_at, number_at, value_at, mask_at, match_field_of, field_refusals, known_field_refusals}
 use Rattle.of_layers.proofs.Table.{field_at-number_of, number_of-field_at, value_below}
 use Rattle.of_wire.proofs.Numbers.{IsBytes, IsBytes-drop, big_bytes-big_number}
 
@@ -35,13 +35,13 @@ pub none_first : (rs : List (Bool × Code)) → NoneApplies rs → first_of rs �
 none_first [] h = refl
 none_first (r ∷ rs) h = rw (h.0) (none_first rs h.1)
 
--- ---- a field that is read is spelt so
+-- ---- a field that is read is encoded so
 
 -- a field, once it is known which
 pub record IsRead (e : MatchField) (seen : List MatchField) (rest : List ℕ) : Type 0 where
-  pub spelt : IsSpelt e
+  pub encoded : IsEncoded e
   pub first : list_any (λ x. eqb (number_of x.field) (number_of e.field)) seen ≡ false
-  pub text : rest ≡ spelling e ++ drop (4 + get_or rest 3 0) rest
+  pub text : rest ≡ encoding e ++ drop (4 + get_or rest 3 0) rest
 
 both_false : (a b : Bool) → (a && b) ≡ false → (a ≡ false) ⊎ (b ≡ false)
 both_false true b h = inr h
@@ -69,7 +69,7 @@ bytes_masked n tail h fits =
 -- what the tests of a known field leave
 known : (f : Field) (seen : List MatchField) (rest : List ℕ) → IsBytes rest → 4 ≤ length rest → 4 + get_or rest 3 0 ≤ length rest → big_number 2 rest ≡ 0x8000 → number_of f ≡ get_or rest 2 0 / 2
     → first_of (known_field_refusals f seen rest) ≡ None → IsRead (match_field_of f rest) seen rest
-unfolding spelling
+unfolding encoding
 known f seen (a ∷ b ∷ c ∷ d ∷ tail) fits h4 hd class number none =
     let rest = a ∷ b ∷ c ∷ d ∷ tail in
     let t = none_applies (known_field_refusals f seen rest) none in
@@ -90,7 +90,7 @@ known f seen (a ∷ b ∷ c ∷ d ∷ tail) fits h4 hd class number none =
           let after : drop (4 + d) rest ≡ drop (2 * bytes_of f) tail = sym (drop-drop d 4 rest) ∙ ap (λ (k : ℕ). drop k tail) d_is in
           let body = bytes_masked (bytes_of f) tail (omega arith) tail_fits in
           rw masked (record {
-            spelt = record { value = value_fits; mask = record { fits = big_from-lt 0 (bytes_of f) (drop (bytes_of f) tail) (IsBytes-drop (bytes_of f) tail tail_fits); allowed = may_be mask_test; covers = eqb-true _ _ (not_false _ value_test) } };
+            encoded = record { value = value_fits; mask = record { fits = big_from-lt 0 (bytes_of f) (drop (bytes_of f) tail) (IsBytes-drop (bytes_of f) tail tail_fits); allowed = may_be mask_test; covers = eqb-true _ _ (not_false _ value_test) } };
             first = t.1.0;
             text = cc;
           })
@@ -100,7 +100,7 @@ known f seen (a ∷ b ∷ c ∷ d ∷ tail) fits h4 hd class number none =
           let c_is : c ≡ 2 * number_of f + 0 = omega (arith, number, eqb-false (c % 2) 1 masked) in
           let after : drop (4 + d) rest ≡ drop (bytes_of f) tail = sym (drop-drop d 4 rest) ∙ ap (λ (k : ℕ). drop k tail) d_is in
           let body = bytes_plain (bytes_of f) tail (omega arith) tail_fits in
-          rw masked (record { spelt = record { value = value_fits; mask = tt }; first = t.1.0; text = cc })
+          rw masked (record { encoded = record { value = value_fits; mask = tt }; first = t.1.0; text = cc })
     ] in
     split (is_masked_at rest) refl
 known f seen [] fits h4 hd class number none = absurd (omega arith)
@@ -114,7 +114,7 @@ field_takes f seen rest fits none at =
     let others = rw at at t.1.1.1 in
     known f seen rest fits (ltb-false _ _ t.0) (ltb-false _ _ t.1.0) (eqb-true _ _ (not_false _ t.1.1.0)) (number_of-field_at (number_at rest) f at) (none_first (known_field_refusals f seen rest) others)
 
--- ---- a spelling is read
+-- ---- an encoding is read
 
 refusals_none : (f : Field) (seen : List MatchField) (rest : List ℕ) → 4 ≤ length rest → 4 + get_or rest 3 0 ≤ length rest → big_number 2 rest ≡ 0x8000 → field_at (number_at rest) ≡ Some f
     → NoneApplies (known_field_refusals f seen rest) → first_of (field_refusals seen rest) ≡ None
@@ -153,11 +153,11 @@ made_masked : (f : Field) (v m : ℕ) (rest : List ℕ) → is_masked_at rest �
 made_masked f v m rest masked value mask = rw (masked, value, mask) refl
 
 plain_found : (f : Field) (v : ℕ) (seen : List MatchField) (x : List ℕ) → v ≤ ones_of f → list_any (λ y. eqb (number_of y.field) (number_of f)) seen ≡ false
-    → let e : MatchField = record { field = f; value = v; mask = None } in IsFound e seen (spelling e ++ x) (length (spelling e))
-unfolding spelling
+    → let e : MatchField = record { field = f; value = v; mask = None } in IsFound e seen (encoding e ++ x) (length (encoding e))
+unfolding encoding
 plain_found f v seen x fits first =
     let e : MatchField = record { field = f; value = v; mask = None } in
-    let rest = spelling e ++ x in
+    let rest = encoding e ++ x in
     let n = bytes_of f in
     let len : length (big_bytes n v) ≡ n = length-bytes_high_first n v in
     let bit : (2 * number_of f + 0) % 2 ≡ 0 = omega arith in
@@ -175,11 +175,11 @@ plain_found f v seen x fits first =
     }
 
 masked_found : (f : Field) (v m : ℕ) (seen : List MatchField) (x : List ℕ) → v ≤ ones_of f → IsMask f v m → list_any (λ y. eqb (number_of y.field) (number_of f)) seen ≡ false
-    → let e : MatchField = record { field = f; value = v; mask = Some m } in IsFound e seen (spelling e ++ x) (length (spelling e))
-unfolding spelling
+    → let e : MatchField = record { field = f; value = v; mask = Some m } in IsFound e seen (encoding e ++ x) (length (encoding e))
+unfolding encoding
 masked_found f v m seen x fits mask first =
     let e : MatchField = record { field = f; value = v; mask = Some m } in
-    let rest = spelling e ++ x in
+    let rest = encoding e ++ x in
     let n = bytes_of f in
     let len : length (big_bytes n v) ≡ n = length-bytes_high_first n v in
     let len2 : length (big_bytes n m) ≡ n = length-bytes_high_first n m in
@@ -200,10 +200,10 @@ masked_found f v m seen x fits mask first =
     }
 
 found : (f : Field) (v : ℕ) (mask : Option ℕ) (seen : List MatchField) (x : List ℕ) → v ≤ ones_of f → IfSome mask (IsMask f v) → list_any (λ y. eqb (number_of y.field) (number_of f)) seen ≡ false
-    → let e : MatchField = record { field = f; value = v; mask = mask } in IsFound e seen (spelling e ++ x) (length (spelling e))
+    → let e : MatchField = record { field = f; value = v; mask = mask } in IsFound e seen (encoding e ++ x) (length (encoding e))
 found f v None seen x fits mask first = plain_found f v seen x fits first
 found f v (Some m) seen x fits mask first = masked_found f v m seen x fits mask first
 
--- a field that is spelt is read, whatever follows
-pub field_again : (e : MatchField) (seen : List MatchField) (x : List ℕ) → IsSpelt e → list_any (λ y. eqb (number_of y.field) (number_of e.field)) seen ≡ false → IsFound e seen (spelling e ++ x) (length (spelling e))
-field_again e seen x spelt first = found e.field e.value e.mask seen x spelt.value spelt.mask first
+-- a field that is encoded is read, whatever follows
+pub field_again : (e : MatchField) (seen : List MatchField) (x : List ℕ) → IsEncoded e → list_any (λ y. eqb (number_of y.field) (number_of e.field)) seen ≡ false → IsFound e seen (encoding e ++ x) (length (encoding e))
+field_again e seen x encoded first = found e.field e.value e.mask seen x encoded.value encoded.mask first

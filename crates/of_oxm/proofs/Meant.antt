@@ -1,4 +1,4 @@
--- What the normal form of a match matches is what each field, as it was spelt, agrees with.
+-- What the normal form of a match matches is what each field, as it was encoded, agrees with.
 use Rattle.std.proofs.Common.{◌≡◌, ℕ, Bool, true, false, cond, eqb, List, [], ◌∷◌, Option, Some, None, refl, sym, ap, ◌∙◌, arith}
 use Rattle.std.specs.Prelude.{bit_and, ◌&&◌, nat_lt, unwrap_or}
 use Rattle.std.specs.Int.Bits.{and_self}

@@ -11,7 +11,7 @@ use Rattle.of_layers.specs.declared.field.Field.{Field}
 use Rattle.of_oxm.specs.declared.match_field.MatchField.{MatchField}
 use Rattle.of_layers.specs.Fields.{number_of, bits_of, ones_of, is_maskable}
 use Rattle.of_layers.proofs.Table.{ones_is}
-use Rattle.of_oxm.specs.MatchFieldWire.{IsSpelt, IsMask}
+use Rattle.of_oxm.specs.MatchFieldWire.{IsEncoded, IsMask}
 use Rattle.of_oxm.specs.NormalForm.{under, kept, with_field, with_kept_field, normal, IsKept, IsAscending}
 use Rattle.of_oxm.specs.MatchGrammar.{AreFieldsAfter}
 use Rattle.of_oxm.specs.MatchFieldWire.{is_among}
@@ -140,8 +140,8 @@ keeps_by f v None k fits mask h =
     subst (λ (x : MatchField). Keeps e x) same (record { field = refl; kept = record { value = fits; mask = tt } })
 keeps_by f v (Some m) k fits mask h = keeps_masked (record { field = f; value = v; mask = Some m }) k m fits mask h
 
-keeps : (e k : MatchField) → IsSpelt e → kept e ≡ Some k → Keeps e k
-keeps e k spelt h = keeps_by e.field e.value e.mask k spelt.value spelt.mask h
+keeps : (e k : MatchField) → IsEncoded e → kept e ≡ Some k → Keeps e k
+keeps e k encoded h = keeps_by e.field e.value e.mask k encoded.value encoded.mask h
 
 among_normal : (f : Field) (seen es : List MatchField) → AreFieldsAfter seen es → is_among f es ≡ false → is_among f (normal es) ≡ false
 among_normal f seen [] fine h = refl

@@ -9,7 +9,7 @@ use Rattle.of_wire.specs.declared.code.ReadError.TheVariants as errors
 use Rattle.of_oxm.specs.declared.match_field.MatchField.{MatchField}
 use Rattle.of_wire.specs.Refusals.{first_of, refusal}
 use Rattle.of_oxm.specs.NormalForm.{normal, IsMatch, IsKept, IsAscending}
-use Rattle.of_oxm.specs.MatchGrammar.{spellings, IsEnd, Fields, IsFaulty, match_len, padded, body_of, head_refusals, SpellsMatch, IsRefusedMatch}
+use Rattle.of_oxm.specs.MatchGrammar.{encodings, IsEnd, Fields, IsFaulty, match_len, padded, body_of, head_refusals, EncodesMatch, IsRefusedMatch}
 use Rattle.of_oxm.specs.Prerequisites.{prerequisites_met}
 use Rattle.of_wire.specs.Failures.{Fails}
 use Rattle.std.specs.List.{AllByRecursion}
@@ -29,9 +29,9 @@ no_rest : (seen : List MatchField) (rest : List ℕ) → IsEnd seen rest None �
 no_rest seen [] h = refl
 no_rest seen (b ∷ bs) h = let none : false ≡ true = h.1 in absurd cc
 
-pub spelt : (bytes : List ℕ) (fields : List MatchField) (m : List MatchField) → IsBytes bytes → 4 ≤ length bytes → big_number 2 bytes ≡ 1 → 4 ≤ match_len bytes → padded (match_len bytes) ≤ length bytes
-    → Fields [] (body_of bytes) fields None → m ≡ normal fields → prerequisites_met m ≡ true → SpellsMatch (take (padded (match_len bytes)) bytes) m
-spelt (a ∷ b ∷ c ∷ d ∷ tail) fields m fits h4 kind low high walk normal_is met =
+pub encoded : (bytes : List ℕ) (fields : List MatchField) (m : List MatchField) → IsBytes bytes → 4 ≤ length bytes → big_number 2 bytes ≡ 1 → 4 ≤ match_len bytes → padded (match_len bytes) ≤ length bytes
+    → Fields [] (body_of bytes) fields None → m ≡ normal fields → prerequisites_met m ≡ true → EncodesMatch (take (padded (match_len bytes)) bytes) m
+encoded (a ∷ b ∷ c ∷ d ∷ tail) fields m fits h4 kind low high walk normal_is met =
     let bytes = a ∷ b ∷ c ∷ d ∷ tail in
     let len = match_len bytes in
     let more = padded len - 4 in
@@ -41,11 +41,11 @@ spelt (a ∷ b ∷ c ∷ d ∷ tail) fields m fits h4 kind low high walk normal_
     let more_is : padded len ≡ suc (suc (suc (suc more))) = omega arith in
     let cut : take (padded len) bytes ≡ a ∷ b ∷ c ∷ d ∷ take more tail = ap (λ (k : ℕ). take k bytes) more_is in
     let two : big_bytes 2 len ≡ c ∷ d ∷ [] = big_bytes-big_number 2 (c ∷ d ∷ tail) (omega arith) (λ i. fits (suc (suc i))) in
-    let body : take (len - 4) tail ≡ spellings fields = walk.whole ∙ ap (λ (t : List ℕ). spellings fields ++ t) (no_rest ([] ++ fields) walk.rest walk.ended) ∙ append-nil (spellings fields) in
+    let body : take (len - 4) tail ≡ encodings fields = walk.whole ∙ ap (λ (t : List ℕ). encodings fields ++ t) (no_rest ([] ++ fields) walk.rest walk.ended) ∙ append-nil (encodings fields) in
     let padding = drop (len - 4) (take more tail) in
     let front : take (len - 4) (take more tail) ≡ take (len - 4) tail = take-take (len - 4) more tail (omega arith) in
-    let parts : take more tail ≡ spellings fields ++ padding = sym (take-append-drop (len - 4) (take more tail)) ∙ ap (λ (t : List ℕ). t ++ padding) (front ∙ body) in
-    let cells : a ∷ b ∷ c ∷ d ∷ take more tail ≡ 0 ∷ 1 ∷ c ∷ d ∷ (spellings fields ++ padding) = cc in
+    let parts : take more tail ≡ encodings fields ++ padding = sym (take-append-drop (len - 4) (take more tail)) ∙ ap (λ (t : List ℕ). t ++ padding) (front ∙ body) in
+    let cells : a ∷ b ∷ c ∷ d ∷ take more tail ≡ 0 ∷ 1 ∷ c ∷ d ∷ (encodings fields ++ padding) = cc in
     record {
       fields = fields;
       padding = padding;
@@ -53,15 +53,15 @@ spelt (a ∷ b ∷ c ∷ d ∷ tail) fields m fits h4 kind low high walk normal_
       fine = walk.fine;
       len_is = omega (arith, ap length body, length-take (len - 4) tail);
       len_fits = big_from-lt 0 2 (c ∷ d ∷ tail) (λ i. fits (suc (suc i)));
-      whole = cut ∙ cells ∙ ap (λ (t : List ℕ). 0 ∷ 1 ∷ (t ++ (spellings fields ++ padding))) (sym two);
+      whole = cut ∙ cells ∙ ap (λ (t : List ℕ). 0 ∷ 1 ∷ (t ++ (encodings fields ++ padding))) (sym two);
       size = omega (arith, length-take (padded len) bytes);
       normal_form = normal_is;
       met = met;
     }
-spelt [] fields m fits h4 kind low high walk normal_is met = absurd (omega arith)
-spelt (a ∷ []) fields m fits h4 kind low high walk normal_is met = absurd (omega arith)
-spelt (a ∷ b ∷ []) fields m fits h4 kind low high walk normal_is met = absurd (omega arith)
-spelt (a ∷ b ∷ c ∷ []) fields m fits h4 kind low high walk normal_is met = absurd (omega arith)
+encoded [] fields m fits h4 kind low high walk normal_is met = absurd (omega arith)
+encoded (a ∷ []) fields m fits h4 kind low high walk normal_is met = absurd (omega arith)
+encoded (a ∷ b ∷ []) fields m fits h4 kind low high walk normal_is met = absurd (omega arith)
+encoded (a ∷ b ∷ c ∷ []) fields m fits h4 kind low high walk normal_is met = absurd (omega arith)
 
 pub is_match : (bytes : List ℕ) (fields : List MatchField) (m : List MatchField) → Fields [] bytes fields None → m ≡ normal fields → prerequisites_met m ≡ true → IsMatch m
 is_match bytes fields m walk normal_is met =
@@ -72,10 +72,10 @@ is_match bytes fields m walk normal_is met =
       met = rw met refl;
     }
 
-pub whole_spelt : (bytes body : List ℕ) (len : ℕ) (fields m : List MatchField) → IsBytes bytes → first_of (head_refusals bytes) ≡ None → len ≡ match_len bytes → body ≡ body_of bytes
-    → Fields [] body fields None → m ≡ normal fields → prerequisites_met m ≡ true → SpellsMatch (take (padded len) bytes) m
-whole_spelt bytes body len fields m fits none len_is body_is walk normal_is met =
+pub whole_encoded : (bytes body : List ℕ) (len : ℕ) (fields m : List MatchField) → IsBytes bytes → first_of (head_refusals bytes) ≡ None → len ≡ match_len bytes → body ≡ body_of bytes
+    → Fields [] body fields None → m ≡ normal fields → prerequisites_met m ≡ true → EncodesMatch (take (padded len) bytes) m
+whole_encoded bytes body len fields m fits none len_is body_is walk normal_is met =
     let t = none_applies (head_refusals bytes) none in
     let p = or_false _ _ t.1.1.0 in
-    subst (λ (n : ℕ). SpellsMatch (take (padded n) bytes) m) (sym len_is)
-    (spelt bytes fields m fits (ltb-false _ _ t.0) (eqb-true _ _ (not_false _ t.1.0)) (ltb-false _ _ p.0) (ltb-false _ _ p.1) (subst (λ (b : List ℕ). Fields [] b fields None) body_is walk) normal_is met)
+    subst (λ (n : ℕ). EncodesMatch (take (padded n) bytes) m) (sym len_is)
+    (encoded bytes fields m fits (ltb-false _ _ t.0) (eqb-true _ _ (not_false _ t.1.0)) (ltb-false _ _ p.0) (ltb-false _ _ p.1) (subst (λ (b : List ℕ). Fields [] b fields None) body_is walk) normal_is met)

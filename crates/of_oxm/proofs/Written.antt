@@ -1,4 +1,4 @@
--- What is written is a spelling.
+-- What is written is an encoding.
 use Rattle.std.proofs.Common.{◌≡◌, ℕ, suc, ◌+◌, ◌-◌, ◌*◌, ◌^◌, ◌<◌, ◌≤◌, Bool, false, eqb, List, [], ◌∷◌, ◌++◌, length, take, replicate, Option, Some, None, refl, sym, ap, ◌∙◌, arith, inl}
 use Rattle.std.specs.Prelude.{IfSome, ◌||◌}
 use Rattle.std.specs.List.{AllByRecursion}
@@ -9,26 +9,26 @@ use Rattle.byteorder.specs.Numbers.{length-bytes_high_first}
 use Rattle.of_layers.specs.declared.field.Field.{Field}
 use Rattle.of_oxm.specs.declared.match_field.MatchField.{MatchField}
 use Rattle.of_layers.specs.Fields.{number_of, bytes_of, ones_of}
-use Rattle.of_oxm.specs.MatchFieldWire.{IsSpelt, IsMask, spelling}
+use Rattle.of_oxm.specs.MatchFieldWire.{IsEncoded, IsMask, encoding}
 use Rattle.of_oxm.specs.NormalForm.{kept, with_field, with_kept_field, normal, IsKept, IsKeptMask, IsAscending, IsMatch}
-use Rattle.of_oxm.specs.MatchGrammar.{AreFieldsAfter, spellings, padded, SpellsMatch}
+use Rattle.of_oxm.specs.MatchGrammar.{AreFieldsAfter, encodings, padded, EncodesMatch}
 use Rattle.of_oxm.specs.MatchFieldWire.{is_among}
 use Rattle.of_oxm.specs.Canonical.{written_len, canonical}
 use Rattle.of_layers.proofs.Table.{number_below, bytes_most, value_below}
 use Rattle.of_oxm.proofs.Normal.{among_append}
 
--- ---- a field of a match has a spelling
+-- ---- a field of a match has an encoding
 
 kept_mask : (f : Field) (v : ℕ) (mask : Option ℕ) → IfSome mask (IsKeptMask f v) → IfSome mask (IsMask f v)
 kept_mask f v None h = tt
 kept_mask f v (Some m) h = record { fits = value_below f m (omega (arith, h.not_all)); allowed = inl h.maskable; covers = h.covers }
 
-pub kept_spelt : (e : MatchField) → IsKept e → IsSpelt e
-kept_spelt e h = record { value = h.value; mask = kept_mask e.field e.value e.mask h.mask }
+pub kept_encoded : (e : MatchField) → IsKept e → IsEncoded e
+kept_encoded e h = record { value = h.value; mask = kept_mask e.field e.value e.mask h.mask }
 
-pub all_spelt : (m : List MatchField) → AllByRecursion IsKept m → AllByRecursion IsSpelt m
-all_spelt [] h = tt
-all_spelt (e ∷ es) h = (kept_spelt e h.0, all_spelt es h.1)
+pub all_encoded : (m : List MatchField) → AllByRecursion IsKept m → AllByRecursion IsEncoded m
+all_encoded [] h = tt
+all_encoded (e ∷ es) h = (kept_encoded e h.0, all_encoded es h.1)
 
 -- ---- a match is its own normal form
 
@@ -61,7 +61,7 @@ not_among e seen (x ∷ xs) h up =
 
 fine_rising : (seen m : List MatchField) → AllByRecursion IsKept m → IsAscending m → AllByRecursion (λ x. is_among x.field seen ≡ false) m → AreFieldsAfter seen m
 fine_rising seen [] each up h = tt
-fine_rising seen (e ∷ es) each up h = (kept_spelt e each.0, h.0, fine_rising (seen ++ e ∷ []) es each.1 up.1 (not_among e seen es h.1 up.0))
+fine_rising seen (e ∷ es) each up h = (kept_encoded e each.0, h.0, fine_rising (seen ++ e ∷ []) es each.1 up.1 (not_among e seen es h.1 up.0))
 
 none_before : (m : List MatchField) → AllByRecursion (λ x. is_among x.field [] ≡ false) m
 none_before [] = tt
@@ -80,32 +80,32 @@ count (e ∷ es) n up h le =
     let rest = count es (suc (number_of e.field)) up.1 (all_from (number_of e.field) (number_of e.field) es (omega arith) up.0) (omega (arith, here)) in
     omega (arith, rest, h.0)
 
-length-spelling : (f : Field) (v : ℕ) (mask : Option ℕ) → let e : MatchField = record { field = f; value = v; mask = mask } in length (spelling e) ≤ 36
-unfolding spelling
-length-spelling f v None = let b = bytes_most f in simp length-append (omega (arith, b, length-bytes_high_first (bytes_of f) v))
-length-spelling f v (Some m) = let b = bytes_most f in simp length-append (omega (arith, b, length-bytes_high_first (bytes_of f) v, length-bytes_high_first (bytes_of f) m))
+length-encoding : (f : Field) (v : ℕ) (mask : Option ℕ) → let e : MatchField = record { field = f; value = v; mask = mask } in length (encoding e) ≤ 36
+unfolding encoding
+length-encoding f v None = let b = bytes_most f in simp length-append (omega (arith, b, length-bytes_high_first (bytes_of f) v))
+length-encoding f v (Some m) = let b = bytes_most f in simp length-append (omega (arith, b, length-bytes_high_first (bytes_of f) v, length-bytes_high_first (bytes_of f) m))
 
-length-spellings : (m : List MatchField) → length (spellings m) ≤ 36 * length m
-length-spellings [] = omega arith
-length-spellings (e ∷ es) = omega (arith, length-append (spelling e) (spellings es), length-spelling e.field e.value e.mask, length-spellings es)
+length-encodings : (m : List MatchField) → length (encodings m) ≤ 36 * length m
+length-encodings [] = omega arith
+length-encodings (e ∷ es) = omega (arith, length-append (encoding e) (encodings es), length-encoding e.field e.value e.mask, length-encodings es)
 
 none_low : (m : List MatchField) → AllByRecursion (λ x. 0 ≤ number_of x.field) m
 none_low [] = tt
 none_low (e ∷ es) = (omega arith, none_low es)
 
 pub written_fits : (m : List MatchField) → IsAscending m → written_len m < 2 ^ 16
-written_fits m up = omega (arith, length-spellings m, count m 0 up (none_low m) (omega arith))
+written_fits m up = omega (arith, length-encodings m, count m 0 up (none_low m) (omega arith))
 
 pub canonical_short : (m : List MatchField) → IsAscending m → length (canonical m) ≤ 1128
 unfolding canonical
 canonical_short m up =
     let len = written_len m in
-    let few : len ≤ 1120 = omega (arith, length-spellings m, count m 0 up (none_low m) (omega arith)) in
+    let few : len ≤ 1120 = omega (arith, length-encodings m, count m 0 up (none_low m) (omega arith)) in
     simp (length-append, length-replicate) (omega (arith, few))
 
-pub canonical_spells : (m : List MatchField) → IsMatch m → SpellsMatch (canonical m) m
+pub canonical_encodes : (m : List MatchField) → IsMatch m → EncodesMatch (canonical m) m
 unfolding canonical
-canonical_spells m h =
+canonical_encodes m h =
     let len = written_len m in
     let le : len ≤ padded len = omega arith in
     record {
@@ -121,15 +121,15 @@ canonical_spells m h =
       met = h.met;
     }
 
-pub is_canonical : (m kept_fields : List MatchField) (fields copied s1 s2 s3 s4 padding : List ℕ) (n k : ℕ) → kept_fields ≡ m → fields ≡ spellings kept_fields → n ≡ length fields → copied ≡ fields → s1 ≡ 0 ∷ 1 ∷ []
+pub is_canonical : (m kept_fields : List MatchField) (fields copied s1 s2 s3 s4 padding : List ℕ) (n k : ℕ) → kept_fields ≡ m → fields ≡ encodings kept_fields → n ≡ length fields → copied ≡ fields → s1 ≡ 0 ∷ 1 ∷ []
     → s2 ≡ s1 ++ big_bytes 2 (4 + n) → s3 ≡ s2 ++ copied → s4 ≡ s3 ++ padding → k ≡ padded (4 + n) - (4 + n) → padding ≡ take k (replicate 8 0) → s4 ≡ canonical m
 unfolding canonical
 is_canonical m kept_fields fields copied s1 s2 s3 s4 padding n k same fields_is n_is copied_is e1 e2 e3 e4 k_is pad_is =
-    let text : fields ≡ spellings m = fields_is ∙ ap spellings same in
+    let text : fields ≡ encodings m = fields_is ∙ ap encodings same in
     let len : 4 + n ≡ written_len m = ap (λ (x : ℕ). 4 + x) (n_is ∙ ap length text) in
     let few : k ≤ 8 = omega arith in
     let zeros : padding ≡ replicate (padded (written_len m) - written_len m) 0 = pad_is ∙ take-replicate k 8 0 few ∙ ap (λ (x : ℕ). replicate x 0) (k_is ∙ ap (λ (x : ℕ). padded x - x) len) in
     let front : s2 ≡ 0 ∷ 1 ∷ big_bytes 2 (written_len m) = e2 ∙ ap (λ (x : List ℕ). x ++ big_bytes 2 (4 + n)) e1 ∙ ap (λ (x : ℕ). 0 ∷ 1 ∷ big_bytes 2 x) len in
-    let body : s3 ≡ 0 ∷ 1 ∷ (big_bytes 2 (written_len m) ++ spellings m) = e3 ∙ ap (λ (x : List ℕ). x ++ copied) front ∙ ap (λ (x : List ℕ). 0 ∷ 1 ∷ (big_bytes 2 (written_len m) ++ x)) (copied_is ∙ text) in
-    e4 ∙ ap (λ (x : List ℕ). x ++ padding) body ∙ ap (λ (x : List ℕ). (0 ∷ 1 ∷ (big_bytes 2 (written_len m) ++ spellings m)) ++ x) zeros
-    ∙ ap (λ (x : List ℕ). 0 ∷ 1 ∷ x) (append_assoc (big_bytes 2 (written_len m)) (spellings m) (replicate (padded (written_len m) - written_len m) 0))
+    let body : s3 ≡ 0 ∷ 1 ∷ (big_bytes 2 (written_len m) ++ encodings m) = e3 ∙ ap (λ (x : List ℕ). x ++ copied) front ∙ ap (λ (x : List ℕ). 0 ∷ 1 ∷ (big_bytes 2 (written_len m) ++ x)) (copied_is ∙ text) in
+    e4 ∙ ap (λ (x : List ℕ). x ++ padding) body ∙ ap (λ (x : List ℕ). (0 ∷ 1 ∷ (big_bytes 2 (written_len m) ++ encodings m)) ++ x) zeros
+    ∙ ap (λ (x : List ℕ). 0 ∷ 1 ∷ x) (append_assoc (big_bytes 2 (written_len m)) (encodings m) (replicate (padded (written_len m) - written_len m) 0))

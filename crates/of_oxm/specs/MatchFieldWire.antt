@@ -9,7 +9,7 @@ use Rattle.of_layers.specs.declared.field.Field.{Field}
 use Rattle.of_layers.specs.Fields.{number_of, bytes_of, ones_of, is_maskable, field_at}
 use Rattle.of_oxm.specs.declared.match_field.MatchField.{MatchField}
 
--- ---- the spelling of a field
+-- ---- the encoding of a field
 
 -- the value, or the value and a mask of the same size
 abbrev pub body_len : Field → Bool → ℕ
@@ -23,8 +23,8 @@ abbrev pub mask_bytes : ℕ → Option ℕ → List ℕ
 mask_bytes n None = []
 mask_bytes n (Some m) = big_bytes n m
 
-unfoldable pub spelling : MatchField → List ℕ
-spelling e = 128 ∷ 0 ∷ (2 * number_of e.field + flag e.mask) ∷ body_len e.field (is_some e.mask) ∷ (big_bytes (bytes_of e.field) e.value ++ mask_bytes (bytes_of e.field) e.mask)
+unfoldable pub encoding : MatchField → List ℕ
+encoding e = 128 ∷ 0 ∷ (2 * number_of e.field + flag e.mask) ∷ body_len e.field (is_some e.mask) ∷ (big_bytes (bytes_of e.field) e.value ++ mask_bytes (bytes_of e.field) e.mask)
 
 -- what a mask may be: all ones where the field takes no mask, and no bit of the value is set where the mask has a 0 (7.2.3.5)
 pub record IsMask (f : Field) (value mask : ℕ) : Type 0 where
@@ -32,8 +32,8 @@ pub record IsMask (f : Field) (value mask : ℕ) : Type 0 where
   pub allowed : (is_maskable f ≡ true) ⊎ (bit_and mask (ones_of f) ≡ ones_of f)
   pub covers : bit_and value mask ≡ value
 
--- what has a spelling
-pub record IsSpelt (e : MatchField) : Type 0 where
+-- what has an encoding
+pub record IsEncoded (e : MatchField) : Type 0 where
   pub value : e.value ≤ ones_of e.field
   pub mask : IfSome e.mask (IsMask e.field e.value)
 

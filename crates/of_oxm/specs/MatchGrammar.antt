@@ -1,4 +1,4 @@
--- The grammar of matches: which bytes spell which match, and which code other bytes have (OpenFlow 1.3.5, 7.2.3 and 7.4.4).
+-- The grammar of matches: which bytes encode which match, and which code other bytes have (OpenFlow 1.3.5, 7.2.3 and 7.4.4).
 use Rattle.std.specs.Prelude.{◌≡◌, ℕ, ◌+◌, ◌-◌, ◌*◌, ◌/◌, ◌^◌, ◌<◌, ◌==◌, nat_lt, Bool, true, false, not, ◌||◌, List, [], ◌∷◌, ◌++◌, length, take, drop, Option, Some, None, IsSome, Result, Ok, Err}
 use Rattle.std.specs.List.{flat_map}
 use Rattle.byteorder.specs.Endian.{big_number, big_bytes}
@@ -9,19 +9,19 @@ use Rattle.of_wire.specs.declared.code.ReadError.TheVariants as errors
 use Rattle.of_wire.specs.Failures.{Fails}
 use Rattle.of_wire.specs.Refusals.{first_of}
 use Rattle.of_oxm.specs.declared.match_field.MatchField.{MatchField}
-use Rattle.of_oxm.specs.MatchFieldWire.{IsSpelt, spelling, is_among, field_refusals}
+use Rattle.of_oxm.specs.MatchFieldWire.{IsEncoded, encoding, is_among, field_refusals}
 use Rattle.of_oxm.specs.Prerequisites.{prerequisites_met}
 use Rattle.of_oxm.specs.NormalForm.{normal}
 
 -- ---- the fields, in any order
 
-abbrev pub spellings : List MatchField → List ℕ
-spellings fields = flat_map spelling fields
+abbrev pub encodings : List MatchField → List ℕ
+encodings fields = flat_map encoding fields
 
--- after the fields `seen`, each of these is well spelt and occurs for the first time
+-- after the fields `seen`, each of these is well encoded and occurs for the first time
 abbrev pub AreFieldsAfter : List MatchField → List MatchField → Type 0
 AreFieldsAfter seen [] = Unit {0}
-AreFieldsAfter seen (e ∷ es) = IsSpelt e × (is_among e.field seen ≡ false) × AreFieldsAfter (seen ++ e ∷ []) es
+AreFieldsAfter seen (e ∷ es) = IsEncoded e × (is_among e.field seen ≡ false) × AreFieldsAfter (seen ++ e ∷ []) es
 
 -- after the fields `seen`, bytes end, or go on with a fault
 abbrev pub IsEnd : List MatchField → List ℕ → Option Code → Type 0
@@ -31,7 +31,7 @@ IsEnd seen (b ∷ bs) fault = (first_of (field_refusals seen (b ∷ bs)) ≡ fau
 -- after the fields `seen`, bytes are these fields, and then they end or have a fault
 pub record Fields (seen : List MatchField) (bytes : List ℕ) (fields : List MatchField) (fault : Option Code) : Type 0 where
   pub rest : List ℕ
-  pub whole : bytes ≡ spellings fields ++ rest
+  pub whole : bytes ≡ encodings fields ++ rest
   pub fine : AreFieldsAfter seen fields
   pub ended : IsEnd (seen ++ fields) rest fault
 
@@ -60,19 +60,19 @@ head_refusals bytes =
     ∷ []
 
 -- The bytes are: type 1 (OFPMT_OXM), the length, the fields in some order, each once, and padding that the length leaves out; and the match is the normal form of the fields, with all prerequisites.
-pub record SpellsMatch (bytes : List ℕ) (m : List MatchField) : Type 0 where
+pub record EncodesMatch (bytes : List ℕ) (m : List MatchField) : Type 0 where
   pub fields : List MatchField
   pub padding : List ℕ
   pub len : ℕ
   pub fine : AreFieldsAfter [] fields
-  pub len_is : len ≡ 4 + length (spellings fields)
+  pub len_is : len ≡ 4 + length (encodings fields)
   pub len_fits : len < 2 ^ 16
-  pub whole : bytes ≡ 0 ∷ 1 ∷ (big_bytes 2 len ++ (spellings fields ++ padding))
+  pub whole : bytes ≡ 0 ∷ 1 ∷ (big_bytes 2 len ++ (encodings fields ++ padding))
   pub size : length bytes ≡ padded len
   pub normal_form : m ≡ normal fields
   pub met : prerequisites_met m ≡ true
 
--- Bytes that begin with no spelling of a match have one code: of the head, of the first field that has a fault, or of a missing prerequisite.
+-- Bytes that begin with no encoding of a match have one code: of the head, of the first field that has a fault, or of a missing prerequisite.
 pub data IsRefusedMatch (bytes : List ℕ) (code : Code) : Type 0 where
   head : first_of (head_refusals bytes) ≡ Some code → IsRefusedMatch bytes code
   field : first_of (head_refusals bytes) ≡ None → (fields : List MatchField) → Fields [] (body_of bytes) fields (Some code) → IsRefusedMatch bytes code

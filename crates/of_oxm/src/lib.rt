@@ -1,4 +1,4 @@
-//! Matches of flows: how they are spelt on the wire, what they match, cover and overlap (OpenFlow 1.3.5, 7.2.3).
+//! Matches of flows: how they are encoded on the wire, what they match, cover and overlap (OpenFlow 1.3.5, 7.2.3).
 #![tactic(auto)]
 
 mod field_reading;
@@ -16,7 +16,7 @@ pub use masks::{FieldMask, agreeing_match_alike, key_of, mask_of, matched_is_see
 pub use match_field::MatchField;
 pub use of_wire::{Code, ReadError};
 pub use prerequisites::{is_met, prerequisites_met};
-pub use reading::{one_code, one_spelling, read_match};
+pub use reading::{one_code, one_encoding, read_match};
 pub use relations::{
     covered_has_prerequisites, covered_is_matched, covers, matched_is_covered, matches,
     normal_form_is_meant, overlap_is_common_match, overlaps,

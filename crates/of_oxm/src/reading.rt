@@ -3,7 +3,7 @@
 ghost use Rattle.std.specs.Prelude.{◌≡◌, ◌++◌, ℕ, ◌≤◌, ◌<◌, List, [], Some, None, Ok, ◌-◌, length, take, drop, IfOk, OnOk, IfErr};
 ghost use Rattle.of_wire.specs.Refusals.{first_of};
 ghost use Rattle.of_wire.specs.Failures.{Fails, Reads};
-ghost use Rattle.of_oxm.specs.MatchGrammar.{Fields, IsFaulty, SpellsMatch, IsRefusedMatch, ReadsAs, RefusesAs, head_refusals, match_len, padded};
+ghost use Rattle.of_oxm.specs.MatchGrammar.{Fields, IsFaulty, EncodesMatch, IsRefusedMatch, ReadsAs, RefusesAs, head_refusals, match_len, padded};
 ghost use Rattle.of_oxm.specs.MatchReading.{match_of};
 ghost use Rattle.of_oxm.specs.declared.match_field.MatchField.{MatchField};
 ghost use Rattle.of_wire.specs.declared.code.Code.{Code};
@@ -72,7 +72,7 @@ fn fields_of(bytes: &[u8], len: usize) -> &[u8]
 
 fn parse(alloc: Global, bytes: &[u8]) -> Result<(Match, usize), ReadError>
     ensures size { IfOk result (λ r. r.1 ≤ length bytes.now) }
-    ensures found { IfOk result (λ r. SpellsMatch (take r.1 bytes.now) r.0) }
+    ensures found { IfOk result (λ r. EncodesMatch (take r.1 bytes.now) r.0) }
     ensures refused { IfErr result (Fails (IsRefusedMatch bytes.now)) }
     ensures reads { Reads result (match_of bytes.now) }
 {
@@ -91,12 +91,12 @@ fn parse(alloc: Global, bytes: &[u8]) -> Result<(Match, usize), ReadError>
 
 /// The match that the bytes begin with, and how many bytes it takes with its padding (OpenFlow 1.3.5, 7.2.3).
 pub fn read_match(alloc: Global, bytes: &[u8]) -> Result<(Match, usize), ReadError>
-    // What is read is spelled so.
+    // What is read is encoded so.
     ensures size { IfOk result (λ r. r.1 ≤ length bytes.now) }
-    ensures found { IfOk result (λ r. SpellsMatch (take r.1 bytes.now) r.0) }
+    ensures found { IfOk result (λ r. EncodesMatch (take r.1 bytes.now) r.0) }
 
-    // What is spelled is read, unless memory runs out.
-    ensures only { (a x : List ℕ) (m : List MatchField) → SpellsMatch a m → bytes.now ≡ a ++ x → ReadsAs m (length a) result }
+    // What is encoded is read, unless memory runs out.
+    ensures only { (a x : List ℕ) (m : List MatchField) → EncodesMatch a m → bytes.now ≡ a ++ x → ReadsAs m (length a) result }
 
     // Other bytes have one code, and it is answered, unless memory runs out.
     ensures refused { IfErr result (Fails (IsRefusedMatch bytes.now)) }
@@ -108,14 +108,14 @@ pub fn read_match(alloc: Global, bytes: &[u8]) -> Result<(Match, usize), ReadErr
     parse(alloc, bytes)
 }
 
-/// No spelling of a match begins another's, and no bytes spell two matches.
-pub fn one_spelling()
+/// No encoding of a match begins another's, and no bytes encode two matches.
+pub fn one_encoding()
     ensures { (a b x y : List ℕ) (m n : List MatchField) →
-        SpellsMatch a m → SpellsMatch b n → a ++ x ≡ b ++ y → (a ≡ b) × (m ≡ n) }
+        EncodesMatch a m → EncodesMatch b n → a ++ x ≡ b ++ y → (a ≡ b) × (m ≡ n) }
 {}
 
-/// Bytes that begin with the spelling of a match have no code, and others have no two.
+/// Bytes that begin with the encoding of a match have no code, and others have no two.
 pub fn one_code()
-    ensures spelt { (a x : List ℕ) (m : List MatchField) (code : Code) → SpellsMatch a m → ¬ IsRefusedMatch (a ++ x) code }
+    ensures encoded { (a x : List ℕ) (m : List MatchField) (code : Code) → EncodesMatch a m → ¬ IsRefusedMatch (a ++ x) code }
     ensures code { (bytes : List ℕ) (c d : Code) → IsRefusedMatch bytes c → IsRefusedMatch bytes d → c ≡ d }
 {}

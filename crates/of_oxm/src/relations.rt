@@ -117,7 +117,7 @@ pub fn covered_has_prerequisites()
         covers_match d m ≡ true → is_met d need ≡ true → is_met m need ≡ true }
 {}
 
-/// The normal form of a match matches what each of its fields agrees with as it was spelt, a mask of zeros agreeing with anything (OpenFlow 1.3.5, 7.2.3.5).
+/// The normal form of a match matches what each of its fields agrees with as it was encoded, a mask of zeros agreeing with anything (OpenFlow 1.3.5, 7.2.3.5).
 pub fn normal_form_is_meant()
     ensures { (fields : List MatchField) (map : Field → Option ℕ) → matches_map (normal fields) map ≡ are_met fields map }
 {}

@@ -2,8 +2,8 @@
 
 ghost use Rattle.std.specs.Prelude.{◌≡◌, ◌≤◌, ◌<◌, ◌++◌, length, OnOk, IfOk};
 ghost use Rattle.std.specs.List.{AllByRecursion};
-ghost use Rattle.of_oxm.specs.MatchFieldWire.{IsSpelt, spelling};
-ghost use Rattle.of_oxm.specs.MatchGrammar.{SpellsMatch, spellings};
+ghost use Rattle.of_oxm.specs.MatchFieldWire.{IsEncoded, encoding};
+ghost use Rattle.of_oxm.specs.MatchGrammar.{EncodesMatch, encodings};
 ghost use Rattle.of_oxm.specs.Canonical.{canonical};
 
 use crate::flow_match::Match;
@@ -11,10 +11,10 @@ use crate::match_field::MatchField;
 use of_wire::put_number;
 use std::alloc::{AllocError, Global};
 
-#[tactic(auto, using(of_layers::proofs::Table::value_below), unfolding(crate::specs::MatchFieldWire::spelling))]
+#[tactic(auto, using(of_layers::proofs::Table::value_below), unfolding(crate::specs::MatchFieldWire::encoding))]
 fn put_field(out: &mut Vec<u8>, e: &MatchField) -> Result<(), AllocError>
-    requires { IsSpelt e.now }
-    ensures { OnOk result (out.new.items ≡ out.old.items ++ spelling e.now) }
+    requires { IsEncoded e.now }
+    ensures { OnOk result (out.new.items ≡ out.old.items ++ encoding e.now) }
 {
     let row = e.field.row();
     match e.mask {
@@ -31,8 +31,8 @@ fn put_field(out: &mut Vec<u8>, e: &MatchField) -> Result<(), AllocError>
 }
 
 fn put_fields(out: &mut Vec<u8>, fields: &[MatchField]) -> Result<(), AllocError>
-    requires { AllByRecursion IsSpelt fields.now }
-    ensures { OnOk result (out.new.items ≡ out.old.items ++ spellings fields.now) }
+    requires { AllByRecursion IsEncoded fields.now }
+    ensures { OnOk result (out.new.items ≡ out.old.items ++ encodings fields.now) }
 {
     for e in fields {
         put_field(out, e)?;
@@ -40,10 +40,10 @@ fn put_fields(out: &mut Vec<u8>, fields: &[MatchField]) -> Result<(), AllocError
     Ok(())
 }
 
-/// The one spelling of a match that is written: fields in ascending order, and zeros for padding (OpenFlow 1.3.5, 7.2.3).
+/// The one encoding of a match that is written: fields in ascending order, and zeros for padding (OpenFlow 1.3.5, 7.2.3).
 pub fn write_match(alloc: Global, m: &Match) -> Result<Vec<u8>, AllocError>
     ensures canonical { IfOk result (λ v. v.items ≡ canonical m.now) }
-    ensures spells { IfOk result (λ v. SpellsMatch v.items m.now) }
+    ensures encodes { IfOk result (λ v. EncodesMatch v.items m.now) }
     ensures short { IfOk result (λ v. length v.items ≤ 1128) }
 {
     let mut fields = Vec::new(alloc);

@@ -56,8 +56,8 @@ pub flow_forwards_frame : Prints
 unfolding switch_on_literals is_utf8 chars encode decode_pairs encode_with digits
 flow_forwards_frame = (refl, refl)
 
--- so it does where its message comes in three pieces, and not before the last of them
-pub pieces_do_the_same : Prints
+-- so it does where its message comes in three chunks, and not before the last of them
+pub chunks_do_the_same : Prints
     (three_ports ++ hello
     ++ codes "c 040e0058000000"
     ∷ frame_in
@@ -68,4 +68,4 @@ pub pieces_do_the_same : Prints
     ∷ [])
     (answered_hello ∷ frame_out ∷ [])
 unfolding switch_on_literals is_utf8 chars encode decode_pairs encode_with digits
-pieces_do_the_same = (refl, refl)
+chunks_do_the_same = (refl, refl)

@@ -34,11 +34,11 @@ file_idle answers now next one file r e none = record {
   is = r.is ∙ sym (given_same r.more one none);
 }
 
-pub file_more : (answers now next : Option (List Answer)) (piece file file' : List ℕ) → FileSoFar answers now file → next ≡ then_answer now (Gave piece) → file' ≡ file ++ piece → FileSoFar answers next file'
-file_more answers now next piece file file' r e more = record {
-  more = r.more ++ Gave piece ∷ [];
-  answers_are = told_more answers now next r.more (Gave piece) r.answers_are e;
-  is = more ∙ (ap (λ (x : List ℕ). x ++ piece) r.is ∙ sym (given-more r.more (Gave piece)));
+pub file_more : (answers now next : Option (List Answer)) (chunk file file' : List ℕ) → FileSoFar answers now file → next ≡ then_answer now (Gave chunk) → file' ≡ file ++ chunk → FileSoFar answers next file'
+file_more answers now next chunk file file' r e more = record {
+  more = r.more ++ Gave chunk ∷ [];
+  answers_are = told_more answers now next r.more (Gave chunk) r.answers_are e;
+  is = more ∙ (ap (λ (x : List ℕ). x ++ chunk) r.is ∙ sym (given-more r.more (Gave chunk)));
 }
 
 pub file_ends : (answers now : Option (List Answer)) (ends ends' : ℕ) (file : List ℕ) → FileSoFar answers now file → ends' ≡ ends + 1 → ReadsFile (Ok tt) answers now ends ends' file

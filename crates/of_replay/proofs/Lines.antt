@@ -12,11 +12,11 @@ use Rattle.of_replay.specs.declared.halt.Halt.TheVariants.{Bad, Memory, Read, Wr
 use Rattle.of_replay.specs.Told.{then_bytes}
 use Rattle.of_replay.specs.Transfer.{WrotePrefix}
 use Rattle.of_replay.specs.Lexing.{whole_from, whole_lines, last_from}
-use Rattle.of_replay.specs.Rows.{EventRow, Passed, Connect, Lost, Piece, Frame, Moment, Ports, Rows, row_of, row_and, rows_of, events_in}
+use Rattle.of_replay.specs.Rows.{EventRow, Passed, Connect, Lost, Chunk, Frame, Moment, Ports, Rows, row_of, row_and, rows_of, events_in}
 use Rattle.of_replay.specs.Output.{report_text, printed_from}
 use Rattle.of_replay.specs.Play.{lines_read}
 use Rattle.of_replay.specs.RowTexts.{RowText, plain, row_happened, told, told_and, told_from}
-use Rattle.of_replay.specs.Stepping.{LineTells, LineGoes, Prints, PrintsFirst, Going, Within, WithinPiece, Halts, PieceGoes, WritesFail}
+use Rattle.of_replay.specs.Stepping.{LineTells, LineGoes, Prints, PrintsFirst, Going, Within, WithinChunk, Halts, ChunkGoes, WritesFail}
 use Rattle.of_replay.proofs.TellingLemmas.{then-then, then-nil}
 use Rattle.of_replay.proofs.Cutting.{kept_more, Parts, parts, first_end, whole_join, last_join}
 
@@ -27,7 +27,7 @@ row_text : (row : EventRow) (s : State) → report_text (row_happened s row).rep
 row_text Passed s = refl
 row_text Connect s = sym (append-nil _)
 row_text Lost s = refl
-row_text (Piece bytes) s = sym (append-nil _)
+row_text (Chunk bytes) s = sym (append-nil _)
 row_text (Frame port bytes) s = sym (append-nil _)
 row_text (Moment nanos) s = sym (append-nil _)
 row_text (Ports change) s = sym (append-nil _)
@@ -36,7 +36,7 @@ row_state : (row : EventRow) (s : State) → (row_happened s row).state ≡ (run
 row_state Passed s = refl
 row_state Connect s = refl
 row_state Lost s = refl
-row_state (Piece bytes) s = refl
+row_state (Chunk bytes) s = refl
 row_state (Frame port bytes) s = refl
 row_state (Moment nanos) s = refl
 row_state (Ports change) s = refl
@@ -308,7 +308,7 @@ goes_whole : (tale : RowText) (r : Result (Unit {0}) Halt) (line kept : List ℕ
     → LineGoes tale r n kept (row_of kept) s held out out' taken taken' → LineGoes tale r n line (row_of line) s held out out' taken taken'
 goes_whole tale r line kept n s held out out' taken taken' k h = goes_by tale r line kept (nat_le (length line) 1048576) n s held out out' taken taken' refl k h
 
--- LINES OF A PIECE
+-- LINES OF A CHUNK
 
 -- nothing was read
 pub within_start : (begun : State) (tale : RowText) (first : Option (List ℕ)) → Within begun tale [] [] [] 1 begun [] first first
@@ -327,16 +327,16 @@ within_start begun tale first = record {
 }
 
 -- more bytes are there
-pub within_more : (begun : State) (tale : RowText) (bytes piece kept : List ℕ) (n : ℕ) (s : State) (out : List ℕ) (first taken : Option (List ℕ)) → Within begun tale bytes [] kept n s out first taken → Within begun tale (bytes ++ piece) piece kept n s out first taken
-within_more begun tale bytes piece kept n s out first taken w = record {
+pub within_more : (begun : State) (tale : RowText) (bytes chunk kept : List ℕ) (n : ℕ) (s : State) (out : List ℕ) (first taken : Option (List ℕ)) → Within begun tale bytes [] kept n s out first taken → Within begun tale (bytes ++ chunk) chunk kept n s out first taken
+within_more begun tale bytes chunk kept n s out first taken w = record {
   lines = w.lines;
   line = w.line;
   going = w.going;
   kept_is = w.kept_is;
-  whole = whole_join [] bytes piece
-      ∙ (ap (λ (x : List ℕ). whole_from [] bytes ++ whole_from x piece) w.last
-      ∙ ap (λ (ls : List (List ℕ)). ls ++ whole_from w.line piece) (w.whole ∙ append-nil w.lines));
-  last = last_join [] bytes piece ∙ ap (λ (x : List ℕ). last_from x piece) w.last;
+  whole = whole_join [] bytes chunk
+      ∙ (ap (λ (x : List ℕ). whole_from [] bytes ++ whole_from x chunk) w.last
+      ∙ ap (λ (ls : List (List ℕ)). ls ++ whole_from w.line chunk) (w.whole ∙ append-nil w.lines));
+  last = last_join [] bytes chunk ∙ ap (λ (x : List ℕ). last_from x chunk) w.last;
 }
 
 -- all lines that are whole are behind
@@ -359,7 +359,7 @@ kept_line : (line part kept kept' : List ℕ) → kept ≡ take 1048577 line →
 kept_line line part kept kept' k e =
     e ∙ (ap (λ (x : List ℕ). take 1048577 (x ++ part)) k ∙ kept_more 1048577 line part)
 
--- a line of the piece was played
+-- a line of the chunk was played
 pub within_line : (begun : State) (tale : RowText) (bytes rest rest' part kept kept' kept'' : List ℕ) (k n n' : ℕ) (s held : State) (out out' : List ℕ) (first taken taken' : Option (List ℕ)) → Within begun tale bytes rest kept n s out first taken
     → Some k ≡ first_end rest → part ≡ take k rest → rest' ≡ drop (suc k) rest → kept' ≡ take 1048577 (kept ++ part) → LineGoes tale (Ok tt) n kept' (row_of kept') s held out out' taken taken' → kept'' ≡ [] → n' ≡ n + 1
     → Within begun tale bytes rest' kept'' n' held out' first taken'
@@ -382,8 +382,8 @@ within_line begun tale bytes rest rest' part kept kept' kept'' k n n' s held out
 open_lines : (bytes : List ℕ) → lines_read false bytes ≡ whole_lines bytes
 open_lines bytes = append-nil (whole_lines bytes)
 
--- the run halts at a line of the piece
-pub within_halts : (begun : State) (tale : RowText) (h : Halt) (before bytes rest part kept kept' : List ℕ) (k n : ℕ) (s held : State) (out out' : List ℕ) (first taken taken' : Option (List ℕ)) → WithinPiece begun tale before bytes rest kept n s out first taken
+-- the run halts at a line of the chunk
+pub within_halts : (begun : State) (tale : RowText) (h : Halt) (before bytes rest part kept kept' : List ℕ) (k n : ℕ) (s held : State) (out out' : List ℕ) (first taken taken' : Option (List ℕ)) → WithinChunk begun tale before bytes rest kept n s out first taken
     → Some k ≡ first_end rest → part ≡ take k rest → kept' ≡ take 1048577 (kept ++ part) → LineGoes tale (Err h) n kept' (row_of kept') s held out out' taken taken'
     → Halts begun tale h (whole_lines before) (lines_read false bytes) out' first taken'
 within_halts begun tale h before bytes rest part kept kept' k n s held out out' first taken taken' p some same kept_is goes =
@@ -397,7 +397,7 @@ within_halts begun tale h before bytes rest part kept kept' k n s held out out' 
     subst (λ (ls : List (List ℕ)). Halts begun tale h (whole_lines before) ls out' first taken') (sym lines) (halts_by begun tale h (row_of line) (whole_lines before) p.more w.lines line more n s held out out' first taken taken' p.lines_are refl w.going played)
 
 -- memory ran out before the line was kept
-pub within_waits : (begun : State) (tale : RowText) (before bytes rest kept : List ℕ) (n : ℕ) (s : State) (out out' : List ℕ) (first taken : Option (List ℕ)) → WithinPiece begun tale before bytes rest kept n s out first taken → out' ≡ out
+pub within_waits : (begun : State) (tale : RowText) (before bytes rest kept : List ℕ) (n : ℕ) (s : State) (out out' : List ℕ) (first taken : Option (List ℕ)) → WithinChunk begun tale before bytes rest kept n s out first taken → out' ≡ out
     → Halts begun tale Memory (whole_lines before) (lines_read false bytes) out' first taken
 within_waits begun tale before bytes rest kept n s out out' first taken p o =
     let w = p.within in
@@ -439,48 +439,48 @@ within_open begun tale bytes kept n s out first taken w =
     let lines : lines_read false bytes ≡ w.lines = open_lines bytes ∙ (w.whole ∙ append-nil w.lines) in
     subst (λ (ls : List (List ℕ)). ((rows_of ls).bad ≡ None) × Prints begun tale ls out first taken) (sym lines) (w.going.good, w.going.prints)
 
--- STEPS OF A PIECE
+-- STEPS OF A CHUNK
 
 -- no line ends in what is left
-pub piece_over : (begun : State) (tale : RowText) (r : Result (Unit {0}) Halt) (before bytes rest part kept kept' : List ℕ) (n n' : ℕ) (s s' : State) (out out' : List ℕ) (first taken : Option (List ℕ)) → WithinPiece begun tale before bytes rest kept n s out first taken
-    → None ≡ first_end part → part ≡ rest → OnOk r (kept' ≡ take 1048577 (kept ++ part)) → IfErr r (λ halt. halt ≡ Memory) → (n' ≡ n) × (s' ≡ s) × (out' ≡ out) → PieceGoes begun tale r before bytes kept' n' s' out' first taken
-piece_over begun tale (Ok u) before bytes rest part kept kept' n n' s s' out out' first taken p none same ok err e =
+pub chunk_over : (begun : State) (tale : RowText) (r : Result (Unit {0}) Halt) (before bytes rest part kept kept' : List ℕ) (n n' : ℕ) (s s' : State) (out out' : List ℕ) (first taken : Option (List ℕ)) → WithinChunk begun tale before bytes rest kept n s out first taken
+    → None ≡ first_end part → part ≡ rest → OnOk r (kept' ≡ take 1048577 (kept ++ part)) → IfErr r (λ halt. halt ≡ Memory) → (n' ≡ n) × (s' ≡ s) × (out' ≡ out) → ChunkGoes begun tale r before bytes kept' n' s' out' first taken
+chunk_over begun tale (Ok u) before bytes rest part kept kept' n n' s s' out out' first taken p none same ok err e =
     within_rest begun tale bytes rest part kept kept' n n' s s' out out' first taken p.within (none ∙ ap first_end same) same ok e.0 e.1 e.2
-piece_over begun tale (Err h) before bytes rest part kept kept' n n' s s' out out' first taken p none same ok err e =
+chunk_over begun tale (Err h) before bytes rest part kept kept' n n' s s' out out' first taken p none same ok err e =
     subst (λ (x : Halt). Halts begun tale x (whole_lines before) (lines_read false bytes) out' first taken) (sym err) (within_waits begun tale before bytes rest kept n s out out' first taken p e.2)
 
--- a piece begins
-pub piece_begun : (begun : State) (tale : RowText) (bytes piece kept : List ℕ) (n : ℕ) (s : State) (out : List ℕ) (first taken : Option (List ℕ)) → Within begun tale bytes [] kept n s out first taken → WithinPiece begun tale bytes (bytes ++ piece) piece kept n s out first taken
+-- a chunk begins
+pub chunk_begun : (begun : State) (tale : RowText) (bytes chunk kept : List ℕ) (n : ℕ) (s : State) (out : List ℕ) (first taken : Option (List ℕ)) → Within begun tale bytes [] kept n s out first taken → WithinChunk begun tale bytes (bytes ++ chunk) chunk kept n s out first taken
 unfolding within_more
-piece_begun begun tale bytes piece kept n s out first taken w = record {
-  within = within_more begun tale bytes piece kept n s out first taken w;
+chunk_begun begun tale bytes chunk kept n s out first taken w = record {
+  within = within_more begun tale bytes chunk kept n s out first taken w;
   more = [];
   lines_are = sym (append-nil (whole_lines bytes) ∙ (w.whole ∙ append-nil w.lines));
 }
 
-pub piece_place : (piece rest : List ℕ) (at k : ℕ) → at ≤ length piece → rest ≡ drop at piece → Some k ≡ first_end rest → at + (k + 1) ≤ length piece
-piece_place piece rest at k le is some =
+pub chunk_place : (chunk rest : List ℕ) (at k : ℕ) → at ≤ length chunk → rest ≡ drop at chunk → Some k ≡ first_end rest → at + (k + 1) ≤ length chunk
+chunk_place chunk rest at k le is some =
     let p : Parts [] rest (Some k) = subst (Parts [] rest) (sym some) (parts [] rest) in
-    let size : length rest ≡ length piece - at = ap length is ∙ length-drop at piece in
+    let size : length rest ≡ length chunk - at = ap length is ∙ length-drop at chunk in
     omega (arith, p.0, size, le)
 
-pub piece_line : (begun : State) (tale : RowText) (before bytes piece rest part kept kept' kept'' : List ℕ) (at k n n' n'' : ℕ) (s s' held : State) (out out' out'' : List ℕ) (first taken taken' : Option (List ℕ)) → WithinPiece begun tale before bytes (drop at piece) kept n s out first taken
-    → rest ≡ drop at piece → Some k ≡ first_end rest → part ≡ take k rest → kept' ≡ take 1048577 (kept ++ part) → (n' ≡ n) × (s' ≡ s) × (out' ≡ out)
-    → LineGoes tale (Ok tt) n' kept' (row_of kept') s' held out' out'' taken taken' → kept'' ≡ [] → n'' ≡ n' + 1 → WithinPiece begun tale before bytes (drop (at + (k + 1)) piece) kept'' n'' held out'' first taken'
+pub chunk_line : (begun : State) (tale : RowText) (before bytes chunk rest part kept kept' kept'' : List ℕ) (at k n n' n'' : ℕ) (s s' held : State) (out out' out'' : List ℕ) (first taken taken' : Option (List ℕ)) → WithinChunk begun tale before bytes (drop at chunk) kept n s out first taken
+    → rest ≡ drop at chunk → Some k ≡ first_end rest → part ≡ take k rest → kept' ≡ take 1048577 (kept ++ part) → (n' ≡ n) × (s' ≡ s) × (out' ≡ out)
+    → LineGoes tale (Ok tt) n' kept' (row_of kept') s' held out' out'' taken taken' → kept'' ≡ [] → n'' ≡ n' + 1 → WithinChunk begun tale before bytes (drop (at + (k + 1)) chunk) kept'' n'' held out'' first taken'
 unfolding within_line
-piece_line begun tale before bytes piece rest part kept kept' kept'' at k n n' n'' s s' held out out' out'' first taken taken' p is some same kept_is e goes empty number =
-    let here : WithinPiece begun tale before bytes (drop at piece) kept n' s' out' first taken = rw (e.0, e.1, e.2) p in
-    let left : drop (at + (k + 1)) piece ≡ drop (suc k) (drop at piece) = sym (drop-drop (suc k) at piece ∙ ap (λ (m : ℕ). drop m piece) (omega arith)) in
+chunk_line begun tale before bytes chunk rest part kept kept' kept'' at k n n' n'' s s' held out out' out'' first taken taken' p is some same kept_is e goes empty number =
+    let here : WithinChunk begun tale before bytes (drop at chunk) kept n' s' out' first taken = rw (e.0, e.1, e.2) p in
+    let left : drop (at + (k + 1)) chunk ≡ drop (suc k) (drop at chunk) = sym (drop-drop (suc k) at chunk ∙ ap (λ (m : ℕ). drop m chunk) (omega arith)) in
     let line = here.within.line ++ part in
     record {
-      within = within_line begun tale bytes (drop at piece) (drop (at + (k + 1)) piece) part kept kept' kept'' k n' n'' s' held out' out'' first taken taken' here.within (some ∙ ap first_end is) (same ∙ ap (take k) is) left kept_is goes empty number;
+      within = within_line begun tale bytes (drop at chunk) (drop (at + (k + 1)) chunk) part kept kept' kept'' k n' n'' s' held out' out'' first taken taken' here.within (some ∙ ap first_end is) (same ∙ ap (take k) is) left kept_is goes empty number;
       more = here.more ++ line ∷ [];
       lines_are = ap (λ (ls : List (List ℕ)). ls ++ line ∷ []) here.lines_are ∙ append_assoc (whole_lines before) here.more (line ∷ []);
     }
 
-pub piece_halts : (begun : State) (tale : RowText) (h : Halt) (before bytes piece rest part kept kept' : List ℕ) (at k n n' : ℕ) (s s' held : State) (out out' out'' : List ℕ) (first taken taken' : Option (List ℕ)) → WithinPiece begun tale before bytes (drop at piece) kept n s out first taken
-    → rest ≡ drop at piece → Some k ≡ first_end rest → part ≡ take k rest → kept' ≡ take 1048577 (kept ++ part) → (n' ≡ n) × (s' ≡ s) × (out' ≡ out)
+pub chunk_halts : (begun : State) (tale : RowText) (h : Halt) (before bytes chunk rest part kept kept' : List ℕ) (at k n n' : ℕ) (s s' held : State) (out out' out'' : List ℕ) (first taken taken' : Option (List ℕ)) → WithinChunk begun tale before bytes (drop at chunk) kept n s out first taken
+    → rest ≡ drop at chunk → Some k ≡ first_end rest → part ≡ take k rest → kept' ≡ take 1048577 (kept ++ part) → (n' ≡ n) × (s' ≡ s) × (out' ≡ out)
     → LineGoes tale (Err h) n' kept' (row_of kept') s' held out' out'' taken taken' → Halts begun tale h (whole_lines before) (lines_read false bytes) out'' first taken'
-piece_halts begun tale h before bytes piece rest part kept kept' at k n n' s s' held out out' out'' first taken taken' p is some same kept_is e goes =
-    let here : WithinPiece begun tale before bytes (drop at piece) kept n' s' out' first taken = rw (e.0, e.1, e.2) p in
-    within_halts begun tale h before bytes (drop at piece) part kept kept' k n' s' held out' out'' first taken taken' here (some ∙ ap first_end is) (same ∙ ap (take k) is) kept_is goes
+chunk_halts begun tale h before bytes chunk rest part kept kept' at k n n' s s' held out out' out'' first taken taken' p is some same kept_is e goes =
+    let here : WithinChunk begun tale before bytes (drop at chunk) kept n' s' out' first taken = rw (e.0, e.1, e.2) p in
+    within_halts begun tale h before bytes (drop at chunk) part kept kept' k n' s' held out' out'' first taken taken' here (some ∙ ap first_end is) (same ∙ ap (take k) is) kept_is goes

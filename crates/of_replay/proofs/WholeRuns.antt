@@ -15,7 +15,7 @@ use Rattle.of_replay.specs.Transfer.{then_answers, WrotePrefix}
 use Rattle.of_replay.specs.Rows.{row_of, rows_of}
 use Rattle.of_replay.specs.Play.{lines_read, but_last, earlier_lines, Wrote, Replays, Ends}
 use Rattle.of_replay.specs.RowTexts.{RowText, Tells, EndsPrinting, plain, told}
-use Rattle.of_replay.specs.Stepping.{LineGoes, Prints, Within, Halts, PieceGoes, Plays, PlayedAll, PlaysRead, ReadSoFar, WritesFail, ReadsFail, ended_so}
+use Rattle.of_replay.specs.Stepping.{LineGoes, Prints, Within, Halts, ChunkGoes, Plays, PlayedAll, PlaysRead, ReadSoFar, WritesFail, ReadsFail, ended_so}
 use Rattle.of_replay.proofs.Lines.{within_start, within_ends, within_played, within_end_halts, within_open, prints_front, tale_join, plain_is, rows_more, good_front}
 use Rattle.of_replay.proofs.TellingLemmas.{then-then, then-nil, answers-nil, answers-more, given-more}
 
@@ -27,17 +27,17 @@ read_nothing begun tale answers first = record { more = []; answers_are = sym (a
 pub read_begun : (begun : State) (tale : RowText) (answers : Option (List Answer)) (kept : List ℕ) (n : ℕ) (s : State) (out : List ℕ) (first : Option (List ℕ)) → (kept ≡ []) × (n ≡ 1) × (s ≡ begun) × (out ≡ []) → ReadSoFar begun tale answers answers kept n s out first first
 read_begun begun tale answers kept n s out first e = rw (e.0, e.1, e.2, e.3) (read_nothing begun tale answers first)
 
-pub piece_size : (n : ℕ) (buffer piece : List ℕ) → piece ≡ take n buffer → n ≤ length buffer → length buffer ≡ 65536 → length piece ≤ 65536
-piece_size n buffer piece is le size =
-    let same : length piece ≡ n = ap length is ∙ length-take-le n buffer le in
+pub chunk_size : (n : ℕ) (buffer chunk : List ℕ) → chunk ≡ take n buffer → n ≤ length buffer → length buffer ≡ 65536 → length chunk ≤ 65536
+chunk_size n buffer chunk is le size =
+    let same : length chunk ≡ n = ap length is ∙ length-take-le n buffer le in
     omega (arith, same, le, size)
 
--- no read fails in a piece
-pub piece_reads : (begun : State) (tale : RowText) (h : Halt) (earlier lines : List (List ℕ)) (out : List ℕ) (first taken : Option (List ℕ)) (reads ends ends' failures failures' : ℕ) → Halts begun tale h earlier lines out first taken → failures' ≡ failures → ReadsFail (Err h) reads ends ends' failures failures'
-piece_reads begun tale (Bad n) earlier lines out first taken reads ends ends' failures failures' h e = e
-piece_reads begun tale Memory earlier lines out first taken reads ends ends' failures failures' h e = e
-piece_reads begun tale Read earlier lines out first taken reads ends ends' failures failures' h e = absurd h
-piece_reads begun tale Write earlier lines out first taken reads ends ends' failures failures' h e = omega (arith, e)
+-- no read fails in a chunk
+pub chunk_reads : (begun : State) (tale : RowText) (h : Halt) (earlier lines : List (List ℕ)) (out : List ℕ) (first taken : Option (List ℕ)) (reads ends ends' failures failures' : ℕ) → Halts begun tale h earlier lines out first taken → failures' ≡ failures → ReadsFail (Err h) reads ends ends' failures failures'
+chunk_reads begun tale (Bad n) earlier lines out first taken reads ends ends' failures failures' h e = e
+chunk_reads begun tale Memory earlier lines out first taken reads ends ends' failures failures' h e = e
+chunk_reads begun tale Read earlier lines out first taken reads ends ends' failures failures' h e = absurd h
+chunk_reads begun tale Write earlier lines out first taken reads ends ends' failures failures' h e = omega (arith, e)
 
 -- an answer more
 pub told_more : (answers now next : Option (List Answer)) (more : List Answer) (one : Answer) → now ≡ then_answers answers more → next ≡ then_answer now one → next ≡ then_answers answers (more ++ one ∷ [])
@@ -55,13 +55,13 @@ read_idle begun tale answers now next one kept n s out first taken r e none = re
   within = subst (λ (x : List ℕ). Within begun tale x [] kept n s out first taken) (sym (given_same r.more one none)) r.within;
 }
 
--- a piece was read and played
-pub read_piece : (begun : State) (tale : RowText) (answers now next : Option (List Answer)) (piece kept kept' : List ℕ) (n n' : ℕ) (s s' : State) (out out' : List ℕ) (first taken taken' : Option (List ℕ)) → (r : ReadSoFar begun tale answers now kept n s out first taken)
-    → next ≡ then_answer now (Gave piece) → PieceGoes begun tale (Ok tt) (given r.more) (given r.more ++ piece) kept' n' s' out' first taken' → ReadSoFar begun tale answers next kept' n' s' out' first taken'
-read_piece begun tale answers now next piece kept kept' n n' s s' out out' first taken taken' r e goes = record {
-  more = r.more ++ Gave piece ∷ [];
-  answers_are = told_more answers now next r.more (Gave piece) r.answers_are e;
-  within = subst (λ (x : List ℕ). Within begun tale x [] kept' n' s' out' first taken') (sym (given-more r.more (Gave piece))) goes;
+-- a chunk was read and played
+pub read_chunk : (begun : State) (tale : RowText) (answers now next : Option (List Answer)) (chunk kept kept' : List ℕ) (n n' : ℕ) (s s' : State) (out out' : List ℕ) (first taken taken' : Option (List ℕ)) → (r : ReadSoFar begun tale answers now kept n s out first taken)
+    → next ≡ then_answer now (Gave chunk) → ChunkGoes begun tale (Ok tt) (given r.more) (given r.more ++ chunk) kept' n' s' out' first taken' → ReadSoFar begun tale answers next kept' n' s' out' first taken'
+read_chunk begun tale answers now next chunk kept kept' n n' s s' out out' first taken taken' r e goes = record {
+  more = r.more ++ Gave chunk ∷ [];
+  answers_are = told_more answers now next r.more (Gave chunk) r.answers_are e;
+  within = subst (λ (x : List ℕ). Within begun tale x [] kept' n' s' out' first taken') (sym (given-more r.more (Gave chunk))) goes;
 }
 
 pub not_ended : (ends ends' : ℕ) → ends' ≡ ends → nat_lt ends ends' ≡ false
@@ -95,12 +95,12 @@ but_last_more (a ∷ b ∷ others) one = ap (λ (x : List Answer). a ∷ x) (but
 before_one : (more : List Answer) (one : Answer) → earlier_lines (more ++ one ∷ []) ≡ whole_lines (given more)
 before_one more one = ap (λ (x : List Answer). whole_lines (given x)) (but_last_more more one)
 
--- the run halts in a piece
-pub read_halts : (begun : State) (tale : RowText) (h : Halt) (answers now next : Option (List Answer)) (ends ends' : ℕ) (piece kept kept' : List ℕ) (n n' : ℕ) (s s' : State) (out out' : List ℕ) (first taken taken' : Option (List ℕ)) → (r : ReadSoFar begun tale answers now kept n s out first taken)
-    → next ≡ then_answer now (Gave piece) → ends' ≡ ends → PieceGoes begun tale (Err h) (given r.more) (given r.more ++ piece) kept' n' s' out' first taken' → PlaysRead begun tale (Err h) answers next ends ends' out' first taken'
-read_halts begun tale h answers now next ends ends' piece kept kept' n n' s s' out out' first taken taken' r e same halts =
-    plays_read begun tale (Err h) answers next ends ends' (r.more ++ Gave piece ∷ []) (whole_lines (given r.more)) (given r.more ++ piece) out' first taken' false (told_more answers now next r.more (Gave piece) r.answers_are e) (not_ended ends ends' same)
-    (given-more r.more (Gave piece)) (before_one r.more (Gave piece)) (plays_halt begun tale h false (whole_lines (given r.more)) (lines_read false (given r.more ++ piece)) out' first taken' halts)
+-- the run halts in a chunk
+pub read_halts : (begun : State) (tale : RowText) (h : Halt) (answers now next : Option (List Answer)) (ends ends' : ℕ) (chunk kept kept' : List ℕ) (n n' : ℕ) (s s' : State) (out out' : List ℕ) (first taken taken' : Option (List ℕ)) → (r : ReadSoFar begun tale answers now kept n s out first taken)
+    → next ≡ then_answer now (Gave chunk) → ends' ≡ ends → ChunkGoes begun tale (Err h) (given r.more) (given r.more ++ chunk) kept' n' s' out' first taken' → PlaysRead begun tale (Err h) answers next ends ends' out' first taken'
+read_halts begun tale h answers now next ends ends' chunk kept kept' n n' s s' out out' first taken taken' r e same halts =
+    plays_read begun tale (Err h) answers next ends ends' (r.more ++ Gave chunk ∷ []) (whole_lines (given r.more)) (given r.more ++ chunk) out' first taken' false (told_more answers now next r.more (Gave chunk) r.answers_are e) (not_ended ends ends' same)
+    (given-more r.more (Gave chunk)) (before_one r.more (Gave chunk)) (plays_halt begun tale h false (whole_lines (given r.more)) (lines_read false (given r.more ++ chunk)) out' first taken' halts)
 
 -- the source's end was read
 ends_by : (begun : State) (tale : RowText) (result : Result (Unit {0}) Halt) (bytes kept : List ℕ) (n : ℕ) (s held : State) (out out' : List ℕ) (first taken taken' : Option (List ℕ)) → Within begun tale bytes [] kept n s out first taken
@@ -149,9 +149,9 @@ unwritten_all : (begun : State) (tale : RowText) (lines : List (List ℕ)) (out 
 unwritten_all begun tale lines out first taken taken' p w =
     prints_front begun tale lines lines out [] first taken taken' p (sym (append-nil (told begun tale lines))) out [] refl w
 
--- what a piece still had to write is written, or a write of it fails
+-- what a chunk still had to write is written, or a write of it fails
 pub flushed : (begun : State) (tale : RowText) (result : Result (Unit {0}) Halt) (before bytes kept : List ℕ) (n : ℕ) (s : State) (out out' : List ℕ) (first taken taken' : Option (List ℕ)) → Within begun tale bytes [] kept n s out first taken
-    → OnOk result ((taken' ≡ then_bytes taken out) × (out' ≡ [])) → OnErr result (WrotePrefix taken out taken') → IfErr result (λ halt. halt ≡ Write) → PieceGoes begun tale result before bytes kept n s out' first taken'
+    → OnOk result ((taken' ≡ then_bytes taken out) × (out' ≡ [])) → OnErr result (WrotePrefix taken out taken') → IfErr result (λ halt. halt ≡ Write) → ChunkGoes begun tale result before bytes kept n s out' first taken'
 flushed begun tale (Ok u) before bytes kept n s out out' first taken taken' w all front is =
     let p = w.going.prints in
     record {

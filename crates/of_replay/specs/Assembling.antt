@@ -42,13 +42,13 @@ bad_line file = unreadable 0 (lines_of file)
 
 -- WHAT THE FILE IS
 
--- the text spells a configuration, or has this fault
+-- the text encodes a configuration, or has this fault
 abbrev pub HasFault : List ℕ → TextFault → Type 0
 HasFault file fault.NoMemory = ⊥
 HasFault file (fault.Syntax n) = IsSyntax (lines_of file) n
 HasFault file (fault.Refused line code) = IsRefused (lines_of file) line code
 
--- the file of the configuration that its lines spell, each of which is one that a file may have
+-- the file of the configuration that its lines encode, each of which is one that a file may have
 pub record IsBuilt (file text : List ℕ) : Type 0 where
   pub readable : bad_line file ≡ None
   pub builds : BuildsOf file text

@@ -1,17 +1,17 @@
 -- A flow text that is read whole, for its configuration.
 use Rattle.std.specs.Prelude.{◌≡◌, ℕ, Bool, true, false, nat_lt, List, Option, None, Some, Result, Ok, Err}
 use Rattle.of_text.specs.Lines.{lines_of}
-use Rattle.of_text.specs.Configs.{Configuration, SpellConfig}
+use Rattle.of_text.specs.Configs.{Configuration, EncodeConfig}
 use Rattle.of_replay.specs.declared.event_file.Ended.{Ended}
 use Rattle.of_replay.specs.declared.event_file.Ended.TheVariants.{Done, BadRow, Text, ReadFault, WriteFault, NoMemory}
 use Rattle.of_replay.specs.Told.{Answer, given}
 use Rattle.of_replay.specs.Transfer.{then_answers}
 use Rattle.of_replay.specs.Assembling.{bad_line, HasFault}
 
--- the file's lines spell this configuration, and each is one that a file may have
-pub record Spells (file : List ℕ) (config : Configuration) : Type 0 where
+-- the file's lines encode this configuration, and each is one that a file may have
+pub record Encodes (file : List ℕ) (config : Configuration) : Type 0 where
   pub readable : bad_line file ≡ None
-  pub spelt : SpellConfig (lines_of file) config
+  pub encoded : EncodeConfig (lines_of file) config
 
 -- why a file has no configuration
 abbrev pub LacksConfig : Ended → List ℕ → Type 0
@@ -21,7 +21,7 @@ LacksConfig NoMemory file = Unit {0}
 LacksConfig other file = ⊥
 
 abbrev pub IsConfigOf : Result Configuration Ended → List ℕ → Type 0
-IsConfigOf (Ok config) file = Spells file config
+IsConfigOf (Ok config) file = Encodes file config
 IsConfigOf (Err e) file = LacksConfig e file
 
 -- how a run ends that needs a configuration and has none, by the bytes that were read
@@ -34,7 +34,7 @@ EndsWithout WriteFault ended file = ⊥
 EndsWithout NoMemory ended file = Unit {0}
 
 abbrev pub IsRead : Result Configuration Ended → Bool → List ℕ → Type 0
-IsRead (Ok config) ended file = (ended ≡ true) × Spells file config
+IsRead (Ok config) ended file = (ended ≡ true) × Encodes file config
 IsRead (Err e) ended file = EndsWithout e ended file
 
 -- from what a source answered

@@ -8,14 +8,14 @@ use Rattle.of_replay.specs.declared.memory.MemorySource.{MemorySource}
 use Rattle.of_replay.specs.declared.memory.MemorySink.{MemorySink}
 use Rattle.of_replay.specs.Told.{Answer, Gave, Ended, Failed}
 
--- bytes in pieces of these lengths
-abbrev pub pieces_of : List ℕ → List ℕ → List Answer
-pieces_of bytes [] = []
-pieces_of bytes (n ∷ lengths) = Gave (take n bytes) ∷ pieces_of (drop n bytes) lengths
+-- bytes in chunks of these lengths
+abbrev pub chunks_of : List ℕ → List ℕ → List Answer
+chunks_of bytes [] = []
+chunks_of bytes (n ∷ lengths) = Gave (take n bytes) ∷ chunks_of (drop n bytes) lengths
 
--- the pieces, then the ends, then the faults
+-- the chunks, then the ends, then the faults
 abbrev pub told : MemorySource → List Answer
-told s = pieces_of s.bytes.items s.lengths.items ++ (replicate s.ends Ended ++ replicate s.failures Failed)
+told s = chunks_of s.bytes.items s.lengths.items ++ (replicate s.ends Ended ++ replicate s.failures Failed)
 
 -- how many reads there were
 abbrev pub reads_of : MemorySource → ℕ
@@ -25,14 +25,14 @@ reads_of s = vec_len s.lengths + s.ends + s.failures
 abbrev pub Fails : ℕ → ℕ → Type 0
 Fails fails_at call = (0 < fails_at) × (fails_at ≤ call)
 
--- a read fails where `fails_at` says so, and only there; before that it gives a piece of what is left, then the end
+-- a read fails where `fails_at` says so, and only there; before that it gives a chunk of what is left, then the end
 abbrev pub IsNext : MemorySource → ℕ → Reading → Type 0
-IsNext s room (reading.Bytes n) = (¬ Fails s.fails_at (reads_of s + 1)) × (n ≡ min s.piece (min room (length s.bytes.items - s.at)))
+IsNext s room (reading.Bytes n) = (¬ Fails s.fails_at (reads_of s + 1)) × (n ≡ min s.chunk (min room (length s.bytes.items - s.at)))
 IsNext s room reading.Nothing = ⊥
 IsNext s room reading.End = (¬ Fails s.fails_at (reads_of s + 1)) × (s.at ≡ length s.bytes.items)
 IsNext s room reading.Fault = Fails s.fails_at (reads_of s + 1)
 
--- a write takes a piece; it fails where `fails_at` says so, and where memory runs out
+-- a write takes a chunk; it fails where `fails_at` says so, and where memory runs out
 abbrev pub IsTaking : MemorySink → ℕ → Writing → Type 0
-IsTaking s len (writing.Wrote n) = (¬ Fails s.fails_at (s.writes + 1)) × (n ≡ min s.piece len)
-IsTaking s len writing.Fault = Fails s.fails_at (s.writes + 1) ⊎ (vec_capacity s.bytes < vec_len s.bytes + min s.piece len)
+IsTaking s len (writing.Wrote n) = (¬ Fails s.fails_at (s.writes + 1)) × (n ≡ min s.chunk len)
+IsTaking s len writing.Fault = Fails s.fails_at (s.writes + 1) ⊎ (vec_capacity s.bytes < vec_len s.bytes + min s.chunk len)

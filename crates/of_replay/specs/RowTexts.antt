@@ -7,7 +7,7 @@ use Rattle.of_replay.specs.declared.event_file.Ended.{Ended}
 use Rattle.of_replay.specs.declared.event_file.Ended.TheVariants.{Done, BadRow, Text, ReadFault, WriteFault, NoMemory}
 use Rattle.of_replay.specs.Told.{Answer, then_bytes, given}
 use Rattle.of_replay.specs.Transfer.{then_answers, WrotePrefix}
-use Rattle.of_replay.specs.Rows.{EventRow, Passed, Connect, Lost, Piece, Frame, Moment, Ports, row_of, rows_of}
+use Rattle.of_replay.specs.Rows.{EventRow, Passed, Connect, Lost, Chunk, Frame, Moment, Ports, row_of, rows_of}
 use Rattle.of_replay.specs.Output.{report_text}
 use Rattle.of_replay.specs.Play.{lines_read, earlier_lines}
 
@@ -16,7 +16,7 @@ abbrev pub row_happened : State → EventRow → Happened
 row_happened s Passed = record { report = Gives []; state = s }
 row_happened s Connect = happened event.Connect s
 row_happened s Lost = happened event.Lost s
-row_happened s (Piece bytes) = happened (event.Piece bytes) s
+row_happened s (Chunk bytes) = happened (event.Chunk bytes) s
 row_happened s (Frame port bytes) = happened (event.Frame port bytes) s
 row_happened s (Moment nanos) = happened (event.Moment nanos) s
 row_happened s (Ports change) = happened (event.Ports change) s

@@ -24,7 +24,7 @@ pub data EventRow : Type 0 where
   Passed : EventRow
   Connect : EventRow
   Lost : EventRow
-  Piece : (bytes : List ℕ) → EventRow
+  Chunk : (bytes : List ℕ) → EventRow
   Frame : (port : ℕ) (bytes : List ℕ) → EventRow
   Moment : (nanos : ℕ) → EventRow
   Ports : (change : PortChange) → EventRow
@@ -35,10 +35,10 @@ abbrev pub ◌>>=◌ : {A B : Type 0} → Option A → (A → Option B) → Opti
 None >>= f = None
 (Some a) >>= f = f a
 
-abbrev pub piece_row : List ℕ → Option EventRow
-piece_row word = do
+abbrev pub chunk_row : List ℕ → Option EventRow
+chunk_row word = do
   bytes ← bytes_of word
-  Some (Piece bytes)
+  Some (Chunk bytes)
 
 abbrev pub frame_row : List ℕ → Option EventRow
 frame_row words = do
@@ -90,7 +90,7 @@ port_of words = do
 -- a row of that name, and its other words
 abbrev pub named_row : List ℕ → List ℕ → Option EventRow
 named_row name words =
-    if bytes_eq name (codes "c") then piece_row words
+    if bytes_eq name (codes "c") then chunk_row words
     else (if bytes_eq name (codes "f") then frame_row words
     else (if bytes_eq name (codes "t") then option_map Moment (moment_of words)
     else (if bytes_eq name (codes "port") then option_map Ports (port_of words)
@@ -117,7 +117,7 @@ abbrev pub events_in : EventRow → List Event
 events_in Passed = []
 events_in Connect = event.Connect ∷ []
 events_in Lost = event.Lost ∷ []
-events_in (Piece bytes) = event.Piece bytes ∷ []
+events_in (Chunk bytes) = event.Chunk bytes ∷ []
 events_in (Frame port bytes) = event.Frame port bytes ∷ []
 events_in (Moment nanos) = event.Moment nanos ∷ []
 events_in (Ports change) = event.Ports change ∷ []
@@ -143,7 +143,7 @@ abbrev pub with_bytes : List ℕ → Row → EventRow
 with_bytes bytes row.Passed = Passed
 with_bytes bytes row.Connect = Connect
 with_bytes bytes row.Lost = Lost
-with_bytes bytes row.Piece = Piece bytes
+with_bytes bytes row.Chunk = Chunk bytes
 with_bytes bytes (row.Frame port) = Frame port bytes
 with_bytes bytes (row.Moment nanos) = Moment nanos
 with_bytes bytes (row.Ports change) = Ports change

@@ -94,8 +94,8 @@ pub record Within (begun : State) (tale : RowText) (bytes rest kept : List ℕ) 
   pub whole : whole_lines bytes ≡ lines ++ whole_from line rest
   pub last : last_from [] bytes ≡ last_from line rest
 
--- bytes of a piece behind those that were read before it: the whole lines of those were played, and maybe more
-pub record WithinPiece (begun : State) (tale : RowText) (before bytes rest kept : List ℕ) (n : ℕ) (s : State) (out : List ℕ) (first taken : Option (List ℕ)) : Type 0 where
+-- bytes of a chunk behind those that were read before it: the whole lines of those were played, and maybe more
+pub record WithinChunk (begun : State) (tale : RowText) (before bytes rest kept : List ℕ) (n : ℕ) (s : State) (out : List ℕ) (first taken : Option (List ℕ)) : Type 0 where
   pub within : Within begun tale bytes rest kept n s out first taken
   pub more : List (List ℕ)
   pub lines_are : within.lines ≡ whole_lines before ++ more
@@ -108,9 +108,9 @@ Halts begun tale halt.Read earlier lines out first taken = ⊥
 Halts begun tale halt.Write earlier lines out first taken = WrotePrefix first (told begun tale lines) taken
 
 -- more bytes are read behind those before: their whole lines are played, or the run halts
-abbrev pub PieceGoes : State → RowText → Result (Unit {0}) Halt → List ℕ → List ℕ → List ℕ → ℕ → State → List ℕ → Option (List ℕ) → Option (List ℕ) → Type 0
-PieceGoes begun tale (Ok u) before bytes kept n s out first taken = Within begun tale bytes [] kept n s out first taken
-PieceGoes begun tale (Err h) before bytes kept n s out first taken = Halts begun tale h (whole_lines before) (lines_read false bytes) out first taken
+abbrev pub ChunkGoes : State → RowText → Result (Unit {0}) Halt → List ℕ → List ℕ → List ℕ → ℕ → State → List ℕ → Option (List ℕ) → Option (List ℕ) → Type 0
+ChunkGoes begun tale (Ok u) before bytes kept n s out first taken = Within begun tale bytes [] kept n s out first taken
+ChunkGoes begun tale (Err h) before bytes kept n s out first taken = Halts begun tale h (whole_lines before) (lines_read false bytes) out first taken
 
 -- the lines of a source are played to the end, or the run halts
 abbrev pub Plays : State → RowText → Result (Unit {0}) Halt → Bool → List (List ℕ) → List (List ℕ) → List ℕ → Option (List ℕ) → Option (List ℕ) → Type 0

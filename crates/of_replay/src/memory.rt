@@ -7,22 +7,22 @@ use std::alloc::{AllocError, Global};
 
 /// A source over bytes in memory, which keeps what its reads answered.
 ///
-/// Its reads give the bytes in pieces, and then each read is `End`. From a chosen read on each read is `Fault`.
+/// Its reads give the bytes in chunks, and then each read is `End`. From a chosen read on each read is `Fault`.
 #[derive(Drop)]
 pub struct MemorySource {
     bytes: Vec<u8>,
     /// How many bytes were given.
     at: usize,
     /// How many bytes a read gives at most.
-    piece: usize,
+    chunk: usize,
     /// The first read that fails, counted from 1; 0: none.
     fails_at: u64,
-    /// The lengths of the pieces that were given.
+    /// The lengths of the chunks that were given.
     lengths: Vec<usize>,
     ends: u64,
     failures: u64,
     ghost within: { at ≤ length bytes.items },
-    ghost some: { 0 < piece },
+    ghost some: { 0 < chunk },
     ghost place: { at ≡ sum lengths.items },
     ghost count: { vec_len lengths ≤ at },
     ghost room: { length bytes.items ≤ vec_capacity lengths },
@@ -34,24 +34,24 @@ impl MemorySource {
     ghost use Rattle.of_replay.specs.Told.{Gave};
     ghost use Rattle.of_replay.specs.Memory.{told, reads_of, Fails};
 
-    /// A source of these bytes, in pieces of `piece` bytes at most. From the read `fails_at` on, counted from 1, each
+    /// A source of these bytes, in chunks of `chunk` bytes at most. From the read `fails_at` on, counted from 1, each
     /// read fails; 0: none does. Fails only where memory runs out.
     pub fn new(
         alloc: Global,
         bytes: &[u8],
-        piece: usize,
+        chunk: usize,
         fails_at: u64,
     ) -> Result<MemorySource, AllocError>
-        requires { 0 < piece }
+        requires { 0 < chunk }
         ensures bytes { IfOk result (λ s. s.bytes.items ≡ bytes.now) }
-        ensures settings { IfOk result (λ s. (s.piece ≡ piece) × (s.fails_at ≡ fails_at)) }
+        ensures settings { IfOk result (λ s. (s.chunk ≡ chunk) × (s.fails_at ≡ fails_at)) }
         ensures told { IfOk result (λ s. told s ≡ []) }
         ensures counts { IfOk result (λ s. (s.at ≡ 0) × (reads_of s ≡ 0) × (s.ends ≡ 0) × (s.failures ≡ 0)) }
     {
         Ok(MemorySource {
             bytes: Vec::from_slice(alloc, bytes)?,
             at: 0,
-            piece,
+            chunk,
             fails_at,
             lengths: Vec::with_capacity(alloc, bytes.len())?,
             ends: 0,
@@ -68,21 +68,21 @@ impl MemorySource {
         self.fails_at != 0 && self.fails_at <= reads + 1
     }
 
-    /// Gives the next piece, and returns its length.
+    /// Gives the next chunk, and returns its length.
     fn give(&mut self, buffer: &mut [u8]) -> usize
         requires room { 0 < length buffer.old }
         requires left { self.old.at < length self.old.bytes.items }
         requires well { self.old.failures ≡ 0 }
-        ensures piece { result ≡ min self.old.piece (min (length buffer.old) (length self.old.bytes.items - self.old.at)) }
+        ensures chunk { result ≡ min self.old.chunk (min (length buffer.old) (length self.old.bytes.items - self.old.at)) }
         ensures told { told self.new ≡ told self.old ++ Gave (take result buffer.new) ∷ [] }
         ensures reads { reads_of self.new ≡ reads_of self.old + 1 }
         ensures ends { self.new.ends ≡ self.old.ends }
         ensures failures { self.new.failures ≡ self.old.failures }
         ensures at { self.new.at ≡ self.old.at + result }
-        ensures same { (self.new.bytes.items ≡ self.old.bytes.items) × (self.new.piece ≡ self.old.piece) × (self.new.fails_at ≡ self.old.fails_at) }
+        ensures same { (self.new.bytes.items ≡ self.old.bytes.items) × (self.new.chunk ≡ self.old.chunk) × (self.new.fails_at ≡ self.old.fails_at) }
     {
         let left = self.bytes.len() - self.at;
-        let count = self.piece.min(buffer.len().min(left));
+        let count = self.chunk.min(buffer.len().min(left));
         let end = self.at + count;
         buffer[..count].copy_from_slice(&self.bytes[self.at..end]);
         match self.lengths.push(count) {
@@ -106,7 +106,7 @@ impl Source for MemorySource {
 
     ghost failures = { λ s. s.failures };
 
-    /// Reads bytes into the start of the buffer: a piece of what is left, or as much of it as fits.
+    /// Reads bytes into the start of the buffer: a chunk of what is left, or as much of it as fits.
     fn read(&mut self, buffer: &mut [u8]) -> Reading
         requires room { 0 < length buffer.old }
         requires few { reads_of self.old < 2 ^ 63 }
@@ -118,7 +118,7 @@ impl Source for MemorySource {
         ensures next { IsNext self.old (length buffer.old) result }
         ensures at { self.new.at ≡ self.old.at + read_count result }
         ensures given { given (told self.new) ≡ take self.new.at self.new.bytes.items }
-        ensures same { (self.new.bytes.items ≡ self.old.bytes.items) × (self.new.piece ≡ self.old.piece) × (self.new.fails_at ≡ self.old.fails_at) }
+        ensures same { (self.new.bytes.items ≡ self.old.bytes.items) × (self.new.chunk ≡ self.old.chunk) × (self.new.fails_at ≡ self.old.fails_at) }
     {
         if self.fails_now() {
             self.failures += 1;
@@ -140,27 +140,27 @@ impl Source for MemorySource {
 pub struct MemorySink {
     bytes: Vec<u8>,
     /// How many bytes a write takes at most.
-    piece: usize,
+    chunk: usize,
     /// The first write that fails, counted from 1; 0: none.
     fails_at: u64,
     /// How many writes there were, or the greatest number where there were more.
     writes: u64,
     failures: u64,
-    ghost some: { 0 < piece },
+    ghost some: { 0 < chunk },
 }
 
 impl MemorySink {
-    /// A sink that has taken nothing, and takes `piece` bytes a write at most. From the write `fails_at` on, counted
+    /// A sink that has taken nothing, and takes `chunk` bytes a write at most. From the write `fails_at` on, counted
     /// from 1, each write fails; 0: none does.
-    pub fn new(alloc: Global, piece: usize, fails_at: u64) -> MemorySink
-        requires { 0 < piece }
+    pub fn new(alloc: Global, chunk: usize, fails_at: u64) -> MemorySink
+        requires { 0 < chunk }
         ensures bytes { result.bytes.items ≡ [] }
-        ensures settings { (result.piece ≡ piece) × (result.fails_at ≡ fails_at) }
+        ensures settings { (result.chunk ≡ chunk) × (result.fails_at ≡ fails_at) }
         ensures counts { (result.writes ≡ 0) × (result.failures ≡ 0) }
     {
         MemorySink {
             bytes: Vec::new(alloc),
-            piece,
+            chunk,
             fails_at,
             writes: 0,
             failures: 0,
@@ -192,10 +192,10 @@ impl Sink for MemorySink {
         ensures failures { self.new.failures ≡ self.old.failures + write_faults result }
         ensures next { IsTaking self.old (length bytes.now) result }
         ensures writes { self.new.writes ≡ min (self.old.writes + 1) u64.MAX }
-        ensures same { (self.new.piece ≡ self.old.piece) × (self.new.fails_at ≡ self.old.fails_at) }
+        ensures same { (self.new.chunk ≡ self.old.chunk) × (self.new.fails_at ≡ self.old.fails_at) }
     {
         self.writes = self.writes.saturating_add(1);
-        let count = self.piece.min(bytes.len());
+        let count = self.chunk.min(bytes.len());
         let fails = self.fails_at != 0 && self.fails_at <= self.writes;
         if fails || self.bytes.extend_from_slice(&bytes[..count]).is_err() {
             self.failures += 1;

@@ -27,7 +27,7 @@ pub fn play_row<L: Lookup>(
             switch.lost();
             Ok(Effects::new(alloc))
         }
-        Row::Piece => play_piece(alloc, switch, bytes),
+        Row::Chunk => play_chunk(alloc, switch, bytes),
         Row::Frame { port } => switch.frame(port, bytes),
         Row::Moment { nanos } => switch.moment(nanos),
         Row::Ports(change) => switch.port_change(change),
@@ -35,14 +35,14 @@ pub fn play_row<L: Lookup>(
 }
 
 // Receives bytes of the controller, and handles each whole message.
-fn play_piece<L: Lookup>(
+fn play_chunk<L: Lookup>(
     alloc: Global,
     switch: &mut Switch<L>,
-    piece: &[u8],
+    chunk: &[u8],
 ) -> Result<Effects, SwitchError>
-    ensures { RowGives result (happened (Event.Piece piece.now) switch.old) switch.new }
+    ensures { RowGives result (happened (Event.Chunk chunk.now) switch.old) switch.new }
 {
-    match switch.feed(piece) {
+    match switch.feed(chunk) {
         Ok(()) => drain(alloc, switch),
         Err(refusal) => Err(refusal),
     }

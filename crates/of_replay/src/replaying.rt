@@ -4,7 +4,7 @@ ghost use Rattle.of_switch.specs.State.{State};
 ghost use Rattle.of_replay.specs.Rows.{row_of};
 ghost use Rattle.of_replay.specs.RowTexts.{Tells};
 ghost use Rattle.of_replay.specs.Told.{then_answer, answer_of, read_ends, read_faults, IsReading};
-ghost use Rattle.of_replay.specs.Stepping.{LineTells, LineGoes, Within, PieceGoes, PlayedAll, PlaysRead, WritesFail, ReadsFail, ended_so};
+ghost use Rattle.of_replay.specs.Stepping.{LineTells, LineGoes, Within, ChunkGoes, PlayedAll, PlaysRead, WritesFail, ReadsFail, ended_so};
 
 use crate::halt::Halt;
 use crate::io::{Reading, Sink, Source};
@@ -126,24 +126,24 @@ impl<L: Lookup> Replaying<L> {
     }
 
     // Bytes are read: plays the lines that they end. Their text is written, or still to be written.
-    fn play_piece<T: RowPrinter<L>, W: Sink>(
+    fn play_chunk<T: RowPrinter<L>, W: Sink>(
         &mut self,
         teller: &T,
-        piece: &[u8],
+        chunk: &[u8],
         writer: &mut W,
     ) -> Result<(), Halt>
-        requires few { self.old.number + length piece.now < 2 ^ 63 }
+        requires few { self.old.number + length chunk.now < 2 ^ 63 }
         requires well { W.failures writer.old ≡ 0 }
         ensures goes { (begun : State) (bytes : List ℕ) (first : Option (List ℕ)) →
             Within begun T.tale bytes [] self.old.open self.old.number self.old.switch self.old.printer first (W.taken writer.old)
-            → PieceGoes begun T.tale result bytes (bytes ++ piece.now) self.new.open self.new.number self.new.switch self.new.printer first
+            → ChunkGoes begun T.tale result bytes (bytes ++ chunk.now) self.new.open self.new.number self.new.switch self.new.printer first
             (W.taken writer.new) }
-        ensures number { OnOk result (self.new.number ≤ self.old.number + length piece.now) }
+        ensures number { OnOk result (self.new.number ≤ self.old.number + length chunk.now) }
         ensures writes { WritesFail result (W.failures writer.new) }
     {
         let mut at = 0;
         loop {
-            let rest = rest_from(piece, at);
+            let rest = rest_from(chunk, at);
             let Some(len) = line_len(rest) else {
                 return self.keep(rest);
             };
@@ -155,23 +155,23 @@ impl<L: Lookup> Replaying<L> {
 
     // Bytes are read: plays the lines that they end, and writes all that is still to be written, so that nothing waits for
     // the next read.
-    fn piece<T: RowPrinter<L>, W: Sink>(
+    fn chunk<T: RowPrinter<L>, W: Sink>(
         &mut self,
         teller: &T,
-        piece: &[u8],
+        chunk: &[u8],
         writer: &mut W,
     ) -> Result<(), Halt>
-        requires few { self.old.number + length piece.now < 2 ^ 63 }
+        requires few { self.old.number + length chunk.now < 2 ^ 63 }
         requires well { W.failures writer.old ≡ 0 }
         ensures goes { (begun : State) (bytes : List ℕ) (first : Option (List ℕ)) →
             Within begun T.tale bytes [] self.old.open self.old.number self.old.switch self.old.printer first (W.taken writer.old)
-            → PieceGoes begun T.tale result bytes (bytes ++ piece.now) self.new.open self.new.number self.new.switch self.new.printer first
+            → ChunkGoes begun T.tale result bytes (bytes ++ chunk.now) self.new.open self.new.number self.new.switch self.new.printer first
             (W.taken writer.new) }
-        ensures number { OnOk result (self.new.number ≤ self.old.number + length piece.now) }
+        ensures number { OnOk result (self.new.number ≤ self.old.number + length chunk.now) }
         ensures written { OnOk result (self.new.printer ≡ []) }
         ensures writes { WritesFail result (W.failures writer.new) }
     {
-        self.play_piece(teller, piece, writer)?;
+        self.play_chunk(teller, chunk, writer)?;
         self.printer.flush(writer)
     }
 
@@ -210,7 +210,7 @@ impl<L: Lookup> Replaying<L> {
     {
         for _ in 0..MOST_READS {
             match self.read_once(reader, buffer) {
-                Reading::Bytes(n) => self.piece(teller, front_of(buffer, n), writer)?,
+                Reading::Bytes(n) => self.chunk(teller, front_of(buffer, n), writer)?,
                 Reading::Nothing => {}
                 Reading::End => return self.line(teller, writer),
                 Reading::Fault => return Err(Halt::Read),

@@ -1,7 +1,7 @@
 //! The rows of event files.
 ghost use Rattle.std.specs.Prelude.{◌≡◌, IfOk};
 ghost use Rattle.std.specs.Option.{option_map};
-ghost use Rattle.of_replay.specs.Rows.{row_of, with_bytes, piece_row, frame_row, port_of, change_of, added_port, removed_port, linked_port, named_row};
+ghost use Rattle.of_replay.specs.Rows.{row_of, with_bytes, chunk_row, frame_row, port_of, change_of, added_port, removed_port, linked_port, named_row};
 
 use crate::lexing::{
     cut_word, is_readable, read_bytes, read_hw, read_moment, read_name, read_number, read_state,
@@ -10,7 +10,7 @@ use of_switch::PortChange;
 use of_text::{is, is_passed_over};
 use std::alloc::AllocError;
 
-/// A row of an event file. The bytes of a piece or a frame are in the buffer that it was read with.
+/// A row of an event file. The bytes of a chunk or a frame are in the buffer that it was read with.
 #[derive(Clone, Copy, Debug, PartialEq, Eq)]
 pub enum Row {
     /// An empty line or a comment.
@@ -20,7 +20,7 @@ pub enum Row {
     /// The connection is lost.
     Lost,
     /// Bytes of the controller.
-    Piece,
+    Chunk,
     /// A frame is received at a port.
     Frame { port: u32 },
     /// The time is this many nanoseconds.
@@ -30,11 +30,11 @@ pub enum Row {
 }
 
 // `c HEX`, from its second word on.
-fn read_piece(word: &[u8], bytes: &mut Vec<u8>) -> Result<Option<Row>, AllocError>
-    ensures { IfOk result (λ row. piece_row word.now ≡ option_map (with_bytes bytes.new.items) row) }
+fn read_chunk(word: &[u8], bytes: &mut Vec<u8>) -> Result<Option<Row>, AllocError>
+    ensures { IfOk result (λ row. chunk_row word.now ≡ option_map (with_bytes bytes.new.items) row) }
 {
     if read_bytes(word, bytes)? {
-        Ok(Some(Row::Piece))
+        Ok(Some(Row::Chunk))
     } else {
         Ok(None)
     }
@@ -124,7 +124,7 @@ fn read_named(name: &[u8], words: &[u8], bytes: &mut Vec<u8>) -> Result<Option<R
     ensures { IfOk result (λ row. named_row name.now words.now ≡ option_map (with_bytes bytes.new.items) row) }
 {
     if is(name, b"c") {
-        return read_piece(words, bytes);
+        return read_chunk(words, bytes);
     }
     if is(name, b"f") {
         return read_frame(words, bytes);

@@ -1,3 +1,3 @@
 mod Written
 mod WrittenLarge
-mod Unspelt
+mod Unencoded

@@ -1,4 +1,4 @@
--- What is written of a message spells it.
+-- What is written of a message encodes it.
 use Rattle.std.proofs.lemmas.List.{append_assoc, append-nil, length-append}
 use Rattle.std.proofs.Common.{◌≡◌, ℕ, ◌+◌, ◌^◌, ◌<◌, ◌≤◌, List, [], ◌∷◌, ◌++◌, length, Result, Ok, Err, refl, sym, ap, subst, ◌∙◌, arith}
 use Rattle.std.specs.Prelude.{IfOk, OnOk}
@@ -8,9 +8,9 @@ use Rattle.of_messages.specs.declared.message.Message.{Message}
 use Rattle.of_messages.specs.declared.message.Message.TheVariants.{Hello, Error, EchoRequest, EchoReply, FeaturesRequest, GetConfigRequest, SetConfig, PacketOut as IsPacketOut, FlowMod as IsFlowMod, GroupMod as IsGroupMod, PortMod as IsPortMod, TableMod as IsTableMod, Multipart, BarrierRequest, RoleRequest as IsRoleRequest, GetAsyncRequest, SetAsync}
 use Rattle.of_messages.proofs.Lengths.{is_message}
 use Rattle.of_laws.specs.Cells.{Cell, byte, u16, u32, Begins, Fits, canonical_cells}
-use Rattle.of_laws.specs.Grammar.{type, version, cells, Tail, IsValid, Spells}
+use Rattle.of_laws.specs.Grammar.{type, version, cells, Tail, IsValid, Encodes}
 use Rattle.of_laws.proofs.Places.{size}
-use Rattle.of_laws.proofs.Writings.{fronted, length-spelling}
+use Rattle.of_laws.proofs.Writings.{fronted, length-encoding}
 use Rattle.of_requests.specs.Canonical.{canonical, canonical_tail}
 use Rattle.of_requests.specs.Written.{IsWritten}
 
@@ -52,11 +52,11 @@ abbrev pub body : Message → List ℕ
 body m = canonical_cells (cells m) ++ canonical_tail m
 
 length-body : (m : Message) (xid n : ℕ) → Parts m xid n → n ≡ length (body m)
-length-body m xid n p = omega (arith, p.total, length-append (canonical_cells (cells m)) (canonical_tail m), length-spelling (cells m) p.fits)
+length-body m xid n p = omega (arith, p.total, length-append (canonical_cells (cells m)) (canonical_tail m), length-encoding (cells m) p.fits)
 
-canonical_spelt : (m : Message) (xid n : ℕ) → Parts m xid n → Spells xid m (canonical xid m)
+canonical_encoded : (m : Message) (xid n : ℕ) → Parts m xid n → Encodes xid m (canonical xid m)
 unfolding canonical
-canonical_spelt m xid n p =
+canonical_encoded m xid n p =
     let front = fronted (type m) xid (cells m) (body m) (canonical_tail m) refl (type_fits m) p.xid_fits p.fits (omega (arith, length-body m xid n p, p.short)) in
     record { tail = canonical_tail m; front = any_version m (byte (type m) ∷ u16 (length (canonical xid m)) ∷ u32 xid ∷ cells m) (canonical xid m) (canonical_tail m) front; behind = p.behind; valid = p.valid }
 
@@ -64,7 +64,7 @@ pub whole_written : (m : Message) (xid n : ℕ) (bytes : List ℕ) → bytes ≡
 unfolding canonical
 whole_written m xid n bytes whole p =
     let text : bytes ≡ canonical xid m = whole ∙ ap (λ (k : ℕ). header (type m) (8 + k) xid ++ body m) (length-body m xid n p) in
-    record { text = text; spelt = subst (λ (b : List ℕ). Spells xid m b) (sym text) (canonical_spelt m xid n p) }
+    record { text = text; encoded = subst (λ (b : List ℕ). Encodes xid m b) (sym text) (canonical_encoded m xid n p) }
 
 pub front_written : (m : Message) (xid n : ℕ) (front bytes : List ℕ) → front ≡ header (type m) (8 + n) xid → bytes ≡ front ++ body m → Parts m xid n → IsWritten xid m bytes
 front_written m xid n front bytes head rest p = whole_written m xid n bytes (rest ∙ ap (λ (x : List ℕ). x ++ body m) head) p
@@ -73,7 +73,7 @@ front_written m xid n front bytes head rest p = whole_written m xid n bytes (res
 pub is_one_message : (m : Message) (xid : ℕ) (bytes : List ℕ) → IsWritten xid m bytes → IsMessage bytes
 unfolding canonical
 is_one_message m xid bytes w =
-    let fits : length bytes < 256 ^ 2 = w.spelt.front.2.2.1.0 in
+    let fits : length bytes < 256 ^ 2 = w.encoded.front.2.2.1.0 in
     let total : length bytes ≡ length (message (type m) xid (body m)) = ap length w.text in
     subst (λ (b : List ℕ). IsMessage b) (sym w.text) (is_message (type m) xid (body m) (omega (arith, fits, total)))
 

@@ -1,4 +1,4 @@
--- What is written of a PACKET_OUT, a FLOW_MOD, a GROUP_MOD and a MULTIPART_REQUEST spells it.
+-- What is written of a PACKET_OUT, a FLOW_MOD, a GROUP_MOD and a MULTIPART_REQUEST encodes it.
 use Rattle.std.proofs.Common.{◌≡◌, ℕ, ◌+◌, ◌^◌, ◌<◌, ◌≤◌, Bool, true, false, not, eqb, ltb, leb, List, [], ◌∷◌, ◌++◌, length, map, Option, Some, None, refl, sym, ap, subst, ◌∙◌, arith}
 use Rattle.std.specs.Prelude.{◌&&◌, replicate, unwrap_or}
 use Rattle.std.specs.List.{list_all}
@@ -8,7 +8,7 @@ use Rattle.std.proofs.lemmas.List.{append-nil, length-append}
 use Rattle.byteorder.specs.Endian.{big_bytes}
 use Rattle.of_oxm.specs.Canonical.{canonical as canonical_match}
 use Rattle.of_oxm.specs.NormalForm.{IsMatch}
-use Rattle.of_oxm.proofs.Written.{canonical_short, canonical_spells}
+use Rattle.of_oxm.proofs.Written.{canonical_short, canonical_encodes}
 use Rattle.of_actions.specs.Actions.{AreActions}
 use Rattle.of_actions.specs.CanonicalActions.{canonical_actions}
 use Rattle.of_actions.specs.CanonicalInstructions.{canonical_instructions}
@@ -33,12 +33,12 @@ use Rattle.of_messages.specs.declared.multipart.MultipartRequest.TheVariants.{Fl
 use Rattle.of_messages.proofs.BucketsWritten.{buckets_short}
 use Rattle.of_laws.specs.Buckets.{AreBuckets}
 use Rattle.of_laws.specs.Cells.{u16, u32, even, pad, Fits, canonical_cells}
-use Rattle.of_laws.specs.Grammar.{IsData, IsValidData, IsValidFlowMod, IsValidNumber, MayName, Spells, buffer_of, deletes, flow_mod_cells, group_cells}
+use Rattle.of_laws.specs.Grammar.{IsData, IsValidData, IsValidFlowMod, IsValidNumber, MayName, Encodes, buffer_of, deletes, flow_mod_cells, group_cells}
 use Rattle.of_laws.specs.Requests.{BeginsMatch, IsOne, all_groups, any_port, flows_cells, or_all}
 use Rattle.of_laws.proofs.FoundLarge.{frame_fits, ingress}
 use Rattle.of_laws.proofs.FoundSmall.{named}
 use Rattle.of_laws.proofs.Writings.{written}
-use Rattle.of_laws.proofs.WrittenRequests.{beginning_is, buckets_spelt, flow_mod_spelt}
+use Rattle.of_laws.proofs.WrittenRequests.{beginning_is, buckets_encoded, flow_mod_encoded}
 use Rattle.of_requests.specs.Canonical.{canonical, frame_of}
 use Rattle.of_requests.specs.Sound.{counts_nothing, has_no_instructions, is_one, is_sound, is_sound_command, is_sound_group, is_sound_number, is_sound_packet}
 use Rattle.of_requests.specs.Written.{IsWritten}
@@ -132,8 +132,8 @@ flow_mod_written m xid bytes x fits match kept sound is =
     let low : ltb m.flags 32 ≡ true = second _ _ tests in
     let flags : m.flags < 32 = low_flags m.flags low in
     let valid : IsValidFlowMod m = record { table = command.table; flags = flags; fit = second _ _ sound } in
-    let spelt = flow_mod_spelt xid m x fits valid match kept command.fit command.none in
-    record { text = is ∙ ap (λ (b : List ℕ). message 14 xid b) (beginning_is m (canonical_match m.fields ++ canonical_instructions m.instructions)); spelt = subst (λ (b : List ℕ). Spells xid (IsFlowMod m) b) (sym is) spelt }
+    let encoded = flow_mod_encoded xid m x fits valid match kept command.fit command.none in
+    record { text = is ∙ ap (λ (b : List ℕ). message 14 xid b) (beginning_is m (canonical_match m.fields ++ canonical_instructions m.instructions)); encoded = subst (λ (b : List ℕ). Encodes xid (IsFlowMod m) b) (sym is) encoded }
 
 -- ---- GROUP_MOD
 
@@ -167,7 +167,7 @@ grouped g numbers fit sound =
       id = grind (arith, nat_tests);
       few = grind (arith, nat_tests);
       short = buckets_short g.buckets fit;
-      are = subst (λ (bs : List Bucket). AreBuckets bs (canonical_buckets g.buckets)) (all_fresh g.buckets (second (leb g.id group_max) (list_all counts_nothing g.buckets) sound)) (buckets_spelt g.buckets numbers all);
+      are = subst (λ (bs : List Bucket). AreBuckets bs (canonical_buckets g.buckets)) (all_fresh g.buckets (second (leb g.id group_max) (list_all counts_nothing g.buckets) sound)) (buckets_encoded g.buckets numbers all);
     }
 
 pub add_written : (g : NewGroup) (xid : ℕ) (bytes : List ℕ) → xid < 256 ^ 4 → Fits (group_cells 0 g) → Grouped g → bytes ≡ group_text 0 xid g → IsWritten xid (IsGroupMod (group.Add g)) bytes
@@ -188,7 +188,7 @@ flows_total : (r : FlowStatsRequest) → length (canonical_match r.fields) ≤ 1
 flows_total r short = omega arith
 
 begins_match : (r : FlowStatsRequest) → IsMatch r.fields → BeginsMatch r.fields (canonical_match r.fields)
-begins_match r match = record { front = canonical_match r.fields; rest = []; whole = sym (append-nil (canonical_match r.fields)); spelt = canonical_spells r.fields match }
+begins_match r match = record { front = canonical_match r.fields; rest = []; whole = sym (append-nil (canonical_match r.fields)); encoded = canonical_encodes r.fields match }
 
 -- what is written of a request for flows
 abbrev pub flows_text : ℕ → ℕ → FlowStatsRequest → List ℕ

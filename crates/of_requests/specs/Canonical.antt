@@ -1,4 +1,4 @@
--- The one spelling of each message of a controller that is written (OpenFlow 1.3.5, 7): its fields, with zeros for padding and for what is ignored, and then its match, actions, instructions or buckets in theirs.
+-- The one encoding of each message of a controller that is written (OpenFlow 1.3.5, 7): its fields, with zeros for padding and for what is ignored, and then its match, actions, instructions or buckets in theirs.
 use Rattle.std.specs.Prelude.{ℕ, List, [], ◌∷◌, ◌++◌, length, drop}
 use Rattle.of_oxm.specs.Canonical.{canonical as canonical_match}
 use Rattle.of_actions.specs.CanonicalActions.{canonical_actions}

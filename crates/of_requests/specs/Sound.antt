@@ -1,4 +1,4 @@
--- Which messages some bytes spell, as tests: their numbers are such as the standard allows (OpenFlow 1.3.5, 7).
+-- Which messages some bytes encode, as tests: their numbers are such as the standard allows (OpenFlow 1.3.5, 7).
 use Rattle.std.specs.Prelude.{ℕ, ◌==◌, nat_lt, nat_le, Bool, true, false, not, ◌&&◌, List, [], ◌∷◌, length, bit_and, Option, Some, None, is_none}
 use Rattle.std.specs.List.{list_all}
 use Rattle.of_headers.specs.Faults.{frame_fault}

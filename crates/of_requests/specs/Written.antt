@@ -4,14 +4,14 @@ use Rattle.of_formats.specs.Tables as tables
 use Rattle.of_messages.specs.declared.async_masks.RoleMasks.{RoleMasks}
 use Rattle.of_messages.specs.declared.message.Message.{Message}
 use Rattle.of_laws.specs.Cells.{Cell}
-use Rattle.of_laws.specs.Grammar.{Spells}
+use Rattle.of_laws.specs.Grammar.{Encodes}
 use Rattle.of_laws.specs.StructCells.{cells_of}
 use Rattle.of_requests.specs.Canonical.{canonical}
 
--- its one spelling, which spells it
+-- its one encoding, which encodes it
 pub record IsWritten (xid : ℕ) (m : Message) (bytes : List ℕ) : Type 0 where
   pub text : bytes ≡ canonical xid m
-  pub spelt : Spells xid m bytes
+  pub encoded : Encodes xid m bytes
 
 -- each of them is a byte
 abbrev pub AreBytes : List ℕ → Type 0

@@ -1,4 +1,4 @@
-//! Which messages some bytes spell.
+//! Which messages some bytes encode.
 ghost use Rattle.std.specs.Prelude.{◌≡◌};
 ghost use Rattle.std.specs.List.{list_all};
 ghost use Rattle.of_messages.specs.Configs.{names_table as is_named};
@@ -96,7 +96,7 @@ fn is_request(request: &MultipartRequest) -> bool
     }
 }
 
-/// Whether some bytes spell the message.
+/// Whether some bytes encode the message.
 pub(crate) fn is_sound(message: &Message) -> bool
     ensures { result ≡ has_bytes message.now }
 {

@@ -12,9 +12,9 @@ pub enum WriteError {
     /// Memory ran out. The call can be made again.
     #[error("no memory")]
     Memory,
-    /// No bytes spell the message: a number in it is not allowed, or it has more bytes than a header can count.
-    #[error("no bytes spell this message")]
-    NotSpelt,
+    /// No bytes encode the message: a number in it is not allowed, or it has more bytes than a header can count.
+    #[error("no bytes encode this message")]
+    NotEncoded,
 }
 
 impl From<AllocError> for WriteError {

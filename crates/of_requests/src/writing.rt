@@ -1,7 +1,7 @@
 //! Any message of a controller as bytes.
 ghost use Rattle.std.specs.Prelude.{◌≡◌, ℕ, List, true, Ok, IfOk, IfErr};
 ghost use Rattle.of_messages.specs.Messages.{message_of, xid_of};
-ghost use Rattle.of_laws.specs.Grammar.{Spells};
+ghost use Rattle.of_laws.specs.Grammar.{Encodes};
 ghost use Rattle.of_requests.specs.Canonical.{canonical as canonical_bytes};
 ghost use Rattle.of_requests.specs.Sound.{is_sound as has_bytes};
 ghost use Rattle.of_requests.specs.Written.{AreBytes, IsWritten};
@@ -45,19 +45,19 @@ fn write_sound(alloc: Global, xid: u32, message: &Message) -> Result<Bytes, Allo
     }
 }
 
-/// The message of a controller as bytes, in the one spelling that is written (OpenFlow 1.3.5, 7).
+/// The message of a controller as bytes, in the one encoding that is written (OpenFlow 1.3.5, 7).
 ///
 /// What `of_messages::read_message` does not keep is left out or 0: a HELLO has no elements, an ERROR type and code 0 and no
 /// data, an ECHO_REPLY no data, a held PACKET_OUT nothing behind its actions, and a DELETE of a group no buckets.
 pub fn write_message(alloc: Global, xid: u32, message: &Message) -> Result<MessageBytes, WriteError>
     ensures canonical { IfOk result (λ bytes. bytes ≡ canonical_bytes xid message.now) }
-    ensures spelt { IfOk result (λ bytes. Spells xid message.now bytes) }
+    ensures encoded { IfOk result (λ bytes. Encodes xid message.now bytes) }
     ensures read_again { IfOk result (λ bytes. (message_of bytes ≡ Ok message.now) × (xid_of bytes ≡ xid)) }
-    ensures not_spelt { IfErr result (λ e. e ≡ WriteError.NotSpelt → (x : ℕ) (bytes : List ℕ) → ¬ Spells x message.now bytes) }
-    ensures read_is_written { IfErr result (λ e. e ≡ WriteError.NotSpelt → (bytes : List ℕ) → AreBytes bytes → ¬ (message_of bytes ≡ Ok message.now)) }
+    ensures not_encoded { IfErr result (λ e. e ≡ WriteError.NotEncoded → (x : ℕ) (bytes : List ℕ) → ¬ Encodes x message.now bytes) }
+    ensures read_is_written { IfErr result (λ e. e ≡ WriteError.NotEncoded → (bytes : List ℕ) → AreBytes bytes → ¬ (message_of bytes ≡ Ok message.now)) }
 {
     if !is_sound(message) {
-        return Err(WriteError::NotSpelt);
+        return Err(WriteError::NotEncoded);
     }
     let bytes = write_sound(alloc, xid, message)?;
     Ok(MessageBytes::new(bytes))

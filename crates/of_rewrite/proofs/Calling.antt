@@ -7,13 +7,13 @@ use Rattle.of_layers.specs.declared.field.Field.{Field}
 use Rattle.of_layers.specs.declared.place.Place.{Place}
 use Rattle.of_layers.specs.Bits.{bits, bits_of}
 use Rattle.of_layers.specs.Fields.{number_of, is_settable}
-use Rattle.of_layers.specs.Layers.{Cell, Layers, cells, spelt, ttl}
+use Rattle.of_layers.specs.Layers.{Cell, Layers, cells, encoded, ttl}
 use Rattle.of_layers.specs.Looking.{locate}
 use Rattle.of_layers.specs.Reading.{layers_of, is_tag_type}
 use Rattle.of_layers.specs.WellFormed.{AreBytes}
 use Rattle.of_layers.proofs.BitLemmas.{bits_parts}
-use Rattle.of_layers.proofs.FrameLemmas.{frame_spelt}
-use Rattle.of_layers.proofs.SpellingLemmas.{AreBytes-take, AreBytes-drop}
+use Rattle.of_layers.proofs.FrameLemmas.{frame_encoded}
+use Rattle.of_layers.proofs.EncodingLemmas.{AreBytes-take, AreBytes-drop}
 use Rattle.of_headers.specs.declared.layout.Layout.{Layout}
 use Rattle.of_headers.specs.declared.known.Known.{Known}
 use Rattle.of_headers.specs.declared.known.Known.TheVariants.{Nothing, Places, Fields}
@@ -28,11 +28,11 @@ use Rattle.of_rewrite.specs.Rewriting.{number_set}
 use Rattle.of_rewrite.specs.Replaced.{Replaceable, LeavesLayers, layers_set}
 use Rattle.of_rewrite.specs.Tagging.{has_tag, control_in}
 use Rattle.of_rewrite.specs.TimeToLive.{ttl_of, ttl_decremented_from}
-use Rattle.of_rewrite.proofs.Framing.{AreBits, number_below, bits_take, bits_drop, spelt_bits, bytes_below, bytes_are, frame_width, width_set, set_frame, ttl_frame, aged_frame, pushed_frame, popped_frame}
+use Rattle.of_rewrite.proofs.Framing.{AreBits, number_below, bits_take, bits_drop, encoded_bits, bytes_below, bytes_are, frame_width, width_set, set_frame, ttl_frame, aged_frame, pushed_frame, popped_frame}
 use Rattle.of_rewrite.proofs.KeptLayers.{layers_are, leaves, leaves_ttl}
 use Rattle.of_rewrite.proofs.KeptPlaces.{layout_set}
 use Rattle.of_rewrite.proofs.Lending.{length_with}
-use Rattle.of_rewrite.proofs.Standing.{length_spelt}
+use Rattle.of_rewrite.proofs.Standing.{length_encoded}
 use Rattle.of_rewrite.proofs.TagFrames.{bytes_append, tag_pushed, tag_popped, none_popped}
 use Rattle.of_rewrite.proofs.TagPut.{tagged, four, push_is, pop_is, untagged_pops}
 use Rattle.of_rewrite.proofs.Unset.{place_inside, replaceable}
@@ -63,10 +63,10 @@ octets_bits (suc n) s h e =
     let back : bits_of (octets_of n (drop 8 s)) ≡ drop 8 s = octets_bits n (drop 8 s) (bits_drop 8 s h) (omega (arith, length-drop 8 s)) in
     (λ j. front j ++ back j) ∙ take-append-drop 8 s
 
-bits_in : (n : ℕ) (cs : List Cell) → width cs ≡ 8 * n → bits_of (bytes_in cs) ≡ spelt cs
+bits_in : (n : ℕ) (cs : List Cell) → width cs ≡ 8 * n → bits_of (bytes_in cs) ≡ encoded cs
 bits_in n cs e =
-    let long : length (spelt cs) ≡ 8 * (length (spelt cs) / 8) = omega (arith, length_spelt cs) in
-    octets_bits (length (spelt cs) / 8) (spelt cs) (spelt_bits cs) long
+    let long : length (encoded cs) ≡ 8 * (length (encoded cs) / 8) = omega (arith, length_encoded cs) in
+    octets_bits (length (encoded cs) / 8) (encoded cs) (encoded_bits cs) long
 
 -- ---- where the layers begin once a number is replaced
 
@@ -87,7 +87,7 @@ unfolding frame_ttl
 places_ttl v s h = places_replaced ttl v s h (omega arith, omega arith) leaves_ttl
 
 same_cells : (s : List ℕ) → IsFrame s → layout_of (layers_of s) ≡ layout_of (layers_of (bytes_in (cells (layers_of s))))
-same_cells s h = ap (λ (t : List ℕ). layout_of (layers_of t)) (bytes_are (cells (layers_of s)) s h.1 (frame_spelt s h.1 h.0))
+same_cells s h = ap (λ (t : List ℕ). layout_of (layers_of t)) (bytes_are (cells (layers_of s)) s h.1 (frame_encoded s h.1 h.0))
 
 places_aged : (s : List ℕ) → IsFrame s → layout_of (layers_of s) ≡ layout_of (layers_of (frame_ttl_decremented s))
 unfolding frame_ttl_decremented

@@ -5,9 +5,9 @@ use Rattle.std.proofs.lemmas.List.{length-append, take-append-drop}
 use Rattle.of_layers.specs.declared.transport.Transport.{Transport}
 use Rattle.of_layers.specs.declared.transport.Transport.TheVariants.{Nothing}
 use Rattle.of_layers.specs.Fields.{row_of}
-use Rattle.of_layers.specs.Layers.{Item, Cell, plain, Layers, Carried, Extension, Options, Fragment, Body, Plain, Arp, Ipv4, Ipv6, cells_in, byte_cells, inner_cells, tag_cells, extension_cells, cells, spelt, addresses, outer_tag, inner_tag, ether_type, ipv4, ipv6, options, fragment, items_of, size_of, all_bytes, next_before, header_checksum, checksum}
+use Rattle.of_layers.specs.Layers.{Item, Cell, plain, Layers, Carried, Extension, Options, Fragment, Body, Plain, Arp, Ipv4, Ipv6, cells_in, byte_cells, inner_cells, tag_cells, extension_cells, cells, encoded, addresses, outer_tag, inner_tag, ether_type, ipv4, ipv6, options, fragment, items_of, size_of, all_bytes, next_before, header_checksum, checksum}
 use Rattle.of_layers.specs.WellFormed.{Fits, IsIpv4, IsIpv6, IsLayers}
-use Rattle.of_layers.proofs.SpellingLemmas.{spelt-append}
+use Rattle.of_layers.proofs.EncodingLemmas.{encoded-append}
 use Rattle.of_headers.specs.Places.{width, network_of, layout_of}
 use Rattle.of_headers.proofs.LocateLemmas.{width-append, width_bytes}
 use Rattle.of_layers.specs.Looking.{name_is}
@@ -18,7 +18,7 @@ use Rattle.of_rewrite.specs.Rewriting.{change_at, replace_at, number_set, rule_i
 use Rattle.of_rewrite.specs.Renewal.{packet_at, header_span, address_span, carried_span}
 use Rattle.of_rewrite.proofs.CoveredWords.{words_in, header_words, carried_words, carried_rule}
 use Rattle.of_rewrite.proofs.Structure.{wide, tags_part, Chained, chained, items_total, ipv6_total}
-use Rattle.of_rewrite.proofs.Standing.{own_header, no_header, length_spelt, size_even}
+use Rattle.of_rewrite.proofs.Standing.{own_header, no_header, length_encoded, size_even}
 use Rattle.of_rewrite.proofs.Parts.{part_words, All, apart_by, all_append, all_bytes as all_byte_cells, passes, all_in}
 
 -- ---- parts of a format
@@ -58,12 +58,12 @@ fits_drop (suc k) (i ∷ is) (m ∷ ns) h = fits_drop k is ns h.1
 abbrev pub front_of : Layers → List Cell
 front_of l = cells_in addresses l.ends ++ (tag_cells l.tags ++ cells_in ether_type (l.type ∷ []))
 
-front_long : (l : Layers) → IsLayers l → length (spelt (front_of l)) ≡ 8 * packet_at (layout_of l)
+front_long : (l : Layers) → IsLayers l → length (encoded (front_of l)) ≡ 8 * packet_at (layout_of l)
 front_long l h =
     let a : List Cell = cells_in addresses l.ends in
     let t : List Cell = tag_cells l.tags in
     let y : List Cell = cells_in ether_type (l.type ∷ []) in
-    length_spelt (front_of l) ∙ width-append a (t ++ y) ∙ omega (arith, wide addresses l.ends h.ends, width-append t y, (tags_part 102 l.tags own_header.inner own_header.outer h.tags).is_wide)
+    length_encoded (front_of l) ∙ width-append a (t ++ y) ∙ omega (arith, wide addresses l.ends h.ends, width-append t y, (tags_part 102 l.tags own_header.inner own_header.outer h.tags).is_wide)
 
 pub all_inner : (q : ℕ → Bool) (ts : List (List ℕ)) → All q (inner_cells ts)
 all_inner q [] = tt
@@ -135,9 +135,9 @@ cut_last a t y h o c r z = simp append_assoc
 
 -- what each checksum covers
 pub record Covers (l : Layers) (n : ℕ) (f : ℕ → ℕ) : Type 0 where
-  pub in_header : words_in (header_span (packet_at (layout_of l)) (network_of l.body)) (spelt (change_at n f (cells l))) ≡ words (change_at n f (header_cover l.body))
-  pub in_addresses : words_in (address_span (packet_at (layout_of l)) (network_of l.body)) (spelt (change_at n f (cells l))) ≡ words (change_at n f (address_cover l.body))
-  pub in_carried : words_in (carried_span (packet_at (layout_of l)) (network_of l.body)) (spelt (change_at n f (cells l))) ≡ words (change_at n f (carried_cover l.body))
+  pub in_header : words_in (header_span (packet_at (layout_of l)) (network_of l.body)) (encoded (change_at n f (cells l))) ≡ words (change_at n f (header_cover l.body))
+  pub in_addresses : words_in (address_span (packet_at (layout_of l)) (network_of l.body)) (encoded (change_at n f (cells l))) ≡ words (change_at n f (address_cover l.body))
+  pub in_carried : words_in (carried_span (packet_at (layout_of l)) (network_of l.body)) (encoded (change_at n f (cells l))) ≡ words (change_at n f (carried_cover l.body))
 
 none_covered : (s : List ℕ) → words_of 0 s ≡ words []
 unfolding words_of
@@ -165,36 +165,36 @@ covers_ipv4 ends tags type ns o c rest h n f =
     let a : List Cell = cells_in addresses ends in
     let t : List Cell = tag_cells tags in
     let y : List Cell = cells_in ether_type (type ∷ []) in
-    let fl : length (spelt (front_of l)) ≡ 8 * q = front_long l h in
+    let fl : length (encoded (front_of l)) ≡ 8 * q = front_long l h in
     let hw : width (cells_in ipv4 ns) ≡ 160 = wide ipv4 ns i.numbers in
     let ow : width (byte_cells o) ≡ 8 * length o = width_bytes o in
-    let ho : length (spelt (cells_in ipv4 ns ++ byte_cells o)) ≡ 160 + 8 * length o = length_spelt (hs ++ os) ∙ width-append hs os ∙ omega arith in
+    let ho : length (encoded (cells_in ipv4 ns ++ byte_cells o)) ≡ 160 + 8 * length o = length_encoded (hs ++ os) ∙ width-append hs os ∙ omega arith in
     let even : 20 + length o ≡ 4 * slice_index ns 1 = i.words in
     let gs : List Cell = cells_in (take 11 ipv4) (take 11 ns) in
     let ds : List Cell = cells_in (drop 11 ipv4) (drop 11 ns) in
-    let gw : length (spelt (cells_in (take 11 ipv4) (take 11 ns))) ≡ 96 = length_spelt gs ∙ wide (take 11 ipv4) (take 11 ns) (fits_take 11 ipv4 ns i.numbers) in
-    let dw : length (spelt (cells_in (drop 11 ipv4) (drop 11 ns))) ≡ 64 = length_spelt ds ∙ wide (drop 11 ipv4) (drop 11 ns) (fits_drop 11 ipv4 ns i.numbers) in
+    let gw : length (encoded (cells_in (take 11 ipv4) (take 11 ns))) ≡ 96 = length_encoded gs ∙ wide (take 11 ipv4) (take 11 ns) (fits_take 11 ipv4 ns i.numbers) in
+    let dw : length (encoded (cells_in (drop 11 ipv4) (drop 11 ns))) ≡ 64 = length_encoded ds ∙ wide (drop 11 ipv4) (drop 11 ns) (fits_drop 11 ipv4 ns i.numbers) in
     let halves : cells_in ipv4 ns ≡ gs ++ ds = sym (take-append-drop 11 hs) ∙ (λ j. take_cells 11 ipv4 ns j ++ drop_cells 11 ipv4 ns j) in
-    let cw : length (spelt (cells_in (items_of c.kind) c.numbers)) ≡ 8 * size_of c.kind = length_spelt cs ∙ wide (items_of c.kind) c.numbers i.carries.numbers ∙ items_total c.kind in
+    let cw : length (encoded (cells_in (items_of c.kind) c.numbers)) ≡ 8 * size_of c.kind = length_encoded cs ∙ wide (items_of c.kind) c.numbers i.carries.numbers ∙ items_total c.kind in
     let half : size_of c.kind % 2 ≡ 0 = size_even c.kind in
     record {
       in_header =
-          ap (λ (x : List Cell). words_of ((20 + length o) / 2) (drop (8 * q) (spelt (change_at n f x)))) (cut_two a t y hs os ((cs ++ rs) ++ zs))
+          ap (λ (x : List Cell). words_of ((20 + length o) / 2) (drop (8 * q) (encoded (change_at n f x)))) (cut_two a t y hs os ((cs ++ rs) ++ zs))
           ∙ part_words n f (front_of l) (hs ++ os) ((cs ++ rs) ++ zs) q ((20 + length o) / 2)
           (apart_by outside (front_of l) (hs ++ os) (front_outside l) (all_append (λ n. not (outside n)) hs os (all_in (λ n. not (outside n)) ipv4 ns refl) (all_byte_cells (λ n. not (outside n)) o)) n) fl (omega arith);
       in_addresses =
-          either_covered (without_addresses c.kind) n f (drop 11 hs) (q + 12) 4 (spelt (change_at n f (cells l)))
-          (ap (λ (x : List Cell). words_of 4 (drop (8 * (q + 12)) (spelt (change_at n f (a ++ (t ++ (y ++ (x ++ (os ++ ((cs ++ rs) ++ zs)))))))))) halves
-          ∙ ap (λ (x : List Cell). words_of 4 (drop (8 * (q + 12)) (spelt (change_at n f x)))) (cut_half a t y gs ds (os ++ ((cs ++ rs) ++ zs)))
+          either_covered (without_addresses c.kind) n f (drop 11 hs) (q + 12) 4 (encoded (change_at n f (cells l)))
+          (ap (λ (x : List Cell). words_of 4 (drop (8 * (q + 12)) (encoded (change_at n f (a ++ (t ++ (y ++ (x ++ (os ++ ((cs ++ rs) ++ zs)))))))))) halves
+          ∙ ap (λ (x : List Cell). words_of 4 (drop (8 * (q + 12)) (encoded (change_at n f x)))) (cut_half a t y gs ds (os ++ ((cs ++ rs) ++ zs)))
           ∙ part_words n f (front_of l ++ gs) ds (os ++ ((cs ++ rs) ++ zs)) (q + 12) 4
           (apart_by no_address (front_of l ++ gs) ds (all_append no_address (front_of l) gs (front_no_address l) (all_in no_address (take 11 ipv4) (take 11 ns) refl)) (all_in (λ n. not (no_address n)) (drop 11 ipv4) (drop 11 ns) refl) n)
-          (ap length (spelt-append (front_of l) gs) ∙ length-append (spelt (front_of l)) (spelt gs) ∙ omega arith) dw
+          (ap length (encoded-append (front_of l) gs) ∙ length-append (encoded (front_of l)) (encoded gs) ∙ omega arith) dw
           ∙ ap (λ (x : List Cell). words (change_at n f x)) (sym (drop_cells 11 ipv4 ns)));
       in_carried =
-          ap (λ (x : List Cell). words_of (size_of c.kind / 2) (drop (8 * (q + (20 + length o))) (spelt (change_at n f x)))) (cut_last a t y hs os cs rs zs)
+          ap (λ (x : List Cell). words_of (size_of c.kind / 2) (drop (8 * (q + (20 + length o))) (encoded (change_at n f x)))) (cut_last a t y hs os cs rs zs)
           ∙ part_words n f (front_of l ++ (hs ++ os)) cs (rs ++ zs) (q + (20 + length o)) (size_of c.kind / 2)
           (apart_by no_carried (front_of l ++ (hs ++ os)) cs (all_append no_carried (front_of l) (hs ++ os) (front_no_carried l) (all_append no_carried hs os (all_in no_carried ipv4 ns refl) (all_byte_cells no_carried o))) (all_in (λ n. not (no_carried n)) (items_of c.kind) c.numbers (items_carried c.kind)) n)
-          (ap length (spelt-append (front_of l) (hs ++ os)) ∙ length-append (spelt (front_of l)) (spelt (hs ++ os)) ∙ omega arith) (omega arith);
+          (ap length (encoded-append (front_of l) (hs ++ os)) ∙ length-append (encoded (front_of l)) (encoded (hs ++ os)) ∙ omega arith) (omega arith);
     }
 
 covers_ipv6 : (ends : List ℕ) (tags : List (List ℕ)) (type : ℕ) (ns : List ℕ) (es : List Extension) (c : Carried) (rest : List ℕ) → IsLayers (frame_with ends tags type (Ipv6 ns es c rest)) → (n : ℕ) (f : ℕ → ℕ) → Covers (frame_with ends tags type (Ipv6 ns es c rest)) n f
@@ -213,33 +213,33 @@ covers_ipv6 ends tags type ns es c rest h n f =
     let a : List Cell = cells_in addresses ends in
     let t : List Cell = tag_cells tags in
     let y : List Cell = cells_in ether_type (type ∷ []) in
-    let fl : length (spelt (front_of l)) ≡ 8 * q = front_long l h in
+    let fl : length (encoded (front_of l)) ≡ 8 * q = front_long l h in
     let hw : width (cells_in (ipv6 (next_before es)) ns) ≡ 320 = wide is ns i.numbers ∙ ipv6_total es in
     let ow : width (extension_cells es) ≡ 8 * all_bytes es = k.part.is_wide in
-    let ho : length (spelt (hs ++ os)) ≡ 320 + 8 * all_bytes es = length_spelt (hs ++ os) ∙ width-append hs os ∙ omega arith in
+    let ho : length (encoded (hs ++ os)) ≡ 320 + 8 * all_bytes es = length_encoded (hs ++ os) ∙ width-append hs os ∙ omega arith in
     let gs : List Cell = cells_in (take 7 (ipv6 (next_before es))) (take 7 ns) in
     let ds : List Cell = cells_in (drop 7 (ipv6 (next_before es))) (drop 7 ns) in
-    let dw : length (spelt (cells_in (drop 7 (ipv6 (next_before es))) (drop 7 ns))) ≡ 256 = length_spelt ds ∙ wide (drop 7 (ipv6 (next_before es))) (drop 7 ns) (fits_drop 7 is ns i.numbers) in
+    let dw : length (encoded (cells_in (drop 7 (ipv6 (next_before es))) (drop 7 ns))) ≡ 256 = length_encoded ds ∙ wide (drop 7 (ipv6 (next_before es))) (drop 7 ns) (fits_drop 7 is ns i.numbers) in
     let halves : cells_in (ipv6 (next_before es)) ns ≡ gs ++ ds = sym (take-append-drop 7 hs) ∙ (λ j. take_cells 7 is ns j ++ drop_cells 7 is ns j) in
     let gd : 320 ≡ width gs + width ds = sym hw ∙ ap width halves ∙ width-append gs ds in
-    let gw : length (spelt (cells_in (take 7 (ipv6 (next_before es))) (take 7 ns))) ≡ 64 = omega (arith, length_spelt gs, length_spelt ds) in
-    let cw : length (spelt (cells_in (items_of c.kind) c.numbers)) ≡ 8 * size_of c.kind = length_spelt cs ∙ wide (items_of c.kind) c.numbers k.fits ∙ items_total c.kind in
+    let gw : length (encoded (cells_in (take 7 (ipv6 (next_before es))) (take 7 ns))) ≡ 64 = omega (arith, length_encoded gs, length_encoded ds) in
+    let cw : length (encoded (cells_in (items_of c.kind) c.numbers)) ≡ 8 * size_of c.kind = length_encoded cs ∙ wide (items_of c.kind) c.numbers k.fits ∙ items_total c.kind in
     let half : size_of c.kind % 2 ≡ 0 = size_even c.kind in
     record {
-      in_header = none_covered (drop (8 * 0) (spelt (change_at n f (cells l))));
+      in_header = none_covered (drop (8 * 0) (encoded (change_at n f (cells l))));
       in_addresses =
-          either_covered (without_addresses c.kind) n f (drop 7 (cells_in (ipv6 (plain 8)) ns)) (q + 8) 16 (spelt (change_at n f (cells l)))
-          (ap (λ (x : List Cell). words_of 16 (drop (8 * (q + 8)) (spelt (change_at n f (a ++ (t ++ (y ++ (x ++ (os ++ ((cs ++ rs) ++ zs)))))))))) halves
-          ∙ ap (λ (x : List Cell). words_of 16 (drop (8 * (q + 8)) (spelt (change_at n f x)))) (cut_half a t y gs ds (os ++ ((cs ++ rs) ++ zs)))
+          either_covered (without_addresses c.kind) n f (drop 7 (cells_in (ipv6 (plain 8)) ns)) (q + 8) 16 (encoded (change_at n f (cells l)))
+          (ap (λ (x : List Cell). words_of 16 (drop (8 * (q + 8)) (encoded (change_at n f (a ++ (t ++ (y ++ (x ++ (os ++ ((cs ++ rs) ++ zs)))))))))) halves
+          ∙ ap (λ (x : List Cell). words_of 16 (drop (8 * (q + 8)) (encoded (change_at n f x)))) (cut_half a t y gs ds (os ++ ((cs ++ rs) ++ zs)))
           ∙ part_words n f (front_of l ++ gs) ds (os ++ ((cs ++ rs) ++ zs)) (q + 8) 16
           (apart_by no_address (front_of l ++ gs) ds (all_append no_address (front_of l) gs (front_no_address l) (all_in no_address (take 7 (ipv6 (next_before es))) (take 7 ns) (ipv6_front_pass es))) (all_in (λ n. not (no_address n)) (drop 7 (ipv6 (next_before es))) (drop 7 ns) refl) n)
-          (ap length (spelt-append (front_of l) gs) ∙ length-append (spelt (front_of l)) (spelt gs) ∙ omega arith) dw
+          (ap length (encoded-append (front_of l) gs) ∙ length-append (encoded (front_of l)) (encoded gs) ∙ omega arith) dw
           ∙ ap (λ (x : List Cell). words (change_at n f x)) (sym (drop_cells 7 (ipv6 (plain 8)) ns)));
       in_carried =
-          ap (λ (x : List Cell). words_of (size_of c.kind / 2) (drop (8 * (q + (40 + all_bytes es))) (spelt (change_at n f x)))) (cut_last a t y hs os cs rs zs)
+          ap (λ (x : List Cell). words_of (size_of c.kind / 2) (drop (8 * (q + (40 + all_bytes es))) (encoded (change_at n f x)))) (cut_last a t y hs os cs rs zs)
           ∙ part_words n f (front_of l ++ (hs ++ os)) cs (rs ++ zs) (q + (40 + all_bytes es)) (size_of c.kind / 2)
           (apart_by no_carried (front_of l ++ (hs ++ os)) cs (all_append no_carried (front_of l) (hs ++ os) (front_no_carried l) (all_append no_carried hs os (all_in no_carried (ipv6 (next_before es)) ns (ipv6_pass es)) (extensions_pass es))) (all_in (λ n. not (no_carried n)) (items_of c.kind) c.numbers (items_carried c.kind)) n)
-          (ap length (spelt-append (front_of l) (hs ++ os)) ∙ length-append (spelt (front_of l)) (spelt (hs ++ os)) ∙ omega arith) (omega arith);
+          (ap length (encoded-append (front_of l) (hs ++ os)) ∙ length-append (encoded (front_of l)) (encoded (hs ++ os)) ∙ omega arith) (omega arith);
     }
 
 covers_at : (ends : List ℕ) (tags : List (List ℕ)) (type : ℕ) (b : Body) → IsLayers (frame_with ends tags type b) → (n : ℕ) (f : ℕ → ℕ) → Covers (frame_with ends tags type b) n f
@@ -268,7 +268,7 @@ renew_in l old new cs =
     (change_at header_checksum (λ c. updated c (header_words l old) (header_words l new)) cs)
 
 abbrev pub set_in_place : ℕ → ℕ → Layers → List Cell
-set_in_place n v l = renew_in (layout_of l) (spelt (cells l)) (spelt (replace_at n v (cells l))) (replace_at n v (cells l))
+set_in_place n v l = renew_in (layout_of l) (encoded (cells l)) (encoded (replace_at n v (cells l))) (replace_at n v (cells l))
 
 rule_is_that : (b : Body) → rule_in b ≡ carried_rule (network_of b)
 rule_is_that (Plain rest) = refl
@@ -284,8 +284,8 @@ set_where n v l h =
     let w : Covers l n (λ x. v) = covers l h n (λ x. v) in
     let same : (cs : List Cell) → change_at n (λ x. x) cs ≡ cs = λ cs. change_id n cs in
     let q : ℕ = packet_at (layout_of l) in
-    let old : (p : Span) (cs : List Cell) → words_in p (spelt (change_at n (λ x. x) (cells l))) ≡ words (change_at n (λ x. x) cs) → words cs ≡ words_in p (spelt (cells l)) =
-    λ p cs e. sym (ap words (same cs)) ∙ sym e ∙ ap (λ (x : List Cell). words_in p (spelt x)) (same (cells l)) in
+    let old : (p : Span) (cs : List Cell) → words_in p (encoded (change_at n (λ x. x) (cells l))) ≡ words (change_at n (λ x. x) cs) → words cs ≡ words_in p (encoded (cells l)) =
+    λ p cs e. sym (ap words (same cs)) ∙ sym e ∙ ap (λ (x : List Cell). words_in p (encoded x)) (same (cells l)) in
     let oh = old (header_span q (network_of b)) (header_cover b) o.in_header in
     let oa = old (address_span q (network_of b)) (address_cover b) o.in_addresses in
     let oc = old (carried_span q (network_of b)) (carried_cover b) o.in_carried in

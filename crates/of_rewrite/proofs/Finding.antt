@@ -1,10 +1,10 @@
--- Numbers among cells: where they are spelt, and what becomes of the spelling where one changes.
+-- Numbers among cells: where they are encoded, and what becomes of the encoding where one changes.
 use Rattle.std.proofs.Common.{◌≡◌, ℕ, ◌+◌, ◌*◌, ◌/◌, ◌%◌, ◌^◌, ◌<◌, ◌≤◌, ◌≢◌, inl, inr, true, false, cond, List, [], ◌∷◌, ◌++◌, length, take, drop, set, Option, Some, None, refl, sym, ap, ◌∙◌, arith, append_assoc}
 use Rattle.std.proofs.lemmas.Bool.{cases_eq, cases_lt, ne_eqb, eqb-true}
 use Rattle.std.proofs.lemmas.List.{length-append, length-take-le, get_or-set_same, get_or-set_other, set_past}
 use Rattle.of_layers.specs.declared.place.Place.{Place}
 use Rattle.of_layers.specs.Bits.{bits, bits_of}
-use Rattle.of_layers.specs.Layers.{Cell, spelt}
+use Rattle.of_layers.specs.Layers.{Cell, encoded}
 use Rattle.of_layers.specs.Looking.{name_is, look_up, locate_at}
 use Rattle.of_layers.specs.Reading.{word}
 use Rattle.of_layers.specs.WellFormed.{AreBytes}
@@ -23,8 +23,8 @@ pub record Found (n at : ℕ) (cs : List Cell) (p : Place) : Type 0 where
   pub front : List ℕ
   pub back : List ℕ
   pub below : at + length front ≡ p.first
-  pub is : spelt cs ≡ front ++ (bits p.bits value ++ back)
-  pub changed : (f : ℕ → ℕ) → spelt (change_at n f cs) ≡ front ++ (bits p.bits (f value) ++ back)
+  pub is : encoded cs ≡ front ++ (bits p.bits value ++ back)
+  pub changed : (f : ℕ → ℕ) → encoded (change_at n f cs) ≡ front ++ (bits p.bits (f value) ++ back)
   pub look : look_up n cs ≡ Some value
   pub small : Sound cs → value < 2 ^ p.bits
 
@@ -39,10 +39,10 @@ found_here n at c cs p t e =
     record {
       value = c.value;
       front = [];
-      back = spelt cs;
+      back = encoded cs;
       below = omega arith;
-      is = ap (λ (w : ℕ). bits w c.value ++ spelt cs) width;
-      changed = λ f. rw t (ap (λ (w : ℕ). bits w (f c.value) ++ spelt cs) width);
+      is = ap (λ (w : ℕ). bits w c.value ++ encoded cs) width;
+      changed = λ f. rw t (ap (λ (w : ℕ). bits w (f c.value) ++ encoded cs) width);
       look = rw t refl;
       small = λ h. let k : c.value < 2 ^ c.width = h.0 in rw (← width) k;
     }
@@ -79,7 +79,7 @@ not_found n at (c ∷ cs) f e =
       | false ↦ λ h. let r = not_found n (at + c.width) cs f h in (λ j. c ∷ r.0 j, r.1)
     ] e
 
-pub put_changed : (n : ℕ) (cs : List Cell) (p : Place) (f : ℕ → ℕ) (r : Found n 0 cs p) → spelt (change_at n f cs) ≡ over_bits p.first p.bits (f r.value) (spelt cs)
+pub put_changed : (n : ℕ) (cs : List Cell) (p : Place) (f : ℕ → ℕ) (r : Found n 0 cs p) → encoded (change_at n f cs) ≡ over_bits p.first p.bits (f r.value) (encoded cs)
 put_changed n cs p f r =
     let l : length r.front ≡ p.first = omega (arith, r.below) in
     r.changed f ∙ sym (ap (over_bits p.first p.bits (f r.value)) r.is ∙ put_after r.front p.first p.bits (f r.value) r.value r.back l)
@@ -106,7 +106,7 @@ word_put at w s b h small =
     let l : length (bits_of (take at s)) ≡ 8 * at = length-bits_of (take at s) ∙ ap (λ (k : ℕ). 8 * k) (length-take-le at s (omega arith)) in
     word_bits_of at w s h small ∙ sym (ap (over_bits (8 * at) 16 w) (frame_parts at s b h) ∙ put_after (bits_of (take at s)) (8 * at) 16 w (word s at) (bits_of (drop (at + 2) s)) l)
 
-pub word_found : (n at : ℕ) (cs : List Cell) (s : List ℕ) (p : Place) (r : Found n 0 cs p) → p ≡ record { first = 8 * at; bits = 16 } → AreBytes s → at + 2 ≤ length s → bits_of s ≡ spelt cs → r.value < 65536 → r.value ≡ word s at
+pub word_found : (n at : ℕ) (cs : List Cell) (s : List ℕ) (p : Place) (r : Found n 0 cs p) → p ≡ record { first = 8 * at; bits = 16 } → AreBytes s → at + 2 ≤ length s → bits_of s ≡ encoded cs → r.value < 65536 → r.value ≡ word s at
 word_found n at cs s p r e b h is small =
     let first : p.first ≡ 8 * at = ap (λ (x : Place). x.first) e in
     let width : p.bits ≡ 16 = ap (λ (x : Place). x.bits) e in

@@ -1,4 +1,4 @@
--- The bytes that cells spell, and how many there are.
+-- The bytes that cells encode, and how many there are.
 use Rattle.std.proofs.Common.{◌≡◌, ℕ, zero, suc, ◌+◌, ◌-◌, ◌*◌, ◌/◌, ◌^◌, ◌<◌, ◌≤◌, Bool, true, false, cond, List, [], ◌∷◌, ◌++◌, length, take, drop, get_or, Option, Some, None, refl, sym, ap, ◌∙◌, arith, inl, inr}
 use Rattle.std.specs.Prelude.{nat_le}
 use Rattle.std.proofs.lemmas.Bool.{cases_lt, le-leb, lt-leb}
@@ -7,11 +7,11 @@ use Rattle.std.proofs.Math.Nat.{mod-eq_of_lt, pow-suc, pow-le-pow_right}
 use Rattle.of_layers.specs.declared.field.Field.{Field}
 use Rattle.of_layers.specs.Fields.{number_of}
 use Rattle.of_layers.specs.Bits.{bits, bits_of}
-use Rattle.of_layers.specs.Layers.{Cell, Layers, cells, spelt, cells_in, inner_cells, tag_cells, body_cells, addresses, outer_tag, inner_tag, ether_type, ttl}
+use Rattle.of_layers.specs.Layers.{Cell, Layers, cells, encoded, cells_in, inner_cells, tag_cells, body_cells, addresses, outer_tag, inner_tag, ether_type, ttl}
 use Rattle.of_layers.specs.Reading.{layers_of}
 use Rattle.of_layers.specs.WellFormed.{AreBytes}
 use Rattle.of_layers.proofs.BitLemmas.{length-bits, length-bits_of}
-use Rattle.of_layers.proofs.FrameLemmas.{frame_spelt}
+use Rattle.of_layers.proofs.FrameLemmas.{frame_encoded}
 use Rattle.of_headers.specs.Places.{width}
 use Rattle.of_headers.proofs.LocateLemmas.{width-append}
 use Rattle.of_rewrite.specs.Checksum.{number}
@@ -21,7 +21,7 @@ use Rattle.of_rewrite.specs.TimeToLive.{ttl_of, ttl_decremented_from}
 use Rattle.of_rewrite.specs.Frames.{IsFrame, octets_of, bytes_in, frame_set, frame_pushed, frame_popped, frame_ttl, frame_ttl_decremented}
 use Rattle.of_rewrite.proofs.Parts.{length_changed}
 use Rattle.of_rewrite.proofs.Renewing.{number-bits}
-use Rattle.of_rewrite.proofs.Standing.{length_spelt}
+use Rattle.of_rewrite.proofs.Standing.{length_encoded}
 
 -- ---- bytes back from their bits
 
@@ -36,8 +36,8 @@ octets_back (x ∷ s) b =
     let r : octets_of (length s) (drop 8 (bits 8 x ++ bits_of s)) ≡ s = ap (octets_of (length s)) d ∙ octets_back s (λ i. b (suc i)) in
     λ j. v j ∷ r j
 
--- bytes are those that the cells spell
-pub bytes_are : (cs : List Cell) (s : List ℕ) → AreBytes s → bits_of s ≡ spelt cs → s ≡ bytes_in cs
+-- bytes are those that the cells encode
+pub bytes_are : (cs : List Cell) (s : List ℕ) → AreBytes s → bits_of s ≡ encoded cs → s ≡ bytes_in cs
 bytes_are cs s b e =
     let n : length s ≡ length (bits_of s) / 8 = omega (arith, length-bits_of s) in
     sym (octets_back s b) ∙ ap (λ (k : ℕ). octets_of k (bits_of s)) n ∙ ap (λ (t : List ℕ). octets_of (length t / 8) t) e
@@ -50,7 +50,7 @@ length-octets zero s = refl
 length-octets (suc n) s = ap suc (length-octets n (drop 8 s))
 
 pub length_in : (cs : List Cell) → length (bytes_in cs) ≡ width cs / 8
-length_in cs = length-octets (length (spelt cs) / 8) (spelt cs) ∙ ap (λ (k : ℕ). k / 8) (length_spelt cs)
+length_in cs = length-octets (length (encoded cs) / 8) (encoded cs) ∙ ap (λ (k : ℕ). k / 8) (length_encoded cs)
 
 abbrev pub AreBits : List ℕ → Type 0
 AreBits s = (i : ℕ) → get_or s i 0 < 2
@@ -66,9 +66,9 @@ bits_bits zero v i = omega arith
 bits_bits (suc n) v zero = omega arith
 bits_bits (suc n) v (suc i) = bits_bits n v i
 
-pub spelt_bits : (cs : List Cell) → AreBits (spelt cs)
-spelt_bits [] i = omega arith
-spelt_bits (c ∷ cs) i = bits_append (bits c.width c.value) (spelt cs) (bits_bits c.width c.value) (spelt_bits cs) i
+pub encoded_bits : (cs : List Cell) → AreBits (encoded cs)
+encoded_bits [] i = omega arith
+encoded_bits (c ∷ cs) i = bits_append (bits c.width c.value) (encoded cs) (bits_bits c.width c.value) (encoded_bits cs) i
 
 below_two : (b p n : ℕ) → b < 2 → n < p → b * p + n < 2 * p
 below_two zero p n h k = omega arith
@@ -107,20 +107,20 @@ octets_below (suc n) s h zero = octet_below s h
 octets_below (suc n) s h (suc i) = octets_below n (drop 8 s) (bits_drop 8 s h) i
 
 pub bytes_below : (cs : List Cell) → AreBytes (bytes_in cs)
-bytes_below cs = octets_below (length (spelt cs) / 8) (spelt cs) (spelt_bits cs)
+bytes_below cs = octets_below (length (encoded cs) / 8) (encoded cs) (encoded_bits cs)
 
 -- ---- the layers of a frame
 
 pub frame_width : (s : List ℕ) → IsFrame s → width (cells (layers_of s)) ≡ 8 * length s
-frame_width s h = sym (length_spelt (cells (layers_of s))) ∙ ap length (sym (frame_spelt s h.1 h.0)) ∙ length-bits_of s
+frame_width s h = sym (length_encoded (cells (layers_of s))) ∙ ap length (sym (frame_encoded s h.1 h.0)) ∙ length-bits_of s
 
 -- with one number replaced
 pub width_set : (n v : ℕ) (l : Layers) → width (number_set n v l) ≡ width (cells l)
 unfolding number_set
 width_set n v l =
-    sym (length_spelt (number_set n v l))
+    sym (length_encoded (number_set n v l))
     ∙ length_changed _ _ _ ∙ length_changed _ _ _ ∙ length_changed n (λ x. v) (cells l)
-    ∙ length_spelt (cells l)
+    ∙ length_encoded (cells l)
 
 set_is : (n v : ℕ) (s : List ℕ) → IsFrame s → length (bytes_in (number_set n v (layers_of s))) ≡ length s
 set_is n v s h = length_in (number_set n v (layers_of s)) ∙ omega (arith, width_set n v (layers_of s), frame_width s h)
@@ -205,11 +205,11 @@ popped_frame s h =
 
 -- ---- what the code makes is that
 
-pub is_set : (f : Field) (v : ℕ) (s t : List ℕ) → AreBytes t → bits_of t ≡ spelt (field_set f v (layers_of s)) → t ≡ frame_set f v s
+pub is_set : (f : Field) (v : ℕ) (s t : List ℕ) → AreBytes t → bits_of t ≡ encoded (field_set f v (layers_of s)) → t ≡ frame_set f v s
 unfolding frame_set
 is_set f v s t b e = bytes_are (field_set f v (layers_of s)) t b e
 
-pub is_ttl : (v : ℕ) (s t : List ℕ) → AreBytes t → bits_of t ≡ spelt (number_set ttl v (layers_of s)) → t ≡ frame_ttl v s
+pub is_ttl : (v : ℕ) (s t : List ℕ) → AreBytes t → bits_of t ≡ encoded (number_set ttl v (layers_of s)) → t ≡ frame_ttl v s
 unfolding frame_ttl
 is_ttl v s t b e = bytes_are (number_set ttl v (layers_of s)) t b e
 
@@ -226,8 +226,8 @@ is_less s t v e h f = is_aged s t (Some v) e (f ∙ ap (λ (b : Bool). bytes_in 
 
 pub is_pushed : (type : ℕ) (s t : List ℕ) → AreBytes t → 14 ≤ length t → layers_of t ≡ pushed type (layers_of s) → t ≡ frame_pushed type s
 unfolding frame_pushed
-is_pushed type s t b h e = bytes_are (cells (pushed type (layers_of s))) t b (frame_spelt t b h ∙ ap (λ (l : Layers). spelt (cells l)) e)
+is_pushed type s t b h e = bytes_are (cells (pushed type (layers_of s))) t b (frame_encoded t b h ∙ ap (λ (l : Layers). encoded (cells l)) e)
 
 pub is_popped : (s t : List ℕ) → AreBytes t → 14 ≤ length t → layers_of t ≡ popped (layers_of s) → t ≡ frame_popped s
 unfolding frame_popped
-is_popped s t b h e = bytes_are (cells (popped (layers_of s))) t b (frame_spelt t b h ∙ ap (λ (l : Layers). spelt (cells l)) e)
+is_popped s t b h e = bytes_are (cells (popped (layers_of s))) t b (frame_encoded t b h ∙ ap (λ (l : Layers). encoded (cells l)) e)

@@ -8,7 +8,7 @@ use Rattle.of_layers.specs.Bits.{bits_of}
 use Rattle.of_layers.specs.declared.field.Field.{Field}
 use Rattle.of_layers.specs.declared.field.Field.TheVariants.{EthType, IpProto}
 use Rattle.of_layers.specs.Fields.{row_of, number_of, is_settable}
-use Rattle.of_layers.specs.Layers.{Item, Cell, Layers, Carried, Extension, Options, Fragment, Body, Plain, Arp, Ipv4, Ipv6, all_bytes, body_cells, cells, spelt, addresses, outer_tag, inner_tag, arp, ipv4, ipv6, items_of, next_before, ttl}
+use Rattle.of_layers.specs.Layers.{Item, Cell, Layers, Carried, Extension, Options, Fragment, Body, Plain, Arp, Ipv4, Ipv6, all_bytes, body_cells, cells, encoded, addresses, outer_tag, inner_tag, arp, ipv4, ipv6, items_of, next_before, ttl}
 use Rattle.of_layers.specs.Looking.{name_is}
 use Rattle.of_layers.specs.Reading.{is_tag_type, kind_behind, over_ipv4, layers_of}
 use Rattle.of_layers.specs.WellFormed.{AreBytes, Fits, AreTags, IsCarried, IsArp, IsIpv4, IsIpv6, AreExtensions, IsBody, IsLayers, bytes_in}
@@ -20,7 +20,7 @@ use Rattle.of_rewrite.specs.Replaced.{Replaceable, LeavesLayers, numbers_with, t
 use Rattle.of_rewrite.proofs.Finding.{Sound, names_apart}
 use Rattle.of_rewrite.proofs.Kept.{cut_at, cut_body, cut_layers}
 use Rattle.of_rewrite.proofs.Putting.{bits_low}
-use Rattle.of_rewrite.proofs.Standing.{length_spelt}
+use Rattle.of_rewrite.proofs.Standing.{length_encoded}
 use Rattle.of_rewrite.proofs.Structure.{outer_fits}
 use Rattle.of_rewrite.proofs.Unset.{frame_stands}
 
@@ -146,25 +146,25 @@ cut_wide n f (c ∷ cs) =
 
 pub layers_kept : (n : ℕ) (f : ℕ → ℕ) (l : Layers) → n ≢ 10 → IsLayers l → IsLayers (layers_with n f l)
 layers_kept n f l ne h =
-    let same : length (spelt (body_cells (body_with n f l.body))) ≡ length (spelt (body_cells l.body)) =
-    length_spelt (body_cells (body_with n f l.body)) ∙ ap width (sym (cut_body n f l.body ne)) ∙ cut_wide n f (body_cells l.body) ∙ sym (length_spelt (body_cells l.body)) in
+    let same : length (encoded (body_cells (body_with n f l.body))) ≡ length (encoded (body_cells l.body)) =
+    length_encoded (body_cells (body_with n f l.body)) ∙ ap width (sym (cut_body n f l.body ne)) ∙ cut_wide n f (body_cells l.body) ∙ sym (length_encoded (body_cells l.body)) in
     record {
       ends = fits_with n f addresses l.ends h.ends;
       tags = tags_kept n f l.tags h.tags;
       type = h.type;
-      last = λ t. let k : length (spelt (body_cells l.body)) < 32 = h.last t in omega arith;
+      last = λ t. let k : length (encoded (body_cells l.body)) < 32 = h.last t in omega arith;
       body = body_kept n f l.type l.body ne h.body;
     }
 
--- ---- numbers without the bits that are not spelt
+-- ---- numbers without the bits that are not encoded
 
 abbrev trim : List Cell → List Cell
 trim [] = []
 trim (c ∷ cs) = record c { value = c.value % 2 ^ c.width } ∷ trim cs
 
-spelt_trim : (cs : List Cell) → spelt (trim cs) ≡ spelt cs
-spelt_trim [] = refl
-spelt_trim (c ∷ cs) = λ j. bits_low c.width c.value j ++ spelt_trim cs j
+encoded_trim : (cs : List Cell) → encoded (trim cs) ≡ encoded cs
+encoded_trim [] = refl
+encoded_trim (c ∷ cs) = λ j. bits_low c.width c.value j ++ encoded_trim cs j
 
 trim_sound : (cs : List Cell) → Sound cs → trim cs ≡ cs
 trim_sound [] h = refl
@@ -227,12 +227,12 @@ set_layers n v l leaves h =
     let two = layers_kept 102 (header_updated l.body n v) (layers_with n (λ x. v) l) (omega arith) one in
     layers_kept 103 (carried_after l.body n v) (layers_with 102 (header_updated l.body n v) (layers_with n (λ x. v) l)) (omega arith) two
 
-pub layers_are : (n v : ℕ) (s t : List ℕ) → Replaceable n → LeavesLayers n → AreBytes s → 14 ≤ length s → AreBytes t → bits_of t ≡ spelt (number_set n v (layers_of s)) → layers_of t ≡ layers_set n v (layers_of s)
+pub layers_are : (n v : ℕ) (s t : List ℕ) → Replaceable n → LeavesLayers n → AreBytes s → 14 ≤ length s → AreBytes t → bits_of t ≡ encoded (number_set n v (layers_of s)) → layers_of t ≡ layers_set n v (layers_of s)
 layers_are n v s t free leaves b h c e =
     let l : Layers = layers_of s in
-    let spells : bits_of t ≡ spelt (cells (layers_set n v (layers_of s))) =
-    e ∙ sym (spelt_trim (number_set n v l)) ∙ ap spelt (trim_set n v l (frame_stands s b h).is_sound free ∙ set_cells n v l free leaves) in
-    sym (only_layers (layers_set n v l) t (set_layers n v l leaves (are_layers s b h)) c spells)
+    let encodes : bits_of t ≡ encoded (cells (layers_set n v (layers_of s))) =
+    e ∙ sym (encoded_trim (number_set n v l)) ∙ ap encoded (trim_set n v l (frame_stands s b h).is_sound free ∙ set_cells n v l free leaves) in
+    sym (only_layers (layers_set n v l) t (set_layers n v l leaves (are_layers s b h)) c encodes)
 
 -- a field that an action sets
 pub leaves : (f : Field) → is_settable f ≡ true → LeavesLayers (number_of f)

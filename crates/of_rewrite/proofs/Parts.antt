@@ -4,11 +4,11 @@ use Rattle.std.specs.Prelude.{◌&&◌, ◌||◌, not}
 use Rattle.std.proofs.lemmas.List.{length-append, take-append-le, drop-append-le, length-drop, drop_at, append-nil}
 use Rattle.std.proofs.lemmas.Bool.{eqb-true}
 use Rattle.of_layers.specs.Bits.{bits}
-use Rattle.of_layers.specs.Layers.{Item, Cell, cells_in, byte_cells, spelt}
+use Rattle.of_layers.specs.Layers.{Item, Cell, cells_in, byte_cells, encoded}
 use Rattle.of_layers.specs.Looking.{name_is}
 use Rattle.of_layers.proofs.BitLemmas.{length-bits}
 use Rattle.of_layers.proofs.TestLemmas.{and_true}
-use Rattle.of_layers.proofs.SpellingLemmas.{spelt-append}
+use Rattle.of_layers.proofs.EncodingLemmas.{encoded-append}
 use Rattle.of_rewrite.specs.Checksum.{number, words_of}
 use Rattle.of_rewrite.specs.Rewriting.{change_at, words}
 
@@ -37,12 +37,12 @@ change_back n f (c ∷ a) b h =
 pub change_none_in : (n : ℕ) (f : ℕ → ℕ) (a : List Cell) → has n a ≡ false → change_at n f a ≡ a
 change_none_in n f a h = ap (change_at n f) (sym (append-nil a)) ∙ change_back n f a [] h ∙ append-nil a
 
-pub length_changed : (n : ℕ) (f : ℕ → ℕ) (a : List Cell) → length (spelt (change_at n f a)) ≡ length (spelt a)
+pub length_changed : (n : ℕ) (f : ℕ → ℕ) (a : List Cell) → length (encoded (change_at n f a)) ≡ length (encoded a)
 length_changed n f [] = refl
 length_changed n f (c ∷ a) =
-    elim (name_is n c.name) as (λ t. length (spelt (cond t (record c { value = f c.value } ∷ a) (c ∷ change_at n f a))) ≡ length (bits c.width c.value ++ spelt a)) [
-      | true ↦ omega (arith, length-append (bits c.width (f c.value)) (spelt a), length-append (bits c.width c.value) (spelt a), length-bits c.width c.value, length-bits c.width (f c.value))
-      | false ↦ omega (arith, length-append (bits c.width c.value) (spelt (change_at n f a)), length-append (bits c.width c.value) (spelt a), length_changed n f a)
+    elim (name_is n c.name) as (λ t. length (encoded (cond t (record c { value = f c.value } ∷ a) (c ∷ change_at n f a))) ≡ length (bits c.width c.value ++ encoded a)) [
+      | true ↦ omega (arith, length-append (bits c.width (f c.value)) (encoded a), length-append (bits c.width c.value) (encoded a), length-bits c.width c.value, length-bits c.width (f c.value))
+      | false ↦ omega (arith, length-append (bits c.width c.value) (encoded (change_at n f a)), length-append (bits c.width c.value) (encoded a), length_changed n f a)
     ]
 
 -- ---- a part in the middle
@@ -50,27 +50,27 @@ length_changed n f (c ∷ a) =
 record Middle (n : ℕ) (f : ℕ → ℕ) (a c b : List Cell) : Type 0 where
   pub front : List ℕ
   pub back : List ℕ
-  pub is : spelt (change_at n f (a ++ (c ++ b))) ≡ front ++ (spelt (change_at n f c) ++ back)
-  pub long : length front ≡ length (spelt a)
+  pub is : encoded (change_at n f (a ++ (c ++ b))) ≡ front ++ (encoded (change_at n f c) ++ back)
+  pub long : length front ≡ length (encoded a)
 
-three : (a c b : List Cell) → spelt (a ++ (c ++ b)) ≡ spelt a ++ (spelt c ++ spelt b)
-three a c b = spelt-append a (c ++ b) ∙ ap (λ (x : List ℕ). spelt a ++ x) (spelt-append c b)
+three : (a c b : List Cell) → encoded (a ++ (c ++ b)) ≡ encoded a ++ (encoded c ++ encoded b)
+three a c b = encoded-append a (c ++ b) ∙ ap (λ (x : List ℕ). encoded a ++ x) (encoded-append c b)
 
 middle : (n : ℕ) (f : ℕ → ℕ) (a c b : List Cell) → (has n a ≡ true → has n c ≡ false) → Middle n f a c b
 middle n f a c b apart =
     elim (has n a) as (λ t. has n a ≡ t → Middle n f a c b) [
       | true ↦ λ h. record {
-        front = spelt (change_at n f a);
-        back = spelt b;
-        is = ap spelt (change_front n f a (c ++ b) h) ∙ three (change_at n f a) c b ∙ ap (λ (x : List Cell). spelt (change_at n f a) ++ (spelt x ++ spelt b)) (sym (change_none_in n f c (apart h)));
+        front = encoded (change_at n f a);
+        back = encoded b;
+        is = ap encoded (change_front n f a (c ++ b) h) ∙ three (change_at n f a) c b ∙ ap (λ (x : List Cell). encoded (change_at n f a) ++ (encoded x ++ encoded b)) (sym (change_none_in n f c (apart h)));
         long = length_changed n f a;
       }
       | false ↦ λ h. elim (has n c) as (λ t. has n c ≡ t → Middle n f a c b) [
-        | true ↦ λ g. record { front = spelt a; back = spelt b; is = ap spelt (change_back n f a (c ++ b) h ∙ ap (λ (x : List Cell). a ++ x) (change_front n f c b g)) ∙ three a (change_at n f c) b; long = refl }
+        | true ↦ λ g. record { front = encoded a; back = encoded b; is = ap encoded (change_back n f a (c ++ b) h ∙ ap (λ (x : List Cell). a ++ x) (change_front n f c b g)) ∙ three a (change_at n f c) b; long = refl }
         | false ↦ λ g. record {
-          front = spelt a;
-          back = spelt (change_at n f b);
-          is = ap spelt (change_back n f a (c ++ b) h ∙ ap (λ (x : List Cell). a ++ x) (change_back n f c b g)) ∙ three a c (change_at n f b) ∙ ap (λ (x : List Cell). spelt a ++ (spelt x ++ spelt (change_at n f b))) (sym (change_none_in n f c g));
+          front = encoded a;
+          back = encoded (change_at n f b);
+          is = ap encoded (change_back n f a (c ++ b) h ∙ ap (λ (x : List Cell). a ++ x) (change_back n f c b g)) ∙ three a c (change_at n f b) ∙ ap (λ (x : List Cell). encoded a ++ (encoded x ++ encoded (change_at n f b))) (sym (change_none_in n f c g));
           long = refl;
         }
       ] refl
@@ -85,17 +85,17 @@ words_front (suc k) a b h =
     let r : words_of k (drop 16 a ++ b) ≡ words_of k (drop 16 a) = words_front k (drop 16 a) b (omega (arith, length-drop 16 a)) in
     λ j. number (t j) ∷ (ap (words_of k) d ∙ r) j
 
-pub part_words : (n : ℕ) (f : ℕ → ℕ) (a c b : List Cell) (at k : ℕ) → (has n a ≡ true → has n c ≡ false) → length (spelt a) ≡ 8 * at → length (spelt c) ≡ 16 * k →
-    words_of k (drop (8 * at) (spelt (change_at n f (a ++ (c ++ b))))) ≡ words (change_at n f c)
+pub part_words : (n : ℕ) (f : ℕ → ℕ) (a c b : List Cell) (at k : ℕ) → (has n a ≡ true → has n c ≡ false) → length (encoded a) ≡ 8 * at → length (encoded c) ≡ 16 * k →
+    words_of k (drop (8 * at) (encoded (change_at n f (a ++ (c ++ b))))) ≡ words (change_at n f c)
 part_words n f a c b at k apart la lc =
     let m : Middle n f a c b = middle n f a c b apart in
     let l : length m.front ≡ 8 * at = m.long ∙ la in
-    let s : length (spelt (change_at n f c)) ≡ 16 * k = length_changed n f c ∙ lc in
-    let e : length (spelt (change_at n f c)) / 16 ≡ k = omega arith in
+    let s : length (encoded (change_at n f c)) ≡ 16 * k = length_changed n f c ∙ lc in
+    let e : length (encoded (change_at n f c)) / 16 ≡ k = omega arith in
     ap (λ (x : List ℕ). words_of k (drop (8 * at) x)) m.is
-    ∙ ap (words_of k) (drop_at m.front (spelt (change_at n f c) ++ m.back) (8 * at) l)
-    ∙ words_front k (spelt (change_at n f c)) m.back (omega arith)
-    ∙ ap (λ (j : ℕ). words_of j (spelt (change_at n f c))) (sym e)
+    ∙ ap (words_of k) (drop_at m.front (encoded (change_at n f c) ++ m.back) (8 * at) l)
+    ∙ words_front k (encoded (change_at n f c)) m.back (omega arith)
+    ∙ ap (λ (j : ℕ). words_of j (encoded (change_at n f c))) (sym e)
 
 -- ---- names apart
 

@@ -7,7 +7,7 @@ use Rattle.of_layers.specs.Bits.{bits, bits_of}
 use Rattle.of_layers.specs.Reading.{word}
 use Rattle.of_layers.specs.WellFormed.{AreBytes}
 use Rattle.of_layers.proofs.BitLemmas.{length-bits, length-bits_of, bits_of-append, bits_parts, bits_cut, word_bits, append_same}
-use Rattle.of_layers.proofs.SpellingLemmas.{word_from}
+use Rattle.of_layers.proofs.EncodingLemmas.{word_from}
 use Rattle.of_rewrite.specs.Spans.{over_bits, with_word, part_over_bits}
 
 -- ---- places

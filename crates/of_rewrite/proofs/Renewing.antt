@@ -9,12 +9,12 @@ use Rattle.of_layers.specs.declared.place.Place.{Place}
 use Rattle.of_layers.specs.declared.transport.Transport.{Transport}
 use Rattle.of_layers.specs.declared.transport.Transport.TheVariants.{Nothing, Tcp, Udp, Icmpv4, Icmpv6}
 use Rattle.of_layers.specs.Bits.{bits, bits_of}
-use Rattle.of_layers.specs.Layers.{Cell, Layers, cells, spelt, size_of}
+use Rattle.of_layers.specs.Layers.{Cell, Layers, cells, encoded, size_of}
 use Rattle.of_layers.specs.Looking.{look_up, locate_at}
 use Rattle.of_layers.specs.Reading.{word}
 use Rattle.of_layers.specs.WellFormed.{AreBytes}
 use Rattle.of_layers.proofs.BitLemmas.{length-bits, length-bits_of, bits_of-append}
-use Rattle.of_layers.proofs.SpellingLemmas.{word_from}
+use Rattle.of_layers.proofs.EncodingLemmas.{word_from}
 use Rattle.of_headers.specs.declared.layout.Layout.{Layout}
 use Rattle.of_headers.specs.declared.layout.Network.{Network}
 use Rattle.of_headers.specs.declared.layout.Network.TheVariants as network
@@ -118,17 +118,17 @@ small_at k cs (Some at) h e x l =
     let b : r.value < 65536 = r.small h in
     omega arith
 
-step : (k : ℕ) (cs : List Cell) (t : List ℕ) (o : Option ℕ) (f : ℕ → ℕ) (w : ℕ) → Small k cs → AreBytes t → bits_of t ≡ spelt cs → locate_at 0 k cs ≡ number_place 16 o → IsIn o (length t) →
-    f (word_or_zero t o) ≡ w → w < 65536 → bits_of (written_at o w t) ≡ spelt (change_at k f cs)
-step k cs t None f w h b is e room g small = is ∙ ap spelt (sym (not_found k 0 cs f e).0)
+step : (k : ℕ) (cs : List Cell) (t : List ℕ) (o : Option ℕ) (f : ℕ → ℕ) (w : ℕ) → Small k cs → AreBytes t → bits_of t ≡ encoded cs → locate_at 0 k cs ≡ number_place 16 o → IsIn o (length t) →
+    f (word_or_zero t o) ≡ w → w < 65536 → bits_of (written_at o w t) ≡ encoded (change_at k f cs)
+step k cs t None f w h b is e room g small = is ∙ ap encoded (sym (not_found k 0 cs f e).0)
 step k cs t (Some at) f w h b is e room g small =
     let r : Found k 0 cs (word_place at) = found k 0 cs (word_place at) e in
     let value : r.value ≡ word t at = word_found k at cs t (word_place at) r refl b room is (h r.value r.look) in
     word_put at w t b room small ∙ ap (over_bits (8 * at) 16 w) is
-    ∙ sym (put_changed k cs (word_place at) f r ∙ ap (λ (z : ℕ). over_bits (8 * at) 16 z (spelt cs)) (ap f value ∙ g))
+    ∙ sym (put_changed k cs (word_place at) f r ∙ ap (λ (z : ℕ). over_bits (8 * at) 16 z (encoded cs)) (ap f value ∙ g))
 
 -- the same number in other bytes
-same_value : (k : ℕ) (cs ds : List Cell) (t u : List ℕ) (o : Option ℕ) → Small k cs → Small k ds → AreBytes t → AreBytes u → bits_of t ≡ spelt cs → bits_of u ≡ spelt ds →
+same_value : (k : ℕ) (cs ds : List Cell) (t u : List ℕ) (o : Option ℕ) → Small k cs → Small k ds → AreBytes t → AreBytes u → bits_of t ≡ encoded cs → bits_of u ≡ encoded ds →
     locate_at 0 k cs ≡ number_place 16 o → locate_at 0 k ds ≡ number_place 16 o → look_up k cs ≡ look_up k ds → IsIn o (length t) → IsIn o (length u) → word_or_zero t o ≡ word_or_zero u o
 same_value k cs ds t u None h i b c is js e f same room inside = refl
 same_value k cs ds t u (Some at) h i b c is js e f same room inside =
@@ -225,16 +225,16 @@ room_for l y s n st e f =
     let Q : ℕ → Type 0 = λ k. HasRoom (layout_of l) k in
     subst P (sym e) (subst Q (sym f) st.room)
 
-pub renewed_all : (n v : ℕ) (p : Place) (l : Layers) (s t : List ℕ) → Stands l s → bits_of s ≡ spelt (cells l) → AreBytes s → AreBytes t → length t ≡ length s → Replaceable n → locate_at 0 n (cells l) ≡ Some p →
+pub renewed_all : (n v : ℕ) (p : Place) (l : Layers) (s t : List ℕ) → Stands l s → bits_of s ≡ encoded (cells l) → AreBytes s → AreBytes t → length t ≡ length s → Replaceable n → locate_at 0 n (cells l) ≡ Some p →
     bits_of t ≡ over_bits p.first p.bits v (bits_of s) → (m : Sums) → m ≡ both_followed (sums_of (layout_of l) s) s t →
-    bits_of (with_carried (layout_of l) m (with_header (layout_of l) m t)) ≡ spelt (set_in_place n v l)
+    bits_of (with_carried (layout_of l) m (with_header (layout_of l) m t)) ≡ encoded (set_in_place n v l)
 renewed_all n v p l s t st is b c long free place put_is m e =
     let y : Layout = layout_of l in
     let oh : Option ℕ = header_at (packet_at (layout_of l)) (layout_of l).network in
     let oc : Option ℕ = carried_at (packet_at (layout_of l)) (layout_of l).network in
     let cs : List Cell = cells l in
     let ds : List Cell = replace_at n v (cells l) in
-    let js : bits_of t ≡ spelt (replace_at n v (cells l)) = put_is ∙ ap (over_bits p.first p.bits v) is ∙ sym (put_changed n (cells l) p (λ x. v) (found n 0 (cells l) p place)) in
+    let js : bits_of t ≡ encoded (replace_at n v (cells l)) = put_is ∙ ap (over_bits p.first p.bits v) is ∙ sym (put_changed n (cells l) p (λ x. v) (found n 0 (cells l) p place)) in
     let room_t : HasRoom (layout_of l) (length t) = let P : ℕ → Type 0 = λ k. HasRoom (layout_of l) k in subst P (sym long) st.room in
     let in_s = rooms (length s) (packet_at (layout_of l)) (layout_of l).network st.room.1 in
     let in_t = rooms (length t) (packet_at (layout_of l)) (layout_of l).network room_t.1 in
@@ -242,17 +242,17 @@ renewed_all n v p l s t st is b c long free place put_is m e =
     let there : locate_at 0 102 (replace_at n v (cells l)) ≡ number_place 16 oh = oth.0 ∙ st.header in
     let small_h : Small 102 (cells l) = small_at 102 (cells l) oh st.is_sound st.header in
     let small_d : Small 102 (replace_at n v (cells l)) = λ x g. small_h x (sym oth.1 ∙ g) in
-    let f : ℕ → ℕ = λ k. updated k (header_words (layout_of l) (spelt (cells l))) (header_words (layout_of l) (spelt (replace_at n v (cells l)))) in
+    let f : ℕ → ℕ = λ k. updated k (header_words (layout_of l) (encoded (cells l))) (header_words (layout_of l) (encoded (replace_at n v (cells l)))) in
     let w : ℕ = m.header.value in
     let same : word_or_zero t oh ≡ word_or_zero s oh = same_value 102 ds cs t s oh small_d small_h c b js is there st.header oth.1 in_t.0 in_s.0 in
-    let old_h : header_words y (spelt cs) ≡ covered (sums_of y s).header s = ap (header_words y) (sym is) ∙ header_covered y s b st.room s in
-    let new_h : header_words y (spelt ds) ≡ covered (sums_of y s).header t = ap (header_words y) (sym js) ∙ header_covered y t c room_t s in
+    let old_h : header_words y (encoded cs) ≡ covered (sums_of y s).header s = ap (header_words y) (sym is) ∙ header_covered y s b st.room s in
+    let new_h : header_words y (encoded ds) ≡ covered (sums_of y s).header t = ap (header_words y) (sym js) ∙ header_covered y t c room_t s in
     let value_h : m.header.value ≡ updated (word_or_zero s oh) (covered (sums_of y s).header s) (covered (sums_of y s).header t) = ap (λ (k : Sums). k.header.value) e in
     let gives : f (word_or_zero t oh) ≡ m.header.value = (λ j. updated (same j) (old_h j) (new_h j)) ∙ sym value_h in
     let below : updated (word_or_zero s oh) (covered (sums_of y s).header s) (covered (sums_of y s).header t) ≤ 65535 = renewed_below (word_or_zero s oh) (covered (sums_of y s).header s) (covered (sums_of y s).header t) in
     let small_w : m.header.value < 65536 = omega arith in
     let u : List ℕ = with_header y m t in
-    let ks : bits_of (with_header y m t) ≡ spelt (change_at 102 f ds) = step 102 ds t oh f m.header.value small_d c js there in_t.0 gives small_w in
+    let ks : bits_of (with_header y m t) ≡ encoded (change_at 102 f ds) = step 102 ds t oh f m.header.value small_d c js there in_t.0 gives small_w in
     let d : AreBytes (with_header y m t) = bytes_written oh m.header.value t c small_w in
     let long_u : length (with_header y m t) ≡ length s = length_written oh m.header.value t ∙ long in
     let room_u : HasRoom y (length (with_header y m t)) = let P : ℕ → Type 0 = λ k. HasRoom (layout_of l) k in subst P (sym long_u) st.room in
@@ -264,9 +264,9 @@ renewed_all n v p l s t st is b c long free place put_is m e =
     let small_c : Small 103 (cells l) = small_at 103 (cells l) oc st.is_sound st.carried in
     let small_e : Small 103 (change_at 102 f ds) = λ x g. small_c x (sym (otc.1 ∙ otn.1) ∙ g) in
     let same_c : word_or_zero (with_header y m t) oc ≡ word_or_zero s oc = same_value 103 (change_at 102 f ds) cs (with_header y m t) s oc small_e small_c d b ks is there_c st.carried (otc.1 ∙ otn.1) in_u.1 in_s.1 in
-    let old_c : carried_words y (spelt cs) ≡ covered (sums_of y s).carried s = ap (carried_words y) (sym is) ∙ carried_covered y s b st.room s in
-    let new_c : carried_words y (spelt ds) ≡ covered (sums_of y s).carried t = ap (carried_words y) (sym js) ∙ carried_covered y t c room_t s in
-    let h : ℕ → ℕ = λ k. carried_rule y.network k (carried_words y (spelt cs)) (carried_words y (spelt ds)) in
+    let old_c : carried_words y (encoded cs) ≡ covered (sums_of y s).carried s = ap (carried_words y) (sym is) ∙ carried_covered y s b st.room s in
+    let new_c : carried_words y (encoded ds) ≡ covered (sums_of y s).carried t = ap (carried_words y) (sym js) ∙ carried_covered y t c room_t s in
+    let h : ℕ → ℕ = λ k. carried_rule y.network k (carried_words y (encoded cs)) (carried_words y (encoded ds)) in
     let z : ℕ = word_or_zero (with_header y m t) oc in
     let carried_is : both_followed (sums_of y s) s t ≡ m = sym e in
     let gives_c : h z ≡ settled_in y.network z m.carried =

@@ -10,7 +10,7 @@ use Rattle.of_layers.specs.declared.transport.Transport.{Transport}
 use Rattle.of_layers.specs.declared.transport.Transport.TheVariants.{Nothing, Tcp, Udp, Icmpv4, Icmpv6}
 use Rattle.of_layers.specs.Bits.{bits}
 use Rattle.of_layers.specs.Fields.{row_of}
-use Rattle.of_layers.specs.Layers.{Cell, Layers, Carried, Body, Plain, Arp, Ipv4, Ipv6, cells_in, byte_cells, cells, spelt, ipv4, ipv6, plain, items_of, size_of}
+use Rattle.of_layers.specs.Layers.{Cell, Layers, Carried, Body, Plain, Arp, Ipv4, Ipv6, cells_in, byte_cells, cells, encoded, ipv4, ipv6, plain, items_of, size_of}
 use Rattle.of_layers.specs.Looking.{name_is, look_up, locate_at}
 use Rattle.of_layers.specs.WellFormed.{Fits, IsIpv4, IsLayers}
 use Rattle.of_headers.specs.Places.{width, network_of, layout_of}
@@ -24,24 +24,24 @@ use Rattle.of_rewrite.specs.Right.{is_left_out}
 use Rattle.of_rewrite.proofs.Changes.{renewed_below}
 use Rattle.of_rewrite.proofs.Covering.{Covers, covers, change_id, drop_cells}
 use Rattle.of_rewrite.proofs.Finding.{Sound, Found, found, names_apart}
-use Rattle.of_rewrite.proofs.Framing.{spelt_bits}
+use Rattle.of_rewrite.proofs.Framing.{encoded_bits}
 use Rattle.of_rewrite.proofs.Kept.{cut_at, cut_cells, cut_none, cut_layers, absent_by}
 use Rattle.of_rewrite.proofs.KeptLayers.{layers_kept}
 use Rattle.of_rewrite.proofs.Narrow.{some_is}
 use Rattle.of_rewrite.proofs.Parts.{has, All, all_in, passes, change_none_in}
 use Rattle.of_rewrite.proofs.Putting.{bits_low}
 use Rattle.of_rewrite.proofs.Righting.{Ones, ones, folded, renewed_ones, never_zero_ones, differ_same, words_below, length_words, Split, split}
-use Rattle.of_rewrite.proofs.Standing.{length_spelt}
+use Rattle.of_rewrite.proofs.Standing.{length_encoded}
 use Rattle.of_rewrite.proofs.Structure.{placed, located, wide, sound, sound_bytes, sound_append, items_total}
 
 -- ---- what is covered, where a number changes
 
-spelt_cut : (n : ℕ) (f : ℕ → ℕ) (cs : List Cell) → spelt (cut_at n f cs) ≡ spelt (change_at n f cs)
-spelt_cut n f [] = refl
-spelt_cut n f (c ∷ cs) =
-    elim (name_is n c.name) as (λ t. spelt (cond t (record c { value = f c.value % 2 ^ c.width } ∷ cs) (c ∷ cut_at n f cs)) ≡ spelt (cond t (record c { value = f c.value } ∷ cs) (c ∷ change_at n f cs))) [
-      | true ↦ ap (λ (x : List ℕ). x ++ spelt cs) (bits_low c.width (f c.value))
-      | false ↦ ap (λ (x : List ℕ). bits c.width c.value ++ x) (spelt_cut n f cs)
+encoded_cut : (n : ℕ) (f : ℕ → ℕ) (cs : List Cell) → encoded (cut_at n f cs) ≡ encoded (change_at n f cs)
+encoded_cut n f [] = refl
+encoded_cut n f (c ∷ cs) =
+    elim (name_is n c.name) as (λ t. encoded (cond t (record c { value = f c.value % 2 ^ c.width } ∷ cs) (c ∷ cut_at n f cs)) ≡ encoded (cond t (record c { value = f c.value } ∷ cs) (c ∷ change_at n f cs))) [
+      | true ↦ ap (λ (x : List ℕ). x ++ encoded cs) (bits_low c.width (f c.value))
+      | false ↦ ap (λ (x : List ℕ). bits c.width c.value ++ x) (encoded_cut n f cs)
     ]
 
 same_network : (n : ℕ) (f : ℕ → ℕ) (b : Body) → network_of (body_with n f b) ≡ network_of b
@@ -66,7 +66,7 @@ covers_with n f l x y h =
     let o : Covers (layers_with n f l) n (λ k. k) = covers (layers_with n f l) (layers_kept n f l y h) n (λ k. k) in
     let w : Covers l n f = covers l h n f in
     let same : (cs : List Cell) → words (change_at n (λ k. k) cs) ≡ words cs = λ cs. ap words (change_id n cs) in
-    let s : spelt (change_at n (λ k. k) (cells (layers_with n f l))) ≡ spelt (change_at n f (cells l)) = ap spelt (change_id n (cells m) ∙ sym (cut_layers n f l x y)) ∙ spelt_cut n f (cells l) in
+    let s : encoded (change_at n (λ k. k) (cells (layers_with n f l))) ≡ encoded (change_at n f (cells l)) = ap encoded (change_id n (cells m) ∙ sym (cut_layers n f l x y)) ∙ encoded_cut n f (cells l) in
     let q : packet_at (layout_of (layers_with n f l)) ≡ packet_at (layout_of l) = ap (λ (k : ℕ). 14 + 4 * k) (same_tags n f l.tags) in
     let net : network_of (body_with n f l.body) ≡ network_of l.body = same_network n f l.body in
     record {
@@ -109,7 +109,7 @@ header_split ns o c rest v h e =
     let even : 20 + length o ≡ 4 * get_or ns 1 0 = h.words in
     split 102 5 (4 + length o / 2) (hs ++ byte_cells o) v (sound_append hs (byte_cells o) (sound ipv4 ns h.numbers) (sound_bytes o h.options_fit))
     (locate_front 0 102 hs o ∙ located 0 102 ipv4 ns h.numbers)
-    (length_spelt (hs ++ byte_cells o) ∙ width-append hs (byte_cells o) ∙ omega (arith, width_bytes o)) e
+    (length_encoded (hs ++ byte_cells o) ∙ width-append hs (byte_cells o) ∙ omega (arith, width_bytes o)) e
 
 -- its first word is not 0: it begins with the version
 record Begins (ws : List ℕ) : Type 0 where
@@ -130,13 +130,13 @@ unfolding bits
 header_begins [] o c rest h = absurd h.numbers
 header_begins (x ∷ ns) o c rest h =
     let hs : List Cell = cells_in ipv4 (x ∷ ns) in
-    let s : List ℕ = spelt (cells_in ipv4 (x ∷ ns) ++ byte_cells o) in
-    let size : length (spelt (cells_in ipv4 (x ∷ ns) ++ byte_cells o)) ≡ 160 + 8 * length o = length_spelt (hs ++ byte_cells o) ∙ width-append hs (byte_cells o) ∙ omega (arith, wide ipv4 (x ∷ ns) h.numbers, width_bytes o) in
-    let n : ℕ = length (spelt (cells_in ipv4 (x ∷ ns) ++ byte_cells o)) / 16 - 1 in
-    let count : length (spelt (cells_in ipv4 (x ∷ ns) ++ byte_cells o)) / 16 ≡ suc n = omega arith in
+    let s : List ℕ = encoded (cells_in ipv4 (x ∷ ns) ++ byte_cells o) in
+    let size : length (encoded (cells_in ipv4 (x ∷ ns) ++ byte_cells o)) ≡ 160 + 8 * length o = length_encoded (hs ++ byte_cells o) ∙ width-append hs (byte_cells o) ∙ omega (arith, wide ipv4 (x ∷ ns) h.numbers, width_bytes o) in
+    let n : ℕ = length (encoded (cells_in ipv4 (x ∷ ns) ++ byte_cells o)) / 16 - 1 in
+    let count : length (encoded (cells_in ipv4 (x ∷ ns) ++ byte_cells o)) / 16 ≡ suc n = omega arith in
     let four : bits 4 x ≡ bits 4 4 = ap (bits 4) h.version in
-    let begins : spelt (cells_in ipv4 (x ∷ ns) ++ byte_cells o) ≡ 0 ∷ 1 ∷ 0 ∷ 0 ∷ drop 4 (spelt (cells_in ipv4 (x ∷ ns) ++ byte_cells o)) = λ j. four j ++ drop 4 (spelt (cells_in ipv4 (x ∷ ns) ++ byte_cells o)) in
-    let b : Begins (words_of (suc n) (0 ∷ 1 ∷ 0 ∷ 0 ∷ drop 4 (spelt (cells_in ipv4 (x ∷ ns) ++ byte_cells o)))) = begins_so n (0 ∷ 0 ∷ drop 4 (spelt (cells_in ipv4 (x ∷ ns) ++ byte_cells o))) in
+    let begins : encoded (cells_in ipv4 (x ∷ ns) ++ byte_cells o) ≡ 0 ∷ 1 ∷ 0 ∷ 0 ∷ drop 4 (encoded (cells_in ipv4 (x ∷ ns) ++ byte_cells o)) = λ j. four j ++ drop 4 (encoded (cells_in ipv4 (x ∷ ns) ++ byte_cells o)) in
+    let b : Begins (words_of (suc n) (0 ∷ 1 ∷ 0 ∷ 0 ∷ drop 4 (encoded (cells_in ipv4 (x ∷ ns) ++ byte_cells o)))) = begins_so n (0 ∷ 0 ∷ drop 4 (encoded (cells_in ipv4 (x ∷ ns) ++ byte_cells o))) in
     record { word = b.word; rest = b.rest; is = (λ j. words_of (count j) (begins j)) ∙ b.is; some = b.some }
 
 -- some word beside that of the checksum is not 0
@@ -165,7 +165,7 @@ header_step ns o ms p c d rest more g h i same_long same e right =
     let t : Split 102 (cells_in ipv4 ms ++ byte_cells p) v 5 (4 + length p / 2) = header_split ms p d more v i (same ∙ r.look) in
     let b : Begins (words (cells_in ipv4 ms ++ byte_cells p)) = header_begins ms p d more i in
     let some : 0 < sum (t.front ++ t.back) = others_some b.word b.rest t.front t.back v b.some (omega (arith, t.front_long)) (sym b.is ∙ t.is) in
-    let are : AreWords (s.front ++ s.back) = without_one s.front s.back v (subst AreWords s.is (words_below (length (spelt old) / 16) (spelt old) (spelt_bits old))) in
+    let are : AreWords (s.front ++ s.back) = without_one s.front s.back v (subst AreWords s.is (words_below (length (encoded old) / 16) (encoded old) (encoded_bits old))) in
     let was : Ones (sum (words (cells_in ipv4 ns ++ byte_cells o))) = ones (sum (words old)) right in
     let was_so : Ones (0 + sum (s.front ++ (v ∷ s.back))) = subst Ones (ap sum s.is ∙ sym (zero-add (sum (s.front ++ (v ∷ s.back))))) was in
     let over_bits : g v ≡ updated v (s.front ++ (v ∷ s.back)) (t.front ++ (v ∷ t.back)) = e v ∙ (λ j. updated v (s.is j) (t.is j)) in
@@ -255,11 +255,11 @@ kind_low lack Icmpv6 c old new h = let r : updated c old new ≤ 65535 = renewed
 
 -- ---- one packet
 
-pub words_long : (cs ds : List Cell) → length (spelt cs) ≡ length (spelt ds) → length (words cs) ≡ length (words ds)
-words_long cs ds h = length_words (length (spelt cs) / 16) (spelt cs) ∙ ap (λ (k : ℕ). k / 16) h ∙ sym (length_words (length (spelt ds) / 16) (spelt ds))
+pub words_long : (cs ds : List Cell) → length (encoded cs) ≡ length (encoded ds) → length (words cs) ≡ length (words ds)
+words_long cs ds h = length_words (length (encoded cs) / 16) (encoded cs) ∙ ap (λ (k : ℕ). k / 16) h ∙ sym (length_words (length (encoded ds) / 16) (encoded ds))
 
 pub are_words : (cs : List Cell) → AreWords (words cs)
-are_words cs = words_below (length (spelt cs) / 16) (spelt cs) (spelt_bits cs)
+are_words cs = words_below (length (encoded cs) / 16) (encoded cs) (encoded_bits cs)
 
 words_append : (a b : List ℕ) → AreWords a → AreWords b → AreWords (a ++ b)
 words_append [] b h k i = k i
@@ -282,8 +282,8 @@ packet_step lack t ns ms p q more k a m fn fm at size same long are some rule h 
     let sn : Sound (cells_in (items_of t) ms) = sound (items_of t) ms fm in
     let eo : locate_at 0 103 (cells_in (items_of t) ns) ≡ Some (record { first = 16 * a; bits = 16 }) = located 0 103 (items_of t) ns fn ∙ at in
     let en : locate_at 0 103 (cells_in (items_of t) ms) ≡ Some (record { first = 16 * a; bits = 16 }) = located 0 103 (items_of t) ms fm ∙ at in
-    let lo : length (spelt (cells_in (items_of t) ns)) ≡ 16 * (a + (1 + m)) = length_spelt old ∙ wide (items_of t) ns fn ∙ items_total t ∙ size in
-    let ln : length (spelt (cells_in (items_of t) ms)) ≡ 16 * (a + (1 + m)) = length_spelt new ∙ wide (items_of t) ms fm ∙ items_total t ∙ size in
+    let lo : length (encoded (cells_in (items_of t) ns)) ≡ 16 * (a + (1 + m)) = length_encoded old ∙ wide (items_of t) ns fn ∙ items_total t ∙ size in
+    let ln : length (encoded (cells_in (items_of t) ms)) ≡ 16 * (a + (1 + m)) = length_encoded new ∙ wide (items_of t) ms fm ∙ items_total t ∙ size in
     let r : Found 103 0 (cells_in (items_of t) ns) (record { first = 16 * a; bits = 16 }) = found 103 0 old (record { first = 16 * a; bits = 16 }) eo in
     let v : ℕ = r.value in
     let small : r.value < 65536 = r.small so in

@@ -6,7 +6,7 @@ use Rattle.std.proofs.lemmas.List.{take_at, drop_at, length-append, length-drop,
 use Rattle.std.proofs.lemmas.List.Sums.{sum_by-cons}
 use Rattle.std.proofs.Math.Nat.{mod-eq_of_lt, pow-le-pow_right}
 use Rattle.of_layers.specs.Bits.{bits}
-use Rattle.of_layers.specs.Layers.{Cell, spelt}
+use Rattle.of_layers.specs.Layers.{Cell, encoded}
 use Rattle.of_layers.specs.Looking.{look_up, locate_at}
 use Rattle.of_layers.proofs.BitLemmas.{length-bits}
 use Rattle.of_rewrite.specs.Checksum.{fold, number, words_of, change, differ, updated, never_zero, sums_to_ones, AreWords}
@@ -142,7 +142,7 @@ pub record Split (n : ℕ) (cs : List Cell) (v : ℕ) (k m : ℕ) : Type 0 where
   pub front_long : length front ≡ k
   pub back_long : length back ≡ m
 
-pub split : (n k m : ℕ) (cs : List Cell) (v : ℕ) → Sound cs → locate_at 0 n cs ≡ Some (record { first = 16 * k; bits = 16 }) → length (spelt cs) ≡ 16 * (k + (1 + m)) → look_up n cs ≡ Some v → Split n cs v k m
+pub split : (n k m : ℕ) (cs : List Cell) (v : ℕ) → Sound cs → locate_at 0 n cs ≡ Some (record { first = 16 * k; bits = 16 }) → length (encoded cs) ≡ 16 * (k + (1 + m)) → look_up n cs ≡ Some v → Split n cs v k m
 split n k m cs v h e l look =
     let r : Found n 0 cs (record { first = 16 * k; bits = 16 }) = found n 0 cs (record { first = 16 * k; bits = 16 }) e in
     let same : Some r.value ≡ Some v = sym r.look ∙ look in

@@ -7,7 +7,7 @@ use Rattle.of_layers.specs.declared.transport.Transport.{Transport}
 use Rattle.of_layers.specs.declared.transport.Transport.TheVariants.{Nothing, Tcp, Udp, Icmpv4, Icmpv6}
 use Rattle.of_layers.specs.Fields.{row_of}
 use Rattle.of_layers.specs.Bits.{bits, bits_of}
-use Rattle.of_layers.specs.Layers.{Cell, Layers, Carried, Extension, Body, Plain, Arp, Ipv4, Ipv6, cells_in, byte_cells, tag_cells, extension_cells, carried_cells, body_cells, cells, spelt, addresses, outer_tag, inner_tag, ether_type, arp, ipv4, ipv6, items_of, size_of, all_bytes, next_before, ttl, header_checksum, checksum}
+use Rattle.of_layers.specs.Layers.{Cell, Layers, Carried, Extension, Body, Plain, Arp, Ipv4, Ipv6, cells_in, byte_cells, tag_cells, extension_cells, carried_cells, body_cells, cells, encoded, addresses, outer_tag, inner_tag, ether_type, arp, ipv4, ipv6, items_of, size_of, all_bytes, next_before, ttl, header_checksum, checksum}
 use Rattle.of_layers.specs.Looking.{locate_at}
 use Rattle.of_layers.specs.WellFormed.{Fits, IsBody, IsLayers}
 use Rattle.of_layers.proofs.BitLemmas.{length-bits, length-bits_of}
@@ -168,14 +168,14 @@ even_body type (Arp ns rest) h = tt
 even_body type (Ipv4 ns o c rest) h = let w = h.1.words in omega (arith, w)
 even_body type (Ipv6 ns es c rest) h = let s = ipv6_stands ns es c rest 102 no_header h.1 in let w = s.even in omega (arith, w)
 
-pub length_spelt : (cs : List Cell) → length (spelt cs) ≡ width cs
-length_spelt [] = refl
-length_spelt (c ∷ cs) = length-append (bits c.width c.value) (spelt cs) ∙ omega (arith, length-bits c.width c.value, length_spelt cs)
+pub length_encoded : (cs : List Cell) → length (encoded cs) ≡ width cs
+length_encoded [] = refl
+length_encoded (c ∷ cs) = length-append (bits c.width c.value) (encoded cs) ∙ omega (arith, length-bits c.width c.value, length_encoded cs)
 
 within : (n at : ℕ) (cs : List Cell) (p : Place) → locate_at at n cs ≡ Some p → p.first + p.bits ≤ at + width cs
 within n at cs p e =
     let r : Found n at cs p = found n at cs p e in
-    omega (arith, r.below, ap length r.is, length_spelt cs, length-append r.front (bits p.bits r.value ++ r.back), length-append (bits p.bits r.value) r.back, length-bits p.bits r.value)
+    omega (arith, r.below, ap length r.is, length_encoded cs, length-append r.front (bits p.bits r.value ++ r.back), length-append (bits p.bits r.value) r.back, length-bits p.bits r.value)
 
 -- a number ends within the last whole word
 abbrev Whole : ℕ → List Cell → Type 0
@@ -240,12 +240,12 @@ pub record Stands (l : Layers) (s : List ℕ) : Type 0 where
   pub words : (n : ℕ) (p : Place) → locate_at 0 n (cells l) ≡ Some p → (p.first + p.bits + 15) / 16 * 2 ≤ length s
   pub inside : (n : ℕ) (p : Place) → locate_at 0 n (cells l) ≡ Some p → p.first + p.bits ≤ 8 * length s
 
-pub stands : (l : Layers) (s : List ℕ) → IsLayers l → bits_of s ≡ spelt (cells l) → Stands l s
+pub stands : (l : Layers) (s : List ℕ) → IsLayers l → bits_of s ≡ encoded (cells l) → Stands l s
 stands l s h e =
     let f : Front l 102 = front l 102 own_header h in
     let q : ℕ = packet_at (layout_of l) in
     let at : 112 + 32 * length l.tags ≡ 8 * packet_at (layout_of l) = omega arith in
-    let size : 8 * length s ≡ width (cells l) = sym (length-bits_of s) ∙ ap length e ∙ length_spelt (cells l) in
+    let size : 8 * length s ≡ width (cells l) = sym (length-bits_of s) ∙ ap length e ∙ length_encoded (cells l) in
     let wide_is : width (cells l) ≡ 112 + 32 * length l.tags + width (body_cells l.body) = f.is_wide in
     let fit : 8 * length s ≡ 8 * packet_at (layout_of l) + width (body_cells l.body) = omega arith in
     let a : List Cell = cells_in addresses l.ends in

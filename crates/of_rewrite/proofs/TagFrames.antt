@@ -3,7 +3,7 @@ use Rattle.std.proofs.Common.{◌≡◌, ℕ, zero, suc, ◌+◌, ◌/◌, ◌%�
 use Rattle.std.proofs.lemmas.List.{length-take-le, length-drop, length-append}
 use Rattle.of_layers.specs.Reading.{is_tag_type}
 use Rattle.of_layers.specs.WellFormed.{AreBytes}
-use Rattle.of_layers.proofs.SpellingLemmas.{AreBytes-take, AreBytes-drop}
+use Rattle.of_layers.proofs.EncodingLemmas.{AreBytes-take, AreBytes-drop}
 use Rattle.of_rewrite.specs.Tagging.{has_tag, control_in}
 use Rattle.of_rewrite.specs.Frames.{frame_pushed, frame_popped}
 use Rattle.of_rewrite.proofs.Framing.{is_pushed, is_popped}

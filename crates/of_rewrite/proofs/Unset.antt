@@ -9,9 +9,9 @@ use Rattle.of_layers.specs.Bits.{bits, bits_of}
 use Rattle.of_layers.specs.Reading.{layers_of}
 use Rattle.of_layers.specs.WellFormed.{AreBytes}
 use Rattle.of_layers.proofs.BitLemmas.{length-bits_of, bits_of-append, append_same, bits_front}
-use Rattle.of_layers.proofs.SpellingLemmas.{byte_from}
-use Rattle.of_layers.proofs.FrameLemmas.{frame_spelt, are_layers}
-use Rattle.of_layers.specs.Layers.{Cell, Layers, cells, spelt, size_of, ttl}
+use Rattle.of_layers.proofs.EncodingLemmas.{byte_from}
+use Rattle.of_layers.proofs.FrameLemmas.{frame_encoded, are_layers}
+use Rattle.of_layers.specs.Layers.{Cell, Layers, cells, encoded, size_of, ttl}
 use Rattle.of_layers.specs.Looking.{name_is, look_up, locate_at}
 use Rattle.of_headers.specs.declared.layout.Layout.{Layout}
 use Rattle.of_headers.specs.declared.layout.Network.{Network}
@@ -67,10 +67,10 @@ unset n v l s st none =
     let same : replace_at n v cs ≡ cs = (not_found n 0 cs (λ x. v) none).0 in
     let small_h : Small 102 cs = small_at 102 cs oh st.is_sound st.header in
     let small_c : Small 103 cs = small_at 103 cs oc st.is_sound st.carried in
-    let rule : List Cell → ℕ → ℕ = λ ds k. updated k (header_words y (spelt cs)) (header_words y (spelt ds)) in
-    let last : List Cell → ℕ → ℕ = λ ds k. carried_rule y.network k (carried_words y (spelt cs)) (carried_words y (spelt ds)) in
-    let head : change_at 102 (rule cs) cs ≡ cs = fixed 102 cs (rule cs) (λ x e. let b : x < 65536 = small_h x e in renewed_same x (header_words y (spelt cs)) (omega arith)) in
-    let tail : change_at 103 (last cs) cs ≡ cs = fixed 103 cs (last cs) (λ x e. let b : x < 65536 = small_c x e in rule_same y.network x (carried_words y (spelt cs)) (omega arith)) in
+    let rule : List Cell → ℕ → ℕ = λ ds k. updated k (header_words y (encoded cs)) (header_words y (encoded ds)) in
+    let last : List Cell → ℕ → ℕ = λ ds k. carried_rule y.network k (carried_words y (encoded cs)) (carried_words y (encoded ds)) in
+    let head : change_at 102 (rule cs) cs ≡ cs = fixed 102 cs (rule cs) (λ x e. let b : x < 65536 = small_h x e in renewed_same x (header_words y (encoded cs)) (omega arith)) in
+    let tail : change_at 103 (last cs) cs ≡ cs = fixed 103 cs (last cs) (λ x e. let b : x < 65536 = small_c x e in rule_same y.network x (carried_words y (encoded cs)) (omega arith)) in
     ap (λ (ds : List Cell). change_at 103 (last ds) (change_at 102 (rule ds) ds)) same ∙ ap (change_at 103 (last cs)) head ∙ tail
 
 -- ---- a number of one byte
@@ -78,7 +78,7 @@ unset n v l s st none =
 byte_parts : (at : ℕ) (s : List ℕ) → at < length s → bits_of s ≡ bits_of (take at s) ++ (bits 8 (get_or s at 0) ++ bits_of (drop (at + 1) s))
 byte_parts at s h = ap bits_of (sym (take-append-drop at s)) ∙ bits_of-append (take at s) (drop at s) ∙ ap (λ (t : List ℕ). bits_of (take at s) ++ t) (byte_from s at h)
 
-pub byte_is : (n at : ℕ) (cs : List Cell) (s : List ℕ) → Sound cs → AreBytes s → at < length s → bits_of s ≡ spelt cs → locate_at 0 n cs ≡ Some (record { first = 8 * at; bits = 8 }) → Some (get_or s at 0) ≡ look_up n cs
+pub byte_is : (n at : ℕ) (cs : List Cell) (s : List ℕ) → Sound cs → AreBytes s → at < length s → bits_of s ≡ encoded cs → locate_at 0 n cs ≡ Some (record { first = 8 * at; bits = 8 }) → Some (get_or s at 0) ≡ look_up n cs
 byte_is n at cs s h b room is e =
     let r : Found n 0 cs (record { first = 8 * at; bits = 8 }) = found n 0 cs (record { first = 8 * at; bits = 8 }) e in
     let l : length (bits_of (take at s)) ≡ 8 * at = length-bits_of (take at s) ∙ ap (λ (k : ℕ). 8 * k) (length-take-le at s (omega arith)) in
@@ -90,7 +90,7 @@ byte_is n at cs s h b room is e =
 -- ---- what is known of a frame
 
 pub frame_stands : (s : List ℕ) → AreBytes s → 14 ≤ length s → Stands (layers_of s) s
-frame_stands s b h = stands (layers_of s) s (are_layers s b h) (frame_spelt s b h)
+frame_stands s b h = stands (layers_of s) s (are_layers s b h) (frame_encoded s b h)
 
 -- the byte of the TTL is in the frame
 pub ttl_room : (n q : ℕ) (net : Network) (at : ℕ) → HasRoomIn n q net → ttl_at q net ≡ Some at → at < n
@@ -112,7 +112,7 @@ ttl_is s y o at b h e f g =
     let is : ttl_at (packet_at (layout_of (layers_of s))) (layout_of (layers_of s)).network ≡ Some at = ap (λ (k : Layout). ttl_at (packet_at k) k.network) (sym e) ∙ sym f ∙ g in
     let inside : at < length s = ttl_room (length s) (packet_at (layout_of (layers_of s))) (layout_of (layers_of s)).network at st.room.1 is in
     let place : locate_at 0 ttl (cells (layers_of s)) ≡ Some (record { first = 8 * at; bits = 8 }) = st.ttl_is ∙ ap (number_place 8) is in
-    record { inside = inside; place = place; words = st.words ttl (record { first = 8 * at; bits = 8 }) place; value = byte_is ttl at (cells (layers_of s)) s st.is_sound b inside (frame_spelt s b h) place }
+    record { inside = inside; place = place; words = st.words ttl (record { first = 8 * at; bits = 8 }) place; value = byte_is ttl at (cells (layers_of s)) s st.is_sound b inside (frame_encoded s b h) place }
 
 pub no_ttl : (s : List ℕ) (y : Layout) (o : Option ℕ) → AreBytes s → 14 ≤ length s → y ≡ layout_of (layers_of s) → o ≡ ttl_at (packet_at y) y.network → o ≡ None → locate_at 0 ttl (cells (layers_of s)) ≡ None
 no_ttl s y o b h e f g =
@@ -132,8 +132,8 @@ place_facts n s p b h short e =
 pub replaceable : (f : Field) → Replaceable (number_of f)
 replaceable f = let b : number_of f < 31 = number_below f in (omega arith, omega arith)
 
-pub unset_frame : (n v : ℕ) (s : List ℕ) → AreBytes s → 14 ≤ length s → locate_at 0 n (cells (layers_of s)) ≡ None → bits_of s ≡ spelt (number_set n v (layers_of s))
-unset_frame n v s b h e = frame_spelt s b h ∙ ap spelt (sym (set_where n v (layers_of s) (are_layers s b h) ∙ unset n v (layers_of s) s (frame_stands s b h) e))
+pub unset_frame : (n v : ℕ) (s : List ℕ) → AreBytes s → 14 ≤ length s → locate_at 0 n (cells (layers_of s)) ≡ None → bits_of s ≡ encoded (number_set n v (layers_of s))
+unset_frame n v s b h e = frame_encoded s b h ∙ ap encoded (sym (set_where n v (layers_of s) (are_layers s b h) ∙ unset n v (layers_of s) s (frame_stands s b h) e))
 
 pub place_inside : (n : ℕ) (s : List ℕ) (p : Place) → AreBytes s → 14 ≤ length s → locate_at 0 n (cells (layers_of s)) ≡ Some p → p.first + p.bits ≤ 8 * length s
 place_inside n s p b h e = (frame_stands s b h).inside n p e

@@ -1,7 +1,7 @@
 -- The frames that actions make of a frame, as bytes (OpenFlow 1.3.5, 5.12).
 use Rattle.std.specs.Prelude.{ℕ, zero, suc, ◌/◌, ◌≤◌, List, [], ◌∷◌, length, take, drop}
 use Rattle.of_layers.specs.declared.field.Field.{Field}
-use Rattle.of_layers.specs.Layers.{Cell, cells, spelt, ttl}
+use Rattle.of_layers.specs.Layers.{Cell, cells, encoded, ttl}
 use Rattle.of_layers.specs.Reading.{layers_of}
 use Rattle.of_layers.specs.WellFormed.{AreBytes}
 use Rattle.of_rewrite.specs.Checksum.{number}
@@ -18,9 +18,9 @@ unfoldable pub octets_of : ℕ → List ℕ → List ℕ
 octets_of zero s = []
 octets_of (suc n) s = number (take 8 s) ∷ octets_of n (drop 8 s)
 
--- the bytes that cells spell
+-- the bytes that cells encode
 abbrev pub bytes_in : List Cell → List ℕ
-bytes_in cs = octets_of (length (spelt cs) / 8) (spelt cs)
+bytes_in cs = octets_of (length (encoded cs) / 8) (encoded cs)
 
 -- ---- a frame
 

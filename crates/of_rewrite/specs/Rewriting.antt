@@ -4,7 +4,7 @@ use Rattle.of_layers.specs.declared.field.Field.{Field}
 use Rattle.of_layers.specs.declared.transport.Transport.{Transport}
 use Rattle.of_layers.specs.declared.transport.Transport.TheVariants.{Nothing, Icmpv4}
 use Rattle.of_layers.specs.Fields.{number_of}
-use Rattle.of_layers.specs.Layers.{Body, Plain, Arp, Ipv4, Ipv6, Layers, Cell, ipv4, ipv6, plain, items_of, cells_in, byte_cells, cells, spelt, header_checksum, checksum}
+use Rattle.of_layers.specs.Layers.{Body, Plain, Arp, Ipv4, Ipv6, Layers, Cell, ipv4, ipv6, plain, items_of, cells_in, byte_cells, cells, encoded, header_checksum, checksum}
 use Rattle.of_layers.specs.Looking.{name_is}
 use Rattle.of_rewrite.specs.Checksum.{words_of, updated, carried_updated}
 
@@ -19,9 +19,9 @@ replace_at n v = change_at n (λ x. v)
 
 -- ---- what the checksums cover of all that can be replaced. Words that are never replaced, as those of the payload and of the lengths, make no difference to them.
 
--- the words of 16 bits that cells spell
+-- the words of 16 bits that cells encode
 abbrev pub words : List Cell → List ℕ
-words cs = words_of (length (spelt cs) / 16) (spelt cs)
+words cs = words_of (length (encoded cs) / 16) (encoded cs)
 
 -- the IPv4 header with its options (RFC 791, 3.1)
 abbrev pub header_cover : Body → List Cell

@@ -4,7 +4,7 @@ ghost use Rattle.std.specs.Prelude.{◌≡◌, ◌+◌, ◌≤◌, ◌<◌, ◌^
 ghost use Rattle.std.specs.Borrow.{sem};
 ghost use Rattle.of_layers.specs.Bits.{bits_of};
 ghost use Rattle.of_layers.specs.Fields.{number_of, is_settable, ones_of};
-ghost use Rattle.of_layers.specs.Layers.{spelt, ttl};
+ghost use Rattle.of_layers.specs.Layers.{encoded, ttl};
 ghost use Rattle.of_layers.specs.Reading.{layers_of, is_tag_type};
 ghost use Rattle.of_headers.specs.FieldMap.{value, field_map};
 ghost use Rattle.of_headers.specs.Known.{IsKnownOf};
@@ -163,7 +163,7 @@ impl Frame {
         requires fits { value ≤ ones_of field }
         ensures frame { self.new ≡ frame_set field value self.old }
         ensures layers { layers_of self.new ≡ layers_set (number_of field) value (layers_of self.old) }
-        ensures bytes { bits_of self.new ≡ spelt (field_set field value (layers_of self.old)) }
+        ensures bytes { bits_of self.new ≡ encoded (field_set field value (layers_of self.old)) }
         ensures length { length self.new ≡ length self.old }
         ensures checksums { StayRight self.old self.new }
     {
@@ -183,7 +183,7 @@ impl Frame {
     pub fn set_ttl(&mut self, value: u8)
         ensures frame { self.new ≡ frame_ttl value self.old }
         ensures layers { layers_of self.new ≡ layers_set ttl value (layers_of self.old) }
-        ensures bytes { bits_of self.new ≡ spelt (number_set ttl value (layers_of self.old)) }
+        ensures bytes { bits_of self.new ≡ encoded (number_set ttl value (layers_of self.old)) }
         ensures length { length self.new ≡ length self.old }
         ensures checksums { StayRight self.old self.new }
     {
@@ -199,7 +199,7 @@ impl Frame {
         ensures answer { result ≡ dec_ttl_result (ttl_of (layers_of self.old)) }
         ensures frame { self.new ≡ frame_ttl_decremented self.old }
         ensures layers { layers_of self.new ≡ layers_ttl_decremented (ttl_of (layers_of self.old)) (layers_of self.old) }
-        ensures bytes { bits_of self.new ≡ spelt (ttl_decremented_from (ttl_of (layers_of self.old)) (layers_of self.old)) }
+        ensures bytes { bits_of self.new ≡ encoded (ttl_decremented_from (ttl_of (layers_of self.old)) (layers_of self.old)) }
         ensures length { length self.new ≡ length self.old }
         ensures checksums { StayRight self.old self.new }
     {

@@ -3,7 +3,7 @@
 ghost use Rattle.std.specs.Prelude.{ℕ, ◌≡◌, ◌≢◌, ◌+◌, ◌*◌, ◌/◌, ◌≤◌, ◌<◌, ◌^◌, length, Some, IsTrue};
 ghost use Rattle.of_layers.specs.Bits.{bits_of};
 ghost use Rattle.of_layers.specs.Fields.{number_of, is_settable};
-ghost use Rattle.of_layers.specs.Layers.{cells, spelt, ttl};
+ghost use Rattle.of_layers.specs.Layers.{cells, encoded, ttl};
 ghost use Rattle.of_layers.specs.Looking.{locate_at};
 ghost use Rattle.of_layers.specs.Reading.{layers_of};
 ghost use Rattle.of_headers.specs.Places.{layout_of};
@@ -31,7 +31,7 @@ pub fn set_number(bytes: &mut [u8], layout: Layout, place: Place, value: u128)
     requires fits { place.first + place.bits < 2 ^ 64 }
     requires room { (place.first + place.bits + 15) / 16 * 2 ≤ length bytes.old }
     ensures { (name : ℕ) → Replaceable name → locate_at 0 name (cells (layers_of bytes.old)) ≡ Some place →
-        bits_of bytes.new ≡ spelt (number_set name value (layers_of bytes.old)) }
+        bits_of bytes.new ≡ encoded (number_set name value (layers_of bytes.old)) }
 {
     all_bytes(bytes);
     let sums = sums_in(bytes, layout);
@@ -46,7 +46,7 @@ pub fn set_field(bytes: &mut [u8], layout: Layout, field: Field, value: u128)
     requires long { 14 ≤ length bytes.old }
     requires short { length bytes.old < 2 ^ 61 }
     requires layout { layout ≡ layout_of (layers_of bytes.old) }
-    ensures bits { bits_of bytes.new ≡ spelt (field_set field value (layers_of bytes.old)) }
+    ensures bits { bits_of bytes.new ≡ encoded (field_set field value (layers_of bytes.old)) }
     ensures frame { bytes.new ≡ frame_set field value bytes.old }
     ensures layers { layers_of bytes.new ≡ layers_set (number_of field) value (layers_of bytes.old) }
     ensures checksums { StayRight bytes.old bytes.new }
@@ -75,7 +75,7 @@ pub fn set_ttl(bytes: &mut [u8], layout: Layout, value: u8)
     requires long { 14 ≤ length bytes.old }
     requires short { length bytes.old < 2 ^ 61 }
     requires layout { layout ≡ layout_of (layers_of bytes.old) }
-    ensures bits { bits_of bytes.new ≡ spelt (number_set ttl value (layers_of bytes.old)) }
+    ensures bits { bits_of bytes.new ≡ encoded (number_set ttl value (layers_of bytes.old)) }
     ensures frame { bytes.new ≡ frame_ttl value bytes.old }
     ensures layers { layers_of bytes.new ≡ layers_set ttl value (layers_of bytes.old) }
     ensures checksums { StayRight bytes.old bytes.new }
@@ -97,7 +97,7 @@ pub fn ttl_in(bytes: &[u8], layout: Layout) -> Option<u8>
     requires layout { layout ≡ layout_of (layers_of bytes.now) }
     ensures value { result ≡ ttl_of (layers_of bytes.now) }
     ensures frame { bytes.now ≡ bytes_in (cells (layers_of bytes.now)) }
-    ensures spelt { bits_of bytes.now ≡ spelt (cells (layers_of bytes.now)) }
+    ensures encoded { bits_of bytes.now ≡ encoded (cells (layers_of bytes.now)) }
 {
     all_bytes(bytes);
     match ttl_byte(layout) {
@@ -112,7 +112,7 @@ pub fn dec_ttl(bytes: &mut [u8], layout: Layout) -> Ttl
     requires short { length bytes.old < 2 ^ 61 }
     requires layout { layout ≡ layout_of (layers_of bytes.old) }
     ensures answer { result ≡ dec_ttl_result (ttl_of (layers_of bytes.old)) }
-    ensures bits { bits_of bytes.new ≡ spelt (ttl_decremented_from (ttl_of (layers_of bytes.old)) (layers_of bytes.old)) }
+    ensures bits { bits_of bytes.new ≡ encoded (ttl_decremented_from (ttl_of (layers_of bytes.old)) (layers_of bytes.old)) }
     ensures frame { bytes.new ≡ frame_ttl_decremented bytes.old }
     ensures layers { layers_of bytes.new ≡ layers_ttl_decremented (ttl_of (layers_of bytes.old)) (layers_of bytes.old) }
     ensures checksums { StayRight bytes.old bytes.new }

@@ -1,4 +1,4 @@
--- Where memory ran out in a list of events: what those before it gave, and the messages of a piece that were handled.
+-- Where memory ran out in a list of events: what those before it gave, and the messages of a chunk that were handled.
 use Rattle.std.proofs.Common.{◌≡◌, ◌⊎◌, inl, inr, ℕ, suc, zero, Bool, true, false, if◌then◌else◌, List, [], ◌∷◌, ◌++◌, drop, Option, Some, None, Result, Ok, Err, refl, sym, ◌∙◌, ap, subst, append_assoc}
 use Rattle.std.specs.Prelude.{OnOk, OnErr, IfErr, slice_get}
 use Rattle.std.specs.List.{flat_map}
@@ -8,7 +8,7 @@ use Rattle.std.proofs.lemmas.Grind.{flat_map-append}
 use Rattle.of_session.specs.Session.{is_disconnected}
 use Rattle.of_datapath.specs.declared.effect.Effect.{Effect}
 use Rattle.of_switch.specs.declared.event.Event.{Event}
-use Rattle.of_switch.specs.declared.event.Event.TheVariants.{Connect, Lost, Piece, Frame, Moment, Ports}
+use Rattle.of_switch.specs.declared.event.Event.TheVariants.{Connect, Lost, Chunk, Frame, Moment, Ports}
 use Rattle.of_switch.specs.declared.switch_error.SwitchError.{SwitchError}
 use Rattle.of_switch.specs.declared.switch_error.SwitchError.TheVariants.{NoMemory, NotConnected}
 use Rattle.of_switch.specs.State.{State}
@@ -120,7 +120,7 @@ no_part : (e : Event) (s : State) → part_of 0 e s ≡ []
 unfolding drain
 no_part Connect s = refl
 no_part Lost s = refl
-no_part (Piece bytes) s = refl
+no_part (Chunk bytes) s = refl
 no_part (Frame port bytes) s = refl
 no_part (Moment nanos) s = refl
 no_part (Ports change) s = refl
@@ -158,70 +158,70 @@ cut_before es fs g g' c = record {
   lines_are = c.lines_are;
 }
 
--- A PIECE
+-- A CHUNK
 
-come_fed : (piece : List ℕ) (s : State) → is_disconnected s.connection.phase ≡ false → come piece s ≡ fed piece s
-come_fed piece s e = ap (λ (b : Bool). if b then s else fed piece s) e
+come_fed : (chunk : List ℕ) (s : State) → is_disconnected s.connection.phase ≡ false → come chunk s ≡ fed chunk s
+come_fed chunk s e = ap (λ (b : Bool). if b then s else fed chunk s) e
 
 abbrev pub Lacks : Result (Unit {0}) SwitchError → Type 0
 Lacks result = result ≡ Err NoMemory
 
 abbrev Feeds : Bool → List ℕ → Result (Unit {0}) SwitchError → State → State → Type 0
-Feeds b piece r s t = Call (first_refusal ((b, NotConnected) ∷ [])) (λ (u : Unit {0}) (new : State). new ≡ fed piece s) s r t
+Feeds b chunk r s t = Call (first_refusal ((b, NotConnected) ∷ [])) (λ (u : Unit {0}) (new : State). new ≡ fed chunk s) s r t
 
-fails_by : (b : Bool) (piece : List ℕ) (e : SwitchError) (g g' : Gathered) → is_disconnected g.state.connection.phase ≡ b → Feeds b piece (Err e) g.state g'.state
-    → (g'.answers ≡ g.answers) × (g'.lines ≡ g.lines) → Lacks (Err e) ⊎ (g' ≡ gathered (Piece piece ∷ []) g)
-fails_by false piece e g g' is call same = inl (ap Err call.0)
-fails_by true piece e g g' is call same =
+fails_by : (b : Bool) (chunk : List ℕ) (e : SwitchError) (g g' : Gathered) → is_disconnected g.state.connection.phase ≡ b → Feeds b chunk (Err e) g.state g'.state
+    → (g'.answers ≡ g.answers) × (g'.lines ≡ g.lines) → Lacks (Err e) ⊎ (g' ≡ gathered (Chunk chunk ∷ []) g)
+fails_by false chunk e g g' is call same = inl (ap Err call.0)
+fails_by true chunk e g g' is call same =
     let kept : g' ≡ holding g.state (g.answers ++ []) (g.lines ++ []) =
     ap (λ (x : State). holding x g'.answers g'.lines) call.1
     ∙ (ap (λ (x : List ℕ). holding g.state x g'.lines) (same.0 ∙ sym (append-nil g.answers))
     ∙ ap (λ (x : List ℕ). holding g.state (g.answers ++ []) x) (same.1 ∙ sym (append-nil g.lines))) in
     inr (rw is kept)
 
-pub take_fails : (piece : List ℕ) (e : SwitchError) (g g' : Gathered) → Feeds (is_disconnected g.state.connection.phase) piece (Err e) g.state g'.state
-    → (g'.answers ≡ g.answers) × (g'.lines ≡ g.lines) → Lacks (Err e) ⊎ (g' ≡ gathered (Piece piece ∷ []) g)
-take_fails piece e g g' call same = fails_by (is_disconnected g.state.connection.phase) piece e g g' refl call same
+pub take_fails : (chunk : List ℕ) (e : SwitchError) (g g' : Gathered) → Feeds (is_disconnected g.state.connection.phase) chunk (Err e) g.state g'.state
+    → (g'.answers ≡ g.answers) × (g'.lines ≡ g.lines) → Lacks (Err e) ⊎ (g' ≡ gathered (Chunk chunk ∷ []) g)
+take_fails chunk e g g' call same = fails_by (is_disconnected g.state.connection.phase) chunk e g g' refl call same
 
-stands_by : (b : Bool) (piece : List ℕ) (s t : State) → Feeds b piece (Ok tt) s t → b ≡ false
-stands_by false piece s t call = refl
-stands_by true piece s t call = let e : Ok tt ≡ Err NotConnected = call.0 in absurd cc
+stands_by : (b : Bool) (chunk : List ℕ) (s t : State) → Feeds b chunk (Ok tt) s t → b ≡ false
+stands_by false chunk s t call = refl
+stands_by true chunk s t call = let e : Ok tt ≡ Err NotConnected = call.0 in absurd cc
 
 -- bytes that are received come over a connection
-stands : (piece : List ℕ) (s t : State) → Feeds (is_disconnected s.connection.phase) piece (Ok tt) s t → is_disconnected s.connection.phase ≡ false
-stands piece s t call = stands_by (is_disconnected s.connection.phase) piece s t call
+stands : (chunk : List ℕ) (s t : State) → Feeds (is_disconnected s.connection.phase) chunk (Ok tt) s t → is_disconnected s.connection.phase ≡ false
+stands chunk s t call = stands_by (is_disconnected s.connection.phase) chunk s t call
 
-fed_by : (b : Bool) (piece : List ℕ) (s t : State) → b ≡ false → Feeds b piece (Ok tt) s t → t ≡ fed piece s
-fed_by false piece s t e call = call
-fed_by true piece s t e call = absurd (let e' : true ≡ false = e in cc)
+fed_by : (b : Bool) (chunk : List ℕ) (s t : State) → b ≡ false → Feeds b chunk (Ok tt) s t → t ≡ fed chunk s
+fed_by false chunk s t e call = call
+fed_by true chunk s t e call = absurd (let e' : true ≡ false = e in cc)
 
-all_heard : (piece : List ℕ) (g g1 g' : Gathered) → is_disconnected g.state.connection.phase ≡ false → g1 ≡ holding (fed piece g.state) g.answers g.lines → HandlesAll g1 g' → g' ≡ gathered (Piece piece ∷ []) g
-all_heard piece g g1 g' is e h = rw is (h ∙ ap (λ (x : Gathered). gather (unless None x.state (drained x.state)) x) e)
+all_heard : (chunk : List ℕ) (g g1 g' : Gathered) → is_disconnected g.state.connection.phase ≡ false → g1 ≡ holding (fed chunk g.state) g.answers g.lines → HandlesAll g1 g' → g' ≡ gathered (Chunk chunk ∷ []) g
+all_heard chunk g g1 g' is e h = rw is (h ∙ ap (λ (x : Gathered). gather (unless None x.state (drained x.state)) x) e)
 
-pub take_goes : (piece : List ℕ) (r : Result (Unit {0}) SwitchError) (g g1 g' : Gathered) → Feeds (is_disconnected g.state.connection.phase) piece (Ok tt) g.state g1.state
-    → (g1.answers ≡ g.answers) × (g1.lines ≡ g.lines) → OnOk r (HandlesAll g1 g') → IfErr r (λ e. e ≡ NoMemory) → Lacks r ⊎ (g' ≡ gathered (Piece piece ∷ []) g)
-take_goes piece (Err e) g g1 g' call same all memory = inl (ap Err memory)
-take_goes piece (Ok u) g g1 g' call same all memory =
-    let is = stands piece g.state g1.state call in
-    let e : g1 ≡ holding (fed piece g.state) g.answers g.lines =
-    ap (λ (x : State). holding x g1.answers g1.lines) (fed_by (is_disconnected g.state.connection.phase) piece g.state g1.state is call)
-    ∙ (ap (λ (x : List ℕ). holding (fed piece g.state) x g1.lines) same.0 ∙ ap (λ (x : List ℕ). holding (fed piece g.state) g.answers x) same.1) in
-    inr (all_heard piece g g1 g' is e all)
+pub take_goes : (chunk : List ℕ) (r : Result (Unit {0}) SwitchError) (g g1 g' : Gathered) → Feeds (is_disconnected g.state.connection.phase) chunk (Ok tt) g.state g1.state
+    → (g1.answers ≡ g.answers) × (g1.lines ≡ g.lines) → OnOk r (HandlesAll g1 g') → IfErr r (λ e. e ≡ NoMemory) → Lacks r ⊎ (g' ≡ gathered (Chunk chunk ∷ []) g)
+take_goes chunk (Err e) g g1 g' call same all memory = inl (ap Err memory)
+take_goes chunk (Ok u) g g1 g' call same all memory =
+    let is = stands chunk g.state g1.state call in
+    let e : g1 ≡ holding (fed chunk g.state) g.answers g.lines =
+    ap (λ (x : State). holding x g1.answers g1.lines) (fed_by (is_disconnected g.state.connection.phase) chunk g.state g1.state is call)
+    ∙ (ap (λ (x : List ℕ). holding (fed chunk g.state) x g1.lines) same.0 ∙ ap (λ (x : List ℕ). holding (fed chunk g.state) g.answers x) same.1) in
+    inr (all_heard chunk g g1 g' is e all)
 
 some_text : (f : Effect → List ℕ) (n : ℕ) (old now new : List ℕ) (s t : State) → now ≡ old → s ≡ t → new ≡ now ++ flat_map f (drain n s).effects → new ≡ old ++ flat_map f (drain n t).effects
 some_text f n old now new s t e same h = h ∙ (ap (λ (x : List ℕ). x ++ flat_map f (drain n s).effects) e ∙ ap (λ (x : State). old ++ flat_map f (drain n x).effects) same)
 
-pub take_cut : (piece : List ℕ) (r : Result (Unit {0}) SwitchError) (g g1 g' : Gathered) → Feeds (is_disconnected g.state.connection.phase) piece (Ok tt) g.state g1.state
-    → (g1.answers ≡ g.answers) × (g1.lines ≡ g.lines) → OnErr r (HandlesSome g1 g') → Lacks r → CutIn (Piece piece ∷ []) g g'
-take_cut piece (Ok u) g g1 g' call same some e = let e' : Ok u ≡ Err NoMemory = e in absurd cc
-take_cut piece (Err x) g g1 g' call same some e =
-    let is = stands piece g.state g1.state call in
-    let at : g1.state ≡ come piece g.state = fed_by (is_disconnected g.state.connection.phase) piece g.state g1.state is call ∙ sym (come_fed piece g.state is) in
+pub take_cut : (chunk : List ℕ) (r : Result (Unit {0}) SwitchError) (g g1 g' : Gathered) → Feeds (is_disconnected g.state.connection.phase) chunk (Ok tt) g.state g1.state
+    → (g1.answers ≡ g.answers) × (g1.lines ≡ g.lines) → OnErr r (HandlesSome g1 g') → Lacks r → CutIn (Chunk chunk ∷ []) g g'
+take_cut chunk (Ok u) g g1 g' call same some e = let e' : Ok u ≡ Err NoMemory = e in absurd cc
+take_cut chunk (Err x) g g1 g' call same some e =
+    let is = stands chunk g.state g1.state call in
+    let at : g1.state ≡ come chunk g.state = fed_by (is_disconnected g.state.connection.phase) chunk g.state g1.state is call ∙ sym (come_fed chunk g.state is) in
     record {
-      cut = record { done = []; event = Piece piece; messages = some.messages; others = [] };
+      cut = record { done = []; event = Chunk chunk; messages = some.messages; others = [] };
       events_are = refl;
-      answers_are = some_text answer_in some.messages g.answers g1.answers g'.answers g1.state (come piece g.state) same.0 at some.answers_are;
-      lines_are = some_text line_in some.messages g.lines g1.lines g'.lines g1.state (come piece g.state) same.1 at some.lines_are;
+      answers_are = some_text answer_in some.messages g.answers g1.answers g'.answers g1.state (come chunk g.state) same.0 at some.answers_are;
+      lines_are = some_text line_in some.messages g.lines g1.lines g'.lines g1.state (come chunk g.state) same.1 at some.lines_are;
     }
 
 -- ROWS THAT ARE DUE

@@ -9,7 +9,7 @@ use Rattle.of_replay.specs.declared.event_file.Ended.{Ended}
 use Rattle.of_replay.specs.declared.event_file.Ended.TheVariants.{Done, BadRow, Text, ReadFault, WriteFault, NoMemory}
 use Rattle.of_replay.specs.Told.{Answer, given}
 use Rattle.of_replay.specs.Transfer.{then_answers}
-use Rattle.of_replay.specs.Rows.{EventRow, Passed, Connect, Lost, Piece, Frame, Moment, Ports, Rows, row_of}
+use Rattle.of_replay.specs.Rows.{EventRow, Passed, Connect, Lost, Chunk, Frame, Moment, Ports, Rows, row_of}
 
 -- what happens at a row; those of a controller (`connect`, `lost`, `c`) are not allowed in the file
 abbrev pub file_row : Option EventRow → Option (List Event)
@@ -17,7 +17,7 @@ file_row None = None
 file_row (Some Passed) = Some []
 file_row (Some Connect) = None
 file_row (Some Lost) = None
-file_row (Some (Piece bytes)) = None
+file_row (Some (Chunk bytes)) = None
 file_row (Some (Frame port bytes)) = Some (event.Frame port bytes ∷ [])
 file_row (Some (Moment nanos)) = Some (event.Moment nanos ∷ [])
 file_row (Some (Ports change)) = Some (event.Ports change ∷ [])

@@ -5,7 +5,7 @@ use Rattle.of_session.specs.Session.{is_disconnected}
 use Rattle.of_datapath.specs.declared.effect.Effect.{Effect}
 use Rattle.of_datapath.specs.declared.effect.Effect.TheVariants.{Answer as Answers, Sent, Closed}
 use Rattle.of_switch.specs.declared.event.Event.{Event}
-use Rattle.of_switch.specs.declared.event.Event.TheVariants.{Connect, Lost, Piece, Frame, Moment, Ports}
+use Rattle.of_switch.specs.declared.event.Event.TheVariants.{Connect, Lost, Chunk, Frame, Moment, Ports}
 use Rattle.of_switch.specs.State.{State}
 use Rattle.of_switch.specs.Runs.{Report, Gives, IsRefused, Happened, happened, come, drain}
 use Rattle.of_replay.specs.Output.{line_of}
@@ -26,7 +26,7 @@ abbrev pub acts : Event → List Event
 acts (Moment nanos) = []
 acts Connect = Connect ∷ []
 acts Lost = Lost ∷ []
-acts (Piece bytes) = Piece bytes ∷ []
+acts (Chunk bytes) = Chunk bytes ∷ []
 acts (Frame port bytes) = Frame port bytes ∷ []
 acts (Ports change) = Ports change ∷ []
 
@@ -53,7 +53,7 @@ opened accepted.Fault = []
 
 -- the end of a stream is the loss of its connection, and so is a read that fails
 abbrev pub heard : Answer → List Event
-heard (Gave bytes) = Piece bytes ∷ []
+heard (Gave bytes) = Chunk bytes ∷ []
 heard Idle = []
 heard Ended = Lost ∷ []
 heard Failed = Lost ∷ []
@@ -148,7 +148,7 @@ pub record IsTurn (t : Turn) (s : ServeState) : Type 0 where
 
 -- A TURN THAT MEMORY CUT SHORT
 
--- Memory ran out in one of some events: those before it were done, and of a piece some messages were handled.
+-- Memory ran out in one of some events: those before it were done, and of a chunk some messages were handled.
 pub record Cut : Type 0 where
   pub done : List Event
   pub event : Event
@@ -159,9 +159,9 @@ pub record Cut : Type 0 where
 abbrev pub cut_events : Cut → List Event
 cut_events c = c.done ++ c.event ∷ c.others
 
--- what the first n messages of an event give: only a piece has any
+-- what the first n messages of an event give: only a chunk has any
 abbrev pub part_of : ℕ → Event → State → List Effect
-part_of n (Piece bytes) s = (drain n (come bytes s)).effects
+part_of n (Chunk bytes) s = (drain n (come bytes s)).effects
 part_of n other s = []
 
 abbrev pub with_effects : List Effect → Gathered → Gathered

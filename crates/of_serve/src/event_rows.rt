@@ -22,7 +22,7 @@ fn push_row(
 {
     match row {
         Row::Passed => Ok(true),
-        Row::Connect | Row::Lost | Row::Piece => Ok(false),
+        Row::Connect | Row::Lost | Row::Chunk => Ok(false),
         Row::Frame { port } => {
             let frame = Bytes::from_slice(alloc, bytes)?;
             events.push(Event::Frame { port, frame })?;

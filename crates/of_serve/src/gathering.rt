@@ -2,7 +2,7 @@
 ghost use Rattle.std.specs.Prelude.{◌≡◌, ◌⊎◌, ◌≤◌, ◌++◌, ◌∷◌, [], Err as Failed, length, take, drop, OnOk, OnErr, IfOk, IfErr, not};
 ghost use Rattle.std.specs.List.{flat_map};
 ghost use Rattle.of_session.specs.Session.{is_disconnected};
-ghost use Rattle.of_switch.specs.declared.event.Event.TheVariants.{Lost as Loss, Piece as Received};
+ghost use Rattle.of_switch.specs.declared.event.Event.TheVariants.{Lost as Loss, Chunk as Received};
 ghost use Rattle.of_switch.specs.declared.switch_error.SwitchError.TheVariants.{NoMemory};
 ghost use Rattle.of_replay.specs.Rows.{with_bytes};
 ghost use Rattle.of_replay.specs.Stepping.{row_happened};
@@ -188,20 +188,20 @@ impl<L: Lookup> Gathering<L> {
     }
 
     // Receives bytes of the controller, unless they are refused.
-    fn take(&mut self, piece: &[u8]) -> Result<(), SwitchError>
-        ensures heard { (result ≡ Failed NoMemory) ⊎ (self.new ≡ gathered (Received piece.now ∷ []) self.old) }
-        ensures memory { result ≡ Failed NoMemory → CutIn (Received piece.now ∷ []) self.old self.new }
+    fn take(&mut self, chunk: &[u8]) -> Result<(), SwitchError>
+        ensures heard { (result ≡ Failed NoMemory) ⊎ (self.new ≡ gathered (Received chunk.now ∷ []) self.old) }
+        ensures memory { result ≡ Failed NoMemory → CutIn (Received chunk.now ∷ []) self.old self.new }
     {
-        self.switch.feed(piece)?;
+        self.switch.feed(chunk)?;
         self.handle_all()
     }
 
     /// Receives bytes of the controller, and handles each whole message; without a connection they are lost.
-    pub fn hear(&mut self, piece: &[u8]) -> Result<(), AllocError>
-        ensures ok { OnOk result (self.new ≡ gathered (Received piece.now ∷ []) self.old) }
-        ensures err { OnErr result (CutIn (Received piece.now ∷ []) self.old self.new) }
+    pub fn hear(&mut self, chunk: &[u8]) -> Result<(), AllocError>
+        ensures ok { OnOk result (self.new ≡ gathered (Received chunk.now ∷ []) self.old) }
+        ensures err { OnErr result (CutIn (Received chunk.now ∷ []) self.old self.new) }
     {
-        match self.take(piece) {
+        match self.take(chunk) {
             Ok(()) => Ok(()),
             Err(SwitchError::NoMemory) => Err(AllocError),
             Err(_) => Ok(()),
@@ -223,7 +223,7 @@ impl<L: Lookup> Gathering<L> {
         match row {
             Event::Connect => self.play(Row::Connect, &[]),
             Event::Lost => self.play(Row::Lost, &[]),
-            Event::Piece(bytes) => self.hear(bytes.as_slice()),
+            Event::Chunk(bytes) => self.hear(bytes.as_slice()),
             Event::Frame { port, frame } => self.play(Row::Frame { port: *port }, frame.as_slice()),
             Event::Moment(_) => Ok(()),
             Event::Ports(change) => self.play(Row::Ports(*change), &[]),

@@ -93,12 +93,12 @@ pub struct MemoryPeers {
     /// What connections took, the newest first.
     taken: Vec<Taken>,
     /// How many bytes a write takes at most.
-    piece: usize,
+    chunk: usize,
     write_failures: u64,
     alloc: Global,
     ghost within: { at ≤ length script.items },
     ghost ended: { at < length script.items → late_accepts + late_reads ≡ 0 },
-    ghost some: { 0 < piece },
+    ghost some: { 0 < chunk },
     ghost few: { accept_failures ≤ accepts },
     ghost few_late: { (late_accepts ≤ accepts) × (late_reads ≤ reads) },
 }
@@ -106,11 +106,11 @@ pub struct MemoryPeers {
 impl MemoryPeers {
     ghost use Rattle.of_serve.specs.Memory.{told};
 
-    /// Peers of that script, whose writes take `piece` bytes at most.
-    pub fn new(alloc: Global, script: Vec<Line>, piece: usize, failing: Failing) -> MemoryPeers
-        requires { 0 < piece }
+    /// Peers of that script, whose writes take `chunk` bytes at most.
+    pub fn new(alloc: Global, script: Vec<Line>, chunk: usize, failing: Failing) -> MemoryPeers
+        requires { 0 < chunk }
         ensures script { result.script.items ≡ script.items }
-        ensures settings { (result.piece ≡ piece) × (result.failing ≡ failing) }
+        ensures settings { (result.chunk ≡ chunk) × (result.failing ≡ failing) }
         ensures told { told result ≡ [] }
         ensures taken { result.taken.items ≡ [] }
         ensures counts { (result.accepts ≡ 0) × (result.reads ≡ 0) × (result.accept_failures ≡ 0) × (result.write_failures ≡ 0) }
@@ -126,7 +126,7 @@ impl MemoryPeers {
             late_accepts: 0,
             late_reads: 0,
             taken: Vec::new(alloc),
-            piece,
+            chunk,
             write_failures: 0,
             alloc,
         }
@@ -303,7 +303,7 @@ impl Peers for MemoryPeers {
     fn write(&mut self, bytes: &[u8]) -> Writing {
         self.calls = self.calls.saturating_add(1);
         let fails = self.failing.fails(self.calls);
-        let count = self.piece.min(bytes.len());
+        let count = self.chunk.min(bytes.len());
         if fails {
             self.write_failures += 1;
             return Writing::Fault;

@@ -71,9 +71,9 @@ concat-append : (ms ns : List (List ℕ)) → concat (ms ++ ns) ≡ concat ms ++
 concat-append [] ns = refl
 concat-append (m ∷ ms) ns = ap (λ (x : List ℕ). m ++ x) (concat-append ms ns) ∙ sym (append_assoc m (concat ms) (concat ns))
 
-pub splits_more : (stream piece : List ℕ) (ms ns : List (List ℕ)) (r s : List ℕ) → Splits stream ms r → Splits (r ++ piece) ns s → Splits (stream ++ piece) (ms ++ ns) s
-splits_more stream piece ms ns r s a b = record {
-  whole = ap (λ (x : List ℕ). x ++ piece) a.whole ∙ (append_assoc (concat ms) r piece ∙ (ap (λ (x : List ℕ). concat ms ++ x) b.whole ∙ (sym (append_assoc (concat ms) (concat ns) s) ∙ ap (λ (x : List ℕ). x ++ s) (sym (concat-append ms ns)))));
+pub splits_more : (stream chunk : List ℕ) (ms ns : List (List ℕ)) (r s : List ℕ) → Splits stream ms r → Splits (r ++ chunk) ns s → Splits (stream ++ chunk) (ms ++ ns) s
+splits_more stream chunk ms ns r s a b = record {
+  whole = ap (λ (x : List ℕ). x ++ chunk) a.whole ∙ (append_assoc (concat ms) r chunk ∙ (ap (λ (x : List ℕ). concat ms ++ x) b.whole ∙ (sym (append_assoc (concat ms) (concat ns) s) ∙ ap (λ (x : List ℕ). x ++ s) (sym (concat-append ms ns)))));
   each = are_more ms ns a.each b.each;
   ends = b.ends;
 }

@@ -32,7 +32,7 @@ greeting = record { phase = Greeting; pending = [] }
 
 -- bytes are received
 abbrev pub fed : List ℕ → Connection → Connection
-fed piece c = record c { pending = c.pending ++ piece }
+fed chunk c = record c { pending = c.pending ++ chunk }
 
 -- the first message is accepted if it is a HELLO that agrees to version 4
 abbrev pub is_first_hello : List ℕ → Bool

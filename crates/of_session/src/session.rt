@@ -117,11 +117,11 @@ impl Session {
     }
 
     /// Receives these bytes. Where memory runs out none of them was received.
-    pub fn feed(&mut self, piece: &[u8]) -> Result<(), AllocError>
-        ensures ok { OnOk result (self.new ≡ fed piece.now self.old) }
+    pub fn feed(&mut self, chunk: &[u8]) -> Result<(), AllocError>
+        ensures ok { OnOk result (self.new ≡ fed chunk.now self.old) }
         ensures err { OnErr result (self.new ≡ self.old) }
     {
-        self.stream.feed(piece)
+        self.stream.feed(chunk)
     }
 
     /// What comes next from a controller of that role. It is the same until it is `taken`.

@@ -52,11 +52,11 @@ impl Stream {
 
     /// Receives these bytes. Where memory runs out none of them was received.
     #[tactic(auto, using(crate::proofs::Compacting::drop_append))]
-    pub fn feed(&mut self, piece: &[u8]) -> Result<(), AllocError>
-        ensures ok { OnOk result (self.new ≡ self.old ++ piece.now) }
+    pub fn feed(&mut self, chunk: &[u8]) -> Result<(), AllocError>
+        ensures ok { OnOk result (self.new ≡ self.old ++ chunk.now) }
         ensures err { OnErr result (self.new ≡ self.old) }
     {
-        self.bytes.extend_from_slice(piece)
+        self.bytes.extend_from_slice(chunk)
     }
 
     /// How many bytes are kept: those that are left, and of those that were taken as many at most.
@@ -147,6 +147,6 @@ fn front_in(bytes: &[u8]) -> Beginning
 pub fn splits_once()
     ensures one { (stream : List ℕ) → (messages : List (List ℕ)) × (rest : List ℕ) × Splits stream messages rest }
     ensures only { (stream : List ℕ) (ms ns : List (List ℕ)) (r s : List ℕ) → Splits stream ms r → Splits stream ns s → (ms ≡ ns) × (r ≡ s) }
-    ensures more { (stream piece : List ℕ) (ms ns : List (List ℕ)) (r s : List ℕ) → Splits stream ms r → Splits (r ++ piece) ns s →
-        Splits (stream ++ piece) (ms ++ ns) s }
+    ensures more { (stream chunk : List ℕ) (ms ns : List (List ℕ)) (r s : List ℕ) → Splits stream ms r → Splits (r ++ chunk) ns s →
+        Splits (stream ++ chunk) (ms ++ ns) s }
 {}

@@ -30,7 +30,7 @@ answer_stays r o s answer t out h = stays_by (SmallVec Effect) r (λ (effects : 
 stays : (m : Made) (s t : State) → ran_out m ≡ true → IsMade m s t → t ≡ s
 stays (Connected answer) s t out h = answer_stays (connect_refusal s) (connected s) s answer t out h
 stays Lost s t out h = absurd cc
-stays (Fed piece answer) s t out h = stays_by (Unit {0}) (feed_refusal s) (λ (u : Unit {0}) (new : State). new ≡ fed piece s) s answer t out h
+stays (Fed chunk answer) s t out h = stays_by (Unit {0}) (feed_refusal s) (λ (u : Unit {0}) (new : State). new ≡ fed chunk s) s answer t out h
 stays (Next answer) s t out h =
     stays_by (Option (SmallVec Effect)) None
     (λ (found : Option (SmallVec Effect)) (new : State). (next_of s ≡ option_map (λ (effects : SmallVec Effect). gives effects.items new) found) × IfNone found (new ≡ s)) s answer t out h
@@ -87,13 +87,13 @@ call_happens (Some e) o s answer t h last =
 call_happens None o s (Ok effects) t h last = ap (λ (x : Outcome). happens (Gives x.effects) x.state) h
 call_happens None o s (Err e) t h last = let out = is_memory e h.0 in absurd cc
 
-unheard_happens : (r : Option SwitchError) (s : State) (piece : List ℕ) (e : SwitchError) (t : State) (o : Outcome) → Call r (λ (u : Unit {0}) (new : State). new ≡ fed piece s) s (Err e) t → is_no_memory e ≡ false → unless r s o ≡ happens (IsRefused e) t
-unheard_happens (Some f) s piece e t o h last =
+unheard_happens : (r : Option SwitchError) (s : State) (chunk : List ℕ) (e : SwitchError) (t : State) (o : Outcome) → Call r (λ (u : Unit {0}) (new : State). new ≡ fed chunk s) s (Err e) t → is_no_memory e ≡ false → unless r s o ≡ happens (IsRefused e) t
+unheard_happens (Some f) s chunk e t o h last =
     let is : Err e ≡ Err f = h.0 in
     let same : t ≡ s = h.1 in
     let f_is : f ≡ e = cc in
     ap (λ (u : State). happens (IsRefused f) u) (sym same) ∙ ap (λ (g : SwitchError). happens (IsRefused g) t) f_is
-unheard_happens None s piece e t o h last = let out = is_memory e h.0 in absurd cc
+unheard_happens None s chunk e t o h last = let out = is_memory e h.0 in absurd cc
 
 -- messages, one by one
 nexts_drain : (given : List (SmallVec Effect)) (s t : State) → AreMade (map handled given ++ Next (Ok None) ∷ []) s t → drained s ≡ gives (flat_map (λ (effects : SmallVec Effect). effects.items) given) t
@@ -106,15 +106,15 @@ nexts_drain (x ∷ given) s t h =
     let some : next_of s ≡ Some (gives x.items h.0) = h.1.0 in
     drained_more s (gives x.items h.0) some ∙ ap (behind x.items) (nexts_drain given h.0 t h.2)
 
-fed_is : (r : Option SwitchError) (piece : List ℕ) (s t : State) → Call r (λ (u : Unit {0}) (new : State). new ≡ fed piece s) s (Ok tt) t → (r ≡ None) × (t ≡ fed piece s)
-fed_is (Some e) piece s t h = let is : Ok tt ≡ Err e = h.0 in absurd cc
-fed_is None piece s t h = (refl, h)
+fed_is : (r : Option SwitchError) (chunk : List ℕ) (s t : State) → Call r (λ (u : Unit {0}) (new : State). new ≡ fed chunk s) s (Ok tt) t → (r ≡ None) × (t ≡ fed chunk s)
+fed_is (Some e) chunk s t h = let is : Ok tt ≡ Err e = h.0 in absurd cc
+fed_is None chunk s t h = (refl, h)
 
-sent_happens : (piece : List ℕ) (given : List (SmallVec Effect)) (s t : State) → AreMade (calls_of (Sends piece given)) s t → happened (event_of (Sends piece given)) s ≡ happens (report_of (Sends piece given)) t
-sent_happens piece given s t h =
-    let k = fed_is (feed_refusal s) piece s h.0 h.1 in
-    let all : drained (fed piece s) ≡ gives (flat_map (λ (effects : SmallVec Effect). effects.items) given) t = ap drained (sym k.1) ∙ nexts_drain given h.0 t h.2 in
-    ap (λ (r : Option SwitchError). unless r s (drained (fed piece s))) k.0 ∙ ap (λ (o : Outcome). happens (Gives o.effects) o.state) all
+sent_happens : (chunk : List ℕ) (given : List (SmallVec Effect)) (s t : State) → AreMade (calls_of (Sends chunk given)) s t → happened (event_of (Sends chunk given)) s ≡ happens (report_of (Sends chunk given)) t
+sent_happens chunk given s t h =
+    let k = fed_is (feed_refusal s) chunk s h.0 h.1 in
+    let all : drained (fed chunk s) ≡ gives (flat_map (λ (effects : SmallVec Effect). effects.items) given) t = ap drained (sym k.1) ∙ nexts_drain given h.0 t h.2 in
+    ap (λ (r : Option SwitchError). unless r s (drained (fed chunk s))) k.0 ∙ ap (λ (o : Outcome). happens (Gives o.effects) o.state) all
 
 -- one call alone
 alone : (m : Made) (s t : State) → AreMade (m ∷ []) s t → IsMade m s t
@@ -123,8 +123,8 @@ alone m s t h = subst (IsMade m s) (sym h.2) h.1
 deed_happens : (d : Deed) (s t : State) → AreMade (calls_of d) s t → AllLast (calls_of d) → happened (event_of d) s ≡ happens (report_of d) t
 deed_happens (Connects answer) s t h last = call_happens (connect_refusal s) (connected s) s answer t (alone (Connected answer) s t h) last.0
 deed_happens Loses s t h last = let is : t ≡ lost s = alone Lost s t h in ap (happens (Gives [])) (sym is)
-deed_happens (Sends piece given) s t h last = sent_happens piece given s t h
-deed_happens (IsUnheard piece e) s t h last = unheard_happens (feed_refusal s) s piece e t (drained (fed piece s)) (alone (Fed piece (Err e)) s t h) last.0
+deed_happens (Sends chunk given) s t h last = sent_happens chunk given s t h
+deed_happens (IsUnheard chunk e) s t h last = unheard_happens (feed_refusal s) s chunk e t (drained (fed chunk s)) (alone (Fed chunk (Err e)) s t h) last.0
 deed_happens (Receives port frame answer) s t h last = call_happens None (frame_in port frame s) s answer t (alone (Frame port frame answer) s t h) last.0
 deed_happens (Waits nanos answer) s t h last = call_happens None (moment_in nanos s) s answer t (alone (Moment nanos answer) s t h) last.0
 deed_happens (Changes change answer) s t h last = call_happens (port_refusal change s) (port_changed change s) s answer t (alone (Changed change answer) s t h) last.0

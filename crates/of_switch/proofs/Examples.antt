@@ -5,7 +5,7 @@ use Rattle.of_datapath.specs.declared.effect.Effect.TheVariants.{Answer, Sent, C
 use Rattle.of_switch.specs.declared.port_change.PortChange.TheVariants.{Add}
 use Rattle.of_switch.specs.declared.switch_error.SwitchError.TheVariants.{NotConnected}
 use Rattle.of_switch.specs.declared.event.Event.{Event}
-use Rattle.of_switch.specs.declared.event.Event.TheVariants.{Connect, Piece, Frame, Ports}
+use Rattle.of_switch.specs.declared.event.Event.TheVariants.{Connect, Chunk, Frame, Ports}
 use Rattle.of_switch.specs.State.{start}
 use Rattle.of_switch.specs.Runs.{Report, Gives, IsRefused, run}
 use Rattle.of_switch.proofs.OnLiterals.{switch_on_literals}
@@ -106,42 +106,42 @@ reports_of events = (run events (start 1)).reports
 -- WHAT THEY GIVE
 
 -- the switch sends its HELLO on connecting, and answers nothing to that of the controller
-pub hello_is_answered : reports_of (Connect ∷ Piece hello ∷ []) ≡ Gives (Answer own_hello ∷ []) ∷ Gives [] ∷ []
+pub hello_is_answered : reports_of (Connect ∷ Chunk hello ∷ []) ≡ Gives (Answer own_hello ∷ []) ∷ Gives [] ∷ []
 unfolding switch_on_literals
 hello_is_answered = refl
 
 -- a header whose length is below 8 is answered by an error, and the connection ends
-pub bad_length_ends_the_connection : reports_of (Connect ∷ Piece hello ∷ Piece bad_header ∷ Piece hello ∷ [])
+pub bad_length_ends_the_connection : reports_of (Connect ∷ Chunk hello ∷ Chunk bad_header ∷ Chunk hello ∷ [])
     ≡ Gives (Answer own_hello ∷ []) ∷ Gives [] ∷ Gives (Answer bad_length ∷ Closed ∷ []) ∷ IsRefused NotConnected ∷ []
 unfolding switch_on_literals
 bad_length_ends_the_connection = refl
 
 -- a flow that sends frames of port 1 out of port 2 does so
-pub flow_forwards_frame : reports_of (three_ports ++ Connect ∷ Piece hello ∷ Piece flow_mod ∷ Frame 1 frame ∷ [])
+pub flow_forwards_frame : reports_of (three_ports ++ Connect ∷ Chunk hello ∷ Chunk flow_mod ∷ Frame 1 frame ∷ [])
     ≡ replicate 3 (Gives []) ++ Gives (Answer own_hello ∷ []) ∷ Gives [] ∷ Gives [] ∷ Gives (Sent 2 frame ∷ []) ∷ []
 unfolding switch_on_literals
 flow_forwards_frame = refl
 
--- so it does where the FLOW_MOD is received in three pieces, and not before the last of them
-pub pieces_do_the_same : reports_of (three_ports ++ Connect ∷ Piece hello
-    ∷ Piece (take 7 flow_mod) ∷ Frame 1 frame
-    ∷ Piece (take 43 (drop 7 flow_mod)) ∷ Frame 1 frame
-    ∷ Piece (drop 50 flow_mod) ∷ Frame 1 frame ∷ [])
+-- so it does where the FLOW_MOD is received in three chunks, and not before the last of them
+pub chunks_do_the_same : reports_of (three_ports ++ Connect ∷ Chunk hello
+    ∷ Chunk (take 7 flow_mod) ∷ Frame 1 frame
+    ∷ Chunk (take 43 (drop 7 flow_mod)) ∷ Frame 1 frame
+    ∷ Chunk (drop 50 flow_mod) ∷ Frame 1 frame ∷ [])
     ≡ replicate 3 (Gives []) ++ Gives (Answer own_hello ∷ []) ∷ Gives []
     ∷ Gives [] ∷ Gives []
     ∷ Gives [] ∷ Gives []
     ∷ Gives [] ∷ Gives (Sent 2 frame ∷ []) ∷ []
 unfolding switch_on_literals
-pieces_do_the_same = refl
+chunks_do_the_same = refl
 
 -- a flow that sends frames of port 1 to a group sends them out of the port of its bucket
-pub group_forwards_frame : reports_of (three_ports ++ Connect ∷ Piece hello ∷ Piece group_mod ∷ Piece group_flow ∷ Frame 1 frame ∷ [])
+pub group_forwards_frame : reports_of (three_ports ++ Connect ∷ Chunk hello ∷ Chunk group_mod ∷ Chunk group_flow ∷ Frame 1 frame ∷ [])
     ≡ replicate 3 (Gives []) ++ Gives (Answer own_hello ∷ []) ∷ Gives [] ∷ Gives [] ∷ Gives [] ∷ Gives (Sent 2 frame ∷ []) ∷ []
 unfolding switch_on_literals
 group_forwards_frame = refl
 
 -- the flow is removed with its group, and the controller is notified; then there is no group to delete, which is no fault, and no flow
-pub flow_goes_with_group : reports_of (three_ports ++ Connect ∷ Piece hello ∷ Piece group_mod ∷ Piece group_flow ∷ Piece group_delete ∷ Piece group_delete ∷ Frame 1 frame ∷ [])
+pub flow_goes_with_group : reports_of (three_ports ++ Connect ∷ Chunk hello ∷ Chunk group_mod ∷ Chunk group_flow ∷ Chunk group_delete ∷ Chunk group_delete ∷ Frame 1 frame ∷ [])
     ≡ replicate 3 (Gives []) ++ Gives (Answer own_hello ∷ []) ∷ Gives [] ∷ Gives [] ∷ Gives [] ∷ Gives (Answer flow_removed ∷ []) ∷ Gives [] ∷ Gives [] ∷ []
 unfolding switch_on_literals
 flow_goes_with_group = refl

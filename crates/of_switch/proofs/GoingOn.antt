@@ -4,12 +4,12 @@ use Rattle.std.proofs.lemmas.List.{append-nil}
 use Rattle.of_session.specs.Session.{is_disconnected}
 use Rattle.of_datapath.specs.declared.effect.Effect.{Effect}
 use Rattle.of_switch.specs.declared.event.Event.{Event}
-use Rattle.of_switch.specs.declared.event.Event.TheVariants.{Piece}
+use Rattle.of_switch.specs.declared.event.Event.TheVariants.{Chunk}
 use Rattle.of_switch.specs.declared.switch_error.SwitchError.{SwitchError}
 use Rattle.of_switch.specs.State.{State}
 use Rattle.of_switch.specs.Steps.{Outcome, gives, fed}
 use Rattle.of_switch.specs.Calls.{feed_refusal}
-use Rattle.of_switch.specs.Runs.{behind, drained, piece_in, Report, Gives, IsRefused, Happened, happened, unless, run, effects_in, IsBrokenOff, IsInterrupted, StopsWithin, RunsAll, rest_of}
+use Rattle.of_switch.specs.Runs.{behind, drained, chunk_in, Report, Gives, IsRefused, Happened, happened, unless, run, effects_in, IsBrokenOff, IsInterrupted, StopsWithin, RunsAll, rest_of}
 use Rattle.of_switch.proofs.Joining.{drained_gone}
 
 effects_in-append : (xs ys : List Report) → effects_in (xs ++ ys) ≡ effects_in xs ++ effects_in ys
@@ -36,7 +36,7 @@ stopped event s t more h = stop_by event s t more h.first h.event h.others h.mor
 stops : (event : Event) (s t : State) (more : List Report) → IsInterrupted event s t more → StopsWithin (event ∷ []) s t [] more
 stops event s t more h = record { first = []; event = event; others = []; events_are = refl; more = more; reports_are = refl; interrupted = h }
 
--- A PIECE OF NO BYTES lets what waits go on
+-- A CHUNK OF NO BYTES lets what waits go on
 
 nothing_fed : (t : State) → fed [] t ≡ t
 nothing_fed t = ap (λ (bytes : List ℕ). record t { connection = record t.connection { pending = bytes } }) (append-nil t.connection.pending)
@@ -48,37 +48,37 @@ one_report effects = append-nil effects
 abbrev GoesOn : State → Happened → Type 0
 GoesOn t h = (h.state ≡ (drained t).state) × (effects_in (h.report ∷ []) ≡ (drained t).effects)
 
-empty_piece : (t : State) → GoesOn t (happened (Piece []) t)
-empty_piece t = by (is_disconnected t.connection.phase) refl
+empty_chunk : (t : State) → GoesOn t (happened (Chunk []) t)
+empty_chunk t = by (is_disconnected t.connection.phase) refl
   where
-    by : (gone : Bool) → is_disconnected t.connection.phase ≡ gone → GoesOn t (happened (Piece []) t)
+    by : (gone : Bool) → is_disconnected t.connection.phase ≡ gone → GoesOn t (happened (Chunk []) t)
     by true e = let none : drained t ≡ gives [] t = drained_gone t e in rw (e, none) (refl, refl)
     by false e =
-        let same : piece_in [] t ≡ drained t = ap drained (nothing_fed t) in
+        let same : chunk_in [] t ≡ drained t = ap drained (nothing_fed t) in
         rw (e, same) (refl, one_report (drained t).effects)
 
--- a piece that is not refused
-piece_happens : (bytes : List ℕ) (s : State) (o : Outcome) → feed_refusal s ≡ None → piece_in bytes s ≡ o → happened (Piece bytes) s ≡ record { report = Gives o.effects; state = o.state }
-piece_happens bytes s o taken is = ap (λ (r : Option SwitchError). unless r s (piece_in bytes s)) taken ∙ ap (λ (x : Outcome). record { report = Gives x.effects; state = x.state }) is
+-- a chunk that is not refused
+chunk_happens : (bytes : List ℕ) (s : State) (o : Outcome) → feed_refusal s ≡ None → chunk_in bytes s ≡ o → happened (Chunk bytes) s ≡ record { report = Gives o.effects; state = o.state }
+chunk_happens bytes s o taken is = ap (λ (r : Option SwitchError). unless r s (chunk_in bytes s)) taken ∙ ap (λ (x : Outcome). record { report = Gives x.effects; state = x.state }) is
 
 -- GOING ON
 
 abbrev Whole : Event → State → State → List Report → Type 0
 Whole event s u reports = (u ≡ (run (event ∷ []) s).state) × (effects_in reports ≡ effects_in (run (event ∷ []) s).reports)
 
-broken_whole : (event : Event) (s t u : State) (more last : List Report) → IsBrokenOff event s t more → RunsAll (Piece [] ∷ []) t u [] last → Whole event s u (more ++ last)
+broken_whole : (event : Event) (s t u : State) (more last : List Report) → IsBrokenOff event s t more → RunsAll (Chunk [] ∷ []) t u [] last → Whole event s u (more ++ last)
 broken_whole event s t u more last b ran =
-    let on = empty_piece t in
+    let on = empty_chunk t in
     let o = behind (effects_in more) (drained t) in
-    let here : happened event s ≡ record { report = Gives o.effects; state = o.state } = ap (λ (e : Event). happened e s) b.piece ∙ piece_happens b.bytes s o b.taken b.left in
+    let here : happened event s ≡ record { report = Gives o.effects; state = o.state } = ap (λ (e : Event). happened e s) b.chunk ∙ chunk_happens b.bytes s o b.taken b.left in
     let last_is : effects_in last ≡ (drained t).effects = ap effects_in ran.reports_are ∙ on.1 in
     let given : effects_in (more ++ last) ≡ o.effects = effects_in-append more last ∙ ap (λ (es : List Effect). effects_in more ++ es) last_is in (
       ran.state ∙ (on.0 ∙ ap (λ (h : Happened). h.state) (sym here)),
       given ∙ (sym (one_report o.effects) ∙ ap (λ (h : Happened). effects_in (h.report ∷ [])) (sym here)),
     )
 
--- what is left of a piece that was broken off
-rest_is : (event : Event) (more : List Report) → 0 < length more → rest_of event more ≡ Piece []
+-- what is left of a chunk that was broken off
+rest_is : (event : Event) (more : List Report) → 0 < length more → rest_of event more ≡ Chunk []
 rest_is event [] some = absurd (omega (arith, some))
 rest_is event (r ∷ more) some = refl
 
@@ -91,14 +91,14 @@ whole event s t u more last stop ran = by (stopped event s t more stop)
         (again.state, ap (λ (rs : List Report). effects_in (rs ++ last)) none.1 ∙ ap effects_in again.reports_are)
     by (inr b) = broken_whole event s t u more last b (subst (λ (e : Event). RunsAll (e ∷ []) t u [] last) (rest_is event more b.reported) ran)
 
-broken_again : (event : Event) (s t u : State) (more last : List Report) → IsBrokenOff event s t more → IsInterrupted (Piece []) t u last → IsBrokenOff event s u (more ++ last)
+broken_again : (event : Event) (s t u : State) (more last : List Report) → IsBrokenOff event s t more → IsInterrupted (Chunk []) t u last → IsBrokenOff event s u (more ++ last)
 broken_again event s t u more last b (inl none) =
     subst (λ (x : State). IsBrokenOff event s x (more ++ last)) (sym none.0)
     (subst (λ (rs : List Report). IsBrokenOff event s t (more ++ rs)) (sym none.1)
     (subst (λ (rs : List Report). IsBrokenOff event s t rs) (sym (append-nil more)) b))
 broken_again event s t u more last b (inr d) =
-    let nothing : d.bytes ≡ [] = let is = d.piece in cc in
-    let rest : drained t ≡ behind (effects_in last) (drained u) = sym (ap drained (nothing_fed t)) ∙ (ap (λ (bytes : List ℕ). piece_in bytes t) (sym nothing) ∙ d.left) in
+    let nothing : d.bytes ≡ [] = let is = d.chunk in cc in
+    let rest : drained t ≡ behind (effects_in last) (drained u) = sym (ap drained (nothing_fed t)) ∙ (ap (λ (bytes : List ℕ). chunk_in bytes t) (sym nothing) ∙ d.left) in
     let two : behind (effects_in more) (behind (effects_in last) (drained u)) ≡ behind (effects_in (more ++ last)) (drained u) =
     ap (λ (es : List Effect). gives es (drained u).state) (sym (append_assoc (effects_in more) (effects_in last) (drained u).effects))
     ∙ ap (λ (es : List Effect). behind es (drained u)) (sym (effects_in-append more last)) in
@@ -106,7 +106,7 @@ broken_again event s t u more last b (inr d) =
     let some = b.reported in
     record {
       bytes = b.bytes;
-      piece = b.piece;
+      chunk = b.chunk;
       taken = b.taken;
       reported = omega (arith, long, some);
       left = b.left ∙ (ap (behind (effects_in more)) rest ∙ two);

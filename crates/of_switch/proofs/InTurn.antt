@@ -1,4 +1,4 @@
--- A piece handles the messages that its bytes and those before it are, one after the other.
+-- A chunk handles the messages that its bytes and those before it are, one after the other.
 use Rattle.std.proofs.Common.{◌≡◌, ℕ, ◌⊎◌, inl, inr, Bool, true, false, cond, List, [], ◌∷◌, ◌++◌, length, take, drop, Option, Some, None, refl, sym, ◌∙◌, ap, subst, arith, append_assoc}
 use Rattle.std.proofs.lemmas.List.{append-nil, drop_all}
 use Rattle.of_session.specs.declared.session.Phase.{Phase}
@@ -17,7 +17,7 @@ use Rattle.std.specs.Prelude.{Result, Ok, Err, unwrap_or}
 use Rattle.of_datapath.specs.declared.effect.Effect.{Effect}
 use Rattle.of_switch.specs.State.{State}
 use Rattle.of_switch.specs.Steps.{Outcome, gives, fed, coming, next_by, next_of}
-use Rattle.of_switch.specs.Runs.{behind, drained, piece_in, come, holding, handled_alone, handled_in_turn}
+use Rattle.of_switch.specs.Runs.{behind, drained, chunk_in, come, holding, handled_alone, handled_in_turn}
 use Rattle.of_switch.proofs.Joining.{come_open, come_gone, step_more, drained_more, drained_none, drained_gone}
 
 greeted_size : (m : List ℕ) (t : Bool) → IsSized (cond t (Opened (length m)) (NotHello (xid_of m))) (length m)
@@ -117,7 +117,7 @@ in_turn (m ∷ ms) rest s each ends open_ =
     ∙ (one ∙ (ap (behind o.effects) others
     ∙ ap (λ (f : Outcome). behind f.effects (cond (is_disconnected f.state.connection.phase) (gives [] f.state) (handled_in_turn (ms ++ rest ∷ []) f.state))) (sym first)))
 
-pub piece_in_turn : (piece : List ℕ) (s : State) (messages : List (List ℕ)) (rest : List ℕ) → is_disconnected s.connection.phase ≡ false
-    → Splits (s.connection.pending ++ piece) messages rest → piece_in piece s ≡ handled_in_turn (messages ++ rest ∷ []) s
-piece_in_turn piece s messages rest open_ splits =
+pub chunk_in_turn : (chunk : List ℕ) (s : State) (messages : List (List ℕ)) (rest : List ℕ) → is_disconnected s.connection.phase ≡ false
+    → Splits (s.connection.pending ++ chunk) messages rest → chunk_in chunk s ≡ handled_in_turn (messages ++ rest ∷ []) s
+chunk_in_turn chunk s messages rest open_ splits =
     ap (λ (bytes : List ℕ). drained (holding bytes s)) splits.whole ∙ in_turn messages rest s splits.each splits.ends open_

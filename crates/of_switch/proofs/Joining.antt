@@ -1,4 +1,4 @@
--- Bytes that come in two pieces do what they do in one.
+-- Bytes that come in two chunks do what they do in one.
 use Rattle.std.proofs.Common.{◌≡◌, ℕ, ◌+◌, ◌<◌, ◌≤◌, suc, zero, Bool, true, false, List, [], ◌++◌, length, take, drop, Option, Some, None, refl, sym, ◌∙◌, ap, subst, arith, append_assoc, add-one}
 use Rattle.std.proofs.lemmas.List.{take-append-le, drop-append-le}
 use Rattle.std.proofs.lemmas.Option.{same_Some}
@@ -13,7 +13,7 @@ use Rattle.of_session.proofs.Nexts.{IsSizedIn, next_sized, IsSomething, next_mor
 use Rattle.of_datapath.specs.declared.effect.Effect.{Effect}
 use Rattle.of_switch.specs.State.{State}
 use Rattle.of_switch.specs.Steps.{Outcome, Done, does, beside, gives, fed, handled, refused, failed_of, closing, coming, next_by, next_of}
-use Rattle.of_switch.specs.Runs.{behind, then_more, drain, drained, piece_in, come}
+use Rattle.of_switch.specs.Runs.{behind, then_more, drain, drained, chunk_in, come}
 use Rattle.of_switch.proofs.Draining.{next_shorter}
 
 same_by : (n m : ℕ) (s : State) (o : Option Outcome) → next_of s ≡ o → ((t : State) → length t.connection.pending < length s.connection.pending → drain n t ≡ drain m t) → then_more (drain n) s o ≡ then_more (drain m) s o
@@ -137,8 +137,8 @@ joins_within (suc n) q s h = joins_phase q s (is_disconnected s.connection.phase
 pub joins : (q : List ℕ) (s : State) → Joins q s
 joins q s = joins_within (length s.connection.pending + 1) q s (omega arith)
 
--- in two pieces or in one
-pub two_pieces : (p q : List ℕ) (s : State) → is_disconnected s.connection.phase ≡ false → piece_in (p ++ q) s ≡ behind (piece_in p s).effects (drained (come q (piece_in p s).state))
-two_pieces p q s open_ =
+-- in two chunks or in one
+pub two_chunks : (p q : List ℕ) (s : State) → is_disconnected s.connection.phase ≡ false → chunk_in (p ++ q) s ≡ behind (chunk_in p s).effects (drained (come q (chunk_in p s).state))
+two_chunks p q s open_ =
     let whole : fed (p ++ q) s ≡ come q (fed p s) = ap (λ (bytes : List ℕ). record s { connection = record { phase = s.connection.phase; pending = bytes } }) (sym (append_assoc s.connection.pending p q)) ∙ sym (come_open q (fed p s) open_) in
     ap drained whole ∙ joins q (fed p s)

@@ -3,7 +3,7 @@ use Rattle.std.specs.Prelude.{⊤}
 use Rattle.of_wire.specs.Items.{items_of}
 use Rattle.of_layers.specs.Fields.{field_at, row_of}
 use Rattle.of_oxm.specs.Canonical.{canonical}
-use Rattle.of_oxm.specs.MatchFieldWire.{spelling}
+use Rattle.of_oxm.specs.MatchFieldWire.{encoding}
 use Rattle.of_oxm.specs.MatchReading.{match_of}
 use Rattle.of_oxm.specs.NormalForm.{kept}
 use Rattle.of_oxm.specs.Prerequisites.{prerequisites_met}
@@ -25,5 +25,5 @@ use Rattle.of_switch.specs.Runs.{drain}
 use Rattle.of_switch.specs.Steps.{handled}
 
 unfoldable pub switch_on_literals : ⊤
-unfolding drain handled message_from body_of format_of command_said version_by elements_of match_of instructions_of items_of field_at row_of prerequisites_met kept header_at header_refusals action_at action_refusals type_refusals actions_said in_run_order run_of until_none step copy_steps action_steps table_steps set_steps lookup_steps command_of kind_of buckets_said bucket_refusals bucket_at leads chain is_live_within flow_removed_fixed_part canonical spelling
+unfolding drain handled message_from body_of format_of command_said version_by elements_of match_of instructions_of items_of field_at row_of prerequisites_met kept header_at header_refusals action_at action_refusals type_refusals actions_said in_run_order run_of until_none step copy_steps action_steps table_steps set_steps lookup_steps command_of kind_of buckets_said bucket_refusals bucket_at leads chain is_live_within flow_removed_fixed_part canonical encoding
 switch_on_literals = tt

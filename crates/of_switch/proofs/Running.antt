@@ -14,7 +14,7 @@ use Rattle.of_switch.specs.Stepping.{Happens, Drains}
 use Rattle.of_switch.proofs.Draining.{Left, left_all}
 use Rattle.of_switch.proofs.Joining.{drain_same}
 
--- A PIECE
+-- A CHUNK
 
 -- what is left is what there is to drain
 left_told : (first s : State) (effects : List Effect) → Left first s effects → drained first ≡ behind effects (drained s)

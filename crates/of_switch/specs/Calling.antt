@@ -34,7 +34,7 @@ pub data Made : Type 0 where
 abbrev pub IsMade : Made → State → State → Type 0
 IsMade (Connected answer) s t = Call (connect_refusal s) (λ effects new. connected s ≡ gives effects.items new) s answer t
 IsMade Lost s t = t ≡ lost s
-IsMade (Fed piece answer) s t = Call (feed_refusal s) (λ _ new. new ≡ fed piece s) s answer t
+IsMade (Fed chunk answer) s t = Call (feed_refusal s) (λ _ new. new ≡ fed chunk s) s answer t
 IsMade (Next answer) s t = Call None (λ found new. (next_of s ≡ option_map (λ effects. gives effects.items new) found) × IfNone found (new ≡ s)) s answer t
 IsMade (Frame port frame answer) s t = Call None (λ effects new. frame_in port frame s ≡ gives effects.items new) s answer t
 IsMade (Moment nanos answer) s t = Call None (λ effects new. moment_in nanos s ≡ gives effects.items new) s answer t
@@ -59,7 +59,7 @@ found_no_memory (Err e) = is_no_memory e
 abbrev pub ran_out : Made → Bool
 ran_out (Connected answer) = found_no_memory answer
 ran_out Lost = false
-ran_out (Fed piece answer) = found_no_memory answer
+ran_out (Fed chunk answer) = found_no_memory answer
 ran_out (Next answer) = found_no_memory answer
 ran_out (Frame port frame answer) = found_no_memory answer
 ran_out (Moment nanos answer) = found_no_memory answer
@@ -70,7 +70,7 @@ ran_out (Loaded configuration answer) = found_no_memory answer
 abbrev pub others : List Made → List Made
 others calls = filter (λ m. not (ran_out m)) calls
 
--- EVENTS AS CALLS: one call for each; for a piece it is fed, and then its messages are handled, one by one, until there is none
+-- EVENTS AS CALLS: one call for each; for a chunk it is fed, and then its messages are handled, one by one, until there is none
 
 pub data Deed : Type 0 where
   Connects : Answer → Deed
@@ -87,8 +87,8 @@ handled effects = Next (Ok (Some effects))
 abbrev pub calls_of : Deed → List Made
 calls_of (Connects answer) = Connected answer ∷ []
 calls_of Loses = Lost ∷ []
-calls_of (Sends piece given) = Fed piece (Ok tt) ∷ (map handled given ++ Next (Ok None) ∷ [])
-calls_of (IsUnheard piece refusal) = Fed piece (Err refusal) ∷ []
+calls_of (Sends chunk given) = Fed chunk (Ok tt) ∷ (map handled given ++ Next (Ok None) ∷ [])
+calls_of (IsUnheard chunk refusal) = Fed chunk (Err refusal) ∷ []
 calls_of (Receives port frame answer) = Frame port frame answer ∷ []
 calls_of (Waits nanos answer) = Moment nanos answer ∷ []
 calls_of (Changes change answer) = Changed change answer ∷ []
@@ -96,8 +96,8 @@ calls_of (Changes change answer) = Changed change answer ∷ []
 abbrev pub event_of : Deed → Event
 event_of (Connects answer) = event.Connect
 event_of Loses = event.Lost
-event_of (Sends piece given) = event.Piece piece
-event_of (IsUnheard piece refusal) = event.Piece piece
+event_of (Sends chunk given) = event.Chunk chunk
+event_of (IsUnheard chunk refusal) = event.Chunk chunk
 event_of (Receives port frame answer) = event.Frame port frame
 event_of (Waits nanos answer) = event.Moment nanos
 event_of (Changes change answer) = event.Ports change
@@ -109,8 +109,8 @@ report_for (Err refusal) = IsRefused refusal
 abbrev pub report_of : Deed → Report
 report_of (Connects answer) = report_for answer
 report_of Loses = Gives []
-report_of (Sends piece given) = Gives (flat_map (λ effects. effects.items) given)
-report_of (IsUnheard piece refusal) = IsRefused refusal
+report_of (Sends chunk given) = Gives (flat_map (λ effects. effects.items) given)
+report_of (IsUnheard chunk refusal) = IsRefused refusal
 report_of (Receives port frame answer) = report_for answer
 report_of (Waits nanos answer) = report_for answer
 report_of (Changes change answer) = report_for answer

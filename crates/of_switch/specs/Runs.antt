@@ -5,7 +5,7 @@ use Rattle.of_session.specs.Session.{is_disconnected}
 use Rattle.of_switch.specs.declared.switch_error.SwitchError.{SwitchError}
 use Rattle.of_datapath.specs.declared.effect.Effect.{Effect}
 use Rattle.of_switch.specs.declared.event.Event.{Event}
-use Rattle.of_switch.specs.declared.event.Event.TheVariants.{Connect, Lost, Piece, Frame, Moment, Ports}
+use Rattle.of_switch.specs.declared.event.Event.TheVariants.{Connect, Lost, Chunk, Frame, Moment, Ports}
 use Rattle.of_switch.specs.declared.event.Report.{Report as Reported}
 use Rattle.of_switch.specs.declared.event.Report.TheVariants as reported
 use Rattle.of_switch.specs.State.{State}
@@ -30,13 +30,13 @@ drain (suc n) s = then_more (drain n) s (next_of s)
 abbrev pub drained : State → Outcome
 drained s = drain (length s.connection.pending + 1) s
 
--- a piece of the controller's bytes as one event
-abbrev pub piece_in : List ℕ → State → Outcome
-piece_in piece s = drained (fed piece s)
+-- a chunk of the controller's bytes as one event
+abbrev pub chunk_in : List ℕ → State → Outcome
+chunk_in chunk s = drained (fed chunk s)
 
 -- bytes that are received while there is a connection; without one they are lost
 abbrev pub come : List ℕ → State → State
-come piece s = if is_disconnected s.connection.phase then s else fed piece s
+come chunk s = if is_disconnected s.connection.phase then s else fed chunk s
 
 -- MESSAGES ONE BY ONE
 
@@ -81,7 +81,7 @@ unless None s o = record { report = Gives o.effects; state = o.state }
 abbrev pub happened : Event → State → Happened
 happened Connect s = unless (connect_refusal s) s (connected s)
 happened Lost s = unless None s (gives [] (lost s))
-happened (Piece bytes) s = unless (feed_refusal s) s (piece_in bytes s)
+happened (Chunk bytes) s = unless (feed_refusal s) s (chunk_in bytes s)
 happened (Frame port bytes) s = unless None s (frame_in port bytes s)
 happened (Moment nanos) s = unless None s (moment_in nanos s)
 happened (Ports change) s = unless (port_refusal change s) s (port_changed change s)
@@ -102,22 +102,22 @@ effects_in [] = []
 effects_in (Gives effects ∷ reports) = effects ++ effects_in reports
 effects_in (IsRefused refusal ∷ reports) = effects_in reports
 
--- a piece was interrupted between two of its messages: those before gave what is reported, and what is left gives the rest
+-- a chunk was interrupted between two of its messages: those before gave what is reported, and what is left gives the rest
 pub record IsBrokenOff (event : Event) (s t : State) (more : List Report) : Type 0 where
   pub bytes : List ℕ
-  pub piece : event ≡ Piece bytes
+  pub chunk : event ≡ Chunk bytes
   pub taken : feed_refusal s ≡ None
   pub reported : 0 < length more
-  pub left : piece_in bytes s ≡ behind (effects_in more) (drained t)
+  pub left : chunk_in bytes s ≡ behind (effects_in more) (drained t)
 
--- an event for which there was no memory did nothing, or is a piece that was interrupted so
+-- an event for which there was no memory did nothing, or is a chunk that was interrupted so
 abbrev pub IsInterrupted : Event → State → State → List Report → Type 0
 IsInterrupted event s t more = ((t ≡ s) × (more ≡ [])) ⊎ IsBrokenOff event s t more
 
--- what is left of an event that was interrupted: all of it, or the rest of a piece, which waits and goes on with a piece of no bytes
+-- what is left of an event that was interrupted: all of it, or the rest of a chunk, which waits and goes on with a chunk of no bytes
 abbrev pub rest_of : Event → List Report → Event
 rest_of event [] = event
-rest_of event (r ∷ more) = Piece []
+rest_of event (r ∷ more) = Chunk []
 
 -- events up to one that was interrupted
 pub record StopsWithin (events : List Event) (s t : State) (reports reports' : List Report) : Type 0 where

@@ -200,7 +200,7 @@ lost s = if is_disconnected s.connection.phase then s else record { connection =
 
 -- bytes of the controller are received
 abbrev pub fed : List ℕ → State → State
-fed piece s = record s { connection = fed_connection piece s.connection }
+fed chunk s = record s { connection = fed_connection chunk s.connection }
 
 -- WHAT COMES NEXT IN THE CONTROLLER'S STREAM
 

@@ -11,7 +11,7 @@ pub enum Event {
     /// The connection is lost, or closed by the controller.
     Lost,
     /// Bytes of the controller are received, cut anywhere.
-    Piece(Bytes),
+    Chunk(Bytes),
     /// A frame is received at a port.
     Frame { port: u32, frame: Bytes },
     /// The time is this many nanoseconds.

@@ -18,23 +18,23 @@ ghost use Rattle.of_switch.specs.Calling.{AreMade, Deed, Made, calls_of, event_o
 ghost use Rattle.of_switch.specs.State.{State};
 ghost use Rattle.of_switch.specs.Steps.{IsRefusedWith, coming, failed_of, gives, next_of};
 ghost use Rattle.of_switch.specs.declared.event.Event.{Event};
-ghost use Rattle.of_switch.specs.Runs.{Report, RunsAll, StopsWithin, behind, come, drained, effects_in, handled_in_turn, piece_in, rest_of, run};
+ghost use Rattle.of_switch.specs.Runs.{Report, RunsAll, StopsWithin, behind, come, drained, effects_in, handled_in_turn, chunk_in, rest_of, run};
 
-/// Bytes that come in two pieces do what they do in one.
+/// Bytes that come in two chunks do what they do in one.
 ///
-/// What the first piece gives comes before what the second gives; where the first ends the connection, the second is lost.
-pub fn two_pieces()
+/// What the first chunk gives comes before what the second gives; where the first ends the connection, the second is lost.
+pub fn two_chunks()
     ensures { (first second : List ℕ) (s : State) → is_disconnected s.connection.phase ≡ false →
-        piece_in (first ++ second) s ≡ behind (piece_in first s).effects (drained (come second (piece_in first s).state)) }
+        chunk_in (first ++ second) s ≡ behind (chunk_in first s).effects (drained (come second (chunk_in first s).state)) }
 {}
 
-/// A piece handles the messages in the bytes that waited and its own, one after the other, up to the one that ends the connection.
+/// A chunk handles the messages in the bytes that waited and its own, one after the other, up to the one that ends the connection.
 ///
-/// What is left at the end is malformed and ends the connection, or it waits. After a piece nothing is left to handle.
-pub fn piece_handles_its_messages()
-    ensures in_turn { (piece : List ℕ) (s : State) (messages : List (List ℕ)) (rest : List ℕ) → is_disconnected s.connection.phase ≡ false →
-        Splits (s.connection.pending ++ piece) messages rest → piece_in piece s ≡ handled_in_turn (messages ++ rest ∷ []) s }
-    ensures all { (piece : List ℕ) (s : State) → next_of (piece_in piece s).state ≡ None }
+/// What is left at the end is malformed and ends the connection, or it waits. After a chunk nothing is left to handle.
+pub fn chunk_handles_its_messages()
+    ensures in_turn { (chunk : List ℕ) (s : State) (messages : List (List ℕ)) (rest : List ℕ) → is_disconnected s.connection.phase ≡ false →
+        Splits (s.connection.pending ++ chunk) messages rest → chunk_in chunk s ≡ handled_in_turn (messages ++ rest ∷ []) s }
+    ensures all { (chunk : List ℕ) (s : State) → next_of (chunk_in chunk s).state ≡ None }
 {}
 
 /// A message that is refused is answered by an ERROR of its code with its first 64 bytes, and changes nothing else.
@@ -73,7 +73,7 @@ pub fn ids_told_are_ids_held()
 
 /// A call for which memory ran out changes nothing: what other calls do is as if it had not been made, whether it is made again or not.
 ///
-/// If these are the calls of events, one after the other, their run has given what they gave. So a piece whose handling was broken off
+/// If these are the calls of events, one after the other, their run has given what they gave. So a chunk whose handling was broken off
 /// between two messages and went on later, with nothing else between, is as if it had been handled at once.
 pub fn no_memory_changes_nothing()
     ensures others { (calls : List Made) (s t : State) → AreMade calls s t → AreMade (others calls) s t }
@@ -82,7 +82,7 @@ pub fn no_memory_changes_nothing()
 {}
 
 /// An event for which memory ran out in `run` goes on when `run` is called with what is left of it: the event again, if nothing was
-/// reported, and else a piece of no bytes, since it was a piece that was broken off between two messages.
+/// reported, and else a chunk of no bytes, since it was a chunk that was broken off between two messages.
 ///
 /// When that has happened, what was given and the state after it are as if the event had not been interrupted; if it is interrupted
 /// again, as if it had been interrupted once.

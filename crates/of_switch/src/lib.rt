@@ -10,8 +10,8 @@ mod switch_error;
 
 pub use event::{Event, Report};
 pub use laws::{
-    ids_told_are_ids_held, interrupted_events_go_on, loaded_is_told, no_memory_changes_nothing,
-    piece_handles_its_messages, refusal_changes_nothing, two_pieces,
+    chunk_handles_its_messages, ids_told_are_ids_held, interrupted_events_go_on, loaded_is_told,
+    no_memory_changes_nothing, refusal_changes_nothing, two_chunks,
 };
 pub use of_datapath::{Effect, Effects};
 pub use port_change::PortChange;

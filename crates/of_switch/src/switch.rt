@@ -111,13 +111,13 @@ impl<L: Lookup> Switch<L> {
     /// Receives bytes of the controller, cut anywhere. They are handled by `next`.
     ///
     /// Refused: `NotConnected`.
-    pub fn feed(&mut self, piece: &[u8]) -> Result<(), SwitchError>
-        ensures { Call (feed_refusal self.old) (λ _ new. new ≡ fed piece.now self.old) self.old result self.new }
+    pub fn feed(&mut self, chunk: &[u8]) -> Result<(), SwitchError>
+        ensures { Call (feed_refusal self.old) (λ _ new. new ≡ fed chunk.now self.old) self.old result self.new }
     {
         if self.session.phase() == Phase::Disconnected {
             return Err(SwitchError::NotConnected);
         }
-        Ok(self.session.feed(piece)?)
+        Ok(self.session.feed(chunk)?)
     }
 
     /// Handles the first whole message, or the malformed header that ends the connection; None where there is neither.
@@ -327,7 +327,7 @@ impl<L: Lookup> Switch<L> {
 
     /// Events in any order, whose reports are appended: one for each event.
     ///
-    /// Where memory runs out, the reports of the events before are there, and the switch is as they left it. Only of a piece
+    /// Where memory runs out, the reports of the events before are there, and the switch is as they left it. Only of a chunk
     /// may some messages have been handled: then what they gave is reported too, in one or two reports more, and `next` goes on.
     pub fn run(&mut self, events: &[Event], reports: &mut Vec<Report>) -> Result<(), AllocError>
         ensures ok { OnOk result (RunsAll events.now self.old self.new (reports_of reports.old.items) (reports_of reports.new.items)) }
@@ -352,7 +352,7 @@ impl<L: Lookup> Switch<L> {
                 reports.push_reserved(Report::Gives(Effects::new(self.alloc)));
                 Ok(())
             }
-            Event::Piece(bytes) => self.piece(bytes.as_slice(), reports),
+            Event::Chunk(bytes) => self.chunk(bytes.as_slice(), reports),
             Event::Frame { port, frame } => tell(self.frame(*port, frame.as_slice()), reports),
             Event::Moment(nanos) => tell(self.moment(*nanos), reports),
             Event::Ports(change) => tell(self.port_change(*change), reports),
@@ -360,11 +360,11 @@ impl<L: Lookup> Switch<L> {
     }
 
     // Receives bytes of the controller, and handles each whole message.
-    fn piece(&mut self, piece: &[u8], reports: &mut Vec<Report>) -> Result<(), AllocError>
+    fn chunk(&mut self, chunk: &[u8], reports: &mut Vec<Report>) -> Result<(), AllocError>
         requires { vec_len reports.old + 2 ≤ vec_capacity reports.old }
-        ensures { Happens result (Event.Piece piece.now) self.old self.new (reports_of reports.old.items) (reports_of reports.new.items) }
+        ensures { Happens result (Event.Chunk chunk.now) self.old self.new (reports_of reports.old.items) (reports_of reports.new.items) }
     {
-        match self.feed(piece) {
+        match self.feed(chunk) {
             Ok(()) => self.drain(reports),
             Err(refusal) => tell(Err(refusal), reports),
         }

@@ -42,7 +42,7 @@ fn event_of(alloc: Global, kind: &str, words: &str) -> Result<Event, Fail> {
         return Ok(Event::Moment(number_of(words)? as u64));
     }
     if kind == "c" {
-        return Ok(Event::Piece(Bytes::new(bytes_of(alloc, words)?)));
+        return Ok(Event::Chunk(Bytes::new(bytes_of(alloc, words)?)));
     }
     if kind == "link" {
         return link_changed(words);
@@ -68,7 +68,7 @@ fn events_of(alloc: Global, text: &str) -> Result<Vec<Event>, Fail> {
     Ok(events)
 }
 
-// Plays an event, and once more where there was no memory: of a piece that was interrupted, what is left.
+// Plays an event, and once more where there was no memory: of a chunk that was interrupted, what is left.
 fn play<L: Lookup>(
     alloc: Global,
     switch: &mut Switch<L>,
@@ -81,7 +81,7 @@ fn play<L: Lookup>(
         return Ok(());
     }
     if reports.len() > before {
-        one = [Event::Piece(Bytes::new(Vec::new(alloc)))];
+        one = [Event::Chunk(Bytes::new(Vec::new(alloc)))];
     }
     let again = switch.run(&one, reports);
     Ok(again.map_err(|_| "no memory a second time")?)

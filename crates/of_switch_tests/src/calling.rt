@@ -20,10 +20,10 @@ pub fn lose<L: Lookup>(switch: &mut Switch<L>)
 }
 
 /// `feed`.
-pub fn feed<L: Lookup>(switch: &mut Switch<L>, piece: &[u8]) -> Result<(), SwitchError>
-    ensures { IsMade (Fed piece.now result) switch.old switch.new }
+pub fn feed<L: Lookup>(switch: &mut Switch<L>, chunk: &[u8]) -> Result<(), SwitchError>
+    ensures { IsMade (Fed chunk.now result) switch.old switch.new }
 {
-    switch.feed(piece)
+    switch.feed(chunk)
 }
 
 /// `next`.

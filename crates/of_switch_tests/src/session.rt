@@ -6,7 +6,7 @@ use std::test::Fail;
 
 /// What is done to a stream, and what it then gives.
 #[derive(Clone, Copy)]
-enum Piece {
+enum Chunk {
     Feed(&'static [u8]),
     Beginning(Beginning),
     /// The bytes in front, which are then taken.
@@ -16,20 +16,20 @@ enum Piece {
     Clear,
 }
 
-const PIECES: &[Piece] = &[
-    Piece::Feed(&[4, 20, 0]),
-    Piece::Beginning(Beginning::Waiting),
-    Piece::Feed(&[8, 0, 0, 0, 7, 4]),
-    Piece::Beginning(Beginning::Message(8)),
-    Piece::Take(&[4, 20, 0, 8, 0, 0, 0, 7]),
-    Piece::Left(&[4]),
-    Piece::Clear,
-    Piece::Left(&[]),
+const CHUNKS: &[Chunk] = &[
+    Chunk::Feed(&[4, 20, 0]),
+    Chunk::Beginning(Beginning::Waiting),
+    Chunk::Feed(&[8, 0, 0, 0, 7, 4]),
+    Chunk::Beginning(Beginning::Message(8)),
+    Chunk::Take(&[4, 20, 0, 8, 0, 0, 0, 7]),
+    Chunk::Left(&[4]),
+    Chunk::Clear,
+    Chunk::Left(&[]),
 ];
 
 fn take(rt: &impl Abort, place: usize, stream: &mut Stream, wanted: &[u8]) {
     let size = wanted.len();
-    assert!(rt; size <= stream.left().len(), "piece {place}");
+    assert!(rt; size <= stream.left().len(), "chunk {place}");
     same(rt, place, &stream.first(size), &wanted);
     stream.take(size);
 }
@@ -39,22 +39,22 @@ fn are_left(rt: &impl Abort, place: usize, stream: &Stream, wanted: &[u8]) {
     same(rt, place, &stream.kept(), &wanted.len());
 }
 
-fn play(rt: &impl Abort, place: usize, stream: &mut Stream, piece: Piece) -> Result<(), Fail> {
-    match piece {
-        Piece::Feed(bytes) => stream.feed(bytes)?,
-        Piece::Beginning(front) => same(rt, place, &stream.front(), &front),
-        Piece::Take(bytes) => take(rt, place, stream, bytes),
-        Piece::Left(bytes) => are_left(rt, place, stream, bytes),
-        Piece::Clear => stream.clear(),
+fn play(rt: &impl Abort, place: usize, stream: &mut Stream, chunk: Chunk) -> Result<(), Fail> {
+    match chunk {
+        Chunk::Feed(bytes) => stream.feed(bytes)?,
+        Chunk::Beginning(front) => same(rt, place, &stream.front(), &front),
+        Chunk::Take(bytes) => take(rt, place, stream, bytes),
+        Chunk::Left(bytes) => are_left(rt, place, stream, bytes),
+        Chunk::Clear => stream.clear(),
     }
     Ok(())
 }
 
 #[test]
-fn message_in_two_pieces(rt: HostRuntime) -> Result<(), Fail> {
+fn message_in_two_chunks(rt: HostRuntime) -> Result<(), Fail> {
     let mut stream = Stream::new(rt.alloc());
-    for (place, piece) in PIECES.iter().enumerate() {
-        play(&rt, place, &mut stream, *piece)?;
+    for (place, chunk) in CHUNKS.iter().enumerate() {
+        play(&rt, place, &mut stream, *chunk)?;
     }
     splits_once();
     Ok(())

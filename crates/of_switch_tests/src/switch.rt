@@ -1,8 +1,8 @@
 use crate::checks::same;
 use of_classifier::Scan;
 use of_switch::{
-    Effect, Effects, Event, PortChange, Report, Switch, SwitchError, piece_handles_its_messages,
-    refusal_changes_nothing, two_pieces,
+    Effect, Effects, Event, PortChange, Report, Switch, SwitchError, chunk_handles_its_messages,
+    refusal_changes_nothing, two_chunks,
 };
 use of_wire::Bytes;
 use std::alloc::Global;
@@ -117,8 +117,8 @@ fn echo(rt: HostRuntime) -> Result<(), Fail> {
 
 #[test]
 fn laws() {
-    two_pieces();
-    piece_handles_its_messages();
+    two_chunks();
+    chunk_handles_its_messages();
     refusal_changes_nothing();
 }
 
@@ -127,21 +127,21 @@ fn laws() {
 enum Happening {
     Port(u32),
     Connect,
-    Piece(&'static [u8]),
+    Chunk(&'static [u8]),
     Moment(u64),
 }
 
-/// A switch that a controller greets, asks for an echo in two pieces, and greets wrongly again.
+/// A switch that a controller greets, asks for an echo in two chunks, and greets wrongly again.
 const EVENTS: &[(Happening, Given)] = &[
     (Happening::Port(1), Given::Any),
     (Happening::Connect, Given::Any),
     (Happening::Connect, Given::Refused(SwitchError::Connected)),
     (
-        Happening::Piece(&[4, 0, 0, 8, 0, 0, 0, 1, 4, 2, 0, 8]),
+        Happening::Chunk(&[4, 0, 0, 8, 0, 0, 0, 1, 4, 2, 0, 8]),
         Given::Any,
     ),
     (
-        Happening::Piece(&[0, 0, 0, 9]),
+        Happening::Chunk(&[0, 0, 0, 9]),
         Given::Answer(&[4, 3, 0, 8, 0, 0, 0, 9]),
     ),
     (Happening::Moment(1), Given::Any),
@@ -151,7 +151,7 @@ fn event_of(alloc: Global, happening: Happening) -> Result<Event, Fail> {
     Ok(match happening {
         Happening::Port(number) => Event::Ports(added(number)),
         Happening::Connect => Event::Connect,
-        Happening::Piece(bytes) => Event::Piece(Bytes::from_slice(alloc, bytes)?),
+        Happening::Chunk(bytes) => Event::Chunk(Bytes::from_slice(alloc, bytes)?),
         Happening::Moment(moment) => Event::Moment(moment),
     })
 }

@@ -12,7 +12,7 @@ pub fn sides(line: &str) -> Result<Option<(&str, &str)>, Fail> {
     Ok(Some(line.split_once(" | ").ok_or("a row has two sides")?))
 }
 
-/// The bytes that words of hexadecimal digits spell, one word after the other.
+/// The bytes that words of hexadecimal digits encode, one word after the other.
 pub fn bytes_of(alloc: Global, words: &str) -> Result<Vec<u8>, Fail> {
     let mut bytes = Vec::new(alloc);
     for word in words.split_whitespace() {
@@ -22,7 +22,7 @@ pub fn bytes_of(alloc: Global, words: &str) -> Result<Vec<u8>, Fail> {
     Ok(bytes)
 }
 
-/// The number that decimal digits spell.
+/// The number that decimal digits encode.
 pub fn number_of(digits: &str) -> Result<usize, Fail> {
     let number = usize::from_str_radix(digits, 10).ok();
     Ok(number.ok_or("decimal digits")?)

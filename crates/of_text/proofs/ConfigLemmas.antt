@@ -22,10 +22,10 @@ use Rattle.of_text.specs.Flows.{Flow, flow_rows, rows_of, step_rows, text_rows}
 use Rattle.of_text.specs.Refusals.{all_there, flow_refusals, table_refusals}
 use Rattle.of_text.specs.Texts.{AreRows}
 use Rattle.of_text.specs.First.{flows_for, refusals_behind, refused_from, refused_group, first_refusal}
-use Rattle.of_text.specs.Configs.{Configuration, tables_from, tables_of, IsConfig, SpellConfig, all_flows, config_text}
+use Rattle.of_text.specs.Configs.{Configuration, tables_from, tables_of, IsConfig, EncodeConfig, all_flows, config_text}
 use Rattle.of_text.proofs.TextLemmas.{all_front, all_back, all_both, standing_both, flow_both, some_front, one_list}
 use Rattle.of_text.proofs.GatherLemmas.{all_in_flow}
-use Rattle.of_text.proofs.WriteLemmas.{text_spells}
+use Rattle.of_text.proofs.WriteLemmas.{text_encodes}
 
 -- ---- the flows of a table
 
@@ -257,25 +257,25 @@ rows_again gs fs h =
 
 -- ---- configurations
 
-pub canonical_spells : (c : Configuration) → IsConfig c → SpellConfig (lines_of (config_text c)) c
+pub canonical_encodes : (c : Configuration) → IsConfig c → EncodeConfig (lines_of (config_text c)) c
 unfolding tables_of
-canonical_spells c k =
+canonical_encodes c k =
     rw k.filled (record {
       flows = all_flows (tables_of k.flows);
-      spelt = text_spells c.groups (all_flows (tables_of k.flows)) (rows_again c.groups k.flows k.rows);
+      encoded = text_encodes c.groups (all_flows (tables_of k.flows)) (rows_again c.groups k.flows k.rows);
       stand = both_stand c.groups (all_flows (tables_of k.flows)) (groups_stand c.groups k.flows k.stand) (all_stand c.groups 16 0 [] k.flows (λ u l. refl) (flows_stand c.groups k.flows k.stand));
       filled = sym (tables_again k.flows);
     })
 
-pub spelt_config : (lines : List (List ℕ)) (c : Configuration) → SpellConfig lines c → IsConfig c
-spelt_config lines c s = record { flows = s.flows; rows = s.spelt.allowed; stand = s.stand; filled = s.filled }
+pub encoded_config : (lines : List (List ℕ)) (c : Configuration) → EncodeConfig lines c → IsConfig c
+encoded_config lines c s = record { flows = s.flows; rows = s.encoded.allowed; stand = s.stand; filled = s.filled }
 
 same_config : (a b : Configuration) → a.groups ≡ b.groups → a.tables ≡ b.tables → a ≡ b
 same_config a b g t = ap (λ (x : List TextGroup). record { groups = x; tables = a.tables }) g ∙ ap (λ (x : List (List Flow)). record { groups = b.groups; tables = x }) t
 
-pub one_config : (lines : List (List ℕ)) (a b : Configuration) → SpellConfig lines a → SpellConfig lines b → a ≡ b
+pub one_config : (lines : List (List ℕ)) (a b : Configuration) → EncodeConfig lines a → EncodeConfig lines b → a ≡ b
 one_config lines a b s t =
-    let one = one_list lines a.groups b.groups s.flows t.flows s.spelt t.spelt in
+    let one = one_list lines a.groups b.groups s.flows t.flows s.encoded t.encoded in
     same_config a b one.0 (s.filled ∙ (ap tables_of one.1 ∙ sym t.filled))
 
 pub config_fits : (c : Configuration) → IsConfig c → AllByRecursion Fits (rows_of_groups c.groups) × AllByRecursion Fits (rows_of (all_flows c.tables))

@@ -1,4 +1,4 @@
--- The refusals of a field and of an action are those of their spelling on the wire.
+-- The refusals of a field and of an action are those of their encoding on the wire.
 use Rattle.std.proofs.Common.{◌≡◌, ℕ, ◌+◌, ◌-◌, ◌*◌, ◌/◌, ◌%◌, ◌^◌, ◌<◌, ◌≤◌, Bool, true, false, ltb, eqb, List, [], ◌++◌, length, get_or, drop, replicate, Option, Some, None, refl, ap, ◌∙◌, arith}
 use Rattle.std.specs.Prelude.{slice_index, IfSome}
 use Rattle.std.proofs.lemmas.Bool.{le-ltb, eq-eqb}
@@ -10,7 +10,7 @@ use Rattle.of_layers.specs.declared.field.Field.{Field}
 use Rattle.of_layers.specs.Fields.{number_of, bytes_of, ones_of, is_settable, field_at}
 use Rattle.of_layers.proofs.Table.{field_at-number_of, bytes_some, bytes_most, value_below}
 use Rattle.of_oxm.specs.declared.match_field.MatchField.{MatchField}
-use Rattle.of_oxm.specs.MatchFieldWire.{spelling, is_among, body_len, is_masked_at, number_at, value_at, mask_at, known_field_refusals}
+use Rattle.of_oxm.specs.MatchFieldWire.{encoding, is_among, body_len, is_masked_at, number_at, value_at, mask_at, known_field_refusals}
 use Rattle.of_oxm.specs.MatchFieldWire as wire
 use Rattle.of_actions.specs.declared.action.Action.{Action}
 use Rattle.of_actions.specs.declared.action.Action.TheVariants.{Output, PushVlan, SetField}
@@ -45,11 +45,11 @@ masked_known f v m seen rest masked len first value mask some =
     rw (masked, size, first, value, mask) refl
 
 plain_same : (f : Field) (v : ℕ) (seen : List MatchField) (x : List ℕ) → v < 256 ^ bytes_of f → is_among f seen ≡ false
-    → let e : MatchField = record { field = f; value = v; mask = None } in first_of (wire.field_refusals seen (spelling e ++ x)) ≡ first_of (field_refusals e)
-unfolding spelling
+    → let e : MatchField = record { field = f; value = v; mask = None } in first_of (wire.field_refusals seen (encoding e ++ x)) ≡ first_of (field_refusals e)
+unfolding encoding
 plain_same f v seen x fits first =
     let e : MatchField = record { field = f; value = v; mask = None } in
-    let rest = spelling e ++ x in
+    let rest = encoding e ++ x in
     let n = bytes_of f in
     let len : length (big_bytes n v) ≡ n = length-bytes_high_first n v in
     let bit : (2 * number_of f + 0) % 2 ≡ 0 = omega arith in
@@ -61,11 +61,11 @@ plain_same f v seen x fits first =
     past_header f seen rest (omega (arith, size)) (omega (arith, size)) refl at ∙ plain_known f v seen rest masked refl first value
 
 masked_same : (f : Field) (v m : ℕ) (seen : List MatchField) (x : List ℕ) → v < 256 ^ bytes_of f → m < ones_of f → is_among f seen ≡ false
-    → let e : MatchField = record { field = f; value = v; mask = Some m } in first_of (wire.field_refusals seen (spelling e ++ x)) ≡ first_of (field_refusals e)
-unfolding spelling
+    → let e : MatchField = record { field = f; value = v; mask = Some m } in first_of (wire.field_refusals seen (encoding e ++ x)) ≡ first_of (field_refusals e)
+unfolding encoding
 masked_same f v m seen x fits some first =
     let e : MatchField = record { field = f; value = v; mask = Some m } in
-    let rest = spelling e ++ x in
+    let rest = encoding e ++ x in
     let n = bytes_of f in
     let len : length (big_bytes n v) ≡ n = length-bytes_high_first n v in
     let len2 : length (big_bytes n m) ≡ n = length-bytes_high_first n m in
@@ -81,11 +81,11 @@ masked_same f v m seen x fits some first =
     past_header f seen rest (omega (arith, size)) (omega (arith, size)) refl at ∙ masked_known f v m seen rest masked refl first value mask_is some
 
 same_field : (f : Field) (v : ℕ) (mask : Option ℕ) (seen : List MatchField) (x : List ℕ) → v < 256 ^ bytes_of f → IfSome mask (IsMask f) → is_among f seen ≡ false
-    → let e : MatchField = record { field = f; value = v; mask = mask } in first_of (wire.field_refusals seen (spelling e ++ x)) ≡ first_of (field_refusals e)
+    → let e : MatchField = record { field = f; value = v; mask = mask } in first_of (wire.field_refusals seen (encoding e ++ x)) ≡ first_of (field_refusals e)
 same_field f v None seen x fits k first = plain_same f v seen x fits first
 same_field f v (Some m) seen x fits k first = masked_same f v m seen x fits k.not_all first
 
-pub field_as_on_wire : (e : MatchField) (seen : List MatchField) (x : List ℕ) → FieldFits e → is_among e.field seen ≡ false → first_of (wire.field_refusals seen (spelling e ++ x)) ≡ first_of (field_refusals e)
+pub field_as_on_wire : (e : MatchField) (seen : List MatchField) (x : List ℕ) → FieldFits e → is_among e.field seen ≡ false → first_of (wire.field_refusals seen (encoding e ++ x)) ≡ first_of (field_refusals e)
 field_as_on_wire e seen x fits first = same_field e.field e.value e.mask seen x fits.0 fits.1 first
 
 -- ---- an action

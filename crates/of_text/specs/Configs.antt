@@ -6,7 +6,7 @@ use Rattle.of_text.specs.declared.flow.FlowText.{FlowText}
 use Rattle.of_text.specs.declared.group.GroupText.{GroupText}
 use Rattle.of_text.specs.Groups.{TextGroup}
 use Rattle.of_text.specs.Flows.{Flow, text_rows}
-use Rattle.of_text.specs.Texts.{SpellItems, AreRows, text_of}
+use Rattle.of_text.specs.Texts.{EncodeItems, AreRows, text_of}
 use Rattle.of_text.specs.Views.{view_flows, view_groups}
 use Rattle.of_text.specs.First.{flows_for, first_refusal}
 
@@ -33,10 +33,10 @@ pub record IsConfig (c : Configuration) : Type 0 where
   pub stand : first_refusal c.groups flows ≡ None
   pub filled : c.tables ≡ tables_of flows
 
--- THE LINES SPELL THE CONFIGURATION: they spell its groups and flows, none of which is refused, and each flow is in its table, after those that come before it
-pub record SpellConfig (lines : List (List ℕ)) (c : Configuration) : Type 0 where
+-- THE LINES ENCODE THE CONFIGURATION: they encode its groups and flows, none of which is refused, and each flow is in its table, after those that come before it
+pub record EncodeConfig (lines : List (List ℕ)) (c : Configuration) : Type 0 where
   pub flows : List Flow
-  pub spelt : SpellItems lines c.groups flows
+  pub encoded : EncodeItems lines c.groups flows
   pub stand : first_refusal c.groups flows ≡ None
   pub filled : c.tables ≡ tables_of flows
 

@@ -7,7 +7,7 @@ ghost use Rattle.of_lines.specs.Lines.{lines_of};
 ghost use Rattle.of_lines.specs.Rows.{Fits};
 ghost use Rattle.of_text.specs.Texts.{lines_text};
 ghost use Rattle.of_text.specs.Views.{view, view_flows, view_group, view_groups};
-ghost use Rattle.of_text.specs.Configs.{Configuration, IsConfig, SpellConfig, all_flows, config_text, view_tables};
+ghost use Rattle.of_text.specs.Configs.{Configuration, IsConfig, EncodeConfig, all_flows, config_text, view_tables};
 ghost use Rattle.of_text.specs.declared.assembling.TextFault.TheVariants.{NoMemory};
 
 use crate::assembling::{TextFault, assemble};
@@ -94,8 +94,8 @@ pub fn assemble_again(alloc: Global, config: &Config) -> Result<Config, TextFaul
     assemble(alloc, &text)
 }
 
-/// The canonical text of a configuration spells it, and no text spells two.
+/// The canonical text of a configuration encodes it, and no text encodes two.
 pub fn texts_are_of_configs()
-    ensures canonical { (c : Configuration) → IsConfig c → SpellConfig (lines_of (config_text c)) c }
-    ensures one { (lines : List (List ℕ)) (a b : Configuration) → SpellConfig lines a → SpellConfig lines b → a ≡ b }
+    ensures canonical { (c : Configuration) → IsConfig c → EncodeConfig (lines_of (config_text c)) c }
+    ensures one { (lines : List (List ℕ)) (a b : Configuration) → EncodeConfig lines a → EncodeConfig lines b → a ≡ b }
 {}

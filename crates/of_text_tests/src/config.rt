@@ -27,15 +27,15 @@ write
 output 3 0
 ";
 
-/// The messages that rows spell.
-fn spelt(alloc: Global, rows: &str) -> Result<Vec<Bytes>, Fail> {
-    let mut spelt = Vec::new(alloc);
+/// The messages that rows encode.
+fn encoded(alloc: Global, rows: &str) -> Result<Vec<Bytes>, Fail> {
+    let mut encoded = Vec::new(alloc);
     for line in rows.lines() {
         if !line.starts_with('#') {
-            spelt.push(Bytes::new(bytes_of(alloc, line)?))?;
+            encoded.push(Bytes::new(bytes_of(alloc, line)?))?;
         }
     }
-    Ok(spelt)
+    Ok(encoded)
 }
 
 /// Asserts that the messages are those.
@@ -60,27 +60,27 @@ fn give(rt: &impl Abort, alloc: Global, sent: &[Bytes], text: &[u8]) -> Result<(
 
 /// Why messages give none.
 fn fault(alloc: Global, rows: &str) -> Result<Option<ConfigFault>, Fail> {
-    Ok(config_of(alloc, &spelt(alloc, rows)?).err())
+    Ok(config_of(alloc, &encoded(alloc, rows)?).err())
 }
 
 #[test]
 fn written(rt: HostRuntime) -> Result<(), Fail> {
     let config = configuration(rt.alloc(), TEXT)?;
-    let wanted = spelt(rt.alloc(), rows::MESSAGES)?;
+    let wanted = encoded(rt.alloc(), rows::MESSAGES)?;
     are_same(&rt, &messages(rt.alloc(), &config)?, &wanted);
     Ok(())
 }
 
 #[test]
 fn back(rt: HostRuntime) -> Result<(), Fail> {
-    let sent = spelt(rt.alloc(), rows::MESSAGES)?;
+    let sent = encoded(rt.alloc(), rows::MESSAGES)?;
     give(&rt, rt.alloc(), &sent, TEXT)?;
     give(&rt, rt.alloc(), &[], b"")
 }
 
 #[test]
 fn deleted(rt: HostRuntime) -> Result<(), Fail> {
-    let sent = spelt(rt.alloc(), rows::DELETED)?;
+    let sent = encoded(rt.alloc(), rows::DELETED)?;
     give(&rt, rt.alloc(), &sent, b"")
 }
 

@@ -6,12 +6,12 @@ use Rattle.of_replay.specs.declared.event_file.Ended.{Ended}
 use Rattle.of_replay.specs.declared.event_file.Ended.TheVariants.{Done, BadRow, Text, NoMemory, ReadFault, WriteFault}
 use Rattle.of_replay.specs.Told.{Answer, given}
 use Rattle.of_replay.specs.Assembling.{Faults}
-use Rattle.of_replay.specs.ConfigFiles.{Spells, Configures}
+use Rattle.of_replay.specs.ConfigFiles.{Encodes, Configures}
 use Rattle.of_trace.specs.declared.form.Form.{Form}
 use Rattle.of_trace.specs.Files.{trace_of, EndsTracing, TracesFile}
 use Rattle.of_trace.specs.Writing.{WritesText}
 
-written_ends : (form : Form) (port : ℕ) (frame : List ℕ) (config : Configuration) (result : Ended) (ended : Bool) (file : List ℕ) (taken taken' : Option (List ℕ)) → ended ≡ true → Spells file config → WritesText (trace_of form port frame config) result taken taken' → EndsTracing form port frame result ended file taken taken'
+written_ends : (form : Form) (port : ℕ) (frame : List ℕ) (config : Configuration) (result : Ended) (ended : Bool) (file : List ℕ) (taken taken' : Option (List ℕ)) → ended ≡ true → Encodes file config → WritesText (trace_of form port frame config) result taken taken' → EndsTracing form port frame result ended file taken taken'
 written_ends form port frame config Done ended file taken taken' t s w = (config, t, s, w)
 written_ends form port frame config (BadRow n) ended file taken taken' t s w = absurd w
 written_ends form port frame config (Text f) ended file taken taken' t s w = absurd w

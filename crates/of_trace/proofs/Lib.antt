@@ -1,4 +1,4 @@
-pub mod SpeltLemmas
+pub mod EncodedLemmas
 pub mod WhyLemmas
 pub mod ReasonLemmas
 pub mod PrintingLemmas

@@ -19,7 +19,7 @@ use Rattle.of_machine.specs.declared.data.Step.{Step}
 use Rattle.of_machine.specs.declared.data.Step.TheVariants.{Miss, Entry, Apply, Clear, Write, Metadata, Goto, Set, Act, TtlExpired, End}
 use Rattle.of_text.specs.Lines.{ended, note}
 use Rattle.of_layers.specs.Fields.{name_of}
-use Rattle.of_text.specs.Rows.{spelling}
+use Rattle.of_text.specs.Rows.{encoding}
 use Rattle.of_lines.specs.declared.row.Row.TheVariants as rows
 use Rattle.of_datapath.specs.declared.effect.Effect.{Effect}
 use Rattle.of_datapath.specs.Datapath.{Forwarding, world_of}
@@ -64,11 +64,11 @@ either false xs ys a b = b
 -- ---- each kind of note
 
 matched : (fields : List MatchField) → AreNotes (match_notes fields)
-matched fields = each _ fields (λ e. one (spelling (rows.Match e)))
+matched fields = each _ fields (λ e. one (encoding (rows.Match e)))
 
 of_entry : (t : ℕ) (f : Option Flow) → AreNotes (entry_notes t f)
 of_entry t None = none
-of_entry t (Some f) = both _ _ (one (spelling (rows.Flow (head_in t f)))) (matched f.fields)
+of_entry t (Some f) = both _ _ (one (encoding (rows.Flow (head_in t f)))) (matched f.fields)
 
 seen : (flows : List FlowEntry) (map : Field → Option ℕ) → AreNotes (seen_notes flows map)
 seen flows map = each _ constants.ALL (λ f. either (looks_at flows f) _ _ (one (codes "sees " ++ name_of f ++ value_or_absent f (map f))) none)

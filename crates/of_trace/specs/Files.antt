@@ -12,7 +12,7 @@ use Rattle.of_switch.specs.Loading.{loaded}
 use Rattle.of_replay.specs.Told.{Answer, then_bytes, given}
 use Rattle.of_replay.specs.Transfer.{then_answers, WrotePrefix}
 use Rattle.of_replay.specs.Assembling.{bad_line, HasFault}
-use Rattle.of_replay.specs.ConfigFiles.{Spells}
+use Rattle.of_replay.specs.ConfigFiles.{Encodes}
 use Rattle.of_replay.specs.declared.event_file.Ended.{Ended}
 use Rattle.of_replay.specs.declared.event_file.Ended.TheVariants.{Done, BadRow, Text, ReadFault, WriteFault, NoMemory}
 use Rattle.of_trace.specs.declared.form.Form.{Form}
@@ -39,11 +39,11 @@ trace_of form port frame config = trace_on form port frame (traced_switch config
 
 -- how such a run ends, by the bytes that were read: the trace was written, a prefix of it, or nothing
 abbrev pub EndsTracing : Form → ℕ → List ℕ → Ended → Bool → List ℕ → Option (List ℕ) → Option (List ℕ) → Type 0
-EndsTracing form port frame Done ended file old new = (config : Configuration) × (ended ≡ true) × Spells file config × (new ≡ then_bytes old (trace_of form port frame config))
+EndsTracing form port frame Done ended file old new = (config : Configuration) × (ended ≡ true) × Encodes file config × (new ≡ then_bytes old (trace_of form port frame config))
 EndsTracing form port frame (BadRow n) ended file old new = (ended ≡ true) × (bad_line file ≡ Some n) × (new ≡ old)
 EndsTracing form port frame (Text f) ended file old new = (ended ≡ true) × (bad_line file ≡ None) × HasFault file f × (new ≡ old)
 EndsTracing form port frame ReadFault ended file old new = (ended ≡ false) × (new ≡ old)
-EndsTracing form port frame WriteFault ended file old new = (config : Configuration) × (ended ≡ true) × Spells file config × WrotePrefix old (trace_of form port frame config) new
+EndsTracing form port frame WriteFault ended file old new = (config : Configuration) × (ended ≡ true) × Encodes file config × WrotePrefix old (trace_of form port frame config) new
 EndsTracing form port frame NoMemory ended file old new = new ≡ old
 
 -- from what a source answered to what a sink took

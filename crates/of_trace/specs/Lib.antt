@@ -1,4 +1,4 @@
-pub mod Spelt
+pub mod Encoded
 pub mod Text
 pub mod Why
 pub mod Writing

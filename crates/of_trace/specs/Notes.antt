@@ -21,7 +21,7 @@ use Rattle.of_machine.specs.declared.data.Step.TheVariants.{Miss, Entry, Metadat
 use Rattle.of_oxm.specs.declared.match_field.MatchField.{MatchField}
 use Rattle.of_text.specs.Lines.{ended, note}
 use Rattle.of_lines.specs.declared.row.FlowHead.{FlowHead}
-use Rattle.of_text.specs.Rows.{spelling, value_word}
+use Rattle.of_text.specs.Rows.{encoding, value_word}
 use Rattle.of_lines.specs.declared.row.Row.TheVariants as rows
 use Rattle.of_datapath.specs.declared.effect.Effect.{Effect}
 use Rattle.of_datapath.specs.Datapath.{Forwarding, flow_in, world_of}
@@ -50,14 +50,14 @@ value_or_absent f (Some v) = digits f v
 -- ---- the winning entry's `flow` line and its `match` lines, as flow text writes them
 
 abbrev pub match_notes : List MatchField → List ℕ
-match_notes fields = flat_map (λ e. note (spelling (rows.Match e))) fields
+match_notes fields = flat_map (λ e. note (encoding (rows.Match e))) fields
 
 abbrev pub head_in : ℕ → Flow → FlowHead
 head_in table f = record { table = table; priority = f.priority; cookie = f.cookie; idle = f.idle_timeout; hard = f.hard_timeout; flags = flags_number f.flags }
 
 abbrev pub entry_notes : ℕ → Option Flow → List ℕ
 entry_notes table None = []
-entry_notes table (Some f) = note (spelling (rows.Flow (head_in table f))) ++ match_notes f.fields
+entry_notes table (Some f) = note (encoding (rows.Flow (head_in table f))) ++ match_notes f.fields
 
 -- the flow of an entry of one of the sixteen tables
 abbrev pub flow_there : Forwarding → ℕ → ℕ → Option Flow

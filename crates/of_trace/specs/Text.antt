@@ -5,7 +5,7 @@ use Rattle.of_machine.specs.declared.data.Step.{Step}
 use Rattle.of_machine.specs.declared.data.Step.TheVariants.{Miss, Entry, Apply, Clear, Write, Metadata, Goto, Set, Act, TtlExpired, End}
 use Rattle.of_actions.specs.declared.action.Action.TheVariants.{DecNwTtl}
 use Rattle.of_text.specs.Lines.{joined, ended}
-use Rattle.of_text.specs.Rows.{spelling}
+use Rattle.of_text.specs.Rows.{encoding}
 use Rattle.of_lines.specs.declared.row.Row.TheVariants as rows
 use Rattle.of_datapath.specs.declared.effect.Effect.{Effect}
 use Rattle.of_replay.specs.Output.{text_of}
@@ -14,14 +14,14 @@ use Rattle.of_replay.specs.Output.{text_of}
 abbrev pub step_line : Step → List ℕ
 step_line (Miss table) = joined (codes "lookup" ∷ decimal table ∷ codes "miss" ∷ [])
 step_line (Entry table place) = joined (codes "lookup" ∷ decimal table ∷ codes "entry" ∷ decimal place ∷ [])
-step_line Apply = spelling rows.Apply
-step_line Clear = spelling rows.Clear
-step_line Write = spelling rows.Write
-step_line (Metadata value mask) = spelling (rows.Metadata value mask)
-step_line (Goto table) = spelling (rows.Goto table)
+step_line Apply = encoding rows.Apply
+step_line Clear = encoding rows.Clear
+step_line Write = encoding rows.Write
+step_line (Metadata value mask) = encoding (rows.Metadata value mask)
+step_line (Goto table) = encoding (rows.Goto table)
 step_line Set = codes "set"
-step_line (Act action) = spelling (rows.Do action)
-step_line TtlExpired = spelling (rows.Do DecNwTtl) ++ codes " expired"
+step_line (Act action) = encoding (rows.Do action)
+step_line TtlExpired = encoding (rows.Do DecNwTtl) ++ codes " expired"
 step_line End = codes "end"
 
 abbrev pub steps_text : List Step → List ℕ

@@ -2,11 +2,11 @@
 ghost use Rattle.std.specs.Prelude.{◌≡◌, ◌<◌, ◌++◌, ◌∷◌, IfOk, OnOk, Some, IsTrue, codes, decimal};
 ghost use Rattle.std.specs.List.{AllByRecursion};
 ghost use Rattle.of_oxm.specs.NormalForm.{IsKept};
-ghost use Rattle.of_text.specs.Rows.{Fits, spelling};
+ghost use Rattle.of_text.specs.Rows.{Fits, encoding};
 ghost use Rattle.of_headers.specs.FieldMap.{value};
 ghost use Rattle.of_datapath.specs.Datapath.{world_of};
 ghost use Rattle.of_table.specs.Tables.{table_at};
-ghost use Rattle.of_trace.specs.Spelt.{are_spelt, is_spelt};
+ghost use Rattle.of_trace.specs.Encoded.{are_encoded, is_encoded};
 ghost use Rattle.of_trace.specs.Sights.{key_seen, sight_after, stepped};
 ghost use Rattle.of_text.specs.Lines.{note};
 ghost use Rattle.of_trace.specs.Notes.{changes, entry_notes, explained, explained_from, first_notes, flow_there, head_in, is_unsent as is_unsent_by, look_notes, match_notes, notes as notes_of, sending_notes, sends as is_sending, set_notes, table_notes};
@@ -35,7 +35,7 @@ use std::alloc::{AllocError, Global};
 // Appends a line of flow text as a note.
 fn push_row_note(out: &mut Vec<u8>, row: Row) -> Result<(), AllocError>
     requires { Fits row }
-    ensures { OnOk result (out.new.items ≡ out.old.items ++ note (spelling row)) }
+    ensures { OnOk result (out.new.items ≡ out.old.items ++ note (encoding row)) }
 {
     begin_note(out)?;
     push_row(out, row)?;
@@ -204,7 +204,7 @@ fn push_step_notes<L: Lookup>(
     packets: &mut Packets,
     step: Step,
 ) -> Result<(), AllocError>
-    requires { IsTrue (is_spelt step) }
+    requires { IsTrue (is_encoded step) }
     ensures text { OnOk result (out.new.items ≡ out.old.items ++ first_notes switch.now.core.forwarding asked packets.old.items step) }
     ensures packets { OnOk result (packets.new.items ≡ stepped (world_of switch.now.core.forwarding) step packets.old.items) }
 {
@@ -257,7 +257,7 @@ fn push_explained<L: Lookup>(
     packets: Packets,
     steps: &[Step],
 ) -> Result<(), AllocError>
-    requires { IsTrue (are_spelt steps.now) }
+    requires { IsTrue (are_encoded steps.now) }
     ensures { OnOk result (out.new.items ≡ out.old.items ++ explained_from switch.now.core.forwarding asked packets.items steps.now) }
 {
     let mut packets = packets;

@@ -1,7 +1,7 @@
 //! Traces as text.
 ghost use Rattle.std.specs.Prelude.{◌≡◌, ◌++◌, ◌∷◌, [], IfOk, OnOk, IsTrue, codes, decimal};
 ghost use Rattle.of_text.specs.Lines.{joined};
-ghost use Rattle.of_trace.specs.Spelt.{is_spelt, are_spelt};
+ghost use Rattle.of_trace.specs.Encoded.{is_encoded, are_encoded};
 ghost use Rattle.of_trace.specs.Text.{step_line, steps_text, trace_text};
 
 use crate::traces::Trace;
@@ -21,7 +21,7 @@ fn push_lookup(out: &mut Vec<u8>, table: u8) -> Result<(), AllocError>
 
 /// Appends the line of a step, without its end.
 pub fn push_step(out: &mut Vec<u8>, step: Step) -> Result<(), AllocError>
-    requires { IsTrue (is_spelt step) }
+    requires { IsTrue (is_encoded step) }
     ensures { OnOk result (out.new.items ≡ out.old.items ++ step_line step) }
 {
     match step {
@@ -51,7 +51,7 @@ pub fn push_step(out: &mut Vec<u8>, step: Step) -> Result<(), AllocError>
 
 // Appends the lines of steps.
 fn push_steps(out: &mut Vec<u8>, steps: &[Step]) -> Result<(), AllocError>
-    requires { IsTrue (are_spelt steps.now) }
+    requires { IsTrue (are_encoded steps.now) }
     ensures { OnOk result (out.new.items ≡ out.old.items ++ steps_text steps.now) }
 {
     for step in steps {

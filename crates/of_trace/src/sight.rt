@@ -4,7 +4,7 @@ ghost use Rattle.of_actions.specs.Supported.{is_supported};
 ghost use Rattle.of_headers.specs.FieldMap.{value};
 ghost use Rattle.of_trace.specs.Notes.{ttl_seen};
 ghost use Rattle.of_trace.specs.Sights.{frame_after, key_seen, sight_after};
-ghost use Rattle.of_trace.specs.Spelt.{is_spelt};
+ghost use Rattle.of_trace.specs.Encoded.{is_encoded};
 
 use of_actions::Action;
 use of_headers::FieldKey;
@@ -49,7 +49,7 @@ impl Sight {
 
     /// What it is after a step. Its headers are read if an action changed them.
     pub fn after(&self, alloc: Global, step: Step) -> Result<Sight, AllocError>
-        requires { IsTrue (is_spelt step) }
+        requires { IsTrue (is_encoded step) }
         ensures { IfOk result (λ s. s ≡ sight_after step self.now) }
     {
         let mut after = self.copy(alloc)?;

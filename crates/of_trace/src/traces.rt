@@ -1,6 +1,6 @@
 //! Traces of frames.
 ghost use Rattle.std.specs.Prelude.{IsTrue};
-ghost use Rattle.of_trace.specs.Spelt.{are_spelt};
+ghost use Rattle.of_trace.specs.Encoded.{are_encoded};
 
 use of_machine::Step;
 use of_switch::Effects;
@@ -12,5 +12,5 @@ pub struct Trace {
     pub steps: Vec<Step>,
     pub effects: Effects,
     // each action is one of a flow
-    ghost spelt: { IsTrue (are_spelt steps.items) },
+    ghost encoded: { IsTrue (are_encoded steps.items) },
 }

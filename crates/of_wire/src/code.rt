@@ -22,7 +22,7 @@ pub enum ReadError {
     /// Memory ran out.
     #[error("no memory")]
     Memory,
-    /// The bytes spell no value.
+    /// The bytes encode no value.
     #[error("refused: {0}")]
     Refused(Code),
 }

@@ -4,8 +4,8 @@ use Rattle.of_actions.proofs.instruction_reading.one_instruction_reading.Goals a
 pub returns-clause-list : goal.returns-clause-list
 returns-clause-list c = one_list
 
-pub returns-clause-spelt : goal.returns-clause-spelt
-returns-clause-spelt c = not_both
+pub returns-clause-encoded : goal.returns-clause-encoded
+returns-clause-encoded c = not_both
 
 pub returns-clause-code : goal.returns-clause-code
 returns-clause-code c = one_code

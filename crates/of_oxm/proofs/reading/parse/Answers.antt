@@ -1,7 +1,7 @@
 use Rattle.std.proofs.Common.{ℕ, ◌-◌, take, drop, ◌∙◌, ap, sym, arith}
 use Rattle.std.proofs.lemmas.Result.{err_from_is_err_and}
 use Rattle.of_oxm.specs.Prerequisites.{prerequisites_met}
-use Rattle.of_oxm.proofs.Whole.{field_refused, need_refused, whole_spelt, is_match}
+use Rattle.of_oxm.proofs.Whole.{field_refused, need_refused, whole_encoded, is_match}
 use Rattle.of_oxm.proofs.Computed.{head_computed, fault_computed, need_computed, found_computed}
 use Rattle.of_oxm.proofs.reading.parse.Goals as goal
 
@@ -26,7 +26,7 @@ pub returns-clause-found : goal.returns-clause-found
 returns-clause-found c =
     let body = c.fields_of-body.ensures ∙ ap (λ (n : ℕ). take (n - 4) (drop 4 c.args.bytes.now)) c.in-Ok.ensures.len in
     let met = ap prerequisites_met (sym c.deref.ensures.value) ∙ sym c.prerequisites_met.ensures ∙ c.if-not-prerequisites_met.false in
-    whole_spelt c.args.bytes.now c.fields_of-body.result.now c.in-Ok.len c.in_ok-read.read.items c.in_ok-fields.fields.items (λ i. omega (arith, c.type_inv.bytes i)) c.in-Ok.ensures.none c.in-Ok.ensures.len body c.in_ok-read.ensures.found c.in_ok-fields.ensures met
+    whole_encoded c.args.bytes.now c.fields_of-body.result.now c.in-Ok.len c.in_ok-read.read.items c.in_ok-fields.fields.items (λ i. omega (arith, c.type_inv.bytes i)) c.in-Ok.ensures.none c.in-Ok.ensures.len body c.in_ok-read.ensures.found c.in_ok-fields.ensures met
 
 pub returns-in_err-read-clause-reads : goal.returns-in_err-read-clause-reads
 returns-in_err-read-clause-reads c =

@@ -21,7 +21,7 @@ returns c =
     let few : length (canonical_actions m.actions) ≤ 1536 = rw (← same) c.in_ok-actions.ensures.short in
     let short : length (frame_of m.packet) ≤ 9216 = rw (← c.frame_of-frame.ensures.frame) c.frame_of-frame.ensures.most in
     let buffer : buffer_of m.packet < 256 ^ 4 = omega (arith, c.buffer.ensures) in
-    let are : AreActions true [] (canonical_actions m.actions) m.actions None = rw (← same) c.in_ok-actions.ensures.spelt in
+    let are : AreActions true [] (canonical_actions m.actions) m.actions None = rw (← same) c.in_ok-actions.ensures.encoded in
     let n = 16 + length (canonical_actions m.actions) + length (frame_of m.packet) in
     let head : c.in_ok-out.out.items ≡ header 13 (8 + n) c.args.xid = c.in_ok-out.ensures ∙ ap (λ (k : ℕ). header 13 (8 + k) c.args.xid) (omega (arith, actions.ok.0, ap length same, ap length c.frame_of-frame.ensures.frame)) in
     front_written (IsPacketOut m) c.args.xid n _ _ head (c.new.ensures ∙ text) (packet_out_parts m c.args.xid (omega arith) buffer (omega arith) few short are c.requires)

@@ -1,8 +1,8 @@
 use Rattle.std.proofs.Common.{◌≡◌, ℕ, List, sym, ap, ◌∙◌, length, subst, refl}
 use Rattle.of_layers.specs.Bits.{bits_of}
 use Rattle.of_layers.specs.Reading.{layers_of}
-use Rattle.of_layers.proofs.FrameLemmas.{frame_spelt, are_layers}
-use Rattle.of_layers.specs.Layers.{spelt}
+use Rattle.of_layers.proofs.FrameLemmas.{frame_encoded, are_layers}
+use Rattle.of_layers.specs.Layers.{encoded}
 use Rattle.of_headers.specs.declared.layout.Layout.{Layout}
 use Rattle.of_headers.specs.Places.{layout_of}
 use Rattle.of_rewrite.specs.declared.sums.Sums.{Sums}
@@ -32,5 +32,5 @@ returns c = λ n free place.
     c.put_number-sums.ensures.sums ∙ ap (λ (k : Sums). both_followed k c.args.bytes.now c.put_number-sums.new.bytes) (c.sums_in-sums.ensures ∙ ap (λ (y : Layout). sums_of y c.args.bytes.now) c.requires.layout) in
     ap bits_of (c.put_sums.ensures ∙ ap (λ (y : Layout). with_carried y c.put_number-sums.result (with_header y c.put_number-sums.result c.put_number-sums.new.bytes)) c.requires.layout)
     ∙ renewed_all n c.args.value c.args.place (layers_of c.args.bytes.now) c.args.bytes.now c.put_number-sums.new.bytes (frame_stands c.args.bytes.now c.all_bytes.ensures c.requires.long)
-    (frame_spelt c.args.bytes.now c.all_bytes.ensures c.requires.long) c.all_bytes.ensures c.all_bytes-2.ensures c.put_number-sums.auto.bytes free place c.put_number-sums.ensures.bits c.put_number-sums.result m
-    ∙ ap spelt (sym (set_where n c.args.value (layers_of c.args.bytes.now) (are_layers c.args.bytes.now c.all_bytes.ensures c.requires.long)))
+    (frame_encoded c.args.bytes.now c.all_bytes.ensures c.requires.long) c.all_bytes.ensures c.all_bytes-2.ensures c.put_number-sums.auto.bytes free place c.put_number-sums.ensures.bits c.put_number-sums.result m
+    ∙ ap encoded (sym (set_where n c.args.value (layers_of c.args.bytes.now) (are_layers c.args.bytes.now c.all_bytes.ensures c.requires.long)))

@@ -1,7 +1,7 @@
 use Rattle.std.proofs.Common.{◌≤◌, length, sym, arith}
 use Rattle.of_layers.specs.Reading.{layers_of}
 use Rattle.of_layers.specs.Layers.{cells, ttl}
-use Rattle.of_layers.proofs.FrameLemmas.{frame_spelt}
+use Rattle.of_layers.proofs.FrameLemmas.{frame_encoded}
 use Rattle.of_rewrite.specs.Renewal.{packet_at}
 use Rattle.of_rewrite.proofs.Finding.{not_found}
 use Rattle.of_rewrite.proofs.Unset.{ttl_is, no_ttl, packet_below}
@@ -17,18 +17,18 @@ bounds-bytes-at c = (ttl_is c.args.bytes.now c.args.layout c.ttl_byte.result c.i
 pub returns-in-Some-clause-value : goal.returns-in-Some-clause-value
 returns-in-Some-clause-value c = (ttl_is c.args.bytes.now c.args.layout c.ttl_byte.result c.in-Some.at c.all_bytes.ensures c.requires.long c.requires.layout c.ttl_byte.ensures c.in-Some.is).value
 
-pub returns-in-Some-clause-spelt : goal.returns-in-Some-clause-spelt
-returns-in-Some-clause-spelt c = frame_spelt c.args.bytes.now c.all_bytes.ensures c.requires.long
+pub returns-in-Some-clause-encoded : goal.returns-in-Some-clause-encoded
+returns-in-Some-clause-encoded c = frame_encoded c.args.bytes.now c.all_bytes.ensures c.requires.long
 
 pub returns-in-None-clause-value : goal.returns-in-None-clause-value
 returns-in-None-clause-value c =
     sym (not_found ttl 0 (cells (layers_of c.args.bytes.now)) (λ x. x) (no_ttl c.args.bytes.now c.args.layout c.ttl_byte.result c.all_bytes.ensures c.requires.long c.requires.layout c.ttl_byte.ensures c.in-None.is)).1
 
-pub returns-in-None-clause-spelt : goal.returns-in-None-clause-spelt
-returns-in-None-clause-spelt c = frame_spelt c.args.bytes.now c.all_bytes.ensures c.requires.long
+pub returns-in-None-clause-encoded : goal.returns-in-None-clause-encoded
+returns-in-None-clause-encoded c = frame_encoded c.args.bytes.now c.all_bytes.ensures c.requires.long
 
 pub returns-in-Some-clause-frame : goal.returns-in-Some-clause-frame
-returns-in-Some-clause-frame c = bytes_are (cells (layers_of c.args.bytes.now)) c.args.bytes.now c.all_bytes.ensures (frame_spelt c.args.bytes.now c.all_bytes.ensures c.requires.long)
+returns-in-Some-clause-frame c = bytes_are (cells (layers_of c.args.bytes.now)) c.args.bytes.now c.all_bytes.ensures (frame_encoded c.args.bytes.now c.all_bytes.ensures c.requires.long)
 
 pub returns-in-None-clause-frame : goal.returns-in-None-clause-frame
-returns-in-None-clause-frame c = bytes_are (cells (layers_of c.args.bytes.now)) c.args.bytes.now c.all_bytes.ensures (frame_spelt c.args.bytes.now c.all_bytes.ensures c.requires.long)
+returns-in-None-clause-frame c = bytes_are (cells (layers_of c.args.bytes.now)) c.args.bytes.now c.all_bytes.ensures (frame_encoded c.args.bytes.now c.all_bytes.ensures c.requires.long)

@@ -4,25 +4,25 @@ use Rattle.of_text.specs.declared.text.TextError.TheVariants.{Memory, Syntax}
 use Rattle.of_lines.specs.Lines.{lines_of}
 use Rattle.of_text.specs.Groups.{TextGroup}
 use Rattle.of_text.specs.Flows.{Flow}
-use Rattle.of_text.specs.Texts.{SpellItems, Fails}
-use Rattle.of_text.proofs.TextLemmas.{gathered_spells, no_fault, one_list}
+use Rattle.of_text.specs.Texts.{EncodeItems, Fails}
+use Rattle.of_text.proofs.TextLemmas.{gathered_encodes, no_fault, one_list}
 use Rattle.of_text.proofs.text.read_items.Goals as goal
 
-only_memory : (lines : List (List ℕ)) (groups : List TextGroup) (flows : List Flow) (e : TextError) → SpellItems lines groups flows → Fails lines e → e ≡ Memory
+only_memory : (lines : List (List ℕ)) (groups : List TextGroup) (flows : List Flow) (e : TextError) → EncodeItems lines groups flows → Fails lines e → e ≡ Memory
 only_memory lines groups flows Memory s f = refl
 only_memory lines groups flows (Syntax n) s f = absurd (no_fault lines groups flows n s f)
 
 pub returns-in-Err-clause-only : goal.returns-in-Err-clause-only
 returns-in-Err-clause-only c = λ groups flows s. only_memory (lines_of c.args.text.now) groups flows c.in-Err.e s c.in-Err.ensures.failed
 
-same_spelt : (lines : List (List ℕ)) (gs hs : List TextGroup) (a b : List Flow) → gs ≡ hs → a ≡ b → SpellItems lines hs b → SpellItems lines gs a
-same_spelt lines gs hs a b g f s = rw (g, f) s
+same_encoded : (lines : List (List ℕ)) (gs hs : List TextGroup) (a b : List Flow) → gs ≡ hs → a ≡ b → EncodeItems lines hs b → EncodeItems lines gs a
+same_encoded lines gs hs a b g f s = rw (g, f) s
 
 pub returns-in_ok-items_of-in-Ok-clause-found : goal.returns-in_ok-items_of-in-Ok-clause-found
 returns-in_ok-items_of-in-Ok-clause-found c =
-    same_spelt (lines_of c.args.text.now) _ _ _ _ c.in_ok-items_of-in-Ok.ensures.groups c.in_ok-items_of-in-Ok.ensures.flows (gathered_spells (lines_of c.args.text.now) c.in-Ok.rows.items c.in-Ok.ensures.found)
+    same_encoded (lines_of c.args.text.now) _ _ _ _ c.in_ok-items_of-in-Ok.ensures.groups c.in_ok-items_of-in-Ok.ensures.flows (gathered_encodes (lines_of c.args.text.now) c.in-Ok.rows.items c.in-Ok.ensures.found)
 
 pub returns-in_ok-items_of-in-Ok-clause-only : goal.returns-in_ok-items_of-in-Ok-clause-only
 returns-in_ok-items_of-in-Ok-clause-only c = λ groups flows s.
-    let one = one_list (lines_of c.args.text.now) _ groups _ flows (gathered_spells (lines_of c.args.text.now) c.in-Ok.rows.items c.in-Ok.ensures.found) s in
+    let one = one_list (lines_of c.args.text.now) _ groups _ flows (gathered_encodes (lines_of c.args.text.now) c.in-Ok.rows.items c.in-Ok.ensures.found) s in
     (c.in_ok-items_of-in-Ok.ensures.groups ∙ one.0, c.in_ok-items_of-in-Ok.ensures.flows ∙ one.1)

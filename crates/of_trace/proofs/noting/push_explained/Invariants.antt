@@ -1,12 +1,12 @@
 use Rattle.std.proofs.Common.{◌≡◌, ◌++◌, length}
 use Rattle.std.specs.Prelude.{IsTrue}
-use Rattle.of_trace.specs.Spelt.{are_spelt}
+use Rattle.of_trace.specs.Encoded.{are_encoded}
 use Rattle.of_trace.specs.Notes.{explained_from}
 use Rattle.of_trace.proofs.noting.push_explained.Given as goal
 
 abbrev pub invariant-loop-rest : goal.invariant-loop-rest
 invariant-loop-rest g l = record {
-  spelt : IsTrue (are_spelt l.rest);
+  encoded : IsTrue (are_encoded l.rest);
   text : l.out.items ++ explained_from l.switch.core.forwarding l.asked l.packets.items l.rest ≡ l.fn.out.items ++ explained_from l.switch.core.forwarding l.asked l.fn.packets.items l.fn.steps;
 }
 

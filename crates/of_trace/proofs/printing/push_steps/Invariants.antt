@@ -1,11 +1,11 @@
 use Rattle.std.proofs.Common.{◌≡◌, ◌++◌, drop}
 use Rattle.std.specs.Prelude.{IsTrue}
-use Rattle.of_trace.specs.Spelt.{are_spelt}
+use Rattle.of_trace.specs.Encoded.{are_encoded}
 use Rattle.of_trace.specs.Text.{steps_text}
 use Rattle.of_trace.proofs.printing.push_steps.Given as goal
 
 abbrev pub invariant-loop-step : goal.invariant-loop-step
 invariant-loop-step l = record {
-  spelt : IsTrue (are_spelt (drop l.step-index l.steps));
+  encoded : IsTrue (are_encoded (drop l.step-index l.steps));
   text : l.out.items ++ steps_text (drop l.step-index l.steps) ≡ l.fn.out.items ++ steps_text l.steps;
 }

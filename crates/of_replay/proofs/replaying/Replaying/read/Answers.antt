@@ -1,9 +1,9 @@
 use Rattle.std.proofs.Common.{◌≡◌, ◌∙◌, sym, ap, arith, refl, length, List, ℕ}
 use Rattle.std.proofs.lemmas.Result.{err_from_is_err_and}
 use Rattle.of_replay.specs.Told.{Gave, Idle, Ended, Failed, then_answer, given}
-use Rattle.of_replay.proofs.WholeRuns.{read_begun, read_idle, read_piece, read_halts, read_ends, read_played, read_stops, piece_size, piece_reads}
+use Rattle.of_replay.proofs.WholeRuns.{read_begun, read_idle, read_chunk, read_halts, read_ends, read_played, read_stops, chunk_size, chunk_reads}
 use Rattle.of_replay.proofs.replaying.Replaying.read.Goals as goal
-use Rattle.of_replay.proofs.replaying.Replaying.read.Goals.{in-Bytes+in_ok-piece-in-Bytes, in-Nothing}
+use Rattle.of_replay.proofs.replaying.Replaying.read.Goals.{in-Bytes+in_ok-chunk-in-Bytes, in-Nothing}
 
 pub loop-init : goal.loop-init
 loop-init g c = record {
@@ -16,24 +16,24 @@ loop-init g c = record {
   so_far = read_begun c.args.self.now.switch g.T.RowPrinter.tale (g.S.Source.answers c.args.reader.now) c.args.self.now.open c.args.self.now.number c.args.self.now.switch c.args.self.now.printer (g.W.Sink.taken c.args.writer.now) (c.requires.start.0, c.requires.start.1, refl, c.requires.start.2);
 }
 
-pub returns-in_err-piece-in-Bytes-clause-plays : goal.returns-in_err-piece-in-Bytes-clause-plays
-returns-in_err-piece-in-Bytes-clause-plays g c =
+pub returns-in_err-chunk-in-Bytes-clause-plays : goal.returns-in_err-chunk-in-Bytes-clause-plays
+returns-in_err-chunk-in-Bytes-clause-plays g c =
     let l = c.loop in
-    let n = c.piece.new.self in
+    let n = c.chunk.new.self in
     let r = l.invariant.so_far in
     let p = err_from_is_err_and c.from_residual.result c.from_residual.ensures.1 in
-    rw (p.1, p.2) (read_halts c.args.self.now.switch g.T.RowPrinter.tale c.in_err-piece-in-Bytes.field-0.0 (g.S.Source.answers c.args.reader.now) (g.S.Source.answers l.reader) (g.S.Source.answers c.read_once.new.reader) (g.S.Source.ends c.args.reader.now) (g.S.Source.ends c.read_once.new.reader)
-    c.front_of.result.now l.self.open n.open l.self.number n.number l.self.switch n.switch l.self.printer n.printer (g.W.Sink.taken c.args.writer.now) (g.W.Sink.taken l.writer) (g.W.Sink.taken c.piece.new.writer) r
+    rw (p.1, p.2) (read_halts c.args.self.now.switch g.T.RowPrinter.tale c.in_err-chunk-in-Bytes.field-0.0 (g.S.Source.answers c.args.reader.now) (g.S.Source.answers l.reader) (g.S.Source.answers c.read_once.new.reader) (g.S.Source.ends c.args.reader.now) (g.S.Source.ends c.read_once.new.reader)
+    c.front_of.result.now l.self.open n.open l.self.number n.number l.self.switch n.switch l.self.printer n.printer (g.W.Sink.taken c.args.writer.now) (g.W.Sink.taken l.writer) (g.W.Sink.taken c.chunk.new.writer) r
     (c.in-Bytes.ensures.answers ∙ ap (λ (x : List ℕ). then_answer (g.S.Source.answers l.reader) (Gave x)) (sym c.front_of.ensures)) (omega (arith, c.in-Bytes.ensures.ends, l.invariant.ends))
-    (c.in_err-piece-in-Bytes.ensures.goes c.args.self.now.switch (given r.more) (g.W.Sink.taken c.args.writer.now) r.within))
+    (c.in_err-chunk-in-Bytes.ensures.goes c.args.self.now.switch (given r.more) (g.W.Sink.taken c.args.writer.now) r.within))
 
-pub returns-in_err-piece-in-Bytes-clause-reads : goal.returns-in_err-piece-in-Bytes-clause-reads
-returns-in_err-piece-in-Bytes-clause-reads g c =
+pub returns-in_err-chunk-in-Bytes-clause-reads : goal.returns-in_err-chunk-in-Bytes-clause-reads
+returns-in_err-chunk-in-Bytes-clause-reads g c =
     let l = c.loop in
     let r = l.invariant.so_far in
     let p = err_from_is_err_and c.from_residual.result c.from_residual.ensures.1 in
-    rw (p.1, p.2) (piece_reads c.args.self.now.switch g.T.RowPrinter.tale c.in_err-piece-in-Bytes.field-0.0 _ _ c.piece.new.self.printer (g.W.Sink.taken c.args.writer.now) (g.W.Sink.taken c.piece.new.writer) (g.S.Source.reads c.read_once.new.reader) (g.S.Source.ends c.args.reader.now) (g.S.Source.ends c.read_once.new.reader)
-    (g.S.Source.failures c.args.reader.now) (g.S.Source.failures c.read_once.new.reader) (c.in_err-piece-in-Bytes.ensures.goes c.args.self.now.switch (given r.more) (g.W.Sink.taken c.args.writer.now) r.within) (omega (arith, c.in-Bytes.ensures.failures, l.invariant.failures)))
+    rw (p.1, p.2) (chunk_reads c.args.self.now.switch g.T.RowPrinter.tale c.in_err-chunk-in-Bytes.field-0.0 _ _ c.chunk.new.self.printer (g.W.Sink.taken c.args.writer.now) (g.W.Sink.taken c.chunk.new.writer) (g.S.Source.reads c.read_once.new.reader) (g.S.Source.ends c.args.reader.now) (g.S.Source.ends c.read_once.new.reader)
+    (g.S.Source.failures c.args.reader.now) (g.S.Source.failures c.read_once.new.reader) (c.in_err-chunk-in-Bytes.ensures.goes c.args.self.now.switch (given r.more) (g.W.Sink.taken c.args.writer.now) r.within) (omega (arith, c.in-Bytes.ensures.failures, l.invariant.failures)))
 
 pub returns-in-End-clause-plays : goal.returns-in-End-clause-plays
 returns-in-End-clause-plays g c =
@@ -62,20 +62,20 @@ loop-preserved g c =
     let answers = g.S.Source.answers c.args.reader.now in
     let first = g.W.Sink.taken c.args.writer.now in
     elim c.match-read_once.branch [
-      | in-Bytes+in_ok-piece-in-Bytes w ↦
-          let n = w.piece.new.self in
+      | in-Bytes+in_ok-chunk-in-Bytes w ↦
+          let n = w.chunk.new.self in
           let room : length c.read_once.new.buffer ≡ 65536 = omega (arith, c.read_once.auto.buffer, l.auto.buffer, c.requires.room) in
           record {
             reads = omega (arith, w.in-Bytes.ensures.reads, l.invariant.reads);
             ends = omega (arith, w.in-Bytes.ensures.ends, l.invariant.ends);
             failures = omega (arith, w.in-Bytes.ensures.failures, l.invariant.failures);
-            number = rw w.self-is (omega (arith, w.in_ok-piece-in-Bytes.ensures.number, l.invariant.number, piece_size w.in-Bytes.n c.read_once.new.buffer w.front_of.result.now w.front_of.ensures w.in-Bytes.ensures.fits.1 room));
-            writes = rw w.writer-is w.in_ok-piece-in-Bytes.ensures.writes;
-            written = rw w.self-is w.in_ok-piece-in-Bytes.ensures.written;
-            so_far = rw (w.self-is, w.writer-is) (read_piece c.args.self.now.switch g.T.RowPrinter.tale answers (g.S.Source.answers l.reader) (g.S.Source.answers c.read_once.new.reader) w.front_of.result.now l.self.open n.open l.self.number n.number l.self.switch n.switch l.self.printer n.printer
-                first (g.W.Sink.taken l.writer) (g.W.Sink.taken w.piece.new.writer) l.invariant.so_far
+            number = rw w.self-is (omega (arith, w.in_ok-chunk-in-Bytes.ensures.number, l.invariant.number, chunk_size w.in-Bytes.n c.read_once.new.buffer w.front_of.result.now w.front_of.ensures w.in-Bytes.ensures.fits.1 room));
+            writes = rw w.writer-is w.in_ok-chunk-in-Bytes.ensures.writes;
+            written = rw w.self-is w.in_ok-chunk-in-Bytes.ensures.written;
+            so_far = rw (w.self-is, w.writer-is) (read_chunk c.args.self.now.switch g.T.RowPrinter.tale answers (g.S.Source.answers l.reader) (g.S.Source.answers c.read_once.new.reader) w.front_of.result.now l.self.open n.open l.self.number n.number l.self.switch n.switch l.self.printer n.printer
+                first (g.W.Sink.taken l.writer) (g.W.Sink.taken w.chunk.new.writer) l.invariant.so_far
                 (w.in-Bytes.ensures.answers ∙ ap (λ (x : List ℕ). then_answer (g.S.Source.answers l.reader) (Gave x)) (sym w.front_of.ensures))
-                (w.in_ok-piece-in-Bytes.ensures.goes c.args.self.now.switch (given l.invariant.so_far.more) first l.invariant.so_far.within));
+                (w.in_ok-chunk-in-Bytes.ensures.goes c.args.self.now.switch (given l.invariant.so_far.more) first l.invariant.so_far.within));
           }
       | in-Nothing w ↦ record {
         reads = omega (arith, w.in-Nothing.ensures.reads, l.invariant.reads);

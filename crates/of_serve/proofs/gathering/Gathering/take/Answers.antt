@@ -1,5 +1,5 @@
 use Rattle.std.proofs.Common.{subst, refl, ◌∷◌, []}
-use Rattle.of_switch.specs.declared.event.Event.TheVariants.{Piece}
+use Rattle.of_switch.specs.declared.event.Event.TheVariants.{Chunk}
 use Rattle.of_serve.specs.Turns.{Gathered}
 use Rattle.of_serve.specs.Gathering.{CutIn}
 use Rattle.of_serve.proofs.CutLemmas.{holding, cut_now, take_cut}
@@ -9,10 +9,10 @@ pub returns-in_err-feed-clause-memory : goal.returns-in_err-feed-clause-memory
 returns-in_err-feed-clause-memory g c = λ e.
     let s = c.self.inside in
     let now = holding c.feed.new.self s.answers.items s.lines.items in
-    subst (λ (x : Gathered). CutIn (Piece c.args.piece.now ∷ []) x now) c.self.view_is (cut_now (Piece c.args.piece.now) [] (holding s.switch s.answers.items s.lines.items) now (refl, refl))
+    subst (λ (x : Gathered). CutIn (Chunk c.args.chunk.now ∷ []) x now) c.self.view_is (cut_now (Chunk c.args.chunk.now) [] (holding s.switch s.answers.items s.lines.items) now (refl, refl))
 
 pub returns-clause-memory : goal.returns-clause-memory
 returns-clause-memory g c = λ e.
     let s = c.self.inside in
-    subst (λ (x : Gathered). CutIn (Piece c.args.piece.now ∷ []) x c.handle_all.new.self) c.self.view_is
-    (take_cut c.args.piece.now c.handle_all.result (holding s.switch s.answers.items s.lines.items) (holding c.feed.new.self s.answers.items s.lines.items) c.handle_all.new.self c.in_ok-feed.ensures (refl, refl) c.handle_all.ensures.err e)
+    subst (λ (x : Gathered). CutIn (Chunk c.args.chunk.now ∷ []) x c.handle_all.new.self) c.self.view_is
+    (take_cut c.args.chunk.now c.handle_all.result (holding s.switch s.answers.items s.lines.items) (holding c.feed.new.self s.answers.items s.lines.items) c.handle_all.new.self c.in_ok-feed.ensures (refl, refl) c.handle_all.ensures.err e)

@@ -1,6 +1,6 @@
 use Rattle.of_laws.specs.AnyMessage.{controller, told}
 use Rattle.of_laws.proofs.AnyMessage.{no_front}
-use Rattle.of_laws.proofs.messages.no_spelling_begins_another.Goals as goal
+use Rattle.of_laws.proofs.messages.no_encoding_begins_another.Goals as goal
 
 pub returns-clause-message : goal.returns-clause-message
 returns-clause-message c x y v w bytes more s t = no_front x y bytes more (controller v s) (controller w t)

@@ -1,4 +1,4 @@
--- What some bytes spell has numbers that are allowed.
+-- What some bytes encode has numbers that are allowed.
 use Rattle.std.proofs.Common.{◌≡◌, ℕ, ◌+◌, ◌^◌, ◌<◌, ◌≤◌, Bool, true, false, not, eqb, ltb, leb, List, [], ◌∷◌, length, Option, Some, None, refl, sym, ap, ◌∙◌, arith}
 use Rattle.std.specs.Prelude.{◌&&◌, is_none}
 use Rattle.std.specs.List.{list_all}
@@ -19,11 +19,11 @@ use Rattle.of_messages.specs.declared.message.PacketData.TheVariants.{Buffered, 
 use Rattle.of_messages.specs.declared.multipart.MultipartRequest.{MultipartRequest}
 use Rattle.of_messages.specs.declared.multipart.MultipartRequest.TheVariants.{Flow, Aggregate, PortStats, Group}
 use Rattle.of_laws.specs.Buckets.{AreBuckets}
-use Rattle.of_laws.specs.Grammar.{HasInstructions, IsValidData, IsValidFlowMod, IsValidGroupMod, IsValidNumber, MayName, MatchThenInstructions, Spells, GroupTail, deletes, fixed_part_cells}
+use Rattle.of_laws.specs.Grammar.{HasInstructions, IsValidData, IsValidFlowMod, IsValidGroupMod, IsValidNumber, MayName, MatchThenInstructions, Encodes, GroupTail, deletes, fixed_part_cells}
 use Rattle.of_laws.specs.Requests.{IsOne, IsValidRequest, all_groups, any_port}
 use Rattle.of_laws.proofs.OnlyLarge.{ingress, no_fault}
 use Rattle.of_laws.proofs.OnlySmall.{table_named}
-use Rattle.of_laws.proofs.InstructionStructs.{spelt_for}
+use Rattle.of_laws.proofs.InstructionStructs.{encoded_for}
 use Rattle.of_laws.proofs.Places.{size_is}
 use Rattle.of_requests.specs.Sound.{counts_nothing, has_no_instructions, is_one, is_sound, is_sound_command, is_sound_group_mod, is_sound_number, is_sound_packet, is_sound_request}
 
@@ -49,9 +49,9 @@ data_sound (Frame frame) h = ap is_none (no_fault frame h.0 h.1)
 -- ---- FLOW_MOD
 
 command_sound : (m : FlowMod) (c : FlowModCommand) (bytes : List ℕ) → MayName (deletes c) m.table → HasInstructions m (deletes c) bytes → is_sound_command (is_delete c) m ≡ true
-command_sound m Add bytes table h = and_true _ _ (low m.table table) (spelt_for m.table bytes m.instructions h)
-command_sound m Modifies bytes table h = and_true _ _ (low m.table table) (spelt_for m.table bytes m.instructions h)
-command_sound m ModifyStrict bytes table h = and_true _ _ (low m.table table) (spelt_for m.table bytes m.instructions h)
+command_sound m Add bytes table h = and_true _ _ (low m.table table) (encoded_for m.table bytes m.instructions h)
+command_sound m Modifies bytes table h = and_true _ _ (low m.table table) (encoded_for m.table bytes m.instructions h)
+command_sound m ModifyStrict bytes table h = and_true _ _ (low m.table table) (encoded_for m.table bytes m.instructions h)
 command_sound m Deletes bytes table h = and_true _ _ (table_named m.table table) (ap has_no_instructions h)
 command_sound m DeleteStrict bytes table h = and_true _ _ (table_named m.table table) (ap has_no_instructions h)
 
@@ -91,22 +91,22 @@ request_sound other h = refl
 
 -- ---- any message
 
-echo_sound : (x : ℕ) (echoed bytes : List ℕ) → Spells x (EchoRequest echoed) bytes → is_sound (EchoRequest echoed) ≡ true
+echo_sound : (x : ℕ) (echoed bytes : List ℕ) → Encodes x (EchoRequest echoed) bytes → is_sound (EchoRequest echoed) ≡ true
 echo_sound x echoed bytes s =
     let total : length bytes ≡ 8 + length s.tail = size_is (fixed_part_cells (EchoRequest echoed) (length bytes) x) bytes s.tail s.front in
     let same : length s.tail ≡ length echoed = ap length s.behind in
     let fits : length bytes < 256 ^ 2 = s.front.2.2.1.0 in
     at_most (length echoed) 65527 (omega arith)
 
-sound_if_spelt : (m : Message) (x : ℕ) (bytes : List ℕ) → Spells x m bytes → is_sound m ≡ true
-sound_if_spelt (EchoRequest echoed) x bytes s = echo_sound x echoed bytes s
-sound_if_spelt (IsPacketOut m) x bytes s = and_true _ _ (ingress m.in_port s.valid.0) (data_sound m.packet s.valid.1)
-sound_if_spelt (IsFlowMod m) x bytes s = flow_mod_sound m s.tail s.behind s.valid
-sound_if_spelt (IsGroupMod m) x bytes s = group_mod_sound m s.tail s.behind s.valid
-sound_if_spelt (IsPortMod m) x bytes s = eq-eqb _ _ s.valid
-sound_if_spelt (IsTableMod m) x bytes s = table_named m.table s.valid
-sound_if_spelt (Multipart request) x bytes s = request_sound request s.valid
-sound_if_spelt other x bytes s = refl
+sound_if_encoded : (m : Message) (x : ℕ) (bytes : List ℕ) → Encodes x m bytes → is_sound m ≡ true
+sound_if_encoded (EchoRequest echoed) x bytes s = echo_sound x echoed bytes s
+sound_if_encoded (IsPacketOut m) x bytes s = and_true _ _ (ingress m.in_port s.valid.0) (data_sound m.packet s.valid.1)
+sound_if_encoded (IsFlowMod m) x bytes s = flow_mod_sound m s.tail s.behind s.valid
+sound_if_encoded (IsGroupMod m) x bytes s = group_mod_sound m s.tail s.behind s.valid
+sound_if_encoded (IsPortMod m) x bytes s = eq-eqb _ _ s.valid
+sound_if_encoded (IsTableMod m) x bytes s = table_named m.table s.valid
+sound_if_encoded (Multipart request) x bytes s = request_sound request s.valid
+sound_if_encoded other x bytes s = refl
 
-pub not_spelt : (m : Message) → is_sound m ≡ false → (x : ℕ) (bytes : List ℕ) → ¬ Spells x m bytes
-not_spelt m h x bytes s = let both : true ≡ false = sym (sound_if_spelt m x bytes s) ∙ h in absurd cc
+pub not_encoded : (m : Message) → is_sound m ≡ false → (x : ℕ) (bytes : List ℕ) → ¬ Encodes x m bytes
+not_encoded m h x bytes s = let both : true ≡ false = sym (sound_if_encoded m x bytes s) ∙ h in absurd cc

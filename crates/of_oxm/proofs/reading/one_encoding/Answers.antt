@@ -1,5 +1,5 @@
 use Rattle.of_oxm.proofs.Laws.{one_match}
-use Rattle.of_oxm.proofs.reading.one_spelling.Goals as goal
+use Rattle.of_oxm.proofs.reading.one_encoding.Goals as goal
 
 pub returns : goal.returns
 returns c = one_match

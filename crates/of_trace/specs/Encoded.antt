@@ -5,9 +5,9 @@ use Rattle.of_actions.specs.Supported.{is_supported}
 use Rattle.of_machine.specs.declared.data.Step.{Step}
 use Rattle.of_machine.specs.declared.data.Step.TheVariants.{Act}
 
-abbrev pub is_spelt : Step → Bool
-is_spelt (Act action) = is_supported false action
-is_spelt other = true
+abbrev pub is_encoded : Step → Bool
+is_encoded (Act action) = is_supported false action
+is_encoded other = true
 
-abbrev pub are_spelt : List Step → Bool
-are_spelt steps = list_all is_spelt steps
+abbrev pub are_encoded : List Step → Bool
+are_encoded steps = list_all is_encoded steps

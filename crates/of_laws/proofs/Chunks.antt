@@ -1,4 +1,4 @@
--- A piece that is one message.
+-- A chunk that is one message.
 use Rattle.std.proofs.Common.{◌≡◌, ℕ, List, [], ◌∷◌, ◌++◌, length, take, drop, Some, None, Ok, refl, sym, ◌∙◌, ap, arith}
 use Rattle.std.specs.Prelude.{replicate}
 use Rattle.std.proofs.lemmas.List.{append-nil, drop_all}
@@ -18,7 +18,7 @@ use Rattle.of_session.proofs.Fronts.{message_front}
 use Rattle.of_build.specs.Building.{hello}
 use Rattle.of_datapath.specs.declared.effect.Effect.TheVariants.{Answer}
 use Rattle.of_switch.specs.declared.event.Event.{Event}
-use Rattle.of_switch.specs.declared.event.Event.TheVariants.{Connect, Piece}
+use Rattle.of_switch.specs.declared.event.Event.TheVariants.{Connect, Chunk}
 use Rattle.of_switch.specs.State.{Core, State, new_core, start}
 use Rattle.of_switch.specs.Steps.{Outcome, Done, beside, coming, does, done, gives, handled, next_by, next_of, state_refusals}
 use Rattle.of_switch.specs.Runs.{Happened, Gives, Run, drain, drained, happened, run}
@@ -47,7 +47,7 @@ all_taken m k = ap (λ (x : List ℕ). gives [] (record { connection = record { 
 -- THE MESSAGE is handled, and then nothing is left
 pub handles : (m : List ℕ) (k k' : Core) (message : Message) → IsMessage m → k.control.role ≡ Equal → message_of m ≡ Ok message
     → first_of (state_refusals message k) ≡ None → done (xid_of m) message k ≡ does [] k'
-    → happened (Piece m) (ready k) ≡ record { report = Gives []; state = ready k' }
+    → happened (Chunk m) (ready k) ≡ record { report = Gives []; state = ready k' }
 handles m k k' message one role is none does_it =
     let next = next_read m k message one role is in
     let failed = take 64 (take (length m) m) in
@@ -63,7 +63,7 @@ handles m k k' message one role is none does_it =
 connects : (dpid : ℕ) → happened Connect (start dpid) ≡ record { report = Gives (Answer hello_bytes ∷ []); state = record { connection = greeting; core = new_core dpid } }
 connects dpid = refl
 
-pub greets : (k : Core) → happened (Piece hello) (record { connection = greeting; core = k }) ≡ record { report = Gives []; state = ready k }
+pub greets : (k : Core) → happened (Chunk hello) (record { connection = greeting; core = k }) ≡ record { report = Gives []; state = ready k }
 unfolding drain version_by elements_of
 greets k = refl
 

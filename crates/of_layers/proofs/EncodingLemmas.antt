@@ -3,7 +3,7 @@ use Rattle.std.proofs.Common.{◌≡◌, ℕ, zero, suc, ◌+◌, ◌*◌, ◌/�
 use Rattle.std.proofs.lemmas.Bool.{cases_lt}
 use Rattle.std.proofs.lemmas.List.{get_or-drop, get_or-take, get_or_past, drop-drop, length-drop, length-take, drop_more}
 use Rattle.of_layers.specs.Bits.{bits, bits_of}
-use Rattle.of_layers.specs.Layers.{Cell, cells_in, byte_cells, inner_cells, tag_cells, addresses, outer_tag, inner_tag, spelt}
+use Rattle.of_layers.specs.Layers.{Cell, cells_in, byte_cells, inner_cells, tag_cells, addresses, outer_tag, inner_tag, encoded}
 use Rattle.of_layers.specs.Reading.{word, double, six, eight, sixteen, tags_of, tag_numbers}
 use Rattle.of_layers.specs.WellFormed.{AreBytes}
 use Rattle.of_layers.proofs.BitLemmas.{bits_parts, bits_cut, word_bits}
@@ -103,14 +103,14 @@ cut_word m n s i e b h = word_from s i b h
     ∙ ap (λ (t : List ℕ). t ++ bits_of (drop (i + 2) s)) (ap (λ (k : ℕ). bits k (word s i)) (sym e) ∙ bits_cut m n (word s i))
     ∙ append_assoc (bits m (word s i / 2 ^ n)) (bits n (word s i % 2 ^ n)) (bits_of (drop (i + 2) s))
 
-pub spelt-append : (a b : List Cell) → spelt (a ++ b) ≡ spelt a ++ spelt b
-spelt-append [] b = refl
-spelt-append (c ∷ a) b = ap (λ (t : List ℕ). bits c.width c.value ++ t) (spelt-append a b) ∙ sym (append_assoc (bits c.width c.value) (spelt a) (spelt b))
+pub encoded-append : (a b : List Cell) → encoded (a ++ b) ≡ encoded a ++ encoded b
+encoded-append [] b = refl
+encoded-append (c ∷ a) b = ap (λ (t : List ℕ). bits c.width c.value ++ t) (encoded-append a b) ∙ sym (append_assoc (bits c.width c.value) (encoded a) (encoded b))
 
-pub spelt_bytes : (s : List ℕ) → spelt (byte_cells s) ≡ bits_of s
+pub encoded_bytes : (s : List ℕ) → encoded (byte_cells s) ≡ bits_of s
 unfolding bits_of
-spelt_bytes [] = refl
-spelt_bytes (b ∷ s) = ap (λ (t : List ℕ). bits 8 b ++ t) (spelt_bytes s)
+encoded_bytes [] = refl
+encoded_bytes (b ∷ s) = ap (λ (t : List ℕ). bits 8 b ++ t) (encoded_bytes s)
 
 tag_control : (w : ℕ) → bits 16 w ≡ bits 3 (w / 8192) ++ (bits 1 (w / 4096 % 2) ++ bits 12 (w % 4096))
 tag_control w =
@@ -118,24 +118,24 @@ tag_control w =
     bits_cut 4 12 w ∙ ap (λ (t : List ℕ). t ++ bits 12 (w % 4096)) (bits_cut 3 1 (w / 4096) ∙ ap (λ (x : ℕ). bits 3 x ++ bits 1 (w / 4096 % 2)) e)
     ∙ append_assoc (bits 3 (w / 8192)) (bits 1 (w / 4096 % 2)) (bits 12 (w % 4096))
 
-pub tag_spelt : (s : List ℕ) → AreBytes s → 4 ≤ length s → bits_of s ≡ spelt (cells_in inner_tag (tag_numbers s)) ++ bits_of (drop 4 s)
-tag_spelt s b h = simp append_assoc
+pub tag_encoded : (s : List ℕ) → AreBytes s → 4 ≤ length s → bits_of s ≡ encoded (cells_in inner_tag (tag_numbers s)) ++ bits_of (drop 4 s)
+tag_encoded s b h = simp append_assoc
     (then_bits (bits 16 (word s 0)) (word_from s 0 b (omega arith))
     (word_from s 2 b (omega arith) ∙ ap (λ (t : List ℕ). t ++ bits_of (drop 4 s)) (tag_control (word s 2)) ∙ simp append_assoc))
 
-pub inner_spelt : (n : ℕ) (s : List ℕ) → 4 * n ≤ length s → AreBytes s → bits_of s ≡ spelt (inner_cells (tags_of n s)) ++ bits_of (drop (4 * n) s)
-inner_spelt zero s h b = refl
-inner_spelt (suc n) s h b =
+pub inner_encoded : (n : ℕ) (s : List ℕ) → 4 * n ≤ length s → AreBytes s → bits_of s ≡ encoded (inner_cells (tags_of n s)) ++ bits_of (drop (4 * n) s)
+inner_encoded zero s h b = refl
+inner_encoded (suc n) s h b =
     let e : drop (4 * n) (drop 4 s) ≡ drop (4 * suc n) s = drop-drop (4 * n) 4 s ∙ ap (λ (k : ℕ). drop k s) (omega arith) in
-    let i : bits_of (drop 4 s) ≡ spelt (inner_cells (tags_of n (drop 4 s))) ++ bits_of (drop (4 * n) (drop 4 s)) = inner_spelt n (drop 4 s) (omega (arith, length-drop 4 s)) (AreBytes-drop 4 s b) in
-    tag_spelt s b (omega arith) ∙ ap (λ (t : List ℕ). spelt (cells_in inner_tag (tag_numbers s)) ++ t) (i ∙ ap (λ (t : List ℕ). spelt (inner_cells (tags_of n (drop 4 s))) ++ bits_of t) e)
-    ∙ sym (append_assoc (spelt (cells_in inner_tag (tag_numbers s))) (spelt (inner_cells (tags_of n (drop 4 s)))) (bits_of (drop (4 * suc n) s)))
-    ∙ ap (λ (t : List ℕ). t ++ bits_of (drop (4 * suc n) s)) (sym (spelt-append (cells_in inner_tag (tag_numbers s)) (inner_cells (tags_of n (drop 4 s)))))
+    let i : bits_of (drop 4 s) ≡ encoded (inner_cells (tags_of n (drop 4 s))) ++ bits_of (drop (4 * n) (drop 4 s)) = inner_encoded n (drop 4 s) (omega (arith, length-drop 4 s)) (AreBytes-drop 4 s b) in
+    tag_encoded s b (omega arith) ∙ ap (λ (t : List ℕ). encoded (cells_in inner_tag (tag_numbers s)) ++ t) (i ∙ ap (λ (t : List ℕ). encoded (inner_cells (tags_of n (drop 4 s))) ++ bits_of t) e)
+    ∙ sym (append_assoc (encoded (cells_in inner_tag (tag_numbers s))) (encoded (inner_cells (tags_of n (drop 4 s)))) (bits_of (drop (4 * suc n) s)))
+    ∙ ap (λ (t : List ℕ). t ++ bits_of (drop (4 * suc n) s)) (sym (encoded-append (cells_in inner_tag (tag_numbers s)) (inner_cells (tags_of n (drop 4 s)))))
 
--- the names of the outermost tag are not spelt
-pub spelt_tags : (n : ℕ) (s : List ℕ) → spelt (tag_cells (tags_of n s)) ≡ spelt (inner_cells (tags_of n s))
-spelt_tags zero s = refl
-spelt_tags (suc n) s = spelt-append (cells_in outer_tag (tag_numbers s)) (inner_cells (tags_of n (drop 4 s))) ∙ sym (spelt-append (cells_in inner_tag (tag_numbers s)) (inner_cells (tags_of n (drop 4 s))))
+-- the names of the outermost tag are not encoded
+pub encoded_tags : (n : ℕ) (s : List ℕ) → encoded (tag_cells (tags_of n s)) ≡ encoded (inner_cells (tags_of n s))
+encoded_tags zero s = refl
+encoded_tags (suc n) s = encoded-append (cells_in outer_tag (tag_numbers s)) (inner_cells (tags_of n (drop 4 s))) ∙ sym (encoded-append (cells_in inner_tag (tag_numbers s)) (inner_cells (tags_of n (drop 4 s))))
 
-pub ends_spelt : (frame : List ℕ) → AreBytes frame → 12 ≤ length frame → bits_of frame ≡ spelt (cells_in addresses (six frame 0 ∷ six frame 6 ∷ [])) ++ bits_of (drop 12 frame)
-ends_spelt frame b h = simp append_assoc (six_from frame 0 b (omega arith) ∙ ap (λ (x : List ℕ). bits 48 (six frame 0) ++ x) (six_from frame 6 b (omega arith)))
+pub ends_encoded : (frame : List ℕ) → AreBytes frame → 12 ≤ length frame → bits_of frame ≡ encoded (cells_in addresses (six frame 0 ∷ six frame 6 ∷ [])) ++ bits_of (drop 12 frame)
+ends_encoded frame b h = simp append_assoc (six_from frame 0 b (omega arith) ∙ ap (λ (x : List ℕ). bits 48 (six frame 0) ++ x) (six_from frame 6 b (omega arith)))
