@@ -1,6 +1,7 @@
 -- The ids in messages and those of held frames, which are counted alike.
 use Rattle.std.proofs.Common.{◌≡◌, ◌<◌, ◌+◌, ℕ, Bool, true, false, List, [], ◌∷◌, ◌++◌, length, take, flat_map, slice_get, Some, ap, ◌∙◌, sym, refl}
 use Rattle.std.proofs.lemmas.Grind.{flat_map-append}
+use Rattle.of_wire.specs.declared.limits.TheConstants.{OFP_NO_BUFFER}
 use Rattle.of_buffers.specs.Buffers.{Held, HeldFrames, held, hold, hold_all, is_id, last_id, most_held}
 use Rattle.of_buffers.proofs.Circle.{all_is_id, held_under, others_under}
 use Rattle.of_machine.specs.declared.data.Item.{Item}
@@ -8,7 +9,7 @@ use Rattle.of_machine.specs.declared.data.Item.TheVariants.{Sent, PacketIn}
 use Rattle.of_machine.specs.declared.data.ToController.{ToController}
 use Rattle.of_ports.specs.declared.port.Port.{Port}
 use Rattle.of_datapath.specs.declared.control.AsyncConfig.{AsyncConfig}
-use Rattle.of_datapath.specs.Told.{each_told, effect_of, effects_of, frames_for, given, held_after, held_of, id_after, id_after_all, is_held, limit_of, no_buffer, packet_in_of}
+use Rattle.of_datapath.specs.Told.{each_told, effect_of, effects_of, frames_for, given, held_after, held_of, id_after, id_after_all, is_held, limit_of, packet_in_of}
 
 module _ (heard : AsyncConfig) where
   -- an item is told at its place
@@ -48,7 +49,7 @@ module _ (heard : AsyncConfig) where
     pub told : is_held heard p ≡ true → slice_get (effects_of heard ports b items) (length first) ≡ Some (packet_in_of p (id_after_all heard b.next first) (take (limit_of heard p) p.frame))
     told e = told_as ∙ rw e refl
 
-    pub whole : is_held heard p ≡ false → slice_get (effects_of heard ports b items) (length first) ≡ Some (packet_in_of p no_buffer p.frame)
+    pub whole : is_held heard p ≡ false → slice_get (effects_of heard ports b items) (length first) ≡ Some (packet_in_of p OFP_NO_BUFFER p.frame)
     whole e = told_as ∙ rw e refl
 
     pub found : is_id b.next ≡ true → is_held heard p ≡ true → length (flat_map (frames_for heard) rest) < most_held → held (id_after_all heard b.next first) (held_after heard ports b items) ≡ Some (held_of p)

@@ -2,7 +2,7 @@
 use Rattle.std.specs.Prelude.{ℕ, ◌%◌, ◌^◌, ◌==◌, ◌&&◌, nat_le, bit_and, Bool, true, false, not, List, [], ◌∷◌, map, filter, Option, Some, None, is_none, if◌then◌else◌}
 use Rattle.std.specs.List.{list_any}
 use Rattle.std.specs.Option.{option_map}
-use Rattle.of_wire.specs.declared.limits.TheConstants.{OFPTT_ALL, OFPP_ANY}
+use Rattle.of_wire.specs.declared.limits.TheConstants.{OFPTT_ALL, OFPP_ANY, OFP_NO_BUFFER}
 use Rattle.of_buffers.specs.Buffers.{Held, HeldFrames, held, used}
 use Rattle.of_wire.specs.declared.codes.TheConstants.{OFPBAC_BAD_OUT_GROUP, OFPBRC_BUFFER_UNKNOWN, OFPFMFC_BAD_TABLE_ID, OFPFMFC_OVERLAP, OFPFMFC_TABLE_FULL}
 use Rattle.of_wire.specs.Reasons.{flow_removed_number}
@@ -30,7 +30,6 @@ use Rattle.of_messages.specs.declared.message.PacketData.TheVariants.{Buffered, 
 use Rattle.of_table.specs.Tables.{Tables, table_at, added_to, modified_in, left_in, notices_in}
 use Rattle.of_datapath.specs.declared.control.AsyncConfig.{AsyncConfig}
 use Rattle.of_datapath.specs.Control.{lets_pass}
-use Rattle.of_datapath.specs.Told.{no_buffer}
 use Rattle.of_datapath.specs.declared.effect.Effect.{Effect}
 use Rattle.of_datapath.specs.declared.effect.Effect.TheVariants.{Answer}
 
@@ -96,7 +95,7 @@ add_refusals m ts =
 abbrev pub flow_mod_refusals : FlowMod → Tables → List Group → HeldFrames → List (Bool × Code)
 flow_mod_refusals m ts groups b =
     (not (is_delete m.command) && names_absent_group groups m.instructions, OFPBAC_BAD_OUT_GROUP)
-    ∷ (not (is_delete m.command) && not (m.buffer == no_buffer) && is_none (held m.buffer b), OFPBRC_BUFFER_UNKNOWN)
+    ∷ (not (is_delete m.command) && not (m.buffer == OFP_NO_BUFFER) && is_none (held m.buffer b), OFPBRC_BUFFER_UNKNOWN)
     ∷ add_refusals m ts
 
 -- ---- what is done

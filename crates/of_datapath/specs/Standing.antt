@@ -1,11 +1,11 @@
 -- Invariants that join a switch's flow tables and its groups (OpenFlow 1.3.5, 5.6, 6.4 and 6.5).
 use Rattle.std.specs.Prelude.{nat_le, Bool, not, List, IsTrue}
 use Rattle.std.specs.List.{list_all}
+use Rattle.of_wire.specs.declared.limits.TheConstants.{OFPG_MAX}
 use Rattle.of_groups.specs.declared.group.Group.{Group}
 use Rattle.of_table.specs.Table.{FlowEntry, Table}
 use Rattle.of_datapath.specs.Commands.{names_absent_group}
 use Rattle.of_datapath.specs.Datapath.{Forwarding}
-use Rattle.of_groups.specs.Buckets.{group_max}
 
 -- each group to which an action of the entry sends packets exists
 abbrev pub names_existing_groups : List Group → FlowEntry → Bool
@@ -16,7 +16,7 @@ all_name_existing_groups groups t = list_all (names_existing_groups groups) t.fl
 
 -- no group has a higher number than OFPG_MAX
 abbrev pub is_numbered : Group → Bool
-is_numbered g = nat_le g.id group_max
+is_numbered g = nat_le g.id OFPG_MAX
 
 -- EACH GROUP THAT AN ENTRY NAMES EXISTS, and no group has a number above OFPG_MAX
 pub record GroupsExist (f : Forwarding) : Type 0 where

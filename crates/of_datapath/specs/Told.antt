@@ -57,9 +57,6 @@ is_held heard p = not (limit_of heard p == no_limit) && nat_lt (limit_of heard p
 abbrev pub held_of : ToController → Held
 held_of p = record { frame = p.frame; ingress = p.ingress }
 
-abbrev pub no_buffer : ℕ
-no_buffer = OFP_NO_BUFFER
-
 -- an asynchronous message has the transaction id 0
 abbrev pub packet_in_of : ToController → ℕ → List ℕ → Effect
 packet_in_of p buffer «data» =
@@ -68,7 +65,7 @@ packet_in_of p buffer «data» =
 -- what is sent of an item, where a frame that is held would get this id
 abbrev pub effect_of : AsyncConfig → ℕ → Item → Effect
 effect_of heard id (item.Sent port frame) = Sent port frame
-effect_of heard id (item.PacketIn p) = if is_held heard p then packet_in_of p id (take (limit_of heard p) p.frame) else packet_in_of p no_buffer p.frame
+effect_of heard id (item.PacketIn p) = if is_held heard p then packet_in_of p id (take (limit_of heard p) p.frame) else packet_in_of p OFP_NO_BUFFER p.frame
 
 -- the frame that is held for it, if one is
 abbrev pub frames_for : AsyncConfig → Item → List Held

@@ -3,11 +3,12 @@ use Rattle.std.proofs.Common.{◌≡◌, ℕ, zero, suc, Bool, true, false, not,
 use Rattle.std.specs.Prelude.{◌&&◌, ◌||◌}
 use Rattle.std.specs.List.{list_any}
 use Rattle.std.specs.Option.{option_map_or}
+use Rattle.of_wire.specs.declared.limits.TheConstants.{OFPG_ANY, OFPP_ANY}
 use Rattle.of_groups.specs.declared.bucket.Bucket.{Bucket}
 use Rattle.of_groups.specs.declared.group.Group.{Group}
 use Rattle.of_groups.specs.declared.group.GroupKind.{GroupKind}
 use Rattle.of_groups.specs.declared.group.GroupKind.TheVariants.{All, Indirect, FastFailover}
-use Rattle.of_groups.specs.Buckets.{none_watched, watches, any_sends}
+use Rattle.of_groups.specs.Buckets.{watches, any_sends}
 use Rattle.of_groups.specs.Groups.{find_group, any_watches, any_named}
 use Rattle.of_groups.specs.Chains.{AreShort, leads}
 use Rattle.of_groups.specs.Liveness.{is_live_bucket, is_live_kind, is_live_within, is_live_group}
@@ -25,7 +26,7 @@ module _ (port : ℕ → Bool) (q one other : ℕ → Bool) (agree : (m : ℕ) �
   watched_by false p m h = ap (λ (x : Bool). p || x) (agree m h)
 
   bucket_same : (b : Bucket) → watches q b ≡ false → is_live_bucket port one b ≡ is_live_bucket port other b
-  bucket_same b h = watched_by (eqb b.watch_group none_watched) (not (eqb b.watch_port none_watched) && port b.watch_port) b.watch_group h
+  bucket_same b h = watched_by (eqb b.watch_group OFPG_ANY) (not (eqb b.watch_port OFPP_ANY) && port b.watch_port) b.watch_group h
 
   any_same : (buckets : List Bucket) → list_any (watches q) buckets ≡ false → list_any (is_live_bucket port one) buckets ≡ list_any (is_live_bucket port other) buckets
   any_same [] h = refl

@@ -3,13 +3,14 @@ use Rattle.std.proofs.Common.{◌≡◌, ℕ, Bool, true, false, not, eqb, List,
 use Rattle.std.specs.Prelude.{◌&&◌, ◌||◌}
 use Rattle.std.specs.List.{list_any, list_all}
 use Rattle.std.proofs.lemmas.Bool.Decides.{nat_tests, eqb_tells}
+use Rattle.of_wire.specs.declared.limits.TheConstants.{OFPG_ANY}
 use Rattle.of_actions.specs.declared.action.Action.{Action}
 use Rattle.of_actions.specs.declared.action.Action.TheVariants.{Group as ToGroup}
 use Rattle.of_groups.specs.declared.bucket.Bucket.{Bucket}
 use Rattle.of_groups.specs.declared.group.Group.{Group}
 use Rattle.of_groups.specs.declared.group.GroupKind.{GroupKind}
 use Rattle.of_groups.specs.declared.group.GroupKind.TheVariants.{All, Indirect, FastFailover}
-use Rattle.of_groups.specs.Buckets.{sends, any_sends, none_watched, watches}
+use Rattle.of_groups.specs.Buckets.{sends, any_sends, watches}
 use Rattle.of_groups.specs.Groups.{any_watches, any_named, names}
 
 -- ---- tests
@@ -54,7 +55,7 @@ pub any_watches_more : (p q : ℕ → Bool) → ((n : ℕ) → q n ≡ true → 
 any_watches_more p q f All buckets h = h
 any_watches_more p q f Indirect buckets h = h
 any_watches_more p q f FastFailover buckets h =
-    any_more (watches p) (watches q) buckets (λ b. and_more (not (eqb b.watch_group none_watched)) (p b.watch_group) (q b.watch_group) (f b.watch_group)) h
+    any_more (watches p) (watches q) buckets (λ b. and_more (not (eqb b.watch_group OFPG_ANY)) (p b.watch_group) (q b.watch_group) (f b.watch_group)) h
 
 pub any_named_more : (p q : ℕ → Bool) → ((n : ℕ) → q n ≡ true → p n ≡ true) → (g : Group) → any_named q g ≡ true → any_named p g ≡ true
 any_named_more p q f g h =
@@ -101,7 +102,7 @@ any_sent_number p buckets h =
     (m.0, b.2 (λ (b : Bucket). list_any (sends (λ n. eqb n m.0)) b.actions) (a.2 (sends (λ n. eqb n m.0)) m.1), m.2)
 
 watched_number : (p : ℕ → Bool) (b : Bucket) → watches p b ≡ true → watches (λ n. eqb n b.watch_group) b ≡ true
-watched_number p b h = and_more (not (eqb b.watch_group none_watched)) (eqb b.watch_group b.watch_group) (p b.watch_group) (λ e. grind (arith, nat_tests, eqb_tells b.watch_group b.watch_group)) h
+watched_number p b h = and_more (not (eqb b.watch_group OFPG_ANY)) (eqb b.watch_group b.watch_group) (p b.watch_group) (λ e. grind (arith, nat_tests, eqb_tells b.watch_group b.watch_group)) h
 
 and_second : (a b : Bool) → (a && b) ≡ true → b ≡ true
 and_second true b h = h
@@ -112,7 +113,7 @@ any_watched_number p All buckets h = absurd (cc)
 any_watched_number p Indirect buckets h = absurd (cc)
 any_watched_number p FastFailover buckets h =
     let b = any_passing (watches p) buckets h in
-    (b.0.watch_group, b.2 (watches (λ n. eqb n b.0.watch_group)) (watched_number p b.0 b.1), and_second (not (eqb b.0.watch_group none_watched)) (p b.0.watch_group) b.1)
+    (b.0.watch_group, b.2 (watches (λ n. eqb n b.0.watch_group)) (watched_number p b.0 b.1), and_second (not (eqb b.0.watch_group OFPG_ANY)) (p b.0.watch_group) b.1)
 
 pub or_first : (a b : Bool) → a ≡ true → (a || b) ≡ true
 or_first true b h = refl

@@ -1,7 +1,7 @@
 -- Buckets of a group (OpenFlow 1.3.5, 5.6, 5.6.1 and 5.8).
 use Rattle.std.specs.Prelude.{ℕ, zero, suc, ◌+◌, ◌%◌, ◌^◌, ◌==◌, nat_le, nat_lt, Bool, false, not, ◌&&◌, ◌||◌, List, [], ◌∷◌, length}
 use Rattle.std.specs.List.{list_any, list_all}
-use Rattle.of_wire.specs.declared.limits.TheConstants.{OFPG_ANY, OFPG_MAX}
+use Rattle.of_wire.specs.declared.limits.TheConstants.{OFPG_ANY, OFPG_MAX, OFPP_ANY}
 use Rattle.of_actions.specs.declared.action.Action.{Action}
 use Rattle.of_actions.specs.declared.action.Action.TheVariants.{Group}
 use Rattle.of_actions.specs.Supported.{are_supported}
@@ -41,21 +41,13 @@ sends is_so other = false
 abbrev pub any_sends : (ℕ → Bool) → List Bucket → Bool
 any_sends is_so buckets = list_any (λ b. list_any (sends is_so) b.actions) buckets
 
--- OFPP_ANY and OFPG_ANY: a bucket watches no port, or no group
-abbrev pub none_watched : ℕ
-none_watched = OFPG_ANY
-
 -- the bucket watches a group whose number passes the test
 abbrev pub watches : (ℕ → Bool) → Bucket → Bool
-watches is_so b = not (b.watch_group == none_watched) && is_so b.watch_group
-
--- OFPG_MAX, the highest number of a group (6.5)
-abbrev pub group_max : ℕ
-group_max = OFPG_MAX
+watches is_so b = not (b.watch_group == OFPG_ANY) && is_so b.watch_group
 
 -- a bucket of FAST-FAILOVER may watch a port, a group, or both: this one watches something else, or nothing
 abbrev pub is_badly_watched : Bucket → Bool
 is_badly_watched b =
-    (not (b.watch_port == none_watched) && not (is_number b.watch_port))
-    || (not (b.watch_group == none_watched) && nat_lt group_max b.watch_group)
-    || ((b.watch_port == none_watched) && (b.watch_group == none_watched))
+    (not (b.watch_port == OFPP_ANY) && not (is_number b.watch_port))
+    || (not (b.watch_group == OFPG_ANY) && nat_lt OFPG_MAX b.watch_group)
+    || ((b.watch_port == OFPP_ANY) && (b.watch_group == OFPG_ANY))

@@ -2,16 +2,16 @@
 use Rattle.std.specs.Prelude.{ℕ, zero, suc, ◌==◌, Bool, true, false, not, ◌&&◌, ◌||◌, List, [], ◌∷◌, length, Option, position}
 use Rattle.std.specs.List.{list_any, range_with_len}
 use Rattle.std.specs.Option.{option_map, option_map_or, option_to_list}
+use Rattle.of_wire.specs.declared.limits.TheConstants.{OFPG_ANY, OFPP_ANY}
 use Rattle.of_groups.specs.declared.bucket.Bucket.{Bucket}
 use Rattle.of_groups.specs.declared.group.Group.{Group}
 use Rattle.of_groups.specs.declared.group.GroupKind.{GroupKind}
 use Rattle.of_groups.specs.declared.group.GroupKind.TheVariants.{All, Indirect, FastFailover}
-use Rattle.of_groups.specs.Buckets.{none_watched}
 use Rattle.of_groups.specs.Groups.{find_group}
 
 -- a bucket of FAST-FAILOVER is live where the port or the group that it watches is live
 abbrev pub is_live_bucket : (ℕ → Bool) → (ℕ → Bool) → Bucket → Bool
-is_live_bucket port group b = (not (b.watch_port == none_watched) && port b.watch_port) || (not (b.watch_group == none_watched) && group b.watch_group)
+is_live_bucket port group b = (not (b.watch_port == OFPP_ANY) && port b.watch_port) || (not (b.watch_group == OFPG_ANY) && group b.watch_group)
 
 -- a group is live: ALL where it has a bucket, INDIRECT always, FAST-FAILOVER where some bucket is
 abbrev pub is_live_kind : (ℕ → Bool) → (ℕ → Bool) → GroupKind → List Bucket → Bool

@@ -4,6 +4,7 @@ use Rattle.std.specs.Prelude.{slice_index, ◌&&◌, ◌||◌, is_none}
 use Rattle.std.proofs.lemmas.Bool.{eqb-true, eqb-false, ltb-false, not-false}
 use Rattle.std.proofs.lemmas.Bool.Decides.{nat_tests}
 use Rattle.std.proofs.lemmas.List.{length-drop, length-take, take-append-drop}
+use Rattle.of_wire.specs.declared.limits.TheConstants.{OFPG_ALL, OFPP_CONTROLLER}
 use Rattle.byteorder.specs.Endian.{big_number}
 use Rattle.of_wire.specs.declared.code.Code.{Code}
 use Rattle.of_wire.specs.Refusals.{refusal}
@@ -14,7 +15,7 @@ use Rattle.of_oxm.specs.MatchReading.{match_of}
 use Rattle.of_actions.specs.declared.instruction.Instruction.{Instruction}
 use Rattle.of_actions.specs.Actions.{actions_said}
 use Rattle.of_actions.specs.FlowCheck.{all_go_with}
-use Rattle.of_actions.specs.PortNumbers.{is_number, controller}
+use Rattle.of_actions.specs.PortNumbers.{is_number}
 use Rattle.of_groups.specs.declared.group.GroupKind.{GroupKind}
 use Rattle.of_groups.specs.declared.group.GroupKind.TheVariants.{All, Indirect, FastFailover}
 use Rattle.of_messages.specs.declared.group_mod.GroupMod.{GroupMod}
@@ -35,7 +36,7 @@ use Rattle.of_formats.proofs.Binding.{bound, passed, is_known, same_ok}
 use Rattle.of_laws.specs.Buckets.{AreBuckets}
 use Rattle.of_laws.specs.Cells.{Cell, u16, u32, pad}
 use Rattle.of_laws.specs.Grammar.{IsData, IsValidData, IsIngress, IsValidPacketOut, ActionsThenData, buffer_of, command_number, flow_mod_cells, deletes, HasInstructions, MatchThenInstructions, MayName, IsValidFlowMod, kind_number, group_mod_cells, GroupTail, IsValidGroup, IsValidGroupMod}
-use Rattle.of_laws.specs.Requests.{NamesTable, all_groups}
+use Rattle.of_laws.specs.Requests.{NamesTable}
 use Rattle.of_laws.proofs.ActionTails.{actions_found}
 use Rattle.of_laws.proofs.BucketTails.{buckets_found}
 use Rattle.of_laws.proofs.InstructionTails.{instructions_found}
@@ -48,9 +49,9 @@ use Rattle.of_laws.proofs.Places.{Says, begins}
 pub ingress : (port : ℕ) → is_ingress port ≡ true → IsIngress port
 ingress port h = by_number (is_number port) refl h
   where
-    by_number : (b : Bool) → is_number port ≡ b → (b || eqb port controller) ≡ true → IsIngress port
+    by_number : (b : Bool) → is_number port ≡ b → (b || eqb port OFPP_CONTROLLER) ≡ true → IsIngress port
     by_number true is e = let low : 1 ≤ port = grind (arith, nat_tests) in let high : port ≤ 0xffffff00 = grind (arith, nat_tests) in inl (low, high)
-    by_number false is e = inr (eqb-true port controller e)
+    by_number false is e = inr (eqb-true port OFPP_CONTROLLER e)
 
 record DataSays (d : PacketData) (buffer : ℕ) (bytes : List ℕ) : Type 0 where
   number : buffer ≡ buffer_of d
@@ -234,9 +235,9 @@ unfolding group_command_of
 by_none m a b c = rw (a, b, c) refl
 
 delete_found : (g : GroupMod) (m : List ℕ) → command_in m ≡ 2 → delete_of (number_in m) ≡ Ok g → GroupModSays g m
-delete_found g m command h = by_number (eqb (number_in m) all_groups) refl (is_above (number_in m)) refl h
+delete_found g m command h = by_number (eqb (number_in m) OFPG_ALL) refl (is_above (number_in m)) refl h
   where
-    by_number : (a : Bool) → eqb (number_in m) all_groups ≡ a → (b : Bool) → is_above (number_in m) ≡ b → cond {A = Result GroupMod Code} a (Ok (group.Delete None)) (cond b (Err (refusal 6 1)) (Ok (group.Delete (Some (number_in m))))) ≡ Ok g → GroupModSays g m
+    by_number : (a : Bool) → eqb (number_in m) OFPG_ALL ≡ a → (b : Bool) → is_above (number_in m) ≡ b → cond {A = Result GroupMod Code} a (Ok (group.Delete None)) (cond b (Err (refusal 6 1)) (Ok (group.Delete (Some (number_in m))))) ≡ Ok g → GroupModSays g m
     by_number true all b low e =
         let same : group.Delete None ≡ g = cc in
         subst (λ (x : GroupMod). GroupModSays x m) same (record { says = (command, (eqb-true _ _ all, tt)); behind = tt; valid = tt })

@@ -4,6 +4,7 @@ use Rattle.std.specs.Prelude.{slice_index, ◌==◌, if◌then◌else◌, is_non
 use Rattle.std.proofs.lemmas.Bool.{eqb-true, eqb-false, ltb-false, not-false}
 use Rattle.std.proofs.lemmas.Bool.Decides.{nat_tests}
 use Rattle.std.proofs.lemmas.List.{drop_all, take-append-drop}
+use Rattle.of_wire.specs.declared.limits.TheConstants.{OFPG_ALL, OFPP_ANY}
 use Rattle.byteorder.specs.Endian.{big_number}
 use Rattle.of_wire.specs.declared.code.Code.{Code}
 use Rattle.of_wire.specs.Refusals.{refusal, first_of}
@@ -17,7 +18,7 @@ use Rattle.of_messages.specs.Configs.{names_table}
 use Rattle.of_messages.specs.Heads.{is_bad_size}
 use Rattle.of_messages.specs.Multiparts.{kind_of, kind_in, size_asked, multipart_refusals, multipart_by, flow_stats_of, one_or_all, number_in, multipart_of}
 use Rattle.of_formats.proofs.Binding.{bound, passed, same_ok}
-use Rattle.of_laws.specs.Requests.{BeginsMatch, IsOne, IsValidRequest, NamesTable, RequestTail, all_groups, any_port, flows_cells, or_all, request_cells}
+use Rattle.of_laws.specs.Requests.{BeginsMatch, IsOne, IsValidRequest, NamesTable, RequestTail, flows_cells, or_all, request_cells}
 use Rattle.of_laws.proofs.FoundSmall.{named}
 use Rattle.of_laws.proofs.MatchTails.{match_found}
 use Rattle.of_laws.proofs.OnlyRequests.{Asks, as_flow, as_aggregate, asks_0, asks_1, asks_2, asks_3, asks_4, asks_6, asks_7, asks_8, asks_13}
@@ -179,17 +180,17 @@ by_asked table r m fits a size h =
     subst (λ (x : MultipartRequest). RequestSays x m) same (plain_says Table m long refl (a.type_is, (a.one_part, tt)) (ended 16 m long) tt)
 by_asked port_stats r m fits a size h =
     let long = exact _ _ size in
-    let which = one_or_all any_port (number_in m) in
+    let which = one_or_all OFPP_ANY (number_in m) in
     let e : ◌≡◌ {A = Result MultipartRequest Code} (Ok (PortStats which)) (Ok r) = sym (asks_4 m a long) ∙ h in
     let same : PortStats which ≡ r = cc in
-    let one = one_known any_port (number_in m) in
+    let one = one_known OFPP_ANY (number_in m) in
     subst (λ (x : MultipartRequest). RequestSays x m) same (record { says = (a.type_is, (a.one_part, (one.0, tt))); long = omega arith; behind = ended 24 m long; valid = one.1 })
 by_asked group r m fits a size h =
     let long = exact _ _ size in
-    let which = one_or_all all_groups (number_in m) in
+    let which = one_or_all OFPG_ALL (number_in m) in
     let e : ◌≡◌ {A = Result MultipartRequest Code} (Ok (Group which)) (Ok r) = sym (asks_6 m a long) ∙ h in
     let same : Group which ≡ r = cc in
-    let one = one_known all_groups (number_in m) in
+    let one = one_known OFPG_ALL (number_in m) in
     subst (λ (x : MultipartRequest). RequestSays x m) same (record { says = (a.type_is, (a.one_part, (one.0, tt))); long = omega arith; behind = ended 24 m long; valid = one.1 })
 by_asked group_description r m fits a size h =
     let long = exact _ _ size in

@@ -4,6 +4,7 @@ use Rattle.std.specs.Prelude.{slice_index, ◌&&◌, is_none}
 use Rattle.std.proofs.lemmas.Bool.{le-ltb}
 use Rattle.std.proofs.lemmas.Bool.Decides.{nat_tests}
 use Rattle.std.proofs.lemmas.List.{length-append, length-drop, drop-drop, take_at, drop_at}
+use Rattle.of_wire.specs.declared.limits.TheConstants.{OFPG_ALL}
 use Rattle.byteorder.specs.Endian.{big_number}
 use Rattle.of_wire.specs.declared.code.Code.{Code}
 use Rattle.of_wire.specs.Refusals.{refusal}
@@ -32,7 +33,7 @@ use Rattle.of_formats.specs.Structs.{numbers}
 use Rattle.of_formats.specs.Tables as tables
 use Rattle.of_laws.specs.Cells.{Cell, u16, pad}
 use Rattle.of_laws.specs.Grammar.{IsData, IsValidData, IsIngress, IsValidPacketOut, ActionsThenData, buffer_of, command_number, flow_mod_numbers, flow_mod_cells, deletes, HasInstructions, MatchThenInstructions, MayName, IsValidFlowMod, kind_number, group_cells, group_mod_cells, GroupTail, IsValidNumber, IsValidGroupMod}
-use Rattle.of_laws.specs.Requests.{NamesTable, all_groups, or_all}
+use Rattle.of_laws.specs.Requests.{NamesTable, or_all}
 use Rattle.of_laws.proofs.BucketTails.{buckets_only}
 use Rattle.of_laws.proofs.MatchTails.{match_only}
 use Rattle.of_laws.proofs.Places.{Says, says, size, rest_is, size_is}
@@ -204,7 +205,7 @@ pub by_delete : (m : List ℕ) → command_in m ≡ 2 → group_mod_of m ≡ del
 unfolding group_command_of
 by_delete m e = rw e refl
 
-delete_only : (which : Option ℕ) → IsValidNumber which → delete_of (or_all all_groups which) ≡ Ok (group.Delete which)
+delete_only : (which : Option ℕ) → IsValidNumber which → delete_of (or_all OFPG_ALL which) ≡ Ok (group.Delete which)
 delete_only None valid = refl
 delete_only (Some number) valid =
     let other : eqb number 0xfffffffc ≡ false = grind (arith, nat_tests) in

@@ -3,6 +3,7 @@ use Rattle.std.proofs.Common.{◌≡◌, ◌≤◌, ◌+◌, ◌%◌, ℕ, true,
 use Rattle.std.proofs.lemmas.Bool.{le-ltb, eq-eqb}
 use Rattle.std.proofs.lemmas.Bool.Decides.{nat_tests}
 use Rattle.std.proofs.lemmas.List.{length-append}
+use Rattle.of_wire.specs.declared.limits.TheConstants.{OFPG_ALL, OFPP_ANY}
 use Rattle.byteorder.specs.Endian.{big_number}
 use Rattle.of_wire.specs.declared.code.Code.{Code}
 use Rattle.of_oxm.specs.declared.match_field.MatchField.{MatchField}
@@ -14,7 +15,7 @@ use Rattle.of_messages.specs.Multiparts.{kind_of, flow_stats_by, flow_stats_of, 
 use Rattle.of_formats.specs.Reading.{◌>>=◌}
 use Rattle.of_formats.specs.Structs.{numbers}
 use Rattle.of_formats.specs.Tables as tables
-use Rattle.of_laws.specs.Requests.{BeginsMatch, IsOne, IsValidRequest, NamesTable, RequestTail, all_groups, any_port, flows_cells, or_all, request_cells}
+use Rattle.of_laws.specs.Requests.{BeginsMatch, IsOne, IsValidRequest, NamesTable, RequestTail, flows_cells, or_all, request_cells}
 use Rattle.of_laws.proofs.MatchTails.{match_only}
 use Rattle.of_laws.proofs.OnlySmall.{table_named}
 use Rattle.of_laws.proofs.Places.{Says, size}
@@ -50,11 +51,11 @@ pub asks_3 : (m : List ℕ) → Asks 3 m → length m ≡ 16 → multipart_of m 
 unfolding multipart_of kind_of
 asks_3 m a size = rw (a.type_is, a.one_part, size) refl
 
-pub asks_4 : (m : List ℕ) → Asks 4 m → length m ≡ 24 → multipart_of m ≡ Ok (PortStats (one_or_all any_port (number_in m)))
+pub asks_4 : (m : List ℕ) → Asks 4 m → length m ≡ 24 → multipart_of m ≡ Ok (PortStats (one_or_all OFPP_ANY (number_in m)))
 unfolding multipart_of kind_of
 asks_4 m a size = rw (a.type_is, a.one_part, size) refl
 
-pub asks_6 : (m : List ℕ) → Asks 6 m → length m ≡ 24 → multipart_of m ≡ Ok (Group (one_or_all all_groups (number_in m)))
+pub asks_6 : (m : List ℕ) → Asks 6 m → length m ≡ 24 → multipart_of m ≡ Ok (Group (one_or_all OFPG_ALL (number_in m)))
 unfolding multipart_of kind_of
 asks_6 m a size = rw (a.type_is, a.one_part, size) refl
 
@@ -111,10 +112,10 @@ request_only Table m tail s long there h valid =
     let none : length tail ≡ 0 = ap length h in asks_3 m (record { type_is = s.0; one_part = s.1.0 }) (omega arith)
 request_only (PortStats port) m tail s long there h valid =
     let none : length tail ≡ 0 = ap length h in
-    asks_4 m (record { type_is = s.0; one_part = s.1.0 }) (omega arith) ∙ ap (λ (n : ℕ). Ok (PortStats (one_or_all any_port n))) s.1.1.0 ∙ ap (λ (o : Option ℕ). Ok (PortStats o)) (one_again any_port port valid)
+    asks_4 m (record { type_is = s.0; one_part = s.1.0 }) (omega arith) ∙ ap (λ (n : ℕ). Ok (PortStats (one_or_all OFPP_ANY n))) s.1.1.0 ∙ ap (λ (o : Option ℕ). Ok (PortStats o)) (one_again OFPP_ANY port valid)
 request_only (Group group) m tail s long there h valid =
     let none : length tail ≡ 0 = ap length h in
-    asks_6 m (record { type_is = s.0; one_part = s.1.0 }) (omega arith) ∙ ap (λ (n : ℕ). Ok (Group (one_or_all all_groups n))) s.1.1.0 ∙ ap (λ (o : Option ℕ). Ok (Group o)) (one_again all_groups group valid)
+    asks_6 m (record { type_is = s.0; one_part = s.1.0 }) (omega arith) ∙ ap (λ (n : ℕ). Ok (Group (one_or_all OFPG_ALL n))) s.1.1.0 ∙ ap (λ (o : Option ℕ). Ok (Group o)) (one_again OFPG_ALL group valid)
 request_only GroupDescription m tail s long there h valid =
     let none : length tail ≡ 0 = ap length h in asks_7 m (record { type_is = s.0; one_part = s.1.0 }) (omega arith)
 request_only GroupFeatures m tail s long there h valid =

@@ -4,6 +4,7 @@ use Rattle.std.specs.Prelude.{slice_index}
 use Rattle.std.specs.List.{AllByRecursion, flat_map}
 use Rattle.std.proofs.lemmas.Bool.{le-ltb, lt-ltb, ltb-false, ltb-true}
 use Rattle.std.proofs.lemmas.List.{length-append, take_at}
+use Rattle.of_wire.specs.declared.limits.TheConstants.{OFPG_MAX}
 use Rattle.byteorder.specs.Endian.{big_number}
 use Rattle.byteorder.specs.Numbers.{big_number-reads_back}
 use Rattle.of_wire.specs.declared.code.Code.{Code}
@@ -17,7 +18,6 @@ use Rattle.of_actions.specs.Actions.{actions_said}
 use Rattle.of_actions.specs.CanonicalActions.{canonical_actions}
 use Rattle.of_actions.proofs.ActionsAgain.{length-canonical}
 use Rattle.of_groups.specs.declared.bucket.Bucket.{Bucket}
-use Rattle.of_groups.specs.Buckets.{group_max}
 use Rattle.of_groups.specs.Groups.{kind_number}
 use Rattle.of_messages.specs.Buckets.{actions_in, bucket_at, bucket_with, buckets, buckets_said, fault_of, len_at}
 use Rattle.of_messages.specs.CanonicalGroups.{canonical_bucket, canonical_buckets, group_add_bytes, group_add_fixed_part}
@@ -200,9 +200,9 @@ with_outcome g None = refl
 with_outcome g (Some code) = refl
 
 group_there : (g : TextGroup) → IsSaidGroup g → group_of (kind_number g.head.kind) g.head.id (canonical_buckets (buckets_of g)) ≡ new_outcome (new_of g) (first_of (said_refusals g))
-group_there g w = by_number (ltb group_max g.head.id) refl
+group_there g w = by_number (ltb OFPG_MAX g.head.id) refl
   where
-    by_number : (t : Bool) → ltb group_max g.head.id ≡ t → group_of (kind_number g.head.kind) g.head.id (canonical_buckets (buckets_of g)) ≡ new_outcome (new_of g) (first_of (said_refusals g))
+    by_number : (t : Bool) → ltb OFPG_MAX g.head.id ≡ t → group_of (kind_number g.head.kind) g.head.id (canonical_buckets (buckets_of g)) ≡ new_outcome (new_of g) (first_of (said_refusals g))
     by_number true over = rw over refl
     by_number false under =
         let kind : kind_of (kind_number g.head.kind) ≡ Some g.head.kind = ap kind_of (kind_same g.head.kind) ∙ kind_again g.head.kind in

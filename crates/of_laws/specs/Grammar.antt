@@ -1,11 +1,10 @@
 -- THE GRAMMAR: which bytes encode which message of a controller (OpenFlow 1.3.5, 7).
 use Rattle.std.specs.Prelude.{◌≡◌, ◌≤◌, ◌<◌, ℕ, bit_and, ◌⊎◌, ⊤, Bool, true, false, List, [], ◌∷◌, ◌++◌, length, take, drop, Option, Some, None}
-use Rattle.of_wire.specs.declared.limits.TheConstants.{OFP_NO_BUFFER}
+use Rattle.of_wire.specs.declared.limits.TheConstants.{OFP_NO_BUFFER, OFPG_ALL, OFPG_MAX, OFPP_CONTROLLER, OFPP_MAX}
 use Rattle.of_oxm.specs.MatchGrammar.{EncodesMatch}
 use Rattle.of_actions.specs.Actions.{AreActions}
 use Rattle.of_actions.specs.FlowCheck.{all_go_with}
 use Rattle.of_actions.specs.Instructions.{EncodesInstructions}
-use Rattle.of_actions.specs.PortNumbers.{controller}
 use Rattle.of_groups.specs.declared.group.GroupKind.{GroupKind}
 use Rattle.of_groups.specs.declared.group.GroupKind.TheVariants.{All, Indirect, FastFailover}
 use Rattle.of_messages.specs.declared.async_masks.AsyncMasks.{AsyncMasks}
@@ -28,7 +27,7 @@ use Rattle.of_laws.specs.Buckets.{AreBuckets}
 use Rattle.of_laws.specs.StructCells.{cells_of, without}
 use Rattle.of_formats.specs.Tables as tables
 use Rattle.of_laws.specs.Cells.{Cell, byte, pad, Begins}
-use Rattle.of_laws.specs.Requests.{NamesTable, all_groups, or_all, request_cells, RequestTail, IsValidRequest}
+use Rattle.of_laws.specs.Requests.{NamesTable, or_all, request_cells, RequestTail, IsValidRequest}
 
 -- THE HEADER (7.1, struct ofp_header)
 
@@ -59,13 +58,9 @@ version other = byte 4
 
 -- PACKET_OUT (7.3.7, struct ofp_packet_out)
 
--- OFP_NO_BUFFER
-abbrev pub no_buffer : ℕ
-no_buffer = OFP_NO_BUFFER
-
 abbrev pub buffer_of : PacketData → ℕ
 buffer_of (Buffered number) = number
-buffer_of (Frame frame) = no_buffer
+buffer_of (Frame frame) = OFP_NO_BUFFER
 
 -- the frame follows the actions; for a buffered packet what follows is ignored
 abbrev pub IsData : PacketData → List ℕ → Type 0
@@ -82,12 +77,12 @@ pub record ActionsThenData (m : PacketOut) (tail : List ℕ) : Type 0 where
 
 -- OFPBRC_BAD_PACKET for a frame that is shorter than 14 bytes or longer than 9,216
 abbrev pub IsValidData : PacketData → Type 0
-IsValidData (Buffered number) = ¬ (number ≡ no_buffer)
+IsValidData (Buffered number) = ¬ (number ≡ OFP_NO_BUFFER)
 IsValidData (Frame frame) = (14 ≤ length frame) × (length frame ≤ 9216)
 
 -- a port, 1 to OFPP_MAX, or OFPP_CONTROLLER: else OFPBRC_BAD_PORT
 abbrev pub IsIngress : ℕ → Type 0
-IsIngress port = ((1 ≤ port) × (port ≤ 0xffffff00)) ⊎ (port ≡ controller)
+IsIngress port = ((1 ≤ port) × (port ≤ OFPP_MAX)) ⊎ (port ≡ OFPP_CONTROLLER)
 
 abbrev pub IsValidPacketOut : PacketOut → Type 0
 IsValidPacketOut m = IsIngress m.in_port × IsValidData m.packet
@@ -153,7 +148,7 @@ group_cells command g = cells_of tables.group_mod (command ∷ kind_number g.kin
 abbrev pub group_mod_cells : GroupMod → List Cell
 group_mod_cells (group.Add g) = group_cells 0 g
 group_mod_cells (group.Modify g) = group_cells 1 g
-group_mod_cells (group.Delete which) = cells_of (without "type" tables.group_mod) (2 ∷ or_all all_groups which ∷ []) []
+group_mod_cells (group.Delete which) = cells_of (without "type" tables.group_mod) (2 ∷ or_all OFPG_ALL which ∷ []) []
 
 abbrev pub GroupTail : GroupMod → List ℕ → Type 0
 GroupTail (group.Add g) tail = AreBuckets g.buckets tail
@@ -162,11 +157,11 @@ GroupTail (group.Delete which) tail = ⊤
 
 -- up to OFPG_MAX, else OFPGMFC_INVALID_GROUP; and OFPGMFC_OUT_OF_BUCKETS for more than 16 buckets
 abbrev pub IsValidGroup : NewGroup → Type 0
-IsValidGroup g = (g.id ≤ 0xffffff00) × (length g.buckets ≤ 16)
+IsValidGroup g = (g.id ≤ OFPG_MAX) × (length g.buckets ≤ 16)
 
 abbrev pub IsValidNumber : Option ℕ → Type 0
 IsValidNumber None = ⊤
-IsValidNumber (Some number) = number ≤ 0xffffff00
+IsValidNumber (Some number) = number ≤ OFPG_MAX
 
 abbrev pub IsValidGroupMod : GroupMod → Type 0
 IsValidGroupMod (group.Add g) = IsValidGroup g

@@ -1,6 +1,7 @@
 -- What a flow of a text has in common with the FLOW_MOD that adds it.
 use Rattle.std.specs.Prelude.{◌≡◌, ℕ, ◌++◌, ◌^◌, ◌<◌, nat_lt, Bool, true, bit_and, ◌⊎◌, List, ◌∷◌, length, Option, Some, None, Result, Ok, Err}
 use Rattle.std.specs.List.{AllByRecursion}
+use Rattle.of_wire.specs.declared.limits.TheConstants.{OFPG_MAX}
 use Rattle.of_oxm.specs.Canonical.{canonical}
 use Rattle.of_oxm.specs.NormalForm.{IsAscending}
 use Rattle.of_oxm.specs.declared.match_field.MatchField.{MatchField}
@@ -12,7 +13,6 @@ use Rattle.of_text.specs.Flows.{Flow, Step, Apply, Clear, Write, Metadata, Goto}
 use Rattle.of_text.specs.Rows.{ActionFits, BucketFits, FieldFits, HeadFits}
 use Rattle.of_wire.specs.declared.codes.TheConstants.{OFPGMFC_INVALID_GROUP}
 use Rattle.of_wire.specs.declared.code.Code.{Code}
-use Rattle.of_groups.specs.Buckets.{group_max}
 use Rattle.of_messages.specs.CanonicalGroups.{canonical_buckets}
 use Rattle.of_messages.specs.declared.group_mod.NewGroup.{NewGroup}
 use Rattle.of_messages.specs.declared.group_mod.GroupMod.TheVariants.{Add}
@@ -69,4 +69,4 @@ pub record IsSaidGroup (g : TextGroup) : Type 0 where
 
 -- the refusals of a group that a message decides without the switch: the first of `group_refusals`
 abbrev pub said_refusals : TextGroup → List (Bool × Code)
-said_refusals g = (nat_lt group_max g.head.id, OFPGMFC_INVALID_GROUP) ∷ buckets_refusals g.buckets
+said_refusals g = (nat_lt OFPG_MAX g.head.id, OFPGMFC_INVALID_GROUP) ∷ buckets_refusals g.buckets

@@ -22,13 +22,6 @@ request_type GroupDescription = 7
 request_type GroupFeatures = 8
 request_type PortDescription = 13
 
--- OFPP_ANY, and OFPG_ALL
-abbrev pub any_port : ℕ
-any_port = OFPP_ANY
-
-abbrev pub all_groups : ℕ
-all_groups = OFPG_ALL
-
 abbrev pub or_all : ℕ → Option ℕ → ℕ
 or_all all None = all
 or_all all (Some number) = number
@@ -41,8 +34,8 @@ flows_cells r = cells_of tables.flow_stats_request (r.table ∷ r.out_port ∷ r
 abbrev pub body_cells : MultipartRequest → List Cell
 body_cells (Flow r) = flows_cells r
 body_cells (Aggregate r) = flows_cells r
-body_cells (PortStats port) = cells_of tables.port_stats_request (or_all any_port port ∷ []) []
-body_cells (Group group) = cells_of tables.group_stats_request (or_all all_groups group ∷ []) []
+body_cells (PortStats port) = cells_of tables.port_stats_request (or_all OFPP_ANY port ∷ []) []
+body_cells (Group group) = cells_of tables.group_stats_request (or_all OFPG_ALL group ∷ []) []
 body_cells other = []
 
 -- the type, flags, of which OFPMPF_REQ_MORE is not set, padding, and the body
@@ -74,6 +67,6 @@ IsOne all (Some number) = ¬ (number ≡ all)
 abbrev pub IsValidRequest : MultipartRequest → Type 0
 IsValidRequest (Flow r) = NamesTable r.table
 IsValidRequest (Aggregate r) = NamesTable r.table
-IsValidRequest (PortStats port) = IsOne any_port port
-IsValidRequest (Group group) = IsOne all_groups group
+IsValidRequest (PortStats port) = IsOne OFPP_ANY port
+IsValidRequest (Group group) = IsOne OFPG_ALL group
 IsValidRequest other = ⊤

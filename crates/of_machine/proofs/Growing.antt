@@ -2,6 +2,7 @@
 use Rattle.std.proofs.Common.{◌≡◌, ◌==◌, ℕ, ◌+◌, ◌*◌, ◌-◌, ◌<◌, ◌≤◌, suc, zero, Bool, true, false, cond, List, [], ◌∷◌, ◌++◌, refl, length, arith, Option, Some, None}
 use Rattle.std.specs.Prelude.{IsTrue, nat_lt, unwrap_or, map, max, ⊤, ◌||◌}
 use Rattle.std.specs.List.{All, list_all}
+use Rattle.of_wire.specs.declared.limits.TheConstants.{OFPP_ALL, OFPP_CONTROLLER, OFPP_FLOOD, OFPP_IN_PORT, OFPP_TABLE}
 use Rattle.of_layers.specs.Reading.{layers_of}
 use Rattle.of_layers.proofs.TestLemmas.{and_true}
 use Rattle.of_rewrite.specs.declared.frame.Ttl.{Ttl}
@@ -14,7 +15,6 @@ use Rattle.of_actions.specs.declared.action.Action.TheVariants.{Output, PushVlan
 use Rattle.of_actions.specs.declared.instruction.Instruction.{Instruction}
 use Rattle.of_actions.specs.declared.instruction.Instruction.TheVariants.{Apply, Clear, Write, Metadata, Goto}
 use Rattle.of_actions.specs.InstructionLists.{run_place, is_served_body}
-use Rattle.of_actions.specs.PortNumbers.{in_port, table, flood, all, controller}
 use Rattle.of_actions.specs.Rising.{is_ascending}
 use Rattle.of_actions.specs.Supported.{is_supported}
 use Rattle.of_action_set.specs.Sets.{rank, with_actions, in_order}
@@ -75,12 +75,12 @@ module _ (P : List ℕ → Type 0) (p : Packet) (low : P p.frame) where
 
   emission_each : (ports : List Port) (port max_len : ℕ) → Each P (emission ports p port max_len).items
   emission_each ports port max_len =
-      either_each (port == in_port) _ _ (port_each (port_at ports p.ingress))
-      (either_each ((port == flood) || (port == all)) _ _ (sent_each (other_ports ports p.ingress))
-      (either_each (port == controller) _ _ (low, tt)
+      either_each (port == OFPP_IN_PORT) _ _ (port_each (port_at ports p.ingress))
+      (either_each ((port == OFPP_FLOOD) || (port == OFPP_ALL)) _ _ (sent_each (other_ports ports p.ingress))
+      (either_each (port == OFPP_CONTROLLER) _ _ (low, tt)
       (either_each (port == p.ingress) _ _ tt (port_each (port_at ports port)))))
 
-  output_each : (w : TheWorld) (rest : List Work) (a : Action) (port max_len : ℕ) (b : Bool) → (port == table) ≡ b → Each P (output_row w p rest a port max_len).items
+  output_each : (w : TheWorld) (rest : List Work) (a : Action) (port max_len : ℕ) (b : Bool) → (port == OFPP_TABLE) ≡ b → Each P (output_row w p rest a port max_len).items
   output_each w rest a port max_len true e = rw e tt
   output_each w rest a port max_len false e = rw e (emission_each w.ports port max_len)
 
@@ -110,7 +110,7 @@ module _ (P : List ℕ → Type 0) (p : Packet) (low : P p.frame) where
   row_each w (Do (Metadata value mask) ∷ rest) = tt
   row_each w (Do (Goto t) ∷ rest) = tt
   row_each w (RunSet ∷ rest) = tt
-  row_each w (Act (Output port max_len) ∷ rest) = output_each w rest (Output port max_len) port max_len (port == table) refl
+  row_each w (Act (Output port max_len) ∷ rest) = output_each w rest (Output port max_len) port max_len (port == OFPP_TABLE) refl
   row_each w (Act (Group g) ∷ rest) = group_each w rest g (w.chosen g)
   row_each w (Act DecNwTtl ∷ rest) = aged_each rest (dec_ttl_result (ttl_of (layers_of p.frame)))
   row_each w (Act other ∷ rest) = tt
@@ -233,7 +233,7 @@ module _ (w : TheWorld) where
     rewritten_low : (b : ℕ) (p : Packet) (rest : List Work) (a : Action) → (length (rewritten a p.frame) ≤ length p.frame) × IsFrame (rewritten a p.frame) → length p.frame + 4 * work_pushes w p.action_set rest ≤ b → AllLow w b (task (record p { frame = rewritten a p.frame }) rest ∷ [])
     rewritten_low b p rest a k room = one_low b (record p { frame = rewritten a p.frame }) rest k.1 (let le = k.0 in omega (arith, le, room))
 
-    output_low : (b : ℕ) (p : Packet) (rest : List Work) (port max_len : ℕ) (c : Bool) → (port == table) ≡ c → IsFrame p.frame → length p.frame + 4 * cond c (max (table_pushes 0) (work_pushes w p.action_set rest)) (work_pushes w p.action_set rest) ≤ b → AllLow w b (output_row w p rest (Output port max_len) port max_len).left
+    output_low : (b : ℕ) (p : Packet) (rest : List Work) (port max_len : ℕ) (c : Bool) → (port == OFPP_TABLE) ≡ c → IsFrame p.frame → length p.frame + 4 * cond c (max (table_pushes 0) (work_pushes w p.action_set rest)) (work_pushes w p.action_set rest) ≤ b → AllLow w b (output_row w p rest (Output port max_len) port max_len).left
     output_low b p rest port max_len true e frame room = rw e (record { frame = frame; room = omega arith }, one_low b p rest frame (omega arith))
     output_low b p rest port max_len false e frame room = rw e (one_low b p rest frame room)
 
@@ -246,7 +246,7 @@ module _ (w : TheWorld) where
     row_low b p (Do (Metadata value mask) ∷ rest) set fit low = one_low b (record p { metadata = with_metadata value mask p.metadata }) rest low.frame low.room
     row_low b p (Do (Goto t) ∷ rest) set fit low = one_low b p (Lookup t ∷ []) low.frame low.room
     row_low b p (RunSet ∷ rest) set fit low = one_low b (set_out p) (acts (in_order p.action_set) ++ rest) low.frame (rw (acts_pushes (in_order p.action_set) [] rest) low.room)
-    row_low b p (Act (Output port max_len) ∷ rest) set fit low = output_low b p rest port max_len (port == table) refl low.frame low.room
+    row_low b p (Act (Output port max_len) ∷ rest) set fit low = output_low b p rest port max_len (port == OFPP_TABLE) refl low.frame low.room
     row_low b p (Act (PushVlan type) ∷ rest) set fit low =
         let k = pushed_frame type p.frame low.frame in
         let room = low.room in
@@ -290,12 +290,12 @@ module _ (w : TheWorld) where
     pub frame_low : (p : Packet) → IsFrame p.frame → length p.frame ≤ 9216 → IsLow w 13328 (task p (Lookup 0 ∷ []))
     frame_low p frame le = record { frame = frame; room = omega (arith, le) }
 
-    output_more : (port later : ℕ) (c : Bool) → (port == table) ≡ c → cond c (max (table_pushes 0) later) later ≤ 1 + max (table_pushes 0) later
+    output_more : (port later : ℕ) (c : Bool) → (port == OFPP_TABLE) ≡ c → cond c (max (table_pushes 0) later) later ≤ 1 + max (table_pushes 0) later
     output_more port later true e = omega arith
     output_more port later false e = omega arith
 
     act_more : (a : Action) (later : ℕ) → act_pushes w a later ≤ 1 + max (table_pushes 0) later
-    act_more (Output port max_len) later = output_more port later (port == table) refl
+    act_more (Output port max_len) later = output_more port later (port == OFPP_TABLE) refl
     act_more (Group g) later = let le : w.chain g ≤ longest = sound.short g in omega (arith, le)
     act_more other later = omega arith
 

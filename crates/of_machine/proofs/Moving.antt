@@ -2,6 +2,7 @@
 use Rattle.std.proofs.Common.{◌≡◌, ◌≢◌, ◌==◌, ℕ, ◌+◌, ◌<◌, suc, Bool, true, false, List, [], ◌∷◌, ◌++◌, refl, sym, ◌∙◌, ap, subst, length, get_or, drop, Some, None, append_assoc, add-one, drop-cons, ◌⊎◌, inl, inr}
 use Rattle.std.specs.Prelude.{map, IsTrue}
 use Rattle.std.proofs.lemmas.List.{append-nil}
+use Rattle.of_wire.specs.declared.limits.TheConstants.{OFPP_TABLE}
 use Rattle.of_layers.specs.Reading.{layers_of}
 use Rattle.of_rewrite.specs.declared.frame.Ttl.{Ttl}
 use Rattle.of_rewrite.specs.declared.frame.Ttl.TheVariants.{Done, Expired, Absent}
@@ -9,7 +10,6 @@ use Rattle.of_rewrite.specs.TimeToLive.{ttl_of, dec_ttl_result}
 use Rattle.of_rewrite.specs.Frames.{IsFrame, frame_ttl_decremented}
 use Rattle.of_actions.specs.declared.action.Action.{Action}
 use Rattle.of_actions.specs.declared.action.Action.TheVariants.{Output, Group as ToGroup, DecNwTtl}
-use Rattle.of_actions.specs.PortNumbers.{table}
 use Rattle.of_actions.specs.declared.instruction.Instruction.{Instruction}
 use Rattle.of_actions.specs.declared.instruction.Instruction.TheVariants.{Apply, Clear, Write, Metadata, Goto}
 use Rattle.of_action_set.specs.Sets.{with_actions, in_order}
@@ -52,10 +52,10 @@ module _ (w : TheWorld) (keeps : Bool) (p : Packet) (rest : List Work) (others :
 
   -- ---- actions
 
-  output_is : (a : Action) (port max_len : ℕ) → (port == table) ≡ false → output_row w p rest a port max_len ≡ emits (DidAct a) (emission w.ports p port max_len) (task p rest ∷ [])
+  output_is : (a : Action) (port max_len : ℕ) → (port == OFPP_TABLE) ≡ false → output_row w p rest a port max_len ≡ emits (DidAct a) (emission w.ports p port max_len) (task p rest ∷ [])
   output_is a port max_len e = rw e refl
 
-  pub outputs : (o' : Outcome) (port max_len : ℕ) → (port == table) ≡ false → Gains o (emission w.ports p port max_len) o' → (keeps ≡ true → told' ≡ told ++ DidAct (Output port max_len) ∷ []) →
+  pub outputs : (o' : Outcome) (port max_len : ℕ) → (port == OFPP_TABLE) ≡ false → Gains o (emission w.ports p port max_len) o' → (keeps ≡ true → told' ≡ told ++ DidAct (Output port max_len) ∷ []) →
       Moves w keeps (point (task p (Act (Output port max_len) ∷ rest) ∷ others) o told) (point (task p rest ∷ others) o' told')
   outputs o' port max_len out gains =
       by_row o' (Act (Output port max_len) ∷ rest) (emits (DidAct (Output port max_len)) (emission w.ports p port max_len) (task p rest ∷ [])) (output_is (Output port max_len) port max_len out) gains.items gains.counts

@@ -3,13 +3,14 @@ use Rattle.std.proofs.Common.{◌≡◌, ◌==◌, ℕ, ◌+◌, ◌<◌, ◌≤
 use Rattle.std.specs.Prelude.{IsTrue, filter, nat_lt, nat_le}
 use Rattle.std.specs.List.{list_all, list_any}
 use Rattle.std.proofs.lemmas.Bool.Decides.{nat_tests}
+use Rattle.of_wire.specs.declared.limits.TheConstants.{OFPP_TABLE}
 use Rattle.of_layers.specs.declared.field.Field.{Field}
 use Rattle.of_layers.specs.Fields.{is_settable, ones_of}
 use Rattle.of_layers.specs.Reading.{is_tag_type}
 use Rattle.of_layers.proofs.TestLemmas.{and_true}
 use Rattle.of_actions.specs.declared.action.Action.{Action}
 use Rattle.of_actions.specs.declared.action.Action.TheVariants.{Output, PushVlan, Group, SetField}
-use Rattle.of_actions.specs.PortNumbers.{is_port, table}
+use Rattle.of_actions.specs.PortNumbers.{is_port}
 use Rattle.of_actions.specs.declared.instruction.Instruction.{Instruction}
 use Rattle.of_actions.specs.InstructionLists.{are_kept, is_served_body, run_place}
 use Rattle.of_actions.specs.Rising.{is_ascending}
@@ -34,12 +35,12 @@ unfolding is_supported
 value_fits f v h = let e = (and_true (is_settable f) (nat_le v (ones_of f)) h).1 in grind (arith, nat_tests)
 
 -- no flow sends to the tables
-pub out_of_tables : (port max_len : ℕ) → IsTrue (is_supported false (Output port max_len)) → (port == table) ≡ false
+pub out_of_tables : (port max_len : ℕ) → IsTrue (is_supported false (Output port max_len)) → (port == OFPP_TABLE) ≡ false
 unfolding is_supported
 out_of_tables port max_len h =
-    let e = (and_true (is_port false port) (nat_lt max_len 0x10000) h).0 in by_test (port == table) refl e
+    let e = (and_true (is_port false port) (nat_lt max_len 0x10000) h).0 in by_test (port == OFPP_TABLE) refl e
   where
-    by_test : (b : Bool) → (port == table) ≡ b → is_port false port ≡ true → b ≡ false
+    by_test : (b : Bool) → (port == OFPP_TABLE) ≡ b → is_port false port ≡ true → b ≡ false
     by_test false e p = refl
     by_test true e p = let same : port ≡ table = grind (arith, nat_tests) in let no : is_port false port ≡ false = rw same refl in cc
 

@@ -3,6 +3,7 @@ use Rattle.std.proofs.Common.{◌≡◌, ◌==◌, ℕ, suc, zero, Bool, true, f
 use Rattle.std.specs.Prelude.{◌||◌, unwrap_or}
 use Rattle.std.specs.Option.{option_map}
 use Rattle.std.proofs.lemmas.List.{map-append}
+use Rattle.of_wire.specs.declared.limits.TheConstants.{OFPP_ALL, OFPP_CONTROLLER, OFPP_FLOOD, OFPP_IN_PORT, OFPP_TABLE}
 use Rattle.of_layers.specs.Reading.{layers_of}
 use Rattle.of_rewrite.specs.declared.frame.Ttl.{Ttl}
 use Rattle.of_rewrite.specs.declared.frame.Ttl.TheVariants.{Done, Expired, Absent}
@@ -10,7 +11,6 @@ use Rattle.of_rewrite.specs.TimeToLive.{ttl_of, dec_ttl_result}
 use Rattle.of_actions.specs.declared.action.Action.{Action}
 use Rattle.of_actions.specs.declared.action.Action.TheVariants.{Output, Group as ToGroup, DecNwTtl}
 use Rattle.of_actions.specs.declared.instruction.Instruction.TheVariants.{Apply, Clear, Write, Metadata, Goto}
-use Rattle.of_actions.specs.PortNumbers.{in_port, table, flood, all, controller}
 use Rattle.of_action_set.specs.Sets.{with_actions, in_order}
 use Rattle.of_table.specs.declared.flow.Flow.{Flow}
 use Rattle.of_ports.specs.declared.port.Port.{Port}
@@ -46,9 +46,9 @@ module _ (number : ℕ → ℕ → ℕ) (w v : TheWorld) (h : IsRenumbered numbe
 
   emission_counts : (ports : List Port) (p : Packet) (n max_len : ℕ) → same_counts (emission ports p n max_len)
   emission_counts ports p n max_len =
-      sent_or_not (n == in_port) _ _ (port_counts (port_at ports p.ingress) p)
-      (sent_or_not ((n == flood) || (n == all)) _ _ refl
-      (sent_or_not (n == controller) _ _ refl
+      sent_or_not (n == OFPP_IN_PORT) _ _ (port_counts (port_at ports p.ingress) p)
+      (sent_or_not ((n == OFPP_FLOOD) || (n == OFPP_ALL)) _ _ refl
+      (sent_or_not (n == OFPP_CONTROLLER) _ _ refl
       (sent_or_not (n == p.ingress) _ _ refl (port_counts (port_at ports n) p))))
 
   entry_is : (p : Packet) (t n : ℕ) (f : Option Flow) → entry_row p t (number t n) f ≡ renumbered_row (entry_row p t n f)
@@ -69,7 +69,7 @@ module _ (number : ℕ → ℕ → ℕ) (w v : TheWorld) (h : IsRenumbered numbe
       ∙ ap (λ (cs : List Count). record (emits (DidAct a) (emission w.ports p port max_len) (task p rest ∷ [])) { counts = cs }) (sym (emission_counts w.ports p port max_len))
 
   output_is : (p : Packet) (rest : List Work) (a : Action) (port max_len : ℕ) → output_row v p rest a port max_len ≡ renumbered_row (output_row w p rest a port max_len)
-  output_is p rest a port max_len = either_is (port == table) (table_row p rest a) _ (table_row p rest a) _ refl (emits_is p rest a port max_len)
+  output_is p rest a port max_len = either_is (port == OFPP_TABLE) (table_row p rest a) _ (table_row p rest a) _ refl (emits_is p rest a port max_len)
 
   bucket_counts : (g bytes : ℕ) (ks : List ℕ) → map (renumbered_count number) (map (λ place. Bucket g place bytes) ks) ≡ map (λ place. Bucket g place bytes) ks
   bucket_counts g bytes [] = refl

@@ -4,6 +4,7 @@ use Rattle.std.specs.Prelude.{IsTrue, nat_lt, nat_le, unwrap_or, ⊤}
 use Rattle.std.specs.List.{list_all}
 use Rattle.std.proofs.Math.Nat.{mul-le-mul_left}
 use Rattle.std.proofs.lemmas.Bool.Decides.{nat_tests}
+use Rattle.of_wire.specs.declared.limits.TheConstants.{OFPP_TABLE}
 use Rattle.of_layers.specs.Reading.{layers_of}
 use Rattle.of_layers.proofs.TestLemmas.{and_true}
 use Rattle.of_rewrite.specs.declared.frame.Ttl.{Ttl}
@@ -15,7 +16,6 @@ use Rattle.of_actions.specs.declared.action.Action.TheVariants.{Output, Group, D
 use Rattle.of_actions.specs.declared.instruction.Instruction.{Instruction}
 use Rattle.of_actions.specs.declared.instruction.Instruction.TheVariants.{Apply, Clear, Write, Metadata, Goto}
 use Rattle.of_actions.specs.InstructionLists.{run_place, are_for, is_for, is_served_body}
-use Rattle.of_actions.specs.PortNumbers.{table}
 use Rattle.of_actions.specs.Rising.{is_ascending}
 use Rattle.of_actions.specs.Supported.{is_supported}
 use Rattle.of_action_set.specs.Sets.{rank, with_actions, in_order}
@@ -246,7 +246,7 @@ module _ (w : TheWorld) where
     aged_lowers p rest Expired = let x = positive p.action_set rest in omega arith
     aged_lowers p rest Absent = omega arith
 
-    output_lowers : (p : Packet) (rest : List Work) (port max_len : ℕ) (b : Bool) → (port == table) ≡ b → weight w (output_row w p rest (Output port max_len) port max_len).left + 1 ≤ output_weight port + work_weight w p.action_set rest
+    output_lowers : (p : Packet) (rest : List Work) (port max_len : ℕ) (b : Bool) → (port == OFPP_TABLE) ≡ b → weight w (output_row w p rest (Output port max_len) port max_len).left + 1 ≤ output_weight port + work_weight w p.action_set rest
     output_lowers p rest port max_len true e = rw e (omega arith)
     output_lowers p rest port max_len false e = rw e (omega arith)
 
@@ -259,7 +259,7 @@ module _ (w : TheWorld) where
     row_lowers p (Do (Metadata value mask) ∷ rest) set fit = omega arith
     row_lowers p (Do (Goto t) ∷ rest) set fit = omega arith
     row_lowers p (RunSet ∷ rest) set fit = let x = acts_work (in_order p.action_set) [] rest in omega arith
-    row_lowers p (Act (Output port max_len) ∷ rest) set fit = output_lowers p rest port max_len (port == table) refl
+    row_lowers p (Act (Output port max_len) ∷ rest) set fit = output_lowers p rest port max_len (port == OFPP_TABLE) refl
     row_lowers p (Act (Group g) ∷ rest) set fit = let x = group_lowers p rest g (w.chosen g) refl in omega arith
     row_lowers p (Act DecNwTtl ∷ rest) set fit = let x = aged_lowers p rest (dec_ttl_result (ttl_of (layers_of p.frame))) in omega arith
     row_lowers p (Act other ∷ rest) set fit = omega arith
@@ -311,7 +311,7 @@ module _ (w : TheWorld) where
     aged_fits p rest Expired set fit = one_task p [] set tt
     aged_fits p rest Absent set fit = one_task p rest set fit
 
-    output_fits : (p : Packet) (rest : List Work) (port max_len : ℕ) (b : Bool) → (port == table) ≡ b → IsSet p.action_set → AllFitWork rest → AllFit (output_row w p rest (Output port max_len) port max_len).left
+    output_fits : (p : Packet) (rest : List Work) (port max_len : ℕ) (b : Bool) → (port == OFPP_TABLE) ≡ b → IsSet p.action_set → AllFitWork rest → AllFit (output_row w p rest (Output port max_len) port max_len).left
     output_fits p rest port max_len true e set fit = rw e (record { set = empty_set; work = (omega arith, tt) }, one_task p rest set fit)
     output_fits p rest port max_len false e set fit = rw e (one_task p rest set fit)
 
@@ -324,7 +324,7 @@ module _ (w : TheWorld) where
     row_fits p (Do (Metadata value mask) ∷ rest) set fit = one_task (record p { metadata = with_metadata value mask p.metadata }) rest set fit.1
     row_fits p (Do (Goto t) ∷ rest) set fit = one_task p (Lookup t ∷ []) set (fit.0, tt)
     row_fits p (RunSet ∷ rest) set fit = one_task (set_out p) (acts (in_order p.action_set) ++ rest) empty_set (acts_fit (in_order p.action_set) rest fit.1)
-    row_fits p (Act (Output port max_len) ∷ rest) set fit = output_fits p rest port max_len (port == table) refl set fit.1
+    row_fits p (Act (Output port max_len) ∷ rest) set fit = output_fits p rest port max_len (port == OFPP_TABLE) refl set fit.1
     row_fits p (Act (Group g) ∷ rest) set fit = group_fits p rest g (w.chosen g) refl set fit.1
     row_fits p (Act DecNwTtl ∷ rest) set fit = aged_fits p rest (dec_ttl_result (ttl_of (layers_of p.frame))) set fit.1
     row_fits p (Act other ∷ rest) set fit = one_task (record p { frame = rewritten other p.frame }) rest set fit.1

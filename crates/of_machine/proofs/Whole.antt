@@ -1,9 +1,9 @@
 -- The end of a run.
 use Rattle.std.proofs.Common.{◌≡◌, ℕ, ◌+◌, ◌*◌, ◌-◌, ◌≤◌, ◌==◌, suc, zero, Bool, true, false, List, [], ◌∷◌, ◌++◌, refl, sym, ◌∙◌, ap, length, length-append, arith, add_comm, ◌⊎◌, inl, inr}
 use Rattle.std.proofs.Math.Nat.{mul-le-mul_left}
+use Rattle.of_wire.specs.declared.limits.TheConstants.{OFPP_TABLE}
 use Rattle.of_actions.specs.declared.action.Action.{Action}
 use Rattle.of_actions.specs.declared.action.Action.TheVariants.{Output, Group}
-use Rattle.of_actions.specs.PortNumbers.{table}
 use Rattle.of_machine.specs.declared.data.Packet.{Packet}
 use Rattle.of_machine.specs.declared.data.Step.{Step}
 use Rattle.of_machine.specs.declared.data.Outcome.{Outcome}
@@ -93,7 +93,7 @@ module _ (w : TheWorld) where
     pub actions_fit : (p : Packet) (l : List Action) → p.action_set ≡ [] → IsFit (task p (acts l))
     actions_fit p l empty = record { set = rw empty empty_set; work = acts_fit l }
 
-    output_heavy : (port : ℕ) (b : Bool) → (port == table) ≡ b → output_weight port ≤ 1 + lookup_steps longest 0
+    output_heavy : (port : ℕ) (b : Bool) → (port == OFPP_TABLE) ≡ b → output_weight port ≤ 1 + lookup_steps longest 0
     output_heavy port true e = rw e (omega arith)
     output_heavy port false e = rw e (omega arith)
 
@@ -102,7 +102,7 @@ module _ (w : TheWorld) where
     small_copy = omega arith
 
     act_heavy : (a : Action) → act_weight w a ≤ 1 + lookup_steps longest 0
-    act_heavy (Output port max_len) = output_heavy port (port == table) refl
+    act_heavy (Output port max_len) = output_heavy port (port == OFPP_TABLE) refl
     act_heavy (Group g) = let x = copies_more (w.chain g) longest (sound.short g) in let y = small_copy in omega arith
     act_heavy other = omega arith
 

@@ -1,10 +1,10 @@
 -- How far a frame may still grow: four bytes for each VLAN tag that may be pushed (OpenFlow 1.3.5, 5.12).
 use Rattle.std.specs.Prelude.{ℕ, ◌+◌, ◌*◌, ◌-◌, ◌≤◌, max, ◌==◌, if◌then◌else◌, List, [], ◌∷◌, length, ⊤}
 use Rattle.std.specs.List.{All}
+use Rattle.of_wire.specs.declared.limits.TheConstants.{OFPP_TABLE}
 use Rattle.of_actions.specs.declared.action.Action.{Action}
 use Rattle.of_actions.specs.declared.action.Action.TheVariants.{Output, PushVlan, Group}
 use Rattle.of_actions.specs.declared.instruction.Instruction.TheVariants.{Apply, Clear, Write, Metadata, Goto}
-use Rattle.of_actions.specs.PortNumbers.{table}
 use Rattle.of_rewrite.specs.Frames.{IsFrame}
 use Rattle.of_action_set.specs.Sets.{with_actions, in_order}
 use Rattle.of_machine.specs.declared.data.Item.{Item}
@@ -19,7 +19,7 @@ table_pushes t = (16 - t) * 64 + (1 + longest)
 
 -- the pushes of an action that `later` others follow; those of a copy do not add to the packet's
 abbrev pub act_pushes : TheWorld → Action → ℕ → ℕ
-act_pushes w (Output port max_len) later = if port == table then max (table_pushes 0) later else later
+act_pushes w (Output port max_len) later = if port == OFPP_TABLE then max (table_pushes 0) later else later
 act_pushes w (PushVlan type) later = 1 + later
 act_pushes w (Group group) later = max (w.chain group) later
 act_pushes w other later = later

@@ -1,5 +1,6 @@
 -- The rows of the machine: what each kind of work does to a packet (OpenFlow 1.3.5, 5.1, 5.6 and 5.9 to 5.12).
 use Rattle.std.specs.Prelude.{ℕ, ◌^◌, ◌-◌, ◌==◌, Bool, false, ◌&&◌, ◌||◌, List, [], ◌∷◌, ◌++◌, Option, Some, None, length, map, if◌then◌else◌, bit_and, bit_or, unwrap_or}
+use Rattle.of_wire.specs.declared.limits.TheConstants.{OFPP_ALL, OFPP_CONTROLLER, OFPP_FLOOD, OFPP_IN_PORT, OFPP_TABLE}
 use Rattle.of_layers.specs.declared.field.Field.{Field}
 use Rattle.of_layers.specs.Reading.{layers_of}
 use Rattle.of_headers.specs.FieldMap.{field_map}
@@ -9,7 +10,6 @@ use Rattle.of_rewrite.specs.TimeToLive.{ttl_of, dec_ttl_result}
 use Rattle.of_rewrite.specs.Frames.{frame_set, frame_pushed, frame_popped, frame_ttl, frame_ttl_decremented}
 use Rattle.of_actions.specs.declared.action.Action.{Action}
 use Rattle.of_actions.specs.declared.action.Action.TheVariants.{Output, PushVlan, PopVlan, Group, SetNwTtl, DecNwTtl, SetField}
-use Rattle.of_actions.specs.PortNumbers.{in_port, table, flood, all, controller}
 use Rattle.of_actions.specs.declared.instruction.Instruction.{Instruction}
 use Rattle.of_actions.specs.declared.instruction.Instruction.TheVariants.{Apply, Clear, Write, Metadata, Goto}
 use Rattle.of_action_set.specs.Sets.{with_actions, in_order}
@@ -102,9 +102,9 @@ flooded ports p = record { items = map (λ q. Sent q.number p.frame) (other_port
 -- what an OUTPUT emits; only IN_PORT sends out of the ingress port, and max_len is for the controller alone
 abbrev pub emission : List Port → Packet → ℕ → ℕ → Emitted
 emission ports p port max_len =
-    if port == in_port then to_port (port_at ports p.ingress) p
-    else if (port == flood) || (port == all) then flooded ports p
-    else if port == controller then packet_in (output_reason p) (Some max_len) p
+    if port == OFPP_IN_PORT then to_port (port_at ports p.ingress) p
+    else if (port == OFPP_FLOOD) || (port == OFPP_ALL) then flooded ports p
+    else if port == OFPP_CONTROLLER then packet_in (output_reason p) (Some max_len) p
     else if port == p.ingress then nothing
     else to_port (port_at ports port) p
 
@@ -124,7 +124,7 @@ abbrev pub table_row : Packet → List Work → Action → Row
 table_row p rest a = record { line = DidAct a; items = []; counts = []; left = task (fresh p) (Lookup 0 ∷ []) ∷ task p rest ∷ [] }
 
 abbrev pub output_row : TheWorld → Packet → List Work → Action → ℕ → ℕ → Row
-output_row w p rest a port max_len = if port == table then table_row p rest a else emits (DidAct a) (emission w.ports p port max_len) (task p rest ∷ [])
+output_row w p rest a port max_len = if port == OFPP_TABLE then table_row p rest a else emits (DidAct a) (emission w.ports p port max_len) (task p rest ∷ [])
 
 -- a TTL of 0 or 1 gives a PACKET_IN with INVALID_TTL, and the packet's work is emptied; without a TTL nothing changes
 abbrev pub dec_ttl_row : Packet → List Work → Ttl → Row

@@ -1,10 +1,10 @@
 -- How many steps are left at most (OpenFlow 1.3.5, 5.1): each row lowers the sum of the weights of the packets.
 use Rattle.std.specs.Prelude.{ℕ, ◌+◌, ◌*◌, ◌-◌, ◌<◌, suc, zero, false, ◌==◌, if◌then◌else◌, List, [], ◌∷◌, IsTrue, ⊤}
 use Rattle.std.specs.List.{list_all}
+use Rattle.of_wire.specs.declared.limits.TheConstants.{OFPP_TABLE}
 use Rattle.of_actions.specs.declared.action.Action.{Action}
 use Rattle.of_actions.specs.declared.action.Action.TheVariants.{Output, Group}
 use Rattle.of_actions.specs.declared.instruction.Instruction.TheVariants.{Apply, Clear, Write, Metadata, Goto}
-use Rattle.of_actions.specs.PortNumbers.{table}
 use Rattle.of_actions.specs.Supported.{is_supported}
 use Rattle.of_actions.specs.Rising.{is_ascending}
 use Rattle.of_action_set.specs.Sets.{rank, with_actions, in_order}
@@ -46,7 +46,7 @@ packet_out_step_bound = 9169379393
 -- ---- weights
 
 abbrev pub output_weight : ℕ → ℕ
-output_weight port = if port == table then 1 + lookup_steps longest 0 else 1
+output_weight port = if port == OFPP_TABLE then 1 + lookup_steps longest 0 else 1
 
 abbrev pub act_weight : TheWorld → Action → ℕ
 act_weight w (Output port max_len) = output_weight port

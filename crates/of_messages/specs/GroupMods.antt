@@ -1,6 +1,6 @@
 -- GROUP_MOD (OpenFlow 1.3.5, 7.3.4.2): its command, the group's type and number, and its buckets.
 use Rattle.std.specs.Prelude.{ℕ, ◌+◌, ◌==◌, nat_lt, Bool, List, [], ◌∷◌, drop, Option, Some, None, Result, Ok, Err, if◌then◌else◌}
-use Rattle.of_wire.specs.declared.limits.TheConstants.{OFPG_ALL}
+use Rattle.of_wire.specs.declared.limits.TheConstants.{OFPG_ALL, OFPG_MAX}
 use Rattle.of_wire.specs.declared.codes.TheConstants.{OFPBRC_BAD_LEN, OFPGMFC_BAD_COMMAND, OFPGMFC_BAD_TYPE, OFPGMFC_INVALID_GROUP}
 use Rattle.of_wire.specs.declared.code.Code.{Code}
 use Rattle.of_groups.specs.declared.bucket.Bucket.{Bucket}
@@ -12,7 +12,6 @@ use Rattle.of_messages.specs.declared.group_mod.GroupCommand.TheVariants as comm
 use Rattle.of_messages.specs.declared.group_mod.GroupMod.{GroupMod}
 use Rattle.of_messages.specs.declared.group_mod.GroupMod.TheVariants.{Add, Modify, Delete}
 use Rattle.of_messages.specs.Buckets.{buckets_said}
-use Rattle.of_groups.specs.Buckets.{group_max}
 use Rattle.of_formats.specs.Reading.{◌>>=◌, unless, known}
 use Rattle.of_formats.specs.Structs.{numbers, size}
 use Rattle.of_formats.specs.Tables as tables
@@ -26,11 +25,7 @@ command_of n = if n == 0 then Some command.Add else (if n == 1 then Some command
 
 -- above OFPG_MAX
 abbrev pub is_above : ℕ → Bool
-is_above number = nat_lt group_max number
-
--- OFPG_ALL
-abbrev pub all_groups : ℕ
-all_groups = OFPG_ALL
+is_above number = nat_lt OFPG_MAX number
 
 -- OFPGMFC_INVALID_GROUP, OFPGMFC_BAD_TYPE, and then the refusal of its buckets
 abbrev pub group_of : ℕ → ℕ → List ℕ → Result NewGroup Code
@@ -43,7 +38,7 @@ group_of type id rest = do
 -- of one group, or of all; its type and buckets are not read
 abbrev pub delete_of : ℕ → Result GroupMod Code
 delete_of number =
-    if number == all_groups then Ok (Delete None)
+    if number == OFPG_ALL then Ok (Delete None)
     else (if is_above number then Err OFPGMFC_INVALID_GROUP else Ok (Delete (Some number)))
 
 abbrev pub group_mod_for : GroupCommand → ℕ → ℕ → List ℕ → Result GroupMod Code

@@ -1,6 +1,6 @@
 -- What the bytes of a message say (OpenFlow 1.3.5, 7.1 and 7.3), or the first refusal in the written order (7.4.4).
 use Rattle.std.specs.Prelude.{ℕ, ◌+◌, ◌==◌, nat_lt, nat_le, Bool, true, false, not, ◌&&◌, ◌||◌, List, [], ◌∷◌, ◌++◌, take, drop, slice_index, Option, Some, None, is_none, Result, Ok, Err, if◌then◌else◌}
-use Rattle.of_wire.specs.declared.limits.TheConstants.{OFPTT_ALL, OFP_NO_BUFFER, TABLES}
+use Rattle.of_wire.specs.declared.limits.TheConstants.{OFPTT_ALL, OFP_NO_BUFFER, TABLES, OFPP_CONTROLLER}
 use Rattle.of_wire.specs.declared.codes.TheConstants.{OFPBAC_MATCH_INCONSISTENT, OFPBRC_BAD_LEN, OFPBRC_BAD_PACKET, OFPBRC_BAD_PORT, OFPBRC_BAD_TYPE, OFPFMFC_BAD_COMMAND, OFPFMFC_BAD_FLAGS, OFPFMFC_BAD_TABLE_ID}
 use Rattle.of_wire.specs.declared.code.Code.{Code}
 use Rattle.of_wire.specs.Refusals.{first_of}
@@ -9,7 +9,7 @@ use Rattle.of_actions.specs.declared.instruction.Instruction.{Instruction}
 use Rattle.of_actions.specs.Actions.{actions_said}
 use Rattle.of_actions.specs.InstructionReading.{instructions_of}
 use Rattle.of_actions.specs.FlowCheck.{all_go_with}
-use Rattle.of_actions.specs.PortNumbers.{is_number, controller}
+use Rattle.of_actions.specs.PortNumbers.{is_number}
 use Rattle.of_headers.specs.Faults.{frame_fault}
 use Rattle.of_messages.specs.declared.message.Message.{Message}
 use Rattle.of_messages.specs.declared.message.Message.TheVariants.{Hello, Error, EchoRequest, EchoReply, FeaturesRequest, GetConfigRequest, SetConfig, PacketOut as IsPacketOut, FlowMod as IsFlowMod, GroupMod as IsGroupMod, PortMod as IsPortMod, TableMod as IsTableMod, Multipart, BarrierRequest, RoleRequest as IsRoleRequest, GetAsyncRequest, SetAsync}
@@ -96,7 +96,7 @@ flow_mod_of m = flow_mod_by (numbers tables.flow_mod 8 m) (drop (8 + size tables
 
 -- the ingress port is a port number or OFPP_CONTROLLER
 abbrev pub is_ingress : ℕ → Bool
-is_ingress port = is_number port || port == controller
+is_ingress port = is_number port || port == OFPP_CONTROLLER
 
 -- with OFP_NO_BUFFER the frame follows the actions: OFPBRC_BAD_PACKET where it is too short or too long; with a buffer, what follows is not read
 abbrev pub packet_in_data : ℕ → List ℕ → Result PacketData Code

@@ -1,5 +1,6 @@
 -- What holds for each message that was read, beyond its fields.
 use Rattle.std.specs.Prelude.{◌≡◌, ◌<◌, ◌≤◌, false, true, length, None, ⊤}
+use Rattle.of_wire.specs.declared.limits.TheConstants.{OFPG_MAX}
 use Rattle.of_actions.specs.InstructionLists.{are_for}
 use Rattle.of_actions.specs.FlowCheck.{all_go_with}
 use Rattle.of_headers.specs.Faults.{frame_fault}
@@ -12,7 +13,6 @@ use Rattle.of_messages.specs.declared.message.PacketData.{PacketData}
 use Rattle.of_messages.specs.declared.message.PacketData.TheVariants.{Buffered, Frame}
 use Rattle.of_messages.specs.Messages.{is_delete}
 use Rattle.of_messages.specs.Multiparts.{IsSoundRequest}
-use Rattle.of_groups.specs.Buckets.{group_max}
 
 -- an ADD or a MODIFY names a table, its instructions are valid there, and its set-field actions have their prerequisites in the match
 pub record IsSoundFlowMod (m : FlowMod) : Type 0 where
@@ -27,8 +27,8 @@ IsSoundPacket (Frame bytes) = frame_fault bytes ≡ None
 
 -- a group that is added or modified has a number up to OFPG_MAX
 abbrev pub IsSoundGroupMod : GroupMod → Type 0
-IsSoundGroupMod (Add g) = g.id ≤ group_max
-IsSoundGroupMod (Modify g) = g.id ≤ group_max
+IsSoundGroupMod (Add g) = g.id ≤ OFPG_MAX
+IsSoundGroupMod (Modify g) = g.id ≤ OFPG_MAX
 IsSoundGroupMod (Delete which) = ⊤
 
 -- an ECHO_REQUEST was a message itself, so its data fits one

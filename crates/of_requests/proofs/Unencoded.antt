@@ -4,7 +4,7 @@ use Rattle.std.specs.Prelude.{◌&&◌, is_none}
 use Rattle.std.specs.List.{list_all}
 use Rattle.std.proofs.lemmas.Bool.{eq-eqb, eqb-true, lt-ltb}
 use Rattle.std.proofs.lemmas.Bool.Decides.{nat_tests}
-use Rattle.of_groups.specs.Buckets.{group_max}
+use Rattle.of_wire.specs.declared.limits.TheConstants.{OFPG_ALL, OFPG_MAX, OFPP_ANY}
 use Rattle.of_groups.specs.declared.bucket.Bucket.{Bucket}
 use Rattle.of_messages.specs.Messages.{is_delete}
 use Rattle.of_messages.specs.declared.group_mod.GroupMod.{GroupMod}
@@ -20,7 +20,7 @@ use Rattle.of_messages.specs.declared.multipart.MultipartRequest.{MultipartReque
 use Rattle.of_messages.specs.declared.multipart.MultipartRequest.TheVariants.{Flow, Aggregate, PortStats, Group}
 use Rattle.of_laws.specs.Buckets.{AreBuckets}
 use Rattle.of_laws.specs.Grammar.{HasInstructions, IsValidData, IsValidFlowMod, IsValidGroupMod, IsValidNumber, MayName, MatchThenInstructions, Encodes, GroupTail, deletes, fixed_part_cells}
-use Rattle.of_laws.specs.Requests.{IsOne, IsValidRequest, all_groups, any_port}
+use Rattle.of_laws.specs.Requests.{IsOne, IsValidRequest}
 use Rattle.of_laws.proofs.OnlyLarge.{ingress, no_fault}
 use Rattle.of_laws.proofs.OnlySmall.{table_named}
 use Rattle.of_laws.proofs.InstructionStructs.{encoded_for}
@@ -69,11 +69,11 @@ at_most n k h = grind (arith, nat_tests)
 
 number_sound : (which : Option ℕ) → IsValidNumber which → is_sound_number which ≡ true
 number_sound None h = refl
-number_sound (Some number) h = at_most number group_max h
+number_sound (Some number) h = at_most number OFPG_MAX h
 
 group_mod_sound : (g : GroupMod) (tail : List ℕ) → GroupTail g tail → IsValidGroupMod g → is_sound_group_mod g ≡ true
-group_mod_sound (group.Add g) tail h valid = and_true _ _ (at_most g.id group_max valid.0) (buckets_sound g.buckets tail h)
-group_mod_sound (group.Modify g) tail h valid = and_true _ _ (at_most g.id group_max valid.0) (buckets_sound g.buckets tail h)
+group_mod_sound (group.Add g) tail h valid = and_true _ _ (at_most g.id OFPG_MAX valid.0) (buckets_sound g.buckets tail h)
+group_mod_sound (group.Modify g) tail h valid = and_true _ _ (at_most g.id OFPG_MAX valid.0) (buckets_sound g.buckets tail h)
 group_mod_sound (group.Delete which) tail h valid = number_sound which valid
 
 -- ---- MULTIPART_REQUEST
@@ -85,8 +85,8 @@ one_sound all (Some number) h = other_number number all h
 request_sound : (r : MultipartRequest) → IsValidRequest r → is_sound_request r ≡ true
 request_sound (Flow r) h = table_named r.table h
 request_sound (Aggregate r) h = table_named r.table h
-request_sound (PortStats which) h = one_sound any_port which h
-request_sound (Group which) h = one_sound all_groups which h
+request_sound (PortStats which) h = one_sound OFPP_ANY which h
+request_sound (Group which) h = one_sound OFPG_ALL which h
 request_sound other h = refl
 
 -- ---- any message

@@ -5,6 +5,7 @@ use Rattle.std.specs.List.{list_all}
 use Rattle.std.proofs.lemmas.Bool.{eqb-true, eqb-false}
 use Rattle.std.proofs.lemmas.Bool.Decides.{nat_tests}
 use Rattle.std.proofs.lemmas.List.{append-nil, length-append}
+use Rattle.of_wire.specs.declared.limits.TheConstants.{OFPG_ALL, OFPG_MAX, OFPP_ANY}
 use Rattle.byteorder.specs.Endian.{big_bytes}
 use Rattle.of_oxm.specs.Canonical.{canonical as canonical_match}
 use Rattle.of_oxm.specs.NormalForm.{IsMatch}
@@ -14,7 +15,7 @@ use Rattle.of_actions.specs.CanonicalActions.{canonical_actions}
 use Rattle.of_actions.specs.CanonicalInstructions.{canonical_instructions}
 use Rattle.of_actions.specs.InstructionLists.{are_for, are_kept}
 use Rattle.of_actions.specs.declared.instruction.Instruction.{Instruction}
-use Rattle.of_groups.specs.Buckets.{are_fit, fresh, is_fit, group_max}
+use Rattle.of_groups.specs.Buckets.{are_fit, fresh, is_fit}
 use Rattle.of_groups.specs.declared.bucket.Bucket.{Bucket}
 use Rattle.of_messages.specs.CanonicalGroups.{canonical_buckets, has_numbers}
 use Rattle.of_messages.specs.Messages.{is_delete}
@@ -34,7 +35,7 @@ use Rattle.of_messages.proofs.BucketsWritten.{buckets_short}
 use Rattle.of_laws.specs.Buckets.{AreBuckets}
 use Rattle.of_laws.specs.Cells.{u16, u32, even, pad, Fits, canonical_cells}
 use Rattle.of_laws.specs.Grammar.{IsData, IsValidData, IsValidFlowMod, IsValidNumber, MayName, Encodes, buffer_of, deletes, flow_mod_cells, group_cells}
-use Rattle.of_laws.specs.Requests.{BeginsMatch, IsOne, all_groups, any_port, flows_cells, or_all}
+use Rattle.of_laws.specs.Requests.{BeginsMatch, IsOne, flows_cells, or_all}
 use Rattle.of_laws.proofs.FoundLarge.{frame_fits, ingress}
 use Rattle.of_laws.proofs.FoundSmall.{named}
 use Rattle.of_laws.proofs.Writings.{written}
@@ -153,7 +154,7 @@ group_text command xid g = header 15 (8 + (8 + length (canonical_buckets g.bucke
 
 -- what holds of it
 pub record Grouped (g : NewGroup) : Type 0 where
-  pub id : g.id ≤ group_max
+  pub id : g.id ≤ OFPG_MAX
   pub few : length g.buckets ≤ 16
   pub short : length (canonical_buckets g.buckets) ≤ 24832
   pub are : AreBuckets g.buckets (canonical_buckets g.buckets)
@@ -161,13 +162,13 @@ pub record Grouped (g : NewGroup) : Type 0 where
 pub grouped : (g : NewGroup) → list_all has_numbers g.buckets ≡ true → are_fit g.buckets ≡ true → is_sound_group g ≡ true → Grouped g
 grouped g numbers fit sound =
     let all : list_all is_fit g.buckets ≡ true = second (leb (length g.buckets) 16) (list_all is_fit g.buckets) fit in
-    let most : leb g.id group_max ≡ true = first (leb g.id group_max) (list_all counts_nothing g.buckets) sound in
+    let most : leb g.id OFPG_MAX ≡ true = first (leb g.id OFPG_MAX) (list_all counts_nothing g.buckets) sound in
     let count : leb (length g.buckets) 16 ≡ true = first (leb (length g.buckets) 16) (list_all is_fit g.buckets) fit in
     record {
       id = grind (arith, nat_tests);
       few = grind (arith, nat_tests);
       short = buckets_short g.buckets fit;
-      are = subst (λ (bs : List Bucket). AreBuckets bs (canonical_buckets g.buckets)) (all_fresh g.buckets (second (leb g.id group_max) (list_all counts_nothing g.buckets) sound)) (buckets_encoded g.buckets numbers all);
+      are = subst (λ (bs : List Bucket). AreBuckets bs (canonical_buckets g.buckets)) (all_fresh g.buckets (second (leb g.id OFPG_MAX) (list_all counts_nothing g.buckets) sound)) (buckets_encoded g.buckets numbers all);
     }
 
 pub add_written : (g : NewGroup) (xid : ℕ) (bytes : List ℕ) → xid < 256 ^ 4 → Fits (group_cells 0 g) → Grouped g → bytes ≡ group_text 0 xid g → IsWritten xid (IsGroupMod (group.Add g)) bytes
@@ -222,15 +223,15 @@ asked_text number xid asked = header 18 24 xid ++ canonical_cells (u16 number �
 
 pub port_written : (which : Option ℕ) (xid asked : ℕ) (bytes : List ℕ) → xid < 256 ^ 4 → asked < 256 ^ 4 → is_sound (Multipart (PortStats which)) ≡ true → asked ≡ unwrap_or which 0xffffffff → bytes ≡ asked_text 4 xid asked → IsWritten xid (Multipart (PortStats which)) bytes
 port_written which xid asked bytes x fits sound e is =
-    let same : asked ≡ or_all any_port which = e ∙ or_same any_port which in
+    let same : asked ≡ or_all OFPP_ANY which = e ∙ or_same OFPP_ANY which in
     whole_written (Multipart (PortStats which)) xid 16 bytes (is ∙ ap (asked_text 4 xid) same)
-    (record { total = refl; short = omega arith; xid_fits = x; fits = (omega arith, (omega (arith, same), tt)); behind = refl; valid = one_valid any_port which sound })
+    (record { total = refl; short = omega arith; xid_fits = x; fits = (omega arith, (omega (arith, same), tt)); behind = refl; valid = one_valid OFPP_ANY which sound })
 
 pub group_written : (which : Option ℕ) (xid asked : ℕ) (bytes : List ℕ) → xid < 256 ^ 4 → asked < 256 ^ 4 → is_sound (Multipart (Group which)) ≡ true → asked ≡ unwrap_or which 0xfffffffc → bytes ≡ asked_text 6 xid asked → IsWritten xid (Multipart (Group which)) bytes
 group_written which xid asked bytes x fits sound e is =
-    let same : asked ≡ or_all all_groups which = e ∙ or_same all_groups which in
+    let same : asked ≡ or_all OFPG_ALL which = e ∙ or_same OFPG_ALL which in
     whole_written (Multipart (Group which)) xid 16 bytes (is ∙ ap (asked_text 6 xid) same)
-    (record { total = refl; short = omega arith; xid_fits = x; fits = (omega arith, (omega (arith, same), tt)); behind = refl; valid = one_valid all_groups which sound })
+    (record { total = refl; short = omega arith; xid_fits = x; fits = (omega arith, (omega (arith, same), tt)); behind = refl; valid = one_valid OFPG_ALL which sound })
 
 -- ---- DELETE of a group
 
@@ -241,7 +242,7 @@ number_valid (Some number) h = grind (arith, nat_tests)
 pub delete_written : (which : Option ℕ) (xid number : ℕ) (front s t bytes : List ℕ) → xid < 256 ^ 4 → number < 256 ^ 4 → is_sound_number which ≡ true → number ≡ unwrap_or which 0xfffffffc → front ≡ header 15 16 xid
     → s ≡ front ++ big_bytes 2 2 → t ≡ s ++ big_bytes 2 0 → bytes ≡ t ++ big_bytes 4 number → IsWritten xid (IsGroupMod (group.Delete which)) bytes
 delete_written which xid number front s t bytes x fits sound e head p q r =
-    let same : number ≡ or_all all_groups which = e ∙ or_same all_groups which in
+    let same : number ≡ or_all OFPG_ALL which = e ∙ or_same OFPG_ALL which in
     let text = three front s t bytes (big_bytes 2 2) (big_bytes 2 0) (big_bytes 4 number) p q r in
     fields_written (IsGroupMod (group.Delete which)) xid 8 front bytes head (text ∙ ap (λ (n : ℕ). front ++ canonical_cells (u16 2 ∷ pad 2 ∷ u32 n ∷ [])) same) refl
     (record { total = refl; short = omega arith; xid_fits = x; fits = (omega arith, (omega (arith, same), tt)); behind = tt; valid = number_valid which sound })

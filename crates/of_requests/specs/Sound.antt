@@ -1,11 +1,11 @@
 -- Which messages some bytes encode, as tests: their numbers are such as the standard allows (OpenFlow 1.3.5, 7).
 use Rattle.std.specs.Prelude.{ℕ, ◌==◌, nat_lt, nat_le, Bool, true, false, not, ◌&&◌, List, [], ◌∷◌, length, bit_and, Option, Some, None, is_none}
 use Rattle.std.specs.List.{list_all}
+use Rattle.of_wire.specs.declared.limits.TheConstants.{OFPG_ALL, OFPG_MAX, OFPP_ANY, OFP_NO_BUFFER}
 use Rattle.of_headers.specs.Faults.{frame_fault}
 use Rattle.of_actions.specs.FlowCheck.{all_go_with}
 use Rattle.of_actions.specs.InstructionLists.{are_for}
 use Rattle.of_actions.specs.declared.instruction.Instruction.{Instruction}
-use Rattle.of_groups.specs.Buckets.{group_max}
 use Rattle.of_groups.specs.declared.bucket.Bucket.{Bucket}
 use Rattle.of_messages.specs.Configs.{names_table}
 use Rattle.of_messages.specs.Messages.{is_delete, is_ingress}
@@ -19,12 +19,10 @@ use Rattle.of_messages.specs.declared.message.PacketData.{PacketData}
 use Rattle.of_messages.specs.declared.message.PacketData.TheVariants.{Buffered, Frame}
 use Rattle.of_messages.specs.declared.multipart.MultipartRequest.{MultipartRequest}
 use Rattle.of_messages.specs.declared.multipart.MultipartRequest.TheVariants.{Flow, Aggregate, PortStats, Group}
-use Rattle.of_laws.specs.Grammar.{no_buffer}
-use Rattle.of_laws.specs.Requests.{any_port, all_groups}
 
 -- a held packet has a number, and a frame 14 to 9,216 bytes
 abbrev pub is_sound_packet : PacketData → Bool
-is_sound_packet (Buffered number) = not (number == no_buffer)
+is_sound_packet (Buffered number) = not (number == OFP_NO_BUFFER)
 is_sound_packet (Frame frame) = is_none (frame_fault frame)
 
 abbrev pub has_no_instructions : List Instruction → Bool
@@ -44,11 +42,11 @@ abbrev pub counts_nothing : Bucket → Bool
 counts_nothing b = (b.packets == 0) && (b.bytes == 0)
 
 abbrev pub is_sound_group : NewGroup → Bool
-is_sound_group g = nat_le g.id group_max && list_all counts_nothing g.buckets
+is_sound_group g = nat_le g.id OFPG_MAX && list_all counts_nothing g.buckets
 
 abbrev pub is_sound_number : Option ℕ → Bool
 is_sound_number None = true
-is_sound_number (Some number) = nat_le number group_max
+is_sound_number (Some number) = nat_le number OFPG_MAX
 
 abbrev pub is_sound_group_mod : GroupMod → Bool
 is_sound_group_mod (group.Add g) = is_sound_group g
@@ -63,8 +61,8 @@ is_one all (Some number) = not (number == all)
 abbrev pub is_sound_request : MultipartRequest → Bool
 is_sound_request (Flow r) = names_table r.table
 is_sound_request (Aggregate r) = names_table r.table
-is_sound_request (PortStats port) = is_one any_port port
-is_sound_request (Group group) = is_one all_groups group
+is_sound_request (PortStats port) = is_one OFPP_ANY port
+is_sound_request (Group group) = is_one OFPG_ALL group
 is_sound_request other = true
 
 -- an ECHO_REQUEST has as many bytes as a header can count

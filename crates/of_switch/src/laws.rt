@@ -1,5 +1,6 @@
 //! Laws of the abstract switch.
 ghost use Rattle.std.specs.Prelude.{◌≡◌, ◌≢◌, ◌<◌, ◌+◌, ◌++◌, ◌∷◌, [], ℕ, List, Some, None, true, false, length, map, take, flat_map, slice_get};
+ghost use Rattle.of_wire.specs.declared.limits.TheConstants.{OFP_NO_BUFFER};
 ghost use Rattle.of_buffers.specs.Buffers.{HeldFrames, held, is_id, last_id, most_held};
 ghost use Rattle.of_machine.specs.declared.data.Item.{Item};
 ghost use Rattle.of_machine.specs.declared.data.Item.TheVariants.{PacketIn};
@@ -11,7 +12,7 @@ ghost use Rattle.of_messages.specs.Written.{error_bytes};
 ghost use Rattle.of_session.specs.Session.{is_disconnected, taken};
 ghost use Rattle.of_session.specs.Stream.{Splits};
 ghost use Rattle.of_datapath.specs.declared.effect.Effect.TheVariants.{Answer};
-ghost use Rattle.of_datapath.specs.Told.{effects_of, frames_for, given, held_after, held_of, id_after_all, is_held, limit_of, no_buffer, packet_in_of};
+ghost use Rattle.of_datapath.specs.Told.{effects_of, frames_for, given, held_after, held_of, id_after_all, is_held, limit_of, packet_in_of};
 ghost use Rattle.of_text.specs.Configs.{Configuration, IsConfig};
 ghost use Rattle.of_switch.specs.Loading.{config_of, loaded};
 ghost use Rattle.of_switch.specs.Calling.{AreMade, Deed, Made, calls_of, event_of, others, report_of};
@@ -63,7 +64,7 @@ pub fn ids_told_are_ids_held()
         held (id_after_all heard b.next first) (held_after heard ports b items) ≡ Some (held_of p) }
     ensures whole { (heard : AsyncConfig) (ports : List Port) (b : HeldFrames) (items first rest : List Item) (p : ToController) →
         given heard ports items ≡ first ++ PacketIn p ∷ rest → is_held heard p ≡ false →
-        slice_get (effects_of heard ports b items) (length first) ≡ Some (packet_in_of p no_buffer p.frame) }
+        slice_get (effects_of heard ports b items) (length first) ≡ Some (packet_in_of p OFP_NO_BUFFER p.frame) }
     ensures ids { (heard : AsyncConfig) (b : HeldFrames) (first : List Item) → is_id b.next ≡ true → is_id (id_after_all heard b.next first) ≡ true }
     ensures distinct { (heard : AsyncConfig) (b : HeldFrames) (first more : List Item) (p : ToController) → is_id b.next ≡ true → is_held heard p ≡ true →
         length (flat_map (frames_for heard) more) + 1 < last_id → id_after_all heard b.next (first ++ PacketIn p ∷ more) ≢ id_after_all heard b.next first }

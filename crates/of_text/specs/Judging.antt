@@ -1,5 +1,6 @@
 -- What is kept of groups while they are checked. No public clause cites this module.
 use Rattle.std.specs.Prelude.{ℕ, ◌+◌, ◌∷◌, nat_le, nat_lt, Bool, List, [], Option}
+use Rattle.of_wire.specs.declared.limits.TheConstants.{OFPG_MAX}
 use Rattle.of_wire.specs.declared.codes.TheConstants.{OFPGMFC_BAD_WATCH, OFPGMFC_INVALID_GROUP, OFPGMFC_OUT_OF_GROUPS}
 use Rattle.of_wire.specs.declared.code.Code.{Code}
 use Rattle.of_wire.specs.Refusals.{first_of}
@@ -7,11 +8,10 @@ use Rattle.of_groups.specs.declared.group.Group.{Group}
 use Rattle.of_groups.specs.Faults.{is_bad_watch, is_not_one}
 use Rattle.of_text.specs.Groups.{TextGroup}
 use Rattle.of_text.specs.Refusals.{buckets_refusals, group_refusals}
-use Rattle.of_groups.specs.Buckets.{group_max}
 
 -- what the message alone decides
 abbrev pub told_refusals : TextGroup → List (Bool × Code)
-told_refusals g = (nat_lt group_max g.head.id, OFPGMFC_INVALID_GROUP) ∷ buckets_refusals g.buckets
+told_refusals g = (nat_lt OFPG_MAX g.head.id, OFPGMFC_INVALID_GROUP) ∷ buckets_refusals g.buckets
 
 -- what is checked of the group after so many others
 abbrev pub kept_refusals : ℕ → Group → List (Bool × Code)

@@ -2,6 +2,7 @@
 use Rattle.std.proofs.Common.{◌≡◌, ◌==◌, ℕ, suc, zero, Bool, true, false, ◌&&◌, cond, List, [], ◌∷◌, ◌++◌, Option, Some, None, refl}
 use Rattle.std.specs.Prelude.{IsTrue, ⊤}
 use Rattle.std.specs.List.{list_all}
+use Rattle.of_wire.specs.declared.limits.TheConstants.{OFPP_TABLE}
 use Rattle.of_layers.proofs.TestLemmas.{and_true}
 use Rattle.of_layers.specs.Reading.{layers_of}
 use Rattle.of_headers.specs.declared.headers.FrameFault.{FrameFault}
@@ -13,7 +14,6 @@ use Rattle.of_actions.specs.declared.action.Action.{Action}
 use Rattle.of_actions.specs.declared.action.Action.TheVariants.{Output, Group, DecNwTtl}
 use Rattle.of_actions.specs.declared.instruction.Instruction.{Instruction}
 use Rattle.of_actions.specs.declared.instruction.Instruction.TheVariants.{Apply, Clear, Write, Metadata, Goto}
-use Rattle.of_actions.specs.PortNumbers.{table}
 use Rattle.of_actions.specs.Supported.{is_supported}
 use Rattle.of_actions.specs.InstructionLists.{is_served_body}
 use Rattle.of_action_set.specs.Sets.{in_order}
@@ -90,7 +90,7 @@ module _ (w : TheWorld) (sound : IsSound w) (p : Packet) (rest : List Work) wher
   lookup_encoded t None = (refl, (tt, tt))
   lookup_encoded t (Some n) = entry_encoded t n (w.flow t n) refl
 
-  output_encoded : (port max_len : ℕ) (tables : Bool) → (port == table) ≡ tables → IsTrue (is_supported false (Output port max_len)) → AllEncodedWork rest → IsEncodedRow (output_row w p rest (Output port max_len) port max_len)
+  output_encoded : (port max_len : ℕ) (tables : Bool) → (port == OFPP_TABLE) ≡ tables → IsTrue (is_supported false (Output port max_len)) → AllEncodedWork rest → IsEncodedRow (output_row w p rest (Output port max_len) port max_len)
   output_encoded port max_len true e h k = rw e (h, ((tt, tt), (k, tt)))
   output_encoded port max_len false e h k = rw e (h, (k, tt))
 
@@ -108,7 +108,7 @@ module _ (w : TheWorld) (sound : IsSound w) (p : Packet) (rest : List Work) wher
   group_encoded group (Some places) h k = (h, tasks_more (copies w group p places) (task p rest ∷ []) (copies_encoded group places) (k, tt))
 
   act_encoded : (a : Action) → IsTrue (is_supported false a) → AllEncodedWork rest → IsEncodedRow (row w p (Act a ∷ rest))
-  act_encoded (Output port max_len) h k = output_encoded port max_len (port == table) refl h k
+  act_encoded (Output port max_len) h k = output_encoded port max_len (port == OFPP_TABLE) refl h k
   act_encoded (Group group) h k = group_encoded group (w.chosen group) h k
   act_encoded DecNwTtl h k = aged_encoded (dec_ttl_result (ttl_of (layers_of p.frame))) k
   act_encoded other h k = (h, (k, tt))

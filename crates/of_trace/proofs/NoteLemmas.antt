@@ -4,11 +4,11 @@ use Rattle.std.specs.Prelude.{codes, decimal, nat_lt}
 use Rattle.std.specs.List.{flat_map}
 use Rattle.std.proofs.lemmas.List.{append_assoc, append-nil}
 use Rattle.std.proofs.lemmas.List.Concat.{flat_map-append}
+use Rattle.of_wire.specs.declared.limits.TheConstants.{OFPP_IN_PORT}
 use Rattle.of_layers.specs.declared.field.Field.{Field}
 use Rattle.of_layers.specs.declared.field.TheConstants.Field as constants
 use Rattle.of_actions.specs.declared.action.Action.{Action}
 use Rattle.of_actions.specs.declared.action.Action.TheVariants.{Output, Group}
-use Rattle.of_actions.specs.PortNumbers.{in_port}
 use Rattle.of_oxm.specs.declared.match_field.MatchField.{MatchField}
 use Rattle.of_ports.specs.declared.port.Port.{Port}
 use Rattle.of_ports.specs.Ports.{may_send, port_at}
@@ -98,7 +98,7 @@ of_port n (Some q) = either (may_send q) _ _ none (one (codes "port" ++ 32 ∷ d
 
 of_output : (ports : List Port) (ingress port : ℕ) → AreNotes (output_note ports ingress port)
 of_output ports ingress port =
-    either (port == in_port) _ _ (of_port ingress (port_at ports ingress))
+    either (port == OFPP_IN_PORT) _ _ (of_port ingress (port_at ports ingress))
     (either (is_many port) _ _ none (either (port == ingress) _ _ (one (codes "the frame came in by that port")) (of_port port (port_at ports port))))
 
 of_group : (group : ℕ) (places : Option (List ℕ)) → AreNotes (group_notes group places)

@@ -1,6 +1,7 @@
 -- The steps of a run tell its packets.
 use Rattle.std.proofs.Common.{◌≡◌, ◌==◌, ℕ, suc, zero, Bool, true, false, cond, List, [], ◌∷◌, ◌++◌, Option, Some, None, refl, sym, ap, ◌∙◌, ◌≤◌}
 use Rattle.std.specs.Prelude.{replicate, length}
+use Rattle.of_wire.specs.declared.limits.TheConstants.{OFPP_TABLE}
 use Rattle.of_layers.specs.Reading.{layers_of}
 use Rattle.of_rewrite.specs.declared.frame.Ttl.{Ttl}
 use Rattle.of_rewrite.specs.declared.frame.Ttl.TheVariants.{Done, Expired, Absent}
@@ -10,7 +11,6 @@ use Rattle.of_actions.specs.declared.action.Action.{Action}
 use Rattle.of_actions.specs.declared.action.Action.TheVariants.{Output, Group, DecNwTtl}
 use Rattle.of_actions.specs.declared.instruction.Instruction.{Instruction}
 use Rattle.of_actions.specs.declared.instruction.Instruction.TheVariants.{Apply, Clear, Write, Metadata, Goto}
-use Rattle.of_actions.specs.PortNumbers.{table}
 use Rattle.of_table.specs.declared.flow.Flow.{Flow}
 use Rattle.of_machine.specs.declared.data.Packet.{Packet}
 use Rattle.of_machine.specs.declared.data.Step.{Step}
@@ -42,10 +42,10 @@ module _ (w : TheWorld) (p : Packet) (rest : List Work) where
   lookup_told t None = refl
   lookup_told t (Some n) = entry_told t n (w.flow t n)
 
-  copies_by : (port : ℕ) (tables : Bool) → (port == table) ≡ tables → output_copies port (sight_of p) ≡ cond tables (record (sight_of p) { metadata = 0 } ∷ []) []
+  copies_by : (port : ℕ) (tables : Bool) → (port == OFPP_TABLE) ≡ tables → output_copies port (sight_of p) ≡ cond tables (record (sight_of p) { metadata = 0 } ∷ []) []
   copies_by port tables e = ap (λ (b : Bool). cond b (record (sight_of p) { metadata = 0 } ∷ []) []) e
 
-  output_told : (port max_len : ℕ) (tables : Bool) → (port == table) ≡ tables → IsTold w p (output_row w p rest (Output port max_len) port max_len)
+  output_told : (port max_len : ℕ) (tables : Bool) → (port == OFPP_TABLE) ≡ tables → IsTold w p (output_row w p rest (Output port max_len) port max_len)
   output_told port max_len true e = rw (e, copies_by port true e) refl
   output_told port max_len false e = rw (e, copies_by port false e) refl
 
@@ -66,7 +66,7 @@ module _ (w : TheWorld) (p : Packet) (rest : List Work) where
   aged_told Absent e h = same_frame (frame_ttl_decremented p.frame) (aged_same p.frame h (λ done. let x : Absent ≡ Done = sym e ∙ done in cc))
 
   act_told : (a : Action) → IsFrame p.frame → IsTold w p (row w p (Act a ∷ rest))
-  act_told (Output port max_len) h = output_told port max_len (port == table) refl
+  act_told (Output port max_len) h = output_told port max_len (port == OFPP_TABLE) refl
   act_told (Group group) h = group_told group (w.chosen group) refl
   act_told DecNwTtl h = aged_told (dec_ttl_result (ttl_of (layers_of p.frame))) refl h
   act_told other h = refl

@@ -1,6 +1,7 @@
 -- A TRACE FOR PEOPLE: below a line there are notes, each after four spaces. Without them it is the text of the trace.
 use Rattle.std.specs.Prelude.{ℕ, ◌+◌, ◌==◌, ◌&&◌, ◌||◌, Bool, true, false, not, nat_lt, bit_and, List, [], ◌∷◌, ◌++◌, Option, Some, None, codes, decimal, suc, if◌then◌else◌}
 use Rattle.std.specs.List.{flat_map, list_any}
+use Rattle.of_wire.specs.declared.limits.TheConstants.{OFPP_ALL, OFPP_CONTROLLER, OFPP_FLOOD, OFPP_IN_PORT, OFPP_TABLE}
 use Rattle.of_layers.specs.declared.field.Field.{Field}
 use Rattle.of_layers.specs.declared.field.TheConstants.Field as constants
 use Rattle.of_layers.specs.Fields.{name_of, number_of, ones_of}
@@ -8,7 +9,6 @@ use Rattle.of_layers.specs.Reading.{layers_of}
 use Rattle.of_headers.specs.declared.headers.FrameFault.{FrameFault}
 use Rattle.of_headers.specs.Faults.{frame_fault}
 use Rattle.of_rewrite.specs.TimeToLive.{ttl_of}
-use Rattle.of_actions.specs.PortNumbers.{in_port, table as to_tables, flood, all, controller}
 use Rattle.of_actions.specs.declared.action.Action.{Action}
 use Rattle.of_actions.specs.declared.action.Action.TheVariants.{Output, Group}
 use Rattle.of_ports.specs.declared.port.Port.{Port}
@@ -145,11 +145,11 @@ port_note n None = note (codes "there is no port" ++ 32 ∷ decimal n)
 port_note n (Some q) = if may_send q then [] else note (codes "port" ++ 32 ∷ decimal n ++ port_words q)
 
 abbrev pub is_many : ℕ → Bool
-is_many port = (port == flood) || (port == all) || (port == controller) || (port == to_tables)
+is_many port = (port == OFPP_FLOOD) || (port == OFPP_ALL) || (port == OFPP_CONTROLLER) || (port == OFPP_TABLE)
 
 abbrev pub output_note : List Port → ℕ → ℕ → List ℕ
 output_note ports ingress port =
-    if port == in_port then port_note ingress (port_at ports ingress)
+    if port == OFPP_IN_PORT then port_note ingress (port_at ports ingress)
     else if is_many port then []
     else if port == ingress then note (codes "the frame came in by that port")
     else port_note port (port_at ports port)

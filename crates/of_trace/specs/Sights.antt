@@ -1,10 +1,10 @@
 -- WHAT A TRACE TELLS OF ITS PACKETS: the frame and the metadata that each has, step by step (OpenFlow 1.3.5, 5.1).
 use Rattle.std.specs.Prelude.{ℕ, ◌==◌, List, [], ◌∷◌, ◌++◌, length, map, replicate, Option, Some, None, if◌then◌else◌}
+use Rattle.of_wire.specs.declared.limits.TheConstants.{OFPP_TABLE}
 use Rattle.of_layers.specs.declared.field.Field.{Field}
 use Rattle.of_layers.specs.Reading.{layers_of}
 use Rattle.of_headers.specs.FieldMap.{field_map}
 use Rattle.of_rewrite.specs.Frames.{frame_ttl_decremented}
-use Rattle.of_actions.specs.PortNumbers.{table}
 use Rattle.of_actions.specs.declared.action.Action.{Action}
 use Rattle.of_actions.specs.declared.action.Action.TheVariants.{Output, Group, DecNwTtl}
 use Rattle.of_machine.specs.declared.data.Packet.{Packet}
@@ -43,7 +43,7 @@ group_copies s None = []
 group_copies s (Some places) = replicate (length places) s
 
 abbrev pub output_copies : ℕ → Sight → List Sight
-output_copies port s = if port == table then record s { metadata = 0 } ∷ [] else []
+output_copies port s = if port == OFPP_TABLE then record s { metadata = 0 } ∷ [] else []
 
 abbrev pub action_copies : TheWorld → Action → Sight → List Sight
 action_copies w (Output port max_len) s = output_copies port s

@@ -24,31 +24,31 @@ pub const OFPTT_ALL: u8 = 0xff;
 /// The highest number of a port: those of a switch have the numbers 1 to this one (OpenFlow 1.3.5, 7.2.1).
 pub const OFPP_MAX: u32 = 0xffff_ff00;
 
-/// The ingress port of the packet.
+/// The ingress port of the packet (OpenFlow 1.3.5, 7.2.1).
 pub const OFPP_IN_PORT: u32 = 0xffff_fff8;
 
-/// The flow tables, from the first on; in a PACKET_OUT alone.
+/// The flow tables, from the first on; in a PACKET_OUT alone (OpenFlow 1.3.5, 7.2.1).
 pub const OFPP_TABLE: u32 = 0xffff_fff9;
 
-/// Each port but the ingress port of the packet.
+/// Each port but the ingress port of the packet and those that are not to be flooded, of which this switch has none (OpenFlow 1.3.5, 7.2.1).
 pub const OFPP_FLOOD: u32 = 0xffff_fffb;
 
-/// Each port but the ingress port of the packet.
+/// Each port but the ingress port of the packet (OpenFlow 1.3.5, 7.2.1).
 pub const OFPP_ALL: u32 = 0xffff_fffc;
 
-/// The controller.
+/// The controller (OpenFlow 1.3.5, 7.2.1).
 pub const OFPP_CONTROLLER: u32 = 0xffff_fffd;
 
-/// No port is watched, or asked for; in a request for statistics, all ports.
+/// No port is watched, or asked for; in a request for statistics, all ports (OpenFlow 1.3.5, 7.2.1).
 pub const OFPP_ANY: u32 = 0xffff_ffff;
 
 /// The highest number of a group (OpenFlow 1.3.5, 7.3.4.2).
 pub const OFPG_MAX: u32 = 0xffff_ff00;
 
-/// All groups.
+/// All groups (OpenFlow 1.3.5, 7.3.4.2).
 pub const OFPG_ALL: u32 = 0xffff_fffc;
 
-/// No group is watched, or asked for.
+/// No group is watched, or asked for (OpenFlow 1.3.5, 7.3.4.2).
 pub const OFPG_ANY: u32 = 0xffff_ffff;
 
 /// No frame is held (OpenFlow 1.3.5, 7.4.1).
