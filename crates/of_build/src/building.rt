@@ -1,5 +1,5 @@
 //! Event files that build a configuration.
-ghost use Rattle.std.specs.Prelude.{◌≡◌, ◌<◌, ◌≤◌, ◌+◌, ◌^◌, ◌++◌, true, IfErr, IfOk, MatchResult, OnOk, length, map};
+ghost use Rattle.std.specs.Prelude.{◌≡◌, ◌<◌, ◌≤◌, ◌+◌, ◌^◌, ◌++◌, true, IfOk, OnOk, length, map};
 ghost use Rattle.std.specs.List.{AllByRecursion, list_all};
 ghost use Rattle.hex.specs.Hex.{encode_lower};
 ghost use Rattle.of_groups.specs.Buckets.{are_fit};
@@ -8,15 +8,13 @@ ghost use Rattle.of_groups.specs.Sound.{is_fit_group};
 ghost use Rattle.of_text.specs.Groups.{buckets_of, groups_at};
 ghost use Rattle.of_text.specs.Kept.{IsEntry};
 ghost use Rattle.of_text.specs.Views.{view, view_flows, view_group, view_groups};
-ghost use Rattle.of_text.specs.Configs.{Configuration, EncodeConfig, all_flows};
-ghost use Rattle.of_text.specs.First.{FailsFirst};
-ghost use Rattle.of_text.specs.Lines.{lines_of};
+ghost use Rattle.of_text.specs.Configs.{all_flows};
 ghost use Rattle.of_messages.specs.Written.{flow_mod_bytes};
-ghost use Rattle.of_build.specs.Building.{BuildsOf, add_lines, add_of as add_is, build_text, group_lines, in_turn, of_length, chunk_line, those};
+ghost use Rattle.of_build.specs.Building.{add_lines, add_of as add_is, build_text, group_lines, in_turn, of_length, chunk_line, those};
 
 use of_groups::chain_lengths;
 use of_messages::{FlowMod, FlowModCommand, NewGroup, write_flow_mod, write_group_mod};
-use of_text::{Config, FlowText, GroupText, TextFault, assemble};
+use of_text::{Config, FlowText, GroupText};
 use of_wire::limits::{OFP_NO_BUFFER, OFPG_ANY, OFPP_ANY, TABLES};
 use std::alloc::{AllocError, Global};
 
@@ -197,24 +195,4 @@ pub fn build(alloc: Global, config: &Config) -> Result<Vec<u8>, AllocError>
     let first = push_all_groups(alloc, &mut out, config)?;
     push_tables(alloc, &mut out, first, config)?;
     Ok(out)
-}
-
-/// The event file that builds the configuration of a flow text, or the fault of the text.
-pub fn build_of(alloc: Global, text: &[u8]) -> Result<Vec<u8>, TextFault>
-    // What is built is that of the configuration that the text encodes.
-    ensures built { IfOk result (λ file. BuildsOf text.now file.items) }
-    // What the text encodes is built, unless memory runs out.
-    ensures only { (config : Configuration) → EncodeConfig (lines_of text.now) config →
-        MatchResult result (λ file. file.items ≡ build_text config) (λ e. e ≡ TextFault.NoMemory) }
-    // Which line is at fault.
-    ensures failed { IfErr result (FailsFirst (lines_of text.now)) }
-{
-    let config = match assemble(alloc, text) {
-        Ok(config) => config,
-        Err(fault) => return Err(fault),
-    };
-    match build(alloc, &config) {
-        Ok(file) => Ok(file),
-        Err(_) => Err(TextFault::NoMemory),
-    }
 }

@@ -3,4 +3,4 @@
 
 mod building;
 
-pub use building::{build, build_of, push_hex};
+pub use building::{build, push_hex};

@@ -6,8 +6,6 @@ pub mod CoverLemmas
 pub mod WalkLemmas
 pub mod TryingLemmas
 pub mod FindingLemmas
-pub mod FileLemmas
-pub mod EventFileLemmas
 pub mod Together
 pub mod Vid
 pub mod RuleLemmas

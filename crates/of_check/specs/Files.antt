@@ -1,14 +1,12 @@
--- THE FINDINGS OF A FLOW TEXT: those of the flow tables that a new switch has once it was loaded, and the remarks on what was loaded.
-use Rattle.std.specs.Prelude.{◌≡◌, ℕ, Bool, true, false, nat_lt, List, Option, Some, None, Result, Ok, Err}
+-- THE FINDINGS OF A FLOW TEXT: those of the flow tables that a new switch has once it was loaded, and the remarks on what was loaded; and those of a switch.
+use Rattle.std.specs.Prelude.{◌≡◌, ◌≢◌, ℕ, Bool, List, Result, Ok, Err}
 use Rattle.of_text.specs.Configs.{Configuration}
 use Rattle.of_table.specs.Tables.{Tables}
 use Rattle.of_datapath.specs.Loading.{loaded_tables}
-use Rattle.of_replay.specs.Told.{Answer, then_bytes, given}
-use Rattle.of_replay.specs.Transfer.{then_answers, WrotePrefix}
-use Rattle.of_replay.specs.Assembling.{bad_line, HasFault}
-use Rattle.of_replay.specs.ConfigFiles.{Encodes}
+use Rattle.of_switch.specs.State.{State}
+use Rattle.of_switch.specs.Loading.{config_of}
 use Rattle.of_replay.specs.declared.event_file.Ended.{Ended}
-use Rattle.of_replay.specs.declared.event_file.Ended.TheVariants.{Done, BadRow, Text, ReadFault, WriteFault, NoMemory}
+use Rattle.of_replay.specs.declared.event_file.Ended.TheVariants.{Done}
 use Rattle.of_check.specs.declared.finding.Finding.{Finding}
 use Rattle.of_check.specs.Findings.{Checks}
 use Rattle.of_remarks.specs.Remarks.{remarks_on}
@@ -17,25 +15,18 @@ use Rattle.of_check.specs.Text.{all_text, some_found}
 abbrev pub tables_in : Configuration → Tables
 tables_in config = loaded_tables 0 config.tables
 
--- what was written of the findings on these tables and the remarks on this configuration: their text, and whether something was found; a prefix of it; or nothing
-abbrev pub WritesFindings : Tables → Configuration → Result Bool Ended → Option (List ℕ) → Option (List ℕ) → Type 0
-WritesFindings ts c (Ok found) old new = (findings : List Finding) × Checks ts findings × (new ≡ then_bytes old (all_text findings (remarks_on c))) × (found ≡ some_found findings (remarks_on c))
-WritesFindings ts c (Err WriteFault) old new = (findings : List Finding) × Checks ts findings × WrotePrefix old (all_text findings (remarks_on c)) new
-WritesFindings ts c (Err NoMemory) old new = new ≡ old
-WritesFindings ts c (Err other) old new = ⊥
+-- whether something was found, where that is said: where all was written
+abbrev pub IsFound : Result Bool Ended → Bool → Type 0
+IsFound (Ok found) is = found ≡ is
+IsFound (Err ended) is = ended ≢ Done
 
--- how such a run ends, by the bytes that were read
-abbrev pub EndsChecking : Result Bool Ended → Bool → List ℕ → Option (List ℕ) → Option (List ℕ) → Type 0
-EndsChecking (Ok found) ended file old new = (config : Configuration) × (ended ≡ true) × Encodes file config × WritesFindings (tables_in config) config (Ok found) old new
-EndsChecking (Err WriteFault) ended file old new = (config : Configuration) × (ended ≡ true) × Encodes file config × WritesFindings (tables_in config) config (Err WriteFault) old new
-EndsChecking (Err (BadRow n)) ended file old new = (ended ≡ true) × (bad_line file ≡ Some n) × (new ≡ old)
-EndsChecking (Err (Text f)) ended file old new = (ended ≡ true) × (bad_line file ≡ None) × HasFault file f × (new ≡ old)
-EndsChecking (Err ReadFault) ended file old new = (ended ≡ false) × (new ≡ old)
-EndsChecking (Err NoMemory) ended file old new = new ≡ old
-EndsChecking (Err Done) ended file old new = ⊥
+-- the text of the findings on these tables and of the remarks on this configuration
+abbrev pub IsFindings : Result Bool Ended → Tables → Configuration → List ℕ → Type 0
+IsFindings result ts c text = (findings : List Finding) × Checks ts findings × (text ≡ all_text findings (remarks_on c)) × IsFound result (some_found findings (remarks_on c))
 
--- from what a source answered to what a sink took
-pub record ChecksFile (result : Result Bool Ended) (answers answers' : Option (List Answer)) (ends ends' : ℕ) (taken taken' : Option (List ℕ)) : Type 0 where
-  pub more : List Answer
-  pub answers_are : answers' ≡ then_answers answers more
-  pub ends_so : EndsChecking result (nat_lt ends ends') (given more) taken taken'
+-- of a configuration, and of a switch
+abbrev pub findings_in : Result Bool Ended → Configuration → List ℕ → Type 0
+findings_in result c = IsFindings result (tables_in c) c
+
+abbrev pub findings_on : Result Bool Ended → State → List ℕ → Type 0
+findings_on result s = IsFindings result s.core.forwarding.tables (config_of s)

@@ -2,7 +2,6 @@ pub mod Verdicts
 pub mod Findings
 pub mod Text
 pub mod Files
-pub mod EventFiles
 pub mod Rules
 pub mod Pieces
 pub mod Search

@@ -1,10 +1,8 @@
 //! The findings after an event file.
-ghost use Rattle.std.specs.Prelude.{◌≡◌, ◌≤◌, ◌<◌, ◌↔◌, Err};
-ghost use Rattle.of_replay.specs.Assembling.{Faults};
-ghost use Rattle.of_replay.specs.ConfigFiles.{ended_as};
-ghost use Rattle.of_switch.specs.Loading.{config_of};
-ghost use Rattle.of_check.specs.EventFiles.{ChecksEvents};
-ghost use Rattle.of_check.specs.Files.{WritesFindings};
+ghost use Rattle.std.specs.Prelude.{◌≡◌, ◌≤◌, ◌<◌, ◌↔◌};
+ghost use Rattle.of_replay.specs.FileRuns.{Runs, Writes, ended_as, event_file};
+ghost use Rattle.of_replay.specs.WholeFiles.{Faults};
+ghost use Rattle.of_check.specs.Files.{findings_on};
 
 use crate::checking_file::write_findings;
 use of_classifier::Lookup;
@@ -20,8 +18,8 @@ fn write_state<L: Lookup, W: Sink>(
     writer: &mut W,
 ) -> Result<bool, Ended>
     requires { W.failures writer.old ≡ 0 }
-    ensures output { WritesFindings switch.now.core.forwarding.tables (config_of switch.now) result (W.taken writer.old) (W.taken writer.new) }
-    ensures write_fault { (result ≡ Err Ended.WriteFault) ↔ (0 < W.failures writer.new) }
+    ensures output { Writes (findings_on result switch.now) (ended_as result) (W.taken writer.old) (W.taken writer.new) }
+    ensures write_fault { (ended_as result ≡ Ended.WriteFault) ↔ (0 < W.failures writer.new) }
 {
     match switch.config() {
         Ok(config) => write_findings(alloc, switch, &config, steps, writer),
@@ -42,8 +40,8 @@ pub fn check_events<L: Lookup, S: Source, W: Sink>(
 ) -> Result<bool, Ended>
     requires reads { S.reads reader.old ≡ 0 }
     requires failures { W.failures writer.old ≡ 0 }
-    ensures output { ChecksEvents result (S.answers reader.old) (S.answers reader.new) (S.ends reader.old) (S.ends reader.new) (W.taken writer.old)
-        (W.taken writer.new) }
+    ensures output { Runs event_file (findings_on result) (ended_as result) (S.answers reader.old) (S.answers reader.new) (S.ends reader.old)
+        (S.ends reader.new) (W.taken writer.old) (W.taken writer.new) }
     ensures faults { Faults (ended_as result) (S.reads reader.new) (S.ends reader.old) (S.ends reader.new) (S.failures reader.old) (S.failures reader.new)
         (W.failures writer.new) }
     ensures reads { S.reads reader.new ≤ 1000000 }

@@ -1,8 +1,8 @@
 //! The findings of a flow text.
-ghost use Rattle.std.specs.Prelude.{◌≡◌, ◌≤◌, ◌<◌, ◌↔◌, Err, IfOk};
-ghost use Rattle.of_replay.specs.Assembling.{Faults};
-ghost use Rattle.of_replay.specs.ConfigFiles.{ended_as};
-ghost use Rattle.of_check.specs.Files.{ChecksFile, WritesFindings, tables_in};
+ghost use Rattle.std.specs.Prelude.{◌≡◌, ◌≤◌, ◌<◌, ◌↔◌, IfOk};
+ghost use Rattle.of_replay.specs.FileRuns.{Runs, Writes, ended_as, flow_text};
+ghost use Rattle.of_replay.specs.WholeFiles.{Faults};
+ghost use Rattle.of_check.specs.Files.{IsFindings, findings_in, tables_in};
 
 use crate::checking::{check, some_found};
 use crate::printing::print_all;
@@ -37,8 +37,8 @@ pub fn write_findings<L: Lookup, W: Sink>(
     writer: &mut W,
 ) -> Result<bool, Ended>
     requires { W.failures writer.old ≡ 0 }
-    ensures output { WritesFindings switch.now.core.forwarding.tables config.now result (W.taken writer.old) (W.taken writer.new) }
-    ensures write_fault { (result ≡ Err Ended.WriteFault) ↔ (0 < W.failures writer.new) }
+    ensures output { Writes (IsFindings result switch.now.core.forwarding.tables config.now) (ended_as result) (W.taken writer.old) (W.taken writer.new) }
+    ensures write_fault { (ended_as result ≡ Ended.WriteFault) ↔ (0 < W.failures writer.new) }
 {
     let Ok(findings) = check(alloc, switch, steps) else {
         return Err(Ended::NoMemory);
@@ -68,8 +68,8 @@ pub fn check_file<L: Lookup, S: Source, W: Sink>(
 ) -> Result<bool, Ended>
     requires reads { S.reads reader.old ≡ 0 }
     requires failures { W.failures writer.old ≡ 0 }
-    ensures output { ChecksFile result (S.answers reader.old) (S.answers reader.new) (S.ends reader.old) (S.ends reader.new) (W.taken writer.old)
-        (W.taken writer.new) }
+    ensures output { Runs flow_text (findings_in result) (ended_as result) (S.answers reader.old) (S.answers reader.new) (S.ends reader.old) (S.ends reader.new)
+        (W.taken writer.old) (W.taken writer.new) }
     ensures faults { Faults (ended_as result) (S.reads reader.new) (S.ends reader.old) (S.ends reader.new) (S.failures reader.old) (S.failures reader.new)
         (W.failures writer.new) }
     ensures reads { S.reads reader.new ≤ 1000000 }

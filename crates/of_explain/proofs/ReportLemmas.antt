@@ -1,12 +1,12 @@
 -- What is printed for a row.
 use Rattle.std.proofs.Common.{◌≡◌, ℕ, List, ◌++◌, Result, Ok, Err, sym, ◌∙◌, ap, append_assoc, inl, inr}
-use Rattle.std.specs.Prelude.{◌⊎◌, OnOk}
+use Rattle.std.specs.Prelude.{◌⊎◌, Option, OnOk}
 use Rattle.smallvec.specs.SmallVec.{SmallVec}
 use Rattle.of_datapath.specs.declared.effect.Effect.{Effect}
 use Rattle.of_switch.specs.declared.switch_error.SwitchError.{SwitchError}
 use Rattle.of_switch.specs.declared.switch_error.SwitchError.TheVariants as error
 use Rattle.of_switch.specs.Runs.{Report, Gives, IsRefused}
-use Rattle.of_replay.specs.Rows.{EventRow}
+use Rattle.of_switch.specs.declared.event.Event.{Event}
 use Rattle.of_replay.specs.Stepping.{IsReport}
 use Rattle.of_explain.specs.Explained.{TellsReport, report_notes}
 
@@ -14,7 +14,7 @@ abbrev Errors : Type 0
 Errors = Result (SmallVec Effect) SwitchError
 
 -- the report that a call gave is the one that happened, or memory ran out
-report_is : (called : Errors) (result : Result (Unit {0}) SwitchError) (report : Report) (X : Type 0) (before : List ℕ) (row : EventRow) (out out' : List ℕ) → (called ≡ Err error.NoMemory) ⊎ (IsReport called report × X)
+report_is : (called : Errors) (result : Result (Unit {0}) SwitchError) (report : Report) (X : Type 0) (before : List ℕ) (row : Option Event) (out out' : List ℕ) → (called ≡ Err error.NoMemory) ⊎ (IsReport called report × X)
     → TellsReport called result before row out out' → OnOk result (out' ≡ out ++ report_notes before row report)
 report_is (Ok es) (Ok u) report X before row out out' (inl is) t = cc
 report_is (Ok es) (Ok u) (Gives effects) X before row out out' (inr i) t = rw (sym i.0) t
@@ -29,7 +29,7 @@ behind_line : (result : Result (Unit {0}) SwitchError) (out mid out' line notes 
 behind_line (Ok u) out mid out' line notes m t = t ∙ (ap (λ (x : List ℕ). x ++ notes) m ∙ append_assoc out line notes)
 behind_line (Err e) out mid out' line notes m t = tt
 
-pub row_told : (called : Errors) (result : Result (Unit {0}) SwitchError) (report : Report) (X : Type 0) (before before' : List ℕ) (row : EventRow) (out mid out' line : List ℕ) → (called ≡ Err error.NoMemory) ⊎ (IsReport called report × X)
+pub row_told : (called : Errors) (result : Result (Unit {0}) SwitchError) (report : Report) (X : Type 0) (before before' : List ℕ) (row : Option Event) (out mid out' line : List ℕ) → (called ≡ Err error.NoMemory) ⊎ (IsReport called report × X)
     → before ≡ before' → mid ≡ out ++ line → TellsReport called result before row mid out' → OnOk result (out' ≡ out ++ (line ++ report_notes before' row report))
 row_told called result report X before before' row out mid out' line g b m t =
     behind_line result out mid out' line (report_notes before' row report) m (report_is called result report X before' row mid out' g (rw b at t))

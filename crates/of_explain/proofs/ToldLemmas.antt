@@ -1,22 +1,22 @@
 -- What is printed for a controller's bytes.
-use Rattle.std.proofs.Common.{◌≡◌, ℕ, false, List, [], ◌++◌, refl, ◌∙◌, ap}
+use Rattle.std.proofs.Common.{◌≡◌, ℕ, false, List, [], ◌++◌, Some, refl, ◌∙◌, ap}
 use Rattle.std.specs.List.{flat_map}
 use Rattle.std.proofs.lemmas.List.{append-nil}
 use Rattle.of_session.specs.Session.{is_disconnected}
 use Rattle.of_session.specs.Stream.{Splits}
 use Rattle.of_switch.specs.State.{State}
 use Rattle.of_switch.specs.Runs.{Report, Gives, chunk_in}
-use Rattle.of_replay.specs.Rows.{Chunk}
+use Rattle.of_switch.specs.declared.event.Event.TheVariants.{Chunk}
 use Rattle.of_replay.specs.RowTexts.{row_happened}
 use Rattle.of_explain.specs.Explained.{echoed, effect_notes, explained, report_notes, row_notes}
 use Rattle.of_explain.specs.Requests.{request_notes}
 use Rattle.of_explain.proofs.RequestLemmas.{messages_are}
 
 pub each_told : (s : State) (line chunk : List ℕ) (messages : List (List ℕ)) (rest : List ℕ) → is_disconnected s.connection.phase ≡ false → Splits (s.connection.pending ++ chunk) messages rest
-    → explained s line (Chunk chunk) ≡ echoed line ++ (flat_map request_notes messages ++ effect_notes (chunk_in chunk s).effects)
+    → explained s line (Some (Chunk chunk)) ≡ echoed line ++ (flat_map request_notes messages ++ effect_notes (chunk_in chunk s).effects)
 each_told s line chunk messages rest there split =
     let effects = (chunk_in chunk s).effects in
-    let report : (row_happened s (Chunk chunk)).report ≡ Gives effects = rw there refl in
-    ap (λ (r : Report). echoed line ++ report_notes (row_notes s (Chunk chunk)) (Chunk chunk) r) report
+    let report : (row_happened s (Some (Chunk chunk))).report ≡ Gives effects = rw there refl in
+    ap (λ (r : Report). echoed line ++ report_notes (row_notes s (Some (Chunk chunk))) (Some (Chunk chunk)) r) report
     ∙ (ap (λ (x : List (List ℕ)). echoed line ++ (flat_map request_notes x ++ (effect_notes effects ++ []))) (messages_are (s.connection.pending ++ chunk) messages rest split)
     ∙ ap (λ (x : List ℕ). echoed line ++ (flat_map request_notes messages ++ x)) (append-nil (effect_notes effects)))

@@ -16,7 +16,8 @@ use Rattle.of_datapath.specs.DryRun.{steps_in}
 use Rattle.of_datapath.specs.Datapath.{Forwarding}
 use Rattle.of_switch.specs.State.{State}
 use Rattle.of_switch.specs.Runs.{Report, Gives, IsRefused}
-use Rattle.of_replay.specs.Rows.{EventRow, Chunk, Frame}
+use Rattle.of_switch.specs.declared.event.Event.{Event}
+use Rattle.of_switch.specs.declared.event.Event.TheVariants.{Chunk, Frame}
 use Rattle.of_replay.specs.RowTexts.{RowText, row_happened}
 use Rattle.of_text.specs.Lines.{ended, note}
 use Rattle.of_explain.specs.Notes.{number_note, port_and_size, with_number}
@@ -96,18 +97,18 @@ nothing_leaves (e ∷ es) = []
 -- ---- a row
 
 -- what it does on the switch before it
-abbrev pub row_notes : State → EventRow → List ℕ
-row_notes s (Chunk bytes) = chunk_notes s.connection.pending bytes
-row_notes s (Frame port bytes) = way_notes port bytes s.core.forwarding
+abbrev pub row_notes : State → Option Event → List ℕ
+row_notes s (Some (Chunk bytes)) = chunk_notes s.connection.pending bytes
+row_notes s (Some (Frame port bytes)) = way_notes port bytes s.core.forwarding
 row_notes s other = []
 
 -- the note of a frame without effects
-abbrev pub end_notes : EventRow → List Effect → List ℕ
-end_notes (Frame port bytes) effects = nothing_leaves effects
+abbrev pub end_notes : Option Event → List Effect → List ℕ
+end_notes (Some (Frame port bytes)) effects = nothing_leaves effects
 end_notes other effects = []
 
 -- THE NOTES BELOW A ROW: of an event that happens, what it does, a note for each of its effects, and how that ends; of one that is refused, why
-abbrev pub report_notes : List ℕ → EventRow → Report → List ℕ
+abbrev pub report_notes : List ℕ → Option Event → Report → List ℕ
 report_notes before row (Gives effects) = before ++ (effect_notes effects ++ end_notes row effects)
 report_notes before row (IsRefused refusal) = note (refusal_words refusal)
 
@@ -118,7 +119,7 @@ explained s line row = echoed line ++ report_notes (row_notes s row) row (row_ha
 -- ---- for contracts inside this crate
 
 -- the notes of a call's report were appended, or memory ran out
-abbrev pub TellsReport : Result (SmallVec Effect) SwitchError → Result (Unit {0}) SwitchError → List ℕ → EventRow → List ℕ → List ℕ → Type 0
+abbrev pub TellsReport : Result (SmallVec Effect) SwitchError → Result (Unit {0}) SwitchError → List ℕ → Option Event → List ℕ → List ℕ → Type 0
 TellsReport (Ok es) (Ok u) before row out out' = out' ≡ out ++ report_notes before row (Gives es.items)
 TellsReport (Err e) (Ok u) before row out out' = (e ≢ refusals.NoMemory) × (out' ≡ out ++ report_notes before row (IsRefused e))
 TellsReport called (Err e) before row out out' = e ≡ refusals.NoMemory

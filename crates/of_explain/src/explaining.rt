@@ -1,7 +1,8 @@
 //! Event files, explained.
 ghost use Rattle.std.specs.Prelude.{◌≡◌, ◌⊎◌, ◌↔◌, ◌<◌, ◌≤◌, ◌+◌};
 ghost use Rattle.of_switch.specs.State.{start};
-ghost use Rattle.of_replay.specs.RowTexts.{Tells};
+ghost use Rattle.of_replay.specs.Play.{PrintsLines};
+ghost use Rattle.of_replay.specs.RowTexts.{told};
 ghost use Rattle.of_explain.specs.Explained.{explained};
 
 use crate::rows::Explaining;
@@ -23,7 +24,7 @@ pub fn explain<L: Lookup, S: Source, W: Sink>(
 ) -> Ended
     requires reads { S.reads reader.old ≡ 0 }
     requires failures { W.failures writer.old ≡ 0 }
-    ensures output { Tells (start dpid) explained result (S.answers reader.old) (S.answers reader.new) (S.ends reader.old) (S.ends reader.new)
+    ensures output { PrintsLines (told (start dpid) explained) result (S.answers reader.old) (S.answers reader.new) (S.ends reader.old) (S.ends reader.new)
         (W.taken writer.old) (W.taken writer.new) }
     ensures done { result ≡ Ended.Done → (S.failures reader.new ≡ S.failures reader.old) × (S.ends reader.new ≡ S.ends reader.old + 1) ×
         (W.failures writer.new ≡ 0) }

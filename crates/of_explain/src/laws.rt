@@ -1,11 +1,11 @@
 //! Laws of what is printed.
-ghost use Rattle.std.specs.Prelude.{◌≡◌, ◌++◌, ℕ, List, [], false};
+ghost use Rattle.std.specs.Prelude.{◌≡◌, ◌++◌, ℕ, List, [], Some, false};
 ghost use Rattle.std.specs.List.{flat_map};
 ghost use Rattle.of_session.specs.Session.{is_disconnected};
 ghost use Rattle.of_session.specs.Stream.{Splits};
 ghost use Rattle.of_switch.specs.Runs.{chunk_in};
 ghost use Rattle.of_switch.specs.State.{State};
-ghost use Rattle.of_replay.specs.Rows.{Chunk};
+ghost use Rattle.of_switch.specs.declared.event.Event.TheVariants.{Chunk};
 ghost use Rattle.of_explain.specs.Explained.{echoed, effect_notes, explained};
 ghost use Rattle.of_explain.specs.Requests.{request_notes};
 
@@ -15,6 +15,6 @@ ghost use Rattle.of_explain.specs.Requests.{request_notes};
 /// The messages are those into which the bytes that waited and those of the row split (OpenFlow 1.3.5, 6.3.2 and 7.1).
 pub fn each_message_is_told()
     ensures { (s : State) (line chunk : List ℕ) (messages : List (List ℕ)) (rest : List ℕ) → is_disconnected s.connection.phase ≡ false →
-        Splits (s.connection.pending ++ chunk) messages rest → explained s line (Chunk chunk) ≡ echoed line ++
+        Splits (s.connection.pending ++ chunk) messages rest → explained s line (Some (Chunk chunk)) ≡ echoed line ++
         (flat_map request_notes messages ++ effect_notes (chunk_in chunk s).effects) }
 {}

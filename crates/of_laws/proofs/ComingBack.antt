@@ -35,7 +35,7 @@ use Rattle.of_switch.specs.Loading.{config_of}
 use Rattle.of_switch.specs.State.{State, new_core, start}
 use Rattle.of_switch.specs.Runs.{Gives, Run, run}
 use Rattle.of_switch.proofs.ToldAgain.{told_again}
-use Rattle.of_replay.specs.Disassembling.{text_after}
+use Rattle.of_replay.specs.FileRuns.{after, switch_text}
 use Rattle.of_replay.specs.Lexing.{lines_of}
 use Rattle.of_replay.specs.Play.{lines_read}
 use Rattle.of_replay.specs.Rows.{Rows, rows_of}
@@ -178,8 +178,8 @@ comes_back text config dpid s =
 pub good_again : (text file : List ℕ) → BuildsOf text file → (rows_of (lines_read true file)).bad ≡ None
 good_again text file b = ap (λ (bytes : List ℕ). (rows_of (lines_of bytes)).bad) b.is ∙ (comes_back text b.config 1 b.encoded).good
 
-pub text_again : (text file : List ℕ) (config : Configuration) → BuildsOf text file → EncodeConfig (text_lines text) config → text_after (rows_of (lines_read true file)) ≡ config_text config
+pub text_again : (text file : List ℕ) (config : Configuration) → BuildsOf text file → EncodeConfig (text_lines text) config → switch_text (after (rows_of (lines_read true file))) ≡ config_text config
 text_again text file config b s =
     let same : b.config ≡ config = one_config (text_lines text) b.config config b.encoded s in
-    ap (λ (bytes : List ℕ). text_after (rows_of (lines_of bytes))) b.is
+    ap (λ (bytes : List ℕ). switch_text (after (rows_of (lines_of bytes)))) b.is
     ∙ (ap config_text (comes_back text b.config 1 b.encoded).config_is ∙ ap config_text same)

@@ -1,5 +1,5 @@
 -- The rows of a file of chunks.
-use Rattle.std.proofs.Common.{◌≡◌, ℕ, ◌+◌, ◌<◌, ◌≤◌, ◌/◌, ◌%◌, suc, zero, eqb, Bool, true, false, not, List, [], ◌∷◌, ◌++◌, length, codes, Some, None, refl, sym, ◌∙◌, ap, subst, append_assoc, arith}
+use Rattle.std.proofs.Common.{◌≡◌, ℕ, ◌+◌, ◌<◌, ◌≤◌, ◌/◌, ◌%◌, suc, zero, eqb, Bool, true, false, not, List, [], ◌∷◌, ◌++◌, length, codes, Option, Some, None, refl, sym, ◌∙◌, ap, subst, append_assoc, arith}
 use Rattle.std.specs.Prelude.{nat_le, nat_lt, position, slice_index}
 use Rattle.std.specs.List.{AllByRecursion, list_all}
 use Rattle.std.specs.Option.{option_map}
@@ -14,9 +14,9 @@ use Rattle.hex.proofs.HexLemmas.{IsAscii-encode_with, decode_of-encode_lower, le
 use Rattle.of_table.proofs.PlaceLemmas.{position-first, position-later}
 use Rattle.of_build.specs.Building.{chunk_line}
 use Rattle.of_switch.specs.declared.event.Event.{Event}
-use Rattle.of_switch.specs.declared.event.Event.TheVariants as event
+use Rattle.of_switch.specs.declared.event.Event.TheVariants.{Chunk, Connect}
 use Rattle.of_replay.specs.Lexing.{whole_from, last_from, lines_of, is_line, bytes_of}
-use Rattle.of_replay.specs.Rows.{EventRow, Chunk, Connect, events_in, row_of, rows_of}
+use Rattle.of_replay.specs.Rows.{events_in, row_of, rows_of}
 
 -- ---- lines
 
@@ -91,7 +91,7 @@ bytes_again (b ∷ bs) some each =
     let long : eqb (length (encode_lower (b ∷ bs))) 0 ≡ false = ne_eqb (length (encode_lower (b ∷ bs))) 0 (λ e. omega (arith, e, size)) in
     rw (other, long, decode_of-encode_lower (b ∷ bs) each) refl
 
-row_shown : (bytes : List ℕ) → IsShown bytes → row_of (shown bytes) ≡ Some (Chunk bytes)
+row_shown : (bytes : List ℕ) → IsShown bytes → row_of (shown bytes) ≡ Some (Some (Chunk bytes))
 row_shown bytes h = rw (shown_line bytes h.few, space bytes, bytes_again bytes h.some h.each) refl
 
 -- ---- files
@@ -100,20 +100,20 @@ row_shown bytes h = rw (shown_line bytes h.few, space bytes, bytes_again bytes h
 abbrev pub Means : List ℕ → List Event → Type 0
 Means file events = rows_of (lines_of file) ≡ record { events = events; bad = None }
 
-pub means_row : (line rest : List ℕ) (row : EventRow) (events : List Event) → IsOne line → row_of line ≡ Some row → Means rest events → Means (line ++ 10 ∷ rest) (events_in row ++ events)
+pub means_row : (line rest : List ℕ) (row : Option Event) (events : List Event) → IsOne line → row_of line ≡ Some row → Means rest events → Means (line ++ 10 ∷ rest) (events_in row ++ events)
 means_row line rest row events one is others = rw (next_line line rest one, is, others) refl
 
-pub means_chunk : (bytes rest : List ℕ) (events : List Event) → IsShown bytes → Means rest events → Means (chunk_line bytes ++ rest) (event.Chunk bytes ∷ events)
+pub means_chunk : (bytes rest : List ℕ) (events : List Event) → IsShown bytes → Means rest events → Means (chunk_line bytes ++ rest) (Chunk bytes ∷ events)
 means_chunk bytes rest events h others =
     let text : chunk_line bytes ++ rest ≡ shown bytes ++ 10 ∷ rest = ap (λ (x : List ℕ). 99 ∷ 32 ∷ x) (append_assoc (encode_lower bytes) (10 ∷ []) rest) in
-    subst (λ (file : List ℕ). Means file (event.Chunk bytes ∷ events)) (sym text) (means_row (shown bytes) rest (Chunk bytes) events (refl, (refl, hex_one bytes)) (row_shown bytes h) others)
+    subst (λ (file : List ℕ). Means file (Chunk bytes ∷ events)) (sym text) (means_row (shown bytes) rest (Some (Chunk bytes)) events (refl, (refl, hex_one bytes)) (row_shown bytes h) others)
 
-pub connect_is : row_of (codes "connect") ≡ Some Connect
+pub connect_is : row_of (codes "connect") ≡ Some (Some Connect)
 unfolding is_utf8 chars encode
 connect_is = refl
 
-pub means_connect : (rest : List ℕ) (events : List Event) → Means rest events → Means (codes "connect\n" ++ rest) (event.Connect ∷ events)
-means_connect rest events others = means_row (codes "connect") rest Connect events (refl, (refl, (refl, (refl, (refl, (refl, (refl, tt))))))) connect_is others
+pub means_connect : (rest : List ℕ) (events : List Event) → Means rest events → Means (codes "connect\n" ++ rest) (Connect ∷ events)
+means_connect rest events others = means_row (codes "connect") rest (Some Connect) events (refl, (refl, (refl, (refl, (refl, (refl, (refl, tt))))))) connect_is others
 
 pub means_end : Means [] []
 unfolding is_utf8 chars encode

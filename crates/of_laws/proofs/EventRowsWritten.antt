@@ -19,7 +19,9 @@ use Rattle.of_switch.specs.declared.port_change.PortChange.{PortChange}
 use Rattle.of_switch.specs.declared.port_change.PortChange.TheVariants.{Add, Remove, Link}
 use Rattle.of_text.specs.Lines.{before, further, is_passed, joined}
 use Rattle.of_replay.specs.Lexing.{after_word, below, bytes_of, decimal as decimal_in, digits_value, first_word, hw_of, is_digit, is_line, is_name_byte, moment_of, name_of, number_of, state_of}
-use Rattle.of_replay.specs.Rows.{EventRow, Passed, Connect, Lost, Chunk, Frame, Moment, Ports, added_port, change_of, events_in, frame_row, linked_port, named_row, chunk_row, port_of, removed_port, row_of}
+use Rattle.of_switch.specs.declared.event.Event.TheVariants.{Connect, Lost, Chunk, Frame, Moment, Ports}
+use Rattle.of_switch.specs.declared.event.Event.{Event}
+use Rattle.of_replay.specs.Rows.{added_port, change_of, events_in, frame_row, linked_port, named_row, chunk_row, port_of, removed_port, row_of}
 use Rattle.of_laws.specs.RowText.{HasChangeText, HasLine, HasText, IsName, bytes_word, change_words, file_text, name_word, row_text, row_words, state_word}
 use Rattle.of_laws.proofs.EventRowsRead.{IsOne, Means, bytes_again, connect_is, means_end, means_row}
 
@@ -92,7 +94,7 @@ after_is w rest h =
     let behind : drop (length w + 1) (w ++ 32 ∷ rest) ≡ rest = ap (drop (length w + 1)) parts ∙ drop_at (w ++ 32 ∷ []) rest (length w + 1) (omega (arith, length-append w (32 ∷ []))) in
     rw (space_at w rest h, behind) refl
 
-named : (w rest : List ℕ) → IsWord w → is_line (w ++ 32 ∷ rest) ≡ true → is_passed (w ++ 32 ∷ rest) ≡ false → row_of (w ++ 32 ∷ rest) ≡ named_row w rest
+named : (w rest : List ℕ) → IsWord w → is_line (w ++ 32 ∷ rest) ≡ true → is_passed (w ++ 32 ∷ rest) ≡ false → row_of (w ++ 32 ∷ rest) ≡ option_map Some (named_row w rest)
 named w rest h line passed = rw (line, passed, first_is w rest h, after_is w rest h) refl
 
 -- ---- numbers
@@ -282,46 +284,47 @@ change_are_words (Add number hw name up) h = (word_tested (codes "add") refl, ((
 change_are_words (Remove number) h = (word_tested (codes "remove") refl, ((digits number (omega arith)).0, tt))
 change_are_words (Link number up) h = (word_tested (codes "link") refl, ((digits number (omega arith)).0, (state_is_word up, tt)))
 
-are_words : (row : EventRow) → HasText row → AreWords (row_words row)
-are_words Passed h = tt
-are_words Connect h = (word_tested (codes "connect") refl, tt)
-are_words Lost h = (word_tested (codes "lost") refl, tt)
-are_words (Chunk bytes) h = (word_tested (codes "c") refl, (bytes_word_is bytes h, tt))
-are_words (Frame port bytes) h = (word_tested (codes "f") refl, ((digits port (let lt = h.0 in omega arith)).0, (bytes_word_is bytes h.1, tt)))
-are_words (Moment nanos) h = (word_tested (codes "t") refl, ((digits nanos h).0, tt))
-are_words (Ports change) h = (word_tested (codes "port") refl, change_are_words change h)
+are_words : (row : Option Event) → HasText row → AreWords (row_words row)
+are_words None h = tt
+are_words (Some Connect) h = (word_tested (codes "connect") refl, tt)
+are_words (Some Lost) h = (word_tested (codes "lost") refl, tt)
+are_words (Some (Chunk bytes)) h = (word_tested (codes "c") refl, (bytes_word_is bytes h, tt))
+are_words (Some (Frame port bytes)) h = (word_tested (codes "f") refl, ((digits port (let lt = h.0 in omega arith)).0, (bytes_word_is bytes h.1, tt)))
+are_words (Some (Moment nanos)) h = (word_tested (codes "t") refl, ((digits nanos h).0, tt))
+are_words (Some (Ports change)) h = (word_tested (codes "port") refl, change_are_words change h)
 
-lost_is : row_of (codes "lost") ≡ Some Lost
+lost_is : row_of (codes "lost") ≡ Some (Some Lost)
 unfolding is_utf8 chars encode
 lost_is = refl
 
-passed_is : is_line [] ≡ true → row_of [] ≡ Some Passed
+passed_is : is_line [] ≡ true → row_of [] ≡ Some None
 passed_is h = rw h refl
 
-pub row_again : (row : EventRow) → HasText row → length (row_text row) ≤ 1048576 → row_of (row_text row) ≡ Some row
-row_again Passed h few = passed_is (line_is [] tt few)
-row_again Connect h few = connect_is
-row_again Lost h few = lost_is
-row_again (Chunk bytes) h few =
-    let line = line_is (row_text (Chunk bytes)) (joined_line (row_words (Chunk bytes)) (are_words (Chunk bytes) h)) few in
-    named (codes "c") (bytes_word bytes ++ []) (word_tested (codes "c") refl) line refl ∙ chunk_again (bytes_word bytes ++ []) bytes (last_again bytes_of (bytes_word bytes) bytes (bytes_word_again bytes h))
-row_again (Frame port bytes) h few =
-    let line = line_is (row_text (Frame port bytes)) (joined_line (row_words (Frame port bytes)) (are_words (Frame port bytes) h)) few in
+pub row_again : (row : Option Event) → HasText row → length (row_text row) ≤ 1048576 → row_of (row_text row) ≡ Some row
+row_again None h few = passed_is (line_is [] tt few)
+row_again (Some Connect) h few = connect_is
+row_again (Some Lost) h few = lost_is
+row_again (Some (Chunk bytes)) h few =
+    let line = line_is (row_text (Some (Chunk bytes))) (joined_line (row_words (Some (Chunk bytes))) (are_words (Some (Chunk bytes)) h)) few in
+    named (codes "c") (bytes_word bytes ++ []) (word_tested (codes "c") refl) line refl
+    ∙ ap (option_map Some) (chunk_again (bytes_word bytes ++ []) bytes (last_again bytes_of (bytes_word bytes) bytes (bytes_word_again bytes h)))
+row_again (Some (Frame port bytes)) h few =
+    let line = line_is (row_text (Some (Frame port bytes))) (joined_line (row_words (Some (Frame port bytes))) (are_words (Some (Frame port bytes)) h)) few in
     let word = bytes_word bytes ++ [] in
     let words = decimal port ++ 32 ∷ word in
     named (codes "f") words (word_tested (codes "f") refl) line refl
-    ∙ frame_again words word bytes port (number_first port word h.0) (number_behind port word h.0) (last_again bytes_of (bytes_word bytes) bytes (bytes_word_again bytes h.1))
-row_again (Moment nanos) h few =
-    let line = line_is (row_text (Moment nanos)) (joined_line (row_words (Moment nanos)) (are_words (Moment nanos) h)) few in
+    ∙ ap (option_map Some) (frame_again words word bytes port (number_first port word h.0) (number_behind port word h.0) (last_again bytes_of (bytes_word bytes) bytes (bytes_word_again bytes h.1)))
+row_again (Some (Moment nanos)) h few =
+    let line = line_is (row_text (Some (Moment nanos))) (joined_line (row_words (Some (Moment nanos))) (are_words (Some (Moment nanos)) h)) few in
     named (codes "t") (decimal nanos ++ []) (word_tested (codes "t") refl) line refl
-    ∙ ap (option_map Moment) (last_again moment_of (decimal nanos) nanos (number_again (2 ^ 64) nanos h h))
-row_again (Ports change) h few =
-    let line = line_is (row_text (Ports change)) (joined_line (row_words (Ports change)) (are_words (Ports change) h)) few in
+    ∙ ap (λ (n : Option ℕ). option_map Some (option_map Moment n)) (last_again moment_of (decimal nanos) nanos (number_again (2 ^ 64) nanos h h))
+row_again (Some (Ports change)) h few =
+    let line = line_is (row_text (Some (Ports change))) (joined_line (row_words (Some (Ports change))) (are_words (Some (Ports change)) h)) few in
     let words = joined (change_words change) in
     let further_is = further_change change in
-    let parts : row_text (Ports change) ≡ codes "port" ++ 32 ∷ words = ap (λ (x : List ℕ). codes "port" ++ x) further_is in
+    let parts : row_text (Some (Ports change)) ≡ codes "port" ++ 32 ∷ words = ap (λ (x : List ℕ). codes "port" ++ x) further_is in
     let line' : is_line (codes "port" ++ 32 ∷ words) ≡ true = subst (λ (x : List ℕ). is_line x ≡ true) parts line in
-    ap row_of parts ∙ named (codes "port") words (word_tested (codes "port") refl) line' refl ∙ ap (option_map Ports) (change_again change h)
+    ap row_of parts ∙ named (codes "port") words (word_tested (codes "port") refl) line' refl ∙ ap (λ (c : Option PortChange). option_map Some (option_map Ports c)) (change_again change h)
   where
     further_change : (change : PortChange) → further (change_words change) ≡ 32 ∷ joined (change_words change)
     further_change (Add number hw name up) = refl
@@ -334,7 +337,7 @@ line_one : (line : List ℕ) → InLine line → IsOne line
 line_one [] h = tt
 line_one (b ∷ bs) h = let low = h.0.0 in (ne_eqb b 10 (λ e. omega (arith, e, low)), line_one bs h.1)
 
-pub file_again : (rows : List EventRow) → AllByRecursion HasLine rows → Means (file_text rows) (flat_map events_in rows)
+pub file_again : (rows : List (Option Event)) → AllByRecursion HasLine rows → Means (file_text rows) (flat_map events_in rows)
 file_again [] h = means_end
 file_again (row ∷ rows) h =
     let text = row_text row in

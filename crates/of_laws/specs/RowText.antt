@@ -1,12 +1,13 @@
 -- THE TEXT OF A ROW of an event file, as it is written: words, separated by one space.
-use Rattle.std.specs.Prelude.{◌≡◌, ℕ, ◌-◌, ◌^◌, ◌<◌, ◌≤◌, ⊤, Bool, true, false, List, [], ◌∷◌, ◌++◌, length, codes, decimal, replicate}
+use Rattle.std.specs.Prelude.{◌≡◌, ℕ, ◌-◌, ◌^◌, ◌<◌, ◌≤◌, ⊤, Bool, true, false, List, [], ◌∷◌, ◌++◌, length, codes, decimal, replicate, Option, Some, None}
 use Rattle.std.specs.List.{flat_map, list_all}
 use Rattle.hex.specs.Hex.{encode_lower, IsBytes}
 use Rattle.of_switch.specs.declared.port_change.PortChange.{PortChange}
 use Rattle.of_switch.specs.declared.port_change.PortChange.TheVariants.{Add, Remove, Link}
 use Rattle.of_text.specs.Lines.{before, joined}
 use Rattle.of_replay.specs.Lexing.{is_name_byte}
-use Rattle.of_replay.specs.Rows.{EventRow, Passed, Connect, Lost, Chunk, Frame, Moment, Ports}
+use Rattle.of_switch.specs.declared.event.Event.{Event}
+use Rattle.of_switch.specs.declared.event.Event.TheVariants.{Connect, Lost, Chunk, Frame, Moment, Ports}
 
 -- hex digits in lower case, or `-` for no bytes
 abbrev pub bytes_word : List ℕ → List ℕ
@@ -26,16 +27,16 @@ change_words (Add number hw name up) = codes "add" ∷ decimal number ∷ encode
 change_words (Remove number) = codes "remove" ∷ decimal number ∷ []
 change_words (Link number up) = codes "link" ∷ decimal number ∷ state_word up ∷ []
 
-abbrev pub row_words : EventRow → List (List ℕ)
-row_words Passed = []
-row_words Connect = codes "connect" ∷ []
-row_words Lost = codes "lost" ∷ []
-row_words (Chunk bytes) = codes "c" ∷ bytes_word bytes ∷ []
-row_words (Frame port bytes) = codes "f" ∷ decimal port ∷ bytes_word bytes ∷ []
-row_words (Moment nanos) = codes "t" ∷ decimal nanos ∷ []
-row_words (Ports change) = codes "port" ∷ change_words change
+abbrev pub row_words : Option Event → List (List ℕ)
+row_words None = []
+row_words (Some Connect) = codes "connect" ∷ []
+row_words (Some Lost) = codes "lost" ∷ []
+row_words (Some (Chunk bytes)) = codes "c" ∷ bytes_word bytes ∷ []
+row_words (Some (Frame port bytes)) = codes "f" ∷ decimal port ∷ bytes_word bytes ∷ []
+row_words (Some (Moment nanos)) = codes "t" ∷ decimal nanos ∷ []
+row_words (Some (Ports change)) = codes "port" ∷ change_words change
 
-abbrev pub row_text : EventRow → List ℕ
+abbrev pub row_text : Option Event → List ℕ
 row_text row = joined (row_words row)
 
 -- WHAT HAS A TEXT: numbers of 32 and 64 bits, bytes, hardware addresses of six bytes, and names of 1 to 15 letters and digits
@@ -52,20 +53,20 @@ HasChangeText (Add number hw name up) = (number < 2 ^ 32) × (length hw ≡ 6) �
 HasChangeText (Remove number) = number < 2 ^ 32
 HasChangeText (Link number up) = number < 2 ^ 32
 
-abbrev pub HasText : EventRow → Type 0
-HasText Passed = ⊤
-HasText Connect = ⊤
-HasText Lost = ⊤
-HasText (Chunk bytes) = IsBytes bytes
-HasText (Frame port bytes) = (port < 2 ^ 32) × IsBytes bytes
-HasText (Moment nanos) = nanos < 2 ^ 64
-HasText (Ports change) = HasChangeText change
+abbrev pub HasText : Option Event → Type 0
+HasText None = ⊤
+HasText (Some Connect) = ⊤
+HasText (Some Lost) = ⊤
+HasText (Some (Chunk bytes)) = IsBytes bytes
+HasText (Some (Frame port bytes)) = (port < 2 ^ 32) × IsBytes bytes
+HasText (Some (Moment nanos)) = nanos < 2 ^ 64
+HasText (Some (Ports change)) = HasChangeText change
 
 -- a line has at most 1,048,576 bytes
-pub record HasLine (row : EventRow) : Type 0 where
+pub record HasLine (row : Option Event) : Type 0 where
   pub has : HasText row
   pub short : length (row_text row) ≤ 1048576
 
 -- THE TEXT OF A FILE: each row is a line, which ends with LF
-abbrev pub file_text : List EventRow → List ℕ
+abbrev pub file_text : List (Option Event) → List ℕ
 file_text rows = flat_map (λ row. row_text row ++ 10 ∷ []) rows

@@ -1,5 +1,5 @@
 //! Laws of the round trip of flow texts, by the file that `asm` writes, and of the rows of such files.
-ghost use Rattle.std.specs.Prelude.{◌≡◌, ◌<◌, ◌++◌, ℕ, List, length, map, None, Some, false, true};
+ghost use Rattle.std.specs.Prelude.{◌≡◌, ◌<◌, ◌++◌, ℕ, List, length, map, None, Option, Some, false, true};
 ghost use Rattle.std.specs.List.{AllByRecursion, flat_map};
 ghost use Rattle.of_wire.specs.Items.{outcome};
 ghost use Rattle.of_wire.specs.Refusals.{first_of};
@@ -26,9 +26,10 @@ ghost use Rattle.of_build.specs.Building.{BuildsOf, add_of, build_text, new_of};
 ghost use Rattle.of_text.specs.Configs.{Configuration, EncodeConfig, config_text};
 ghost use Rattle.of_text.specs.Lines.{lines_of as text_lines};
 ghost use Rattle.of_replay.specs.Lexing.{lines_of};
-ghost use Rattle.of_replay.specs.Disassembling.{text_after};
+ghost use Rattle.of_replay.specs.FileRuns.{after, switch_text};
 ghost use Rattle.of_replay.specs.Play.{lines_read};
-ghost use Rattle.of_replay.specs.Rows.{EventRow, events_in, row_of, rows_of};
+ghost use Rattle.of_switch.specs.declared.event.Event.{Event};
+ghost use Rattle.of_replay.specs.Rows.{events_in, row_of, rows_of};
 ghost use Rattle.of_laws.specs.RoundTrip.{ComesBack};
 ghost use Rattle.of_laws.specs.Refused.{IsSaid, IsSaidGroup, StepFits, group_outcome, match_outcome, message_outcome, said_refusals};
 ghost use Rattle.of_laws.specs.RowText.{HasLine, file_text, row_text};
@@ -45,14 +46,14 @@ pub fn text_comes_back()
 pub fn dis_undoes_asm()
     ensures good { (text file : List ℕ) → BuildsOf text file → (rows_of (lines_read true file)).bad ≡ None }
     ensures canonical { (text file : List ℕ) (config : Configuration) → BuildsOf text file → EncodeConfig (text_lines text) config →
-        text_after (rows_of (lines_read true file)) ≡ config_text config }
+        switch_text (after (rows_of (lines_read true file))) ≡ config_text config }
 {}
 
 /// The text of each row of an event file is read as that row, if it is no longer than a line may be; and the text of a file of
 /// such rows as their events, in their order.
 pub fn written_rows_are_read()
-    ensures row { (row : EventRow) → HasLine row → row_of (row_text row) ≡ Some row }
-    ensures file { (rows : List EventRow) → AllByRecursion HasLine rows →
+    ensures row { (row : Option Event) → HasLine row → row_of (row_text row) ≡ Some row }
+    ensures file { (rows : List (Option Event)) → AllByRecursion HasLine rows →
         rows_of (lines_of (file_text rows)) ≡ record { events = flat_map events_in rows; bad = None } }
 {}
 

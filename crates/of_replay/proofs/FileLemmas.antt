@@ -1,4 +1,4 @@
--- A file that is read whole, and how `asm` ends.
+-- A file that is read whole, and how a run over it ends.
 use Rattle.std.proofs.Common.{◌≡◌, ℕ, ◌+◌, ◌<◌, ◌≤◌, Bool, true, false, List, [], ◌∷◌, ◌++◌, length, Option, Some, None, Result, Ok, Err, refl, sym, ◌∙◌, ap, subst, arith, inl, inr}
 use Rattle.std.specs.Prelude.{nat_lt, ◌⊎◌}
 use Rattle.std.specs.Global.{Vec}
@@ -12,7 +12,8 @@ use Rattle.of_replay.specs.Stepping.{ReadsFail, ended_so}
 use Rattle.of_text.specs.Lines.{lines_of, before, behind}
 use Rattle.of_text.proofs.TextLemmas.{first_line}
 use Rattle.of_replay.specs.Lexing.{is_line}
-use Rattle.of_replay.specs.Assembling.{unreadable, ReadsFile, IsBuilt, Builds, Writes, EndsAsm, Assembles, Faults}
+use Rattle.of_replay.specs.WholeFiles.{unreadable, ReadsFile, Faults}
+use Rattle.of_replay.specs.FileRuns.{Meaning, Outcome, IsRead, Reads, Runs, Writes, ended_as}
 use Rattle.of_replay.proofs.TellingLemmas.{answers-nil, given-more}
 use Rattle.of_replay.proofs.WholeRuns.{told_more, given_same, not_ended, is_ended}
 
@@ -62,45 +63,29 @@ pub all_good : (n : ℕ) → unreadable n (lines_of []) ≡ None
 unfolding lines_of
 all_good n = refl
 
--- ---- how `asm` ends
+-- ---- what is read of a file, and written
 
-pub asm_nothing : (answers : Option (List Answer)) (ends : ℕ) (taken : Option (List ℕ)) → Assembles NoMemory answers answers ends ends taken taken
-asm_nothing answers ends taken = record { more = []; answers_are = sym (answers-nil answers); ends_so = refl }
+-- nothing was read
+pub read_nothing : {A : Type 0} (is : Meaning A) (answers : Option (List Answer)) (ends : ℕ) → Reads is (Err NoMemory) answers answers ends ends
+read_nothing is answers ends = record { more = []; answers_are = sym (answers-nil answers); is_read = tt }
 
-pub asm_unread : (h : Halt) (answers answers' : Option (List Answer)) (ends ends' : ℕ) (file : List ℕ) (taken : Option (List ℕ)) → ReadsFile (Err h) answers answers' ends ends' file → Assembles (ended_so (Err h)) answers answers' ends ends' taken taken
-asm_unread (Bad n) answers answers' ends ends' file taken r = absurd r.is
-asm_unread Memory answers answers' ends ends' file taken r = record { more = r.more; answers_are = r.answers_are; ends_so = refl }
-asm_unread Read answers answers' ends ends' file taken r = record { more = r.more; answers_are = r.answers_are; ends_so = (r.is, refl) }
-asm_unread Write answers answers' ends ends' file taken r = absurd r.is
+-- a file that is read whole was not
+pub read_stopped : {A : Type 0} (is : Meaning A) → ((file : List ℕ) (outcome : Outcome A) → is false file outcome → ⊥) → (h : Halt) (answers answers' : Option (List Answer)) (ends ends' : ℕ) (file : List ℕ) → ReadsFile (Err h) answers answers' ends ends' file → Reads is (Err (ended_so (Err h))) answers answers' ends ends'
+read_stopped is none (Bad n) answers answers' ends ends' file r = absurd r.is
+read_stopped is none Memory answers answers' ends ends' file r = record { more = r.more; answers_are = r.answers_are; is_read = tt }
+read_stopped is none Read answers answers' ends ends' file r = record { more = r.more; answers_are = r.answers_are; is_read = (r.is, λ outcome i. none (given r.more) outcome (rw r.is at i)) }
+read_stopped is none Write answers answers' ends ends' file r = absurd r.is
 
-unbuilt_ends : (e : Ended) (ended : Bool) (file : List ℕ) (taken : Option (List ℕ)) → ended ≡ true → Builds (Err e) file → EndsAsm e ended file taken taken
-unbuilt_ends Done ended file taken t b = absurd b
-unbuilt_ends (BadRow n) ended file taken t b = (t, b, refl)
-unbuilt_ends (Text f) ended file taken t b = (t, b.0, b.1, refl)
-unbuilt_ends ReadFault ended file taken t b = absurd b
-unbuilt_ends WriteFault ended file taken t b = absurd b
-unbuilt_ends NoMemory ended file taken t b = refl
+-- a file was read whole
+pub read_whole : {A : Type 0} (is : Meaning A) (result : Result A Ended) (answers answers' : Option (List Answer)) (ends ends' : ℕ) (file : List ℕ) → ReadsFile (Ok tt) answers answers' ends ends' file → IsRead is result true file → Reads is result answers answers' ends ends'
+read_whole is result answers answers' ends ends' file r b = record { more = r.more; answers_are = r.answers_are; is_read = rw r.is.0 (rw r.is.1 at b) }
 
-pub asm_unbuilt : (e : Ended) (answers answers' : Option (List Answer)) (ends ends' : ℕ) (file : List ℕ) (taken : Option (List ℕ)) → ReadsFile (Ok tt) answers answers' ends ends' file → Builds (Err e) file → Assembles e answers answers' ends ends' taken taken
-asm_unbuilt e answers answers' ends ends' file taken r b = record {
-  more = r.more;
-  answers_are = r.answers_are;
-  ends_so = unbuilt_ends e (nat_lt ends ends') (given r.more) taken r.is.0 (subst (λ (x : List ℕ). Builds (Err e) x) r.is.1 b);
-}
+-- what was not read is not written
+pub runs_unread : {A : Type 0} (is : Meaning A) (IsText : A → List ℕ → Type 0) (e : Ended) (answers answers' : Option (List Answer)) (ends ends' : ℕ) (taken : Option (List ℕ)) → Reads is (Err e) answers answers' ends ends' → Runs is IsText e answers answers' ends ends' taken taken
+runs_unread is IsText e answers answers' ends ends' taken r = record { read = Err e; reads = r; writes = (refl, refl) }
 
-pub asm_done : (text : Vec ℕ) (answers answers' : Option (List Answer)) (ends ends' : ℕ) (file : List ℕ) (taken taken' : Option (List ℕ)) → ReadsFile (Ok tt) answers answers' ends ends' file → Builds (Ok text) file → taken' ≡ then_bytes taken text.items → Assembles Done answers answers' ends ends' taken taken'
-asm_done text answers answers' ends ends' file taken taken' r b w = record {
-  more = r.more;
-  answers_are = r.answers_are;
-  ends_so = (text.items, r.is.0, subst (λ (x : List ℕ). IsBuilt x text.items) r.is.1 b, w);
-}
-
-pub asm_unwritten : (text : Vec ℕ) (answers answers' : Option (List Answer)) (ends ends' : ℕ) (file : List ℕ) (taken taken' : Option (List ℕ)) → ReadsFile (Ok tt) answers answers' ends ends' file → Builds (Ok text) file → WrotePrefix taken text.items taken' → Assembles WriteFault answers answers' ends ends' taken taken'
-asm_unwritten text answers answers' ends ends' file taken taken' r b w = record {
-  more = r.more;
-  answers_are = r.answers_are;
-  ends_so = (text.items, r.is.0, subst (λ (x : List ℕ). IsBuilt x text.items) r.is.1 b, w);
-}
+pub runs_read : {A : Type 0} (is : Meaning A) (IsText : A → List ℕ → Type 0) (value : A) (e : Ended) (answers answers' : Option (List Answer)) (ends ends' : ℕ) (taken taken' : Option (List ℕ)) → Reads is (Ok value) answers answers' ends ends' → Writes (IsText value) e taken taken' → Runs is IsText e answers answers' ends ends' taken taken'
+runs_read is IsText value e answers answers' ends ends' taken taken' r w = record { read = Ok value; reads = r; writes = w }
 
 -- ---- faults
 
@@ -138,30 +123,48 @@ faults_unread Read answers answers' file reads ends ends' failures failures' wri
 }
 faults_unread Write answers answers' file reads ends ends' failures failures' writes r h w = absurd r.is
 
-pub faults_unbuilt : (e : Ended) (file : List ℕ) (reads ends ends' failures failures' writes : ℕ) → Builds (Err e) file → ReadsFail (Ok tt) reads ends ends' failures failures' → writes ≡ 0 → Faults e reads ends ends' failures failures' writes
-faults_unbuilt Done file reads ends ends' failures failures' writes b h w = absurd b
-faults_unbuilt (BadRow n) file reads ends ends' failures failures' writes b h w = record { done = λ e. cc; once = omega (arith, h.1); read_fault = λ e. cc; failed_read = λ lt. absurd (omega (arith, lt, h.1)); write_fault = (λ e. cc, λ lt. absurd (omega (arith, w, lt))) }
-faults_unbuilt (Text f) file reads ends ends' failures failures' writes b h w = record { done = λ e. cc; once = omega (arith, h.1); read_fault = λ e. cc; failed_read = λ lt. absurd (omega (arith, lt, h.1)); write_fault = (λ e. cc, λ lt. absurd (omega (arith, w, lt))) }
-faults_unbuilt ReadFault file reads ends ends' failures failures' writes b h w = absurd b
-faults_unbuilt WriteFault file reads ends ends' failures failures' writes b h w = absurd b
-faults_unbuilt NoMemory file reads ends ends' failures failures' writes b h w = record { done = λ e. cc; once = omega (arith, h.1); read_fault = λ e. cc; failed_read = λ lt. absurd (omega (arith, lt, h.1)); write_fault = (λ e. cc, λ lt. absurd (omega (arith, w, lt))) }
+-- a failure that is no fault of the source's: the file was read whole
+faults_none : (e : Ended) (reads ends ends' failures failures' : ℕ) → (e ≡ ReadFault → ⊥) → (e ≡ WriteFault → ⊥) → ReadsFail (Ok tt) reads ends ends' failures failures' → Faults e reads ends ends' failures failures' 0
+faults_none e reads ends ends' failures failures' read write h = record {
+  done = λ is. (h.1, h.0, refl);
+  once = omega (arith, h.1);
+  read_fault = λ is. absurd (read is);
+  failed_read = λ lt. absurd (omega (arith, lt, h.1));
+  write_fault = (λ is. absurd (write is), λ lt. absurd (omega (arith, lt)));
+}
 
-pub faults_done : (reads ends ends' failures failures' writes : ℕ) → ReadsFail (Ok tt) reads ends ends' failures failures' → writes ≡ 0 → Faults Done reads ends ends' failures failures' writes
-faults_done reads ends ends' failures failures' writes h w = record { done = λ e. (h.1, h.0, w); once = omega (arith, h.1); read_fault = λ e. cc; failed_read = λ lt. absurd (omega (arith, lt, h.1)); write_fault = (λ e. cc, λ lt. absurd (omega (arith, w, lt))) }
+-- the file was read whole, and then something was read of it or not
+pub faults_whole : {A : Type 0} (is : Meaning A) (result : Result A Ended) (file : List ℕ) (reads ends ends' failures failures' : ℕ) → IsRead is result true file → ReadsFail (Ok tt) reads ends ends' failures failures' → Faults (ended_as result) reads ends ends' failures failures' 0
+faults_whole is (Ok value) file reads ends ends' failures failures' r h = faults_none Done reads ends ends' failures failures' (λ e. cc) (λ e. cc) h
+faults_whole is (Err Done) file reads ends ends' failures failures' r h = absurd r
+faults_whole is (Err (BadRow n)) file reads ends ends' failures failures' r h = faults_none (BadRow n) reads ends ends' failures failures' (λ e. cc) (λ e. cc) h
+faults_whole is (Err (Text f)) file reads ends ends' failures failures' r h = faults_none (Text f) reads ends ends' failures failures' (λ e. cc) (λ e. cc) h
+faults_whole is (Err ReadFault) file reads ends ends' failures failures' r h = absurd (let e : true ≡ false = r.0 in cc)
+faults_whole is (Err WriteFault) file reads ends ends' failures failures' r h = absurd r
+faults_whole is (Err NoMemory) file reads ends ends' failures failures' r h = faults_none NoMemory reads ends ends' failures failures' (λ e. cc) (λ e. cc) h
 
-pub faults_unwritten : (reads ends ends' failures failures' writes : ℕ) → ReadsFail (Ok tt) reads ends ends' failures failures' → 0 < writes → Faults WriteFault reads ends ends' failures failures' writes
-faults_unwritten reads ends ends' failures failures' writes h w = record { done = λ e. cc; once = omega (arith, h.1); read_fault = λ e. cc; failed_read = λ lt. absurd (omega (arith, lt, h.1)); write_fault = (λ e. w, λ lt. refl) }
+pub faults_done : (reads ends ends' failures failures' : ℕ) → ReadsFail (Ok tt) reads ends ends' failures failures' → Faults Done reads ends ends' failures failures' 0
+faults_done reads ends ends' failures failures' h = faults_none Done reads ends ends' failures failures' (λ e. cc) (λ e. cc) h
 
--- ---- what was built is written
+no_write : (writes : ℕ) → ((0 < writes) → ⊥) → writes ≡ 0
+no_write writes h = grind (arith, h)
 
-pub asm_ends : (result : Ended) (text : Result (Vec ℕ) Ended) (answers answers' : Option (List Answer)) (ends ends' : ℕ) (file : List ℕ) (taken taken' : Option (List ℕ)) (writes : ℕ) → ReadsFile (Ok tt) answers answers' ends ends' file → Builds text file
-    → Writes result text taken taken' writes → Assembles result answers answers' ends ends' taken taken'
-asm_ends result (Err e) answers answers' ends ends' file taken taken' writes r b w = rw (w.0, w.1) (asm_unbuilt e answers answers' ends ends' file taken r b)
-asm_ends result (Ok text) answers answers' ends ends' file taken taken' writes r b (inl w) = rw w.0 (asm_done text answers answers' ends ends' file taken taken' r b w.1)
-asm_ends result (Ok text) answers answers' ends ends' file taken taken' writes r b (inr w) = rw w.0 (asm_unwritten text answers answers' ends ends' file taken taken' r b w.1)
+-- a text of it is written, which fails by itself
+pub faults_written : (IsText : List ℕ → Type 0) (e : Ended) (taken taken' : Option (List ℕ)) (reads ends ends' failures failures' writes : ℕ) → Faults Done reads ends ends' failures failures' 0 → Writes IsText e taken taken' → (e ≡ WriteFault) ↔ (0 < writes)
+    → Faults e reads ends ends' failures failures' writes
+faults_written IsText Done taken taken' reads ends ends' failures failures' writes f w iff =
+    let d = f.done refl in
+    record { done = λ e. (d.0, d.1, no_write writes (λ lt. let e : Done ≡ WriteFault = iff.1 lt in cc)); once = f.once; read_fault = λ e. cc; failed_read = λ lt. absurd (omega (arith, lt, d.0)); write_fault = iff }
+faults_written IsText (BadRow n) taken taken' reads ends ends' failures failures' writes f w iff = absurd w
+faults_written IsText (Text t) taken taken' reads ends ends' failures failures' writes f w iff = absurd w
+faults_written IsText ReadFault taken taken' reads ends ends' failures failures' writes f w iff = absurd w
+faults_written IsText WriteFault taken taken' reads ends ends' failures failures' writes f w iff =
+    let d = f.done refl in
+    record { done = λ e. cc; once = f.once; read_fault = λ e. cc; failed_read = λ lt. absurd (omega (arith, lt, d.0)); write_fault = iff }
+faults_written IsText NoMemory taken taken' reads ends ends' failures failures' writes f w iff =
+    let d = f.done refl in
+    record { done = λ e. cc; once = f.once; read_fault = λ e. cc; failed_read = λ lt. absurd (omega (arith, lt, d.0)); write_fault = iff }
 
-pub faults_end : (result : Ended) (text : Result (Vec ℕ) Ended) (file : List ℕ) (taken taken' : Option (List ℕ)) (reads ends ends' failures failures' writes : ℕ) → Builds text file → Writes result text taken taken' writes → ReadsFail (Ok tt) reads ends ends' failures failures'
-    → Faults result reads ends ends' failures failures' writes
-faults_end result (Err e) file taken taken' reads ends ends' failures failures' writes b w h = rw w.0 (faults_unbuilt e file reads ends ends' failures failures' writes b h w.2)
-faults_end result (Ok text) file taken taken' reads ends ends' failures failures' writes b (inl w) h = rw w.0 (faults_done reads ends ends' failures failures' writes h w.2)
-faults_end result (Ok text) file taken taken' reads ends ends' failures failures' writes b (inr w) h = rw w.0 (faults_unwritten reads ends ends' failures failures' writes h w.2)
+-- nothing was read, and so nothing is written
+pub faults_same : (e : Ended) (reads ends ends' failures failures' writes : ℕ) → writes ≡ 0 → Faults e reads ends ends' failures failures' 0 → Faults e reads ends ends' failures failures' writes
+faults_same e reads ends ends' failures failures' writes w f = rw w f

@@ -7,5 +7,4 @@ pub mod Marks
 pub mod WholeRuns
 pub mod Examples
 pub mod FileLemmas
-pub mod ConfigLemmas
-pub mod DisLemmas
+pub mod EventFileLemmas

@@ -12,7 +12,7 @@ use Rattle.of_replay.specs.declared.halt.Halt.TheVariants.{Bad, Memory, Read, Wr
 use Rattle.of_replay.specs.Told.{then_bytes}
 use Rattle.of_replay.specs.Transfer.{WrotePrefix}
 use Rattle.of_replay.specs.Lexing.{whole_from, whole_lines, last_from}
-use Rattle.of_replay.specs.Rows.{EventRow, Passed, Connect, Lost, Chunk, Frame, Moment, Ports, Rows, row_of, row_and, rows_of, events_in}
+use Rattle.of_replay.specs.Rows.{Rows, row_of, row_and, rows_of, events_in}
 use Rattle.of_replay.specs.Output.{report_text, printed_from}
 use Rattle.of_replay.specs.Play.{lines_read}
 use Rattle.of_replay.specs.RowTexts.{RowText, plain, row_happened, told, told_and, told_from}
@@ -23,41 +23,31 @@ use Rattle.of_replay.proofs.Cutting.{kept_more, Parts, parts, first_end, whole_j
 -- A LINE
 
 -- what the events of a row print, and the state after them
-row_text : (row : EventRow) (s : State) → report_text (row_happened s row).report ≡ printed_from s (events_in row)
-row_text Passed s = refl
-row_text Connect s = sym (append-nil _)
-row_text Lost s = refl
-row_text (Chunk bytes) s = sym (append-nil _)
-row_text (Frame port bytes) s = sym (append-nil _)
-row_text (Moment nanos) s = sym (append-nil _)
-row_text (Ports change) s = sym (append-nil _)
+row_text : (row : Option Event) (s : State) → report_text (row_happened s row).report ≡ printed_from s (events_in row)
+row_text None s = refl
+row_text (Some event) s = sym (append-nil _)
 
-row_state : (row : EventRow) (s : State) → (row_happened s row).state ≡ (run (events_in row) s).state
-row_state Passed s = refl
-row_state Connect s = refl
-row_state Lost s = refl
-row_state (Chunk bytes) s = refl
-row_state (Frame port bytes) s = refl
-row_state (Moment nanos) s = refl
-row_state (Ports change) s = refl
+row_state : (row : Option Event) (s : State) → (row_happened s row).state ≡ (run (events_in row) s).state
+row_state None s = refl
+row_state (Some event) s = refl
 
 -- nothing was written yet
-pub line_kept : (tale : RowText) (row : Option EventRow) (n : ℕ) (line : List ℕ) (s held : State) (out out' : List ℕ) (taken : Option (List ℕ)) → LineTells tale (Ok tt) n line row s held out out' → LineGoes tale (Ok tt) n line row s held out out' taken taken
+pub line_kept : (tale : RowText) (row : Option (Option Event)) (n : ℕ) (line : List ℕ) (s held : State) (out out' : List ℕ) (taken : Option (List ℕ)) → LineTells tale (Ok tt) n line row s held out out' → LineGoes tale (Ok tt) n line row s held out out' taken taken
 line_kept tale (Some row) n line s held out out' taken h = ([], sym (then-nil taken), h.0, h.1)
 line_kept tale None n line s held out out' taken h = absurd h
 
 -- all was written
-pub line_flushed : (tale : RowText) (row : Option EventRow) (n : ℕ) (line : List ℕ) (s held : State) (out full out' : List ℕ) (taken taken' : Option (List ℕ)) → LineTells tale (Ok tt) n line row s held out full → out' ≡ [] → taken' ≡ then_bytes taken full → LineGoes tale (Ok tt) n line row s held out out' taken taken'
+pub line_flushed : (tale : RowText) (row : Option (Option Event)) (n : ℕ) (line : List ℕ) (s held : State) (out full out' : List ℕ) (taken taken' : Option (List ℕ)) → LineTells tale (Ok tt) n line row s held out full → out' ≡ [] → taken' ≡ then_bytes taken full → LineGoes tale (Ok tt) n line row s held out out' taken taken'
 line_flushed tale (Some row) n line s held out full out' taken taken' h o t = (full, t, ap (λ (x : List ℕ). full ++ x) o ∙ (append-nil full ∙ h.0), h.1)
 line_flushed tale None n line s held out full out' taken taken' h o t = absurd h
 
 -- the write failed
-pub line_unwritten : (tale : RowText) (row : Option EventRow) (n : ℕ) (line : List ℕ) (s told_to held : State) (out full out' : List ℕ) (taken taken' : Option (List ℕ)) → LineTells tale (Ok tt) n line row s told_to out full → WrotePrefix taken full taken' → LineGoes tale (Err Write) n line row s held out out' taken taken'
+pub line_unwritten : (tale : RowText) (row : Option (Option Event)) (n : ℕ) (line : List ℕ) (s told_to held : State) (out full out' : List ℕ) (taken taken' : Option (List ℕ)) → LineTells tale (Ok tt) n line row s told_to out full → WrotePrefix taken full taken' → LineGoes tale (Err Write) n line row s held out out' taken taken'
 line_unwritten tale (Some row) n line s told_to held out full out' taken taken' h w = subst (λ (x : List ℕ). WrotePrefix taken x taken') h.0 w
 line_unwritten tale None n line s told_to held out full out' taken taken' h w = absurd h
 
 -- the run halts at it
-pub line_halts : (tale : RowText) (h : Halt) (row : Option EventRow) (n : ℕ) (line : List ℕ) (s told_to held : State) (out out' : List ℕ) (taken : Option (List ℕ)) → LineTells tale (Err h) n line row s told_to out out' → LineGoes tale (Err h) n line row s held out out' taken taken
+pub line_halts : (tale : RowText) (h : Halt) (row : Option (Option Event)) (n : ℕ) (line : List ℕ) (s told_to held : State) (out out' : List ℕ) (taken : Option (List ℕ)) → LineTells tale (Err h) n line row s told_to out out' → LineGoes tale (Err h) n line row s held out out' taken taken
 line_halts tale (Bad m) (Some row) n line s told_to held out out' taken h = absurd h
 line_halts tale (Bad m) None n line s told_to held out out' taken h = (h.0, h.1, refl)
 line_halts tale Memory row n line s told_to held out out' taken h = (h, refl)
@@ -65,7 +55,7 @@ line_halts tale Read row n line s told_to held out out' taken h = absurd h
 line_halts tale Write row n line s told_to held out out' taken h = absurd h
 
 -- before a line is printed no write fails
-pub told_well : (tale : RowText) (h : Halt) (row : Option EventRow) (n failures : ℕ) (line : List ℕ) (s told_to : State) (out out' : List ℕ) → LineTells tale (Err h) n line row s told_to out out' → failures ≡ 0 → WritesFail (Err h) failures
+pub told_well : (tale : RowText) (h : Halt) (row : Option (Option Event)) (n failures : ℕ) (line : List ℕ) (s told_to : State) (out out' : List ℕ) → LineTells tale (Err h) n line row s told_to out out' → failures ≡ 0 → WritesFail (Err h) failures
 told_well tale (Bad m) row n failures line s told_to out out' h e = e
 told_well tale Memory row n failures line s told_to out out' h e = e
 told_well tale Read row n failures line s told_to out out' h e = e
@@ -104,7 +94,7 @@ was_good : (bad : Option ℕ) → option_map (λ n. n + 1) bad ≡ None → bad 
 was_good None e = refl
 was_good (Some n) e = cc
 
-row_joined : (r : Option EventRow) (a b ab : Rows) (k : ℕ) → (a.bad ≡ None → ab ≡ joined a k b) → (row_and r a).bad ≡ None → row_and r ab ≡ joined (row_and r a) (suc k) b
+row_joined : (r : Option (Option Event)) (a b ab : Rows) (k : ℕ) → (a.bad ≡ None → ab ≡ joined a k b) → (row_and r a).bad ≡ None → row_and r ab ≡ joined (row_and r a) (suc k) b
 row_joined None a b ab k ih good = cc
 row_joined (Some row) a b ab k ih good =
     ap (row_and (Some row)) (ih (was_good a.bad good))
@@ -130,7 +120,7 @@ run_text (e ∷ es) fs s =
 
 -- WHAT IS PRINTED, line after line
 
-tale_joined : (tale : RowText) (r : Option EventRow) (line : List ℕ) (lines more : List (List ℕ)) (s : State)
+tale_joined : (tale : RowText) (r : Option (Option Event)) (line : List ℕ) (lines more : List (List ℕ)) (s : State)
     → ((t : State) → (rows_of lines).bad ≡ None → told_from tale (lines ++ more) t ≡ told_from tale lines t ++ told_from tale more (run (rows_of lines).events t).state)
     → (row_and r (rows_of lines)).bad ≡ None
     → told_and tale s line r (told_from tale (lines ++ more)) ≡ told_and tale s line r (told_from tale lines) ++ told_from tale more (run (row_and r (rows_of lines)).events s).state
@@ -148,15 +138,15 @@ pub tale_join : (tale : RowText) (lines more : List (List ℕ)) (s : State) → 
 tale_join tale [] more s good = refl
 tale_join tale (line ∷ lines) more s good = tale_joined tale (row_of line) line lines more s (λ t. tale_join tale lines more t) good
 
-tale_first : (tale : RowText) (line : List ℕ) (row : EventRow) (more : List (List ℕ)) (s : State) → row_of line ≡ Some row → told_from tale (line ∷ more) s ≡ tale s line row ++ told_from tale more (row_happened s row).state
-tale_first tale line row more s is = ap (λ (r : Option EventRow). told_and tale s line r (told_from tale more)) is
+tale_first : (tale : RowText) (line : List ℕ) (row : Option Event) (more : List (List ℕ)) (s : State) → row_of line ≡ Some row → told_from tale (line ∷ more) s ≡ tale s line row ++ told_from tale more (row_happened s row).state
+tale_first tale line row more s is = ap (λ (r : Option (Option Event)). told_and tale s line r (told_from tale more)) is
 
 tale_bad : (tale : RowText) (line : List ℕ) (more : List (List ℕ)) (s : State) → row_of line ≡ None → told_from tale (line ∷ more) s ≡ []
-tale_bad tale line more s is = ap (λ (r : Option EventRow). told_and tale s line r (told_from tale more)) is
+tale_bad tale line more s is = ap (λ (r : Option (Option Event)). told_and tale s line r (told_from tale more)) is
 
 -- what `replay` prints
 
-plain_and : (r : Option EventRow) (line : List ℕ) (lines : List (List ℕ)) (s : State) → ((t : State) → told_from plain lines t ≡ printed_from t (rows_of lines).events)
+plain_and : (r : Option (Option Event)) (line : List ℕ) (lines : List (List ℕ)) (s : State) → ((t : State) → told_from plain lines t ≡ printed_from t (rows_of lines).events)
     → told_and plain s line r (told_from plain lines) ≡ printed_from s (row_and r (rows_of lines)).events
 plain_and None line lines s ih = refl
 plain_and (Some row) line lines s ih =
@@ -201,26 +191,13 @@ prints_front begun tale lines lines' out more first taken taken' p e text after 
 )
 
 -- one more good line
-good_rows : (lines : List (List ℕ)) (line : List ℕ) (row : EventRow) → (rows_of lines).bad ≡ None → row_of line ≡ Some row → rows_of (lines ++ line ∷ []) ≡ record { events = (rows_of lines).events ++ events_in row; bad = None }
+good_rows : (lines : List (List ℕ)) (line : List ℕ) (row : Option Event) → (rows_of lines).bad ≡ None → row_of line ≡ Some row → rows_of (lines ++ line ∷ []) ≡ record { events = (rows_of lines).events ++ events_in row; bad = None }
 good_rows lines line row good is =
     rows_join lines (line ∷ []) good
-    ∙ (ap (λ (r : Option EventRow). joined (rows_of lines) (length lines) (row_and r (rows_of []))) is
+    ∙ (ap (λ (r : Option (Option Event)). joined (rows_of lines) (length lines) (row_and r (rows_of []))) is
     ∙ ap (λ (es : List Event). record { events = (rows_of lines).events ++ es; bad = None }) (append-nil (events_in row)))
 
--- lines before others are good where all are
-good_and : (r : Option EventRow) (a ab : Rows) → (ab.bad ≡ None → a.bad ≡ None) → (row_and r ab).bad ≡ None → (row_and r a).bad ≡ None
-good_and None a ab ih good = cc
-good_and (Some row) a ab ih good = ap (option_map (λ n. n + 1)) (ih (was_good ab.bad good))
-
-pub good_front : (lines more : List (List ℕ)) → (rows_of (lines ++ more)).bad ≡ None → (rows_of lines).bad ≡ None
-good_front [] more good = refl
-good_front (line ∷ lines) more good = good_and (row_of line) (rows_of lines) (rows_of (lines ++ more)) (good_front lines more) good
-
--- what good lines and others give
-pub rows_more : (lines more : List (List ℕ)) → (rows_of lines).bad ≡ None → (rows_of (lines ++ more)).events ≡ (rows_of lines).events ++ (rows_of more).events
-rows_more lines more good = ap (λ (r : Rows). r.events) (rows_join lines more good)
-
-going_by : (begun : State) (tale : RowText) (r : Option EventRow) (lines : List (List ℕ)) (line : List ℕ) (n n' : ℕ) (s held : State) (out out' : List ℕ) (first taken taken' : Option (List ℕ)) → row_of line ≡ r
+going_by : (begun : State) (tale : RowText) (r : Option (Option Event)) (lines : List (List ℕ)) (line : List ℕ) (n n' : ℕ) (s held : State) (out out' : List ℕ) (first taken taken' : Option (List ℕ)) → row_of line ≡ r
     → Going begun tale lines n s out first taken → LineGoes tale (Ok tt) n line r s held out out' taken taken' → n' ≡ n + 1 → Going begun tale (lines ++ line ∷ []) n' held out' first taken'
 going_by begun tale None lines line n n' s held out out' first taken taken' is going h e = absurd h
 going_by begun tale (Some row) lines line n n' s held out out' first taken taken' is going h e =
@@ -248,12 +225,12 @@ prints_first begun tale earlier past lines others all out first taken same is go
   prints = subst (λ (ls : List (List ℕ)). Prints begun tale ls out first taken) same p;
 }
 
-halts_by : (begun : State) (tale : RowText) (h : Halt) (r : Option EventRow) (earlier past lines : List (List ℕ)) (line : List ℕ) (more : List (List ℕ)) (n : ℕ) (s held : State) (out out' : List ℕ) (first taken taken' : Option (List ℕ)) → lines ≡ earlier ++ past → row_of line ≡ r
+halts_by : (begun : State) (tale : RowText) (h : Halt) (r : Option (Option Event)) (earlier past lines : List (List ℕ)) (line : List ℕ) (more : List (List ℕ)) (n : ℕ) (s held : State) (out out' : List ℕ) (first taken taken' : Option (List ℕ)) → lines ≡ earlier ++ past → row_of line ≡ r
     → Going begun tale lines n s out first taken → LineGoes tale (Err h) n line r s held out out' taken taken' → Halts begun tale h earlier (lines ++ line ∷ more) out' first taken'
 halts_by begun tale (Bad m) (Some row) earlier past lines line more n s held out out' first taken taken' same is going h = absurd h
 halts_by begun tale (Bad m) None earlier past lines line more n s held out out' first taken taken' same is going h =
     let rows : rows_of (lines ++ line ∷ more) ≡ record { events = (rows_of lines).events ++ []; bad = Some (length lines + 1) } =
-    rows_join lines (line ∷ more) going.good ∙ ap (λ (r : Option EventRow). joined (rows_of lines) (length lines) (row_and r (rows_of more))) is in
+    rows_join lines (line ∷ more) going.good ∙ ap (λ (r : Option (Option Event)). joined (rows_of lines) (length lines) (row_and r (rows_of more))) is in
     let all : told begun tale (lines ++ line ∷ more) ≡ told begun tale lines =
     tale_join tale lines (line ∷ more) begun going.good ∙ (ap (λ (x : List ℕ). told begun tale lines ++ x) (tale_bad tale line more (run (rows_of lines).events begun).state is) ∙ append-nil (told begun tale lines)) in (
       ap (λ (r : Rows). r.bad) rows ∙ ap Some (sym (h.0 ∙ going.number)),
@@ -301,8 +278,8 @@ goes_by tale r line kept true n s held out out' taken taken' e k h =
 goes_by tale r line kept false n s held out out' taken taken' e k h =
     let bad : row_of line ≡ None = too_long line e in
     let here : row_of kept ≡ None = ap row_of k ∙ (row_kept line ∙ bad) in
-    let goes : LineGoes tale r n kept None s held out out' taken taken' = subst (λ (x : Option EventRow). LineGoes tale r n kept x s held out out' taken taken') here h in
-    subst (λ (x : Option EventRow). LineGoes tale r n line x s held out out' taken taken') (sym bad) (bad_goes tale r n kept line s held out out' taken taken' goes)
+    let goes : LineGoes tale r n kept None s held out out' taken taken' = subst (λ (x : Option (Option Event)). LineGoes tale r n kept x s held out out' taken taken') here h in
+    subst (λ (x : Option (Option Event)). LineGoes tale r n line x s held out out' taken taken') (sym bad) (bad_goes tale r n kept line s held out out' taken taken' goes)
 
 goes_whole : (tale : RowText) (r : Result (Unit {0}) Halt) (line kept : List ℕ) (n : ℕ) (s held : State) (out out' : List ℕ) (taken taken' : Option (List ℕ)) → kept ≡ take 1048577 line
     → LineGoes tale r n kept (row_of kept) s held out out' taken taken' → LineGoes tale r n line (row_of line) s held out out' taken taken'

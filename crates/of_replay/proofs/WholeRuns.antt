@@ -13,10 +13,11 @@ use Rattle.of_replay.specs.declared.event_file.Ended.TheVariants.{Done, BadRow, 
 use Rattle.of_replay.specs.Told.{Answer, Gave, then_bytes, then_answer, bytes_of, given}
 use Rattle.of_replay.specs.Transfer.{then_answers, WrotePrefix}
 use Rattle.of_replay.specs.Rows.{row_of, rows_of}
-use Rattle.of_replay.specs.Play.{lines_read, but_last, earlier_lines, Wrote, Replays, Ends}
-use Rattle.of_replay.specs.RowTexts.{RowText, Tells, EndsPrinting, plain, told}
+use Rattle.of_replay.specs.Play.{lines_read, but_last, earlier_lines, EndsPrinting, PrintsLines}
+use Rattle.of_replay.specs.Output.{printed_from}
+use Rattle.of_replay.specs.RowTexts.{RowText, plain, told}
 use Rattle.of_replay.specs.Stepping.{LineGoes, Prints, Within, Halts, ChunkGoes, Plays, PlayedAll, PlaysRead, ReadSoFar, WritesFail, ReadsFail, ended_so}
-use Rattle.of_replay.proofs.Lines.{within_start, within_ends, within_played, within_end_halts, within_open, prints_front, tale_join, plain_is, rows_more, good_front}
+use Rattle.of_replay.proofs.Lines.{within_start, within_ends, within_played, within_end_halts, within_open, prints_front, tale_join, plain_is}
 use Rattle.of_replay.proofs.TellingLemmas.{then-then, then-nil, answers-nil, answers-more, given-more}
 
 -- READING
@@ -138,7 +139,7 @@ wrote_all begun tale lines out first taken taken' p e =
     e ∙ (ap (λ (k : Option (List ℕ)). then_bytes k out) p.taken_is ∙ (then-then first p.wrote out ∙ ap (then_bytes first) p.text_is))
 
 ends_wrote : (begun : State) (tale : RowText) (result : Result (Unit {0}) Halt) (ended : Bool) (earlier lines : List (List ℕ)) (out : List ℕ) (first taken taken' : Option (List ℕ)) → Plays begun tale result ended earlier lines out first taken → (result ≡ Err Write → ⊥) → taken' ≡ then_bytes taken out
-    → EndsPrinting begun tale (ended_so result) ended earlier lines first taken'
+    → EndsPrinting (told begun tale) (ended_so result) ended earlier lines first taken'
 ends_wrote begun tale (Ok u) ended earlier lines out first taken taken' p not e = (p.0, p.1, wrote_all begun tale lines out first taken taken' p.2 e)
 ends_wrote begun tale (Err (Bad n)) ended earlier lines out first taken taken' p not e = (p.0, wrote_all begun tale lines out first taken taken' p.1 e)
 ends_wrote begun tale (Err Memory) ended earlier lines out first taken taken' p not e = record { more = p.more; others = p.others; lines_are = p.lines_are; good = p.good; wrote = wrote_all begun tale (earlier ++ p.more) out first taken taken' p.prints e }
@@ -188,7 +189,7 @@ ends_unwritten begun tale (Err Write) ended earlier lines out first taken taken'
 
 -- what was still to be written was written
 pub tells_wrote : (begun : State) (tale : RowText) (result : Result (Unit {0}) Halt) (answers answers' : Option (List Answer)) (ends ends' : ℕ) (out : List ℕ) (first taken taken' : Option (List ℕ)) → PlaysRead begun tale result answers answers' ends ends' out first taken → (result ≡ Err Write → ⊥)
-    → taken' ≡ then_bytes taken out → Tells begun tale (ended_so result) answers answers' ends ends' first taken'
+    → taken' ≡ then_bytes taken out → PrintsLines (told begun tale) (ended_so result) answers answers' ends ends' first taken'
 tells_wrote begun tale result answers answers' ends ends' out first taken taken' p not e = record {
   more = p.more;
   answers_are = p.answers_are;
@@ -197,7 +198,7 @@ tells_wrote begun tale result answers answers' ends ends' out first taken taken'
 
 -- a write of it failed
 pub tells_unwritten : (begun : State) (tale : RowText) (result : Result (Unit {0}) Halt) (answers answers' : Option (List Answer)) (ends ends' : ℕ) (out : List ℕ) (first taken taken' : Option (List ℕ)) → PlaysRead begun tale result answers answers' ends ends' out first taken → (result ≡ Err Write → ⊥)
-    → WrotePrefix taken out taken' → Tells begun tale WriteFault answers answers' ends ends' first taken'
+    → WrotePrefix taken out taken' → PrintsLines (told begun tale) WriteFault answers answers' ends ends' first taken'
 tells_unwritten begun tale result answers answers' ends ends' out first taken taken' p not w = record {
   more = p.more;
   answers_are = p.answers_are;
@@ -205,11 +206,11 @@ tells_unwritten begun tale result answers answers' ends ends' out first taken ta
 }
 
 -- an earlier write failed
-pub tells_stopped : (begun : State) (tale : RowText) (answers answers' : Option (List Answer)) (ends ends' : ℕ) (out : List ℕ) (first taken : Option (List ℕ)) → PlaysRead begun tale (Err Write) answers answers' ends ends' out first taken → Tells begun tale WriteFault answers answers' ends ends' first taken
+pub tells_stopped : (begun : State) (tale : RowText) (answers answers' : Option (List Answer)) (ends ends' : ℕ) (out : List ℕ) (first taken : Option (List ℕ)) → PlaysRead begun tale (Err Write) answers answers' ends ends' out first taken → PrintsLines (told begun tale) WriteFault answers answers' ends ends' first taken
 tells_stopped begun tale answers answers' ends ends' out first taken p = record { more = p.more; answers_are = p.answers_are; ends_so = p.plays }
 
 -- nothing was read or written
-pub nothing_read : (begun : State) (tale : RowText) (answers : Option (List Answer)) (ends : ℕ) (taken : Option (List ℕ)) → Tells begun tale NoMemory answers answers ends ends taken taken
+pub nothing_read : (begun : State) (tale : RowText) (answers : Option (List Answer)) (ends : ℕ) (taken : Option (List ℕ)) → PrintsLines (told begun tale) NoMemory answers answers ends ends taken taken
 nothing_read begun tale answers ends taken = record {
   more = [];
   answers_are = sym (answers-nil answers);
@@ -218,29 +219,20 @@ nothing_read begun tale answers ends taken = record {
 
 -- WHAT `replay` PRINTS is what the events print
 
-wrote_plain : (begun : State) (lines : List (List ℕ)) (old new : Option (List ℕ)) → new ≡ then_bytes old (told begun plain lines) → Wrote begun (rows_of lines).events old new
-wrote_plain begun lines old new e = e ∙ ap (then_bytes old) (plain_is lines begun)
+same_end : (f g : List (List ℕ) → List ℕ) → ((lines : List (List ℕ)) → f lines ≡ g lines) → (e : Ended) (ended : Bool) (earlier lines : List (List ℕ)) (old new : Option (List ℕ)) → EndsPrinting f e ended earlier lines old new → EndsPrinting g e ended earlier lines old new
+same_end f g same Done ended earlier lines old new h = (h.0, h.1, h.2 ∙ ap (then_bytes old) (same lines))
+same_end f g same (BadRow n) ended earlier lines old new h = (h.0, h.1 ∙ ap (then_bytes old) (same lines))
+same_end f g same (Text t) ended earlier lines old new h = absurd h
+same_end f g same ReadFault ended earlier lines old new h = (h.0, h.1, h.2 ∙ ap (then_bytes old) (same lines))
+same_end f g same WriteFault ended earlier lines old new h = subst (λ (x : List ℕ). WrotePrefix old x new) (same lines) h
+same_end f g same NoMemory ended earlier lines old new h = record { more = h.more; others = h.others; lines_are = h.lines_are; good = h.good; wrote = h.wrote ∙ ap (then_bytes old) (same (earlier ++ h.more)) }
 
-ends_plain : (begun : State) (e : Ended) (ended : Bool) (earlier lines : List (List ℕ)) (old new : Option (List ℕ)) → EndsPrinting begun plain e ended earlier lines old new → Ends begun e ended (rows_of earlier) (rows_of lines) old new
-ends_plain begun Done ended earlier lines old new h = (h.0, h.1, wrote_plain begun lines old new h.2)
-ends_plain begun (BadRow n) ended earlier lines old new h = (h.0, wrote_plain begun lines old new h.1)
-ends_plain begun (Text f) ended earlier lines old new h = absurd h
-ends_plain begun ReadFault ended earlier lines old new h = (h.0, h.1, wrote_plain begun lines old new h.2)
-ends_plain begun WriteFault ended earlier lines old new h = subst (λ (x : List ℕ). WrotePrefix old x new) (plain_is lines begun) h
-ends_plain begun NoMemory ended earlier lines old new h =
-    let events : (rows_of (earlier ++ h.more)).events ≡ (rows_of earlier).events ++ (rows_of h.more).events = rows_more earlier h.more (good_front earlier h.more h.good) in
-    record {
-      more = (rows_of h.more).events;
-      others = (rows_of h.others).events;
-      events_are = ap (λ (ls : List (List ℕ)). (rows_of ls).events) h.lines_are ∙ (rows_more (earlier ++ h.more) h.others h.good ∙ ap (λ (es : List Event). es ++ (rows_of h.others).events) events);
-      wrote = subst (λ (es : List Event). Wrote begun es old new) events (wrote_plain begun (earlier ++ h.more) old new h.wrote);
-    }
-
-pub replays_plain : (begun : State) (e : Ended) (answers answers' : Option (List Answer)) (ends ends' : ℕ) (taken taken' : Option (List ℕ)) → Tells begun plain e answers answers' ends ends' taken taken' → Replays begun e answers answers' ends ends' taken taken'
+pub replays_plain : (begun : State) (e : Ended) (answers answers' : Option (List Answer)) (ends ends' : ℕ) (taken taken' : Option (List ℕ)) → PrintsLines (told begun plain) e answers answers' ends ends' taken taken'
+    → PrintsLines (λ lines. printed_from begun (rows_of lines).events) e answers answers' ends ends' taken taken'
 replays_plain begun e answers answers' ends ends' taken taken' h = record {
   more = h.more;
   answers_are = h.answers_are;
-  ends_so = ends_plain begun e (nat_lt ends ends') (earlier_lines h.more) (lines_read (nat_lt ends ends') (given h.more)) taken taken' h.ends_so;
+  ends_so = same_end (told begun plain) (λ (lines : List (List ℕ)). printed_from begun (rows_of lines).events) (λ (lines : List (List ℕ)). plain_is lines begun) e (nat_lt ends ends') (earlier_lines h.more) (lines_read (nat_lt ends ends') (given h.more)) taken taken' h.ends_so;
 }
 
 -- FAULTS

@@ -8,6 +8,5 @@ pub mod Play
 pub mod RowTexts
 pub mod Stepping
 pub mod Ended
-pub mod Assembling
-pub mod ConfigFiles
-pub mod Disassembling
+pub mod WholeFiles
+pub mod FileRuns

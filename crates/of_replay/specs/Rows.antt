@@ -11,7 +11,7 @@ use Rattle.std.specs.Prelude.{ℕ, ◌+◌, not, List, [], ◌∷◌, ◌++◌, 
 use Rattle.std.specs.Option.{option_map}
 use Rattle.std.specs.Str.{bytes_eq}
 use Rattle.of_switch.specs.declared.event.Event.{Event}
-use Rattle.of_switch.specs.declared.event.Event.TheVariants as event
+use Rattle.of_switch.specs.declared.event.Event.TheVariants.{Connect, Lost, Chunk, Frame, Moment, Ports}
 use Rattle.of_switch.specs.declared.port_change.PortChange.{PortChange}
 use Rattle.of_switch.specs.declared.port_change.PortChange.TheVariants.{Add, Remove, Link}
 use Rattle.of_replay.specs.declared.rows.Row.{Row}
@@ -19,28 +19,18 @@ use Rattle.of_replay.specs.declared.rows.Row.TheVariants as row
 use Rattle.of_text.specs.Lines.{is_passed}
 use Rattle.of_replay.specs.Lexing.{is_line, first_word, after_word, number_of, moment_of, bytes_of, hw_of, name_of, state_of}
 
--- a row with its bytes
-pub data EventRow : Type 0 where
-  Passed : EventRow
-  Connect : EventRow
-  Lost : EventRow
-  Chunk : (bytes : List ℕ) → EventRow
-  Frame : (port : ℕ) (bytes : List ℕ) → EventRow
-  Moment : (nanos : ℕ) → EventRow
-  Ports : (change : PortChange) → EventRow
-
 -- the second step, if the first gave a value
 infixl 10 ◌>>=◌
 abbrev pub ◌>>=◌ : {A B : Type 0} → Option A → (A → Option B) → Option B
 None >>= f = None
 (Some a) >>= f = f a
 
-abbrev pub chunk_row : List ℕ → Option EventRow
+abbrev pub chunk_row : List ℕ → Option Event
 chunk_row word = do
   bytes ← bytes_of word
   Some (Chunk bytes)
 
-abbrev pub frame_row : List ℕ → Option EventRow
+abbrev pub frame_row : List ℕ → Option Event
 frame_row words = do
   port ← number_of (first_word words)
   word ← after_word words
@@ -88,7 +78,7 @@ port_of words = do
   change_of (first_word words) more
 
 -- a row of that name, and its other words
-abbrev pub named_row : List ℕ → List ℕ → Option EventRow
+abbrev pub named_row : List ℕ → List ℕ → Option Event
 named_row name words =
     if bytes_eq name (codes "c") then chunk_row words
     else (if bytes_eq name (codes "f") then frame_row words
@@ -96,31 +86,25 @@ named_row name words =
     else (if bytes_eq name (codes "port") then option_map Ports (port_of words)
     else None)))
 
-abbrev pub row_in : List ℕ → Option (List ℕ) → Option EventRow
+abbrev pub row_in : List ℕ → Option (List ℕ) → Option Event
 row_in name None =
     if bytes_eq name (codes "connect") then Some Connect
     else (if bytes_eq name (codes "lost") then Some Lost
     else None)
 row_in name (Some words) = named_row name words
 
--- THE ROW OF A LINE; None for a bad row
-abbrev pub row_of : List ℕ → Option EventRow
+-- THE ROW OF A LINE: an event, or none for an empty line and a comment; None for a bad row
+abbrev pub row_of : List ℕ → Option (Option Event)
 row_of line =
     if not (is_line line) then None
-    else (if is_passed line then Some Passed
-    else row_in (first_word line) (after_word line))
+    else (if is_passed line then Some None
+    else option_map Some (row_in (first_word line) (after_word line)))
 
 -- THE EVENTS OF LINES
 
--- what happens at a row: an event, or nothing at an empty line and at a comment
-abbrev pub events_in : EventRow → List Event
-events_in Passed = []
-events_in Connect = event.Connect ∷ []
-events_in Lost = event.Lost ∷ []
-events_in (Chunk bytes) = event.Chunk bytes ∷ []
-events_in (Frame port bytes) = event.Frame port bytes ∷ []
-events_in (Moment nanos) = event.Moment nanos ∷ []
-events_in (Ports change) = event.Ports change ∷ []
+abbrev pub events_in : Option Event → List Event
+events_in None = []
+events_in (Some event) = event ∷ []
 
 -- the events of lines up to the first bad one, and the number of that one, counted from 1
 pub record Rows : Type 0 where
@@ -128,7 +112,7 @@ pub record Rows : Type 0 where
   pub bad : Option ℕ
 
 -- a line, and then other lines
-abbrev pub row_and : Option EventRow → Rows → Rows
+abbrev pub row_and : Option (Option Event) → Rows → Rows
 row_and None others = record { events = []; bad = Some 1 }
 row_and (Some row) others = record { events = events_in row ++ others.events; bad = option_map (λ n. n + 1) others.bad }
 
@@ -139,11 +123,11 @@ rows_of (line ∷ lines) = row_and (row_of line) (rows_of lines)
 -- IN CODE
 
 -- what the code keeps of a row, with its buffer
-abbrev pub with_bytes : List ℕ → Row → EventRow
-with_bytes bytes row.Passed = Passed
-with_bytes bytes row.Connect = Connect
-with_bytes bytes row.Lost = Lost
-with_bytes bytes row.Chunk = Chunk bytes
-with_bytes bytes (row.Frame port) = Frame port bytes
-with_bytes bytes (row.Moment nanos) = Moment nanos
-with_bytes bytes (row.Ports change) = Ports change
+abbrev pub with_bytes : List ℕ → Row → Option Event
+with_bytes bytes row.Passed = None
+with_bytes bytes row.Connect = Some Connect
+with_bytes bytes row.Lost = Some Lost
+with_bytes bytes row.Chunk = Some (Chunk bytes)
+with_bytes bytes (row.Frame port) = Some (Frame port bytes)
+with_bytes bytes (row.Moment nanos) = Some (Moment nanos)
+with_bytes bytes (row.Ports change) = Some (Ports change)

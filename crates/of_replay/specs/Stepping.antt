@@ -4,6 +4,7 @@ use Rattle.smallvec.specs.SmallVec.{SmallVec}
 use Rattle.of_datapath.specs.declared.effect.Effect.{Effect}
 use Rattle.of_switch.specs.declared.switch_error.SwitchError.{SwitchError}
 use Rattle.of_switch.specs.declared.switch_error.SwitchError.TheVariants as error
+use Rattle.of_switch.specs.declared.event.Event.{Event}
 use Rattle.of_switch.specs.State.{State}
 use Rattle.of_switch.specs.Runs.{Happened, Report, Gives, IsRefused, run}
 use Rattle.of_replay.specs.declared.halt.Halt.{Halt}
@@ -13,7 +14,7 @@ use Rattle.of_replay.specs.declared.event_file.Ended.TheVariants.{Done, BadRow, 
 use Rattle.of_replay.specs.Told.{Answer, then_bytes, given}
 use Rattle.of_replay.specs.Transfer.{then_answers, WrotePrefix}
 use Rattle.of_replay.specs.Lexing.{whole_lines, whole_from, last_from}
-use Rattle.of_replay.specs.Rows.{EventRow, rows_of}
+use Rattle.of_replay.specs.Rows.{rows_of}
 use Rattle.of_replay.specs.Output.{text_of, refused_line}
 use Rattle.of_replay.specs.Play.{lines_read, earlier_lines}
 pub use Rattle.of_replay.specs.RowTexts.{row_happened}
@@ -41,7 +42,7 @@ PrintsReport called (Err e) out out' = e ≡ error.NoMemory
 -- A LINE
 
 -- what is printed for a line, or why the run halts at it
-abbrev pub LineTells : RowText → Result (Unit {0}) Halt → ℕ → List ℕ → Option EventRow → State → State → List ℕ → List ℕ → Type 0
+abbrev pub LineTells : RowText → Result (Unit {0}) Halt → ℕ → List ℕ → Option (Option Event) → State → State → List ℕ → List ℕ → Type 0
 LineTells tale (Ok u) n line (Some row) s new out out' = (out' ≡ out ++ tale s line row) × (new ≡ (row_happened s row).state)
 LineTells tale (Ok u) n line None s new out out' = ⊥
 LineTells tale (Err (halt.Bad m)) n line (Some row) s new out out' = ⊥
@@ -51,7 +52,7 @@ LineTells tale (Err halt.Read) n line row s new out out' = ⊥
 LineTells tale (Err halt.Write) n line row s new out out' = ⊥
 
 -- the text of a row is written or still to be written, after what was to be written before
-abbrev pub LineGoes : RowText → Result (Unit {0}) Halt → ℕ → List ℕ → Option EventRow → State → State → List ℕ → List ℕ → Option (List ℕ) → Option (List ℕ) → Type 0
+abbrev pub LineGoes : RowText → Result (Unit {0}) Halt → ℕ → List ℕ → Option (Option Event) → State → State → List ℕ → List ℕ → Option (List ℕ) → Option (List ℕ) → Type 0
 LineGoes tale (Ok u) n line (Some row) s new out out' taken taken' =
     (wrote : List ℕ) × (taken' ≡ then_bytes taken wrote) × (wrote ++ out' ≡ out ++ tale s line row) × (new ≡ (row_happened s row).state)
 LineGoes tale (Ok u) n line None s new out out' taken taken' = ⊥

@@ -1,14 +1,13 @@
 //! Event files from a source, as flow text to a sink.
-ghost use Rattle.std.specs.Prelude.{◌≡◌, ◌≤◌, None};
-ghost use Rattle.of_replay.specs.Assembling.{Faults};
-ghost use Rattle.of_replay.specs.ConfigFiles.{ended_as};
-ghost use Rattle.of_replay.specs.Disassembling.{Disassembles, IsTextOf, Played};
+ghost use Rattle.std.specs.Prelude.{◌≡◌, ◌≤◌, ◌<◌, ◌↔◌, None};
+ghost use Rattle.of_replay.specs.FileRuns.{Reads, Runs, Writes, ended_as, event_file, is_text, switch_text};
+ghost use Rattle.of_replay.specs.WholeFiles.{Faults};
 
 use crate::event_file::{Ended, READ_SIZE, ended_by, zeros};
-use crate::flow_text::write_built;
 use crate::io::{Sink, Source, Writing};
 use crate::plain::Plain;
 use crate::replaying::Replaying;
+use crate::transfer::write_all;
 use of_classifier::Lookup;
 use of_switch::Switch;
 use of_text::disassemble;
@@ -36,7 +35,7 @@ impl Sink for Nowhere {
 /// Its datapath_id is 1. Where there is none, how the run of `dis` ends: at the first bad row, at a fault, or without memory.
 pub fn read_switch<L: Lookup, S: Source>(alloc: Global, reader: &mut S) -> Result<Switch<L>, Ended>
     requires { S.reads reader.old ≡ 0 }
-    ensures played { Played result (S.answers reader.old) (S.answers reader.new) (S.ends reader.old) (S.ends reader.new) }
+    ensures played { Reads event_file result (S.answers reader.old) (S.answers reader.new) (S.ends reader.old) (S.ends reader.new) }
     ensures faults { Faults (ended_as result) (S.reads reader.new) (S.ends reader.old) (S.ends reader.new) (S.failures reader.old) (S.failures reader.new) 0 }
     ensures reads { S.reads reader.new ≤ 1000000 }
 {
@@ -53,16 +52,22 @@ pub fn read_switch<L: Lookup, S: Source>(alloc: Global, reader: &mut S) -> Resul
     }
 }
 
-// The groups and flows of a switch, as flow text.
-fn text_of<L: Lookup>(alloc: Global, switch: &Switch<L>) -> Result<Vec<u8>, Ended>
-    ensures { IsTextOf switch.now result }
+// Writes the groups and flows of a switch, as flow text.
+fn write_config<L: Lookup, W: Sink>(alloc: Global, switch: &Switch<L>, writer: &mut W) -> Ended
+    requires { W.failures writer.old ≡ 0 }
+    ensures output { Writes (is_text switch_text switch.now) result (W.taken writer.old) (W.taken writer.new) }
+    ensures write_fault { (result ≡ Ended.WriteFault) ↔ (0 < W.failures writer.new) }
 {
     let Ok(config) = switch.config() else {
-        return Err(Ended::NoMemory);
+        return Ended::NoMemory;
     };
-    match disassemble(alloc, &config) {
-        Ok(text) => Ok(text),
-        Err(_) => Err(Ended::NoMemory),
+    let Ok(text) = disassemble(alloc, &config) else {
+        return Ended::NoMemory;
+    };
+    if write_all(writer, &text) {
+        Ended::Done
+    } else {
+        Ended::WriteFault
     }
 }
 
@@ -73,14 +78,14 @@ fn text_of<L: Lookup>(alloc: Global, switch: &Switch<L>) -> Result<Vec<u8>, Ende
 pub fn dis<L: Lookup, S: Source, W: Sink>(alloc: Global, reader: &mut S, writer: &mut W) -> Ended
     requires reads { S.reads reader.old ≡ 0 }
     requires failures { W.failures writer.old ≡ 0 }
-    ensures output { Disassembles result (S.answers reader.old) (S.answers reader.new) (S.ends reader.old) (S.ends reader.new) (W.taken writer.old)
-        (W.taken writer.new) }
+    ensures output { Runs event_file (is_text switch_text) result (S.answers reader.old) (S.answers reader.new)
+        (S.ends reader.old) (S.ends reader.new) (W.taken writer.old) (W.taken writer.new) }
     ensures faults { Faults result (S.reads reader.new) (S.ends reader.old) (S.ends reader.new) (S.failures reader.old) (S.failures reader.new)
         (W.failures writer.new) }
     ensures reads { S.reads reader.new ≤ 1000000 }
 {
     match read_switch::<L, S>(alloc, reader) {
-        Ok(switch) => write_built(text_of(alloc, &switch), writer),
+        Ok(switch) => write_config(alloc, &switch, writer),
         Err(ended) => ended,
     }
 }

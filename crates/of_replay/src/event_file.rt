@@ -1,8 +1,10 @@
 //! Event files from a source, played on a new switch, and what it gives to a sink.
 ghost use Rattle.std.specs.Prelude.{◌≡◌, ◌⊎◌, ◌↔◌, ◌<◌, ◌≤◌, ◌+◌, IfOk, replicate};
 ghost use Rattle.of_switch.specs.State.{start};
-ghost use Rattle.of_replay.specs.Play.{Replays};
-ghost use Rattle.of_replay.specs.RowTexts.{Tells};
+ghost use Rattle.of_replay.specs.Output.{printed_from};
+ghost use Rattle.of_replay.specs.Play.{PrintsLines};
+ghost use Rattle.of_replay.specs.RowTexts.{told};
+ghost use Rattle.of_replay.specs.Rows.{rows_of};
 ghost use Rattle.of_replay.specs.Ended.{status_of};
 ghost use Rattle.of_replay.specs.Stepping.{ended_so};
 
@@ -89,8 +91,8 @@ pub fn print_file<L: Lookup, T: RowPrinter<L>, S: Source, W: Sink>(
 ) -> Ended
     requires reads { S.reads reader.old ≡ 0 }
     requires failures { W.failures writer.old ≡ 0 }
-    ensures output { Tells (start dpid) T.tale result (S.answers reader.old) (S.answers reader.new) (S.ends reader.old) (S.ends reader.new) (W.taken writer.old)
-        (W.taken writer.new) }
+    ensures output { PrintsLines (told (start dpid) T.tale) result (S.answers reader.old) (S.answers reader.new) (S.ends reader.old) (S.ends reader.new)
+        (W.taken writer.old) (W.taken writer.new) }
     ensures done { result ≡ Ended.Done → (S.failures reader.new ≡ S.failures reader.old) × (S.ends reader.new ≡ S.ends reader.old + 1) ×
         (W.failures writer.new ≡ 0) }
     ensures reads { S.reads reader.new ≤ 1000000 }
@@ -122,8 +124,8 @@ pub fn replay<L: Lookup, S: Source, W: Sink>(
 ) -> Ended
     requires reads { S.reads reader.old ≡ 0 }
     requires failures { W.failures writer.old ≡ 0 }
-    ensures output { Replays (start dpid) result (S.answers reader.old) (S.answers reader.new) (S.ends reader.old) (S.ends reader.new) (W.taken writer.old)
-        (W.taken writer.new) }
+    ensures output { PrintsLines (λ lines. printed_from (start dpid) (rows_of lines).events) result (S.answers reader.old) (S.answers reader.new)
+        (S.ends reader.old) (S.ends reader.new) (W.taken writer.old) (W.taken writer.new) }
     ensures done { result ≡ Ended.Done → (S.failures reader.new ≡ S.failures reader.old) × (S.ends reader.new ≡ S.ends reader.old + 1) ×
         (W.failures writer.new ≡ 0) }
     ensures reads { S.reads reader.new ≤ 1000000 }

@@ -2,7 +2,8 @@
 ghost use Rattle.std.specs.Prelude.{◌≡◌, ◌+◌, ◌<◌, ◌≤◌, ◌^◌, ◌++◌, ℕ, List, [], Option, IfErr, OnOk, length, take, position, ◌==◌};
 ghost use Rattle.of_switch.specs.State.{State};
 ghost use Rattle.of_replay.specs.Rows.{row_of};
-ghost use Rattle.of_replay.specs.RowTexts.{Tells};
+ghost use Rattle.of_replay.specs.Play.{PrintsLines};
+ghost use Rattle.of_replay.specs.RowTexts.{told};
 ghost use Rattle.of_replay.specs.Told.{then_answer, answer_of, read_ends, read_faults, IsReading};
 ghost use Rattle.of_replay.specs.Stepping.{LineTells, LineGoes, Within, ChunkGoes, PlayedAll, PlaysRead, WritesFail, ReadsFail, ended_so};
 
@@ -232,8 +233,8 @@ impl<L: Lookup> Replaying<L> {
         requires well { W.failures writer.old ≡ 0 }
         requires start { (self.old.open ≡ []) × (self.old.number ≡ 1) × (self.old.printer ≡ []) }
         ensures played { OnOk result (PlayedAll self.old.switch (S.answers reader.old) (S.answers reader.new) self.new.switch) }
-        ensures plays { Tells self.old.switch T.tale (ended_so result) (S.answers reader.old) (S.answers reader.new) (S.ends reader.old) (S.ends reader.new)
-            (W.taken writer.old) (W.taken writer.new) }
+        ensures plays { PrintsLines (told self.old.switch T.tale) (ended_so result) (S.answers reader.old) (S.answers reader.new) (S.ends reader.old)
+            (S.ends reader.new) (W.taken writer.old) (W.taken writer.new) }
         ensures reads { ReadsFail result (S.reads reader.new) (S.ends reader.old) (S.ends reader.new) (S.failures reader.old) (S.failures reader.new) }
         ensures few { S.reads reader.new ≤ 1000000 }
         ensures writes { WritesFail result (W.failures writer.new) }

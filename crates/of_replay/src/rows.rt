@@ -1,5 +1,5 @@
 //! The rows of event files.
-ghost use Rattle.std.specs.Prelude.{◌≡◌, IfOk};
+ghost use Rattle.std.specs.Prelude.{◌≡◌, Some, IfOk};
 ghost use Rattle.std.specs.Option.{option_map};
 ghost use Rattle.of_replay.specs.Rows.{row_of, with_bytes, chunk_row, frame_row, port_of, change_of, added_port, removed_port, linked_port, named_row};
 
@@ -31,7 +31,7 @@ pub enum Row {
 
 // `c HEX`, from its second word on.
 fn read_chunk(word: &[u8], bytes: &mut Vec<u8>) -> Result<Option<Row>, AllocError>
-    ensures { IfOk result (λ row. chunk_row word.now ≡ option_map (with_bytes bytes.new.items) row) }
+    ensures { IfOk result (λ row. option_map Some (chunk_row word.now) ≡ option_map (with_bytes bytes.new.items) row) }
 {
     if read_bytes(word, bytes)? {
         Ok(Some(Row::Chunk))
@@ -42,7 +42,7 @@ fn read_chunk(word: &[u8], bytes: &mut Vec<u8>) -> Result<Option<Row>, AllocErro
 
 // `f PORT HEX`, from its second word on.
 fn read_frame(words: &[u8], bytes: &mut Vec<u8>) -> Result<Option<Row>, AllocError>
-    ensures { IfOk result (λ row. frame_row words.now ≡ option_map (with_bytes bytes.new.items) row) }
+    ensures { IfOk result (λ row. option_map Some (frame_row words.now) ≡ option_map (with_bytes bytes.new.items) row) }
 {
     let (first, rest) = cut_word(words);
     let Some(port) = read_number(first) else {
@@ -121,7 +121,7 @@ fn read_port(words: &[u8]) -> Option<PortChange>
 
 // A row of more than one word.
 fn read_named(name: &[u8], words: &[u8], bytes: &mut Vec<u8>) -> Result<Option<Row>, AllocError>
-    ensures { IfOk result (λ row. named_row name.now words.now ≡ option_map (with_bytes bytes.new.items) row) }
+    ensures { IfOk result (λ row. option_map Some (named_row name.now words.now) ≡ option_map (with_bytes bytes.new.items) row) }
 {
     if is(name, b"c") {
         return read_chunk(words, bytes);

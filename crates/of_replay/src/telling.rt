@@ -1,8 +1,9 @@
 //! What is printed for the rows of a file.
-ghost use Rattle.std.specs.Prelude.{◌≡◌, ◌++◌, ℕ, List, IfErr, OnOk};
+ghost use Rattle.std.specs.Prelude.{◌≡◌, ◌++◌, ℕ, List, Option, IfErr, OnOk};
+ghost use Rattle.of_switch.specs.declared.event.Event.{Event};
 ghost use Rattle.of_switch.specs.State.{State};
 ghost use Rattle.of_switch.specs.declared.switch_error.SwitchError.TheVariants.{NoMemory};
-ghost use Rattle.of_replay.specs.Rows.{EventRow, with_bytes};
+ghost use Rattle.of_replay.specs.Rows.{with_bytes};
 ghost use Rattle.of_replay.specs.RowTexts.{row_happened};
 
 use crate::rows::Row;
@@ -13,7 +14,7 @@ use std::alloc::Global;
 /// Prints what rows do, one after the other.
 pub trait RowPrinter<L: Lookup> {
     /// What is printed for a row that happens to a switch in this state, by its line and itself.
-    ghost tale: { State → List ℕ → EventRow → List ℕ };
+    ghost tale: { State → List ℕ → Option Event → List ℕ };
 
     /// Plays a row, whose bytes are given beside it, and appends what is printed for it.
     ///

@@ -1,26 +1,23 @@
 -- The event file of a switch that serves, which is read whole.
-use Rattle.std.specs.Prelude.{◌≡◌, ◌⊎◌, ◌<◌, ℕ, ◌+◌, Bool, true, false, nat_lt, List, [], ◌∷◌, ◌++◌, Option, Some, None, Result, Ok, Err}
+use Rattle.std.specs.Prelude.{◌≡◌, ◌⊎◌, ℕ, ◌+◌, Bool, true, false, List, [], ◌∷◌, ◌++◌, Option, Some, None, Result, Ok, Err}
 use Rattle.std.specs.Option.{option_map}
 use Rattle.std.specs.Global.{Vec}
 use Rattle.of_switch.specs.declared.event.Event.{Event}
-use Rattle.of_switch.specs.declared.event.Event.TheVariants as event
+use Rattle.of_switch.specs.declared.event.Event.TheVariants.{Connect, Lost, Chunk}
 use Rattle.of_text.specs.Lines.{lines_of}
 use Rattle.of_replay.specs.declared.event_file.Ended.{Ended}
 use Rattle.of_replay.specs.declared.event_file.Ended.TheVariants.{Done, BadRow, Text, ReadFault, WriteFault, NoMemory}
-use Rattle.of_replay.specs.Told.{Answer, given}
-use Rattle.of_replay.specs.Transfer.{then_answers}
-use Rattle.of_replay.specs.Rows.{EventRow, Passed, Connect, Lost, Chunk, Frame, Moment, Ports, Rows, row_of}
+use Rattle.of_replay.specs.FileRuns.{Meaning, IsValue, IsBad, HasFault}
+use Rattle.of_replay.specs.Rows.{Rows, row_of}
 
 -- what happens at a row; those of a controller (`connect`, `lost`, `c`) are not allowed in the file
-abbrev pub file_row : Option EventRow → Option (List Event)
+abbrev pub file_row : Option (Option Event) → Option (List Event)
 file_row None = None
-file_row (Some Passed) = Some []
-file_row (Some Connect) = None
-file_row (Some Lost) = None
-file_row (Some (Chunk bytes)) = None
-file_row (Some (Frame port bytes)) = Some (event.Frame port bytes ∷ [])
-file_row (Some (Moment nanos)) = Some (event.Moment nanos ∷ [])
-file_row (Some (Ports change)) = Some (event.Ports change ∷ [])
+file_row (Some None) = Some []
+file_row (Some (Some Connect)) = None
+file_row (Some (Some Lost)) = None
+file_row (Some (Some (Chunk bytes))) = None
+file_row (Some (Some event)) = Some (event ∷ [])
 
 -- a line, and then other lines
 abbrev pub file_row_and : Option (List Event) → Rows → Rows
@@ -32,31 +29,12 @@ abbrev pub file_rows : List (List ℕ) → Rows
 file_rows [] = record { events = []; bad = None }
 file_rows (line ∷ lines) = file_row_and (file_row (row_of line)) (file_rows lines)
 
--- the events of lines none of which is bad, or the first that is
-abbrev pub AreRows : Result (Vec Event) Ended → Rows → Type 0
-AreRows (Ok events) rows = (rows.bad ≡ None) × (events.items ≡ rows.events)
-AreRows (Err Done) rows = ⊥
-AreRows (Err (BadRow n)) rows = rows.bad ≡ Some n
-AreRows (Err (Text fault)) rows = ⊥
-AreRows (Err ReadFault) rows = ⊥
-AreRows (Err WriteFault) rows = ⊥
-AreRows (Err NoMemory) rows = Unit {0}
-
--- of the bytes that were read
-abbrev pub IsFile : Result (Vec Event) Ended → Bool → List ℕ → Type 0
-IsFile (Ok events) ended file = (ended ≡ true) × AreRows (Ok events) (file_rows (lines_of file))
-IsFile (Err Done) ended file = ⊥
-IsFile (Err (BadRow n)) ended file = (ended ≡ true) × AreRows (Err (BadRow n)) (file_rows (lines_of file))
-IsFile (Err (Text fault)) ended file = ⊥
-IsFile (Err ReadFault) ended file = ended ≡ false
-IsFile (Err WriteFault) ended file = ⊥
-IsFile (Err NoMemory) ended file = Unit {0}
-
--- from what a source answered
-pub record ReadsRows (result : Result (Vec Event) Ended) (answers answers' : Option (List Answer)) (ends ends' : ℕ) : Type 0 where
-  pub more : List Answer
-  pub answers_are : answers' ≡ then_answers answers more
-  pub is : IsFile result (nat_lt ends ends') (given more)
+-- the file is read whole, and is its events
+abbrev pub served_file : Meaning (Vec Event)
+served_file false file outcome = ⊥
+served_file true file (IsValue events) = ((file_rows (lines_of file)).bad ≡ None) × (events.items ≡ (file_rows (lines_of file)).events)
+served_file true file (IsBad n) = (file_rows (lines_of file)).bad ≡ Some n
+served_file true file (HasFault fault) = ⊥
 
 -- a read failed, or a million reads found no end
 abbrev pub RowsFault : Result (Vec Event) Ended → (reads ends ends' failures failures' : ℕ) → Type 0

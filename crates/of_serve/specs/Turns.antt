@@ -24,11 +24,7 @@ waits now other = false
 -- a `t` row itself does nothing: moments come from the clock
 abbrev pub acts : Event → List Event
 acts (Moment nanos) = []
-acts Connect = Connect ∷ []
-acts Lost = Lost ∷ []
-acts (Chunk bytes) = Chunk bytes ∷ []
-acts (Frame port bytes) = Frame port bytes ∷ []
-acts (Ports change) = Ports change ∷ []
+acts event = event ∷ []
 
 abbrev pub due : ℕ → List Event → List Event
 due now [] = []

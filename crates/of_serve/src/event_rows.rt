@@ -1,9 +1,8 @@
 //! Event files that are read whole, before a switch serves.
-ghost use Rattle.std.specs.Prelude.{◌≡◌, ◌≤◌, IfOk};
-ghost use Rattle.of_text.specs.Lines.{lines_of};
+ghost use Rattle.std.specs.Prelude.{◌≡◌, ◌≤◌, IfOk, Some, true};
 ghost use Rattle.of_replay.specs.Rows.{row_of, with_bytes};
-ghost use Rattle.std.specs.Prelude.{Some};
-ghost use Rattle.of_serve.specs.FileRows.{AreRows, Pushes, ReadsRows, RowsFault, file_row, file_rows};
+ghost use Rattle.of_replay.specs.FileRuns.{IsRead, Reads};
+ghost use Rattle.of_serve.specs.FileRows.{Pushes, RowsFault, file_row, served_file};
 
 use of_replay::{Ended, READ_SIZE, Row, Source, ended_by, read_file, read_row, zeros};
 use of_switch::Event;
@@ -56,7 +55,7 @@ fn push_line(
 
 // The events of a file.
 fn rows_in(alloc: Global, file: &[u8]) -> Result<Vec<Event>, Ended>
-    ensures { AreRows result (file_rows (lines_of file.now)) }
+    ensures { IsRead served_file result true file.now }
 {
     let mut events = Vec::new(alloc);
     let mut bytes = Vec::new(alloc);
@@ -79,7 +78,7 @@ fn rows_in(alloc: Global, file: &[u8]) -> Result<Vec<Event>, Ended>
 /// as are `connect`, `lost` and `c`, a read fault, or no memory.
 pub fn read_rows<S: Source>(alloc: Global, reader: &mut S) -> Result<Vec<Event>, Ended>
     requires { S.reads reader.old ≡ 0 }
-    ensures rows { ReadsRows result (S.answers reader.old) (S.answers reader.new) (S.ends reader.old) (S.ends reader.new) }
+    ensures rows { Reads served_file result (S.answers reader.old) (S.answers reader.new) (S.ends reader.old) (S.ends reader.new) }
     ensures faults { RowsFault result (S.reads reader.new) (S.ends reader.old) (S.ends reader.new) (S.failures reader.old) (S.failures reader.new) }
     ensures reads { S.reads reader.new ≤ 1000000 }
 {

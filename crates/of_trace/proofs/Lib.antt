@@ -5,7 +5,5 @@ pub mod PrintingLemmas
 pub mod FieldLemmas
 pub mod SightLemmas
 pub mod NotingLemmas
-pub mod FileLemmas
-pub mod EventFileLemmas
 pub mod NoteLemmas
 pub mod LineLemmas

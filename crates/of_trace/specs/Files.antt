@@ -1,5 +1,5 @@
 -- THE TRACE OF A FLOW TEXT: that of a frame on a new switch with ports 1 to 64, whose links are up, and with the groups and flows of the text.
-use Rattle.std.specs.Prelude.{◌≡◌, ℕ, zero, suc, Bool, true, false, nat_lt, List, [], ◌∷◌, ◌++◌, replicate, Option, Some, None}
+use Rattle.std.specs.Prelude.{ℕ, zero, suc, true, List, [], ◌∷◌, ◌++◌, replicate}
 use Rattle.of_text.specs.Configs.{Configuration}
 use Rattle.of_switch.specs.declared.event.Event.{Event}
 use Rattle.of_switch.specs.declared.event.Event.TheVariants.{Ports}
@@ -9,12 +9,6 @@ use Rattle.of_switch.specs.Runs.{run}
 use Rattle.of_switch.specs.Steps.{frame_in}
 use Rattle.of_datapath.specs.DryRun.{steps_in}
 use Rattle.of_switch.specs.Loading.{loaded}
-use Rattle.of_replay.specs.Told.{Answer, then_bytes, given}
-use Rattle.of_replay.specs.Transfer.{then_answers, WrotePrefix}
-use Rattle.of_replay.specs.Assembling.{bad_line, HasFault}
-use Rattle.of_replay.specs.ConfigFiles.{Encodes}
-use Rattle.of_replay.specs.declared.event_file.Ended.{Ended}
-use Rattle.of_replay.specs.declared.event_file.Ended.TheVariants.{Done, BadRow, Text, ReadFault, WriteFault, NoMemory}
 use Rattle.of_trace.specs.declared.form.Form.{Form}
 use Rattle.of_trace.specs.Notes.{said}
 
@@ -36,18 +30,3 @@ trace_on form port frame s = said form s.core.forwarding port frame (steps_in po
 
 abbrev pub trace_of : Form → ℕ → List ℕ → Configuration → List ℕ
 trace_of form port frame config = trace_on form port frame (traced_switch config)
-
--- how such a run ends, by the bytes that were read: the trace was written, a prefix of it, or nothing
-abbrev pub EndsTracing : Form → ℕ → List ℕ → Ended → Bool → List ℕ → Option (List ℕ) → Option (List ℕ) → Type 0
-EndsTracing form port frame Done ended file old new = (config : Configuration) × (ended ≡ true) × Encodes file config × (new ≡ then_bytes old (trace_of form port frame config))
-EndsTracing form port frame (BadRow n) ended file old new = (ended ≡ true) × (bad_line file ≡ Some n) × (new ≡ old)
-EndsTracing form port frame (Text f) ended file old new = (ended ≡ true) × (bad_line file ≡ None) × HasFault file f × (new ≡ old)
-EndsTracing form port frame ReadFault ended file old new = (ended ≡ false) × (new ≡ old)
-EndsTracing form port frame WriteFault ended file old new = (config : Configuration) × (ended ≡ true) × Encodes file config × WrotePrefix old (trace_of form port frame config) new
-EndsTracing form port frame NoMemory ended file old new = new ≡ old
-
--- from what a source answered to what a sink took
-pub record TracesFile (form : Form) (port : ℕ) (frame : List ℕ) (result : Ended) (answers answers' : Option (List Answer)) (ends ends' : ℕ) (taken taken' : Option (List ℕ)) : Type 0 where
-  pub more : List Answer
-  pub answers_are : answers' ≡ then_answers answers more
-  pub ends_so : EndsTracing form port frame result (nat_lt ends ends') (given more) taken taken'

@@ -1,10 +1,8 @@
 pub mod Encoded
 pub mod Text
 pub mod Why
-pub mod Writing
 pub mod Sights
 pub mod Notes
 pub mod Files
-pub mod EventFiles
 pub mod OnlyNotes
 pub mod FirstLines

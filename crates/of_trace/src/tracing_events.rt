@@ -1,7 +1,8 @@
 //! Frames, traced on the switch after the rows of an event file.
 ghost use Rattle.std.specs.Prelude.{◌≡◌, ◌≤◌};
-ghost use Rattle.of_replay.specs.Assembling.{Faults};
-ghost use Rattle.of_trace.specs.EventFiles.{TracesEvents};
+ghost use Rattle.of_replay.specs.FileRuns.{Runs, event_file, is_text};
+ghost use Rattle.of_replay.specs.WholeFiles.{Faults};
+ghost use Rattle.of_trace.specs.Files.{trace_on};
 
 use crate::form::Form;
 use crate::writing::write_trace;
@@ -23,8 +24,8 @@ pub fn trace_events<L: Lookup, S: Source, W: Sink>(
 ) -> Ended
     requires reads { S.reads reader.old ≡ 0 }
     requires failures { W.failures writer.old ≡ 0 }
-    ensures output { TracesEvents form port frame.now result (S.answers reader.old) (S.answers reader.new) (S.ends reader.old) (S.ends reader.new)
-        (W.taken writer.old) (W.taken writer.new) }
+    ensures output { Runs event_file (is_text (trace_on form port frame.now)) result (S.answers reader.old) (S.answers reader.new)
+        (S.ends reader.old) (S.ends reader.new) (W.taken writer.old) (W.taken writer.new) }
     ensures faults { Faults result (S.reads reader.new) (S.ends reader.old) (S.ends reader.new) (S.failures reader.old) (S.failures reader.new)
         (W.failures writer.new) }
     ensures reads { S.reads reader.new ≤ 1000000 }

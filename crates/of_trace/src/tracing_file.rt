@@ -1,7 +1,8 @@
 //! Frames, traced on the flows of a flow text.
 ghost use Rattle.std.specs.Prelude.{◌≡◌, ◌≤◌, IfOk};
-ghost use Rattle.of_replay.specs.Assembling.{Faults};
-ghost use Rattle.of_trace.specs.Files.{TracesFile, port_up as port_event, ports_up as port_events, traced_switch};
+ghost use Rattle.of_replay.specs.FileRuns.{Runs, flow_text, is_text};
+ghost use Rattle.of_replay.specs.WholeFiles.{Faults};
+ghost use Rattle.of_trace.specs.Files.{port_up as port_event, ports_up as port_events, trace_of, traced_switch};
 
 use crate::form::Form;
 use crate::writing::write_trace;
@@ -65,8 +66,8 @@ pub fn trace_file<L: Lookup, S: Source, W: Sink>(
 ) -> Ended
     requires reads { S.reads reader.old ≡ 0 }
     requires failures { W.failures writer.old ≡ 0 }
-    ensures output { TracesFile form port frame.now result (S.answers reader.old) (S.answers reader.new) (S.ends reader.old) (S.ends reader.new)
-        (W.taken writer.old) (W.taken writer.new) }
+    ensures output { Runs flow_text (is_text (trace_of form port frame.now)) result (S.answers reader.old) (S.answers reader.new)
+        (S.ends reader.old) (S.ends reader.new) (W.taken writer.old) (W.taken writer.new) }
     ensures faults { Faults result (S.reads reader.new) (S.ends reader.old) (S.ends reader.new) (S.failures reader.old) (S.failures reader.new)
         (W.failures writer.new) }
     ensures reads { S.reads reader.new ≤ 1000000 }

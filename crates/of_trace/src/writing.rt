@@ -1,9 +1,7 @@
 //! Traces to a sink.
 ghost use Rattle.std.specs.Prelude.{◌≡◌, ◌↔◌, ◌<◌};
-ghost use Rattle.of_datapath.specs.DryRun.{steps_in};
-ghost use Rattle.of_switch.specs.Steps.{frame_in};
-ghost use Rattle.of_trace.specs.Notes.{said};
-ghost use Rattle.of_trace.specs.Writing.{WritesText};
+ghost use Rattle.of_replay.specs.FileRuns.{Writes, is_text};
+ghost use Rattle.of_trace.specs.Files.{trace_on};
 
 use crate::form::{Asked, Form};
 use crate::noting::explain;
@@ -26,8 +24,7 @@ pub fn write_trace<L: Lookup, W: Sink>(
     writer: &mut W,
 ) -> Ended
     requires { W.failures writer.old ≡ 0 }
-    ensures output { WritesText (said form switch.now.core.forwarding port frame.now (steps_in port frame.now switch.now.core.forwarding)
-        (frame_in port frame.now switch.now).effects) result (W.taken writer.old) (W.taken writer.new) }
+    ensures output { Writes (is_text (trace_on form port frame.now) switch.now) result (W.taken writer.old) (W.taken writer.new) }
     ensures write_fault { (result ≡ Ended.WriteFault) ↔ (0 < W.failures writer.new) }
 {
     let Ok(traced) = trace(alloc, switch, port, frame) else {

@@ -1,10 +1,10 @@
-use Rattle.std.proofs.Common.{refl, arith}
-use Rattle.of_replay.proofs.FileLemmas.{faults_nothing, faults_unread}
-use Rattle.of_replay.proofs.ConfigLemmas.{config_nothing, config_unread, config_read, config_faults}
+use Rattle.std.proofs.Common.{refl}
+use Rattle.of_replay.specs.FileRuns.{flow_text}
+use Rattle.of_replay.proofs.FileLemmas.{read_nothing, read_stopped, read_whole, faults_nothing, faults_unread, faults_whole}
 use Rattle.of_replay.proofs.config_file.read_config.Goals as goal
 
 pub returns-in_default-clause-config : goal.returns-in_default-clause-config
-returns-in_default-clause-config g c = config_nothing (g.S.Source.answers c.args.reader.now) (g.S.Source.ends c.args.reader.now)
+returns-in_default-clause-config g c = read_nothing flow_text (g.S.Source.answers c.args.reader.now) (g.S.Source.ends c.args.reader.now)
 
 pub returns-in_default-clause-faults : goal.returns-in_default-clause-faults
 returns-in_default-clause-faults g c = faults_nothing (g.S.Source.reads c.args.reader.now) (g.S.Source.ends c.args.reader.now) (g.S.Source.failures c.args.reader.now) 0 refl
@@ -12,7 +12,7 @@ returns-in_default-clause-faults g c = faults_nothing (g.S.Source.reads c.args.r
 pub returns-in-Err-clause-config : goal.returns-in-Err-clause-config
 returns-in-Err-clause-config g c =
     let r = c.read_file in
-    rw c.ended_by.ensures (config_unread c.in-Err.halt (g.S.Source.answers c.args.reader.now) (g.S.Source.answers r.new.reader) (g.S.Source.ends c.args.reader.now) (g.S.Source.ends r.new.reader) _ c.in-Err.ensures.gave)
+    rw c.ended_by.ensures (read_stopped flow_text (λ file outcome is. is) c.in-Err.halt (g.S.Source.answers c.args.reader.now) (g.S.Source.answers r.new.reader) (g.S.Source.ends c.args.reader.now) (g.S.Source.ends r.new.reader) _ c.in-Err.ensures.gave)
 
 pub returns-in-Err-clause-faults : goal.returns-in-Err-clause-faults
 returns-in-Err-clause-faults g c =
@@ -23,9 +23,9 @@ returns-in-Err-clause-faults g c =
 pub returns-clause-config : goal.returns-clause-config
 returns-clause-config g c =
     let r = c.read_file in
-    config_read c.configured.result (g.S.Source.answers c.args.reader.now) (g.S.Source.answers r.new.reader) (g.S.Source.ends c.args.reader.now) (g.S.Source.ends r.new.reader) r.new.file.items c.in-Ok-read_file.ensures.gave (rw c.deref.ensures.value at c.configured.ensures)
+    read_whole flow_text c.configured.result (g.S.Source.answers c.args.reader.now) (g.S.Source.answers r.new.reader) (g.S.Source.ends c.args.reader.now) (g.S.Source.ends r.new.reader) r.new.file.items c.in-Ok-read_file.ensures.gave (rw c.deref.ensures.value at c.configured.ensures)
 
 pub returns-clause-faults : goal.returns-clause-faults
 returns-clause-faults g c =
     let r = c.read_file in
-    config_faults c.configured.result r.new.file.items (g.S.Source.reads r.new.reader) (g.S.Source.ends c.args.reader.now) (g.S.Source.ends r.new.reader) (g.S.Source.failures c.args.reader.now) (g.S.Source.failures r.new.reader) (rw c.deref.ensures.value at c.configured.ensures) c.in-Ok-read_file.ensures.reads
+    faults_whole flow_text c.configured.result r.new.file.items (g.S.Source.reads r.new.reader) (g.S.Source.ends c.args.reader.now) (g.S.Source.ends r.new.reader) (g.S.Source.failures c.args.reader.now) (g.S.Source.failures r.new.reader) (rw c.deref.ensures.value at c.configured.ensures) c.in-Ok-read_file.ensures.reads

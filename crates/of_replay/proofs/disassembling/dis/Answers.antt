@@ -1,18 +1,21 @@
-use Rattle.std.proofs.Common.{refl}
-use Rattle.of_replay.proofs.DisLemmas.{unplayed_ends, dis_ends, faults_dis}
+use Rattle.of_replay.specs.FileRuns.{event_file, is_text, switch_text}
+use Rattle.of_replay.proofs.FileLemmas.{runs_unread, runs_read, faults_written, faults_same}
 use Rattle.of_replay.proofs.disassembling.dis.Goals as goal
 
 pub returns-in-Err-clause-output : goal.returns-in-Err-clause-output
-returns-in-Err-clause-output g c = unplayed_ends c.in-Err.ended _ _ _ _ (g.W.Sink.taken c.args.writer.now) c.in-Err.ensures.played
+returns-in-Err-clause-output g c = runs_unread event_file (is_text switch_text) c.in-Err.ended _ _ _ _ (g.W.Sink.taken c.args.writer.now) c.in-Err.ensures.played
 
 pub returns-in-Ok-clause-output : goal.returns-in-Ok-clause-output
 returns-in-Ok-clause-output g c =
-    let r = c.read_switch in
-    dis_ends c.write_built.result c.text_of.result c.in-Ok.switch (g.S.Source.answers c.args.reader.now) (g.S.Source.answers r.new.reader) (g.S.Source.ends c.args.reader.now) (g.S.Source.ends r.new.reader)
-    (g.W.Sink.taken c.args.writer.now) (g.W.Sink.taken c.write_built.new.writer) (g.W.Sink.failures c.write_built.new.writer) c.in-Ok.ensures.played c.text_of.ensures c.write_built.ensures
+    runs_read event_file (is_text switch_text) c.in-Ok.switch c.write_config.result _ _ _ _ (g.W.Sink.taken c.args.writer.now) (g.W.Sink.taken c.write_config.new.writer) c.in-Ok.ensures.played c.write_config.ensures.output
+
+pub returns-in-Err-clause-faults : goal.returns-in-Err-clause-faults
+returns-in-Err-clause-faults g c =
+    let r = c.read_switch.new.reader in
+    faults_same c.in-Err.ended (g.S.Source.reads r) (g.S.Source.ends c.args.reader.now) (g.S.Source.ends r) (g.S.Source.failures c.args.reader.now) (g.S.Source.failures r) (g.W.Sink.failures c.args.writer.now) c.requires.failures c.in-Err.ensures.faults
 
 pub returns-in-Ok-clause-faults : goal.returns-in-Ok-clause-faults
 returns-in-Ok-clause-faults g c =
-    let r = c.read_switch in
-    faults_dis c.write_built.result c.text_of.result c.in-Ok.switch (g.W.Sink.taken c.args.writer.now) (g.W.Sink.taken c.write_built.new.writer) (g.S.Source.reads r.new.reader) (g.S.Source.ends c.args.reader.now) (g.S.Source.ends r.new.reader)
-    (g.S.Source.failures c.args.reader.now) (g.S.Source.failures r.new.reader) (g.W.Sink.failures c.write_built.new.writer) c.in-Ok.ensures.faults c.text_of.ensures c.write_built.ensures
+    let r = c.read_switch.new.reader in
+    faults_written (is_text switch_text c.in-Ok.switch) c.write_config.result (g.W.Sink.taken c.args.writer.now) (g.W.Sink.taken c.write_config.new.writer) (g.S.Source.reads r) (g.S.Source.ends c.args.reader.now) (g.S.Source.ends r)
+    (g.S.Source.failures c.args.reader.now) (g.S.Source.failures r) (g.W.Sink.failures c.write_config.new.writer) c.in-Ok.ensures.faults c.write_config.ensures.output c.write_config.ensures.write_fault

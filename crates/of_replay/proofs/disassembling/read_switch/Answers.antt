@@ -1,11 +1,12 @@
 use Rattle.std.proofs.Common.{refl, ◌∙◌}
-use Rattle.of_replay.proofs.FileLemmas.{faults_nothing, faults_done}
-use Rattle.of_replay.proofs.DisLemmas.{played_nothing, played_all, played_not, faults_unplayed}
+use Rattle.of_replay.proofs.FileLemmas.{read_nothing, faults_nothing, faults_done}
+use Rattle.of_replay.proofs.EventFileLemmas.{played_all, played_not, faults_unplayed}
+use Rattle.of_replay.specs.FileRuns.{event_file}
 use Rattle.of_replay.specs.RowTexts.{plain}
 use Rattle.of_replay.proofs.disassembling.read_switch.Goals as goal
 
 pub returns-in_default-clause-played : goal.returns-in_default-clause-played
-returns-in_default-clause-played g c = played_nothing (g.S.Source.answers c.args.reader.now) (g.S.Source.ends c.args.reader.now)
+returns-in_default-clause-played g c = read_nothing event_file (g.S.Source.answers c.args.reader.now) (g.S.Source.ends c.args.reader.now)
 
 pub returns-in_default-clause-faults : goal.returns-in_default-clause-faults
 returns-in_default-clause-faults g c = faults_nothing (g.S.Source.reads c.args.reader.now) (g.S.Source.ends c.args.reader.now) (g.S.Source.failures c.args.reader.now) 0 refl
@@ -22,4 +23,4 @@ returns-in-Ok-play-clause-played g c =
     (c.new-replaying.ensures.2 ∙ c.in-Ok-new.ensures) c.in-Ok-play.ensures.played c.in-Ok-play.ensures.reads.0)
 
 pub returns-in-Ok-play-clause-faults : goal.returns-in-Ok-play-clause-faults
-returns-in-Ok-play-clause-faults g c = faults_done (g.S.Source.reads c.play.new.reader) (g.S.Source.ends c.args.reader.now) (g.S.Source.ends c.play.new.reader) (g.S.Source.failures c.args.reader.now) (g.S.Source.failures c.play.new.reader) 0 c.in-Ok-play.ensures.reads refl
+returns-in-Ok-play-clause-faults g c = faults_done (g.S.Source.reads c.play.new.reader) (g.S.Source.ends c.args.reader.now) (g.S.Source.ends c.play.new.reader) (g.S.Source.failures c.args.reader.now) (g.S.Source.failures c.play.new.reader) c.in-Ok-play.ensures.reads

@@ -1,31 +1,22 @@
-use Rattle.of_replay.proofs.FileLemmas.{asm_nothing, asm_unread, asm_ends, faults_nothing, faults_unread, faults_end}
+use Rattle.of_build.specs.Building.{build_text}
+use Rattle.of_replay.specs.FileRuns.{flow_text, is_text}
+use Rattle.of_replay.proofs.FileLemmas.{runs_unread, runs_read, faults_written, faults_same}
 use Rattle.of_replay.proofs.flow_text.asm.Goals as goal
 
-pub returns-in_default-clause-output : goal.returns-in_default-clause-output
-returns-in_default-clause-output g c = asm_nothing (g.S.Source.answers c.args.reader.now) (g.S.Source.ends c.args.reader.now) (g.W.Sink.taken c.args.writer.now)
-
-pub returns-in_default-clause-faults : goal.returns-in_default-clause-faults
-returns-in_default-clause-faults g c = faults_nothing (g.S.Source.reads c.args.reader.now) (g.S.Source.ends c.args.reader.now) (g.S.Source.failures c.args.reader.now) (g.W.Sink.failures c.args.writer.now) c.requires.failures
-
 pub returns-in-Err-clause-output : goal.returns-in-Err-clause-output
-returns-in-Err-clause-output g c =
-    let r = c.read_file in
-    rw c.ended_by.ensures (asm_unread c.in-Err.halt (g.S.Source.answers c.args.reader.now) (g.S.Source.answers r.new.reader) (g.S.Source.ends c.args.reader.now) (g.S.Source.ends r.new.reader) _ (g.W.Sink.taken c.args.writer.now) c.in-Err.ensures.gave)
+returns-in-Err-clause-output g c = runs_unread flow_text (is_text build_text) c.in-Err.ended _ _ _ _ (g.W.Sink.taken c.args.writer.now) c.in-Err.ensures.config
+
+pub returns-in-Ok-clause-output : goal.returns-in-Ok-clause-output
+returns-in-Ok-clause-output g c =
+    runs_read flow_text (is_text build_text) c.in-Ok.config c.write_built.result _ _ _ _ (g.W.Sink.taken c.args.writer.now) (g.W.Sink.taken c.write_built.new.writer) c.in-Ok.ensures.config c.write_built.ensures.output
 
 pub returns-in-Err-clause-faults : goal.returns-in-Err-clause-faults
 returns-in-Err-clause-faults g c =
-    let r = c.read_file in
-    rw c.ended_by.ensures (faults_unread c.in-Err.halt (g.S.Source.answers c.args.reader.now) (g.S.Source.answers r.new.reader) _ (g.S.Source.reads r.new.reader) (g.S.Source.ends c.args.reader.now) (g.S.Source.ends r.new.reader)
-    (g.S.Source.failures c.args.reader.now) (g.S.Source.failures r.new.reader) (g.W.Sink.failures c.args.writer.now) c.in-Err.ensures.gave c.in-Err.ensures.reads c.requires.failures)
+    let r = c.read_config.new.reader in
+    faults_same c.in-Err.ended (g.S.Source.reads r) (g.S.Source.ends c.args.reader.now) (g.S.Source.ends r) (g.S.Source.failures c.args.reader.now) (g.S.Source.failures r) (g.W.Sink.failures c.args.writer.now) c.requires.failures c.in-Err.ensures.faults
 
-pub returns-clause-output : goal.returns-clause-output
-returns-clause-output g c =
-    let r = c.read_file in
-    asm_ends c.write_built.result c.built.result (g.S.Source.answers c.args.reader.now) (g.S.Source.answers r.new.reader) (g.S.Source.ends c.args.reader.now) (g.S.Source.ends r.new.reader) r.new.file.items (g.W.Sink.taken c.args.writer.now) (g.W.Sink.taken c.write_built.new.writer) (g.W.Sink.failures c.write_built.new.writer)
-    c.in-Ok-read_file.ensures.gave (rw c.deref.ensures.value at c.built.ensures) c.write_built.ensures
-
-pub returns-clause-faults : goal.returns-clause-faults
-returns-clause-faults g c =
-    let r = c.read_file in
-    faults_end c.write_built.result c.built.result r.new.file.items (g.W.Sink.taken c.args.writer.now) (g.W.Sink.taken c.write_built.new.writer) (g.S.Source.reads r.new.reader) (g.S.Source.ends c.args.reader.now) (g.S.Source.ends r.new.reader)
-    (g.S.Source.failures c.args.reader.now) (g.S.Source.failures r.new.reader) (g.W.Sink.failures c.write_built.new.writer) (rw c.deref.ensures.value at c.built.ensures) c.write_built.ensures c.in-Ok-read_file.ensures.reads
+pub returns-in-Ok-clause-faults : goal.returns-in-Ok-clause-faults
+returns-in-Ok-clause-faults g c =
+    let r = c.read_config.new.reader in
+    faults_written (is_text build_text c.in-Ok.config) c.write_built.result (g.W.Sink.taken c.args.writer.now) (g.W.Sink.taken c.write_built.new.writer) (g.S.Source.reads r) (g.S.Source.ends c.args.reader.now) (g.S.Source.ends r)
+    (g.S.Source.failures c.args.reader.now) (g.S.Source.failures r) (g.W.Sink.failures c.write_built.new.writer) c.in-Ok.ensures.faults c.write_built.ensures.output c.write_built.ensures.write_fault

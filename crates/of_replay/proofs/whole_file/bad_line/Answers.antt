@@ -2,7 +2,7 @@ use Rattle.std.proofs.Common.{◌≡◌, ℕ, true, false, List, sym, ap, ◌∙
 use Rattle.of_text.specs.Lines.{lines_of, before}
 use Rattle.of_text.proofs.LineLemmas.{some_bytes, no_bytes}
 use Rattle.of_replay.specs.Lexing.{is_line}
-use Rattle.of_replay.specs.Assembling.{unreadable}
+use Rattle.of_replay.specs.WholeFiles.{unreadable}
 use Rattle.of_replay.proofs.FileLemmas.{bad_here, good_here, all_good}
 use Rattle.of_replay.proofs.whole_file.bad_line.Goals as goal
 

@@ -1,6 +1,6 @@
 use Rattle.std.proofs.Common.{◌≡◌, ◌+◌, ◌≤◌, length}
 use Rattle.of_text.specs.Lines.{lines_of}
-use Rattle.of_replay.specs.Assembling.{unreadable}
+use Rattle.of_replay.specs.WholeFiles.{unreadable}
 use Rattle.of_replay.proofs.whole_file.bad_line.Given as goal
 
 abbrev pub decreases-loop-rest : goal.decreases-loop-rest

@@ -1,18 +1,22 @@
-use Rattle.of_trace.proofs.FileLemmas.{write_faults}
-use Rattle.of_trace.proofs.EventFileLemmas.{unplayed, played}
+use Rattle.of_replay.specs.FileRuns.{event_file, is_text}
+use Rattle.of_replay.proofs.FileLemmas.{runs_unread, runs_read, faults_same, faults_written}
+use Rattle.of_trace.specs.Files.{trace_on}
 use Rattle.of_trace.proofs.tracing_events.trace_events.Goals as goal
 
 pub returns-in-Err-clause-output : goal.returns-in-Err-clause-output
-returns-in-Err-clause-output g c =
-    unplayed c.args.form c.args.port c.args.frame.now c.in-Err.ended (g.S.Source.answers c.args.reader.now) (g.S.Source.answers c.read_switch.new.reader) (g.S.Source.ends c.args.reader.now) (g.S.Source.ends c.read_switch.new.reader)
-    (g.W.Sink.taken c.args.writer.now) c.in-Err.ensures.played
+returns-in-Err-clause-output g c = runs_unread event_file (is_text (trace_on c.args.form c.args.port c.args.frame.now)) c.in-Err.ended _ _ _ _ (g.W.Sink.taken c.args.writer.now) c.in-Err.ensures.played
+
+pub returns-in-Err-clause-faults : goal.returns-in-Err-clause-faults
+returns-in-Err-clause-faults g c =
+    let r = c.read_switch.new.reader in
+    faults_same c.in-Err.ended (g.S.Source.reads r) (g.S.Source.ends c.args.reader.now) (g.S.Source.ends r) (g.S.Source.failures c.args.reader.now) (g.S.Source.failures r) (g.W.Sink.failures c.args.writer.now) c.requires.failures c.in-Err.ensures.faults
 
 pub returns-in-Ok-clause-output : goal.returns-in-Ok-clause-output
 returns-in-Ok-clause-output g c =
-    played c.args.form c.args.port c.args.frame.now c.in-Ok.switch c.write_trace.result (g.S.Source.answers c.args.reader.now) (g.S.Source.answers c.read_switch.new.reader) (g.S.Source.ends c.args.reader.now) (g.S.Source.ends c.read_switch.new.reader)
-    (g.W.Sink.taken c.args.writer.now) (g.W.Sink.taken c.write_trace.new.writer) c.in-Ok.ensures.played c.write_trace.ensures.output
+    runs_read event_file (is_text (trace_on c.args.form c.args.port c.args.frame.now)) c.in-Ok.switch c.write_trace.result _ _ _ _ (g.W.Sink.taken c.args.writer.now) (g.W.Sink.taken c.write_trace.new.writer) c.in-Ok.ensures.played c.write_trace.ensures.output
 
 pub returns-in-Ok-clause-faults : goal.returns-in-Ok-clause-faults
 returns-in-Ok-clause-faults g c =
-    write_faults _ c.write_trace.result (g.W.Sink.taken c.args.writer.now) (g.W.Sink.taken c.write_trace.new.writer) (g.S.Source.reads c.read_switch.new.reader) (g.S.Source.ends c.args.reader.now) (g.S.Source.ends c.read_switch.new.reader)
-    (g.S.Source.failures c.args.reader.now) (g.S.Source.failures c.read_switch.new.reader) (g.W.Sink.failures c.write_trace.new.writer) c.in-Ok.ensures.faults c.write_trace.ensures.output c.write_trace.ensures.write_fault
+    let r = c.read_switch.new.reader in
+    faults_written (is_text (trace_on c.args.form c.args.port c.args.frame.now) c.in-Ok.switch) c.write_trace.result (g.W.Sink.taken c.args.writer.now) (g.W.Sink.taken c.write_trace.new.writer) (g.S.Source.reads r) (g.S.Source.ends c.args.reader.now) (g.S.Source.ends r)
+    (g.S.Source.failures c.args.reader.now) (g.S.Source.failures r) (g.W.Sink.failures c.write_trace.new.writer) c.in-Ok.ensures.faults c.write_trace.ensures.output c.write_trace.ensures.write_fault

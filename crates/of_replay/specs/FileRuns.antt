@@ -1,0 +1,97 @@
+-- WHAT A FILE IS READ AS, AND HOW A RUN ENDS that reads a file and writes a text of what it read.
+use Rattle.std.specs.Prelude.{◌≡◌, ℕ, Bool, true, false, nat_lt, List, Option, Some, None, Result, Ok, Err}
+use Rattle.of_text.specs.declared.assembling.TextFault.{TextFault}
+use Rattle.of_text.specs.declared.assembling.TextFault.TheVariants as fault
+use Rattle.of_text.specs.Lines.{lines_of}
+use Rattle.of_text.specs.Texts.{IsSyntax}
+use Rattle.of_text.specs.First.{IsRefused}
+use Rattle.of_text.specs.Configs.{Configuration, EncodeConfig, config_text}
+use Rattle.of_switch.specs.State.{State, start}
+use Rattle.of_switch.specs.Runs.{run}
+use Rattle.of_switch.specs.Loading.{config_of}
+use Rattle.of_replay.specs.declared.event_file.Ended.{Ended}
+use Rattle.of_replay.specs.declared.event_file.Ended.TheVariants.{Done, BadRow, Text, ReadFault, WriteFault, NoMemory}
+use Rattle.of_replay.specs.Told.{Answer, then_bytes, given}
+use Rattle.of_replay.specs.Transfer.{then_answers, WrotePrefix}
+use Rattle.of_replay.specs.Rows.{Rows, rows_of}
+use Rattle.of_replay.specs.Play.{lines_read}
+use Rattle.of_replay.specs.WholeFiles.{bad_line}
+
+-- WHAT A FILE IS READ AS: a value; or there is none, since a line is bad, or since the text has a fault
+pub data Outcome (A : Type 0) : Type 0 where
+  IsValue : (value : A) → Outcome A
+  IsBad : (line : ℕ) → Outcome A
+  HasFault : (fault : TextFault) → Outcome A
+
+-- by whether the file's end was read, and the bytes that were read
+abbrev pub Meaning : Type 0 → Type 1
+Meaning A = Bool → List ℕ → Outcome A → Type 0
+
+abbrev pub IsFault : List ℕ → TextFault → Type 0
+IsFault file fault.NoMemory = ⊥
+IsFault file (fault.Syntax n) = IsSyntax (lines_of file) n
+IsFault file (fault.Refused line code) = IsRefused (lines_of file) line code
+
+-- a flow text, which is read whole, is its configuration
+abbrev pub flow_text : Meaning Configuration
+flow_text false file outcome = ⊥
+flow_text true file (IsValue config) = (bad_line file ≡ None) × EncodeConfig (lines_of file) config
+flow_text true file (IsBad n) = bad_line file ≡ Some n
+flow_text true file (HasFault f) = (bad_line file ≡ None) × IsFault file f
+
+-- the switch after rows: a new one with datapath_id 1, on which their events happened
+abbrev pub after : Rows → State
+after rows = (run rows.events (start 1)).state
+
+-- the groups and flows of a switch, as flow text
+abbrev pub switch_text : State → List ℕ
+switch_text s = config_text (config_of s)
+
+-- an event file is the switch after its rows
+abbrev pub event_file : Meaning State
+event_file ended file (IsValue s) = (ended ≡ true) × ((rows_of (lines_read ended file)).bad ≡ None) × (s ≡ after (rows_of (lines_read ended file)))
+event_file ended file (IsBad n) = (rows_of (lines_read ended file)).bad ≡ Some n
+event_file ended file (HasFault f) = ⊥
+
+-- HOW READING ENDS: at a fault the bytes before it are nothing yet
+abbrev pub IsRead : {A : Type 0} → Meaning A → Result A Ended → Bool → List ℕ → Type 0
+IsRead is (Ok value) ended file = is ended file (IsValue value)
+IsRead is (Err Done) ended file = ⊥
+IsRead is (Err (BadRow n)) ended file = is ended file (IsBad n)
+IsRead is (Err (Text f)) ended file = is ended file (HasFault f)
+IsRead {A} is (Err ReadFault) ended file = (ended ≡ false) × ((outcome : Outcome A) → is ended file outcome → ⊥)
+IsRead is (Err WriteFault) ended file = ⊥
+IsRead is (Err NoMemory) ended file = Unit {0}
+
+-- from what a source answered
+pub record Reads {A : Type 0} (is : Meaning A) (result : Result A Ended) (answers answers' : Option (List Answer)) (ends ends' : ℕ) : Type 0 where
+  pub more : List Answer
+  pub answers_are : answers' ≡ then_answers answers more
+  pub is_read : IsRead is result (nat_lt ends ends') (given more)
+
+-- HOW WRITING ENDS: a text is written, or a prefix of it; or nothing, since there was no memory for it
+abbrev pub Writes : (List ℕ → Type 0) → Ended → Option (List ℕ) → Option (List ℕ) → Type 0
+Writes IsText Done old new = (text : List ℕ) × IsText text × (new ≡ then_bytes old text)
+Writes IsText WriteFault old new = (text : List ℕ) × IsText text × WrotePrefix old text new
+Writes IsText NoMemory old new = new ≡ old
+Writes IsText other old new = ⊥
+
+-- of what was read; nothing of a file that is none
+abbrev pub WritesOf : {A : Type 0} → (A → List ℕ → Type 0) → Result A Ended → Ended → Option (List ℕ) → Option (List ℕ) → Type 0
+WritesOf IsText (Ok value) ended old new = Writes (IsText value) ended old new
+WritesOf IsText (Err read) ended old new = (ended ≡ read) × (new ≡ old)
+
+-- HOW A RUN ENDS, from what a source answered to what a sink took
+pub record Runs {A : Type 0} (is : Meaning A) (IsText : A → List ℕ → Type 0) (ended : Ended) (answers answers' : Option (List Answer)) (ends ends' : ℕ) (taken taken' : Option (List ℕ)) : Type 0 where
+  pub read : Result A Ended
+  pub reads : Reads is read answers answers' ends ends'
+  pub writes : WritesOf IsText read ended taken taken'
+
+-- the text that a function gives
+abbrev pub is_text : {A : Type 0} → (A → List ℕ) → A → List ℕ → Type 0
+is_text text_of value text = text ≡ text_of value
+
+-- Done where something was read
+abbrev pub ended_as : {A : Type 0} → Result A Ended → Ended
+ended_as (Ok value) = Done
+ended_as (Err ended) = ended
