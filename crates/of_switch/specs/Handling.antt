@@ -8,8 +8,8 @@ use Rattle.std.specs.Option.{option_map_or}
 use Rattle.of_groups.specs.declared.group_fault.GroupFault.{GroupFault}
 use Rattle.of_groups.specs.Faults.{code_of}
 use Rattle.of_datapath.specs.declared.effect.Effect.{Effect}
-use Rattle.of_switch.specs.declared.engine.Fault.{Fault}
-use Rattle.of_switch.specs.declared.engine.Fault.TheVariants.{Memory, Refused}
+use Rattle.of_switch.specs.declared.switch_core.Fault.{Fault}
+use Rattle.of_switch.specs.declared.switch_core.Fault.TheVariants.{Memory, Refused}
 use Rattle.of_switch.specs.State.{Core}
 use Rattle.of_switch.specs.Steps.{Done, does}
 

@@ -1,11 +1,11 @@
 //! The switch: events to effects.
 #![tactic(auto)]
 
-mod engine;
 mod event;
 mod laws;
 mod port_change;
 mod switch;
+mod switch_core;
 mod switch_error;
 
 pub use event::{Event, Report};

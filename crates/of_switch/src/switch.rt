@@ -16,9 +16,9 @@ ghost use Rattle.of_switch.specs.Stepping.{Drains, Happens, Tells};
 ghost use Rattle.std.specs.Prelude.{not};
 ghost use Rattle.of_session.specs.Session.{is_disconnected};
 
-use crate::engine::{Engine, Fault, one};
 use crate::event::{Event, Report};
 use crate::port_change::PortChange;
+use crate::switch_core::{Core, Fault, one};
 use crate::switch_error::SwitchError;
 use of_actions::is_number;
 use of_classifier::Lookup;
@@ -42,7 +42,7 @@ const ERROR_DATA: usize = 64;
 #[derive(Drop)]
 pub struct Switch<L: Lookup> {
     session: Session,
-    engine: Engine<L>,
+    core: Core<L>,
     alloc: Global,
 }
 
@@ -51,7 +51,7 @@ impl<L: Lookup> Model for Switch<L> {
 
     ghost Value = { State };
 
-    ghost view = { λ s. record { connection = s.session; core = s.engine } };
+    ghost view = { λ s. record { connection = s.session; core = s.core } };
 }
 
 impl<L: Lookup> Switch<L> {
@@ -61,7 +61,7 @@ impl<L: Lookup> Switch<L> {
     {
         Ok(Switch {
             session: Session::new(alloc),
-            engine: Engine::new(alloc, dpid)?,
+            core: Core::new(alloc, dpid)?,
             alloc,
         })
     }
@@ -90,7 +90,7 @@ impl<L: Lookup> Switch<L> {
     {
         if self.session.phase() != Phase::Disconnected {
             self.session.close();
-            self.engine.release();
+            self.core.release();
         }
     }
 
@@ -135,7 +135,7 @@ impl<L: Lookup> Switch<L> {
             IfNone found (self.new ≡ self.old)) }
         ensures err { OnErr result (self.new ≡ self.old) }
     {
-        let next = self.session.next(self.engine.control().role)?;
+        let next = self.session.next(self.core.control().role)?;
         let Some(effects) = self.answer(next)? else {
             return Ok(None);
         };
@@ -164,7 +164,7 @@ impl<L: Lookup> Switch<L> {
             }
             Next::Opened { .. } => Ok(Some(Effects::new(self.alloc))),
             Next::Refused { xid, size, code } => Ok(Some(self.refused(xid, size, code)?)),
-            Next::Read { xid, size, message } => match self.engine.handle(xid, message) {
+            Next::Read { xid, size, message } => match self.core.handle(xid, message) {
                 Ok(effects) => Ok(Some(effects)),
                 Err(Fault::Refused(code)) => Ok(Some(self.refused(xid, size, code)?)),
                 Err(Fault::Memory) => Err(AllocError),
@@ -179,7 +179,7 @@ impl<L: Lookup> Switch<L> {
         ensures err { OnErr result (self.new.core ≡ self.old.core) }
     {
         let effects = closing(self.alloc, error)?;
-        self.engine.release();
+        self.core.release();
         Ok(effects)
     }
 
@@ -187,7 +187,7 @@ impl<L: Lookup> Switch<L> {
     fn heard(&self) -> AsyncConfig
         ensures { result ≡ heard_in self.now }
     {
-        self.engine.control().heard(self.session.phase())
+        self.core.control().heard(self.session.phase())
     }
 
     // The ERROR that answers the next message, with its first bytes.
@@ -206,7 +206,7 @@ impl<L: Lookup> Switch<L> {
     pub fn datapath(&self) -> &Datapath<L>
         ensures { self.now.core.forwarding ≡ forwarding_of result.now }
     {
-        self.engine.datapath()
+        self.core.datapath()
     }
 
     /// Receives a frame at a port.
@@ -214,7 +214,7 @@ impl<L: Lookup> Switch<L> {
         ensures { Call None (λ effects new. frame_in port frame.now self.old ≡ gives effects.items new) self.old result self.new }
     {
         let heard = self.heard();
-        Ok(self.engine.frame(heard, port, frame)?)
+        Ok(self.core.frame(heard, port, frame)?)
     }
 
     /// The effects that `frame` would give next, and the steps of the frame's run, which are put into the log (OpenFlow 1.3.5, 5.1).
@@ -247,7 +247,7 @@ impl<L: Lookup> Switch<L> {
         ensures { Call None (λ effects new. moment_in nanos self.old ≡ gives effects.items new) self.old result self.new }
     {
         let heard = self.heard();
-        Ok(self.engine.moment(heard, nanos)?)
+        Ok(self.core.moment(heard, nanos)?)
     }
 
     /// The ports change (OpenFlow 1.3.5, 7.2.1). No flow and no group does.
@@ -266,15 +266,15 @@ impl<L: Lookup> Switch<L> {
                 up,
             } => {
                 self.check_new_port(number)?;
-                Ok(self.engine.add_port(heard, number, hw, name, up)?)
+                Ok(self.core.add_port(heard, number, hw, name, up)?)
             }
             PortChange::Remove { number } => {
                 self.check_port(number)?;
-                Ok(self.engine.remove_port(heard, number)?)
+                Ok(self.core.remove_port(heard, number)?)
             }
             PortChange::Link { number, up } => {
                 self.check_port(number)?;
-                Ok(self.engine.set_link(heard, number, up)?)
+                Ok(self.core.set_link(heard, number, up)?)
             }
         }
     }
@@ -315,14 +315,14 @@ impl<L: Lookup> Switch<L> {
     pub fn load(&mut self, config: &Config) -> Result<(), SwitchError>
         ensures { Call None (λ _ new. new ≡ loaded config.now self.old) self.old result self.new }
     {
-        Ok(self.engine.load(config)?)
+        Ok(self.core.load(config)?)
     }
 
     /// The groups and flows, without counters and times: as `load` would take them.
     pub fn config(&self) -> Result<Config, AllocError>
         ensures { IfOk result (λ config. config ≡ config_of self.now) }
     {
-        self.engine.config()
+        self.core.config()
     }
 
     /// Events in any order, whose reports are appended: one for each event.

@@ -5,8 +5,8 @@ use Rattle.of_datapath.specs.Applying.{without_used}
 use Rattle.of_switch.proofs.HeldHandling.{out_is}
 use Rattle.of_datapath.proofs.StandingLemmas.{held_stands, through_stands}
 use Rattle.of_switch.proofs.StandingSteps.{called_stands}
-use Rattle.of_switch.proofs.engine.Engine.packet_out.Goals as goal
-use Rattle.of_switch.proofs.engine.Engine.packet_out.Goals.{in-Buffered, in-Frame}
+use Rattle.of_switch.proofs.switch_core.Core.packet_out.Goals as goal
+use Rattle.of_switch.proofs.switch_core.Core.packet_out.Goals.{in-Buffered, in-Frame}
 
 pub invariant_of-self-2 : goal.invariant_of-self-2
 invariant_of-self-2 g c =

@@ -1,5 +1,5 @@
 use Rattle.of_switch.proofs.StandingSteps.{removal_stands}
-use Rattle.of_switch.proofs.engine.Engine.moment.Goals as goal
+use Rattle.of_switch.proofs.switch_core.Core.moment.Goals as goal
 
 pub invariant_of-self : goal.invariant_of-self
 invariant_of-self g c = removal_stands c.in_ok-removal.removal.cause _ _ c.carry_out.ensures.forwarding c.self.invariant

@@ -3,7 +3,7 @@ use Rattle.std.specs.Option.{option_copied}
 use Rattle.std.specs.Str.{bytes_eq}
 use Rattle.of_ports.specs.Ports.{port_at}
 use Rattle.of_switch.proofs.PortHandling.{refused_absent, refused_other, not_refused}
-use Rattle.of_switch.proofs.engine.Engine.port_mod.Goals as goal
+use Rattle.of_switch.proofs.switch_core.Core.port_mod.Goals as goal
 
 pub returns-in_default : goal.returns-in_default
 returns-in_default g c = rw (← c.self.view_is) (refused_absent c.args.port_mod c.self.inside.datapath.ports (sym c.port.ensures ∙ ap option_copied c.in_default.is), refl)

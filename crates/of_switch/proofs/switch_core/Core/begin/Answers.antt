@@ -5,7 +5,7 @@ use Rattle.of_datapath.specs.Numbers.{forwarding_of}
 use Rattle.of_switch.proofs.HeldHandling.{begun_is}
 use Rattle.of_datapath.proofs.StandingLemmas.{held_stands, through_stands}
 use Rattle.of_switch.proofs.StandingSteps.{called_stands}
-use Rattle.of_switch.proofs.engine.Engine.begin.Goals as goal
+use Rattle.of_switch.proofs.switch_core.Core.begin.Goals as goal
 
 pub invariant_of-self : goal.invariant_of-self
 invariant_of-self g c =

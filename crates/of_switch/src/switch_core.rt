@@ -66,7 +66,7 @@ pub enum Fault {
 
 impl From<AllocError> for Fault {
     ghost use Rattle.std.specs.Prelude.{◌≡◌};
-    ghost use Rattle.of_switch.specs.declared.engine.Fault.TheVariants.{Memory};
+    ghost use Rattle.of_switch.specs.declared.switch_core.Fault.TheVariants.{Memory};
 
     ghost from_gives = { λ _ e. e ≡ Memory };
 
@@ -93,14 +93,14 @@ impl From<GroupFault> for Fault {
 ///
 /// Each group that an entry names exists, and none has a number above OFPG_MAX.
 #[derive(Drop)]
-pub struct Engine<L: Lookup> {
+pub struct Core<L: Lookup> {
     dpid: u64,
     control: Control,
     datapath: Datapath<L>,
     alloc: Global,
 }
 
-impl<L: Lookup> Model for Engine<L> {
+impl<L: Lookup> Model for Core<L> {
     ghost use Rattle.of_switch.specs.State.{Core};
     ghost use Rattle.of_datapath.specs.Numbers.{forwarding_of};
     ghost use Rattle.of_datapath.specs.Standing.{GroupsExist};
@@ -112,11 +112,11 @@ impl<L: Lookup> Model for Engine<L> {
     ghost invariant = { λ e. GroupsExist (forwarding_of e.datapath) };
 }
 
-impl<L: Lookup> Engine<L> {
+impl<L: Lookup> Core<L> {
     pub fn new(alloc: Global, dpid: u64) -> Result<Self, AllocError>
         ensures { IfOk result (λ e. e ≡ new_core dpid) }
     {
-        Ok(Engine {
+        Ok(Core {
             dpid,
             control: Control::new(),
             datapath: Datapath::new(alloc)?,

@@ -2,7 +2,7 @@ use Rattle.of_datapath.specs.Numbers.{forwarding_of}
 use Rattle.of_datapath.specs.Datapath.{framed}
 use Rattle.of_datapath.proofs.StandingLemmas.{framed_stands}
 use Rattle.of_switch.proofs.StandingSteps.{called_stands}
-use Rattle.of_switch.proofs.engine.Engine.frame.Goals as goal
+use Rattle.of_switch.proofs.switch_core.Core.frame.Goals as goal
 
 pub invariant_of-self : goal.invariant_of-self
 invariant_of-self g c =
