@@ -42,7 +42,7 @@ out_of_tables port max_len h =
   where
     by_test : (b : Bool) → (port == OFPP_TABLE) ≡ b → is_port false port ≡ true → b ≡ false
     by_test false e p = refl
-    by_test true e p = let same : port ≡ table = grind (arith, nat_tests) in let no : is_port false port ≡ false = rw same refl in cc
+    by_test true e p = let same : port ≡ OFPP_TABLE = grind (arith, nat_tests) in let no : is_port false port ≡ false = rw same refl in cc
 
 -- an action of a PACKET_OUT that is not for the tables is valid in a flow
 pub flow_serves : (a : Action) → IsTrue (is_supported true a) → is_to_tables a ≡ false → IsTrue (is_supported false a)
