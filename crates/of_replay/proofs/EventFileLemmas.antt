@@ -27,9 +27,9 @@ written Write w e = omega (arith, w)
 
 -- where a fault comes before the end, the rows so far are no switch
 not_yet : (ended : Bool) (file : List ℕ) → ended ≡ false → (rows_of (lines_read ended file)).bad ≡ None → (outcome : Outcome State) → event_file ended file outcome → ⊥
-not_yet ended file no none (IsValue s) is = let e : true ≡ false = sym is.0 ∙ no in cc
-not_yet ended file no none (IsBad n) is = let e : Some n ≡ None = sym is ∙ none in cc
-not_yet ended file no none (HasFault f) is = is
+not_yet ended file early none (IsValue s) is = let e : true ≡ false = sym is.0 ∙ early in cc
+not_yet ended file early none (IsBad n) is = let e : Some n ≡ None = sym is ∙ none in cc
+not_yet ended file early none (HasFault f) is = is
 
 pub played_not : (begun : State) (tale : RowText) (h : Halt) (answers answers' : Option (List Answer)) (ends ends' : ℕ) (taken taken' : Option (List ℕ)) → PrintsLines (told begun tale) (ended_so (Err h)) answers answers' ends ends' taken taken' → WritesFail (Err h) 0 → Reads event_file (Err (ended_so (Err h))) answers answers' ends ends'
 played_not begun tale (Bad n) answers answers' ends ends' taken taken' r w = record { more = r.more; answers_are = r.answers_are; is_read = r.ends_so.0 }
