@@ -23,6 +23,3 @@ returns-in-Ok-switch_with-clause-faults g c =
     let r = c.read_config.new.reader in
     faults_written (is_text (trace_of c.args.form c.args.port c.args.frame.now) c.in-Ok.config) c.write_trace.result (g.W.Sink.taken c.args.writer.now) (g.W.Sink.taken c.write_trace.new.writer) (g.S.Source.reads r) (g.S.Source.ends c.args.reader.now) (g.S.Source.ends r)
     (g.S.Source.failures c.args.reader.now) (g.S.Source.failures r) (g.W.Sink.failures c.write_trace.new.writer) c.in-Ok.ensures.faults (rw c.in-Ok-switch_with.ensures at c.write_trace.ensures.output) c.write_trace.ensures.write_fault
-
-pub returns-in-Err-switch_with-clause-output : goal.returns-in-Err-switch_with-clause-output
-returns-in-Err-switch_with-clause-output g c = runs_read flow_text (is_text (trace_of c.args.form c.args.port c.args.frame.now)) c.in-Ok.config NoMemory _ _ _ _ (g.W.Sink.taken c.args.writer.now) (g.W.Sink.taken c.args.writer.now) c.in-Ok.ensures.config refl
