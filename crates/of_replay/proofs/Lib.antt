@@ -8,3 +8,4 @@ pub mod WholeRuns
 pub mod Examples
 pub mod FileLemmas
 pub mod EventFileLemmas
+pub mod OldEndings
