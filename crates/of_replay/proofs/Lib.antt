@@ -8,4 +8,3 @@ pub mod WholeRuns
 pub mod Examples
 pub mod FileLemmas
 pub mod EventFileLemmas
-pub mod OldEndings
