@@ -1,6 +1,7 @@
 //! Why an entry won or did not.
-ghost use Rattle.std.specs.Prelude.{◌≡◌, ◌<◌, Some, true, not, find, slice_get};
+ghost use Rattle.std.specs.Prelude.{◌≡◌, ◌<◌, ℕ, Option, Some, true, not, find, slice_get};
 ghost use Rattle.std.specs.Option.{option_copied};
+ghost use Rattle.of_layers.specs.declared.field.Field.{Field};
 ghost use Rattle.of_headers.specs.FieldMap.{value};
 ghost use Rattle.of_oxm.specs.Relations.{agrees as agrees_with, matches_map};
 ghost use Rattle.of_table.specs.Entries.{entry_of};
@@ -32,32 +33,65 @@ fn first_difference<'a>(fields: &'a [MatchField], key: &FieldKey) -> Option<&'a 
     fields.iter().find(|e| !agrees(e, key.get(e.field)))
 }
 
-// Why an entry that matches won or did not.
+// Why an entry that matches won or did not, where this one wins.
 fn why_matching<L: Lookup>(
     switch: &Switch<L>,
     table: u8,
-    key: &FieldKey,
     place: usize,
     entry: &Entry,
+    winner: Option<usize>,
 ) -> Option<Reason>
     requires table { table < 16 }
     requires there { slice_get (table_at table switch.now.core.forwarding.tables).flows place ≡ Some (entry_of entry.now) }
-    requires matches { matches_map entry.now.flow.fields (value key.now) ≡ true }
-    ensures explains { Explains (table_at table switch.now.core.forwarding.tables).flows (value key.now) place result }
-    ensures is { result ≡ Some (standing (table_at table switch.now.core.forwarding.tables).flows place (entry_of entry.now)
-        (winner_place (value key.now) (table_at table switch.now.core.forwarding.tables).flows)) }
+    ensures explains { (map : Field → Option ℕ) → matches_map entry.now.flow.fields map ≡ true →
+        winner ≡ winner_place map (table_at table switch.now.core.forwarding.tables).flows →
+        Explains (table_at table switch.now.core.forwarding.tables).flows map place result }
+    ensures is { (map : Field → Option ℕ) → matches_map entry.now.flow.fields map ≡ true →
+        winner ≡ winner_place map (table_at table switch.now.core.forwarding.tables).flows →
+        result ≡ Some (standing (table_at table switch.now.core.forwarding.tables).flows place (entry_of entry.now)
+        (winner_place map (table_at table switch.now.core.forwarding.tables).flows)) }
 {
-    let datapath = switch.datapath();
-    let winner = datapath.winner(table, key)?;
+    let winner = winner?;
     if winner == place {
         return Some(Reason::Won);
     }
-    let better = datapath.entry(table, winner)?;
+    let better = switch.datapath().entry(table, winner)?;
     if entry.flow.priority < better.flow.priority {
         Some(Reason::LowerPriority(winner))
     } else {
         Some(Reason::Younger(winner))
     }
+}
+
+/// Why the entry of a table at an index by age, from 0, won or did not, where this one wins.
+pub(crate) fn why_where<L: Lookup>(
+    switch: &Switch<L>,
+    table: u8,
+    key: &FieldKey,
+    place: usize,
+    winner: Option<usize>,
+) -> Option<Reason>
+    requires table { table < 16 }
+    requires winner { winner ≡ winner_place (value key.now) (table_at table switch.now.core.forwarding.tables).flows }
+    ensures explains { Explains (table_at table switch.now.core.forwarding.tables).flows (value key.now) place result }
+    ensures is { result ≡ reason_in (table_at table switch.now.core.forwarding.tables).flows (value key.now) place }
+{
+    let entry = switch.datapath().entry(table, place)?;
+    match first_difference(entry.flow.fields.fields(), key) {
+        Some(field) => Some(Reason::Differs {
+            field: *field,
+            found: key.get(field.field),
+        }),
+        None => why_matching(switch, table, place, entry, winner),
+    }
+}
+
+/// The entry of a table that wins for a packet of these fields, by its index by age.
+pub(crate) fn winner_in<L: Lookup>(switch: &Switch<L>, table: u8, key: &FieldKey) -> Option<usize>
+    requires { table < 16 }
+    ensures { result ≡ winner_place (value key.now) (table_at table switch.now.core.forwarding.tables).flows }
+{
+    switch.datapath().winner(table, key)
 }
 
 /// Why the entry of a table at an index by age, from 0, won or did not, for a packet of these fields (OpenFlow 1.3.5, 5.3). None
@@ -70,12 +104,5 @@ pub fn why<L: Lookup>(switch: &Switch<L>, table: u8, key: &FieldKey, place: usiz
     ensures explains { Explains (table_at table switch.now.core.forwarding.tables).flows (value key.now) place result }
     ensures is { result ≡ reason_in (table_at table switch.now.core.forwarding.tables).flows (value key.now) place }
 {
-    let entry = switch.datapath().entry(table, place)?;
-    match first_difference(entry.flow.fields.fields(), key) {
-        Some(field) => Some(Reason::Differs {
-            field: *field,
-            found: key.get(field.field),
-        }),
-        None => why_matching(switch, table, key, place, entry),
-    }
+    why_where(switch, table, key, place, winner_in(switch, table, key))
 }

@@ -5,7 +5,7 @@ ghost use Rattle.of_table.specs.Entries.{entry_of};
 ghost use Rattle.of_table.specs.Tables.{table_at};
 ghost use Rattle.of_trace.specs.Notes.{is_asked, reason_note, reason_words, reasons_from};
 
-use crate::explaining::why;
+use crate::explaining::{why_where, winner_in};
 use crate::fields::{push_digits, push_found, push_mask};
 use crate::form::Asked;
 use crate::reason::Reason;
@@ -91,10 +91,12 @@ pub fn push_reasons<L: Lookup>(
     ensures { OnOk result (out.new.items ≡ out.old.items ++ reasons_from asked table (value key.now) (table_at table switch.now.core.forwarding.tables).flows 0
         (table_at table switch.now.core.forwarding.tables).flows) }
 {
+    let winner = winner_in(switch, table, key);
     let mut place = 0;
     for entry in switch.datapath().entries(table) {
         if asks(asked, table, entry) {
-            push_reason_note(out, entry, place, why(switch, table, key, place))?;
+            let reason = why_where(switch, table, key, place, winner);
+            push_reason_note(out, entry, place, reason)?;
         }
         place += 1;
     }
