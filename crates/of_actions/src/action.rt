@@ -10,7 +10,7 @@ use crate::port_number::is_port;
 use crate::set_field::{put_set_field, read_set_field};
 use byteorder::{BigEndian, ByteOrder};
 use of_layers::Field;
-use of_wire::Code;
+use of_wire::{Code, put_u16, put_u32};
 use of_wire::codes::{
     OFPBAC_BAD_ARGUMENT, OFPBAC_BAD_EXPERIMENTER, OFPBAC_BAD_LEN, OFPBAC_BAD_OUT_PORT,
     OFPBAC_BAD_TYPE,
@@ -158,19 +158,19 @@ pub(crate) fn put_action(out: &mut Vec<u8>, action: Action) -> Result<(), AllocE
     match action {
         Action::Output { port, max_len } => {
             out.extend_from_slice(&[0, 0, 0, 16])?;
-            out.extend_from_slice(&port.to_be_bytes())?;
-            out.extend_from_slice(&max_len.to_be_bytes())?;
+            put_u32(out, port)?;
+            put_u16(out, max_len)?;
             out.extend_from_slice(&[0; 6])
         }
         Action::PushVlan(ethertype) => {
             out.extend_from_slice(&[0, 17, 0, 8])?;
-            out.extend_from_slice(&ethertype.to_be_bytes())?;
+            put_u16(out, ethertype)?;
             out.extend_from_slice(&[0; 2])
         }
         Action::PopVlan => out.extend_from_slice(&[0, 18, 0, 8, 0, 0, 0, 0]),
         Action::Group(group) => {
             out.extend_from_slice(&[0, 22, 0, 8])?;
-            out.extend_from_slice(&group.to_be_bytes())
+            put_u32(out, group)
         }
         Action::SetNwTtl(ttl) => out.extend_from_slice(&[0, 23, 0, 8, ttl, 0, 0, 0]),
         Action::DecNwTtl => out.extend_from_slice(&[0, 24, 0, 8, 0, 0, 0, 0]),

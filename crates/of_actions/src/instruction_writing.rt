@@ -10,6 +10,7 @@ use crate::action_list::ActionList;
 use crate::action_writing::write_actions;
 use crate::instruction::Instruction;
 use crate::instruction_list::InstructionList;
+use of_wire::{put_u16, put_u64};
 use std::alloc::{AllocError, Global};
 
 fn put_with_actions(
@@ -23,7 +24,7 @@ fn put_with_actions(
     let body = write_actions(alloc, actions)?;
     let len = (8 + body.len()) as u16;
     out.extend_from_slice(&[0, kind])?;
-    out.extend_from_slice(&len.to_be_bytes())?;
+    put_u16(out, len)?;
     out.extend_from_slice(&[0; 4])?;
     out.extend_from_slice(&body)
 }
@@ -32,8 +33,8 @@ fn put_metadata(out: &mut Vec<u8>, value: u64, mask: u64) -> Result<(), AllocErr
     ensures { OnOk result (out.new.items ≡ out.old.items ++ 0 ∷ 2 ∷ 0 ∷ 24 ∷ 0 ∷ 0 ∷ 0 ∷ 0 ∷ (big_bytes 8 value ++ big_bytes 8 mask)) }
 {
     out.extend_from_slice(&[0, 2, 0, 24, 0, 0, 0, 0])?;
-    out.extend_from_slice(&value.to_be_bytes())?;
-    out.extend_from_slice(&mask.to_be_bytes())
+    put_u64(out, value)?;
+    put_u64(out, mask)
 }
 
 #[tactic(auto, unfolding(crate::specs::CanonicalInstructions::canonical_instruction))]

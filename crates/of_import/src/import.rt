@@ -12,6 +12,7 @@ use crate::parsed_lines::{FlowLine, GroupLine, LineFault, ParsedLines, read_tabl
 use of_oxm::Code;
 use of_text::{Config, FillError, FlowText, GroupText, disassemble, texts_are_of_configs};
 use std::alloc::{AllocError, AllocFailed, Global};
+use thiserror::Error;
 
 /// The flow text of a table of Open vSwitch, and its lines that are not in it.
 #[derive(Debug, Drop)]
@@ -21,10 +22,12 @@ pub struct Import {
 }
 
 /// Why a table gave no flow text.
-#[derive(Debug, Drop)]
+#[derive(Debug, Drop, Error)]
 pub enum ImportError {
+    #[error("out of memory")]
     NoMemory,
     /// These lines are at fault.
+    #[error("these lines are at fault")]
     Faults(Vec<LineFault>),
     /// The line of the first group or flow that the switch refuses, and its first refusal (OpenFlow 1.3.5, 7.4.4).
     Refused { line: usize, code: Code },

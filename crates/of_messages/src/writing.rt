@@ -20,8 +20,8 @@ pub(crate) fn put_header(
 {
     let high = (length / 256 % 256) as u8;
     let low = (length % 256) as u8;
-    let xid = xid.to_be_bytes();
-    out.extend_from_slice(&[4, kind, high, low, xid[0], xid[1], xid[2], xid[3]])
+    out.extend_from_slice(&[4, kind, high, low])?;
+    put_u32(out, xid)
 }
 
 /// The HELLO of this switch: version 4, whose bitmap has bit 4 alone (OpenFlow 1.3.5, 7.5.1).
@@ -44,11 +44,10 @@ pub fn write_error(
     requires { length body.now ≤ 65523 }
     ensures { IfOk result (λ bytes. bytes ≡ error_bytes xid code body.now) }
 {
-    let kind = code.kind.to_be_bytes();
-    let number = code.code.to_be_bytes();
     let mut out = Vec::new(alloc);
     put_header(&mut out, 1, 12 + body.len(), xid)?;
-    out.extend_from_slice(&[kind[0], kind[1], number[0], number[1]])?;
+    put_u16(&mut out, code.kind)?;
+    put_u16(&mut out, code.code)?;
     out.extend_from_slice(body)?;
     Ok(MessageBytes::new(Bytes::new(out)))
 }

@@ -2,6 +2,7 @@
 ghost use Rattle.std.specs.Prelude.{◌≡◌, ◌≤◌, ◌++◌, drop, length, replicate, OnOk, IfOk};
 ghost use Rattle.of_statistics.specs.Replies.{blank, closed, head_bytes, reply, with_row};
 
+use byteorder::{BigEndian, ByteOrder};
 use of_messages::MessageBytes;
 use of_wire::Bytes;
 use std::alloc::{AllocError, Global};
@@ -31,14 +32,14 @@ pub(crate) fn begun(alloc: Global) -> Result<Vec<u8>, AllocError>
 fn head_of(length: u16, xid: u32, kind: u16, flags: u16) -> [u8; HEAD]
     ensures { result ≡ head_bytes length xid kind flags }
 {
-    let length = length.to_be_bytes();
-    let xid = xid.to_be_bytes();
-    let kind = kind.to_be_bytes();
-    let flags = flags.to_be_bytes();
-    [
-        4, 19, length[0], length[1], xid[0], xid[1], xid[2], xid[3], kind[0], kind[1], flags[0],
-        flags[1], 0, 0, 0, 0,
-    ]
+    let mut head = [0; HEAD];
+    head[0] = 4;
+    head[1] = 19;
+    BigEndian::write_u16(&mut head[2..], length);
+    BigEndian::write_u32(&mut head[4..], xid);
+    BigEndian::write_u16(&mut head[8..], kind);
+    BigEndian::write_u16(&mut head[10..], flags);
+    head
 }
 
 // The first bytes become these.

@@ -55,12 +55,15 @@ use of_wire::limits::OFP_NO_BUFFER;
 use of_wire::{Bytes, Code};
 use std::alloc::{AllocError, Global};
 use std::marker::Model;
+use thiserror::Error;
 
 /// Why a message was not carried out.
-#[derive(Clone, Copy, Debug, PartialEq, Eq)]
+#[derive(Clone, Copy, Debug, PartialEq, Eq, Error)]
 pub enum Fault {
+    #[error("out of memory")]
     Memory,
     /// It is answered by an ERROR of this code.
+    #[error("the message is refused")]
     Refused(Code),
 }
 
