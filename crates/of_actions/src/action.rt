@@ -10,11 +10,11 @@ use crate::port_number::is_port;
 use crate::set_field::{put_set_field, read_set_field};
 use byteorder::{BigEndian, ByteOrder};
 use of_layers::Field;
-use of_wire::{Code, put_u16, put_u32};
 use of_wire::codes::{
     OFPBAC_BAD_ARGUMENT, OFPBAC_BAD_EXPERIMENTER, OFPBAC_BAD_LEN, OFPBAC_BAD_OUT_PORT,
     OFPBAC_BAD_TYPE,
 };
+use of_wire::{Code, put_u16, put_u32};
 use std::alloc::AllocError;
 
 /// What is done to a packet (OpenFlow 1.3.5, 5.12 and 7.2.5).

@@ -87,7 +87,10 @@ impl<L: Lookup> Lookup for Cached<L> {
 
     ghost looked = { L.looked };
 
-    fn empty(alloc: Global) -> Result<Self, AllocError> {
+    fn empty(alloc: Global) -> Result<Self, AllocError>
+        ensures content { IfOk result (λ c. c.content ≡ []) }
+        ensures rows { IfOk result (λ c. (c.rows ≡ []) × (c.capacity ≡ 1024)) }
+    {
         Cached::with_rows(alloc, L::empty(alloc)?, ROWS)
     }
 

@@ -9,7 +9,7 @@ use Rattle.of_switch.specs.declared.switch_error.SwitchError.{SwitchError}
 use Rattle.of_switch.specs.State.{State}
 use Rattle.of_switch.specs.Steps.{Outcome, gives, fed}
 use Rattle.of_switch.specs.Calls.{feed_refusal}
-use Rattle.of_switch.specs.Runs.{behind, drained, chunk_in, Report, Gives, IsRefused, Happened, happened, unless, run, effects_in, IsBrokenOff, IsInterrupted, StopsWithin, RunsAll, rest_of}
+use Rattle.of_switch.specs.Runs.{behind, drained, chunk_in, Report, Gives, IsRefused, Happened, happened, unless, run, effects_in, AllGive, IsBrokenOff, IsInterrupted, StopsWithin, RunsAll, rest_of}
 use Rattle.of_switch.proofs.Joining.{drained_gone}
 
 effects_in-append : (xs ys : List Report) → effects_in (xs ++ ys) ≡ effects_in xs ++ effects_in ys
@@ -89,7 +89,12 @@ whole event s t u more last stop ran = by (stopped event s t more stop)
     by (inl none) =
         let again : RunsAll (event ∷ []) s u [] last = subst (λ (x : State). RunsAll (event ∷ []) x u [] last) none.0 (subst (λ (rs : List Report). RunsAll (rest_of event rs ∷ []) t u [] last) none.1 ran) in
         (again.state, ap (λ (rs : List Report). effects_in (rs ++ last)) none.1 ∙ ap effects_in again.reports_are)
-    by (inr b) = broken_whole event s t u more last b (subst (λ (e : Event). RunsAll (e ∷ []) t u [] last) (rest_is event more b.reported) ran)
+    by (inr b) = broken_whole event s t u more last b (subst (λ (e : Event). RunsAll (e ∷ []) t u [] last) (rest_is event more b.reported.0) ran)
+
+all_give_both : (xs ys : List Report) → AllGive xs → AllGive ys → AllGive (xs ++ ys)
+all_give_both [] ys x y = y
+all_give_both (Gives effects ∷ xs) ys x y = all_give_both xs ys x y
+all_give_both (IsRefused refusal ∷ xs) ys x y = absurd x
 
 broken_again : (event : Event) (s t u : State) (more last : List Report) → IsBrokenOff event s t more → IsInterrupted (Chunk []) t u last → IsBrokenOff event s u (more ++ last)
 broken_again event s t u more last b (inl none) =
@@ -103,12 +108,12 @@ broken_again event s t u more last b (inr d) =
     ap (λ (es : List Effect). gives es (drained u).state) (sym (append_assoc (effects_in more) (effects_in last) (drained u).effects))
     ∙ ap (λ (es : List Effect). behind es (drained u)) (sym (effects_in-append more last)) in
     let long = length-append more last in
-    let some = b.reported in
+    let some = b.reported.0 in
     record {
       bytes = b.bytes;
       chunk = b.chunk;
       taken = b.taken;
-      reported = omega (arith, long, some);
+      reported = (omega (arith, long, some), all_give_both more last b.reported.1 d.reported.1);
       left = b.left ∙ (ap (behind (effects_in more)) rest ∙ two);
     }
 
@@ -123,4 +128,4 @@ again event s t u more last stop stop' = stops event s u (more ++ last) (by (sto
         subst (λ (rs : List Report). IsInterrupted event s u (rs ++ last)) (sym none.1)
         (subst (λ (x : State). IsInterrupted event x u last) none.0
         (subst (λ (rs : List Report). IsInterrupted (rest_of event rs) t u last) none.1 then_))
-    by (inr b) = inr (broken_again event s t u more last b (subst (λ (e : Event). IsInterrupted e t u last) (rest_is event more b.reported) then_))
+    by (inr b) = inr (broken_again event s t u more last b (subst (λ (e : Event). IsInterrupted e t u last) (rest_is event more b.reported.0) then_))

@@ -33,7 +33,7 @@ drains_all first s effects reports reports' none left e =
 -- memory ran out for a message, and what was given is one report
 pub drains_one : (first s : State) (effects : List Effect) (x : AllocError) (reports reports' : List Report) → Left first s effects → reports' ≡ reports ++ Gives effects ∷ [] → Drains (Err x) first s reports reports'
 drains_one first s effects x reports reports' left e =
-    (Gives effects ∷ [], e, omega arith, left_told first s effects left ∙ ap (λ (es : List Effect). behind es (drained s)) (sym (append-nil effects)))
+    (Gives effects ∷ [], e, (omega arith, tt), left_told first s effects left ∙ ap (λ (es : List Effect). behind es (drained s)) (sym (append-nil effects)))
 
 -- or two
 pub drains_two : (first s : State) (effects more : List Effect) (x : AllocError) (reports reports' reports'' : List Report) → Left first s (effects ++ more)
@@ -41,7 +41,7 @@ pub drains_two : (first s : State) (effects more : List Effect) (x : AllocError)
 drains_two first s effects more x reports reports' reports'' left e f = (
   Gives effects ∷ Gives more ∷ [],
   f ∙ (ap (λ (rs : List Report). rs ++ Gives more ∷ []) e ∙ append_assoc reports (Gives effects ∷ []) (Gives more ∷ [])),
-  omega arith,
+  (omega arith, tt),
   left_told first s (effects ++ more) left ∙ ap (λ (es : List Effect). behind (effects ++ es) (drained s)) (sym (append-nil more)),
 )
 

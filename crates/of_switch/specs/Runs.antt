@@ -102,12 +102,22 @@ effects_in [] = []
 effects_in (Gives effects ∷ reports) = effects ++ effects_in reports
 effects_in (IsRefused refusal ∷ reports) = effects_in reports
 
+-- each is of what was given, and none of a refusal
+abbrev pub AllGive : List Report → Type 0
+AllGive [] = Unit {0}
+AllGive (Gives effects ∷ reports) = AllGive reports
+AllGive (IsRefused refusal ∷ reports) = ⊥
+
+-- one at least, and each of what was given
+abbrev pub IsReported : List Report → Type 0
+IsReported more = (0 < length more) × AllGive more
+
 -- a chunk was interrupted between two of its messages: those before gave what is reported, and what is left gives the rest
 pub record IsBrokenOff (event : Event) (s t : State) (more : List Report) : Type 0 where
   pub bytes : List ℕ
   pub chunk : event ≡ Chunk bytes
   pub taken : feed_refusal s ≡ None
-  pub reported : 0 < length more
+  pub reported : IsReported more
   pub left : chunk_in bytes s ≡ behind (effects_in more) (drained t)
 
 -- an event for which there was no memory did nothing, or is a chunk that was interrupted so
