@@ -1,7 +1,7 @@
 //! Event files, explained.
 ghost use Rattle.std.specs.Prelude.{◌≡◌, ◌⊎◌, ◌↔◌, ◌<◌, ◌≤◌, ◌+◌};
 ghost use Rattle.of_switch.specs.State.{start};
-ghost use Rattle.of_replay.specs.Play.{PrintsLines};
+ghost use Rattle.of_replay.specs.Play.{PrintsLines, WrittenEarly};
 ghost use Rattle.of_replay.specs.RowTexts.{told};
 ghost use Rattle.of_explain.specs.Explained.{explained};
 
@@ -34,6 +34,7 @@ pub fn explain<L: Lookup, S: Source, W: Sink>(
         ((S.reads reader.new ≡ 1000000) × (S.ends reader.new ≡ S.ends reader.old)) }
     ensures failed_read { S.failures reader.old < S.failures reader.new → (result ≡ Ended.ReadFault) ⊎ (result ≡ Ended.WriteFault) }
     ensures write_fault { (result ≡ Ended.WriteFault) ↔ (0 < W.failures writer.new) }
+    ensures early { WrittenEarly (told (start dpid) explained) (S.answers reader.old) (S.answers reader.new) (W.taken writer.old) (W.taken writer.new) }
 {
     print_file::<L, _, _, _>(alloc, dpid, &Explaining, reader, writer)
 }

@@ -8,3 +8,5 @@ pub mod WholeRuns
 pub mod Examples
 pub mod FileLemmas
 pub mod EventFileLemmas
+pub mod Early
+pub mod KnownLemmas

@@ -93,7 +93,7 @@ but_last_more (a ∷ []) one = refl
 but_last_more (a ∷ b ∷ others) one = ap (λ (x : List Answer). a ∷ x) (but_last_more (b ∷ others) one)
 
 -- the lines that were whole before one read more
-before_one : (more : List Answer) (one : Answer) → earlier_lines (more ++ one ∷ []) ≡ whole_lines (given more)
+pub before_one : (more : List Answer) (one : Answer) → earlier_lines (more ++ one ∷ []) ≡ whole_lines (given more)
 before_one more one = ap (λ (x : List Answer). whole_lines (given x)) (but_last_more more one)
 
 -- the run halts in a chunk

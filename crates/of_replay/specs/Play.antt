@@ -47,3 +47,10 @@ pub record PrintsLines (text_of : List (List ℕ) → List ℕ) (ended : Ended) 
   pub more : List Answer
   pub answers_are : answers' ≡ then_answers answers more
   pub ends_so : EndsPrinting text_of ended (nat_lt ends ends') (earlier_lines more) (lines_read (nat_lt ends ends') (given more)) taken taken'
+
+-- what the lines print that were whole before the last read was written, however the run ended
+pub record WrittenEarly (text_of : List (List ℕ) → List ℕ) (answers answers' : Option (List Answer)) (taken taken' : Option (List ℕ)) : Type 0 where
+  pub more : List Answer
+  pub answers_are : answers' ≡ then_answers answers more
+  pub later : List ℕ
+  pub wrote : taken' ≡ then_bytes taken (text_of (earlier_lines more) ++ later)

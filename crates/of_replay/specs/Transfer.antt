@@ -9,3 +9,7 @@ then_answers known more = option_map (λ told. told ++ more) known
 -- a prefix of the text was written
 abbrev pub WrotePrefix : Option (List ℕ) → List ℕ → Option (List ℕ) → Type 0
 WrotePrefix old text new = (front : List ℕ) × (rest : List ℕ) × (front ++ rest ≡ text) × (new ≡ then_bytes old front)
+
+-- only bytes were added
+abbrev pub Grows : Option (List ℕ) → Option (List ℕ) → Type 0
+Grows old new = (more : List ℕ) × (new ≡ then_bytes old more)

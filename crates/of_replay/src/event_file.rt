@@ -2,7 +2,7 @@
 ghost use Rattle.std.specs.Prelude.{◌≡◌, ◌⊎◌, ◌↔◌, ◌<◌, ◌≤◌, ◌+◌, IfOk, replicate};
 ghost use Rattle.of_switch.specs.State.{start};
 ghost use Rattle.of_replay.specs.Output.{printed_from};
-ghost use Rattle.of_replay.specs.Play.{PrintsLines};
+ghost use Rattle.of_replay.specs.Play.{PrintsLines, WrittenEarly};
 ghost use Rattle.of_replay.specs.RowTexts.{told};
 ghost use Rattle.of_replay.specs.Rows.{rows_of};
 ghost use Rattle.of_replay.specs.Ended.{status_of};
@@ -101,6 +101,7 @@ pub fn print_file<L: Lookup, T: RowPrinter<L>, S: Source, W: Sink>(
         ((S.reads reader.new ≡ 1000000) × (S.ends reader.new ≡ S.ends reader.old)) }
     ensures failed_read { S.failures reader.old < S.failures reader.new → (result ≡ Ended.ReadFault) ⊎ (result ≡ Ended.WriteFault) }
     ensures write_fault { (result ≡ Ended.WriteFault) ↔ (0 < W.failures writer.new) }
+    ensures early { WrittenEarly (told (start dpid) T.tale) (S.answers reader.old) (S.answers reader.new) (W.taken writer.old) (W.taken writer.new) }
 {
     let Ok(mut buffer) = zeros(alloc, READ_SIZE) else {
         return Ended::NoMemory;
@@ -134,6 +135,8 @@ pub fn replay<L: Lookup, S: Source, W: Sink>(
         ((S.reads reader.new ≡ 1000000) × (S.ends reader.new ≡ S.ends reader.old)) }
     ensures failed_read { S.failures reader.old < S.failures reader.new → (result ≡ Ended.ReadFault) ⊎ (result ≡ Ended.WriteFault) }
     ensures write_fault { (result ≡ Ended.WriteFault) ↔ (0 < W.failures writer.new) }
+    ensures early { WrittenEarly (λ lines. printed_from (start dpid) (rows_of lines).events) (S.answers reader.old) (S.answers reader.new)
+        (W.taken writer.old) (W.taken writer.new) }
 {
     print_file::<L, _, _, _>(alloc, dpid, &Plain, reader, writer)
 }

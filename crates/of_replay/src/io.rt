@@ -36,9 +36,9 @@ pub trait Source {
 
     ghost failures: { Self → ℕ };
 
-    /// Reads bytes into the start of the buffer.
+    /// Reads bytes into the start of the buffer, which has always as much room.
     fn read(&mut self, buffer: &mut [u8]) -> Reading
-        requires room { 0 < length buffer.old }
+        requires room { length buffer.old ≡ 65536 }
         requires few { reads self.old < 2 ^ 63 }
         ensures fits { IsReading result (length buffer.new) }
         ensures answers { answers self.new ≡ then_answer (answers self.old) (answer_of result buffer.new) }

@@ -1,7 +1,7 @@
 //! The lines that are printed, and their way to a sink.
 ghost use Rattle.std.specs.Prelude.{◌≡◌, ◌++◌, ◌<◌, ◌≤◌, ◌↔◌, [], IfErr, IsTrue, OnOk, OnErr, decimal, length};
 ghost use Rattle.of_replay.specs.Told.{then_bytes};
-ghost use Rattle.of_replay.specs.Transfer.{WrotePrefix};
+ghost use Rattle.of_replay.specs.Transfer.{Grows, WrotePrefix};
 ghost use Rattle.of_replay.specs.Output.{line_of, refused_line, text_of};
 ghost use Rattle.of_replay.specs.Stepping.{PrintsReport};
 
@@ -128,6 +128,7 @@ impl Printer {
         ensures front { OnErr result (WrotePrefix (W.taken writer.old) self.old (W.taken writer.new)) }
         ensures failed { OnErr result (0 < W.failures writer.new) }
         ensures write { IfErr result (λ halt. halt ≡ Halt.Write) }
+        ensures grows { Grows (W.taken writer.old) (W.taken writer.new) }
     {
         if !write_all(writer, &self.out) {
             return Err(Halt::Write);

@@ -2,7 +2,8 @@
 ghost use Rattle.std.specs.Prelude.{◌≡◌, ◌+◌, ◌<◌, ◌≤◌, ◌^◌, ◌++◌, ℕ, List, [], Option, IfErr, OnOk, length, take, position, ◌==◌};
 ghost use Rattle.of_switch.specs.State.{State};
 ghost use Rattle.of_replay.specs.Rows.{row_of};
-ghost use Rattle.of_replay.specs.Play.{PrintsLines};
+ghost use Rattle.of_replay.specs.Play.{PrintsLines, WrittenEarly};
+ghost use Rattle.of_replay.specs.Transfer.{Grows};
 ghost use Rattle.of_replay.specs.RowTexts.{told};
 ghost use Rattle.of_replay.specs.Told.{then_answer, answer_of, read_ends, read_faults, IsReading};
 ghost use Rattle.of_replay.specs.Stepping.{LineTells, LineGoes, Within, ChunkGoes, PlayedAll, PlaysRead, WritesFail, ReadsFail, ended_so};
@@ -95,6 +96,7 @@ impl<L: Lookup> Replaying<L> {
     }
 
     // Plays the open line, and begins another.
+    #[tactic(auto, using(crate::proofs::Early::grows_none))]
     fn line<T: RowPrinter<L>, W: Sink>(&mut self, teller: &T, writer: &mut W) -> Result<(), Halt>
         requires few { self.old.number < 2 ^ 63 }
         requires well { W.failures writer.old ≡ 0 }
@@ -104,6 +106,7 @@ impl<L: Lookup> Replaying<L> {
         ensures number { OnOk result (self.new.number ≡ self.old.number + 1) }
         ensures waits { OnOk result (length self.new.printer < 65536) }
         ensures writes { WritesFail result (W.failures writer.new) }
+        ensures grows { Grows (W.taken writer.old) (W.taken writer.new) }
     {
         self.tell(teller)?;
         if self.printer.has_part() {
@@ -141,6 +144,7 @@ impl<L: Lookup> Replaying<L> {
             (W.taken writer.new) }
         ensures number { OnOk result (self.new.number ≤ self.old.number + length chunk.now) }
         ensures writes { WritesFail result (W.failures writer.new) }
+        ensures grows { Grows (W.taken writer.old) (W.taken writer.new) }
     {
         let mut at = 0;
         loop {
@@ -171,6 +175,7 @@ impl<L: Lookup> Replaying<L> {
         ensures number { OnOk result (self.new.number ≤ self.old.number + length chunk.now) }
         ensures written { OnOk result (self.new.printer ≡ []) }
         ensures writes { WritesFail result (W.failures writer.new) }
+        ensures grows { Grows (W.taken writer.old) (W.taken writer.new) }
     {
         self.play_chunk(teller, chunk, writer)?;
         self.printer.flush(writer)
@@ -179,7 +184,7 @@ impl<L: Lookup> Replaying<L> {
     // Reads once, which may wait: so all that was printed is written.
     fn read_once<S: Source>(&self, reader: &mut S, buffer: &mut [u8]) -> Reading
         requires written { self.now.printer ≡ [] }
-        requires room { 0 < length buffer.old }
+        requires room { length buffer.old ≡ 65536 }
         requires few { S.reads reader.old < 2 ^ 63 }
         ensures fits { IsReading result (length buffer.new) }
         ensures answers { S.answers reader.new ≡ then_answer (S.answers reader.old) (answer_of result buffer.new) }
@@ -208,6 +213,7 @@ impl<L: Lookup> Replaying<L> {
         ensures reads { ReadsFail result (S.reads reader.new) (S.ends reader.old) (S.ends reader.new) (S.failures reader.old) (S.failures reader.new) }
         ensures few { S.reads reader.new ≤ 1000000 }
         ensures writes { WritesFail result (W.failures writer.new) }
+        ensures early { WrittenEarly (told self.old.switch T.tale) (S.answers reader.old) (S.answers reader.new) (W.taken writer.old) (W.taken writer.new) }
     {
         for _ in 0..MOST_READS {
             match self.read_once(reader, buffer) {
@@ -238,6 +244,7 @@ impl<L: Lookup> Replaying<L> {
         ensures reads { ReadsFail result (S.reads reader.new) (S.ends reader.old) (S.ends reader.new) (S.failures reader.old) (S.failures reader.new) }
         ensures few { S.reads reader.new ≤ 1000000 }
         ensures writes { WritesFail result (W.failures writer.new) }
+        ensures early { WrittenEarly (told self.old.switch T.tale) (S.answers reader.old) (S.answers reader.new) (W.taken writer.old) (W.taken writer.new) }
     {
         let played = self.read(teller, reader, buffer, writer);
         if let Err(Halt::Write) = played {

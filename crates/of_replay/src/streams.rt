@@ -1,5 +1,7 @@
 //! Readers and writers, as files and standard output are, as sources and sinks.
-ghost use Rattle.std.specs.Prelude.{◌≡◌, ◌≤◌, None};
+ghost use Rattle.std.specs.Prelude.{◌≡◌, ◌≤◌, ◌<◌, ◌+◌, ◌^◌, None, length, take};
+ghost use Rattle.std.specs.Io.KnownBytes.{Appends, Consumes, IsAtEnd};
+ghost use Rattle.of_replay.specs.Told.{IsReading, IsWriting, answer_of, bytes_of, read_ends, read_faults, then_answer, then_bytes, write_count, write_faults};
 
 use crate::io::{Reading, Sink, Source, Writing};
 use std::io::{ErrorKind, Read, Write};
@@ -17,7 +19,8 @@ pub struct ReaderSource<R: Read + Drop> {
 
 impl<R: Read + Drop> ReaderSource<R> {
     pub fn new(reader: R) -> Self
-        ensures { result.reads ≡ 0 }
+        ensures reader { result.reader ≡ reader }
+        ensures reads { (result.reads ≡ 0) × (result.ends ≡ 0) × (result.failures ≡ 0) }
     {
         ReaderSource {
             reader,
@@ -37,7 +40,19 @@ impl<R: Read + Drop> Source for ReaderSource<R> {
 
     ghost failures = { λ s. s.failures };
 
-    fn read(&mut self, buffer: &mut [u8]) -> Reading {
+    /// It takes from the reader the bytes that it gives, and says that there are no more where the reader has none.
+    #[tactic(auto, using(crate::proofs::KnownLemmas::nothing_consumed))]
+    fn read(&mut self, buffer: &mut [u8]) -> Reading
+        requires room { 0 < length buffer.old }
+        requires few { self.old.reads < 2 ^ 63 }
+        ensures fits { IsReading result (length buffer.new) }
+        ensures answers { None ≡ then_answer None (answer_of result buffer.new) }
+        ensures reads { self.new.reads ≡ self.old.reads + 1 }
+        ensures ends { self.new.ends ≡ self.old.ends + read_ends result }
+        ensures failures { self.new.failures ≡ self.old.failures + read_faults result }
+        ensures consumes { Consumes (R.remaining self.old.reader) (R.remaining self.new.reader) (bytes_of (answer_of result buffer.new)) }
+        ensures end { result ≡ Reading.End → IsAtEnd (R.remaining self.new.reader) }
+    {
         self.reads += 1;
         match self.reader.read(buffer) {
             Ok(0) => {
@@ -67,7 +82,8 @@ pub struct WriterSink<W: Write + Drop> {
 
 impl<W: Write + Drop> WriterSink<W> {
     pub fn new(writer: W) -> Self
-        ensures { result.failures ≡ 0 }
+        ensures writer { result.writer ≡ writer }
+        ensures failures { result.failures ≡ 0 }
     {
         WriterSink {
             writer,
@@ -81,8 +97,15 @@ impl<W: Write + Drop> Sink for WriterSink<W> {
 
     ghost failures = { λ s. s.failures };
 
-    // A write that was interrupted is made again.
-    fn write(&mut self, bytes: &[u8]) -> Writing {
+    /// The writer holds, behind what it held, the bytes that were taken. A write that was interrupted is made again.
+    fn write(&mut self, bytes: &[u8]) -> Writing
+        requires some { 0 < length bytes.now }
+        requires few { self.old.failures < 2 ^ 63 }
+        ensures fits { IsWriting result (length bytes.now) }
+        ensures taken { None ≡ then_bytes None (take (write_count result) bytes.now) }
+        ensures failures { self.new.failures ≡ self.old.failures + write_faults result }
+        ensures appends { Appends (W.contents self.old.writer) (W.contents self.new.writer) (take (write_count result) bytes.now) }
+    {
         for _ in 0..u64::MAX {
             match self.writer.write(bytes) {
                 Ok(0) => break,

@@ -2,7 +2,7 @@
 ghost use Rattle.std.specs.Prelude.{◌≡◌, ◌<◌};
 ghost use Rattle.std.specs.Bool.{OnTrue, OnFalse};
 ghost use Rattle.of_replay.specs.Told.{then_bytes};
-ghost use Rattle.of_replay.specs.Transfer.{WrotePrefix};
+ghost use Rattle.of_replay.specs.Transfer.{Grows, WrotePrefix};
 
 use crate::io::{Sink, Writing};
 use of_wire::rest_from;
@@ -14,6 +14,7 @@ pub fn write_all<W: Sink>(writer: &mut W, bytes: &[u8]) -> bool
     ensures well { OnTrue result (W.failures writer.new ≡ 0) }
     ensures front { OnFalse result (WrotePrefix (W.taken writer.old) bytes.now (W.taken writer.new)) }
     ensures failed { OnFalse result (0 < W.failures writer.new) }
+    ensures grows { Grows (W.taken writer.old) (W.taken writer.new) }
 {
     let mut at = 0;
     while at < bytes.len() {

@@ -1,5 +1,6 @@
+use Rattle.of_replay.proofs.Early.{early_none}
 use Rattle.of_replay.proofs.WholeRuns.{done_by, nothing_read, once_by, failed_by, unwritten_by}
-use Rattle.std.proofs.Common.{◌≡◌, ◌∙◌}
+use Rattle.std.proofs.Common.{◌≡◌, ◌∙◌, refl}
 use Rattle.of_switch.specs.State.{start}
 use Rattle.of_replay.proofs.event_file.print_file.Goals as goal
 
@@ -29,3 +30,14 @@ returns-in_default-new-clause-output g c = nothing_read (start c.args.dpid) g.T.
 
 pub returns-in_default-clause-output : goal.returns-in_default-clause-output
 returns-in_default-clause-output g c = nothing_read (start c.args.dpid) g.T.RowPrinter.tale (g.S.Source.answers c.args.reader.now) (g.S.Source.ends c.args.reader.now) (g.W.Sink.taken c.args.writer.now)
+
+pub returns-clause-early : goal.returns-clause-early
+returns-clause-early g c =
+    let new : c.new-replaying.result.switch ≡ start c.args.dpid = c.new-replaying.ensures.2 ∙ c.in-Ok-new.ensures in
+    rw new at c.play.ensures.early
+
+pub returns-in_default-new-clause-early : goal.returns-in_default-new-clause-early
+returns-in_default-new-clause-early g c = early_none _ _ _ refl
+
+pub returns-in_default-clause-early : goal.returns-in_default-clause-early
+returns-in_default-clause-early g c = early_none _ _ _ refl

@@ -20,3 +20,9 @@ returns-in-Fault-clause-front g c =
     let bytes = c.args.bytes.now in
     let at = c.loop-at.at in
     (take at bytes, drop at bytes, take-append-drop at bytes, c.in-Fault.ensures.taken ∙ then-nil (g.W.Sink.taken c.loop-at.writer) ∙ c.loop-at.invariant.taken)
+
+pub returns-in-Fault-clause-grows : goal.returns-in-Fault-clause-grows
+returns-in-Fault-clause-grows g c = (take c.loop-at.at c.args.bytes.now, c.in-Fault.ensures.taken ∙ then-nil (g.W.Sink.taken c.loop-at.writer) ∙ c.loop-at.invariant.taken)
+
+pub returns-clause-grows : goal.returns-clause-grows
+returns-clause-grows g c = (take c.loop-at.at c.args.bytes.now, c.loop-at.invariant.taken)

@@ -1,4 +1,5 @@
 use Rattle.std.proofs.lemmas.Result.{err_from_is_err_and}
+use Rattle.of_replay.proofs.Early.{early_more}
 use Rattle.of_replay.proofs.WholeRuns.{tells_unwritten, tells_wrote, not_write}
 use Rattle.of_replay.proofs.replaying.Replaying.play.Goals as goal
 
@@ -14,3 +15,9 @@ returns-clause-plays g c =
     let read = c.read-played in
     tells_wrote c.args.self.now.switch g.T.RowPrinter.tale read.result (g.S.Source.answers c.args.reader.now) (g.S.Source.answers read.new.reader) (g.S.Source.ends c.args.reader.now) (g.S.Source.ends read.new.reader) read.new.self.printer
     (g.W.Sink.taken c.args.writer.now) (g.W.Sink.taken read.new.writer) (g.W.Sink.taken c.flush.new.writer) read.ensures.plays (not_write read.result (g.W.Sink.failures read.new.writer) read.ensures.writes c.in_ok-flush.ensures.before) c.in_ok-flush.ensures.all.0
+
+pub returns-in_err-flush-clause-early : goal.returns-in_err-flush-clause-early
+returns-in_err-flush-clause-early g c = early_more _ _ _ _ _ _ c.read-played.ensures.early c.in_err-flush.ensures.grows
+
+pub returns-clause-early : goal.returns-clause-early
+returns-clause-early g c = early_more _ _ _ _ _ _ c.read-played.ensures.early c.in_ok-flush.ensures.grows

@@ -1,6 +1,7 @@
 use Rattle.std.proofs.Common.{◌≡◌, ◌∙◌, sym, ap, arith, refl, length, List, ℕ}
 use Rattle.std.proofs.lemmas.Result.{err_from_is_err_and}
 use Rattle.of_replay.specs.Told.{Gave, Idle, Ended, Failed, then_answer, given}
+use Rattle.of_replay.proofs.Early.{early_none, early_read, grows_none}
 use Rattle.of_replay.proofs.WholeRuns.{read_begun, read_idle, read_chunk, read_halts, read_ends, read_played, read_stops, chunk_size, chunk_reads}
 use Rattle.of_replay.proofs.replaying.Replaying.read.Goals as goal
 use Rattle.of_replay.proofs.replaying.Replaying.read.Goals.{in-Bytes+in_ok-chunk-in-Bytes, in-Nothing}
@@ -13,6 +14,7 @@ loop-init g c = record {
   number = omega (arith, c.requires.start.1);
   writes = c.requires.well;
   written = c.requires.start.2;
+  early = early_none _ _ _ refl;
   so_far = read_begun c.args.self.now.switch g.T.RowPrinter.tale (g.S.Source.answers c.args.reader.now) c.args.self.now.open c.args.self.now.number c.args.self.now.switch c.args.self.now.printer (g.W.Sink.taken c.args.writer.now) (c.requires.start.0, c.requires.start.1, refl, c.requires.start.2);
 }
 
@@ -72,6 +74,8 @@ loop-preserved g c =
             number = rw w.self-is (omega (arith, w.in_ok-chunk-in-Bytes.ensures.number, l.invariant.number, chunk_size w.in-Bytes.n c.read_once.new.buffer w.front_of.result.now w.front_of.ensures w.in-Bytes.ensures.fits.1 room));
             writes = rw w.writer-is w.in_ok-chunk-in-Bytes.ensures.writes;
             written = rw w.self-is w.in_ok-chunk-in-Bytes.ensures.written;
+            early = rw w.writer-is (early_read c.args.self.now.switch g.T.RowPrinter.tale (g.S.Source.answers c.args.reader.now) (g.S.Source.answers l.reader) (g.S.Source.answers c.read_once.new.reader) (Gave w.front_of.result.now) l.self.open l.self.number l.self.switch l.self.printer (g.W.Sink.taken c.args.writer.now) (g.W.Sink.taken l.writer) (g.W.Sink.taken w.chunk.new.writer) l.invariant.so_far l.invariant.written
+                (w.in-Bytes.ensures.answers ∙ ap (λ (x : List ℕ). then_answer (g.S.Source.answers l.reader) (Gave x)) (sym w.front_of.ensures)) w.in_ok-chunk-in-Bytes.ensures.grows);
             so_far = rw (w.self-is, w.writer-is) (read_chunk c.args.self.now.switch g.T.RowPrinter.tale answers (g.S.Source.answers l.reader) (g.S.Source.answers c.read_once.new.reader) w.front_of.result.now l.self.open n.open l.self.number n.number l.self.switch n.switch l.self.printer n.printer
                 first (g.W.Sink.taken l.writer) (g.W.Sink.taken w.chunk.new.writer) l.invariant.so_far
                 (w.in-Bytes.ensures.answers ∙ ap (λ (x : List ℕ). then_answer (g.S.Source.answers l.reader) (Gave x)) (sym w.front_of.ensures))
@@ -83,7 +87,27 @@ loop-preserved g c =
         failures = omega (arith, w.in-Nothing.ensures.failures, l.invariant.failures);
         number = rw w.self-is (omega (arith, l.invariant.number));
         writes = rw w.writer-is l.invariant.writes;
+        early = rw w.writer-is (early_read c.args.self.now.switch g.T.RowPrinter.tale (g.S.Source.answers c.args.reader.now) (g.S.Source.answers l.reader) (g.S.Source.answers c.read_once.new.reader) Idle l.self.open l.self.number l.self.switch l.self.printer (g.W.Sink.taken c.args.writer.now) (g.W.Sink.taken l.writer) (g.W.Sink.taken l.writer) l.invariant.so_far l.invariant.written w.in-Nothing.ensures.answers (grows_none _));
         written = rw w.self-is l.invariant.written;
         so_far = rw (w.self-is, w.writer-is) (read_idle c.args.self.now.switch g.T.RowPrinter.tale answers (g.S.Source.answers l.reader) (g.S.Source.answers c.read_once.new.reader) Idle l.self.open l.self.number l.self.switch l.self.printer first (g.W.Sink.taken l.writer) l.invariant.so_far w.in-Nothing.ensures.answers refl);
       }
     ]
+
+pub returns-in_err-chunk-in-Bytes-clause-early : goal.returns-in_err-chunk-in-Bytes-clause-early
+returns-in_err-chunk-in-Bytes-clause-early g c =
+    let l = c.loop in
+    early_read c.args.self.now.switch g.T.RowPrinter.tale (g.S.Source.answers c.args.reader.now) (g.S.Source.answers l.reader) (g.S.Source.answers c.read_once.new.reader) (Gave c.front_of.result.now) l.self.open l.self.number l.self.switch l.self.printer (g.W.Sink.taken c.args.writer.now) (g.W.Sink.taken l.writer) (g.W.Sink.taken c.chunk.new.writer) l.invariant.so_far l.invariant.written
+    (c.in-Bytes.ensures.answers ∙ ap (λ (x : List ℕ). then_answer (g.S.Source.answers l.reader) (Gave x)) (sym c.front_of.ensures)) c.in_err-chunk-in-Bytes.ensures.grows
+
+pub returns-in-End-clause-early : goal.returns-in-End-clause-early
+returns-in-End-clause-early g c =
+    let l = c.loop in
+    early_read c.args.self.now.switch g.T.RowPrinter.tale (g.S.Source.answers c.args.reader.now) (g.S.Source.answers l.reader) (g.S.Source.answers c.read_once.new.reader) Ended l.self.open l.self.number l.self.switch l.self.printer (g.W.Sink.taken c.args.writer.now) (g.W.Sink.taken l.writer) (g.W.Sink.taken c.line.new.writer) l.invariant.so_far l.invariant.written c.in-End.ensures.answers c.line.ensures.grows
+
+pub returns-in-Fault-clause-early : goal.returns-in-Fault-clause-early
+returns-in-Fault-clause-early g c =
+    let l = c.loop in
+    early_read c.args.self.now.switch g.T.RowPrinter.tale (g.S.Source.answers c.args.reader.now) (g.S.Source.answers l.reader) (g.S.Source.answers c.read_once.new.reader) Failed l.self.open l.self.number l.self.switch l.self.printer (g.W.Sink.taken c.args.writer.now) (g.W.Sink.taken l.writer) (g.W.Sink.taken l.writer) l.invariant.so_far l.invariant.written c.in-Fault.ensures.answers (grows_none _)
+
+pub returns-clause-early : goal.returns-clause-early
+returns-clause-early g c = c.loop.invariant.early

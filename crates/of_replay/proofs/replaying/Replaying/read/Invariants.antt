@@ -1,4 +1,6 @@
 use Rattle.std.proofs.Common.{◌≡◌, ◌≤◌, ◌+◌, ◌*◌, []}
+use Rattle.of_replay.specs.Play.{WrittenEarly}
+use Rattle.of_replay.specs.RowTexts.{told}
 use Rattle.of_replay.specs.Stepping.{ReadSoFar}
 use Rattle.of_replay.proofs.replaying.Replaying.read.Given as goal
 
@@ -10,5 +12,6 @@ invariant-loop g l = record {
   number : l.self.number ≤ l.counter * 65536 + 1;
   writes : g.W.Sink.failures l.writer ≡ 0;
   written : l.self.printer ≡ [];
+  early : WrittenEarly (told l.fn.self.switch g.T.RowPrinter.tale) (g.S.Source.answers l.fn.reader) (g.S.Source.answers l.reader) (g.W.Sink.taken l.fn.writer) (g.W.Sink.taken l.writer);
   so_far : ReadSoFar l.fn.self.switch g.T.RowPrinter.tale (g.S.Source.answers l.fn.reader) (g.S.Source.answers l.reader) l.self.open l.self.number l.self.switch l.self.printer (g.W.Sink.taken l.fn.writer) (g.W.Sink.taken l.writer);
 }
