@@ -1,11 +1,13 @@
+ghost use Rattle.std.specs.Prelude.{◌≡◌};
+
 use of_classifier::Scan;
 use of_headers::{FieldKey, read};
 use of_replay::memory::MemorySink;
-use of_replay::{Ended, push_effects};
+use of_replay::streams::ReaderSource;
+use of_replay::{Ended, READ_SIZE, Reading, Source, push_effects, zeros};
 use of_switch::{Effect, PortChange, Switch};
 use of_trace::{Asked, FirstLines, Form, Reason, explain, print, trace, why, write_trace};
 use std::alloc::Global;
-use std::io::Read;
 use std::process::Abort;
 use std::test::Fail;
 
@@ -271,19 +273,34 @@ fn traces_tell_what_frames_do(rt: HostRuntime) -> Result<(), Fail> {
     tells_all(&rt, rt.alloc(), &mut switch)
 }
 
-// What the reader gives from there on.
-fn rest_of(rt: &impl Abort, reader: &mut impl Read, rest: &[u8]) -> Result<(), Fail> {
-    let mut buffer = [0; 16];
-    let read = reader.read(&mut buffer)?;
-    assert_eq!(rt; &buffer[..read], rest);
-    assert_eq!(rt; reader.read(&mut buffer)?, 0);
+// The source gives these bytes by one read, and then ends.
+fn gives<S: Source>(
+    rt: &impl Abort,
+    alloc: Global,
+    source: &mut S,
+    bytes: &[u8],
+) -> Result<(), Fail>
+    requires { S.reads source.old ≡ 0 }
+{
+    let mut buffer = zeros(alloc, READ_SIZE)?;
+    let mut read = source.read(&mut buffer);
+    if let Reading::Bytes(n) = read {
+        assert_eq!(rt; &buffer[..n], bytes);
+        read = source.read(&mut buffer);
+    } else {
+        assert!(rt; bytes.is_empty());
+    }
+    assert_eq!(rt; read, Reading::End);
     Ok(())
 }
 
 #[test]
 fn first_lines_are_whole(rt: HostRuntime) -> Result<(), Fail> {
     let text: &[u8] = b"a\nbc\nd";
-    rest_of(&rt, &mut FirstLines::new(text, 2), b"a\nbc\n")?;
-    rest_of(&rt, &mut FirstLines::new(text, 3), text)?;
-    rest_of(&rt, &mut FirstLines::new(text, 0), b"")
+    let first: [(u64, &[u8]); 3] = [(0, b""), (2, b"a\nbc\n"), (3, text)];
+    for (count, lines) in first {
+        let mut source = FirstLines::new(ReaderSource::new(text), count);
+        gives(&rt, rt.alloc(), &mut source, lines)?;
+    }
+    Ok(())
 }

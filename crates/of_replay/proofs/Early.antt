@@ -1,46 +1,47 @@
 -- What is written before the next read.
-use Rattle.std.proofs.Common.{◌≡◌, ℕ, false, List, [], ◌∷◌, ◌++◌, Option, refl, sym, ◌∙◌, ap, append_assoc}
+use Rattle.std.proofs.Common.{◌≡◌, ℕ, false, List, [], ◌∷◌, ◌++◌, Option, refl, sym, ◌∙◌, ap, subst, append_assoc}
+use Rattle.std.specs.Io.KnownBytes.{Appends}
 use Rattle.std.proofs.lemmas.List.{append-nil}
 use Rattle.of_switch.specs.State.{State}
 use Rattle.of_replay.specs.Lexing.{whole_lines}
-use Rattle.of_replay.specs.Told.{Answer, then_bytes, then_answer, given}
+use Rattle.of_replay.specs.Told.{Answer, Known, Answers, given}
 use Rattle.of_replay.specs.Transfer.{Grows}
 use Rattle.of_replay.specs.Play.{earlier_lines, lines_read, WrittenEarly}
 use Rattle.of_replay.specs.RowTexts.{RowText, told}
 use Rattle.of_replay.specs.Stepping.{ReadSoFar}
 use Rattle.of_replay.proofs.Lines.{within_open}
-use Rattle.of_replay.proofs.TellingLemmas.{then-then, then-nil, answers-nil}
-use Rattle.of_replay.proofs.WholeRuns.{told_more, before_one}
+use Rattle.of_replay.proofs.TellingLemmas.{appends-none, appends-then, answers-none, told_more}
+use Rattle.of_replay.proofs.WholeRuns.{before_one}
 
 pub grows_none : (k : Option (List ℕ)) → Grows k k
-grows_none k = ([], sym (then-nil k))
+grows_none k = ([], appends-none k)
 
 pub grows_grows : (a b c : Option (List ℕ)) → Grows a b → Grows b c → Grows a c
-grows_grows a b c x y = (x.0 ++ y.0, y.1 ∙ (ap (λ (k : Option (List ℕ)). then_bytes k y.0) x.1 ∙ then-then a x.0 y.0))
+grows_grows a b c x y = (x.0 ++ y.0, appends-then a b c x.0 y.0 x.1 y.1)
 
 -- nothing was read
-pub early_none : (text_of : List (List ℕ) → List ℕ) (answers : Option (List Answer)) (taken : Option (List ℕ)) → text_of [] ≡ [] → WrittenEarly text_of answers answers taken taken
+pub early_none : (text_of : List (List ℕ) → List ℕ) (answers : Known) (taken : Option (List ℕ)) → text_of [] ≡ [] → WrittenEarly text_of answers answers taken taken
 early_none text_of answers taken e = record {
   more = [];
-  answers_are = sym (answers-nil answers);
+  answers_are = answers-none answers;
   later = [];
-  wrote = sym (then-nil taken) ∙ ap (λ (x : List ℕ). then_bytes taken (x ++ [])) (sym e);
+  wrote = subst (λ (x : List ℕ). Appends taken taken (x ++ [])) (sym e) (appends-none taken);
 }
 
 -- more is written
-pub early_more : (text_of : List (List ℕ) → List ℕ) (answers answers' : Option (List Answer)) (taken mid new : Option (List ℕ)) → WrittenEarly text_of answers answers' taken mid → Grows mid new → WrittenEarly text_of answers answers' taken new
+pub early_more : (text_of : List (List ℕ) → List ℕ) (answers answers' : Known) (taken mid new : Option (List ℕ)) → WrittenEarly text_of answers answers' taken mid → Grows mid new → WrittenEarly text_of answers answers' taken new
 early_more text_of answers answers' taken mid new e g =
     let front = text_of (earlier_lines e.more) in
     record {
       more = e.more;
       answers_are = e.answers_are;
       later = e.later ++ g.0;
-      wrote = g.1 ∙ (ap (λ (k : Option (List ℕ)). then_bytes k g.0) e.wrote ∙ (then-then taken (front ++ e.later) g.0 ∙ ap (then_bytes taken) (append_assoc front e.later g.0)));
+      wrote = subst (Appends taken new) (append_assoc front e.later g.0) (appends-then taken mid new (front ++ e.later) g.0 e.wrote g.1);
     }
 
 -- a read, before which all was written
-pub early_read : (begun : State) (tale : RowText) (answers now next : Option (List Answer)) (one : Answer) (kept : List ℕ) (n : ℕ) (s : State) (out : List ℕ) (first taken taken' : Option (List ℕ)) → ReadSoFar begun tale answers now kept n s out first taken → out ≡ []
-    → next ≡ then_answer now one → Grows taken taken' → WrittenEarly (told begun tale) answers next first taken'
+pub early_read : (begun : State) (tale : RowText) (answers now next : Known) (one : Answer) (kept : List ℕ) (n : ℕ) (s : State) (out : List ℕ) (first taken taken' : Option (List ℕ)) → ReadSoFar begun tale answers now kept n s out first taken → out ≡ []
+    → Answers now next one → Grows taken taken' → WrittenEarly (told begun tale) answers next first taken'
 early_read begun tale answers now next one kept n s out first taken taken' r none e g =
     let p = (within_open begun tale (given r.more) kept n s out first taken r.within).1 in
     let lines : lines_read false (given r.more) ≡ whole_lines (given r.more) = append-nil (whole_lines (given r.more)) in
@@ -51,15 +52,14 @@ early_read begun tale answers now next one kept n s out first taken taken' r non
       more = r.more ++ one ∷ [];
       answers_are = told_more answers now next r.more one r.answers_are e;
       later = g.0;
-      wrote = g.1 ∙ (ap (λ (k : Option (List ℕ)). then_bytes k g.0) p.taken_is ∙ (then-then first p.wrote g.0
-          ∙ ap (λ (x : List ℕ). then_bytes first (x ++ g.0)) (text ∙ ap (λ (ls : List (List ℕ)). told begun tale ls) (sym before))));
+      wrote = subst (λ (x : List ℕ). Appends first taken' (x ++ g.0)) (text ∙ ap (λ (ls : List (List ℕ)). told begun tale ls) (sym before)) (appends-then first taken taken' p.wrote g.0 p.taken_is g.1);
     }
 
 -- the same text
-pub early_as : (f g : List (List ℕ) → List ℕ) (answers answers' : Option (List Answer)) (taken new : Option (List ℕ)) → ((lines : List (List ℕ)) → f lines ≡ g lines) → WrittenEarly f answers answers' taken new → WrittenEarly g answers answers' taken new
+pub early_as : (f g : List (List ℕ) → List ℕ) (answers answers' : Known) (taken new : Option (List ℕ)) → ((lines : List (List ℕ)) → f lines ≡ g lines) → WrittenEarly f answers answers' taken new → WrittenEarly g answers answers' taken new
 early_as f g answers answers' taken new same e = record {
   more = e.more;
   answers_are = e.answers_are;
   later = e.later;
-  wrote = e.wrote ∙ ap (λ (x : List ℕ). then_bytes taken (x ++ e.later)) (same (earlier_lines e.more));
+  wrote = subst (λ (x : List ℕ). Appends taken new (x ++ e.later)) (same (earlier_lines e.more)) e.wrote;
 }

@@ -5,7 +5,7 @@ use Rattle.of_switch.specs.State.{State, start}
 use Rattle.of_switch.specs.Runs.{run}
 use Rattle.of_replay.specs.declared.halt.Halt.{Halt}
 use Rattle.of_replay.specs.declared.halt.Halt.TheVariants.{Bad, Memory, Read, Write}
-use Rattle.of_replay.specs.Told.{Answer, given}
+use Rattle.of_replay.specs.Told.{Known, given}
 use Rattle.of_replay.specs.Rows.{rows_of}
 use Rattle.of_replay.specs.Play.{lines_read, PrintsLines}
 use Rattle.of_replay.specs.RowTexts.{RowText, told}
@@ -15,8 +15,8 @@ use Rattle.of_replay.specs.FileRuns.{Outcome, IsValue, IsBad, HasFault, Reads, e
 use Rattle.of_replay.proofs.WholeRuns.{is_ended}
 use Rattle.of_replay.proofs.FileLemmas.{by_read}
 
-pub played_all : (begun : State) (answers answers' : Option (List Answer)) (ends ends' : ℕ) (s : State) → begun ≡ start 1 → PlayedAll begun answers answers' s → ends' ≡ ends + 1 → Reads event_file (Ok s) answers answers' ends ends'
-played_all begun answers answers' ends ends' s new p e = record { more = p.more; answers_are = p.answers_are; is_read = rw (is_ended ends ends' e) (refl, p.good, p.state ∙ ap (λ (x : State). (run (rows_of (lines_read true (given p.more))).events x).state) new) }
+pub played_all : (begun : State) (answers answers' : Known) (ends ends' : ℕ) (s : State) → begun ≡ start 1 → PlayedAll begun answers answers' s → ends' ≡ ends + 1 → Reads event_file (Ok s) answers answers' ends ends'
+played_all begun answers answers' ends ends' s new p e = record { more = p.more; answers_are = p.answers_are; whole = λ _. p.whole; is_read = rw (is_ended ends ends' e) (refl, p.good, p.state ∙ ap (λ (x : State). (run (rows_of (lines_read true (given p.more))).events x).state) new) }
 
 -- nothing fails to be written where nothing is
 written : (h : Halt) → WritesFail (Err h) 0 → h ≡ Write → ⊥
@@ -31,10 +31,10 @@ not_yet ended file early none (IsValue s) is = let e : true ≡ false = sym is.0
 not_yet ended file early none (IsBad n) is = let e : Some n ≡ None = sym is ∙ none in cc
 not_yet ended file early none (HasFault f) is = is
 
-pub played_not : (begun : State) (tale : RowText) (h : Halt) (answers answers' : Option (List Answer)) (ends ends' : ℕ) (taken taken' : Option (List ℕ)) → PrintsLines (told begun tale) (ended_so (Err h)) answers answers' ends ends' taken taken' → WritesFail (Err h) 0 → Reads event_file (Err (ended_so (Err h))) answers answers' ends ends'
-played_not begun tale (Bad n) answers answers' ends ends' taken taken' r w = record { more = r.more; answers_are = r.answers_are; is_read = r.ends_so.0 }
-played_not begun tale Memory answers answers' ends ends' taken taken' r w = record { more = r.more; answers_are = r.answers_are; is_read = tt }
-played_not begun tale Read answers answers' ends ends' taken taken' r w = record { more = r.more; answers_are = r.answers_are; is_read = (r.ends_so.0, not_yet (nat_lt ends ends') (given r.more) r.ends_so.0 r.ends_so.1) }
+pub played_not : (begun : State) (tale : RowText) (h : Halt) (answers answers' : Known) (ends ends' : ℕ) (taken taken' : Option (List ℕ)) → PrintsLines (told begun tale) (ended_so (Err h)) answers answers' ends ends' taken taken' → WritesFail (Err h) 0 → Reads event_file (Err (ended_so (Err h))) answers answers' ends ends'
+played_not begun tale (Bad n) answers answers' ends ends' taken taken' r w = record { more = r.more; answers_are = r.answers_are; whole = r.whole; is_read = r.ends_so.0 }
+played_not begun tale Memory answers answers' ends ends' taken taken' r w = record { more = r.more; answers_are = r.answers_are; whole = r.whole; is_read = tt }
+played_not begun tale Read answers answers' ends ends' taken taken' r w = record { more = r.more; answers_are = r.answers_are; whole = r.whole; is_read = (r.ends_so.0, not_yet (nat_lt ends ends') (given r.more) r.ends_so.0 r.ends_so.1) }
 played_not begun tale Write answers answers' ends ends' taken taken' r w = absurd (written Write w refl)
 
 pub faults_unplayed : (h : Halt) (reads ends ends' failures failures' : ℕ) → ReadsFail (Err h) reads ends ends' failures failures' → WritesFail (Err h) 0 → Faults (ended_so (Err h)) reads ends ends' failures failures' 0

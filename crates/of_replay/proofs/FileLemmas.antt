@@ -6,50 +6,50 @@ use Rattle.of_replay.specs.declared.halt.Halt.{Halt}
 use Rattle.of_replay.specs.declared.halt.Halt.TheVariants.{Bad, Memory, Read, Write}
 use Rattle.of_replay.specs.declared.event_file.Ended.{Ended}
 use Rattle.of_replay.specs.declared.event_file.Ended.TheVariants.{Done, BadRow, Text, NoMemory, ReadFault, WriteFault}
-use Rattle.of_replay.specs.Told.{Answer, Gave, then_bytes, then_answer, bytes_of, given}
-use Rattle.of_replay.specs.Transfer.{then_answers, WrotePrefix}
+use Rattle.of_replay.specs.Told.{Answer, Gave, Known, Answers, NoneLeft, bytes_of, given}
+use Rattle.of_replay.specs.Transfer.{AllAnswers, WrotePrefix}
 use Rattle.of_replay.specs.Stepping.{ReadsFail, ended_so}
 use Rattle.of_text.specs.Lines.{lines_of, before, behind}
 use Rattle.of_text.proofs.TextLemmas.{first_line}
 use Rattle.of_replay.specs.Lexing.{is_line}
 use Rattle.of_replay.specs.WholeFiles.{unreadable, ReadsFile, Faults}
 use Rattle.of_replay.specs.FileRuns.{Meaning, Outcome, IsRead, Reads, Runs, Writes, ended_as}
-use Rattle.of_replay.proofs.TellingLemmas.{answers-nil, given-more}
-use Rattle.of_replay.proofs.WholeRuns.{told_more, given_same, not_ended, is_ended}
+use Rattle.of_replay.proofs.TellingLemmas.{answers-none, told_more, given-more}
+use Rattle.of_replay.proofs.WholeRuns.{given_same, not_ended, is_ended, not_whole}
 
 -- ---- reading
 
 -- so many reads gave the file so far
-pub record FileSoFar (answers answers' : Option (List Answer)) (file : List ℕ) : Type 0 where
+pub record FileSoFar (answers answers' : Known) (file : List ℕ) : Type 0 where
   pub more : List Answer
-  pub answers_are : answers' ≡ then_answers answers more
+  pub answers_are : AllAnswers answers answers' more
   pub is : file ≡ given more
 
-pub file_begun : (answers : Option (List Answer)) (file : List ℕ) → file ≡ [] → FileSoFar answers answers file
-file_begun answers file e = record { more = []; answers_are = sym (answers-nil answers); is = e }
+pub file_begun : (answers : Known) (file : List ℕ) → file ≡ [] → FileSoFar answers answers file
+file_begun answers file e = record { more = []; answers_are = answers-none answers; is = e }
 
-pub file_idle : (answers now next : Option (List Answer)) (one : Answer) (file : List ℕ) → FileSoFar answers now file → next ≡ then_answer now one → bytes_of one ≡ [] → FileSoFar answers next file
+pub file_idle : (answers now next : Known) (one : Answer) (file : List ℕ) → FileSoFar answers now file → Answers now next one → bytes_of one ≡ [] → FileSoFar answers next file
 file_idle answers now next one file r e none = record {
   more = r.more ++ one ∷ [];
   answers_are = told_more answers now next r.more one r.answers_are e;
   is = r.is ∙ sym (given_same r.more one none);
 }
 
-pub file_more : (answers now next : Option (List Answer)) (chunk file file' : List ℕ) → FileSoFar answers now file → next ≡ then_answer now (Gave chunk) → file' ≡ file ++ chunk → FileSoFar answers next file'
+pub file_more : (answers now next : Known) (chunk file file' : List ℕ) → FileSoFar answers now file → Answers now next (Gave chunk) → file' ≡ file ++ chunk → FileSoFar answers next file'
 file_more answers now next chunk file file' r e more = record {
   more = r.more ++ Gave chunk ∷ [];
   answers_are = told_more answers now next r.more (Gave chunk) r.answers_are e;
   is = more ∙ (ap (λ (x : List ℕ). x ++ chunk) r.is ∙ sym (given-more r.more (Gave chunk)));
 }
 
-pub file_ends : (answers now : Option (List Answer)) (ends ends' : ℕ) (file : List ℕ) → FileSoFar answers now file → ends' ≡ ends + 1 → ReadsFile (Ok tt) answers now ends ends' file
-file_ends answers now ends ends' file r e = record { more = r.more; answers_are = r.answers_are; is = (is_ended ends ends' e, r.is) }
+pub file_ends : (answers now : Known) (ends ends' : ℕ) (file : List ℕ) → FileSoFar answers now file → NoneLeft now → ends' ≡ ends + 1 → ReadsFile (Ok tt) answers now ends ends' file
+file_ends answers now ends ends' file r left e = record { more = r.more; answers_are = r.answers_are; whole = λ _. left; is = (is_ended ends ends' e, r.is) }
 
-pub file_stops : (answers now : Option (List Answer)) (ends ends' : ℕ) (so_far file : List ℕ) → FileSoFar answers now so_far → ends' ≡ ends → ReadsFile (Err Read) answers now ends ends' file
-file_stops answers now ends ends' so_far file r e = record { more = r.more; answers_are = r.answers_are; is = not_ended ends ends' e }
+pub file_stops : (answers now : Known) (ends ends' : ℕ) (so_far file : List ℕ) → FileSoFar answers now so_far → ends' ≡ ends → ReadsFile (Err Read) answers now ends ends' file
+file_stops answers now ends ends' so_far file r e = record { more = r.more; answers_are = r.answers_are; whole = not_whole ends ends' now e; is = not_ended ends ends' e }
 
-pub file_unkept : (answers now : Option (List Answer)) (ends ends' : ℕ) (so_far file : List ℕ) → FileSoFar answers now so_far → ReadsFile (Err Memory) answers now ends ends' file
-file_unkept answers now ends ends' so_far file r = record { more = r.more; answers_are = r.answers_are; is = tt }
+pub file_unkept : (answers now : Known) (ends ends' : ℕ) (so_far file : List ℕ) → FileSoFar answers now so_far → ends' ≡ ends → ReadsFile (Err Memory) answers now ends ends' file
+file_unkept answers now ends ends' so_far file r e = record { more = r.more; answers_are = r.answers_are; whole = not_whole ends ends' now e; is = tt }
 
 -- ---- lines
 
@@ -66,25 +66,25 @@ all_good n = refl
 -- ---- what is read of a file, and written
 
 -- nothing was read
-pub read_nothing : {A : Type 0} (is : Meaning A) (answers : Option (List Answer)) (ends : ℕ) → Reads is (Err NoMemory) answers answers ends ends
-read_nothing is answers ends = record { more = []; answers_are = sym (answers-nil answers); is_read = tt }
+pub read_nothing : {A : Type 0} (is : Meaning A) (answers : Known) (ends : ℕ) → Reads is (Err NoMemory) answers answers ends ends
+read_nothing is answers ends = record { more = []; answers_are = answers-none answers; whole = not_whole ends ends answers refl; is_read = tt }
 
 -- a file that is read whole was not
-pub read_stopped : {A : Type 0} (is : Meaning A) → ((file : List ℕ) (outcome : Outcome A) → is false file outcome → ⊥) → (h : Halt) (answers answers' : Option (List Answer)) (ends ends' : ℕ) (file : List ℕ) → ReadsFile (Err h) answers answers' ends ends' file → Reads is (Err (ended_so (Err h))) answers answers' ends ends'
+pub read_stopped : {A : Type 0} (is : Meaning A) → ((file : List ℕ) (outcome : Outcome A) → is false file outcome → ⊥) → (h : Halt) (answers answers' : Known) (ends ends' : ℕ) (file : List ℕ) → ReadsFile (Err h) answers answers' ends ends' file → Reads is (Err (ended_so (Err h))) answers answers' ends ends'
 read_stopped is none (Bad n) answers answers' ends ends' file r = absurd r.is
-read_stopped is none Memory answers answers' ends ends' file r = record { more = r.more; answers_are = r.answers_are; is_read = tt }
-read_stopped is none Read answers answers' ends ends' file r = record { more = r.more; answers_are = r.answers_are; is_read = (r.is, λ outcome i. none (given r.more) outcome (rw r.is at i)) }
+read_stopped is none Memory answers answers' ends ends' file r = record { more = r.more; answers_are = r.answers_are; whole = r.whole; is_read = tt }
+read_stopped is none Read answers answers' ends ends' file r = record { more = r.more; answers_are = r.answers_are; whole = r.whole; is_read = (r.is, λ outcome i. none (given r.more) outcome (rw r.is at i)) }
 read_stopped is none Write answers answers' ends ends' file r = absurd r.is
 
 -- a file was read whole
-pub read_whole : {A : Type 0} (is : Meaning A) (result : Result A Ended) (answers answers' : Option (List Answer)) (ends ends' : ℕ) (file : List ℕ) → ReadsFile (Ok tt) answers answers' ends ends' file → IsRead is result true file → Reads is result answers answers' ends ends'
-read_whole is result answers answers' ends ends' file r b = record { more = r.more; answers_are = r.answers_are; is_read = rw r.is.0 (rw r.is.1 at b) }
+pub read_whole : {A : Type 0} (is : Meaning A) (result : Result A Ended) (answers answers' : Known) (ends ends' : ℕ) (file : List ℕ) → ReadsFile (Ok tt) answers answers' ends ends' file → IsRead is result true file → Reads is result answers answers' ends ends'
+read_whole is result answers answers' ends ends' file r b = record { more = r.more; answers_are = r.answers_are; whole = r.whole; is_read = rw r.is.0 (rw r.is.1 at b) }
 
 -- what was not read is not written
-pub runs_unread : {A : Type 0} (is : Meaning A) (IsText : A → List ℕ → Type 0) (e : Ended) (answers answers' : Option (List Answer)) (ends ends' : ℕ) (taken : Option (List ℕ)) → Reads is (Err e) answers answers' ends ends' → Runs is IsText e answers answers' ends ends' taken taken
+pub runs_unread : {A : Type 0} (is : Meaning A) (IsText : A → List ℕ → Type 0) (e : Ended) (answers answers' : Known) (ends ends' : ℕ) (taken : Option (List ℕ)) → Reads is (Err e) answers answers' ends ends' → Runs is IsText e answers answers' ends ends' taken taken
 runs_unread is IsText e answers answers' ends ends' taken r = record { read = Err e; reads = r; writes = (refl, refl) }
 
-pub runs_read : {A : Type 0} (is : Meaning A) (IsText : A → List ℕ → Type 0) (value : A) (e : Ended) (answers answers' : Option (List Answer)) (ends ends' : ℕ) (taken taken' : Option (List ℕ)) → Reads is (Ok value) answers answers' ends ends' → Writes (IsText value) e taken taken' → Runs is IsText e answers answers' ends ends' taken taken'
+pub runs_read : {A : Type 0} (is : Meaning A) (IsText : A → List ℕ → Type 0) (value : A) (e : Ended) (answers answers' : Known) (ends ends' : ℕ) (taken taken' : Option (List ℕ)) → Reads is (Ok value) answers answers' ends ends' → Writes (IsText value) e taken taken' → Runs is IsText e answers answers' ends ends' taken taken'
 runs_read is IsText value e answers answers' ends ends' taken taken' r w = record { read = Ok value; reads = r; writes = w }
 
 -- ---- faults
@@ -105,7 +105,7 @@ faults_nothing reads ends failures writes w = record {
   write_fault = (λ e. cc, λ lt. absurd (omega (arith, w, lt)));
 }
 
-pub faults_unread : (h : Halt) (answers answers' : Option (List Answer)) (file : List ℕ) (reads ends ends' failures failures' writes : ℕ) → ReadsFile (Err h) answers answers' ends ends' file → ReadsFail (Err h) reads ends ends' failures failures' → writes ≡ 0 → Faults (ended_so (Err h)) reads ends ends' failures failures' writes
+pub faults_unread : (h : Halt) (answers answers' : Known) (file : List ℕ) (reads ends ends' failures failures' writes : ℕ) → ReadsFile (Err h) answers answers' ends ends' file → ReadsFail (Err h) reads ends ends' failures failures' → writes ≡ 0 → Faults (ended_so (Err h)) reads ends ends' failures failures' writes
 faults_unread (Bad n) answers answers' file reads ends ends' failures failures' writes r h w = absurd r.is
 faults_unread Memory answers answers' file reads ends ends' failures failures' writes r h w = record {
   done = λ e. cc;

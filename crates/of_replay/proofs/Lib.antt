@@ -10,3 +10,4 @@ pub mod FileLemmas
 pub mod EventFileLemmas
 pub mod Early
 pub mod KnownLemmas
+pub mod WholeFiles

@@ -9,7 +9,7 @@ use Rattle.of_switch.specs.State.{State}
 use Rattle.of_switch.specs.Runs.{happened, run}
 use Rattle.of_replay.specs.declared.halt.Halt.{Halt}
 use Rattle.of_replay.specs.declared.halt.Halt.TheVariants.{Bad, Memory, Read, Write}
-use Rattle.of_replay.specs.Told.{then_bytes}
+use Rattle.std.specs.Io.KnownBytes.{Appends}
 use Rattle.of_replay.specs.Transfer.{WrotePrefix}
 use Rattle.of_replay.specs.Lexing.{whole_from, whole_lines, last_from}
 use Rattle.of_replay.specs.Rows.{Rows, row_of, row_and, rows_of, events_in}
@@ -17,7 +17,7 @@ use Rattle.of_replay.specs.Output.{report_text, printed_from}
 use Rattle.of_replay.specs.Play.{lines_read}
 use Rattle.of_replay.specs.RowTexts.{RowText, plain, row_happened, told, told_and, told_from}
 use Rattle.of_replay.specs.Stepping.{LineTells, LineGoes, Prints, PrintsFirst, Going, Within, WithinChunk, Halts, ChunkGoes, WritesFail}
-use Rattle.of_replay.proofs.TellingLemmas.{then-then, then-nil}
+use Rattle.of_replay.proofs.TellingLemmas.{appends-none, appends-then}
 use Rattle.of_replay.proofs.Cutting.{kept_more, Parts, parts, first_end, whole_join, last_join}
 
 -- A LINE
@@ -33,11 +33,11 @@ row_state (Some event) s = refl
 
 -- nothing was written yet
 pub line_kept : (tale : RowText) (row : Option (Option Event)) (n : ℕ) (line : List ℕ) (s held : State) (out out' : List ℕ) (taken : Option (List ℕ)) → LineTells tale (Ok tt) n line row s held out out' → LineGoes tale (Ok tt) n line row s held out out' taken taken
-line_kept tale (Some row) n line s held out out' taken h = ([], sym (then-nil taken), h.0, h.1)
+line_kept tale (Some row) n line s held out out' taken h = ([], appends-none taken, h.0, h.1)
 line_kept tale None n line s held out out' taken h = absurd h
 
 -- all was written
-pub line_flushed : (tale : RowText) (row : Option (Option Event)) (n : ℕ) (line : List ℕ) (s held : State) (out full out' : List ℕ) (taken taken' : Option (List ℕ)) → LineTells tale (Ok tt) n line row s held out full → out' ≡ [] → taken' ≡ then_bytes taken full → LineGoes tale (Ok tt) n line row s held out out' taken taken'
+pub line_flushed : (tale : RowText) (row : Option (Option Event)) (n : ℕ) (line : List ℕ) (s held : State) (out full out' : List ℕ) (taken taken' : Option (List ℕ)) → LineTells tale (Ok tt) n line row s held out full → out' ≡ [] → Appends taken taken' full → LineGoes tale (Ok tt) n line row s held out out' taken taken'
 line_flushed tale (Some row) n line s held out full out' taken taken' h o t = (full, t, ap (λ (x : List ℕ). full ++ x) o ∙ (append-nil full ∙ h.0), h.1)
 line_flushed tale None n line s held out full out' taken taken' h o t = absurd h
 
@@ -164,11 +164,11 @@ plain_is (line ∷ lines) s = plain_and (row_of line) line lines s (λ t. plain_
 -- A RUN
 
 -- what was written, and more
-prints_more : (begun : State) (tale : RowText) (lines lines' : List (List ℕ)) (out wrote out' text : List ℕ) (first taken taken' : Option (List ℕ)) → Prints begun tale lines out first taken → told begun tale lines' ≡ told begun tale lines ++ text → taken' ≡ then_bytes taken wrote → wrote ++ out' ≡ out ++ text
+prints_more : (begun : State) (tale : RowText) (lines lines' : List (List ℕ)) (out wrote out' text : List ℕ) (first taken taken' : Option (List ℕ)) → Prints begun tale lines out first taken → told begun tale lines' ≡ told begun tale lines ++ text → Appends taken taken' wrote → wrote ++ out' ≡ out ++ text
     → Prints begun tale lines' out' first taken'
 prints_more begun tale lines lines' out wrote out' text first taken taken' p e t o = record {
   wrote = p.wrote ++ wrote;
-  taken_is = t ∙ (ap (λ (k : Option (List ℕ)). then_bytes k wrote) p.taken_is ∙ then-then first p.wrote wrote);
+  taken_is = appends-then first taken taken' p.wrote wrote p.taken_is t;
   text_is = append_assoc p.wrote wrote out'
       ∙ (ap (λ (x : List ℕ). p.wrote ++ x) o
       ∙ (sym (append_assoc p.wrote out text)
@@ -176,7 +176,7 @@ prints_more begun tale lines lines' out wrote out' text first taken taken' p e t
 }
 
 prints_kept : (begun : State) (tale : RowText) (lines lines' : List (List ℕ)) (out out' : List ℕ) (first taken taken' : Option (List ℕ)) → out' ≡ out → taken' ≡ taken → told begun tale lines' ≡ told begun tale lines → Prints begun tale lines out first taken → Prints begun tale lines' out' first taken'
-prints_kept begun tale lines lines' out out' first taken taken' o t e p = record { wrote = p.wrote; taken_is = t ∙ p.taken_is; text_is = ap (λ (x : List ℕ). p.wrote ++ x) o ∙ (p.text_is ∙ sym e) }
+prints_kept begun tale lines lines' out out' first taken taken' o t e p = record { wrote = p.wrote; taken_is = subst (λ (k : Option (List ℕ)). Appends first k p.wrote) (sym t) p.taken_is; text_is = ap (λ (x : List ℕ). p.wrote ++ x) o ∙ (p.text_is ∙ sym e) }
 
 -- a prefix of what was to be written
 pub prints_front : (begun : State) (tale : RowText) (lines lines' : List (List ℕ)) (out more : List ℕ) (first taken taken' : Option (List ℕ)) → Prints begun tale lines out first taken → told begun tale lines' ≡ told begun tale lines ++ more → (text : List ℕ) (after : List ℕ) → text ++ after ≡ out ++ more
@@ -187,7 +187,7 @@ prints_front begun tale lines lines' out more first taken taken' p e text after 
   append_assoc p.wrote w.0 (w.1 ++ after)
       ∙ (ap (λ (x : List ℕ). p.wrote ++ x) (sym (append_assoc w.0 w.1 after) ∙ (ap (λ (x : List ℕ). x ++ after) w.2 ∙ is))
       ∙ (sym (append_assoc p.wrote out more) ∙ (ap (λ (x : List ℕ). x ++ more) p.text_is ∙ sym e))),
-  w.3 ∙ (ap (λ (k : Option (List ℕ)). then_bytes k w.0) p.taken_is ∙ then-then first p.wrote w.0),
+  appends-then first taken taken' p.wrote w.0 p.taken_is w.3,
 )
 
 -- one more good line
@@ -296,7 +296,7 @@ within_start begun tale first = record {
     good = refl;
     number = refl;
     state = refl;
-    prints = record { wrote = []; taken_is = sym (then-nil first); text_is = refl };
+    prints = record { wrote = []; taken_is = appends-none first; text_is = refl };
   };
   kept_is = refl;
   whole = refl;

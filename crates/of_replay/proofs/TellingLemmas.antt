@@ -1,25 +1,51 @@
--- Bytes and answers that are recorded, one part after another.
-use Rattle.std.proofs.Common.{◌≡◌, ℕ, List, [], ◌∷◌, ◌++◌, Option, Some, None, refl, sym, ◌∙◌, ap, append_assoc}
+-- What is known of bytes and answers, one part after another.
+use Rattle.std.proofs.Common.{◌≡◌, ℕ, List, [], ◌∷◌, ◌++◌, Option, Some, None, refl, sym, ◌∙◌, ap, subst, append_assoc}
 use Rattle.std.proofs.lemmas.List.{append-nil}
-use Rattle.of_replay.specs.Told.{Answer, then_bytes, then_answer, bytes_of, given}
-use Rattle.of_replay.specs.Transfer.{then_answers}
+use Rattle.std.specs.Io.KnownBytes.{Appends, Consumes}
+use Rattle.of_replay.specs.Told.{Answer, Gave, Known, Told, Left, Answers, bytes_of, given}
+use Rattle.of_replay.specs.Transfer.{AllAnswers}
 
-pub then-then : (k : Option (List ℕ)) (a b : List ℕ) → then_bytes (then_bytes k a) b ≡ then_bytes k (a ++ b)
-then-then None a b = refl
-then-then (Some bs) a b = ap Some (append_assoc bs a b)
+-- BYTES
 
-pub then-nil : (k : Option (List ℕ)) → then_bytes k [] ≡ k
-then-nil None = refl
-then-nil (Some bs) = ap Some (append-nil bs)
+pub appends-none : (k : Option (List ℕ)) → Appends k k []
+appends-none None = tt
+appends-none (Some bs) = sym (append-nil bs)
 
-pub answers-nil : (k : Option (List Answer)) → then_answers k [] ≡ k
-answers-nil None = refl
-answers-nil (Some bs) = ap Some (append-nil bs)
+pub appends-then : (a b c : Option (List ℕ)) (x y : List ℕ) → Appends a b x → Appends b c y → Appends a c (x ++ y)
+appends-then None b c x y p q = tt
+appends-then (Some a) None c x y p q = absurd p
+appends-then (Some a) (Some b) None x y p q = absurd q
+appends-then (Some a) (Some b) (Some c) x y p q = q ∙ (ap (λ (bs : List ℕ). bs ++ y) p ∙ append_assoc a x y)
 
-pub answers-more : (k : Option (List Answer)) (more : List Answer) (one : Answer) → then_answer (then_answers k more) one ≡ then_answers k (more ++ one ∷ [])
-answers-more None more one = refl
-answers-more (Some told) more one = ap Some (append_assoc told more (one ∷ []))
+consumes-none : (k : Option (List ℕ)) → Consumes k k []
+consumes-none None = tt
+consumes-none (Some bs) = refl
+
+consumes-then : (a b c : Option (List ℕ)) (x y : List ℕ) → Consumes a b x → Consumes b c y → Consumes a c (x ++ y)
+consumes-then None b c x y p q = tt
+consumes-then (Some a) None c x y p q = absurd p
+consumes-then (Some a) (Some b) None x y p q = absurd q
+consumes-then (Some a) (Some b) (Some c) x y p q = p ∙ (ap (λ (bs : List ℕ). x ++ bs) q ∙ sym (append_assoc x y c))
+
+-- ANSWERS
 
 pub given-more : (more : List Answer) (one : Answer) → given (more ++ one ∷ []) ≡ given more ++ bytes_of one
 given-more [] one = append-nil (bytes_of one)
 given-more (a ∷ more) one = ap (λ (x : List ℕ). bytes_of a ++ x) (given-more more one) ∙ sym (append_assoc (bytes_of a) (given more) (bytes_of one))
+
+pub answers-none : (k : Known) → AllAnswers k k []
+answers-none (Told answers) = sym (append-nil answers)
+answers-none (Left bytes) = consumes-none bytes
+
+-- an answer more
+pub told_more : (answers now next : Known) (more : List Answer) (one : Answer) → AllAnswers answers now more → Answers now next one → AllAnswers answers next (more ++ one ∷ [])
+told_more (Told a) (Told b) (Told c) more one p q = q ∙ (ap (λ (x : List Answer). x ++ one ∷ []) p ∙ append_assoc a more (one ∷ []))
+told_more (Told a) (Told b) (Left c) more one p q = absurd q
+told_more (Told a) (Left b) c more one p q = absurd p
+told_more (Left a) (Told b) c more one p q = absurd p
+told_more (Left a) (Left b) (Told c) more one p q = absurd q
+told_more (Left a) (Left b) (Left c) more one p q = subst (Consumes a c) (sym (given-more more one)) (consumes-then a b c (given more) (bytes_of one) p q)
+
+-- a chunk that equals what was given
+pub gave_front : (now next : Known) (chunk front : List ℕ) → front ≡ chunk → Answers now next (Gave chunk) → Answers now next (Gave front)
+gave_front now next chunk front e a = subst (λ (x : List ℕ). Answers now next (Gave x)) (sym e) a

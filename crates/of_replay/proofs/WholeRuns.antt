@@ -10,22 +10,23 @@ use Rattle.of_replay.specs.declared.halt.Halt.{Halt}
 use Rattle.of_replay.specs.declared.halt.Halt.TheVariants.{Bad, Memory, Read, Write}
 use Rattle.of_replay.specs.declared.event_file.Ended.{Ended}
 use Rattle.of_replay.specs.declared.event_file.Ended.TheVariants.{Done, BadRow, Text, NoMemory, ReadFault, WriteFault}
-use Rattle.of_replay.specs.Told.{Answer, Gave, then_bytes, then_answer, bytes_of, given}
-use Rattle.of_replay.specs.Transfer.{then_answers, WrotePrefix}
+use Rattle.of_replay.specs.Told.{Answer, Gave, Known, Answers, NoneLeft, bytes_of, given}
+use Rattle.std.specs.Io.KnownBytes.{Appends}
+use Rattle.of_replay.specs.Transfer.{AllAnswers, WrotePrefix}
 use Rattle.of_replay.specs.Rows.{row_of, rows_of}
 use Rattle.of_replay.specs.Play.{lines_read, but_last, earlier_lines, EndsPrinting, PrintsLines}
 use Rattle.of_replay.specs.Output.{printed_from}
 use Rattle.of_replay.specs.RowTexts.{RowText, plain, told}
 use Rattle.of_replay.specs.Stepping.{LineGoes, Prints, Within, Halts, ChunkGoes, Plays, PlayedAll, PlaysRead, ReadSoFar, WritesFail, ReadsFail, ended_so}
 use Rattle.of_replay.proofs.Lines.{within_start, within_ends, within_played, within_end_halts, within_open, prints_front, tale_join, plain_is}
-use Rattle.of_replay.proofs.TellingLemmas.{then-then, then-nil, answers-nil, answers-more, given-more}
+use Rattle.of_replay.proofs.TellingLemmas.{appends-none, appends-then, answers-none, told_more, given-more}
 
 -- READING
 
-pub read_nothing : (begun : State) (tale : RowText) (answers : Option (List Answer)) (first : Option (List ℕ)) → ReadSoFar begun tale answers answers [] 1 begun [] first first
-read_nothing begun tale answers first = record { more = []; answers_are = sym (answers-nil answers); within = within_start begun tale first }
+pub read_nothing : (begun : State) (tale : RowText) (answers : Known) (first : Option (List ℕ)) → ReadSoFar begun tale answers answers [] 1 begun [] first first
+read_nothing begun tale answers first = record { more = []; answers_are = answers-none answers; within = within_start begun tale first }
 
-pub read_begun : (begun : State) (tale : RowText) (answers : Option (List Answer)) (kept : List ℕ) (n : ℕ) (s : State) (out : List ℕ) (first : Option (List ℕ)) → (kept ≡ []) × (n ≡ 1) × (s ≡ begun) × (out ≡ []) → ReadSoFar begun tale answers answers kept n s out first first
+pub read_begun : (begun : State) (tale : RowText) (answers : Known) (kept : List ℕ) (n : ℕ) (s : State) (out : List ℕ) (first : Option (List ℕ)) → (kept ≡ []) × (n ≡ 1) × (s ≡ begun) × (out ≡ []) → ReadSoFar begun tale answers answers kept n s out first first
 read_begun begun tale answers kept n s out first e = rw (e.0, e.1, e.2, e.3) (read_nothing begun tale answers first)
 
 pub chunk_size : (n : ℕ) (buffer chunk : List ℕ) → chunk ≡ take n buffer → n ≤ length buffer → length buffer ≡ 65536 → length chunk ≤ 65536
@@ -40,16 +41,12 @@ chunk_reads begun tale Memory earlier lines out first taken reads ends ends' fai
 chunk_reads begun tale Read earlier lines out first taken reads ends ends' failures failures' h e = absurd h
 chunk_reads begun tale Write earlier lines out first taken reads ends ends' failures failures' h e = omega (arith, e)
 
--- an answer more
-pub told_more : (answers now next : Option (List Answer)) (more : List Answer) (one : Answer) → now ≡ then_answers answers more → next ≡ then_answer now one → next ≡ then_answers answers (more ++ one ∷ [])
-told_more answers now next more one is e = e ∙ (ap (λ (t : Option (List Answer)). then_answer t one) is ∙ answers-more answers more one)
-
 -- a read that gave no bytes
 pub given_same : (more : List Answer) (one : Answer) → bytes_of one ≡ [] → given (more ++ one ∷ []) ≡ given more
 given_same more one e = given-more more one ∙ (ap (λ (x : List ℕ). given more ++ x) e ∙ append-nil (given more))
 
-pub read_idle : (begun : State) (tale : RowText) (answers now next : Option (List Answer)) (one : Answer) (kept : List ℕ) (n : ℕ) (s : State) (out : List ℕ) (first taken : Option (List ℕ)) → ReadSoFar begun tale answers now kept n s out first taken
-    → next ≡ then_answer now one → bytes_of one ≡ [] → ReadSoFar begun tale answers next kept n s out first taken
+pub read_idle : (begun : State) (tale : RowText) (answers now next : Known) (one : Answer) (kept : List ℕ) (n : ℕ) (s : State) (out : List ℕ) (first taken : Option (List ℕ)) → ReadSoFar begun tale answers now kept n s out first taken
+    → Answers now next one → bytes_of one ≡ [] → ReadSoFar begun tale answers next kept n s out first taken
 read_idle begun tale answers now next one kept n s out first taken r e none = record {
   more = r.more ++ one ∷ [];
   answers_are = told_more answers now next r.more one r.answers_are e;
@@ -57,8 +54,8 @@ read_idle begun tale answers now next one kept n s out first taken r e none = re
 }
 
 -- a chunk was read and played
-pub read_chunk : (begun : State) (tale : RowText) (answers now next : Option (List Answer)) (chunk kept kept' : List ℕ) (n n' : ℕ) (s s' : State) (out out' : List ℕ) (first taken taken' : Option (List ℕ)) → (r : ReadSoFar begun tale answers now kept n s out first taken)
-    → next ≡ then_answer now (Gave chunk) → ChunkGoes begun tale (Ok tt) (given r.more) (given r.more ++ chunk) kept' n' s' out' first taken' → ReadSoFar begun tale answers next kept' n' s' out' first taken'
+pub read_chunk : (begun : State) (tale : RowText) (answers now next : Known) (chunk kept kept' : List ℕ) (n n' : ℕ) (s s' : State) (out out' : List ℕ) (first taken taken' : Option (List ℕ)) → (r : ReadSoFar begun tale answers now kept n s out first taken)
+    → Answers now next (Gave chunk) → ChunkGoes begun tale (Ok tt) (given r.more) (given r.more ++ chunk) kept' n' s' out' first taken' → ReadSoFar begun tale answers next kept' n' s' out' first taken'
 read_chunk begun tale answers now next chunk kept kept' n n' s s' out out' first taken taken' r e goes = record {
   more = r.more ++ Gave chunk ∷ [];
   answers_are = told_more answers now next r.more (Gave chunk) r.answers_are e;
@@ -71,17 +68,22 @@ not_ended ends ends' e = grind (arith, nat_tests, e)
 pub is_ended : (ends ends' : ℕ) → ends' ≡ ends + 1 → nat_lt ends ends' ≡ true
 is_ended ends ends' e = grind (arith, nat_tests, e)
 
+-- no end was read
+pub not_whole : (ends ends' : ℕ) (known : Known) → ends' ≡ ends → nat_lt ends ends' ≡ true → NoneLeft known
+not_whole ends ends' known same ended = let e : true ≡ false = sym ended ∙ not_ended ends ends' same in cc
+
 plays_halt : (begun : State) (tale : RowText) (h : Halt) (ended : Bool) (earlier lines : List (List ℕ)) (out : List ℕ) (first taken : Option (List ℕ)) → Halts begun tale h earlier lines out first taken → Plays begun tale (Err h) ended earlier lines out first taken
 plays_halt begun tale (Bad n) ended earlier lines out first taken h = h
 plays_halt begun tale Memory ended earlier lines out first taken h = h
 plays_halt begun tale Read ended earlier lines out first taken h = absurd h
 plays_halt begun tale Write ended earlier lines out first taken h = h
 
-plays_read : (begun : State) (tale : RowText) (result : Result (Unit {0}) Halt) (answers answers' : Option (List Answer)) (ends ends' : ℕ) (more : List Answer) (earlier : List (List ℕ)) (bytes out : List ℕ) (first taken : Option (List ℕ)) (ended : Bool) → answers' ≡ then_answers answers more → nat_lt ends ends' ≡ ended
+plays_read : (begun : State) (tale : RowText) (result : Result (Unit {0}) Halt) (answers answers' : Known) (ends ends' : ℕ) (more : List Answer) (earlier : List (List ℕ)) (bytes out : List ℕ) (first taken : Option (List ℕ)) (ended : Bool) → AllAnswers answers answers' more → (nat_lt ends ends' ≡ true → NoneLeft answers') → nat_lt ends ends' ≡ ended
     → given more ≡ bytes → earlier_lines more ≡ earlier → Plays begun tale result ended earlier (lines_read ended bytes) out first taken → PlaysRead begun tale result answers answers' ends ends' out first taken
-plays_read begun tale result answers answers' ends ends' more earlier bytes out first taken ended is e g before plays = record {
+plays_read begun tale result answers answers' ends ends' more earlier bytes out first taken ended is whole e g before plays = record {
   more = more;
   answers_are = is;
+  whole = whole;
   plays = subst (λ (t : Bool). Plays begun tale result t (earlier_lines more) (lines_read t (given more)) out first taken) (sym e)
       (subst (λ (f : List ℕ). Plays begun tale result ended (earlier_lines more) (lines_read ended f) out first taken) (sym g)
       (subst (λ (ls : List (List ℕ)). Plays begun tale result ended ls (lines_read ended bytes) out first taken) (sym before) plays));
@@ -97,10 +99,10 @@ pub before_one : (more : List Answer) (one : Answer) → earlier_lines (more ++ 
 before_one more one = ap (λ (x : List Answer). whole_lines (given x)) (but_last_more more one)
 
 -- the run halts in a chunk
-pub read_halts : (begun : State) (tale : RowText) (h : Halt) (answers now next : Option (List Answer)) (ends ends' : ℕ) (chunk kept kept' : List ℕ) (n n' : ℕ) (s s' : State) (out out' : List ℕ) (first taken taken' : Option (List ℕ)) → (r : ReadSoFar begun tale answers now kept n s out first taken)
-    → next ≡ then_answer now (Gave chunk) → ends' ≡ ends → ChunkGoes begun tale (Err h) (given r.more) (given r.more ++ chunk) kept' n' s' out' first taken' → PlaysRead begun tale (Err h) answers next ends ends' out' first taken'
+pub read_halts : (begun : State) (tale : RowText) (h : Halt) (answers now next : Known) (ends ends' : ℕ) (chunk kept kept' : List ℕ) (n n' : ℕ) (s s' : State) (out out' : List ℕ) (first taken taken' : Option (List ℕ)) → (r : ReadSoFar begun tale answers now kept n s out first taken)
+    → Answers now next (Gave chunk) → ends' ≡ ends → ChunkGoes begun tale (Err h) (given r.more) (given r.more ++ chunk) kept' n' s' out' first taken' → PlaysRead begun tale (Err h) answers next ends ends' out' first taken'
 read_halts begun tale h answers now next ends ends' chunk kept kept' n n' s s' out out' first taken taken' r e same halts =
-    plays_read begun tale (Err h) answers next ends ends' (r.more ++ Gave chunk ∷ []) (whole_lines (given r.more)) (given r.more ++ chunk) out' first taken' false (told_more answers now next r.more (Gave chunk) r.answers_are e) (not_ended ends ends' same)
+    plays_read begun tale (Err h) answers next ends ends' (r.more ++ Gave chunk ∷ []) (whole_lines (given r.more)) (given r.more ++ chunk) out' first taken' false (told_more answers now next r.more (Gave chunk) r.answers_are e) (not_whole ends ends' next same) (not_ended ends ends' same)
     (given-more r.more (Gave chunk)) (before_one r.more (Gave chunk)) (plays_halt begun tale h false (whole_lines (given r.more)) (lines_read false (given r.more ++ chunk)) out' first taken' halts)
 
 -- the source's end was read
@@ -110,35 +112,35 @@ ends_by begun tale (Ok u) bytes kept n s held out out' first taken taken' w goes
 ends_by begun tale (Err h) bytes kept n s held out out' first taken taken' w goes =
     plays_halt begun tale h true (whole_lines bytes) (lines_read true bytes) out' first taken' (within_end_halts begun tale h bytes kept n s held out out' first taken taken' w goes)
 
-pub read_ends : (begun : State) (tale : RowText) (result : Result (Unit {0}) Halt) (answers now next : Option (List Answer)) (one : Answer) (ends ends' : ℕ) (kept : List ℕ) (n : ℕ) (s held : State) (out out' : List ℕ) (first taken taken' : Option (List ℕ)) → ReadSoFar begun tale answers now kept n s out first taken
-    → next ≡ then_answer now one → bytes_of one ≡ [] → ends' ≡ ends + 1 → LineGoes tale result n kept (row_of kept) s held out out' taken taken' → PlaysRead begun tale result answers next ends ends' out' first taken'
-read_ends begun tale result answers now next one ends ends' kept n s held out out' first taken taken' r e none ended goes =
-    plays_read begun tale result answers next ends ends' (r.more ++ one ∷ []) (whole_lines (given r.more)) (given r.more) out' first taken' true (told_more answers now next r.more one r.answers_are e) (is_ended ends ends' ended)
+pub read_ends : (begun : State) (tale : RowText) (result : Result (Unit {0}) Halt) (answers now next : Known) (one : Answer) (ends ends' : ℕ) (kept : List ℕ) (n : ℕ) (s held : State) (out out' : List ℕ) (first taken taken' : Option (List ℕ)) → ReadSoFar begun tale answers now kept n s out first taken
+    → Answers now next one → bytes_of one ≡ [] → NoneLeft next → ends' ≡ ends + 1 → LineGoes tale result n kept (row_of kept) s held out out' taken taken' → PlaysRead begun tale result answers next ends ends' out' first taken'
+read_ends begun tale result answers now next one ends ends' kept n s held out out' first taken taken' r e none left ended goes =
+    plays_read begun tale result answers next ends ends' (r.more ++ one ∷ []) (whole_lines (given r.more)) (given r.more) out' first taken' true (told_more answers now next r.more one r.answers_are e) (λ _. left) (is_ended ends ends' ended)
     (given_same r.more one none) (before_one r.more one) (ends_by begun tale result (given r.more) kept n s held out out' first taken taken' r.within goes)
 
 -- all lines were played
-pub read_played : (begun : State) (tale : RowText) (result : Result (Unit {0}) Halt) (answers now next : Option (List Answer)) (one : Answer) (kept : List ℕ) (n : ℕ) (s held : State) (out out' : List ℕ) (first taken taken' : Option (List ℕ)) → ReadSoFar begun tale answers now kept n s out first taken
-    → next ≡ then_answer now one → bytes_of one ≡ [] → LineGoes tale result n kept (row_of kept) s held out out' taken taken' → OnOk result (PlayedAll begun answers next held)
-read_played begun tale (Ok u) answers now next one kept n s held out out' first taken taken' r e none goes =
+pub read_played : (begun : State) (tale : RowText) (result : Result (Unit {0}) Halt) (answers now next : Known) (one : Answer) (kept : List ℕ) (n : ℕ) (s held : State) (out out' : List ℕ) (first taken taken' : Option (List ℕ)) → ReadSoFar begun tale answers now kept n s out first taken
+    → Answers now next one → bytes_of one ≡ [] → NoneLeft next → LineGoes tale result n kept (row_of kept) s held out out' taken taken' → OnOk result (PlayedAll begun answers next held)
+read_played begun tale (Ok u) answers now next one kept n s held out out' first taken taken' r e none left goes =
     let h = within_played begun tale (given r.more) kept n s held out out' first taken taken' r.within goes in
     let same : given (r.more ++ one ∷ []) ≡ given r.more = given_same r.more one none in
-    record { more = r.more ++ one ∷ []; answers_are = told_more answers now next r.more one r.answers_are e; good = rw same h.0; state = rw same h.1 }
-read_played begun tale (Err h) answers now next one kept n s held out out' first taken taken' r e none goes = tt
+    record { more = r.more ++ one ∷ []; answers_are = told_more answers now next r.more one r.answers_are e; whole = left; good = rw same h.0; state = rw same h.1 }
+read_played begun tale (Err h) answers now next one kept n s held out out' first taken taken' r e none left goes = tt
 
 -- it did not
-pub read_stops : (begun : State) (tale : RowText) (answers now : Option (List Answer)) (ends ends' : ℕ) (kept : List ℕ) (n : ℕ) (s : State) (out : List ℕ) (first taken : Option (List ℕ)) → ReadSoFar begun tale answers now kept n s out first taken
+pub read_stops : (begun : State) (tale : RowText) (answers now : Known) (ends ends' : ℕ) (kept : List ℕ) (n : ℕ) (s : State) (out : List ℕ) (first taken : Option (List ℕ)) → ReadSoFar begun tale answers now kept n s out first taken
     → ends' ≡ ends → PlaysRead begun tale (Err Read) answers now ends ends' out first taken
 read_stops begun tale answers now ends ends' kept n s out first taken r same =
     let h = within_open begun tale (given r.more) kept n s out first taken r.within in
-    plays_read begun tale (Err Read) answers now ends ends' r.more (earlier_lines r.more) (given r.more) out first taken false r.answers_are (not_ended ends ends' same) refl refl (refl, h.0, h.1)
+    plays_read begun tale (Err Read) answers now ends ends' r.more (earlier_lines r.more) (given r.more) out first taken false r.answers_are (not_whole ends ends' now same) (not_ended ends ends' same) refl refl (refl, h.0, h.1)
 
 -- WRITING
 
-wrote_all : (begun : State) (tale : RowText) (lines : List (List ℕ)) (out : List ℕ) (first taken taken' : Option (List ℕ)) → Prints begun tale lines out first taken → taken' ≡ then_bytes taken out → taken' ≡ then_bytes first (told begun tale lines)
+wrote_all : (begun : State) (tale : RowText) (lines : List (List ℕ)) (out : List ℕ) (first taken taken' : Option (List ℕ)) → Prints begun tale lines out first taken → Appends taken taken' out → Appends first taken' (told begun tale lines)
 wrote_all begun tale lines out first taken taken' p e =
-    e ∙ (ap (λ (k : Option (List ℕ)). then_bytes k out) p.taken_is ∙ (then-then first p.wrote out ∙ ap (then_bytes first) p.text_is))
+    subst (Appends first taken') p.text_is (appends-then first taken taken' p.wrote out p.taken_is e)
 
-ends_wrote : (begun : State) (tale : RowText) (result : Result (Unit {0}) Halt) (ended : Bool) (earlier lines : List (List ℕ)) (out : List ℕ) (first taken taken' : Option (List ℕ)) → Plays begun tale result ended earlier lines out first taken → (result ≡ Err Write → ⊥) → taken' ≡ then_bytes taken out
+ends_wrote : (begun : State) (tale : RowText) (result : Result (Unit {0}) Halt) (ended : Bool) (earlier lines : List (List ℕ)) (out : List ℕ) (first taken taken' : Option (List ℕ)) → Plays begun tale result ended earlier lines out first taken → (result ≡ Err Write → ⊥) → Appends taken taken' out
     → EndsPrinting (told begun tale) (ended_so result) ended earlier lines first taken'
 ends_wrote begun tale (Ok u) ended earlier lines out first taken taken' p not e = (p.0, p.1, wrote_all begun tale lines out first taken taken' p.2 e)
 ends_wrote begun tale (Err (Bad n)) ended earlier lines out first taken taken' p not e = (p.0, wrote_all begun tale lines out first taken taken' p.1 e)
@@ -152,7 +154,7 @@ unwritten_all begun tale lines out first taken taken' p w =
 
 -- what a chunk still had to write is written, or a write of it fails
 pub flushed : (begun : State) (tale : RowText) (result : Result (Unit {0}) Halt) (before bytes kept : List ℕ) (n : ℕ) (s : State) (out out' : List ℕ) (first taken taken' : Option (List ℕ)) → Within begun tale bytes [] kept n s out first taken
-    → OnOk result ((taken' ≡ then_bytes taken out) × (out' ≡ [])) → OnErr result (WrotePrefix taken out taken') → IfErr result (λ halt. halt ≡ Write) → ChunkGoes begun tale result before bytes kept n s out' first taken'
+    → OnOk result (Appends taken taken' out × (out' ≡ [])) → OnErr result (WrotePrefix taken out taken') → IfErr result (λ halt. halt ≡ Write) → ChunkGoes begun tale result before bytes kept n s out' first taken'
 flushed begun tale (Ok u) before bytes kept n s out out' first taken taken' w all front is =
     let p = w.going.prints in
     record {
@@ -164,7 +166,7 @@ flushed begun tale (Ok u) before bytes kept n s out out' first taken taken' w al
         state = w.going.state;
         prints = record {
           wrote = p.wrote ++ out;
-          taken_is = all.0 ∙ (ap (λ (k : Option (List ℕ)). then_bytes k out) p.taken_is ∙ then-then first p.wrote out);
+          taken_is = appends-then first taken taken' p.wrote out p.taken_is all.0;
           text_is = ap (λ (x : List ℕ). (p.wrote ++ out) ++ x) all.1 ∙ (append-nil (p.wrote ++ out) ∙ p.text_is);
         };
       };
@@ -188,50 +190,54 @@ ends_unwritten begun tale (Err Read) ended earlier lines out first taken taken' 
 ends_unwritten begun tale (Err Write) ended earlier lines out first taken taken' p not w = absurd (not refl)
 
 -- what was still to be written was written
-pub tells_wrote : (begun : State) (tale : RowText) (result : Result (Unit {0}) Halt) (answers answers' : Option (List Answer)) (ends ends' : ℕ) (out : List ℕ) (first taken taken' : Option (List ℕ)) → PlaysRead begun tale result answers answers' ends ends' out first taken → (result ≡ Err Write → ⊥)
-    → taken' ≡ then_bytes taken out → PrintsLines (told begun tale) (ended_so result) answers answers' ends ends' first taken'
+pub tells_wrote : (begun : State) (tale : RowText) (result : Result (Unit {0}) Halt) (answers answers' : Known) (ends ends' : ℕ) (out : List ℕ) (first taken taken' : Option (List ℕ)) → PlaysRead begun tale result answers answers' ends ends' out first taken → (result ≡ Err Write → ⊥)
+    → Appends taken taken' out → PrintsLines (told begun tale) (ended_so result) answers answers' ends ends' first taken'
 tells_wrote begun tale result answers answers' ends ends' out first taken taken' p not e = record {
   more = p.more;
   answers_are = p.answers_are;
+  whole = p.whole;
   ends_so = ends_wrote begun tale result (nat_lt ends ends') (earlier_lines p.more) (lines_read (nat_lt ends ends') (given p.more)) out first taken taken' p.plays not e;
 }
 
 -- a write of it failed
-pub tells_unwritten : (begun : State) (tale : RowText) (result : Result (Unit {0}) Halt) (answers answers' : Option (List Answer)) (ends ends' : ℕ) (out : List ℕ) (first taken taken' : Option (List ℕ)) → PlaysRead begun tale result answers answers' ends ends' out first taken → (result ≡ Err Write → ⊥)
+pub tells_unwritten : (begun : State) (tale : RowText) (result : Result (Unit {0}) Halt) (answers answers' : Known) (ends ends' : ℕ) (out : List ℕ) (first taken taken' : Option (List ℕ)) → PlaysRead begun tale result answers answers' ends ends' out first taken → (result ≡ Err Write → ⊥)
     → WrotePrefix taken out taken' → PrintsLines (told begun tale) WriteFault answers answers' ends ends' first taken'
 tells_unwritten begun tale result answers answers' ends ends' out first taken taken' p not w = record {
   more = p.more;
   answers_are = p.answers_are;
+  whole = p.whole;
   ends_so = ends_unwritten begun tale result (nat_lt ends ends') (earlier_lines p.more) (lines_read (nat_lt ends ends') (given p.more)) out first taken taken' p.plays not w;
 }
 
 -- an earlier write failed
-pub tells_stopped : (begun : State) (tale : RowText) (answers answers' : Option (List Answer)) (ends ends' : ℕ) (out : List ℕ) (first taken : Option (List ℕ)) → PlaysRead begun tale (Err Write) answers answers' ends ends' out first taken → PrintsLines (told begun tale) WriteFault answers answers' ends ends' first taken
-tells_stopped begun tale answers answers' ends ends' out first taken p = record { more = p.more; answers_are = p.answers_are; ends_so = p.plays }
+pub tells_stopped : (begun : State) (tale : RowText) (answers answers' : Known) (ends ends' : ℕ) (out : List ℕ) (first taken : Option (List ℕ)) → PlaysRead begun tale (Err Write) answers answers' ends ends' out first taken → PrintsLines (told begun tale) WriteFault answers answers' ends ends' first taken
+tells_stopped begun tale answers answers' ends ends' out first taken p = record { more = p.more; answers_are = p.answers_are; whole = p.whole; ends_so = p.plays }
 
 -- nothing was read or written
-pub nothing_read : (begun : State) (tale : RowText) (answers : Option (List Answer)) (ends : ℕ) (taken : Option (List ℕ)) → PrintsLines (told begun tale) NoMemory answers answers ends ends taken taken
+pub nothing_read : (begun : State) (tale : RowText) (answers : Known) (ends : ℕ) (taken : Option (List ℕ)) → PrintsLines (told begun tale) NoMemory answers answers ends ends taken taken
 nothing_read begun tale answers ends taken = record {
   more = [];
-  answers_are = sym (answers-nil answers);
-  ends_so = record { more = []; others = lines_read (nat_lt ends ends) []; lines_are = refl; good = refl; wrote = sym (then-nil taken) };
+  answers_are = answers-none answers;
+  whole = not_whole ends ends answers refl;
+  ends_so = record { more = []; others = lines_read (nat_lt ends ends) []; lines_are = refl; good = refl; wrote = appends-none taken };
 }
 
 -- WHAT `replay` PRINTS is what the events print
 
 same_end : (f g : List (List ℕ) → List ℕ) → ((lines : List (List ℕ)) → f lines ≡ g lines) → (e : Ended) (ended : Bool) (earlier lines : List (List ℕ)) (old new : Option (List ℕ)) → EndsPrinting f e ended earlier lines old new → EndsPrinting g e ended earlier lines old new
-same_end f g same Done ended earlier lines old new h = (h.0, h.1, h.2 ∙ ap (then_bytes old) (same lines))
-same_end f g same (BadRow n) ended earlier lines old new h = (h.0, h.1 ∙ ap (then_bytes old) (same lines))
+same_end f g same Done ended earlier lines old new h = (h.0, h.1, subst (Appends old new) (same lines) h.2)
+same_end f g same (BadRow n) ended earlier lines old new h = (h.0, subst (Appends old new) (same lines) h.1)
 same_end f g same (Text t) ended earlier lines old new h = absurd h
-same_end f g same ReadFault ended earlier lines old new h = (h.0, h.1, h.2 ∙ ap (then_bytes old) (same lines))
+same_end f g same ReadFault ended earlier lines old new h = (h.0, h.1, subst (Appends old new) (same lines) h.2)
 same_end f g same WriteFault ended earlier lines old new h = subst (λ (x : List ℕ). WrotePrefix old x new) (same lines) h
-same_end f g same NoMemory ended earlier lines old new h = record { more = h.more; others = h.others; lines_are = h.lines_are; good = h.good; wrote = h.wrote ∙ ap (then_bytes old) (same (earlier ++ h.more)) }
+same_end f g same NoMemory ended earlier lines old new h = record { more = h.more; others = h.others; lines_are = h.lines_are; good = h.good; wrote = subst (Appends old new) (same (earlier ++ h.more)) h.wrote }
 
-pub replays_plain : (begun : State) (e : Ended) (answers answers' : Option (List Answer)) (ends ends' : ℕ) (taken taken' : Option (List ℕ)) → PrintsLines (told begun plain) e answers answers' ends ends' taken taken'
+pub replays_plain : (begun : State) (e : Ended) (answers answers' : Known) (ends ends' : ℕ) (taken taken' : Option (List ℕ)) → PrintsLines (told begun plain) e answers answers' ends ends' taken taken'
     → PrintsLines (λ lines. printed_from begun (rows_of lines).events) e answers answers' ends ends' taken taken'
 replays_plain begun e answers answers' ends ends' taken taken' h = record {
   more = h.more;
   answers_are = h.answers_are;
+  whole = h.whole;
   ends_so = same_end (told begun plain) (λ (lines : List (List ℕ)). printed_from begun (rows_of lines).events) (λ (lines : List (List ℕ)). plain_is lines begun) e (nat_lt ends ends') (earlier_lines h.more) (lines_read (nat_lt ends ends') (given h.more)) taken taken' h.ends_so;
 }
 

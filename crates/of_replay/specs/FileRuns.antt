@@ -11,8 +11,9 @@ use Rattle.of_switch.specs.Runs.{run}
 use Rattle.of_switch.specs.Loading.{config_of}
 use Rattle.of_replay.specs.declared.event_file.Ended.{Ended}
 use Rattle.of_replay.specs.declared.event_file.Ended.TheVariants.{Done, BadRow, Text, ReadFault, WriteFault, NoMemory}
-use Rattle.of_replay.specs.Told.{Answer, then_bytes, given}
-use Rattle.of_replay.specs.Transfer.{then_answers, WrotePrefix}
+use Rattle.of_replay.specs.Told.{Answer, Known, NoneLeft, given}
+use Rattle.std.specs.Io.KnownBytes.{Appends}
+use Rattle.of_replay.specs.Transfer.{AllAnswers, WrotePrefix}
 use Rattle.of_replay.specs.Rows.{Rows, rows_of}
 use Rattle.of_replay.specs.Play.{lines_read}
 use Rattle.of_replay.specs.WholeFiles.{bad_line}
@@ -64,14 +65,15 @@ IsRead is (Err WriteFault) ended file = ⊥
 IsRead is (Err NoMemory) ended file = Unit {0}
 
 -- from what a source answered
-pub record Reads {A : Type 0} (is : Meaning A) (result : Result A Ended) (answers answers' : Option (List Answer)) (ends ends' : ℕ) : Type 0 where
+pub record Reads {A : Type 0} (is : Meaning A) (result : Result A Ended) (answers answers' : Known) (ends ends' : ℕ) : Type 0 where
   pub more : List Answer
-  pub answers_are : answers' ≡ then_answers answers more
+  pub answers_are : AllAnswers answers answers' more
+  pub whole : nat_lt ends ends' ≡ true → NoneLeft answers'
   pub is_read : IsRead is result (nat_lt ends ends') (given more)
 
 -- HOW WRITING ENDS: a text is written, or a prefix of it; or nothing, since there was no memory for it
 abbrev pub Writes : (List ℕ → Type 0) → Ended → Option (List ℕ) → Option (List ℕ) → Type 0
-Writes IsText Done old new = (text : List ℕ) × IsText text × (new ≡ then_bytes old text)
+Writes IsText Done old new = (text : List ℕ) × IsText text × Appends old new text
 Writes IsText WriteFault old new = (text : List ℕ) × IsText text × WrotePrefix old text new
 Writes IsText NoMemory old new = new ≡ old
 Writes IsText other old new = ⊥
@@ -82,10 +84,14 @@ WritesOf IsText (Ok value) ended old new = Writes (IsText value) ended old new
 WritesOf IsText (Err read) ended old new = (ended ≡ read) × (new ≡ old)
 
 -- HOW A RUN ENDS, from what a source answered to what a sink took
-pub record Runs {A : Type 0} (is : Meaning A) (IsText : A → List ℕ → Type 0) (ended : Ended) (answers answers' : Option (List Answer)) (ends ends' : ℕ) (taken taken' : Option (List ℕ)) : Type 0 where
+pub record Runs {A : Type 0} (is : Meaning A) (IsText : A → List ℕ → Type 0) (ended : Ended) (answers answers' : Known) (ends ends' : ℕ) (taken taken' : Option (List ℕ)) : Type 0 where
   pub read : Result A Ended
   pub reads : Reads is read answers answers' ends ends'
   pub writes : WritesOf IsText read ended taken taken'
+
+-- a text of what a whole file is read as was added to what a writer held
+abbrev pub TextOf : {A : Type 0} → Meaning A → (A → List ℕ → Type 0) → List ℕ → Option (List ℕ) → Option (List ℕ) → Type 0
+TextOf {A} is IsText file old new = (value : A) × is true file (IsValue value) × ((text : List ℕ) × IsText value text × Appends old new text)
 
 -- the text that a function gives
 abbrev pub is_text : {A : Type 0} → (A → List ℕ) → A → List ℕ → Type 0

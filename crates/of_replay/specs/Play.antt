@@ -2,8 +2,9 @@
 use Rattle.std.specs.Prelude.{◌≡◌, ℕ, Bool, true, false, nat_lt, List, [], ◌∷◌, ◌++◌, Option, Some, None, if◌then◌else◌}
 use Rattle.of_replay.specs.declared.event_file.Ended.{Ended}
 use Rattle.of_replay.specs.declared.event_file.Ended.TheVariants.{Done, BadRow, Text, ReadFault, WriteFault, NoMemory}
-use Rattle.of_replay.specs.Told.{Answer, then_bytes, given}
-use Rattle.of_replay.specs.Transfer.{then_answers, WrotePrefix}
+use Rattle.of_replay.specs.Told.{Answer, Known, NoneLeft, given}
+use Rattle.std.specs.Io.KnownBytes.{Appends}
+use Rattle.of_replay.specs.Transfer.{AllAnswers, WrotePrefix}
 use Rattle.of_replay.specs.Lexing.{whole_lines, last_from}
 use Rattle.of_replay.specs.Rows.{rows_of}
 
@@ -31,26 +32,28 @@ pub record PrintedFirst (text_of : List (List ℕ) → List ℕ) (earlier lines 
   pub others : List (List ℕ)
   pub lines_are : lines ≡ (earlier ++ more) ++ others
   pub good : (rows_of (earlier ++ more)).bad ≡ None
-  pub wrote : new ≡ then_bytes old (text_of (earlier ++ more))
+  pub wrote : Appends old new (text_of (earlier ++ more))
 
 -- by the lines that were read, and those that were whole before the last read
 abbrev pub EndsPrinting : (List (List ℕ) → List ℕ) → Ended → Bool → List (List ℕ) → List (List ℕ) → Option (List ℕ) → Option (List ℕ) → Type 0
-EndsPrinting text_of Done ended earlier lines old new = (ended ≡ true) × ((rows_of lines).bad ≡ None) × (new ≡ then_bytes old (text_of lines))
-EndsPrinting text_of (BadRow n) ended earlier lines old new = ((rows_of lines).bad ≡ Some n) × (new ≡ then_bytes old (text_of lines))
+EndsPrinting text_of Done ended earlier lines old new = (ended ≡ true) × ((rows_of lines).bad ≡ None) × Appends old new (text_of lines)
+EndsPrinting text_of (BadRow n) ended earlier lines old new = ((rows_of lines).bad ≡ Some n) × Appends old new (text_of lines)
 EndsPrinting text_of (Text f) ended earlier lines old new = ⊥
-EndsPrinting text_of ReadFault ended earlier lines old new = (ended ≡ false) × ((rows_of lines).bad ≡ None) × (new ≡ then_bytes old (text_of lines))
+EndsPrinting text_of ReadFault ended earlier lines old new = (ended ≡ false) × ((rows_of lines).bad ≡ None) × Appends old new (text_of lines)
 EndsPrinting text_of WriteFault ended earlier lines old new = WrotePrefix old (text_of lines) new
 EndsPrinting text_of NoMemory ended earlier lines old new = PrintedFirst text_of earlier lines old new
 
 -- from what a source answered to what a sink took
-pub record PrintsLines (text_of : List (List ℕ) → List ℕ) (ended : Ended) (answers answers' : Option (List Answer)) (ends ends' : ℕ) (taken taken' : Option (List ℕ)) : Type 0 where
+pub record PrintsLines (text_of : List (List ℕ) → List ℕ) (ended : Ended) (answers answers' : Known) (ends ends' : ℕ) (taken taken' : Option (List ℕ)) : Type 0 where
   pub more : List Answer
-  pub answers_are : answers' ≡ then_answers answers more
+  pub answers_are : AllAnswers answers answers' more
+  -- where the end was read, nothing is left
+  pub whole : nat_lt ends ends' ≡ true → NoneLeft answers'
   pub ends_so : EndsPrinting text_of ended (nat_lt ends ends') (earlier_lines more) (lines_read (nat_lt ends ends') (given more)) taken taken'
 
 -- what the lines print that were whole before the last read was written, however the run ended
-pub record WrittenEarly (text_of : List (List ℕ) → List ℕ) (answers answers' : Option (List Answer)) (taken taken' : Option (List ℕ)) : Type 0 where
+pub record WrittenEarly (text_of : List (List ℕ) → List ℕ) (answers answers' : Known) (taken taken' : Option (List ℕ)) : Type 0 where
   pub more : List Answer
-  pub answers_are : answers' ≡ then_answers answers more
+  pub answers_are : AllAnswers answers answers' more
   pub later : List ℕ
-  pub wrote : taken' ≡ then_bytes taken (text_of (earlier_lines more) ++ later)
+  pub wrote : Appends taken taken' (text_of (earlier_lines more) ++ later)

@@ -11,8 +11,9 @@ use Rattle.of_replay.specs.declared.halt.Halt.{Halt}
 use Rattle.of_replay.specs.declared.halt.Halt.TheVariants as halt
 use Rattle.of_replay.specs.declared.event_file.Ended.{Ended}
 use Rattle.of_replay.specs.declared.event_file.Ended.TheVariants.{Done, BadRow, ReadFault, WriteFault, NoMemory}
-use Rattle.of_replay.specs.Told.{Answer, then_bytes, given}
-use Rattle.of_replay.specs.Transfer.{then_answers, WrotePrefix}
+use Rattle.of_replay.specs.Told.{Answer, Known, NoneLeft, given}
+use Rattle.std.specs.Io.KnownBytes.{Appends}
+use Rattle.of_replay.specs.Transfer.{AllAnswers, WrotePrefix}
 use Rattle.of_replay.specs.Lexing.{whole_lines, whole_from, last_from}
 use Rattle.of_replay.specs.Rows.{rows_of}
 use Rattle.of_replay.specs.Output.{text_of, refused_line}
@@ -54,7 +55,7 @@ LineTells tale (Err halt.Write) n line row s new out out' = ⊥
 -- the text of a row is written or still to be written, after what was to be written before
 abbrev pub LineGoes : RowText → Result (Unit {0}) Halt → ℕ → List ℕ → Option (Option Event) → State → State → List ℕ → List ℕ → Option (List ℕ) → Option (List ℕ) → Type 0
 LineGoes tale (Ok u) n line (Some row) s new out out' taken taken' =
-    (wrote : List ℕ) × (taken' ≡ then_bytes taken wrote) × (wrote ++ out' ≡ out ++ tale s line row) × (new ≡ (row_happened s row).state)
+    (wrote : List ℕ) × Appends taken taken' wrote × (wrote ++ out' ≡ out ++ tale s line row) × (new ≡ (row_happened s row).state)
 LineGoes tale (Ok u) n line None s new out out' taken taken' = ⊥
 LineGoes tale (Err (halt.Bad m)) n line (Some row) s new out out' taken taken' = ⊥
 LineGoes tale (Err (halt.Bad m)) n line None s new out out' taken taken' = (m ≡ n) × (out' ≡ out) × (taken' ≡ taken)
@@ -68,7 +69,7 @@ LineGoes tale (Err halt.Write) n line None s new out out' taken taken' = ⊥
 -- the text of these lines was written, but for the end that is still to be written
 pub record Prints (begun : State) (tale : RowText) (lines : List (List ℕ)) (out : List ℕ) (first taken : Option (List ℕ)) : Type 0 where
   pub wrote : List ℕ
-  pub taken_is : taken ≡ then_bytes first wrote
+  pub taken_is : Appends first taken wrote
   pub text_is : wrote ++ out ≡ told begun tale lines
 
 -- the same for some first lines, none of which is bad: for those that were whole before the last read, and maybe more
@@ -121,15 +122,16 @@ Plays begun tale (Err halt.Memory) ended earlier lines out first taken = Halts b
 Plays begun tale (Err halt.Read) ended earlier lines out first taken = (ended ≡ false) × ((rows_of lines).bad ≡ None) × Prints begun tale lines out first taken
 Plays begun tale (Err halt.Write) ended earlier lines out first taken = Halts begun tale halt.Write earlier lines out first taken
 
-pub record PlaysRead (begun : State) (tale : RowText) (result : Result (Unit {0}) Halt) (answers answers' : Option (List Answer)) (ends ends' : ℕ) (out : List ℕ) (first taken : Option (List ℕ)) : Type 0 where
+pub record PlaysRead (begun : State) (tale : RowText) (result : Result (Unit {0}) Halt) (answers answers' : Known) (ends ends' : ℕ) (out : List ℕ) (first taken : Option (List ℕ)) : Type 0 where
   pub more : List Answer
-  pub answers_are : answers' ≡ then_answers answers more
+  pub answers_are : AllAnswers answers answers' more
+  pub whole : nat_lt ends ends' ≡ true → NoneLeft answers'
   pub plays : Plays begun tale result (nat_lt ends ends') (earlier_lines more) (lines_read (nat_lt ends ends') (given more)) out first taken
 
 -- the reads so far gave bytes, and their whole lines were played
-pub record ReadSoFar (begun : State) (tale : RowText) (answers answers' : Option (List Answer)) (kept : List ℕ) (n : ℕ) (s : State) (out : List ℕ) (first taken : Option (List ℕ)) : Type 0 where
+pub record ReadSoFar (begun : State) (tale : RowText) (answers answers' : Known) (kept : List ℕ) (n : ℕ) (s : State) (out : List ℕ) (first taken : Option (List ℕ)) : Type 0 where
   pub more : List Answer
-  pub answers_are : answers' ≡ then_answers answers more
+  pub answers_are : AllAnswers answers answers' more
   pub within : Within begun tale (given more) [] kept n s out first taken
 
 -- FAULTS
@@ -159,8 +161,9 @@ ended_so (Err halt.Read) = ReadFault
 ended_so (Err halt.Write) = WriteFault
 
 -- the source's end was read, and all lines were played, none of which is bad
-pub record PlayedAll (begun : State) (answers answers' : Option (List Answer)) (s : State) : Type 0 where
+pub record PlayedAll (begun : State) (answers answers' : Known) (s : State) : Type 0 where
   pub more : List Answer
-  pub answers_are : answers' ≡ then_answers answers more
+  pub answers_are : AllAnswers answers answers' more
+  pub whole : NoneLeft answers'
   pub good : (rows_of (lines_read true (given more))).bad ≡ None
   pub state : s ≡ (run (rows_of (lines_read true (given more))).events begun).state

@@ -1,7 +1,7 @@
--- What a source answered and what a sink took, where they record it.
-use Rattle.std.specs.Prelude.{ℕ, ◌<◌, ◌≤◌, ◌++◌, List, [], ◌∷◌, take, Option}
-use Rattle.std.specs.Option.{option_map}
+-- What is known of what a source answered and of what a sink took.
+use Rattle.std.specs.Prelude.{◌≡◌, ℕ, ◌<◌, ◌≤◌, ◌++◌, List, [], ◌∷◌, take, Option}
 use Rattle.std.specs.List.{flat_map}
+use Rattle.std.specs.Io.KnownBytes.{Consumes, IsAtEnd}
 use Rattle.of_replay.specs.declared.io.Reading.{Reading}
 use Rattle.of_replay.specs.declared.io.Reading.TheVariants as reading
 use Rattle.of_replay.specs.declared.io.Writing.{Writing}
@@ -13,14 +13,6 @@ pub data Answer : Type 0 where
   Idle : Answer
   Ended : Answer
   Failed : Answer
-
--- known bytes, and then these
-abbrev pub then_bytes : Option (List ℕ) → List ℕ → Option (List ℕ)
-then_bytes known bytes = option_map (λ bs. bs ++ bytes) known
-
--- known answers, and then this one
-abbrev pub then_answer : Option (List Answer) → Answer → Option (List Answer)
-then_answer known answer = option_map (λ as'. as' ++ answer ∷ []) known
 
 -- the answer, where the buffer is as the read left it
 abbrev pub answer_of : Reading → List ℕ → Answer
@@ -36,6 +28,22 @@ bytes_of other = []
 
 abbrev pub given : List Answer → List ℕ
 given answers = flat_map bytes_of answers
+
+-- what is known of a source: all that its reads answered; or the bytes that it has left, as far as those are known
+pub data Known : Type 0 where
+  Told : (answers : List Answer) → Known
+  Left : (bytes : Option (List ℕ)) → Known
+
+-- a read answered so: that is the last answer; or the bytes that were left began with what it gave, and lost that
+abbrev pub Answers : Known → Known → Answer → Type 0
+Answers (Told before) (Told after) answer = after ≡ before ++ answer ∷ []
+Answers (Left before) (Left after) answer = Consumes before after (bytes_of answer)
+Answers before after answer = ⊥
+
+-- no byte is known to be left
+abbrev pub NoneLeft : Known → Type 0
+NoneLeft (Told answers) = Unit {0}
+NoneLeft (Left bytes) = IsAtEnd bytes
 
 abbrev pub read_count : Reading → ℕ
 read_count (reading.Bytes n) = n

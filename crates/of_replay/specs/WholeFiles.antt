@@ -5,8 +5,8 @@ use Rattle.of_replay.specs.declared.event_file.Ended.TheVariants.{Done, ReadFaul
 use Rattle.of_replay.specs.declared.halt.Halt.{Halt}
 use Rattle.of_replay.specs.declared.halt.Halt.TheVariants as halt
 use Rattle.of_text.specs.Lines.{lines_of}
-use Rattle.of_replay.specs.Told.{Answer, given}
-use Rattle.of_replay.specs.Transfer.{then_answers}
+use Rattle.of_replay.specs.Told.{Answer, Known, NoneLeft, given}
+use Rattle.of_replay.specs.Transfer.{AllAnswers}
 use Rattle.of_replay.specs.Lexing.{is_line}
 
 -- READING
@@ -19,9 +19,10 @@ ReadsAll (Err halt.Memory) ended file bytes = Unit {0}
 ReadsAll (Err halt.Read) ended file bytes = ended ≡ false
 ReadsAll (Err halt.Write) ended file bytes = ⊥
 
-pub record ReadsFile (result : Result (Unit {0}) Halt) (answers answers' : Option (List Answer)) (ends ends' : ℕ) (file : List ℕ) : Type 0 where
+pub record ReadsFile (result : Result (Unit {0}) Halt) (answers answers' : Known) (ends ends' : ℕ) (file : List ℕ) : Type 0 where
   pub more : List Answer
-  pub answers_are : answers' ≡ then_answers answers more
+  pub answers_are : AllAnswers answers answers' more
+  pub whole : nat_lt ends ends' ≡ true → NoneLeft answers'
   pub is : ReadsAll result (nat_lt ends ends') file (given more)
 
 -- LINES

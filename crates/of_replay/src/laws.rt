@@ -1,10 +1,17 @@
-//! Laws of rows.
-ghost use Rattle.std.specs.Prelude.{◌≡◌, ◌++◌, ◌∷◌, [], Some, codes};
+//! Laws of rows and of whole files.
+ghost use Rattle.std.specs.Prelude.{◌≡◌, ◌<◌, ◌++◌, ◌∷◌, ℕ, List, [], Option, Some, codes};
+ghost use Rattle.std.specs.Io.KnownBytes.{Appends};
+ghost use Rattle.of_build.specs.Building.{build_text};
 ghost use Rattle.of_switch.specs.State.{State};
 ghost use Rattle.of_switch.specs.Runs.{IsRefused};
 ghost use Rattle.of_switch.specs.declared.switch_error.SwitchError.TheVariants.{BadPortNumber};
 ghost use Rattle.of_switch.specs.declared.port_change.PortChange.TheVariants.{Remove};
 ghost use Rattle.of_switch.specs.declared.event.Event.TheVariants.{Ports};
+ghost use Rattle.of_replay.specs.Told.{Known, Left};
+ghost use Rattle.of_replay.specs.Lexing.{lines_of};
+ghost use Rattle.of_replay.specs.Play.{PrintsLines};
+ghost use Rattle.of_replay.specs.FileRuns.{Runs, TextOf, event_file, flow_text, is_text, switch_text};
+ghost use Rattle.of_replay.specs.declared.event_file.Ended.TheVariants.{Done};
 ghost use Rattle.of_replay.specs.Rows.{row_of};
 ghost use Rattle.of_replay.specs.RowTexts.{plain, row_happened};
 
@@ -14,4 +21,20 @@ pub fn mark_changes_nothing()
     ensures row { row_of (codes "port remove 0") ≡ Some (Some (Ports (Remove 0))) }
     ensures same { (s : State) → row_happened s (Some (Ports (Remove 0))) ≡ record { report = IsRefused BadPortNumber; state = s } }
     ensures text { (s : State) → plain s (codes "port remove 0") (Some (Ports (Remove 0))) ≡ codes "refused 8" ++ 10 ∷ [] }
+{}
+
+/// From the bytes of a file to the bytes of the output, where no read and no write fails and memory suffices: where a reader has `file` left, and all of
+/// it is read, what a writer holds grows by the text of the file's lines, or by that of the configuration or of the switch that it says.
+///
+/// What a reader has left (std's `remaining`) is what is known of a [`ReaderSource`](crate::streams::ReaderSource), and what a writer
+/// holds (std's `contents`) of a [`WriterSink`](crate::streams::WriterSink).
+pub fn files_come_whole()
+    ensures lines { (text_of : List (List ℕ) → List ℕ) (file : List ℕ) (known : Known) (ends ends' : ℕ) (old new : Option (List ℕ)) →
+        PrintsLines text_of Done (Left (Some file)) known ends ends' old new → Appends old new (text_of (lines_of file)) }
+    ensures asm { (file : List ℕ) (known : Known) (ends ends' : ℕ) (old new : Option (List ℕ)) →
+        Runs flow_text (is_text build_text) Done (Left (Some file)) known ends ends' old new → ends < ends' →
+        TextOf flow_text (is_text build_text) file old new }
+    ensures dis { (file : List ℕ) (known : Known) (ends ends' : ℕ) (old new : Option (List ℕ)) →
+        Runs event_file (is_text switch_text) Done (Left (Some file)) known ends ends' old new → ends < ends' →
+        TextOf event_file (is_text switch_text) file old new }
 {}

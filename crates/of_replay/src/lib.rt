@@ -27,7 +27,7 @@ pub use event_file::{Ended, READ_SIZE, ended_by, print_file, replay, status, zer
 pub use flow_text::asm;
 pub use halt::Halt;
 pub use io::{Reading, Sink, Source, Writing};
-pub use laws::mark_changes_nothing;
+pub use laws::{files_come_whole, mark_changes_nothing};
 pub use output::push_effects;
 pub use play::play_row;
 pub use rows::{Row, read_row};

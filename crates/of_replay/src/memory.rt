@@ -1,5 +1,5 @@
 //! Sources and sinks in memory, whose reads and writes can be made to fail.
-ghost use Rattle.std.specs.Prelude.{◌≡◌, ◌+◌, ◌-◌, ◌<◌, ◌≤◌, ◌^◌, ◌++◌, ◌∷◌, ◌↔◌, ℕ, [], Some, IsTrue, length, take, drop, min, vec_len, vec_capacity, IfOk};
+ghost use Rattle.std.specs.Prelude.{◌≡◌, ◌≢◌, ◌+◌, ◌-◌, ◌<◌, ◌≤◌, ◌^◌, ◌++◌, ◌∷◌, ◌↔◌, ℕ, [], Some, IsTrue, length, take, drop, min, vec_len, vec_capacity, IfOk};
 ghost use Rattle.std.specs.List.{sum};
 
 use crate::io::{Reading, Sink, Source, Writing};
@@ -95,10 +95,10 @@ impl MemorySource {
 }
 
 impl Source for MemorySource {
-    ghost use Rattle.of_replay.specs.Told.{then_answer, answer_of, read_count, read_ends, read_faults, IsReading, given};
+    ghost use Rattle.of_replay.specs.Told.{Told, answer_of, read_count, read_ends, read_faults, IsReading, given};
     ghost use Rattle.of_replay.specs.Memory.{told, reads_of, IsNext};
 
-    ghost answers = { λ s. Some (told s) };
+    ghost answers = { λ s. Told (told s) };
 
     ghost reads = { reads_of };
 
@@ -111,7 +111,8 @@ impl Source for MemorySource {
         requires room { 0 < length buffer.old }
         requires few { reads_of self.old < 2 ^ 63 }
         ensures fits { IsReading result (length buffer.new) }
-        ensures answers { Some (told self.new) ≡ then_answer (Some (told self.old)) (answer_of result buffer.new) }
+        ensures waits { result ≢ Reading.Nothing }
+        ensures answers { told self.new ≡ told self.old ++ answer_of result buffer.new ∷ [] }
         ensures reads { reads_of self.new ≡ reads_of self.old + 1 }
         ensures ends { self.new.ends ≡ self.old.ends + read_ends result }
         ensures failures { self.new.failures ≡ self.old.failures + read_faults result }
@@ -176,7 +177,7 @@ impl MemorySink {
 }
 
 impl Sink for MemorySink {
-    ghost use Rattle.of_replay.specs.Told.{then_bytes, write_count, write_faults, IsWriting};
+    ghost use Rattle.of_replay.specs.Told.{write_count, write_faults, IsWriting};
     ghost use Rattle.of_replay.specs.Memory.{IsTaking};
 
     ghost taken = { λ s. Some s.bytes.items };
@@ -188,7 +189,7 @@ impl Sink for MemorySink {
         requires some { 0 < length bytes.now }
         requires few { self.old.failures < 2 ^ 63 }
         ensures fits { IsWriting result (length bytes.now) }
-        ensures taken { Some self.new.bytes.items ≡ then_bytes (Some self.old.bytes.items) (take (write_count result) bytes.now) }
+        ensures taken { self.new.bytes.items ≡ self.old.bytes.items ++ take (write_count result) bytes.now }
         ensures failures { self.new.failures ≡ self.old.failures + write_faults result }
         ensures next { IsTaking self.old (length bytes.now) result }
         ensures writes { self.new.writes ≡ min (self.old.writes + 1) u64.MAX }

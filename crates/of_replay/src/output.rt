@@ -1,6 +1,6 @@
 //! The lines that are printed, and their way to a sink.
 ghost use Rattle.std.specs.Prelude.{◌≡◌, ◌++◌, ◌<◌, ◌≤◌, ◌↔◌, [], IfErr, IsTrue, OnOk, OnErr, decimal, length};
-ghost use Rattle.of_replay.specs.Told.{then_bytes};
+ghost use Rattle.std.specs.Io.KnownBytes.{Appends};
 ghost use Rattle.of_replay.specs.Transfer.{Grows, WrotePrefix};
 ghost use Rattle.of_replay.specs.Output.{line_of, refused_line, text_of};
 ghost use Rattle.of_replay.specs.Stepping.{PrintsReport};
@@ -123,7 +123,7 @@ impl Printer {
     pub fn flush<W: Sink>(&mut self, writer: &mut W) -> Result<(), Halt>
         requires { W.failures writer.old ≡ 0 }
         ensures before { W.failures writer.old ≡ 0 }
-        ensures all { OnOk result ((W.taken writer.new ≡ then_bytes (W.taken writer.old) self.old) × (self.new ≡ [])) }
+        ensures all { OnOk result (Appends (W.taken writer.old) (W.taken writer.new) self.old × (self.new ≡ [])) }
         ensures well { OnOk result (W.failures writer.new ≡ 0) }
         ensures front { OnErr result (WrotePrefix (W.taken writer.old) self.old (W.taken writer.new)) }
         ensures failed { OnErr result (0 < W.failures writer.new) }

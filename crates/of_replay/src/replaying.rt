@@ -1,11 +1,11 @@
 //! Rows as they are read, played on a switch, and what is printed for them.
-ghost use Rattle.std.specs.Prelude.{◌≡◌, ◌+◌, ◌<◌, ◌≤◌, ◌^◌, ◌++◌, ℕ, List, [], Option, IfErr, OnOk, length, take, position, ◌==◌};
+ghost use Rattle.std.specs.Prelude.{◌≡◌, ◌+◌, ◌<◌, ◌≤◌, ◌^◌, ◌++◌, ◌≢◌, ℕ, List, [], Option, IfErr, OnOk, length, take, position, ◌==◌};
 ghost use Rattle.of_switch.specs.State.{State};
 ghost use Rattle.of_replay.specs.Rows.{row_of};
 ghost use Rattle.of_replay.specs.Play.{PrintsLines, WrittenEarly};
 ghost use Rattle.of_replay.specs.Transfer.{Grows};
 ghost use Rattle.of_replay.specs.RowTexts.{told};
-ghost use Rattle.of_replay.specs.Told.{then_answer, answer_of, read_ends, read_faults, IsReading};
+ghost use Rattle.of_replay.specs.Told.{Answers, NoneLeft, answer_of, read_ends, read_faults, IsReading};
 ghost use Rattle.of_replay.specs.Stepping.{LineTells, LineGoes, Within, ChunkGoes, PlayedAll, PlaysRead, WritesFail, ReadsFail, ended_so};
 
 use crate::halt::Halt;
@@ -19,7 +19,7 @@ use of_switch::Switch;
 use of_wire::{front_of, rest_from};
 use std::alloc::{AllocError, Global};
 
-/// How often a reader is read at most.
+/// How often a reader is read at most: no more than 65,536,000,000 bytes are read of it.
 const MOST_READS: u32 = 1_000_000;
 
 /// A run of a file's rows, which are played as they are read: of the file, only the line that has begun is kept.
@@ -187,7 +187,9 @@ impl<L: Lookup> Replaying<L> {
         requires room { length buffer.old ≡ 65536 }
         requires few { S.reads reader.old < 2 ^ 63 }
         ensures fits { IsReading result (length buffer.new) }
-        ensures answers { S.answers reader.new ≡ then_answer (S.answers reader.old) (answer_of result buffer.new) }
+        ensures waits { result ≢ Reading.Nothing }
+        ensures answers { Answers (S.answers reader.old) (S.answers reader.new) (answer_of result buffer.new) }
+        ensures end { result ≡ Reading.End → NoneLeft (S.answers reader.new) }
         ensures reads { S.reads reader.new ≡ S.reads reader.old + 1 }
         ensures ends { S.ends reader.new ≡ S.ends reader.old + read_ends result }
         ensures failures { S.failures reader.new ≡ S.failures reader.old + read_faults result }
@@ -218,9 +220,9 @@ impl<L: Lookup> Replaying<L> {
         for _ in 0..MOST_READS {
             match self.read_once(reader, buffer) {
                 Reading::Bytes(n) => self.chunk(teller, front_of(buffer, n), writer)?,
-                Reading::Nothing => {}
                 Reading::End => return self.line(teller, writer),
                 Reading::Fault => return Err(Halt::Read),
+                Reading::Nothing => unreachable!(),
             }
         }
         Err(Halt::Read)

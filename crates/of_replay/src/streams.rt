@@ -1,12 +1,12 @@
 //! Readers and writers, as files and standard output are, as sources and sinks.
-ghost use Rattle.std.specs.Prelude.{◌≡◌, ◌≤◌, ◌<◌, ◌+◌, ◌^◌, None, length, take};
+ghost use Rattle.std.specs.Prelude.{◌≡◌, ◌≢◌, ◌≤◌, ◌<◌, ◌+◌, ◌^◌, length, take};
 ghost use Rattle.std.specs.Io.KnownBytes.{Appends, Consumes, IsAtEnd};
-ghost use Rattle.of_replay.specs.Told.{IsReading, IsWriting, answer_of, bytes_of, read_ends, read_faults, then_answer, then_bytes, write_count, write_faults};
+ghost use Rattle.of_replay.specs.Told.{IsReading, IsWriting, Left, answer_of, bytes_of, read_ends, read_faults, write_count, write_faults};
 
 use crate::io::{Reading, Sink, Source, Writing};
 use std::io::{ErrorKind, Read, Write};
 
-/// A source over a reader. It does not record what it read.
+/// A source over a reader: what is known of it is what the reader has left.
 #[derive(Drop)]
 pub struct ReaderSource<R: Read + Drop> {
     reader: R,
@@ -31,8 +31,16 @@ impl<R: Read + Drop> ReaderSource<R> {
     }
 }
 
+// Whether a read that ends so is to be made again.
+fn is_idle(kind: ErrorKind) -> bool {
+    matches!(
+        kind,
+        ErrorKind::Interrupted | ErrorKind::WouldBlock | ErrorKind::TimedOut
+    )
+}
+
 impl<R: Read + Drop> Source for ReaderSource<R> {
-    ghost answers = { λ _. None };
+    ghost answers = { λ s. Left (R.remaining s.reader) };
 
     ghost reads = { λ s. s.reads };
 
@@ -40,40 +48,39 @@ impl<R: Read + Drop> Source for ReaderSource<R> {
 
     ghost failures = { λ s. s.failures };
 
-    /// It takes from the reader the bytes that it gives, and says that there are no more where the reader has none.
-    #[tactic(auto, using(crate::proofs::KnownLemmas::nothing_consumed))]
+    /// Takes from the reader the bytes that it gives; they end where the reader has none left.
+    ///
+    /// A read that was interrupted, or for which there are no bytes yet, is made again, and is not counted. Where bytes may be
+    /// missing for long, the reader has to pause before it says so.
     fn read(&mut self, buffer: &mut [u8]) -> Reading
         requires room { 0 < length buffer.old }
         requires few { self.old.reads < 2 ^ 63 }
         ensures fits { IsReading result (length buffer.new) }
-        ensures answers { None ≡ then_answer None (answer_of result buffer.new) }
+        ensures waits { result ≢ Reading.Nothing }
+        ensures answers { Consumes (R.remaining self.old.reader) (R.remaining self.new.reader) (bytes_of (answer_of result buffer.new)) }
+        ensures end { result ≡ Reading.End → IsAtEnd (R.remaining self.new.reader) }
         ensures reads { self.new.reads ≡ self.old.reads + 1 }
         ensures ends { self.new.ends ≡ self.old.ends + read_ends result }
         ensures failures { self.new.failures ≡ self.old.failures + read_faults result }
-        ensures consumes { Consumes (R.remaining self.old.reader) (R.remaining self.new.reader) (bytes_of (answer_of result buffer.new)) }
-        ensures end { result ≡ Reading.End → IsAtEnd (R.remaining self.new.reader) }
     {
         self.reads += 1;
-        match self.reader.read(buffer) {
-            Ok(0) => {
-                self.ends += 1;
-                Reading::End
+        for _ in 0..u64::MAX {
+            match self.reader.read(buffer) {
+                Ok(0) => {
+                    self.ends += 1;
+                    return Reading::End;
+                }
+                Ok(n) => return Reading::Bytes(n),
+                Err(error) if is_idle(error.kind()) => {}
+                Err(_) => break,
             }
-            Ok(n) => Reading::Bytes(n),
-            Err(error) => match error.kind() {
-                ErrorKind::Interrupted | ErrorKind::WouldBlock | ErrorKind::TimedOut => {
-                    Reading::Nothing
-                }
-                _ => {
-                    self.failures += 1;
-                    Reading::Fault
-                }
-            },
         }
+        self.failures += 1;
+        Reading::Fault
     }
 }
 
-/// A sink over a writer. It does not record what it wrote.
+/// A sink over a writer: what is known of it is what the writer holds.
 #[derive(Drop)]
 pub struct WriterSink<W: Write + Drop> {
     writer: W,
@@ -93,7 +100,7 @@ impl<W: Write + Drop> WriterSink<W> {
 }
 
 impl<W: Write + Drop> Sink for WriterSink<W> {
-    ghost taken = { λ _. None };
+    ghost taken = { λ s. W.contents s.writer };
 
     ghost failures = { λ s. s.failures };
 
@@ -102,9 +109,8 @@ impl<W: Write + Drop> Sink for WriterSink<W> {
         requires some { 0 < length bytes.now }
         requires few { self.old.failures < 2 ^ 63 }
         ensures fits { IsWriting result (length bytes.now) }
-        ensures taken { None ≡ then_bytes None (take (write_count result) bytes.now) }
+        ensures taken { Appends (W.contents self.old.writer) (W.contents self.new.writer) (take (write_count result) bytes.now) }
         ensures failures { self.new.failures ≡ self.old.failures + write_faults result }
-        ensures appends { Appends (W.contents self.old.writer) (W.contents self.new.writer) (take (write_count result) bytes.now) }
     {
         for _ in 0..u64::MAX {
             match self.writer.write(bytes) {

@@ -9,7 +9,7 @@ use crate::lexing::is_readable;
 use of_text::cut;
 use of_wire::front_of;
 
-/// How often a reader is read at most.
+/// How often a reader is read at most: no more than 65,536,000,000 bytes are read of it.
 const MOST_READS: u32 = 1_000_000;
 
 // Appends these bytes to the file.
@@ -39,9 +39,9 @@ pub fn read_file<S: Source>(
     for _ in 0..MOST_READS {
         match reader.read(buffer) {
             Reading::Bytes(n) => keep(file, front_of(buffer, n))?,
-            Reading::Nothing => {}
             Reading::End => return Ok(()),
             Reading::Fault => return Err(Halt::Read),
+            Reading::Nothing => unreachable!(),
         }
     }
     Err(Halt::Read)

@@ -11,7 +11,8 @@ use Rattle.of_switch.specs.Runs.{happened}
 use Rattle.of_replay.specs.declared.event_file.Ended.{Ended}
 use Rattle.of_replay.specs.declared.halt.Halt.{Halt}
 use Rattle.of_replay.specs.declared.halt.Halt.TheVariants.{Bad, Memory, Read as ReadHalt, Write}
-use Rattle.of_replay.specs.Told.{Answer, then_bytes}
+use Rattle.std.specs.Io.KnownBytes.{Appends}
+use Rattle.of_replay.specs.Told.{Answer}
 use Rattle.of_replay.specs.Transfer.{WrotePrefix}
 use Rattle.of_serve.specs.declared.peers.Accepted.TheVariants as accepted
 use Rattle.of_serve.specs.Told.{Came, accept_came, Answered, then_told, then_begun, then_onto}
@@ -22,7 +23,7 @@ use Rattle.of_serve.specs.Gathering.{CutIn, Hears, TellsReads, CutsReads, Opens,
 use Rattle.of_serve.proofs.CutLemmas.{cut_now, cut_later}
 use Rattle.of_replay.specs.declared.event_file.Ended.TheVariants.{Done, BadRow, ReadFault, WriteFault, NoMemory}
 use Rattle.of_serve.proofs.TurnLemmas.{told-nil, told-told, gathered_more}
-use Rattle.of_replay.proofs.TellingLemmas.{then-then, then-nil}
+use Rattle.of_replay.proofs.TellingLemmas.{appends-none, appends-then}
 use Rattle.of_replay.specs.Stepping.{ended_so}
 use Rattle.std.specs.Prelude.{not, ◌<◌, ◌↔◌}
 
@@ -157,8 +158,11 @@ is_turn s g g' rest old now took took' l a = record {
   taken = subst (λ (x : Gathered). IsTaken a.broke a.taken x.answers) l.handled a.is_taken;
 }
 
+appends_same : (old old' : Option (List ℕ)) (text text' : List ℕ) (new : Option (List ℕ)) → old ≡ old' → text ≡ text' → Appends old new text → Appends old' new text'
+appends_same old old' text text' new e t a = subst (λ (x : Option (List ℕ)). Appends x new text') e (subst (Appends old new) t a)
+
 goes_on : (s : ServeState) (g g1 g2 : Gathered) (rest : List Event) (old : Tells) (came came' : Option (List Came)) (times : Option (List ℕ)) (took took' : Option (List (List ℕ))) (wrote wrote' : Option (List ℕ))
-    → Learns s g rest old (tells came times took wrote) → came' ≡ came → IsAnswered g g1 took took' → wrote' ≡ then_bytes wrote g1.lines → g2 ≡ nothing_pending g1.state
+    → Learns s g rest old (tells came times took wrote) → came' ≡ came → IsAnswered g g1 took took' → Appends wrote wrote' g1.lines → g2 ≡ nothing_pending g1.state
     → GoesOn s g2 rest old (tells came' times took' wrote')
 goes_on s g g1 g2 rest old came came' times took took' wrote wrote' l e a w cleared = record {
   turn = record { input = l.input; taken = a.taken; broke = a.broke };
@@ -168,11 +172,11 @@ goes_on s g g1 g2 rest old came came' times took took' wrote wrote' l e a w clea
   came_is = e ∙ l.came_is;
   times_are = l.times_are;
   took_is = a.took_is ∙ ap (λ (x : Option (List (List ℕ))). then_onto x a.taken) l.took_is;
-  wrote_is = w ∙ (ap (λ (x : Option (List ℕ)). then_bytes x g1.lines) l.wrote_is ∙ ap (then_bytes old.wrote) (same_lines g g1 took took' a ∙ ap (λ (x : Gathered). x.lines) l.handled));
+  wrote_is = appends_same wrote old.wrote g1.lines (given l.input s).lines wrote' l.wrote_is (same_lines g g1 took took' a ∙ ap (λ (x : Gathered). x.lines) l.handled) w;
 }
 
 front_same : (old old' : Option (List ℕ)) (text text' : List ℕ) (new : Option (List ℕ)) → old ≡ old' → text ≡ text' → WrotePrefix old text new → WrotePrefix old' text' new
-front_same old old' text text' new e t w = (w.0, w.1, w.2 ∙ t, w.3 ∙ ap (λ (x : Option (List ℕ)). then_bytes x w.0) e)
+front_same old old' text text' new e t w = (w.0, w.1, w.2 ∙ t, subst (λ (x : Option (List ℕ)). Appends x new w.0) e w.3)
 
 stops : (s : ServeState) (g g1 : Gathered) (rest : List Event) (old : Tells) (came came' : Option (List Came)) (times : Option (List ℕ)) (took took' : Option (List (List ℕ))) (wrote wrote' : Option (List ℕ))
     → Learns s g rest old (tells came times took wrote) → came' ≡ came → IsAnswered g g1 took took' → WrotePrefix wrote g1.lines wrote' → Stops s old (tells came' times took' wrote')
@@ -202,11 +206,11 @@ cut_turn s g g1 old came came' times took took' wrote wrote' c a e = record {
 }
 
 stops_short : (s : ServeState) (g g1 : Gathered) (old : Tells) (came came' : Option (List Came)) (times : Option (List ℕ)) (took took' : Option (List (List ℕ))) (wrote wrote' : Option (List ℕ))
-    → Cuts s g old (tells came times took wrote) → came' ≡ came → IsAnswered g g1 took took' → wrote' ≡ then_bytes wrote g1.lines → StopsShort s old (tells came' times took' wrote')
+    → Cuts s g old (tells came times took wrote) → came' ≡ came → IsAnswered g g1 took took' → Appends wrote wrote' g1.lines → StopsShort s old (tells came' times took' wrote')
 stops_short s g g1 old came came' times took took' wrote wrote' c e a w = (
   record { known = c.known; cut = c.cut.cut; taken = a.taken; broke = a.broke },
   cut_turn s g g1 old came came' times took took' wrote wrote' c a e,
-  w ∙ (ap (λ (x : Option (List ℕ)). then_bytes x g1.lines) c.wrote_is ∙ ap (then_bytes old.wrote) (same_lines g g1 took took' a ∙ c.cut.lines_are)),
+  appends_same wrote old.wrote g1.lines (cut_given c.cut.cut s).lines wrote' c.wrote_is (same_lines g g1 took took' a ∙ c.cut.lines_are) w,
 )
 
 stops_shorter : (s : ServeState) (g g1 : Gathered) (old : Tells) (came came' : Option (List Came)) (times : Option (List ℕ)) (took took' : Option (List (List ℕ))) (wrote wrote' : Option (List ℕ))
@@ -223,7 +227,7 @@ abbrev pub NotRead : Result (Unit {0}) Halt → Type 0
 NotRead r = r ≡ Err ReadHalt → ⊥
 
 pub turn_goes : (r : Result (Unit {0}) Halt) (s : ServeState) (g g1 g2 : Gathered) (rest : List Event) (old : Tells) (came came' : Option (List Came)) (times : Option (List ℕ)) (took took' : Option (List (List ℕ))) (wrote wrote' : Option (List ℕ))
-    → NotRead r → Inputs r s g rest old (tells came times took wrote) → came' ≡ came → IsAnswered g g1 took took' → wrote' ≡ then_bytes wrote g1.lines → g2 ≡ nothing_pending g1.state
+    → NotRead r → Inputs r s g rest old (tells came times took wrote) → came' ≡ came → IsAnswered g g1 took took' → Appends wrote wrote' g1.lines → g2 ≡ nothing_pending g1.state
     → Goes r s g2 rest old (tells came' times took' wrote')
 turn_goes (Ok u) s g g1 g2 rest old came came' times took took' wrote wrote' not i e a w cleared = goes_on s g g1 g2 rest old came came' times took took' wrote wrote' i e a w cleared
 turn_goes (Err (Bad n)) s g g1 g2 rest old came came' times took took' wrote wrote' not i e a w cleared = i
@@ -284,7 +288,7 @@ so_far_begun n s g rest t zero e r = record {
   came_is = sym (told-nil t.came);
   times_are = sym (told-nil t.times);
   took_is = refl;
-  wrote_is = sym (then-nil t.wrote);
+  wrote_is = appends-none t.wrote;
 }
 
 stands_same : (s x : ServeState) (g : Gathered) (rest : List Event) → g ≡ nothing_pending x.state → rest ≡ x.rows → standing g.state rest ≡ x
@@ -309,17 +313,17 @@ so_far_more n n' s g g' rest rest' old now new f go e =
       came_is = told_more old.came now.came new.came (came f.ts) (came_in t.turn.input) f.came_is t.came_is;
       times_are = told_more old.times now.times new.times (times f.ts) (time_in t.turn.input) f.times_are t.times_are;
       took_is = took_more old.took now.took new.took f.ts t.turn f.took_is t.took_is;
-      wrote_is = t.wrote_is ∙ (ap (λ (k : Option (List ℕ)). then_bytes k (given t.turn.input x).lines) f.wrote_is ∙ then-then old.wrote (sent s f.ts) (given t.turn.input x).lines);
+      wrote_is = appends-then old.wrote now.wrote new.wrote (sent s f.ts) (given t.turn.input x).lines f.wrote_is t.wrote_is;
     }
 
 -- HOW SERVING ENDS
 
-front_more : (old now new : Option (List ℕ)) (a b : List ℕ) → now ≡ then_bytes old a → WrotePrefix now b new → WrotePrefix old (a ++ b) new
+front_more : (old now new : Option (List ℕ)) (a b : List ℕ) → Appends old now a → WrotePrefix now b new → WrotePrefix old (a ++ b) new
 front_more old now new a b e w = (
   a ++ w.0,
   w.1,
   append_assoc a w.0 w.1 ∙ ap (λ (x : List ℕ). a ++ x) w.2,
-  w.3 ∙ (ap (λ (x : Option (List ℕ)). then_bytes x w.0) e ∙ then-then old a w.0),
+  appends-then old now new a w.0 e w.3,
 )
 
 pub serves_all : (n turns : ℕ) (s : ServeState) (g : Gathered) (rest : List Event) (old new : Tells) → SoFar n s g rest old new → n ≡ turns → Serves (ended_so (Ok tt)) turns s old new
@@ -347,7 +351,7 @@ until_memory n turns s g rest old now new f lt go =
         go.0,
         omega (arith, lt, f.count_is),
         cut_behind n s g rest old now new go.0 f go.1,
-        go.2 ∙ (ap (λ (x : Option (List ℕ)). then_bytes x lines) f.wrote_is ∙ then-then old.wrote (sent s f.ts) lines),
+        appends-then old.wrote now.wrote new.wrote (sent s f.ts) lines f.wrote_is go.2,
       );
     }
 

@@ -8,7 +8,8 @@ use Rattle.of_switch.specs.Steps.{Outcome, next_of}
 use Rattle.of_switch.specs.Runs.{unless, drain, drained}
 use Rattle.of_replay.specs.declared.halt.Halt.{Halt}
 use Rattle.of_replay.specs.declared.halt.Halt.TheVariants.{Bad, Memory, Read as ReadHalt, Write}
-use Rattle.of_replay.specs.Told.{Answer, then_bytes}
+use Rattle.std.specs.Io.KnownBytes.{Appends}
+use Rattle.of_replay.specs.Told.{Answer}
 use Rattle.of_replay.specs.Transfer.{WrotePrefix}
 use Rattle.of_serve.specs.declared.peers.Accepted.{Accepted}
 use Rattle.of_serve.specs.declared.peers.Accepted.TheVariants as accepted
@@ -159,7 +160,7 @@ pub record GoesOn (s : ServeState) (g : Gathered) (rest : List Event) (old new :
   pub came_is : new.came ≡ then_told old.came (came_in turn.input)
   pub times_are : new.times ≡ then_told old.times (time_in turn.input)
   pub took_is : new.took ≡ then_onto (then_in old.took turn.input) turn.taken
-  pub wrote_is : new.wrote ≡ then_bytes old.wrote (given turn.input s).lines
+  pub wrote_is : Appends old.wrote new.wrote (given turn.input s).lines
 
 -- a turn, of whose lines a write failed
 pub record Stops (s : ServeState) (old new : Tells) : Type 0 where
@@ -172,7 +173,7 @@ pub record Stops (s : ServeState) (old new : Tells) : Type 0 where
 
 -- a turn that memory cut short, all of whose lines were written
 abbrev pub StopsShort : ServeState → Tells → Tells → Type 0
-StopsShort s old new = (t : CutTurn) × CutShort t s None old new × (new.wrote ≡ then_bytes old.wrote (cut_sent t s None))
+StopsShort s old new = (t : CutTurn) × CutShort t s None old new × Appends old.wrote new.wrote (cut_sent t s None)
 
 -- or of whose lines a write failed
 abbrev pub StopsShorter : ServeState → Tells → Tells → Type 0
@@ -196,4 +197,4 @@ pub record SoFar (n : ℕ) (s : ServeState) (g : Gathered) (rest : List Event) (
   pub came_is : new.came ≡ then_told old.came (came ts)
   pub times_are : new.times ≡ then_told old.times (times ts)
   pub took_is : new.took ≡ took old.took ts
-  pub wrote_is : new.wrote ≡ then_bytes old.wrote (sent s ts)
+  pub wrote_is : Appends old.wrote new.wrote (sent s ts)

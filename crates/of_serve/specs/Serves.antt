@@ -2,7 +2,7 @@
 use Rattle.std.specs.Prelude.{◌≡◌, ◌⊎◌, ◌<◌, ◌≤◌, ℕ, List, [], ◌∷◌, ◌++◌, Option}
 use Rattle.of_replay.specs.declared.event_file.Ended.{Ended}
 use Rattle.of_replay.specs.declared.event_file.Ended.TheVariants.{Done, BadRow, Text, ReadFault, WriteFault, NoMemory}
-use Rattle.of_replay.specs.Told.{then_bytes}
+use Rattle.std.specs.Io.KnownBytes.{Appends}
 use Rattle.of_replay.specs.Transfer.{WrotePrefix}
 use Rattle.of_serve.specs.declared.peers.Accepted.TheVariants as accepted
 use Rattle.of_serve.specs.Told.{Came, accept_came, then_told, then_onto}
@@ -34,18 +34,18 @@ cut_sent t s ts = sent s ts ++ (cut_given t.cut (stand s ts)).lines
 abbrev pub EndsSo : Ended → ℕ → ServeState → Turns → Tells → Tells → Type 0
 EndsSo Done turns s ts old new =
     (count ts ≡ turns) × (new.came ≡ then_told old.came (came ts)) × (new.times ≡ then_told old.times (times ts))
-    × (new.took ≡ took old.took ts) × (new.wrote ≡ then_bytes old.wrote (sent s ts))
+    × (new.took ≡ took old.took ts) × Appends old.wrote new.wrote (sent s ts)
 EndsSo (BadRow n) turns s ts old new = ⊥
 EndsSo (Text fault) turns s ts old new = ⊥
 EndsSo ReadFault turns s ts old new =
     (count ts < turns) × (new.came ≡ then_told old.came (came ts ++ accept_came accepted.Fault ∷ [])) × (new.times ≡ then_told old.times (times ts))
-    × (new.took ≡ took old.took ts) × (new.wrote ≡ then_bytes old.wrote (sent s ts))
+    × (new.took ≡ took old.took ts) × Appends old.wrote new.wrote (sent s ts)
 EndsSo WriteFault turns s ts old new =
     ((count ts ≤ turns) × (new.came ≡ then_told old.came (came ts)) × (new.times ≡ then_told old.times (times ts))
     × (new.took ≡ took old.took ts) × WrotePrefix old.wrote (sent s ts) new.wrote)
     ⊎ ((t : CutTurn) × (count ts < turns) × CutShort t s ts old new × WrotePrefix old.wrote (cut_sent t s ts) new.wrote)
 EndsSo NoMemory turns s ts old new =
-    ((t : CutTurn) × (count ts < turns) × CutShort t s ts old new × (new.wrote ≡ then_bytes old.wrote (cut_sent t s ts)))
+    ((t : CutTurn) × (count ts < turns) × CutShort t s ts old new × Appends old.wrote new.wrote (cut_sent t s ts))
     ⊎ ((ts ≡ None) × (new ≡ old))
 
 pub record Serves (ended : Ended) (turns : ℕ) (s : ServeState) (old new : Tells) : Type 0 where

@@ -1,10 +1,11 @@
 -- First lines, byte by byte, and of bytes that may be unknown.
-use Rattle.std.proofs.Common.{◌≡◌, ℕ, ◌+◌, ◌-◌, ◌<◌, ◌≤◌, List, [], ◌∷◌, ◌++◌, length, take, drop, get_or, Option, Some, None, refl, sym, ◌∙◌, ap, append_assoc, add-one, arith}
+use Rattle.std.proofs.Common.{◌≡◌, ℕ, ◌+◌, ◌-◌, ◌<◌, ◌≤◌, List, [], ◌∷◌, ◌++◌, length, take, drop, get_or, Option, Some, None, refl, sym, ◌∙◌, ap, subst, append_assoc, add-one, arith}
 use Rattle.std.proofs.lemmas.List.{drop_more, length-take-le, take-take}
 use Rattle.std.proofs.lemmas.Bool.{lt-ltb, ne_eqb}
 use Rattle.std.proofs.Math.Seq.{take-suc}
 use Rattle.std.specs.Io.KnownBytes.{Consumes, IsAtEnd}
-use Rattle.of_trace.specs.FirstLines.{first_lines, lines_behind, known_lines}
+use Rattle.of_replay.specs.Told.{Answer, Gave, Ended, Known, Told, Left, Answers, NoneLeft, bytes_of}
+use Rattle.of_trace.specs.FirstLines.{first_lines, lines_behind, known_lines, first_known}
 
 pub none_left : (bytes : List ℕ) → first_lines 0 bytes ≡ []
 none_left [] = refl
@@ -37,7 +38,7 @@ next_in_line left bytes rest at lt within other =
     next_byte left bytes rest at lt within ∙ rw (ne_eqb (get_or bytes at 0) 10 other) refl
 
 -- what is read is consumed
-pub consumed : (left left' n n' : ℕ) (buf : List ℕ) (old new : Option (List ℕ)) → n ≤ length buf → n' ≤ length (take n buf)
+consumed : (left left' n n' : ℕ) (buf : List ℕ) (old new : Option (List ℕ)) → n ≤ length buf → n' ≤ length (take n buf)
     → ((rest : List ℕ) → first_lines left (take n buf ++ rest) ≡ take n' (take n buf) ++ first_lines left' rest)
     → Consumes old new (take n buf) → Consumes (known_lines left old) (known_lines left' new) (take n' buf)
 consumed left left' n n' buf None new within fits part is = tt
@@ -46,19 +47,53 @@ consumed left left' n n' buf (Some xs) (Some ys) within fits part is =
     ap (first_lines left) is ∙ part ys ∙ ap (λ l. l ++ first_lines left' ys) (take-take n' n buf (omega (arith, fits, length-take-le n buf within)))
 
 -- behind the end is the end
-pub end_is_end : (left : ℕ) (known : Option (List ℕ)) → IsAtEnd known → IsAtEnd (known_lines left known)
+end_is_end : (left : ℕ) (known : Option (List ℕ)) → IsAtEnd known → IsAtEnd (known_lines left known)
 end_is_end left None at = tt
 end_is_end left (Some xs) at = ap (first_lines left) at
 
 -- and where no line is left
-pub no_line_left : (known : Option (List ℕ)) → IsAtEnd (known_lines 0 known)
+no_line_left : (known : Option (List ℕ)) → IsAtEnd (known_lines 0 known)
 no_line_left None = tt
 no_line_left (Some xs) = none_left xs
 
-pub none_consumed : (known : Option (List ℕ)) → Consumes known known []
+none_consumed : (known : Option (List ℕ)) → Consumes known known []
 none_consumed None = tt
 none_consumed (Some xs) = refl
 
--- where nothing is taken of what always gives something, nothing was there
-pub nothing_there : (n l n' : ℕ) → n ≡ l → (0 < l → 0 < n') → n' ≡ 0 → n ≡ 0
-nothing_there n l n' is some none = grind (arith, is, some, none)
+nothing_read : (left : ℕ) (old new : Option (List ℕ)) → Consumes old new [] → Consumes (known_lines left old) (known_lines left new) []
+nothing_read left None new is = tt
+nothing_read left (Some xs) None is = is
+nothing_read left (Some xs) (Some ys) is = ap (first_lines left) is
+
+-- THE SAME OF A SOURCE
+
+-- a part of what it gave is given on
+pub part_given : (left left' n n' : ℕ) (buf : List ℕ) (old new : Known) → n ≤ length buf → n' ≤ length (take n buf)
+    → ((rest : List ℕ) → first_lines left (take n buf ++ rest) ≡ take n' (take n buf) ++ first_lines left' rest)
+    → Answers old new (Gave (take n buf)) → Answers (first_known left old) (first_known left' new) (Gave (take n' buf))
+part_given left left' n n' buf (Told a) (Told b) within fits part is = tt
+part_given left left' n n' buf (Told a) (Left b) within fits part is = is
+part_given left left' n n' buf (Left a) (Told b) within fits part is = is
+part_given left left' n n' buf (Left a) (Left b) within fits part is = consumed left left' n n' buf a b within fits part is
+
+-- it gave nothing
+pub none_given : (left : ℕ) (old new : Known) (one : Answer) → bytes_of one ≡ [] → Answers old new one → Answers (first_known left old) (first_known left new) one
+none_given left (Told a) (Told b) one none is = tt
+none_given left (Told a) (Left b) one none is = is
+none_given left (Left a) (Told b) one none is = is
+none_given left (Left a) (Left b) one none is =
+    subst (Consumes (known_lines left a) (known_lines left b)) (sym none) (nothing_read left a b (subst (Consumes a b) none is))
+
+-- where it ends, its first lines do
+pub lines_end : (left : ℕ) (known : Known) → NoneLeft known → NoneLeft (first_known left known)
+lines_end left (Told answers) none = tt
+lines_end left (Left bytes) none = end_is_end left bytes none
+
+-- and where no line is left
+pub over_end : (known : Known) → NoneLeft (first_known 0 known)
+over_end (Told answers) = tt
+over_end (Left bytes) = no_line_left bytes
+
+pub over_given : (known : Known) → Answers (first_known 0 known) (first_known 0 known) Ended
+over_given (Told answers) = tt
+over_given (Left bytes) = none_consumed (known_lines 0 bytes)

@@ -1,25 +1,28 @@
-//! The first lines of what a reader gives.
-ghost use Rattle.std.specs.Prelude.{◌≡◌, ◌<◌, ◌≤◌, ◌++◌, ℕ, List, length, take};
-ghost use Rattle.of_trace.specs.FirstLines.{first_lines, known_lines};
+//! The first lines of what a source gives.
+ghost use Rattle.std.specs.Prelude.{◌≡◌, ◌+◌, ◌<◌, ◌≤◌, ◌++◌, ℕ, List, length, take};
+ghost use Rattle.of_trace.specs.FirstLines.{first_known, first_lines};
 
-use std::io::{self, Read};
+use of_replay::{Reading, Source};
 
-/// A reader of the first lines of another one: behind the last of them is the end.
+/// A source of the first lines of another one: behind the last of them is the end. A read of it fails only where one of the other fails.
 #[derive(Drop)]
-pub struct FirstLines<R: Read + Drop> {
-    reader: R,
+pub struct FirstLines<S: Source + Drop> {
+    source: S,
     // how many lines are still to come
     left: u64,
+    // how many reads found that none is
+    ended: u64,
 }
 
-impl<R: Read + Drop> FirstLines<R> {
-    /// The first lines of what a reader gives, so many. A line ends behind its LF, the last one of all also where the reader ends.
-    pub fn new(reader: R, lines: u64) -> Self
-        ensures { (result.reader ≡ reader) × (result.left ≡ lines) }
+impl<S: Source + Drop> FirstLines<S> {
+    /// The first lines of what a source gives, so many. A line ends behind its LF, the last one of all also where the source ends.
+    pub fn new(source: S, lines: u64) -> Self
+        ensures { (result.source ≡ source) × (result.left ≡ lines) × (result.ended ≡ 0) }
     {
         FirstLines {
-            reader,
+            source,
             left: lines,
+            ended: 0,
         }
     }
 
@@ -29,7 +32,7 @@ impl<R: Read + Drop> FirstLines<R> {
         ensures fits { result ≤ length bytes.now }
         ensures part { (rest : List ℕ) → first_lines self.old.left (bytes.now ++ rest) ≡ take result bytes.now ++ first_lines self.new.left rest }
         ensures some { 0 < length bytes.now → 0 < result }
-        ensures reader { self.new.reader ≡ self.old.reader }
+        ensures same { (self.new.source ≡ self.old.source) × (self.new.ended ≡ self.old.ended) }
     {
         for (at, byte) in bytes.iter().enumerate() {
             if *byte == b'\n' {
@@ -43,14 +46,23 @@ impl<R: Read + Drop> FirstLines<R> {
     }
 }
 
-impl<R: Read + Drop> Read for FirstLines<R> {
-    ghost remaining = { λ s. known_lines s.left (R.remaining s.reader) };
+impl<S: Source + Drop> Source for FirstLines<S> {
+    ghost answers = { λ s. first_known s.left (S.answers s.source) };
 
-    fn read(&mut self, buf: &mut [u8]) -> io::Result<usize> {
+    ghost reads = { λ s. S.reads s.source + s.ended };
+
+    ghost ends = { λ s. S.ends s.source + s.ended };
+
+    ghost failures = { λ s. S.failures s.source };
+
+    fn read(&mut self, buffer: &mut [u8]) -> Reading {
         if self.left == 0 {
-            return Ok(0);
+            self.ended += 1;
+            return Reading::End;
         }
-        let read = self.reader.read(buf)?;
-        Ok(self.part(&buf[..read]))
+        match self.source.read(buffer) {
+            Reading::Bytes(n) => Reading::Bytes(self.part(&buffer[..n])),
+            other => other,
+        }
     }
 }

@@ -9,6 +9,7 @@ mod lookups;
 mod refusals;
 mod serving;
 mod sockets;
+mod standard_input;
 
 use crate::lookups::Lookups;
 use hinting::say_hint;
@@ -23,6 +24,7 @@ use of_serve::read_rows;
 use of_text::TextFault;
 use of_trace::{FirstLines, Form, trace_events, trace_file};
 use serving::serve_rows;
+use standard_input::StandardInput;
 use std::alloc::Global;
 use std::fs::File;
 use std::io::{self, Read};
@@ -90,7 +92,7 @@ fn carry_out(rt: &HostRuntime, request: &Request) -> ExitCode {
 
 fn run_import(rt: &HostRuntime, path: &str, skip: bool) -> ExitCode {
     let done = if path == "-" {
-        imported(rt, rt.stdin(), skip)
+        imported(rt, StandardInput::new(rt), skip)
     } else {
         match File::open(rt, path) {
             Ok(file) => imported(rt, file, skip),
@@ -113,7 +115,7 @@ fn run_import(rt: &HostRuntime, path: &str, skip: bool) -> ExitCode {
 
 fn run_file(rt: &HostRuntime, request: &Request, path: &str) -> ExitCode {
     if path == "-" {
-        return end(rt, &run(rt, request, rt.stdin()));
+        return end(rt, &run(rt, request, StandardInput::new(rt)));
     }
     match File::open(rt, path) {
         Ok(file) => end_file(rt, path, &run(rt, request, file)),
@@ -123,7 +125,7 @@ fn run_file(rt: &HostRuntime, request: &Request, path: &str) -> ExitCode {
 
 fn run_check(rt: &HostRuntime, path: &str, kind: FileKind, steps: usize) -> ExitCode {
     let found = if path == "-" {
-        checked(rt, kind, steps, rt.stdin())
+        checked(rt, kind, steps, StandardInput::new(rt))
     } else {
         match File::open(rt, path) {
             Ok(file) => checked(rt, kind, steps, file),
@@ -160,7 +162,7 @@ fn serve_file(rt: &HostRuntime, asked: &Serve) -> ExitCode {
     let rows = match &asked.events {
         None => Ok(Vec::new(rt.alloc())),
         Some(path) if path.as_str() == "-" => {
-            read_rows(rt.alloc(), &mut ReaderSource::new(rt.stdin()))
+            read_rows(rt.alloc(), &mut ReaderSource::new(StandardInput::new(rt)))
         }
         Some(path) => match File::open(rt, path.as_str()) {
             Ok(file) => read_rows(rt.alloc(), &mut ReaderSource::new(file)),
@@ -219,12 +221,13 @@ fn run<R: Read + Drop>(rt: &HostRuntime, request: &Request, reader: R) -> Ended 
 
 // The switch before a line is the one that the lines before it leave.
 fn run_trace<R: Read + Drop>(rt: &HostRuntime, asked: &Trace, reader: R) -> Ended {
+    let mut source = ReaderSource::new(reader);
     match asked.at {
         Some(row) => {
-            let lines = FirstLines::new(reader, u64::from(row).saturating_sub(1));
-            traced(rt, asked, &mut ReaderSource::new(lines))
+            let lines = u64::from(row).saturating_sub(1);
+            traced(rt, asked, &mut FirstLines::new(source, lines))
         }
-        None => traced(rt, asked, &mut ReaderSource::new(reader)),
+        None => traced(rt, asked, &mut source),
     }
 }
 

@@ -1,9 +1,9 @@
-use Rattle.std.proofs.Common.{◌∙◌, sym, ap, arith, refl, List, ℕ}
+use Rattle.std.proofs.Common.{arith, refl, take}
 use Rattle.std.proofs.lemmas.Result.{err_from_is_err_and}
-use Rattle.of_replay.specs.Told.{Gave, Idle, Ended, Failed, then_answer}
+use Rattle.of_replay.specs.Told.{Ended, Failed}
+use Rattle.of_replay.proofs.TellingLemmas.{gave_front}
 use Rattle.of_replay.proofs.FileLemmas.{file_begun, file_idle, file_more, file_ends, file_stops, file_unkept}
 use Rattle.of_replay.proofs.whole_file.read_file.Goals as goal
-use Rattle.of_replay.proofs.whole_file.read_file.Goals.{in-Bytes+in_ok-keep-in-Bytes, in-Nothing}
 
 pub loop-init : goal.loop-init
 loop-init g c = record {
@@ -19,7 +19,8 @@ returns-in_err-keep-in-Bytes-clause-gave g c =
     let p = err_from_is_err_and c.from_residual.result c.from_residual.ensures.1 in
     rw (p.1, p.2, c.in_err-keep-in-Bytes.ensures.memory) (file_unkept (g.S.Source.answers c.args.reader.now) (g.S.Source.answers c.read.new.self) (g.S.Source.ends c.args.reader.now) (g.S.Source.ends c.read.new.self) _ _
     (file_more (g.S.Source.answers c.args.reader.now) (g.S.Source.answers l.reader) (g.S.Source.answers c.read.new.self) c.front_of.result.now l.file.items _ l.invariant.so_far
-    (c.in-Bytes.ensures.answers ∙ ap (λ (x : List ℕ). then_answer (g.S.Source.answers l.reader) (Gave x)) (sym c.front_of.ensures)) refl))
+    (gave_front (g.S.Source.answers l.reader) (g.S.Source.answers c.read.new.self) (take c.in-Bytes.n c.read.new.buffer) c.front_of.result.now c.front_of.ensures c.in-Bytes.ensures.answers) refl)
+    (omega (arith, c.in-Bytes.ensures.ends, l.invariant.ends)))
 
 pub returns-in_err-keep-in-Bytes-clause-reads : goal.returns-in_err-keep-in-Bytes-clause-reads
 returns-in_err-keep-in-Bytes-clause-reads g c =
@@ -32,7 +33,7 @@ returns-in-End-clause-gave g c =
     let l = c.loop in
     file_ends (g.S.Source.answers c.args.reader.now) (g.S.Source.answers c.read.new.self) (g.S.Source.ends c.args.reader.now) (g.S.Source.ends c.read.new.self) l.file.items
     (file_idle (g.S.Source.answers c.args.reader.now) (g.S.Source.answers l.reader) (g.S.Source.answers c.read.new.self) Ended l.file.items l.invariant.so_far c.in-End.ensures.answers refl)
-    (omega (arith, c.in-End.ensures.ends, l.invariant.ends))
+    (c.in-End.ensures.end refl) (omega (arith, c.in-End.ensures.ends, l.invariant.ends))
 
 pub returns-in-Fault-clause-gave : goal.returns-in-Fault-clause-gave
 returns-in-Fault-clause-gave g c =
@@ -49,19 +50,10 @@ returns-clause-gave g c =
 pub loop-preserved : goal.loop-preserved
 loop-preserved g c =
     let l = c.loop in
-    let answers = g.S.Source.answers c.args.reader.now in
-    elim c.match-read.branch [
-      | in-Bytes+in_ok-keep-in-Bytes w ↦ record {
-        reads = omega (arith, w.in-Bytes.ensures.reads, l.invariant.reads);
-        ends = omega (arith, w.in-Bytes.ensures.ends, l.invariant.ends);
-        failures = omega (arith, w.in-Bytes.ensures.failures, l.invariant.failures);
-        so_far = rw w.file-is (file_more answers (g.S.Source.answers l.reader) (g.S.Source.answers c.read.new.self) w.front_of.result.now l.file.items _ l.invariant.so_far
-            (w.in-Bytes.ensures.answers ∙ ap (λ (x : List ℕ). then_answer (g.S.Source.answers l.reader) (Gave x)) (sym w.front_of.ensures)) w.in_ok-keep-in-Bytes.ensures.kept);
-      }
-      | in-Nothing w ↦ record {
-        reads = omega (arith, w.in-Nothing.ensures.reads, l.invariant.reads);
-        ends = omega (arith, w.in-Nothing.ensures.ends, l.invariant.ends);
-        failures = omega (arith, w.in-Nothing.ensures.failures, l.invariant.failures);
-        so_far = rw w.file-is (file_idle answers (g.S.Source.answers l.reader) (g.S.Source.answers c.read.new.self) Idle l.file.items l.invariant.so_far w.in-Nothing.ensures.answers refl);
-      }
-    ]
+    record {
+      reads = omega (arith, c.in-Bytes.ensures.reads, l.invariant.reads);
+      ends = omega (arith, c.in-Bytes.ensures.ends, l.invariant.ends);
+      failures = omega (arith, c.in-Bytes.ensures.failures, l.invariant.failures);
+      so_far = file_more (g.S.Source.answers c.args.reader.now) (g.S.Source.answers l.reader) (g.S.Source.answers c.read.new.self) c.front_of.result.now l.file.items _ l.invariant.so_far
+          (gave_front (g.S.Source.answers l.reader) (g.S.Source.answers c.read.new.self) (take c.in-Bytes.n c.read.new.buffer) c.front_of.result.now c.front_of.ensures c.in-Bytes.ensures.answers) c.in_ok-keep-in-Bytes.ensures.kept;
+    }

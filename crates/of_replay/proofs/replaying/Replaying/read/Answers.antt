@@ -1,10 +1,10 @@
-use Rattle.std.proofs.Common.{◌≡◌, ◌∙◌, sym, ap, arith, refl, length, List, ℕ}
+use Rattle.std.proofs.Common.{◌≡◌, ◌∙◌, sym, ap, arith, refl, length, take}
 use Rattle.std.proofs.lemmas.Result.{err_from_is_err_and}
-use Rattle.of_replay.specs.Told.{Gave, Idle, Ended, Failed, then_answer, given}
+use Rattle.of_replay.specs.Told.{Gave, Ended, Failed, given}
+use Rattle.of_replay.proofs.TellingLemmas.{gave_front}
 use Rattle.of_replay.proofs.Early.{early_none, early_read, grows_none}
 use Rattle.of_replay.proofs.WholeRuns.{read_begun, read_idle, read_chunk, read_halts, read_ends, read_played, read_stops, chunk_size, chunk_reads}
 use Rattle.of_replay.proofs.replaying.Replaying.read.Goals as goal
-use Rattle.of_replay.proofs.replaying.Replaying.read.Goals.{in-Bytes+in_ok-chunk-in-Bytes, in-Nothing}
 
 pub loop-init : goal.loop-init
 loop-init g c = record {
@@ -26,7 +26,7 @@ returns-in_err-chunk-in-Bytes-clause-plays g c =
     let p = err_from_is_err_and c.from_residual.result c.from_residual.ensures.1 in
     rw (p.1, p.2) (read_halts c.args.self.now.switch g.T.RowPrinter.tale c.in_err-chunk-in-Bytes.field-0.0 (g.S.Source.answers c.args.reader.now) (g.S.Source.answers l.reader) (g.S.Source.answers c.read_once.new.reader) (g.S.Source.ends c.args.reader.now) (g.S.Source.ends c.read_once.new.reader)
     c.front_of.result.now l.self.open n.open l.self.number n.number l.self.switch n.switch l.self.printer n.printer (g.W.Sink.taken c.args.writer.now) (g.W.Sink.taken l.writer) (g.W.Sink.taken c.chunk.new.writer) r
-    (c.in-Bytes.ensures.answers ∙ ap (λ (x : List ℕ). then_answer (g.S.Source.answers l.reader) (Gave x)) (sym c.front_of.ensures)) (omega (arith, c.in-Bytes.ensures.ends, l.invariant.ends))
+    (gave_front (g.S.Source.answers l.reader) (g.S.Source.answers c.read_once.new.reader) (take c.in-Bytes.n c.read_once.new.buffer) c.front_of.result.now c.front_of.ensures c.in-Bytes.ensures.answers) (omega (arith, c.in-Bytes.ensures.ends, l.invariant.ends))
     (c.in_err-chunk-in-Bytes.ensures.goes c.args.self.now.switch (given r.more) (g.W.Sink.taken c.args.writer.now) r.within))
 
 pub returns-in_err-chunk-in-Bytes-clause-reads : goal.returns-in_err-chunk-in-Bytes-clause-reads
@@ -42,14 +42,14 @@ returns-in-End-clause-plays g c =
     let l = c.loop in
     read_ends c.args.self.now.switch g.T.RowPrinter.tale c.line.result (g.S.Source.answers c.args.reader.now) (g.S.Source.answers l.reader) (g.S.Source.answers c.read_once.new.reader) Ended (g.S.Source.ends c.args.reader.now) (g.S.Source.ends c.read_once.new.reader)
     l.self.open l.self.number l.self.switch c.line.new.self.switch l.self.printer c.line.new.self.printer (g.W.Sink.taken c.args.writer.now) (g.W.Sink.taken l.writer) (g.W.Sink.taken c.line.new.writer) l.invariant.so_far
-    c.in-End.ensures.answers refl (omega (arith, c.in-End.ensures.ends, l.invariant.ends)) c.line.ensures.goes
+    c.in-End.ensures.answers refl (c.in-End.ensures.end refl) (omega (arith, c.in-End.ensures.ends, l.invariant.ends)) c.line.ensures.goes
 
 pub returns-in-End-clause-played : goal.returns-in-End-clause-played
 returns-in-End-clause-played g c =
     let l = c.loop in
     read_played c.args.self.now.switch g.T.RowPrinter.tale c.line.result (g.S.Source.answers c.args.reader.now) (g.S.Source.answers l.reader) (g.S.Source.answers c.read_once.new.reader) Ended
     l.self.open l.self.number l.self.switch c.line.new.self.switch l.self.printer c.line.new.self.printer (g.W.Sink.taken c.args.writer.now) (g.W.Sink.taken l.writer) (g.W.Sink.taken c.line.new.writer) l.invariant.so_far
-    c.in-End.ensures.answers refl c.line.ensures.goes
+    c.in-End.ensures.answers refl (c.in-End.ensures.end refl) c.line.ensures.goes
 
 pub returns-in-Fault-clause-plays : goal.returns-in-Fault-clause-plays
 returns-in-Fault-clause-plays g c =
@@ -61,43 +61,30 @@ returns-in-Fault-clause-plays g c =
 pub loop-preserved : goal.loop-preserved
 loop-preserved g c =
     let l = c.loop in
+    let n = c.chunk.new.self in
     let answers = g.S.Source.answers c.args.reader.now in
     let first = g.W.Sink.taken c.args.writer.now in
-    elim c.match-read_once.branch [
-      | in-Bytes+in_ok-chunk-in-Bytes w ↦
-          let n = w.chunk.new.self in
-          let room : length c.read_once.new.buffer ≡ 65536 = omega (arith, c.read_once.auto.buffer, l.auto.buffer, c.requires.room) in
-          record {
-            reads = omega (arith, w.in-Bytes.ensures.reads, l.invariant.reads);
-            ends = omega (arith, w.in-Bytes.ensures.ends, l.invariant.ends);
-            failures = omega (arith, w.in-Bytes.ensures.failures, l.invariant.failures);
-            number = rw w.self-is (omega (arith, w.in_ok-chunk-in-Bytes.ensures.number, l.invariant.number, chunk_size w.in-Bytes.n c.read_once.new.buffer w.front_of.result.now w.front_of.ensures w.in-Bytes.ensures.fits.1 room));
-            writes = rw w.writer-is w.in_ok-chunk-in-Bytes.ensures.writes;
-            written = rw w.self-is w.in_ok-chunk-in-Bytes.ensures.written;
-            early = rw w.writer-is (early_read c.args.self.now.switch g.T.RowPrinter.tale (g.S.Source.answers c.args.reader.now) (g.S.Source.answers l.reader) (g.S.Source.answers c.read_once.new.reader) (Gave w.front_of.result.now) l.self.open l.self.number l.self.switch l.self.printer (g.W.Sink.taken c.args.writer.now) (g.W.Sink.taken l.writer) (g.W.Sink.taken w.chunk.new.writer) l.invariant.so_far l.invariant.written
-                (w.in-Bytes.ensures.answers ∙ ap (λ (x : List ℕ). then_answer (g.S.Source.answers l.reader) (Gave x)) (sym w.front_of.ensures)) w.in_ok-chunk-in-Bytes.ensures.grows);
-            so_far = rw (w.self-is, w.writer-is) (read_chunk c.args.self.now.switch g.T.RowPrinter.tale answers (g.S.Source.answers l.reader) (g.S.Source.answers c.read_once.new.reader) w.front_of.result.now l.self.open n.open l.self.number n.number l.self.switch n.switch l.self.printer n.printer
-                first (g.W.Sink.taken l.writer) (g.W.Sink.taken w.chunk.new.writer) l.invariant.so_far
-                (w.in-Bytes.ensures.answers ∙ ap (λ (x : List ℕ). then_answer (g.S.Source.answers l.reader) (Gave x)) (sym w.front_of.ensures))
-                (w.in_ok-chunk-in-Bytes.ensures.goes c.args.self.now.switch (given l.invariant.so_far.more) first l.invariant.so_far.within));
-          }
-      | in-Nothing w ↦ record {
-        reads = omega (arith, w.in-Nothing.ensures.reads, l.invariant.reads);
-        ends = omega (arith, w.in-Nothing.ensures.ends, l.invariant.ends);
-        failures = omega (arith, w.in-Nothing.ensures.failures, l.invariant.failures);
-        number = rw w.self-is (omega (arith, l.invariant.number));
-        writes = rw w.writer-is l.invariant.writes;
-        early = rw w.writer-is (early_read c.args.self.now.switch g.T.RowPrinter.tale (g.S.Source.answers c.args.reader.now) (g.S.Source.answers l.reader) (g.S.Source.answers c.read_once.new.reader) Idle l.self.open l.self.number l.self.switch l.self.printer (g.W.Sink.taken c.args.writer.now) (g.W.Sink.taken l.writer) (g.W.Sink.taken l.writer) l.invariant.so_far l.invariant.written w.in-Nothing.ensures.answers (grows_none _));
-        written = rw w.self-is l.invariant.written;
-        so_far = rw (w.self-is, w.writer-is) (read_idle c.args.self.now.switch g.T.RowPrinter.tale answers (g.S.Source.answers l.reader) (g.S.Source.answers c.read_once.new.reader) Idle l.self.open l.self.number l.self.switch l.self.printer first (g.W.Sink.taken l.writer) l.invariant.so_far w.in-Nothing.ensures.answers refl);
-      }
-    ]
+    let room : length c.read_once.new.buffer ≡ 65536 = omega (arith, c.read_once.auto.buffer, l.auto.buffer, c.requires.room) in
+    record {
+      reads = omega (arith, c.in-Bytes.ensures.reads, l.invariant.reads);
+      ends = omega (arith, c.in-Bytes.ensures.ends, l.invariant.ends);
+      failures = omega (arith, c.in-Bytes.ensures.failures, l.invariant.failures);
+      number = omega (arith, c.in_ok-chunk-in-Bytes.ensures.number, l.invariant.number, chunk_size c.in-Bytes.n c.read_once.new.buffer c.front_of.result.now c.front_of.ensures c.in-Bytes.ensures.fits.1 room);
+      writes = c.in_ok-chunk-in-Bytes.ensures.writes;
+      written = c.in_ok-chunk-in-Bytes.ensures.written;
+      early = early_read c.args.self.now.switch g.T.RowPrinter.tale answers (g.S.Source.answers l.reader) (g.S.Source.answers c.read_once.new.reader) (Gave c.front_of.result.now) l.self.open l.self.number l.self.switch l.self.printer first (g.W.Sink.taken l.writer) (g.W.Sink.taken c.chunk.new.writer) l.invariant.so_far l.invariant.written
+          (gave_front (g.S.Source.answers l.reader) (g.S.Source.answers c.read_once.new.reader) (take c.in-Bytes.n c.read_once.new.buffer) c.front_of.result.now c.front_of.ensures c.in-Bytes.ensures.answers) c.in_ok-chunk-in-Bytes.ensures.grows;
+      so_far = read_chunk c.args.self.now.switch g.T.RowPrinter.tale answers (g.S.Source.answers l.reader) (g.S.Source.answers c.read_once.new.reader) c.front_of.result.now l.self.open n.open l.self.number n.number l.self.switch n.switch l.self.printer n.printer
+          first (g.W.Sink.taken l.writer) (g.W.Sink.taken c.chunk.new.writer) l.invariant.so_far
+          (gave_front (g.S.Source.answers l.reader) (g.S.Source.answers c.read_once.new.reader) (take c.in-Bytes.n c.read_once.new.buffer) c.front_of.result.now c.front_of.ensures c.in-Bytes.ensures.answers)
+          (c.in_ok-chunk-in-Bytes.ensures.goes c.args.self.now.switch (given l.invariant.so_far.more) first l.invariant.so_far.within);
+    }
 
 pub returns-in_err-chunk-in-Bytes-clause-early : goal.returns-in_err-chunk-in-Bytes-clause-early
 returns-in_err-chunk-in-Bytes-clause-early g c =
     let l = c.loop in
     early_read c.args.self.now.switch g.T.RowPrinter.tale (g.S.Source.answers c.args.reader.now) (g.S.Source.answers l.reader) (g.S.Source.answers c.read_once.new.reader) (Gave c.front_of.result.now) l.self.open l.self.number l.self.switch l.self.printer (g.W.Sink.taken c.args.writer.now) (g.W.Sink.taken l.writer) (g.W.Sink.taken c.chunk.new.writer) l.invariant.so_far l.invariant.written
-    (c.in-Bytes.ensures.answers ∙ ap (λ (x : List ℕ). then_answer (g.S.Source.answers l.reader) (Gave x)) (sym c.front_of.ensures)) c.in_err-chunk-in-Bytes.ensures.grows
+    (gave_front (g.S.Source.answers l.reader) (g.S.Source.answers c.read_once.new.reader) (take c.in-Bytes.n c.read_once.new.buffer) c.front_of.result.now c.front_of.ensures c.in-Bytes.ensures.answers) c.in_err-chunk-in-Bytes.ensures.grows
 
 pub returns-in-End-clause-early : goal.returns-in-End-clause-early
 returns-in-End-clause-early g c =

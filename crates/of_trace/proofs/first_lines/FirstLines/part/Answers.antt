@@ -19,12 +19,14 @@ loop-at-preserved g c =
     let at = c.loop-at.at in
     elim c.if-byte-eq10.branch [
       | then-byte-eq10+else-self-eq0 w ↦ record {
-        reader = rw w.self-is c.loop-at.invariant.reader;
+        source = rw w.self-is c.loop-at.invariant.source;
+        ended = rw w.self-is c.loop-at.invariant.ended;
         left = rw w.self-is (omega arith);
         part = λ rest. c.loop-at.invariant.part rest ∙ rw w.self-is (next_line c.loop-at.self.left bytes rest at c.loop-at.invariant.left c.loop-at-test.true w.if-byte-eq10.true);
       }
       | else-byte-eq10 w ↦ record {
-        reader = rw w.self-is c.loop-at.invariant.reader;
+        source = rw w.self-is c.loop-at.invariant.source;
+        ended = rw w.self-is c.loop-at.invariant.ended;
         left = rw w.self-is c.loop-at.invariant.left;
         part = λ rest. c.loop-at.invariant.part rest ∙ rw w.self-is (next_in_line c.loop-at.self.left bytes rest at c.loop-at.invariant.left c.loop-at-test.true w.if-byte-eq10.false);
       }
