@@ -72,15 +72,15 @@ pub part_given : (left left' n n' : ℕ) (buf : List ℕ) (old new : Known) → 
     → ((rest : List ℕ) → first_lines left (take n buf ++ rest) ≡ take n' (take n buf) ++ first_lines left' rest)
     → Answers old new (Gave (take n buf)) → Answers (first_known left old) (first_known left' new) (Gave (take n' buf))
 part_given left left' n n' buf (Told a) (Told b) within fits part is = tt
-part_given left left' n n' buf (Told a) (Left b) within fits part is = is
-part_given left left' n n' buf (Left a) (Told b) within fits part is = is
+part_given left left' n n' buf (Told a) (Left b) within fits part is = absurd is
+part_given left left' n n' buf (Left a) (Told b) within fits part is = absurd is
 part_given left left' n n' buf (Left a) (Left b) within fits part is = consumed left left' n n' buf a b within fits part is
 
 -- it gave nothing
 pub none_given : (left : ℕ) (old new : Known) (one : Answer) → bytes_of one ≡ [] → Answers old new one → Answers (first_known left old) (first_known left new) one
 none_given left (Told a) (Told b) one none is = tt
-none_given left (Told a) (Left b) one none is = is
-none_given left (Left a) (Told b) one none is = is
+none_given left (Told a) (Left b) one none is = absurd is
+none_given left (Left a) (Told b) one none is = absurd is
 none_given left (Left a) (Left b) one none is =
     subst (Consumes (known_lines left a) (known_lines left b)) (sym none) (nothing_read left a b (subst (Consumes a b) none is))
 
