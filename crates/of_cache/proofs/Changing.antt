@@ -68,8 +68,8 @@ pub on_ok : {A E P : Type 0} (r : Result A E) → P → OnOk r P
 on_ok (Ok x) p = p
 on_ok (Err e) p = tt
 
-pub none_right : (content : List Row) (masks : List FieldMask) (rows : List AnsweredRegion) → rows ≡ [] → AreSound content rows × AreListed masks rows
-none_right content masks rows e = subst (λ (es : List AnsweredRegion). AreSound content es × AreListed masks es) (sym e) (record { right = λ row c. absurd (Contains-nil row c); regions = λ row c. absurd (Contains-nil row c) }, λ row c. absurd (Contains-nil row c))
+pub none_right : (content : List Row) (rows : List AnsweredRegion) → rows ≡ [] → AreSound content rows
+none_right content rows e = subst (AreSound content) (sym e) (record { right = λ row c. absurd (Contains-nil row c); regions = λ row c. absurd (Contains-nil row c) })
 
 -- ---- a look-up
 
@@ -84,12 +84,8 @@ moved_within old new key t row c =
     (λ d. Contains-with t.before t.row t.after row d)
     (Contains-cons t.row (t.before ++ t.after) row (subst (λ (es : List AnsweredRegion). Contains es row) t.first c)))
 
-pub hit_right : (masks : List FieldMask) (content : List Row) (old new : List AnsweredRegion) (key : Field → Option ℕ) (a : Option (ℕ × ℕ)) → IsHit old new key a
-    → AreSound content old × AreListed masks old → AreSound content new × AreListed masks new
-hit_right masks content old new key a t h = (
-  record { right = λ row c. h.0.right row (moved_within old new key t.moved row c); regions = λ row c. h.0.regions row (moved_within old new key t.moved row c) },
-  λ row c. h.1 row (moved_within old new key t.moved row c),
-)
+pub hit_right : (content : List Row) (old new : List AnsweredRegion) (key : Field → Option ℕ) → ComesFirst old new key → AreSound content old → AreSound content new
+hit_right content old new key t h = record { right = λ row c. h.right row (moved_within old new key t row c); regions = λ row c. h.regions row (moved_within old new key t row c) }
 
 pub hit_is_winner : (content : List Row) (old new : List AnsweredRegion) (key : Field → Option ℕ) (a : Option (ℕ × ℕ)) → IsHit old new key a → AreSound content old → a ≡ pair_of (winner_of content key)
 hit_is_winner content old new key a t h = sym (h.right t.moved.row (stood_in old new key t.moved) key t.moved.holds ∙ t.answers)

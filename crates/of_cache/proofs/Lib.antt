@@ -7,3 +7,4 @@ pub mod Splitting
 pub mod Changing
 pub mod Histories
 pub mod Popping
+pub mod Masks

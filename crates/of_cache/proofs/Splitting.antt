@@ -113,7 +113,7 @@ none_holds masks all rows key e listed n row c h = n.none row c (subst (λ (ms :
 
 -- ---- a new row
 
-put_first : (old : LruCache Region (Option (ℕ × ℕ))) (region : Region) (a : Option (ℕ × ℕ)) → lookup (is_same_region region) old.entries ≡ None → put_entries is_same_region old region a ≡ (region, a) ∷ take (old.cap - 1) old.entries
+pub put_first : (old : LruCache Region (Option (ℕ × ℕ))) (region : Region) (a : Option (ℕ × ℕ)) → lookup (is_same_region region) old.entries ≡ None → put_entries is_same_region old region a ≡ (region, a) ∷ take (old.cap - 1) old.entries
 put_first old region a h = ap (λ (o : Option AnsweredRegion). option_map_or (λ e. (e.0, a) ∷ remove_entry (is_same_region region) old.entries) o ((region, a) ∷ take (old.cap - 1) old.entries)) (lookup_entry-none (is_same_region region) old.entries h)
 
 pub record IsStored (old new : LruCache Region (Option (ℕ × ℕ))) (region : Region) (a : Option (ℕ × ℕ)) : Type 0 where
@@ -185,7 +185,7 @@ or_true false = refl
 pub mask_itself : (m : FieldMask) → the_mask.eq-value.it m m ≡ true
 mask_itself m = key_itself m.masks
 
-some_has : (rows : List AnsweredRegion) (row : AnsweredRegion) → Contains rows row → list_any (λ r. is_same_mask r.0.mask row.0.mask) rows ≡ true
+pub some_has : (rows : List AnsweredRegion) (row : AnsweredRegion) → Contains rows row → list_any (λ r. is_same_mask r.0.mask row.0.mask) rows ≡ true
 some_has [] row c = absurd (Contains-nil row c)
 some_has (x ∷ rows) row c = ⊎_elim
     (λ s. (let t : is_same_mask x.0.mask row.0.mask ≡ true = subst (λ (r : AnsweredRegion). is_same_mask r.0.mask row.0.mask ≡ true) (sym s) (mask_itself row.0.mask) in rw t refl))

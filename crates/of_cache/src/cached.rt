@@ -11,7 +11,7 @@ ghost use Rattle.of_classifier.specs.Scanning.{pair_of};
 ghost use Rattle.of_cache.specs.Held.{Held, held, shown};
 ghost use Rattle.of_cache.specs.Kept.{AreSound, not_answering, not_beaten};
 ghost use Rattle.of_cache.specs.Finding.{AreFound};
-ghost use Rattle.of_cache.specs.Listed.{AreListed};
+ghost use Rattle.of_cache.specs.Listed.{AreMasks};
 
 use crate::beaten::drop_beaten;
 use crate::cause::Cause;
@@ -41,13 +41,13 @@ pub struct Cached<L: Lookup> {
 impl<L: Lookup> Model for Cached<L> {
     ghost use Rattle.of_cache.specs.Held.{Held, held};
     ghost use Rattle.of_cache.specs.Kept.{AreSound};
-    ghost use Rattle.of_cache.specs.Listed.{AreListed};
+    ghost use Rattle.of_cache.specs.Listed.{AreMasks};
 
     ghost Value = { Held };
 
     ghost view = { λ c. held (L.content c.inner) c.rows.entries c.rows.cap };
 
-    ghost invariant = { λ c. AreSound (L.content c.inner) c.rows.entries × AreListed c.masks.items c.rows.entries };
+    ghost invariant = { λ c. AreSound (L.content c.inner) c.rows.entries × AreMasks c.masks.items c.rows.entries };
 }
 
 impl<L: Lookup> Cached<L> {
@@ -177,10 +177,10 @@ impl<L: Lookup> Lookup for Cached<L> {
 
 // Drops the rows that answer the entry of that number.
 fn drop_answers(rows: &mut Rows, masks: &mut Vec<FieldMask>, number: usize)
-    requires { AreListed masks.old.items rows.old.entries }
+    requires { AreMasks masks.old.items rows.old.entries }
     ensures entries { rows.new.entries ≡ not_answering number rows.old.entries }
     ensures capacity { rows.new.cap ≡ rows.old.cap }
-    ensures listed { AreListed masks.new.items rows.new.entries }
+    ensures masks { AreMasks masks.new.items rows.new.entries }
 {
     drop_rows(rows, &Cause::Answers(number));
     drop_masks(rows, masks);

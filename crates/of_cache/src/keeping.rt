@@ -1,13 +1,13 @@
 //! Rows that are found, and new ones.
-ghost use Rattle.std.specs.Prelude.{◌≡◌, ◌⊎◌, ◌-◌, ℕ, List, [], ◌∷◌, take, Option, Some, None, IfSome, IfNone, IsTrue, filter};
-ghost use Rattle.std.specs.List.{Contains, list_any};
+ghost use Rattle.std.specs.Prelude.{◌≡◌, ◌⊎◌, ◌-◌, ◌∷◌, take, None, IfSome, IfNone, IsTrue, true, false};
+ghost use Rattle.std.specs.List.{IsDistinct};
 ghost use Rattle.std.specs.Map.{lookup};
 ghost use Rattle.lru.specs.LruCache.{lru_cache, promoted};
 ghost use Rattle.of_headers.specs.FieldMap.{value};
 ghost use Rattle.of_oxm.specs.declared.masks.FieldMask.{FieldMask as AMask};
 ghost use Rattle.of_cache.specs.Finding.{IsHit, NoneHolds};
 ghost use Rattle.of_cache.specs.Regions.{Holds};
-ghost use Rattle.of_cache.specs.Listed.{AreListed, is_same_region, is_same_mask};
+ghost use Rattle.of_cache.specs.Listed.{AreListed, AreMasks, has_mask, is_same_mask, is_same_region, with_mask};
 
 use crate::dropping::{Answer, Rows};
 use crate::region::Region;
@@ -80,10 +80,10 @@ pub(crate) fn find(rows: &mut Rows, masks: &[FieldMask], key: &FieldKey) -> Opti
     }
 }
 
-// Makes sure that the mask is listed.
+// Makes sure that the mask is listed, if there is memory for it.
 fn list_mask(masks: &mut Vec<FieldMask>, mask: &FieldMask) -> bool
-    ensures kept { (m : AMask) → Contains masks.old.items m → Contains masks.new.items m }
-    ensures listed { IsTrue result → Contains masks.new.items mask.now }
+    ensures listed { IsTrue result → masks.new.items ≡ with_mask mask.now masks.old.items }
+    ensures same { result ≡ false → masks.new.items ≡ masks.old.items }
 {
     if masks.contains(mask) {
         return true;
@@ -93,58 +93,48 @@ fn list_mask(masks: &mut Vec<FieldMask>, mask: &FieldMask) -> bool
 
 // Whether some row has the mask.
 fn is_used(rows: &Rows, mask: &FieldMask) -> bool
-    ensures { result ≡ list_any (λ row. is_same_mask row.0.mask mask.now) rows.now.entries }
+    ensures { result ≡ has_mask rows.now.entries mask.now }
 {
     rows.iter().any(|(region, _)| region.mask == *mask)
 }
 
-fn keep_used(rows: &Rows, masks: &mut Vec<FieldMask>)
-    ensures { masks.new.items ≡ filter (λ m. list_any (λ row. is_same_mask row.0.mask m) rows.now.entries) masks.old.items }
+/// Drops the masks that no row has.
+pub(crate) fn drop_masks(rows: &Rows, masks: &mut Vec<FieldMask>)
+    requires listed { AreListed masks.old.items rows.now.entries }
+    requires once { IsDistinct is_same_mask masks.old.items }
+    ensures { AreMasks masks.new.items rows.now.entries }
 {
     masks.retain(|mask| is_used(rows, mask));
 }
 
-/// Drops the masks that no row has.
-pub(crate) fn drop_masks(rows: &Rows, masks: &mut Vec<FieldMask>)
-    requires { AreListed masks.old.items rows.now.entries }
-    ensures { AreListed masks.new.items rows.now.entries }
-{
-    keep_used(rows, masks);
-}
-
-// Puts a row first, if there is memory for it, and returns the region of the one that goes.
-fn push_row(
-    rows: &mut Rows,
-    masks: &mut Vec<FieldMask>,
-    region: Region,
-    answer: Answer,
-) -> Option<Region>
-    requires listed { AreListed masks.old.items rows.old.entries }
+// Puts a row first, if there is memory for it, and returns whether all masks that rows had, and that of the region, are still those of rows.
+fn push_row(rows: &mut Rows, region: Region, answer: Answer) -> bool
     requires new { lookup (is_same_region region) rows.old.entries ≡ None }
     ensures rows { (rows.new.entries ≡ rows.old.entries) ⊎ (rows.new.entries ≡ (region, answer) ∷ take (rows.old.cap - 1) rows.old.entries) }
     ensures capacity { rows.new.cap ≡ rows.old.cap }
-    ensures listed { AreListed masks.new.items rows.new.entries }
+    ensures used { IsTrue result → (mask : AMask) → (has_mask rows.old.entries mask ≡ true) ⊎ (region.mask ≡ mask) → has_mask rows.new.entries mask ≡ true }
 {
-    if !list_mask(masks, &region.mask) {
-        return None;
-    }
+    // its contract says that there are no more rows than the capacity
+    rows.len();
     match rows.push(region, answer) {
-        Ok(Some((gone, _))) => Some(gone),
-        _ => None,
+        Ok(None) => true,
+        Ok(Some((gone, _))) => is_used(rows, &gone.mask),
+        Err(_) => false,
     }
 }
 
 /// Puts a row first, if there is memory for it.
 pub(crate) fn store(rows: &mut Rows, masks: &mut Vec<FieldMask>, region: Region, answer: Answer)
-    requires listed { AreListed masks.old.items rows.old.entries }
+    requires masks { AreMasks masks.old.items rows.old.entries }
     requires new { lookup (is_same_region region) rows.old.entries ≡ None }
     ensures rows { (rows.new.entries ≡ rows.old.entries) ⊎ (rows.new.entries ≡ (region, answer) ∷ take (rows.old.cap - 1) rows.old.entries) }
     ensures capacity { rows.new.cap ≡ rows.old.cap }
-    ensures listed { AreListed masks.new.items rows.new.entries }
+    ensures masks { AreMasks masks.new.items rows.new.entries }
 {
-    if let Some(gone) = push_row(rows, masks, region, answer) {
-        if !is_used(rows, &gone.mask) {
-            drop_masks(rows, masks);
-        }
+    if !list_mask(masks, &region.mask) {
+        return;
+    }
+    if !push_row(rows, region, answer) {
+        drop_masks(rows, masks);
     }
 }

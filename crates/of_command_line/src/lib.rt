@@ -221,13 +221,21 @@ fn switch_file_of(
     }
 }
 
+// A number of 32 bits as event files and flow texts write it: without a sign, and without zeros before it.
+fn number_in(word: &str) -> Option<u32> {
+    if word.starts_with('+') || word.len() > 1 && word.starts_with('0') {
+        return None;
+    }
+    u32::from_str_radix(word, 10).ok()
+}
+
 // The number of a line.
 fn row_of(alloc: Global, word: Option<&str>) -> Result<Option<u32>, NoRequest> {
     let Some(word) = word else {
         return Ok(None);
     };
-    match u32::from_str_radix(word, 10) {
-        Ok(row) if row >= 1 => Ok(Some(row)),
+    match number_in(word) {
+        Some(row) if row >= 1 => Ok(Some(row)),
         _ => Err(refused(alloc, "bad row: it is the number of a line, from 1\n")?),
     }
 }
@@ -238,8 +246,8 @@ fn port_of(alloc: Global, kind: FileKind, word: &str) -> Result<u32, NoRequest> 
         FileKind::Flows => LAST_PORT,
         FileKind::Events => OFPP_MAX,
     };
-    match u32::from_str_radix(word, 10) {
-        Ok(port) if port >= 1 && port <= last => Ok(port),
+    match number_in(word) {
+        Some(port) if port >= 1 && port <= last => Ok(port),
         _ => Err(NoRequest::Refused(format!(in alloc;
             "bad port: it is a number from 1 to {last}\n"
         )?)),
@@ -275,8 +283,8 @@ fn asked_in(word: &str) -> Option<Asked> {
         return Some(Asked::All);
     }
     let (table, priority) = word.split_once(' ')?;
-    let table = u8::from_str_radix(table, 10).ok()?;
-    let priority = u16::from_str_radix(priority, 10).ok()?;
+    let table = u8::try_from(number_in(table)?).ok()?;
+    let priority = u16::try_from(number_in(priority)?).ok()?;
     if table < TABLES {
         Some(Asked::Priority { table, priority })
     } else {
@@ -319,9 +327,9 @@ fn turns_of(alloc: Global, word: Option<&str>) -> Result<u32, NoRequest> {
     let Some(word) = word else {
         return Ok(DEFAULT_TURNS);
     };
-    match u32::from_str_radix(word, 10) {
-        Ok(turns) => Ok(turns),
-        Err(_) => Err(refused(alloc, "bad turns: it is a number of 32 bits\n")?),
+    match number_in(word) {
+        Some(turns) => Ok(turns),
+        None => Err(refused(alloc, "bad turns: it is a number of 32 bits\n")?),
     }
 }
 
@@ -329,9 +337,9 @@ fn steps_of(alloc: Global, word: Option<&str>) -> Result<u32, NoRequest> {
     let Some(word) = word else {
         return Ok(DEFAULT_STEPS);
     };
-    match u32::from_str_radix(word, 10) {
-        Ok(steps) => Ok(steps),
-        Err(_) => Err(refused(alloc, "bad steps: it is a number of 32 bits\n")?),
+    match number_in(word) {
+        Some(steps) => Ok(steps),
+        None => Err(refused(alloc, "bad steps: it is a number of 32 bits\n")?),
     }
 }
 

@@ -30,6 +30,7 @@ pub enum ImportError {
     #[error("these lines are at fault")]
     Faults(Vec<LineFault>),
     /// The line of the first group or flow that the switch refuses, and its first refusal (OpenFlow 1.3.5, 7.4.4).
+    #[error("line {line} is refused")]
     Refused { line: usize, code: Code },
 }
 

@@ -1,5 +1,11 @@
-use Rattle.of_cache.proofs.Splitting.{used_listed}
+use Rattle.std.proofs.Common.{rules, sym, List, subst}
+use Rattle.std.proofs.lemmas.Fn.{filter_same}
+use Rattle.of_oxm.specs.declared.masks.FieldMask.{FieldMask}
+use Rattle.of_cache.specs.Listed.{AreMasks}
+use Rattle.of_cache.proofs.Masks.{masks_left}
 use Rattle.of_cache.proofs.keeping.drop_masks.Goals as goal
 
 pub returns : goal.returns
-returns c = used_listed c.args.masks.now.items c.keep_used.new.masks.items c.args.rows.now.entries c.keep_used.ensures c.requires
+returns c =
+    subst (λ (ms : List FieldMask). AreMasks ms c.args.rows.now.entries) (sym (filter_same _ _ _ (λ x b f' k. search rules) _ _ c.retain.ensures.filtered))
+    (masks_left c.args.masks.now.items c.args.rows.now.entries c.requires.listed c.requires.once)

@@ -7,4 +7,4 @@ drop_answers-requires g c = c.self.invariant.1
 pub invariant_of-self : goal.invariant_of-self
 invariant_of-self g c =
     let old = c.self.inside in
-    (renewed (g.L.Lookup.content old.inner) (g.L.Lookup.content c.renew.new.self) old.rows.entries c.drop_answers.new.rows.entries c.args.number c.renew.ensures c.drop_answers.ensures.entries c.self.invariant.0, c.drop_answers.ensures.listed)
+    (renewed (g.L.Lookup.content old.inner) (g.L.Lookup.content c.renew.new.self) old.rows.entries c.drop_answers.new.rows.entries c.args.number c.renew.ensures c.drop_answers.ensures.entries c.self.invariant.0, c.drop_answers.ensures.masks)

@@ -6,22 +6,26 @@ use Rattle.of_cache.specs.declared.region.Region.{Region}
 use Rattle.of_cache.specs.Regions.{region_of}
 use Rattle.of_cache.specs.Kept.{AreSound}
 use Rattle.of_cache.specs.Finding.{NoneHolds}
-use Rattle.of_cache.specs.Listed.{AreListed}
+use Rattle.of_cache.specs.Listed.{AreListed, AreMasks}
 use Rattle.of_cache.proofs.Changing.{hit_right, hit_answers, stored_right, stored_found}
+use Rattle.of_cache.proofs.Masks.{masks_moved}
 use Rattle.of_cache.proofs.Splitting.{absent}
 use Rattle.of_cache.proofs.cached.CachedLookup.winner.Goals as goal
 
 pub find-requires : goal.find-requires
-find-requires g c = subst (λ (ms : List FieldMask). AreListed ms c.self.inside.rows.entries) (sym c.deref.ensures.value) c.self.invariant.1
+find-requires g c = subst (λ (ms : List FieldMask). AreListed ms c.self.inside.rows.entries) (sym c.deref.ensures.value) c.self.invariant.1.listed
 
 pub invariant_of-self : goal.invariant_of-self
 invariant_of-self g c =
     let old = c.self.inside in
-    hit_right old.masks.items (g.L.Lookup.content old.inner) old.rows.entries c.find.new.rows.entries (value c.args.key.now) c.in-Some.answer c.in-Some.ensures.hit c.self.invariant
+    let moved = c.in-Some.ensures.hit.moved in (
+      hit_right (g.L.Lookup.content old.inner) old.rows.entries c.find.new.rows.entries (value c.args.key.now) moved c.self.invariant.0,
+      masks_moved old.masks.items old.rows.entries c.find.new.rows.entries (value c.args.key.now) moved c.self.invariant.1,
+    )
 
-pub store-requires-clause-listed : goal.store-requires-clause-listed
-store-requires-clause-listed g c =
-    subst (λ (x : LruCache Region (Option (ℕ × ℕ))). AreListed c.self.inside.masks.items x.entries) (sym c.in-None.ensures.same) c.self.invariant.1
+pub store-requires-clause-masks : goal.store-requires-clause-masks
+store-requires-clause-masks g c =
+    subst (λ (x : LruCache Region (Option (ℕ × ℕ))). AreMasks c.self.inside.masks.items x.entries) (sym c.in-None.ensures.same) c.self.invariant.1
 
 pub store-requires-clause-new : goal.store-requires-clause-new
 store-requires-clause-new g c =
@@ -34,7 +38,7 @@ invariant_of-self-in-None g c =
     let sound : AreSound content c.find.new.rows.entries = subst (λ (x : LruCache Region (Option (ℕ × ℕ))). AreSound content x.entries) (sym c.in-None.ensures.same) c.self.invariant.0 in (
       stored_right content c.find.new.rows c.store.new.rows c.region-number.result.1 (value c.args.key.now) c.masked.result c.answer_of-answer.result sound c.region-number.ensures.alike c.masked.ensures
           (c.answer_of-answer.ensures (value c.args.key.now) c.region-number.ensures.answer) c.store.ensures.rows,
-      c.store.ensures.listed,
+      c.store.ensures.masks,
     )
 
 pub returns-in-Some-clause-answer : goal.returns-in-Some-clause-answer
