@@ -1,6 +1,7 @@
 -- WHAT IS SAID OF A FLOW ENTRY: a packet with which it wins, or the entries that leave it none (OpenFlow 1.3.5, 5.3).
 use Rattle.std.specs.Prelude.{◌≡◌, ℕ, ◌^◌, ◌<◌, ◌≤◌, ◌⊎◌, true, List, [], ◌∷◌, length, Option, Some, slice_get}
 use Rattle.std.specs.List.{AllByRecursion, Contains}
+use Rattle.of_wire.specs.declared.limits.TheConstants.{OFPP_CONTROLLER, OFPP_MAX}
 use Rattle.of_layers.specs.declared.field.Field.{Field}
 use Rattle.of_layers.specs.Reading.{layers_of}
 use Rattle.of_layers.specs.WellFormed.{AreBytes}
@@ -24,6 +25,10 @@ pub record IsPacket (p : Packet) : Type 0 where
   pub long : 14 ≤ length p.frame
   pub port_fits : p.in_port < 2 ^ 32
   pub metadata_fits : p.metadata < 2 ^ 64
+
+-- a port that a switch may have, or CONTROLLER, which a PACKET_OUT may give as that of its frame (7.2.1 and 7.3.7)
+abbrev pub IsIngress : ℕ → Type 0
+IsIngress port = ((1 ≤ port) × (port ≤ OFPP_MAX)) ⊎ (port ≡ OFPP_CONTROLLER)
 
 -- the fields that a lookup compares
 abbrev pub fields_of : Packet → Field → Option ℕ
@@ -51,9 +56,11 @@ pub record GoesBefore (flows : List FlowEntry) (j k : ℕ) : Type 0 where
 
 -- ---- verdicts
 
--- the entry wins with this packet
+-- the entry wins with this packet, which a switch may receive: its frame has at most 9,216 bytes
 pub record WinsWith (flows : List FlowEntry) (k : ℕ) (p : Packet) : Type 0 where
   pub packet : IsPacket p
+  pub short : length p.frame ≤ 9216
+  pub ingress : IsIngress p.in_port
   pub wins : winner_place (fields_of p) flows ≡ Some k
 
 -- places in ascending order, each once

@@ -38,7 +38,7 @@ fn check_table<L: Lookup>(
     Ok(())
 }
 
-/// The verdicts on all entries of the tables of a switch, by table, then by age, each after at most so many steps (OpenFlow 1.3.5, 5.3).
+/// The verdicts on all entries of the tables of a switch, by table, then by age, each as `check_entry` gives it (OpenFlow 1.3.5, 5.3).
 pub fn check<L: Lookup>(
     alloc: Global,
     switch: &Switch<L>,

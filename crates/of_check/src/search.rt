@@ -180,8 +180,8 @@ fn searched<L: Lookup>(
     Ok(search.verdict())
 }
 
-/// The verdict on the entry of a table at a place by age, from 0. An entry that no one entry covers is searched, in at most so many steps, of
-/// which each looks at a piece of what it matches. `Open` where there is no such entry.
+/// The verdict on the entry of a table at a place by age, from 0. An entry that no one entry covers is searched piece by piece; it is left
+/// `Open` after so many pieces. That is no clause: `Open` promises only that no one entry covers it, or that there is no such entry.
 pub fn check_entry<L: Lookup>(
     alloc: Global,
     switch: &Switch<L>,

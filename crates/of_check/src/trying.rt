@@ -1,7 +1,7 @@
 //! Frames, tried.
-ghost use Rattle.std.specs.Prelude.{◌≡◌, ◌<◌, IfOk, IfSome, true};
+ghost use Rattle.std.specs.Prelude.{◌≡◌, ◌<◌, IfOk, IfSome, IsTrue, true};
 ghost use Rattle.of_table.specs.Tables.{table_at};
-ghost use Rattle.of_check.specs.Verdicts.{Holds, WinsWith};
+ghost use Rattle.of_check.specs.Verdicts.{Holds, IsIngress, WinsWith};
 
 use crate::frames::frame_of;
 use crate::piece::Piece;
@@ -9,6 +9,7 @@ use crate::verdict::Verdict;
 use of_classifier::Lookup;
 use of_headers::read;
 use of_switch::Switch;
+use of_wire::limits::{OFPP_CONTROLLER, OFPP_MAX};
 use std::alloc::{AllocError, Global};
 
 // The ingress port of a packet of the piece. 0 is no port of a switch: where it may be another, the lowest bit that is not known is set.
@@ -21,7 +22,14 @@ fn port_of(piece: &Piece) -> u32 {
     unknown & unknown.wrapping_neg()
 }
 
-/// Whether the entry at a place wins the lookup of a frame.
+// Whether a frame may have this ingress port.
+fn is_ingress(port: u32) -> bool
+    ensures { IsTrue result → IsIngress port }
+{
+    port >= 1 && port <= OFPP_MAX || port == OFPP_CONTROLLER
+}
+
+/// Whether the entry at a place wins the lookup of a frame, which a switch may receive.
 fn wins<L: Lookup>(
     switch: &Switch<L>,
     table: u8,
@@ -34,6 +42,9 @@ fn wins<L: Lookup>(
     ensures { result ≡ true → WinsWith (table_at table switch.now.core.forwarding.tables).flows place
         (record { frame = frame.now; in_port = in_port; metadata = metadata }) }
 {
+    if !is_ingress(in_port) {
+        return false;
+    }
     let Ok(headers) = read(frame, in_port, metadata) else {
         return false;
     };

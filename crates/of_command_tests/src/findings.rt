@@ -1,5 +1,7 @@
+use of_cache::Cached;
 use of_check::{Verdict, check_entry, check_file};
 use of_classifier::Scan;
+use of_mask_groups::MaskGroups;
 use of_replay::memory::{MemorySink, MemorySource};
 use of_switch::Switch;
 use of_text::assemble;
@@ -65,6 +67,26 @@ match ipv4_dst 0x80000000 0x80000000
 flow 0 5 0x0000000000000000 0 0 0
 match eth_type 0x0800
 match ipv4_src 0x0a000000 0xff000000
+";
+
+/// Of one priority, two older halves cover what neither does.
+const EQUAL: &[u8] = b"flow 0 7 0x0000000000000000 0 0 0
+match eth_type 0x0800
+match ipv4_dst 0x00000000 0x80000000
+flow 0 7 0x0000000000000000 0 0 0
+match eth_type 0x0800
+match ipv4_dst 0x80000000 0x80000000
+flow 0 7 0x0000000000000000 0 0 0
+match eth_type 0x0800
+match ipv4_src 0x0a000000 0xff000000
+";
+
+/// The source port of UDP alone.
+const UDP: &[u8] = b"flow 0 5 0x0000000000000000 0 0 0
+match eth_type 0x0800
+match ip_proto 0x11
+match udp_src 0x0035
+flow 0 0 0x0000000000000000 0 0 0
 ";
 
 /// A frame has a tag or none.
@@ -161,6 +183,11 @@ const WANTED: [(&[u8], &str); 9] = [
         "flow 0 0 wins\nflow 0 1 wins\nflow 0 2 never: 0 0 0 1\ntable 0 no table-miss entry\n",
     ),
     (
+        EQUAL,
+        "flow 0 0 wins\nflow 0 1 wins\nflow 0 2 never: 0 0 0 1\ntable 0 no table-miss entry\n",
+    ),
+    (UDP, "flow 0 0 wins\nflow 0 1 wins\n"),
+    (
         TAGS,
         "flow 3 0 wins\nflow 3 1 wins\nflow 3 2 never: 3 0 3 1\ntable 3 unreachable\ntable 3 no table-miss entry\n",
     ),
@@ -182,7 +209,7 @@ const WANTED: [(&[u8], &str); 9] = [
 fn checked(alloc: Global, text: &[u8]) -> Result<(Vec<u8>, bool), Fail> {
     let mut source = MemorySource::new(alloc, text, 100, 0)?;
     let mut sink = MemorySink::new(alloc, 100, 0);
-    let ended = check_file::<Scan, _, _>(alloc, &mut source, 1000, &mut sink);
+    let ended = check_file::<Cached<MaskGroups>, _, _>(alloc, &mut source, 1000, &mut sink);
     let found = ended.ok().ok_or("a configuration")?;
     let mut written = Vec::new(alloc);
     written.extend_from_slice(sink.bytes())?;

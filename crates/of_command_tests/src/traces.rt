@@ -1,7 +1,9 @@
 ghost use Rattle.std.specs.Prelude.{◌≡◌};
 
-use of_classifier::Scan;
+use of_cache::Cached;
+use of_classifier::{Lookup, Scan};
 use of_headers::{FieldKey, read};
+use of_mask_groups::MaskGroups;
 use of_replay::memory::MemorySink;
 use of_replay::streams::ReaderSource;
 use of_replay::{Ended, READ_SIZE, Reading, Source, push_effects, zeros};
@@ -64,7 +66,7 @@ fn added(number: u32) -> PortChange {
 }
 
 // Two ports are added, and a controller says HELLO.
-fn open(switch: &mut Switch<Scan>) -> Result<(), Fail> {
+fn open<L: Lookup>(switch: &mut Switch<L>) -> Result<(), Fail> {
     switch.port_change(added(1))?;
     switch.port_change(added(2))?;
     switch.connected()?;
@@ -124,17 +126,22 @@ const STEPS: &[Step] = &[
     Step::Frame(1, 1),
 ];
 
-fn printed(alloc: Global, switch: &Switch<Scan>, port: u32) -> Result<Vec<u8>, Fail> {
+fn printed<L: Lookup>(alloc: Global, switch: &Switch<L>, port: u32) -> Result<Vec<u8>, Fail> {
     let traced = trace(alloc, switch, port, &FRAME)?;
     Ok(print(alloc, &traced)?)
 }
 
-fn explained(alloc: Global, switch: &Switch<Scan>, port: u32) -> Result<Vec<u8>, Fail> {
+fn explained<L: Lookup>(alloc: Global, switch: &Switch<L>, port: u32) -> Result<Vec<u8>, Fail> {
     let traced = trace(alloc, switch, port, &FRAME)?;
     Ok(explain(alloc, switch, Asked::Nothing, port, &FRAME, &traced)?)
 }
 
-fn written(alloc: Global, switch: &Switch<Scan>, port: u32, form: Form) -> Result<Vec<u8>, Fail> {
+fn written<L: Lookup>(
+    alloc: Global,
+    switch: &Switch<L>,
+    port: u32,
+    form: Form,
+) -> Result<Vec<u8>, Fail> {
     let mut sink = MemorySink::new(alloc, 100, 0);
     let ended = write_trace(alloc, switch, port, &FRAME, form, &mut sink);
     let text = if ended == Ended::Done {
@@ -145,7 +152,12 @@ fn written(alloc: Global, switch: &Switch<Scan>, port: u32, form: Form) -> Resul
     Ok(Vec::from_slice(alloc, text)?)
 }
 
-fn text_of(alloc: Global, switch: &Switch<Scan>, port: u32, text: Text) -> Result<Vec<u8>, Fail> {
+fn text_of<L: Lookup>(
+    alloc: Global,
+    switch: &Switch<L>,
+    port: u32,
+    text: Text,
+) -> Result<Vec<u8>, Fail> {
     match text {
         Text::Printed => printed(alloc, switch, port),
         Text::Explained => explained(alloc, switch, port),
@@ -175,17 +187,17 @@ fn key_of(port: u32) -> Result<FieldKey, Fail> {
     Ok(read(&FRAME, port, 0).ok().ok_or("a frame")?.key())
 }
 
-fn add_flow(switch: &mut Switch<Scan>) -> Result<(), Fail> {
+fn add_flow<L: Lookup>(switch: &mut Switch<L>) -> Result<(), Fail> {
     switch.feed(&TO_PORT_2)?;
     switch.next()?;
     Ok(())
 }
 
-fn play(
+fn play<L: Lookup>(
     rt: &impl Abort,
     alloc: Global,
     place: usize,
-    switch: &mut Switch<Scan>,
+    switch: &mut Switch<L>,
     step: Step,
 ) -> Result<(), Fail> {
     match step {
@@ -201,7 +213,7 @@ fn play(
     Ok(())
 }
 
-fn play_all(rt: &impl Abort, alloc: Global, switch: &mut Switch<Scan>) -> Result<(), Fail> {
+fn play_all<L: Lookup>(rt: &impl Abort, alloc: Global, switch: &mut Switch<L>) -> Result<(), Fail> {
     open(switch)?;
     for (place, step) in STEPS.iter().enumerate() {
         play(rt, alloc, place, switch, *step)?;
@@ -209,10 +221,19 @@ fn play_all(rt: &impl Abort, alloc: Global, switch: &mut Switch<Scan>) -> Result
     Ok(())
 }
 
+fn plays<L: Lookup>(rt: &impl Abort, alloc: Global) -> Result<(), Fail> {
+    let mut switch = Switch::<L>::new(alloc, 1)?;
+    play_all(rt, alloc, &mut switch)
+}
+
 #[test]
 fn steps(rt: HostRuntime) -> Result<(), Fail> {
-    let mut switch = Switch::<Scan>::new(rt.alloc(), 1)?;
-    play_all(&rt, rt.alloc(), &mut switch)
+    plays::<Scan>(&rt, rt.alloc())
+}
+
+#[test]
+fn steps_of_the_running_switch(rt: HostRuntime) -> Result<(), Fail> {
+    plays::<Cached<MaskGroups>>(&rt, rt.alloc())
 }
 
 /// Numbers of 31 bits by a linear congruence (Knuth, The Art of Computer Programming 2, 3.3.4).
@@ -238,14 +259,19 @@ fn effects_text(alloc: Global, effects: &[Effect]) -> Result<Vec<u8>, Fail> {
 }
 
 // What a trace says that a frame does.
-fn told(alloc: Global, switch: &Switch<Scan>, port: u32, frame: &[u8]) -> Result<Vec<u8>, Fail> {
+fn told<L: Lookup>(
+    alloc: Global,
+    switch: &Switch<L>,
+    port: u32,
+    frame: &[u8],
+) -> Result<Vec<u8>, Fail> {
     effects_text(alloc, &trace(alloc, switch, port, frame)?.effects)
 }
 
 // What it does.
-fn done(
+fn done<L: Lookup>(
     alloc: Global,
-    switch: &mut Switch<Scan>,
+    switch: &mut Switch<L>,
     port: u32,
     frame: &[u8],
 ) -> Result<Vec<u8>, Fail> {
@@ -253,7 +279,11 @@ fn done(
 }
 
 // Frames by any of three ports, of which the third is not there.
-fn tells_all(rt: &impl Abort, alloc: Global, switch: &mut Switch<Scan>) -> Result<(), Fail> {
+fn tells_all<L: Lookup>(
+    rt: &impl Abort,
+    alloc: Global,
+    switch: &mut Switch<L>,
+) -> Result<(), Fail> {
     open(switch)?;
     add_flow(switch)?;
     let mut numbers = Numbers { state: 1 };
@@ -269,7 +299,7 @@ fn tells_all(rt: &impl Abort, alloc: Global, switch: &mut Switch<Scan>) -> Resul
 
 #[test]
 fn traces_tell_what_frames_do(rt: HostRuntime) -> Result<(), Fail> {
-    let mut switch = Switch::<Scan>::new(rt.alloc(), 1)?;
+    let mut switch = Switch::<Cached<MaskGroups>>::new(rt.alloc(), 1)?;
     tells_all(&rt, rt.alloc(), &mut switch)
 }
 

@@ -1,5 +1,7 @@
 use crate::checks::same;
-use of_classifier::Scan;
+use of_cache::Cached;
+use of_classifier::{Lookup, Scan};
+use of_mask_groups::MaskGroups;
 use of_switch::{
     Effect, Effects, Event, PortChange, Report, Switch, SwitchError, chunk_handles_its_messages,
     refusal_changes_nothing, two_chunks,
@@ -70,12 +72,12 @@ const ECHO: &[(Step, Given)] = &[
     ),
 ];
 
-fn handle(switch: &mut Switch<Scan>, message: &[u8]) -> Result<Effects, Fail> {
+fn handle<L: Lookup>(switch: &mut Switch<L>, message: &[u8]) -> Result<Effects, Fail> {
     switch.feed(message)?;
     Ok(switch.next()?.ok_or("a message")?)
 }
 
-fn happen(switch: &mut Switch<Scan>, step: Step) -> Result<Effects, Fail> {
+fn happen<L: Lookup>(switch: &mut Switch<L>, step: Step) -> Result<Effects, Fail> {
     match step {
         Step::Port(number) => Ok(switch.port_change(added(number))?),
         Step::Connect => Ok(switch.connected()?),
@@ -83,14 +85,14 @@ fn happen(switch: &mut Switch<Scan>, step: Step) -> Result<Effects, Fail> {
     }
 }
 
-fn is_all_handled(switch: &mut Switch<Scan>) -> Result<bool, Fail> {
+fn is_all_handled<L: Lookup>(switch: &mut Switch<L>) -> Result<bool, Fail> {
     Ok(switch.next()?.is_none())
 }
 
-fn play(
+fn play<L: Lookup>(
     rt: &impl Abort,
     place: usize,
-    switch: &mut Switch<Scan>,
+    switch: &mut Switch<L>,
     step: Step,
     given: Given,
 ) -> Result<(), Fail> {
@@ -102,17 +104,26 @@ fn play(
     Ok(())
 }
 
-fn play_all(rt: &impl Abort, switch: &mut Switch<Scan>) -> Result<(), Fail> {
+fn play_all<L: Lookup>(rt: &impl Abort, switch: &mut Switch<L>) -> Result<(), Fail> {
     for (place, (step, given)) in ECHO.iter().enumerate() {
         play(rt, place, switch, *step, *given)?;
     }
     Ok(())
 }
 
+fn echoes<L: Lookup>(rt: &impl Abort, alloc: Global) -> Result<(), Fail> {
+    let mut switch = Switch::<L>::new(alloc, 1)?;
+    play_all(rt, &mut switch)
+}
+
 #[test]
 fn echo(rt: HostRuntime) -> Result<(), Fail> {
-    let mut switch = Switch::<Scan>::new(rt.alloc(), 1)?;
-    play_all(&rt, &mut switch)
+    echoes::<Scan>(&rt, rt.alloc())
+}
+
+#[test]
+fn echo_of_the_running_switch(rt: HostRuntime) -> Result<(), Fail> {
+    echoes::<Cached<MaskGroups>>(&rt, rt.alloc())
 }
 
 #[test]
@@ -179,19 +190,32 @@ fn are_reported(rt: &impl Abort, reports: &[Report], rows: &[(Happening, Given)]
     }
 }
 
-fn run(alloc: Global, switch: &mut Switch<Scan>, reports: &mut Vec<Report>) -> Result<(), Fail> {
+fn run<L: Lookup>(
+    alloc: Global,
+    switch: &mut Switch<L>,
+    reports: &mut Vec<Report>,
+) -> Result<(), Fail> {
     Ok(switch.run(&events_of(alloc, EVENTS)?, reports)?)
 }
 
-fn run_all(rt: &impl Abort, alloc: Global, switch: &mut Switch<Scan>) -> Result<(), Fail> {
+fn run_all<L: Lookup>(rt: &impl Abort, alloc: Global, switch: &mut Switch<L>) -> Result<(), Fail> {
     let mut reports = Vec::new(alloc);
     run(alloc, switch, &mut reports)?;
     are_reported(rt, &reports, EVENTS);
     Ok(())
 }
 
+fn happens<L: Lookup>(rt: &impl Abort, alloc: Global) -> Result<(), Fail> {
+    let mut switch = Switch::<L>::new(alloc, 1)?;
+    run_all(rt, alloc, &mut switch)
+}
+
 #[test]
 fn events(rt: HostRuntime) -> Result<(), Fail> {
-    let mut switch = Switch::<Scan>::new(rt.alloc(), 1)?;
-    run_all(&rt, rt.alloc(), &mut switch)
+    happens::<Scan>(&rt, rt.alloc())
+}
+
+#[test]
+fn events_of_the_running_switch(rt: HostRuntime) -> Result<(), Fail> {
+    happens::<Cached<MaskGroups>>(&rt, rt.alloc())
 }

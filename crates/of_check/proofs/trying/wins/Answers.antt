@@ -7,7 +7,7 @@ use Rattle.of_table.specs.Table.{winner_place}
 use Rattle.of_table.specs.Tables.{table_at}
 use Rattle.of_headers.specs.Faults.{frame_fault}
 use Rattle.of_datapath.specs.Datapath.{Forwarding, winner_in}
-use Rattle.of_check.proofs.TryingLemmas.{long_enough}
+use Rattle.of_check.proofs.TryingLemmas.{long_enough, short_enough}
 use Rattle.of_check.proofs.trying.wins.Goals as goal
 
 pub returns-in-Some : goal.returns-in-Some
@@ -22,6 +22,8 @@ returns-in-Some g c same =
         port_fits = omega (arith, c.ranges.in_port.fits);
         metadata_fits = omega (arith, c.ranges.metadata.fits);
       };
+      short = short_enough c.args.frame.now none;
+      ingress = c.is_ingress.ensures c.if-not-is_ingress.false;
       wins =
           ap (λ (m : Field → Option ℕ). winner_place m flows) (sym c.in-Ok.ensures.key ∙ ap value (sym c.key.ensures))
           ∙ ap (λ (f : Forwarding). winner_in f c.args.table (value c.key.result)) c.datapath.ensures
