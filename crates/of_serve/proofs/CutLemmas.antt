@@ -320,14 +320,37 @@ cut_by : (e : Event) (g g1 g2 : Gathered) → g1 ≡ holding g1.state g.answers 
 cut_by e g g1 g2 is k (inl s) = cut_now e [] g g2 false (k.0 ∙ ap (λ (x : Gathered). x.answers) is) (k.1 ∙ ap (λ (x : Gathered). x.lines) is) (k.2 ∙ s)
 cut_by e g g1 g2 is k (inr s) = cut_now e [] g g2 true (k.0 ∙ ap (λ (x : Gathered). x.answers) is) (k.1 ∙ ap (λ (x : Gathered). x.lines) is) (k.2 ∙ s)
 
-pub played : (refusal : Option SwitchError) (o : Outcome) (e : Event) (given : Result (SmallVec Effect) SwitchError) (r : Result (Unit {0}) AllocError) (g g1 g2 : Gathered)
-    → happened e g.state ≡ unless refusal g.state o → (partly 1 e g.state).state ≡ (unless refusal g.state o).state
-    → Calls refusal o given g.state g1.state → g1 ≡ holding g1.state g.answers g.lines → Keeps given r g1 g2 → OnOk r (g2 ≡ gathered (e ∷ []) g)
-played refusal o e given (Ok u) g g1 g2 is whole call same k = played_ok refusal o given g g1 g2 call same k ∙ ap (λ (h : Happened). gather h g) (sym is)
-played refusal o e given (Err x) g g1 g2 is whole call same k = tt
+pub played : (refusal : Option SwitchError) (o : Outcome) (row e : Event) (given : Result (SmallVec Effect) SwitchError) (r : Result (Unit {0}) AllocError) (g0 g g1 g2 : Gathered)
+    → row ≡ e → g ≡ g0 → happened e g.state ≡ unless refusal g.state o → (partly 1 e g.state).state ≡ (unless refusal g.state o).state
+    → Calls refusal o given g.state g1.state → g1 ≡ holding g1.state g.answers g.lines → Keeps given r g1 g2 → OnOk r (g2 ≡ gathered (row ∷ []) g0)
+played refusal o row e given (Ok u) g0 g g1 g2 is view does whole call same k =
+    played_ok refusal o given g g1 g2 call same k
+    ∙ (ap (λ (h : Happened). gather h g) (sym does) ∙ (ap (λ (x : Event). gathered (x ∷ []) g) (sym is) ∙ ap (gathered (row ∷ [])) view))
+played refusal o row e given (Err x) g0 g g1 g2 is view does whole call same k = tt
 
-pub played_cut : (refusal : Option SwitchError) (o : Outcome) (e : Event) (given : Result (SmallVec Effect) SwitchError) (r : Result (Unit {0}) AllocError) (g g1 g2 : Gathered)
-    → (partly 1 e g.state).state ≡ (unless refusal g.state o).state
-    → Calls refusal o given g.state g1.state → g1 ≡ holding g1.state g.answers g.lines → Keeps given r g1 g2 → OnErr r (CutIn (e ∷ []) g g2)
-played_cut refusal o e given (Ok u) g g1 g2 whole call same k = tt
-played_cut refusal o e given (Err x) g g1 g2 whole call same k = cut_by e g g1 g2 same (kept_same given x g1 g2 k) (or_whole g1.state g.state _ _ (sym whole) (played_state refusal o given g.state g1.state call))
+pub played_cut : (refusal : Option SwitchError) (o : Outcome) (row e : Event) (given : Result (SmallVec Effect) SwitchError) (r : Result (Unit {0}) AllocError) (g0 g g1 g2 : Gathered)
+    → row ≡ e → g ≡ g0 → happened e g.state ≡ unless refusal g.state o → (partly 1 e g.state).state ≡ (unless refusal g.state o).state
+    → Calls refusal o given g.state g1.state → g1 ≡ holding g1.state g.answers g.lines → Keeps given r g1 g2 → OnErr r (CutIn (row ∷ []) g0 g2)
+played_cut refusal o row e given (Ok u) g0 g g1 g2 is view does whole call same k = tt
+played_cut refusal o row e given (Err x) g0 g g1 g2 is view does whole call same k =
+    subst (λ (y : Gathered). CutIn (row ∷ []) y g2) view
+    (subst (λ (z : Event). CutIn (z ∷ []) g g2) (sym is)
+    (cut_by e g g1 g2 same (kept_same given x g1 g2 k) (or_whole g1.state g.state _ _ (sym whole) (played_state refusal o given g.state g1.state call))))
+
+pub keeps : (given : Result (SmallVec Effect) SwitchError) (effects : SmallVec Effect) (pushed : List Effect) (r : Result (Unit {0}) AllocError) (g g' : Gathered) → given ≡ Ok effects → pushed ≡ effects.items
+    → OnOk r (g'.answers ≡ g.answers ++ flat_map answer_in pushed) → OnOk r (g'.lines ≡ g.lines ++ flat_map line_in pushed)
+    → OnErr r ((g'.answers ≡ g.answers) × (g'.lines ≡ g.lines)) → g'.state ≡ g.state → Keeps given r g g'
+keeps given effects pushed (Ok u) g g' is e answers lines err state =
+    subst (λ (x : Result (SmallVec Effect) SwitchError). Keeps x (Ok u) g g') (sym is)
+    (ap (λ (x : State). holding x g'.answers g'.lines) state
+    ∙ (ap (λ (x : List ℕ). holding g.state x g'.lines) (answers ∙ ap (λ (x : List Effect). g.answers ++ flat_map answer_in x) e)
+    ∙ ap (λ (x : List ℕ). holding g.state (g.answers ++ flat_map answer_in effects.items) x) (lines ∙ ap (λ (x : List Effect). g.lines ++ flat_map line_in x) e)))
+keeps given effects pushed (Err x) g g' is e answers lines err state =
+    subst (λ (y : Result (SmallVec Effect) SwitchError). Keeps y (Err x) g g') (sym is) (err.0, err.1, state)
+
+-- the next message was handled, and there was no memory for what it gave
+pub lost_next : (g g' : Gathered) (s : State) (effects : List Effect) → next_of g.state ≡ Some (gives effects s) → g'.state ≡ s → (g'.answers ≡ g.answers) × (g'.lines ≡ g.lines) → LosesNext g g'
+lost_next g g' s effects h state same = (same.0, same.1, inr (gives effects s, h, state))
+
+pub next_fails : (g g' : Gathered) → g' ≡ holding g'.state g.answers g.lines → g'.state ≡ g.state → LosesNext g g'
+next_fails g g' is state = (ap (λ (x : Gathered). x.answers) is, ap (λ (x : Gathered). x.lines) is, inl state)
