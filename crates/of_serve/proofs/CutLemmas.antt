@@ -15,7 +15,7 @@ use Rattle.of_switch.specs.declared.switch_error.SwitchError.TheVariants.{NoMemo
 use Rattle.of_switch.specs.State.{State}
 use Rattle.of_switch.specs.Steps.{Outcome, gives, fed, next_of}
 use Rattle.of_switch.specs.Calls.{Call, first_refusal}
-use Rattle.of_switch.specs.Runs.{Happened, Gives, IsRefused, happened, behind, then_more, drain, drained, come, unless}
+use Rattle.of_switch.specs.Runs.{behind, then_more, drain, drained, come, unless}
 use Rattle.of_switch.proofs.Draining.{Left, left_none, left_more, left_all}
 use Rattle.of_serve.specs.Turns.{Gathered, gather, gathered, answer_in, line_in, partly, acts, due, waits}
 use Rattle.of_serve.specs.Gathering.{CutIn, HandlesNext, HandlesAll, HandlesSome, Keeps, LosesNext}
@@ -276,30 +276,14 @@ due_cut now row all rows first g g' e t so c =
 
 -- WHERE A CALL FAILED
 
-pub on_err : (r : Result (Unit {0}) AllocError) (A : Type 0) → A → OnErr r A
-on_err (Ok u) A a = tt
-on_err (Err e) A a = a
+pub on_err : {A E : Type 0} (r : Result A E) (P : Type 0) → P → OnErr r P
+on_err (Ok u) P p = tt
+on_err (Err e) P p = p
 
 -- A CALL OF THE SWITCH for an event of one step
 
 abbrev Calls : Option SwitchError → Outcome → Result (SmallVec Effect) SwitchError → State → State → Type 0
 Calls refusal o given s t = Call refusal (λ (effects : SmallVec Effect) (new : State). o ≡ gives effects.items new) s given t
-
-refused : (x : SwitchError) (g g1 g2 : Gathered) → g1 ≡ g → g2 ≡ g1 → g2 ≡ gather (record { report = IsRefused x; state = g.state }) g
-refused x g g1 g2 e k =
-    k ∙ (e ∙ (ap (λ (xs : List ℕ). holding g.state xs g.lines) (sym (append-nil g.answers)) ∙ ap (λ (xs : List ℕ). holding g.state (g.answers ++ []) xs) (sym (append-nil g.lines))))
-
-did : (o : Outcome) (effects : SmallVec Effect) (g g1 g2 : Gathered) → o ≡ gives effects.items g1.state → g1 ≡ holding g1.state g.answers g.lines
-    → g2 ≡ gather (record { report = Gives effects.items; state = g1.state }) g1 → g2 ≡ gather (unless None g.state o) g
-did o effects g g1 g2 is e k =
-    k ∙ (ap (λ (x : Gathered). gather (record { report = Gives effects.items; state = g1.state }) x) e ∙ ap (λ (x : Outcome). gather (unless None g.state x) g) (sym is))
-
-played_ok : (refusal : Option SwitchError) (o : Outcome) (given : Result (SmallVec Effect) SwitchError) (g g1 g2 : Gathered)
-    → Calls refusal o given g.state g1.state → g1 ≡ holding g1.state g.answers g.lines → Keeps given (Ok tt) g1 g2 → g2 ≡ gather (unless refusal g.state o) g
-played_ok (Some x) o (Ok effects) g g1 g2 call e k = let h : Ok effects ≡ Err x = call.0 in absurd cc
-played_ok (Some x) o (Err y) g g1 g2 call e k = refused x g g1 g2 (e ∙ ap (λ (s : State). holding s g.answers g.lines) call.1) k.1
-played_ok None o (Ok effects) g g1 g2 call e k = did o effects g g1 g2 call e k
-played_ok None o (Err y) g g1 g2 call e k = absurd (k.0 call.0)
 
 kept_same : (given : Result (SmallVec Effect) SwitchError) (x : AllocError) (g1 g2 : Gathered) → Keeps given (Err x) g1 g2 → (g2.answers ≡ g1.answers) × (g2.lines ≡ g1.lines) × (g2.state ≡ g1.state)
 kept_same (Ok effects) x g1 g2 k = k
@@ -320,37 +304,15 @@ cut_by : (e : Event) (g g1 g2 : Gathered) → g1 ≡ holding g1.state g.answers 
 cut_by e g g1 g2 is k (inl s) = cut_now e [] g g2 false (k.0 ∙ ap (λ (x : Gathered). x.answers) is) (k.1 ∙ ap (λ (x : Gathered). x.lines) is) (k.2 ∙ s)
 cut_by e g g1 g2 is k (inr s) = cut_now e [] g g2 true (k.0 ∙ ap (λ (x : Gathered). x.answers) is) (k.1 ∙ ap (λ (x : Gathered). x.lines) is) (k.2 ∙ s)
 
-pub played : (refusal : Option SwitchError) (o : Outcome) (row e : Event) (given : Result (SmallVec Effect) SwitchError) (r : Result (Unit {0}) AllocError) (g0 g g1 g2 : Gathered)
-    → row ≡ e → g ≡ g0 → happened e g.state ≡ unless refusal g.state o → (partly 1 e g.state).state ≡ (unless refusal g.state o).state
-    → Calls refusal o given g.state g1.state → g1 ≡ holding g1.state g.answers g.lines → Keeps given r g1 g2 → OnOk r (g2 ≡ gathered (row ∷ []) g0)
-played refusal o row e given (Ok u) g0 g g1 g2 is view does whole call same k =
-    played_ok refusal o given g g1 g2 call same k
-    ∙ (ap (λ (h : Happened). gather h g) (sym does) ∙ (ap (λ (x : Event). gathered (x ∷ []) g) (sym is) ∙ ap (gathered (row ∷ [])) view))
-played refusal o row e given (Err x) g0 g g1 g2 is view does whole call same k = tt
-
 pub played_cut : (refusal : Option SwitchError) (o : Outcome) (row e : Event) (given : Result (SmallVec Effect) SwitchError) (r : Result (Unit {0}) AllocError) (g0 g g1 g2 : Gathered)
-    → row ≡ e → g ≡ g0 → happened e g.state ≡ unless refusal g.state o → (partly 1 e g.state).state ≡ (unless refusal g.state o).state
+    → row ≡ e → g ≡ g0 → (partly 1 e g.state).state ≡ (unless refusal g.state o).state
     → Calls refusal o given g.state g1.state → g1 ≡ holding g1.state g.answers g.lines → Keeps given r g1 g2 → OnErr r (CutIn (row ∷ []) g0 g2)
-played_cut refusal o row e given (Ok u) g0 g g1 g2 is view does whole call same k = tt
-played_cut refusal o row e given (Err x) g0 g g1 g2 is view does whole call same k =
+played_cut refusal o row e given (Ok u) g0 g g1 g2 is view whole call same k = tt
+played_cut refusal o row e given (Err x) g0 g g1 g2 is view whole call same k =
     subst (λ (y : Gathered). CutIn (row ∷ []) y g2) view
     (subst (λ (z : Event). CutIn (z ∷ []) g g2) (sym is)
     (cut_by e g g1 g2 same (kept_same given x g1 g2 k) (or_whole g1.state g.state _ _ (sym whole) (played_state refusal o given g.state g1.state call))))
 
-pub keeps : (given : Result (SmallVec Effect) SwitchError) (effects : SmallVec Effect) (pushed : List Effect) (r : Result (Unit {0}) AllocError) (g g' : Gathered) → given ≡ Ok effects → pushed ≡ effects.items
-    → OnOk r (g'.answers ≡ g.answers ++ flat_map answer_in pushed) → OnOk r (g'.lines ≡ g.lines ++ flat_map line_in pushed)
-    → OnErr r ((g'.answers ≡ g.answers) × (g'.lines ≡ g.lines)) → g'.state ≡ g.state → Keeps given r g g'
-keeps given effects pushed (Ok u) g g' is e answers lines err state =
-    subst (λ (x : Result (SmallVec Effect) SwitchError). Keeps x (Ok u) g g') (sym is)
-    (ap (λ (x : State). holding x g'.answers g'.lines) state
-    ∙ (ap (λ (x : List ℕ). holding g.state x g'.lines) (answers ∙ ap (λ (x : List Effect). g.answers ++ flat_map answer_in x) e)
-    ∙ ap (λ (x : List ℕ). holding g.state (g.answers ++ flat_map answer_in effects.items) x) (lines ∙ ap (λ (x : List Effect). g.lines ++ flat_map line_in x) e)))
-keeps given effects pushed (Err x) g g' is e answers lines err state =
-    subst (λ (y : Result (SmallVec Effect) SwitchError). Keeps y (Err x) g g') (sym is) (err.0, err.1, state)
-
 -- the next message was handled, and there was no memory for what it gave
 pub lost_next : (g g' : Gathered) (s : State) (effects : List Effect) → next_of g.state ≡ Some (gives effects s) → g'.state ≡ s → (g'.answers ≡ g.answers) × (g'.lines ≡ g.lines) → LosesNext g g'
 lost_next g g' s effects h state same = (same.0, same.1, inr (gives effects s, h, state))
-
-pub next_fails : (g g' : Gathered) → g' ≡ holding g'.state g.answers g.lines → g'.state ≡ g.state → LosesNext g g'
-next_fails g g' is state = (ap (λ (x : Gathered). x.answers) is, ap (λ (x : Gathered). x.lines) is, inl state)

@@ -1,5 +1,5 @@
 -- Steps of a turn, and turns one after the other.
-use Rattle.std.proofs.Common.{◌≡◌, ◌⊎◌, inl, inr, ℕ, ◌+◌, ◌≤◌, Bool, true, false, List, [], ◌∷◌, ◌++◌, Option, Result, Ok, Err, refl, sym, ◌∙◌, ap, subst, append_assoc, arith}
+use Rattle.std.proofs.Common.{◌≡◌, ◌⊎◌, inl, inr, ℕ, ◌+◌, ◌≤◌, Bool, true, false, List, [], ◌∷◌, ◌++◌, length, Option, Result, Ok, Err, refl, sym, ◌∙◌, ap, subst, append_assoc, arith}
 use Rattle.std.specs.Prelude.{OnOk, OnErr}
 use Rattle.std.proofs.lemmas.List.{append-nil}
 use Rattle.std.specs.declared.alloc.AllocError.{AllocError}
@@ -66,37 +66,37 @@ opens (Err x) result g g' came came' took took' is e k ok err = subst (λ (x : R
 -- THE INPUT OF A TURN
 
 -- memory ran out in a turn with a connection
-read_inputs : (g0 g g' : Gathered) (rows rest : List Event) (came came' : Option (List Came)) (times times' : Option (List ℕ)) (took took' : Option (List (List ℕ))) (failed : ℕ) (wrote : Option (List ℕ)) (now : ℕ)
-    → g ≡ nothing_pending g0.state → is_disconnected g0.state.connection.phase ≡ false → times' ≡ then_told times (now ∷ []) → took' ≡ took
+read_inputs : (g0 g g' : Gathered) (rows rest : List Event) (came came' : Option (List Came)) (times times' : Option (List ℕ)) (took took' : Option (List (List ℕ))) (failed failed' : ℕ) (wrote : Option (List ℕ)) (now : ℕ)
+    → g ≡ nothing_pending g0.state → is_disconnected g0.state.connection.phase ≡ false → times' ≡ then_told times (now ∷ []) → took' ≡ took → failed' ≡ failed
     → ((came' ≡ came) × CutIn (Moment now ∷ due now rows) g g') ⊎ ((answer : Answer) × (came' ≡ then_told came (Answered answer ∷ [])) × CutIn (events_of (Reads now answer) rows) g g')
-    → Inputs (Err Memory) (standing g0.state rows) g' rest (tells came times took failed wrote) (tells came' times' took' failed wrote)
-read_inputs g0 g g' rows rest came came' times times' took took' failed wrote now e stands t k (inl c) = record {
+    → Inputs (Err Memory) (standing g0.state rows) g' rest (tells came times took failed wrote) (tells came' times' took' failed' wrote)
+read_inputs g0 g g' rows rest came came' times times' took took' failed failed' wrote now e stands t k f (inl c) = record {
   known = Time now;
   is_known = stands;
   cut = subst (λ (x : Gathered). CutIn (Moment now ∷ due now rows) x g') e c.1;
   came_is = c.0 ∙ sym (told-nil came);
   times_are = t;
   took_is = k;
-  failed_is = refl;
+  failed_is = f;
   wrote_is = refl;
 }
-read_inputs g0 g g' rows rest came came' times times' took took' failed wrote now e stands t k (inr c) = record {
+read_inputs g0 g g' rows rest came came' times times' took took' failed failed' wrote now e stands t k f (inr c) = record {
   known = All (Reads now c.0);
   is_known = stands;
   cut = subst (λ (x : Gathered). CutIn (events_of (Reads now c.0) rows) x g') e c.2;
   came_is = c.1;
   times_are = t;
   took_is = k;
-  failed_is = refl;
+  failed_is = f;
   wrote_is = refl;
 }
 
-pub inputs_read : (done : Result (Unit {0}) AllocError) (result : Result (Unit {0}) Halt) (g0 g' : Gathered) (rows rest : List Event) (came came' : Option (List Came)) (times times' : Option (List ℕ)) (took took' : Option (List (List ℕ))) (failed : ℕ) (wrote : Option (List ℕ))
+pub inputs_read : (done : Result (Unit {0}) AllocError) (result : Result (Unit {0}) Halt) (g0 g' : Gathered) (rows rest : List Event) (came came' : Option (List Came)) (times times' : Option (List ℕ)) (took took' : Option (List (List ℕ))) (failed failed' : ℕ) (wrote : Option (List ℕ))
     → OrMemory done result → g0 ≡ nothing_pending g0.state → is_disconnected g0.state.connection.phase ≡ false
-    → OnOk done (TellsReads g0 g' rows rest came came' times times') → OnErr done (CutsReads g0 g' rows came came' times times') → took' ≡ took
-    → Inputs result (standing g0.state rows) g' rest (tells came times took failed wrote) (tells came' times' took' failed wrote)
-inputs_read (Ok u) result g0 g' rows rest came came' times times' took took' failed wrote is empty stands t r k =
-    subst (λ (x : Result (Unit {0}) Halt). Inputs x (standing g0.state rows) g' rest (tells came times took failed wrote) (tells came' times' took' failed wrote)) (sym is) (record {
+    → OnOk done (TellsReads g0 g' rows rest came came' times times') → OnErr done (CutsReads g0 g' rows came came' times times') → took' ≡ took → failed' ≡ failed
+    → Inputs result (standing g0.state rows) g' rest (tells came times took failed wrote) (tells came' times' took' failed' wrote)
+inputs_read (Ok u) result g0 g' rows rest came came' times times' took took' failed failed' wrote is empty stands t r k f =
+    subst (λ (x : Result (Unit {0}) Halt). Inputs x (standing g0.state rows) g' rest (tells came times took failed wrote) (tells came' times' took' failed' wrote)) (sym is) (record {
       input = Reads t.now t.answer;
       is_input = stands;
       handled = t.handled ∙ ap (gathered (events_of (Reads t.now t.answer) rows)) empty;
@@ -104,17 +104,17 @@ inputs_read (Ok u) result g0 g' rows rest came came' times times' took took' fai
       came_is = t.came_is;
       times_are = t.times_are;
       took_is = k;
-      failed_is = refl;
+      failed_is = f;
       wrote_is = refl;
     })
-inputs_read (Err e) result g0 g' rows rest came came' times times' took took' failed wrote is empty stands t r k =
-    subst (λ (x : Result (Unit {0}) Halt). Inputs x (standing g0.state rows) g' rest (tells came times took failed wrote) (tells came' times' took' failed wrote)) (sym is)
-    (read_inputs g0 g0 g' rows rest came came' times times' took took' failed wrote r.now empty stands r.times_are k r.cut)
+inputs_read (Err e) result g0 g' rows rest came came' times times' took took' failed failed' wrote is empty stands t r k f =
+    subst (λ (x : Result (Unit {0}) Halt). Inputs x (standing g0.state rows) g' rest (tells came times took failed wrote) (tells came' times' took' failed' wrote)) (sym is)
+    (read_inputs g0 g0 g' rows rest came came' times times' took took' failed failed' wrote r.now empty stands r.times_are k f r.cut)
 
-pub inputs_accept : (result : Result (Unit {0}) Halt) (g0 g' : Gathered) (rows : List Event) (came came' : Option (List Came)) (times : Option (List ℕ)) (took took' : Option (List (List ℕ))) (failed : ℕ) (wrote : Option (List ℕ))
-    → g0 ≡ nothing_pending g0.state → is_disconnected g0.state.connection.phase ≡ true → Opens result g0 g' came came' took took'
-    → Inputs result (standing g0.state rows) g' rows (tells came times took failed wrote) (tells came' times took' failed wrote)
-inputs_accept (Ok u) g0 g' rows came came' times took took' failed wrote empty stands o = record {
+pub inputs_accept : (result : Result (Unit {0}) Halt) (g0 g' : Gathered) (rows : List Event) (came came' : Option (List Came)) (times : Option (List ℕ)) (took took' : Option (List (List ℕ))) (failed failed' : ℕ) (wrote : Option (List ℕ))
+    → g0 ≡ nothing_pending g0.state → is_disconnected g0.state.connection.phase ≡ true → failed' ≡ failed → Opens result g0 g' came came' took took'
+    → Inputs result (standing g0.state rows) g' rows (tells came times took failed wrote) (tells came' times took' failed' wrote)
+inputs_accept (Ok u) g0 g' rows came came' times took took' failed failed' wrote empty stands f o = record {
   input = Accepts o.0;
   is_input = stands;
   handled = o.3 ∙ ap (gathered (events_of (Accepts o.0) rows)) empty;
@@ -122,22 +122,22 @@ inputs_accept (Ok u) g0 g' rows came came' times took took' failed wrote empty s
   came_is = o.1;
   times_are = sym (told-nil times);
   took_is = o.2;
-  failed_is = refl;
+  failed_is = f;
   wrote_is = refl;
 }
-inputs_accept (Err (Bad n)) g0 g' rows came came' times took took' failed wrote empty stands o = o
-inputs_accept (Err Memory) g0 g' rows came came' times took took' failed wrote empty stands o = record {
+inputs_accept (Err (Bad n)) g0 g' rows came came' times took took' failed failed' wrote empty stands f o = o
+inputs_accept (Err Memory) g0 g' rows came came' times took took' failed failed' wrote empty stands f o = record {
   known = All (Accepts accepted.Open);
   is_known = stands;
   cut = subst (λ (x : Gathered). CutIn (events_of (Accepts accepted.Open) rows) x g') empty o.2;
   came_is = o.0;
   times_are = sym (told-nil times);
   took_is = o.1;
-  failed_is = refl;
+  failed_is = f;
   wrote_is = refl;
 }
-inputs_accept (Err ReadHalt) g0 g' rows came came' times took took' failed wrote empty stands o = record { state_is = ap (λ (x : Gathered). x.state) (o.2 ∙ empty); came_is = o.0; times_are = refl; took_is = o.1; failed_is = refl; wrote_is = refl }
-inputs_accept (Err Write) g0 g' rows came came' times took took' failed wrote empty stands o = o
+inputs_accept (Err ReadHalt) g0 g' rows came came' times took took' failed failed' wrote empty stands f o = record { state_is = ap (λ (x : Gathered). x.state) (o.2 ∙ empty); came_is = o.0; times_are = refl; took_is = o.1; failed_is = f; wrote_is = refl }
+inputs_accept (Err Write) g0 g' rows came came' times took took' failed failed' wrote empty stands f o = o
 
 -- WHAT IT GIVES IS WRITTEN
 
@@ -468,7 +468,3 @@ serves_from e e' turns g rest rows begun state state' old new is same r ends ser
     let s : standing g.state rest ≡ standing begun rows = ap (λ (y : Gathered). standing y.state rest) same ∙ ap (standing begun) r in
     subst (λ (x : State). Serves e' turns (standing begun rows) x old new) (sym ends)
     (subst (λ (x : ServeState). Serves e' turns x state old new) s (subst (λ (x : Ended). Serves x turns (standing g.state rest) state old new) (sym is) serves))
-
-pub serves_on : (turns : ℕ) (rows : List Event) (begun begun' state : State) (e : Ended) (old new : Tells) → begun ≡ begun' → Serves e turns (standing begun rows) state old new
-    → (x : State) × Serves e turns (standing begun' rows) x old new
-serves_on turns rows begun begun' state e old new same serves = (state, subst (λ (x : State). Serves e turns (standing x rows) state old new) same serves)

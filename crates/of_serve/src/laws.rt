@@ -10,11 +10,12 @@ ghost use Rattle.of_serve.specs.Connections.{AllTookPrefixes, broken_among, conn
 /// memory cut short.
 pub fn connections_take_prefixes()
     ensures fronts { (s : ServeState) (ts : Turns) → AreTurns s ts → AllTookPrefixes (connections s ts) }
-    ensures failed { (s : ServeState) (ts : Turns) → is_disconnected s.state.connection.phase ≡ true → AreTurns s ts → breaks ts ≡ broken_among (connections s ts) }
+    ensures failed { (s : ServeState) (ts : Turns) → is_disconnected s.state.connection.phase ≡ true → AreTurns s ts →
+        breaks ts ≡ broken_among (connections s ts) }
     ensures taken { (s : ServeState) (ts : Turns) → took (Some []) ts ≡ Some (map (λ c. c.taken) (connections s ts)) }
     ensures cut_prefixes { (s : ServeState) (ts : Turns) (t : CutTurn) → AreTurns s ts → IsCutTurn t (stand s ts) → AllTookPrefixes (cut_connections s ts t) }
-    ensures cut_failed { (s : ServeState) (ts : Turns) (t : CutTurn) → is_disconnected s.state.connection.phase ≡ true → AreTurns s ts → IsCutTurn t (stand s ts) →
-        breaks ts + failures t.broke ≡ broken_among (cut_connections s ts t) }
+    ensures cut_failed { (s : ServeState) (ts : Turns) (t : CutTurn) → is_disconnected s.state.connection.phase ≡ true → AreTurns s ts →
+        IsCutTurn t (stand s ts) → breaks ts + failures t.broke ≡ broken_among (cut_connections s ts t) }
     ensures cut_taken { (s : ServeState) (ts : Turns) (t : CutTurn) → then_onto (then_known (took (Some []) ts) t.known) t.taken ≡
         Some (map (λ c. c.taken) (cut_connections s ts t)) }
 {}
