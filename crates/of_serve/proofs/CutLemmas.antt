@@ -6,6 +6,7 @@ use Rattle.std.specs.declared.alloc.AllocError.{AllocError}
 use Rattle.std.proofs.lemmas.List.{append-nil}
 use Rattle.std.proofs.lemmas.Grind.{flat_map-append}
 use Rattle.of_session.specs.Session.{is_disconnected}
+use Rattle.smallvec.specs.SmallVec.{SmallVec}
 use Rattle.of_datapath.specs.declared.effect.Effect.{Effect}
 use Rattle.of_switch.specs.declared.event.Event.{Event}
 use Rattle.of_switch.specs.declared.event.Event.TheVariants.{Connect, Lost, Chunk, Frame, Moment, Ports}
@@ -16,8 +17,8 @@ use Rattle.of_switch.specs.Steps.{Outcome, gives, fed, next_of}
 use Rattle.of_switch.specs.Calls.{Call, first_refusal}
 use Rattle.of_switch.specs.Runs.{behind, then_more, drain, drained, come, unless}
 use Rattle.of_switch.proofs.Draining.{Left, left_none, left_more, left_all}
-use Rattle.of_serve.specs.Turns.{Gathered, gather, gathered, answer_in, line_in, part_of, with_effects, acts, due, waits}
-use Rattle.of_serve.specs.Gathering.{CutIn, HandlesNext, HandlesAll, HandlesSome}
+use Rattle.of_serve.specs.Turns.{Gathered, gather, gathered, answer_in, line_in, partly, acts, due, waits}
+use Rattle.of_serve.specs.Gathering.{CutIn, HandlesNext, HandlesAll, HandlesSome, Keeps, LosesNext}
 use Rattle.of_serve.proofs.TurnLemmas.{gathered_more, due_acts}
 
 -- MESSAGES
@@ -97,12 +98,25 @@ handled_all first g g' h so =
     ap (λ (x : List ℕ). holding g.state x g.lines) so.answers_are ∙ ap (λ (x : List ℕ). holding g.state (first.answers ++ flat_map answer_in so.effects) x) so.lines_are in
     h.1 ∙ (is ∙ ap (λ (o : Outcome). gather (unless None first.state o) first) (sym told))
 
-pub handled_some : (first g g' : Gathered) → (g'.answers ≡ g.answers) × (g'.lines ≡ g.lines) → HandledSoFar first g → HandlesSome first g'
-handled_some first g g' same so = record {
+some_handled : (first g g' : Gathered) (lost : Bool) → g'.answers ≡ g.answers → g'.lines ≡ g.lines → (so : HandledSoFar first g)
+    → g'.state ≡ (drain (if lost then suc so.messages else so.messages) first.state).state → HandlesSome first g'
+some_handled first g g' lost answers lines so e = record {
   messages = so.messages;
-  answers_are = same.0 ∙ (so.answers_are ∙ ap (λ (o : Outcome). first.answers ++ flat_map answer_in o.effects) (sym so.drained_is));
-  lines_are = same.1 ∙ (so.lines_are ∙ ap (λ (o : Outcome). first.lines ++ flat_map line_in o.effects) (sym so.drained_is));
+  lost = lost;
+  state_is = e;
+  answers_are = answers ∙ (so.answers_are ∙ ap (λ (o : Outcome). first.answers ++ flat_map answer_in o.effects) (sym so.drained_is));
+  lines_are = lines ∙ (so.lines_are ∙ ap (λ (o : Outcome). first.lines ++ flat_map line_in o.effects) (sym so.drained_is));
 }
+
+loses_next : (first g g' : Gathered) → g'.answers ≡ g.answers → g'.lines ≡ g.lines → HandledSoFar first g
+    → (g'.state ≡ g.state) ⊎ ((o : Outcome) × (next_of g.state ≡ Some o) × (g'.state ≡ o.state)) → HandlesSome first g'
+loses_next first g g' answers lines so (inl e) = some_handled first g g' false answers lines so (e ∙ ap (λ (o : Outcome). o.state) (sym so.drained_is))
+loses_next first g g' answers lines so (inr h) =
+    some_handled first g g' true answers lines so
+    (h.2 ∙ ap (λ (o : Outcome). o.state) (sym (drain_more so.messages first.state g.state so.effects h.0 h.1 so.drained_is)))
+
+pub handled_some : (first g g' : Gathered) → LosesNext g g' → HandledSoFar first g → HandlesSome first g'
+handled_some first g g' h so = loses_next first g g' h.0 h.1 so h.2
 
 pub next_handled : (g g' : Gathered) (s : State) (effects pushed : List Effect) → next_of g.state ≡ Some (gives effects s) → pushed ≡ effects → g'.state ≡ s
     → g'.answers ≡ g.answers ++ flat_map answer_in pushed → g'.lines ≡ g.lines ++ flat_map line_in pushed → HandlesNext true g g'
@@ -116,46 +130,43 @@ next_handled g g' s effects pushed h e state answers lines = (
 
 -- EVENTS
 
-no_part : (e : Event) (s : State) → part_of 0 e s ≡ []
-unfolding drain
-no_part Connect s = refl
-no_part Lost s = refl
-no_part (Chunk bytes) s = refl
-no_part (Frame port bytes) s = refl
-no_part (Moment nanos) s = refl
-no_part (Ports change) s = refl
-
-text_same : (f : Effect → List ℕ) (old new : List ℕ) (es : List Effect) → new ≡ old → es ≡ [] → new ≡ old ++ flat_map f es
-text_same f old new es e none = e ∙ (sym (append-nil old) ∙ ap (λ (xs : List Effect). old ++ flat_map f xs) (sym none))
-
--- in the first of them, of which nothing was done
-pub cut_now : (e : Event) (others : List Event) (g g' : Gathered) → (g'.answers ≡ g.answers) × (g'.lines ≡ g.lines) → CutIn (e ∷ others) g g'
-cut_now e others g g' same = record {
-  cut = record { done = []; event = e; messages = 0; others = others };
+-- in the first of them, whose first step was not done, or is lost
+cut_now : (e : Event) (others : List Event) (g g' : Gathered) (lost : Bool) → g'.answers ≡ g.answers → g'.lines ≡ g.lines
+    → g'.state ≡ (partly (if lost then 1 else 0) e g.state).state → CutIn (e ∷ others) g g'
+cut_now e others g g' lost answers lines state = record {
+  cut = record { done = []; event = e; steps = 0; lost = lost; others = others };
   events_are = refl;
-  answers_are = text_same answer_in g.answers g'.answers (part_of 0 e g.state) same.0 (no_part e g.state);
-  lines_are = text_same line_in g.lines g'.lines (part_of 0 e g.state) same.1 (no_part e g.state);
+  answers_are = answers ∙ sym (append-nil g.answers);
+  lines_are = lines ∙ sym (append-nil g.lines);
+  state_is = state;
 }
+
+-- nothing of them was done
+pub cut_begun : (e : Event) (others : List Event) (g g' : Gathered) → g' ≡ g → CutIn (e ∷ others) g g'
+cut_begun e others g g' same =
+    cut_now e others g g' false (ap (λ (x : Gathered). x.answers) same) (ap (λ (x : Gathered). x.lines) same) (ap (λ (x : Gathered). x.state) same)
 
 -- after events that were done
 pub cut_later : (es fs : List Event) (g h g' : Gathered) → h ≡ gathered es g → CutIn fs h g' → CutIn (es ++ fs) g g'
 cut_later es fs g h g' e c =
     let same : gathered c.cut.done h ≡ gathered (es ++ c.cut.done) g = ap (gathered c.cut.done) e ∙ sym (gathered_more es c.cut.done g) in
-    let given = ap (λ (x : Gathered). with_effects (part_of c.cut.messages c.cut.event x.state) x) same in
+    let given = ap (λ (x : Gathered). gather (unless None x.state (partly c.cut.steps c.cut.event x.state)) x) same in
     record {
-      cut = record { done = es ++ c.cut.done; event = c.cut.event; messages = c.cut.messages; others = c.cut.others };
+      cut = record { done = es ++ c.cut.done; event = c.cut.event; steps = c.cut.steps; lost = c.cut.lost; others = c.cut.others };
       events_are = append_assoc es c.cut.done (c.cut.event ∷ c.cut.others) ∙ ap (λ (x : List Event). es ++ x) c.events_are;
       answers_are = c.answers_are ∙ ap (λ (x : Gathered). x.answers) given;
       lines_are = c.lines_are ∙ ap (λ (x : Gathered). x.lines) given;
+      state_is = c.state_is ∙ ap (λ (x : Gathered). (partly (if c.cut.lost then suc c.cut.steps else c.cut.steps) c.cut.event x.state).state) same;
     }
 
 -- before others
 pub cut_before : (es fs : List Event) (g g' : Gathered) → CutIn es g g' → CutIn (es ++ fs) g g'
 cut_before es fs g g' c = record {
-  cut = record { done = c.cut.done; event = c.cut.event; messages = c.cut.messages; others = c.cut.others ++ fs };
+  cut = record { done = c.cut.done; event = c.cut.event; steps = c.cut.steps; lost = c.cut.lost; others = c.cut.others ++ fs };
   events_are = sym (append_assoc c.cut.done (c.cut.event ∷ c.cut.others) fs) ∙ ap (λ (x : List Event). x ++ fs) c.events_are;
   answers_are = c.answers_are;
   lines_are = c.lines_are;
+  state_is = c.state_is;
 }
 
 -- A CHUNK
@@ -178,6 +189,14 @@ fails_by true chunk e g g' is call same =
     ∙ (ap (λ (x : List ℕ). holding g.state x g'.lines) (same.0 ∙ sym (append-nil g.answers))
     ∙ ap (λ (x : List ℕ). holding g.state (g.answers ++ []) x) (same.1 ∙ sym (append-nil g.lines))) in
     inr (rw is kept)
+
+feed_fails : (b : Bool) (chunk : List ℕ) (e : SwitchError) (s t : State) → Feeds b chunk (Err e) s t → t ≡ s
+feed_fails true chunk e s t call = call.1
+feed_fails false chunk e s t call = call.1
+
+pub not_fed : (chunk : List ℕ) (e : SwitchError) (g g' : Gathered) → Feeds (is_disconnected g.state.connection.phase) chunk (Err e) g.state g'.state
+    → g' ≡ holding g'.state g.answers g.lines → CutIn (Chunk chunk ∷ []) g g'
+not_fed chunk e g g' call same = cut_begun (Chunk chunk) [] g g' (same ∙ ap (λ (s : State). holding s g.answers g.lines) (feed_fails (is_disconnected g.state.connection.phase) chunk e g.state g'.state call))
 
 pub take_fails : (chunk : List ℕ) (e : SwitchError) (g g' : Gathered) → Feeds (is_disconnected g.state.connection.phase) chunk (Err e) g.state g'.state
     → (g'.answers ≡ g.answers) × (g'.lines ≡ g.lines) → Lacks (Err e) ⊎ (g' ≡ gathered (Chunk chunk ∷ []) g)
@@ -211,6 +230,11 @@ take_goes chunk (Ok u) g g1 g' call same all memory =
 some_text : (f : Effect → List ℕ) (n : ℕ) (old now new : List ℕ) (s t : State) → now ≡ old → s ≡ t → new ≡ now ++ flat_map f (drain n s).effects → new ≡ old ++ flat_map f (drain n t).effects
 some_text f n old now new s t e same h = h ∙ (ap (λ (x : List ℕ). x ++ flat_map f (drain n s).effects) e ∙ ap (λ (x : State). old ++ flat_map f (drain n x).effects) same)
 
+chunk_state : (lost : Bool) (n : ℕ) (chunk : List ℕ) (s t : State) → t ≡ come chunk s
+    → (drain (if lost then suc n else n) t).state ≡ (partly (if lost then suc (suc n) else suc n) (Chunk chunk) s).state
+chunk_state true n chunk s t e = ap (λ (x : State). (drain (suc n) x).state) e
+chunk_state false n chunk s t e = ap (λ (x : State). (drain n x).state) e
+
 pub take_cut : (chunk : List ℕ) (r : Result (Unit {0}) SwitchError) (g g1 g' : Gathered) → Feeds (is_disconnected g.state.connection.phase) chunk (Ok tt) g.state g1.state
     → (g1.answers ≡ g.answers) × (g1.lines ≡ g.lines) → OnErr r (HandlesSome g1 g') → Lacks r → CutIn (Chunk chunk ∷ []) g g'
 take_cut chunk (Ok u) g g1 g' call same some e = let e' : Ok u ≡ Err NoMemory = e in absurd cc
@@ -218,8 +242,9 @@ take_cut chunk (Err x) g g1 g' call same some e =
     let is = stands chunk g.state g1.state call in
     let at : g1.state ≡ come chunk g.state = fed_by (is_disconnected g.state.connection.phase) chunk g.state g1.state is call ∙ sym (come_fed chunk g.state is) in
     record {
-      cut = record { done = []; event = Chunk chunk; messages = some.messages; others = [] };
+      cut = record { done = []; event = Chunk chunk; steps = suc some.messages; lost = some.lost; others = [] };
       events_are = refl;
+      state_is = some.state_is ∙ chunk_state some.lost some.messages chunk g.state g1.state at;
       answers_are = some_text answer_in some.messages g.answers g1.answers g'.answers g1.state (come chunk g.state) same.0 at some.answers_are;
       lines_are = some_text line_in some.messages g.lines g1.lines g'.lines g1.state (come chunk g.state) same.1 at some.lines_are;
     }
@@ -251,10 +276,43 @@ due_cut now row all rows first g g' e t so c =
 
 -- WHERE A CALL FAILED
 
-pub on_err : (r : Result (Unit {0}) AllocError) (A : Type 0) → A → OnErr r A
-on_err (Ok u) A a = tt
-on_err (Err e) A a = a
+pub on_err : {A E : Type 0} (r : Result A E) (P : Type 0) → P → OnErr r P
+on_err (Ok u) P p = tt
+on_err (Err e) P p = p
 
-pub act_cut : (r : Result (Unit {0}) AllocError) (row e : Event) (g g' : Gathered) → row ≡ e → acts e ≡ e ∷ [] → OnErr r ((g'.answers ≡ g.answers) × (g'.lines ≡ g.lines)) → OnErr r (CutIn (acts row) g g')
-act_cut (Ok u) row e g g' is one same = tt
-act_cut (Err x) row e g g' is one same = subst (λ (es : List Event). CutIn es g g') (sym (ap acts is ∙ one)) (cut_now e [] g g' same)
+-- A CALL OF THE SWITCH for an event of one step
+
+abbrev Calls : Option SwitchError → Outcome → Result (SmallVec Effect) SwitchError → State → State → Type 0
+Calls refusal o given s t = Call refusal (λ (effects : SmallVec Effect) (new : State). o ≡ gives effects.items new) s given t
+
+kept_same : (given : Result (SmallVec Effect) SwitchError) (x : AllocError) (g1 g2 : Gathered) → Keeps given (Err x) g1 g2 → (g2.answers ≡ g1.answers) × (g2.lines ≡ g1.lines) × (g2.state ≡ g1.state)
+kept_same (Ok effects) x g1 g2 k = k
+kept_same (Err y) x g1 g2 k = k
+
+played_state : (refusal : Option SwitchError) (o : Outcome) (given : Result (SmallVec Effect) SwitchError) (s t : State)
+    → Calls refusal o given s t → (t ≡ s) ⊎ (t ≡ (unless refusal s o).state)
+played_state (Some x) o given s t call = inl call.1
+played_state None o (Ok effects) s t call = inr (ap (λ (x : Outcome). x.state) (sym call))
+played_state None o (Err y) s t call = inl call.1
+
+or_whole : (t s u v : State) → u ≡ v → (t ≡ s) ⊎ (t ≡ u) → (t ≡ s) ⊎ (t ≡ v)
+or_whole t s u v e (inl h) = inl h
+or_whole t s u v e (inr h) = inr (h ∙ e)
+
+cut_by : (e : Event) (g g1 g2 : Gathered) → g1 ≡ holding g1.state g.answers g.lines → (g2.answers ≡ g1.answers) × (g2.lines ≡ g1.lines) × (g2.state ≡ g1.state)
+    → (g1.state ≡ g.state) ⊎ (g1.state ≡ (partly 1 e g.state).state) → CutIn (e ∷ []) g g2
+cut_by e g g1 g2 is k (inl s) = cut_now e [] g g2 false (k.0 ∙ ap (λ (x : Gathered). x.answers) is) (k.1 ∙ ap (λ (x : Gathered). x.lines) is) (k.2 ∙ s)
+cut_by e g g1 g2 is k (inr s) = cut_now e [] g g2 true (k.0 ∙ ap (λ (x : Gathered). x.answers) is) (k.1 ∙ ap (λ (x : Gathered). x.lines) is) (k.2 ∙ s)
+
+pub played_cut : (refusal : Option SwitchError) (o : Outcome) (row e : Event) (given : Result (SmallVec Effect) SwitchError) (r : Result (Unit {0}) AllocError) (g0 g g1 g2 : Gathered)
+    → row ≡ e → g ≡ g0 → (partly 1 e g.state).state ≡ (unless refusal g.state o).state
+    → Calls refusal o given g.state g1.state → g1 ≡ holding g1.state g.answers g.lines → Keeps given r g1 g2 → OnErr r (CutIn (row ∷ []) g0 g2)
+played_cut refusal o row e given (Ok u) g0 g g1 g2 is view whole call same k = tt
+played_cut refusal o row e given (Err x) g0 g g1 g2 is view whole call same k =
+    subst (λ (y : Gathered). CutIn (row ∷ []) y g2) view
+    (subst (λ (z : Event). CutIn (z ∷ []) g g2) (sym is)
+    (cut_by e g g1 g2 same (kept_same given x g1 g2 k) (or_whole g1.state g.state _ _ (sym whole) (played_state refusal o given g.state g1.state call))))
+
+-- the next message was handled, and there was no memory for what it gave
+pub lost_next : (g g' : Gathered) (s : State) (effects : List Effect) → next_of g.state ≡ Some (gives effects s) → g'.state ≡ s → (g'.answers ≡ g.answers) × (g'.lines ≡ g.lines) → LosesNext g g'
+lost_next g g' s effects h state same = (same.0, same.1, inr (gives effects s, h, state))

@@ -1,5 +1,5 @@
 -- Steps of a turn, and turns one after the other.
-use Rattle.std.proofs.Common.{◌≡◌, ◌⊎◌, inl, inr, ℕ, ◌+◌, ◌≤◌, Bool, true, false, List, [], ◌∷◌, ◌++◌, Option, Result, Ok, Err, refl, sym, ◌∙◌, ap, subst, append_assoc, arith}
+use Rattle.std.proofs.Common.{◌≡◌, ◌⊎◌, inl, inr, ℕ, ◌+◌, ◌≤◌, Bool, true, false, List, [], ◌∷◌, ◌++◌, length, Option, Some, None, Result, Ok, Err, refl, sym, ◌∙◌, ap, subst, append_assoc, arith}
 use Rattle.std.specs.Prelude.{OnOk, OnErr}
 use Rattle.std.proofs.lemmas.List.{append-nil}
 use Rattle.std.specs.declared.alloc.AllocError.{AllocError}
@@ -11,16 +11,16 @@ use Rattle.of_switch.specs.Runs.{happened}
 use Rattle.of_replay.specs.declared.event_file.Ended.{Ended}
 use Rattle.of_replay.specs.declared.halt.Halt.{Halt}
 use Rattle.of_replay.specs.declared.halt.Halt.TheVariants.{Bad, Memory, Read as ReadHalt, Write}
-use Rattle.std.specs.Io.KnownBytes.{Appends}
+use Rattle.std.specs.Io.KnownBytes.{Appends, append_known}
 use Rattle.of_replay.specs.Told.{Answer}
 use Rattle.of_replay.specs.Transfer.{WrotePrefix}
 use Rattle.of_serve.specs.declared.peers.Accepted.TheVariants as accepted
 use Rattle.of_serve.specs.Told.{Came, accept_came, Answered, then_told, then_begun, then_onto}
-use Rattle.of_serve.specs.Turns.{Gathered, gather, gathered, nothing_pending, broken, given, due, left, heard, events_of, ServeState, standing, Turn, IsTaken, IsTurn, Accepts, Reads, came_in, time_in, then_in, Time, All, known_came, known_times, then_known, CutTurn, cut_given, Turns, stand, came, times, took, sent}
+use Rattle.of_serve.specs.Turns.{Gathered, gather, gathered, nothing_pending, broken, given, cut_state, failures, due, left, heard, events_of, ServeState, standing, Turn, IsTaken, IsTurn, Accepts, Reads, came_in, time_in, then_in, Time, All, known_came, known_times, then_known, CutTurn, cut_given, Turns, stand, came, times, took, breaks, sent}
 use Rattle.of_serve.specs.Turns.Turns.{None as NoTurns, Then}
-use Rattle.of_serve.specs.Serves.{Tells, tells, CutShort, Serves}
+use Rattle.of_serve.specs.Serves.{Tells, tells, CutShort, Passed, Serves}
 use Rattle.of_serve.specs.Gathering.{CutIn, Hears, TellsReads, CutsReads, Opens, OrMemory, Learns, Cuts, Inputs, IsAnswered, GoesOn, Stops, StopsShort, StopsShorter, Goes, Counts, Fails, WriteFails, SoFar}
-use Rattle.of_serve.proofs.CutLemmas.{cut_now, cut_later}
+use Rattle.of_serve.proofs.CutLemmas.{cut_later}
 use Rattle.of_replay.specs.declared.event_file.Ended.TheVariants.{Done, BadRow, ReadFault, WriteFault, NoMemory}
 use Rattle.of_serve.proofs.TurnLemmas.{told-nil, told-told, gathered_more}
 use Rattle.of_replay.proofs.TellingLemmas.{appends-none, appends-then}
@@ -60,42 +60,44 @@ read_cuts (Err e) g g1 g2 g3 rows came came' times times' now e1 e2 t h = record
 
 pub opens : (done : Result (Unit {0}) AllocError) (result : Result (Unit {0}) Halt) (g g' : Gathered) (came came' : Option (List Came)) (took took' : Option (List (List ℕ)))
     → OrMemory done result → came' ≡ then_told came (accept_came accepted.Open ∷ []) → took' ≡ then_begun took accepted.Open → OnOk done (g' ≡ gather (happened Connect g.state) g)
-    → OnErr done ((g'.answers ≡ g.answers) × (g'.lines ≡ g.lines)) → Opens result g g' came came' took took'
+    → OnErr done (CutIn (Connect ∷ []) g g') → Opens result g g' came came' took took'
 opens (Ok u) result g g' came came' took took' is e k ok err = subst (λ (x : Result (Unit {0}) Halt). Opens x g g' came came' took took') (sym is) (accepted.Open, e, k, ok)
-opens (Err x) result g g' came came' took took' is e k ok err = subst (λ (x : Result (Unit {0}) Halt). Opens x g g' came came' took took') (sym is) (e, k, cut_now Connect [] g g' err)
+opens (Err x) result g g' came came' took took' is e k ok err = subst (λ (x : Result (Unit {0}) Halt). Opens x g g' came came' took took') (sym is) (e, k, err)
 
 -- THE INPUT OF A TURN
 
 -- memory ran out in a turn with a connection
-read_inputs : (g0 g g' : Gathered) (rows rest : List Event) (came came' : Option (List Came)) (times times' : Option (List ℕ)) (took took' : Option (List (List ℕ))) (wrote : Option (List ℕ)) (now : ℕ)
-    → g ≡ nothing_pending g0.state → is_disconnected g0.state.connection.phase ≡ false → times' ≡ then_told times (now ∷ []) → took' ≡ took
+read_inputs : (g0 g g' : Gathered) (rows rest : List Event) (came came' : Option (List Came)) (times times' : Option (List ℕ)) (took took' : Option (List (List ℕ))) (failed failed' : ℕ) (wrote : Option (List ℕ)) (now : ℕ)
+    → g ≡ nothing_pending g0.state → is_disconnected g0.state.connection.phase ≡ false → times' ≡ then_told times (now ∷ []) → took' ≡ took → failed' ≡ failed
     → ((came' ≡ came) × CutIn (Moment now ∷ due now rows) g g') ⊎ ((answer : Answer) × (came' ≡ then_told came (Answered answer ∷ [])) × CutIn (events_of (Reads now answer) rows) g g')
-    → Inputs (Err Memory) (standing g0.state rows) g' rest (tells came times took wrote) (tells came' times' took' wrote)
-read_inputs g0 g g' rows rest came came' times times' took took' wrote now e stands t k (inl c) = record {
+    → Inputs (Err Memory) (standing g0.state rows) g' rest (tells came times took failed wrote) (tells came' times' took' failed' wrote)
+read_inputs g0 g g' rows rest came came' times times' took took' failed failed' wrote now e stands t k f (inl c) = record {
   known = Time now;
   is_known = stands;
   cut = subst (λ (x : Gathered). CutIn (Moment now ∷ due now rows) x g') e c.1;
   came_is = c.0 ∙ sym (told-nil came);
   times_are = t;
   took_is = k;
+  failed_is = f;
   wrote_is = refl;
 }
-read_inputs g0 g g' rows rest came came' times times' took took' wrote now e stands t k (inr c) = record {
+read_inputs g0 g g' rows rest came came' times times' took took' failed failed' wrote now e stands t k f (inr c) = record {
   known = All (Reads now c.0);
   is_known = stands;
   cut = subst (λ (x : Gathered). CutIn (events_of (Reads now c.0) rows) x g') e c.2;
   came_is = c.1;
   times_are = t;
   took_is = k;
+  failed_is = f;
   wrote_is = refl;
 }
 
-pub inputs_read : (done : Result (Unit {0}) AllocError) (result : Result (Unit {0}) Halt) (g0 g' : Gathered) (rows rest : List Event) (came came' : Option (List Came)) (times times' : Option (List ℕ)) (took took' : Option (List (List ℕ))) (wrote : Option (List ℕ))
+pub inputs_read : (done : Result (Unit {0}) AllocError) (result : Result (Unit {0}) Halt) (g0 g' : Gathered) (rows rest : List Event) (came came' : Option (List Came)) (times times' : Option (List ℕ)) (took took' : Option (List (List ℕ))) (failed failed' : ℕ) (wrote : Option (List ℕ))
     → OrMemory done result → g0 ≡ nothing_pending g0.state → is_disconnected g0.state.connection.phase ≡ false
-    → OnOk done (TellsReads g0 g' rows rest came came' times times') → OnErr done (CutsReads g0 g' rows came came' times times') → took' ≡ took
-    → Inputs result (standing g0.state rows) g' rest (tells came times took wrote) (tells came' times' took' wrote)
-inputs_read (Ok u) result g0 g' rows rest came came' times times' took took' wrote is empty stands t r k =
-    subst (λ (x : Result (Unit {0}) Halt). Inputs x (standing g0.state rows) g' rest (tells came times took wrote) (tells came' times' took' wrote)) (sym is) (record {
+    → OnOk done (TellsReads g0 g' rows rest came came' times times') → OnErr done (CutsReads g0 g' rows came came' times times') → took' ≡ took → failed' ≡ failed
+    → Inputs result (standing g0.state rows) g' rest (tells came times took failed wrote) (tells came' times' took' failed' wrote)
+inputs_read (Ok u) result g0 g' rows rest came came' times times' took took' failed failed' wrote is empty stands t r k f =
+    subst (λ (x : Result (Unit {0}) Halt). Inputs x (standing g0.state rows) g' rest (tells came times took failed wrote) (tells came' times' took' failed' wrote)) (sym is) (record {
       input = Reads t.now t.answer;
       is_input = stands;
       handled = t.handled ∙ ap (gathered (events_of (Reads t.now t.answer) rows)) empty;
@@ -103,16 +105,17 @@ inputs_read (Ok u) result g0 g' rows rest came came' times times' took took' wro
       came_is = t.came_is;
       times_are = t.times_are;
       took_is = k;
+      failed_is = f;
       wrote_is = refl;
     })
-inputs_read (Err e) result g0 g' rows rest came came' times times' took took' wrote is empty stands t r k =
-    subst (λ (x : Result (Unit {0}) Halt). Inputs x (standing g0.state rows) g' rest (tells came times took wrote) (tells came' times' took' wrote)) (sym is)
-    (read_inputs g0 g0 g' rows rest came came' times times' took took' wrote r.now empty stands r.times_are k r.cut)
+inputs_read (Err e) result g0 g' rows rest came came' times times' took took' failed failed' wrote is empty stands t r k f =
+    subst (λ (x : Result (Unit {0}) Halt). Inputs x (standing g0.state rows) g' rest (tells came times took failed wrote) (tells came' times' took' failed' wrote)) (sym is)
+    (read_inputs g0 g0 g' rows rest came came' times times' took took' failed failed' wrote r.now empty stands r.times_are k f r.cut)
 
-pub inputs_accept : (result : Result (Unit {0}) Halt) (g0 g' : Gathered) (rows : List Event) (came came' : Option (List Came)) (times : Option (List ℕ)) (took took' : Option (List (List ℕ))) (wrote : Option (List ℕ))
-    → g0 ≡ nothing_pending g0.state → is_disconnected g0.state.connection.phase ≡ true → Opens result g0 g' came came' took took'
-    → Inputs result (standing g0.state rows) g' rows (tells came times took wrote) (tells came' times took' wrote)
-inputs_accept (Ok u) g0 g' rows came came' times took took' wrote empty stands o = record {
+pub inputs_accept : (result : Result (Unit {0}) Halt) (g0 g' : Gathered) (rows : List Event) (came came' : Option (List Came)) (times : Option (List ℕ)) (took took' : Option (List (List ℕ))) (failed failed' : ℕ) (wrote : Option (List ℕ))
+    → g0 ≡ nothing_pending g0.state → is_disconnected g0.state.connection.phase ≡ true → failed' ≡ failed → Opens result g0 g' came came' took took'
+    → Inputs result (standing g0.state rows) g' rows (tells came times took failed wrote) (tells came' times took' failed' wrote)
+inputs_accept (Ok u) g0 g' rows came came' times took took' failed failed' wrote empty stands f o = record {
   input = Accepts o.0;
   is_input = stands;
   handled = o.3 ∙ ap (gathered (events_of (Accepts o.0) rows)) empty;
@@ -120,40 +123,44 @@ inputs_accept (Ok u) g0 g' rows came came' times took took' wrote empty stands o
   came_is = o.1;
   times_are = sym (told-nil times);
   took_is = o.2;
+  failed_is = f;
   wrote_is = refl;
 }
-inputs_accept (Err (Bad n)) g0 g' rows came came' times took took' wrote empty stands o = o
-inputs_accept (Err Memory) g0 g' rows came came' times took took' wrote empty stands o = record {
+inputs_accept (Err (Bad n)) g0 g' rows came came' times took took' failed failed' wrote empty stands f o = o
+inputs_accept (Err Memory) g0 g' rows came came' times took took' failed failed' wrote empty stands f o = record {
   known = All (Accepts accepted.Open);
   is_known = stands;
   cut = subst (λ (x : Gathered). CutIn (events_of (Accepts accepted.Open) rows) x g') empty o.2;
   came_is = o.0;
   times_are = sym (told-nil times);
   took_is = o.1;
+  failed_is = f;
   wrote_is = refl;
 }
-inputs_accept (Err ReadHalt) g0 g' rows came came' times took took' wrote empty stands o = record { came_is = o.0; times_are = refl; took_is = o.1; wrote_is = refl }
-inputs_accept (Err Write) g0 g' rows came came' times took took' wrote empty stands o = o
+inputs_accept (Err ReadHalt) g0 g' rows came came' times took took' failed failed' wrote empty stands f o = record { state_is = ap (λ (x : Gathered). x.state) (o.2 ∙ empty); came_is = o.0; times_are = refl; took_is = o.1; failed_is = f; wrote_is = refl }
+inputs_accept (Err Write) g0 g' rows came came' times took took' failed failed' wrote empty stands f o = o
 
 -- WHAT IT GIVES IS WRITTEN
 
-pub answered_all : (g : Gathered) (took took' : Option (List (List ℕ))) → took' ≡ then_onto took g.answers → IsAnswered g g took took'
-answered_all g took took' k = record { taken = g.answers; broke = false; is_taken = refl; lost_is = refl; took_is = k }
+pub answered_all : (g : Gathered) (took took' : Option (List (List ℕ))) (failed failed' : ℕ) → took' ≡ then_onto took g.answers → failed' ≡ failed + 0 → IsAnswered g g took took' failed failed'
+answered_all g took took' failed failed' k f = record { taken = g.answers; broke = false; is_taken = refl; lost_is = refl; took_is = k; failed_is = f }
 
-pub answered_lost : (g g' : Gathered) (took took' : Option (List (List ℕ))) → (front : List ℕ) × (others : List ℕ) × (front ++ others ≡ g.answers) × (took' ≡ then_onto took front) → g' ≡ gathered (Lost ∷ []) g → IsAnswered g g' took took'
-answered_lost g g' took took' k lost = record { taken = k.0; broke = true; is_taken = (k.1, k.2); lost_is = lost; took_is = k.3 }
+pub answered_lost : (g g' : Gathered) (took took' : Option (List (List ℕ))) (failed failed' : ℕ)
+    → (front : List ℕ) × (others : List ℕ) × (0 < length others) × (front ++ others ≡ g.answers) × (took' ≡ then_onto took front) → g' ≡ gathered (Lost ∷ []) g → failed' ≡ failed + 1
+    → IsAnswered g g' took took' failed failed'
+answered_lost g g' took took' failed failed' k lost f = record { taken = k.0; broke = true; is_taken = (k.1, k.2, k.3); lost_is = lost; took_is = k.4; failed_is = f }
 
 -- the loss of a connection sends no frame
 lost_lines : (broke : Bool) (g : Gathered) → (gathered (broken broke) g).lines ≡ g.lines
 lost_lines true g = append-nil g.lines
 lost_lines false g = refl
 
-same_lines : (g g' : Gathered) (took took' : Option (List (List ℕ))) → IsAnswered g g' took took' → g'.lines ≡ g.lines
-same_lines g g' took took' a = ap (λ (x : Gathered). x.lines) a.lost_is ∙ lost_lines a.broke g
+same_lines : (g g' : Gathered) (took took' : Option (List (List ℕ))) (failed failed' : ℕ) → IsAnswered g g' took took' failed failed' → g'.lines ≡ g.lines
+same_lines g g' took took' failed failed' a = ap (λ (x : Gathered). x.lines) a.lost_is ∙ lost_lines a.broke g
 
-is_turn : (s : ServeState) (g g' : Gathered) (rest : List Event) (old now : Tells) (took took' : Option (List (List ℕ))) (l : Learns s g rest old now) (a : IsAnswered g g' took took')
+is_turn : (s : ServeState) (g g' : Gathered) (rest : List Event) (old now : Tells) (took took' : Option (List (List ℕ))) (failed failed' : ℕ) (l : Learns s g rest old now) (a : IsAnswered g g' took took' failed failed')
     → IsTurn (record { input = l.input; taken = a.taken; broke = a.broke }) s
-is_turn s g g' rest old now took took' l a = record {
+is_turn s g g' rest old now took took' failed failed' l a = record {
   input = l.is_input;
   taken = subst (λ (x : Gathered). IsTaken a.broke a.taken x.answers) l.handled a.is_taken;
 }
@@ -161,40 +168,47 @@ is_turn s g g' rest old now took took' l a = record {
 appends_same : (old old' : Option (List ℕ)) (text text' : List ℕ) (new : Option (List ℕ)) → old ≡ old' → text ≡ text' → Appends old new text → Appends old' new text'
 appends_same old old' text text' new e t a = subst (λ (x : Option (List ℕ)). Appends x new text') e (subst (Appends old new) t a)
 
-goes_on : (s : ServeState) (g g1 g2 : Gathered) (rest : List Event) (old : Tells) (came came' : Option (List Came)) (times : Option (List ℕ)) (took took' : Option (List (List ℕ))) (wrote wrote' : Option (List ℕ))
-    → Learns s g rest old (tells came times took wrote) → came' ≡ came → IsAnswered g g1 took took' → Appends wrote wrote' g1.lines → g2 ≡ nothing_pending g1.state
-    → GoesOn s g2 rest old (tells came' times took' wrote')
-goes_on s g g1 g2 rest old came came' times took took' wrote wrote' l e a w cleared = record {
+goes_on : (s : ServeState) (g g1 g2 : Gathered) (rest : List Event) (old : Tells) (came came' : Option (List Came)) (times : Option (List ℕ)) (took took' : Option (List (List ℕ))) (failed failed' : ℕ) (wrote wrote' : Option (List ℕ))
+    → Learns s g rest old (tells came times took failed wrote) → came' ≡ came → IsAnswered g g1 took took' failed failed' → Appends wrote wrote' g1.lines → g2 ≡ nothing_pending g1.state
+    → GoesOn s g2 rest old (tells came' times took' failed' wrote')
+goes_on s g g1 g2 rest old came came' times took took' failed failed' wrote wrote' l e a w cleared = record {
   turn = record { input = l.input; taken = a.taken; broke = a.broke };
-  is_turn = is_turn s g g1 rest old (tells came times took wrote) took took' l a;
+  is_turn = is_turn s g g1 rest old (tells came times took failed wrote) took took' failed failed' l a;
   handed = cleared ∙ ap (λ (x : Gathered). nothing_pending x.state) (a.lost_is ∙ ap (gathered (broken a.broke)) l.handled);
   rest_is = l.rest_is;
   came_is = e ∙ l.came_is;
   times_are = l.times_are;
   took_is = a.took_is ∙ ap (λ (x : Option (List (List ℕ))). then_onto x a.taken) l.took_is;
-  wrote_is = appends_same wrote old.wrote g1.lines (given l.input s).lines wrote' l.wrote_is (same_lines g g1 took took' a ∙ ap (λ (x : Gathered). x.lines) l.handled) w;
+  failed_is = a.failed_is ∙ ap (λ (n : ℕ). n + failures a.broke) l.failed_is;
+  wrote_is = appends_same wrote old.wrote g1.lines (given l.input s).lines wrote' l.wrote_is (same_lines g g1 took took' failed failed' a ∙ ap (λ (x : Gathered). x.lines) l.handled) w;
 }
 
 front_same : (old old' : Option (List ℕ)) (text text' : List ℕ) (new : Option (List ℕ)) → old ≡ old' → text ≡ text' → WrotePrefix old text new → WrotePrefix old' text' new
 front_same old old' text text' new e t w = (w.0, w.1, w.2 ∙ t, subst (λ (x : Option (List ℕ)). Appends x new w.0) e w.3)
 
-stops : (s : ServeState) (g g1 : Gathered) (rest : List Event) (old : Tells) (came came' : Option (List Came)) (times : Option (List ℕ)) (took took' : Option (List (List ℕ))) (wrote wrote' : Option (List ℕ))
-    → Learns s g rest old (tells came times took wrote) → came' ≡ came → IsAnswered g g1 took took' → WrotePrefix wrote g1.lines wrote' → Stops s old (tells came' times took' wrote')
-stops s g g1 rest old came came' times took took' wrote wrote' l e a w = record {
+stops : (s : ServeState) (g g1 : Gathered) (rest : List Event) (old : Tells) (came came' : Option (List Came)) (times : Option (List ℕ)) (took took' : Option (List (List ℕ))) (failed failed' : ℕ) (wrote wrote' : Option (List ℕ))
+    → Learns s g rest old (tells came times took failed wrote) → came' ≡ came → IsAnswered g g1 took took' failed failed' → WrotePrefix wrote g1.lines wrote' → Stops s g1.state old (tells came' times took' failed' wrote')
+stops s g g1 rest old came came' times took took' failed failed' wrote wrote' l e a w = record {
   turn = record { input = l.input; taken = a.taken; broke = a.broke };
-  is_turn = is_turn s g g1 rest old (tells came times took wrote) took took' l a;
+  is_turn = is_turn s g g1 rest old (tells came times took failed wrote) took took' failed failed' l a;
+  state_is = ap (λ (x : Gathered). x.state) (a.lost_is ∙ ap (gathered (broken a.broke)) l.handled);
   came_is = e ∙ l.came_is;
   times_are = l.times_are;
   took_is = a.took_is ∙ ap (λ (x : Option (List (List ℕ))). then_onto x a.taken) l.took_is;
-  wrote_is = front_same wrote old.wrote g1.lines (given l.input s).lines wrote' l.wrote_is (same_lines g g1 took took' a ∙ ap (λ (x : Gathered). x.lines) l.handled) w;
+  failed_is = a.failed_is ∙ ap (λ (n : ℕ). n + failures a.broke) l.failed_is;
+  wrote_is = front_same wrote old.wrote g1.lines (given l.input s).lines wrote' l.wrote_is (same_lines g g1 took took' failed failed' a ∙ ap (λ (x : Gathered). x.lines) l.handled) w;
 }
 
 -- A TURN THAT RUNNING OUT OF MEMORY CUT SHORT
 
-cut_turn : (s : ServeState) (g g1 : Gathered) (old : Tells) (came came' : Option (List Came)) (times : Option (List ℕ)) (took took' : Option (List (List ℕ))) (wrote wrote' : Option (List ℕ))
-    (c : Cuts s g old (tells came times took wrote)) (a : IsAnswered g g1 took took') → came' ≡ came
-    → CutShort (record { known = c.known; cut = c.cut.cut; taken = a.taken; broke = a.broke }) s NoTurns old (tells came' times took' wrote')
-cut_turn s g g1 old came came' times took took' wrote wrote' c a e = record {
+lost_state : (broke : Bool) (g : Gathered) (u : State) → g.state ≡ u → (gathered (broken broke) g).state ≡ (gathered (broken broke) (nothing_pending u)).state
+lost_state true g u e = ap (λ (x : State). (happened Lost x).state) e
+lost_state false g u e = e
+
+cut_turn : (s : ServeState) (g g1 : Gathered) (old : Tells) (came came' : Option (List Came)) (times : Option (List ℕ)) (took took' : Option (List (List ℕ))) (failed failed' : ℕ) (wrote wrote' : Option (List ℕ))
+    (c : Cuts s g old (tells came times took failed wrote)) (a : IsAnswered g g1 took took' failed failed') → came' ≡ came
+    → CutShort (record { known = c.known; cut = c.cut.cut; taken = a.taken; broke = a.broke }) s NoTurns g1.state old (tells came' times took' failed' wrote')
+cut_turn s g g1 old came came' times took took' failed failed' wrote wrote' c a e = record {
   is = record {
     known = c.is_known;
     events = c.cut.events_are;
@@ -203,22 +217,24 @@ cut_turn s g g1 old came came' times took took' wrote wrote' c a e = record {
   came_is = e ∙ c.came_is;
   times_are = c.times_are;
   took_is = a.took_is ∙ ap (λ (x : Option (List (List ℕ))). then_onto x a.taken) c.took_is;
+  failed_is = omega (arith, a.failed_is, c.failed_is);
+  state_is = ap (λ (x : Gathered). x.state) a.lost_is ∙ lost_state a.broke g (cut_state c.cut.cut (nothing_pending s.state)) c.cut.state_is;
 }
 
-stops_short : (s : ServeState) (g g1 : Gathered) (old : Tells) (came came' : Option (List Came)) (times : Option (List ℕ)) (took took' : Option (List (List ℕ))) (wrote wrote' : Option (List ℕ))
-    → Cuts s g old (tells came times took wrote) → came' ≡ came → IsAnswered g g1 took took' → Appends wrote wrote' g1.lines → StopsShort s old (tells came' times took' wrote')
-stops_short s g g1 old came came' times took took' wrote wrote' c e a w = (
+stops_short : (s : ServeState) (g g1 : Gathered) (old : Tells) (came came' : Option (List Came)) (times : Option (List ℕ)) (took took' : Option (List (List ℕ))) (failed failed' : ℕ) (wrote wrote' : Option (List ℕ))
+    → Cuts s g old (tells came times took failed wrote) → came' ≡ came → IsAnswered g g1 took took' failed failed' → Appends wrote wrote' g1.lines → StopsShort s g1.state old (tells came' times took' failed' wrote')
+stops_short s g g1 old came came' times took took' failed failed' wrote wrote' c e a w = (
   record { known = c.known; cut = c.cut.cut; taken = a.taken; broke = a.broke },
-  cut_turn s g g1 old came came' times took took' wrote wrote' c a e,
-  appends_same wrote old.wrote g1.lines (cut_given c.cut.cut s).lines wrote' c.wrote_is (same_lines g g1 took took' a ∙ c.cut.lines_are) w,
+  cut_turn s g g1 old came came' times took took' failed failed' wrote wrote' c a e,
+  appends_same wrote old.wrote g1.lines (cut_given c.cut.cut s).lines wrote' c.wrote_is (same_lines g g1 took took' failed failed' a ∙ c.cut.lines_are) w,
 )
 
-stops_shorter : (s : ServeState) (g g1 : Gathered) (old : Tells) (came came' : Option (List Came)) (times : Option (List ℕ)) (took took' : Option (List (List ℕ))) (wrote wrote' : Option (List ℕ))
-    → Cuts s g old (tells came times took wrote) → came' ≡ came → IsAnswered g g1 took took' → WrotePrefix wrote g1.lines wrote' → StopsShorter s old (tells came' times took' wrote')
-stops_shorter s g g1 old came came' times took took' wrote wrote' c e a w = (
+stops_shorter : (s : ServeState) (g g1 : Gathered) (old : Tells) (came came' : Option (List Came)) (times : Option (List ℕ)) (took took' : Option (List (List ℕ))) (failed failed' : ℕ) (wrote wrote' : Option (List ℕ))
+    → Cuts s g old (tells came times took failed wrote) → came' ≡ came → IsAnswered g g1 took took' failed failed' → WrotePrefix wrote g1.lines wrote' → StopsShorter s g1.state old (tells came' times took' failed' wrote')
+stops_shorter s g g1 old came came' times took took' failed failed' wrote wrote' c e a w = (
   record { known = c.known; cut = c.cut.cut; taken = a.taken; broke = a.broke },
-  cut_turn s g g1 old came came' times took took' wrote wrote' c a e,
-  front_same wrote old.wrote g1.lines (cut_given c.cut.cut s).lines wrote' c.wrote_is (same_lines g g1 took took' a ∙ c.cut.lines_are) w,
+  cut_turn s g g1 old came came' times took took' failed failed' wrote wrote' c a e,
+  front_same wrote old.wrote g1.lines (cut_given c.cut.cut s).lines wrote' c.wrote_is (same_lines g g1 took took' failed failed' a ∙ c.cut.lines_are) w,
 )
 
 -- A WHOLE TURN
@@ -226,23 +242,23 @@ stops_shorter s g g1 old came came' times took took' wrote wrote' c e a w = (
 abbrev pub NotRead : Result (Unit {0}) Halt → Type 0
 NotRead r = r ≡ Err ReadHalt → ⊥
 
-pub turn_goes : (r : Result (Unit {0}) Halt) (s : ServeState) (g g1 g2 : Gathered) (rest : List Event) (old : Tells) (came came' : Option (List Came)) (times : Option (List ℕ)) (took took' : Option (List (List ℕ))) (wrote wrote' : Option (List ℕ))
-    → NotRead r → Inputs r s g rest old (tells came times took wrote) → came' ≡ came → IsAnswered g g1 took took' → Appends wrote wrote' g1.lines → g2 ≡ nothing_pending g1.state
-    → Goes r s g2 rest old (tells came' times took' wrote')
-turn_goes (Ok u) s g g1 g2 rest old came came' times took took' wrote wrote' not i e a w cleared = goes_on s g g1 g2 rest old came came' times took took' wrote wrote' i e a w cleared
-turn_goes (Err (Bad n)) s g g1 g2 rest old came came' times took took' wrote wrote' not i e a w cleared = i
-turn_goes (Err Memory) s g g1 g2 rest old came came' times took took' wrote wrote' not i e a w cleared = stops_short s g g1 old came came' times took took' wrote wrote' i e a w
-turn_goes (Err ReadHalt) s g g1 g2 rest old came came' times took took' wrote wrote' not i e a w cleared = absurd (not refl)
-turn_goes (Err Write) s g g1 g2 rest old came came' times took took' wrote wrote' not i e a w cleared = absurd i
+pub turn_goes : (r : Result (Unit {0}) Halt) (s : ServeState) (g g1 g2 : Gathered) (rest : List Event) (old : Tells) (came came' : Option (List Came)) (times : Option (List ℕ)) (took took' : Option (List (List ℕ))) (failed failed' : ℕ) (wrote wrote' : Option (List ℕ))
+    → NotRead r → Inputs r s g rest old (tells came times took failed wrote) → came' ≡ came → IsAnswered g g1 took took' failed failed' → Appends wrote wrote' g1.lines → g2 ≡ nothing_pending g1.state
+    → Goes r s g2 rest old (tells came' times took' failed' wrote')
+turn_goes (Ok u) s g g1 g2 rest old came came' times took took' failed failed' wrote wrote' not i e a w cleared = goes_on s g g1 g2 rest old came came' times took took' failed failed' wrote wrote' i e a w cleared
+turn_goes (Err (Bad n)) s g g1 g2 rest old came came' times took took' failed failed' wrote wrote' not i e a w cleared = i
+turn_goes (Err Memory) s g g1 g2 rest old came came' times took took' failed failed' wrote wrote' not i e a w cleared = subst (λ (x : Gathered). StopsShort s x.state old (tells came' times took' failed' wrote')) (sym cleared) (stops_short s g g1 old came came' times took took' failed failed' wrote wrote' i e a w)
+turn_goes (Err ReadHalt) s g g1 g2 rest old came came' times took took' failed failed' wrote wrote' not i e a w cleared = absurd (not refl)
+turn_goes (Err Write) s g g1 g2 rest old came came' times took took' failed failed' wrote wrote' not i e a w cleared = absurd i
 
-pub turn_stops : (r : Result (Unit {0}) Halt) (s : ServeState) (g g1 g2 : Gathered) (rest rest' : List Event) (old : Tells) (came came' : Option (List Came)) (times : Option (List ℕ)) (took took' : Option (List (List ℕ))) (wrote wrote' : Option (List ℕ))
-    → NotRead r → Inputs r s g rest old (tells came times took wrote) → came' ≡ came → IsAnswered g g1 took took' → WrotePrefix wrote g1.lines wrote'
-    → Goes (Err Write) s g2 rest' old (tells came' times took' wrote')
-turn_stops (Ok u) s g g1 g2 rest rest' old came came' times took took' wrote wrote' not i e a w = inl (stops s g g1 rest old came came' times took took' wrote wrote' i e a w)
-turn_stops (Err (Bad n)) s g g1 g2 rest rest' old came came' times took took' wrote wrote' not i e a w = absurd i
-turn_stops (Err Memory) s g g1 g2 rest rest' old came came' times took took' wrote wrote' not i e a w = inr (stops_shorter s g g1 old came came' times took took' wrote wrote' i e a w)
-turn_stops (Err ReadHalt) s g g1 g2 rest rest' old came came' times took took' wrote wrote' not i e a w = absurd (not refl)
-turn_stops (Err Write) s g g1 g2 rest rest' old came came' times took took' wrote wrote' not i e a w = absurd i
+pub turn_stops : (r : Result (Unit {0}) Halt) (s : ServeState) (g g1 : Gathered) (rest rest' : List Event) (old : Tells) (came came' : Option (List Came)) (times : Option (List ℕ)) (took took' : Option (List (List ℕ))) (failed failed' : ℕ) (wrote wrote' : Option (List ℕ))
+    → NotRead r → Inputs r s g rest old (tells came times took failed wrote) → came' ≡ came → IsAnswered g g1 took took' failed failed' → WrotePrefix wrote g1.lines wrote'
+    → Goes (Err Write) s g1 rest' old (tells came' times took' failed' wrote')
+turn_stops (Ok u) s g g1 rest rest' old came came' times took took' failed failed' wrote wrote' not i e a w = inl (stops s g g1 rest old came came' times took took' failed failed' wrote wrote' i e a w)
+turn_stops (Err (Bad n)) s g g1 rest rest' old came came' times took took' failed failed' wrote wrote' not i e a w = absurd i
+turn_stops (Err Memory) s g g1 rest rest' old came came' times took took' failed failed' wrote wrote' not i e a w = inr (stops_shorter s g g1 old came came' times took took' failed failed' wrote wrote' i e a w)
+turn_stops (Err ReadHalt) s g g1 rest rest' old came came' times took took' failed failed' wrote wrote' not i e a w = absurd (not refl)
+turn_stops (Err Write) s g g1 rest rest' old came came' times took took' failed failed' wrote wrote' not i e a w = absurd i
 
 pub counts_write : (r : Result (Unit {0}) Halt) (n n' : ℕ) → Counts r n n' → Counts (Err Write) n n'
 counts_write (Ok u) n n' c = (omega (arith, c), omega (arith, c))
@@ -288,6 +304,7 @@ so_far_begun n s g rest t zero e r = record {
   came_is = sym (told-nil t.came);
   times_are = sym (told-nil t.times);
   took_is = refl;
+  failed_is = omega arith;
   wrote_is = appends-none t.wrote;
 }
 
@@ -313,36 +330,41 @@ so_far_more n n' s g g' rest rest' old now new f go e =
       came_is = told_more old.came now.came new.came (came f.ts) (came_in t.turn.input) f.came_is t.came_is;
       times_are = told_more old.times now.times new.times (times f.ts) (time_in t.turn.input) f.times_are t.times_are;
       took_is = took_more old.took now.took new.took f.ts t.turn f.took_is t.took_is;
+      failed_is = omega (arith, f.failed_is, t.failed_is);
       wrote_is = appends-then old.wrote now.wrote new.wrote (sent s f.ts) (given t.turn.input x).lines f.wrote_is t.wrote_is;
     }
 
 -- HOW SERVING ENDS
 
-front_more : (old now new : Option (List ℕ)) (a b : List ℕ) → Appends old now a → WrotePrefix now b new → WrotePrefix old (a ++ b) new
-front_more old now new a b e w = (
-  a ++ w.0,
-  w.1,
-  append_assoc a w.0 w.1 ∙ ap (λ (x : List ℕ). a ++ x) w.2,
-  appends-then old now new a w.0 e w.3,
-)
+passed : (n : ℕ) (s : ServeState) (g : Gathered) (rest : List Event) (old new : Tells) (f : SoFar n s g rest old new) → Passed s f.ts g.state old new
+passed n s g rest old new f = record {
+  times_are = f.times_are;
+  took_is = f.took_is;
+  failed_is = f.failed_is;
+  state_is = ap (λ (x : Gathered). x.state) f.handed;
+}
 
-pub serves_all : (n turns : ℕ) (s : ServeState) (g : Gathered) (rest : List Event) (old new : Tells) → SoFar n s g rest old new → n ≡ turns → Serves (ended_so (Ok tt)) turns s old new
+pub serves_all : (n turns : ℕ) (s : ServeState) (g : Gathered) (rest : List Event) (old new : Tells) → SoFar n s g rest old new → n ≡ turns → Serves (ended_so (Ok tt)) turns s g.state old new
 serves_all n turns s g rest old new f e = record {
   ts = f.ts;
   are = f.are;
-  ends = (f.count_is ∙ e, f.came_is, f.times_are, f.took_is, f.wrote_is);
+  ends = (f.count_is ∙ e, f.came_is, passed n s g rest old new f, f.wrote_is);
 }
 
-cut_behind : (n : ℕ) (s : ServeState) (g : Gathered) (rest : List Event) (old now new : Tells) (t : CutTurn) (f : SoFar n s g rest old now) → CutShort t (stand s f.ts) NoTurns now new → CutShort t s f.ts old new
-cut_behind n s g rest old now new t f c = record {
+cut_behind : (n : ℕ) (s : ServeState) (g : Gathered) (rest : List Event) (state : State) (old now new : Tells) (t : CutTurn) (f : SoFar n s g rest old now)
+    → CutShort t (stand s f.ts) NoTurns state now new → CutShort t s f.ts state old new
+cut_behind n s g rest state old now new t f c = record {
   is = c.is;
   came_is = told_more old.came now.came new.came (came f.ts) (known_came t.known) f.came_is c.came_is;
   times_are = told_more old.times now.times new.times (times f.ts) (known_times t.known) f.times_are c.times_are;
   took_is = c.took_is ∙ ap (λ (x : Option (List (List ℕ))). then_onto (then_known x t.known) t.taken) f.took_is;
+  failed_is = omega (arith, f.failed_is, c.failed_is);
+  state_is = c.state_is;
 }
 
-until_memory : (n turns : ℕ) (s : ServeState) (g : Gathered) (rest : List Event) (old now new : Tells) (f : SoFar n s g rest old now) → n < turns → StopsShort (stand s f.ts) now new → Serves NoMemory turns s old new
-until_memory n turns s g rest old now new f lt go =
+until_memory : (n turns : ℕ) (s : ServeState) (g : Gathered) (rest : List Event) (state : State) (old now new : Tells) (f : SoFar n s g rest old now) → n < turns
+    → StopsShort (stand s f.ts) state now new → Serves NoMemory turns s state old new
+until_memory n turns s g rest state old now new f lt go =
     let lines = (cut_given go.0.cut (stand s f.ts)).lines in
     record {
       ts = f.ts;
@@ -350,48 +372,74 @@ until_memory n turns s g rest old now new f lt go =
       ends = inl (
         go.0,
         omega (arith, lt, f.count_is),
-        cut_behind n s g rest old now new go.0 f go.1,
+        cut_behind n s g rest state old now new go.0 f go.1,
         appends-then old.wrote now.wrote new.wrote (sent s f.ts) lines f.wrote_is go.2,
       );
     }
 
-until_write : (n turns : ℕ) (s : ServeState) (g : Gathered) (rest : List Event) (old now new : Tells) (f : SoFar n s g rest old now) → n < turns → Stops (stand s f.ts) now new ⊎ StopsShorter (stand s f.ts) now new → Serves WriteFault turns s old new
-until_write n turns s g rest old now new f lt (inl t) = record {
+front_behind : (old now new : Option (List ℕ)) (a b : List ℕ) → Appends old now a → WrotePrefix now b new → WrotePrefix (append_known old a) b new
+front_behind None now new a b e w = (w.0, w.1, w.2, tt)
+front_behind (Some x) None new a b e w = absurd e
+front_behind (Some x) (Some y) new a b e w = (w.0, w.1, w.2, subst (λ (k : List ℕ). Appends (Some k) new w.0) e w.3)
+
+until_write : (n turns : ℕ) (s : ServeState) (g : Gathered) (rest : List Event) (state : State) (old now new : Tells) (f : SoFar n s g rest old now) → n < turns
+    → Stops (stand s f.ts) state now new ⊎ StopsShorter (stand s f.ts) state now new → Serves WriteFault turns s state old new
+until_write n turns s g rest state old now new f lt (inl t) = record {
   ts = Then f.ts t.turn;
   are = (f.are, t.is_turn);
   ends = inl (
     omega (arith, lt, f.count_is),
     told_more old.came now.came new.came (came f.ts) (came_in t.turn.input) f.came_is t.came_is,
-    told_more old.times now.times new.times (times f.ts) (time_in t.turn.input) f.times_are t.times_are,
-    took_more old.took now.took new.took f.ts t.turn f.took_is t.took_is,
-    front_more old.wrote now.wrote new.wrote (sent s f.ts) (given t.turn.input (stand s f.ts)).lines f.wrote_is t.wrote_is,
+    record {
+      times_are = told_more old.times now.times new.times (times f.ts) (time_in t.turn.input) f.times_are t.times_are;
+      took_is = took_more old.took now.took new.took f.ts t.turn f.took_is t.took_is;
+      failed_is = omega (arith, f.failed_is, t.failed_is);
+      state_is = t.state_is;
+    },
+    record {
+      before = f.ts;
+      last = t.turn;
+      turns_are = refl;
+      wrote_is = front_behind old.wrote now.wrote new.wrote (sent s f.ts) (given t.turn.input (stand s f.ts)).lines f.wrote_is t.wrote_is;
+    },
   );
 }
-until_write n turns s g rest old now new f lt (inr go) = record {
+until_write n turns s g rest state old now new f lt (inr go) = record {
   ts = f.ts;
   are = f.are;
   ends = inr (
     go.0,
     omega (arith, lt, f.count_is),
-    cut_behind n s g rest old now new go.0 f go.1,
-    front_more old.wrote now.wrote new.wrote (sent s f.ts) (cut_given go.0.cut (stand s f.ts)).lines f.wrote_is go.2,
+    cut_behind n s g rest state old now new go.0 f go.1,
+    front_behind old.wrote now.wrote new.wrote (sent s f.ts) (cut_given go.0.cut (stand s f.ts)).lines f.wrote_is go.2,
   );
 }
 
-pub serves_until : (h : Halt) (n turns : ℕ) (s : ServeState) (g g' : Gathered) (rest rest' : List Event) (old now new : Tells) → SoFar n s g rest old now → n < turns → Goes (Err h) (standing g.state rest) g' rest' now new → Serves (ended_so (Err h)) turns s old new
+pub serves_until : (h : Halt) (n turns : ℕ) (s : ServeState) (g g' : Gathered) (rest rest' : List Event) (old now new : Tells) → SoFar n s g rest old now → n < turns → Goes (Err h) (standing g.state rest) g' rest' now new
+    → Serves (ended_so (Err h)) turns s g'.state old new
 serves_until (Bad k) n turns s g g' rest rest' old now new f lt go = absurd go
 serves_until Memory n turns s g g' rest rest' old now new f lt go =
-    until_memory n turns s g rest old now new f lt (subst (λ (y : ServeState). StopsShort y now new) (stands_same s (stand s f.ts) g rest f.handed f.rest_is) go)
+    until_memory n turns s g rest g'.state old now new f lt (subst (λ (y : ServeState). StopsShort y g'.state now new) (stands_same s (stand s f.ts) g rest f.handed f.rest_is) go)
 serves_until ReadHalt n turns s g g' rest rest' old now new f lt go = record {
   ts = f.ts;
   are = f.are;
-  ends = (omega (arith, lt, f.count_is), told_more old.came now.came new.came (came f.ts) (accept_came accepted.Fault ∷ []) f.came_is go.came_is, go.times_are ∙ f.times_are, go.took_is ∙ f.took_is, go.wrote_is ∙ f.wrote_is);
+  ends = (
+    omega (arith, lt, f.count_is),
+    told_more old.came now.came new.came (came f.ts) (accept_came accepted.Fault ∷ []) f.came_is go.came_is,
+    record {
+      times_are = go.times_are ∙ f.times_are;
+      took_is = go.took_is ∙ f.took_is;
+      failed_is = go.failed_is ∙ f.failed_is;
+      state_is = go.state_is ∙ ap (λ (x : Gathered). x.state) f.handed;
+    },
+    subst (λ (k : Option (List ℕ)). Appends old.wrote k (sent s f.ts)) (sym go.wrote_is) f.wrote_is,
+  );
 }
 serves_until Write n turns s g g' rest rest' old now new f lt go =
-    until_write n turns s g rest old now new f lt (subst (λ (y : ServeState). Stops y now new ⊎ StopsShorter y now new) (stands_same s (stand s f.ts) g rest f.handed f.rest_is) go)
+    until_write n turns s g rest g'.state old now new f lt (subst (λ (y : ServeState). Stops y g'.state now new ⊎ StopsShorter y g'.state now new) (stands_same s (stand s f.ts) g rest f.handed f.rest_is) go)
 
-pub serves_nothing : (turns : ℕ) (s : ServeState) (t : Tells) → Serves NoMemory turns s t t
-serves_nothing turns s t = record { ts = NoTurns; are = tt; ends = inr (refl, refl) }
+pub serves_nothing : (turns : ℕ) (s : ServeState) (t : Tells) → Serves NoMemory turns s s.state t t
+serves_nothing turns s t = record { ts = NoTurns; are = tt; ends = inr (refl, refl, refl) }
 
 pub counts_on : (h : Halt) (n n' turns counter : ℕ) → n ≡ counter → counter < turns → Counts (Err h) n n' → n' ≤ turns
 counts_on (Bad k) n n' turns counter e lt c = absurd c
@@ -423,7 +471,9 @@ done_counts (Err Memory) n turns e d = let h : NoMemory ≡ Done = d in cc
 done_counts (Err ReadHalt) n turns e d = let h : ReadFault ≡ Done = d in cc
 done_counts (Err Write) n turns e d = let h : WriteFault ≡ Done = d in cc
 
-pub serves_from : (e e' : Ended) (turns : ℕ) (g : Gathered) (rest rows : List Event) (state state' : State) (old new : Tells) → e' ≡ e → g ≡ nothing_pending state → state ≡ state' → rest ≡ rows → Serves e turns (standing g.state rest) old new → Serves e' turns (standing state' rows) old new
-serves_from e e' turns g rest rows state state' old new is same begun r serves =
-    let s : standing g.state rest ≡ standing state' rows = ap (λ (y : Gathered). standing y.state rest) same ∙ (ap (λ (y : State). standing y rest) begun ∙ ap (standing state') r) in
-    subst (λ (x : ServeState). Serves e' turns x old new) s (subst (λ (x : Ended). Serves x turns (standing g.state rest) old new) (sym is) serves)
+pub serves_from : (e e' : Ended) (turns : ℕ) (g : Gathered) (rest rows : List Event) (begun state state' : State) (old new : Tells) → e' ≡ e → g ≡ nothing_pending begun → rest ≡ rows → state' ≡ state
+    → Serves e turns (standing g.state rest) state old new → Serves e' turns (standing begun rows) state' old new
+serves_from e e' turns g rest rows begun state state' old new is same r ends serves =
+    let s : standing g.state rest ≡ standing begun rows = ap (λ (y : Gathered). standing y.state rest) same ∙ ap (standing begun) r in
+    subst (λ (x : State). Serves e' turns (standing begun rows) x old new) (sym ends)
+    (subst (λ (x : ServeState). Serves e' turns x state old new) s (subst (λ (x : Ended). Serves x turns (standing g.state rest) state old new) (sym is) serves))

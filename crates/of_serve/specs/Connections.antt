@@ -1,8 +1,8 @@
 -- WHAT EACH CONNECTION WAS ANSWERED, AND WHAT IT TOOK OF THAT (OpenFlow 1.3.5, 6.3).
-use Rattle.std.specs.Prelude.{ℕ, Bool, false, ◌||◌, List, [], ◌∷◌, ◌++◌}
+use Rattle.std.specs.Prelude.{ℕ, ◌+◌, Bool, false, ◌||◌, List, [], ◌∷◌, ◌++◌}
 use Rattle.std.specs.List.{AllByRecursion}
 use Rattle.of_serve.specs.declared.peers.Accepted.TheVariants as accepted
-use Rattle.of_serve.specs.Turns.{Input, Accepts, Reads, ServeState, IsTaken, given, Known, Time, All, CutTurn, cut_given, Turns, None, Then, stand}
+use Rattle.of_serve.specs.Turns.{Input, Accepts, Reads, ServeState, IsTaken, failures, given, Known, Time, All, CutTurn, cut_given, Turns, None, Then, stand}
 
 pub record Connection : Type 0 where
   -- the bytes of all messages that the switch gave it, in order
@@ -37,7 +37,12 @@ begun_known (All input) cs = begun input cs
 abbrev pub cut_connections : ServeState → Turns → CutTurn → List Connection
 cut_connections s ts t = answered (cut_given t.cut (stand s ts)).answers t.taken t.broke (begun_known t.known (connections s ts))
 
--- all answers were taken, or a write failed and a prefix of them was
+-- to how many of them a write failed
+abbrev pub broken_among : List Connection → ℕ
+broken_among [] = 0
+broken_among (c ∷ cs) = broken_among cs + failures c.broke
+
+-- all answers were taken; or a write failed, and those before its bytes were
 abbrev pub TookPrefix : Connection → Type 0
 TookPrefix c = IsTaken c.broke c.taken c.answered
 

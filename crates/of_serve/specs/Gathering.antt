@@ -1,11 +1,16 @@
 -- Parts of a turn, for contracts inside this crate.
-use Rattle.std.specs.Prelude.{◌≡◌, ◌⊎◌, ◌≤◌, ◌<◌, ◌+◌, ℕ, Bool, true, false, List, [], ◌∷◌, ◌++◌, Option, Some, None as Never, Result, Ok, Err, OnOk, OnErr}
+use Rattle.std.specs.Prelude.{◌≡◌, ◌≢◌, ◌⊎◌, ◌≤◌, ◌<◌, ◌+◌, ℕ, suc, Bool, true, false, List, [], ◌∷◌, ◌++◌, length, Option, Some, None as Never, Result, Ok, Err, OnOk, OnErr, if◌then◌else◌}
 use Rattle.std.specs.List.{flat_map}
 use Rattle.std.specs.declared.alloc.AllocError.{AllocError}
+use Rattle.smallvec.specs.SmallVec.{SmallVec}
+use Rattle.of_datapath.specs.declared.effect.Effect.{Effect}
+use Rattle.of_switch.specs.declared.switch_error.SwitchError.{SwitchError}
+use Rattle.of_switch.specs.declared.switch_error.SwitchError.TheVariants.{NoMemory}
 use Rattle.of_switch.specs.declared.event.Event.{Event}
 use Rattle.of_switch.specs.declared.event.Event.TheVariants.{Moment}
+use Rattle.of_switch.specs.State.{State}
 use Rattle.of_switch.specs.Steps.{Outcome, next_of}
-use Rattle.of_switch.specs.Runs.{unless, drain, drained}
+use Rattle.of_switch.specs.Runs.{Gives, unless, drain, drained}
 use Rattle.of_replay.specs.declared.halt.Halt.{Halt}
 use Rattle.of_replay.specs.declared.halt.Halt.TheVariants.{Bad, Memory, Read as ReadHalt, Write}
 use Rattle.std.specs.Io.KnownBytes.{Appends}
@@ -14,8 +19,8 @@ use Rattle.of_replay.specs.Transfer.{WrotePrefix}
 use Rattle.of_serve.specs.declared.peers.Accepted.{Accepted}
 use Rattle.of_serve.specs.declared.peers.Accepted.TheVariants as accepted
 use Rattle.of_serve.specs.Told.{Came, accept_came, Answered, then_told, then_begun, then_onto}
-use Rattle.of_serve.specs.Turns.{Gathered, gather, gathered, answer_in, line_in, nothing_pending, broken, heard, opened, due, left, events_of, Reads, ServeState, Turn, IsTaken, IsTurn, given, after, Input, IsInput, rows_after, came_in, time_in, then_in, Cut, cut_events, cut_from, Known, IsKnown, known_events, known_came, known_times, then_known, CutTurn, Turns, None, AreTurns, count, stand, came, times, took, sent}
-use Rattle.of_serve.specs.Serves.{Tells, CutShort, cut_sent}
+use Rattle.of_serve.specs.Turns.{Gathered, gather, gathered, answer_in, line_in, nothing_pending, broken, heard, opened, due, left, events_of, Reads, ServeState, Turn, IsTaken, failures, IsTurn, given, after, Input, IsInput, rows_after, came_in, time_in, then_in, Cut, cut_events, cut_from, cut_state, Known, IsKnown, known_events, known_came, known_times, then_known, CutTurn, cut_given, Turns, None, AreTurns, count, stand, came, times, took, breaks, sent}
+use Rattle.of_serve.specs.Serves.{Tells, CutShort}
 
 -- memory ran out in these events, after which this is gathered
 pub record CutIn (events : List Event) (g g' : Gathered) : Type 0 where
@@ -23,6 +28,7 @@ pub record CutIn (events : List Event) (g g' : Gathered) : Type 0 where
   pub events_are : cut_events cut ≡ events
   pub answers_are : g'.answers ≡ (cut_from cut g).answers
   pub lines_are : g'.lines ≡ (cut_from cut g).lines
+  pub state_is : g'.state ≡ cut_state cut g
 
 -- the message that comes next was handled; or there is none
 abbrev pub HandlesNext : Bool → Gathered → Gathered → Type 0
@@ -33,9 +39,22 @@ HandlesNext false g g' = (next_of g.state ≡ Never) × (g' ≡ g)
 abbrev pub HandlesAll : Gathered → Gathered → Type 0
 HandlesAll g g' = g' ≡ gather (unless Never g.state (drained g.state)) g
 
--- some messages were handled, `messages` of them
+-- what a call of the switch gave is to be written, and of a refused one nothing; or there was no memory for that
+abbrev pub Keeps : Result (SmallVec Effect) SwitchError → Result (Unit {0}) AllocError → Gathered → Gathered → Type 0
+Keeps (Ok effects) (Ok u) g g' = g' ≡ gather (record { report = Gives effects.items; state = g.state }) g
+Keeps (Err e) (Ok u) g g' = (e ≢ NoMemory) × (g' ≡ g)
+Keeps given (Err e) g g' = (g'.answers ≡ g.answers) × (g'.lines ≡ g.lines) × (g'.state ≡ g.state)
+
+-- memory ran out in the next message: it was not handled, or it was, and what it gave is lost
+abbrev pub LosesNext : Gathered → Gathered → Type 0
+LosesNext g g' = (g'.answers ≡ g.answers) × (g'.lines ≡ g.lines)
+    × ((g'.state ≡ g.state) ⊎ ((o : Outcome) × (next_of g.state ≡ Some o) × (g'.state ≡ o.state)))
+
+-- `messages` of them were handled, and perhaps one more, of which all is lost
 pub record HandlesSome (g g' : Gathered) : Type 0 where
   pub messages : ℕ
+  pub lost : Bool
+  pub state_is : g'.state ≡ (drain (if lost then suc messages else messages) g.state).state
   pub answers_are : g'.answers ≡ g.answers ++ flat_map answer_in (drain messages g.state).effects
   pub lines_are : g'.lines ≡ g.lines ++ flat_map line_in (drain messages g.state).effects
 
@@ -68,7 +87,7 @@ Opens (Ok u) g g' came came' took took' = (a : Accepted) × (came' ≡ then_told
 Opens (Err (Bad n)) g g' came came' took took' = ⊥
 Opens (Err Memory) g g' came came' took took' =
     (came' ≡ then_told came (accept_came accepted.Open ∷ [])) × (took' ≡ then_begun took accepted.Open) × CutIn (opened accepted.Open) g g'
-Opens (Err ReadHalt) g g' came came' took took' = (came' ≡ then_told came (accept_came accepted.Fault ∷ [])) × (took' ≡ took)
+Opens (Err ReadHalt) g g' came came' took took' = (came' ≡ then_told came (accept_came accepted.Fault ∷ [])) × (took' ≡ took) × (g' ≡ g)
 Opens (Err Write) g g' came came' took took' = ⊥
 
 abbrev pub OrMemory : Result (Unit {0}) AllocError → Result (Unit {0}) Halt → Type 0
@@ -78,7 +97,7 @@ OrMemory (Err e) result = result ≡ Err Memory
 -- bytes were taken by the connection, all of them where no write failed
 abbrev pub Takes : Bool → List ℕ → (took took' : Option (List (List ℕ))) → Type 0
 Takes true bytes took took' = took' ≡ then_onto took bytes
-Takes false bytes took took' = (front : List ℕ) × (rest : List ℕ) × (front ++ rest ≡ bytes) × (took' ≡ then_onto took front)
+Takes false bytes took took' = (front : List ℕ) × (rest : List ℕ) × (0 < length rest) × (front ++ rest ≡ bytes) × (took' ≡ then_onto took front)
 
 abbrev pub failed_writes : Bool → ℕ
 failed_writes true = 0
@@ -93,6 +112,7 @@ pub record Learns (s : ServeState) (g : Gathered) (rest : List Event) (old new :
   pub came_is : new.came ≡ then_told old.came (came_in input)
   pub times_are : new.times ≡ then_told old.times (time_in input)
   pub took_is : new.took ≡ then_in old.took input
+  pub failed_is : new.failed ≡ old.failed
   pub wrote_is : new.wrote ≡ old.wrote
 
 -- memory ran out in a turn
@@ -103,20 +123,23 @@ pub record Cuts (s : ServeState) (g : Gathered) (old new : Tells) : Type 0 where
   pub came_is : new.came ≡ then_told old.came (known_came known)
   pub times_are : new.times ≡ then_told old.times (known_times known)
   pub took_is : new.took ≡ then_known old.took known
+  pub failed_is : new.failed ≡ old.failed
   pub wrote_is : new.wrote ≡ old.wrote
 
 -- an accept failed
-pub record Refuses (old new : Tells) : Type 0 where
+pub record Refuses (s : ServeState) (g : Gathered) (old new : Tells) : Type 0 where
+  pub state_is : g.state ≡ s.state
   pub came_is : new.came ≡ then_told old.came (accept_came accepted.Fault ∷ [])
   pub times_are : new.times ≡ old.times
   pub took_is : new.took ≡ old.took
+  pub failed_is : new.failed ≡ old.failed
   pub wrote_is : new.wrote ≡ old.wrote
 
 abbrev pub Inputs : Result (Unit {0}) Halt → ServeState → Gathered → List Event → Tells → Tells → Type 0
 Inputs (Ok u) s g rest old new = Learns s g rest old new
 Inputs (Err (Bad n)) s g rest old new = ⊥
 Inputs (Err Memory) s g rest old new = Cuts s g old new
-Inputs (Err ReadHalt) s g rest old new = Refuses old new
+Inputs (Err ReadHalt) s g rest old new = Refuses s g old new
 Inputs (Err Write) s g rest old new = ⊥
 
 -- how many accepts and reads there were
@@ -144,12 +167,13 @@ WriteFails (Err ReadHalt) failures = failures ≡ 0
 WriteFails (Err Write) failures = 0 < failures
 
 -- the answers were written, all of them or a prefix; where a write failed, the connection is lost
-pub record IsAnswered (g g' : Gathered) (took took' : Option (List (List ℕ))) : Type 0 where
+pub record IsAnswered (g g' : Gathered) (took took' : Option (List (List ℕ))) (failed failed' : ℕ) : Type 0 where
   pub taken : List ℕ
   pub broke : Bool
   pub is_taken : IsTaken broke taken g.answers
   pub lost_is : g' ≡ gathered (broken broke) g
   pub took_is : took' ≡ then_onto took taken
+  pub failed_is : failed' ≡ failed + failures broke
 
 -- a turn, of which all was written
 pub record GoesOn (s : ServeState) (g : Gathered) (rest : List Event) (old new : Tells) : Type 0 where
@@ -160,32 +184,35 @@ pub record GoesOn (s : ServeState) (g : Gathered) (rest : List Event) (old new :
   pub came_is : new.came ≡ then_told old.came (came_in turn.input)
   pub times_are : new.times ≡ then_told old.times (time_in turn.input)
   pub took_is : new.took ≡ then_onto (then_in old.took turn.input) turn.taken
+  pub failed_is : new.failed ≡ old.failed + failures turn.broke
   pub wrote_is : Appends old.wrote new.wrote (given turn.input s).lines
 
 -- a turn, of whose lines a write failed
-pub record Stops (s : ServeState) (old new : Tells) : Type 0 where
+pub record Stops (s : ServeState) (state : State) (old new : Tells) : Type 0 where
   pub turn : Turn
   pub is_turn : IsTurn turn s
+  pub state_is : state ≡ (after turn s).state
   pub came_is : new.came ≡ then_told old.came (came_in turn.input)
   pub times_are : new.times ≡ then_told old.times (time_in turn.input)
   pub took_is : new.took ≡ then_onto (then_in old.took turn.input) turn.taken
+  pub failed_is : new.failed ≡ old.failed + failures turn.broke
   pub wrote_is : WrotePrefix old.wrote (given turn.input s).lines new.wrote
 
 -- a turn that memory cut short, all of whose lines were written
-abbrev pub StopsShort : ServeState → Tells → Tells → Type 0
-StopsShort s old new = (t : CutTurn) × CutShort t s None old new × Appends old.wrote new.wrote (cut_sent t s None)
+abbrev pub StopsShort : ServeState → State → Tells → Tells → Type 0
+StopsShort s state old new = (t : CutTurn) × CutShort t s None state old new × Appends old.wrote new.wrote (cut_given t.cut s).lines
 
 -- or of whose lines a write failed
-abbrev pub StopsShorter : ServeState → Tells → Tells → Type 0
-StopsShorter s old new = (t : CutTurn) × CutShort t s None old new × WrotePrefix old.wrote (cut_sent t s None) new.wrote
+abbrev pub StopsShorter : ServeState → State → Tells → Tells → Type 0
+StopsShorter s state old new = (t : CutTurn) × CutShort t s None state old new × WrotePrefix old.wrote (cut_given t.cut s).lines new.wrote
 
 -- A TURN: all is written, or serving halts
 abbrev pub Goes : Result (Unit {0}) Halt → ServeState → Gathered → List Event → Tells → Tells → Type 0
 Goes (Ok u) s g rest old new = GoesOn s g rest old new
 Goes (Err (Bad n)) s g rest old new = ⊥
-Goes (Err Memory) s g rest old new = StopsShort s old new
-Goes (Err ReadHalt) s g rest old new = Refuses old new
-Goes (Err Write) s g rest old new = Stops s old new ⊎ StopsShorter s old new
+Goes (Err Memory) s g rest old new = StopsShort s g.state old new
+Goes (Err ReadHalt) s g rest old new = Refuses s g old new
+Goes (Err Write) s g rest old new = Stops s g.state old new ⊎ StopsShorter s g.state old new
 
 -- this many turns passed
 pub record SoFar (n : ℕ) (s : ServeState) (g : Gathered) (rest : List Event) (old new : Tells) : Type 0 where
@@ -197,4 +224,5 @@ pub record SoFar (n : ℕ) (s : ServeState) (g : Gathered) (rest : List Event) (
   pub came_is : new.came ≡ then_told old.came (came ts)
   pub times_are : new.times ≡ then_told old.times (times ts)
   pub took_is : new.took ≡ took old.took ts
+  pub failed_is : new.failed ≡ old.failed + breaks ts
   pub wrote_is : Appends old.wrote new.wrote (sent s ts)

@@ -1,5 +1,5 @@
 -- Turns of a switch that serves a controller (OpenFlow 1.3.5, 6.3).
-use Rattle.std.specs.Prelude.{◌≡◌, ℕ, ◌+◌, nat_lt, Bool, true, false, List, [], ◌∷◌, ◌++◌, Option, if◌then◌else◌}
+use Rattle.std.specs.Prelude.{◌≡◌, ◌<◌, ℕ, ◌+◌, suc, zero, nat_lt, Bool, true, false, List, [], ◌∷◌, ◌++◌, length, Option, None as Never, if◌then◌else◌}
 use Rattle.std.specs.List.{flat_map}
 use Rattle.of_session.specs.Session.{is_disconnected}
 use Rattle.of_datapath.specs.declared.effect.Effect.{Effect}
@@ -7,7 +7,8 @@ use Rattle.of_datapath.specs.declared.effect.Effect.TheVariants.{Answer as Answe
 use Rattle.of_switch.specs.declared.event.Event.{Event}
 use Rattle.of_switch.specs.declared.event.Event.TheVariants.{Connect, Lost, Chunk, Frame, Moment, Ports}
 use Rattle.of_switch.specs.State.{State}
-use Rattle.of_switch.specs.Runs.{Report, Gives, IsRefused, Happened, happened, come, drain}
+use Rattle.of_switch.specs.Steps.{Outcome, gives}
+use Rattle.of_switch.specs.Runs.{Report, Gives, IsRefused, Happened, happened, come, drain, unless}
 use Rattle.of_replay.specs.Output.{line_of}
 use Rattle.of_replay.specs.Told.{Answer, Gave, Idle, Ended, Failed}
 use Rattle.of_serve.specs.declared.peers.Accepted.{Accepted}
@@ -133,10 +134,15 @@ abbrev pub IsInput : Input → State → Type 0
 IsInput (Accepts accepted) s = is_disconnected s.connection.phase ≡ true
 IsInput (Reads now answer) s = is_disconnected s.connection.phase ≡ false
 
--- all answers were taken, or a write failed and a prefix of them was
+-- all answers were taken; or a write failed, and those before its bytes were
 abbrev pub IsTaken : Bool → List ℕ → List ℕ → Type 0
 IsTaken false taken answers = taken ≡ answers
-IsTaken true taken answers = (rest : List ℕ) × (taken ++ rest ≡ answers)
+IsTaken true taken answers = (rest : List ℕ) × (0 < length rest) × (taken ++ rest ≡ answers)
+
+-- after a write that failed no other is made
+abbrev pub failures : Bool → ℕ
+failures false = 0
+failures true = 1
 
 pub record IsTurn (t : Turn) (s : ServeState) : Type 0 where
   pub input : IsInput t.input s.state
@@ -144,32 +150,38 @@ pub record IsTurn (t : Turn) (s : ServeState) : Type 0 where
 
 -- A TURN THAT MEMORY CUT SHORT
 
--- Memory ran out in one of some events: those before it were done, and of a chunk some messages were handled.
+abbrev pub whole : Event → State → Outcome
+whole e s = let h = happened e s in gives (effects_of h.report) h.state
+
+-- AN EVENT IN STEPS, the first n of them: a chunk is received, and then its messages are handled, one a step; any other
+-- event is one step
+abbrev pub partly : ℕ → Event → State → Outcome
+partly zero e s = gives [] s
+partly (suc n) (Chunk bytes) s = drain n (come bytes s)
+partly (suc n) other s = whole other s
+
+-- Memory ran out in one of some events: those before it were done, and some steps of it. There may have been no memory
+-- for what the last of these gave: that is lost.
 pub record Cut : Type 0 where
   pub done : List Event
   pub event : Event
-  pub messages : ℕ
+  -- those of which nothing is lost
+  pub steps : ℕ
+  -- whether there was one more, of which all is lost
+  pub lost : Bool
   pub others : List Event
 
 -- the events
 abbrev pub cut_events : Cut → List Event
 cut_events c = c.done ++ c.event ∷ c.others
 
--- what the first n messages of an event give: only a chunk has any
-abbrev pub part_of : ℕ → Event → State → List Effect
-part_of n (Chunk bytes) s = (drain n (come bytes s)).effects
-part_of n other s = []
-
-abbrev pub with_effects : List Effect → Gathered → Gathered
-with_effects effects g = record {
-  state = g.state;
-  answers = g.answers ++ flat_map answer_in effects;
-  lines = g.lines ++ flat_map line_in effects;
-}
-
--- what they gave until then
+-- what they gave until then, but for what is lost
 abbrev pub cut_from : Cut → Gathered → Gathered
-cut_from c g = with_effects (part_of c.messages c.event (gathered c.done g).state) (gathered c.done g)
+cut_from c g = let d = gathered c.done g in gather (unless Never d.state (partly c.steps c.event d.state)) d
+
+-- and the switch then
+abbrev pub cut_state : Cut → Gathered → State
+cut_state c g = let s = (gathered c.done g).state in (partly (if c.lost then suc c.steps else c.steps) c.event s).state
 
 -- what the turn had learned: all, or the time alone, before it read
 pub data Known : Type 0 where
@@ -193,6 +205,10 @@ pub record CutTurn : Type 0 where
 
 abbrev pub cut_given : Cut → ServeState → Gathered
 cut_given c s = cut_from c (nothing_pending s.state)
+
+-- the switch after it
+abbrev pub cut_after : CutTurn → ServeState → State
+cut_after t s = (gathered (broken t.broke) (nothing_pending (cut_state t.cut (nothing_pending s.state)))).state
 
 pub record IsCutTurn (t : CutTurn) (s : ServeState) : Type 0 where
   pub known : IsKnown t.known s.state
@@ -255,6 +271,11 @@ then_known known (All input) = then_in known input
 abbrev pub took : Option (List (List ℕ)) → Turns → Option (List (List ℕ))
 took known None = known
 took known (Then ts t) = then_onto (then_in (took known ts) t.input) t.taken
+
+-- how many writes to them failed
+abbrev pub breaks : Turns → ℕ
+breaks None = 0
+breaks (Then ts t) = breaks ts + failures t.broke
 
 -- the lines of the frames that the switch sent
 abbrev pub sent : ServeState → Turns → List ℕ

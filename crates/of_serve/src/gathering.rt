@@ -4,15 +4,13 @@ ghost use Rattle.std.specs.List.{flat_map};
 ghost use Rattle.of_session.specs.Session.{is_disconnected};
 ghost use Rattle.of_switch.specs.declared.event.Event.TheVariants.{Lost as Loss, Chunk as Received};
 ghost use Rattle.of_switch.specs.declared.switch_error.SwitchError.TheVariants.{NoMemory};
-ghost use Rattle.of_replay.specs.Rows.{with_bytes};
-ghost use Rattle.of_replay.specs.Stepping.{row_happened};
-ghost use Rattle.of_serve.specs.Turns.{acts, answer_in, due as rows_due, nothing_pending, gather, gathered, left, line_in, waits as has_to_wait};
-ghost use Rattle.of_serve.specs.Gathering.{CutIn, HandlesAll, HandlesNext, HandlesSome};
+ghost use Rattle.of_serve.specs.Turns.{acts, answer_in, due as rows_due, nothing_pending, gathered, left, line_in, waits as has_to_wait};
+ghost use Rattle.of_serve.specs.Gathering.{CutIn, HandlesAll, HandlesNext, HandlesSome, Keeps, LosesNext};
 
 use crate::rows::Rows;
 use of_classifier::Lookup;
-use of_replay::{Row, play_row, push_effects};
-use of_switch::{Effect, Event, Switch, SwitchError};
+use of_replay::push_effects;
+use of_switch::{Effect, Effects, Event, Switch, SwitchError};
 use std::alloc::{AllocError, Global};
 use std::marker::Model;
 
@@ -104,6 +102,13 @@ impl<L: Lookup> Gathering<L> {
         }
     }
 
+    /// The switch.
+    pub fn into_switch(self) -> Switch<L>
+        ensures { result ≡ self.state }
+    {
+        self.switch
+    }
+
     /// The bytes for the controller.
     pub fn answers(&self) -> &[u8]
         ensures { result.now ≡ self.now.answers }
@@ -147,15 +152,44 @@ impl<L: Lookup> Gathering<L> {
         self.lines.extend_from_slice(&self.text)
     }
 
-    /// A row happens; where memory runs out, it gives nothing.
-    pub fn play(&mut self, row: Row, bytes: &[u8]) -> Result<(), AllocError>
-        ensures ok { OnOk result (self.new ≡ gather (row_happened self.old.state (with_bytes bytes.now row)) self.old) }
-        ensures err { OnErr result ((self.new.answers ≡ self.old.answers) × (self.new.lines ≡ self.old.lines)) }
+    // What a call of the switch gave; a refused one gave nothing.
+    fn keep(&mut self, given: Result<Effects, SwitchError>) -> Result<(), AllocError>
+        ensures { Keeps given result self.old self.new }
     {
-        match play_row(self.alloc, &mut self.switch, row, bytes) {
+        match given {
             Ok(effects) => self.push(&effects),
             Err(SwitchError::NoMemory) => Err(AllocError),
             Err(_) => Ok(()),
+        }
+    }
+
+    /// An event happens.
+    pub fn play(&mut self, event: &Event) -> Result<(), AllocError>
+        ensures ok { OnOk result (self.new ≡ gathered (event.now ∷ []) self.old) }
+        ensures err { OnErr result (CutIn (event.now ∷ []) self.old self.new) }
+    {
+        match event {
+            Event::Connect => {
+                let given = self.switch.connected();
+                self.keep(given)
+            }
+            Event::Lost => {
+                self.lose();
+                Ok(())
+            }
+            Event::Chunk(bytes) => self.hear(bytes.as_slice()),
+            Event::Frame { port, frame } => {
+                let given = self.switch.frame(*port, frame.as_slice());
+                self.keep(given)
+            }
+            Event::Moment(nanos) => {
+                let given = self.switch.moment(*nanos);
+                self.keep(given)
+            }
+            Event::Ports(change) => {
+                let given = self.switch.port_change(*change);
+                self.keep(given)
+            }
         }
     }
 
@@ -163,7 +197,7 @@ impl<L: Lookup> Gathering<L> {
     fn handle_next(&mut self) -> Result<bool, SwitchError>
         ensures ok { IfOk result (λ found. HandlesNext found self.old self.new) }
         ensures memory { IfErr result (λ error. error ≡ NoMemory) }
-        ensures err { OnErr result ((self.new.answers ≡ self.old.answers) × (self.new.lines ≡ self.old.lines)) }
+        ensures err { OnErr result (LosesNext self.old self.new) }
     {
         match self.switch.next()? {
             None => Ok(false),
@@ -221,12 +255,8 @@ impl<L: Lookup> Gathering<L> {
         ensures err { OnErr result (CutIn (acts row.now) self.old self.new) }
     {
         match row {
-            Event::Connect => self.play(Row::Connect, &[]),
-            Event::Lost => self.play(Row::Lost, &[]),
-            Event::Chunk(bytes) => self.hear(bytes.as_slice()),
-            Event::Frame { port, frame } => self.play(Row::Frame { port: *port }, frame.as_slice()),
             Event::Moment(_) => Ok(()),
-            Event::Ports(change) => self.play(Row::Ports(*change), &[]),
+            _ => self.play(row),
         }
     }
 

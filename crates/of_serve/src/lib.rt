@@ -13,4 +13,4 @@ mod turns;
 pub use event_rows::read_rows;
 pub use laws::connections_take_prefixes;
 pub use peers::{Accepted, Clock, Peers};
-pub use serving::serve;
+pub use serving::{serve, serve_on};

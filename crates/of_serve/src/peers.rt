@@ -44,7 +44,7 @@ pub trait Peers {
 
     /// Reads bytes of the open connection into the start of the buffer.
     fn read(&mut self, buffer: &mut [u8]) -> Reading
-        requires room { 0 < length buffer.old }
+        requires room { length buffer.old ≡ 65536 }
         requires few { reads self.old < 2 ^ 63 }
         ensures fits { IsReading result (length buffer.new) }
         ensures came { came self.new ≡ then_told (came self.old) (Answered (answer_of result buffer.new) ∷ []) }

@@ -9,7 +9,8 @@ use crate::gathering::Gathering;
 use crate::peers::{Accepted, Clock, Peers};
 use crate::rows::Rows;
 use of_classifier::Lookup;
-use of_replay::{Halt, Reading, Row, Sink, Writing, write_all};
+use of_replay::{Halt, Reading, Sink, Writing, write_all};
+use of_switch::Event;
 use of_wire::{front_of, rest_from};
 use std::alloc::AllocError;
 
@@ -38,7 +39,7 @@ pub fn listen<L: Lookup, P: Peers>(
     peers: &mut P,
     buffer: &mut [u8],
 ) -> Result<(), AllocError>
-    requires room { 0 < length buffer.old }
+    requires room { length buffer.old ≡ 65536 }
     requires few { P.reads peers.old < 2 ^ 63 }
     ensures hears { Hears result gathering.old gathering.new (P.came peers.old) (P.came peers.new) }
     ensures took { P.took peers.new ≡ P.took peers.old }
@@ -64,7 +65,7 @@ fn read_turn<L: Lookup, P: Peers, C: Clock>(
     clock: &mut C,
     buffer: &mut [u8],
 ) -> Result<(), AllocError>
-    requires room { 0 < length buffer.old }
+    requires room { length buffer.old ≡ 65536 }
     requires few { P.accepts peers.old + P.reads peers.old < 2 ^ 63 }
     ensures reads { OnOk result (TellsReads gathering.old gathering.new rows.old rows.new (P.came peers.old) (P.came peers.new) (C.times clock.old)
         (C.times clock.new)) }
@@ -76,7 +77,7 @@ fn read_turn<L: Lookup, P: Peers, C: Clock>(
         (P.write_failures peers.new ≡ P.write_failures peers.old) }
 {
     let now = clock.now();
-    gathering.play(Row::Moment { nanos: now }, &[])?;
+    gathering.play(&Event::Moment(now))?;
     gathering.due(now, rows)?;
     listen(gathering, peers, buffer)
 }
@@ -90,7 +91,7 @@ fn accept_turn<L: Lookup, P: Peers>(gathering: &mut Gathering<L>, peers: &mut P)
     ensures same { (P.reads peers.new ≡ P.reads peers.old) × (P.write_failures peers.new ≡ P.write_failures peers.old) }
 {
     match peers.accept() {
-        Accepted::Open => or_memory(gathering.play(Row::Connect, &[])),
+        Accepted::Open => or_memory(gathering.play(&Event::Connect)),
         Accepted::Nothing => Ok(()),
         Accepted::Fault => Err(Halt::Read),
     }
@@ -114,10 +115,11 @@ fn input<L: Lookup, P: Peers, C: Clock>(
     buffer: &mut [u8],
 ) -> Result<(), Halt>
     requires empty { gathering.old ≡ nothing_pending gathering.old.state }
-    requires room { 0 < length buffer.old }
+    requires room { length buffer.old ≡ 65536 }
     requires few { P.accepts peers.old + P.reads peers.old < 2 ^ 63 }
     ensures inputs { (wrote : Option (List ℕ)) → Inputs result (standing gathering.old.state rows.old) gathering.new rows.new
-        (tells (P.came peers.old) (C.times clock.old) (P.took peers.old) wrote) (tells (P.came peers.new) (C.times clock.new) (P.took peers.new) wrote) }
+        (tells (P.came peers.old) (C.times clock.old) (P.took peers.old) (P.write_failures peers.old) wrote)
+        (tells (P.came peers.new) (C.times clock.new) (P.took peers.new) (P.write_failures peers.new) wrote) }
     ensures counts { Counts result (P.accepts peers.old + P.reads peers.old) (P.accepts peers.new + P.reads peers.new) }
     ensures failures { Fails result (P.accept_failures peers.old) (P.accept_failures peers.new) }
     ensures same { P.write_failures peers.new ≡ P.write_failures peers.old }
@@ -132,7 +134,7 @@ fn input<L: Lookup, P: Peers, C: Clock>(
 // Writes the answers. A write that fails is the loss of the connection.
 fn answer<L: Lookup, P: Peers>(gathering: &mut Gathering<L>, peers: &mut P)
     requires few { P.write_failures peers.old < 2 ^ 63 }
-    ensures answered { IsAnswered gathering.old gathering.new (P.took peers.old) (P.took peers.new) }
+    ensures answered { IsAnswered gathering.old gathering.new (P.took peers.old) (P.took peers.new) (P.write_failures peers.old) (P.write_failures peers.new) }
     ensures came { P.came peers.new ≡ P.came peers.old }
     ensures failures { (P.write_failures peers.old ≤ P.write_failures peers.new) × (P.write_failures peers.new ≤ P.write_failures peers.old + 1) }
     ensures same { (P.accepts peers.new ≡ P.accepts peers.old) × (P.reads peers.new ≡ P.reads peers.old) ×
@@ -153,13 +155,13 @@ pub fn turn<L: Lookup, P: Peers, C: Clock, K: Sink>(
     out: &mut K,
 ) -> Result<(), Halt>
     requires empty { gathering.old ≡ nothing_pending gathering.old.state }
-    requires room { 0 < length buffer.old }
+    requires room { length buffer.old ≡ 65536 }
     requires few { P.accepts peers.old + P.reads peers.old < 2 ^ 63 }
     requires few_failures { P.write_failures peers.old < 2 ^ 63 }
     requires well { K.failures out.old ≡ 0 }
     ensures goes { Goes result (standing gathering.old.state rows.old) gathering.new rows.new
-        (tells (P.came peers.old) (C.times clock.old) (P.took peers.old) (K.taken out.old))
-        (tells (P.came peers.new) (C.times clock.new) (P.took peers.new) (K.taken out.new)) }
+        (tells (P.came peers.old) (C.times clock.old) (P.took peers.old) (P.write_failures peers.old) (K.taken out.old))
+        (tells (P.came peers.new) (C.times clock.new) (P.took peers.new) (P.write_failures peers.new) (K.taken out.new)) }
     ensures counts { Counts result (P.accepts peers.old + P.reads peers.old) (P.accepts peers.new + P.reads peers.new) }
     ensures failures { Fails result (P.accept_failures peers.old) (P.accept_failures peers.new) }
     ensures write_failures { P.write_failures peers.new ≤ P.write_failures peers.old + 1 }

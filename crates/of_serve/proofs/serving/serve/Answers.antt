@@ -1,26 +1,12 @@
 use Rattle.of_switch.specs.State.{start}
-use Rattle.of_replay.specs.Stepping.{ended_so}
 use Rattle.of_serve.specs.Turns.{standing}
 use Rattle.of_serve.specs.Serves.{tells}
-use Rattle.of_serve.proofs.Steps.{serves_nothing, serves_from, read_faults, write_faults}
+use Rattle.of_serve.proofs.Steps.{serves_nothing}
 use Rattle.of_serve.proofs.serving.serve.Goals as goal
 
-pub returns-in_default-clause-serves : goal.returns-in_default-clause-serves
-returns-in_default-clause-serves g c = serves_nothing c.args.turns (standing (start c.args.dpid) c.args.rows.items) (tells (g.P.Peers.came c.args.peers.now) (g.C.Clock.times c.args.clock.now) (g.P.Peers.took c.args.peers.now) (g.K.Sink.taken c.args.out.now))
-
-pub returns-in_default-new-clause-serves : goal.returns-in_default-new-clause-serves
-returns-in_default-new-clause-serves g c = serves_nothing c.args.turns (standing (start c.args.dpid) c.args.rows.items) (tells (g.P.Peers.came c.args.peers.now) (g.C.Clock.times c.args.clock.now) (g.P.Peers.took c.args.peers.now) (g.K.Sink.taken c.args.out.now))
-
-pub returns-clause-serves : goal.returns-clause-serves
-returns-clause-serves g c =
-    let n = c.take_turns.new in
-    serves_from (ended_so c.take_turns.result) c.ended_by.result c.args.turns c.new-gathering.result c.new-rows.result c.args.rows.items c.in-Ok-new.switch (start c.args.dpid)
-    (tells (g.P.Peers.came c.args.peers.now) (g.C.Clock.times c.args.clock.now) (g.P.Peers.took c.args.peers.now) (g.K.Sink.taken c.args.out.now))
-    (tells (g.P.Peers.came n.peers) (g.C.Clock.times n.clock) (g.P.Peers.took n.peers) (g.K.Sink.taken n.out))
-    c.ended_by.ensures c.new-gathering.ensures c.in-Ok-new.ensures c.new-rows.ensures c.take_turns.ensures.serves
-
-pub returns-clause-read_fault : goal.returns-clause-read_fault
-returns-clause-read_fault g c = rw c.ended_by.ensures (read_faults c.take_turns.result (g.P.Peers.accept_failures c.take_turns.new.peers) c.take_turns.ensures.failures)
-
-pub returns-clause-write_fault : goal.returns-clause-write_fault
-returns-clause-write_fault g c = rw c.ended_by.ensures (write_faults c.take_turns.result (g.K.Sink.failures c.take_turns.new.out) c.take_turns.ensures.writes)
+pub returns-in-Err-clause-serves : goal.returns-in-Err-clause-serves
+returns-in-Err-clause-serves g c = (
+  start c.args.dpid,
+  serves_nothing c.args.turns (standing (start c.args.dpid) c.args.rows.items)
+  (tells (g.P.Peers.came c.args.peers.now) (g.C.Clock.times c.args.clock.now) (g.P.Peers.took c.args.peers.now) (g.P.Peers.write_failures c.args.peers.now) (g.K.Sink.taken c.args.out.now)),
+)

@@ -13,7 +13,7 @@ loop-init g c = record {
   writes = c.requires.well;
   empty = c.requires.empty;
   so_far = so_far_begun 0 (standing c.args.gathering.now.state c.args.rows.now) c.args.gathering.now c.args.rows.now
-      (tells (g.P.Peers.came c.args.peers.now) (g.C.Clock.times c.args.clock.now) (g.P.Peers.took c.args.peers.now) (g.K.Sink.taken c.args.out.now)) refl c.requires.empty refl;
+      (tells (g.P.Peers.came c.args.peers.now) (g.C.Clock.times c.args.clock.now) (g.P.Peers.took c.args.peers.now) (g.P.Peers.write_failures c.args.peers.now) (g.K.Sink.taken c.args.out.now)) refl c.requires.empty refl;
 }
 
 pub loop-preserved : goal.loop-preserved
@@ -21,9 +21,9 @@ loop-preserved g c =
     let l = c.loop in
     let n = c.turn.new in
     let t = c.in_ok-turn.ensures in
-    let old = tells (g.P.Peers.came c.args.peers.now) (g.C.Clock.times c.args.clock.now) (g.P.Peers.took c.args.peers.now) (g.K.Sink.taken c.args.out.now) in
-    let now = tells (g.P.Peers.came l.peers) (g.C.Clock.times l.clock) (g.P.Peers.took l.peers) (g.K.Sink.taken l.out) in
-    let new = tells (g.P.Peers.came n.peers) (g.C.Clock.times n.clock) (g.P.Peers.took n.peers) (g.K.Sink.taken n.out) in
+    let old = tells (g.P.Peers.came c.args.peers.now) (g.C.Clock.times c.args.clock.now) (g.P.Peers.took c.args.peers.now) (g.P.Peers.write_failures c.args.peers.now) (g.K.Sink.taken c.args.out.now) in
+    let now = tells (g.P.Peers.came l.peers) (g.C.Clock.times l.clock) (g.P.Peers.took l.peers) (g.P.Peers.write_failures l.peers) (g.K.Sink.taken l.out) in
+    let new = tells (g.P.Peers.came n.peers) (g.C.Clock.times n.clock) (g.P.Peers.took n.peers) (g.P.Peers.write_failures n.peers) (g.K.Sink.taken n.out) in
     record {
       count = omega (arith, t.counts, l.invariant.count);
       accept_failures = t.failures ∙ l.invariant.accept_failures;
@@ -38,9 +38,9 @@ returns-in_err-turn-clause-serves g c =
     let p = err_from_is_err_and c.from_residual.result c.from_residual.ensures.1 in
     let l = c.loop in
     let n = c.turn.new in
-    let old = tells (g.P.Peers.came c.args.peers.now) (g.C.Clock.times c.args.clock.now) (g.P.Peers.took c.args.peers.now) (g.K.Sink.taken c.args.out.now) in
-    let now = tells (g.P.Peers.came l.peers) (g.C.Clock.times l.clock) (g.P.Peers.took l.peers) (g.K.Sink.taken l.out) in
-    let new = tells (g.P.Peers.came n.peers) (g.C.Clock.times n.clock) (g.P.Peers.took n.peers) (g.K.Sink.taken n.out) in
+    let old = tells (g.P.Peers.came c.args.peers.now) (g.C.Clock.times c.args.clock.now) (g.P.Peers.took c.args.peers.now) (g.P.Peers.write_failures c.args.peers.now) (g.K.Sink.taken c.args.out.now) in
+    let now = tells (g.P.Peers.came l.peers) (g.C.Clock.times l.clock) (g.P.Peers.took l.peers) (g.P.Peers.write_failures l.peers) (g.K.Sink.taken l.out) in
+    let new = tells (g.P.Peers.came n.peers) (g.C.Clock.times n.clock) (g.P.Peers.took n.peers) (g.P.Peers.write_failures n.peers) (g.K.Sink.taken n.out) in
     rw (p.1, p.2) (serves_until c.in_err-turn.field-0.0 l.counter c.args.turns (standing c.args.gathering.now.state c.args.rows.now) l.gathering n.gathering l.rows n.rows old now new l.invariant.so_far c.loop-test.true c.in_err-turn.ensures.goes)
 
 pub returns-in_err-turn-clause-most : goal.returns-in_err-turn-clause-most
@@ -63,5 +63,5 @@ pub returns-clause-serves : goal.returns-clause-serves
 returns-clause-serves g c =
     let l = c.loop in
     serves_all l.counter c.args.turns (standing c.args.gathering.now.state c.args.rows.now) l.gathering l.rows
-    (tells (g.P.Peers.came c.args.peers.now) (g.C.Clock.times c.args.clock.now) (g.P.Peers.took c.args.peers.now) (g.K.Sink.taken c.args.out.now))
-    (tells (g.P.Peers.came l.peers) (g.C.Clock.times l.clock) (g.P.Peers.took l.peers) (g.K.Sink.taken l.out)) l.invariant.so_far (omega (arith, l.auto, c.loop-test))
+    (tells (g.P.Peers.came c.args.peers.now) (g.C.Clock.times c.args.clock.now) (g.P.Peers.took c.args.peers.now) (g.P.Peers.write_failures c.args.peers.now) (g.K.Sink.taken c.args.out.now))
+    (tells (g.P.Peers.came l.peers) (g.C.Clock.times l.clock) (g.P.Peers.took l.peers) (g.P.Peers.write_failures l.peers) (g.K.Sink.taken l.out)) l.invariant.so_far (omega (arith, l.auto, c.loop-test))

@@ -11,6 +11,6 @@ invariant-loop g l = record {
   write_failures : g.P.Peers.write_failures l.peers ≤ l.counter;
   writes : g.K.Sink.failures l.out ≡ 0;
   empty : l.gathering ≡ nothing_pending l.gathering.state;
-  so_far : SoFar l.counter (standing l.fn.gathering.state l.fn.rows) l.gathering l.rows (tells (g.P.Peers.came l.fn.peers) (g.C.Clock.times l.fn.clock) (g.P.Peers.took l.fn.peers) (g.K.Sink.taken l.fn.out))
-      (tells (g.P.Peers.came l.peers) (g.C.Clock.times l.clock) (g.P.Peers.took l.peers) (g.K.Sink.taken l.out));
+  so_far : SoFar l.counter (standing l.fn.gathering.state l.fn.rows) l.gathering l.rows (tells (g.P.Peers.came l.fn.peers) (g.C.Clock.times l.fn.clock) (g.P.Peers.took l.fn.peers) (g.P.Peers.write_failures l.fn.peers) (g.K.Sink.taken l.fn.out))
+      (tells (g.P.Peers.came l.peers) (g.C.Clock.times l.clock) (g.P.Peers.took l.peers) (g.P.Peers.write_failures l.peers) (g.K.Sink.taken l.out));
 }

@@ -1,7 +1,7 @@
 use Rattle.std.proofs.Common.{◌∷◌, []}
 use Rattle.of_switch.specs.declared.event.Event.TheVariants.{Moment}
 use Rattle.of_serve.specs.Turns.{due}
-use Rattle.of_serve.proofs.CutLemmas.{cut_now, cut_later, on_err}
+use Rattle.of_serve.proofs.CutLemmas.{cut_before, cut_later, on_err}
 use Rattle.of_serve.proofs.Steps.{read_told, read_cuts, not_read}
 use Rattle.of_serve.proofs.turns.read_turn.Goals as goal
 
@@ -10,7 +10,7 @@ returns-in_err-play-clause-cuts g c =
     let n = c.now-now in
     on_err c.from_residual.result _
     (not_read c.args.gathering.now c.play.new.self c.args.rows.now (g.P.Peers.came c.args.peers.now) (g.C.Clock.times c.args.clock.now) (g.C.Clock.times n.new.self) n.result n.ensures.times
-    (cut_now (Moment n.result) (due n.result c.args.rows.now) c.args.gathering.now c.play.new.self c.in_err-play.ensures.err))
+    (cut_before (Moment n.result ∷ []) (due n.result c.args.rows.now) c.args.gathering.now c.play.new.self c.in_err-play.ensures.err))
 
 pub returns-in_err-due-clause-cuts : goal.returns-in_err-due-clause-cuts
 returns-in_err-due-clause-cuts g c =

@@ -25,4 +25,4 @@ pub returns-in-Fault-clause-takes : goal.returns-in-Fault-clause-takes
 returns-in-Fault-clause-takes g c =
     let bytes = c.args.bytes.now in
     let at = c.loop-at.at in
-    (take at bytes, drop at bytes, take-append-drop at bytes, c.in-Fault.ensures.took ∙ took-nil (g.P.Peers.took c.loop-at.peers) ∙ c.loop-at.invariant.took)
+    (take at bytes, drop at bytes, omega (arith, length-drop at bytes, c.loop-at-test.true), take-append-drop at bytes, c.in-Fault.ensures.took ∙ took-nil (g.P.Peers.took c.loop-at.peers) ∙ c.loop-at.invariant.took)

@@ -2,14 +2,14 @@ use Rattle.std.proofs.Common.{subst, refl, ◌∷◌, []}
 use Rattle.of_switch.specs.declared.event.Event.TheVariants.{Chunk}
 use Rattle.of_serve.specs.Turns.{Gathered}
 use Rattle.of_serve.specs.Gathering.{CutIn}
-use Rattle.of_serve.proofs.CutLemmas.{holding, cut_now, take_cut}
+use Rattle.of_serve.proofs.CutLemmas.{holding, not_fed, take_cut}
 use Rattle.of_serve.proofs.gathering.Gathering.take.Goals as goal
 
 pub returns-in_err-feed-clause-memory : goal.returns-in_err-feed-clause-memory
 returns-in_err-feed-clause-memory g c = λ e.
     let s = c.self.inside in
     let now = holding c.feed.new.self s.answers.items s.lines.items in
-    subst (λ (x : Gathered). CutIn (Chunk c.args.chunk.now ∷ []) x now) c.self.view_is (cut_now (Chunk c.args.chunk.now) [] (holding s.switch s.answers.items s.lines.items) now (refl, refl))
+    subst (λ (x : Gathered). CutIn (Chunk c.args.chunk.now ∷ []) x now) c.self.view_is (not_fed c.args.chunk.now _ (holding s.switch s.answers.items s.lines.items) now c.in_err-feed.ensures refl)
 
 pub returns-clause-memory : goal.returns-clause-memory
 returns-clause-memory g c = λ e.
