@@ -8,7 +8,7 @@ use Rattle.hex.specs.Hex.{decode_pairs, encode_with}
 use Rattle.of_switch.specs.State.{start}
 use Rattle.of_switch.proofs.OnLiterals.{switch_on_literals}
 use Rattle.of_replay.specs.Lexing.{lines_of}
-use Rattle.of_replay.specs.Rows.{Rows, rows_of}
+use Rattle.of_replay.specs.Rows.{rows_of}
 use Rattle.of_replay.specs.Output.{printed_from}
 
 -- a text of these lines, each ended by LF

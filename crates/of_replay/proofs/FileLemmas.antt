@@ -1,13 +1,12 @@
 -- A file that is read whole, and how a run over it ends.
-use Rattle.std.proofs.Common.{◌≡◌, ℕ, ◌+◌, ◌<◌, ◌≤◌, Bool, true, false, List, [], ◌∷◌, ◌++◌, length, Option, Some, None, Result, Ok, Err, refl, sym, ◌∙◌, ap, subst, arith, inl, inr}
-use Rattle.std.specs.Prelude.{nat_lt, ◌⊎◌, ◌↔◌}
-use Rattle.std.specs.Global.{Vec}
+use Rattle.std.proofs.Common.{◌≡◌, ℕ, ◌+◌, ◌<◌, ◌≤◌, true, false, List, [], ◌∷◌, ◌++◌, length, Option, Some, None, Result, Ok, Err, refl, sym, ◌∙◌, ap, arith, inl, inr}
+use Rattle.std.specs.Prelude.{◌⊎◌, ◌↔◌}
 use Rattle.of_replay.specs.declared.halt.Halt.{Halt}
 use Rattle.of_replay.specs.declared.halt.Halt.TheVariants.{Bad, Memory, Read, Write}
 use Rattle.of_replay.specs.declared.event_file.Ended.{Ended}
 use Rattle.of_replay.specs.declared.event_file.Ended.TheVariants.{Done, BadRow, Text, NoMemory, ReadFault, WriteFault}
 use Rattle.of_replay.specs.Told.{Answer, Gave, Known, Answers, NoneLeft, bytes_of, given}
-use Rattle.of_replay.specs.Transfer.{AllAnswers, WrotePrefix}
+use Rattle.of_replay.specs.Transfer.{AllAnswers}
 use Rattle.of_replay.specs.Stepping.{ReadsFail, ended_so}
 use Rattle.of_text.specs.Lines.{lines_of, before, behind}
 use Rattle.of_text.proofs.TextLemmas.{first_line}

@@ -1,4 +1,4 @@
-use Rattle.std.proofs.Common.{◌≡◌, ◌+◌, ℕ, List, Option, [], ◌++◌, subst, take, drop, arith, length-drop, sym, take-add}
+use Rattle.std.proofs.Common.{◌≡◌, ◌+◌, ℕ, List, Option, [], subst, take, drop, arith, length-drop, sym, take-add}
 use Rattle.std.proofs.lemmas.List.{append-nil, take-append-drop}
 use Rattle.std.specs.Io.KnownBytes.{Appends}
 use Rattle.of_replay.proofs.TellingLemmas.{appends-none, appends-then}

@@ -1,4 +1,4 @@
-use Rattle.std.proofs.Common.{◌≡◌, ◌∙◌, sym, ap, arith, refl, length, take}
+use Rattle.std.proofs.Common.{◌≡◌, arith, refl, length, take}
 use Rattle.std.proofs.lemmas.Result.{err_from_is_err_and}
 use Rattle.of_replay.specs.Told.{Gave, Ended, Failed, given}
 use Rattle.of_replay.proofs.TellingLemmas.{gave_front}
