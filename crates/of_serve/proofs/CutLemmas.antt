@@ -98,11 +98,11 @@ handled_all first g g' h so =
     ap (λ (x : List ℕ). holding g.state x g.lines) so.answers_are ∙ ap (λ (x : List ℕ). holding g.state (first.answers ++ flat_map answer_in so.effects) x) so.lines_are in
     h.1 ∙ (is ∙ ap (λ (o : Outcome). gather (unless None first.state o) first) (sym told))
 
-some_handled : (first g g' : Gathered) (lost : Bool) → g'.answers ≡ g.answers → g'.lines ≡ g.lines → (so : HandledSoFar first g)
-    → g'.state ≡ (drain (if lost then suc so.messages else so.messages) first.state).state → HandlesSome first g'
-some_handled first g g' lost answers lines so e = record {
+some_handled : (first g g' : Gathered) (untold : Bool) → g'.answers ≡ g.answers → g'.lines ≡ g.lines → (so : HandledSoFar first g)
+    → g'.state ≡ (drain (if untold then suc so.messages else so.messages) first.state).state → HandlesSome first g'
+some_handled first g g' untold answers lines so e = record {
   messages = so.messages;
-  lost = lost;
+  untold = untold;
   state_is = e;
   answers_are = answers ∙ (so.answers_are ∙ ap (λ (o : Outcome). first.answers ++ flat_map answer_in o.effects) (sym so.drained_is));
   lines_are = lines ∙ (so.lines_are ∙ ap (λ (o : Outcome). first.lines ++ flat_map line_in o.effects) (sym so.drained_is));
@@ -130,11 +130,11 @@ next_handled g g' s effects pushed h e state answers lines = (
 
 -- EVENTS
 
--- in the first of them, whose first step was not done, or is lost
-cut_now : (e : Event) (others : List Event) (g g' : Gathered) (lost : Bool) → g'.answers ≡ g.answers → g'.lines ≡ g.lines
-    → g'.state ≡ (partly (if lost then 1 else 0) e g.state).state → CutIn (e ∷ others) g g'
-cut_now e others g g' lost answers lines state = record {
-  cut = record { done = []; event = e; steps = 0; lost = lost; others = others };
+-- in the first of them, whose first step was not done, or nothing of it is told
+cut_now : (e : Event) (others : List Event) (g g' : Gathered) (untold : Bool) → g'.answers ≡ g.answers → g'.lines ≡ g.lines
+    → g'.state ≡ (partly (if untold then 1 else 0) e g.state).state → CutIn (e ∷ others) g g'
+cut_now e others g g' untold answers lines state = record {
+  cut = record { done = []; event = e; steps = 0; untold = untold; others = others };
   events_are = refl;
   answers_are = answers ∙ sym (append-nil g.answers);
   lines_are = lines ∙ sym (append-nil g.lines);
@@ -152,17 +152,17 @@ cut_later es fs g h g' e c =
     let same : gathered c.cut.done h ≡ gathered (es ++ c.cut.done) g = ap (gathered c.cut.done) e ∙ sym (gathered_more es c.cut.done g) in
     let given = ap (λ (x : Gathered). gather (unless None x.state (partly c.cut.steps c.cut.event x.state)) x) same in
     record {
-      cut = record { done = es ++ c.cut.done; event = c.cut.event; steps = c.cut.steps; lost = c.cut.lost; others = c.cut.others };
+      cut = record { done = es ++ c.cut.done; event = c.cut.event; steps = c.cut.steps; untold = c.cut.untold; others = c.cut.others };
       events_are = append_assoc es c.cut.done (c.cut.event ∷ c.cut.others) ∙ ap (λ (x : List Event). es ++ x) c.events_are;
       answers_are = c.answers_are ∙ ap (λ (x : Gathered). x.answers) given;
       lines_are = c.lines_are ∙ ap (λ (x : Gathered). x.lines) given;
-      state_is = c.state_is ∙ ap (λ (x : Gathered). (partly (if c.cut.lost then suc c.cut.steps else c.cut.steps) c.cut.event x.state).state) same;
+      state_is = c.state_is ∙ ap (λ (x : Gathered). (partly (if c.cut.untold then suc c.cut.steps else c.cut.steps) c.cut.event x.state).state) same;
     }
 
 -- before others
 pub cut_before : (es fs : List Event) (g g' : Gathered) → CutIn es g g' → CutIn (es ++ fs) g g'
 cut_before es fs g g' c = record {
-  cut = record { done = c.cut.done; event = c.cut.event; steps = c.cut.steps; lost = c.cut.lost; others = c.cut.others ++ fs };
+  cut = record { done = c.cut.done; event = c.cut.event; steps = c.cut.steps; untold = c.cut.untold; others = c.cut.others ++ fs };
   events_are = sym (append_assoc c.cut.done (c.cut.event ∷ c.cut.others) fs) ∙ ap (λ (x : List Event). x ++ fs) c.events_are;
   answers_are = c.answers_are;
   lines_are = c.lines_are;
@@ -230,8 +230,8 @@ take_goes chunk (Ok u) g g1 g' call same all memory =
 some_text : (f : Effect → List ℕ) (n : ℕ) (old now new : List ℕ) (s t : State) → now ≡ old → s ≡ t → new ≡ now ++ flat_map f (drain n s).effects → new ≡ old ++ flat_map f (drain n t).effects
 some_text f n old now new s t e same h = h ∙ (ap (λ (x : List ℕ). x ++ flat_map f (drain n s).effects) e ∙ ap (λ (x : State). old ++ flat_map f (drain n x).effects) same)
 
-chunk_state : (lost : Bool) (n : ℕ) (chunk : List ℕ) (s t : State) → t ≡ come chunk s
-    → (drain (if lost then suc n else n) t).state ≡ (partly (if lost then suc (suc n) else suc n) (Chunk chunk) s).state
+chunk_state : (untold : Bool) (n : ℕ) (chunk : List ℕ) (s t : State) → t ≡ come chunk s
+    → (drain (if untold then suc n else n) t).state ≡ (partly (if untold then suc (suc n) else suc n) (Chunk chunk) s).state
 chunk_state true n chunk s t e = ap (λ (x : State). (drain (suc n) x).state) e
 chunk_state false n chunk s t e = ap (λ (x : State). (drain n x).state) e
 
@@ -242,9 +242,9 @@ take_cut chunk (Err x) g g1 g' call same some e =
     let is = stands chunk g.state g1.state call in
     let at : g1.state ≡ come chunk g.state = fed_by (is_disconnected g.state.connection.phase) chunk g.state g1.state is call ∙ sym (come_fed chunk g.state is) in
     record {
-      cut = record { done = []; event = Chunk chunk; steps = suc some.messages; lost = some.lost; others = [] };
+      cut = record { done = []; event = Chunk chunk; steps = suc some.messages; untold = some.untold; others = [] };
       events_are = refl;
-      state_is = some.state_is ∙ chunk_state some.lost some.messages chunk g.state g1.state at;
+      state_is = some.state_is ∙ chunk_state some.untold some.messages chunk g.state g1.state at;
       answers_are = some_text answer_in some.messages g.answers g1.answers g'.answers g1.state (come chunk g.state) same.0 at some.answers_are;
       lines_are = some_text line_in some.messages g.lines g1.lines g'.lines g1.state (come chunk g.state) same.1 at some.lines_are;
     }

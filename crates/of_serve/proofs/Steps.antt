@@ -142,13 +142,13 @@ inputs_accept (Err Write) g0 g' rows came came' times took took' failed failed' 
 
 -- WHAT IT GIVES IS WRITTEN
 
-pub answered_all : (g : Gathered) (took took' : Option (List (List ℕ))) (failed failed' : ℕ) → took' ≡ then_onto took g.answers → failed' ≡ failed + 0 → IsAnswered g g took took' failed failed'
-answered_all g took took' failed failed' k f = record { taken = g.answers; broke = false; is_taken = refl; lost_is = refl; took_is = k; failed_is = f }
+pub answered_all : (g : Gathered) (bytes : List ℕ) (took took' : Option (List (List ℕ))) (failed failed' : ℕ) → bytes ≡ g.answers → took' ≡ then_onto took bytes → failed' ≡ failed + 0 → IsAnswered g g took took' failed failed'
+answered_all g bytes took took' failed failed' e k f = record { taken = bytes; broke = false; is_taken = e; lost_is = refl; took_is = k; failed_is = f }
 
-pub answered_lost : (g g' : Gathered) (took took' : Option (List (List ℕ))) (failed failed' : ℕ)
-    → (front : List ℕ) × (others : List ℕ) × (0 < length others) × (front ++ others ≡ g.answers) × (took' ≡ then_onto took front) → g' ≡ gathered (Lost ∷ []) g → failed' ≡ failed + 1
+pub answered_lost : (g g' : Gathered) (bytes : List ℕ) (took took' : Option (List (List ℕ))) (failed failed' : ℕ) → bytes ≡ g.answers
+    → (front : List ℕ) × (others : List ℕ) × (0 < length others) × (front ++ others ≡ bytes) × (took' ≡ then_onto took front) → g' ≡ gathered (Lost ∷ []) g → failed' ≡ failed + 1
     → IsAnswered g g' took took' failed failed'
-answered_lost g g' took took' failed failed' k lost f = record { taken = k.0; broke = true; is_taken = (k.1, k.2, k.3); lost_is = lost; took_is = k.4; failed_is = f }
+answered_lost g g' bytes took took' failed failed' e k lost f = record { taken = k.0; broke = true; is_taken = (k.1, k.2, k.3 ∙ e); lost_is = lost; took_is = k.4; failed_is = f }
 
 -- the loss of a connection sends no frame
 lost_lines : (broke : Bool) (g : Gathered) → (gathered (broken broke) g).lines ≡ g.lines

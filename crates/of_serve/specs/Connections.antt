@@ -42,7 +42,7 @@ abbrev pub broken_among : List Connection → ℕ
 broken_among [] = 0
 broken_among (c ∷ cs) = broken_among cs + failures c.broke
 
--- all answers were taken; or a write failed, and those before its bytes were
+-- all answers were taken; or a write failed, and a byte or more at the end was not
 abbrev pub TookPrefix : Connection → Type 0
 TookPrefix c = IsTaken c.broke c.taken c.answered
 

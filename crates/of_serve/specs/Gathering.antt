@@ -45,16 +45,16 @@ Keeps (Ok effects) (Ok u) g g' = g' ≡ gather (record { report = Gives effects.
 Keeps (Err e) (Ok u) g g' = (e ≢ NoMemory) × (g' ≡ g)
 Keeps given (Err e) g g' = (g'.answers ≡ g.answers) × (g'.lines ≡ g.lines) × (g'.state ≡ g.state)
 
--- memory ran out in the next message: it was not handled, or it was, and what it gave is lost
+-- memory ran out in the next message: it was not handled, or it was, and nothing of it is told
 abbrev pub LosesNext : Gathered → Gathered → Type 0
 LosesNext g g' = (g'.answers ≡ g.answers) × (g'.lines ≡ g.lines)
     × ((g'.state ≡ g.state) ⊎ ((o : Outcome) × (next_of g.state ≡ Some o) × (g'.state ≡ o.state)))
 
--- `messages` of them were handled, and perhaps one more, of which all is lost
+-- `messages` of them were handled, and perhaps one more, of which nothing is told
 pub record HandlesSome (g g' : Gathered) : Type 0 where
   pub messages : ℕ
-  pub lost : Bool
-  pub state_is : g'.state ≡ (drain (if lost then suc messages else messages) g.state).state
+  pub untold : Bool
+  pub state_is : g'.state ≡ (drain (if untold then suc messages else messages) g.state).state
   pub answers_are : g'.answers ≡ g.answers ++ flat_map answer_in (drain messages g.state).effects
   pub lines_are : g'.lines ≡ g.lines ++ flat_map line_in (drain messages g.state).effects
 

@@ -134,12 +134,12 @@ abbrev pub IsInput : Input → State → Type 0
 IsInput (Accepts accepted) s = is_disconnected s.connection.phase ≡ true
 IsInput (Reads now answer) s = is_disconnected s.connection.phase ≡ false
 
--- all answers were taken; or a write failed, and those before its bytes were
+-- all answers were taken; or a write failed, and a byte or more at the end was not
 abbrev pub IsTaken : Bool → List ℕ → List ℕ → Type 0
 IsTaken false taken answers = taken ≡ answers
 IsTaken true taken answers = (rest : List ℕ) × (0 < length rest) × (taken ++ rest ≡ answers)
 
--- after a write that failed no other is made
+-- how many writes failed in a turn: after one that failed no other is made
 abbrev pub failures : Bool → ℕ
 failures false = 0
 failures true = 1
@@ -160,28 +160,27 @@ partly zero e s = gives [] s
 partly (suc n) (Chunk bytes) s = drain n (come bytes s)
 partly (suc n) other s = whole other s
 
--- Memory ran out in one of some events: those before it were done, and some steps of it. There may have been no memory
--- for what the last of these gave: that is lost.
+-- Memory ran out in one of some events: those before it were done, and some steps of it. One step more may have been done,
+-- and then there was no memory for what it gave.
 pub record Cut : Type 0 where
   pub done : List Event
   pub event : Event
-  -- those of which nothing is lost
   pub steps : ℕ
-  -- whether there was one more, of which all is lost
-  pub lost : Bool
+  -- whether there was that one more, of which nothing is told
+  pub untold : Bool
   pub others : List Event
 
 -- the events
 abbrev pub cut_events : Cut → List Event
 cut_events c = c.done ++ c.event ∷ c.others
 
--- what they gave until then, but for what is lost
+-- what is told of them
 abbrev pub cut_from : Cut → Gathered → Gathered
 cut_from c g = let d = gathered c.done g in gather (unless Never d.state (partly c.steps c.event d.state)) d
 
--- and the switch then
+-- and the switch then, with the step of which nothing is told
 abbrev pub cut_state : Cut → Gathered → State
-cut_state c g = let s = (gathered c.done g).state in (partly (if c.lost then suc c.steps else c.steps) c.event s).state
+cut_state c g = let s = (gathered c.done g).state in (partly (if c.untold then suc c.steps else c.steps) c.event s).state
 
 -- what the turn had learned: all, or the time alone, before it read
 pub data Known : Type 0 where

@@ -42,7 +42,7 @@ pub trait Peers {
         ensures failures { accept_failures self.new ≡ accept_failures self.old + accept_faults result }
         ensures same { (reads self.new ≡ reads self.old) × (write_failures self.new ≡ write_failures self.old) };
 
-    /// Reads bytes of the open connection into the start of the buffer.
+    /// Reads bytes of the open connection into the start of the buffer, which has room for 65,536 bytes (`READ_SIZE`).
     fn read(&mut self, buffer: &mut [u8]) -> Reading
         requires room { length buffer.old ≡ 65536 }
         requires few { reads self.old < 2 ^ 63 }

@@ -53,8 +53,8 @@ fn take_turns<L: Lookup, P: Peers, C: Clock, K: Sink>(
 /// are a read and a write that fail: after a failed write nothing more is written to that connection.
 ///
 /// An accept that fails ends as `ReadFault`, a write to the output that fails as `WriteFault`. Where memory runs out in a
-/// turn, what its events gave until then is written; but the event, or the message of a chunk, for whose effects there
-/// was no memory may have happened, and they are lost.
+/// turn, what its events gave until then is written. The event, or the message of a chunk, at which it ran out may have
+/// happened nevertheless: then there was no memory for what it gave, and nothing of it is written.
 pub fn serve_on<L: Lookup, P: Peers, C: Clock, K: Sink>(
     alloc: Global,
     switch: Switch<L>,

@@ -1,8 +1,8 @@
-use Rattle.std.proofs.Common.{refl}
+use Rattle.std.proofs.Common.{◌∙◌, ◌+◌, sym}
 use Rattle.of_replay.specs.Stepping.{ended_so}
 use Rattle.of_serve.specs.Turns.{standing}
 use Rattle.of_serve.specs.Serves.{tells}
-use Rattle.of_serve.proofs.Steps.{serves_nothing, serves_from, read_faults, write_faults}
+use Rattle.of_serve.proofs.Steps.{serves_nothing, serves_from, done_counts, read_faults, write_faults}
 use Rattle.of_serve.proofs.serving.serve_on.Goals as goal
 
 pub returns-in_default-clause-serves : goal.returns-in_default-clause-serves
@@ -15,6 +15,11 @@ returns-clause-serves g c =
     (tells (g.P.Peers.came c.args.peers.now) (g.C.Clock.times c.args.clock.now) (g.P.Peers.took c.args.peers.now) (g.P.Peers.write_failures c.args.peers.now) (g.K.Sink.taken c.args.out.now))
     (tells (g.P.Peers.came n.peers) (g.C.Clock.times n.clock) (g.P.Peers.took n.peers) (g.P.Peers.write_failures n.peers) (g.K.Sink.taken n.out))
     c.ended_by-ended.ensures c.new-gathering.ensures c.new-rows.ensures c.into_switch.ensures c.take_turns.ensures.serves
+
+pub returns-clause-done : goal.returns-clause-done
+returns-clause-done g c = λ d.
+    let n = c.take_turns.new.peers in
+    done_counts c.take_turns.result (g.P.Peers.accepts n + g.P.Peers.reads n) c.args.turns c.take_turns.ensures.done (sym c.ended_by-ended.ensures ∙ d)
 
 pub returns-clause-read_fault : goal.returns-clause-read_fault
 returns-clause-read_fault g c = rw c.ended_by-ended.ensures (read_faults c.take_turns.result (g.P.Peers.accept_failures c.take_turns.new.peers) c.take_turns.ensures.failures)
