@@ -385,7 +385,7 @@ serves_until Memory n turns s g g' rest rest' old now new f lt go =
 serves_until ReadHalt n turns s g g' rest rest' old now new f lt go = record {
   ts = f.ts;
   are = f.are;
-  ends = (omega (arith, lt, f.count_is), told_more old.came now.came new.came (came f.ts) (accept_came accepted.Fault ∷ []) f.came_is go.came_is, go.times_are ∙ f.times_are, go.took_is ∙ f.took_is, go.wrote_is ∙ f.wrote_is);
+  ends = (omega (arith, lt, f.count_is), told_more old.came now.came new.came (came f.ts) (accept_came accepted.Fault ∷ []) f.came_is go.came_is, go.times_are ∙ f.times_are, go.took_is ∙ f.took_is, subst (λ (k : Option (List ℕ)). Appends old.wrote k (sent s f.ts)) (sym go.wrote_is) f.wrote_is);
 }
 serves_until Write n turns s g g' rest rest' old now new f lt go =
     until_write n turns s g rest old now new f lt (subst (λ (y : ServeState). Stops y now new ⊎ StopsShorter y now new) (stands_same s (stand s f.ts) g rest f.handed f.rest_is) go)
