@@ -14,6 +14,7 @@
 
 from .bridge import Bridge
 from .effects import Answer, Closed, Effect, MessageType, Refused, Sent
+from .network import Arrived, Crossing, Looped, Network
 from .program import ProgramError
 from .switch import Switch
 

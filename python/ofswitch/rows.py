@@ -4,7 +4,7 @@ from __future__ import annotations
 
 import operator
 import re
-from typing import Any, SupportsIndex, Union
+from typing import Any, Protocol, SupportsIndex, Union
 
 # The most bytes of a row, without its line end.
 MOST_BYTES = 1_048_576
@@ -13,6 +13,28 @@ MOST_BYTES = 1_048_576
 MOST_PORT = 0xFFFFFF00
 
 HwAddress = Union[str, bytes]
+
+
+class HasBytes(Protocol):
+    """What `bytes` takes, as a packet of scapy."""
+
+    def __bytes__(self) -> bytes: ...
+
+
+class HasSerialize(Protocol):
+    """A message of os-ken, whose bytes are `buf` then, or a packet of os-ken, whose bytes are `data` then."""
+
+    def serialize(self) -> object: ...
+
+
+class HasPack(Protocol):
+    """A message of pyof."""
+
+    def pack(self) -> bytes: ...
+
+
+# A message or a frame.
+Octets = Union[bytes, bytearray, memoryview, HasBytes, HasSerialize, HasPack]
 
 _NAME = re.compile(r"[a-z0-9]{1,15}")
 _HW = re.compile(r"[0-9A-Fa-f]{12}")
