@@ -96,27 +96,40 @@ class Run:
 
         `marks` says how many of them print the line of the mark themselves. After an exception the run has ended.
         """
+        return self.play_each(rows + MARK_ROW, [marks])[0]
+
+    def play_each(self, rows: bytes, marks: list[int]) -> list[list[bytes]]:
+        """Plays rows in which a mark stands behind each part, and returns the lines that each part prints.
+
+        `marks` says of each part how many of its rows print the line of the mark themselves.
+        """
         try:
-            return self._exchange(memoryview(rows + MARK_ROW), marks + 1)
+            return self._exchange(memoryview(rows), [it + 1 for it in marks])
         except BaseException:
             # what is still to come would be taken for the text of the next row
             self._process.kill()
             self.close()
             raise
 
-    def _exchange(self, left: memoryview, marks: int) -> list[bytes]:
+    def _exchange(self, left: memoryview, marks: list[int]) -> list[list[bytes]]:
+        parts: list[list[bytes]] = []
         lines: list[bytes] = []
         line = b""
+        seen = 0
         while True:
             if left:
                 left = left[self._write(left) :]
             *whole, line = (line + self._read(self._ready if left else self._answering)).split(b"\n")
             for it in whole:
                 if it == MARK_LINE:
-                    marks -= 1
-                    if marks == 0:
-                        return lines
+                    seen += 1
+                    if seen == marks[len(parts)]:
+                        parts.append(lines)
+                        lines, seen = [], 0
+                        continue
                 lines.append(it)
+            if len(parts) == len(marks):
+                return parts
 
     def _write(self, data: memoryview) -> int:
         """Writes as much as the pipe takes, and returns how much that is."""
