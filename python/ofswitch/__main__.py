@@ -115,7 +115,7 @@ def add_capture(commands: argparse._SubParsersAction[Parser]) -> None:
         help="frames that left by port N: a capture of them, which is compared",
     )
     frames.add_argument("file", metavar="FILE", help="a pcap or pcapng file of Ethernet frames")
-    frames.add_argument("--port", metavar="N", type=int, required=True, help="the port that receives them")
+    frames.add_argument("--port", metavar="N", type=port, required=True, help="the port that receives them")
     pcap.add_argument("file", metavar="EVENTS", help="an event file")
     pcap.add_argument("out", metavar="OUT", help="the pcapng file that is written")
     pcap.add_argument("--dpid", metavar="N", type=dpid, help="the datapath_id (by default 1)")
@@ -123,11 +123,17 @@ def add_capture(commands: argparse._SubParsersAction[Parser]) -> None:
         it.add_argument("--program", metavar="PATH", help="the program ofswitch (by default OFSWITCH, or the one on the PATH)")
 
 
+def port(word: str) -> int:
+    if not (word.isascii() and word.isdigit() and int(word) < 1 << 32):
+        raise argparse.ArgumentTypeError("a port is a number of 32 bits")
+    return int(word)
+
+
 def port_file(word: str) -> PortFile:
     number, is_there, path = word.partition("=")
-    if not (number.isascii() and number.isdigit() and is_there and path):
+    if not (is_there and path):
         raise argparse.ArgumentTypeError("a port and a capture are N=FILE")
-    return int(number), path
+    return port(number), path
 
 
 def address(word: str) -> Address:

@@ -23,6 +23,12 @@ _switches = pytest.StashKey["list[tuple[str, Switch]]"]()
 _folder = pytest.StashKey[Path]()
 
 
+def pytest_addoption(parser: pytest.Parser) -> None:
+    parser.getgroup("ofswitch").addoption(
+        "--ofswitch-pcap", action="store_true", help="write a capture (pcapng) beside the event file of each switch of a test that fails"
+    )
+
+
 @pytest.fixture
 def new_switch(request: pytest.FixtureRequest, tmp_path: Path) -> Iterator[Callable[..., Switch]]:
     """Makes a switch of the arguments of `Switch`, which ends with the test. For tests of several switches."""
@@ -67,9 +73,23 @@ def pytest_runtest_makereport(item: pytest.Item) -> Generator[None, Any, None]:
     if report.when != "call" or not report.failed:
         return
     for name, switch in item.stash.get(_switches, []):
+        if not switch.keeps_log:
+            continue
         path = item.stash[_folder] / f"switch-{re.sub(r'[^0-9A-Za-z_.-]', '_', name)}.events"
         path.write_text(switch.log, encoding="utf-8")
-        report.sections.append((f"ofswitch: the rows of switch {name}, and what each did", _account(switch, path)))
+        account = _account(switch, path)
+        if item.config.getoption("--ofswitch-pcap"):
+            account = f"{_capture(switch, path.with_suffix('.pcapng'))}\n{account}"
+        report.sections.append((f"ofswitch: the rows of switch {name}, and what each did", account))
+
+
+def _capture(switch: Switch, path: Path) -> str:
+    """Writes a capture of all that happened, and returns its path, or why there is none."""
+    try:
+        switch.pcap(path)
+    except ProgramError as fault:
+        return str(fault)
+    return str(path)
 
 
 def _account(switch: Switch, path: Path) -> str:

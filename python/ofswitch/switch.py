@@ -148,6 +148,11 @@ class Switch:
             return self._log_bytes().decode()
 
     @property
+    def keeps_log(self) -> bool:
+        """Whether there is a log; not with `log=False`."""
+        return self._log is not None
+
+    @property
     def port_names(self) -> dict[int, str]:
         """The names that `port_add` was given, by the port's number."""
         return dict(self._port_names)

@@ -39,6 +39,7 @@ class Segment(NamedTuple):
     target: End
     flags: int
     sequence: int
+    acknowledged: int
     data: bytes
 
 
@@ -63,6 +64,9 @@ class Connection:
         # of each side: the next byte, and the segments that begin behind it, with their packets
         self._next: list[int | None] = [None, None]
         self._early: list[dict[int, tuple[Packet, bytes]]] = [{}, {}]
+        # of each side: the packets in which the other one acknowledges its bytes, up to which one; and whether it has ended
+        self._acknowledged: list[list[tuple[int, int]]] = [[], []]
+        self._is_ended = [False, False]
 
     @property
     def name(self) -> str:
@@ -72,6 +76,8 @@ class Connection:
         side = self.sides.index(segment.source)
         if packet.is_cut:
             self.cut.append(packet.number)
+        if segment.flags & ACK:
+            self._acknowledged[1 - side].append((packet.number, segment.acknowledged))
         if segment.flags & SYN:
             self._next[side] = (segment.sequence + 1) & _MASK
             return
@@ -84,6 +90,7 @@ class Connection:
             pass
         if segment.flags & (FIN | RST):
             self.ended = self.ended or packet.nanoseconds
+            self._is_ended[side] = True
 
     def _take(self, packet: Packet, side: int) -> bool:
         """Takes a segment that begins at the next byte, or before it; returns whether there was one."""
@@ -100,31 +107,41 @@ class Connection:
                 return True
         return False
 
+    def _gap(self, side: int) -> tuple[int, int, int] | None:
+        """The packet by which bytes of a side must have come that the capture has not, the side, and how many; None if it has all."""
+        place = self._next[side]
+        if place is None:
+            return None
+        found = [(packet.number, side, (sequence - place) & _MASK) for sequence, (packet, _) in self._early[side].items()]
+        # the end of a side counts as a byte
+        last = place + self._is_ended[side]
+        for number, acknowledged in self._acknowledged[side]:
+            if 0 < (acknowledged - last) & _MASK < _HALF:
+                found.append((number, side, (acknowledged - place) & _MASK))
+        return min(found, default=None)
+
     def end_at_gap(self) -> str | None:
         """Drops what came after bytes that are missing, on both sides, and says where they are missing; None if none are."""
-        gaps = [(min(it.number for it, _ in early.values()), side) for side, early in enumerate(self._early) if early]
-        if not gaps:
+        gap = min((it for it in map(self._gap, (0, 1)) if it is not None), default=None)
+        if gap is None:
             return None
-        number, side = min(gaps)
-        place = self._next[side]
-        assert place is not None
-        count = min((sequence - place) & _MASK for sequence in self._early[side])
-        left = len(self.pieces)
-        self.pieces = [it for it in self.pieces if it.number < number]
-        left -= len(self.pieces)
+        number, side, count = gap
+        kept = [it for it in self.pieces if it.number < number]
+        left = len(self.pieces) - len(kept) + sum(map(len, self._early))
+        self.pieces = kept
         self.ended = None
-        waiting = sum(map(len, self._early))
-        return (
-            f"{self.name}: {count} bytes of {self.sides[side]} are missing before packet {number};"
-            f" {left + waiting} segments from there on are left out"
-        )
+        return f"{self.name}: {count} bytes of {self.sides[side]} are missing before packet {number}; {left} segments from there on are left out"
 
 
 def connections(captured: Iterable[Packet], port: int | None = None) -> list[Connection]:
     """The TCP connections of a capture, of this port of either end, in the order in which they begin."""
     found: dict[frozenset[End], Connection] = {}
     all_of_them: list[Connection] = []
+    latest = 0
     for packet in captured:
+        # in the order of the file, whatever the clocks of several interfaces say
+        latest = max(latest, packet.nanoseconds)
+        packet = packet._replace(nanoseconds=latest)
         segment = segment_of(packet)
         if segment is None or (port is not None and port not in (segment.source.port, segment.target.port)):
             continue
@@ -154,9 +171,9 @@ def segment_of(packet: Packet) -> Segment | None:
         return None
     if len(tcp) < 20:
         return None
-    source_port, target_port, sequence = struct.unpack_from("!HHI", tcp)
+    source_port, target_port, sequence, acknowledged = struct.unpack_from("!HHII", tcp)
     ends = End(str(ipaddress.ip_address(source)), source_port), End(str(ipaddress.ip_address(target)), target_port)
-    return Segment(*ends, tcp[13], sequence, tcp[(tcp[12] >> 4) * 4 :])
+    return Segment(*ends, tcp[13], sequence, acknowledged, tcp[(tcp[12] >> 4) * 4 :])
 
 
 def _ip(packet: Packet) -> bytes:
