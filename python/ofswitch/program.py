@@ -26,7 +26,15 @@ _END_WAIT = 5.0
 
 
 class ProgramError(Exception):
-    """The program `ofswitch` is missing, has ended, or does not answer. The text has what it wrote to standard error."""
+    """The program `ofswitch` is missing, has ended, or does not answer. The text has what it wrote to standard error.
+
+    If it ended, `status` is its exit status, or below 0 the signal, and `said` what it wrote to standard error.
+    """
+
+    def __init__(self, text: str, status: int | None = None, said: str = "") -> None:
+        super().__init__(text)
+        self.status = status
+        self.said = said
 
 
 def find(program: StrPath | None) -> str:
@@ -47,7 +55,7 @@ def run_to_end(command: list[str], text: bytes, timeout: float, good: tuple[int,
     except subprocess.TimeoutExpired as error:
         raise ProgramError(f"{' '.join(command)} did not end within {timeout:g} s") from error
     if done.returncode not in good:
-        raise ProgramError(_ending(command, done.returncode, done.stderr))
+        raise _ended(command, done.returncode, done.stderr)
     return done.stdout.decode()
 
 
@@ -157,16 +165,17 @@ class Run:
     def _fault(self) -> ProgramError:
         """Why the program has ended, which it does by itself only at a fault."""
         said = _end(self._process, self._owner)
-        return ProgramError(_ending(self._command, self._process.returncode, said))
+        return _ended(self._command, self._process.returncode, said)
 
     def close(self) -> None:
         """Ends the program."""
         self._finalizer()
 
 
-def _ending(command: list[str], status: int, said: bytes) -> str:
+def _ended(command: list[str], status: int, said: bytes) -> ProgramError:
     how = f"with status {status}" if status >= 0 else f"by signal {-status}"
-    return f"{' '.join(command)} ended {how}: {said.decode(errors='replace').strip() or 'it said nothing'}"
+    text = said.decode(errors="replace").strip()
+    return ProgramError(f"{' '.join(command)} ended {how}: {text or 'it said nothing'}", status, text)
 
 
 def _end(process: subprocess.Popen[bytes], owner: int) -> bytes:

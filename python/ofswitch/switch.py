@@ -13,7 +13,7 @@ from types import TracebackType
 from typing import IO, Protocol, cast
 
 from . import rows
-from .effects import Effect, Refused, effect_of
+from .effects import Closed, Effect, Refused, effect_of
 from .program import MARK_ROW, ProgramError, Run, StrPath, find, reads_of, run_to_end
 from .rows import Octets
 from .run_pcap import write_pcap
@@ -33,6 +33,10 @@ _LOG_IN_MEMORY = 1 << 24
 
 # How much of a log a new run of the program gets at a time, in bytes.
 _BLOCK_SIZE = 1 << 20
+
+# Exit statuses: a file has a fault; `ofswitch check` found something.
+_BAD_FILE = 2
+_FOUND = 4
 
 _PORT_ROWS = re.compile(rb"^port .*$", re.M)
 
@@ -77,6 +81,7 @@ class Switch:
         if self._log is not None:
             weakref.finalize(self, self._log.close)
         self._port_names: dict[int, str] = {}
+        self._is_connected = False
 
     # ---- rows
 
@@ -94,7 +99,10 @@ class Switch:
         return effects
 
     def port_remove(self, number: int) -> list[Effect]:
-        return self._play(rows.port_remove(number))
+        effects = self._play(rows.port_remove(number))
+        if not any(isinstance(it, Refused) for it in effects):
+            self._port_names.pop(number, None)
+        return effects
 
     def port_link(self, number: int, up: bool) -> list[Effect]:
         """The link of a port is up, or down."""
@@ -135,6 +143,19 @@ class Switch:
             effects += self._play_all(part)
         return effects
 
+    def load(self, text: str) -> list[Effect]:
+        """Adds the groups and flows of a flow text (docs/FLOWTEXT.md), by the messages of a controller.
+
+        If there is a connection, its HELLO must have been fed, and the messages come over it; else one comes about, and is lost
+        again. Returns what is answered: nothing, or an ERROR for each message that the switch refuses now. ValueError, with the
+        line, if the text has a fault.
+        """
+        return self._load(self._converted("asm", text))
+
+    def import_(self, text: str) -> list[Effect]:
+        """Adds the groups and flows of a text in the words of `ovs-ofctl` (docs/IMPORT.md), as `load` does."""
+        return self.load(self._converted("import", text))
+
     def watch(self, watcher: Watcher) -> None:
         """From now on calls this with each row and its effects, in the order of the rows, also those that a bridge plays."""
         self._watchers.append(watcher)
@@ -146,6 +167,16 @@ class Switch:
         """The rows so far: an event file, for which `ofswitch replay` prints the same effects."""
         with self._played:
             return self._log_bytes().decode()
+
+    def check(self) -> str:
+        """Which of its flows never win, and what else can hardly be meant, a line each (docs/CHECK.md)."""
+        return self._ask(["check", "--events", "-"], b"", good=(0, _FOUND))
+
+    def steps(self, port: int, frame: Octets, *, explain: bool = False) -> str:
+        """Where this frame would go now, a line for each step, and then what leaves (docs/TRACE.md); with notes, if wanted."""
+        _, _, data = rows.frame(port, frame).split(" ")
+        options = ["--explain"] if explain else []
+        return self._ask(["trace", "--events", "-", "--port", str(port), data, *options], b"")
 
     @property
     def keeps_log(self) -> bool:
@@ -244,12 +275,20 @@ class Switch:
             printed = self._run.play_each(text, [int(rows.is_refused_as_8(it)) for it in many])
             effects = [[effect_of(it) for it in part] for part in printed]
             for row, its in zip(many, effects):
+                self._see_connection(row, its)
                 if self._controller:
                     self._controller.take(its)
                 for watcher in self._watchers:
                     watcher(row, its)
             self._played.notify_all()
             return effects
+
+    def _see_connection(self, row: str, effects: list[Effect]) -> None:
+        """Keeps whether there is a connection after a row."""
+        if row == rows.connect():
+            self._is_connected = True
+        elif row == rows.lost() or any(isinstance(it, Closed) for it in effects):
+            self._is_connected = False
 
     def _keep(self, lines: list[bytes]) -> None:
         if self._log is not None:
@@ -288,11 +327,35 @@ class Switch:
         finally:
             self._log.seek(0, os.SEEK_END)
 
-    def _ask(self, words: list[str], more: bytes) -> str:
+    def _ask(self, words: list[str], more: bytes, good: tuple[int, ...] = (0,)) -> str:
         """What the program prints for the log, and a row more."""
         with self._played:
             text = self._log_bytes() + more
-        return run_to_end([self._program, *words], text, self._timeout)
+        return run_to_end([self._program, *words], text, self._timeout, good)
+
+    def _converted(self, word: str, text: str) -> str:
+        """What the program makes of a text. ValueError if the text has a fault."""
+        # of a file, and not of standard input, the program says in words what is wrong with it
+        with tempfile.NamedTemporaryFile(suffix=".txt") as file:
+            file.write(text.encode())
+            file.flush()
+            try:
+                return run_to_end([self._program, word, file.name], b"", self._timeout)
+            except ProgramError as fault:
+                if fault.status != _BAD_FILE:
+                    raise
+                raise ValueError(fault.said) from None
+
+    def _load(self, events: str) -> list[Effect]:
+        """Plays the messages of an event file of `asm`, which begins with `connect` and a HELLO."""
+        connect, hello, *messages = events.split("\n")[:-1]
+        with self._played:
+            if self._is_connected:
+                return [it for its in self._play_all(messages) for it in its] if messages else []
+            effects = self._play_all([connect, hello, *messages])
+            self._play(rows.lost())
+        # without the HELLO of the switch
+        return [it for its in effects[1:] for it in its]
 
 
 def _parts(many: list[str]) -> Iterator[list[str]]:
