@@ -53,12 +53,14 @@ _BITS = {"port": 32, "nanos": 64, "added": 32, "removed": 32, "linked": 32}
 _PORT_NUMBER = re.compile(r"port \w+ ([0-9]+)")
 
 
-def as_bytes(value: Octets) -> bytes:
+def as_bytes(octets: Octets) -> bytes:
     """The bytes of a message or a frame.
 
     That is something with the buffer protocol, something that `bytes` takes (as a packet of scapy), a message of os-ken
     (`serialize`, then `buf`), a packet of os-ken (`serialize`, then `data`), or a message of pyof (`pack`).
     """
+    # whatever else a test gives is a TypeError
+    value: Any = octets
     try:
         return memoryview(value).tobytes()
     except TypeError:
