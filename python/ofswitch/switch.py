@@ -57,7 +57,7 @@ class Switch:
         program: StrPath | None = None,
         *,
         dpid: int = 1,
-        log: StrPath | bool = True,
+        log: StrPath | bool | None = None,
         timeout: float = 60.0,
     ) -> None:
         """Starts the program: the one given, or that OFSWITCH names, or the one on the PATH.
@@ -77,7 +77,7 @@ class Switch:
         self._controller: Controller | None = None
         self._run = self._new_run()
         self._log = _log_file(log)
-        self._log_has_path = not isinstance(log, bool)
+        self._log_has_path = log is not None and not isinstance(log, bool)
         if self._log is not None:
             weakref.finalize(self, self._log.close)
         self._port_names: dict[int, str] = {}
@@ -372,9 +372,9 @@ def _parts(many: list[str]) -> Iterator[list[str]]:
         yield part
 
 
-def _log_file(path: StrPath | bool) -> IO[bytes] | None:
+def _log_file(path: StrPath | bool | None) -> IO[bytes] | None:
     if path is False:
         return None
-    if path is not True:
+    if path is not None and path is not True:
         return open(path, "w+b")
     return cast("IO[bytes]", tempfile.SpooledTemporaryFile(max_size=_LOG_IN_MEMORY))
