@@ -5,16 +5,38 @@
     with Switch() as switch:
         switch.port_add(1)
         switch.port_add(2)
-        switch.connect()                  # [Answer(data=..)]: the switch's HELLO
+        switch.connect()                  # [Answer(HELLO xid 0, ..)]
         switch.feed(message)              # what the switch answers and sends
-        switch.frame(1, frame)            # [Sent(port=2, frame=..)], or [Answer(data=..)]: a PACKET_IN
+        switch.frame(1, frame)            # [Sent(port=2, frame=..)], or [Answer(PACKET_IN xid 0, ..)]
 
-`Bridge` lets a real controller, in a process of its own, have the connection. docs/TESTING.md is the manual.
+`Bridge` lets a real controller, in a process of its own, have the connection. `Network` has several switches with links between
+them. docs/TESTING.md and docs/LAB.md of the repository are the manuals.
 """
 
 from .bridge import Bridge
-from .effects import Answer, Closed, Effect, MessageType, Refused, Sent
+from .effects import Answer, Closed, Effect, Refused, Sent
+from .message_types import MessageType
+from .network import Arrived, Crossing, Looped, Network
+from .pcap import CaptureError
 from .program import ProgramError
 from .switch import Switch
 
-__all__ = ["Answer", "Bridge", "Closed", "Effect", "MessageType", "ProgramError", "Refused", "Sent", "Switch"]
+# also in pyproject.toml
+__version__ = "0.1.0"
+
+__all__ = [
+    "Answer",
+    "Arrived",
+    "Bridge",
+    "CaptureError",
+    "Closed",
+    "Crossing",
+    "Effect",
+    "Looped",
+    "MessageType",
+    "Network",
+    "ProgramError",
+    "Refused",
+    "Sent",
+    "Switch",
+]

@@ -1,4 +1,4 @@
-"""`python -m ofswitch bridge`, a switch whose rows are typed and whose controller connects over TCP, and `draw`, pictures."""
+"""`python -m ofswitch bridge`, a switch whose rows are typed and whose controller connects over TCP; `draw`, pictures; `capture`."""
 
 from __future__ import annotations
 
@@ -9,11 +9,13 @@ import sys
 from collections.abc import Iterable
 from typing import NoReturn, TextIO
 
-from . import picture, rows
+from . import capture, picture, rows
 from .bridge import Bridge
 from .connection import Address
 from .effects import Effect
+from .pcap import CaptureError
 from .program import ProgramError
+from .recording import PortFile
 from .switch import Switch
 
 # The exit statuses, as those of `ofswitch`.
@@ -46,6 +48,18 @@ Exit status: 0 drawn; 1 bad arguments; 3 the program found a fault in the file, 
 """
 
 
+CAPTURE_DESCRIPTION = """
+Reads and writes captures (pcap and pcapng files; docs/CAPTURES.md). An OpenFlow 1.3 connection of any switch becomes an event
+file, or is compared message by message with what the specified switch answers; frames become event rows; and all that happens in an
+event file becomes a capture, which Wireshark shows. What of a capture cannot be used is said on standard error.
+"""
+
+CAPTURE_STATUSES = """
+Exit status: 0 done, and nothing differs; 1 bad arguments; 2 a line of an event file is no row; 3 a file does not open or is no
+capture, or the program is missing or ended; 4 the recorded switch differs from the specified one.
+"""
+
+
 class Parser(argparse.ArgumentParser):
     def error(self, message: str) -> NoReturn:
         self.print_usage(sys.stderr)
@@ -66,6 +80,7 @@ def parser() -> argparse.ArgumentParser:
     bridge.add_argument("--dpid", metavar="N", type=dpid, default=1, help="the datapath_id (by default 1)")
     bridge.add_argument("--program", metavar="PATH", help="the program ofswitch (by default OFSWITCH, or the one on the PATH)")
     add_draw(commands)
+    add_capture(commands)
     return whole
 
 
@@ -78,6 +93,47 @@ def add_draw(commands: argparse._SubParsersAction[Parser]) -> None:
     draw.add_argument("--svg", metavar="FILE", help="where to write a picture, by `dot` of Graphviz, in place of the graph")
     draw.add_argument("--program", metavar="PATH", help="the program ofswitch (by default OFSWITCH, or the one on the PATH)")
     draw.add_argument("frame", metavar="HEX", nargs="?", help="that frame, two hexadecimal digits a byte")
+
+
+def add_capture(commands: argparse._SubParsersAction[Parser]) -> None:
+    capture = commands.add_parser("capture", help="captures of OpenFlow connections and of frames", description=CAPTURE_DESCRIPTION, epilog=CAPTURE_STATUSES)
+    what = capture.add_subparsers(dest="what", required=True, parser_class=Parser)
+    events = what.add_parser("events", help="an event file of what a capture shows of a switch", epilog=CAPTURE_STATUSES)
+    compare = what.add_parser("compare", help="what the recorded switch answers otherwise than the specified one", epilog=CAPTURE_STATUSES)
+    frames = what.add_parser("frames", help="event rows of the frames of a capture", epilog=CAPTURE_STATUSES)
+    pcap = what.add_parser("pcap", help="a pcapng file of all that happens in an event file", epilog=CAPTURE_STATUSES)
+    for it in (events, compare):
+        it.add_argument("file", metavar="FILE", help="a pcap or pcapng file of an OpenFlow 1.3 connection")
+        it.add_argument("--tcp-port", metavar="N", type=int, help="only connections of this TCP port, of either end")
+        it.add_argument("--dpid", metavar="N", type=dpid, help="only the switch of this datapath_id (by default the first one)")
+        it.add_argument(
+            "--in", dest="inputs", metavar="N=FILE", type=port_file, action="append", default=[],
+            help="frames that port N received: a capture of them; without one the frames of whole PACKET_INs",
+        )
+    compare.add_argument(
+        "--out", dest="outputs", metavar="N=FILE", type=port_file, action="append", default=[],
+        help="frames that left by port N: a capture of them, which is compared",
+    )
+    frames.add_argument("file", metavar="FILE", help="a pcap or pcapng file of Ethernet frames")
+    frames.add_argument("--port", metavar="N", type=port, required=True, help="the port that receives them")
+    pcap.add_argument("file", metavar="EVENTS", help="an event file")
+    pcap.add_argument("out", metavar="OUT", help="the pcapng file that is written")
+    pcap.add_argument("--dpid", metavar="N", type=dpid, help="the datapath_id (by default 1)")
+    for it in (compare, pcap):
+        it.add_argument("--program", metavar="PATH", help="the program ofswitch (by default OFSWITCH, or the one on the PATH)")
+
+
+def port(word: str) -> int:
+    if not (word.isascii() and word.isdigit() and int(word) < 1 << 32):
+        raise argparse.ArgumentTypeError("a port is a number of 32 bits")
+    return int(word)
+
+
+def port_file(word: str) -> PortFile:
+    number, is_there, path = word.partition("=")
+    if not (is_there and path):
+        raise argparse.ArgumentTypeError("a port and a capture are N=FILE")
+    return port(number), path
 
 
 def address(word: str) -> Address:
@@ -145,8 +201,8 @@ def main() -> int:
         parser().error("a frame needs its port, and a port its frame")
     logging.basicConfig(level=logging.INFO, format="%(message)s")
     try:
-        return picture.run(asked) if asked.command == "draw" else run(asked)
-    except (ProgramError, OSError) as fault:
+        return {"draw": picture.run, "capture": capture.run, "bridge": run}[asked.command](asked)
+    except (ProgramError, CaptureError, OSError) as fault:
         print(fault, file=sys.stderr)
         return FAULT
     except KeyboardInterrupt:

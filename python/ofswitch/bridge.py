@@ -56,8 +56,11 @@ class Bridge:
         self._connection: Connection | None = None
         # frames that left because of the controller, and were not asked for yet
         self._sent: deque[Sent] = deque()
-        # when the controller last sent something
-        self._heard = time.monotonic()
+        # when the last row was played, whoever played it
+        self._last = time.monotonic()
+        # the first bytes of the controller, until the HELLO is whole
+        self._hello = b""
+        self._is_ready = False
         self._is_closing = False
         self._fault: BaseException | None = None
         self._thread = threading.Thread(target=self._run, name="ofswitch bridge", daemon=True)
@@ -75,6 +78,21 @@ class Bridge:
         """Whether a controller is connected and not lost yet."""
         return self._connection is not None
 
+    @property
+    def is_ready(self) -> bool:
+        """Whether a controller is connected and the switch has accepted its HELLO."""
+        return self._is_ready
+
+    def ready(self, timeout: float = 5.0) -> None:
+        """Waits until a controller is connected and the switch has accepted its HELLO. TimeoutError if it has not in time."""
+        self.until(lambda: self._is_ready, timeout)
+
+    def idle(self) -> float:
+        """How many seconds ago the last row was played, for the controller or for the test."""
+        with self._played:
+            self._check()
+            return time.monotonic() - self._last
+
     def sent(self, timeout: float = 5.0) -> Sent:
         """The next frame that leaves because of the controller's messages. TimeoutError if there is none in time."""
         with self._played:
@@ -89,10 +107,14 @@ class Bridge:
             self._check()
 
     def quiet(self, seconds: float = 0.1, timeout: float = 10.0) -> None:
-        """Waits until the controller has sent nothing for so long. TimeoutError if it goes on sending."""
+        """Waits until no row has been played for so long: the controller has sent nothing, and the test has played nothing.
+
+        A controller that takes longer for an answer needs a longer time here. TimeoutError if it goes on sending.
+        """
         end = time.monotonic() + timeout
         with self._played:
-            while (left := self._heard + seconds - time.monotonic()) > 0:
+            self._check()
+            while (left := self._last + seconds - time.monotonic()) > 0:
                 if time.monotonic() + left > end:
                     raise TimeoutError(f"not quiet within {timeout:g} s")
                 self._played.wait(left)
@@ -125,6 +147,7 @@ class Bridge:
 
     def take(self, effects: list[Effect]) -> None:
         """Sends the answers of a row to the controller."""
+        self._last = time.monotonic()
         connection = self._connection
         if connection is None:
             return
@@ -169,23 +192,32 @@ class Bridge:
         with self._played:
             _log.info("connection with %s", connection.peer)
             self._connection = connection
+            self._hello, self._is_ready = b"", False
             self._switch.play_for_controller(rows.connect())
 
     def _attend(self, connection: Connection) -> None:
         connection.flush()
         data = connection.read()
         if data:
-            self._heard = time.monotonic()
             effects = self._switch.play_for_controller(rows.feed(data))
             self._sent += [it for it in effects if isinstance(it, Sent)]
+            self._greet(data, effects)
         if connection.end is not None:
             self._end(connection)
         self._played.notify_all()
+
+    def _greet(self, data: bytes, effects: list[Effect]) -> None:
+        """The switch has accepted the HELLO, if the first message is whole and the switch has not ended the connection."""
+        if not self._is_ready:
+            self._hello += data
+            whole = len(self._hello) >= 8 and len(self._hello) >= int.from_bytes(self._hello[2:4], "big")
+            self._is_ready = whole and not any(isinstance(it, Closed) for it in effects)
 
     def _end(self, connection: Connection) -> None:
         _log.info("connection ended: %s", connection.end)
         connection.close()
         self._connection = None
+        self._is_ready = False
         if not connection.is_over:
             self._switch.play_for_controller(rows.lost())
 

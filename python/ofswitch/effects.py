@@ -2,49 +2,20 @@
 
 from __future__ import annotations
 
-import enum
+import binascii
 from dataclasses import dataclass, field
-from typing import Union
+from typing import Any, Union
 
+from .errors import error_name
+from .fields import fields_of, summary
+from .message_types import MessageType
 
-class MessageType(enum.IntEnum):
-    """The types of messages (OpenFlow 1.3.5, 7.1, ofp_type)."""
-
-    HELLO = 0
-    ERROR = 1
-    ECHO_REQUEST = 2
-    ECHO_REPLY = 3
-    EXPERIMENTER = 4
-    FEATURES_REQUEST = 5
-    FEATURES_REPLY = 6
-    GET_CONFIG_REQUEST = 7
-    GET_CONFIG_REPLY = 8
-    SET_CONFIG = 9
-    PACKET_IN = 10
-    FLOW_REMOVED = 11
-    PORT_STATUS = 12
-    PACKET_OUT = 13
-    FLOW_MOD = 14
-    GROUP_MOD = 15
-    PORT_MOD = 16
-    TABLE_MOD = 17
-    MULTIPART_REQUEST = 18
-    MULTIPART_REPLY = 19
-    BARRIER_REQUEST = 20
-    BARRIER_REPLY = 21
-    QUEUE_GET_CONFIG_REQUEST = 22
-    QUEUE_GET_CONFIG_REPLY = 23
-    ROLE_REQUEST = 24
-    ROLE_REPLY = 25
-    GET_ASYNC_REQUEST = 26
-    GET_ASYNC_REPLY = 27
-    SET_ASYNC = 28
-    METER_MOD = 29
-
-
-@dataclass(frozen=True)
+@dataclass(frozen=True, repr=False)
 class Answer:
-    """A message to the controller, with its header of 8 bytes (OpenFlow 1.3.5, 7.1)."""
+    """A message to the controller, with its header of 8 bytes (OpenFlow 1.3.5, 7.1).
+
+    It shows itself in words: `Answer(FLOW_MOD refused: OFPBMC_BAD_PREREQ)`.
+    """
 
     data: bytes
 
@@ -57,8 +28,27 @@ class Answer:
         """The transaction id."""
         return int.from_bytes(self.data[4:8], "big")
 
+    @property
+    def error(self) -> str | None:
+        """The name of an ERROR, as OFPBMC_BAD_PREREQ (OpenFlow 1.3.5, 7.4.4); None for another message."""
+        if self.type is not MessageType.ERROR:
+            return None
+        return error_name(int.from_bytes(self.data[8:10], "big"), int.from_bytes(self.data[10:12], "big"))
+
+    @property
+    def fields(self) -> dict[str, Any]:
+        """The fields behind the header, by their names in the standard: `answer.fields["reason"] == "NO_MATCH"`.
+
+        Addresses are texts as people write them, enumerations are names without prefix, actions are lines of flow text
+        (docs/FLOWTEXT.md), and data is hexadecimal.
+        """
+        return fields_of(self.data)
+
     def __bytes__(self) -> bytes:
         return self.data
+
+    def __repr__(self) -> str:
+        return f"Answer({summary(self.data)})"
 
     def __str__(self) -> str:
         return f"a {self.data.hex()}"
@@ -109,15 +99,15 @@ _REASONS = {
 
 def effect_of(line: bytes) -> Effect:
     """The effect of a line that `ofswitch replay` prints."""
-    word, *rest = line.decode("ascii").split(" ")
-    if word == "a":
-        return Answer(bytes.fromhex(rest[0]))
-    if word == "s":
+    if line.startswith(b"s "):
         # a frame of no bytes cannot leave: it has 14 at least
-        return Sent(int(rest[0]), bytes.fromhex(rest[1]))
-    if word == "closed":
+        port, _, frame = line[2:].partition(b" ")
+        return Sent(int(port), binascii.unhexlify(frame))
+    if line.startswith(b"a "):
+        return Answer(binascii.unhexlify(line[2:]))
+    if line == b"closed":
         return Closed()
-    if word == "refused":
-        number = int(rest[0])
+    if line.startswith(b"refused "):
+        number = int(line[8:])
         return Refused(number, _REASONS.get(number, ""))
     raise ValueError(f"no effect: {line!r}")

@@ -26,7 +26,15 @@ _END_WAIT = 5.0
 
 
 class ProgramError(Exception):
-    """The program `ofswitch` is missing, has ended, or does not answer. The text has what it wrote to standard error."""
+    """The program `ofswitch` is missing, has ended, or does not answer. The text has what it wrote to standard error.
+
+    If it ended, `status` is its exit status, or below 0 the signal, and `said` what it wrote to standard error.
+    """
+
+    def __init__(self, text: str, status: int | None = None, said: str = "") -> None:
+        super().__init__(text)
+        self.status = status
+        self.said = said
 
 
 def find(program: StrPath | None) -> str:
@@ -47,7 +55,7 @@ def run_to_end(command: list[str], text: bytes, timeout: float, good: tuple[int,
     except subprocess.TimeoutExpired as error:
         raise ProgramError(f"{' '.join(command)} did not end within {timeout:g} s") from error
     if done.returncode not in good:
-        raise ProgramError(_ending(command, done.returncode, done.stderr))
+        raise _ended(command, done.returncode, done.stderr)
     return done.stdout.decode()
 
 
@@ -96,27 +104,40 @@ class Run:
 
         `marks` says how many of them print the line of the mark themselves. After an exception the run has ended.
         """
+        return self.play_each(rows + MARK_ROW, [marks])[0]
+
+    def play_each(self, rows: bytes, marks: list[int]) -> list[list[bytes]]:
+        """Plays rows in which a mark stands behind each part, and returns the lines that each part prints.
+
+        `marks` says of each part how many of its rows print the line of the mark themselves.
+        """
         try:
-            return self._exchange(memoryview(rows + MARK_ROW), marks + 1)
+            return self._exchange(memoryview(rows), [it + 1 for it in marks])
         except BaseException:
             # what is still to come would be taken for the text of the next row
             self._process.kill()
             self.close()
             raise
 
-    def _exchange(self, left: memoryview, marks: int) -> list[bytes]:
+    def _exchange(self, left: memoryview, marks: list[int]) -> list[list[bytes]]:
+        parts: list[list[bytes]] = []
         lines: list[bytes] = []
         line = b""
+        seen = 0
         while True:
             if left:
                 left = left[self._write(left) :]
             *whole, line = (line + self._read(self._ready if left else self._answering)).split(b"\n")
             for it in whole:
                 if it == MARK_LINE:
-                    marks -= 1
-                    if marks == 0:
-                        return lines
+                    seen += 1
+                    if seen == marks[len(parts)]:
+                        parts.append(lines)
+                        lines, seen = [], 0
+                        continue
                 lines.append(it)
+            if len(parts) == len(marks):
+                return parts
 
     def _write(self, data: memoryview) -> int:
         """Writes as much as the pipe takes, and returns how much that is."""
@@ -144,16 +165,17 @@ class Run:
     def _fault(self) -> ProgramError:
         """Why the program has ended, which it does by itself only at a fault."""
         said = _end(self._process, self._owner)
-        return ProgramError(_ending(self._command, self._process.returncode, said))
+        return _ended(self._command, self._process.returncode, said)
 
     def close(self) -> None:
         """Ends the program."""
         self._finalizer()
 
 
-def _ending(command: list[str], status: int, said: bytes) -> str:
+def _ended(command: list[str], status: int, said: bytes) -> ProgramError:
     how = f"with status {status}" if status >= 0 else f"by signal {-status}"
-    return f"{' '.join(command)} ended {how}: {said.decode(errors='replace').strip() or 'it said nothing'}"
+    text = said.decode(errors="replace").strip()
+    return ProgramError(f"{' '.join(command)} ended {how}: {text or 'it said nothing'}", status, text)
 
 
 def _end(process: subprocess.Popen[bytes], owner: int) -> bytes:

@@ -2,6 +2,7 @@
 
 from __future__ import annotations
 
+import re
 import shlex
 from collections.abc import Callable, Generator, Iterator
 from pathlib import Path
@@ -9,6 +10,7 @@ from typing import Any
 
 import pytest
 
+from .network import Network
 from .program import ProgramError
 from .switch import Switch
 
@@ -16,23 +18,31 @@ from .switch import Switch
 _MOST_LINES = 100
 _MOST_COLUMNS = 200
 
-_switches = pytest.StashKey["list[Switch]"]()
+# the switches of a test, with their names
+_switches = pytest.StashKey["list[tuple[str, Switch]]"]()
 _folder = pytest.StashKey[Path]()
+
+
+def pytest_addoption(parser: pytest.Parser) -> None:
+    parser.getgroup("ofswitch").addoption(
+        "--ofswitch-pcap", action="store_true", help="write a capture (pcapng) beside the event file of each switch of a test that fails"
+    )
 
 
 @pytest.fixture
 def new_switch(request: pytest.FixtureRequest, tmp_path: Path) -> Iterator[Callable[..., Switch]]:
     """Makes a switch of the arguments of `Switch`, which ends with the test. For tests of several switches."""
-    made: list[Switch] = []
+    made: list[tuple[str, Switch]] = []
     request.node.stash[_switches] = made
     request.node.stash[_folder] = tmp_path
 
     def make(*values: Any, **options: Any) -> Switch:
-        made.append(Switch(*values, **options))
-        return made[-1]
+        switch = Switch(*values, **options)
+        made.append((str(len(made) + 1), switch))
+        return switch
 
     yield make
-    for switch in made:
+    for _, switch in made:
         switch.close()
 
 
@@ -42,6 +52,19 @@ def switch(new_switch: Callable[..., Switch]) -> Switch:
     return new_switch()
 
 
+@pytest.fixture
+def network(request: pytest.FixtureRequest, new_switch: Callable[..., Switch]) -> Network:
+    """A network without switches, whose switches end with the test."""
+    made = request.node.stash[_switches]
+
+    def make(name: str, **options: Any) -> Switch:
+        switch = new_switch(**options)
+        made[-1] = (name, switch)
+        return switch
+
+    return Network(new_switch=make)
+
+
 @pytest.hookimpl(hookwrapper=True)
 def pytest_runtest_makereport(item: pytest.Item) -> Generator[None, Any, None]:
     """Where a test fails, keeps the rows that its switches saw, and says what each did."""
@@ -49,11 +72,24 @@ def pytest_runtest_makereport(item: pytest.Item) -> Generator[None, Any, None]:
     report: pytest.TestReport = outcome.get_result()
     if report.when != "call" or not report.failed:
         return
-    made: list[Switch] = item.stash.get(_switches, [])
-    for place, switch in enumerate(made, 1):
-        path = item.stash[_folder] / f"switch-{place}.events"
+    for name, switch in item.stash.get(_switches, []):
+        if not switch.keeps_log:
+            continue
+        path = item.stash[_folder] / f"switch-{re.sub(r'[^0-9A-Za-z_.-]', '_', name)}.events"
         path.write_text(switch.log, encoding="utf-8")
-        report.sections.append((f"ofswitch: the rows of switch {place}, and what each did", _account(switch, path)))
+        account = _account(switch, path)
+        if item.config.getoption("--ofswitch-pcap"):
+            account = f"{_capture(switch, path.with_suffix('.pcapng'))}\n{account}"
+        report.sections.append((f"ofswitch: the rows of switch {name}, and what each did", account))
+
+
+def _capture(switch: Switch, path: Path) -> str:
+    """Writes a capture of all that happened, and returns its path, or why there is none."""
+    try:
+        switch.pcap(path)
+    except ProgramError as fault:
+        return str(fault)
+    return str(path)
 
 
 def _account(switch: Switch, path: Path) -> str:

@@ -2,24 +2,50 @@
 
 from __future__ import annotations
 
+import binascii
 import operator
 import re
-from typing import Any, SupportsIndex, Union
+from typing import Any, Protocol, SupportsIndex, Union
 
 # The most bytes of a row, without its line end.
 MOST_BYTES = 1_048_576
+
+# The most bytes of a port's name (OpenFlow 1.3.5, 7.2.1: 16 with the zero that ends it).
+MOST_NAME_BYTES = 15
 
 # The greatest number that a port can have (OpenFlow 1.3.5, 7.2.1, OFPP_MAX).
 MOST_PORT = 0xFFFFFF00
 
 HwAddress = Union[str, bytes]
 
+
+class HasBytes(Protocol):
+    """What `bytes` takes, as a packet of scapy."""
+
+    def __bytes__(self) -> bytes: ...
+
+
+class HasSerialize(Protocol):
+    """A message of os-ken, whose bytes are `buf` then, or a packet of os-ken, whose bytes are `data` then."""
+
+    def serialize(self) -> object: ...
+
+
+class HasPack(Protocol):
+    """A message of pyof."""
+
+    def pack(self) -> bytes: ...
+
+
+# A message or a frame.
+Octets = Union[bytes, bytearray, memoryview, HasBytes, HasSerialize, HasPack]
+
 _NAME = re.compile(r"[a-z0-9]{1,15}")
 _HW = re.compile(r"[0-9A-Fa-f]{12}")
-_HEX = r"(?:-|(?:[0-9A-Fa-f]{2})+)"
 _NUMBER = r"(?:0|[1-9][0-9]{0,19})"
+# of a row with bytes, as if it had none: `_is_hex` looks at these, in a tenth of the time
 _ROW = re.compile(
-    rf"connect|lost|c {_HEX}|f (?P<port>{_NUMBER}) {_HEX}|t (?P<nanos>{_NUMBER})"
+    rf"connect|lost|c -|f (?P<port>{_NUMBER}) -|t (?P<nanos>{_NUMBER})"
     rf"|port (?:add (?P<added>{_NUMBER}) {_HW.pattern} {_NAME.pattern} (?:up|down)"
     rf"|remove (?P<removed>{_NUMBER})|link (?P<linked>{_NUMBER}) (?:up|down))"
 )
@@ -27,12 +53,14 @@ _BITS = {"port": 32, "nanos": 64, "added": 32, "removed": 32, "linked": 32}
 _PORT_NUMBER = re.compile(r"port \w+ ([0-9]+)")
 
 
-def as_bytes(value: Any) -> bytes:
+def as_bytes(octets: Octets) -> bytes:
     """The bytes of a message or a frame.
 
     That is something with the buffer protocol, something that `bytes` takes (as a packet of scapy), a message of os-ken
     (`serialize`, then `buf`), a packet of os-ken (`serialize`, then `data`), or a message of pyof (`pack`).
     """
+    # whatever else a test gives is a TypeError
+    value: Any = octets
     try:
         return memoryview(value).tobytes()
     except TypeError:
@@ -60,11 +88,11 @@ def lost() -> str:
     return "lost"
 
 
-def feed(data: Any) -> str:
+def feed(data: Octets) -> str:
     return _fits(f"c {_hex(data)}")
 
 
-def frame(port: int, data: Any) -> str:
+def frame(port: int, data: Octets) -> str:
     return _fits(f"f {_number(port, 32)} {_hex(data)}")
 
 
@@ -75,7 +103,7 @@ def at(nanoseconds: int) -> str:
 def port_add(number: int, hw: HwAddress | None, name: str | None, up: bool) -> str:
     number = _number(number, 32)
     hw = f"02{number:010x}" if hw is None else _hw(hw)
-    name = f"p{number}" if name is None else _name(name)
+    name = f"p{number}" if name is None else port_name(name, number)
     return f"port add {number} {hw} {name} {_link(up)}"
 
 
@@ -94,12 +122,21 @@ def check(row: str) -> None:
     _fits(row)
     if row == "" or row.startswith("#"):
         return
-    parts = _ROW.fullmatch(row)
+    head, _, word = row.rpartition(" ")
+    parts = _ROW.fullmatch(f"{head} -" if row[:2] in ("c ", "f ") and _is_hex(word) else row)
     if parts is None:
         raise ValueError(f"bad row: {_short(row)}")
-    for name, word in parts.groupdict().items():
-        if word is not None:
-            _number(int(word), _BITS[name])
+    for name, bits in _BITS.items():
+        if parts[name] is not None:
+            _number(int(parts[name]), bits)
+
+
+def _is_hex(word: str) -> bool:
+    """Whether these are two hexadecimal digits for each byte of one byte or more."""
+    try:
+        return binascii.unhexlify(word) != b""
+    except ValueError:
+        return False
 
 
 def is_of_controller(row: str) -> bool:
@@ -120,7 +157,7 @@ def _number(value: SupportsIndex, bits: int) -> int:
     return number
 
 
-def _hex(data: Any) -> str:
+def _hex(data: Octets) -> str:
     return as_bytes(data).hex() or "-"
 
 
@@ -131,10 +168,17 @@ def _hw(hw: HwAddress) -> str:
     return text
 
 
-def _name(name: str) -> str:
-    if not _NAME.fullmatch(name):
-        raise ValueError(f"a port's name is 1 to 15 of a to z and 0 to 9, and not {name!r}")
-    return name
+def port_name(name: str, number: int) -> str:
+    """The name that a row has for a name of a host's interface, as `s1-eth1`: its letters and digits, in lower case.
+
+    It is the same for each run. A name of which nothing is left, or more than 15 bytes, gives p and the port's number.
+    """
+    if not name or len(name.encode()) > MOST_NAME_BYTES:
+        raise ValueError(f"a port's name has 1 to {MOST_NAME_BYTES} bytes, and not {name!r}")
+    if any(it.isspace() or not it.isprintable() for it in name):
+        raise ValueError(f"a port's name has no space and no control character, and not {name!r}")
+    kept = re.sub("[^a-z0-9]", "", name.lower())
+    return kept or f"p{number}"
 
 
 def _link(up: bool) -> str:

@@ -8,13 +8,15 @@ import re
 import tempfile
 import threading
 import weakref
-from collections.abc import Callable, Iterator
+from collections.abc import Callable, Iterable, Iterator
 from types import TracebackType
-from typing import IO, Any, Protocol, cast
+from typing import IO, Protocol, cast
 
 from . import rows
-from .effects import Effect, effect_of
-from .program import Run, StrPath, find, reads_of, run_to_end
+from .effects import Closed, Effect, Refused, effect_of
+from .program import MARK_ROW, ProgramError, Run, StrPath, find, reads_of, run_to_end
+from .rows import Octets
+from .run_pcap import write_pcap
 
 Watcher = Callable[[str, "list[Effect]"], None]
 
@@ -31,6 +33,10 @@ _LOG_IN_MEMORY = 1 << 24
 
 # How much of a log a new run of the program gets at a time, in bytes.
 _BLOCK_SIZE = 1 << 20
+
+# Exit statuses: a file has a fault; `ofswitch check` found something.
+_BAD_FILE = 2
+_FOUND = 4
 
 _PORT_ROWS = re.compile(rb"^port .*$", re.M)
 
@@ -51,16 +57,18 @@ class Switch:
         program: StrPath | None = None,
         *,
         dpid: int = 1,
-        log: StrPath | None = None,
+        log: StrPath | bool | None = None,
         timeout: float = 60.0,
     ) -> None:
         """Starts the program: the one given, or that OFSWITCH names, or the one on the PATH.
 
-        `dpid` is the datapath_id. The rows are also written to the file `log`, as they are played. ProgramError is
-        raised where an answer takes longer than `timeout` seconds.
+        `dpid` is the datapath_id. If `log` is a path, the rows are also written to that file, as they are played. With
+        `log=False` no row is kept: the switch plays a million rows at most, and answers no question about itself.
+        ProgramError is raised if an answer takes longer than `timeout` seconds.
         """
         self._program = find(program)
-        self._options = [] if dpid == 1 else ["--dpid", str(rows.dpid(dpid))]
+        self._dpid = rows.dpid(dpid)
+        self._options = [] if dpid == 1 else ["--dpid", str(dpid)]
         self._timeout = timeout
         # held while a row is played, and notified after it
         self._played = threading.Condition(threading.RLock())
@@ -69,19 +77,32 @@ class Switch:
         self._controller: Controller | None = None
         self._run = self._new_run()
         self._log = _log_file(log)
-        self._log_is_kept = log is not None
-        weakref.finalize(self, self._log.close)
+        self._log_has_path = log is not None and not isinstance(log, bool)
+        if self._log is not None:
+            weakref.finalize(self, self._log.close)
+        self._port_names: dict[int, str] = {}
+        self._is_connected = False
 
     # ---- rows
 
     def port_add(
         self, number: int, *, hw: rows.HwAddress | None = None, name: str | None = None, up: bool = True
     ) -> list[Effect]:
-        """A port exists from now on. Without `hw` and `name` port 1 has the address 02:00:00:00:00:01 and the name p1."""
-        return self._play(rows.port_add(number, hw, name, up))
+        """A port exists from now on. Without `hw` and `name` port 1 has the address 02:00:00:00:00:01 and the name p1.
+
+        A name may be that of a host's interface, as `s1-eth1` or `eth0.5`: the row has its letters and digits in lower case.
+        `port_names` keeps the name as it was given.
+        """
+        effects = self._play(rows.port_add(number, hw, name, up))
+        if name is not None and not any(isinstance(it, Refused) for it in effects):
+            self._port_names[number] = name
+        return effects
 
     def port_remove(self, number: int) -> list[Effect]:
-        return self._play(rows.port_remove(number))
+        effects = self._play(rows.port_remove(number))
+        if not any(isinstance(it, Refused) for it in effects):
+            self._port_names.pop(number, None)
+        return effects
 
     def port_link(self, number: int, up: bool) -> list[Effect]:
         """The link of a port is up, or down."""
@@ -95,11 +116,11 @@ class Switch:
         """The connection with the controller is lost."""
         return self._play(rows.lost())
 
-    def feed(self, data: Any) -> list[Effect]:
+    def feed(self, data: Octets) -> list[Effect]:
         """The next bytes of the controller, which may be cut anywhere: bytes, or a message of os-ken or pyof."""
         return self._play(rows.feed(data))
 
-    def frame(self, port: int, frame: Any) -> list[Effect]:
+    def frame(self, port: int, frame: Octets) -> list[Effect]:
         """A frame comes in on a port: bytes, or a packet of scapy or os-ken."""
         return self._play(rows.frame(port, frame))
 
@@ -112,6 +133,29 @@ class Switch:
         rows.check(row)
         return self._play(row)
 
+    def play_all(self, many: Iterable[str]) -> list[list[Effect]]:
+        """Plays rows in one write, and returns the effects of each. If one of them is no row, none is played."""
+        listed = list(many)
+        for row in listed:
+            rows.check(row)
+        effects: list[list[Effect]] = []
+        for part in _parts(listed):
+            effects += self._play_all(part)
+        return effects
+
+    def load(self, text: str) -> list[Effect]:
+        """Adds the groups and flows of a flow text (docs/FLOWTEXT.md), by the messages of a controller.
+
+        If there is a connection, its HELLO must have been fed, and the messages come over it; else one comes about, and is lost
+        again. Returns what is answered: nothing, or an ERROR for each message that the switch refuses now. ValueError, with the
+        line, if the text has a fault.
+        """
+        return self._load(self._converted("asm", text))
+
+    def import_(self, text: str) -> list[Effect]:
+        """Adds the groups and flows of a text in the words of `ovs-ofctl` (docs/IMPORT.md), as `load` does."""
+        return self.load(self._converted("import", text))
+
     def watch(self, watcher: Watcher) -> None:
         """From now on calls this with each row and its effects, in the order of the rows, also those that a bridge plays."""
         self._watchers.append(watcher)
@@ -123,6 +167,26 @@ class Switch:
         """The rows so far: an event file, for which `ofswitch replay` prints the same effects."""
         with self._played:
             return self._log_bytes().decode()
+
+    def check(self) -> str:
+        """Which of its flows never win, and what else can hardly be meant, a line each (docs/CHECK.md)."""
+        return self._ask(["check", "--events", "-"], b"", good=(0, _FOUND))
+
+    def steps(self, port: int, frame: Octets, *, explain: bool = False) -> str:
+        """Where this frame would go now, a line for each step, and then what leaves (docs/TRACE.md); with notes, if wanted."""
+        _, _, data = rows.frame(port, frame).split(" ")
+        options = ["--explain"] if explain else []
+        return self._ask(["trace", "--events", "-", "--port", str(port), data, *options], b"")
+
+    @property
+    def keeps_log(self) -> bool:
+        """Whether there is a log; not with `log=False`."""
+        return self._log is not None
+
+    @property
+    def port_names(self) -> dict[int, str]:
+        """The names that `port_add` was given, by the port's number."""
+        return dict(self._port_names)
 
     @property
     def replay_options(self) -> list[str]:
@@ -137,12 +201,23 @@ class Switch:
         """The rows so far and what each did, in words (docs/EVENTS.md)."""
         return self._ask(["replay", *self._options, "--explain", "-"], b"")
 
-    def trace(self, port: int, frame: Any) -> str:
+    def trace(self, port: int, frame: Octets) -> str:
         """What this frame would do now, in words: how it comes in, each table that is looked up, and what leaves."""
         row = rows.frame(port, frame)
         text = self._ask(["replay", *self._options, "--explain", "-"], row.encode() + b"\n")
         _, _, notes = f"\n{text}".rpartition(f"\n{row}\n")
         return "".join(line.removeprefix("    ") for line in notes.splitlines(keepends=True))
+
+    def pcap(self, path: StrPath) -> None:
+        """Writes all that happened as a pcapng file: an interface for each port, and one for the controller's messages.
+
+        Frames and messages have the time of the `t` row before them. The program plays the log again.
+        """
+        with self._played:
+            log = self._log_bytes().decode()
+        lines = log.split("\n")[:-1]
+        with Switch(self._program, dpid=self._dpid, log=False, timeout=self._timeout) as again:
+            write_pcap(path, zip(lines, again.play_all(lines)))
 
     @property
     def pid(self) -> int:
@@ -185,30 +260,49 @@ class Switch:
     # ---- inside
 
     def _play(self, row: str, *, of_controller: bool = False) -> list[Effect]:
+        return self._play_all([row], of_controller=of_controller)[0]
+
+    def _play_all(self, many: list[str], *, of_controller: bool = False) -> list[list[Effect]]:
         with self._played:
-            if self._controller and not of_controller and rows.is_of_controller(row):
+            if self._controller and not of_controller and any(map(rows.is_of_controller, many)):
                 raise RuntimeError("a bridge has the connection with the controller")
-            line = row.encode() + b"\n"
-            if self._run.reads + 2 * reads_of(len(line)) > self.MOST_READS:
+            lines = [it.encode() + b"\n" for it in many]
+            text = b"".join(it + MARK_ROW for it in lines)
+            if self._run.reads + 2 * reads_of(len(text)) > self.MOST_READS:
                 self._renew()
             self._run.check()
-            self._log.write(line)
-            if self._log_is_kept:
-                self._log.flush()
-            marks = 1 if rows.is_refused_as_8(row) else 0
-            effects = [effect_of(it) for it in self._run.play(line, marks)]
-            if self._controller:
-                self._controller.take(effects)
-            for watcher in self._watchers:
-                watcher(row, effects)
+            self._keep(lines)
+            printed = self._run.play_each(text, [int(rows.is_refused_as_8(it)) for it in many])
+            effects = [[effect_of(it) for it in part] for part in printed]
+            for row, its in zip(many, effects):
+                self._see_connection(row, its)
+                if self._controller:
+                    self._controller.take(its)
+                for watcher in self._watchers:
+                    watcher(row, its)
             self._played.notify_all()
             return effects
+
+    def _see_connection(self, row: str, effects: list[Effect]) -> None:
+        """Keeps whether there is a connection after a row."""
+        if row == rows.connect():
+            self._is_connected = True
+        elif row == rows.lost() or any(isinstance(it, Closed) for it in effects):
+            self._is_connected = False
+
+    def _keep(self, lines: list[bytes]) -> None:
+        if self._log is not None:
+            self._log.writelines(lines)
+            if self._log_has_path:
+                self._log.flush()
 
     def _new_run(self) -> Run:
         return Run([self._program, "replay", *self._options, "-"], self._timeout)
 
     def _renew(self) -> None:
         """A new run of the program takes over, which plays the log first: the same rows lead to the same switch."""
+        if self._log is None:
+            raise ProgramError("the program has read a million times at most, and without a log no new run can take over")
         run = self._new_run()
         with self._log_from_start() as log:
             while block := log.read(_BLOCK_SIZE):
@@ -225,20 +319,62 @@ class Switch:
     @contextlib.contextmanager
     def _log_from_start(self) -> Iterator[IO[bytes]]:
         """The log, to be read; after that, whatever happens, rows are written behind it again."""
+        if self._log is None:
+            raise RuntimeError("this switch keeps no log")
         self._log.seek(0)
         try:
             yield self._log
         finally:
             self._log.seek(0, os.SEEK_END)
 
-    def _ask(self, words: list[str], more: bytes) -> str:
+    def _ask(self, words: list[str], more: bytes, good: tuple[int, ...] = (0,)) -> str:
         """What the program prints for the log, and a row more."""
         with self._played:
             text = self._log_bytes() + more
-        return run_to_end([self._program, *words], text, self._timeout)
+        return run_to_end([self._program, *words], text, self._timeout, good)
+
+    def _converted(self, word: str, text: str) -> str:
+        """What the program makes of a text. ValueError if the text has a fault."""
+        # of a file, and not of standard input, the program says in words what is wrong with it
+        with tempfile.NamedTemporaryFile(suffix=".txt") as file:
+            file.write(text.encode())
+            file.flush()
+            try:
+                return run_to_end([self._program, word, file.name], b"", self._timeout)
+            except ProgramError as fault:
+                if fault.status != _BAD_FILE:
+                    raise
+                raise ValueError(fault.said) from None
+
+    def _load(self, events: str) -> list[Effect]:
+        """Plays the messages of an event file of `asm`, which begins with `connect` and a HELLO."""
+        connect, hello, *messages = events.split("\n")[:-1]
+        with self._played:
+            if self._is_connected:
+                return [it for its in self._play_all(messages) for it in its] if messages else []
+            effects = self._play_all([connect, hello, *messages])
+            self._play(rows.lost())
+        # without the HELLO of the switch
+        return [it for its in effects[1:] for it in its]
 
 
-def _log_file(path: StrPath | None) -> IO[bytes]:
-    if path is not None:
+def _parts(many: list[str]) -> Iterator[list[str]]:
+    """Rows, in parts of about a block each."""
+    part: list[str] = []
+    size = 0
+    for row in many:
+        part.append(row)
+        size += len(row)
+        if size > _BLOCK_SIZE:
+            yield part
+            part, size = [], 0
+    if part:
+        yield part
+
+
+def _log_file(path: StrPath | bool | None) -> IO[bytes] | None:
+    if path is False:
+        return None
+    if path is not None and path is not True:
         return open(path, "w+b")
     return cast("IO[bytes]", tempfile.SpooledTemporaryFile(max_size=_LOG_IN_MEMORY))

@@ -133,6 +133,48 @@ def test_quiet(bridge):
         bridge.quiet(0.05)
 
 
+def test_quiet_waits_for_the_answer_to_what_the_test_plays(switch, bridge):
+    """The controller was quiet before the frame, and takes a while to answer it."""
+    with Controller.of(bridge) as controller:
+        controller.send(messages.flow(messages.output(messages.CONTROLLER)))
+        controller.sync()
+
+        def answer():
+            assert controller.message()[1] == MessageType.PACKET_IN
+            time.sleep(0.05)
+            controller.send(messages.packet_out(FRAME, messages.output(2)))
+
+        answering = threading.Thread(target=answer)
+        answering.start()
+        time.sleep(0.3)
+        switch.frame(1, FRAME)
+        bridge.quiet(0.25)
+        assert bridge.sent(timeout=0) == Sent(2, FRAME)
+        assert bridge.idle() >= 0.25
+        answering.join()
+
+
+def test_ready_is_after_the_hello(bridge):
+    with socket.create_connection(bridge.address) as stream:
+        bridge.until(lambda: bridge.is_connected)
+        with pytest.raises(TimeoutError):
+            bridge.ready(timeout=0.05)
+        stream.sendall(messages.HELLO[:7])
+        with pytest.raises(TimeoutError):
+            bridge.ready(timeout=0.05)
+        stream.sendall(messages.HELLO[7:])
+        bridge.ready()
+    bridge.until(lambda: not bridge.is_connected)
+    assert not bridge.is_ready
+
+
+def test_a_first_message_that_is_no_hello_makes_nothing_ready(bridge):
+    with socket.create_connection(bridge.address) as stream:
+        stream.sendall(messages.echo(1))
+        with pytest.raises(TimeoutError):
+            bridge.ready(timeout=0.2)
+
+
 def test_the_connection_is_the_controllers(switch, bridge):
     with Controller.of(bridge):
         for call in (switch.connect, switch.lost, lambda: switch.feed(b""), lambda: switch.play("c -")):

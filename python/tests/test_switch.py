@@ -6,7 +6,7 @@ import subprocess
 
 import messages
 import pytest
-from ofswitch import Answer, Closed, MessageType, Refused, Sent
+from ofswitch import Answer, Closed, MessageType, ProgramError, Refused, Sent, Switch
 
 EXAMPLES = pathlib.Path(__file__).resolve().parents[2] / "examples"
 PROGRAM = os.environ.get("OFSWITCH", "ofswitch")
@@ -30,12 +30,6 @@ def replayed(switch, tmp_path):
     done = subprocess.run([PROGRAM, "replay", *switch.replay_options, path], capture_output=True, text=True, timeout=60)
     assert done.returncode == 0, done.stderr
     return done.stdout.splitlines()
-
-
-def load(switch, name):
-    """The tables of a flow text."""
-    rows = subprocess.run([PROGRAM, "asm", EXAMPLES / name], capture_output=True, text=True, check=True).stdout
-    return [effect for row in rows.splitlines() for effect in switch.play(row)]
 
 
 def test_effects_are_values(switch):
@@ -120,7 +114,7 @@ def test_router(switch):
     """The tables of README's example: a hop decreases the TTL, and the checksum follows."""
     for number in (1, 2, 3):
         switch.port_add(number)
-    assert [effect.type for effect in load(switch, "router.flows")] == [MessageType.HELLO]
+    assert switch.load((EXAMPLES / "router.flows").read_text()) == []
     packet = bytes.fromhex("0200000000a10200000000010800450000140000000040fd64e30a0000010a010109")
     wanted = bytes.fromhex("0200000000020200000000a2080045000014000000003ffd65e30a0000010a010109")
     assert switch.frame(1, packet) == [Sent(2, wanted)]
@@ -164,7 +158,7 @@ def test_messages_and_packets_are_taken_as_they_are(switch):
         lambda s: s.port_add(1 << 32),
         lambda s: s.port_add(1, name="sixteen0letters0"),
         lambda s: s.port_add(1, name=""),
-        lambda s: s.port_add(1, name="Eth0"),
+        lambda s: s.port_add(1, name="Eth 0"),
         lambda s: s.port_add(1, name="p1\n"),
         lambda s: s.port_add(1, hw="02:00:00:00:00"),
         lambda s: s.port_add(1, hw=b"12345"),
@@ -177,6 +171,10 @@ def test_messages_and_packets_are_taken_as_they_are(switch):
         lambda s: s.at(-1),
         lambda s: s.at(1 << 64),
         lambda s: s.trace(-1, FRAME),
+        lambda s: s.steps(-1, FRAME),
+        lambda s: s.play_all(["connect", "connected"]),
+        lambda s: s.load("flow 0"),
+        lambda s: s.import_("in_port=1"),
         lambda s: s.play("connected"),
         lambda s: s.play("connect\nconnect"),
         lambda s: s.play("connect\n"),
@@ -263,6 +261,113 @@ def test_the_log_as_a_file(new_switch, tmp_path):
     switch = new_switch(log=path)
     switch.port_add(1)
     assert path.read_text() == switch.log == "port add 1 020000000001 p1 up\n"
+
+
+def test_without_a_log(new_switch, monkeypatch):
+    monkeypatch.setattr(Switch, "MOST_READS", 50)
+    switch = new_switch(log=False)
+    started(switch)
+    switch.feed(messages.flow(messages.output(2)))
+    assert switch.frame(1, FRAME) == [Sent(2, FRAME)]
+    assert not switch.keeps_log
+    for ask in (switch.flows, switch.explain, switch.check, lambda: switch.log, lambda: switch.pcap("/nowhere"), lambda: switch.steps(1, FRAME)):
+        with pytest.raises(RuntimeError, match="no log"):
+            ask()
+    with pytest.raises(ProgramError, match="without a log"):
+        for _ in range(50):
+            switch.frame(1, FRAME)
+
+
+def test_many_rows_in_one_write(switch, tmp_path):
+    seen = []
+    switch.watch(lambda row, effects: seen.append((row, effects)))
+    frame = f"f 1 {FRAME.hex()}"
+    many = ["port add 1 020000000001 p1 up", "port remove 0", "# between", "port add 2 020000000002 p2 up", "port remove 0", "connect"]
+    many += [f"c {(messages.HELLO + messages.flow(messages.output(2))).hex()}", *[frame] * 1000, "port link 2 down", frame]
+    effects = switch.play_all(many)
+    assert seen == list(zip(many, effects))
+    assert effects[1] == effects[4] == [Refused(8)] and effects[2] == [] and effects[5][0].type is MessageType.HELLO
+    assert effects[7:-2] == [[Sent(2, FRAME)]] * 1000 and effects[-1] == []
+    assert switch.log == "".join(f"{row}\n" for row in many)
+    assert replayed(switch, tmp_path) == [str(it) for its in effects for it in its]
+    assert switch.play_all([]) == []
+
+
+def test_many_rows_and_a_new_run(new_switch, monkeypatch):
+    monkeypatch.setattr(Switch, "MOST_READS", 60)
+    switch = new_switch()
+    pids = set()
+    for _ in range(60):
+        assert switch.play_all(["port remove 0", "t 0", "port add 0 020000000001 p1 up"]) == [[Refused(8)], [], [Refused(8)]]
+        pids.add(switch.pid)
+    assert len(pids) > 1
+
+
+@pytest.mark.parametrize(
+    "name, row", [("s1-eth1", "s1eth1"), ("eth0.5", "eth05"), ("Ethernet1", "ethernet1"), ("--", "p9"), ("ge-1/0/1", "ge101")]
+)
+def test_names_that_hosts_have(switch, name, row):
+    assert switch.port_add(9, name=name) == []
+    assert switch.log == f"port add 9 020000000009 {row} up\n"
+    assert switch.port_names == {9: name}
+    assert switch.port_add(9, name="other") == [Refused(5)] and switch.port_names == {9: name}
+    switch.port_remove(9)
+    assert switch.port_names == {}
+
+
+def test_answers_in_words(switch):
+    started(switch)
+    [refused] = switch.feed(messages.flow(messages.group(7)))
+    assert refused.error == "OFPBAC_BAD_OUT_GROUP"
+    assert repr(refused) == "Answer(FLOW_MOD refused: OFPBAC_BAD_OUT_GROUP)"
+    assert (refused.fields["type"], refused.fields["code"]) == (2, 9)
+    [echo] = switch.feed(messages.echo(7, b"abc"))
+    assert echo.error is None and repr(echo) == "Answer(ECHO_REPLY xid 7, data 616263)"
+    switch.feed(messages.flow(messages.output(messages.CONTROLLER), in_port=1))
+    [packet_in] = switch.frame(1, FRAME)
+    told = packet_in.fields
+    assert (told["reason"], told["match"], told["data"]) == ("ACTION", {"in_port": 1}, FRAME.hex())
+    [status] = switch.port_link(2, up=False)
+    assert status.fields["reason"] == "MODIFY" and status.fields["desc"]["state"] == 1
+    # a request for all flows
+    [flows] = switch.feed(messages.header(18, 5, bytes.fromhex("0001000000000000ff000000ffffffffffffffff00000000") + bytes(16) + bytes.fromhex("0001000400000000")))
+    [flow] = flows.fields["body"]
+    assert (flow["priority"], flow["match"], flow["instructions"]) == (10, {"in_port": 1}, {"apply": ["output CONTROLLER 65535"]})
+
+
+def test_flow_text_and_tables_of_open_vswitch(switch):
+    for number in (1, 2, 3):
+        switch.port_add(number)
+    assert switch.import_("priority=10,in_port=1,actions=output:2\nin_port=9,priority=5,actions=drop") == []
+    assert switch.log.splitlines()[-1] == "lost"
+    assert switch.frame(1, FRAME) == [Sent(2, FRAME)]
+    [hello] = switch.connect()
+    switch.feed(messages.HELLO)
+    # over the connection that is there
+    assert switch.load("flow 0 20 0x0000000000000000 0 0 0\nmatch in_port 0x00000001\napply\noutput 3 0\n") == []
+    assert switch.frame(1, FRAME) == [Sent(3, FRAME)]
+    # the flow of the import has the same match and a lower priority
+    assert switch.check().startswith("flow 0 0 never: 0 2\nflow 0 1 wins in_port 9 ")
+    lines = switch.steps(1, FRAME).splitlines()
+    assert lines == ["lookup 0 entry 2", "apply", "output 3 0", "set", "end", f"s 3 {FRAME.hex()}"]
+    assert "    sees in_port 0x00000001" in switch.steps(1, FRAME, explain=True).splitlines()
+
+
+def test_faults_of_texts_are_told(switch):
+    with pytest.raises(ValueError, match=r"line 2: syntax\nword 3: "):
+        switch.load("flow 0 1 0x0000000000000000 0 0 0\nmatch in_port 1")
+    with pytest.raises(ValueError, match="OFPFMFC_OVERLAP"):
+        switch.load("flow 0 1 0x0000000000000000 0 0 0\n" * 2)
+    with pytest.raises(ValueError, match="line 1: "):
+        switch.import_("in_port=1,actions=learn(table=1)")
+    assert switch.log == ""
+
+
+def test_what_the_switch_refuses_of_a_text_is_answered(switch):
+    started(switch)
+    switch.load("group 1 all\n")
+    [error] = switch.load("group 1 all\n")
+    assert error.error == "OFPGMFC_GROUP_EXISTS"
 
 
 def test_several_switches(new_switch):

@@ -1,0 +1,181 @@
+"""A recorded switch as rows of an event file: what its controllers sent, and what it told of its ports and frames."""
+
+from __future__ import annotations
+
+import struct
+from collections.abc import Iterator
+from dataclasses import dataclass, field
+
+from . import rows
+from .fields import Bytes, oxm_field
+from .message_types import MessageType
+from .pcap import ETHERNET
+from .program import StrPath
+from .sessions import Message, Notes, Session, kept_packets
+
+_PORT_DESC = 13
+_PORT_SIZE = 64
+_ADD, _DELETE = 0, 1
+# ofp_port_state (OpenFlow 1.3.5, 7.2.1)
+_LINK_DOWN = 1
+
+# A port, and a capture of its frames.
+PortFile = tuple[int, StrPath]
+
+
+@dataclass
+class Moment:
+    """At a time, a row that is played, or a message of the recorded switch."""
+
+    nanoseconds: int
+    row: str = ""
+    # the message: that of the row if there is a row, or else of the switch
+    message: Message | None = None
+
+
+@dataclass
+class _Port:
+    number: int
+    hw: bytes
+    name: str
+    up: bool
+
+    @classmethod
+    def of(cls, data: bytes) -> _Port:
+        """Of an ofp_port (OpenFlow 1.3.5, 7.2.1)."""
+        number, hw, name, _, state = struct.unpack_from("!I4x6s2x16sII", data)
+        letters = name.split(b"\0")[0].decode("ascii", "ignore")
+        return cls(number, hw, "".join(it for it in letters if "!" <= it <= "~")[:15], not state & _LINK_DOWN)
+
+    def added(self) -> str:
+        return rows.port_add(self.number, self.hw, self.name or None, self.up)
+
+    @property
+    def is_physical(self) -> bool:
+        return 1 <= self.number <= rows.MOST_PORT
+
+
+@dataclass
+class _Told:
+    """Which ports the recorded switch has, as far as it has told."""
+
+    ups: dict[int, bool] = field(default_factory=dict)
+
+    def add(self, port: _Port) -> Iterator[str]:
+        if port.is_physical and port.number not in self.ups:
+            self.ups[port.number] = port.up
+            yield port.added()
+
+    def rows_of_status(self, data: bytes) -> Iterator[str]:
+        """Of a PORT_STATUS."""
+        reason, port = data[8], _Port.of(data[16:])
+        if reason == _ADD:
+            yield from self.add(port)
+        elif port.number not in self.ups:
+            return
+        elif reason == _DELETE:
+            del self.ups[port.number]
+            yield rows.port_remove(port.number)
+        elif self.ups[port.number] != port.up:
+            self.ups[port.number] = port.up
+            yield rows.port_link(port.number, port.up)
+
+
+def moments(sessions: list[Session], inputs: list[PortFile], notes: Notes) -> list[Moment]:
+    """All that happened, in order. Frames come from the captures of ports, or, if there are none, from whole PACKET_INs."""
+    told = _Told()
+    at = sessions[0].began if sessions else 0
+    found = [Moment(at, row) for port in _first_ports(sessions) for row in told.add(port)]
+    cut = 0
+    for session in sessions:
+        found.append(Moment(session.began, rows.connect()))
+        for it in session.messages:
+            if not it.is_of_switch:
+                found.append(Moment(it.nanoseconds, rows.feed(it.data), it))
+                continue
+            kind = it.data[1]
+            if kind == MessageType.PORT_STATUS and len(it.data) >= 80:
+                found += [Moment(it.nanoseconds, row) for row in told.rows_of_status(it.data)]
+            elif kind == MessageType.PACKET_IN and not inputs:
+                frame = _frame_of(it.data)
+                cut += frame is None
+                found += [Moment(it.nanoseconds, row) for row in _frame_rows(told, frame)]
+            found.append(Moment(it.nanoseconds, "", it))
+        if session.ended is not None:
+            found.append(Moment(session.ended, rows.lost()))
+    if cut:
+        notes.add(f"{cut} PACKET_INs do not have a whole frame of a port: give the frames by --in N=FILE")
+    for number, path in inputs:
+        found += [Moment(nanoseconds, rows.frame(number, data)) for nanoseconds, data in frames(path, notes)]
+    found.sort(key=lambda it: it.nanoseconds)
+    return found
+
+
+def _first_ports(sessions: list[Session]) -> list[_Port]:
+    """The ports that the switch has at the beginning: those of its first PORT_DESC, but for what PORT_STATUS told before that."""
+    ports: dict[int, _Port] = {}
+    before: list[bytes] = []
+    for it in (it for session in sessions for it in session.messages if it.is_of_switch):
+        if it.data[1] == MessageType.PORT_STATUS and len(it.data) >= 80:
+            before.append(it.data)
+        elif it.data[1] == MessageType.MULTIPART_REPLY and int.from_bytes(it.data[8:10], "big") == _PORT_DESC:
+            for at in range(16, len(it.data) - _PORT_SIZE + 1, _PORT_SIZE):
+                port = _Port.of(it.data[at:])
+                ports[port.number] = port
+            # OFPMPF_REPLY_MORE: the next reply has more
+            if not it.data[11] & 1:
+                break
+    for data in reversed(before):
+        port = _Port.of(data[16:])
+        if data[8] == _ADD:
+            ports.pop(port.number, None)
+        elif data[8] == _DELETE:
+            ports[port.number] = port
+    return list(ports.values())
+
+
+def _frame_of(data: bytes) -> tuple[int, bytes] | None:
+    """The port and the frame of a PACKET_IN, if it has all of the frame and a port that frames come in by."""
+    try:
+        total, size = struct.unpack_from("!H", data, 12)[0], struct.unpack_from("!H", data, 26)[0]
+        oxms = Bytes(data[28 : 24 + size])
+        frame = data[24 + (size + 7) // 8 * 8 + 2 :]
+        while oxms:
+            name, value = oxm_field(oxms)
+            if name == "in_port" and 1 <= value <= rows.MOST_PORT and len(frame) == total:
+                return value, frame
+    except (ValueError, struct.error):
+        pass
+    return None
+
+
+def _frame_rows(told: _Told, frame: tuple[int, bytes] | None) -> Iterator[str]:
+    if frame is not None:
+        number, data = frame
+        yield from told.add(_Port(number, bytes.fromhex(f"02{number:010x}"), "", True))
+        yield rows.frame(number, data)
+
+
+def frames(path: StrPath, notes: Notes) -> Iterator[tuple[int, bytes]]:
+    """The times and the frames of a capture. Those that it has not kept whole are left out."""
+    cut, others = [], []
+    for packet in kept_packets(path, notes):
+        if packet.is_cut:
+            cut.append(packet.number)
+        elif packet.link != ETHERNET:
+            others.append(packet.number)
+        else:
+            yield packet.nanoseconds, packet.data
+    for numbers, why in ((cut, "the capture has not kept all of"), (others, "no Ethernet frame:")):
+        if numbers:
+            notes.add(f"{path}: {why} packet {numbers[0]}{f' and {len(numbers) - 1} more' if numbers[1:] else ''}; left out")
+
+
+def timed(found: list[Moment]) -> Iterator[Moment]:
+    """The moments with `t` rows between them: the first moment is the start."""
+    begun = now = found[0].nanoseconds if found else 0
+    for it in found:
+        if it.row and it.nanoseconds > now:
+            now = it.nanoseconds
+            yield Moment(now, rows.at(now - begun))
+        yield it

@@ -1,0 +1,354 @@
+"""Captures: read, compared, written; each with what other programs make of them, where these are there."""
+
+import base64
+import os
+import pathlib
+import random
+import re
+import shutil
+import struct
+import subprocess
+import sys
+
+import messages
+import pytest
+from ofswitch import pcap, tcp
+
+pytest_plugins = ["pytester"]
+
+CAPTURES = pathlib.Path(__file__).resolve().parent / "captures"
+COMMAND = [sys.executable, "-m", "ofswitch", "capture"]
+FRAME = bytes.fromhex("020000000002020000000001") + bytes.fromhex("88b5") + bytes(46)
+
+
+def ran(*words, status=0):
+    done = subprocess.run([*COMMAND, *map(str, words)], capture_output=True, text=True, timeout=120)
+    assert done.returncode == status, done.stderr
+    return done
+
+
+def port_captures(name, way, option):
+    return [word for number in range(1, 5) for word in (option, f"{number}={CAPTURES}/{name}-p{number}-{way}.pcap")]
+
+
+# ---- files of other forms, made of the captures
+
+
+def records(path):
+    """The head of a pcap file of this machine's order, and its packets with their heads."""
+    data = path.read_bytes()
+    found, at = [], 24
+    while at < len(data):
+        size = struct.unpack_from("<I", data, at + 8)[0]
+        found.append(data[at : at + 16 + size])
+        at += 16 + size
+    return data[:24], found
+
+
+def written(tmp_path, head, found):
+    path = tmp_path / "made.pcap"
+    path.write_bytes(head + b"".join(found))
+    return path
+
+
+def changed(record, data, size=None):
+    """The packet with other bytes, of which so many were on the wire."""
+    return record[:8] + struct.pack("<II", len(data), len(data) if size is None else size) + data
+
+
+def flags(record):
+    return record[16 + 14 + 20 + 13]
+
+
+def has_data(record):
+    ip = record[16 + 14 :]
+    return struct.unpack_from("!H", ip, 2)[0] > 20 + (ip[20 + 12] >> 4) * 4
+
+
+def of_link(head, link):
+    return head[:20] + struct.pack("<I", link)
+
+
+# ---- event files
+
+
+def test_events_of_a_connection(tmp_path):
+    rows = ran("events", CAPTURES / "osken.pcap").stdout.splitlines()
+    ports = [f"port add {n} aa55aa55000{n + 4} p{n} up" for n in (4, 1, 2, 3)]
+    assert rows[:5] == [*ports, "connect"]
+    # the switch begins; the controller's HELLO is 0.589 ms later in tcpdump's own text
+    assert rows[5:9] == ["t 589000", "c 04000008f591cb8b", "t 608000", "c 04050008f591cb8c"]
+    words = [row.split()[0] for row in rows if not row.startswith("t ")]
+    assert (words.count("c"), words.count("f"), rows.count("port link 3 down"), rows.count("port link 3 up")) == (11, 4, 1, 1)
+    path = tmp_path / "osken.events"
+    path.write_text("".join(f"{row}\n" for row in rows))
+    program = os.environ.get("OFSWITCH", "ofswitch")
+    printed = subprocess.run([program, "replay", path], capture_output=True, text=True, check=True).stdout
+    # what the learning switch sends on: to all, back, and then to the ports that it learned
+    assert [line.split()[1] for line in printed.splitlines() if line.startswith("s ")] == ["2", "3", "4", "1", "2", "1"]
+
+
+def test_frames_of_the_ports_in_place_of_packet_ins():
+    inputs = port_captures("osken", "rx", "--in")
+    rows = ran("events", CAPTURES / "osken.pcap", *inputs).stdout.splitlines()
+    # one frame more: that which a flow sends on, and no controller sees
+    assert [row.split()[1] for row in rows if row.startswith("f ")] == ["1", "2", "1", "2", "4"]
+
+
+def test_a_datapath_id_is_said(tmp_path):
+    head, found = records(CAPTURES / "osken.pcap")
+    # in the FEATURES_REPLY; TCP checksums are not looked at
+    [at] = [place for place, it in enumerate(found) if b"\x04\x06\x00\x20" in it]
+    place = found[at].index(b"\x04\x06\x00\x20") + 8
+    found[at] = found[at][:place] + bytes.fromhex("000000000000002a") + found[at][place + 8 :]
+    path = written(tmp_path, head, found)
+    assert ran("events", path).stdout.startswith("# a switch of datapath_id 0x2a: replay it with --dpid 0x2a\nport add ")
+    assert "datapath_id" not in ran("compare", path, status=4).stdout
+    assert "of datapath_id 0x2a; left out" in ran("events", path, "--dpid", "7").stderr
+
+
+# ---- comparisons
+
+
+def test_the_specified_switch_does_not_differ_from_itself():
+    done = ran("compare", CAPTURES / "self.pcap")
+    assert done.stdout == "57 alike, 0 with differences\n"
+
+
+def test_open_vswitch_with_a_learning_switch():
+    ports = port_captures("osken", "rx", "--in") + port_captures("osken", "tx", "--out")
+    lines = ran("compare", CAPTURES / "osken.pcap", *ports, status=4).stdout.splitlines()
+    # all four ports send the same frames
+    assert lines[-1] == "14 alike, 3 with differences"
+    heads = [line for line in lines if not line.startswith(" ")]
+    assert [re.sub(r".*xid \d+ |.*, | \(.*", "", it) for it in heads[:-1]] == ["FEATURES_REQUEST", "MULTIPART_REQUEST PORT_DESC", "PORT_STATUS"]
+
+
+def test_a_frame_that_left_otherwise(tmp_path):
+    ports = port_captures("osken", "rx", "--in")
+    swapped = ["--out", f"2={CAPTURES}/osken-p3-tx.pcap"]
+    lines = ran("compare", CAPTURES / "osken.pcap", *ports, *swapped, status=4).stdout.splitlines()
+    at = lines.index("port 2")
+    assert lines[at + 1] == "    recorded: 1 frames left, specified: 2"
+    assert lines[at + 2].startswith("    frame 2: recorded none, specified 0200000000020200000000010800")
+
+
+def test_open_vswitch_with_its_client():
+    ports = port_captures("ofctl", "rx", "--in") + port_captures("ofctl", "tx", "--out")
+    lines = ran("compare", CAPTURES / "ofctl.pcap", *ports, status=4).stdout.splitlines()
+    assert lines[-1] == "47 alike, 14 with differences"
+    at = next(place for place, line in enumerate(lines) if line.startswith("connection 9,"))
+    assert lines[at + 1 : at + 3] == ["    recorded: nothing", "    specified: FLOW_MOD refused: OFPBMC_BAD_MASK"]
+    # the counters agree, since the frames are there
+    assert not any("packet_count" in line for line in lines if line.startswith("    body"))
+
+
+# ---- what captures do to packets
+
+
+@pytest.mark.parametrize("seed", range(5))
+def test_segments_that_come_twice_or_late(tmp_path, seed):
+    luck = random.Random(seed)
+    head, found = records(CAPTURES / "ofctl.pcap")
+    made = [it for one in found for it in [one] * luck.choice([1, 1, 2])]
+    for at in range(len(made) - 1):
+        # a connection begins before it goes on, and ends after that
+        if luck.random() < 0.4 and not (flags(made[at]) | flags(made[at + 1])) & 7:
+            made[at], made[at + 1] = made[at + 1], made[at]
+    done = ran("events", written(tmp_path, head, made))
+    assert done.stderr == ""
+    wanted = ran("events", CAPTURES / "ofctl.pcap").stdout.splitlines()
+    # at other times, since a late segment holds up those behind it
+    for words in (("connect", "lost", "c"), ("connect", "lost", "f")):
+        assert [it for it in done.stdout.splitlines() if it.split()[0] in words] == [it for it in wanted if it.split()[0] in words]
+
+
+@pytest.mark.parametrize("place", [9, 12, 13, -1])
+def test_a_segment_that_is_missing_is_said_with_its_place(tmp_path, place):
+    head, found = records(CAPTURES / "osken.pcap")
+    with_data = [place for place, it in enumerate(found) if has_data(it)]
+    gone = with_data[place]
+    done = ran("events", written(tmp_path, head, found[:gone] + found[gone + 1 :]))
+    said = re.fullmatch(r"127\.0\.0\.1:\d+ to 127\.0\.0\.1:6654: (\d+) bytes of \S+ are missing before packet (\d+); \d+ segments from there on are left out\n", done.stderr)
+    ip = found[gone][16 + 14 :]
+    assert int(said[1]) == struct.unpack_from("!H", ip, 2)[0] - 20 - (ip[32] >> 4) * 4
+    # the next packet, in which the other side acknowledges it
+    assert int(said[2]) == gone + 1
+    rows = done.stdout.splitlines()
+    whole = ran("events", CAPTURES / "osken.pcap").stdout.splitlines()
+    assert rows == whole[: len(rows)] and 5 < len(rows) < len(whole)
+
+
+def test_packets_that_were_cut_are_said(tmp_path):
+    head, found = records(CAPTURES / "osken.pcap")
+    made = [changed(it, it[16 : 16 + 96], len(it) - 16) for it in found]
+    done = ran("events", written(tmp_path, head, made))
+    assert "the capture has only a part of packet " in done.stderr
+    assert "bytes of" in done.stderr and "are missing before packet" in done.stderr
+
+
+def test_a_file_that_ends_too_early(tmp_path):
+    data = (CAPTURES / "osken.pcap").read_bytes()
+    path = tmp_path / "short.pcap"
+    path.write_bytes(data[:-7])
+    done = ran("events", path)
+    assert re.search(r"short\.pcap: ends inside packet \d+\n", done.stderr)
+    assert done.stdout.startswith("port add 4 ")
+
+
+def test_a_capture_that_begins_late(tmp_path):
+    head, found = records(CAPTURES / "osken.pcap")
+    done = ran("events", written(tmp_path, head, found[10:]))
+    assert "the capture does not have the HELLO of both sides; left out" in done.stderr
+    assert "no OpenFlow 1.3 connection" in done.stderr and done.stdout == ""
+
+
+def tagged(record):
+    data = record[16:]
+    return changed(record, data[:12] + bytes.fromhex("88a8000a81000005") + data[12:])
+
+
+def cooked(record):
+    data = record[16:]
+    return changed(record, bytes.fromhex("0000030400060000000000000000") + data[12:])
+
+
+def cooked_2(record):
+    data = record[16:]
+    return changed(record, data[12:14] + bytes.fromhex("000000000001030400060000000000000000") + data[14:])
+
+
+def raw(record):
+    return changed(record, record[16 + 14 :])
+
+
+@pytest.mark.parametrize("link, form", [(1, tagged), (113, cooked), (276, cooked_2), (101, raw)])
+def test_packets_of_other_links(tmp_path, link, form):
+    head, found = records(CAPTURES / "osken.pcap")
+    done = ran("events", written(tmp_path, of_link(head, link), map(form, found)))
+    assert done.stderr == "" and done.stdout == ran("events", CAPTURES / "osken.pcap").stdout
+
+
+def test_files_of_the_other_byte_order_and_of_nanoseconds(tmp_path):
+    head, found = records(CAPTURES / "osken.pcap")
+    turned = struct.pack(">IHHiIII", 0xA1B23C4D, *struct.unpack("<HHiIII", head[4:]))
+    made = []
+    for it in found:
+        seconds, micros, kept, size = struct.unpack_from("<4I", it)
+        made.append(struct.pack(">4I", seconds, micros * 1000, kept, size) + it[16:])
+    assert ran("events", written(tmp_path, turned, made)).stdout == ran("events", CAPTURES / "osken.pcap").stdout
+
+
+def test_pcapng_of_another_program(tmp_path):
+    if shutil.which("editcap") is None:
+        pytest.skip("there is no editcap")
+    for name in ("osken", "ofctl"):
+        path = tmp_path / f"{name}.pcapng"
+        subprocess.run(["editcap", "-F", "pcapng", CAPTURES / f"{name}.pcap", path], check=True)
+        assert path.read_bytes()[:4] == b"\x0a\x0d\x0d\x0a"
+        assert ran("events", path).stdout == ran("events", CAPTURES / f"{name}.pcap").stdout
+
+
+def test_streams_are_those_of_tshark():
+    if shutil.which("tshark") is None:
+        pytest.skip("there is no tshark")
+    for name in ("osken", "ofctl"):
+        for number, stream in enumerate(tcp.connections(pcap.packets(CAPTURES / f"{name}.pcap"))):
+            words = ["tshark", "-r", CAPTURES / f"{name}.pcap", "-q", "-z", f"follow,tcp,yaml,{number}"]
+            text = subprocess.run(words, capture_output=True, text=True, timeout=60).stdout
+            theirs = {0: b"", 1: b""}
+            for peer, data in re.findall(r"peer: (\d)\n    timestamp: [\d.]+\n    data: !!binary \|\n((?:      .*\n)+)", text):
+                theirs[int(peer)] += base64.b64decode("".join(data.split()))
+            assert {side: b"".join(it.data for it in stream.pieces if it.side == side) for side in (0, 1)} == theirs
+
+
+# ---- frames, and captures that are written
+
+
+def test_frames_as_rows():
+    rows = ran("frames", CAPTURES / "osken-p1-rx.pcap", "--port", 7).stdout.splitlines()
+    assert [row.split()[:2] for row in rows] == [["f", "7"], ["t", "823459000"], ["f", "7"]]
+    assert rows[0].split()[2].startswith("ffffffffffff0200000000010806")
+
+
+def test_a_run_as_a_capture(switch, tmp_path):
+    switch.port_add(1)
+    switch.port_add(2)
+    switch.connect()
+    stream = messages.HELLO + messages.flow(messages.output(2), in_port=1) + messages.echo(7)
+    switch.feed(stream[:30])
+    switch.at(1_500_000_007)
+    switch.feed(stream[30:])
+    switch.frame(1, FRAME)
+    path = tmp_path / "run.pcapng"
+    switch.pcap(path)
+    tag = bytes.fromhex("000c00086f70656e666c6f7700000000")
+    found = [(it.nanoseconds, it.link, it.data.removeprefix(tag)) for it in pcap.packets(path)]
+    hello, answer = bytes.fromhex("04000010000000000001000800000010"), messages.echo_reply(7)
+    late = 1_500_000_007
+    sent = [(0, 252, hello), (0, 252, messages.HELLO), (late, 252, stream[8:-8]), (late, 252, messages.echo(7)), (late, 252, answer)]
+    assert found == [*sent, (late, 1, FRAME), (late, 1, FRAME)]
+
+
+def test_tshark_reads_what_is_written(tmp_path):
+    if shutil.which("tshark") is None:
+        pytest.skip("there is no tshark")
+    events, path = tmp_path / "self.events", tmp_path / "self.pcapng"
+    events.write_text(ran("events", CAPTURES / "self.pcap").stdout)
+    ran("pcap", events, path)
+
+    def seen(path, *words):
+        done = subprocess.run(["tshark", "-r", path, "-d", "tcp.port==6653,openflow", *words], capture_output=True, text=True, timeout=60)
+        assert done.returncode == 0
+        return done.stdout
+
+    def told(path):
+        """The messages, and what tshark notes of them."""
+        fields = ["-T", "fields", *(word for it in ("type", "xid", "length") for word in ("-e", f"openflow_v4.{it}")), "-e", "_ws.expert.message"]
+        return re.sub(r"Connection [^\n\t]*|This frame [^\n\t]*", "", seen(path, "-Y", "openflow_v4", *fields)).splitlines()
+
+    def messages_of(lines):
+        # a packet may have several messages
+        return sorted(pair for it in lines for pair in zip(*(column.split(",") for column in it.split("\t")[:2])))
+
+    assert messages_of(told(path)) == messages_of(told(CAPTURES / "self.pcap"))
+    # an ERROR has the first 64 bytes of a message, and there is a mask that the standard does not have: of a recorded file it says the same
+    for note in ("Malformed", "Undecoded"):
+        assert [sum(note in it for it in told(one)) for one in (path, CAPTURES / "self.pcap")].count(3 if note == "Malformed" else 1) == 2
+    interfaces = set(seen(path, "-T", "fields", "-e", "frame.interface_name").split("\n"))
+    assert {"openflow"} <= interfaces
+
+
+def test_a_failure_leaves_a_capture(pytester, pytestconfig):
+    plugin = [] if pytestconfig.pluginmanager.has_plugin("ofswitch") else ["-p", "ofswitch.pytest_plugin"]
+    pytester.makepyfile("def test_that_fails(switch): switch.connect(); assert False")
+    result = pytester.runpytest("-p", "no:cacheprovider", "--ofswitch-pcap", *plugin)
+    result.stdout.fnmatch_lines(["*rows of switch 1,*", "*switch-1.pcapng", "ofswitch replay *switch-1.events"])
+    [line] = [it for it in result.outlines if it.endswith(".pcapng")]
+    assert len(list(pcap.packets(line))) == 1
+
+
+# ---- what is refused
+
+
+@pytest.mark.parametrize(
+    "words, status",
+    [
+        ([], 1),
+        (["events"], 1),
+        (["events", "missing.pcap"], 3),
+        (["events", __file__], 3),
+        (["events", CAPTURES / "osken.pcap", "--tcp-port", "x"], 1),
+        (["events", CAPTURES / "osken.pcap", "--in", "osken-p1-rx.pcap"], 1),
+        (["events", CAPTURES / "osken.pcap", "--in", "1=missing.pcap"], 3),
+        (["events", CAPTURES / "osken.pcap", "--tcp-port", "1"], 0),
+        (["frames", CAPTURES / "osken-p1-rx.pcap"], 1),
+        (["frames", CAPTURES / "osken-p1-rx.pcap", "--port", "-1"], 1),
+        (["compare", CAPTURES / "osken.pcap", "--program", "/nowhere/ofswitch"], 3),
+        (["pcap", __file__, "/nowhere/out.pcapng"], 2),
+        (["--help"], 0),
+        (["compare", "--help"], 0),
+    ],
+)
+def test_statuses(words, status):
+    assert "Traceback" not in ran(*words, status=status).stderr
