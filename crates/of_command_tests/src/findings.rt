@@ -161,7 +161,7 @@ apply
 set eth_src 0x020000000003
 ";
 
-const WANTED: [(&[u8], &str); 9] = [
+const WANTED: [(&[u8], &str); 11] = [
     (
         HIGHER,
         "flow 0 0 never: 0 1\nflow 0 1 wins\ntable 0 no table-miss entry\n",
