@@ -148,9 +148,9 @@ def test_quiet_waits_for_the_answer_to_what_the_test_plays(switch, bridge):
         answering.start()
         time.sleep(0.3)
         switch.frame(1, FRAME)
-        bridge.quiet(0.25)
+        bridge.quiet(1.0)
         assert bridge.sent(timeout=0) == Sent(2, FRAME)
-        assert bridge.idle() >= 0.25
+        assert bridge.idle() >= 1.0
         answering.join()
 
 

@@ -210,11 +210,11 @@ def test_one_application_over_three_switches(network, learning):
         network.until(lambda switch: "flow 0 0 " in switch.flows(), timeout=30)
         network.send("s1", 1, PING)
         hosts = {("s1", 2), ("s2", 1), ("s3", 1), ("s3", 3)}
-        assert {(it.switch, it.port) for it in network.settle()} == hosts
+        assert {(it.switch, it.port) for it in network.settle(1.0)} == hosts
         network.send("s3", 1, PONG)
-        assert network.settle() == [Arrived("s1", 1, PONG)]
+        assert network.settle(1.0) == [Arrived("s1", 1, PONG)]
         network.send("s1", 1, PING)
-        assert network.settle() == [Arrived("s3", 1, PING)]
+        assert network.settle(1.0) == [Arrived("s3", 1, PING)]
         # the flows have both ways now: no controller is waited for
         assert network.send("s3", 1, PONG) == [Arrived("s1", 1, PONG)]
         assert network.send("s1", 1, PING) == [Arrived("s3", 1, PING)]
@@ -230,7 +230,7 @@ def test_a_ring_by_way_of_an_application(network, learning):
         network.until(lambda switch: "flow 0 0 " in switch.flows(), timeout=30)
         network.send("s1", 1, b"\xff" * 6 + A + b"\x88\xb5who")
         with pytest.raises(Looped, match="goes round") as caught:
-            network.settle(timeout=60)
+            network.settle(1.0, timeout=60)
     assert len(caught.value.loop) == 3
 
 
@@ -247,7 +247,7 @@ def test_a_controller_of_its_own_for_each_switch(network):
         assert network.send("s1", 1, PING) == [Arrived("s2", 1, PING)]
         streams[0].sendall(messages.packet_out(PONG, messages.output(3)))
         bridges["s1"].sent()
-        assert network.settle() == [Arrived("s2", 1, PONG)]
+        assert network.settle(1.0) == [Arrived("s2", 1, PONG)]
         for stream in streams:
             stream.close()
 
