@@ -47,6 +47,11 @@ class _Port:
         letters = name.split(b"\0")[0].decode("ascii", "ignore")
         return cls(number, hw, "".join(it for it in letters if "!" <= it <= "~")[:15], not state & _LINK_DOWN)
 
+    @classmethod
+    def unknown(cls, number: int) -> _Port:
+        """A port of which only the number is known."""
+        return cls(number, bytes.fromhex(f"02{number:010x}"), "", True)
+
     def added(self) -> str:
         return rows.port_add(self.number, self.hw, self.name or None, self.up)
 
@@ -112,25 +117,42 @@ def moments(sessions: list[Session], inputs: list[PortFile], notes: Notes) -> li
 
 
 def _first_ports(sessions: list[Session]) -> list[_Port]:
-    """The ports that the switch has at the beginning: those of its first PORT_DESC, but for what PORT_STATUS told before that."""
+    """The ports that the switch has at the beginning.
+
+    They are those of its first PORT_DESC, but for what PORT_STATUS told before that. If there is no PORT_DESC, they are those that
+    PORT_STATUS and PACKET_IN name.
+    """
     ports: dict[int, _Port] = {}
-    before: list[bytes] = []
+    statuses: list[bytes] = []
+    came: list[int] = []
+    is_described = False
     for it in (it for session in sessions for it in session.messages if it.is_of_switch):
         if it.data[1] == MessageType.PORT_STATUS and len(it.data) >= 80:
-            before.append(it.data)
+            statuses.append(it.data)
+        elif it.data[1] == MessageType.PACKET_IN:
+            came += [frame[0] for frame in [_frame_of(it.data)] if frame is not None]
         elif it.data[1] == MessageType.MULTIPART_REPLY and int.from_bytes(it.data[8:10], "big") == _PORT_DESC:
             for at in range(16, len(it.data) - _PORT_SIZE + 1, _PORT_SIZE):
                 port = _Port.of(it.data[at:])
                 ports[port.number] = port
             # OFPMPF_REPLY_MORE: the next reply has more
             if not it.data[11] & 1:
+                is_described = True
                 break
-    for data in reversed(before):
+    for data in reversed(statuses):
         port = _Port.of(data[16:])
         if data[8] == _ADD:
             ports.pop(port.number, None)
         elif data[8] == _DELETE:
             ports[port.number] = port
+        elif not is_described:
+            # a change of its link, as far as can be known
+            port.up = not port.up
+            ports[port.number] = port
+    added = {int.from_bytes(data[16:20], "big") for data in statuses if data[8] == _ADD}
+    for number in came if not is_described else []:
+        if number not in added:
+            ports.setdefault(number, _Port.unknown(number))
     return list(ports.values())
 
 
@@ -152,7 +174,7 @@ def _frame_of(data: bytes) -> tuple[int, bytes] | None:
 def _frame_rows(told: _Told, frame: tuple[int, bytes] | None) -> Iterator[str]:
     if frame is not None:
         number, data = frame
-        yield from told.add(_Port(number, bytes.fromhex(f"02{number:010x}"), "", True))
+        yield from told.add(_Port.unknown(number))
         yield rows.frame(number, data)
 
 
