@@ -370,7 +370,7 @@ def test_frames_as_rows():
 
 
 def test_a_run_as_a_capture(switch, tmp_path):
-    switch.port_add(1)
+    switch.port_add(1, name="s1-eth1")
     switch.port_add(2)
     switch.connect()
     stream = messages.HELLO + messages.flow(messages.output(2), in_port=1) + messages.echo(7)
@@ -386,6 +386,8 @@ def test_a_run_as_a_capture(switch, tmp_path):
     late = 1_500_000_007
     sent = [(0, 252, hello), (0, 252, messages.HELLO), (late, 252, stream[8:-8]), (late, 252, messages.echo(7)), (late, 252, answer)]
     assert found == [*sent, (late, 1, FRAME), (late, 1, FRAME)]
+    # an option of its interface
+    assert b"\x02\0\x07\0s1-eth1\0" in path.read_bytes() and b"\x02\0\x06\0port 2" in path.read_bytes()
 
 
 def test_tshark_reads_what_is_written(tmp_path):
