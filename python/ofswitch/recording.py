@@ -93,7 +93,7 @@ def moments(sessions: list[Session], inputs: list[PortFile], notes: Notes) -> li
     """All that happened, in order. Frames come from the captures of ports, or, if there are none, from whole PACKET_INs."""
     told = _Told()
     at = sessions[0].began if sessions else 0
-    numbers = [number for number, _ in inputs]
+    numbers = [number for number, _ in inputs] if sessions else []
     found = [Moment(at, row) for port in _first_ports(sessions, numbers) for row in told.add(port)]
     cut = 0
     for session in sessions:
