@@ -69,6 +69,11 @@ def over_the_pipe():
         begun = time.perf_counter()
         switch._renew()
         told(f"a new run of the program from its log: rows, of {switch.log.count(chr(10)):,}", 4 * ROWS, time.perf_counter() - begun)
+        many = [f"f 1 {FRAME.hex()}"] * 64
+        begun = time.perf_counter()
+        for _ in range(ROWS // 64):
+            switch.play_all(many)
+        told("frames of 60 bytes that leave, 64 rows in one write", ROWS // 64 * 64, time.perf_counter() - begun)
 
     def start_and_end():
         started(TO_PORT).close()

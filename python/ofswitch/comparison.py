@@ -198,7 +198,7 @@ def _differences(recorded: Any, specified: Any, path: str) -> Iterator[str]:
         for who, here, there in (("recorded", ones, others), ("specified", others, ones)):
             if alone := [key for key in here if key not in there]:
                 yield f"{path}: only the {who} switch has {short('; '.join(alone), _MOST_COLUMNS)}{_count(alone)}"
-    elif path == "data" and recorded.startswith(specified):
+    elif path == "data" and specified and str(recorded).startswith(str(specified)):
         yield f"data: recorded {len(recorded) // 2} bytes, specified the first {len(specified) // 2} of them"
     elif recorded != specified:
         yield f"{path}: recorded {short(words(recorded), _MOST_COLUMNS)}, specified {short(words(specified), _MOST_COLUMNS)}"

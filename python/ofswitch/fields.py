@@ -142,6 +142,8 @@ def summary(message: bytes, most: int = 60) -> str:
 
     Of each field at most so many letters.
     """
+    if len(message) < 8:
+        return message.hex()
     name = message_name(message)
     if len(message) >= 12 and message[1] == MessageType.ERROR:
         refused = message_name(message[12:]) if len(message) >= 20 else "a message"

@@ -172,6 +172,8 @@ class Network:
             hops = self._carry(hops)
             left = max((seconds - it.idle() for it in self._bridges.values()), default=0.0)
             if left <= 0 and not self._under_way:
+                with self._lock:
+                    self._came.clear()
                 return self._taken()
             if time.monotonic() > end:
                 raise TimeoutError(f"not quiet within {timeout:g} s")

@@ -31,7 +31,7 @@ class Packet(NamedTuple):
 
 
 class CaptureError(Exception):
-    """A file is no capture, or ends too early."""
+    """A file is no capture, or not from some place on."""
 
 
 def packets(path: StrPath) -> Iterator[Packet]:
@@ -70,7 +70,11 @@ class _Interface(NamedTuple):
     most: int
 
     def nanoseconds(self, ticks: int) -> int:
-        return ticks * _BILLION // self.ticks + self.offset * _BILLION
+        """Since 1970. ValueError if that is before it, or some centuries later."""
+        found = ticks * _BILLION // self.ticks + self.offset * _BILLION
+        if not 0 <= found < 1 << 63:
+            raise ValueError("a time that cannot be")
+        return found
 
 
 def _pcapng(path: StrPath, data: bytes) -> Iterator[Packet]:
@@ -84,11 +88,16 @@ def _pcapng(path: StrPath, data: bytes) -> Iterator[Packet]:
             raise CaptureError(f"{path}: ends inside a block, after packet {number}")
         body = data[at + 8 : at + size - 4]
         at += size
-        if kind == 1:
-            interfaces.append(_interface(body, order))
-        elif kind in (3, 6):
+        try:
+            if kind == 1:
+                interfaces.append(_interface(body, order))
+            elif kind in (3, 6):
+                found = _packet(body, order, kind, number + 1, interfaces)
+        except (struct.error, LookupError, ArithmeticError, ValueError):
+            raise CaptureError(f"{path}: a block after packet {number} has a form that cannot be") from None
+        if kind in (3, 6):
             number += 1
-            yield _packet(body, order, kind, number, interfaces)
+            yield found
 
 
 def _interface(body: bytes, order: str) -> _Interface:

@@ -78,7 +78,7 @@ def pytest_runtest_makereport(item: pytest.Item) -> Generator[None, Any, None]:
         path = item.stash[_folder] / f"switch-{re.sub(r'[^0-9A-Za-z_.-]', '_', name)}.events"
         path.write_text(switch.log, encoding="utf-8")
         account = _account(switch, path)
-        if item.config.getoption("--ofswitch-pcap"):
+        if item.config.getoption("--ofswitch-pcap", default=False):
             account = f"{_capture(switch, path.with_suffix('.pcapng'))}\n{account}"
         report.sections.append((f"ofswitch: the rows of switch {name}, and what each did", account))
 

@@ -13,7 +13,7 @@ from .pcap import ETHERNET
 from .program import StrPath
 from .sessions import Message, Notes, Session, kept_packets
 
-_PORT_DESC = 13
+_PORT_DESC = b"\0\x0d"
 _PORT_SIZE = 64
 _ADD, _DELETE = 0, 1
 # ofp_port_state (OpenFlow 1.3.5, 7.2.1)
@@ -47,6 +47,11 @@ class _Port:
         letters = name.split(b"\0")[0].decode("ascii", "ignore")
         return cls(number, hw, "".join(it for it in letters if "!" <= it <= "~")[:15], not state & _LINK_DOWN)
 
+    @classmethod
+    def unknown(cls, number: int) -> _Port:
+        """A port of which only the number is known."""
+        return cls(number, bytes.fromhex(f"02{number:010x}"), "", True)
+
     def added(self) -> str:
         return rows.port_add(self.number, self.hw, self.name or None, self.up)
 
@@ -60,10 +65,13 @@ class _Told:
     """Which ports the recorded switch has, as far as it has told."""
 
     ups: dict[int, bool] = field(default_factory=dict)
+    # those that it had at some time
+    seen: set[int] = field(default_factory=set)
 
     def add(self, port: _Port) -> Iterator[str]:
         if port.is_physical and port.number not in self.ups:
             self.ups[port.number] = port.up
+            self.seen.add(port.number)
             yield port.added()
 
     def rows_of_status(self, data: bytes) -> Iterator[str]:
@@ -85,7 +93,8 @@ def moments(sessions: list[Session], inputs: list[PortFile], notes: Notes) -> li
     """All that happened, in order. Frames come from the captures of ports, or, if there are none, from whole PACKET_INs."""
     told = _Told()
     at = sessions[0].began if sessions else 0
-    found = [Moment(at, row) for port in _first_ports(sessions) for row in told.add(port)]
+    numbers = [number for number, _ in inputs] if sessions else []
+    found = [Moment(at, row) for port in _first_ports(sessions, numbers) for row in told.add(port)]
     cut = 0
     for session in sessions:
         found.append(Moment(session.began, rows.connect()))
@@ -106,31 +115,50 @@ def moments(sessions: list[Session], inputs: list[PortFile], notes: Notes) -> li
     if cut:
         notes.add(f"{cut} PACKET_INs do not have a whole frame of a port: give the frames by --in N=FILE")
     for number, path in inputs:
+        if sessions and number not in told.seen:
+            notes.add(f"port {number}: the switch tells of no such port, so no frame is received there")
         found += [Moment(nanoseconds, rows.frame(number, data)) for nanoseconds, data in frames(path, notes)]
     found.sort(key=lambda it: it.nanoseconds)
     return found
 
 
-def _first_ports(sessions: list[Session]) -> list[_Port]:
-    """The ports that the switch has at the beginning: those of its first PORT_DESC, but for what PORT_STATUS told before that."""
+def _first_ports(sessions: list[Session], numbers: list[int]) -> list[_Port]:
+    """The ports that the switch has at the beginning.
+
+    They are those of its first PORT_DESC, but for what PORT_STATUS told before that. If there is no PORT_DESC, they are those that
+    PORT_STATUS and PACKET_IN name, and those of these numbers.
+    """
     ports: dict[int, _Port] = {}
-    before: list[bytes] = []
+    statuses: list[bytes] = []
+    came = list(numbers)
+    is_described = False
     for it in (it for session in sessions for it in session.messages if it.is_of_switch):
         if it.data[1] == MessageType.PORT_STATUS and len(it.data) >= 80:
-            before.append(it.data)
-        elif it.data[1] == MessageType.MULTIPART_REPLY and int.from_bytes(it.data[8:10], "big") == _PORT_DESC:
+            statuses.append(it.data)
+        elif it.data[1] == MessageType.PACKET_IN:
+            came += [frame[0] for frame in [_frame_of(it.data)] if frame is not None]
+        elif it.data[1] == MessageType.MULTIPART_REPLY and it.data[8:10] == _PORT_DESC and len(it.data) >= 16:
             for at in range(16, len(it.data) - _PORT_SIZE + 1, _PORT_SIZE):
                 port = _Port.of(it.data[at:])
                 ports[port.number] = port
             # OFPMPF_REPLY_MORE: the next reply has more
             if not it.data[11] & 1:
+                is_described = True
                 break
-    for data in reversed(before):
+    for data in reversed(statuses):
         port = _Port.of(data[16:])
         if data[8] == _ADD:
             ports.pop(port.number, None)
         elif data[8] == _DELETE:
             ports[port.number] = port
+        elif not is_described:
+            # a change of its link, as far as can be known
+            port.up = not port.up
+            ports[port.number] = port
+    added = {int.from_bytes(data[16:20], "big") for data in statuses if data[8] == _ADD}
+    for number in came if not is_described else []:
+        if number not in added:
+            ports.setdefault(number, _Port.unknown(number))
     return list(ports.values())
 
 
@@ -152,7 +180,7 @@ def _frame_of(data: bytes) -> tuple[int, bytes] | None:
 def _frame_rows(told: _Told, frame: tuple[int, bytes] | None) -> Iterator[str]:
     if frame is not None:
         number, data = frame
-        yield from told.add(_Port(number, bytes.fromhex(f"02{number:010x}"), "", True))
+        yield from told.add(_Port.unknown(number))
         yield rows.frame(number, data)
 
 

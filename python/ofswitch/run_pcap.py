@@ -3,7 +3,7 @@
 from __future__ import annotations
 
 import struct
-from collections.abc import Iterable
+from collections.abc import Iterable, Mapping
 
 from .effects import Answer, Effect, Sent
 from .pcap import WIRESHARK_UPPER_PDU, Writer
@@ -13,12 +13,14 @@ from .program import StrPath
 _OPENFLOW = struct.pack("!HH8sI", 12, 8, b"openflow", 0)
 
 
-def write_pcap(path: StrPath, run_of: Iterable[tuple[str, list[Effect]]]) -> None:
+def write_pcap(path: StrPath, run_of: Iterable[tuple[str, list[Effect]]], names: Mapping[int, str] | None = None) -> None:
     """Writes a run of rows with their effects as a pcapng file.
 
-    Each port is an interface, with the frames in both directions, and so is the connection of the controller, whose messages
-    Wireshark shows as OpenFlow. What the switch sends is outbound. Bytes that make no whole message are left out.
+    Each port is an interface, with the frames in both directions, which has the port's name in `names`, or else `port N`. So is
+    the connection of the controller, whose messages Wireshark shows as OpenFlow. What the switch sends is outbound. Bytes that
+    make no whole message are left out.
     """
+    known = names or {}
     with open(path, "wb") as file:
         writer = Writer(file)
         channel = writer.interface("openflow", WIRESHARK_UPPER_PDU)
@@ -27,7 +29,7 @@ def write_pcap(path: StrPath, run_of: Iterable[tuple[str, list[Effect]]]) -> Non
 
         def frame(port: int, data: bytes, is_outbound: bool) -> None:
             if port not in ports:
-                ports[port] = writer.interface(f"port {port}")
+                ports[port] = writer.interface(known.get(port, f"port {port}"))
             writer.packet(ports[port], now, data, is_outbound=is_outbound)
 
         for row, effects in run_of:

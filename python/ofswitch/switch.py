@@ -209,7 +209,7 @@ class Switch:
         return "".join(line.removeprefix("    ") for line in notes.splitlines(keepends=True))
 
     def pcap(self, path: StrPath) -> None:
-        """Writes all that happened as a pcapng file: an interface for each port, and one for the controller's messages.
+        """Writes all that happened as a pcapng file: an interface for each port, of its name, and one for the controller's messages.
 
         Frames and messages have the time of the `t` row before them. The program plays the log again.
         """
@@ -217,7 +217,7 @@ class Switch:
             log = self._log_bytes().decode()
         lines = log.split("\n")[:-1]
         with Switch(self._program, dpid=self._dpid, log=False, timeout=self._timeout) as again:
-            write_pcap(path, zip(lines, again.play_all(lines)))
+            write_pcap(path, zip(lines, again.play_all(lines)), self._port_names)
 
     @property
     def pid(self) -> int:

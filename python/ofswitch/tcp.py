@@ -2,6 +2,7 @@
 
 from __future__ import annotations
 
+import heapq
 import ipaddress
 import struct
 from collections.abc import Iterable
@@ -52,6 +53,59 @@ class Piece(NamedTuple):
     data: bytes
 
 
+class _Early(NamedTuple):
+    """A segment that waits for bytes before it: the place of its first byte, the packet, and its bytes."""
+
+    place: int
+    number: int
+    data: bytes
+
+
+class _Stream:
+    """The bytes of one side. Places count its bytes from 0."""
+
+    def __init__(self) -> None:
+        # the place and the sequence number of the next byte; no number before the first segment
+        self.place = 0
+        self.sequence: int | None = None
+        # a heap
+        self.early: list[_Early] = []
+        # the packets in which the other side acknowledges bytes, and up to which place
+        self.acknowledged: list[tuple[int, int]] = []
+        self.is_ended = False
+
+    def begin(self, sequence: int) -> None:
+        if self.place == 0:
+            self.sequence = sequence & _MASK
+
+    def place_of(self, sequence: int) -> int:
+        """The place of a sequence number, which is taken for one near the next byte."""
+        if self.sequence is None:
+            self.sequence = sequence
+        ahead = (sequence - self.sequence) & _MASK
+        return self.place + (ahead if ahead < _HALF else ahead - _MASK - 1)
+
+    def add(self, number: int, sequence: int, data: bytes) -> list[bytes]:
+        """Adds a segment, and returns what can be taken now, in order."""
+        heapq.heappush(self.early, _Early(self.place_of(sequence), number, data))
+        taken = []
+        while self.early and self.early[0].place <= self.place:
+            first = heapq.heappop(self.early)
+            if new := first.data[self.place - first.place :]:
+                assert self.sequence is not None
+                self.place += len(new)
+                self.sequence = (self.sequence + len(new)) & _MASK
+                taken.append(new)
+        return taken
+
+    def gap(self) -> tuple[int, int] | None:
+        """The packet by which bytes must have come that the capture has not, and how many; None if it has all."""
+        found = [(it.number, it.place - self.place) for it in self.early]
+        # the end of a side counts as a byte
+        found += [(number, place - self.place) for number, place in self.acknowledged if place > self.place + self.is_ended]
+        return min(found, default=None)
+
+
 class Connection:
     """A TCP connection. Bytes that come twice count once, and bytes that come early wait for those before them."""
 
@@ -61,12 +115,7 @@ class Connection:
         self.ended: int | None = None
         # the packets of which the capture kept a part
         self.cut: list[int] = []
-        # of each side: the next byte, and the segments that begin behind it, with their packets
-        self._next: list[int | None] = [None, None]
-        self._early: list[dict[int, tuple[Packet, bytes]]] = [{}, {}]
-        # of each side: the packets in which the other one acknowledges its bytes, up to which one; and whether it has ended
-        self._acknowledged: list[list[tuple[int, int]]] = [[], []]
-        self._is_ended = [False, False]
+        self._streams = (_Stream(), _Stream())
 
     @property
     def name(self) -> str:
@@ -74,60 +123,28 @@ class Connection:
 
     def add(self, packet: Packet, segment: Segment) -> None:
         side = self.sides.index(segment.source)
+        stream, other = self._streams[side], self._streams[1 - side]
         if packet.is_cut:
             self.cut.append(packet.number)
-        if segment.flags & ACK:
-            self._acknowledged[1 - side].append((packet.number, segment.acknowledged))
+        if segment.flags & ACK and other.sequence is not None:
+            other.acknowledged.append((packet.number, other.place_of(segment.acknowledged)))
         if segment.flags & SYN:
-            self._next[side] = (segment.sequence + 1) & _MASK
-            return
-        if self._next[side] is None:
-            self._next[side] = segment.sequence
-        old = self._early[side].get(segment.sequence)
-        if segment.data and (old is None or len(old[1]) < len(segment.data)):
-            self._early[side][segment.sequence] = (packet, segment.data)
-        while self._take(packet, side):
-            pass
+            stream.begin(segment.sequence + 1)
+        elif segment.data:
+            taken = stream.add(packet.number, segment.sequence, segment.data)
+            self.pieces += [Piece(packet.nanoseconds, packet.number, side, it) for it in taken]
         if segment.flags & (FIN | RST):
             self.ended = self.ended or packet.nanoseconds
-            self._is_ended[side] = True
-
-    def _take(self, packet: Packet, side: int) -> bool:
-        """Takes a segment that begins at the next byte, or before it; returns whether there was one."""
-        place = self._next[side]
-        assert place is not None
-        for sequence, (_, data) in list(self._early[side].items()):
-            known = (place - sequence) & _MASK
-            if known >= _HALF:
-                continue
-            del self._early[side][sequence]
-            if new := data[known:]:
-                self._next[side] = (place + len(new)) & _MASK
-                self.pieces.append(Piece(packet.nanoseconds, packet.number, side, new))
-                return True
-        return False
-
-    def _gap(self, side: int) -> tuple[int, int, int] | None:
-        """The packet by which bytes of a side must have come that the capture has not, the side, and how many; None if it has all."""
-        place = self._next[side]
-        if place is None:
-            return None
-        found = [(packet.number, side, (sequence - place) & _MASK) for sequence, (packet, _) in self._early[side].items()]
-        # the end of a side counts as a byte
-        last = place + self._is_ended[side]
-        for number, acknowledged in self._acknowledged[side]:
-            if 0 < (acknowledged - last) & _MASK < _HALF:
-                found.append((number, side, (acknowledged - place) & _MASK))
-        return min(found, default=None)
+            stream.is_ended = True
 
     def end_at_gap(self) -> str | None:
         """Drops what came after bytes that are missing, on both sides, and says where they are missing; None if none are."""
-        gap = min((it for it in map(self._gap, (0, 1)) if it is not None), default=None)
-        if gap is None:
+        gaps = [(*gap, side) for side, stream in enumerate(self._streams) if (gap := stream.gap()) is not None]
+        if not gaps:
             return None
-        number, side, count = gap
+        number, count, side = min(gaps)
         kept = [it for it in self.pieces if it.number < number]
-        left = len(self.pieces) - len(kept) + sum(map(len, self._early))
+        left = len(self.pieces) - len(kept) + sum(len(it.early) for it in self._streams)
         self.pieces = kept
         self.ended = None
         return f"{self.name}: {count} bytes of {self.sides[side]} are missing before packet {number}; {left} segments from there on are left out"

@@ -262,6 +262,104 @@ def test_streams_are_those_of_tshark():
             assert {side: b"".join(it.data for it in stream.pieces if it.side == side) for side in (0, 1)} == theirs
 
 
+# ---- connections that were made up
+
+
+def segments(talk, ports=(40_000, 6653), six=False):
+    """The packets of a connection: pairs of a side (0 connects) and bytes, and at the end both sides end it."""
+    address = (bytes(15) + b"\1" if six else bytes([10, 0, 0, 1])), (bytes(15) + b"\2" if six else bytes([10, 0, 0, 2]))
+    places = [1000, 0xFFFFFFF0]
+    for side, data, bits in [(0, b"", 2), (1, b"", 18), *((side, data, 24) for side, data in talk), (0, b"", 17), (1, b"", 17)]:
+        other = 1 - side
+        ack = places[other] if bits & 16 else 0
+        tcp_head = struct.pack("!HHIIBBHHH", ports[side], ports[other], places[side], ack, 0x50, bits, 1000, 0, 0)
+        places[side] = (places[side] + len(data) + bool(bits & 3)) & 0xFFFFFFFF
+        if six:
+            ip = struct.pack("!IHBB", 0x60000000, 20 + len(data), 6, 64) + address[side] + address[other]
+        else:
+            ip = struct.pack("!BBHIBBH", 0x45, 0, 40 + len(data), 0, 64, 6, 0) + address[side] + address[other]
+        yield bytes(12) + (b"\x86\xdd" if six else b"\x08\x00") + ip + tcp_head + data
+
+
+def recorded(tmp_path, *packets):
+    """A pcap file of these packets, a millisecond after each other."""
+    head = struct.pack("<IHHiIII", 0xA1B2C3D4, 2, 4, 0, 0, 65535, 1)
+    return written(tmp_path, head, [struct.pack("<4I", 1, 1000 * n, len(it), len(it)) + it for n, it in enumerate(packets)])
+
+
+def features_reply(xid, datapath):
+    return messages.header(6, xid, struct.pack("!QIBB2xII", datapath, 256, 16, 0, 15, 0))
+
+
+def packet_in(port, frame):
+    match = struct.pack("!HHII4x", 1, 12, 0x80000004, port)
+    return messages.header(10, 0, struct.pack("!IHBBQ", messages.NO_BUFFER, len(frame), 1, 0, 0) + match + bytes(2) + frame)
+
+
+HELLOS = [(0, messages.HELLO), (1, bytes.fromhex("04000010000000000001000800000010"))]
+
+
+@pytest.mark.parametrize("six", [False, True])
+def test_a_connection_without_a_list_of_ports(tmp_path, six):
+    flow = messages.flow(messages.output(0xFFFFFFFD), in_port=3)
+    talk = [*HELLOS, (0, flow[:50]), (0, flow[50:] + messages.features_request(7)[:3]), (0, messages.features_request(7)[3:])]
+    talk += [(1, features_reply(7, 0x2A)), (1, packet_in(3, FRAME)), (1, messages.echo(5)), (0, messages.echo_reply(5))]
+    path = recorded(tmp_path, *segments(talk, six=six))
+    rows = [it for it in ran("events", path).stdout.splitlines() if not it.startswith("t ")]
+    said = [messages.HELLO, flow, messages.features_request(7)]
+    assert rows == [
+        "# a switch of datapath_id 0x2a: replay it with --dpid 0x2a",
+        "port add 3 020000000003 p3 up",
+        "connect",
+        *(f"c {it.hex()}" for it in said),
+        f"f 3 {FRAME.hex()}",
+        f"c {messages.echo_reply(5).hex()}",
+        "lost",
+    ]
+    assert ran("compare", path).stdout == "4 alike, 0 with differences\n"
+
+
+def test_two_switches_at_one_controller(tmp_path):
+    """The switches connect to the controller."""
+    hellos = [(1 - side, data) for side, data in HELLOS]
+    one, other = ([*hellos, (1, messages.features_request(1)), (0, features_reply(1, number))] for number in (1, 2))
+    packets = [*segments(one, ports=(40_001, 6653)), *segments(other, ports=(40_002, 6653))]
+    path = recorded(tmp_path, *packets)
+    done = ran("events", path)
+    assert "10.0.0.1:40002 to 10.0.0.2:6653: of datapath_id 0x2; left out" in done.stderr
+    assert done.stdout.count("connect") == 1
+    assert ran("events", path, "--dpid", 2).stdout.startswith("# a switch of datapath_id 0x2")
+    assert ran("events", path, "--tcp-port", "40002").stdout.startswith("# a switch of datapath_id 0x2")
+
+
+def test_what_is_no_session_is_said(tmp_path):
+    old = bytes.fromhex("0100000800000001")
+    versions = [(0, old), (1, old), (0, bytes.fromhex("0105000800000002"))]
+    silent = [*HELLOS, (0, messages.echo(1)), (1, messages.echo_reply(1))]
+    path = recorded(tmp_path, *segments(versions, ports=(1, 2)), *segments([(0, b"GET /")], ports=(3, 4)), *segments(silent, ports=(5, 6)))
+    said = ran("events", path).stderr
+    assert "10.0.0.1:1 to 10.0.0.2:2: messages of version 1, and not of OpenFlow 1.3 (version 4); left out" in said
+    assert "10.0.0.1:3 to 10.0.0.2:4: the capture does not have the HELLO of both sides; left out" in said
+    assert "10.0.0.1:5 to 10.0.0.2:6: nothing shows which side is the switch; left out" in said
+
+
+def test_the_order_of_answers_makes_no_difference(tmp_path):
+    """A frame that comes in before an echo is answered, whose PACKET_IN the recorded switch sends after the reply."""
+    flow = messages.flow(messages.output(0xFFFFFFFD))
+    talk = [*HELLOS, (0, flow), (0, messages.echo(9) + messages.echo(8)), (1, messages.echo_reply(8) + messages.echo_reply(9)), (1, packet_in(1, FRAME))]
+    assert ran("compare", recorded(tmp_path, *segments(talk))).stdout == "5 alike, 0 with differences\n"
+
+
+def test_a_wrong_field_is_named(tmp_path):
+    talk = [*HELLOS, (0, messages.features_request(7)), (1, features_reply(7, 1)[:16] + bytes([0, 0, 0, 5]) + features_reply(7, 1)[20:])]
+    lines = ran("compare", recorded(tmp_path, *segments(talk)), status=4).stdout.splitlines()
+    assert lines == [
+        "connection 1, xid 7 FEATURES_REQUEST (packet 5)",
+        "    n_buffers: recorded 5, specified 256",
+        "1 alike, 1 with differences",
+    ]
+
+
 # ---- frames, and captures that are written
 
 
@@ -272,7 +370,7 @@ def test_frames_as_rows():
 
 
 def test_a_run_as_a_capture(switch, tmp_path):
-    switch.port_add(1)
+    switch.port_add(1, name="s1-eth1")
     switch.port_add(2)
     switch.connect()
     stream = messages.HELLO + messages.flow(messages.output(2), in_port=1) + messages.echo(7)
@@ -288,6 +386,8 @@ def test_a_run_as_a_capture(switch, tmp_path):
     late = 1_500_000_007
     sent = [(0, 252, hello), (0, 252, messages.HELLO), (late, 252, stream[8:-8]), (late, 252, messages.echo(7)), (late, 252, answer)]
     assert found == [*sent, (late, 1, FRAME), (late, 1, FRAME)]
+    # an option of its interface
+    assert b"\x02\0\x07\0s1-eth1\0" in path.read_bytes() and b"\x02\0\x06\0port 2" in path.read_bytes()
 
 
 def test_tshark_reads_what_is_written(tmp_path):
