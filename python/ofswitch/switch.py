@@ -169,7 +169,7 @@ class Switch:
             return self._log_bytes().decode()
 
     def check(self) -> str:
-        """Which of its flows never win, and what else can hardly be meant, a line each (docs/CHECK.md)."""
+        """Which of its flows never win, and other likely mistakes, a line each (docs/CHECK.md)."""
         return self._ask(["check", "--events", "-"], b"", good=(0, _FOUND))
 
     def steps(self, port: int, frame: Octets, *, explain: bool = False) -> str:
