@@ -127,6 +127,28 @@ each connection and its end.
 
 A turn is an accept, or one read of at most 65,536 bytes that waits at most 10 ms.";
 
+const LIVE: &str =
+    "The switch forwards the frames of a network. Port N is VXLAN network N (RFC 7348): what comes in a datagram of that network is
+received at port N, and what leaves by port N is sent to the peer of that network. A peer is the address that the network's last
+datagram came from, or the one that `--peer` sets. Linux, Open vSwitch and containers have VXLAN interfaces, so the switch needs
+no network interface of its own, and no privileges.
+
+  ofswitch live --ports 2                                     ports 1 and 2, at UDP port 4789; a controller connects to 127.0.0.1:6653
+  ofswitch live --ports 2 --connect 10.0.0.1:6653             the switch connects to a controller
+  ofswitch live --ports 4 --peer 1=10.0.0.7 --log run.events  port 1 is at 10.0.0.7; everything that happens is logged
+  ip link add vx1 type vxlan id 1 remote SWITCH dstport 4789  a host's interface at port 1 (then: ip link set vx1 up)
+
+Without a controller the switch goes on forwarding, and flows expire by the clock. One controller is served at a time: another one
+that connects meanwhile is closed at once. A controller that takes none of its answers for 10 seconds is closed.
+
+The event file has the rows of `replay`, except `connect`, `lost` and `c`; its rows happen as soon as the time of each `t` row
+before them has come, in nanoseconds since the start.
+
+The log is an event file of all that happens, and a row is written before anything goes out for it. So `replay LOG` prints
+what the switch sent, `dis LOG` its flow tables, and `trace --events LOG` and `check --events LOG` say why.
+
+A turn is one thing that comes: the time, a datagram, or bytes of the controller.";
+
 const VERSION: &str = "0.1.0";
 
 // The group of the arguments of which there has to be exactly one.
@@ -149,7 +171,9 @@ enum Kind {
     Alternative(&'static str, &'static str),
     // Behind this option, where it is there; the help calls the value so.
     Optional(&'static str, &'static str),
-    // The same, for an option that the named argument excludes.
+    // Behind this option, as often as it is there; the help calls the value so.
+    Repeated(&'static str, &'static str),
+    // As an optional one, for an option that the named argument excludes.
     Excluded(&'static str, &'static str, &'static str),
     // An option without a value.
     Flag(&'static str),
@@ -287,6 +311,59 @@ const SERVE: [Argument; 6] = [
     },
 ];
 
+const LIVE_ARGUMENTS: [Argument; 10] = [
+    Argument {
+        name: "vxlan",
+        kind: Kind::Optional("vxlan", "ADDR[:PORT]"),
+        help: "Where datagrams are received (by default 0.0.0.0:4789)",
+    },
+    Argument {
+        name: "listen",
+        kind: Kind::Optional("listen", "ADDR"),
+        help: "Where to wait for a controller, as 127.0.0.1:6653 (the default) or [::]:6653",
+    },
+    Argument {
+        name: "connect",
+        kind: Kind::Excluded("connect", "ADDR", "listen"),
+        help: "The controller to connect to, as 10.0.0.1:6653",
+    },
+    Argument {
+        name: "ports",
+        kind: Kind::Optional("ports", "N"),
+        help: "Adds the ports 1 to N, whose links are up (by default 0)",
+    },
+    Argument {
+        name: "FILE",
+        kind: Kind::Optional("events", "FILE"),
+        help: "An event file with ports and frames",
+    },
+    Argument {
+        name: "peer",
+        kind: Kind::Repeated("peer", "N=ADDR[:PORT]"),
+        help: "Where the frames of port N go, and come from (by default where its last datagram came from)",
+    },
+    Argument {
+        name: "log",
+        kind: Kind::Optional("log", "FILE"),
+        help: "Writes all that happens to this event file",
+    },
+    Argument {
+        name: "turns",
+        kind: Kind::Optional("turns", "N"),
+        help: "Ends after N turns (by default never)",
+    },
+    Argument {
+        name: "dpid",
+        kind: Kind::Optional("dpid", "N"),
+        help: "The datapath_id, decimal or 0x and hexadecimal digits (by default 1)",
+    },
+    Argument {
+        name: "quiet",
+        kind: Kind::Flag("quiet"),
+        help: "Does not report connections on standard error",
+    },
+];
+
 // A subcommand: its name, its help before and after the arguments, and its arguments.
 struct Subcommand {
     name: &'static str,
@@ -295,7 +372,7 @@ struct Subcommand {
     arguments: &'static [Argument],
 }
 
-const SUBCOMMANDS: [Subcommand; 7] = [
+const SUBCOMMANDS: [Subcommand; 8] = [
     Subcommand {
         name: "replay",
         about: "Runs an event file on a new switch and prints what it gives",
@@ -337,6 +414,12 @@ const SUBCOMMANDS: [Subcommand; 7] = [
         about: "Serves OpenFlow 1.3 controllers over TCP",
         text: SERVING,
         arguments: &SERVE,
+    },
+    Subcommand {
+        name: "live",
+        about: "Forwards the frames of a network, in VXLAN datagrams",
+        text: LIVE,
+        arguments: &LIVE_ARGUMENTS,
     },
 ];
 
@@ -382,6 +465,10 @@ fn argument_of<'a>(alloc: Global, argument: &Argument) -> Result<Arg<'a>, AllocE
         Kind::Alternative(option, value) | Kind::Optional(option, value) => Ok(
             named.long(option).value_name(value),
         ),
+        Kind::Repeated(option, value) => Ok(named
+            .long(option)
+            .value_name(value)
+            .action(ArgAction::Append)),
         Kind::Excluded(option, value, other) => {
             named.long(option).value_name(value).conflicts_with(other)
         },

@@ -11,14 +11,22 @@ use clap::error::{Error, ErrorKind};
 use command::command;
 use of_wire::limits::{OFPP_MAX, TABLES};
 use std::alloc::{AllocError, Global};
-use std::net::SocketAddr;
+use std::net::{IpAddr, SocketAddr};
 use std::str::FromStr;
 
 /// A switch that has the flows of a flow text has the ports 1 to this one.
 const LAST_PORT: u32 = 64;
 
+/// The highest number of a network (RFC 7348, 5).
+const LAST_NETWORK: u32 = 0xff_ffff;
+
 /// Where controllers find a switch (OpenFlow 1.3.5, 6.3.1).
 const DEFAULT_ADDRESS: &str = "127.0.0.1:6653";
+
+/// Where datagrams are received, and the port of VXLAN (RFC 7348, 5).
+const DEFAULT_TUNNEL: &str = "0.0.0.0:4789";
+
+const VXLAN_PORT: u16 = 4789;
 
 const DEFAULT_TURNS: u32 = 1_000_000;
 
@@ -62,6 +70,8 @@ pub enum Request {
     },
     /// To serve controllers.
     Serve(Serve),
+    /// To forward the frames of a network.
+    Live(Live),
 }
 
 /// Which frame is traced, and how.
@@ -111,6 +121,33 @@ pub struct Serve {
     pub quiet: bool,
 }
 
+/// How the frames of a network are forwarded.
+#[derive(Debug, PartialEq, Eq, Drop)]
+pub struct Live {
+    /// Where datagrams are received.
+    pub tunnel: SocketAddr,
+    pub meeting: Meeting,
+    /// The switch has the ports 1 to this one, at most 64, and those of the event file.
+    pub ports: u32,
+    /// An event file with ports and frames; `-` is standard input.
+    pub events: Option<String>,
+    pub peers: Vec<PortPeer>,
+    /// Where all that happens is written.
+    pub log: Option<String>,
+    pub turns: u64,
+    /// The datapath_id.
+    pub dpid: u64,
+    /// Whether nothing is said of connections.
+    pub quiet: bool,
+}
+
+/// Where the frames of a port go.
+#[derive(Clone, Copy, Debug, PartialEq, Eq)]
+pub struct PortPeer {
+    pub port: u32,
+    pub address: SocketAddr,
+}
+
 /// How a switch and its controller come together.
 #[derive(Clone, Copy, Debug, PartialEq, Eq)]
 pub enum Meeting {
@@ -157,6 +194,7 @@ fn request_of(alloc: Global, matches: &ArgMatches<'_>) -> Result<Request, NoRequ
     };
     match name {
         "serve" => Ok(Request::Serve(serve_of(alloc, matches)?)),
+        "live" => Ok(Request::Live(live_of(alloc, matches)?)),
         "trace" => Ok(Request::Trace(trace_of(alloc, matches)?)),
         "check" => check_of(alloc, matches),
         _ => file_request_of(alloc, name, matches),
@@ -292,25 +330,111 @@ fn asked_in(word: &str) -> Option<Asked> {
     }
 }
 
-fn serve_of(alloc: Global, matches: &ArgMatches<'_>) -> Result<Serve, NoRequest> {
-    let meeting = match matches.get_str("connect") {
-        Some(word) => Meeting::Dial(address_of(alloc, word)?),
-        None => Meeting::Listen(address_of(
+fn meeting_of(alloc: Global, matches: &ArgMatches<'_>) -> Result<Meeting, NoRequest> {
+    match matches.get_str("connect") {
+        Some(word) => Ok(Meeting::Dial(address_of(alloc, word)?)),
+        None => Ok(Meeting::Listen(address_of(
             alloc,
             matches.get_str("listen").unwrap_or(DEFAULT_ADDRESS),
-        )?),
-    };
-    let events = match matches.get_str("FILE") {
-        Some(file) => Some(file.to_string(alloc)?),
-        None => None,
-    };
+        )?)),
+    }
+}
+
+// The text of an argument, if it is there.
+fn text_of(alloc: Global, word: Option<&str>) -> Result<Option<String>, AllocError> {
+    match word {
+        Some(word) => Ok(Some(word.to_string(alloc)?)),
+        None => Ok(None),
+    }
+}
+
+fn serve_of(alloc: Global, matches: &ArgMatches<'_>) -> Result<Serve, NoRequest> {
     Ok(Serve {
-        meeting,
-        events,
+        meeting: meeting_of(alloc, matches)?,
+        events: text_of(alloc, matches.get_str("FILE"))?,
         turns: turns_of(alloc, matches.get_str("turns"))?,
         dpid: dpid_of(alloc, matches.get_str("dpid"))?,
         quiet: matches.get_flag("quiet"),
     })
+}
+
+fn live_of(alloc: Global, matches: &ArgMatches<'_>) -> Result<Live, NoRequest> {
+    Ok(Live {
+        tunnel: tunnel_of(alloc, matches.get_str("vxlan").unwrap_or(DEFAULT_TUNNEL))?,
+        meeting: meeting_of(alloc, matches)?,
+        ports: ports_of(alloc, matches.get_str("ports"))?,
+        events: text_of(alloc, matches.get_str("FILE"))?,
+        peers: peers_of(alloc, matches.get_strs("peer").unwrap_or(&[]))?,
+        log: text_of(alloc, matches.get_str("log"))?,
+        turns: live_turns_of(alloc, matches.get_str("turns"))?,
+        dpid: dpid_of(alloc, matches.get_str("dpid"))?,
+        quiet: matches.get_flag("quiet"),
+    })
+}
+
+// An address with a port, or without one and then with that of VXLAN.
+fn tunnel_in(word: &str) -> Option<SocketAddr> {
+    match SocketAddr::from_str(word) {
+        Ok(address) => Some(address),
+        Err(_) => Some(SocketAddr::new(IpAddr::from_str(word).ok()?, VXLAN_PORT)),
+    }
+}
+
+fn tunnel_of(alloc: Global, word: &str) -> Result<SocketAddr, NoRequest> {
+    match tunnel_in(word) {
+        Some(address) => Ok(address),
+        None => Err(refused(
+            alloc,
+            "bad address\nan address is an IP address, and a port after it if that is not 4789, as 10.0.0.1 or [::1]:8472\n",
+        )?),
+    }
+}
+
+fn ports_of(alloc: Global, word: Option<&str>) -> Result<u32, NoRequest> {
+    match number_in(word.unwrap_or("0")) {
+        Some(ports) if ports <= LAST_PORT => Ok(ports),
+        _ => Err(refused(alloc, "bad ports: it is a number from 0 to 64\n")?),
+    }
+}
+
+// The numbers of ports are those of networks: 24 bits.
+fn peer_in(word: &str) -> Option<PortPeer> {
+    let (port, address) = word.split_once('=')?;
+    let port = number_in(port)?;
+    if port == 0 || port > LAST_NETWORK {
+        return None;
+    }
+    let address = tunnel_in(address)?;
+    Some(PortPeer { port, address })
+}
+
+fn peer_of(alloc: Global, word: &str) -> Result<PortPeer, NoRequest> {
+    match peer_in(word) {
+        Some(peer) => Ok(peer),
+        None => Err(refused(
+            alloc,
+            "bad peer: it is a port and an address, as 1=10.0.0.7 or 1=10.0.0.7:4789\n",
+        )?),
+    }
+}
+
+fn peers_of(alloc: Global, words: &[&str]) -> Result<Vec<PortPeer>, NoRequest> {
+    let mut peers = Vec::with_capacity(alloc, words.len())?;
+    for word in words {
+        peers.push(peer_of(alloc, word)?)
+            .map_err(AllocError::from)?;
+    }
+    Ok(peers)
+}
+
+fn live_turns_of(alloc: Global, word: Option<&str>) -> Result<u64, NoRequest> {
+    let Some(word) = word else {
+        return Ok(u64::MAX);
+    };
+    match number_in(word) {
+        Some(turns) => Ok(u64::from(turns)),
+        None => Err(refused(alloc, "bad turns: it is a number of 32 bits\n")?),
+    }
 }
 
 fn address_of(alloc: Global, word: &str) -> Result<SocketAddr, NoRequest> {

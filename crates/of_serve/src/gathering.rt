@@ -44,8 +44,8 @@ fn push_answer(out: &mut Vec<u8>, effect: &Effect) -> Result<(), AllocError>
     }
 }
 
-// Appends the messages to the controller, all of them or nothing.
-fn push_answers(out: &mut Vec<u8>, effects: &[Effect]) -> Result<(), AllocError>
+/// Appends the messages to the controller, all of them or nothing.
+pub fn push_answers(out: &mut Vec<u8>, effects: &[Effect]) -> Result<(), AllocError>
     ensures ok { OnOk result (out.new.items ≡ out.old.items ++ flat_map answer_in effects.now) }
     ensures err { OnErr result (out.new.items ≡ out.old.items) }
 {
@@ -79,8 +79,8 @@ fn push_lines(alloc: Global, out: &mut Vec<u8>, effects: &[Effect]) -> Result<()
     Ok(())
 }
 
-// Whether this is a `t` row that the clock has not reached.
-fn waits(row: &Event, now: u64) -> bool
+/// Whether this is a `t` row that the clock has not reached.
+pub fn waits(row: &Event, now: u64) -> bool
     ensures { result ≡ has_to_wait now row.now }
 {
     match row {

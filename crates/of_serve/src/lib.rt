@@ -11,6 +11,8 @@ mod serving;
 mod turns;
 
 pub use event_rows::read_rows;
+pub use gathering::{push_answers, waits};
 pub use laws::connections_take_prefixes;
 pub use peers::{Accepted, Clock, Peers};
+pub use rows::Rows;
 pub use serving::{serve, serve_on};

@@ -1,0 +1,62 @@
+-- Events, one after the other.
+use Rattle.std.proofs.Common.{◌≡◌, ◌<◌, ◌+◌, ◌∙◌, ℕ, length, take, get_or, add-one, List, [], ◌∷◌, ◌++◌, Bool, true, false, Some, ap, refl, sym, append_assoc}
+use Rattle.std.specs.Prelude.{map}
+use Rattle.std.specs.List.{flat_map}
+use Rattle.std.proofs.lemmas.List.{append-nil, map-append}
+use Rattle.std.proofs.lemmas.List.Concat.{flat_map-append}
+use Rattle.std.proofs.Math.Seq.{take-suc}
+use Rattle.of_datapath.specs.declared.effect.Effect.{Effect}
+use Rattle.of_switch.specs.declared.event.Event.{Event}
+use Rattle.of_switch.specs.declared.event.Report.{Report as Reported}
+use Rattle.of_switch.specs.State.{State}
+use Rattle.of_switch.specs.Runs.{Report, Gives, IsRefused, Run, run, happened, effects_in, report_of, reports_of}
+use Rattle.of_serve.specs.Turns.{effects_of}
+use Rattle.of_laws.specs.RowText.{row_text}
+use Rattle.of_live.specs.Turns.{rows_text}
+use Rattle.of_live.specs.Working.{Does, Work, text_of}
+
+-- the run of events, and then of others
+pub run_then : (es fs : List Event) (s : State) → run (es ++ fs) s
+    ≡ record { reports = (run es s).reports ++ (run fs (run es s).state).reports; state = (run fs (run es s).state).state }
+run_then [] fs s = refl
+run_then (e ∷ es) fs s =
+    ap (λ (r : Run). record { reports = (happened e s).report ∷ r.reports; state = r.state }) (run_then es fs (happened e s).state)
+
+text_then : (keeps : Bool) (es fs : List Event) → text_of keeps (es ++ fs) ≡ text_of keeps es ++ text_of keeps fs
+text_then true es fs =
+    ap (flat_map (λ row. row_text row ++ 10 ∷ [])) (map-append Some es fs) ∙ flat_map-append (λ row. row_text row ++ 10 ∷ []) (map Some es) (map Some fs)
+text_then false es fs = refl
+
+pub does_none : (keeps : Bool) (s : State) (w : Work) → Does keeps [] s s w w
+does_none true s w = record { state_is = refl; reports_are = sym (append-nil w.reports); text_is = sym (append-nil w.text) }
+does_none false s w = record { state_is = refl; reports_are = sym (append-nil w.reports); text_is = sym (append-nil w.text) }
+
+pub does_more : (keeps : Bool) (es fs : List Event) (s t u : State) (w x y : Work)
+    → Does keeps es s t w x → Does keeps fs t u x y → Does keeps (es ++ fs) s u w y
+does_more keeps es fs s t u w x y d e =
+    let all = run_then es fs s in
+    let then_run : run fs t ≡ run fs (run es s).state = ap (run fs) d.state_is in
+    record {
+      state_is = e.state_is ∙ (ap (λ (r : Run). r.state) then_run ∙ ap (λ (r : Run). r.state) (sym all));
+      reports_are = e.reports_are
+          ∙ (ap (λ rs. rs ++ (run fs t).reports) d.reports_are
+          ∙ (append_assoc w.reports (run es s).reports (run fs t).reports
+          ∙ ap (λ rs. w.reports ++ rs) (ap (λ (r : Run). (run es s).reports ++ r.reports) then_run ∙ ap (λ (r : Run). r.reports) (sym all))));
+      text_is = e.text_is
+          ∙ (ap (λ bs. bs ++ text_of keeps fs) d.text_is
+          ∙ (append_assoc w.text (text_of keeps es) (text_of keeps fs) ∙ ap (λ bs. w.text ++ bs) (sym (text_then keeps es fs))));
+    }
+
+effects_then : (reports : List Report) (r : Report) → effects_in (reports ++ r ∷ []) ≡ effects_in reports ++ effects_of r
+effects_then [] (Gives effects) = append-nil effects
+effects_then [] (IsRefused refusal) = refl
+effects_then (Gives effects ∷ reports) r = ap (λ es. effects ++ es) (effects_then reports r) ∙ sym (append_assoc effects (effects_in reports) (effects_of r))
+effects_then (IsRefused refusal ∷ reports) r = effects_then reports r
+
+-- one more report
+pub given_more : (reports : List Reported) (i : ℕ) (report : Reported) → i < length reports → report ≡ get_or reports i report
+    → effects_in (reports_of (take (i + 1) reports)) ≡ effects_in (reports_of (take i reports)) ++ effects_of (report_of report)
+given_more reports i report lt is =
+    ap (λ n. effects_in (reports_of (take n reports))) (add-one i)
+    ∙ (ap (λ rs. effects_in (reports_of rs)) (take-suc reports i report lt ∙ ap (λ r. take i reports ++ r ∷ []) (sym is))
+    ∙ (ap effects_in (map-append report_of (take i reports) (report ∷ [])) ∙ effects_then (reports_of (take i reports)) (report_of report)))

@@ -1,0 +1,5 @@
+pub mod Live
+pub mod Inputs
+pub mod Turns
+pub mod Ends
+pub mod Working

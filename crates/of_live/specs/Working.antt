@@ -1,0 +1,102 @@
+-- Parts of a turn, for contracts inside this crate.
+use Rattle.std.specs.Prelude.{◌≡◌, ℕ, ◌≤◌, nat_lt, not, ◌&&◌, ◌||◌, length, drop, Bool, true, false, List, [], ◌∷◌, ◌++◌, Option, Result, Ok, Err, if◌then◌else◌}
+use Rattle.of_replay.specs.declared.halt.Halt.{Halt}
+use Rattle.of_replay.specs.declared.halt.Halt.TheVariants.{Bad, Memory, Read, Write}
+use Rattle.of_switch.specs.declared.event.Event.{Event}
+use Rattle.of_switch.specs.State.{State}
+use Rattle.of_switch.specs.Runs.{Report, run, effects_in}
+use Rattle.of_live.specs.declared.state.Asks.{Asks}
+use Rattle.of_live.specs.Live.{Live, Came, Fault, is_connected, begun, events_of, rows_after, peers_of, time_of}
+use Rattle.of_live.specs.Turns.{Act, Records, Told, Logs, Writes, Turn, IsTurn, acts, after, closes, drops, effects_of, has_connection, is_empty, is_ready, is_stuck, offered, ran, rows_text, waits}
+
+-- what events gave, and their rows
+pub record Work : Type 0 where
+  pub reports : List Report
+  pub text : List ℕ
+
+abbrev pub text_of : Bool → List Event → List ℕ
+text_of keeps events = if keeps then rows_text events else []
+
+-- events happened to the switch
+pub record Does (keeps : Bool) (events : List Event) (s s' : State) (w w' : Work) : Type 0 where
+  pub state_is : s' ≡ (run events s).state
+  pub reports_are : w'.reports ≡ w.reports ++ (run events s).reports
+  pub text_is : w'.text ≡ w.text ++ text_of keeps events
+
+-- what came is heard, and what it gives for the controller waits
+abbrev pub heard : Came → Live → Live
+heard came l = let b = begun came l in record {
+  state = (ran came l).state;
+  rows = rows_after came b;
+  peers = peers_of came b;
+  waiting = offered came l;
+  since = b.since;
+  time = time_of came b;
+  over = b.over;
+}
+
+-- what is known of the connection when what waits is offered to it
+abbrev pub asks_of : Came → Live → Asks
+asks_of came l = record { is_open = has_connection came l; is_ready = is_ready came; is_empty = is_empty (waits came l) }
+
+pub record Hears (came : Came) (keeps : Bool) (asks : Asks) (l l' : Live) (w' : Work) : Type 0 where
+  pub live_is : l' ≡ heard came l
+  pub asks_are : asks ≡ asks_of came l
+  pub reports_are : effects_in w'.reports ≡ effects_of came l
+  pub text_is : w'.text ≡ text_of keeps (events_of came l)
+
+-- OFFERING what waits
+abbrev pub offers : Asks → Live → Bool
+offers a l = a.is_open && not (is_empty l.waiting) && (a.is_empty || a.is_ready)
+
+abbrev pub offered_acts : Asks → ℕ → Bool → Live → List Act
+offered_acts a taken failed l = if offers a l then Writes l.waiting taken failed ∷ [] else []
+
+abbrev pub offered_to : Asks → ℕ → Live → Live
+offered_to a taken l = record l {
+  waiting = if offers a l then drop taken l.waiting else l.waiting;
+  since = if a.is_empty || (offers a l && nat_lt 0 taken) then l.time else l.since;
+}
+
+pub record Offers (a : Asks) (result : Bool) (l l' : Live) (old new : Option (List Act)) : Type 0 where
+  pub taken : ℕ
+  pub failed : Bool
+  pub fits : taken ≤ length l.waiting
+  pub result_is : result ≡ (offers a l && failed)
+  pub live_is : l' ≡ offered_to a taken l
+  pub told_is : Records old (offered_acts a taken failed l) new
+
+-- and closing the connection
+abbrev pub closing : Asks → Bool → Live → Bool
+closing a failed l = a.is_open && ((failed || is_stuck l.waiting l.since l.time) || not (is_connected l))
+
+abbrev pub closed : Asks → Bool → Live → Live
+closed a failed l = record l {
+  waiting = if a.is_open && not (closing a failed l) then l.waiting else [];
+  over = closing a failed l && is_connected l;
+}
+
+pub record Settles (a : Asks) (l l' : Live) (old new : Option (List Act)) : Type 0 where
+  pub taken : ℕ
+  pub failed : Bool
+  pub fits : taken ≤ length l.waiting
+  pub live_is : l' ≡ closed a (offers a l && failed) (offered_to a taken l)
+  pub told_is : Records old (offered_acts a taken failed l ++ closes (closing a (offers a l && failed) (offered_to a taken l))) new
+
+-- a turn, of which all went out
+pub record GoesOn (keeps : Bool) (l l' : Live) (old new : Option (List Act)) : Type 0 where
+  pub turn : Turn
+  pub is : IsTurn turn l
+  pub live_is : l' ≡ after turn l
+  pub told_is : Records old (acts keeps turn l) new
+
+-- or the run halts, and nothing of the turn goes out
+abbrev pub Halts : Halt → Bool → Live → Live → (old new : Option (List Act)) → Type 0
+Halts (Bad n) keeps l l' old new = ⊥
+Halts Memory keeps l l' old new = (came : Came) × (some : Bool) × (Records old (Told came ∷ (if some then drops came l else [])) new)
+Halts Read keeps l l' old new = (l' ≡ l) × (Records old (Told Fault ∷ []) new)
+Halts Write keeps l l' old new = (keeps ≡ true) × ((came : Came) × (Records old (Told came ∷ drops came l ++ Logs (rows_text (events_of came l)) false ∷ []) new))
+
+abbrev pub Goes : Result (Unit {0}) Halt → Bool → Live → Live → (old new : Option (List Act)) → Type 0
+Goes (Ok u) keeps l l' old new = GoesOn keeps l l' old new
+Goes (Err halt) keeps l l' old new = Halts halt keeps l l' old new

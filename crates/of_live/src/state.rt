@@ -1,0 +1,356 @@
+//! A switch on a network.
+ghost use Rattle.std.specs.Prelude.{◌≡◌, ◌++◌, ◌∷◌, [], OnOk, IfOk, IfErr, Ok, Err, length, ◌||◌, ◌&&◌, if◌then◌else◌, true, false, Bool, List, ℕ};
+ghost use Rattle.of_vxlan.specs.Header.{carried};
+ghost use Rattle.of_switch.specs.declared.event.Event.TheVariants.{Chunk, Moment};
+ghost use Rattle.of_switch.specs.Steps.{lost};
+ghost use Rattle.of_serve.specs.Turns.{due, left};
+ghost use Rattle.of_live.specs.Inputs.{IsInput, came_of};
+ghost use Rattle.of_live.specs.Live.{asked, events_in, frame_of, is_connected as connected, loss, peers_after, peers_of, received, rows_after, time_of};
+ghost use Rattle.of_live.specs.Turns.{Records, dropped_in, dropped_of, drops, is_stuck as stuck, may_write};
+ghost use Rattle.of_live.specs.Working.{Does, Goes, Hears, Offers, Settles, closing, offers, text_of};
+
+use crate::network::{Dropped, Input, Network, Place};
+use crate::peers::{Peer, learn, may_send, peer_of};
+use crate::work::{Work, happen, happen_due, happen_frame};
+use of_classifier::Lookup;
+use of_replay::Halt;
+use of_serve::Rows;
+use of_switch::{Event, Switch};
+use of_vxlan::read_datagram;
+use of_wire::{Bytes, front_of};
+use std::alloc::{AllocError, Global};
+use std::marker::Model;
+
+/// How many bytes may wait for a connection.
+const MOST_WAITING: usize = 16_777_216;
+
+/// How many nanoseconds a connection may take nothing, while bytes wait for it.
+const LONGEST_WAIT: u64 = 10_000_000_000;
+
+/// A switch on a network.
+#[derive(Drop)]
+pub struct Live<L: Lookup> {
+    switch: Switch<L>,
+    rows: Rows,
+    peers: Vec<Peer>,
+    waiting: Vec<u8>,
+    since: u64,
+    time: u64,
+    over: bool,
+    alloc: Global,
+}
+
+impl<L: Lookup> Model for Live<L> {
+    ghost use Rattle.of_live.specs.Live.{Live};
+
+    ghost Value = { Live };
+
+    ghost view = { λ l. record {
+      state = l.switch;
+      rows = l.rows;
+      peers = l.peers.items;
+      waiting = l.waiting.items;
+      since = l.since;
+      time = l.time;
+      over = l.over;
+    } };
+}
+
+impl<L: Lookup> Live<L> {
+    /// A switch with the rows of an event file, and the peers that are set.
+    pub fn new(alloc: Global, switch: Switch<L>, rows: Vec<Event>, peers: Vec<Peer>) -> Self
+        ensures { result ≡ record { state = switch; rows = rows.items; peers = peers.items; waiting = []; since = 0; time = 0; over = false } }
+    {
+        Live {
+            switch,
+            rows: Rows::new(rows),
+            peers,
+            waiting: Vec::new(alloc),
+            since: 0,
+            time: 0,
+            over: false,
+            alloc,
+        }
+    }
+
+    /// The switch.
+    pub fn switch(&self) -> &Switch<L>
+        ensures { result.now ≡ self.now.state }
+    {
+        &self.switch
+    }
+
+    // The loss of a connection that the switch closed, or in whose place another comes.
+    fn begin(&mut self, another: bool, keeps: bool, work: &mut Work) -> Result<(), AllocError>
+        ensures live { OnOk result (self.new ≡ (if self.old.over || (another && connected self.old)
+            then record self.old { state = lost self.old.state; waiting = []; over = false } else self.old)) }
+        ensures reports { OnOk result (work.new.reports ≡ work.old.reports) }
+        ensures text { OnOk result (work.new.text ≡ work.old.text ++ text_of keeps (loss (self.old.over || (another && connected self.old)))) }
+    {
+        if self.over || (another && self.switch.is_connected()) {
+            work.note_loss(keeps)?;
+            self.switch.lost();
+            self.waiting.clear();
+            self.over = false;
+        }
+        Ok(())
+    }
+
+    // Whether there is a connection that may be written to.
+    fn has_connection(&self, input: &Input) -> bool
+        ensures { (buffer : List ℕ) → result ≡ may_write (came_of input.now buffer) self.now }
+    {
+        match input {
+            Input::Opened => true,
+            Input::Ended => false,
+            _ => self.switch.is_connected(),
+        }
+    }
+
+    // The port and the frame of a datagram, or why it is dropped.
+    fn receive<'a>(&self, from: Place, datagram: &'a [u8]) -> Result<(u32, &'a [u8]), Dropped>
+        ensures ok { IfOk result (λ d. received self.now from (carried datagram.now) ≡ Ok (record { vni = d.0; frame = d.1.now })) }
+        ensures err { IfErr result (λ why. received self.now from (carried datagram.now) ≡ Err why) }
+    {
+        let Some((network, frame)) = read_datagram(datagram) else {
+            return Err(Dropped::NoNetwork);
+        };
+        if !self.switch.datapath().ports.contains(network) {
+            return Err(Dropped::NoSuchPort);
+        }
+        if !may_send(from, peer_of(network, &self.peers)) {
+            return Err(Dropped::OtherPeer);
+        }
+        Ok((network, frame))
+    }
+
+    // A datagram is a frame of a port, or it is dropped.
+    fn take_datagram<N: Network>(
+        &mut self,
+        from: Place,
+        datagram: &[u8],
+        network: &mut N,
+        keeps: bool,
+        work: &mut Work,
+    ) -> Result<(), AllocError>
+        ensures does { OnOk result (Does keeps (frame_of (received self.old from (carried datagram.now))) self.old.state self.new.state work.old work.new) }
+        ensures peers { OnOk result (self.new ≡ record self.old { state = self.new.state; peers = peers_after from (received self.old from (carried datagram.now)) self.old.peers }) }
+        ensures told { Records (N.told network.old) (dropped_in (received self.old from (carried datagram.now))) (N.told network.new) }
+        ensures keeps { N.keeps network.new ≡ N.keeps network.old }
+    {
+        match self.receive(from, datagram) {
+            Ok((port, frame)) => {
+                learn(&mut self.peers, port, from)?;
+                happen_frame(&mut self.switch, port, frame, keeps, work)
+            }
+            Err(why) => {
+                network.count(why);
+                Ok(())
+            }
+        }
+    }
+
+    // Bytes of the controller; without a connection they are lost.
+    fn take_bytes(&mut self, bytes: &[u8], keeps: bool, work: &mut Work) -> Result<(), AllocError>
+        ensures does { OnOk result (Does keeps (if connected self.old then Chunk bytes.now ∷ [] else []) self.old.state self.new.state work.old work.new) }
+        ensures live { OnOk result (self.new ≡ record self.old { state = self.new.state }) }
+    {
+        if !self.switch.is_connected() {
+            return Ok(());
+        }
+        let chunk = Event::Chunk(Bytes::from_slice(self.alloc, bytes)?);
+        happen(&mut self.switch, &chunk, keeps, work)
+    }
+
+    // The connection is over, if there is one.
+    fn take_end(&mut self, keeps: bool, work: &mut Work) -> Result<(), AllocError>
+        ensures does { OnOk result (Does keeps (loss (connected self.old)) self.old.state self.new.state work.old work.new) }
+        ensures live { OnOk result (self.new ≡ record self.old { state = self.new.state }) }
+    {
+        if !self.switch.is_connected() {
+            return Ok(());
+        }
+        happen(&mut self.switch, &Event::Lost, keeps, work)
+    }
+
+    // A row that somebody wrote while the switch runs.
+    fn take_row(&mut self, row: &Event, keeps: bool, work: &mut Work) -> Result<(), AllocError>
+        ensures does { OnOk result (Does keeps (asked row.now) self.old.state self.new.state work.old work.new) }
+        ensures live { OnOk result (self.new ≡ record self.old { state = self.new.state }) }
+    {
+        match row {
+            Event::Frame { .. } | Event::Ports(_) => happen(&mut self.switch, row, keeps, work),
+            _ => Ok(()),
+        }
+    }
+
+    // The clock, and the rows of the file that are due.
+    fn take_time(&mut self, now: u64, keeps: bool, work: &mut Work) -> Result<(), AllocError>
+        ensures does { OnOk result (Does keeps (Moment now ∷ due now self.old.rows) self.old.state self.new.state work.old work.new) }
+        ensures live { OnOk result (self.new ≡ record self.old { state = self.new.state; rows = left now self.old.rows; time = now }) }
+    {
+        self.time = now;
+        happen(&mut self.switch, &Event::Moment(now), keeps, work)?;
+        happen_due(&mut self.switch, &mut self.rows, now, keeps, work)
+    }
+
+    // The events of what came.
+    fn take<N: Network>(
+        &mut self,
+        input: &Input,
+        buffer: &[u8],
+        network: &mut N,
+        keeps: bool,
+        work: &mut Work,
+    ) -> Result<(), AllocError>
+        requires fits { IsInput input.now }
+        requires room { length buffer.now ≡ 65536 }
+        ensures does { OnOk result (Does keeps (events_in (came_of input.now buffer.now) self.old) self.old.state self.new.state work.old work.new) }
+        ensures live { OnOk result (self.new ≡ record self.old {
+          state = self.new.state;
+          rows = rows_after (came_of input.now buffer.now) self.old;
+          peers = peers_of (came_of input.now buffer.now) self.old;
+          time = time_of (came_of input.now buffer.now) self.old;
+        }) }
+        ensures told { Records (N.told network.old) (dropped_of (came_of input.now buffer.now) self.old) (N.told network.new) }
+        ensures keeps { N.keeps network.new ≡ N.keeps network.old }
+    {
+        match input {
+            Input::Time(now) => self.take_time(*now, keeps, work),
+            Input::Datagram { from, length } => {
+                self.take_datagram(*from, front_of(buffer, *length), network, keeps, work)
+            }
+            Input::Opened => happen(&mut self.switch, &Event::Connect, keeps, work),
+            Input::Heard(length) => self.take_bytes(front_of(buffer, *length), keeps, work),
+            Input::Ended => self.take_end(keeps, work),
+            Input::Row(row) => self.take_row(row, keeps, work),
+            Input::Ready | Input::Nothing | Input::Fault => Ok(()),
+        }
+    }
+
+    // What came is heard, and what it gives for the controller waits for its connection.
+    fn hear<N: Network>(
+        &mut self,
+        input: &Input,
+        buffer: &[u8],
+        network: &mut N,
+        keeps: bool,
+        work: &mut Work,
+    ) -> Result<Asks, AllocError>
+        requires fits { IsInput input.now }
+        requires room { length buffer.now ≡ 65536 }
+        requires empty { work.old ≡ record { reports = []; text = [] } }
+        ensures hears { IfOk result (λ asks. Hears (came_of input.now buffer.now) keeps asks self.old self.new work.new) }
+        ensures told { (some : Bool) × (Records (N.told network.old) (if some then drops (came_of input.now buffer.now) self.old else []) (N.told network.new)) × OnOk result (some ≡ true) }
+        ensures keeps { N.keeps network.new ≡ N.keeps network.old }
+    {
+        self.begin(matches!(input, Input::Opened), keeps, work)?;
+        let asks = Asks {
+            is_open: self.has_connection(input),
+            is_ready: matches!(input, Input::Ready),
+            is_empty: self.waiting.is_empty(),
+        };
+        self.take(input, buffer, network, keeps, work)?;
+        work.answers(&mut self.waiting)?;
+        Ok(asks)
+    }
+
+    // Whether what waits is offered to the connection.
+    fn is_offered(&self, asks: Asks) -> bool
+        ensures { result ≡ offers asks self.now }
+    {
+        asks.is_open && !self.waiting.is_empty() && (asks.is_empty || asks.is_ready)
+    }
+
+    // Offers what waits to the connection, and returns whether that failed.
+    fn offer<N: Network>(&mut self, asks: Asks, network: &mut N) -> bool
+        ensures offers { Offers asks result self.old self.new (N.told network.old) (N.told network.new) }
+        ensures keeps { N.keeps network.new ≡ N.keeps network.old }
+    {
+        if asks.is_empty {
+            self.since = self.time;
+        }
+        if !self.is_offered(asks) {
+            return false;
+        }
+        let written = network.write(&self.waiting);
+        if written.taken > 0 {
+            self.since = self.time;
+        }
+        let rest = self.waiting.len() - written.taken;
+        self.waiting.rotate_left(written.taken);
+        self.waiting.truncate(rest);
+        written.failed
+    }
+
+    // Whether so much waits, or so long, that the connection is given up.
+    fn is_stuck(&self) -> bool
+        ensures { result ≡ stuck self.now.waiting self.now.since self.now.time }
+    {
+        self.waiting.len() > MOST_WAITING
+            || !self.waiting.is_empty() && self.time.saturating_sub(self.since) >= LONGEST_WAIT
+    }
+
+    // Whether the connection is closed.
+    fn is_closed(&self, asks: Asks, failed: bool) -> bool
+        ensures { result ≡ closing asks failed self.now }
+    {
+        asks.is_open && (failed || self.is_stuck() || !self.switch.is_connected())
+    }
+
+    // Offers what waits to the connection, and closes it if that fails, if it is stuck, or if the switch closed it.
+    fn settle<N: Network>(&mut self, asks: Asks, network: &mut N)
+        ensures settles { Settles asks self.old self.new (N.told network.old) (N.told network.new) }
+        ensures keeps { N.keeps network.new ≡ N.keeps network.old }
+    {
+        let failed = self.offer(asks, network);
+        let closes = self.is_closed(asks, failed);
+        if closes {
+            network.close();
+        }
+        if closes || !asks.is_open {
+            self.waiting.clear();
+        }
+        self.over = closes && self.switch.is_connected();
+    }
+
+    /// A turn: something comes, its events happen, their rows go to the log, and what they give goes out.
+    pub fn turn<N: Network>(
+        &mut self,
+        network: &mut N,
+        buffer: &mut [u8],
+        work: &mut Work,
+    ) -> Result<(), Halt>
+        requires room { length buffer.old ≡ 65536 }
+        ensures goes { Goes result (N.keeps network.old) self.old self.new (N.told network.old) (N.told network.new) }
+        ensures keeps { N.keeps network.new ≡ N.keeps network.old }
+        ensures room { length buffer.new ≡ 65536 }
+    {
+        work.clear();
+        let input = network.next(buffer);
+        if let Input::Fault = input {
+            return Err(Halt::Read);
+        }
+        let keeps = network.is_logged();
+        let Ok(asks) = self.hear(&input, buffer, network, keeps, work) else {
+            return Err(Halt::Memory);
+        };
+        if !work.text().is_empty() && !network.log(work.text()) {
+            return Err(Halt::Write);
+        }
+        work.send(&self.peers, network);
+        self.settle(asks, network);
+        Ok(())
+    }
+}
+
+/// What is known of the connection when what waits is offered to it.
+#[derive(Clone, Copy, Debug, PartialEq, Eq)]
+pub struct Asks {
+    /// Whether there is one.
+    pub is_open: bool,
+    /// Whether it said that it takes bytes again.
+    pub is_ready: bool,
+    /// Whether nothing waited for it.
+    pub is_empty: bool,
+}

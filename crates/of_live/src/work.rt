@@ -1,0 +1,213 @@
+//! Events, what they give, and their rows.
+ghost use Rattle.std.specs.Prelude.{◌≡◌, ◌∷◌, ◌++◌, [], OnOk};
+ghost use Rattle.std.specs.List.{flat_map};
+ghost use Rattle.of_switch.specs.declared.event.Event.TheVariants.{Frame, Lost};
+ghost use Rattle.of_switch.specs.Runs.{effects_in, report_of, reports_of};
+ghost use Rattle.of_serve.specs.Turns.{acts, answer_in, due, effects_of as effects_given, left, waits as has_to_wait};
+ghost use Rattle.of_live.specs.Live.{peer_of as peer_of_port};
+ghost use Rattle.of_live.specs.Turns.{Records, sent_in, sent_to};
+ghost use Rattle.of_live.specs.Working.{Does, text_of};
+
+use crate::network::{Dropped, Network};
+use crate::peers::{Peer, peer_of};
+use crate::rows::{push_frame_row, push_row};
+use of_classifier::Lookup;
+use of_serve::{Rows, push_answers, waits};
+use of_switch::{Effect, Event, Report, Switch};
+use of_vxlan::write_header;
+use std::alloc::{AllocError, Global};
+use std::marker::Model;
+
+/// Networks have numbers of 24 bits, below this one.
+const NETWORKS: u32 = 16_777_216;
+
+/// What the events of a turn gave, and their rows, if those are logged.
+#[derive(Drop)]
+pub struct Work {
+    reports: Vec<Report>,
+    text: Vec<u8>,
+}
+
+impl Model for Work {
+    ghost use Rattle.of_switch.specs.Runs.{reports_of};
+    ghost use Rattle.of_live.specs.Working.{Work};
+
+    ghost Value = { Work };
+
+    ghost view = { λ w. record { reports = reports_of w.reports.items; text = w.text.items } };
+}
+
+impl Work {
+    pub fn new(alloc: Global) -> Self
+        ensures { result ≡ record { reports = []; text = [] } }
+    {
+        Work {
+            reports: Vec::new(alloc),
+            text: Vec::new(alloc),
+        }
+    }
+
+    /// The rows.
+    pub fn text(&self) -> &[u8]
+        ensures { result.now ≡ self.now.text }
+    {
+        &self.text
+    }
+
+    /// The row of a loss, if there is a log.
+    pub fn note_loss(&mut self, keeps: bool) -> Result<(), AllocError>
+        ensures reports { self.new.reports ≡ self.old.reports }
+        ensures text { OnOk result (self.new.text ≡ self.old.text ++ text_of keeps (Lost ∷ [])) }
+    {
+        if keeps {
+            push_row(&mut self.text, &Event::Lost)?;
+        }
+        Ok(())
+    }
+
+    /// Appends the messages to the controller.
+    pub fn answers(&self, out: &mut Vec<u8>) -> Result<(), AllocError>
+        ensures { OnOk result (out.new.items ≡ out.old.items ++ flat_map answer_in (effects_in self.now.reports)) }
+    {
+        push_reports(out, &self.reports)
+    }
+
+    /// Sends the frames that leave.
+    pub fn send<N: Network>(&self, peers: &[Peer], network: &mut N)
+        ensures told { Records (N.told network.old) (flat_map (sent_in peers.now) (effects_in self.now.reports)) (N.told network.new) }
+        ensures keeps { N.keeps network.new ≡ N.keeps network.old }
+    {
+        send_reports(peers, &self.reports, network);
+    }
+
+    /// All of it is out.
+    pub fn clear(&mut self)
+        ensures { self.new ≡ record { reports = []; text = [] } }
+    {
+        self.reports.clear();
+        self.text.clear();
+    }
+}
+
+// Sends a frame to where the frames of a port go.
+fn send_frame<N: Network>(peers: &[Peer], port: u32, frame: &[u8], network: &mut N)
+    ensures told { Records (N.told network.old) (sent_to port frame.now (peer_of_port port peers.now) ∷ []) (N.told network.new) }
+    ensures keeps { N.keeps network.new ≡ N.keeps network.old }
+{
+    match peer_of(port, peers) {
+        Some(peer) if port < NETWORKS => network.send(peer.place, write_header(port), frame),
+        _ => network.count(Dropped::NoPeer),
+    }
+}
+
+// Sends the frames that leave.
+fn send_effects<N: Network>(peers: &[Peer], effects: &[Effect], network: &mut N)
+    ensures told { Records (N.told network.old) (flat_map (sent_in peers.now) effects.now) (N.told network.new) }
+    ensures keeps { N.keeps network.new ≡ N.keeps network.old }
+{
+    for effect in effects {
+        if let Effect::Sent { port, frame } = effect {
+            send_frame(peers, *port, frame.as_slice(), network);
+        }
+    }
+}
+
+// What a report gives: nothing, if its event was refused.
+fn effects_of(report: &Report) -> &[Effect]
+    ensures { result.now ≡ effects_given (report_of report.now) }
+{
+    match report {
+        Report::Gives(effects) => effects.as_slice(),
+        Report::Refused(_) => &[],
+    }
+}
+
+// Appends the messages to the controller.
+fn push_reports(out: &mut Vec<u8>, reports: &[Report]) -> Result<(), AllocError>
+    ensures { OnOk result (out.new.items ≡ out.old.items ++ flat_map answer_in (effects_in (reports_of reports.now))) }
+{
+    for report in reports {
+        push_answers(out, effects_of(report))?;
+    }
+    Ok(())
+}
+
+// Sends the frames that leave.
+fn send_reports<N: Network>(peers: &[Peer], reports: &[Report], network: &mut N)
+    ensures told { Records (N.told network.old) (flat_map (sent_in peers.now) (effects_in (reports_of reports.now))) (N.told network.new) }
+    ensures keeps { N.keeps network.new ≡ N.keeps network.old }
+{
+    for report in reports {
+        send_effects(peers, effects_of(report), network);
+    }
+}
+
+/// An event happens, and its row is kept if there is a log.
+pub fn happen<L: Lookup>(
+    switch: &mut Switch<L>,
+    event: &Event,
+    keeps: bool,
+    work: &mut Work,
+) -> Result<(), AllocError>
+    ensures { OnOk result (Does keeps (event.now ∷ []) switch.old switch.new work.old work.new) }
+{
+    if keeps {
+        push_row(&mut work.text, event)?;
+    }
+    switch.run(std::slice::from_ref(event), &mut work.reports)
+}
+
+/// A frame is received, and its row is kept if there is a log.
+pub fn happen_frame<L: Lookup>(
+    switch: &mut Switch<L>,
+    port: u32,
+    frame: &[u8],
+    keeps: bool,
+    work: &mut Work,
+) -> Result<(), AllocError>
+    ensures { OnOk result (Does keeps (Frame port frame.now ∷ []) switch.old switch.new work.old work.new) }
+{
+    if keeps {
+        push_frame_row(&mut work.text, port, frame)?;
+    }
+    match switch.frame(port, frame) {
+        Ok(effects) => Ok(work.reports.push(Report::Gives(effects))?),
+        Err(_) => Err(AllocError),
+    }
+}
+
+// A row of the file that is due happens.
+fn act<L: Lookup>(
+    switch: &mut Switch<L>,
+    row: &Event,
+    keeps: bool,
+    work: &mut Work,
+) -> Result<(), AllocError>
+    ensures { OnOk result (Does keeps (acts row.now) switch.old switch.new work.old work.new) }
+{
+    match row {
+        Event::Moment(_) => Ok(()),
+        _ => happen(switch, row, keeps, work),
+    }
+}
+
+/// The rows of the file that are due happen, and the others are still to come.
+pub fn happen_due<L: Lookup>(
+    switch: &mut Switch<L>,
+    rows: &mut Rows,
+    now: u64,
+    keeps: bool,
+    work: &mut Work,
+) -> Result<(), AllocError>
+    ensures rows { OnOk result (rows.new ≡ left now rows.old) }
+    ensures does { OnOk result (Does keeps (due now rows.old) switch.old switch.new work.old work.new) }
+{
+    while let Some(row) = rows.first() {
+        if waits(row, now) {
+            break;
+        }
+        act(switch, row, keeps, work)?;
+        rows.pass();
+    }
+    Ok(())
+}
