@@ -10,9 +10,12 @@ use Rattle.of_switch.specs.declared.event.Event.{Event}
 use Rattle.of_switch.specs.declared.event.Report.{Report as Reported}
 use Rattle.of_switch.specs.State.{State}
 use Rattle.of_switch.specs.Runs.{Report, Gives, IsRefused, Run, run, happened, effects_in, report_of, reports_of}
-use Rattle.of_serve.specs.Turns.{effects_of}
+use Rattle.of_serve.specs.Turns.{answer_in, effects_of}
 use Rattle.of_laws.specs.RowText.{row_text}
-use Rattle.of_live.specs.Turns.{rows_text}
+use Rattle.std.proofs.Common.{Option}
+use Rattle.of_live.specs.declared.peers.Peer.{Peer}
+use Rattle.of_live.specs.Turns.{Act, Records, rows_text, sent_in}
+use Rattle.of_live.proofs.Passing.{records_as, records_more}
 use Rattle.of_live.specs.Working.{Does, Work, text_of}
 
 -- the run of events, and then of others
@@ -60,3 +63,21 @@ given_more reports i report lt is =
     ap (λ n. effects_in (reports_of (take n reports))) (add-one i)
     ∙ (ap (λ rs. effects_in (reports_of rs)) (take-suc reports i report lt ∙ ap (λ r. take i reports ++ r ∷ []) (sym is))
     ∙ (ap effects_in (map-append report_of (take i reports) (report ∷ [])) ∙ effects_then (reports_of (take i reports)) (report_of report)))
+
+pub pushed : (first old new : List ℕ) (reports : List Reported) (i : ℕ) (report : Reported) (effects : List Effect) → i < length reports → report ≡ get_or reports i report
+    → old ≡ first ++ flat_map answer_in (effects_in (reports_of (take i reports))) → effects ≡ effects_of (report_of report) → new ≡ old ++ flat_map answer_in effects
+    → new ≡ first ++ flat_map answer_in (effects_in (reports_of (take (i + 1) reports)))
+pushed first old new reports i report effects lt is so given e =
+    e ∙ (ap (λ bs. bs ++ flat_map answer_in effects) so
+    ∙ (append_assoc first _ _
+    ∙ ap (λ bs. first ++ bs) (ap (λ es. flat_map answer_in (effects_in (reports_of (take i reports))) ++ flat_map answer_in es) given
+    ∙ (sym (flat_map-append answer_in (effects_in (reports_of (take i reports))) (effects_of (report_of report)))
+    ∙ ap (flat_map answer_in) (sym (given_more reports i report lt is))))))
+
+pub sent : (peers : List Peer) (a b c : Option (List Act)) (reports : List Reported) (i : ℕ) (report : Reported) (effects : List Effect) → i < length reports → report ≡ get_or reports i report
+    → Records a (flat_map (sent_in peers) (effects_in (reports_of (take i reports)))) b → effects ≡ effects_of (report_of report) → Records b (flat_map (sent_in peers) effects) c
+    → Records a (flat_map (sent_in peers) (effects_in (reports_of (take (i + 1) reports)))) c
+sent peers a b c reports i report effects lt is so given r =
+    records_as a c _ _ (ap (λ es. flat_map (sent_in peers) (effects_in (reports_of (take i reports))) ++ flat_map (sent_in peers) es) given
+    ∙ (sym (flat_map-append (sent_in peers) (effects_in (reports_of (take i reports))) (effects_of (report_of report)))
+    ∙ ap (flat_map (sent_in peers)) (sym (given_more reports i report lt is)))) (records_more a b c _ _ so r)

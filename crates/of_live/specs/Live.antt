@@ -88,10 +88,13 @@ peers_after from (Err why) peers = peers
 abbrev pub is_connected : Live → Bool
 is_connected l = not (is_disconnected l.state.connection.phase)
 
+abbrev pub is_opened : Came → Bool
+is_opened Opened = true
+is_opened other = false
+
 -- first the loss of a connection that the switch closed, or in whose place another comes
 abbrev pub is_lost_first : Came → Live → Bool
-is_lost_first Opened l = l.over || is_connected l
-is_lost_first came l = l.over
+is_lost_first came l = l.over || (is_opened came && is_connected l)
 
 abbrev pub loss : Bool → List Event
 loss true = Lost ∷ []

@@ -114,15 +114,18 @@ is_written came l = has_connection came l && not (is_empty (offered came l)) && 
 abbrev pub is_left : Turn → Live → List ℕ
 is_left t l = if is_written t.came l then drop t.taken (offered t.came l) else offered t.came l
 
+abbrev pub time_at : Came → Live → ℕ
+time_at came l = time_of came (begun came l)
+
 abbrev pub since : Turn → Live → ℕ
-since t l = if is_empty (waits t.came l) || (is_written t.came l && nat_lt 0 t.taken) then time_of t.came l else l.since
+since t l = if is_empty (waits t.came l) || (is_written t.came l && nat_lt 0 t.taken) then time_at t.came l else (begun t.came l).since
 
 -- a connection that leaves more than 16 MiB, or takes nothing for ten seconds, is given up
 abbrev pub is_stuck : List ℕ → (since now : ℕ) → Bool
 is_stuck left since now = nat_lt 16777216 (length left) || (not (is_empty left) && nat_le 10000000000 (now - since))
 
 abbrev pub is_given_up : Turn → Live → Bool
-is_given_up t l = (is_written t.came l && t.failed) || is_stuck (is_left t l) (since t l) (time_of t.came l)
+is_given_up t l = (is_written t.came l && t.failed) || is_stuck (is_left t l) (since t l) (time_at t.came l)
 
 -- it is closed if it was given up, or if the switch closed it
 abbrev pub is_closed : Turn → Live → Bool
@@ -135,19 +138,22 @@ abbrev pub closes : Bool → List Act
 closes true = Closes ∷ []
 closes false = []
 
--- ALL THAT PASSES in a turn
+-- ALL THAT PASSES in a turn: what came is told, and then this
+abbrev pub results : Bool → Turn → Live → List Act
+results keeps t l = drops t.came l ++ logs keeps (events_of t.came l) ++ sends t.came l ++ writes t l ++ closes (is_closed t l)
+
 abbrev pub acts : Bool → Turn → Live → List Act
-acts keeps t l = Told t.came ∷ drops t.came l ++ logs keeps (events_of t.came l) ++ sends t.came l ++ writes t l ++ closes (is_closed t l)
+acts keeps t l = Told t.came ∷ results keeps t l
 
 -- and the switch after it
 abbrev pub after : Turn → Live → Live
 after t l = record {
   state = (ran t.came l).state;
-  rows = rows_after t.came l;
+  rows = rows_after t.came (begun t.came l);
   peers = peers_of t.came (begun t.came l);
-  waiting = if has_connection t.came l && not (is_closed t l) then is_left t l else [];
+  waiting = if is_closed t l || not (has_connection t.came l) then [] else is_left t l;
   since = since t l;
-  time = time_of t.came l;
+  time = time_at t.came l;
   over = is_closed t l && is_connected_after t.came l;
 }
 

@@ -1,5 +1,5 @@
 -- Parts of a turn, for contracts inside this crate.
-use Rattle.std.specs.Prelude.{◌≡◌, ℕ, ◌≤◌, nat_lt, not, ◌&&◌, ◌||◌, length, drop, Bool, true, false, List, [], ◌∷◌, ◌++◌, Option, Result, Ok, Err, if◌then◌else◌}
+use Rattle.std.specs.Prelude.{◌≡◌, ℕ, ◌≤◌, nat_lt, not, ◌&&◌, ◌||◌, ◌==◌, length, drop, Bool, true, false, List, [], ◌∷◌, ◌++◌, Option, Result, Ok, Err, if◌then◌else◌}
 use Rattle.of_replay.specs.declared.halt.Halt.{Halt}
 use Rattle.of_replay.specs.declared.halt.Halt.TheVariants.{Bad, Memory, Read, Write}
 use Rattle.of_switch.specs.declared.event.Event.{Event}
@@ -7,7 +7,7 @@ use Rattle.of_switch.specs.State.{State}
 use Rattle.of_switch.specs.Runs.{Report, run, effects_in}
 use Rattle.of_live.specs.declared.state.Asks.{Asks}
 use Rattle.of_live.specs.Live.{Live, Came, Fault, is_connected, begun, events_of, rows_after, peers_of, time_of}
-use Rattle.of_live.specs.Turns.{Act, Records, Told, Logs, Writes, Turn, IsTurn, acts, after, closes, drops, effects_of, has_connection, is_empty, is_ready, is_stuck, offered, ran, rows_text, waits}
+use Rattle.of_live.specs.Turns.{Act, Records, Told, Logs, Writes, Turn, IsTurn, acts, after, closes, drops, effects_of, is_empty, is_ready, is_stuck, may_write, offered, ran, results, rows_text}
 
 -- what events gave, and their rows
 pub record Work : Type 0 where
@@ -36,8 +36,11 @@ heard came l = let b = begun came l in record {
 }
 
 -- what is known of the connection when what waits is offered to it
+abbrev pub asks_by : Came → Live → Asks
+asks_by came b = record { is_open = may_write came b; is_ready = is_ready came; is_empty = is_empty b.waiting }
+
 abbrev pub asks_of : Came → Live → Asks
-asks_of came l = record { is_open = has_connection came l; is_ready = is_ready came; is_empty = is_empty (waits came l) }
+asks_of came l = asks_by came (begun came l)
 
 pub record Hears (came : Came) (keeps : Bool) (asks : Asks) (l l' : Live) (w' : Work) : Type 0 where
   pub live_is : l' ≡ heard came l
@@ -58,21 +61,13 @@ offered_to a taken l = record l {
   since = if a.is_empty || (offers a l && nat_lt 0 taken) then l.time else l.since;
 }
 
-pub record Offers (a : Asks) (result : Bool) (l l' : Live) (old new : Option (List Act)) : Type 0 where
-  pub taken : ℕ
-  pub failed : Bool
-  pub fits : taken ≤ length l.waiting
-  pub result_is : result ≡ (offers a l && failed)
-  pub live_is : l' ≡ offered_to a taken l
-  pub told_is : Records old (offered_acts a taken failed l) new
-
 -- and closing the connection
 abbrev pub closing : Asks → Bool → Live → Bool
 closing a failed l = a.is_open && ((failed || is_stuck l.waiting l.since l.time) || not (is_connected l))
 
 abbrev pub closed : Asks → Bool → Live → Live
 closed a failed l = record l {
-  waiting = if a.is_open && not (closing a failed l) then l.waiting else [];
+  waiting = if closing a failed l || not a.is_open then [] else l.waiting;
   over = closing a failed l && is_connected l;
 }
 
@@ -82,6 +77,20 @@ pub record Settles (a : Asks) (l l' : Live) (old new : Option (List Act)) : Type
   pub fits : taken ≤ length l.waiting
   pub live_is : l' ≡ closed a (offers a l && failed) (offered_to a taken l)
   pub told_is : Records old (offered_acts a taken failed l ++ closes (closing a (offers a l && failed) (offered_to a taken l))) new
+
+-- the rows were written to the log, if there are any
+abbrev pub logged : List ℕ → Bool → List Act
+logged text whole = if length text == 0 then [] else Logs text whole ∷ []
+
+-- what came was told, and all that it gives went out, or the run halts
+abbrev pub Passes : Result (Unit {0}) Halt → Bool → Came → Live → Live → (old new : Option (List Act)) → Type 0
+Passes (Ok u) keeps came l l' old new = (taken : ℕ) × (failed : Bool) × (taken ≤ length (offered came l))
+    × (l' ≡ after (record { came = came; taken = taken; failed = failed }) l)
+    × Records old (results keeps (record { came = came; taken = taken; failed = failed }) l) new
+Passes (Err (Bad n)) keeps came l l' old new = ⊥
+Passes (Err Memory) keeps came l l' old new = (some : Bool) × Records old (if some then drops came l else []) new
+Passes (Err Read) keeps came l l' old new = ⊥
+Passes (Err Write) keeps came l l' old new = (keeps ≡ true) × Records old (drops came l ++ Logs (rows_text (events_of came l)) false ∷ []) new
 
 -- a turn, of which all went out
 pub record GoesOn (keeps : Bool) (l l' : Live) (old new : Option (List Act)) : Type 0 where

@@ -1,6 +1,7 @@
 //! The network of a switch: a clock, datagrams, one connection with a controller, and a log.
-ghost use Rattle.std.specs.Prelude.{◌≡◌, ◌<◌, ◌≤◌, ◌++◌, ◌∷◌, Bool, List, [], Option, length};
-ghost use Rattle.of_live.specs.Turns.{Act, Records, Told, Drops, Logs, Sends, Writes, Closes};
+ghost use Rattle.std.specs.Prelude.{◌≡◌, ◌<◌, ◌≤◌, ◌++◌, ◌∷◌, ℕ, Bool, List, [], Option, length};
+ghost use Rattle.of_live.specs.Turns.{Act, Records, is_fault as is_fault_by, is_ready as is_ready_by, Told, Drops, Logs, Sends, Writes, Closes};
+ghost use Rattle.of_live.specs.Live.{is_opened as is_opened_by};
 ghost use Rattle.of_live.specs.Inputs.{IsInput, came_of};
 
 use of_switch::Event;
@@ -47,6 +48,29 @@ pub enum Input {
     Nothing,
     /// The network failed.
     Fault,
+}
+
+impl Input {
+    /// Whether a controller connected.
+    pub fn is_opened(&self) -> bool
+        ensures { (buffer : List ℕ) → result ≡ is_opened_by (came_of self.now buffer) }
+    {
+        matches!(self, Input::Opened)
+    }
+
+    /// Whether the network failed.
+    pub fn is_fault(&self) -> bool
+        ensures { (buffer : List ℕ) → result ≡ is_fault_by (came_of self.now buffer) }
+    {
+        matches!(self, Input::Fault)
+    }
+
+    /// Whether the connection takes bytes again.
+    pub fn is_ready(&self) -> bool
+        ensures { (buffer : List ℕ) → result ≡ is_ready_by (came_of self.now buffer) }
+    {
+        matches!(self, Input::Ready)
+    }
 }
 
 /// How a write to the connection ended.

@@ -1,15 +1,17 @@
 //! A switch on a network.
-ghost use Rattle.std.specs.Prelude.{◌≡◌, ◌++◌, ◌∷◌, [], OnOk, IfOk, IfErr, Ok, Err, length, ◌||◌, ◌&&◌, if◌then◌else◌, true, false, Bool, List, ℕ};
+ghost use Rattle.std.specs.Prelude.{◌≡◌, ◌≤◌, ◌<◌, ◌++◌, ◌∷◌, [], OnOk, IfOk, IfErr, Ok, Err, length, ◌||◌, ◌&&◌, if◌then◌else◌, true, false, not, drop, Bool, List, ℕ};
 ghost use Rattle.of_vxlan.specs.Header.{carried};
 ghost use Rattle.of_switch.specs.declared.event.Event.TheVariants.{Chunk, Moment};
 ghost use Rattle.of_switch.specs.Steps.{lost};
-ghost use Rattle.of_serve.specs.Turns.{due, left};
+ghost use Rattle.of_switch.specs.Runs.{effects_in};
+ghost use Rattle.of_serve.specs.Turns.{answer_in, due, left};
+ghost use Rattle.std.specs.List.{flat_map};
 ghost use Rattle.of_live.specs.Inputs.{IsInput, came_of};
 ghost use Rattle.of_live.specs.Live.{asked, events_in, frame_of, is_connected as connected, loss, peers_after, peers_of, received, rows_after, time_of};
-ghost use Rattle.of_live.specs.Turns.{Records, dropped_in, dropped_of, drops, is_stuck as stuck, may_write};
-ghost use Rattle.of_live.specs.Working.{Does, Goes, Hears, Offers, Settles, closing, offers, text_of};
+ghost use Rattle.of_live.specs.Turns.{Records, Writes, closes as closing_acts, dropped_in, dropped_of, drops, is_stuck as stuck, may_write as may_write_after};
+ghost use Rattle.of_live.specs.Working.{Does, Goes, Hears, Passes, Settles, asks_by, closing, offered_acts, offered_to, offers, text_of};
 
-use crate::network::{Dropped, Input, Network, Place};
+use crate::network::{Dropped, Input, Network, Place, Written};
 use crate::peers::{Peer, learn, may_send, peer_of};
 use crate::work::{Work, happen, happen_due, happen_frame};
 use of_classifier::Lookup;
@@ -97,13 +99,24 @@ impl<L: Lookup> Live<L> {
     }
 
     // Whether there is a connection that may be written to.
-    fn has_connection(&self, input: &Input) -> bool
-        ensures { (buffer : List ℕ) → result ≡ may_write (came_of input.now buffer) self.now }
+    fn may_write(&self, input: &Input) -> bool
+        ensures { (buffer : List ℕ) → result ≡ may_write_after (came_of input.now buffer) self.now }
     {
         match input {
             Input::Opened => true,
             Input::Ended => false,
             _ => self.switch.is_connected(),
+        }
+    }
+
+    // What is known of the connection before the events of what came.
+    fn asks(&self, input: &Input) -> Asks
+        ensures { (buffer : List ℕ) → result ≡ asks_by (came_of input.now buffer) self.now }
+    {
+        Asks {
+            is_open: self.may_write(input),
+            is_ready: input.is_ready(),
+            is_empty: self.waiting.is_empty(),
         }
     }
 
@@ -244,15 +257,18 @@ impl<L: Lookup> Live<L> {
         ensures told { (some : Bool) × (Records (N.told network.old) (if some then drops (came_of input.now buffer.now) self.old else []) (N.told network.new)) × OnOk result (some ≡ true) }
         ensures keeps { N.keeps network.new ≡ N.keeps network.old }
     {
-        self.begin(matches!(input, Input::Opened), keeps, work)?;
-        let asks = Asks {
-            is_open: self.has_connection(input),
-            is_ready: matches!(input, Input::Ready),
-            is_empty: self.waiting.is_empty(),
-        };
+        self.begin(input.is_opened(), keeps, work)?;
+        let asks = self.asks(input);
         self.take(input, buffer, network, keeps, work)?;
-        work.answers(&mut self.waiting)?;
+        self.answer(work)?;
         Ok(asks)
+    }
+
+    // What was given for the controller waits for its connection.
+    fn answer(&mut self, work: &Work) -> Result<(), AllocError>
+        ensures { OnOk result (self.new ≡ record self.old { waiting = self.old.waiting ++ flat_map answer_in (effects_in work.now.reports) }) }
+    {
+        work.answers(&mut self.waiting)
     }
 
     // Whether what waits is offered to the connection.
@@ -262,25 +278,58 @@ impl<L: Lookup> Live<L> {
         asks.is_open && !self.waiting.is_empty() && (asks.is_empty || asks.is_ready)
     }
 
-    // Offers what waits to the connection, and returns whether that failed.
-    fn offer<N: Network>(&mut self, asks: Asks, network: &mut N) -> bool
-        ensures offers { Offers asks result self.old self.new (N.told network.old) (N.told network.new) }
+    // Writes what waits to the connection, which takes the first of it.
+    fn write<N: Network>(&mut self, network: &mut N) -> Written
+        requires { 0 < length self.old.waiting }
+        ensures fits { result.taken ≤ length self.old.waiting }
+        ensures live { self.new ≡ record self.old { waiting = drop result.taken self.old.waiting } }
+        ensures told { Records (N.told network.old) (Writes self.old.waiting result.taken result.failed ∷ []) (N.told network.new) }
         ensures keeps { N.keeps network.new ≡ N.keeps network.old }
     {
-        if asks.is_empty {
-            self.since = self.time;
-        }
-        if !self.is_offered(asks) {
-            return false;
-        }
         let written = network.write(&self.waiting);
-        if written.taken > 0 {
-            self.since = self.time;
-        }
         let rest = self.waiting.len() - written.taken;
         self.waiting.rotate_left(written.taken);
         self.waiting.truncate(rest);
-        written.failed
+        written
+    }
+
+    // Writes what waits, if it is to be offered.
+    fn write_if<N: Network>(&mut self, asks: Asks, network: &mut N) -> Written
+        ensures fits { result.taken ≤ length self.old.waiting }
+        ensures live { self.new ≡ record self.old { waiting = if offers asks self.old then drop result.taken self.old.waiting else self.old.waiting } }
+        ensures told { Records (N.told network.old) (offered_acts asks result.taken result.failed self.old) (N.told network.new) }
+        ensures none { offers asks self.old ≡ false → (result.taken ≡ 0) × (result.failed ≡ false) }
+        ensures keeps { N.keeps network.new ≡ N.keeps network.old }
+    {
+        if self.is_offered(asks) {
+            return self.write(network);
+        }
+        Written {
+            taken: 0,
+            failed: false,
+        }
+    }
+
+    // The moment since which the connection takes nothing: now, if nothing waited or it took some.
+    fn settle_time(&mut self, takes: bool)
+        ensures { self.new ≡ record self.old { since = if takes then self.old.time else self.old.since } }
+    {
+        if takes {
+            self.since = self.time;
+        }
+    }
+
+    // Offers what waits to the connection.
+    fn offer<N: Network>(&mut self, asks: Asks, network: &mut N) -> Written
+        ensures fits { result.taken ≤ length self.old.waiting }
+        ensures live { self.new ≡ offered_to asks result.taken self.old }
+        ensures told { Records (N.told network.old) (offered_acts asks result.taken result.failed self.old) (N.told network.new) }
+        ensures failed { result.failed ≡ (offers asks self.old && result.failed) }
+        ensures keeps { N.keeps network.new ≡ N.keeps network.old }
+    {
+        let written = self.write_if(asks, network);
+        self.settle_time(asks.is_empty || written.taken > 0);
+        written
     }
 
     // Whether so much waits, or so long, that the connection is given up.
@@ -298,20 +347,55 @@ impl<L: Lookup> Live<L> {
         asks.is_open && (failed || self.is_stuck() || !self.switch.is_connected())
     }
 
+    // Closes the connection, or keeps it open if there is one.
+    fn close_if<N: Network>(&mut self, closes: bool, is_open: bool, network: &mut N)
+        ensures live { self.new ≡ record self.old { waiting = if closes || not is_open then [] else self.old.waiting; over = closes && connected self.old } }
+        ensures told { Records (N.told network.old) (closing_acts closes) (N.told network.new) }
+        ensures keeps { N.keeps network.new ≡ N.keeps network.old }
+    {
+        self.over = closes && self.switch.is_connected();
+        if closes || !is_open {
+            self.waiting.clear();
+        }
+        if closes {
+            network.close();
+        }
+    }
+
     // Offers what waits to the connection, and closes it if that fails, if it is stuck, or if the switch closed it.
     fn settle<N: Network>(&mut self, asks: Asks, network: &mut N)
         ensures settles { Settles asks self.old self.new (N.told network.old) (N.told network.new) }
         ensures keeps { N.keeps network.new ≡ N.keeps network.old }
     {
-        let failed = self.offer(asks, network);
-        let closes = self.is_closed(asks, failed);
-        if closes {
-            network.close();
+        let written = self.offer(asks, network);
+        let closes = self.is_closed(asks, written.failed);
+        self.close_if(closes, asks.is_open, network);
+    }
+
+    // The events of what came happen, their rows go to the log, and what they give goes out.
+    fn pass<N: Network>(
+        &mut self,
+        input: &Input,
+        buffer: &[u8],
+        network: &mut N,
+        work: &mut Work,
+    ) -> Result<(), Halt>
+        requires fits { IsInput input.now }
+        requires room { length buffer.now ≡ 65536 }
+        requires empty { work.old ≡ record { reports = []; text = [] } }
+        ensures passes { Passes result (N.keeps network.old) (came_of input.now buffer.now) self.old self.new (N.told network.old) (N.told network.new) }
+        ensures keeps { N.keeps network.new ≡ N.keeps network.old }
+    {
+        let keeps = network.is_logged();
+        let Ok(asks) = self.hear(input, buffer, network, keeps, work) else {
+            return Err(Halt::Memory);
+        };
+        if !work.log(network) {
+            return Err(Halt::Write);
         }
-        if closes || !asks.is_open {
-            self.waiting.clear();
-        }
-        self.over = closes && self.switch.is_connected();
+        work.send(&self.peers, network);
+        self.settle(asks, network);
+        Ok(())
     }
 
     /// A turn: something comes, its events happen, their rows go to the log, and what they give goes out.
@@ -328,19 +412,10 @@ impl<L: Lookup> Live<L> {
     {
         work.clear();
         let input = network.next(buffer);
-        if let Input::Fault = input {
+        if input.is_fault() {
             return Err(Halt::Read);
         }
-        let keeps = network.is_logged();
-        let Ok(asks) = self.hear(&input, buffer, network, keeps, work) else {
-            return Err(Halt::Memory);
-        };
-        if !work.text().is_empty() && !network.log(work.text()) {
-            return Err(Halt::Write);
-        }
-        work.send(&self.peers, network);
-        self.settle(asks, network);
-        Ok(())
+        self.pass(&input, buffer, network, work)
     }
 }
 

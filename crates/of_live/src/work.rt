@@ -1,12 +1,12 @@
 //! Events, what they give, and their rows.
-ghost use Rattle.std.specs.Prelude.{◌≡◌, ◌∷◌, ◌++◌, [], OnOk};
+ghost use Rattle.std.specs.Prelude.{◌≡◌, ◌∷◌, ◌++◌, [], true, length, OnOk};
 ghost use Rattle.std.specs.List.{flat_map};
 ghost use Rattle.of_switch.specs.declared.event.Event.TheVariants.{Frame, Lost};
 ghost use Rattle.of_switch.specs.Runs.{effects_in, report_of, reports_of};
 ghost use Rattle.of_serve.specs.Turns.{acts, answer_in, due, effects_of as effects_given, left, waits as has_to_wait};
 ghost use Rattle.of_live.specs.Live.{peer_of as peer_of_port};
 ghost use Rattle.of_live.specs.Turns.{Records, sent_in, sent_to};
-ghost use Rattle.of_live.specs.Working.{Does, text_of};
+ghost use Rattle.of_live.specs.Working.{Does, logged, text_of};
 
 use crate::network::{Dropped, Network};
 use crate::peers::{Peer, peer_of};
@@ -47,11 +47,13 @@ impl Work {
         }
     }
 
-    /// The rows.
-    pub fn text(&self) -> &[u8]
-        ensures { result.now ≡ self.now.text }
+    /// Writes the rows to the log, if there are any, and returns whether all of them were written.
+    pub fn log<N: Network>(&self, network: &mut N) -> bool
+        ensures told { Records (N.told network.old) (logged self.now.text result) (N.told network.new) }
+        ensures empty { length self.now.text ≡ 0 → result ≡ true }
+        ensures keeps { N.keeps network.new ≡ N.keeps network.old }
     {
-        &self.text
+        self.text.is_empty() || network.log(&self.text)
     }
 
     /// The row of a loss, if there is a log.

@@ -1,0 +1,97 @@
+-- A turn, from its parts.
+use Rattle.std.proofs.Common.{◌≡◌, ◌≤◌, ◌∙◌, ℕ, List, [], ◌∷◌, ◌++◌, length, Bool, true, false, Option, Result, Ok, Err, Some, ap, refl, sym, subst, arith, append_assoc, rules}
+use Rattle.std.specs.Prelude.{◌&&◌, ◌||◌, ◌==◌, if◌then◌else◌}
+use Rattle.std.proofs.lemmas.Bool.Decides.{nat_tests}
+use Rattle.std.specs.List.{flat_map}
+use Rattle.of_datapath.specs.declared.effect.Effect.{Effect}
+use Rattle.of_switch.specs.Runs.{effects_in}
+use Rattle.of_live.specs.declared.peers.Peer.{Peer}
+use Rattle.of_replay.specs.declared.halt.Halt.{Halt}
+use Rattle.of_replay.specs.declared.halt.Halt.TheVariants.{Bad, Memory, Read, Write}
+use Rattle.of_switch.specs.declared.event.Event.{Event}
+use Rattle.of_laws.specs.RowText.{row_text}
+use Rattle.of_live.specs.declared.state.Asks.{Asks}
+use Rattle.of_live.specs.Live.{Live, Came, Fault, Time, events_of}
+use Rattle.of_live.specs.Turns.{Act, Records, Told, Logs, Turn, acts, after, closes, drops, is_closed, is_fault, logs, offered, results, rows_text, sends, sent_in, writes}
+use Rattle.of_live.specs.Working.{Goes, Hears, Passes, Settles, Work, asks_of, closed, closing, heard, logged, offered_acts, offered_to, offers, text_of}
+use Rattle.of_live.proofs.Passing.{records_as, records_more}
+
+-- THE ROWS
+
+some_text : (e : Event) (es : List Event) → (length (rows_text (e ∷ es)) == 0) ≡ false
+some_text e es = some_bytes (row_text (Some e)) (rows_text es)
+  where
+    some_bytes : (xs ys : List ℕ) → (length ((xs ++ 10 ∷ []) ++ ys) == 0) ≡ false
+    some_bytes [] ys = grind (arith, nat_tests)
+    some_bytes (x ∷ xs) ys = grind (arith, nat_tests)
+
+logs_are : (keeps : Bool) (events : List Event) (text : List ℕ) → text ≡ text_of keeps events → logged text true ≡ logs keeps events
+logs_are true [] text e = rw e refl
+logs_are true (x ∷ xs) text e = rw (e, some_text x xs) refl
+logs_are false [] text e = rw e refl
+logs_are false (x ∷ xs) text e = rw e refl
+
+empty_or : (text : List ℕ) (whole : Bool) → (length text ≡ 0 → whole ≡ true) → whole ≡ false → (length text == 0) ≡ false
+empty_or [] whole h e = let t : true ≡ false = sym (h refl) ∙ e in absurd_bool t
+  where
+    absurd_bool : true ≡ false → (length {A = ℕ} [] == 0) ≡ false
+    absurd_bool t = cc
+empty_or (x ∷ xs) whole h e = grind (arith, nat_tests)
+
+keeps_if : (keeps : Bool) (events : List Event) (text : List ℕ) → text ≡ text_of keeps events → (length text == 0) ≡ false → (keeps ≡ true) × (text ≡ rows_text events)
+keeps_if true events text e some = (refl, e)
+keeps_if false events text e some = let t : true ≡ false = sym (ap (λ bs. length bs == 0) e) ∙ some in cc
+
+-- HALTS
+
+pub no_memory : (came : Came) (l : Live) (keeps : Bool) (l' : Live) (a b : Option (List Act)) (some : Bool) → Records a (if some then drops came l else []) b → Passes (Err Memory) keeps came l l' a b
+no_memory came l keeps l' a b some r = (some, r)
+
+pub no_log : (came : Came) (keeps : Bool) (asks : Asks) (l l1 : Live) (w : Work) (a b c : Option (List Act)) (some : Bool)
+    → Records a (if some then drops came l else []) b → some ≡ true → Hears came keeps asks l l1 w → (length w.text ≡ 0 → false ≡ true) → Records b (logged w.text false) c
+    → Passes (Err Write) keeps came l l1 a c
+no_log came keeps asks l l1 w a b c some r is h empty log_is =
+    let nonempty = empty_or w.text false empty refl in
+    let k = keeps_if keeps (events_of came l) w.text h.text_is nonempty in
+    let here : Records a (drops came l) b = subst (λ (s : Bool). Records a (if s then drops came l else []) b) is r in
+    let rows : logged w.text false ≡ Logs (rows_text (events_of came l)) false ∷ [] =
+        ap (λ (t : Bool). if t then [] else Logs w.text false ∷ []) nonempty ∙ ap (λ bs. Logs bs false ∷ []) k.1 in
+    (k.0, records_more a b c (drops came l) _ here (records_as b c _ _ rows log_is))
+
+-- ALL GOES OUT
+
+pub passes_on : (came : Came) (keeps : Bool) (asks : Asks) (l l1 l2 : Live) (w : Work) (peers : List Peer) (a b c d e : Option (List Act)) (some : Bool)
+    → Records a (if some then drops came l else []) b → some ≡ true → Hears came keeps asks l l1 w → Records b (logged w.text true) c
+    → peers ≡ l1.peers → Records c (flat_map (sent_in peers) (effects_in w.reports)) d → Settles asks l1 l2 d e → Passes (Ok tt) keeps came l l2 a e
+passes_on came keeps asks l l1 l2 w peers a b c d e some r is h log_is to sent settled =
+    let here : Records a (drops came l) b = subst (λ (s : Bool). Records a (if s then drops came l else []) b) is r in
+    let rows : Records b (logs keeps (events_of came l)) c = records_as b c _ _ (logs_are keeps (events_of came l) w.text h.text_is) log_is in
+    let same_peers : peers ≡ (heard came l).peers = to ∙ ap (λ (x : Live). x.peers) h.live_is in
+    let frames : Records c (sends came l) d = records_as c d _ _
+        (ap (λ ps. flat_map (sent_in ps) (effects_in w.reports)) same_peers ∙ ap (flat_map (sent_in (heard came l).peers)) h.reports_are) sent in
+    let s : Settles (asks_of came l) (heard came l) l2 d e = subst (λ (x : Live). Settles (asks_of came l) x l2 d e) h.live_is (subst (λ (x : Asks). Settles x l1 l2 d e) h.asks_are settled) in
+    (s.taken, s.failed, s.fits, s.live_is,
+    records_more a b e (drops came l) _ here (records_more b c e _ _ rows (records_more c d e _ _ frames s.told_is)))
+
+-- A TURN
+
+fault_is : (came : Came) → is_fault came ≡ true → came ≡ Fault
+fault_is Fault e = refl
+fault_is (Time now) e = cc
+fault_is other e = cc
+
+pub goes_fault : (came : Came) (keeps : Bool) (l : Live) (a b : Option (List Act)) → is_fault came ≡ true → Records a (Told came ∷ []) b → Goes (Err Read) keeps l l a b
+goes_fault came keeps l a b e r = (refl, subst (λ x. Records a (Told x ∷ []) b) (fault_is came e) r)
+
+pub goes : (result : Result (Unit {0}) Halt) (came : Came) (keeps : Bool) (l l' : Live) (a b c : Option (List Act)) → is_fault came ≡ false → Records a (Told came ∷ []) b
+    → Passes result keeps came l l' b c → Goes result keeps l l' a c
+goes (Ok u) came keeps l l' a b c f r p = record {
+  turn = record { came = came; taken = p.0; failed = p.1 };
+  is = (f, p.2);
+  live_is = p.3;
+  told_is = records_more a b c (Told came ∷ []) _ r p.4;
+}
+goes (Err (Bad n)) came keeps l l' a b c f r p = p
+goes (Err Memory) came keeps l l' a b c f r p = (came, p.0, records_more a b c (Told came ∷ []) _ r p.1)
+goes (Err Read) came keeps l l' a b c f r p = absurd p
+goes (Err Write) came keeps l l' a b c f r p = (p.0, (came, records_more a b c (Told came ∷ []) _ r p.1))

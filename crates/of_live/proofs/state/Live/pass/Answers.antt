@@ -1,0 +1,15 @@
+use Rattle.std.proofs.Common.{◌≡◌, ◌∙◌, ap, sym, Ok, Err}
+use Rattle.of_replay.specs.declared.halt.Halt.TheVariants.{Memory, Write}
+use Rattle.of_live.specs.Live.{Live}
+use Rattle.of_live.specs.Inputs.{came_of}
+use Rattle.of_live.specs.Working.{Passes}
+use Rattle.of_live.proofs.Turning.{passes_on, no_log, no_memory}
+use Rattle.of_live.proofs.state.Live.pass.Goals as goal
+
+pub returns-clause-passes : goal.returns-clause-passes
+returns-clause-passes g c =
+    let came = came_of c.args.input.now c.args.buffer.now in
+    let h = c.in-Ok.ensures in
+    rw (sym c.is_logged-keeps.ensures) (passes_on came c.is_logged-keeps.result c.in-Ok.asks c.args.self.now c.hear.new.self c.settle.new.self c.hear.new.work c.deref.result.now
+    (g.N.Network.told c.args.network.now) (g.N.Network.told c.hear.new.network) (g.N.Network.told c.log.new.network) (g.N.Network.told c.send.new.network) (g.N.Network.told c.settle.new.network)
+    h.told.0 h.told.1 h.told.2 h.hears c.if-not-log.ensures.told (c.deref.ensures.value ∙ ap (λ (l : Live). l.peers) (sym c.self.view_is)) c.send.ensures.told c.settle.ensures.settles)
