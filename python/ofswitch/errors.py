@@ -34,5 +34,5 @@ _NAMES = {
 
 
 def error_name(kind: int, code: int) -> str:
-    """The name of an error, as OFPBMC_BAD_PREREQ; its two numbers where the standard has no name."""
+    """The name of an error, such as OFPBMC_BAD_PREREQ; its two numbers if the standard has no name."""
     return _NAMES.get((kind, code), f"type {kind} code {code}")
