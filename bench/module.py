@@ -104,7 +104,7 @@ def over_the_bridge():
 
 
 def beside_an_echo():
-    """Of the bytes of such a PACKET_IN and PACKET_OUT."""
+    """As many bytes as such a PACKET_IN and PACKET_OUT have."""
     with socket.create_server(("127.0.0.1", 0)) as listener, peer("echo", listener.getsockname()):
         stream = listener.accept()[0]
         stream.setsockopt(socket.IPPROTO_TCP, socket.TCP_NODELAY, 1)
