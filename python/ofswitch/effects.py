@@ -110,4 +110,4 @@ def effect_of(line: bytes) -> Effect:
     if line.startswith(b"refused "):
         number = int(line[8:])
         return Refused(number, _REASONS.get(number, ""))
-    raise ValueError(f"no effect: {line!r}")
+    raise ValueError(f"not an effect: {line!r}")

@@ -92,7 +92,7 @@ class Bytes:
 
     def take(self, size: int) -> bytes:
         if size < 0 or self.at + size > len(self.data):
-            raise ValueError("a message ends too early, or has a length that cannot be")
+            raise ValueError("a message is truncated, or has an impossible length")
         self.at += size
         return self.data[self.at - size : self.at]
 

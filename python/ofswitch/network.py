@@ -215,7 +215,7 @@ class Network:
             if name in self._bridges:
                 self._bridges[name].until(lambda: condition(switch), max(0.0, end - time.monotonic()))
             elif not condition(switch):
-                raise TimeoutError(f"the condition does not hold of {name}, which has no bridge")
+                raise TimeoutError(f"the condition does not hold for {name}, which has no bridge")
 
     # ---- its end
 

@@ -44,7 +44,7 @@ def packets(path: StrPath) -> Iterator[Packet]:
             return _pcap(path, data, order, 1000 if magic == 0xA1B2C3D4 else 1)
     if magic == 0x0A0D0D0A:
         return _pcapng(path, data)
-    raise CaptureError(f"{path}: no pcap or pcapng file")
+    raise CaptureError(f"{path}: not a pcap or pcapng file")
 
 
 def _pcap(path: StrPath, data: bytes, order: str, unit: int) -> Iterator[Packet]:
@@ -73,7 +73,7 @@ class _Interface(NamedTuple):
         """Nanoseconds since 1970. ValueError if the time is before 1970, or some centuries later."""
         found = ticks * _BILLION // self.ticks + self.offset * _BILLION
         if not 0 <= found < 1 << 63:
-            raise ValueError("a time that cannot be")
+            raise ValueError("an impossible time")
         return found
 
 
@@ -94,7 +94,7 @@ def _pcapng(path: StrPath, data: bytes) -> Iterator[Packet]:
             elif kind in (3, 6):
                 found = _packet(body, order, kind, number + 1, interfaces)
         except (struct.error, LookupError, ArithmeticError, ValueError):
-            raise CaptureError(f"{path}: a block after packet {number} has a form that cannot be") from None
+            raise CaptureError(f"{path}: a block after packet {number} is malformed") from None
         if kind in (3, 6):
             number += 1
             yield found

@@ -175,7 +175,7 @@ class Run:
 def _ended(command: list[str], status: int, said: bytes) -> ProgramError:
     how = f"with status {status}" if status >= 0 else f"by signal {-status}"
     text = said.decode(errors="replace").strip()
-    return ProgramError(f"{' '.join(command)} ended {how}: {text or 'it said nothing'}", status, text)
+    return ProgramError(f"{' '.join(command)} ended {how}: {text or 'it wrote nothing to standard error'}", status, text)
 
 
 def _end(process: subprocess.Popen[bytes], owner: int) -> bytes:

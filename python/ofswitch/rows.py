@@ -72,7 +72,7 @@ def as_bytes(octets: Octets) -> bytes:
         return bytes(value.buf if hasattr(value, "buf") else value.data)
     if hasattr(value, "pack"):
         return bytes(value.pack())
-    raise TypeError(f"bytes are wanted, or a message or a packet, and not {type(value).__name__}")
+    raise TypeError(f"expected bytes, a message or a packet, not {type(value).__name__}")
 
 
 def dpid(value: int) -> int:
@@ -164,7 +164,7 @@ def _hex(data: Octets) -> str:
 def _hw(hw: HwAddress) -> str:
     text = hw.replace(":", "") if isinstance(hw, str) else as_bytes(hw).hex()
     if not _HW.fullmatch(text):
-        raise ValueError(f"a hardware address has 6 bytes, and not {hw!r}")
+        raise ValueError(f"a hardware address has 6 bytes, not {hw!r}")
     return text
 
 
@@ -174,9 +174,9 @@ def port_name(name: str, number: int) -> str:
     It is the same in each run. If nothing is left of the name, or more than 15 bytes, the result is p and the port's number.
     """
     if not name or len(name.encode()) > MOST_NAME_BYTES:
-        raise ValueError(f"a port's name has 1 to {MOST_NAME_BYTES} bytes, and not {name!r}")
+        raise ValueError(f"a port's name has 1 to {MOST_NAME_BYTES} bytes, not {name!r}")
     if any(it.isspace() or not it.isprintable() for it in name):
-        raise ValueError(f"a port's name has no space and no control character, and not {name!r}")
+        raise ValueError(f"a port's name has no space and no control character: {name!r}")
     kept = re.sub("[^a-z0-9]", "", name.lower())
     return kept or f"p{number}"
 
@@ -187,7 +187,7 @@ def _link(up: bool) -> str:
 
 def _fits(row: str) -> str:
     if len(row.encode()) > MOST_BYTES:
-        raise ValueError(f"a row has {MOST_BYTES} bytes at most")
+        raise ValueError(f"a row has at most {MOST_BYTES} bytes")
     return row
 
 
