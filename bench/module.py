@@ -1,9 +1,9 @@
 #!/usr/bin/env python3
 """bench/module.py: times the Python module `ofswitch` (python/) over its pipe, and its bridge over loopback.
 
-It prints a line for each thing timed: rows a second, and how long a frame takes that a controller in a process of its own sends
-on (frame in, PACKET_IN, PACKET_OUT, frame out), beside an echo of as many bytes over the same kind of socket. OFSWITCH
-names another program.
+It prints a line for each figure: rows per second, and the time of a frame that a controller in its own process forwards (frame in,
+PACKET_IN, PACKET_OUT, frame out), compared with an echo of as many bytes over the same kind of socket. OFSWITCH names another
+program.
 """
 import os
 import pathlib
@@ -104,7 +104,7 @@ def over_the_bridge():
 
 
 def beside_an_echo():
-    """Of the bytes of such a PACKET_IN and PACKET_OUT."""
+    """As many bytes as such a PACKET_IN and PACKET_OUT have."""
     with socket.create_server(("127.0.0.1", 0)) as listener, peer("echo", listener.getsockname()):
         stream = listener.accept()[0]
         stream.setsockopt(socket.IPPROTO_TCP, socket.TCP_NODELAY, 1)

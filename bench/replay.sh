@@ -1,7 +1,7 @@
 #!/bin/sh
-# Times `ofswitch replay` on an event file of 200,000 frames that go from port 1 to port 2, and prints the rows of a second.
-#   bench/replay.sh            a number of frames may stand behind it; builds the program where it is missing or older than its sources
-#   OFSWITCH=PROGRAM bench/replay.sh            times that program as it is
+# Times `ofswitch replay` on an event file of 200,000 frames that go from port 1 to port 2, and prints the rows per second.
+#   bench/replay.sh [FRAMES]            builds the program if it is missing or was built from other sources
+#   OFSWITCH=PROGRAM bench/replay.sh    times that program as it is
 top=$(cd "$(dirname "$0")/.." && pwd) || exit 3
 frames=${1:-200000}
 program=$OFSWITCH

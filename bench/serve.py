@@ -1,8 +1,8 @@
 #!/usr/bin/env python3
-"""bench/serve.py: times `ofswitch serve` as a controller sees it over loopback, and prints a line for each thing timed.
+"""bench/serve.py: times `ofswitch serve` as a controller sees it over loopback, and prints a line for each figure.
 
-Where Open vSwitch is installed (ovsdb-server, ovs-vswitchd), its userspace switch is timed in the same run, in turns with
-ours; where there is a C compiler, an echo program over the same kind of socket, too. OFSWITCH names another program.
+If Open vSwitch is installed (ovsdb-server, ovs-vswitchd), its userspace switch is timed in the same run, in turns with
+ofswitch. If there is a C compiler, an echo program over the same kind of socket is also timed. OFSWITCH names another program.
 """
 import contextlib
 import os

@@ -1,6 +1,6 @@
-"""The crates of the repository, and how `rattle` is called for one: for tools/build, tools/prove and tools/times.
+"""The crates of the repository, and the calls of `rattle` for one of them: for tools/build, tools/prove and tools/times.
 
-A library is built as what crates above may cite of it (`rattle build --statements`, as the gate builds them), into
+A library is built as statements, the parts that crates above may cite (`rattle build --statements`, as in the gate), into
 crates/NAME/out/built: a check above it then need not read its proofs.
 """
 import hashlib
@@ -16,7 +16,7 @@ MEMORY = 2500
 
 
 def toolchain():
-    """The folder of the Rattle toolchain, or None where there is no `rt`."""
+    """The folder of the Rattle toolchain, or None if there is no `rt`."""
     rt = shutil.which("rt")
     return rt and os.path.dirname(os.path.dirname(os.path.realpath(rt)))
 

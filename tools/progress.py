@@ -1,6 +1,6 @@
-"""How far a build is, for tools/build: what a crate's proof takes by the table of docs/TIMES.md, the longest way before each
-crate, and how long is left."""
-# which part of the processors a first build keeps busy, about
+"""The progress of a build, for tools/build: the time of each crate's proof by the table of docs/TIMES.md, the longest path from each
+crate to the program, and the remaining time."""
+# the part of the processors that a first build keeps busy, about
 BUSY = 0.9
 # the column of the table that has the seconds of the processors which a crate's proof took
 COLUMN = "proof"
@@ -31,8 +31,8 @@ def way_before(order, uses, seconds):
 
 
 def time_left(times, done, running, left, seconds, lanes):
-    """About how long it takes to prove what is left, in words: by what was done here in so many seconds, or else by the times of
-    the crates. Of a crate that is being proved about half is done."""
+    """The estimated time to prove the remaining crates, in words: by the crates that were done in so many seconds, or else by the
+    times of the crates. A crate that is being proved counts as half done."""
     half = sum(times.get(it, 0) for it in running) / 2
     taken, wanted = sum(times.get(it, 0) for it in done) + half, sum(times.get(it, 0) for it in left) - half
     if not wanted:

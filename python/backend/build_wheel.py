@@ -1,4 +1,4 @@
-"""Makes the package's files for pip (PEP 517), with Python's standard library alone."""
+"""Makes the package's files for pip (PEP 517), with only Python's standard library."""
 
 import base64
 import hashlib

@@ -6,11 +6,11 @@
         switch.port_add(1)
         switch.port_add(2)
         switch.connect()                  # [Answer(HELLO xid 0, ..)]
-        switch.feed(message)              # what the switch answers and sends
+        switch.feed(message)              # the answers, and the frames that leave
         switch.frame(1, frame)            # [Sent(port=2, frame=..)], or [Answer(PACKET_IN xid 0, ..)]
 
-`Bridge` lets a real controller, in a process of its own, have the connection. `Network` has several switches with links between
-them. docs/TESTING.md and docs/LAB.md of the repository are the manuals.
+`Bridge` connects a real controller in its own process. `Network` has several switches with links between them. The manuals are
+docs/TESTING.md and docs/LAB.md of the repository.
 """
 
 from .bridge import Bridge

@@ -1,4 +1,4 @@
-"""`python -m ofswitch bridge`, a switch whose rows are typed and whose controller connects over TCP; `draw`, pictures; `capture`."""
+"""`python -m ofswitch bridge`: a switch whose rows are typed and whose controller connects over TCP; also `draw` and `capture`."""
 
 from __future__ import annotations
 
@@ -18,29 +18,29 @@ from .program import ProgramError
 from .recording import PortFile
 from .switch import Switch
 
-# The exit statuses, as those of `ofswitch`.
+# The exit statuses, which are those of `ofswitch`.
 BAD_ARGUMENTS = 1
 BAD_ROW = 2
 FAULT = 3
 
 DESCRIPTION = """
 Reads rows of an event file (docs/EVENTS.md) from standard input, and plays each as soon as it is read. A controller has the
-connection: what it sends is fed to the switch, and the switch's answers go to it. Standard output has the effects of all
-rows, in their order, as `ofswitch replay` prints them. `connect`, `lost` and `c` are the controller's, and no rows here. Ends
-at the end of standard input.
+connection: its bytes are fed to the switch, and the switch's answers go to it. Standard output has the effects of all rows, in
+order, as `ofswitch replay` prints them. The rows `connect`, `lost` and `c` are reserved for the controller. Ends at the end of
+standard input.
 """
 
 STATUSES = """
-Exit status: 0 all rows were played; 1 bad arguments; 2 a line was no row, and was left out; 3 the program ended, a file does not
-open, or the address cannot be listened at.
+Exit status: 0 all rows were played; 1 bad arguments; 2 a line was not a valid row, and was left out; 3 the program ended, a file
+cannot be opened, or the bridge cannot listen at the address.
 """
 
 
 DRAW_DESCRIPTION = """
-Prints the groups and flow tables of a flow text (docs/FLOWTEXT.md), or those that a switch has after an event file, as a graph in
-Graphviz's language: tables with their flows by priority, groups with their buckets, ports, and the ways between them. Flows that
-never win (docs/CHECK.md) are gray. With a port and a frame its way is blue, with the numbers of the steps of its trace
-(docs/TRACE.md), and each table that it comes to says what it sees of the packet.
+Prints the groups and flow tables of a flow text (docs/FLOWTEXT.md), or those of a switch after an event file, as a graph in the
+language of Graphviz: tables with their flows by priority, groups with their buckets, ports, and the arrows between them. Flows that
+never win (docs/CHECK.md) are gray. With a port and a frame, the path of the frame is blue, with the numbers of the steps of its trace
+(docs/TRACE.md), and each table on the path shows the values that it sees of the packet.
 """
 
 DRAW_STATUSES = """
@@ -49,14 +49,14 @@ Exit status: 0 drawn; 1 bad arguments; 3 the program found a fault in the file, 
 
 
 CAPTURE_DESCRIPTION = """
-Reads and writes captures (pcap and pcapng files; docs/CAPTURES.md). An OpenFlow 1.3 connection of any switch becomes an event
-file, or is compared message by message with what the specified switch answers; frames become event rows; and all that happens in an
-event file becomes a capture, which Wireshark shows. What of a capture cannot be used is said on standard error.
+Reads and writes captures (pcap and pcapng files; docs/CAPTURES.md). Converts an OpenFlow 1.3 connection of any switch to an event
+file, or compares it, message by message, with the answers of the specified switch; converts frames to event rows; and writes
+everything that happens in an event file as a capture for Wireshark. Standard error names the parts of a capture that cannot be used.
 """
 
 CAPTURE_STATUSES = """
-Exit status: 0 done, and nothing differs; 1 bad arguments; 2 a line of an event file is no row; 3 a file does not open or is no
-capture, or the program is missing or ended; 4 the recorded switch differs from the specified one.
+Exit status: 0 done, and nothing differs; 1 bad arguments; 2 a line of an event file is not a valid row; 3 a file cannot be opened or
+is not a capture, or the program is missing or ended; 4 the recorded switch differs from the specified one.
 """
 
 
@@ -73,10 +73,10 @@ def parser() -> argparse.ArgumentParser:
         "bridge", help="a switch between typed rows and a controller", description=DESCRIPTION, epilog=STATUSES
     )
     way = bridge.add_mutually_exclusive_group(required=True)
-    way.add_argument("--listen", metavar="ADDR", type=address, help="where to wait for controllers, as 127.0.0.1:6653")
+    way.add_argument("--listen", metavar="ADDR", type=address, help="the address at which to wait for controllers, such as 127.0.0.1:6653")
     way.add_argument("--connect", metavar="ADDR", type=address, help="the controller to connect to")
-    bridge.add_argument("--events", metavar="FILE", help="an event file that is played before a controller comes")
-    bridge.add_argument("--log", metavar="FILE", help="where to write all rows, those of the controller too")
+    bridge.add_argument("--events", metavar="FILE", help="an event file that is played before a controller connects")
+    bridge.add_argument("--log", metavar="FILE", help="the file for all rows, also those of the controller")
     bridge.add_argument("--dpid", metavar="N", type=dpid, default=1, help="the datapath_id (by default 1)")
     bridge.add_argument("--program", metavar="PATH", help="the program ofswitch (by default OFSWITCH, or the one on the PATH)")
     add_draw(commands)
@@ -88,31 +88,31 @@ def add_draw(commands: argparse._SubParsersAction[Parser]) -> None:
     draw = commands.add_parser("draw", help="a picture of flow tables", description=DRAW_DESCRIPTION, epilog=DRAW_STATUSES)
     text = draw.add_mutually_exclusive_group(required=True)
     text.add_argument("--flows", metavar="FILE", help="a flow text")
-    text.add_argument("--events", metavar="FILE", help="an event file: the tables that a switch has after it")
-    draw.add_argument("--port", metavar="N", type=int, help="the port at which a frame comes in, whose way is drawn")
-    draw.add_argument("--svg", metavar="FILE", help="where to write a picture, by `dot` of Graphviz, in place of the graph")
+    text.add_argument("--events", metavar="FILE", help="an event file: draw the tables that a switch has after it")
+    draw.add_argument("--port", metavar="N", type=int, help="the port at which the frame comes in")
+    draw.add_argument("--svg", metavar="FILE", help="write a picture to this file, with `dot` of Graphviz, instead of printing the graph")
     draw.add_argument("--program", metavar="PATH", help="the program ofswitch (by default OFSWITCH, or the one on the PATH)")
-    draw.add_argument("frame", metavar="HEX", nargs="?", help="that frame, two hexadecimal digits a byte")
+    draw.add_argument("frame", metavar="HEX", nargs="?", help="a frame whose path is drawn, two hexadecimal digits per byte")
 
 
 def add_capture(commands: argparse._SubParsersAction[Parser]) -> None:
     capture = commands.add_parser("capture", help="captures of OpenFlow connections and of frames", description=CAPTURE_DESCRIPTION, epilog=CAPTURE_STATUSES)
     what = capture.add_subparsers(dest="what", required=True, parser_class=Parser)
-    events = what.add_parser("events", help="an event file of what a capture shows of a switch", epilog=CAPTURE_STATUSES)
-    compare = what.add_parser("compare", help="what the recorded switch answers otherwise than the specified one", epilog=CAPTURE_STATUSES)
+    events = what.add_parser("events", help="an event file of a recorded switch", epilog=CAPTURE_STATUSES)
+    compare = what.add_parser("compare", help="the differences between the recorded switch and the specified one", epilog=CAPTURE_STATUSES)
     frames = what.add_parser("frames", help="event rows of the frames of a capture", epilog=CAPTURE_STATUSES)
     pcap = what.add_parser("pcap", help="a pcapng file of all that happens in an event file", epilog=CAPTURE_STATUSES)
     for it in (events, compare):
         it.add_argument("file", metavar="FILE", help="a pcap or pcapng file of an OpenFlow 1.3 connection")
-        it.add_argument("--tcp-port", metavar="N", type=int, help="only connections of this TCP port, of either end")
-        it.add_argument("--dpid", metavar="N", type=dpid, help="only the switch of this datapath_id (by default the first one)")
+        it.add_argument("--tcp-port", metavar="N", type=int, help="only connections with this TCP port at either end")
+        it.add_argument("--dpid", metavar="N", type=dpid, help="only the switch with this datapath_id (by default the first switch)")
         it.add_argument(
             "--in", dest="inputs", metavar="N=FILE", type=port_file, action="append", default=[],
-            help="frames that port N received: a capture of them; without one the frames of whole PACKET_INs",
+            help="a capture of the frames that port N received; by default the frames of whole PACKET_INs",
         )
     compare.add_argument(
         "--out", dest="outputs", metavar="N=FILE", type=port_file, action="append", default=[],
-        help="frames that left by port N: a capture of them, which is compared",
+        help="a capture of the frames that left by port N, to be compared",
     )
     frames.add_argument("file", metavar="FILE", help="a pcap or pcapng file of Ethernet frames")
     frames.add_argument("--port", metavar="N", type=port, required=True, help="the port that receives them")
@@ -143,7 +143,7 @@ def address(word: str) -> Address:
         if not 0 <= int(port) <= 65_535:
             raise ValueError
     except ValueError:
-        raise argparse.ArgumentTypeError("an address is an IP address and a port, as 127.0.0.1:6653 or [::1]:6653") from None
+        raise argparse.ArgumentTypeError("an address is an IP address and a port, such as 127.0.0.1:6653 or [::1]:6653") from None
     return str(ip), int(port)
 
 
@@ -163,7 +163,7 @@ def print_effects(row: str, effects: list[Effect]) -> None:
 
 
 def play(switch: Switch, lines: Iterable[str], name: str) -> int:
-    """Plays lines, says which are no rows, and returns the exit status."""
+    """Plays lines, reports those that are not valid rows, and returns the exit status."""
     status = 0
     for place, line in enumerate(lines, 1):
         row = line.removesuffix("\n")
@@ -191,7 +191,7 @@ def run(asked: argparse.Namespace) -> int:
 
 
 def open_lines(file: str | int) -> TextIO:
-    """Opens a file whose lines end with LF alone. Bytes that are not UTF-8 make a line that is no row."""
+    """Opens a file whose lines end only with LF. A line with bytes that are not UTF-8 is not a valid row."""
     return open(file, encoding="utf-8", errors="surrogateescape", newline="\n", closefd=isinstance(file, str))
 
 

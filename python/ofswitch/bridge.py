@@ -1,4 +1,4 @@
-"""A controller over TCP, joined to a switch."""
+"""Connects a switch to controllers over TCP."""
 
 from __future__ import annotations
 
@@ -20,25 +20,25 @@ _log = logging.getLogger("ofswitch")
 
 
 class Bridge:
-    """Gives the connection of a switch to controllers over TCP, one at a time, while a test plays other rows.
+    """Connects a switch to controllers over TCP, one at a time, while a test plays other rows.
 
         with Switch() as switch, Bridge(switch) as bridge:
             ..                               # a controller connects to bridge.address
             switch.frame(1, frame)           # the controller gets the PACKET_IN
             bridge.sent()                    # the frame that leaves by its PACKET_OUT
 
-    What a controller sends is fed to the switch, and each answer goes to the controller, whoever played the row. All rows
-    are in `switch.log`, in the order in which the switch saw them, so that it replays the whole run. A controller that goes
-    is lost, and another one may come; one that takes nothing of its answers for `patience` seconds loses its connection.
+    The bytes of the controller are fed to the switch, and each answer goes to the controller, whoever played the row. All
+    rows are in `switch.log`, in the order in which the switch saw them, so the log replays the whole run. If a controller
+    disconnects, another one may connect. A controller that reads none of its answers for `patience` seconds is disconnected.
     """
 
     def __init__(self, switch: Switch, address: Address = ("127.0.0.1", 0), *, patience: float = 10.0) -> None:
-        """Listens for controllers at an IP address and a port; port 0 is one that is free."""
+        """Listens for controllers at an IP address and a port; port 0 means any free port."""
         self._begin(switch, Listener(address), patience)
 
     @classmethod
     def dial(cls, switch: Switch, address: Address, *, patience: float = 10.0) -> Bridge:
-        """Connects to a controller that listens at this address, again whenever the connection is lost."""
+        """Connects to a controller that listens at this address, and again whenever the connection is lost."""
         bridge = cls.__new__(cls)
         bridge._begin(switch, Dialer(address), patience)
         return bridge
@@ -70,12 +70,12 @@ class Bridge:
 
     @property
     def address(self) -> Address:
-        """Where it listens, or what it connects to."""
+        """The address at which it listens, or to which it connects."""
         return self._door.address
 
     @property
     def is_connected(self) -> bool:
-        """Whether a controller is connected and not lost yet."""
+        """Whether a controller is connected."""
         return self._connection is not None
 
     @property
@@ -88,28 +88,28 @@ class Bridge:
         self.until(lambda: self._is_ready, timeout)
 
     def idle(self) -> float:
-        """How many seconds ago the last row was played, for the controller or for the test."""
+        """The seconds since the last row was played, by the controller or by the test."""
         with self._played:
             self._check()
             return time.monotonic() - self._last
 
     def sent(self, timeout: float = 5.0) -> Sent:
-        """The next frame that leaves because of the controller's messages. TimeoutError if there is none in time."""
+        """The next frame that leaves because of a message of the controller. TimeoutError if there is none in time."""
         with self._played:
             self.until(lambda: bool(self._sent), timeout)
             return self._sent.popleft()
 
     def until(self, condition: Callable[[], bool], timeout: float = 5.0) -> None:
-        """Waits until a condition holds, which may change with each row. TimeoutError if it does not hold in time."""
+        """Waits until a condition holds, and checks it after each row. TimeoutError if it does not hold in time."""
         with self._played:
             if not self._played.wait_for(lambda: self._fault or condition(), timeout):
                 raise TimeoutError(f"not within {timeout:g} s")
             self._check()
 
     def quiet(self, seconds: float = 0.1, timeout: float = 10.0) -> None:
-        """Waits until no row has been played for so long: the controller has sent nothing, and the test has played nothing.
+        """Waits until no row has been played for this many seconds, neither by the controller nor by the test.
 
-        A controller that takes longer for an answer needs a longer time here. TimeoutError if it goes on sending.
+        A controller that takes longer to answer needs a longer time here. TimeoutError if it does not stop sending.
         """
         end = time.monotonic() + timeout
         with self._played:
@@ -121,14 +121,14 @@ class Bridge:
                 self._check()
 
     def disconnect(self) -> None:
-        """Ends the connection, as a network does that fails."""
+        """Ends the connection, like a network failure."""
         with self._played:
             if self._connection is not None:
                 self._connection.end = "by the test"
         self._waker.wake()
 
     def close(self) -> None:
-        """Ends the connection, and listens or connects no more."""
+        """Ends the connection, and stops listening or connecting."""
         self._is_closing = True
         self._waker.wake()
         self._thread.join()
@@ -160,7 +160,7 @@ class Bridge:
             self._waker.wake()
 
     def _check(self) -> None:
-        """Raises what ended the bridge, if something did."""
+        """Raises the exception that ended the bridge, if there was one."""
         if self._fault is not None:
             raise self._fault
 
@@ -207,7 +207,7 @@ class Bridge:
         self._played.notify_all()
 
     def _greet(self, data: bytes, effects: list[Effect]) -> None:
-        """The switch has accepted the HELLO, if the first message is whole and the switch has not ended the connection."""
+        """Notes that the switch has accepted the HELLO, if the first message is complete and the switch has not ended the connection."""
         if not self._is_ready:
             self._hello += data
             whole = len(self._hello) >= 8 and len(self._hello) >= int.from_bytes(self._hello[2:4], "big")
@@ -222,7 +222,7 @@ class Bridge:
             self._switch.play_for_controller(rows.lost())
 
     def _leave(self) -> None:
-        """Nothing of the bridge stays."""
+        """Removes all that the bridge holds."""
         with self._played:
             self._door.close()
             if self._connection is not None:

@@ -26,7 +26,7 @@ def run(asked: argparse.Namespace) -> int:
 
 
 def _recorded(asked: argparse.Namespace, notes: Notes) -> tuple[list[Moment], int]:
-    """What a capture shows of a switch, and its datapath_id."""
+    """The switch that a capture shows, and its datapath_id."""
     found = sessions.read(asked.file, asked.tcp_port, asked.dpid, notes)
     if not found:
         notes.add(f"{asked.file}: no OpenFlow 1.3 connection")

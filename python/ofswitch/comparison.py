@@ -1,4 +1,4 @@
-"""What a recorded switch answered, beside what the specified switch answers to the same messages and frames."""
+"""Compares the answers of a recorded switch with those of the specified switch to the same messages and frames."""
 
 from __future__ import annotations
 
@@ -15,22 +15,22 @@ from .message_types import MessageType, message_name
 from .recording import Moment
 from .sessions import Message
 
-# What two switches may say differently: when something happened to them, and under which number they hold a packet.
+# Fields that may differ between two switches: when something happened, and the number under which a packet is held.
 _NOT_COMPARED = {"duration_sec", "duration_nsec", "buffer_id"}
 
 _MOST_LINES = 12
 _MOST_COLUMNS = 100
 
-# What a switch says unasked.
+# Messages that a switch sends without a request.
 _UNASKED = {MessageType.HELLO, MessageType.PACKET_IN, MessageType.PORT_STATUS, MessageType.FLOW_REMOVED}
 
-# By which of its fields an entry of a list is found in another list.
+# The field by which an entry of a list is found in another list.
 _KEYS = (("table_id", "priority", "match"), ("port_no", "queue_id"), ("port_no",), ("group_id",), ("meter_id",), ("table_id",))
 
 
 @dataclass(frozen=True)
 class Key:
-    """What belongs together: a request with its answers, or the messages of a type that nobody asked for, of a connection."""
+    """Messages of a connection that belong together: a request with its answers, or the asynchronous messages of one type."""
 
     connection: int
     xid: int | None
@@ -56,7 +56,7 @@ class Exchange:
         return (f" {names}" if names else "") + (f" (packet {self.number})" if self.number is not None else "")
 
     def differences(self) -> list[str]:
-        """What the recorded switch says otherwise, a line each. In which order a switch answers makes no difference."""
+        """The differences of the recorded switch, one per line. The order of answers does not matter."""
         recorded, specified = _without_equal(self.recorded, self.specified)
         kinds = [[(message_name(it), _error(it)) for it in side] for side in (recorded, specified)]
         if kinds[0] == kinds[1]:
@@ -81,7 +81,7 @@ class Comparison:
 
 
 def compare(moments: list[Moment], effects: Iterator[list[Effect]]) -> Comparison:
-    """Puts the answers together. `effects` are those of each row of the moments, of the specified switch."""
+    """Collects the answers of both switches. `effects` are those of the specified switch for each row of the moments."""
     whole = Comparison()
     connection = 0
     for it in moments:
@@ -94,7 +94,7 @@ def compare(moments: list[Moment], effects: Iterator[list[Effect]]) -> Compariso
             continue
         connection += it.row == rows.connect()
         if it.message is not None and it.message.data[1] not in (MessageType.HELLO, MessageType.ECHO_REPLY):
-            # an ECHO_REQUEST of the controller is asked by its xid, as all other requests
+            # an ECHO_REQUEST of the controller is found by its xid, like all other requests
             key = Key(connection, int.from_bytes(it.message.data[4:8], "big"), None)
             asked = whole.exchanges.setdefault(key, Exchange(number=number))
             asked.requests.append(it.message)
@@ -107,7 +107,7 @@ def compare(moments: list[Moment], effects: Iterator[list[Effect]]) -> Compariso
 
 
 def report(whole: Comparison, outputs: dict[int, list[bytes]]) -> tuple[list[str], int, int]:
-    """The differences in lines; how many exchanges and ports are alike, and how many differ."""
+    """The differences as lines; the number of exchanges and ports that are alike, and of those that differ."""
     lines: list[str] = []
     alike = other = 0
     for key, exchange in whole.exchanges.items():
@@ -145,7 +145,7 @@ def _error(message: bytes) -> bytes:
 
 
 def _without_equal(recorded: list[bytes], specified: list[bytes]) -> tuple[list[bytes], list[bytes]]:
-    """Both lists without the messages that the other one has, too."""
+    """Both lists without the messages that are in both."""
     ones, others = [[_compared(it) for it in side] for side in (recorded, specified)]
     both = Counter(ones) & Counter(others)
     return _without(recorded, ones, both.copy()), _without(specified, others, both)
@@ -162,7 +162,7 @@ def _without(messages: list[bytes], texts: list[str], left: Counter[str]) -> lis
 
 
 def _compared(message: bytes) -> str:
-    """All of a message that is compared."""
+    """The parts of a message that are compared."""
     try:
         return f"{message[0]} {message_name(message)} {_stripped(fields_of(message))}"
     except ValueError:
@@ -209,7 +209,7 @@ def _count(keys: list[str]) -> str:
 
 
 def _by_key(entries: list[Any]) -> dict[str, Any]:
-    """The entries of a list by what identifies them, or by their places, from 0."""
+    """The entries of a list by their identifying fields, or by their places, from 0."""
     names = next((it for it in _KEYS if entries and isinstance(entries[0], dict) and all(name in entries[0] for name in it)), ())
     keys = [", ".join(f"{name} {_key_value(it[name])}" for name in names) for it in entries] if names else []
     if len(set(keys)) != len(entries):

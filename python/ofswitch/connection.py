@@ -1,4 +1,4 @@
-"""A TCP connection with a controller, and the two ways in which one comes about."""
+"""A TCP connection with a controller, and the two ways to make one."""
 
 from __future__ import annotations
 
@@ -11,7 +11,7 @@ Address = tuple[str, int]
 
 _READ_SIZE = 65_536
 
-# While so many bytes wait for the controller nothing of it is read, since its messages might be answered.
+# While this many bytes wait for the controller, its messages are not read, since they might be answered.
 _MOST_WAITING = 1 << 20
 
 # How long an attempt to connect takes at most, and the pause after one, which doubles up to the longest, in seconds.
@@ -34,7 +34,7 @@ class Waker:
             self._sender.send(b"x")
 
     def wait(self, stream: socket.socket | None, events: int, seconds: float | None) -> None:
-        """Waits for events of a socket, for so long at most, unless somebody wakes it."""
+        """Waits for events of a socket, at most this long, unless another thread wakes it."""
         waiting = select.poll()
         waiting.register(self._receiver, select.POLLIN)
         if stream is not None:
@@ -50,10 +50,10 @@ class Waker:
 
 
 class Connection:
-    """A connection with a controller. What the controller does not take at once waits for it."""
+    """A connection with a controller. Bytes that the controller does not take at once are kept for it."""
 
     def __init__(self, stream: socket.socket, patience: float) -> None:
-        """OSError if it has ended already."""
+        """OSError if the connection has already ended."""
         stream.setblocking(False)
         stream.setsockopt(socket.IPPROTO_TCP, socket.TCP_NODELAY, 1)
         host, port = stream.getpeername()[:2]
@@ -61,7 +61,7 @@ class Connection:
         self._stream = stream
         self._patience = patience
         self._waiting = bytearray()
-        # since when the controller takes nothing of what waits
+        # since when the controller has taken none of the waiting bytes
         self._since = 0.0
         # whether the switch has ended it; nothing more of it is read then
         self.is_over = False
@@ -69,7 +69,7 @@ class Connection:
         self.end: str | None = None
 
     def write(self, data: bytes) -> None:
-        """Sends what the controller takes, and keeps the rest. Nobody gets it any more if the connection has ended."""
+        """Sends what the controller takes, and keeps the rest. If the connection has ended, the bytes are dropped."""
         if self.end is not None:
             return
         if not self._waiting:
@@ -78,12 +78,12 @@ class Connection:
         self.flush()
 
     def finish(self) -> None:
-        """The switch ends it, once all that waits is sent."""
+        """The switch ends the connection as soon as all waiting bytes are sent."""
         self.is_over = True
         self.flush()
 
     def flush(self) -> None:
-        """Sends what the controller takes of what waits."""
+        """Sends as many of the waiting bytes as the controller takes."""
         while self._waiting and self.end is None:
             try:
                 size = self._stream.send(self._waiting)
@@ -101,11 +101,11 @@ class Connection:
 
     @property
     def needs_attention(self) -> bool:
-        """Whether something waits to be sent, or it has ended."""
+        """Whether bytes wait to be sent, or the connection has ended."""
         return bool(self._waiting) or self.end is not None
 
     def read(self) -> bytes:
-        """What the controller has sent; nothing, too, where nothing is to be read now."""
+        """The bytes that the controller has sent; empty if there are none now."""
         if not self._is_heard():
             return b""
         try:
@@ -120,7 +120,7 @@ class Connection:
         return data
 
     def wait(self, waker: Waker) -> None:
-        """Waits until there may be something to read, to send or to end."""
+        """Waits until there may be bytes to read or to send, or the connection may be ended."""
         if self.end is not None:
             return
         events = (select.POLLIN if self._is_heard() else 0) | (select.POLLOUT if self._waiting else 0)
@@ -144,7 +144,7 @@ class Listener:
         self.address: Address = self._socket.getsockname()[:2]
 
     def meet(self, waker: Waker) -> socket.socket | None:
-        """Waits for a controller. There may be none, if somebody wakes it."""
+        """Waits for a controller. Returns None if another thread wakes it."""
         waker.wait(self._socket, select.POLLIN, None)
         try:
             return self._socket.accept()[0]
@@ -163,7 +163,7 @@ class Dialer:
         self._pause = _FIRST_PAUSE
 
     def meet(self, waker: Waker) -> socket.socket | None:
-        """The controller; or none, after a pause, if it is not there."""
+        """The controller; or None, after a pause, if it does not answer."""
         try:
             stream = socket.create_connection(self.address, timeout=_DIAL_TIMEOUT)
         except OSError:

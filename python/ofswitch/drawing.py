@@ -1,4 +1,4 @@
-"""Flow tables as a graph in Graphviz's language: tables, groups, ports, and the ways between them."""
+"""Flow tables as a graph in the language of Graphviz: tables, groups, ports, and the arrows between them."""
 
 from __future__ import annotations
 
@@ -28,7 +28,7 @@ _GRAY = "#999999"
 
 
 def draw(configuration: Configuration, never: set[tuple[int, int]], walk: Walk) -> str:
-    """The graph. Flows that never win are gray; what the frame of `walk` hits, and the ways that it takes, are blue."""
+    """The graph. Flows that never win are gray; the flows that the frame of `walk` hits, and its arrows, are blue."""
     lines = [_HEAD]
     lines += [_table(configuration, table, never, walk) for table in configuration.tables()]
     lines += [_group(it) for it in configuration.groups]
@@ -44,7 +44,7 @@ def port_name(number: str) -> str:
 
 
 def _value(name: str, hexadecimal: str) -> str:
-    """A value of a match field as people write it."""
+    """A value of a match field in its usual notation."""
     digits = hexadecimal.removeprefix("0x")
     if name in ("ipv4_src", "ipv4_dst", "arp_spa", "arp_tpa"):
         return str(ipaddress.IPv4Address(int(digits, 16)))
@@ -58,7 +58,7 @@ def _value(name: str, hexadecimal: str) -> str:
 
 
 def _mask(name: str, hexadecimal: str) -> str:
-    """A mask; that of an address is the length of a prefix, where it is one."""
+    """A mask; for an address it is a prefix length, if the mask is a prefix."""
     digits = hexadecimal.removeprefix("0x")
     bits = f"{int(digits, 16):0{4 * len(digits)}b}"
     if name.startswith("ip") and "01" not in bits:
@@ -78,7 +78,7 @@ def _action(words: Words) -> str:
 
 
 def _actions(actions: list[Words]) -> str:
-    """The actions that change the packet; where it goes is an arrow."""
+    """The actions that change the packet; outputs are arrows."""
     return ", ".join(_action(it) for it in actions if it[0] not in ("output", "to_group"))
 
 
@@ -159,7 +159,7 @@ def _port(number: str) -> str:
 
 
 def _ways(configuration: Configuration) -> list[Way]:
-    """Each way between tables, groups and ports, once."""
+    """Each arrow between tables, groups and ports, once."""
     ways: list[Way] = []
     for flow in configuration.flows:
         ways += [(FromFlow(flow.table, flow.place, "apply"), it) for it in _onward(flow.apply)]

@@ -1,4 +1,4 @@
-"""Effects: what a row makes the switch do."""
+"""Effects: what the switch does because of a row."""
 
 from __future__ import annotations
 
@@ -14,7 +14,7 @@ from .message_types import MessageType
 class Answer:
     """A message to the controller, with its header of 8 bytes (OpenFlow 1.3.5, 7.1).
 
-    It shows itself in words: `Answer(FLOW_MOD refused: OFPBMC_BAD_PREREQ)`.
+    Its `repr` is in words: `Answer(FLOW_MOD refused: OFPBMC_BAD_PREREQ)`.
     """
 
     data: bytes
@@ -30,16 +30,16 @@ class Answer:
 
     @property
     def error(self) -> str | None:
-        """The name of an ERROR, as OFPBMC_BAD_PREREQ (OpenFlow 1.3.5, 7.4.4); None for another message."""
+        """The name of an ERROR, such as OFPBMC_BAD_PREREQ (OpenFlow 1.3.5, 7.4.4); None for another message."""
         if self.type is not MessageType.ERROR:
             return None
         return error_name(int.from_bytes(self.data[8:10], "big"), int.from_bytes(self.data[10:12], "big"))
 
     @property
     def fields(self) -> dict[str, Any]:
-        """The fields behind the header, by their names in the standard: `answer.fields["reason"] == "NO_MATCH"`.
+        """The fields after the header, by their names in the standard: `answer.fields["reason"] == "NO_MATCH"`.
 
-        Addresses are texts as people write them, enumerations are names without prefix, actions are lines of flow text
+        Addresses are strings in the usual notation, enumerations are names without prefix, actions are lines of flow text
         (docs/FLOWTEXT.md), and data is hexadecimal.
         """
         return fields_of(self.data)
@@ -75,7 +75,7 @@ class Closed:
 
 @dataclass(frozen=True)
 class Refused:
-    """What the row asks for is not possible now, and changed nothing. Two are equal if their numbers are."""
+    """The event of the row is not possible now, and changed nothing. Two refusals are equal if their numbers are equal."""
 
     number: int
     reason: str = field(default="", compare=False)
@@ -110,4 +110,4 @@ def effect_of(line: bytes) -> Effect:
     if line.startswith(b"refused "):
         number = int(line[8:])
         return Refused(number, _REASONS.get(number, ""))
-    raise ValueError(f"no effect: {line!r}")
+    raise ValueError(f"not an effect: {line!r}")

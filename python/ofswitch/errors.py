@@ -2,7 +2,7 @@
 
 from __future__ import annotations
 
-# Of each error type, from 0: the prefix of its codes, and the codes from 0.
+# For each error type, from 0: the prefix of its codes, and the codes from 0.
 _TYPES = [
     "OFPHFC INCOMPATIBLE EPERM",
     "OFPBRC BAD_VERSION BAD_TYPE BAD_MULTIPART BAD_EXPERIMENTER BAD_EXP_TYPE EPERM BAD_LEN BUFFER_EMPTY BUFFER_UNKNOWN"
@@ -34,5 +34,5 @@ _NAMES = {
 
 
 def error_name(kind: int, code: int) -> str:
-    """The name of an error, as OFPBMC_BAD_PREREQ; its two numbers where the standard has no name."""
+    """The name of an error, such as OFPBMC_BAD_PREREQ; its two numbers if the standard has no name."""
     return _NAMES.get((kind, code), f"type {kind} code {code}")

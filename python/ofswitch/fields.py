@@ -92,7 +92,7 @@ class Bytes:
 
     def take(self, size: int) -> bytes:
         if size < 0 or self.at + size > len(self.data):
-            raise ValueError("a message ends too early, or has a length that cannot be")
+            raise ValueError("a message is truncated, or has an impossible length")
         self.at += size
         return self.data[self.at - size : self.at]
 
@@ -123,12 +123,12 @@ class Bytes:
         return Bytes(self.take(size))
 
     def part_of_length(self) -> Bytes:
-        """The next structure, which begins with its length of two bytes, at the length's place."""
+        """The next structure, whose length of two bytes is at this place."""
         return self.part(int.from_bytes(self.data[self.at : self.at + 2], "big"))
 
 
 def fields_of(message: bytes) -> Fields:
-    """The fields of a message behind its header, by name. ValueError if it is no message that can be read."""
+    """The fields of a message after its header, by name. ValueError if the message cannot be read."""
     kind = MessageType(message[1]) if len(message) >= 8 and message[1] <= MessageType.METER_MOD else None
     body = Bytes(message[8:])
     if kind in _BODIES:
@@ -138,9 +138,9 @@ def fields_of(message: bytes) -> Fields:
 
 
 def summary(message: bytes, most: int = 60) -> str:
-    """A message in words: of an ERROR what was refused, and with which error; of others the name, the xid and the fields.
+    """A message in words: for an ERROR the refused message and the error; for others the name, the xid and the fields.
 
-    Of each field at most so many letters.
+    Each field is cut to this many characters.
     """
     if len(message) < 8:
         return message.hex()
@@ -188,7 +188,7 @@ def _value(name: str, data: bytes, is_masked: bool) -> Any:
 
 
 def oxm_field(data: Bytes) -> tuple[str, Any]:
-    """The name and the value of a match field; with a mask the value is a text, as `10.0.0.0/255.0.0.0`."""
+    """The name and the value of a match field; with a mask the value is a string such as `10.0.0.0/255.0.0.0`."""
     oxm_class, second, size = data.number(2), data.number(1), data.number(1)
     number, has_mask = second >> 1, second & 1
     is_known = oxm_class == _OPENFLOW_BASIC and number < len(_OXM_NAMES)

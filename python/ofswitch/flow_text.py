@@ -13,7 +13,7 @@ Words = tuple[str, ...]
 
 @dataclass
 class Bucket:
-    """A bucket of a group; `watches` is empty, or says what it watches, as `port 2`."""
+    """A bucket of a group; `watches` is empty, or names what it watches, such as `port 2`."""
 
     watches: str
     actions: list[Words] = field(default_factory=list)
@@ -49,7 +49,7 @@ class Configuration:
     flows: list[Flow] = field(default_factory=list)
 
     def tables(self) -> list[int]:
-        """The tables that have a flow, or that one leads to, and table 0, at which each packet begins."""
+        """The tables that have a flow or to which a flow leads, and table 0, at which each packet begins."""
         ways = [it.goto for it in self.flows if it.goto is not None]
         return sorted({0, *(it.table for it in self.flows), *ways})
 

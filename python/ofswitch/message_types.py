@@ -46,7 +46,7 @@ MULTIPART_NAMES = (
 
 
 def message_name(message: bytes) -> str:
-    """The name of a message's type, with that of a multipart message's own type, as `MULTIPART_REPLY FLOW`."""
+    """The name of a message's type, with that of a multipart message's own type, such as `MULTIPART_REPLY FLOW`."""
     try:
         name = MessageType(message[1]).name
     except ValueError:

@@ -20,7 +20,7 @@ from .switch import Switch
 
 @dataclass(frozen=True)
 class Arrived:
-    """A frame that left by a port without a link: a host got it."""
+    """A frame that left by a port without a link, and so reached a host."""
 
     switch: str
     port: int
@@ -40,7 +40,7 @@ class Crossing(NamedTuple):
 
 
 class Looped(Exception):
-    """Frames crossed more links than the network allows. `loop` has the links that a frame went round, if it went round some."""
+    """Frames crossed more links than the network allows. `loop` has the links of the loop that a frame followed, if there is one."""
 
     def __init__(self, hops: int, loop: list[Crossing]) -> None:
         self.loop = loop
@@ -69,26 +69,26 @@ class Network:
     def __init__(
         self, switches: Mapping[str, int] | None = None, *, hops: int = 1000, new_switch: Callable[..., Switch] | None = None
     ) -> None:
-        """Makes switches with so many ports each. One call of `send`, `carry` or `settle` carries frames over `hops` links at most.
+        """Makes switches with this many ports each. One call of `send`, `carry` or `settle` carries frames over at most `hops` links.
 
-        `new_switch` makes a switch of a name and the options of `Switch`; without it that is `Switch`.
+        `new_switch` makes a switch from a name and the options of `Switch`; the default is `Switch`.
         """
         self.switches: dict[str, Switch] = {}
         self._bridges: dict[str, Bridge] = {}
         self._new_switch = new_switch or _new_switch
-        # how many links the frames of one call cross at most
+        # the most links that the frames of one call cross
         self.hops = hops
         self._ports: dict[str, set[int]] = {}
         self._links: dict[tuple[str, int], Crossing] = {}
-        # guards the three fields below, which the threads of bridges change, too
+        # guards the three fields below, which the threads of bridges also change
         self._lock = threading.Lock()
         self._under_way: deque[tuple[_Way, bytes]] = deque()
         self._arrived: list[Arrived] = []
-        # by which ways a frame came to a switch, oldest first, for the frames that a controller sends on
+        # the paths by which a frame came to a switch, oldest first, for the frames that a controller forwards
         self._came: dict[tuple[str, bytes], list[_Way]] = {}
         # set when a frame leaves a switch
         self._moved = threading.Event()
-        # the way of the frame that this thread carries
+        # the path of the frame that this thread carries
         self._here = threading.local()
         for name, ports in (switches or {}).items():
             self.add(name, ports)
@@ -129,7 +129,7 @@ class Network:
         self._links[other, its] = Crossing(other, its, one, port)
 
     def cut(self, one: str, port: int) -> None:
-        """The link of this port goes down: both of its ports tell their controllers."""
+        """The link of this port goes down; the switches at both ends send a PORT_STATUS."""
         self._set_link(one, port, up=False)
 
     def mend(self, one: str, port: int) -> None:
@@ -146,9 +146,9 @@ class Network:
     # ---- frames and time
 
     def send(self, switch: str, port: int, frame: Octets) -> list[Arrived]:
-        """A frame of a host is received at a port. Carries it and its copies, and returns what has reached hosts.
+        """A frame of a host is received at a port. Carries it and its copies, and returns the frames that reached hosts.
 
-        It waits for no controller: `settle` does. Looped is raised if frames cross more than `hops` links.
+        Does not wait for controllers, as `settle` does. Raises Looped if frames cross more than `hops` links.
         """
         with self._lock:
             self._came.clear()
@@ -156,14 +156,14 @@ class Network:
         return self.carry()
 
     def carry(self) -> list[Arrived]:
-        """Carries frames until none is under way, and returns what has reached hosts since the last call."""
+        """Carries frames until none is on its way, and returns the frames that reached hosts since the last call."""
         self._carry(self.hops)
         return self._taken()
 
     def settle(self, seconds: float = 0.1, timeout: float = 10.0) -> list[Arrived]:
-        """Carries frames until none is under way and neither a switch nor a controller has said anything for so long.
+        """Carries frames until none is on its way and no switch has played a row for this many seconds.
 
-        Returns what has reached hosts since the last call. TimeoutError if frames and messages go on for `timeout` seconds.
+        Returns the frames that reached hosts since the last call. TimeoutError if frames and messages continue for `timeout` seconds.
         """
         end = time.monotonic() + timeout
         hops = self.hops
@@ -190,10 +190,10 @@ class Network:
     def bridges(
         self, address: Address | Mapping[str, Address] | None = None, *, timeout: float = 10.0
     ) -> Iterator[dict[str, Bridge]]:
-        """Until the end of the `with` each switch has a bridge, and with it a connection of its own. Gives the bridges by name.
+        """Until the end of the `with` each switch has a bridge, and so its own connection. Returns the bridges by name.
 
-        All bridges connect to the controller at an address, or each to the one at the address of its name; when the `with`
-        begins, each switch has accepted the HELLO of its controller. Without an address each bridge listens at a free port.
+        All bridges connect to the controller at one address, or each to the address under its name. When the `with` begins,
+        each switch has accepted the HELLO of its controller. Without an address each bridge listens at a free port.
         """
         with contextlib.ExitStack() as stack:
             for name, switch in self.switches.items():
@@ -209,13 +209,13 @@ class Network:
             yield self._bridges
 
     def until(self, condition: Callable[[Switch], bool], timeout: float = 10.0) -> None:
-        """Waits until a condition holds of each switch, as `lambda switch: "flow 0 0 " in switch.flows()`."""
+        """Waits until a condition holds for each switch, such as `lambda switch: "flow 0 0 " in switch.flows()`."""
         end = time.monotonic() + timeout
         for name, switch in self.switches.items():
             if name in self._bridges:
                 self._bridges[name].until(lambda: condition(switch), max(0.0, end - time.monotonic()))
             elif not condition(switch):
-                raise TimeoutError(f"the condition does not hold of {name}, which has no bridge")
+                raise TimeoutError(f"the condition does not hold for {name}, which has no bridge")
 
     # ---- its end
 
@@ -235,7 +235,7 @@ class Network:
     # ---- inside
 
     def _carry(self, hops: int) -> int:
-        """Carries frames until none is under way, over so many links at most; returns how many links more there may be."""
+        """Carries frames until none is on its way, over at most this many links; returns how many links remain."""
         while True:
             with self._lock:
                 if not self._under_way:
@@ -252,7 +252,7 @@ class Network:
                 self._here.way = None
 
     def _see(self, name: str, row: str, effects: list[Effect]) -> None:
-        """Keeps what a row of a switch sends. A frame is not received at once: its switch may be playing a row in another thread."""
+        """Keeps the frames that a row sends. A frame is not received at once: its switch may be playing a row in another thread."""
         if row.startswith("port "):
             self._see_port(name, row, effects)
         sent = [it for it in effects if isinstance(it, Sent)]
@@ -268,7 +268,7 @@ class Network:
         self._moved.set()
 
     def _way_to(self, name: str, sent: Sent) -> _Way | None:
-        """The way of a frame that leaves: of the frame that this thread carries, or else of the same bytes that came to another port."""
+        """The path of a frame that leaves: that of the carried frame, or else of the same bytes that came to another port."""
         here: _Way | None = getattr(self._here, "way", None)
         came = reversed(self._came.get((name, sent.frame), []))
         return here or next((it for it in came if it.crossing.to_port != sent.port), None)
@@ -288,7 +288,7 @@ class Network:
             return arrived
 
     def _looped(self) -> Looped:
-        """Names a loop of a frame that is under way, and forgets all frames."""
+        """Raises Looped with a loop of a frame that is on its way, and forgets all frames."""
         loops = (_loop(way) for way, _ in self._under_way)
         fault = Looped(self.hops, next(filter(None, loops), []))
         self._under_way.clear()
@@ -301,7 +301,7 @@ def _new_switch(name: str, **options: Any) -> Switch:
 
 
 def _loop(way: _Way | None) -> list[Crossing]:
-    """The links from one time that the frame crossed a link to the next time that it crossed that link, or none."""
+    """The links between two crossings of the same link by the frame, or none."""
     crossed: dict[Crossing, None] = {}
     while way is not None:
         if way.crossing in crossed:

@@ -1,4 +1,4 @@
-"""Capture files: the packets of pcap and pcapng files, and pcapng files that are written."""
+"""Capture files: reads pcap and pcapng files, and writes pcapng files."""
 
 from __future__ import annotations
 
@@ -16,7 +16,7 @@ _BILLION = 1_000_000_000
 
 
 class Packet(NamedTuple):
-    """A packet of a capture: its number in the file from 1, its time, its link type, what was kept of it, and how long it was."""
+    """A packet of a capture: its number in the file from 1, its time, its link type, the captured bytes, and its original length."""
 
     number: int
     nanoseconds: int
@@ -26,16 +26,16 @@ class Packet(NamedTuple):
 
     @property
     def is_cut(self) -> bool:
-        """Whether the capture has not kept all of it."""
+        """Whether the packet was truncated."""
         return len(self.data) < self.size
 
 
 class CaptureError(Exception):
-    """A file is no capture, or not from some place on."""
+    """A file is not a capture, or is damaged at some place."""
 
 
 def packets(path: StrPath) -> Iterator[Packet]:
-    """The packets of a pcap or pcapng file. CaptureError if it is none, or ends inside a packet, after those before it."""
+    """The packets of a pcap or pcapng file. CaptureError if it is neither, or at its end if it ends inside a packet."""
     with open(path, "rb") as file:
         data = file.read()
     for order in "<>":
@@ -44,7 +44,7 @@ def packets(path: StrPath) -> Iterator[Packet]:
             return _pcap(path, data, order, 1000 if magic == 0xA1B2C3D4 else 1)
     if magic == 0x0A0D0D0A:
         return _pcapng(path, data)
-    raise CaptureError(f"{path}: no pcap or pcapng file")
+    raise CaptureError(f"{path}: not a pcap or pcapng file")
 
 
 def _pcap(path: StrPath, data: bytes, order: str, unit: int) -> Iterator[Packet]:
@@ -62,7 +62,7 @@ def _pcap(path: StrPath, data: bytes, order: str, unit: int) -> Iterator[Packet]
 
 
 class _Interface(NamedTuple):
-    """An interface of a pcapng file: its link type, its ticks a second, the seconds to be added, and how much it keeps of a packet."""
+    """An interface of a pcapng file: its link type, ticks per second, seconds to be added, and the most bytes of a packet."""
 
     link: int
     ticks: int
@@ -70,10 +70,10 @@ class _Interface(NamedTuple):
     most: int
 
     def nanoseconds(self, ticks: int) -> int:
-        """Since 1970. ValueError if that is before it, or some centuries later."""
+        """Nanoseconds since 1970. ValueError if the time is before 1970, or some centuries later."""
         found = ticks * _BILLION // self.ticks + self.offset * _BILLION
         if not 0 <= found < 1 << 63:
-            raise ValueError("a time that cannot be")
+            raise ValueError("an impossible time")
         return found
 
 
@@ -94,7 +94,7 @@ def _pcapng(path: StrPath, data: bytes) -> Iterator[Packet]:
             elif kind in (3, 6):
                 found = _packet(body, order, kind, number + 1, interfaces)
         except (struct.error, LookupError, ArithmeticError, ValueError):
-            raise CaptureError(f"{path}: a block after packet {number} has a form that cannot be") from None
+            raise CaptureError(f"{path}: a block after packet {number} is malformed") from None
         if kind in (3, 6):
             number += 1
             yield found
@@ -107,7 +107,7 @@ def _interface(body: bytes, order: str) -> _Interface:
         code, size = struct.unpack_from(f"{order}HH", body, at)
         value = body[at + 4 : at + 4 + size]
         if code == 9:
-            # if_tsresol: a power of 10, or of 2 where the first bit is set
+            # if_tsresol: a power of 10, or of 2 if the first bit is set
             ticks = 1 << (value[0] & 127) if value[0] & 128 else 10 ** value[0]
         elif code == 14:
             (offset,) = struct.unpack(f"{order}q", value)
@@ -116,7 +116,7 @@ def _interface(body: bytes, order: str) -> _Interface:
 
 
 def _packet(body: bytes, order: str, kind: int, number: int, interfaces: list[_Interface]) -> Packet:
-    """Of an enhanced packet block, or of a simple one, which has no time."""
+    """The packet of an enhanced packet block, or of a simple one, which has no time."""
     if kind == 6:
         place, high, low, kept, size = struct.unpack_from(f"{order}5I", body)
         interface = interfaces[place]

@@ -1,4 +1,4 @@
-"""`python -m ofswitch draw`: a graph of flow tables, of what never wins, and of a frame's way."""
+"""`python -m ofswitch draw`: a graph of flow tables, with the flows that never win, and the path of a frame."""
 
 from __future__ import annotations
 
@@ -37,7 +37,7 @@ def run(asked: argparse.Namespace) -> int:
 
 
 def canonical(program: str, asked: argparse.Namespace) -> str:
-    """The canonical flow text of what is to be drawn."""
+    """The canonical flow text of the tables to be drawn."""
     if asked.events is not None:
         return run_to_end([program, "dis", asked.events], b"", _TIMEOUT)
     events = run_to_end([program, "asm", asked.flows], b"", _TIMEOUT)
@@ -45,7 +45,7 @@ def canonical(program: str, asked: argparse.Namespace) -> str:
 
 
 def never_winning(program: str, text: str) -> set[tuple[int, int]]:
-    """Table and place of each flow that `ofswitch check` says never wins."""
+    """Table and place of each flow that never wins, from `ofswitch check`."""
     found = run_to_end([program, "check", "--flows", "-"], text.encode(), _TIMEOUT, good=(0, _FOUND))
     words = [line.split() for line in found.splitlines()]
     return {(int(it[1]), int(it[2])) for it in words if it[0] == "flow" and it[3] == "never:"}

@@ -1,4 +1,4 @@
-"""The program `ofswitch`: found, run to its end, or run row by row."""
+"""The program `ofswitch`: finds it, runs it to its end, or runs it row by row."""
 
 from __future__ import annotations
 
@@ -11,14 +11,14 @@ from typing import Union
 
 StrPath = Union[str, "os.PathLike[str]"]
 
-# Changes nothing, and always prints `refused 8`: it marks where the text of the rows before it ends.
+# Changes nothing, and always prints `refused 8`: it marks the end of the text of the rows before it.
 MARK_ROW = b"port remove 0\n"
 MARK_LINE = b"refused 8"
 
 # How many bytes a read asks for, here and in the program.
 _READ_SIZE = 65_536
 
-# What has been written to a pipe is read in pieces of at least a page, but for the last.
+# A read from a pipe returns at least a page, except for the last read of a write.
 _PAGE_SIZE = 4_096
 
 # How long a program may take to end once its input has ended, in seconds.
@@ -26,9 +26,9 @@ _END_WAIT = 5.0
 
 
 class ProgramError(Exception):
-    """The program `ofswitch` is missing, has ended, or does not answer. The text has what it wrote to standard error.
+    """The program `ofswitch` is missing, has ended, or does not answer. The text includes its standard error.
 
-    If it ended, `status` is its exit status, or below 0 the signal, and `said` what it wrote to standard error.
+    If it ended, `status` is its exit status, or below 0 the signal, and `said` is its standard error.
     """
 
     def __init__(self, text: str, status: int | None = None, said: str = "") -> None:
@@ -47,7 +47,7 @@ def find(program: StrPath | None) -> str:
 
 
 def run_to_end(command: list[str], text: bytes, timeout: float, good: tuple[int, ...] = (0,)) -> str:
-    """What a command prints that reads this text from standard input, and ends with one of these statuses."""
+    """The output of a command that reads this text from standard input, and ends with one of these statuses."""
     try:
         done = subprocess.run(command, input=text, capture_output=True, timeout=timeout)
     except OSError as error:
@@ -60,7 +60,7 @@ def run_to_end(command: list[str], text: bytes, timeout: float, good: tuple[int,
 
 
 def reads_of(size: int) -> int:
-    """How many reads the program may make of a write of so many bytes."""
+    """The most reads that the program makes for a write of this many bytes."""
     return 1 + size // _PAGE_SIZE
 
 
@@ -82,7 +82,7 @@ class Run:
         assert self._process.stdin and self._process.stdout
         self._stdin = self._process.stdin.fileno()
         self._stdout = self._process.stdout.fileno()
-        # a full pipe must not keep us from reading what the program has to write before it reads on
+        # a full pipe must not prevent reading what the program has to write before it reads on
         os.set_blocking(self._stdin, False)
         self._answering = select.poll()
         self._answering.register(self._stdout, select.POLLIN)
@@ -102,14 +102,14 @@ class Run:
     def play(self, rows: bytes, marks: int) -> list[bytes]:
         """Plays rows, and returns the lines that they print, without line ends.
 
-        `marks` says how many of them print the line of the mark themselves. After an exception the run has ended.
+        `marks` is how many of them print the line of the mark themselves. After an exception the run has ended.
         """
         return self.play_each(rows + MARK_ROW, [marks])[0]
 
     def play_each(self, rows: bytes, marks: list[int]) -> list[list[bytes]]:
-        """Plays rows in which a mark stands behind each part, and returns the lines that each part prints.
+        """Plays rows with a mark after each part, and returns the lines that each part prints.
 
-        `marks` says of each part how many of its rows print the line of the mark themselves.
+        `marks` is, for each part, how many of its rows print the line of the mark themselves.
         """
         try:
             return self._exchange(memoryview(rows), [it + 1 for it in marks])
@@ -151,7 +151,7 @@ class Run:
         return size
 
     def _read(self, waiting: select.poll) -> bytes:
-        """Waits, and returns what the program has written; nothing, if it only has room for more."""
+        """Waits, and returns what the program has written; empty if it only has room for more."""
         ready = waiting.poll(self._timeout * 1000)
         if not ready:
             raise ProgramError(f"{' '.join(self._command)} did not answer within {self._timeout:g} s")
@@ -163,7 +163,7 @@ class Run:
         return text
 
     def _fault(self) -> ProgramError:
-        """Why the program has ended, which it does by itself only at a fault."""
+        """The reason why the program has ended, which it does by itself only because of a fault."""
         said = _end(self._process, self._owner)
         return _ended(self._command, self._process.returncode, said)
 
@@ -175,13 +175,13 @@ class Run:
 def _ended(command: list[str], status: int, said: bytes) -> ProgramError:
     how = f"with status {status}" if status >= 0 else f"by signal {-status}"
     text = said.decode(errors="replace").strip()
-    return ProgramError(f"{' '.join(command)} ended {how}: {text or 'it said nothing'}", status, text)
+    return ProgramError(f"{' '.join(command)} ended {how}: {text or 'it wrote nothing to standard error'}", status, text)
 
 
 def _end(process: subprocess.Popen[bytes], owner: int) -> bytes:
     """Ends a program that reads to the end of its input, and returns what it wrote to standard error.
 
-    In a fork of the process that started it, it goes on.
+    In a fork of the process that started it, it continues.
     """
     assert process.stdin and process.stdout and process.stderr
     if process.stderr.closed:

@@ -1,4 +1,4 @@
-"""Fixtures for pytest: switches that end with their test, and where the test fails, the files that replay it."""
+"""Fixtures for pytest: switches that end with their test, and, if the test fails, files that replay it."""
 
 from __future__ import annotations
 
@@ -31,7 +31,7 @@ def pytest_addoption(parser: pytest.Parser) -> None:
 
 @pytest.fixture
 def new_switch(request: pytest.FixtureRequest, tmp_path: Path) -> Iterator[Callable[..., Switch]]:
-    """Makes a switch of the arguments of `Switch`, which ends with the test. For tests of several switches."""
+    """Makes a switch with the arguments of `Switch`, which ends with the test. For tests with several switches."""
     made: list[tuple[str, Switch]] = []
     request.node.stash[_switches] = made
     request.node.stash[_folder] = tmp_path
@@ -67,7 +67,7 @@ def network(request: pytest.FixtureRequest, new_switch: Callable[..., Switch]) -
 
 @pytest.hookimpl(hookwrapper=True)
 def pytest_runtest_makereport(item: pytest.Item) -> Generator[None, Any, None]:
-    """Where a test fails, keeps the rows that its switches saw, and says what each did."""
+    """If a test fails, keeps the rows of its switches, and reports what each row did."""
     outcome = yield
     report: pytest.TestReport = outcome.get_result()
     if report.when != "call" or not report.failed:
@@ -84,7 +84,7 @@ def pytest_runtest_makereport(item: pytest.Item) -> Generator[None, Any, None]:
 
 
 def _capture(switch: Switch, path: Path) -> str:
-    """Writes a capture of all that happened, and returns its path, or why there is none."""
+    """Writes a capture of all that happened, and returns its path, or the reason why there is none."""
     try:
         switch.pcap(path)
     except ProgramError as fault:

@@ -1,4 +1,4 @@
-"""A recorded switch as rows of an event file: what its controllers sent, and what it told of its ports and frames."""
+"""A recorded switch as rows of an event file: the messages of its controllers, and what it reported about its ports and frames."""
 
 from __future__ import annotations
 
@@ -42,7 +42,7 @@ class _Port:
 
     @classmethod
     def of(cls, data: bytes) -> _Port:
-        """Of an ofp_port (OpenFlow 1.3.5, 7.2.1)."""
+        """Reads an ofp_port (OpenFlow 1.3.5, 7.2.1)."""
         number, hw, name, _, state = struct.unpack_from("!I4x6s2x16sII", data)
         letters = name.split(b"\0")[0].decode("ascii", "ignore")
         return cls(number, hw, "".join(it for it in letters if "!" <= it <= "~")[:15], not state & _LINK_DOWN)
@@ -62,7 +62,7 @@ class _Port:
 
 @dataclass
 class _Told:
-    """Which ports the recorded switch has, as far as it has told."""
+    """The ports of the recorded switch, as far as it has reported them."""
 
     ups: dict[int, bool] = field(default_factory=dict)
     # those that it had at some time
@@ -75,7 +75,7 @@ class _Told:
             yield port.added()
 
     def rows_of_status(self, data: bytes) -> Iterator[str]:
-        """Of a PORT_STATUS."""
+        """The rows for a PORT_STATUS."""
         reason, port = data[8], _Port.of(data[16:])
         if reason == _ADD:
             yield from self.add(port)
@@ -125,8 +125,8 @@ def moments(sessions: list[Session], inputs: list[PortFile], notes: Notes) -> li
 def _first_ports(sessions: list[Session], numbers: list[int]) -> list[_Port]:
     """The ports that the switch has at the beginning.
 
-    They are those of its first PORT_DESC, but for what PORT_STATUS told before that. If there is no PORT_DESC, they are those that
-    PORT_STATUS and PACKET_IN name, and those of these numbers.
+    They are those of its first PORT_DESC, without the changes that a PORT_STATUS reported before. If there is no PORT_DESC, they
+    are those that PORT_STATUS and PACKET_IN name, and those of these numbers.
     """
     ports: dict[int, _Port] = {}
     statuses: list[bytes] = []
@@ -163,7 +163,7 @@ def _first_ports(sessions: list[Session], numbers: list[int]) -> list[_Port]:
 
 
 def _frame_of(data: bytes) -> tuple[int, bytes] | None:
-    """The port and the frame of a PACKET_IN, if it has all of the frame and a port that frames come in by."""
+    """The port and the frame of a PACKET_IN, if it has the whole frame and a port by which frames come in."""
     try:
         total, size = struct.unpack_from("!H", data, 12)[0], struct.unpack_from("!H", data, 26)[0]
         oxms = Bytes(data[28 : 24 + size])
@@ -185,7 +185,7 @@ def _frame_rows(told: _Told, frame: tuple[int, bytes] | None) -> Iterator[str]:
 
 
 def frames(path: StrPath, notes: Notes) -> Iterator[tuple[int, bytes]]:
-    """The times and the frames of a capture. Those that it has not kept whole are left out."""
+    """The times and the frames of a capture. Truncated frames are left out."""
     cut, others = [], []
     for packet in kept_packets(path, notes):
         if packet.is_cut:

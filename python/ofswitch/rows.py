@@ -20,7 +20,7 @@ HwAddress = Union[str, bytes]
 
 
 class HasBytes(Protocol):
-    """What `bytes` takes, as a packet of scapy."""
+    """An object that `bytes` accepts, such as a packet of scapy."""
 
     def __bytes__(self) -> bytes: ...
 
@@ -56,10 +56,10 @@ _PORT_NUMBER = re.compile(r"port \w+ ([0-9]+)")
 def as_bytes(octets: Octets) -> bytes:
     """The bytes of a message or a frame.
 
-    That is something with the buffer protocol, something that `bytes` takes (as a packet of scapy), a message of os-ken
+    Accepts an object with the buffer protocol, an object that `bytes` accepts (such as a packet of scapy), a message of os-ken
     (`serialize`, then `buf`), a packet of os-ken (`serialize`, then `data`), or a message of pyof (`pack`).
     """
-    # whatever else a test gives is a TypeError
+    # any other value is a TypeError
     value: Any = octets
     try:
         return memoryview(value).tobytes()
@@ -72,7 +72,7 @@ def as_bytes(octets: Octets) -> bytes:
         return bytes(value.buf if hasattr(value, "buf") else value.data)
     if hasattr(value, "pack"):
         return bytes(value.pack())
-    raise TypeError(f"bytes are wanted, or a message or a packet, and not {type(value).__name__}")
+    raise TypeError(f"expected bytes, a message or a packet, not {type(value).__name__}")
 
 
 def dpid(value: int) -> int:
@@ -116,7 +116,7 @@ def port_link(number: int, up: bool) -> str:
 
 
 def check(row: str) -> None:
-    """Raises ValueError if this is no row: `ofswitch replay` ends at such a line."""
+    """Raises ValueError if this is not a valid row: `ofswitch replay` would end at this line."""
     if "\n" in row:
         raise ValueError("one row at a time: a row has no line end")
     _fits(row)
@@ -145,7 +145,7 @@ def is_of_controller(row: str) -> bool:
 
 
 def is_refused_as_8(row: str) -> bool:
-    """Whether this is a row of a port whose number no port can have. It prints `refused 8`, and only such a row does."""
+    """Whether this is a row about a port number that no port can have. Only such a row prints `refused 8`."""
     named = _PORT_NUMBER.match(row)
     return named is not None and not 1 <= int(named[1]) <= MOST_PORT
 
@@ -164,19 +164,19 @@ def _hex(data: Octets) -> str:
 def _hw(hw: HwAddress) -> str:
     text = hw.replace(":", "") if isinstance(hw, str) else as_bytes(hw).hex()
     if not _HW.fullmatch(text):
-        raise ValueError(f"a hardware address has 6 bytes, and not {hw!r}")
+        raise ValueError(f"a hardware address has 6 bytes, not {hw!r}")
     return text
 
 
 def port_name(name: str, number: int) -> str:
-    """The name that a row has for a name of a host's interface, as `s1-eth1`: its letters and digits, in lower case.
+    """The name in a row for a name of a host's interface, such as `s1-eth1`: its letters and digits, in lower case.
 
-    It is the same for each run. A name of which nothing is left, or more than 15 bytes, gives p and the port's number.
+    It is the same in each run. If nothing is left of the name, or more than 15 bytes, the result is p and the port's number.
     """
     if not name or len(name.encode()) > MOST_NAME_BYTES:
-        raise ValueError(f"a port's name has 1 to {MOST_NAME_BYTES} bytes, and not {name!r}")
+        raise ValueError(f"a port's name has 1 to {MOST_NAME_BYTES} bytes, not {name!r}")
     if any(it.isspace() or not it.isprintable() for it in name):
-        raise ValueError(f"a port's name has no space and no control character, and not {name!r}")
+        raise ValueError(f"a port's name has no space and no control character: {name!r}")
     kept = re.sub("[^a-z0-9]", "", name.lower())
     return kept or f"p{number}"
 
@@ -187,7 +187,7 @@ def _link(up: bool) -> str:
 
 def _fits(row: str) -> str:
     if len(row.encode()) > MOST_BYTES:
-        raise ValueError(f"a row has {MOST_BYTES} bytes at most")
+        raise ValueError(f"a row has at most {MOST_BYTES} bytes")
     return row
 
 

@@ -9,16 +9,16 @@ from .effects import Answer, Effect, Sent
 from .pcap import WIRESHARK_UPPER_PDU, Writer
 from .program import StrPath
 
-# What stands before a message that is no packet of a network: the tag of a dissector's name (12), and the end of tags.
+# The bytes before a message that is not a packet of a network: the tag of a dissector's name (12), and the end of tags.
 _OPENFLOW = struct.pack("!HH8sI", 12, 8, b"openflow", 0)
 
 
 def write_pcap(path: StrPath, run_of: Iterable[tuple[str, list[Effect]]], names: Mapping[int, str] | None = None) -> None:
     """Writes a run of rows with their effects as a pcapng file.
 
-    Each port is an interface, with the frames in both directions, which has the port's name in `names`, or else `port N`. So is
-    the connection of the controller, whose messages Wireshark shows as OpenFlow. What the switch sends is outbound. Bytes that
-    make no whole message are left out.
+    Each port is an interface with the frames in both directions, and has the port's name in `names`, or else `port N`. The
+    connection of the controller is also an interface, whose messages Wireshark shows as OpenFlow. What the switch sends is
+    outbound. Bytes of an incomplete message are left out.
     """
     known = names or {}
     with open(path, "wb") as file:
@@ -52,7 +52,7 @@ def write_pcap(path: StrPath, run_of: Iterable[tuple[str, list[Effect]]], names:
 
 
 def _messages(data: bytes) -> tuple[list[bytes], bytes]:
-    """The whole messages at the beginning, and the bytes behind them."""
+    """The complete messages at the beginning, and the bytes after them."""
     whole = []
     while len(data) >= 8 and len(data) >= (size := max(8, int.from_bytes(data[2:4], "big"))):
         whole.append(data[:size])

@@ -1,4 +1,4 @@
-"""OpenFlow 1.3 connections of a capture: which messages each side sent, and which side is the switch."""
+"""OpenFlow 1.3 connections of a capture: the messages of each side, and which side is the switch."""
 
 from __future__ import annotations
 
@@ -36,7 +36,7 @@ _OF_BOTH = {
 
 
 class Message(NamedTuple):
-    """A message, when it was complete, by which packet of the capture, and whether the switch sent it."""
+    """A message, the time and the packet of the capture at which it was complete, and whether the switch sent it."""
 
     nanoseconds: int
     number: int
@@ -58,7 +58,7 @@ class Session:
 
 @dataclass
 class _Side:
-    """What one side of a connection has sent."""
+    """The bytes that one side of a connection has sent."""
 
     end: tcp.End
     messages: list[tuple[tcp.Piece, bytes]] = field(default_factory=list)
@@ -76,7 +76,7 @@ class _Side:
 
 @dataclass
 class Notes:
-    """What of a capture could not be used, in words, with the place."""
+    """The parts of a capture that could not be used, in words, with their places."""
 
     lines: list[str] = field(default_factory=list)
 
@@ -85,7 +85,7 @@ class Notes:
 
 
 def kept_packets(path: StrPath, notes: Notes) -> Iterator[Packet]:
-    """The packets of a capture; where it ends too early, those before that."""
+    """The packets of a capture; if it is truncated, those before that place."""
     found = packets(path)
     try:
         yield from found
@@ -94,7 +94,7 @@ def kept_packets(path: StrPath, notes: Notes) -> Iterator[Packet]:
 
 
 def read(path: StrPath, port: int | None, datapath: int | None, notes: Notes) -> list[Session]:
-    """The sessions of one switch, one after the other: of the one that `datapath` names, or of the first one."""
+    """The sessions of one switch, one after the other: of the switch that `datapath` names, or of the first switch."""
     made = []
     for connection in tcp.connections(kept_packets(path, notes), port):
         sides = _sides(connection, notes)
@@ -112,7 +112,7 @@ def read(path: StrPath, port: int | None, datapath: int | None, notes: Notes) ->
 
 
 def _sides(connection: tcp.Connection, notes: Notes) -> tuple[_Side, _Side] | None:
-    """The messages of both sides, if they begin with HELLO and go on with OpenFlow 1.3."""
+    """The messages of both sides, if they begin with HELLO and continue with OpenFlow 1.3."""
     gap = connection.end_at_gap()
     sides = (_Side(connection.sides[0]), _Side(connection.sides[1]))
     for piece in connection.pieces:
@@ -141,7 +141,7 @@ def _more(numbers: list[int]) -> str:
 
 
 def _scores(pairs: list[tuple[_Side, _Side]]) -> Counter[tcp.End]:
-    """Of each end how much more it says that only a switch says, in all its connections: HELLO and ECHO alone tell nothing."""
+    """For each end, how many more messages it sends that only a switch sends, in all its connections. HELLO and ECHO do not count."""
     scores: Counter[tcp.End] = Counter()
     for sides in pairs:
         for side in sides:
@@ -183,7 +183,7 @@ def _of_one_switch(sessions: list[Session], datapath: int | None, notes: Notes) 
 
 
 def _one_at_a_time(sessions: list[Session], notes: Notes) -> list[Session]:
-    """The sessions in their order, without those that begin while another one lasts."""
+    """The sessions in their order, without those that begin before another one has ended."""
     kept: list[Session] = []
     end = 0
     for session in sorted(sessions, key=lambda it: it.began):

@@ -1,4 +1,4 @@
-"""A switch that a test can hold."""
+"""A switch as a value in a test."""
 
 from __future__ import annotations
 
@@ -22,13 +22,13 @@ Watcher = Callable[[str, "list[Effect]"], None]
 
 
 class Controller(Protocol):
-    """What has the connection of a switch."""
+    """The owner of the connection of a switch, such as a bridge."""
 
     def take(self, effects: list[Effect]) -> None:
         """Gets the effects of each row, as soon as it is played."""
 
 
-# How much of a log stays in memory, in bytes; a longer one goes to a temporary file.
+# The most bytes of a log that stay in memory; a longer log goes to a temporary file.
 _LOG_IN_MEMORY = 1 << 24
 
 # How much of a log a new run of the program gets at a time, in bytes.
@@ -45,11 +45,11 @@ class Switch:
     """An OpenFlow 1.3 switch, at first without a connection, flows, groups and ports.
 
     It is a run of the program `ofswitch replay -`. Each call plays one row of an event file (docs/EVENTS.md) and returns
-    its effects, in order. A call whose values make no row raises ValueError, or TypeError, before the program gets
-    anything. Any thread may call it, one at a time.
+    its effects, in order. If the arguments do not make a valid row, the call raises ValueError or TypeError before it sends
+    anything to the program. Any thread may call it; calls wait for each other.
     """
 
-    # `ofswitch replay` reads so often at most. Before that a new run takes over, which has played the same rows.
+    # the most reads of `ofswitch replay`; before that a new run takes over, which has played the same rows
     MOST_READS = 1_000_000
 
     def __init__(
@@ -60,11 +60,11 @@ class Switch:
         log: StrPath | bool | None = None,
         timeout: float = 60.0,
     ) -> None:
-        """Starts the program: the one given, or that OFSWITCH names, or the one on the PATH.
+        """Starts the program: the given one, the one that OFSWITCH names, or the one on the PATH.
 
         `dpid` is the datapath_id. If `log` is a path, the rows are also written to that file, as they are played. With
-        `log=False` no row is kept: the switch plays a million rows at most, and answers no question about itself.
-        ProgramError is raised if an answer takes longer than `timeout` seconds.
+        `log=False` no row is kept: the switch plays at most a million rows, and queries about it are not available.
+        Raises ProgramError if an answer takes longer than `timeout` seconds.
         """
         self._program = find(program)
         self._dpid = rows.dpid(dpid)
@@ -88,10 +88,10 @@ class Switch:
     def port_add(
         self, number: int, *, hw: rows.HwAddress | None = None, name: str | None = None, up: bool = True
     ) -> list[Effect]:
-        """A port exists from now on. Without `hw` and `name` port 1 has the address 02:00:00:00:00:01 and the name p1.
+        """Adds a port. Without `hw` and `name` port 1 has the address 02:00:00:00:00:01 and the name p1.
 
-        A name may be that of a host's interface, as `s1-eth1` or `eth0.5`: the row has its letters and digits in lower case.
-        `port_names` keeps the name as it was given.
+        A name may be that of a host's interface, such as `s1-eth1` or `eth0.5`: the row has its letters and digits in lower
+        case, and `port_names` keeps the name itself.
         """
         effects = self._play(rows.port_add(number, hw, name, up))
         if name is not None and not any(isinstance(it, Refused) for it in effects):
@@ -105,7 +105,7 @@ class Switch:
         return effects
 
     def port_link(self, number: int, up: bool) -> list[Effect]:
-        """The link of a port is up, or down."""
+        """Sets the link of a port up or down."""
         return self._play(rows.port_link(number, up))
 
     def connect(self) -> list[Effect]:
@@ -129,12 +129,12 @@ class Switch:
         return self._play(rows.at(nanoseconds))
 
     def play(self, row: str) -> list[Effect]:
-        """Plays a row as an event file has it, without its line end."""
+        """Plays a row of an event file, without its line end."""
         rows.check(row)
         return self._play(row)
 
     def play_all(self, many: Iterable[str]) -> list[list[Effect]]:
-        """Plays rows in one write, and returns the effects of each. If one of them is no row, none is played."""
+        """Plays rows in one write, and returns the effects of each. If one of them is not a valid row, none is played."""
         listed = list(many)
         for row in listed:
             rows.check(row)
@@ -146,34 +146,34 @@ class Switch:
     def load(self, text: str) -> list[Effect]:
         """Adds the groups and flows of a flow text (docs/FLOWTEXT.md), by the messages of a controller.
 
-        If there is a connection, its HELLO must have been fed, and the messages come over it; else one comes about, and is lost
-        again. Returns what is answered: nothing, or an ERROR for each message that the switch refuses now. ValueError, with the
+        If there is a connection, its HELLO must have been fed, and the messages come over it; otherwise a connection is made and
+        closed again. Returns the answers: none, or an ERROR for each message that the switch refuses now. ValueError, with the
         line, if the text has a fault.
         """
         return self._load(self._converted("asm", text))
 
     def import_(self, text: str) -> list[Effect]:
-        """Adds the groups and flows of a text in the words of `ovs-ofctl` (docs/IMPORT.md), as `load` does."""
+        """Adds the groups and flows of a text in the syntax of `ovs-ofctl` (docs/IMPORT.md), as `load` does."""
         return self.load(self._converted("import", text))
 
     def watch(self, watcher: Watcher) -> None:
-        """From now on calls this with each row and its effects, in the order of the rows, also those that a bridge plays."""
+        """From now on, calls this function with each row and its effects, in the order of the rows, also for rows that a bridge plays."""
         self._watchers.append(watcher)
 
-    # ---- what it knows of itself; nothing changes by these
+    # ---- queries, which change nothing
 
     @property
     def log(self) -> str:
-        """The rows so far: an event file, for which `ofswitch replay` prints the same effects."""
+        """The rows so far: an event file for which `ofswitch replay` prints the same effects."""
         with self._played:
             return self._log_bytes().decode()
 
     def check(self) -> str:
-        """Which of its flows never win, and other likely mistakes, a line each (docs/CHECK.md)."""
+        """The flows that never win, and other likely mistakes, as `ofswitch check` prints them (docs/CHECK.md)."""
         return self._ask(["check", "--events", "-"], b"", good=(0, _FOUND))
 
     def steps(self, port: int, frame: Octets, *, explain: bool = False) -> str:
-        """Where this frame would go now, a line for each step, and then what leaves (docs/TRACE.md); with notes, if wanted."""
+        """Each step that this frame would take now, one per line, and then what leaves (docs/TRACE.md); with notes if `explain`."""
         _, _, data = rows.frame(port, frame).split(" ")
         options = ["--explain"] if explain else []
         return self._ask(["trace", "--events", "-", "--port", str(port), data, *options], b"")
@@ -185,12 +185,12 @@ class Switch:
 
     @property
     def port_names(self) -> dict[int, str]:
-        """The names that `port_add` was given, by the port's number."""
+        """The names that were passed to `port_add`, by the port's number."""
         return dict(self._port_names)
 
     @property
     def replay_options(self) -> list[str]:
-        """The options that `ofswitch replay` needs to play the log, beside the file."""
+        """The options that `ofswitch replay` needs to play the log, in addition to the file."""
         return list(self._options)
 
     def flows(self) -> str:
@@ -202,14 +202,14 @@ class Switch:
         return self._ask(["replay", *self._options, "--explain", "-"], b"")
 
     def trace(self, port: int, frame: Octets) -> str:
-        """What this frame would do now, in words: how it comes in, each table that is looked up, and what leaves."""
+        """What this frame would do now, in words: how it comes in, each lookup, and what leaves."""
         row = rows.frame(port, frame)
         text = self._ask(["replay", *self._options, "--explain", "-"], row.encode() + b"\n")
         _, _, notes = f"\n{text}".rpartition(f"\n{row}\n")
         return "".join(line.removeprefix("    ") for line in notes.splitlines(keepends=True))
 
     def pcap(self, path: StrPath) -> None:
-        """Writes all that happened as a pcapng file: an interface for each port, of its name, and one for the controller's messages.
+        """Writes all frames and messages so far as a pcapng file: an interface for each port, and one for the controller's messages.
 
         Frames and messages have the time of the `t` row before them. The program plays the log again.
         """
@@ -221,7 +221,7 @@ class Switch:
 
     @property
     def pid(self) -> int:
-        """The process of the program. It is another one after a million reads."""
+        """The process id of the program. It changes after a million reads."""
         return self._run.pid
 
     # ---- its end
@@ -241,7 +241,7 @@ class Switch:
     # ---- for a bridge
 
     def attach(self, controller: Controller) -> threading.Condition:
-        """A bridge has the connection from now on. What it gets is held while a row is played, and notified after it."""
+        """From now on a bridge has the connection. The returned condition is held while a row is played, and notified after it."""
         with self._played:
             if self._controller:
                 raise RuntimeError("a bridge has the connection already")
@@ -249,12 +249,12 @@ class Switch:
         return self._played
 
     def detach(self) -> None:
-        """The bridge has gone."""
+        """The bridge no longer has the connection."""
         with self._played:
             self._controller = None
 
     def play_for_controller(self, row: str) -> list[Effect]:
-        """Plays a row of the connection that a bridge has."""
+        """Plays a row about the connection for the bridge that has it."""
         return self._play(row, of_controller=True)
 
     # ---- inside
@@ -284,7 +284,7 @@ class Switch:
             return effects
 
     def _see_connection(self, row: str, effects: list[Effect]) -> None:
-        """Keeps whether there is a connection after a row."""
+        """Notes whether there is a connection after a row."""
         if row == rows.connect():
             self._is_connected = True
         elif row == rows.lost() or any(isinstance(it, Closed) for it in effects):
@@ -300,7 +300,7 @@ class Switch:
         return Run([self._program, "replay", *self._options, "-"], self._timeout)
 
     def _renew(self) -> None:
-        """A new run of the program takes over, which plays the log first: the same rows lead to the same switch."""
+        """Replaces the program by a new run, which plays the log first: the same rows lead to the same switch."""
         if self._log is None:
             raise ProgramError("the program has read a million times at most, and without a log no new run can take over")
         run = self._new_run()
@@ -318,7 +318,7 @@ class Switch:
 
     @contextlib.contextmanager
     def _log_from_start(self) -> Iterator[IO[bytes]]:
-        """The log, to be read; after that, whatever happens, rows are written behind it again."""
+        """The log, for reading; afterwards rows are appended to it again, whatever happens."""
         if self._log is None:
             raise RuntimeError("this switch keeps no log")
         self._log.seek(0)
@@ -328,14 +328,14 @@ class Switch:
             self._log.seek(0, os.SEEK_END)
 
     def _ask(self, words: list[str], more: bytes, good: tuple[int, ...] = (0,)) -> str:
-        """What the program prints for the log, and a row more."""
+        """The output of the program for the log and one more row."""
         with self._played:
             text = self._log_bytes() + more
         return run_to_end([self._program, *words], text, self._timeout, good)
 
     def _converted(self, word: str, text: str) -> str:
-        """What the program makes of a text. ValueError if the text has a fault."""
-        # of a file, and not of standard input, the program says in words what is wrong with it
+        """The output of the program for a text. ValueError if the text has a fault."""
+        # for a file, but not for standard input, the program explains the fault in words
         with tempfile.NamedTemporaryFile(suffix=".txt") as file:
             file.write(text.encode())
             file.flush()
@@ -359,7 +359,7 @@ class Switch:
 
 
 def _parts(many: list[str]) -> Iterator[list[str]]:
-    """Rows, in parts of about a block each."""
+    """The rows, in parts of about a block each."""
     part: list[str] = []
     size = 0
     for row in many:

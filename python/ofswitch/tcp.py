@@ -45,7 +45,7 @@ class Segment(NamedTuple):
 
 
 class Piece(NamedTuple):
-    """Bytes of a side (0 is the one that connected, as far as the capture shows it), when they were complete, and by which packet."""
+    """Bytes of a side (0 is the side that connected, as far as the capture shows it), with the time and the packet at which they were complete."""
 
     nanoseconds: int
     number: int
@@ -79,14 +79,14 @@ class _Stream:
             self.sequence = sequence & _MASK
 
     def place_of(self, sequence: int) -> int:
-        """The place of a sequence number, which is taken for one near the next byte."""
+        """The place of a sequence number, which is assumed to be near the next byte."""
         if self.sequence is None:
             self.sequence = sequence
         ahead = (sequence - self.sequence) & _MASK
         return self.place + (ahead if ahead < _HALF else ahead - _MASK - 1)
 
     def add(self, number: int, sequence: int, data: bytes) -> list[bytes]:
-        """Adds a segment, and returns what can be taken now, in order."""
+        """Adds a segment, and returns the bytes that are now complete, in order."""
         heapq.heappush(self.early, _Early(self.place_of(sequence), number, data))
         taken = []
         while self.early and self.early[0].place <= self.place:
@@ -99,7 +99,7 @@ class _Stream:
         return taken
 
     def gap(self) -> tuple[int, int] | None:
-        """The packet by which bytes must have come that the capture has not, and how many; None if it has all."""
+        """The packet before which the capture lacks bytes, and how many; None if it lacks none."""
         found = [(it.number, it.place - self.place) for it in self.early]
         # the end of a side counts as a byte
         found += [(number, place - self.place) for number, place in self.acknowledged if place > self.place + self.is_ended]
@@ -107,7 +107,7 @@ class _Stream:
 
 
 class Connection:
-    """A TCP connection. Bytes that come twice count once, and bytes that come early wait for those before them."""
+    """A TCP connection. Duplicate bytes count once, and early bytes wait for those before them."""
 
     def __init__(self, sides: tuple[End, End]) -> None:
         self.sides = sides
@@ -138,7 +138,7 @@ class Connection:
             stream.is_ended = True
 
     def end_at_gap(self) -> str | None:
-        """Drops what came after bytes that are missing, on both sides, and says where they are missing; None if none are."""
+        """Drops everything after missing bytes, on both sides, and returns the place at which they are missing; None if none are."""
         gaps = [(*gap, side) for side, stream in enumerate(self._streams) if (gap := stream.gap()) is not None]
         if not gaps:
             return None
@@ -151,7 +151,7 @@ class Connection:
 
 
 def connections(captured: Iterable[Packet], port: int | None = None) -> list[Connection]:
-    """The TCP connections of a capture, of this port of either end, in the order in which they begin."""
+    """The TCP connections of a capture with this port at either end, in the order in which they begin."""
     found: dict[frozenset[End], Connection] = {}
     all_of_them: list[Connection] = []
     latest = 0
@@ -194,7 +194,7 @@ def segment_of(packet: Packet) -> Segment | None:
 
 
 def _ip(packet: Packet) -> bytes:
-    """The IP packet in a packet, or nothing."""
+    """The IP packet in a packet, or None."""
     data, link = packet.data, packet.link
     if link in _RAW:
         return data

@@ -1,4 +1,4 @@
-"""The text of a trace with notes (docs/TRACE.md) as values: which flows a frame hits, and which ways it takes."""
+"""The text of a trace with notes (docs/TRACE.md) as values: the flows that a frame hits, and the arrows that it follows."""
 
 from __future__ import annotations
 
@@ -19,7 +19,7 @@ class Step:
 
 @dataclass
 class Packet:
-    """A packet on its way: which flows it has hit, and of which bucket it is a copy."""
+    """A packet on its path: the flows that it has hit, and the bucket of which it is a copy."""
 
     copy: int
     hits: list[Flow] = field(default_factory=list)
@@ -29,7 +29,7 @@ class Packet:
 
 @dataclass(frozen=True)
 class FromFlow:
-    """A way from a flow, by one of its instructions: `goto`, `apply` or `write`."""
+    """An arrow from a flow, by one of its instructions: `goto`, `apply` or `write`."""
 
     table: int
     place: int
@@ -47,7 +47,7 @@ Way = tuple[FromFlow | FromBucket, Words]
 
 @dataclass
 class Walk:
-    """What a trace shows: the flows that were hit, tables without a hit, what each table saw, and the steps of each way."""
+    """The contents of a trace: the flows that were hit, tables without a hit, the values that each table saw, and the steps of each arrow."""
 
     hits: set[tuple[int, int]] = field(default_factory=set)
     misses: set[int] = field(default_factory=set)
@@ -60,7 +60,7 @@ class Walk:
 
 
 def steps_of(text: str) -> Iterator[Step]:
-    """The steps of a trace; what leaves at the end is none."""
+    """The steps of a trace, without the effects at the end."""
     step = None
     number = 0
     for line in text.split("\n"):
@@ -120,7 +120,7 @@ def _flow_way(packet: Packet, by: str) -> FromFlow | FromBucket:
 
 
 def _source(packet: Packet, words: Words) -> FromFlow | FromBucket:
-    """Where an OUTPUT or a GROUP stands: in a bucket, in the flow that was hit last, or, of the action set, in the last that wrote it."""
+    """The owner of an OUTPUT or a GROUP: a bucket, the flow that was hit last, or, for the action set, the last flow that wrote it."""
     if packet.bucket is not None:
         return FromBucket(*packet.bucket)
     if not packet.runs_set:

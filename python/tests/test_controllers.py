@@ -17,7 +17,7 @@ SECOND = 1_000_000_000
 
 
 class Datapath:
-    """What os-ken's message classes ask of a datapath."""
+    """What the message classes of os-ken need from a datapath."""
 
     ofproto, ofproto_parser, id = of, parser, 1
 

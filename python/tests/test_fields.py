@@ -15,7 +15,7 @@ from os_ken.ofproto import ofproto_v1_3_parser as parser  # noqa: E402
 
 
 class Datapath:
-    """What os-ken's message classes ask of a datapath."""
+    """What the message classes of os-ken need from a datapath."""
 
     ofproto, ofproto_parser, id = of, parser, 1
 

@@ -46,7 +46,7 @@ def run(pytester, pytestconfig):
 def test_the_first(examples, run):
     result = run(examples[0])
     result.assert_outcomes(passed=1, failed=1)
-    # what the manual shows of the failure, but for lines that are cut there
+    # the failure as the manual shows it, except for lines that are cut there
     shown = MANUAL.read_text(encoding="utf-8").partition("/switch-1.events\n\n")[2].partition("```")[0].splitlines()
     result.stdout.fnmatch_lines([line.replace("affffffff..", "a*") for line in shown], consecutive=True)
 
