@@ -23,3 +23,5 @@ pub mod StayingRight
 pub mod CoveredWords
 pub mod KeptPlaces
 pub mod Calling
+pub mod OffLayers
+pub mod StayingOff

@@ -1,5 +1,5 @@
 -- Where a number of layers is replaced, checksums that were right stay so.
-use Rattle.std.proofs.Common.{◌≡◌, ◌≢◌, ℕ, zero, suc, ◌+◌, ◌-◌, ◌*◌, ◌/◌, ◌%◌, ◌^◌, ◌<◌, ◌≤◌, Bool, true, false, cond, List, [], ◌∷◌, ◌++◌, length, get_or, take, drop, sum, Option, Some, refl, sym, ap, ◌∙◌, arith, subst, append_assoc, zero-add}
+use Rattle.std.proofs.Common.{◌≡◌, ◌≢◌, ℕ, zero, suc, ◌+◌, ◌-◌, ◌*◌, ◌/◌, ◌%◌, ◌^◌, ◌<◌, ◌≤◌, Bool, true, false, cond, List, [], ◌∷◌, ◌++◌, length, get_or, take, drop, sum, Option, Some, ◌⊎◌, inl, inr, refl, sym, ap, ◌∙◌, arith, subst, append_assoc, zero-add}
 use Rattle.std.specs.Prelude.{◌==◌, ◌&&◌, ◌||◌, not, nat_lt}
 use Rattle.std.proofs.lemmas.List.{length-append}
 use Rattle.std.proofs.lemmas.List.Sums.{sum_by-cons, sum_by-append}
@@ -151,30 +151,59 @@ without_one [] b c h i = h (suc i)
 without_one (x ∷ a) b c h zero = h 0
 without_one (x ∷ a) b c h (suc i) = without_one a b c (λ i. h (suc i)) i
 
-pub header_step : (ns o ms p : List ℕ) (c d : Carried) (rest more : List ℕ) (g : ℕ → ℕ) → IsIpv4 ns o c rest → IsIpv4 ms p d more → length p ≡ length o → look_up 102 (cells_in ipv4 ms ++ byte_cells p) ≡ look_up 102 (cells_in ipv4 ns ++ byte_cells o) →
-    ((x : ℕ) → g x ≡ updated x (words (cells_in ipv4 ns ++ byte_cells o)) (words (cells_in ipv4 ms ++ byte_cells p))) →
-    sums_to_ones (words (cells_in ipv4 ns ++ byte_cells o)) ≡ true → sums_to_ones (words (change_at 102 g (cells_in ipv4 ms ++ byte_cells p))) ≡ true
+-- the words of the header before and after, with its checksum v among them
+pub record HeaderWords (old new : List Cell) (g : ℕ → ℕ) : Type 0 where
+  pub v : ℕ
+  pub a : List ℕ
+  pub b : List ℕ
+  pub x : List ℕ
+  pub y : List ℕ
+  pub small : v < 65536
+  pub are : AreWords (a ++ b)
+  pub front : length a ≡ length x
+  pub back : length b ≡ length y
+  pub many : 0 < length x
+  pub before : words old ≡ a ++ (v ∷ b)
+  pub between : words new ≡ x ++ (v ∷ y)
+  pub after : words (change_at 102 g new) ≡ x ++ (g v ∷ y)
+  pub rule : g v ≡ updated v (a ++ (v ∷ b)) (x ++ (v ∷ y))
+
+pub header_words : (ns o ms p : List ℕ) (c d : Carried) (rest more : List ℕ) (g : ℕ → ℕ) → IsIpv4 ns o c rest → IsIpv4 ms p d more → length p ≡ length o → look_up 102 (cells_in ipv4 ms ++ byte_cells p) ≡ look_up 102 (cells_in ipv4 ns ++ byte_cells o) →
+    ((x : ℕ) → g x ≡ updated x (words (cells_in ipv4 ns ++ byte_cells o)) (words (cells_in ipv4 ms ++ byte_cells p))) → HeaderWords (cells_in ipv4 ns ++ byte_cells o) (cells_in ipv4 ms ++ byte_cells p) g
 unfolding row_of
-header_step ns o ms p c d rest more g h i same_long same e right =
+header_words ns o ms p c d rest more g h i same_long same e =
     let old : List Cell = cells_in ipv4 ns ++ byte_cells o in
-    let new : List Cell = cells_in ipv4 ms ++ byte_cells p in
     let r : Found 102 0 (cells_in ipv4 ns ++ byte_cells o) (record { first = 80; bits = 16 }) = found 102 0 old (record { first = 80; bits = 16 }) (locate_front 0 102 (cells_in ipv4 ns) o ∙ located 0 102 ipv4 ns h.numbers) in
     let v : ℕ = r.value in
-    let small : r.value < 65536 = r.small (sound_append (cells_in ipv4 ns) (byte_cells o) (sound ipv4 ns h.numbers) (sound_bytes o h.options_fit)) in
     let s : Split 102 (cells_in ipv4 ns ++ byte_cells o) v 5 (4 + length o / 2) = header_split ns o c rest v h r.look in
     let t : Split 102 (cells_in ipv4 ms ++ byte_cells p) v 5 (4 + length p / 2) = header_split ms p d more v i (same ∙ r.look) in
-    let b : Begins (words (cells_in ipv4 ms ++ byte_cells p)) = header_begins ms p d more i in
-    let some : 0 < sum (t.front ++ t.back) = others_some b.word b.rest t.front t.back v b.some (omega (arith, t.front_long)) (sym b.is ∙ t.is) in
-    let are : AreWords (s.front ++ s.back) = without_one s.front s.back v (subst AreWords s.is (words_below (length (encoded old) / 16) (encoded old) (encoded_bits old))) in
-    let was : Ones (sum (words (cells_in ipv4 ns ++ byte_cells o))) = ones (sum (words old)) right in
-    let was_so : Ones (0 + sum (s.front ++ (v ∷ s.back))) = subst Ones (ap sum s.is ∙ sym (zero-add (sum (s.front ++ (v ∷ s.back))))) was in
     let over_bits : g v ≡ updated v (s.front ++ (v ∷ s.back)) (t.front ++ (v ∷ t.back)) = e v ∙ (λ j. updated v (s.is j) (t.is j)) in
     let low : g v ≤ 65535 = subst (λ (k : ℕ). k ≤ 65535) (sym over_bits) (renewed_below v (s.front ++ (v ∷ s.back)) (t.front ++ (v ∷ t.back))) in
-    let now : Ones (0 + sum (t.front ++ (g v ∷ t.back))) =
-    renewed_ones 0 v (g v) s.front s.back t.front t.back small are (s.front_long ∙ sym t.front_long) (s.back_long ∙ ap (λ (k : ℕ). 4 + k / 2) (sym same_long) ∙ sym t.back_long) (omega arith) was_so over_bits in
-    let all : sum (words (change_at 102 g (cells_in ipv4 ms ++ byte_cells p))) ≡ 0 + sum (t.front ++ (g v ∷ t.back)) =
-    ap sum (t.changed g ∙ ap (λ (k : ℕ). t.front ++ (k ∷ t.back)) (mod-eq_of_lt (omega arith))) ∙ sym (zero-add (sum (t.front ++ (g v ∷ t.back)))) in
-    folded (sum (words (change_at 102 g new))) (subst Ones (sym all) now)
+    record {
+      v = v;
+      a = s.front;
+      b = s.back;
+      x = t.front;
+      y = t.back;
+      small = r.small (sound_append (cells_in ipv4 ns) (byte_cells o) (sound ipv4 ns h.numbers) (sound_bytes o h.options_fit));
+      are = without_one s.front s.back v (subst AreWords s.is (words_below (length (encoded old) / 16) (encoded old) (encoded_bits old)));
+      front = s.front_long ∙ sym t.front_long;
+      back = s.back_long ∙ ap (λ (k : ℕ). 4 + k / 2) (sym same_long) ∙ sym t.back_long;
+      many = omega (arith, t.front_long);
+      before = s.is;
+      between = t.is;
+      after = t.changed g ∙ ap (λ (k : ℕ). t.front ++ (k ∷ t.back)) (mod-eq_of_lt (omega arith));
+      rule = over_bits;
+    }
+
+pub header_step : (ms p : List ℕ) (d : Carried) (more : List ℕ) (g : ℕ → ℕ) (old : List Cell) → IsIpv4 ms p d more → HeaderWords old (cells_in ipv4 ms ++ byte_cells p) g → sums_to_ones (words old) ≡ true → sums_to_ones (words (change_at 102 g (cells_in ipv4 ms ++ byte_cells p))) ≡ true
+header_step ms p d more g old i w right =
+    let new : List Cell = cells_in ipv4 ms ++ byte_cells p in
+    let b : Begins (words (cells_in ipv4 ms ++ byte_cells p)) = header_begins ms p d more i in
+    let some : 0 < sum (w.x ++ w.y) = others_some b.word b.rest w.x w.y w.v b.some w.many (sym b.is ∙ w.between) in
+    let was : Ones (0 + sum (w.a ++ (w.v ∷ w.b))) = subst Ones (ap sum w.before ∙ sym (zero-add (sum (w.a ++ (w.v ∷ w.b))))) (ones (sum (words old)) right) in
+    let now : Ones (0 + sum (w.x ++ (g w.v ∷ w.y))) = renewed_ones 0 w.v (g w.v) w.a w.b w.x w.y w.small w.are w.front w.back (omega arith) was w.rule in
+    folded (sum (words (change_at 102 g new))) (subst Ones (sym (ap sum w.after ∙ sym (zero-add (sum (w.x ++ (g w.v ∷ w.y)))))) now)
 
 -- ---- what an IP packet carries
 
@@ -266,16 +295,27 @@ words_append [] b h k i = k i
 words_append (x ∷ a) b h k zero = h 0
 words_append (x ∷ a) b h k (suc i) = words_append a b (λ i. h (suc i)) k i
 
--- the sum of all that is covered
-all_sum : (more p a b : List ℕ) (c : ℕ) → sum (more ++ (p ++ (a ++ (c ∷ b)))) ≡ sum more + sum ((p ++ a) ++ (c ∷ b))
-all_sum more p a b c = sum_by-append (λ (k : ℕ). k) more (p ++ (a ++ (c ∷ b))) ∙ ap (λ (z : List ℕ). sum more + sum z) (sym (append_assoc p a (c ∷ b)))
+-- the words around and in the header of what is carried before and after, with its checksum c among them
+pub record PacketWords (lack : Bool) (t : Transport) (ns ms p q : List ℕ) (k : ℕ → ℕ) : Type 0 where
+  pub c : ℕ
+  pub a : List ℕ
+  pub b : List ℕ
+  pub x : List ℕ
+  pub y : List ℕ
+  pub small : c < 65536
+  pub are : AreWords (a ++ b)
+  pub front : length a ≡ length x
+  pub back : length b ≡ length y
+  pub look : look_up 103 (cells_in (items_of t) ns) ≡ Some c
+  pub looked : look_up 103 (cut_at 103 k (cells_in (items_of t) ms)) ≡ Some (k c)
+  pub before : p ++ words (cells_in (items_of t) ns) ≡ a ++ (c ∷ b)
+  pub after : q ++ words (change_at 103 k (cells_in (items_of t) ms)) ≡ x ++ (k c ∷ y)
+  pub rule : k c ≡ carried_updated lack t c (a ++ (c ∷ b)) (x ++ (c ∷ y))
 
-packet_step : (lack : Bool) (t : Transport) (ns ms : List ℕ) (p q more : List ℕ) (k : ℕ → ℕ) (a m : ℕ) → Fits (items_of t) ns → Fits (items_of t) ms → placed 0 103 (items_of t) ≡ Some (record { first = 16 * a; bits = 16 }) → 8 * size_of t ≡ 16 * (a + (1 + m)) →
-    look_up 103 (cells_in (items_of t) ms) ≡ look_up 103 (cells_in (items_of t) ns) → length p ≡ length q → AreWords p → 0 < sum more →
-    ((z : ℕ) → k z ≡ carried_updated lack t z (p ++ words (cells_in (items_of t) ns)) (q ++ words (cells_in (items_of t) ms))) →
-    ((lack && is_left_out t (look_up 103 (cells_in (items_of t) ns))) || sums_to_ones (more ++ (p ++ words (cells_in (items_of t) ns)))) ≡ true →
-    ((lack && is_left_out t (look_up 103 (cut_at 103 k (cells_in (items_of t) ms)))) || sums_to_ones (more ++ (q ++ words (change_at 103 k (cells_in (items_of t) ms))))) ≡ true
-packet_step lack t ns ms p q more k a m fn fm at size same long are some rule h =
+packet_words : (lack : Bool) (t : Transport) (ns ms p q : List ℕ) (k : ℕ → ℕ) (a m : ℕ) → Fits (items_of t) ns → Fits (items_of t) ms → placed 0 103 (items_of t) ≡ Some (record { first = 16 * a; bits = 16 }) → 8 * size_of t ≡ 16 * (a + (1 + m)) →
+    look_up 103 (cells_in (items_of t) ms) ≡ look_up 103 (cells_in (items_of t) ns) → length p ≡ length q → AreWords p →
+    ((z : ℕ) → k z ≡ carried_updated lack t z (p ++ words (cells_in (items_of t) ns)) (q ++ words (cells_in (items_of t) ms))) → PacketWords lack t ns ms p q k
+packet_words lack t ns ms p q k a m fn fm at size same long are rule =
     let old : List Cell = cells_in (items_of t) ns in
     let new : List Cell = cells_in (items_of t) ms in
     let so : Sound (cells_in (items_of t) ns) = sound (items_of t) ns fn in
@@ -289,31 +329,62 @@ packet_step lack t ns ms p q more k a m fn fm at size same long are some rule h 
     let small : r.value < 65536 = r.small so in
     let x : Split 103 (cells_in (items_of t) ns) r.value a m = split 103 a m old r.value so eo lo r.look in
     let y : Split 103 (cells_in (items_of t) ms) r.value a m = split 103 a m new r.value sn en ln (same ∙ r.look) in
-    let words_are : AreWords ((p ++ x.front) ++ x.back) = without_one (p ++ x.front) x.back v (subst AreWords (sym (append_assoc p x.front (v ∷ x.back))) (words_append p (x.front ++ (v ∷ x.back)) are (subst AreWords x.is (are_words old)))) in
+    let before : p ++ words (cells_in (items_of t) ns) ≡ (p ++ x.front) ++ (v ∷ x.back) = ap (λ (z : List ℕ). p ++ z) x.is ∙ sym (append_assoc p x.front (v ∷ x.back)) in
     let over_bits : k v ≡ carried_updated lack t v ((p ++ x.front) ++ (v ∷ x.back)) ((q ++ y.front) ++ (v ∷ y.back)) =
-    rule v ∙ (λ j. carried_updated lack t v ((ap (λ (z : List ℕ). p ++ z) x.is ∙ sym (append_assoc p x.front (v ∷ x.back))) j) ((ap (λ (z : List ℕ). q ++ z) y.is ∙ sym (append_assoc q y.front (v ∷ y.back))) j)) in
+    rule v ∙ (λ j. carried_updated lack t v (before j) ((ap (λ (z : List ℕ). q ++ z) y.is ∙ sym (append_assoc q y.front (v ∷ y.back))) j)) in
     let low : k v < 65536 = subst (λ (z : ℕ). z < 65536) (sym over_bits) (kind_low lack t v ((p ++ x.front) ++ (v ∷ x.back)) ((q ++ y.front) ++ (v ∷ y.back)) small) in
-    let was : RightAt lack t (sum more) v (p ++ x.front) x.back =
-    (λ j. (lack && is_left_out t (sym r.look j)) || (fold (sym (ap (λ (z : List ℕ). sum (more ++ (p ++ z))) x.is ∙ all_sum more p x.front x.back v) j) == 65535)) ∙ h in
-    let now : RightAt lack t (sum more) (k v) (q ++ y.front) y.back =
-    kind_step lack t (sum more) v (k v) (p ++ x.front) x.back (q ++ y.front) y.back small words_are
-    (omega (arith, length-append p x.front, length-append q y.front, x.front_long, y.front_long, long)) (x.back_long ∙ sym y.back_long) (omega arith) over_bits was in
     let whole : words (change_at 103 k (cells_in (items_of t) ms)) ≡ y.front ++ (k v ∷ y.back) = y.changed k ∙ ap (λ (z : ℕ). y.front ++ (z ∷ y.back)) (mod-eq_of_lt low) in
-    let looked : look_up 103 (cut_at 103 k (cells_in (items_of t) ms)) ≡ Some (k v) = look_cut 103 0 (16 * a) 16 v k new en (same ∙ r.look) ∙ ap (λ (z : ℕ). Some z) (mod-eq_of_lt low) in
-    (λ j. (lack && is_left_out t (looked j)) || (fold ((ap (λ (z : List ℕ). sum (more ++ (q ++ z))) whole ∙ all_sum more q y.front y.back (k v)) j) == 65535)) ∙ now
+    record {
+      c = v;
+      a = p ++ x.front;
+      b = x.back;
+      x = q ++ y.front;
+      y = y.back;
+      small = small;
+      are = without_one (p ++ x.front) x.back v (subst AreWords (sym (append_assoc p x.front (v ∷ x.back))) (words_append p (x.front ++ (v ∷ x.back)) are (subst AreWords x.is (are_words old))));
+      front = omega (arith, length-append p x.front, length-append q y.front, x.front_long, y.front_long, long);
+      back = x.back_long ∙ sym y.back_long;
+      look = r.look;
+      looked = look_cut 103 0 (16 * a) 16 v k new en (same ∙ r.look) ∙ ap (λ (z : ℕ). Some z) (mod-eq_of_lt low);
+      before = before;
+      after = ap (λ (z : List ℕ). q ++ z) whole ∙ sym (append_assoc q y.front (k v ∷ y.back));
+      rule = over_bits;
+    }
 
--- for each kind
-pub kinds_step : (lack : Bool) (t : Transport) (ns ms : List ℕ) (p q more : List ℕ) (k : ℕ → ℕ) → (t ≡ Nothing → p ≡ q) → Fits (items_of t) ns → Fits (items_of t) ms →
-    look_up 103 (cells_in (items_of t) ms) ≡ look_up 103 (cells_in (items_of t) ns) → length p ≡ length q → AreWords p → 0 < sum more →
-    ((z : ℕ) → k z ≡ carried_updated lack t z (p ++ words (cells_in (items_of t) ns)) (q ++ words (cells_in (items_of t) ms))) →
+-- for each kind: what is carried may be nothing that has a checksum
+pub kinds_words : (lack : Bool) (t : Transport) (ns ms p q : List ℕ) (k : ℕ → ℕ) → Fits (items_of t) ns → Fits (items_of t) ms →
+    look_up 103 (cells_in (items_of t) ms) ≡ look_up 103 (cells_in (items_of t) ns) → length p ≡ length q → AreWords p →
+    ((z : ℕ) → k z ≡ carried_updated lack t z (p ++ words (cells_in (items_of t) ns)) (q ++ words (cells_in (items_of t) ms))) → (t ≡ Nothing) ⊎ PacketWords lack t ns ms p q k
+unfolding row_of
+kinds_words lack Nothing ns ms p q k fn fm same long are rule = inl refl
+kinds_words lack Tcp ns ms p q k fn fm same long are rule = inr (packet_words lack Tcp ns ms p q k 8 1 fn fm refl refl same long are rule)
+kinds_words lack Udp ns ms p q k fn fm same long are rule = inr (packet_words lack Udp ns ms p q k 3 0 fn fm refl refl same long are rule)
+kinds_words lack Icmpv4 ns ms p q k fn fm same long are rule = inr (packet_words lack Icmpv4 ns ms p q k 1 0 fn fm refl refl same long are rule)
+kinds_words lack Icmpv6 ns ms p q k fn fm same long are rule = inr (packet_words lack Icmpv6 ns ms p q k 1 0 fn fm refl refl same long are rule)
+
+-- what is carried and has no checksum has no words
+pub nothing_carried : (t : Transport) (ns ms p q : List ℕ) (k : ℕ → ℕ) → t ≡ Nothing → (t ≡ Nothing → p ≡ q) → q ++ words (change_at 103 k (cells_in (items_of t) ms)) ≡ p ++ words (cells_in (items_of t) ns)
+nothing_carried Nothing ns ms p q k is none = ap (λ (z : List ℕ). z ++ words []) (sym (none refl))
+nothing_carried Tcp ns ms p q k is none = absurd cc
+nothing_carried Udp ns ms p q k is none = absurd cc
+nothing_carried Icmpv4 ns ms p q k is none = absurd cc
+nothing_carried Icmpv6 ns ms p q k is none = absurd cc
+
+pub never_left_out : (t : Transport) (o o' : Option ℕ) → t ≡ Nothing → is_left_out t o ≡ is_left_out t o'
+never_left_out t o o' is = (λ j. is_left_out (is j) o) ∙ sym (λ j. is_left_out (is j) o')
+
+pub sum_more : (more s t : List ℕ) → s ≡ t → sum (more ++ s) ≡ sum more + sum t
+sum_more more s t e = sum_by-append (λ (k : ℕ). k) more s ∙ ap (λ (z : List ℕ). sum more + sum z) e
+
+pub kinds_step : (lack : Bool) (t : Transport) (ns ms p q more : List ℕ) (k : ℕ → ℕ) → (t ≡ Nothing → p ≡ q) → 0 < sum more → (t ≡ Nothing) ⊎ PacketWords lack t ns ms p q k →
     ((lack && is_left_out t (look_up 103 (cells_in (items_of t) ns))) || sums_to_ones (more ++ (p ++ words (cells_in (items_of t) ns)))) ≡ true →
     ((lack && is_left_out t (look_up 103 (cut_at 103 k (cells_in (items_of t) ms)))) || sums_to_ones (more ++ (q ++ words (change_at 103 k (cells_in (items_of t) ms))))) ≡ true
-unfolding row_of
-kinds_step lack Nothing ns ms p q more k none fn fm same long are some rule h = (λ j. (lack && false) || sums_to_ones (more ++ (sym (none refl) j ++ words []))) ∙ h
-kinds_step lack Tcp ns ms p q more k none fn fm same long are some rule h = packet_step lack Tcp ns ms p q more k 8 1 fn fm refl refl same long are some rule h
-kinds_step lack Udp ns ms p q more k none fn fm same long are some rule h = packet_step lack Udp ns ms p q more k 3 0 fn fm refl refl same long are some rule h
-kinds_step lack Icmpv4 ns ms p q more k none fn fm same long are some rule h = packet_step lack Icmpv4 ns ms p q more k 1 0 fn fm refl refl same long are some rule h
-kinds_step lack Icmpv6 ns ms p q more k none fn fm same long are some rule h = packet_step lack Icmpv6 ns ms p q more k 1 0 fn fm refl refl same long are some rule h
+kinds_step lack t ns ms p q more k none some (inl is) h =
+    (λ j. (lack && never_left_out t (look_up 103 (cut_at 103 k (cells_in (items_of t) ms))) (look_up 103 (cells_in (items_of t) ns)) is j) || sums_to_ones (more ++ nothing_carried t ns ms p q k is none j)) ∙ h
+kinds_step lack t ns ms p q more k none some (inr w) h =
+    let was : RightAt lack t (sum more) w.c w.a w.b = (λ j. (lack && is_left_out t (sym w.look j)) || (fold (sym (sum_more more (p ++ words (cells_in (items_of t) ns)) (w.a ++ (w.c ∷ w.b)) w.before) j) == 65535)) ∙ h in
+    let now : RightAt lack t (sum more) (k w.c) w.x w.y = kind_step lack t (sum more) w.c (k w.c) w.a w.b w.x w.y w.small w.are w.front w.back (omega arith) w.rule was in
+    (λ j. (lack && is_left_out t (w.looked j)) || (fold (sum_more more (q ++ words (change_at 103 k (cells_in (items_of t) ms))) (w.x ++ (k w.c ∷ w.y)) w.after j) == 65535)) ∙ now
 
 -- ---- numbers that do not occur
 

@@ -57,7 +57,7 @@ never_wrong c new r = elim (cases_eq c 0) [
 
 -- ---- words where one is put
 
-sum_mid : (a b : List ℕ) (x : ℕ) → sum (a ++ (x ∷ b)) ≡ x + sum (a ++ b)
+pub sum_mid : (a b : List ℕ) (x : ℕ) → sum (a ++ (x ∷ b)) ≡ x + sum (a ++ b)
 sum_mid [] b x = sum_by-cons (λ (k : ℕ). k) x b
 sum_mid (y ∷ a) b x = sum_by-cons (λ (k : ℕ). k) y (a ++ (x ∷ b)) ∙ omega (arith, sum_mid a b x, sum_by-cons (λ (k : ℕ). k) y (a ++ b))
 

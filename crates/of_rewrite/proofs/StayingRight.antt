@@ -1,29 +1,29 @@
 -- Checksums of a frame that were right stay so where a number is replaced.
-use Rattle.std.proofs.Common.{◌≡◌, ℕ, ◌<◌, ◌≤◌, Bool, true, false, cond, List, [], ◌++◌, length, drop, sum, refl, sym, ap, ◌∙◌, arith}
+use Rattle.std.proofs.Common.{◌≡◌, ℕ, ◌<◌, ◌≤◌, Bool, true, false, cond, List, [], ◌++◌, length, drop, sum, ◌⊎◌, refl, sym, ap, ◌∙◌, arith}
 use Rattle.std.specs.Prelude.{◌&&◌, ◌||◌}
 use Rattle.of_layers.specs.declared.transport.Transport.{Transport}
 use Rattle.of_layers.specs.declared.transport.Transport.TheVariants.{Nothing}
 use Rattle.of_layers.specs.Fields.{row_of}
-use Rattle.of_layers.specs.Layers.{Item, Cell, Layers, Carried, Body, Plain, Arp, Ipv4, Ipv6, cells_in, byte_cells, ipv4, ipv6, plain, items_of}
+use Rattle.of_layers.specs.Layers.{Item, Cell, Layers, Carried, Extension, Body, Plain, Arp, Ipv4, Ipv6, cells_in, byte_cells, ipv4, ipv6, plain, items_of}
 use Rattle.of_layers.specs.Looking.{look_up}
 use Rattle.of_layers.specs.Reading.{layers_of}
 use Rattle.of_layers.specs.WellFormed.{AreBytes, Fits, IsIpv4, IsLayers}
 use Rattle.of_layers.proofs.FrameLemmas.{are_layers}
 use Rattle.of_rewrite.specs.Checksum.{updated, carried_updated, sums_to_ones}
-use Rattle.of_rewrite.specs.Rewriting.{change_at, replace_at, words, without_addresses, address_cover, carried_cover, header_updated, carried_after}
+use Rattle.of_rewrite.specs.Rewriting.{change_at, replace_at, words, without_addresses, header_cover, address_cover, carried_cover, header_updated, carried_after}
 use Rattle.of_rewrite.specs.Replaced.{Replaceable, LeavesLayers, numbers_with, carried_with, body_with, layers_with, layers_set}
 use Rattle.of_rewrite.specs.Right.{header_is_right, is_left_out, carried_is_right, StayRight}
 use Rattle.of_rewrite.proofs.Kept.{cut_at, cut_cells, cut_named, bytes_nameless}
 use Rattle.of_rewrite.proofs.KeptLayers.{fits_with, layers_kept, ipv4_kept}
 use Rattle.of_rewrite.proofs.Parts.{length_changed}
-use Rattle.of_rewrite.proofs.RightLayers.{CoversWith, covers_with, header_step, kinds_step, addresses_kept, no_header_checksum, look_other, header_same, words_long, are_words}
+use Rattle.of_rewrite.proofs.RightLayers.{CoversWith, covers_with, HeaderWords, header_words, header_step, PacketWords, kinds_words, kinds_step, addresses_kept, no_header_checksum, look_other, header_same, words_long, are_words}
 use Rattle.of_rewrite.proofs.Standing.{no_header}
 use Rattle.of_rewrite.proofs.Structure.{Chained, chained}
 
-abbrev frame_with : List ℕ → List (List ℕ) → ℕ → Body → Layers
+abbrev pub frame_with : List ℕ → List (List ℕ) → ℕ → Body → Layers
 frame_with ends tags type body = record { ends = ends; tags = tags; type = type; body = body }
 
-abbrev body_set : ℕ → ℕ → Body → Body
+abbrev pub body_set : ℕ → ℕ → Body → Body
 body_set n v b = body_with 103 (carried_after b n v) (body_with 102 (header_updated b n v) (body_with n (λ x. v) b))
 
 -- what the checksums of the new layers cover
@@ -54,12 +54,15 @@ addresses_set n v l c =
 
 -- ---- the IPv4 header
 
-header_stays : (ends : List ℕ) (tags : List (List ℕ)) (type : ℕ) (b : Body) (n v : ℕ) → IsLayers (frame_with ends tags type b) → Replaceable n → LeavesLayers n → header_is_right b ≡ true → header_is_right (body_set n v b) ≡ true
+-- the words of the header before and after
+pub record HeaderSet (n v : ℕ) (ns o : List ℕ) (c : Carried) (rest : List ℕ) : Type 0 where
+  pub are : HeaderWords (cells_in ipv4 ns ++ byte_cells o) (cells_in ipv4 (numbers_with n (λ x. v) ipv4 ns) ++ byte_cells o) (header_updated (Ipv4 ns o c rest) n v)
+  pub well_formed : IsIpv4 (numbers_with n (λ x. v) ipv4 ns) o (carried_with n (λ x. v) c) rest
+  pub set : words (header_cover (body_set n v (Ipv4 ns o c rest))) ≡ words (change_at 102 (header_updated (Ipv4 ns o c rest) n v) (cells_in ipv4 (numbers_with n (λ x. v) ipv4 ns) ++ byte_cells o))
+
+pub header_set : (ends : List ℕ) (tags : List (List ℕ)) (type : ℕ) (ns o : List ℕ) (c : Carried) (rest : List ℕ) (n v : ℕ) → IsLayers (frame_with ends tags type (Ipv4 ns o c rest)) → Replaceable n → LeavesLayers n → HeaderSet n v ns o c rest
 unfolding row_of
-header_stays ends tags type (Plain rest) n v h free leaves r = r
-header_stays ends tags type (Arp ns rest) n v h free leaves r = r
-header_stays ends tags type (Ipv6 ns es c rest) n v h free leaves r = r
-header_stays ends tags type (Ipv4 ns o c rest) n v h free leaves r =
+header_set ends tags type ns o c rest n v h free leaves =
     let b : Body = Ipv4 ns o c rest in
     let f : ℕ → ℕ = λ x. v in
     let g : ℕ → ℕ = header_updated (Ipv4 ns o c rest) n v in
@@ -70,19 +73,34 @@ header_stays ends tags type (Ipv4 ns o c rest) n v h free leaves r =
     let cut : cells_in ipv4 (numbers_with n (λ x. v) ipv4 ns) ++ byte_cells o ≡ cut_at n (λ x. v) (cells_in ipv4 ns ++ byte_cells o) = sym (cut_named n f (cells_in ipv4 ns) (byte_cells o) (bytes_nameless n o) ∙ ap (λ (x : List Cell). x ++ byte_cells o) (cut_cells n f ipv4 ns)) in
     let same : look_up 102 (cells_in ipv4 (numbers_with n (λ x. v) ipv4 ns) ++ byte_cells o) ≡ look_up 102 (cells_in ipv4 ns ++ byte_cells o) = ap (look_up 102) cut ∙ look_other 102 n f (cells_in ipv4 ns ++ byte_cells o) (λ e. free.0 (sym e)) in
     let rule : (x : ℕ) → header_updated (Ipv4 ns o c rest) n v x ≡ updated x (words (cells_in ipv4 ns ++ byte_cells o)) (words (cells_in ipv4 (numbers_with n (λ x. v) ipv4 ns) ++ byte_cells o)) = λ x. ap (updated x (words (cells_in ipv4 ns ++ byte_cells o))) (sym k.first.header) in
-    let step = header_step ns o ms o c (carried_with n f c) rest rest g i j refl same rule r in
-    ap (λ (x : List Cell). sums_to_ones (words x)) (header_same (carried_after b n v) (numbers_with 102 g ipv4 ms) o) ∙ ap sums_to_ones k.second.header ∙ step
+    record {
+      are = header_words ns o ms o c (carried_with n f c) rest rest g i j refl same rule;
+      well_formed = j;
+      set = ap (λ (x : List Cell). words x) (header_same (carried_after b n v) (numbers_with 102 g ipv4 ms) o) ∙ k.second.header;
+    }
+
+header_stays : (ends : List ℕ) (tags : List (List ℕ)) (type : ℕ) (b : Body) (n v : ℕ) → IsLayers (frame_with ends tags type b) → Replaceable n → LeavesLayers n → header_is_right b ≡ true → header_is_right (body_set n v b) ≡ true
+header_stays ends tags type (Plain rest) n v h free leaves r = r
+header_stays ends tags type (Arp ns rest) n v h free leaves r = r
+header_stays ends tags type (Ipv6 ns es c rest) n v h free leaves r = r
+header_stays ends tags type (Ipv4 ns o c rest) n v h free leaves r =
+    let s : HeaderSet n v ns o c rest = header_set ends tags type ns o c rest n v h free leaves in
+    ap sums_to_ones s.set ∙ header_step (numbers_with n (λ x. v) ipv4 ns) o (carried_with n (λ x. v) c) rest (header_updated (Ipv4 ns o c rest) n v) (cells_in ipv4 ns ++ byte_cells o) s.well_formed s.are r
 
 -- ---- what is carried
 
--- over either network: `lack` says whether a checksum may be left out
-stays : (lack : Bool) (c : Carried) (a : List Cell) (n v : ℕ) (g k : ℕ → ℕ) (more : List ℕ) → Replaceable n → Fits (items_of c.kind) c.numbers → (c.kind ≡ Nothing → a ≡ []) →
+-- over either network, with these cells of addresses; `lack` says whether a checksum may be left out
+pub record CarriedSet (lack : Bool) (c : Carried) (a : List Cell) (n v : ℕ) (g k : ℕ → ℕ) (p q : List ℕ) : Type 0 where
+  pub are : (c.kind ≡ Nothing) ⊎ PacketWords lack c.kind c.numbers (numbers_with n (λ x. v) (items_of c.kind) c.numbers) (words a) (words (replace_at n v a)) k
+  pub none : c.kind ≡ Nothing → words a ≡ words (replace_at n v a)
+  pub looked : cells_in (items_of c.kind) (numbers_with 103 k (items_of c.kind) (numbers_with 102 g (items_of c.kind) (numbers_with n (λ x. v) (items_of c.kind) c.numbers))) ≡ cut_at 103 k (cells_in (items_of c.kind) (numbers_with n (λ x. v) (items_of c.kind) c.numbers))
+  pub set : p ++ q ≡ words (replace_at n v a) ++ words (change_at 103 k (cells_in (items_of c.kind) (numbers_with n (λ x. v) (items_of c.kind) c.numbers)))
+
+carried_set : (lack : Bool) (c : Carried) (a : List Cell) (n v : ℕ) (g k : ℕ → ℕ) → Replaceable n → Fits (items_of c.kind) c.numbers → (c.kind ≡ Nothing → a ≡ []) →
     ((z : ℕ) → k z ≡ carried_updated lack c.kind z (words a ++ words (cells_in (items_of c.kind) c.numbers)) (words (replace_at n v a) ++ words (replace_at n v (cells_in (items_of c.kind) c.numbers)))) →
-    words (cells_in (items_of c.kind) (numbers_with n (λ x. v) (items_of c.kind) c.numbers)) ≡ words (replace_at n v (cells_in (items_of c.kind) c.numbers)) → 0 < sum more → (p q : List ℕ) → p ≡ words (replace_at n v a) →
-    q ≡ words (change_at 103 k (cells_in (items_of c.kind) (numbers_with 102 g (items_of c.kind) (numbers_with n (λ x. v) (items_of c.kind) c.numbers)))) →
-    ((lack && is_left_out c.kind (look_up 103 (cells_in (items_of c.kind) c.numbers))) || sums_to_ones (more ++ (words a ++ words (cells_in (items_of c.kind) c.numbers)))) ≡ true →
-    ((lack && is_left_out c.kind (look_up 103 (cells_in (items_of c.kind) (numbers_with 103 k (items_of c.kind) (numbers_with 102 g (items_of c.kind) (numbers_with n (λ x. v) (items_of c.kind) c.numbers)))))) || sums_to_ones (more ++ (p ++ q))) ≡ true
-stays lack c a n v g k more free fits none rule first some p q pe qe r =
+    words (cells_in (items_of c.kind) (numbers_with n (λ x. v) (items_of c.kind) c.numbers)) ≡ words (replace_at n v (cells_in (items_of c.kind) c.numbers)) → (p q : List ℕ) → p ≡ words (replace_at n v a) →
+    q ≡ words (change_at 103 k (cells_in (items_of c.kind) (numbers_with 102 g (items_of c.kind) (numbers_with n (λ x. v) (items_of c.kind) c.numbers)))) → CarriedSet lack c a n v g k p q
+carried_set lack c a n v g k free fits none rule first p q pe qe =
     let is : List Item = items_of c.kind in
     let ns : List ℕ = c.numbers in
     let f : ℕ → ℕ = λ x. v in
@@ -90,30 +108,51 @@ stays lack c a n v g k more free fits none rule first some p q pe qe r =
     let two : cells_in (items_of c.kind) (numbers_with 102 g (items_of c.kind) (numbers_with n (λ x. v) (items_of c.kind) c.numbers)) ≡ cells_in (items_of c.kind) (numbers_with n (λ x. v) (items_of c.kind) c.numbers) = no_header_checksum c.kind g ms in
     let same : look_up 103 (cells_in (items_of c.kind) (numbers_with n (λ x. v) (items_of c.kind) c.numbers)) ≡ look_up 103 (cells_in (items_of c.kind) c.numbers) = ap (look_up 103) (sym (cut_cells n f is ns)) ∙ look_other 103 n f (cells_in is ns) (λ e. free.1 (sym e)) in
     let long : length (words a) ≡ length (words (replace_at n v a)) = words_long a (replace_at n v a) (sym (length_changed n f a)) in
-    let empty : c.kind ≡ Nothing → words a ≡ words (replace_at n v a) = λ e. (λ j. words (none e j)) ∙ (λ j. words (replace_at n v (sym (none e) j))) in
-    let step = kinds_step lack c.kind ns ms (words a) (words (replace_at n v a)) more k empty fits (fits_with n f is ns fits) same long (are_words a) some
-    (λ z. rule z ∙ ap (λ (x : List ℕ). carried_updated lack c.kind z (words a ++ words (cells_in (items_of c.kind) c.numbers)) (words (replace_at n v a) ++ x)) (sym first)) r in
-    let looked : cells_in (items_of c.kind) (numbers_with 103 k (items_of c.kind) (numbers_with 102 g (items_of c.kind) (numbers_with n (λ x. v) (items_of c.kind) c.numbers))) ≡ cut_at 103 k (cells_in (items_of c.kind) (numbers_with n (λ x. v) (items_of c.kind) c.numbers)) =
-    sym (cut_cells 103 k is (numbers_with 102 g is ms)) ∙ ap (cut_at 103 k) two in
-    (λ j. (lack && is_left_out c.kind (look_up 103 (looked j))) || sums_to_ones (more ++ (pe j ++ (qe ∙ ap (λ (x : List Cell). words (change_at 103 k x)) two) j))) ∙ step
+    record {
+      are = kinds_words lack c.kind ns ms (words a) (words (replace_at n v a)) k fits (fits_with n f is ns fits) same long (are_words a)
+          (λ z. rule z ∙ ap (λ (x : List ℕ). carried_updated lack c.kind z (words a ++ words (cells_in (items_of c.kind) c.numbers)) (words (replace_at n v a) ++ x)) (sym first));
+      none = λ e. (λ j. words (none e j)) ∙ (λ j. words (replace_at n v (sym (none e) j)));
+      looked = sym (cut_cells 103 k is (numbers_with 102 g is ms)) ∙ ap (cut_at 103 k) two;
+      set = λ j. pe j ++ (qe ∙ ap (λ (x : List Cell). words (change_at 103 k x)) two) j;
+    }
 
-carried_stays : (ends : List ℕ) (tags : List (List ℕ)) (type : ℕ) (b : Body) (n v : ℕ) → IsLayers (frame_with ends tags type b) → Replaceable n → LeavesLayers n → (more : List ℕ) → 0 < sum more → carried_is_right more b ≡ true → carried_is_right more (body_set n v b) ≡ true
+pub carried_set_4 : (ends : List ℕ) (tags : List (List ℕ)) (type : ℕ) (ns o : List ℕ) (c : Carried) (rest : List ℕ) (n v : ℕ) → IsLayers (frame_with ends tags type (Ipv4 ns o c rest)) → Replaceable n → LeavesLayers n →
+    CarriedSet true c (address_cover (Ipv4 ns o c rest)) n v (header_updated (Ipv4 ns o c rest) n v) (carried_after (Ipv4 ns o c rest) n v) (words (address_cover (body_set n v (Ipv4 ns o c rest)))) (words (carried_cover (body_set n v (Ipv4 ns o c rest))))
 unfolding row_of
-carried_stays ends tags type (Plain rest) n v h free leaves more some r = r
-carried_stays ends tags type (Arp ns rest) n v h free leaves more some r = r
-carried_stays ends tags type (Ipv4 ns o c rest) n v h free leaves more some r =
+carried_set_4 ends tags type ns o c rest n v h free leaves =
     let b : Body = Ipv4 ns o c rest in
     let l : Layers = frame_with ends tags type (Ipv4 ns o c rest) in
     let k : Covered n v (frame_with ends tags type (Ipv4 ns o c rest)) = covered n v (frame_with ends tags type b) leaves h in
-    stays true c (address_cover b) n v (header_updated b n v) (carried_after b n v) more free h.body.1.carries.numbers
-    (λ e. ap (λ (t : Transport). cond (without_addresses t) [] (drop 11 (cells_in ipv4 ns))) e) (λ z. refl) k.first.carried some (words (address_cover (body_set n v b))) (words (carried_cover (body_set n v b))) (addresses_set n v l k) k.third.carried r
-carried_stays ends tags type (Ipv6 ns es c rest) n v h free leaves more some r =
+    carried_set true c (address_cover b) n v (header_updated b n v) (carried_after b n v) free h.body.1.carries.numbers
+    (λ e. ap (λ (t : Transport). cond (without_addresses t) [] (drop 11 (cells_in ipv4 ns))) e) (λ z. refl) k.first.carried (words (address_cover (body_set n v b))) (words (carried_cover (body_set n v b))) (addresses_set n v l k) k.third.carried
+
+pub carried_set_6 : (ends : List ℕ) (tags : List (List ℕ)) (type : ℕ) (ns : List ℕ) (es : List Extension) (c : Carried) (rest : List ℕ) (n v : ℕ) → IsLayers (frame_with ends tags type (Ipv6 ns es c rest)) → Replaceable n → LeavesLayers n →
+    CarriedSet false c (address_cover (Ipv6 ns es c rest)) n v (header_updated (Ipv6 ns es c rest) n v) (carried_after (Ipv6 ns es c rest) n v) (words (address_cover (body_set n v (Ipv6 ns es c rest)))) (words (carried_cover (body_set n v (Ipv6 ns es c rest))))
+unfolding row_of
+carried_set_6 ends tags type ns es c rest n v h free leaves =
     let b : Body = Ipv6 ns es c rest in
     let l : Layers = frame_with ends tags type (Ipv6 ns es c rest) in
     let k : Covered n v (frame_with ends tags type (Ipv6 ns es c rest)) = covered n v (frame_with ends tags type b) leaves h in
     let q : Chained es c 102 = chained 102 no_header _ es c h.body.1.chain in
-    stays false c (address_cover b) n v (header_updated b n v) (carried_after b n v) more free q.fits
-    (λ e. ap (λ (t : Transport). cond (without_addresses t) [] (drop 7 (cells_in (ipv6 (plain 8)) ns))) e) (λ z. refl) k.first.carried some (words (address_cover (body_set n v b))) (words (carried_cover (body_set n v b))) (addresses_set n v l k) k.third.carried r
+    carried_set false c (address_cover b) n v (header_updated b n v) (carried_after b n v) free q.fits
+    (λ e. ap (λ (t : Transport). cond (without_addresses t) [] (drop 7 (cells_in (ipv6 (plain 8)) ns))) e) (λ z. refl) k.first.carried (words (address_cover (body_set n v b))) (words (carried_cover (body_set n v b))) (addresses_set n v l k) k.third.carried
+
+stays : (lack : Bool) (c : Carried) (a : List Cell) (n v : ℕ) (g k : ℕ → ℕ) (p q more : List ℕ) → CarriedSet lack c a n v g k p q → 0 < sum more →
+    ((lack && is_left_out c.kind (look_up 103 (cells_in (items_of c.kind) c.numbers))) || sums_to_ones (more ++ (words a ++ words (cells_in (items_of c.kind) c.numbers)))) ≡ true →
+    ((lack && is_left_out c.kind (look_up 103 (cells_in (items_of c.kind) (numbers_with 103 k (items_of c.kind) (numbers_with 102 g (items_of c.kind) (numbers_with n (λ x. v) (items_of c.kind) c.numbers)))))) || sums_to_ones (more ++ (p ++ q))) ≡ true
+stays lack c a n v g k p q more s some r =
+    (λ j. (lack && is_left_out c.kind (look_up 103 (s.looked j))) || sums_to_ones (more ++ s.set j)) ∙
+    kinds_step lack c.kind c.numbers (numbers_with n (λ x. v) (items_of c.kind) c.numbers) (words a) (words (replace_at n v a)) more k s.none some s.are r
+
+carried_stays : (ends : List ℕ) (tags : List (List ℕ)) (type : ℕ) (b : Body) (n v : ℕ) → IsLayers (frame_with ends tags type b) → Replaceable n → LeavesLayers n → (more : List ℕ) → 0 < sum more → carried_is_right more b ≡ true → carried_is_right more (body_set n v b) ≡ true
+carried_stays ends tags type (Plain rest) n v h free leaves more some r = r
+carried_stays ends tags type (Arp ns rest) n v h free leaves more some r = r
+carried_stays ends tags type (Ipv4 ns o c rest) n v h free leaves more some r =
+    let b : Body = Ipv4 ns o c rest in
+    stays true c (address_cover b) n v (header_updated b n v) (carried_after b n v) (words (address_cover (body_set n v b))) (words (carried_cover (body_set n v b))) more (carried_set_4 ends tags type ns o c rest n v h free leaves) some r
+carried_stays ends tags type (Ipv6 ns es c rest) n v h free leaves more some r =
+    let b : Body = Ipv6 ns es c rest in
+    stays false c (address_cover b) n v (header_updated b n v) (carried_after b n v) (words (address_cover (body_set n v b))) (words (carried_cover (body_set n v b))) more (carried_set_6 ends tags type ns es c rest n v h free leaves) some r
 
 -- ---- frames
 

@@ -1,5 +1,5 @@
--- Correct checksums: with all the words that they cover they sum up to all ones (RFC 1071, 1).
-use Rattle.std.specs.Prelude.{ℕ, ◌<◌, Bool, false, IsTrue, ◌||◌, ◌==◌, List, ◌++◌, sum, Option, Some, None}
+-- Correct checksums, which sum up to all ones with all the words that they cover (RFC 1071, 1), and by how much others are off.
+use Rattle.std.specs.Prelude.{ℕ, ◌≡◌, ◌<◌, ◌%◌, Bool, false, IsTrue, ◌||◌, ◌==◌, List, ◌++◌, sum, Option, Some, None}
 use Rattle.of_layers.specs.declared.transport.Transport.{Transport}
 use Rattle.of_layers.specs.declared.transport.Transport.TheVariants.{Nothing, Tcp, Udp, Icmpv4, Icmpv6}
 use Rattle.of_layers.specs.Layers.{Body, Ipv4, checksum}
@@ -34,3 +34,19 @@ abbrev pub StayRight : List ℕ → List ℕ → Type 0
 StayRight old new =
     (IsTrue (header_is_right (layers_of old).body) → IsTrue (header_is_right (layers_of new).body))
     × ((more : List ℕ) → 0 < sum more → IsTrue (carried_is_right more (layers_of old).body) → IsTrue (carried_is_right more (layers_of new).body))
+
+-- ---- checksums that are wrong
+
+-- What a checksum and the words that it covers sum up to, modulo 65535 as sums in one's complement are: 0 where it is right, and else by how much it is off.
+abbrev pub header_off : Body → ℕ
+header_off b = sum (words (header_cover b)) % 65535
+
+abbrev pub carried_off : List ℕ → Body → ℕ
+carried_off more b = sum (more ++ (words (address_cover b) ++ words (carried_cover b))) % 65535
+
+-- Of two frames: each checksum of the second is off by as much as that of the first, unless it is left out. It is left out where that of the first is.
+abbrev pub StayOff : List ℕ → List ℕ → Type 0
+StayOff old new =
+    (header_off (layers_of new).body ≡ header_off (layers_of old).body)
+    × ((more : List ℕ) → left_out (layers_of old).body ≡ false → carried_off more (layers_of new).body ≡ carried_off more (layers_of old).body)
+    × (left_out (layers_of new).body ≡ left_out (layers_of old).body)

@@ -12,7 +12,7 @@ ghost use Rattle.of_rewrite.specs.Rewriting.{field_set, number_set};
 ghost use Rattle.of_rewrite.specs.Frames.{frame_set, frame_pushed, frame_popped, frame_ttl, frame_ttl_decremented};
 ghost use Rattle.of_rewrite.specs.Loans.{lent, LendsField};
 ghost use Rattle.of_rewrite.specs.Replaced.{layers_set};
-ghost use Rattle.of_rewrite.specs.Right.{StayRight};
+ghost use Rattle.of_rewrite.specs.Right.{StayRight, StayOff};
 ghost use Rattle.of_headers.specs.Tags.{pushed, popped};
 ghost use Rattle.of_rewrite.specs.TimeToLive.{ttl_of, dec_ttl_result, ttl_decremented_from, layers_ttl_decremented};
 
@@ -155,7 +155,8 @@ impl Frame {
         }
     }
 
-    /// Replaces a field, and updates each checksum that covers it (OpenFlow 1.3.5, 5.12; RFC 1624, 3).
+    /// Replaces a field, and updates each checksum that covers it (OpenFlow 1.3.5, 5.12; RFC 1624, 3). One that was wrong stays off
+    /// by as much.
     ///
     /// Of VLAN_VID the low 12 bits are written, to the outermost tag. Where the frame has no such field nothing changes.
     pub fn set(&mut self, field: Field, value: u128)
@@ -166,6 +167,7 @@ impl Frame {
         ensures bytes { bits_of self.new ≡ encoded (field_set field value (layers_of self.old)) }
         ensures length { length self.new ≡ length self.old }
         ensures checksums { StayRight self.old self.new }
+        ensures off { StayOff self.old self.new }
     {
         let layout = self.known.layout(&self.bytes);
         rewrite::set_field(&mut self.bytes, layout, field, value);
@@ -186,6 +188,7 @@ impl Frame {
         ensures bytes { bits_of self.new ≡ encoded (number_set ttl value (layers_of self.old)) }
         ensures length { length self.new ≡ length self.old }
         ensures checksums { StayRight self.old self.new }
+        ensures off { StayOff self.old self.new }
     {
         let layout = self.known.layout(&self.bytes);
         rewrite::set_ttl(&mut self.bytes, layout, value);
@@ -202,6 +205,7 @@ impl Frame {
         ensures bytes { bits_of self.new ≡ encoded (ttl_decremented_from (ttl_of (layers_of self.old)) (layers_of self.old)) }
         ensures length { length self.new ≡ length self.old }
         ensures checksums { StayRight self.old self.new }
+        ensures off { StayOff self.old self.new }
     {
         let layout = self.known.layout(&self.bytes);
         let ttl = rewrite::dec_ttl(&mut self.bytes, layout);

@@ -10,7 +10,7 @@ ghost use Rattle.of_headers.specs.Places.{layout_of};
 ghost use Rattle.of_rewrite.specs.Rewriting.{number_set, field_set};
 ghost use Rattle.of_rewrite.specs.Frames.{bytes_in, frame_set, frame_ttl, frame_ttl_decremented};
 ghost use Rattle.of_rewrite.specs.Loans.{lent};
-ghost use Rattle.of_rewrite.specs.Right.{StayRight};
+ghost use Rattle.of_rewrite.specs.Right.{StayRight, StayOff};
 ghost use Rattle.of_rewrite.specs.TimeToLive.{ttl_of, dec_ttl_result, ttl_decremented_from, layers_ttl_decremented};
 ghost use Rattle.of_rewrite.specs.Renewal.{ttl_at, packet_at};
 ghost use Rattle.of_rewrite.specs.Replaced.{Replaceable, layers_set};
@@ -50,6 +50,7 @@ pub fn set_field(bytes: &mut [u8], layout: Layout, field: Field, value: u128)
     ensures frame { bytes.new ≡ frame_set field value bytes.old }
     ensures layers { layers_of bytes.new ≡ layers_set (number_of field) value (layers_of bytes.old) }
     ensures checksums { StayRight bytes.old bytes.new }
+    ensures off { StayOff bytes.old bytes.new }
 {
     all_bytes(bytes);
     if let Some(place) = layout.place(field) {
@@ -79,6 +80,7 @@ pub fn set_ttl(bytes: &mut [u8], layout: Layout, value: u8)
     ensures frame { bytes.new ≡ frame_ttl value bytes.old }
     ensures layers { layers_of bytes.new ≡ layers_set ttl value (layers_of bytes.old) }
     ensures checksums { StayRight bytes.old bytes.new }
+    ensures off { StayOff bytes.old bytes.new }
 {
     all_bytes(bytes);
     if let Some(at) = ttl_byte(layout) {
@@ -116,6 +118,7 @@ pub fn dec_ttl(bytes: &mut [u8], layout: Layout) -> Ttl
     ensures frame { bytes.new ≡ frame_ttl_decremented bytes.old }
     ensures layers { layers_of bytes.new ≡ layers_ttl_decremented (ttl_of (layers_of bytes.old)) (layers_of bytes.old) }
     ensures checksums { StayRight bytes.old bytes.new }
+    ensures off { StayOff bytes.old bytes.new }
 {
     match ttl_in(bytes, layout) {
         None => Ttl::Absent,

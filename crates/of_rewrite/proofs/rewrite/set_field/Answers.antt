@@ -4,6 +4,7 @@ use Rattle.of_rewrite.proofs.Unset.{place_facts, replaceable, unset_frame}
 use Rattle.of_rewrite.proofs.Framing.{is_set}
 use Rattle.of_rewrite.proofs.KeptLayers.{layers_are, leaves}
 use Rattle.of_rewrite.proofs.StayingRight.{stay_right}
+use Rattle.of_rewrite.proofs.StayingOff.{stay_off}
 use Rattle.of_rewrite.proofs.rewrite.set_field.Goals as goal
 
 pub set_number-requires-clause-most : goal.set_number-requires-clause-most
@@ -72,6 +73,21 @@ pub returns-in_default-clause-checksums : goal.returns-in_default-clause-checksu
 returns-in_default-clause-checksums c =
     let short : 8 * length c.args.bytes.now < 2 ^ 64 = omega (arith, c.requires.short) in
     stay_right (number_of c.args.field) c.args.value c.args.bytes.now c.args.bytes.now c.all_bytes.ensures c.requires.long (replaceable c.args.field) (leaves c.args.field c.requires.settable)
+    (layers_are (number_of c.args.field) c.args.value c.args.bytes.now c.args.bytes.now (replaceable c.args.field) (leaves c.args.field c.requires.settable) c.all_bytes.ensures c.requires.long c.all_bytes.ensures
+    (unset_frame (number_of c.args.field) c.args.value c.args.bytes.now c.all_bytes.ensures c.requires.long
+    (sym (c.place.ensures c.args.bytes.now c.requires.long short c.requires.layout) ∙ c.in_default.is)))
+
+pub returns-in-Some-clause-off : goal.returns-in-Some-clause-off
+returns-in-Some-clause-off c =
+    let short : 8 * length c.args.bytes.now < 2 ^ 64 = omega (arith, c.requires.short) in
+    stay_off (number_of c.args.field) c.args.value c.args.bytes.now c.set_number.new.bytes c.all_bytes.ensures c.requires.long (replaceable c.args.field) (leaves c.args.field c.requires.settable)
+    (layers_are (number_of c.args.field) c.args.value c.args.bytes.now c.set_number.new.bytes (replaceable c.args.field) (leaves c.args.field c.requires.settable) c.all_bytes.ensures c.requires.long (λ i. omega (arith, c.type_inv.bytes i))
+    (c.set_number.ensures (number_of c.args.field) (replaceable c.args.field) (sym (c.place.ensures c.args.bytes.now c.requires.long short c.requires.layout) ∙ c.in-Some.is)))
+
+pub returns-in_default-clause-off : goal.returns-in_default-clause-off
+returns-in_default-clause-off c =
+    let short : 8 * length c.args.bytes.now < 2 ^ 64 = omega (arith, c.requires.short) in
+    stay_off (number_of c.args.field) c.args.value c.args.bytes.now c.args.bytes.now c.all_bytes.ensures c.requires.long (replaceable c.args.field) (leaves c.args.field c.requires.settable)
     (layers_are (number_of c.args.field) c.args.value c.args.bytes.now c.args.bytes.now (replaceable c.args.field) (leaves c.args.field c.requires.settable) c.all_bytes.ensures c.requires.long c.all_bytes.ensures
     (unset_frame (number_of c.args.field) c.args.value c.args.bytes.now c.all_bytes.ensures c.requires.long
     (sym (c.place.ensures c.args.bytes.now c.requires.long short c.requires.layout) ∙ c.in_default.is)))

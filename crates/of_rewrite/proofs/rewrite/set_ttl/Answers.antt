@@ -5,6 +5,7 @@ use Rattle.of_rewrite.proofs.Unset.{TtlIs, ttl_is, no_ttl, packet_below, unset_f
 use Rattle.of_rewrite.proofs.Framing.{is_ttl}
 use Rattle.of_rewrite.proofs.KeptLayers.{layers_are, leaves_ttl}
 use Rattle.of_rewrite.proofs.StayingRight.{stay_right}
+use Rattle.of_rewrite.proofs.StayingOff.{stay_off}
 use Rattle.of_rewrite.proofs.rewrite.set_ttl.Goals as goal
 
 pub ttl_byte-requires : goal.ttl_byte-requires
@@ -64,4 +65,14 @@ returns-in-Some-clause-checksums c =
 pub returns-in_default-clause-checksums : goal.returns-in_default-clause-checksums
 returns-in_default-clause-checksums c =
     stay_right ttl c.args.value c.args.bytes.now c.args.bytes.now c.all_bytes.ensures c.requires.long (omega arith, omega arith) leaves_ttl (layers_are ttl c.args.value c.args.bytes.now c.args.bytes.now (omega arith, omega arith) leaves_ttl c.all_bytes.ensures c.requires.long c.all_bytes.ensures (unset_frame ttl c.args.value c.args.bytes.now c.all_bytes.ensures c.requires.long
+    (no_ttl c.args.bytes.now c.args.layout c.ttl_byte.result c.all_bytes.ensures c.requires.long c.requires.layout c.ttl_byte.ensures c.in_default.is)))
+
+pub returns-in-Some-clause-off : goal.returns-in-Some-clause-off
+returns-in-Some-clause-off c =
+    let t : TtlIs c.args.bytes.now c.in-Some.at = ttl_is c.args.bytes.now c.args.layout c.ttl_byte.result c.in-Some.at c.all_bytes.ensures c.requires.long c.requires.layout c.ttl_byte.ensures c.in-Some.is in
+    stay_off ttl c.from.result c.args.bytes.now c.set_number.new.bytes c.all_bytes.ensures c.requires.long (omega arith, omega arith) leaves_ttl (layers_are ttl c.from.result c.args.bytes.now c.set_number.new.bytes (omega arith, omega arith) leaves_ttl c.all_bytes.ensures c.requires.long (λ i. omega (arith, c.type_inv.bytes i)) (c.set_number.ensures ttl (omega arith, omega arith) t.place))
+
+pub returns-in_default-clause-off : goal.returns-in_default-clause-off
+returns-in_default-clause-off c =
+    stay_off ttl c.args.value c.args.bytes.now c.args.bytes.now c.all_bytes.ensures c.requires.long (omega arith, omega arith) leaves_ttl (layers_are ttl c.args.value c.args.bytes.now c.args.bytes.now (omega arith, omega arith) leaves_ttl c.all_bytes.ensures c.requires.long c.all_bytes.ensures (unset_frame ttl c.args.value c.args.bytes.now c.all_bytes.ensures c.requires.long
     (no_ttl c.args.bytes.now c.args.layout c.ttl_byte.result c.all_bytes.ensures c.requires.long c.requires.layout c.ttl_byte.ensures c.in_default.is)))
