@@ -1,5 +1,5 @@
 -- Entries that one entry covers.
-use Rattle.std.proofs.Common.{◌≡◌, ℕ, ◌<◌, ◌≤◌, ◌⊎◌, true, Option, Some, None, List, [], ◌∷◌, length, refl, sym, ap, subst, ◌∙◌, arith, inl, inr}
+use Rattle.std.proofs.Common.{◌≡◌, ℕ, ◌<◌, ◌≤◌, ◌⊎◌, true, Option, Some, None, List, [], ◌∷◌, length, refl, subst, arith, inl, inr}
 use Rattle.std.specs.Prelude.{slice_get}
 use Rattle.std.specs.List.{Contains}
 use Rattle.std.proofs.lemmas.Bool.{cases_lt}
@@ -9,7 +9,7 @@ use Rattle.of_oxm.specs.declared.match_field.MatchField.{MatchField}
 use Rattle.of_oxm.specs.Relations.{covers_match, matches_map}
 use Rattle.of_table.specs.Table.{FlowEntry}
 use Rattle.of_check.proofs.NamingLemmas.{first_or_behind}
-use Rattle.of_check.specs.Verdicts.{Packet, IsPacket, Matches, SomeMatches, NeverWins, GoesBefore, Covers, fields_of}
+use Rattle.of_check.specs.Verdicts.{NeverWins, GoesBefore, Covers, fields_of}
 
 -- what is said of two entries is said of those at their places
 pub are_covering : (flows : List FlowEntry) (j k : ℕ) (first second : FlowEntry) → slice_get flows j ≡ Some first → slice_get flows k ≡ Some second

@@ -9,3 +9,5 @@ pub mod FindingLemmas
 pub mod Together
 pub mod Vid
 pub mod RuleLemmas
+pub mod ReachedLemmas
+pub mod IngressLemmas

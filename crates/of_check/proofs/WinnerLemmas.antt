@@ -80,6 +80,18 @@ won_matches flows p k (Some r) is number =
     let wins = (wins_both (rows_from 0 flows) (fields_of p) r).0 is in
     winner_matches flows p k wins.0 r wins.1 (let s : r.number ≡ k = cc in s)
 
+-- it stands at its place, and matches
+pub winner_agrees : (flows : List FlowEntry) (map : Field → Option ℕ) (k : ℕ) (found : Option Row) → winner_of (rows_from 0 flows) map ≡ found → number_of found ≡ Some k
+    → (e : FlowEntry) × (slice_get flows k ≡ Some e) × (matches_map e.flow.fields map ≡ true)
+winner_agrees flows map k None is number = absurd cc
+winner_agrees flows map k (Some r) is number =
+    let wins = (wins_both (rows_from 0 flows) map r).0 is in
+    let at_place = number_at 0 flows wins.0 r wins.1.stands in
+    let s : r.number ≡ k = cc in
+    let place_is : wins.0 ≡ k = omega (arith, at_place, s) in
+    let own = entry_at 0 flows wins.0 r wins.1.stands in
+    (own.entry, ap (slice_get flows) (sym place_is) ∙ own.there, ap (λ m. matches_map m map) (sym own.fields) ∙ wins.1.matches)
+
 pub never_wins : (flows : List FlowEntry) (k : ℕ) (by : List ℕ) → NeverWins flows k by → (p : Packet) → IsPacket p → winner_place (fields_of p) flows ≡ Some k → ⊥
 never_wins flows k by never p is wins =
     let found = winner_of (rows_from 0 flows) (fields_of p) in

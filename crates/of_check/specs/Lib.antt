@@ -5,3 +5,4 @@ pub mod Files
 pub mod Rules
 pub mod Pieces
 pub mod Search
+pub mod Reached

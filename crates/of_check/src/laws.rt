@@ -1,11 +1,31 @@
-//! What a verdict means.
-ghost use Rattle.std.specs.Prelude.{◌≡◌, ◌≤◌, ℕ, List, Some, IsSome, length};
+//! What verdicts and remarks mean, and what comes of a file.
+ghost use Rattle.std.specs.Prelude.{◌≡◌, ◌≢◌, ◌≤◌, ◌<◌, ◌∷◌, ℕ, Bool, false, List, [], Option, Some, Ok, IsSome, ◌^◌, ◌++◌, true, length};
 ghost use Rattle.std.specs.List.{Contains};
 ghost use Rattle.of_layers.specs.declared.field.Field.{Field};
 ghost use Rattle.of_layers.specs.Reading.{layers_of};
 ghost use Rattle.of_layers.specs.WellFormed.{AreBytes};
 ghost use Rattle.of_headers.specs.FieldMap.{field_map};
+ghost use Rattle.of_actions.specs.declared.action.Action.{Action};
 ghost use Rattle.of_table.specs.Table.{FlowEntry, winner_place};
+ghost use Rattle.of_table.specs.declared.flow.Flow.{Flow};
+ghost use Rattle.of_oxm.specs.declared.match_field.MatchField.{MatchField};
+ghost use Rattle.of_actions.specs.declared.action.Action.TheVariants.{Output};
+ghost use Rattle.of_actions.specs.PortNumbers.{is_number};
+ghost use Rattle.of_text.specs.Configs.{IsConfig};
+ghost use Rattle.of_remarks.specs.Tables.{IsReached, is_reached};
+ghost use Rattle.of_remarks.specs.Actions.{required_port};
+ghost use Rattle.of_machine.specs.declared.data.Packet.{Packet as PacketInRun};
+ghost use Rattle.of_machine.specs.Rows.{Act, Lookup as LookUp, Task, Work, acts, key_of, task};
+ghost use Rattle.of_machine.specs.Runs.{after, run_of, starting, step};
+ghost use Rattle.of_machine.specs.TheWorld.{TheWorld};
+ghost use Rattle.of_machine.specs.declared.data.Step.TheVariants.{Act as DidAct};
+ghost use Rattle.of_datapath.specs.Datapath.{Forwarding, flow_in, winner_in, world_of};
+ghost use Rattle.of_datapath.specs.Loading.{configuration_of};
+ghost use Rattle.of_replay.specs.Told.{Known, Left};
+ghost use Rattle.of_replay.specs.FileRuns.{Runs, TextOf, event_file, flow_text};
+ghost use Rattle.of_replay.specs.declared.event_file.Ended.TheVariants.{Done};
+ghost use Rattle.of_check.specs.Files.{findings_in, findings_on};
+ghost use Rattle.of_check.specs.Reached.{AtTables};
 ghost use Rattle.of_check.specs.Rules.{leads_to};
 ghost use Rattle.of_check.specs.Verdicts.{IsPacket, NeverWins, Packet, fields_of};
 
@@ -19,4 +39,45 @@ pub fn never_is_never()
 pub fn fields_go_together()
     ensures { (frame : List ℕ) (in_port metadata : ℕ) → AreBytes frame → 14 ≤ length frame → (f g : Field) → Contains (leads_to f) g →
         IsSome (field_map (layers_of frame) in_port metadata f) → IsSome (field_map (layers_of frame) in_port metadata g) }
+{}
+
+/// A run looks packets up in tables alone that packets come to: by some way of GOTO_TABLEs from table 0, as `IsReached` says (OpenFlow 1.3.5,
+/// 5.1 and 5.9). So no packet is looked up in a table of which `check` remarks that it is unreachable, and no entry of it matches one: neither of a
+/// frame that is received nor of a PACKET_OUT.
+pub fn runs_stay_at_reached_tables()
+    ensures frames { (f : Forwarding) (p : PacketInRun) →
+        AtTables (IsReached (configuration_of f).tables) (run_of (world_of f) p (LookUp 0 ∷ [])).lines }
+    ensures packet_outs { (f : Forwarding) (p : PacketInRun) (actions : List Action) →
+        AtTables (IsReached (configuration_of f).tables) (run_of (world_of f) p (acts actions)).lines }
+    ensures unreachable { (f : Forwarding) (p : PacketInRun) (table : ℕ) → IsConfig (configuration_of f) → table < 16 →
+        is_reached (configuration_of f).tables table ≡ false → AtTables (λ t. t ≢ table) (run_of (world_of f) p (LookUp 0 ∷ [])).lines }
+    ensures unreachable_by_packet_outs { (f : Forwarding) (p : PacketInRun) (actions : List Action) (table : ℕ) → IsConfig (configuration_of f) →
+        table < 16 → is_reached (configuration_of f).tables table ≡ false → AtTables (λ t. t ≢ table) (run_of (world_of f) p (acts actions)).lines }
+{}
+
+/// Nothing leaves by the port that a packet came by, where an OUTPUT names it by its number, and nothing is counted: of a run, at each step that does
+/// such an OUTPUT, only the packet's work and the lines change (OpenFlow 1.3.5, 4.5 and 7.2.5). An entry whose match requires a port is the winner of
+/// packets alone that came by it; so no OUTPUT of which `check` remarks that it is to the ingress port sends anything.
+pub fn nothing_leaves_by_the_ingress_port()
+    ensures drops { (w : TheWorld) (p : PacketInRun) (work : List Work) (k max_len : ℕ) (q : PacketInRun) (rest : List Work) (others : List Task) →
+        is_number p.ingress ≡ true → (after w k (starting p work)).tasks ≡ task q (Act (Output p.ingress max_len) ∷ rest) ∷ others →
+        step w (after w k (starting p work)) ≡ record (after w k (starting p work)) {
+          tasks = task q rest ∷ others;
+          lines = (after w k (starting p work)).lines ++ DidAct (Output p.ingress max_len) ∷ [];
+        } }
+    ensures came_by { (f : Forwarding) (t n : ℕ) (q : PacketInRun) (flow : Flow) (e : MatchField) (port : ℕ) → q.ingress < 2 ^ 32 →
+        winner_in f t (key_of q) ≡ Some n → flow_in f t n ≡ Some flow → Contains flow.fields e → required_port e ≡ Some port → q.ingress ≡ port }
+{}
+
+/// From the bytes of a file to the bytes of the output, where no read and no write fails and memory suffices: where a reader has `file` left,
+/// and its end is read, what a writer holds grows by the text of the findings on what the file says, a flow text or the switch after rows.
+///
+/// What is left of a reader and held by a writer is as `files_come_whole` of of_replay says.
+pub fn findings_come_whole()
+    ensures flows { (found : Bool) (file : List ℕ) (known : Known) (ends ends' : ℕ) (old new : Option (List ℕ)) →
+        Runs flow_text (findings_in (Ok found)) Done (Left (Some file)) known ends ends' old new → ends < ends' →
+        TextOf flow_text (findings_in (Ok found)) file old new }
+    ensures events { (found : Bool) (file : List ℕ) (known : Known) (ends ends' : ℕ) (old new : Option (List ℕ)) →
+        Runs event_file (findings_on (Ok found)) Done (Left (Some file)) known ends ends' old new → ends < ends' →
+        TextOf event_file (findings_on (Ok found)) file old new }
 {}

@@ -209,3 +209,34 @@ fn calls_fail_between_rows(rt: HostRuntime) -> Result<(), Fail> {
     }
     Ok(())
 }
+
+// A controller whose BARRIER_REQUEST comes with the frame of the file, and an output whose write of that number fails.
+fn served_at_fault(alloc: Global, fails_at: u64) -> Result<(Ended, MemoryPeers, MemorySink), Fail> {
+    let mut script = Vec::new(alloc);
+    script.push(Line::Open)?;
+    script.push(gives(alloc, &[HELLO, FLOW])?)?;
+    script.push(gives(alloc, &[BARRIER])?)?;
+    let mut peers = MemoryPeers::new(alloc, script, 1, Failing::Never);
+    let mut clock = MemoryClock::new(Vec::from_slice(alloc, &[0, 1000])?);
+    let mut out = MemorySink::new(alloc, 7, fails_at);
+    let rows = rows(alloc)?;
+    let ended = serve::<Lookups, _, _, _>(alloc, 1, &mut peers, &mut clock, rows, 3, &mut out);
+    Ok((ended, peers, out))
+}
+
+// The answers of a turn go out before its lines: where the output fails, from its first write on, all answers were taken.
+#[test]
+fn output_fails(rt: HostRuntime) -> Result<(), Fail> {
+    let all = bytes_of(rt.alloc(), &[GREETING, REPLY])?;
+    for fails_at in 0..=20_u64 {
+        let (ended, peers, out) = served_at_fault(rt.alloc(), fails_at)?;
+        is_taken(&rt, peers.taken(0), &all, Some(all.len()));
+        assert_eq!(rt;
+            ended == Ended::WriteFault,
+            fails_at > 0 && out.bytes().len() < SENT.len()
+        );
+        assert_eq!(rt; ended == Ended::Done, out.bytes() == SENT);
+        assert!(rt; SENT.starts_with(out.bytes()));
+    }
+    Ok(())
+}

@@ -9,7 +9,7 @@ use Rattle.of_session.specs.Session.{is_disconnected}
 use Rattle.smallvec.specs.SmallVec.{SmallVec}
 use Rattle.of_datapath.specs.declared.effect.Effect.{Effect}
 use Rattle.of_switch.specs.declared.event.Event.{Event}
-use Rattle.of_switch.specs.declared.event.Event.TheVariants.{Connect, Lost, Chunk, Frame, Moment, Ports}
+use Rattle.of_switch.specs.declared.event.Event.TheVariants.{Chunk}
 use Rattle.of_switch.specs.declared.switch_error.SwitchError.{SwitchError}
 use Rattle.of_switch.specs.declared.switch_error.SwitchError.TheVariants.{NoMemory, NotConnected}
 use Rattle.of_switch.specs.State.{State}

@@ -1,7 +1,6 @@
 -- The lines of an event file, one after the other.
-use Rattle.std.proofs.Common.{◌≡◌, ℕ, ◌+◌, ◌<◌, Bool, true, false, List, [], ◌∷◌, ◌++◌, length, Option, Some, None, Result, Ok, Err, refl, sym, ◌∙◌, ap, append_assoc, arith}
+use Rattle.std.proofs.Common.{◌≡◌, ℕ, ◌+◌, ◌<◌, true, false, List, [], ◌++◌, length, Option, Some, None, refl, sym, ◌∙◌, ap, append_assoc, arith}
 use Rattle.std.specs.Option.{option_map}
-use Rattle.std.specs.Global.{Vec}
 use Rattle.std.proofs.lemmas.List.{append-nil}
 use Rattle.of_switch.specs.declared.event.Event.{Event}
 use Rattle.of_text.specs.Lines.{lines_of, before, behind}

@@ -3,3 +3,5 @@ pub mod CutLemmas
 pub mod Steps
 pub mod FileLemmas
 pub mod ConnectionLemmas
+pub mod PauseLemmas
+pub mod RefusalLemmas

@@ -1,5 +1,5 @@
 -- Steps of a turn, and turns one after the other.
-use Rattle.std.proofs.Common.{◌≡◌, ◌⊎◌, inl, inr, ℕ, ◌+◌, ◌≤◌, Bool, true, false, List, [], ◌∷◌, ◌++◌, length, Option, Some, None, Result, Ok, Err, refl, sym, ◌∙◌, ap, subst, append_assoc, arith}
+use Rattle.std.proofs.Common.{◌≡◌, ◌⊎◌, inl, inr, ℕ, ◌+◌, ◌≤◌, Bool, true, false, List, [], ◌∷◌, ◌++◌, length, Option, Some, None, Result, Ok, Err, refl, sym, ◌∙◌, ap, subst, arith}
 use Rattle.std.specs.Prelude.{OnOk, OnErr}
 use Rattle.std.proofs.lemmas.List.{append-nil}
 use Rattle.std.specs.declared.alloc.AllocError.{AllocError}
@@ -16,7 +16,7 @@ use Rattle.of_replay.specs.Told.{Answer}
 use Rattle.of_replay.specs.Transfer.{WrotePrefix}
 use Rattle.of_serve.specs.declared.peers.Accepted.TheVariants as accepted
 use Rattle.of_serve.specs.Told.{Came, accept_came, Answered, then_told, then_begun, then_onto}
-use Rattle.of_serve.specs.Turns.{Gathered, gather, gathered, nothing_pending, broken, given, cut_state, failures, due, left, heard, events_of, ServeState, standing, Turn, IsTaken, IsTurn, Accepts, Reads, came_in, time_in, then_in, Time, All, known_came, known_times, then_known, CutTurn, cut_given, Turns, stand, came, times, took, breaks, sent}
+use Rattle.of_serve.specs.Turns.{Gathered, gather, gathered, nothing_pending, broken, given, cut_state, failures, due, left, heard, events_of, ServeState, standing, Turn, IsTaken, IsTurn, Accepts, Reads, came_in, time_in, then_in, Time, All, known_came, known_times, then_known, CutTurn, cut_given, Turns, stand, came, times, took, sent}
 use Rattle.of_serve.specs.Turns.Turns.{None as NoTurns, Then}
 use Rattle.of_serve.specs.Serves.{Tells, tells, CutShort, Passed, Serves}
 use Rattle.of_serve.specs.Gathering.{CutIn, Hears, TellsReads, CutsReads, Opens, OrMemory, Learns, Cuts, Inputs, IsAnswered, GoesOn, Stops, StopsShort, StopsShorter, Goes, Counts, Fails, WriteFails, SoFar}

@@ -5,3 +5,6 @@ pub mod Gathering
 pub mod FileRows
 pub mod Memory
 pub mod Connections
+pub mod Pauses
+pub mod Calls
+pub mod Refusals

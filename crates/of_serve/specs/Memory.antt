@@ -1,5 +1,5 @@
 -- What peers and a clock in memory record.
-use Rattle.std.specs.Prelude.{ℕ, ◌+◌, List, [], ◌∷◌, ◌++◌, map, take, replicate}
+use Rattle.std.specs.Prelude.{◌+◌, List, ◌++◌, map, take, replicate}
 use Rattle.of_replay.specs.Told.{Gave, Idle, Ended, Failed}
 use Rattle.of_serve.specs.declared.memory.Line.{Line}
 use Rattle.of_serve.specs.declared.memory.Line.TheVariants as line

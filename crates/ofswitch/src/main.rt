@@ -6,7 +6,6 @@ ghost use Rattle.std.specs.Prelude.{◌≡◌};
 mod hinting;
 mod importing;
 mod lookups;
-mod refusals;
 mod serving;
 mod sockets;
 mod standard_input;
@@ -20,7 +19,7 @@ use of_command_line::{Asked, FileKind, NoRequest, Request, Serve, Trace, read_re
 use of_explain::explain;
 use of_replay::streams::{ReaderSource, WriterSink};
 use of_replay::{Ended, Source, asm, dis, replay, status};
-use of_serve::read_rows;
+use of_serve::{ended_unopened, read_rows};
 use of_text::TextFault;
 use of_trace::{FirstLines, Form, trace_events, trace_file};
 use serving::serve_rows;
@@ -185,13 +184,13 @@ fn end_file(rt: &HostRuntime, path: &str, ended: &Ended) -> ExitCode {
     code
 }
 
-// A file that does not open is a read fault, unless memory ran out.
+// A file that does not open: why not is said in the system's words.
 fn end_unopened(rt: &HostRuntime, path: &str, error: &io::Error) -> ExitCode {
-    if error.kind() == io::ErrorKind::OutOfMemory {
-        return end(rt, &Ended::NoMemory);
+    let ended = ended_unopened(error.kind());
+    let code = end(rt, &ended);
+    if ended == Ended::ReadFault {
+        let _ = eprintln!(rt; "cannot open {path}: {error}");
     }
-    let code = end(rt, &Ended::ReadFault);
-    let _ = eprintln!(rt; "cannot open {path}: {error}");
     code
 }
 

@@ -1,19 +1,22 @@
 //! A switch that serves controllers over sockets.
+use crate::hinting::bytes_of;
 use crate::lookups::Lookups;
-use crate::refusals::Refusals;
 use crate::sockets::{MachineClock, Sockets};
 use of_command_line::Serve;
 use of_replay::Ended;
 use of_replay::streams::WriterSink;
-use of_serve::serve;
+use of_serve::{Refusals, serve};
 use of_switch::Event;
 
-// The rows that are refused, unless nothing is to be said.
+// The rows of the file that are refused, unless nothing is to be said. None where the file does not give its lines again, as
+// standard input does not.
 fn refusals_of(rt: &HostRuntime, asked: &Serve, rows: &[Event]) -> Option<Refusals> {
-    match &asked.events {
-        Some(path) if !asked.quiet => Refusals::new(rt, path.as_str(), rows),
-        _ => None,
+    let path = asked.events.as_ref()?.as_str();
+    if asked.quiet || path == "-" {
+        return None;
     }
+    let file = bytes_of(rt, path)?;
+    Refusals::new::<Lookups>(rt.alloc(), &file, rows).ok()
 }
 
 /// Serves controllers on a new switch, with the events of a file.

@@ -1,14 +1,15 @@
 //! Controllers over TCP, and the machine's clock.
 ghost use Rattle.std.specs.Prelude.{◌≡◌, ◌≢◌, ◌≤◌, None as NotTold, IfOk};
 
-use crate::refusals::Refusals;
 use of_command_line::Meeting;
 use of_replay::{Reading, Writing};
-use of_serve::{Accepted, Clock, Peers};
-use std::io::{self, ErrorKind, Read, Write};
+use of_serve::{
+    Accepted, Clock, Ending, Pauses, Peers, Refusals, RefusedRow, ending_of, is_nobody, read_some,
+    write_some,
+};
 use std::net::{SocketAddr, TcpListener, TcpStream};
-use std::thread;
 use std::time::{Duration, Instant};
+use std::{io, thread};
 
 /// How many milliseconds a read waits, so that flows expire and frames of the event file are received in time.
 const READ_WAIT: u64 = 10;
@@ -19,20 +20,11 @@ const WRITE_WAIT: u64 = 10_000;
 /// How many milliseconds a call of a controller waits for its answer.
 const DIAL_WAIT: u64 = 5_000;
 
-/// The first pause between two calls, in milliseconds, which doubles up to the longest.
-const FIRST_PAUSE: u64 = 100;
-
-const LONGEST_PAUSE: u64 = 5_000;
-
 /// How controllers and the switch find each other.
 #[derive(Drop)]
 enum Door {
     Listening(TcpListener),
-    Dialing {
-        address: SocketAddr,
-        // in milliseconds
-        pause: u64,
-    },
+    Dialing { address: SocketAddr, pauses: Pauses },
 }
 
 impl Door {
@@ -41,19 +33,17 @@ impl Door {
         match self {
             Door::Listening(listener) => match listener.accept() {
                 Ok(met) => Ok(Some(met)),
-                Err(error) if is_passing(&error) => Ok(None),
-                Err(error) if error.kind() == ErrorKind::ConnectionAborted => Ok(None),
+                Err(error) if is_nobody(error.kind()) => Ok(None),
                 Err(error) => Err(error),
             },
-            Door::Dialing { address, pause } => {
+            Door::Dialing { address, pauses } => {
                 match TcpStream::connect_timeout(rt, address, Duration::from_millis(DIAL_WAIT)) {
                     Ok(stream) => {
-                        *pause = FIRST_PAUSE;
+                        pauses.reset();
                         Ok(Some((stream, *address)))
                     }
                     Err(_) => {
-                        thread::sleep(rt, Duration::from_millis(*pause));
-                        *pause = longer(*pause);
+                        thread::sleep(rt, Duration::from_millis(pauses.next()));
                         Ok(None)
                     }
                 }
@@ -78,23 +68,11 @@ pub struct Sockets<'r> {
     ghost few: { accept_failures ≤ accepts },
 }
 
-// Nothing came, and that is no fault.
-fn is_passing(error: &io::Error) -> bool {
-    matches!(
-        error.kind(),
-        ErrorKind::Interrupted | ErrorKind::WouldBlock | ErrorKind::TimedOut
-    )
-}
-
 // Answers go out at once, a read does not wait for long, and a write not forever.
 fn prepare(stream: &TcpStream) -> io::Result<()> {
     stream.set_nodelay(true)?;
     stream.set_write_timeout(Some(Duration::from_millis(WRITE_WAIT)))?;
     stream.set_read_timeout(Some(Duration::from_millis(READ_WAIT)))
-}
-
-fn longer(pause: u64) -> u64 {
-    pause.saturating_mul(2).min(LONGEST_PAUSE)
 }
 
 impl<'r> Sockets<'r> {
@@ -106,7 +84,7 @@ impl<'r> Sockets<'r> {
             Meeting::Listen(address) => Door::Listening(TcpListener::bind(rt, address)?),
             Meeting::Dial(address) => Door::Dialing {
                 address,
-                pause: FIRST_PAUSE,
+                pauses: Pauses::new(),
             },
         };
         Ok(Sockets {
@@ -125,9 +103,10 @@ impl<'r> Sockets<'r> {
 
 impl Sockets<'_> {
     // Says on standard error what became of the connection, once.
-    fn say_end(&mut self, why: &str)
-        ensures { (self.new.accepts ≡ self.old.accepts) × (self.new.reads ≡ self.old.reads) × (self.new.accept_failures ≡ self.old.accept_failures) ×
+    fn say_end(&mut self, why: Ending)
+        ensures same { (self.new.accepts ≡ self.old.accepts) × (self.new.reads ≡ self.old.reads) × (self.new.accept_failures ≡ self.old.accept_failures) ×
             (self.new.write_failures ≡ self.old.write_failures) }
+        ensures stream { self.new.stream ≡ self.old.stream }
     {
         if !self.quiet && !self.ended {
             let _ = eprintln!(self.rt; "connection ended: {why}");
@@ -135,9 +114,21 @@ impl Sockets<'_> {
         self.ended = true;
     }
 
+    // Gives the connection up: its stream is closed.
+    fn give_up(&mut self)
+        ensures closed { self.new.stream ≡ NotTold }
+        ensures same { (self.new.accepts ≡ self.old.accepts) × (self.new.reads ≡ self.old.reads) × (self.new.accept_failures ≡ self.old.accept_failures) ×
+            (self.new.write_failures ≡ self.old.write_failures) }
+    {
+        self.say_end(Ending::BySwitch);
+        self.stream = None;
+    }
+
     // The connection that begins, if somebody came.
     fn begin(&mut self, met: Option<(TcpStream, SocketAddr)>) -> Accepted
+        requires closed { self.old.stream ≡ NotTold }
         ensures met { result ≢ Accepted.Fault }
+        ensures closed { result ≡ Accepted.Nothing → self.new.stream ≡ NotTold }
         ensures same { (self.new.accepts ≡ self.old.accepts) × (self.new.reads ≡ self.old.reads) × (self.new.accept_failures ≡ self.old.accept_failures) ×
             (self.new.write_failures ≡ self.old.write_failures) }
     {
@@ -171,8 +162,7 @@ impl Peers for Sockets<'_> {
 
     fn accept(&mut self) -> Accepted {
         self.accepts += 1;
-        self.say_end("closed by the switch");
-        self.stream = None;
+        self.give_up();
         match self.door.meet(self.rt) {
             Ok(met) => self.begin(met),
             Err(error) => {
@@ -188,30 +178,32 @@ impl Peers for Sockets<'_> {
         let Some(stream) = &mut self.stream else {
             return Reading::End;
         };
-        match stream.read(buffer) {
-            Ok(0) => {
-                self.say_end("by the controller");
-                Reading::End
-            }
-            Ok(n) => Reading::Bytes(n),
-            Err(error) if is_passing(&error) => Reading::Nothing,
-            Err(_) => {
-                self.say_end("a read failed");
-                Reading::Fault
-            }
+        let reading = read_some(stream, buffer);
+        if let Some(why) = ending_of(reading) {
+            self.say_end(why);
         }
+        reading
     }
 
     fn write(&mut self, bytes: &[u8]) -> Writing {
         if let Some(stream) = &mut self.stream {
-            match stream.write(bytes) {
-                Ok(n) if n > 0 => return Writing::Wrote(n),
-                Err(error) if is_passing(&error) => self.say_end("it reads no answers"),
-                _ => self.say_end("a write failed"),
+            match write_some(stream, bytes) {
+                Ok(n) => return Writing::Wrote(n),
+                Err(why) => self.say_end(why),
             }
         }
         self.write_failures += 1;
         Writing::Fault
+    }
+}
+
+// Says the refused rows that are due by now on standard error.
+fn say_refused(rt: &HostRuntime, refusals: &mut Refusals, now: u64) {
+    for _ in 0..u64::MAX {
+        let Some(RefusedRow { line, why, .. }) = refusals.next_due(now) else {
+            break;
+        };
+        let _ = eprintln!(rt; "row {line} refused: {why}");
     }
 }
 
@@ -249,7 +241,7 @@ impl Clock for MachineClock<'_> {
             }
         }
         if let Some(refusals) = &mut self.refusals {
-            refusals.say(self.rt, self.last);
+            say_refused(self.rt, refusals, self.last);
         }
         self.last
     }

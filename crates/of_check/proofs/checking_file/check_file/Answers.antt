@@ -1,6 +1,5 @@
-use Rattle.std.proofs.Common.{Err, refl}
+use Rattle.std.proofs.Common.{Err}
 use Rattle.of_replay.specs.FileRuns.{flow_text, ended_as}
-use Rattle.of_replay.specs.declared.event_file.Ended.TheVariants.{NoMemory}
 use Rattle.of_replay.proofs.FileLemmas.{runs_unread, runs_read, faults_same, faults_written}
 use Rattle.of_check.specs.Files.{findings_in}
 use Rattle.of_check.proofs.checking_file.check_file.Goals as goal

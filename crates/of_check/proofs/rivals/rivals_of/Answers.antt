@@ -1,5 +1,4 @@
-use Rattle.std.proofs.Common.{◌≡◌, ◌+◌, List, [], ◌∷◌, ◌++◌, length, refl, ap, arith, rules}
-use Rattle.of_table.specs.Entries.{entry_of}
+use Rattle.std.proofs.Common.{◌≡◌, ◌+◌, [], ◌∷◌, ◌++◌, length, refl, ap, arith, rules}
 use Rattle.of_table.specs.Tables.{table_at}
 use Rattle.of_check.specs.declared.rivals.Rival.{Rival}
 use Rattle.of_check.proofs.WalkLemmas.{entry_here, one_kept, walk_goes_on}

@@ -1,4 +1,4 @@
-use Rattle.std.proofs.Common.{◌≡◌, List, rules}
+use Rattle.std.proofs.Common.{◌≡◌, rules}
 use Rattle.of_table.specs.Tables.{table_at}
 use Rattle.of_check.proofs.search.searched.Goals as goal
 

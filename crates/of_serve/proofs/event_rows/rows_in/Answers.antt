@@ -1,9 +1,6 @@
-use Rattle.std.proofs.Common.{◌≡◌, ◌∙◌, ◌++◌, sym, ap, subst, arith, List, true, false}
+use Rattle.std.proofs.Common.{arith}
 use Rattle.of_text.proofs.LineLemmas.{some_bytes, no_bytes}
-use Rattle.of_text.specs.Lines.{before}
-use Rattle.of_replay.specs.Rows.{row_of}
-use Rattle.of_serve.specs.FileRows.{Pushes, file_row}
-use Rattle.of_serve.proofs.FileLemmas.{rows_begun, rows_more, rows_bad, rows_all}
+use Rattle.of_serve.proofs.FileLemmas.{rows_more, rows_bad, rows_all}
 use Rattle.of_serve.proofs.event_rows.rows_in.Goals as goal
 
 pub returns-in-Ok-false : goal.returns-in-Ok-false

@@ -1,4 +1,4 @@
-use Rattle.std.proofs.Common.{◌≡◌, ◌+◌, ◌≤◌, length}
+use Rattle.std.proofs.Common.{◌+◌, ◌≤◌, length}
 use Rattle.of_serve.proofs.FileLemmas.{RowsSoFar}
 use Rattle.of_serve.proofs.event_rows.rows_in.Given as goal
 
