@@ -1,4 +1,4 @@
--- What a look-up does to the rows.
+-- What a lookup does to the rows.
 use Rattle.std.specs.Prelude.{◌≡◌, ◌⊎◌, ℕ, ◌-◌, List, ◌∷◌, ◌++◌, take, Option}
 use Rattle.std.specs.List.{Contains}
 use Rattle.of_layers.specs.declared.field.Field.{Field}

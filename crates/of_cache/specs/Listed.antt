@@ -1,4 +1,4 @@
--- The masks of the rows, each of which a look-up tries.
+-- The masks of the rows, each of which a lookup tries.
 use Rattle.std.specs.Prelude.{◌≡◌, Bool, true, List, [], ◌∷◌, ◌++◌, if◌then◌else◌}
 use Rattle.std.specs.List.{Contains, IsDistinct, list_any}
 use Rattle.of_oxm.specs.declared.masks.FieldMask.{FieldMask}

@@ -1,6 +1,6 @@
-//! What is said of an entry.
+//! The verdict on an entry.
 
-/// What is said of a flow entry (OpenFlow 1.3.5, 5.3).
+/// The verdict on a flow entry (OpenFlow 1.3.5, 5.3).
 #[derive(Drop)]
 pub enum Verdict {
     /// It wins the lookup of this frame, received at this port, with this metadata.

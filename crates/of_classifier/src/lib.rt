@@ -1,4 +1,4 @@
-//! Classifiers: which entry wins where several match a frame (OpenFlow 1.3.5, 5.3).
+//! Classifiers: which entry wins if several match a frame (OpenFlow 1.3.5, 5.3).
 #![tactic(auto)]
 
 mod laws;
@@ -29,7 +29,7 @@ pub struct Row {
     pub fields: Match,
 }
 
-/// Finds the entry that wins where several match a frame (OpenFlow 1.3.5, 5.3).
+/// Finds the entry that wins if several match a frame (OpenFlow 1.3.5, 5.3).
 pub trait Lookup: Sized + Drop {
     /// The entries, oldest first.
     ghost content: { Self → List Row };

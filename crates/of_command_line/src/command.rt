@@ -4,108 +4,108 @@ use clap::{Arg, ArgAction, ArgGroup, Command};
 use std::alloc::{AllocError, Global};
 
 const STATUSES: &str =
-    "Exit status: 0 done; 1 bad arguments; 2 a bad FILE: on standard error `line N: bad row` for an event file, and \
+    "Exit status: 0 done; 1 bad arguments; 2 a bad FILE: standard error has `line N: bad row` for an event file, \
 `line N: syntax` or `line N: type T code C` for a flow text, and `line N: WORD: ...` for each line that `import` refuses \
-(`replay` has then printed the effects of the rows before that line, the others nothing); 3 `read fault`, `write fault` or \
+(`replay` has printed the effects of the rows before that line, the other commands print nothing); 3 `read fault`, `write fault` or \
 `no memory`; 4 `check` found something, or `import --skip` left lines out.";
 
-const EVENT_FILES: &str = "An event file has one event a line, and words are separated by one space:
+const EVENT_FILES: &str = "An event file has one event per line. Words are separated by one space:
 
   port add 1 0200000000a1 p1 up     a port: number, hardware address, name, up or down
-  port link 1 down                  the link of port 1 goes down (or up); `port remove 1`: the port is gone
-  connect                           a controller connects; `lost`: the connection is gone
+  port link 1 down                  the link of port 1 goes down (or up); `port remove 1` removes the port
+  connect                           a controller connects; `lost`: the connection is lost
   c 0400000800000001                bytes of the controller, in hex (- for none)
   f 1 020000000002...               a frame is received at port 1, in hex
-  t 9000000000                      it is 9 seconds after the start, in nanoseconds
+  t 9000000000                      the time is 9 seconds after the start, in nanoseconds
   # ...                             a comment
 
-Printed are the messages to the controller (`a HEX`), the frames that leave (`s PORT HEX`), `closed` where the switch
-ends the connection, and `refused N` where an event is not possible: 3 not connected, 4 already connected, 5 the port
-exists, 6 there is no such port, 7 too many ports, 8 bad port number. With --explain the rows are printed instead, and
-below each row what it did, in words: answers by name with their fields, errors by the standard's names, and the path
-of each frame. What the rows read so far give is printed before the next read, so that a program can send row by row to
-`replay -`, and read.
+It prints the messages to the controller (`a HEX`), the frames that leave (`s PORT HEX`), `closed` if the switch ends the
+connection, and `refused N` if an event is not possible: 3 not connected, 4 already connected, 5 the port exists, 6 the
+port does not exist, 7 too many ports, 8 bad port number. With --explain it prints each row, and below it what the row
+did, in words: answers by name with their fields, errors by the standard's names, and the path of each frame. The effects
+of all rows that were read are printed before the next read, so a program can send rows to `replay -` one by one, and
+read the effects of each.
 
   ofswitch replay examples/first-path.events
   ofswitch replay --explain examples/first-path.events
   ofswitch replay --dpid 0x2a examples/first-path.events";
 
 const FLOW_TEXT: &str =
-    "Flow text has groups and then flows, each in some lines, and words are separated by one space:
+    "Flow text has groups and then flows, each on several lines. Words are separated by one space:
 
   group 1 ff                            number, and all, indirect or ff
   bucket 0 2 4294967295                 weight, and the port and the group that it watches; its actions follow
   flow 0 10 0x0000000000000000 0 0 0    table, priority, cookie, idle and hard timeout, flags
-  match in_port 0x00000001              a field, its value and, where there is one, a mask
+  match in_port 0x00000001              a field, its value and an optional mask
   apply                                 an instruction (apply, clear, write, metadata V M, goto T)
-  output 2 0                            an action of it: port and max_len
+  output 2 0                            an action of that instruction: port and max_len
   # ...                                 a comment
 
-The event file connects a controller, which says HELLO and adds each group by a GROUP_MOD, and each flow by a FLOW_MOD.
+The event file connects a controller, which sends HELLO, a GROUP_MOD for each group, and a FLOW_MOD for each flow.
 
   ofswitch asm examples/router.flows > router.events";
 
 const DISASSEMBLY: &str =
-    "The rows are played as `replay` plays them, and what they give is not printed. Then come the switch's groups by number
-and its flows by table, the oldest of a table first, in the words of flow text (`ofswitch asm --help`), without counters
-and times. Of a file with a bad row nothing is printed.
+    "Plays the rows as `replay` does, without printing their effects. Then it prints the switch's groups by number and its
+flows by table, oldest first, as flow text (`ofswitch asm --help`), without counters and times. If the file has a bad
+row, nothing is printed.
 
   ofswitch asm examples/router.flows | ofswitch dis -";
 
 const TRACES: &str =
-    "With --flows the switch has ports 1 to 64, whose links are up, and the groups and flows of the text. With --events it is the one
-that the rows of the event file leave (`ofswitch replay --help`), with its ports and its connection; with --at ROW the one before
-that line. One line a step:
+    "With --flows the switch has ports 1 to 64, all of whose links are up, and the groups and flows of the text. With --events it is
+the switch after the rows of the event file (`ofswitch replay --help`), with its ports and its connection, or with --at ROW the
+switch before that line. There is one line per step:
 
   lookup 0 entry 2                      a table, and the entry that won, by age from 0 (or miss)
   apply, write, clear, metadata, goto   an instruction
   output 2 0                            an action; dec_nw_ttl expired
-  set                                   the action set is run
+  set                                   the action set runs
   end                                   the packet's processing ends
-  s 2 HEX                               and then what leaves (and `a HEX` to a controller that is connected)
+  s 2 HEX                               at the end: what leaves (and `a HEX` to a connected controller)
 
-With --explain notes stand below the lines: below a look-up the entry that won, in the words of flow text, and the fields
-that the table sees; below an action what it changed, why an output sends nothing, and which buckets of a group run. With
---why all, or --why \"0 100\" for the entries of table 0 that have priority 100, they also say why entries won or lost.
+With --explain there are notes below the lines: below a lookup the entry that won, as flow text, and the fields that the
+table sees; below an action what it changed, why an output sends nothing, and which buckets of a group run. With --why all,
+or --why \"0 100\" for the entries of table 0 that have priority 100, they also say why entries won or lost.
 
   ofswitch trace --flows examples/router.flows --port 1 0200000000a10200000000010800450000140000000040fd64e30a0000010a010109
   ofswitch trace --events examples/failover.events --at 14 --port 1 02000000000202000000000188b5";
 
 const CHECKS: &str =
-    "The switch has the groups and flows of the text, or with --events those that the rows of the event file leave. One line a flow,
+    "Checks the flows of the text, or with --events those of the switch after the rows of the event file. There is one line per flow,
 by table, then by age from 0:
 
-  flow 0 1 wins in_port 1 metadata 0x0000000000000000 HEX    it wins the look-up of this frame, at this port, with this metadata
-  flow 0 2 never: 0 0 0 1               it wins none: flows 0 and 1 of table 0 go before it and match all that it matches
-  flow 0 3 open                         it was not decided in N steps
+  flow 0 1 wins in_port 1 metadata 0x0000000000000000 HEX    it wins the lookup of this frame, at this port, with this metadata
+  flow 0 2 never: 0 0 0 1               shadowed: flows 0 and 1 of table 0 have precedence and match all that it matches
+  flow 0 3 open                         undecided within N steps
 
-A step looks at a part of what a flow matches. `never` holds for all frames, ports and metadata. A flow that wins in its table
-need not be reached: that depends on the tables before it. Then come lines on the whole, where something is found:
+A step looks at a part of what a flow matches. `never` holds for all frames, ports and metadata. Whether packets reach a flow
+also depends on the tables before it. After the flows there are lines about tables and groups, if there is anything to report:
 
   table 3 unreachable                   it has flows, and no goto leads there from table 0
   table 0 no table-miss entry           it has flows, and none of priority 0 without fields: packets that hit none are dropped
-  flow 0 2 goto 5: no entries           packets that go on there are dropped
+  flow 0 2 goto 5: no entries           packets that continue there are dropped
   flow 0 1 output 3: ingress            nothing leaves: only IN_PORT sends out of the ingress port, which the match requires
-  flow 0 1 last actions unseen: 2       the packet is neither sent nor looked at after the last 2 actions of its apply
+  flow 0 1 last actions unseen: 2       the packet is neither sent nor looked up after the last 2 actions of its apply
   group 7 unused                        no flow and no group names it
   group 7 no buckets                    packets end there
 
-What is not reported is not promised to be as it was meant.
+A flow that is not reported does not necessarily do what was intended.
 
-Exit status 0 where nothing was found, 4 where some flow never wins, or there is a line on the whole.
+Exit status: 0 if nothing was found, 4 if a flow never wins or there is a line about a table or a group.
 
   ofswitch check --flows examples/router.flows
   ofswitch check --events examples/failover.events";
 
 const IMPORTS: &str =
-    "FILE has flows and groups, one a line, as `ovs-ofctl -O OpenFlow13 --no-names dump-flows` and `dump-groups` print them, or
+    "FILE has flows and groups, one per line, as `ovs-ofctl -O OpenFlow13 --no-names dump-flows` and `dump-groups` print them, or
 as `ovs-ofctl add-flows` and `add-groups` read them. Groups and flows may be in one file. Statistics, the heading lines of
-dumps, comments and empty lines are passed over. A flow that has the table, the priority and the match of one before it
-takes its place, as if it were added.
+dumps, comments and empty lines are skipped. A flow that has the table, the priority and the match of an earlier flow
+replaces it, as an ADD would.
 
-Printed is flow text (`ofswitch asm --help`), which `asm`, `trace --flows` and `check --flows` read: groups by number, flows
-by table, and in a table in the order of FILE. A line that says what this switch does not have is named on standard error,
-with the word that is refused; then nothing is printed, unless --skip leaves such lines out.
+It prints flow text (`ofswitch asm --help`), which `asm`, `trace --flows` and `check --flows` read: groups by number, flows
+by table, and in a table in the order of FILE. If a line uses something that this switch does not support, standard error
+names the line and the word, and nothing is printed, unless --skip leaves such lines out.
 
   ofswitch import examples/ovs-router.txt
   ovs-ofctl -O OpenFlow13 --no-names dump-flows br0 | ofswitch import - > br0.flows
@@ -113,7 +113,7 @@ with the word that is refused; then nothing is printed, unless --skip leaves suc
 
 const SERVING: &str =
     "A controller connects over TCP (`--listen`), or the switch connects to it (`--connect`), again whenever the connection
-is lost. One controller is served at a time; another one waits. The switch keeps its flows between connections, but its
+is lost. It serves one controller at a time; a second one waits. The switch keeps its flows between connections, but its
 time advances only while there is one.
 
   ofswitch serve                                     wait at 127.0.0.1:6653
@@ -121,8 +121,8 @@ time advances only while there is one.
   ofswitch serve --events ports.events               with ports and frames
 
 The event file has the rows of `replay`, except `connect`, `lost` and `c`, which are bad rows here. It is read completely
-before anybody connects. A row happens as soon as a controller is connected and the time of each `t` row before it has
-come, in nanoseconds since the start. Frames that leave are printed (`s PORT HEX`); a line on standard error reports
+before a controller connects. A row happens as soon as a controller is connected and each `t` row before it is due, in
+nanoseconds since the start. Frames that leave are printed (`s PORT HEX`); a line on standard error reports
 each connection and its end.
 
 A turn is an accept, or one read of at most 65,536 bytes that waits at most 10 ms.";
@@ -193,7 +193,7 @@ const REPLAY: [Argument; 3] = [
     Argument {
         name: "explain",
         kind: Kind::Flag("explain"),
-        help: "Prints each row, and below it what it did, in words",
+        help: "Print each row, and below it what it did, in words",
     },
 ];
 
@@ -218,7 +218,7 @@ const IMPORT: [Argument; 2] = [
     Argument {
         name: "skip",
         kind: Kind::Flag("skip"),
-        help: "Leaves out lines that this switch cannot take",
+        help: "Leave out lines that this switch refuses",
     },
 ];
 
@@ -231,12 +231,12 @@ const TRACE: [Argument; 7] = [
     Argument {
         name: "events",
         kind: Kind::Alternative("events", "FILE"),
-        help: "The event file that leads to the switch; - is standard input",
+        help: "The event file whose rows make the switch; - is standard input",
     },
     Argument {
         name: "at",
         kind: Kind::Excluded("at", "ROW", "flows"),
-        help: "Plays the event file only up to this line, which is not played (by default all of it)",
+        help: "Play the event file only up to this line, which is not played (by default all of it)",
     },
     Argument {
         name: "N",
@@ -246,17 +246,17 @@ const TRACE: [Argument; 7] = [
     Argument {
         name: "HEX",
         kind: Kind::Positional,
-        help: "The frame, two hexadecimal digits a byte",
+        help: "The frame, two hexadecimal digits per byte",
     },
     Argument {
         name: "explain",
         kind: Kind::Flag("explain"),
-        help: "Adds notes: what tables see, and what actions change",
+        help: "Add notes: what tables see, and what actions change",
     },
     Argument {
         name: "why",
         kind: Kind::Optional("why", "ENTRIES"),
-        help: "Adds to the notes why entries won or lost: all, or those of \"TABLE PRIORITY\"",
+        help: "Add to the notes why entries won or lost: all, or those of \"TABLE PRIORITY\"",
     },
 ];
 
@@ -269,12 +269,12 @@ const CHECK: [Argument; 3] = [
     Argument {
         name: "events",
         kind: Kind::Alternative("events", "FILE"),
-        help: "The event file that leads to the flows to check; - is standard input",
+        help: "The event file whose rows make the flows to check; - is standard input",
     },
     Argument {
         name: "steps",
         kind: Kind::Optional("steps", "N"),
-        help: "Gives a flow up after N steps (by default 100000)",
+        help: "Leave a flow open after N steps (by default 100000)",
     },
 ];
 
@@ -282,12 +282,12 @@ const SERVE: [Argument; 6] = [
     Argument {
         name: "listen",
         kind: Kind::Optional("listen", "ADDR"),
-        help: "Where to wait for a controller, as 127.0.0.1:6653 (the default) or [::]:6653",
+        help: "The address at which to wait for a controller, such as 127.0.0.1:6653 (the default) or [::]:6653",
     },
     Argument {
         name: "connect",
         kind: Kind::Excluded("connect", "ADDR", "listen"),
-        help: "The controller to connect to, as 10.0.0.1:6653",
+        help: "The controller to connect to, such as 10.0.0.1:6653",
     },
     Argument {
         name: "FILE",
@@ -297,7 +297,7 @@ const SERVE: [Argument; 6] = [
     Argument {
         name: "turns",
         kind: Kind::Optional("turns", "N"),
-        help: "Ends after N turns (by default 1000000)",
+        help: "End after N turns (by default 1000000)",
     },
     Argument {
         name: "dpid",
@@ -307,7 +307,7 @@ const SERVE: [Argument; 6] = [
     Argument {
         name: "quiet",
         kind: Kind::Flag("quiet"),
-        help: "Does not report connections on standard error",
+        help: "Do not report connections on standard error",
     },
 ];
 
@@ -315,22 +315,22 @@ const LIVE_ARGUMENTS: [Argument; 10] = [
     Argument {
         name: "vxlan",
         kind: Kind::Optional("vxlan", "ADDR[:PORT]"),
-        help: "Where datagrams are received (by default 0.0.0.0:4789)",
+        help: "The address and UDP port at which to receive datagrams (by default 0.0.0.0:4789)",
     },
     Argument {
         name: "listen",
         kind: Kind::Optional("listen", "ADDR"),
-        help: "Where to wait for a controller, as 127.0.0.1:6653 (the default) or [::]:6653",
+        help: "The address at which to wait for a controller, such as 127.0.0.1:6653 (the default) or [::]:6653",
     },
     Argument {
         name: "connect",
         kind: Kind::Excluded("connect", "ADDR", "listen"),
-        help: "The controller to connect to, as 10.0.0.1:6653",
+        help: "The controller to connect to, such as 10.0.0.1:6653",
     },
     Argument {
         name: "ports",
         kind: Kind::Optional("ports", "N"),
-        help: "Adds the ports 1 to N, whose links are up (by default 0)",
+        help: "Add the ports 1 to N, whose links are up (by default 0)",
     },
     Argument {
         name: "FILE",
@@ -340,17 +340,17 @@ const LIVE_ARGUMENTS: [Argument; 10] = [
     Argument {
         name: "peer",
         kind: Kind::Repeated("peer", "N=ADDR[:PORT]"),
-        help: "Where the frames of port N go, and come from (by default where its last datagram came from)",
+        help: "The address of the peer of port N (by default the sender of its last datagram)",
     },
     Argument {
         name: "log",
         kind: Kind::Optional("log", "FILE"),
-        help: "Writes all that happens to this event file",
+        help: "Log all events to this event file",
     },
     Argument {
         name: "turns",
         kind: Kind::Optional("turns", "N"),
-        help: "Ends after N turns (by default never)",
+        help: "End after N turns (by default never)",
     },
     Argument {
         name: "dpid",
@@ -360,7 +360,7 @@ const LIVE_ARGUMENTS: [Argument; 10] = [
     Argument {
         name: "quiet",
         kind: Kind::Flag("quiet"),
-        help: "Does not report connections on standard error",
+        help: "Do not report connections on standard error",
     },
 ];
 
@@ -375,7 +375,7 @@ struct Subcommand {
 const SUBCOMMANDS: [Subcommand; 8] = [
     Subcommand {
         name: "replay",
-        about: "Runs an event file on a new switch and prints what it gives",
+        about: "Runs an event file on a new switch and prints the effects",
         text: EVENT_FILES,
         arguments: &REPLAY,
     },
@@ -393,19 +393,19 @@ const SUBCOMMANDS: [Subcommand; 8] = [
     },
     Subcommand {
         name: "import",
-        about: "Prints the flow text of flows and groups that ovs-ofctl printed or would read",
+        about: "Converts flows and groups in the syntax of ovs-ofctl to flow text",
         text: IMPORTS,
         arguments: &IMPORT,
     },
     Subcommand {
         name: "trace",
-        about: "Prints, step by step, what a frame does on the switch of a flow text or an event file",
+        about: "Prints each step of a frame through the switch of a flow text or an event file",
         text: TRACES,
         arguments: &TRACE,
     },
     Subcommand {
         name: "check",
-        about: "Says of each flow of a flow text or an event file whether it can win, or never does",
+        about: "Finds flow entries that can never win, and other likely mistakes",
         text: CHECKS,
         arguments: &CHECK,
     },
@@ -465,10 +465,12 @@ fn argument_of<'a>(alloc: Global, argument: &Argument) -> Result<Arg<'a>, AllocE
         Kind::Alternative(option, value) | Kind::Optional(option, value) => Ok(
             named.long(option).value_name(value),
         ),
-        Kind::Repeated(option, value) => Ok(named
-            .long(option)
-            .value_name(value)
-            .action(ArgAction::Append)),
+        Kind::Repeated(option, value) => Ok(
+            named
+                .long(option)
+                .value_name(value)
+                .action(ArgAction::Append),
+        ),
         Kind::Excluded(option, value, other) => {
             named.long(option).value_name(value).conflicts_with(other)
         },

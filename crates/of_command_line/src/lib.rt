@@ -274,7 +274,7 @@ fn row_of(alloc: Global, word: Option<&str>) -> Result<Option<u32>, NoRequest> {
     };
     match number_in(word) {
         Some(row) if row >= 1 => Ok(Some(row)),
-        _ => Err(refused(alloc, "bad row: it is the number of a line, from 1\n")?),
+        _ => Err(refused(alloc, "bad row: a line number, from 1\n")?),
     }
 }
 
@@ -286,9 +286,7 @@ fn port_of(alloc: Global, kind: FileKind, word: &str) -> Result<u32, NoRequest> 
     };
     match number_in(word) {
         Some(port) if port >= 1 && port <= last => Ok(port),
-        _ => Err(NoRequest::Refused(format!(in alloc;
-            "bad port: it is a number from 1 to {last}\n"
-        )?)),
+        _ => Err(NoRequest::Refused(format!(in alloc; "bad port: a number from 1 to {last}\n")?)),
     }
 }
 
@@ -298,7 +296,7 @@ fn frame_of(alloc: Global, word: &str) -> Result<Vec<u8>, NoRequest> {
         Ok(frame) if !word.is_empty() => Ok(frame),
         _ => Err(refused(
             alloc,
-            "bad hex: a frame is hexadecimal digits, two a byte\n",
+            "bad hex: a frame is hexadecimal digits, two per byte\n",
         )?),
     }
 }
@@ -311,7 +309,7 @@ fn why_of(alloc: Global, word: Option<&str>) -> Result<Option<Asked>, NoRequest>
         Some(asked) => Ok(Some(asked)),
         None => Err(refused(
             alloc,
-            "bad why: it is all, or a table and a priority, as \"0 100\"\n",
+            "bad why: all, or a table and a priority such as \"0 100\"\n",
         )?),
     }
 }
@@ -421,8 +419,7 @@ fn peer_of(alloc: Global, word: &str) -> Result<PortPeer, NoRequest> {
 fn peers_of(alloc: Global, words: &[&str]) -> Result<Vec<PortPeer>, NoRequest> {
     let mut peers = Vec::with_capacity(alloc, words.len())?;
     for word in words {
-        peers.push(peer_of(alloc, word)?)
-            .map_err(AllocError::from)?;
+        peers.push(peer_of(alloc, word)?).map_err(AllocError::from)?;
     }
     Ok(peers)
 }
@@ -433,7 +430,7 @@ fn live_turns_of(alloc: Global, word: Option<&str>) -> Result<u64, NoRequest> {
     };
     match number_in(word) {
         Some(turns) => Ok(u64::from(turns)),
-        None => Err(refused(alloc, "bad turns: it is a number of 32 bits\n")?),
+        None => Err(refused(alloc, "bad turns: a 32-bit number\n")?),
     }
 }
 
@@ -442,7 +439,7 @@ fn address_of(alloc: Global, word: &str) -> Result<SocketAddr, NoRequest> {
         Ok(address) => Ok(address),
         Err(_) => Err(refused(
             alloc,
-            "bad address\nan address is an IP address and a port, as 127.0.0.1:6653 or [::1]:6653\n",
+            "bad address\nan address is an IP address and a port, such as 127.0.0.1:6653 or [::1]:6653\n",
         )?),
     }
 }
@@ -453,7 +450,7 @@ fn turns_of(alloc: Global, word: Option<&str>) -> Result<u32, NoRequest> {
     };
     match number_in(word) {
         Some(turns) => Ok(turns),
-        None => Err(refused(alloc, "bad turns: it is a number of 32 bits\n")?),
+        None => Err(refused(alloc, "bad turns: a 32-bit number\n")?),
     }
 }
 
@@ -463,7 +460,7 @@ fn steps_of(alloc: Global, word: Option<&str>) -> Result<u32, NoRequest> {
     };
     match number_in(word) {
         Some(steps) => Ok(steps),
-        None => Err(refused(alloc, "bad steps: it is a number of 32 bits\n")?),
+        None => Err(refused(alloc, "bad steps: a 32-bit number\n")?),
     }
 }
 
@@ -478,7 +475,7 @@ fn dpid_of(alloc: Global, word: Option<&str>) -> Result<u64, NoRequest> {
     };
     match number {
         Ok(dpid) => Ok(dpid),
-        Err(_) => Err(refused(alloc, "bad dpid: it is a number of 64 bits\n")?),
+        Err(_) => Err(refused(alloc, "bad dpid: a 64-bit number\n")?),
     }
 }
 

@@ -1,7 +1,7 @@
 //! Tests of what commands of the program do, in memory: of the check (which entries of a flow text win, and which never do), of the
 //! tracer, and of a switch that serves controllers. Each public call with ample memory.
 //!
-//! They stand here and not beside the code, since a crate that has tests is proved twice.
+//! They are in a separate crate, since a crate that has tests is proved twice.
 #![tactic(auto)]
 
 #[cfg(test)]

@@ -7,7 +7,7 @@ use crate::notes::push_with_number;
 use byteorder::{BigEndian, ByteOrder};
 use std::alloc::{AllocError, Global};
 
-/// How a field is told.
+/// How a field is printed.
 #[derive(Clone, Copy)]
 pub enum Form {
     /// Its number in decimal.

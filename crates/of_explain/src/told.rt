@@ -1,4 +1,4 @@
-//! Which fields of messages and of rows are told, in the order of the text: the word before each, its place, its size, and its form.
+//! The fields of messages and of rows that are printed, in the order of the text: the word before each, its place, its size, and its form.
 ghost use Rattle.std.specs.Prelude.{◌≡◌, map, IsTrue};
 ghost use Rattle.of_explain.specs.Fields.{are_short, field_of};
 ghost use Rattle.of_explain.specs.Messages.{asked_by, counted_by, told_of};

@@ -1,6 +1,6 @@
 //! Tests of the public calls on frames and matches: each once with ample memory, and vectors from outside.
 //!
-//! They stand here and not beside the code, since a crate that has tests is proved twice.
+//! They are in a separate crate, since a crate that has tests is proved twice.
 #![tactic(auto)]
 
 #[cfg(test)]

@@ -1,4 +1,4 @@
--- What a hint says of the bytes of a line. What it says of words is in its text alone.
+-- What a hint says about the bytes of a line. What it says about words is only in its text.
 use Rattle.std.specs.Prelude.{◌≡◌, ◌<◌, ◌==◌, ℕ, true, List, length}
 use Rattle.std.specs.List.{list_any}
 use Rattle.std.specs.Str.{IsUtf8}

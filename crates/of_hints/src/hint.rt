@@ -18,9 +18,9 @@ pub enum Hint {
     UnknownLine,
     #[error("{0}")]
     Words(WordFault),
-    #[error("connect, lost and c are rows of a controller, which this file may not have")]
+    #[error("connect, lost and c are rows of a controller, which are not allowed in this file")]
     Controller,
-    #[error("its words are right, but it is out of place: {0}")]
+    #[error("the words are right, but the line is out of place: {0}")]
     Order(&'static str),
 }
 

@@ -10,7 +10,7 @@ const LONGEST: usize = 1_048_576;
 /// What is wrong with the bytes of a line.
 #[derive(Clone, Copy, Debug, PartialEq, Eq, Error)]
 pub enum LayoutFault {
-    #[error("a line has 1,048,576 bytes at most")]
+    #[error("a line has at most 1,048,576 bytes")]
     TooLong,
     #[error("the line is not UTF-8 text")]
     NotText,
@@ -18,7 +18,7 @@ pub enum LayoutFault {
     CarriageReturn,
     #[error("the line has a tab: words are separated by one space")]
     Tab,
-    #[error("a space too many: words are separated by one space, and a line neither begins nor ends with one")]
+    #[error("an extra space: words are separated by one space, and a line does not begin or end with a space")]
     Space,
 }
 

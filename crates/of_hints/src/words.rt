@@ -7,11 +7,11 @@ use thiserror::Error;
 /// What is wrong with the words of a line. Words count from 1.
 #[derive(Clone, Copy, Debug, PartialEq, Eq, Error)]
 pub enum WordFault {
-    #[error("a word is missing, or one is too many: write {0}")]
+    #[error("a missing or extra word: write {0}")]
     Form(&'static str),
     #[error("word {0}: a decimal number, without a sign and without leading zeros")]
     Decimal(usize),
-    #[error("word {place}: the number is {most} at most")]
+    #[error("word {place}: the number is at most {most}")]
     Most { place: usize, most: u64 },
     #[error("word {0}: an odd number of hexadecimal digits; a byte has two")]
     OddDigits(usize),

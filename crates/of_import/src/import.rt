@@ -27,7 +27,7 @@ pub enum ImportError {
     #[error("out of memory")]
     NoMemory,
     /// These lines are at fault.
-    #[error("these lines are at fault")]
+    #[error("some lines are refused")]
     Faults(Vec<LineFault>),
     /// The line of the first group or flow that the switch refuses, and its first refusal (OpenFlow 1.3.5, 7.4.4).
     #[error("line {line} is refused")]

@@ -1,4 +1,4 @@
-//! What the words of a line say of a flow.
+//! The meaning of the words of a line for a flow.
 ghost use Rattle.std.specs.Prelude.{◌≡◌, ◌≤◌, ◌<◌, ◌^◌, ◌++◌, IfOk, IfErr, OnOk, Ok};
 ghost use Rattle.of_import.specs.PartialFlows.{alone as alone_word, with_first_action, blank, with_flag as head_with_flag, head_after, with_instruction, mask_of_metadata as metadata_mask_of, metadata_in as metadata_of, with_word as flow_with_word, with_flow_action, with_head_word};
 ghost use Rattle.of_import.specs.PartialFlowViews.{view_partial_flow};

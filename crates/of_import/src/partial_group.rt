@@ -1,4 +1,4 @@
-//! What the words of a line say of a group.
+//! The meaning of the words of a line for a group.
 ghost use Rattle.std.specs.Prelude.{◌≡◌, ◌++◌, IfOk, IfErr, OnOk, Ok, map, false, [], ◌<◌, ◌^◌};
 ghost use Rattle.of_import.specs.PartialGroups.{with_new_bucket, bucket_fits as bucket_fits_so, closed, first_action, group_of as group_in, kind_in as kind_of, no_group, with_bucket_word as bucket_with_word, with_first_word, with_group_word, with_bucket_action};
 ghost use Rattle.of_import.specs.PartialGroupViews.{view_partial_group};

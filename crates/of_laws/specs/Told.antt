@@ -1,4 +1,4 @@
--- WHAT A SWITCH SENDS: which bytes encode which message of this switch (OpenFlow 1.3.5, 7), but for the replies to multipart requests (Replied).
+-- WHAT A SWITCH SENDS: which bytes encode which message of this switch (OpenFlow 1.3.5, 7), except for the replies to multipart requests (Replied).
 use Rattle.std.specs.Prelude.{◌≡◌, ◌==◌, ℕ, if◌then◌else◌, List, [], ◌∷◌, ◌++◌, length, None}
 use Rattle.of_wire.specs.declared.code.Code.{Code}
 use Rattle.of_wire.specs.Reasons.{packet_in_number, flow_removed_number}

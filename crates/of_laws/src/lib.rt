@@ -1,4 +1,4 @@
-//! Laws on the definitions of the crates below, what a reader can hold against them. There is nothing to call here: each
+//! Laws about the definitions of the crates below, to compare them with. There is nothing to call here: each
 //! function's contract is a theorem, and its body is empty. A law on one crate's own values is in that crate.
 //!
 //! `fields` has those of the fields of frames. `messages` and `written_messages` join the grammar of messages to what reads them

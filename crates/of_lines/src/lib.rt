@@ -1,4 +1,4 @@
-//! The lines of flow text: the words of each, and where it may stand.
+//! The lines of flow text: the words of each line, and the order of lines.
 #![tactic(auto)]
 
 mod lines;

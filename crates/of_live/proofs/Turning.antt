@@ -55,7 +55,7 @@ no_log came keeps asks l l1 w a b c some r is h empty log_is =
     let k = keeps_if keeps (events_of came l) w.text h.text_is nonempty in
     let here : Records a (drops came l) b = subst (λ (s : Bool). Records a (if s then drops came l else []) b) is r in
     let rows : logged w.text false ≡ Logs (rows_text (events_of came l)) false ∷ [] =
-        ap (λ (t : Bool). if t then [] else Logs w.text false ∷ []) nonempty ∙ ap (λ bs. Logs bs false ∷ []) k.1 in
+    ap (λ (t : Bool). if t then [] else Logs w.text false ∷ []) nonempty ∙ ap (λ bs. Logs bs false ∷ []) k.1 in
     (k.0, records_more a b c (drops came l) _ here (records_as b c _ _ rows log_is))
 
 -- ALL GOES OUT
@@ -68,10 +68,14 @@ passes_on came keeps asks l l1 l2 w peers a b c d e some r is h log_is to sent s
     let rows : Records b (logs keeps (events_of came l)) c = records_as b c _ _ (logs_are keeps (events_of came l) w.text h.text_is) log_is in
     let same_peers : peers ≡ (heard came l).peers = to ∙ ap (λ (x : Live). x.peers) h.live_is in
     let frames : Records c (sends came l) d = records_as c d _ _
-        (ap (λ ps. flat_map (sent_in ps) (effects_in w.reports)) same_peers ∙ ap (flat_map (sent_in (heard came l).peers)) h.reports_are) sent in
-    let s : Settles (asks_of came l) (heard came l) l2 d e = subst (λ (x : Live). Settles (asks_of came l) x l2 d e) h.live_is (subst (λ (x : Asks). Settles x l1 l2 d e) h.asks_are settled) in
-    (s.taken, s.failed, s.fits, s.live_is,
-    records_more a b e (drops came l) _ here (records_more b c e _ _ rows (records_more c d e _ _ frames s.told_is)))
+    (ap (λ ps. flat_map (sent_in ps) (effects_in w.reports)) same_peers ∙ ap (flat_map (sent_in (heard came l).peers)) h.reports_are) sent in
+    let s : Settles (asks_of came l) (heard came l) l2 d e = subst (λ (x : Live). Settles (asks_of came l) x l2 d e) h.live_is (subst (λ (x : Asks). Settles x l1 l2 d e) h.asks_are settled) in (
+      s.taken,
+      s.failed,
+      s.fits,
+      s.live_is,
+      records_more a b e (drops came l) _ here (records_more b c e _ _ rows (records_more c d e _ _ frames s.told_is)),
+    )
 
 -- A TURN
 

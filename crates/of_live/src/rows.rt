@@ -55,12 +55,7 @@ fn push_name(out: &mut Vec<u8>, name: &[u8]) -> Result<(), AllocError>
 }
 
 // Appends what a port that is added is: its hardware address, its name and its link.
-fn push_port(
-    out: &mut Vec<u8>,
-    hw: &[u8],
-    name: &[u8],
-    up: bool,
-) -> Result<(), AllocError>
+fn push_port(out: &mut Vec<u8>, hw: &[u8], name: &[u8], up: bool) -> Result<(), AllocError>
     ensures { OnOk result (out.new.items ≡ out.old.items ++ encode_lower hw.now ++ 32 ∷ name_word name.now ++ 32 ∷ state_word up) }
 {
     push_hex(out, hw)?;

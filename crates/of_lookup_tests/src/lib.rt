@@ -1,6 +1,6 @@
 //! Tests of the classifiers: which entry wins, how many masks were asked, and which rows a cache keeps.
 //!
-//! They stand here and not beside the code, since a crate that has tests is proved twice.
+//! They are in a separate crate, since a crate that has tests is proved twice.
 #![tactic(auto)]
 
 #[cfg(test)]

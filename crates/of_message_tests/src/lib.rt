@@ -1,7 +1,7 @@
 //! Tests of the public calls on actions, action sets, messages, and requests of a controller as bytes: each once with ample memory, and
 //! vectors from outside.
 //!
-//! They stand here and not beside the code, since a crate that has tests is proved twice.
+//! They are in a separate crate, since a crate that has tests is proved twice.
 #![tactic(auto)]
 
 #[cfg(test)]

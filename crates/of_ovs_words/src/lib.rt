@@ -1,4 +1,4 @@
-//! The words of Open vSwitch's flow syntax (ovs-ofctl(8), ovs-fields(7), ovs-actions(7)): what each says of a match, and as an action.
+//! The keywords of Open vSwitch's flow syntax (ovs-ofctl(8), ovs-fields(7), ovs-actions(7)): what each means in a match or as an action.
 #![tactic(auto)]
 
 mod action_word;

@@ -1,4 +1,4 @@
-//! What words say of a match, one after the other.
+//! The meaning of words for a match, one after the other.
 ghost use Rattle.std.specs.Prelude.{◌≡◌, ◌≤◌, ◌<◌, ◌++◌, ◌∷◌, [], IfOk, IfErr, OnOk, Ok, filter_map};
 ghost use Rattle.of_ovs_words.specs.Settings.{exact, last_of};
 ghost use Rattle.of_ovs_words.specs.Matches.{fields_of as fields_in, with_field, with_protocol, with_setting, with_tci};

@@ -5,16 +5,16 @@ use thiserror::Error;
 /// Why a word of a line is refused.
 #[derive(Clone, Copy, Debug, PartialEq, Eq, Error)]
 pub enum Why {
-    #[error("this switch does not have it, or it is no word of ovs-ofctl")]
+    #[error("not supported by this switch, or not an ovs-ofctl keyword")]
     Unknown,
-    #[error("its value is not one that it can have")]
+    #[error("invalid value")]
     Value,
-    #[error("a port is a number here: dump with --no-names")]
+    #[error("ports must be numbers: dump with --no-names")]
     PortName,
-    #[error("words before it have to say tcp or udp")]
+    #[error("needs tcp or udp before it")]
     Protocol,
-    #[error("it is missing")]
+    #[error("missing")]
     Missing,
-    #[error("a group of this number came before")]
+    #[error("a group with this number already exists")]
     Again,
 }

@@ -1,4 +1,4 @@
-//! What in the tables and groups of a configuration can hardly be meant, apart from single lookups.
+//! Likely mistakes in the tables and groups of a configuration that are not about single lookups.
 #![tactic(auto)]
 
 mod actions;

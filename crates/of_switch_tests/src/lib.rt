@@ -1,7 +1,7 @@
 //! Tests of the public calls on a session's stream and on the switch: each once with ample memory, and events that are done again
 //! where there was none.
 //!
-//! They stand here and not beside the code, since a crate that has tests is proved twice.
+//! They are in a separate crate, since a crate that has tests is proved twice.
 #![tactic(auto)]
 
 #[cfg(test)]

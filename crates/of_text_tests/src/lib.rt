@@ -1,7 +1,7 @@
 //! Tests of flow text (docs/FLOWTEXT.md) and of the names of errors, of the import of tables of Open vSwitch (docs/IMPORT.md), and of
 //! configurations as messages: each public call with ample memory.
 //!
-//! They stand here and not beside the code, since a crate that has tests is proved twice.
+//! They are in a separate crate, since a crate that has tests is proved twice.
 #![tactic(auto)]
 
 #[cfg(test)]

@@ -16,7 +16,14 @@ valid false flags e = grind (arith, common_steps)
 begun : (a b c g h i j k : ℕ) (frame : List ℕ) → has_vni a ≡ 1
     → Begins (a ∷ b ∷ c ∷ g ∷ h ∷ i ∷ j ∷ k ∷ frame) (big_number 3 (h ∷ i ∷ j ∷ k ∷ frame)) frame
 begun a b c g h i j k frame v = record {
-  flags = a; reserved = b ∷ c ∷ g ∷ []; number = h ∷ i ∷ j ∷ []; last = k; valid = v; three = (refl, refl); vni_is = refl; bytes_are = refl;
+  flags = a;
+  reserved = b ∷ c ∷ g ∷ [];
+  number = h ∷ i ∷ j ∷ [];
+  last = k;
+  valid = v;
+  three = (refl, refl);
+  vni_is = refl;
+  bytes_are = refl;
 }
 
 pub begins : (bytes : List ℕ) (d : Encapsulated) → carried bytes ≡ Some d → Begins bytes d.vni d.frame

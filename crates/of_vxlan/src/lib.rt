@@ -5,4 +5,4 @@ mod header;
 mod laws;
 
 pub use header::{HEADER, read_datagram, write_header};
-pub use laws::{written_headers_are_read, carried_frames_have_headers};
+pub use laws::{carried_frames_have_headers, written_headers_are_read};

@@ -29,19 +29,19 @@ use std::fs::File;
 use std::io::{self, Read};
 use std::process::ExitCode;
 
-/// The exit status where the arguments are not understood.
+/// The exit status if the arguments are not understood.
 const BAD_ARGUMENTS: u8 = 1;
 
-/// The exit status where lines of a table of Open vSwitch are at fault.
+/// The exit status if lines of a table of Open vSwitch are at fault.
 const BAD_LINES: u8 = 2;
 
-/// The exit status where some of its lines are left out.
+/// The exit status if some of its lines are left out.
 const LEFT_OUT: u8 = 4;
 
-/// The exit status where `check` found something.
+/// The exit status if `check` found something.
 const FOUND: u8 = 4;
 
-// A standard error that takes nothing changes no status, here and below.
+// Failures to write to standard error are ignored and do not change the exit status.
 fn main(rt: HostRuntime) -> ExitCode {
     let arguments = match std::env::args(&rt) {
         Ok(arguments) => arguments,

@@ -38,7 +38,7 @@ pub returns-then-waits-clause-does : goal.returns-then-waits-clause-does
 returns-then-waits-clause-does g c =
     let l = c.loop-row in
     let all : due c.args.now c.args.rows.now ≡ l.invariant.done = l.invariant.due_are
-        ∙ (ap (λ (es : List Event). l.invariant.done ++ es) (due_waits c.args.now c.in-Some.row.now l.rows c.in-Some.ensures (sym c.waits.ensures ∙ c.if-waits.true)) ∙ append-nil l.invariant.done) in
+    ∙ (ap (λ (es : List Event). l.invariant.done ++ es) (due_waits c.args.now c.in-Some.row.now l.rows c.in-Some.ensures (sym c.waits.ensures ∙ c.if-waits.true)) ∙ append-nil l.invariant.done) in
     subst (λ es. Does c.args.keeps es c.args.switch.now l.switch c.args.work.now l.work) (sym all) l.invariant.does
 
 pub returns-in_default-clause-rows : goal.returns-in_default-clause-rows
@@ -50,5 +50,5 @@ pub returns-in_default-clause-does : goal.returns-in_default-clause-does
 returns-in_default-clause-does g c =
     let l = c.loop-row in
     let all : due c.args.now c.args.rows.now ≡ l.invariant.done = l.invariant.due_are
-        ∙ (ap (λ (es : List Event). l.invariant.done ++ es) (due_none c.args.now l.rows (sym c.in_default.ensures)) ∙ append-nil l.invariant.done) in
+    ∙ (ap (λ (es : List Event). l.invariant.done ++ es) (due_none c.args.now l.rows (sym c.in_default.ensures)) ∙ append-nil l.invariant.done) in
     subst (λ es. Does c.args.keeps es c.args.switch.now l.switch c.args.work.now l.work) (sym all) l.invariant.does
