@@ -1,5 +1,5 @@
 //! Laws of traces.
-ghost use Rattle.std.specs.Prelude.{◌≡◌, ◌≤◌, ◌∷◌, ℕ, List, [], length};
+ghost use Rattle.std.specs.Prelude.{◌≡◌, ◌≤◌, ◌<◌, ◌∷◌, ℕ, List, [], Option, Some, length};
 ghost use Rattle.of_rewrite.specs.Frames.{IsFrame};
 ghost use Rattle.of_machine.specs.declared.data.Step.{Step};
 ghost use Rattle.of_machine.specs.TheWorld.{TheWorld};
@@ -8,6 +8,10 @@ ghost use Rattle.of_machine.specs.Rows.{Lookup, entering};
 ghost use Rattle.of_machine.specs.Runs.{after, starting};
 ghost use Rattle.of_datapath.specs.declared.effect.Effect.{Effect};
 ghost use Rattle.of_datapath.specs.Datapath.{Forwarding};
+ghost use Rattle.of_replay.specs.Told.{Known, Left};
+ghost use Rattle.of_replay.specs.FileRuns.{Runs, TextOf, event_file, flow_text, is_text};
+ghost use Rattle.of_replay.specs.declared.event_file.Ended.TheVariants.{Done};
+ghost use Rattle.of_trace.specs.Files.{trace_of, trace_on};
 ghost use Rattle.of_trace.specs.declared.form.Form.{Form};
 ghost use Rattle.of_trace.specs.Notes.{said};
 ghost use Rattle.of_trace.specs.OnlyNotes.{OnlyNotesAdded};
@@ -27,4 +31,17 @@ pub fn steps_tell_packets()
 pub fn notes_only_add()
     ensures { (form : Form) (f : Forwarding) (port : ℕ) (frame : List ℕ) (steps : List Step) (effects : List Effect) →
         OnlyNotesAdded (trace_text steps effects) (said form f port frame steps effects) }
+{}
+
+/// From the bytes of a file to the bytes of the output, where no read and no write fails and memory suffices: where a reader has `file` left,
+/// and its end is read, what a writer holds grows by the text of the trace on the switch that the file says, by its flow text or by its rows.
+///
+/// What is left of a reader and held by a writer is as `files_come_whole` of of_replay says.
+pub fn traces_come_whole()
+    ensures flows { (form : Form) (port : ℕ) (frame file : List ℕ) (known : Known) (ends ends' : ℕ) (old new : Option (List ℕ)) →
+        Runs flow_text (is_text (trace_of form port frame)) Done (Left (Some file)) known ends ends' old new → ends < ends' →
+        TextOf flow_text (is_text (trace_of form port frame)) file old new }
+    ensures events { (form : Form) (port : ℕ) (frame file : List ℕ) (known : Known) (ends ends' : ℕ) (old new : Option (List ℕ)) →
+        Runs event_file (is_text (trace_on form port frame)) Done (Left (Some file)) known ends ends' old new → ends < ends' →
+        TextOf event_file (is_text (trace_on form port frame)) file old new }
 {}

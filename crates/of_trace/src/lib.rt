@@ -23,7 +23,7 @@ mod writing;
 pub use explaining::why;
 pub use first_lines::FirstLines;
 pub use form::{Asked, Form};
-pub use laws::{notes_only_add, steps_tell_packets};
+pub use laws::{notes_only_add, steps_tell_packets, traces_come_whole};
 pub use noting::explain;
 pub use printing::print;
 pub use reason::Reason;
