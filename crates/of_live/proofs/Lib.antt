@@ -1,3 +1,4 @@
 mod Passing
 mod Doing
 mod Turning
+pub mod Ending

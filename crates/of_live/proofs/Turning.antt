@@ -69,13 +69,12 @@ passes_on came keeps asks l l1 l2 w peers a b c d e some r is h log_is to sent s
     let same_peers : peers ≡ (heard came l).peers = to ∙ ap (λ (x : Live). x.peers) h.live_is in
     let frames : Records c (sends came l) d = records_as c d _ _
     (ap (λ ps. flat_map (sent_in ps) (effects_in w.reports)) same_peers ∙ ap (flat_map (sent_in (heard came l).peers)) h.reports_are) sent in
-    let s : Settles (asks_of came l) (heard came l) l2 d e = subst (λ (x : Live). Settles (asks_of came l) x l2 d e) h.live_is (subst (λ (x : Asks). Settles x l1 l2 d e) h.asks_are settled) in (
-      s.taken,
-      s.failed,
-      s.fits,
-      s.live_is,
-      records_more a b e (drops came l) _ here (records_more b c e _ _ rows (records_more c d e _ _ frames s.told_is)),
-    )
+    let s : Settles (asks_of came l) (heard came l) l2 d e = subst (λ (x : Live). Settles (asks_of came l) x l2 d e) h.live_is (subst (λ (x : Asks). Settles x l1 l2 d e) h.asks_are settled) in
+    let t : Turn = record { came = came; taken = s.taken; failed = s.failed } in
+    let front = drops came l ++ logs keeps (events_of came l) ++ sends came l in
+    let all : Records a (front ++ (writes t l ++ closes (is_closed t l))) e =
+    records_more a d e front _ (records_more a c d _ _ (records_more a b c _ _ here rows) frames) s.told_is in
+    (s.taken, s.failed, s.fits, s.live_is, records_as a e _ _ (sym (append_assoc front (writes t l) (closes (is_closed t l)))) all)
 
 -- A TURN
 

@@ -14,8 +14,8 @@ EndsSo (Text fault) turns keeps l ts l' old new = ⊥
 EndsSo ReadFault turns keeps l ts l' old new =
     (count ts < turns) × (l' ≡ stand l ts) × (Records old (passed keeps l ts ++ Told Fault ∷ []) new)
 EndsSo WriteFault turns keeps l ts l' old new =
-    (count ts < turns) × (keeps ≡ true) × ((came : Came) × (Records old (passed keeps l ts ++ Told came ∷ drops came (stand l ts)
-    ++ Logs (rows_text (events_of came (stand l ts))) false ∷ []) new))
+    (count ts < turns) × (keeps ≡ true) × ((came : Came) × (Records old (passed keeps l ts ++ (Told came ∷ drops came (stand l ts)
+    ++ Logs (rows_text (events_of came (stand l ts))) false ∷ [])) new))
 EndsSo NoMemory turns keeps l ts l' old new =
     ((count ts < turns) × ((came : Came) × (some : Bool) × (Records old (passed keeps l ts ++ Told came ∷ (if some then drops came (stand l ts) else [])) new)))
     ⊎ ((ts ≡ None) × (new ≡ old))
