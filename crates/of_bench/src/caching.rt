@@ -123,7 +123,7 @@ fn numbered_keys(alloc: Global, count: u64) -> Option<Vec<FieldKey>> {
 
 // A cache over one entry, whose match looks at the low 16 bits of METADATA.
 fn of_one_entry(alloc: Global) -> Option<Cached<Scan>> {
-    let mut lookup = Cached::<Scan>::empty(alloc).ok()?;
+    let mut lookup = Cached::<Scan>::empty(alloc, 0).ok()?;
     lookup.add(numbered_match(alloc, 0, 1).ok()?, 10).ok()?;
     Some(lookup)
 }

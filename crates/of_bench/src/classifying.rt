@@ -84,7 +84,7 @@ pub fn keys(alloc: Global) -> Result<Vec<FieldKey>, AllocError> {
 
 /// 4,096 entries over some masks, of the same priority, or of a lower one for each mask.
 pub fn entries<L: Lookup>(alloc: Global, masks: u8, falling: bool) -> Option<L> {
-    let mut lookup = L::empty(alloc).ok()?;
+    let mut lookup = L::empty(alloc, 0).ok()?;
     for value in 0..4096u16 {
         let mask = (value % u16::from(masks.max(1)) % 256) as u8;
         let priority = if falling {

@@ -98,9 +98,9 @@ fn steps(three: &mut Three, alloc: Global) -> Result<Answers, ReadError> {
 
 fn compared(alloc: Global) -> Result<Answers, ReadError> {
     let mut three = Three {
-        scan: Scan::empty(alloc)?,
-        groups: MaskGroups::empty(alloc)?,
-        cached: Cached::with_rows(alloc, MaskGroups::empty(alloc)?, ROWS)?,
+        scan: Scan::empty(alloc, 0)?,
+        groups: MaskGroups::empty(alloc, 0)?,
+        cached: Cached::with_rows(alloc, MaskGroups::empty(alloc, 0)?, ROWS, 0)?,
     };
     steps(&mut three, alloc)
 }

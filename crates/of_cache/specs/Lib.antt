@@ -1,4 +1,5 @@
 pub mod SameRegion
+pub mod Hashing
 pub mod Regions
 pub mod Kept
 pub mod Held

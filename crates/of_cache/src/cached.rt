@@ -16,6 +16,7 @@ ghost use Rattle.of_cache.specs.Listed.{AreMasks};
 use crate::beaten::drop_beaten;
 use crate::cause::Cause;
 use crate::dropping::{Answer, Rows, drop_rows};
+use crate::hashing::SecretHasher;
 use crate::keeping::{drop_masks, find, store};
 use crate::region::{Region, Row};
 use lru::LruCache;
@@ -52,7 +53,14 @@ impl<L: Lookup> Model for Cached<L> {
 
 impl<L: Lookup> Cached<L> {
     /// The classifier, without rows, of which it keeps this many at most. It fails only if memory runs out.
-    pub fn with_rows(alloc: Global, inner: L, capacity: usize) -> Result<Self, AllocError>
+    ///
+    /// No answer depends on the seed, but who knows it may pick frames whose rows are found late.
+    pub fn with_rows(
+        alloc: Global,
+        inner: L,
+        capacity: usize,
+        seed: u64,
+    ) -> Result<Self, AllocError>
         requires { 0 < capacity }
         ensures { IfOk result (λ c. c ≡ held (L.content inner) [] capacity) }
     {
@@ -60,9 +68,11 @@ impl<L: Lookup> Cached<L> {
             Some(capacity) => capacity,
             None => NonZeroUsize::MIN,
         };
+        let mut rows = LruCache::unbounded_with_hasher(alloc, SecretHasher::new(seed))?;
+        rows.resize(capacity);
         Ok(Cached {
             inner,
-            rows: LruCache::sparse(alloc, capacity)?,
+            rows,
             masks: Vec::new(alloc),
         })
     }
@@ -87,11 +97,11 @@ impl<L: Lookup> Lookup for Cached<L> {
 
     ghost looked = { L.looked };
 
-    fn empty(alloc: Global) -> Result<Self, AllocError>
+    fn empty(alloc: Global, seed: u64) -> Result<Self, AllocError>
         ensures content { IfOk result (λ c. c.content ≡ []) }
         ensures rows { IfOk result (λ c. (c.rows ≡ []) × (c.capacity ≡ 1024)) }
     {
-        Cached::with_rows(alloc, L::empty(alloc)?, ROWS)
+        Cached::with_rows(alloc, L::empty(alloc, seed)?, ROWS, seed)
     }
 
     fn winner(&mut self, key: &FieldKey) -> Option<usize>

@@ -7,13 +7,14 @@ ghost use Rattle.of_cache.specs.Listed.{is_same_region};
 ghost use Rattle.of_cache.specs.Regions.{AnsweredRegion};
 
 use crate::cause::{Cause, goes};
+use crate::hashing::SecretHasher;
 use crate::region::Region;
 use lru::LruCache;
 
 /// The number and the priority of the entry that wins in a region, or `None`.
 pub(crate) type Answer = Option<(usize, u16)>;
 
-pub(crate) type Rows = LruCache<Region, Answer>;
+pub(crate) type Rows = LruCache<Region, Answer, SecretHasher>;
 
 /// How many rows are dropped one by one.
 const FEW: usize = 8;

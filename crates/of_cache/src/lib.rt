@@ -5,6 +5,7 @@ mod beaten;
 mod cached;
 mod cause;
 mod dropping;
+mod hashing;
 mod keeping;
 mod laws;
 mod region;

@@ -1,6 +1,7 @@
 //! Regions of field maps, and rows of a cache.
 ghost use Rattle.std.specs.Hash as fed;
-ghost use Rattle.of_headers.specs.Digest.{digest_of};
+ghost use Rattle.std.specs.List.{flat_map};
+ghost use Rattle.of_headers.specs.Digest.{words_of};
 ghost use Rattle.of_cache.specs.SameRegion.{same_region_fed};
 
 use of_headers::FieldKey;
@@ -14,14 +15,14 @@ pub struct Region {
     pub mask: FieldMask,
 }
 
-// One number, which depends on all fields of the key.
+// Numbers that depend on all fields of the key.
 impl Hash for Region {
-    ghost hash_input = { λ r. fed.u64 (digest_of r.key.numbers) };
+    ghost hash_input = { λ r. flat_map fed.u128 (words_of r.key.numbers) };
 
     ghost respects_eq = { same_region_fed };
 
     fn hash<H: Hasher>(&self, state: &mut H) {
-        state.write_u64(self.key.digest());
+        u128::hash_slice(&self.key.words(), state);
     }
 }
 

@@ -37,8 +37,9 @@ pub trait Lookup: Sized + Drop {
     /// In each field the bits on which it depends which of the entries wins, or none.
     ghost looked: { List Row → (Field → Option ℕ) → Field → Option ℕ };
 
-    /// Without entries.
-    fn empty(alloc: Global) -> Result<Self, AllocError>
+    /// Without entries. No answer depends on the seed, but who knows it may pick matches and frames that make answers late, where
+    /// the entries are hashed.
+    fn empty(alloc: Global, seed: u64) -> Result<Self, AllocError>
         ensures { IfOk result (λ lookup. content lookup ≡ []) };
 
     /// The number of the entry that wins. It may rearrange what helps to find it.

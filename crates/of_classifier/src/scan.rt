@@ -43,7 +43,7 @@ impl Lookup for Scan {
 
     ghost looked = { λ rows key. looked_by rows };
 
-    fn empty(alloc: Global) -> Result<Self, AllocError> {
+    fn empty(alloc: Global, _seed: u64) -> Result<Self, AllocError> {
         Ok(Scan {
             rows: Vec::new(alloc),
             numbers: Slab::new(alloc),

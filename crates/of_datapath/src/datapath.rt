@@ -88,12 +88,12 @@ impl<L: Lookup> World for Datapath<L> {
 }
 
 impl<L: Lookup> Datapath<L> {
-    /// Without flows, groups, ports and held frames.
-    pub fn new(alloc: Global) -> Result<Self, AllocError>
+    /// Without flows, groups, ports and held frames. Nothing that it does depends on the seed ([`Lookup::empty`]).
+    pub fn new(alloc: Global, seed: u64) -> Result<Self, AllocError>
         ensures { IfOk result (λ p. forwarding_of p ≡ idle) }
     {
         Ok(Datapath {
-            tables: FlowTables::new(alloc)?,
+            tables: FlowTables::new(alloc, seed)?,
             groups: Groups::new(alloc),
             ports: Ports::new(alloc),
             held: HeldFrames::new(alloc)?,

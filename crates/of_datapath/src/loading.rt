@@ -87,24 +87,27 @@ fn load_table<L: Lookup>(
 }
 
 // Without entries, at this moment.
-fn tables_at<L: Lookup>(alloc: Global, latest: u64) -> Result<FlowTables<L>, AllocError>
+fn tables_at<L: Lookup>(alloc: Global, latest: u64, seed: u64) -> Result<FlowTables<L>, AllocError>
     ensures { IfOk result (λ t. tables_of t ≡ record (tables_of no_tables) { latest = latest }) }
 {
-    let mut tables = FlowTables::new(alloc)?;
+    let mut tables = FlowTables::new(alloc, seed)?;
     tables.remove(&Cause::Moment(latest));
     Ok(tables)
 }
 
 /// The flow tables of a configuration, with entries that are added at this moment, in nanoseconds. It fails only if memory runs out.
+///
+/// Nothing that they do depends on the seed ([`Lookup::empty`]).
 pub fn load_tables<L: Lookup>(
     alloc: Global,
     latest: u64,
     config: &Config,
+    seed: u64,
 ) -> Result<FlowTables<L>, AllocError>
     ensures { IfOk result (λ t. tables_of t ≡ loaded_tables latest config.now.tables) }
 {
     config.known();
-    let mut tables = tables_at(alloc, latest)?;
+    let mut tables = tables_at(alloc, latest, seed)?;
     for table in 0..TABLES {
         load_table(&mut tables, table, config.flows(table))?;
     }

@@ -1,48 +1,65 @@
--- One number for all fields of a key: equal keys have the same one.
-use Rattle.std.specs.Prelude.{ℕ, ◌+◌, ◌*◌, ◌/◌, ◌%◌, ◌^◌, List, [], ◌∷◌}
+-- One number for all fields of a key, which depends on a secret: equal keys have the same one.
+use Rattle.std.specs.Prelude.{ℕ, ◌+◌, ◌*◌, ◌/◌, ◌%◌, ◌^◌, bit_xor, List, [], ◌∷◌}
 use Rattle.std.specs.List.{fold}
+use Rattle.of_headers.specs.declared.mixer.Mixer.{Mixer}
 use Rattle.of_headers.specs.declared.numbers.Numbers.{Numbers}
+
+-- ---- numbers mixed under a secret
+
+-- a product of 128 bits folded to 64
+unfoldable pub folded_product : ℕ → ℕ → ℕ
+folded_product a b = bit_xor ((a * b) % 2 ^ 64) ((a * b) / 2 ^ 64)
+
+-- Two chains take a number of 128 bits in turn. Both its halves are changed by what only the secret tells before they are multiplied.
+unfoldable pub mixed : Mixer → ℕ → Mixer
+mixed m number = record { next = m.last; last = folded_product (bit_xor (number % 2 ^ 64) m.next) (bit_xor (number / 2 ^ 64) m.factor); factor = m.factor }
+
+unfoldable pub number_in : Mixer → ℕ
+number_in m = (m.next + m.last) % 2 ^ 64
+
+-- a number whose bits look random, as splitmix64 makes it
+unfoldable pub scrambled : ℕ → ℕ
+scrambled n =
+    let a = (bit_xor n (n / 2 ^ 30) * 0xbf58_476d_1ce4_e5b9) % 2 ^ 64 in
+    let b = (bit_xor a (a / 2 ^ 27) * 0x94d0_49bb_1331_11eb) % 2 ^ 64 in
+    bit_xor b (b / 2 ^ 31)
+
+-- of a seed the first three numbers that splitmix64 gives
+unfoldable pub mixer_of : ℕ → Mixer
+mixer_of seed = record { next = scrambled ((seed + 0x9e37_79b9_7f4a_7c15) % 2 ^ 64); last = scrambled ((seed + 0x3c6e_f372_fe94_f82a) % 2 ^ 64); factor = scrambled ((seed + 0xdaa6_6d2c_7ddf_743f) % 2 ^ 64) }
+
+-- ---- the words of a key: fields of which a frame has one at most may share one
 
 -- numbers side by side in one, all in 64 bits: each place is worth `place` times the next one
 unfoldable pub side_by_side : ℕ → List ℕ → ℕ
 side_by_side place xs = fold (λ sum x. ((sum * place) % 2 ^ 64 + x) % 2 ^ 64) 0 xs
 
--- a sum of products, all in 64 bits
-unfoldable pub sum_of : List (ℕ × ℕ) → ℕ
-sum_of xs = fold (λ sum x. (sum + (x.0 * x.1) % 2 ^ 64) % 2 ^ 64) 0 xs
-
--- ---- the words of a key: fields of which a frame has one at most may share one
+-- two words of 64 bits in one of 128
+unfoldable pub pair_of : ℕ → ℕ → ℕ
+pair_of high low = high * 2 ^ 64 + low
 
 unfoldable pub place_word_of : Numbers → ℕ
-place_word_of k = side_by_side 0x1_0000_0000 (k.in_port ∷ k.present ∷ [])
+place_word_of k = pair_of (side_by_side 0x1_0000_0000 (k.in_port ∷ k.present ∷ [])) k.metadata
 
-unfoldable pub target_word_of : Numbers → ℕ
-target_word_of k = side_by_side 0x1_0000 (k.eth_dst ∷ k.eth_type ∷ [])
-
-unfoldable pub source_word_of : Numbers → ℕ
-source_word_of k = side_by_side 0x1_0000 (k.eth_src ∷ k.vlan_vid ∷ [])
+unfoldable pub link_word_of : Numbers → ℕ
+link_word_of k = pair_of (side_by_side 0x1_0000 (k.eth_dst ∷ k.eth_type ∷ [])) (side_by_side 0x1_0000 (k.eth_src ∷ k.vlan_vid ∷ []))
 
 unfoldable pub internet_word_of : Numbers → ℕ
-internet_word_of k = (side_by_side 0x1_0000_0000 (k.ipv4_src ∷ k.ipv4_dst ∷ []) + k.ipv6_flabel) % 2 ^ 64
-
-unfoldable pub port_word_of : Numbers → ℕ
-port_word_of k = side_by_side 0x1_0000 (k.tcp_src ∷ k.tcp_dst ∷ k.udp_src ∷ k.udp_dst ∷ [])
+internet_word_of k = pair_of (side_by_side 0x1_0000_0000 (k.ipv4_src ∷ k.ipv4_dst ∷ [])) (side_by_side 0x1_0000 (k.tcp_src ∷ k.tcp_dst ∷ k.udp_src ∷ k.udp_dst ∷ []))
 
 unfoldable pub octet_word_of : Numbers → ℕ
-octet_word_of k = side_by_side 0x100 (k.icmpv4_type ∷ k.icmpv4_code ∷ k.icmpv6_type ∷ k.icmpv6_code ∷ k.vlan_pcp ∷ k.ip_proto ∷ k.ip_dscp ∷ k.ip_ecn ∷ [])
+octet_word_of k = pair_of (side_by_side 0x100 (k.icmpv4_type ∷ k.icmpv4_code ∷ k.icmpv6_type ∷ k.icmpv6_code ∷ k.vlan_pcp ∷ k.ip_proto ∷ k.ip_dscp ∷ k.ip_ecn ∷ [])) k.ipv6_flabel
 
-unfoldable pub low_source_word_of : Numbers → ℕ
-low_source_word_of k = (k.ipv6_src % 2 ^ 64 + side_by_side 0x1_0000_0000 (k.arp_spa ∷ k.arp_tpa ∷ [])) % 2 ^ 64
+unfoldable pub source_word_of : Numbers → ℕ
+source_word_of k = (k.ipv6_src + pair_of (side_by_side 0x1_0000 (k.arp_sha ∷ k.arp_op ∷ [])) (side_by_side 0x1_0000_0000 (k.arp_spa ∷ k.arp_tpa ∷ []))) % 2 ^ 128
 
-unfoldable pub high_source_word_of : Numbers → ℕ
-high_source_word_of k = (k.ipv6_src / 2 ^ 64 + side_by_side 0x1_0000 (k.arp_sha ∷ k.arp_op ∷ [])) % 2 ^ 64
+unfoldable pub target_word_of : Numbers → ℕ
+target_word_of k = (k.ipv6_dst + k.arp_tha) % 2 ^ 128
 
-unfoldable pub low_target_word_of : Numbers → ℕ
-low_target_word_of k = (k.ipv6_dst % 2 ^ 64 + k.arp_tha) % 2 ^ 64
+unfoldable pub words_of : Numbers → List ℕ
+words_of k = place_word_of k ∷ link_word_of k ∷ internet_word_of k ∷ octet_word_of k ∷ source_word_of k ∷ target_word_of k ∷ []
 
-unfoldable pub high_target_word_of : Numbers → ℕ
-high_target_word_of k = k.ipv6_dst / 2 ^ 64
+-- ---- the whole
 
--- the words, each multiplied by a constant of its own, and added up
-unfoldable pub digest_of : Numbers → ℕ
-digest_of k = sum_of ((place_word_of k, 0x9e37_79b9_7f4a_7c15) ∷ (k.metadata, 0xbf58_476d_1ce4_e5b9) ∷ (target_word_of k, 0x94d0_49bb_1331_11eb) ∷ (source_word_of k, 0xff51_afd7_ed55_8ccd) ∷ (internet_word_of k, 0xc4ce_b9fe_1a85_ec53) ∷ (port_word_of k, 0x87c3_7b91_1142_53d5) ∷ (octet_word_of k, 0x4cf5_ad43_2745_937f) ∷ (low_source_word_of k, 0xc2b2_ae3d_27d4_eb4f) ∷ (high_source_word_of k, 0x1656_67b1_9e37_79f9) ∷ (low_target_word_of k, 0x27d4_eb2f_1656_67c5) ∷ (high_target_word_of k, 0xd6e8_feb8_6659_fd93) ∷ [])
+unfoldable pub digest_of : Mixer → Numbers → ℕ
+digest_of secret k = number_in (fold mixed secret (words_of k))

@@ -1,8 +1,9 @@
 //! One number for all fields of a key.
-ghost use Rattle.std.specs.Prelude.{◌≡◌, ◌%◌, ◌/◌, ◌^◌};
-ghost use Rattle.of_headers.specs.Digest.{side_by_side, sum_of, place_word_of, target_word_of, source_word_of, internet_word_of, port_word_of, octet_word_of, low_source_word_of, high_source_word_of, low_target_word_of, high_target_word_of, digest_of};
+ghost use Rattle.std.specs.Prelude.{◌≡◌};
+ghost use Rattle.of_headers.specs.Digest.{side_by_side, pair_of, place_word_of, link_word_of, internet_word_of, octet_word_of, source_word_of, target_word_of, words_of, digest_of};
 
 use crate::key::FieldKey;
+use crate::mixer::Mixer;
 use crate::numbers::Numbers;
 
 // Numbers side by side in one: each place is worth `place` times the next one.
@@ -16,104 +17,80 @@ fn beside(place: u64, numbers: &[u64]) -> u64
     })
 }
 
-// A sum of products, none of which waits for another.
 #[inline]
-#[tactic(auto, unfolding(crate::specs::Digest::sum_of))]
-fn sum(products: &[(u64, u64)]) -> u64
-    ensures { result ≡ sum_of products.now }
+#[tactic(auto, unfolding(crate::specs::Digest::pair_of))]
+fn pair(high: u64, low: u64) -> u128
+    ensures { result ≡ pair_of high low }
 {
-    products.iter().fold(0, |sum: u64, product| {
-        sum.wrapping_add(product.0.wrapping_mul(product.1))
-    })
-}
-
-fn low(number: u128) -> u64
-    ensures { result ≡ number % 2 ^ 64 }
-{
-    (number % 0x1_0000_0000_0000_0000) as u64
-}
-
-fn high(number: u128) -> u64
-    ensures { result ≡ number / 2 ^ 64 }
-{
-    (number / 0x1_0000_0000_0000_0000) as u64
+    u128::from(high) * 0x1_0000_0000_0000_0000 + u128::from(low)
 }
 
 impl FieldKey {
-    /// One number that depends on all fields, for a hash: to hash them one after another takes several times as long.
+    /// Numbers that depend on all fields, for a hash: to hash the fields one after another takes several times as long.
     #[inline]
-    pub fn digest(&self) -> u64
-        ensures { result ≡ digest_of self.now.numbers }
+    #[tactic(auto, unfolding(crate::specs::Digest::words_of))]
+    pub fn words(&self) -> [u128; 6]
+        ensures { result ≡ words_of self.now.numbers }
     {
-        digest(&self.numbers)
+        [
+            place_word(&self.numbers),
+            link_word(&self.numbers),
+            internet_word(&self.numbers),
+            octet_word(&self.numbers),
+            source_word(&self.numbers),
+            target_word(&self.numbers),
+        ]
     }
-}
 
-// The key's words, each multiplied by an odd number whose bits look random. Fields of which a frame has one at most may share a word.
-#[inline]
-fn digest(key: &Numbers) -> u64
-    ensures { result ≡ digest_of key.now }
-{
-    sum(&[
-        (place_word(key), 0x9e37_79b9_7f4a_7c15),
-        (key.metadata, 0xbf58_476d_1ce4_e5b9),
-        (target_word(key), 0x94d0_49bb_1331_11eb),
-        (source_word(key), 0xff51_afd7_ed55_8ccd),
-        (internet_word(key), 0xc4ce_b9fe_1a85_ec53),
-        (port_word(key), 0x87c3_7b91_1142_53d5),
-        (octet_word(key), 0x4cf5_ad43_2745_937f),
-        (low_source_word(key), 0xc2b2_ae3d_27d4_eb4f),
-        (high_source_word(key), 0x1656_67b1_9e37_79f9),
-        (low_target_word(key), 0x27d4_eb2f_1656_67c5),
-        (high_target_word(key), 0xd6e8_feb8_6659_fd93),
-    ])
+    /// One number that depends on all fields, for a hash: who does not know the secret cannot pick keys that have the same one.
+    #[inline]
+    #[tactic(auto, unfolding(crate::specs::Digest::words_of, crate::specs::Digest::digest_of))]
+    pub fn digest(&self, secret: Mixer) -> u64
+        ensures { result ≡ digest_of secret self.now.numbers }
+    {
+        secret
+            .with(place_word(&self.numbers))
+            .with(link_word(&self.numbers))
+            .with(internet_word(&self.numbers))
+            .with(octet_word(&self.numbers))
+            .with(source_word(&self.numbers))
+            .with(target_word(&self.numbers))
+            .number()
+    }
 }
 
 #[inline]
 #[tactic(auto, unfolding(crate::specs::Digest::place_word_of))]
-fn place_word(key: &Numbers) -> u64
+fn place_word(key: &Numbers) -> u128
     ensures { result ≡ place_word_of key.now }
 {
-    beside(
+    let place = beside(
         0x1_0000_0000,
         &[u64::from(key.in_port), u64::from(key.present)],
-    )
+    );
+    pair(place, key.metadata)
 }
 
 #[inline]
-#[tactic(auto, unfolding(crate::specs::Digest::target_word_of))]
-fn target_word(key: &Numbers) -> u64
-    ensures { result ≡ target_word_of key.now }
+#[tactic(auto, unfolding(crate::specs::Digest::link_word_of))]
+fn link_word(key: &Numbers) -> u128
+    ensures { result ≡ link_word_of key.now }
 {
-    beside(0x1_0000, &[key.eth_dst, u64::from(key.eth_type)])
-}
-
-#[inline]
-#[tactic(auto, unfolding(crate::specs::Digest::source_word_of))]
-fn source_word(key: &Numbers) -> u64
-    ensures { result ≡ source_word_of key.now }
-{
-    beside(0x1_0000, &[key.eth_src, u64::from(key.vlan_vid)])
+    let target = beside(0x1_0000, &[key.eth_dst, u64::from(key.eth_type)]);
+    let source = beside(0x1_0000, &[key.eth_src, u64::from(key.vlan_vid)]);
+    pair(target, source)
 }
 
 #[inline]
 #[tactic(auto, unfolding(crate::specs::Digest::internet_word_of))]
-fn internet_word(key: &Numbers) -> u64
+fn internet_word(key: &Numbers) -> u128
     ensures { result ≡ internet_word_of key.now }
 {
-    beside(
+    let addresses = beside(
         0x1_0000_0000,
         &[u64::from(key.ipv4_src), u64::from(key.ipv4_dst)],
-    )
-    .wrapping_add(u64::from(key.ipv6_flabel))
-}
-
-#[inline]
-#[tactic(auto, unfolding(crate::specs::Digest::port_word_of))]
-fn port_word(key: &Numbers) -> u64
-    ensures { result ≡ port_word_of key.now }
-{
-    beside(
+    );
+    let ports = beside(
         0x1_0000,
         &[
             u64::from(key.tcp_src),
@@ -121,15 +98,16 @@ fn port_word(key: &Numbers) -> u64
             u64::from(key.udp_src),
             u64::from(key.udp_dst),
         ],
-    )
+    );
+    pair(addresses, ports)
 }
 
 #[inline]
 #[tactic(auto, unfolding(crate::specs::Digest::octet_word_of))]
-fn octet_word(key: &Numbers) -> u64
+fn octet_word(key: &Numbers) -> u128
     ensures { result ≡ octet_word_of key.now }
 {
-    beside(
+    let octets = beside(
         0x100,
         &[
             u64::from(key.icmpv4_type),
@@ -141,40 +119,29 @@ fn octet_word(key: &Numbers) -> u64
             u64::from(key.ip_dscp),
             u64::from(key.ip_ecn),
         ],
-    )
+    );
+    pair(octets, u64::from(key.ipv6_flabel))
 }
 
+// IPv6 or ARP: the sender.
 #[inline]
-#[tactic(auto, unfolding(crate::specs::Digest::low_source_word_of))]
-fn low_source_word(key: &Numbers) -> u64
-    ensures { result ≡ low_source_word_of key.now }
+#[tactic(auto, unfolding(crate::specs::Digest::source_word_of))]
+fn source_word(key: &Numbers) -> u128
+    ensures { result ≡ source_word_of key.now }
 {
-    low(key.ipv6_src).wrapping_add(beside(
+    let sender = beside(0x1_0000, &[key.arp_sha, u64::from(key.arp_op)]);
+    let addresses = beside(
         0x1_0000_0000,
         &[u64::from(key.arp_spa), u64::from(key.arp_tpa)],
-    ))
+    );
+    key.ipv6_src.wrapping_add(pair(sender, addresses))
 }
 
+// IPv6 or ARP: the target.
 #[inline]
-#[tactic(auto, unfolding(crate::specs::Digest::high_source_word_of))]
-fn high_source_word(key: &Numbers) -> u64
-    ensures { result ≡ high_source_word_of key.now }
+#[tactic(auto, unfolding(crate::specs::Digest::target_word_of))]
+fn target_word(key: &Numbers) -> u128
+    ensures { result ≡ target_word_of key.now }
 {
-    high(key.ipv6_src).wrapping_add(beside(0x1_0000, &[key.arp_sha, u64::from(key.arp_op)]))
-}
-
-#[inline]
-#[tactic(auto, unfolding(crate::specs::Digest::low_target_word_of))]
-fn low_target_word(key: &Numbers) -> u64
-    ensures { result ≡ low_target_word_of key.now }
-{
-    low(key.ipv6_dst).wrapping_add(key.arp_tha)
-}
-
-#[inline]
-#[tactic(auto, unfolding(crate::specs::Digest::high_target_word_of))]
-fn high_target_word(key: &Numbers) -> u64
-    ensures { result ≡ high_target_word_of key.now }
-{
-    high(key.ipv6_dst)
+    key.ipv6_dst.wrapping_add(u128::from(key.arp_tha))
 }

@@ -148,7 +148,7 @@ fn play_all<L: Lookup>(
 
 #[test]
 fn a_row_of_every_key(rt: HostRuntime) -> Result<(), Fail> {
-    let mut cache = Cached::<MaskGroups>::empty(rt.alloc())?;
+    let mut cache = Cached::<MaskGroups>::empty(rt.alloc(), 0)?;
     play_all(&rt, rt.alloc(), &mut cache, &Cell::new(0), rows::NO_ENTRY)
 }
 
@@ -156,17 +156,17 @@ fn a_row_of_every_key(rt: HostRuntime) -> Result<(), Fail> {
 fn a_row_of_an_entry(rt: HostRuntime) -> Result<(), Fail> {
     let asked = Cell::new(0);
     let inner = Counting {
-        inner: MaskGroups::empty(rt.alloc())?,
+        inner: MaskGroups::empty(rt.alloc(), 0)?,
         asked: Some(&asked),
     };
-    let mut cache = Cached::with_rows(rt.alloc(), inner, 1024)?;
+    let mut cache = Cached::with_rows(rt.alloc(), inner, 1024, 0)?;
     play_all(&rt, rt.alloc(), &mut cache, &asked, rows::ONE_ENTRY)
 }
 
 #[test]
 fn the_last_row_goes(rt: HostRuntime) -> Result<(), Fail> {
-    let inner = MaskGroups::empty(rt.alloc())?;
-    let mut cache = Cached::with_rows(rt.alloc(), inner, 2)?;
+    let inner = MaskGroups::empty(rt.alloc(), 0)?;
+    let mut cache = Cached::with_rows(rt.alloc(), inner, 2, 1)?;
     play_all(&rt, rt.alloc(), &mut cache, &Cell::new(0), rows::TWO_ROWS)
 }
 
@@ -199,13 +199,13 @@ fn full<L: Lookup>(rt: &impl Abort, alloc: Global, cache: &mut Cached<L>) -> Res
 
 #[test]
 fn as_many_rows_as_there_may_be(rt: HostRuntime) -> Result<(), Fail> {
-    let mut cache = Cached::<MaskGroups>::empty(rt.alloc())?;
+    let mut cache = Cached::<MaskGroups>::empty(rt.alloc(), 1)?;
     full(&rt, rt.alloc(), &mut cache)
 }
 
 /// Each allocation is refused in turn by tools/fail-alloc.
 #[test]
 fn winners_without_memory(rt: HostRuntime) -> Result<(), Fail> {
-    let mut cache = Cached::<MaskGroups>::empty(rt.alloc())?;
+    let mut cache = Cached::<MaskGroups>::empty(rt.alloc(), 1)?;
     play_all(&rt, rt.alloc(), &mut cache, &Cell::new(0), rows::AGAIN)
 }

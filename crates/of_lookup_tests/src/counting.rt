@@ -27,9 +27,9 @@ impl<L: Lookup> Lookup for Counting<'_, L> {
 
     ghost looked = { L.looked };
 
-    fn empty(alloc: Global) -> Result<Self, AllocError> {
+    fn empty(alloc: Global, seed: u64) -> Result<Self, AllocError> {
         Ok(Counting {
-            inner: L::empty(alloc)?,
+            inner: L::empty(alloc, seed)?,
             asked: None,
         })
     }

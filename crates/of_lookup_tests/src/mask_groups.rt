@@ -1,5 +1,6 @@
 use crate::steps::{Frame, Row, Step, key_of, names, play, same};
 use of_classifier::Lookup;
+use of_headers::{Mixer, read};
 use of_mask_groups::MaskGroups;
 use std::alloc::Global;
 use std::process::Abort;
@@ -49,14 +50,36 @@ fn play_on(
     Ok(())
 }
 
+/// Plays rows from an empty classifier on, with two seeds: the answers are the same.
+fn play_twice(rt: &impl Abort, alloc: Global, rows: &[Row]) -> Result<(), Fail> {
+    for seed in 0..2 {
+        let mut lookup = MaskGroups::empty(alloc, seed)?;
+        play_on(rt, alloc, &mut lookup, rows)?;
+    }
+    Ok(())
+}
+
 #[test]
 fn rows_of_find(rt: HostRuntime) -> Result<(), Fail> {
-    let mut lookup = MaskGroups::empty(rt.alloc())?;
-    play_on(&rt, rt.alloc(), &mut lookup, rows::FIND)
+    play_twice(&rt, rt.alloc(), rows::FIND)
 }
 
 #[test]
 fn ties_by_age(rt: HostRuntime) -> Result<(), Fail> {
-    let mut lookup = MaskGroups::empty(rt.alloc())?;
-    play_on(&rt, rt.alloc(), &mut lookup, rows::AGES)
+    play_twice(&rt, rt.alloc(), rows::AGES)
+}
+
+fn digest(in_port: u32, metadata: u64, seed: u64) -> Result<u64, Fail> {
+    let bytes = [2, 0, 0, 0, 0, 2, 2, 0, 0, 0, 0, 1, 0x88, 0xb5];
+    let key = read(&bytes, in_port, metadata).ok().ok_or("a frame")?.key();
+    Ok(key.digest(Mixer::new(seed)))
+}
+
+/// The digest of a key depends on the seed, and on two words that differ by 2^63: the sum of their products with odd numbers does not.
+#[test]
+fn digests_differ(rt: HostRuntime) -> Result<(), Fail> {
+    let one = digest(1, 0, 0)?;
+    assert_ne!(rt; one, digest(1, 0, 1)?);
+    assert_ne!(rt; one, digest(0x8000_0001, 0x8000_0000_0000_0000, 0)?);
+    Ok(())
 }

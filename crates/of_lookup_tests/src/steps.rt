@@ -167,7 +167,7 @@ pub(crate) fn play_all<L: Lookup>(
     alloc: Global,
     rows: &[Row],
 ) -> Result<(), Fail> {
-    let mut lookup = L::empty(alloc)?;
+    let mut lookup = L::empty(alloc, 0)?;
     play_on(rt, alloc, &mut lookup, rows)
 }
 

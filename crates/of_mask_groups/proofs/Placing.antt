@@ -59,11 +59,11 @@ best_stays entries g h d p n a m low =
 group_at : (entries : Slab Entry) (gs : List Group) (i : ℕ) (g : Group) → i < length gs → g ≡ get_or gs i g → AreGrouped entries gs → IsGroup entries g
 group_at entries gs i g lt at a = a.each g (subst (λ z. Contains gs z) (sym at) (at_place gs i g lt))
 
-pub more_at : (old new : Slab Entry) (gs : List Group) (i : ℕ) (g h : Group) (key : FieldKey) (n : ℕ) (e : Entry) → i < length gs → g ≡ get_or gs i g → AreGrouped old gs → get old n ≡ None → Updates old new n (Some e) → IsMatch e.fields → LooksLike g e → AsksFor key e → HasMore g h (key_digest key) e.priority n → e.priority ≤ g.best → AreGrouped new (set gs i h)
+pub more_at : (old new : Slab Entry) (gs : List Group) (i : ℕ) (g h : Group) (key : FieldKey) (n : ℕ) (e : Entry) → i < length gs → g ≡ get_or gs i g → AreGrouped old gs → get old n ≡ None → Updates old new n (Some e) → IsMatch e.fields → LooksLike g e → AsksFor key e → HasMore g h (key_digest g.secret key) e.priority n → e.priority ≤ g.best → AreGrouped new (set gs i h)
 more_at old new gs i g h key n e lt at a vacant u fine looks asks m low =
-    let same = best_stays old g h (key_digest key) e.priority n (group_at old gs i g lt at a) m low in
+    let same = best_stays old g h (key_digest g.secret key) e.priority n (group_at old gs i g lt at a) m low in
     let split = split_more old new (rest gs i) g h key n e vacant u fine looks asks m (split_removed old gs i g lt at a) in
-    subst (AreGrouped new) (sym (set_is gs i h lt)) (put_in new (rest gs i) h i split (its_place gs i g h a.falling lt at same) (some_more g h (key_digest key) e.priority n m))
+    subst (AreGrouped new) (sym (set_is gs i h lt)) (put_in new (rest gs i) h i split (its_place gs i g h a.falling lt at same) (some_more g h (key_digest g.secret key) e.priority n m))
 
 pub same_at : (entries : Slab Entry) (gs : List Group) (i : ℕ) (g h : Group) → i < length gs → g ≡ get_or gs i g → IsSame g h → AreGrouped entries gs → AreGrouped entries (set gs i h)
 same_at entries gs i g h lt at s a =

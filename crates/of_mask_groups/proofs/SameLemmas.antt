@@ -134,16 +134,16 @@ pub record Asked (g : Group) (mask : FieldMask) (key : FieldKey) (fields : List 
   pub asks : (f : Field) → value key f ≡ value_of fields f
 
 -- such an entry is in the cell
-in_cell : (entries : Slab Entry) (groups : List Group) (g : Group) (mask : FieldMask) (key : FieldKey) (fields : List MatchField) (p n : ℕ) (e : Entry) → AreGrouped entries groups → Contains groups g → Asked g mask key fields → get entries n ≡ Some e → is_same_entry fields p e ≡ true → Contains (cell_at g.cells (key_digest key)) n
+in_cell : (entries : Slab Entry) (groups : List Group) (g : Group) (mask : FieldMask) (key : FieldKey) (fields : List MatchField) (p n : ℕ) (e : Entry) → AreGrouped entries groups → Contains groups g → Asked g mask key fields → get entries n ≡ Some e → is_same_entry fields p e ≡ true → Contains (cell_at g.cells (key_digest g.secret key)) n
 in_cell entries groups g mask key fields p n e a c q stands same =
     let s = fields_same fields p e same in
     let looks : LooksLike g e = record { bits = λ f. q.mask_is.bits f ∙ q.masked f ∙ ap (λ (m : List MatchField). looked_at m f) (sym s) } in
     let asks : AsksFor key e = record { values = λ f. q.asks f ∙ ap (λ (m : List MatchField). value_of m f) (sym s) } in
     let x = a.complete n e stands in
     let one : x.group ≡ g = one_group groups x.group g e a.falling x.there c x.within.looks looks in
-    subst (λ (h : Group). Contains (cell_at h.cells (key_digest key)) n) one (x.within.cell key asks)
+    subst (λ (h : Group). Contains (cell_at h.cells (key_digest h.secret key)) n) one (x.within.cell key asks)
 
-pub same_answer : (entries : Slab Entry) (groups : List Group) (g : Group) (mask : FieldMask) (key : FieldKey) (fields : List MatchField) (p next : ℕ) (r : Option ℕ) → AreGrouped entries groups → AreAged entries next → Contains groups g → Asked g mask key fields → IsOldestSame entries (cell_at g.cells (key_digest key)) fields p r → r ≡ number_of (same_of (by_age next entries.slots) fields p)
+pub same_answer : (entries : Slab Entry) (groups : List Group) (g : Group) (mask : FieldMask) (key : FieldKey) (fields : List MatchField) (p next : ℕ) (r : Option ℕ) → AreGrouped entries groups → AreAged entries next → Contains groups g → Asked g mask key fields → IsOldestSame entries (cell_at g.cells (key_digest g.secret key)) fields p r → r ≡ number_of (same_of (by_age next entries.slots) fields p)
 same_answer entries groups g mask key fields p next None a aged c q h =
     ap number_of (sym (find_none (is_same_row fields p) (by_age next entries.slots) (λ s m t. (
     let x = sound_row entries next s m in

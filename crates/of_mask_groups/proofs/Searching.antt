@@ -14,7 +14,7 @@ use Rattle.of_mask_groups.specs.declared.entry.Entry.{Entry}
 use Rattle.of_mask_groups.specs.declared.found.Found.{Found}
 use Rattle.of_mask_groups.specs.declared.group.Group.{Group}
 use Rattle.of_mask_groups.specs.Cells.{key_digest, cell_at}
-use Rattle.of_mask_groups.specs.Covering.{found_of, IsFound, IsHit, IsBestOf, is_above_best}
+use Rattle.of_mask_groups.specs.Covering.{found_of, IsFound, IsBestOf, is_above_best}
 use Rattle.of_mask_groups.specs.Grouping.{LooksLike, AsksFor, IsInCell, AreGrouped}
 use Rattle.of_mask_groups.specs.Probed.{AreProbed}
 use Rattle.of_mask_groups.proofs.Members.{not_in_nil, in_take_more, at_place}
@@ -37,18 +37,18 @@ not_above (Some x) p f t e = let s : x.priority ≡ f.priority = (let y : x ≡ 
 
 pub one_more_group : (entries : Slab Entry) (groups : List Group) (key : Field → Option ℕ) (i : ℕ) (g : Group) (best new : Option Found) (probes next : ℕ) (k : FieldKey) →
     AreGrouped entries groups → i < length groups → g ≡ get_or groups i g → is_above_best best g.best ≡ false →
-    ((f : Field) → value k f ≡ seen (mask_at g.mask f) (key f)) → IsBestOf entries key best (cell_at g.cells (key_digest k)) new → next ≡ probes + 1 →
+    ((f : Field) → value k f ≡ seen (mask_at g.mask f) (key f)) → IsBestOf entries key best (cell_at g.cells (key_digest g.secret k)) new → next ≡ probes + 1 →
     AreProbed entries key (take i groups) best probes → AreProbed entries key (take (i + 1) groups) new next
 one_more_group entries groups key i g best new probes next k fine lt at stays masked is counted old =
     let in_groups : Contains groups g = subst (λ z. Contains groups z) (sym at) (at_place groups i g lt) in
     let group = (fine.each g in_groups).index in
-    let priority_of : (f : Found) (c : IsInCell entries g (key_digest k) f.number) → IsFound entries f → f.priority ≤ g.best
+    let priority_of : (f : Found) (c : IsInCell entries g (key_digest g.secret k) f.number) → IsFound entries f → f.priority ≤ g.best
     = λ f c h. (let s : h.entry ≡ c.entry = same_entry (get entries f.number) h.entry c.entry h.stands c.stands in
     let p : f.priority ≡ h.entry.priority = ap (λ (z : Found). z.priority) h.is in
     let q : h.entry.priority ≡ c.entry.priority = ap (λ (z : Entry). z.priority) s in
     omega (arith, group.settled.above c.entry.priority f.number c.ranked)) in
     let within : (f : Found) → new ≡ Some f → f.priority ≤ g.best
-    = λ f e. ⊎_elim (λ o. not_above best g.best f stays o) (λ r. priority_of f (group.cells (key_digest k) f.number r.0) r.1.found) (is.sound f e) in
+    = λ f e. ⊎_elim (λ o. not_above best g.best f stays o) (λ r. priority_of f (group.cells (key_digest g.secret k) f.number r.0) r.1.found) (is.sound f e) in
     record {
       sound = λ f e. ⊎_elim (λ o. old.sound f o) (λ r. r.1) (is.sound f e);
       covers = λ n e h stands m c l. ⊎_elim
@@ -57,7 +57,7 @@ one_more_group entries groups key i g best new probes next k fine lt at stays ma
           let lg : LooksLike g e = subst (λ z. LooksLike z e) (sym b ∙ sym at) l in
           let x = fine.complete n e stands in
           let s : x.group ≡ g = one_group groups x.group g e fine.falling x.there in_groups x.within.looks lg in
-          is.covers n e (subst (λ (z : Group). Contains (cell_at z.cells (key_digest k)) n) s (x.within.cell k (asks_for_seen entries key g k n e groups fine masked stands lg m))) stands m)
+          is.covers n e (subst (λ (z : Group). Contains (cell_at z.cells (key_digest z.secret k)) n) s (x.within.cell k (asks_for_seen entries key g k n e groups fine masked stands lg m))) stands m)
           (in_take_more h groups i g lt c);
       above = λ f h e c. ⊎_elim
           (λ a. let w = within f e in let b : g.best ≤ h.best = subst (λ (z : Group). z.best ≤ h.best) (sym at) (before_at groups i g h fine.falling lt a) in omega arith)

@@ -1,13 +1,14 @@
 -- The numbers of the entries whose keys have one digest.
-use Rattle.std.specs.Prelude.{◌≡◌, ℕ, Bool, false, not, nat_eq, ◌==◌, ◌++◌, Option, Some, None, List, [], ◌∷◌, filter, IsSome}
+use Rattle.std.specs.Prelude.{◌≡◌, ℕ, false, not, nat_eq, ◌==◌, ◌++◌, Option, Some, None, List, [], ◌∷◌, filter, IsSome}
 use Rattle.std.specs.HashMap.{HashMap, get_by}
 use Rattle.smallvec.specs.SmallVec.{SmallVec, HasRoomFor}
 use Rattle.of_headers.specs.declared.key.FieldKey.{FieldKey}
+use Rattle.of_headers.specs.declared.mixer.Mixer.{Mixer}
 use Rattle.of_headers.specs.Digest.{digest_of}
 
--- the digest of a key
-abbrev pub key_digest : FieldKey → ℕ
-key_digest k = digest_of k.numbers
+-- the digest of a key under a secret
+abbrev pub key_digest : Mixer → FieldKey → ℕ
+key_digest secret k = digest_of secret k.numbers
 
 abbrev pub items_of : Option (SmallVec ℕ) → List ℕ
 items_of None = []

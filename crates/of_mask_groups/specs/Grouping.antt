@@ -39,7 +39,7 @@ pub record IsInCell (entries : Slab Entry) (g : Group) (d n : ℕ) : Type 0 wher
   pub entry : Entry
   pub stands : get entries n ≡ Some entry
   pub looks : LooksLike g entry
-  pub asks : (k : FieldKey) → AsksFor k entry → key_digest k ≡ d
+  pub asks : (k : FieldKey) → AsksFor k entry → key_digest g.secret k ≡ d
   pub ranked : is_ranked g entry.priority n ≡ true
 
 -- the group has entries of its mask alone
@@ -69,7 +69,7 @@ AreFalling (g ∷ gs) = ((h : Group) → Contains gs h → ComesBefore g h) × A
 pub record IsIn (g : Group) (n : ℕ) (e : Entry) : Type 0 where
   pub looks : LooksLike g e
   pub ranked : is_ranked g e.priority n ≡ true
-  pub cell : (k : FieldKey) → AsksFor k e → Contains (cell_at g.cells (key_digest k)) n
+  pub cell : (k : FieldKey) → AsksFor k e → Contains (cell_at g.cells (key_digest g.secret k)) n
 
 -- a group has it
 pub record IsIndexed (groups : List Group) (n : ℕ) (e : Entry) : Type 0 where
@@ -109,6 +109,7 @@ pub record IsPlaceFor (gs : List Group) (p k : ℕ) : Type 0 where
 -- the group has one more number, of this priority and under this digest
 pub record HasMore (g h : Group) (d p n : ℕ) : Type 0 where
   pub mask : h.mask ≡ g.mask
+  pub secret : h.secret ≡ g.secret
   pub settled : IsHighest h.ranks h.best
   pub ranks : (q m : ℕ) → is_ranked h q m ≡ true → (is_ranked g q m ≡ true) ⊎ ((q ≡ p) × (m ≡ n))
   pub kept : (q m : ℕ) → is_ranked g q m ≡ true → is_ranked h q m ≡ true
@@ -119,6 +120,7 @@ pub record HasMore (g h : Group) (d p n : ℕ) : Type 0 where
 -- the group lacks that number
 pub record HasLess (g h : Group) (d p n : ℕ) : Type 0 where
   pub mask : h.mask ≡ g.mask
+  pub secret : h.secret ≡ g.secret
   pub settled : IsHighest h.ranks h.best
   pub ranks : (q m : ℕ) → is_ranked h q m ≡ true → (is_ranked g q m ≡ true) × (((q ≡ p) × (m ≡ n)) → ⊥)
   pub kept : (q m : ℕ) → (((q ≡ p) × (m ≡ n)) → ⊥) → is_ranked g q m ≡ true → is_ranked h q m ≡ true
@@ -128,6 +130,7 @@ pub record HasLess (g h : Group) (d p n : ℕ) : Type 0 where
 -- the group is the same
 pub record IsSame (g h : Group) : Type 0 where
   pub mask : h.mask ≡ g.mask
+  pub secret : h.secret ≡ g.secret
   pub best : h.best ≡ g.best
   pub ranks : h.ranks.keys ≡ g.ranks.keys
   pub cells : (d : ℕ) → cell_at h.cells d ≡ cell_at g.cells d

@@ -22,7 +22,7 @@ use crate::rank::Rank;
 use crate::renumbering::{next_age, set_age};
 use crate::same::same_in;
 use of_classifier::Lookup;
-use of_headers::FieldKey;
+use of_headers::{FieldKey, Mixer};
 use of_oxm::{FieldMask, Match, key_of, mask_of};
 use slab::Slab;
 use std::alloc::{AllocError, Global};
@@ -36,6 +36,8 @@ pub struct MaskGroups {
     /// The age that was assigned last.
     last: u64,
     alloc: Global,
+    /// On which the digests of keys depend.
+    secret: Mixer,
 }
 
 impl Model for MaskGroups {
@@ -68,12 +70,13 @@ impl Lookup for MaskGroups {
 
     ghost looked = { λ rows key. looked_by (reached (winner_of rows key) rows) };
 
-    fn empty(alloc: Global) -> Result<Self, AllocError> {
+    fn empty(alloc: Global, seed: u64) -> Result<Self, AllocError> {
         Ok(MaskGroups {
             entries: Slab::new(alloc),
             groups: Vec::new(alloc),
             last: 0,
             alloc,
+            secret: Mixer::new(seed),
         })
     }
 
@@ -105,11 +108,24 @@ impl Lookup for MaskGroups {
             age,
             fields,
         };
-        add_entry(&mut self.entries, &mut self.groups, self.alloc, entry)
+        let secret = self.secret;
+        add_entry(
+            &mut self.entries,
+            &mut self.groups,
+            self.alloc,
+            entry,
+            secret,
+        )
     }
 
     fn take(&mut self, number: usize) {
-        take_entry(&mut self.entries, &mut self.groups, self.alloc, number);
+        take_entry(
+            &mut self.entries,
+            &mut self.groups,
+            self.alloc,
+            number,
+            self.secret,
+        );
     }
 
     fn same(&self, fields: &Match, priority: u16) -> Option<usize> {
@@ -133,6 +149,7 @@ fn add_entry(
     groups: &mut Vec<Group>,
     alloc: Global,
     entry: Entry,
+    secret: Mixer,
 ) -> Result<usize, AllocError>
     requires grouped { AreGrouped entries.old groups.old.items }
     requires held { vec_len groups.old ≤ vec_capacity groups.old }
@@ -144,7 +161,7 @@ fn add_entry(
 {
     entries.reserve(1)?;
     groups.reserve(1)?;
-    insert_entry(entries, groups, alloc, entry)
+    insert_entry(entries, groups, alloc, entry, secret)
 }
 
 // The same where there is capacity in both lists.
@@ -153,6 +170,7 @@ fn insert_entry(
     groups: &mut Vec<Group>,
     alloc: Global,
     entry: Entry,
+    secret: Mixer,
 ) -> Result<usize, AllocError>
     requires grouped { AreGrouped entries.old groups.old.items }
     requires room { HasRoomFor entries.old 1 }
@@ -169,7 +187,7 @@ fn insert_entry(
         Some(place) if entry.priority <= groups[place].best => {
             insert_in_place(entries, groups, alloc, entry, place)
         }
-        _ => insert_apart(entries, groups, alloc, entry, &mask),
+        _ => insert_apart(entries, groups, alloc, entry, &mask, secret),
     }
 }
 
@@ -197,7 +215,7 @@ fn insert_in_place(
         priority: entry.priority,
         number,
     };
-    groups[place].insert(alloc, key_of(&entry.fields).digest(), rank)?;
+    groups[place].insert(alloc, &key_of(&entry.fields), rank)?;
     entries.insert_reserved(entry);
     Ok(number)
 }
@@ -209,6 +227,7 @@ fn insert_apart(
     alloc: Global,
     entry: Entry,
     mask: &FieldMask,
+    secret: Mixer,
 ) -> Result<usize, AllocError>
     requires grouped { AreGrouped entries.old groups.old.items }
     requires room { HasRoomFor entries.old 1 }
@@ -221,14 +240,14 @@ fn insert_apart(
     ensures grouped { AreGrouped entries.new groups.new.items }
     ensures held { vec_len groups.new ≤ vec_capacity groups.new }
 {
-    let digest = key_of(&entry.fields).digest();
+    let key = key_of(&entry.fields);
     let number = entries.vacant_key();
     let rank = Rank {
         priority: entry.priority,
         number,
     };
-    let mut group = take_group(groups, alloc, mask);
-    match group.insert(alloc, digest, rank) {
+    let mut group = take_group(groups, alloc, mask, secret);
+    match group.insert(alloc, &key, rank) {
         Ok(()) => {
             entries.insert_reserved(entry);
             put_back(groups, group);
@@ -244,7 +263,13 @@ fn insert_apart(
 }
 
 // Removes the entry of a number, if there is one.
-fn take_entry(entries: &mut Slab<Entry>, groups: &mut Vec<Group>, alloc: Global, number: usize)
+fn take_entry(
+    entries: &mut Slab<Entry>,
+    groups: &mut Vec<Group>,
+    alloc: Global,
+    number: usize,
+    secret: Mixer,
+)
     requires grouped { AreGrouped entries.old groups.old.items }
     requires held { vec_len groups.old ≤ vec_capacity groups.old }
     ensures updates { Updates entries.old entries.new number None }
@@ -252,13 +277,13 @@ fn take_entry(entries: &mut Slab<Entry>, groups: &mut Vec<Group>, alloc: Global,
     ensures held { vec_len groups.new ≤ vec_capacity groups.new }
 {
     if let Some(entry) = entries.try_remove(number) {
-        let digest = key_of(&entry.fields).digest();
+        let key = key_of(&entry.fields);
         let rank = Rank {
             priority: entry.priority,
             number,
         };
-        let mut group = take_group(groups, alloc, &mask_of(&entry.fields));
-        group.remove(digest, rank);
+        let mut group = take_group(groups, alloc, &mask_of(&entry.fields), secret);
+        group.remove(&key, rank);
         if !group.is_empty() {
             put_back(groups, group);
         }

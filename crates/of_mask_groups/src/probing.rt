@@ -32,7 +32,7 @@ pub(crate) fn probe_groups(
         if is_above(best, group.best) {
             return (best, probes);
         }
-        let numbers = group.probe(group.mask.masked(key).digest(), &mut probes);
+        let numbers = group.probe(&group.mask.masked(key), &mut probes);
         best = best_among(entries, numbers, key, best);
     }
     (best, probes)

@@ -27,7 +27,7 @@ pub(crate) fn same_in(
     match place_of(groups, &mask) {
         Some(place) => {
             let mut probes = 0;
-            let numbers = groups[place].probe(key_of(fields).digest(), &mut probes);
+            let numbers = groups[place].probe(&key_of(fields), &mut probes);
             oldest_same(entries, numbers, fields, priority)
         }
         None => None,

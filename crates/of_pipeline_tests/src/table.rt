@@ -382,7 +382,7 @@ fn play_on<L: Lookup>(
 }
 
 fn play<L: Lookup>(rt: &impl Abort, alloc: Global, steps: &[Step]) -> Result<(), Fail> {
-    let mut tables = FlowTables::<L>::new(alloc)?;
+    let mut tables = FlowTables::<L>::new(alloc, 0)?;
     tables.known();
     play_on(rt, alloc, &mut tables, steps)
 }

@@ -59,9 +59,17 @@ impl<L: Lookup> Switch<L> {
     pub fn new(alloc: Global, dpid: u64) -> Result<Self, AllocError>
         ensures { IfOk result (λ s. s ≡ start dpid) }
     {
+        Switch::with_seed(alloc, dpid, 0)
+    }
+
+    /// The same. Nothing that it does depends on the seed, but who does not know it cannot pick flows and frames whose hashes are the
+    /// same, which would make lookups late.
+    pub fn with_seed(alloc: Global, dpid: u64, seed: u64) -> Result<Self, AllocError>
+        ensures { IfOk result (λ s. s ≡ start dpid) }
+    {
         Ok(Switch {
             session: Session::new(alloc),
-            core: Core::new(alloc, dpid)?,
+            core: Core::new(alloc, dpid, seed)?,
             alloc,
         })
     }

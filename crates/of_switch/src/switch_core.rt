@@ -101,6 +101,8 @@ pub struct Core<L: Lookup> {
     control: Control,
     datapath: Datapath<L>,
     alloc: Global,
+    /// That of its flow tables.
+    seed: u64,
 }
 
 impl<L: Lookup> Model for Core<L> {
@@ -116,14 +118,15 @@ impl<L: Lookup> Model for Core<L> {
 }
 
 impl<L: Lookup> Core<L> {
-    pub fn new(alloc: Global, dpid: u64) -> Result<Self, AllocError>
+    pub fn new(alloc: Global, dpid: u64, seed: u64) -> Result<Self, AllocError>
         ensures { IfOk result (λ e. e ≡ new_core dpid) }
     {
         Ok(Core {
             dpid,
             control: Control::new(),
-            datapath: Datapath::new(alloc)?,
+            datapath: Datapath::new(alloc, seed)?,
             alloc,
+            seed,
         })
     }
 
@@ -578,7 +581,7 @@ impl<L: Lookup> Core<L> {
     {
         config.known();
         let now = self.datapath.tables.latest();
-        let tables = load_tables(self.alloc, now, config)?;
+        let tables = load_tables(self.alloc, now, config, self.seed)?;
         self.datapath.groups = config.to_groups(now)?;
         self.datapath.tables = tables;
         Ok(())

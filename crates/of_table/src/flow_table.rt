@@ -41,6 +41,8 @@ use std::marker::Model;
 #[derive(Drop)]
 pub struct FlowTable<L: Lookup> {
     lookup: L,
+    /// That of the classifier, for copies.
+    seed: u64,
     /// Its entries, after some that were replaced.
     entries: Vec<Entry>,
     replaced: usize,
@@ -66,12 +68,13 @@ impl<L: Lookup> Model for FlowTable<L> {
 }
 
 impl<L: Lookup> FlowTable<L> {
-    /// Without entries, and with counters of 0.
-    pub fn new(alloc: Global) -> Result<Self, AllocError>
+    /// Without entries, and with counters of 0. No answer depends on the seed ([`Lookup::empty`]).
+    pub fn new(alloc: Global, seed: u64) -> Result<Self, AllocError>
         ensures { IfOk result (λ t. t ≡ no_entries) }
     {
         Ok(FlowTable {
-            lookup: L::empty(alloc)?,
+            lookup: L::empty(alloc, seed)?,
+            seed,
             entries: Vec::new(alloc),
             replaced: 0,
             places: Vec::new(alloc),
@@ -88,12 +91,13 @@ impl<L: Lookup> FlowTable<L> {
         ensures { IfOk result (λ copy. table_of copy ≡ table_of self.now) }
     {
         let alloc = *self.entries.allocator();
-        let mut lookup = L::empty(alloc)?;
+        let mut lookup = L::empty(alloc, self.seed)?;
         let entries = copy_entries(alloc, self.entries(), &mut lookup)?;
         let mut places = Vec::new(alloc);
         note_places(&mut places, &entries, 0);
         Ok(FlowTable {
             lookup,
+            seed: self.seed,
             entries,
             replaced: 0,
             places,

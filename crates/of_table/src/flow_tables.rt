@@ -52,12 +52,12 @@ impl<L: Lookup> Model for FlowTables<L> {
 }
 
 impl<L: Lookup> FlowTables<L> {
-    /// Without entries, with counters of 0, at the moment 0.
-    pub fn new(alloc: Global) -> Result<Self, AllocError>
+    /// Without entries, with counters of 0, at the moment 0. No answer depends on the seed ([`Lookup::empty`]).
+    pub fn new(alloc: Global, seed: u64) -> Result<Self, AllocError>
         ensures { IfOk result (λ t. t ≡ no_tables) }
     {
         Ok(FlowTables {
-            tables: empty_tables(alloc)?,
+            tables: empty_tables(alloc, seed)?,
             latest: 0,
         })
     }
@@ -289,12 +289,12 @@ impl<L: Lookup> FlowTables<L> {
     }
 }
 
-fn empty_tables<L: Lookup>(alloc: Global) -> Result<Vec<FlowTable<L>>, AllocError>
+fn empty_tables<L: Lookup>(alloc: Global, seed: u64) -> Result<Vec<FlowTable<L>>, AllocError>
     ensures { IfOk result (λ v. v.items ≡ no_tables.tables) }
 {
     let mut tables = Vec::new(alloc);
     while tables.len() < TABLES as usize {
-        tables.push(FlowTable::new(alloc)?)?;
+        tables.push(FlowTable::new(alloc, seed)?)?;
     }
     Ok(tables)
 }

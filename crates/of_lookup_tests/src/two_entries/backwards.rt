@@ -40,7 +40,7 @@ impl Lookup for Backwards {
 
     ghost looked = { λ rows key. looked_by (reverse rows) };
 
-    fn empty(alloc: Global) -> Result<Self, AllocError> {
+    fn empty(alloc: Global, _seed: u64) -> Result<Self, AllocError> {
         Ok(Backwards {
             rows: Vec::new(alloc),
             numbers: Slab::new(alloc),

@@ -1,4 +1,4 @@
-use Rattle.std.proofs.Common.{◌≡◌, ℕ, true, false, Some, sym, ◌∙◌, subst}
+use Rattle.std.proofs.Common.{◌≡◌, true, false, Some, sym, ◌∙◌, subst}
 use Rattle.std.specs.Global.{Vec}
 use Rattle.slab.specs.Slab.{Updates}
 use Rattle.of_mask_groups.specs.declared.group.Group.{Group}
@@ -26,12 +26,12 @@ returns-in-Ok-clause-grouped c =
     let h = c.insert.new.self in
     let same = c.insert_reserved.ensures.key ∙ sym c.vacant_key-number.ensures.value in
     let u : Updates old new n (Some e) = subst (λ k. Updates old new k (Some e)) same c.insert_reserved.ensures.updates in
-    let more = subst (λ (d : ℕ). HasMore g h d e.priority n) c.digest-digest.ensures c.in-Ok.ensures.ok in
+    let more : HasMore g h (key_digest g.secret c.key_of-key.result) e.priority n = c.in-Ok.ensures.ok in
     c.put_back.ensures.grouped new
-    (split_more old new c.take_group-group.new.groups.items g h c.key_of.result n e c.vacant_key-number.ensures.vacant u c.requires.normal
-    (looks_by g c.args.mask.now e c.take_group-group.ensures.mask c.requires.mask) (asks_by c.key_of.result e c.key_of.ensures)
+    (split_more old new c.take_group-group.new.groups.items g h c.key_of-key.result n e c.vacant_key-number.ensures.vacant u c.requires.normal
+    (looks_by g c.args.mask.now e c.take_group-group.ensures.mask c.requires.mask) (asks_by c.key_of-key.result e c.key_of-key.ensures)
     more (c.take_group-group.ensures.split old c.requires.grouped))
-    (some_more g h (key_digest c.key_of.result) e.priority n more)
+    (some_more g h (key_digest g.secret c.key_of-key.result) e.priority n more)
 
 pub returns-after-not-is_empty-clause-grouped : goal.returns-after-not-is_empty-clause-grouped
 returns-after-not-is_empty-clause-grouped c =

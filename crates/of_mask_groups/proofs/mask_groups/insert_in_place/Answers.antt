@@ -1,6 +1,7 @@
-use Rattle.std.proofs.Common.{ℕ, Some, sym, ◌∙◌, subst}
+use Rattle.std.proofs.Common.{Some, sym, ◌∙◌, subst}
 use Rattle.slab.specs.Slab.{Updates}
 use Rattle.of_mask_groups.specs.declared.group.Group.{Group}
+use Rattle.of_mask_groups.specs.Cells.{key_digest}
 use Rattle.of_mask_groups.specs.Grouping.{HasMore, IsSame}
 use Rattle.of_mask_groups.proofs.Adding.{asks_by}
 use Rattle.of_mask_groups.proofs.Placing.{more_at, same_at}
@@ -18,7 +19,7 @@ returns-clause-grouped c =
     let g = c.index-groups-place.result in
     let at = c.index-groups-place.is in
     let same = c.insert_reserved.ensures.key ∙ sym c.vacant_key-number.ensures.value in
-    let more = subst (λ (d : ℕ). HasMore g c.insert.new.self d e.priority n) c.digest.ensures (subst (λ (z : Group). HasMore z c.insert.new.self c.digest.result e.priority n) (sym at) c.in_ok-insert.ensures.ok) in
+    let more = subst (λ (z : Group). HasMore z c.insert.new.self (key_digest z.secret c.key_of.result) e.priority n) (sym at) c.in_ok-insert.ensures.ok in
     let u : Updates old new n (Some e) = subst (λ k. Updates old new k (Some e)) same c.insert_reserved.ensures.updates in
     more_at old new c.args.groups.now c.args.place g c.insert.new.self c.key_of.result n e c.requires.within at c.requires.grouped c.vacant_key-number.ensures.vacant u c.requires.normal
     (c.requires.looks g (sym at)) (asks_by c.key_of.result e c.key_of.ensures) more (c.requires.low g (sym at))

@@ -1,5 +1,4 @@
-use Rattle.std.proofs.Common.{◌≡◌, ℕ, true, false, sym, ◌∙◌, subst}
-use Rattle.of_mask_groups.specs.Grouping.{HasLess}
+use Rattle.std.proofs.Common.{◌≡◌, true, false, sym, ◌∙◌}
 use Rattle.of_mask_groups.proofs.Splitting.{grouped_left}
 use Rattle.of_mask_groups.proofs.Turning.{split_less}
 use Rattle.of_mask_groups.proofs.Adding.{looks_by, asks_by}
@@ -16,10 +15,9 @@ returns-then-not-is_empty-clause-grouped c =
     let g = c.take_group-group.result in
     let h = c.remove.new.self in
     let a = c.take_group-group.ensures.split old c.requires.grouped in
-    let less = subst (λ (d : ℕ). HasLess g h d e.priority c.args.number) c.digest-digest.ensures c.remove.ensures in
     c.put_back.ensures.grouped new
-    (split_less old new c.take_group-group.new.groups.items g h c.key_of.result c.args.number e (sym c.in-Some.ensures.value) c.try_remove.ensures.updates
-    (looks_by g c.mask_of.result e c.take_group-group.ensures.mask c.mask_of.ensures) (asks_by c.key_of.result e c.key_of.ensures) less a)
+    (split_less old new c.take_group-group.new.groups.items g h c.key_of-key.result c.args.number e (sym c.in-Some.ensures.value) c.try_remove.ensures.updates
+    (looks_by g c.mask_of.result e c.take_group-group.ensures.mask c.mask_of.ensures) (asks_by c.key_of-key.result e c.key_of-key.ensures) c.remove.ensures a)
     (λ s. absurd (let f : true ≡ false = sym (c.is_empty.ensures.no s) ∙ c.if-not-is_empty.true in cc))
 
 pub returns-in-Some-clause-grouped : goal.returns-in-Some-clause-grouped
@@ -30,8 +28,7 @@ returns-in-Some-clause-grouped c =
     let g = c.take_group-group.result in
     let h = c.remove.new.self in
     let a = c.take_group-group.ensures.split old c.requires.grouped in
-    let less = subst (λ (d : ℕ). HasLess g h d e.priority c.args.number) c.digest-digest.ensures c.remove.ensures in
     grouped_left new c.take_group-group.new.groups.items h
-    (split_less old new c.take_group-group.new.groups.items g h c.key_of.result c.args.number e (sym c.in-Some.ensures.value) c.try_remove.ensures.updates
-    (looks_by g c.mask_of.result e c.take_group-group.ensures.mask c.mask_of.ensures) (asks_by c.key_of.result e c.key_of.ensures) less a)
+    (split_less old new c.take_group-group.new.groups.items g h c.key_of-key.result c.args.number e (sym c.in-Some.ensures.value) c.try_remove.ensures.updates
+    (looks_by g c.mask_of.result e c.take_group-group.ensures.mask c.mask_of.ensures) (asks_by c.key_of-key.result e c.key_of-key.ensures) c.remove.ensures a)
     (c.is_empty.ensures.yes c.if-not-is_empty.false)

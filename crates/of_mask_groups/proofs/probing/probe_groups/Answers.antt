@@ -1,7 +1,6 @@
-use Rattle.std.proofs.Common.{ℕ, List, take, take_all, sym, ◌∙◌, ap, subst}
+use Rattle.std.proofs.Common.{ℕ, List, take, take_all, sym, ◌∙◌, subst}
 use Rattle.of_headers.specs.FieldMap.{value}
 use Rattle.of_mask_groups.specs.declared.group.Group.{Group}
-use Rattle.of_mask_groups.specs.Cells.{cell_at}
 use Rattle.of_mask_groups.specs.Covering.{IsBestOf}
 use Rattle.of_mask_groups.specs.Probed.{AreProbed, IsDone}
 use Rattle.of_mask_groups.proofs.Searching.{none_probed, one_more_group, first_probes, all_probes}
@@ -16,7 +15,7 @@ loop-group-preserved c =
     let s = c.args.entries.now in
     one_more_group s c.args.groups.now (value c.args.key.now) c.loop-group.group-index c.group-item.result c.loop-group.best c.best_among-best.result c.loop-group.probes c.probe-numbers.new.probes c.masked.result c.requires c.loop-group-test.true c.group-item.is
     (sym c.is_above.ensures ∙ c.if-is_above.false) c.masked.ensures
-    (subst (λ (ns : List ℕ). IsBestOf s (value c.args.key.now) c.loop-group.best ns c.best_among-best.result) (c.probe-numbers.ensures.numbers ∙ ap (λ (d : ℕ). cell_at c.group-item.result.cells d) c.digest.ensures) c.best_among-best.ensures)
+    (subst (λ (ns : List ℕ). IsBestOf s (value c.args.key.now) c.loop-group.best ns c.best_among-best.result) c.probe-numbers.ensures.numbers c.best_among-best.ensures)
     c.probe-numbers.ensures.counted c.loop-group.invariant
 
 pub returns-then-is_above-clause-probed : goal.returns-then-is_above-clause-probed

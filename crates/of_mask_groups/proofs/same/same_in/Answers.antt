@@ -1,7 +1,6 @@
-use Rattle.std.proofs.Common.{ℕ, List, sym, ◌∙◌, ap, subst}
+use Rattle.std.proofs.Common.{ℕ, List, sym, subst}
 use Rattle.of_mask_groups.specs.declared.group.Group.{Group}
 use Rattle.std.specs.List.{Contains}
-use Rattle.of_mask_groups.specs.Cells.{cell_at}
 use Rattle.of_mask_groups.specs.SameEntry.{IsOldestSame}
 use Rattle.of_mask_groups.proofs.Members.{at_place}
 use Rattle.of_mask_groups.proofs.SameLemmas.{same_answer, same_nowhere}
@@ -16,7 +15,7 @@ returns-in-Some c = λ next aged.
     let there : Contains gs g = subst (λ (z : Group). Contains gs z) (sym c.index-groups-place.is) (at_place gs c.in-Some.place g c.in-Some.ensures.within) in
     same_answer s gs g c.mask_of-mask.result key c.args.fields.now c.args.priority next c.oldest_same.result c.requires aged there
     (record { mask_is = c.in-Some.ensures.found g (sym c.index-groups-place.is); masked = c.mask_of-mask.ensures; asks = c.key_of.ensures })
-    (subst (λ (ns : List ℕ). IsOldestSame s ns c.args.fields.now c.args.priority c.oldest_same.result) (c.probe-numbers.ensures.numbers ∙ ap (λ (d : ℕ). cell_at g.cells d) c.digest.ensures) c.oldest_same.ensures)
+    (subst (λ (ns : List ℕ). IsOldestSame s ns c.args.fields.now c.args.priority c.oldest_same.result) c.probe-numbers.ensures.numbers c.oldest_same.ensures)
 
 pub returns-in-None : goal.returns-in-None
 returns-in-None c = λ next aged. same_nowhere c.args.entries.now c.args.groups.now c.mask_of-mask.result c.args.fields.now c.args.priority next c.requires aged c.mask_of-mask.ensures c.in-None.ensures.none
