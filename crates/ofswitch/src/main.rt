@@ -3,8 +3,10 @@
 
 ghost use Rattle.std.specs.Prelude.{◌≡◌};
 
+mod drawing;
 mod hinting;
 mod importing;
+mod live;
 mod lookups;
 mod serving;
 mod sockets;
@@ -13,13 +15,15 @@ mod standard_input;
 use crate::lookups::Lookups;
 use hinting::say_hint;
 use importing::{NotImported, imported, say_faults};
+use live::live_rows;
 use of_check::{check_events, check_file};
 use of_classifier::Scan;
-use of_command_line::{Asked, FileKind, NoRequest, Request, Serve, Trace, read_request};
+use of_command_line::{Asked, FileKind, Live, NoRequest, Request, Serve, Trace, read_request};
 use of_explain::explain;
 use of_replay::streams::{ReaderSource, WriterSink};
 use of_replay::{Ended, Source, asm, dis, replay, status};
 use of_serve::{ended_unopened, read_rows};
+use of_switch::Event;
 use of_text::TextFault;
 use of_trace::{FirstLines, Form, trace_events, trace_file};
 use serving::serve_rows;
@@ -85,7 +89,8 @@ fn carry_out(rt: &HostRuntime, request: &Request) -> ExitCode {
             run_check(rt, file.as_str(), *kind, *steps as usize)
         }
         Request::Import { file, skip } => run_import(rt, file.as_str(), *skip),
-        Request::Serve(asked) => serve_file(rt, asked),
+        Request::Serve(asked) => run_serve(rt, asked),
+        Request::Live(asked) => run_live(rt, asked),
     }
 }
 
@@ -156,24 +161,33 @@ fn checked<R: Read + Drop>(
     }
 }
 
-// The event file is read before anybody can connect.
-fn serve_file(rt: &HostRuntime, asked: &Serve) -> ExitCode {
-    let rows = match &asked.events {
-        None => Ok(Vec::new(rt.alloc())),
-        Some(path) if path.as_str() == "-" => {
-            read_rows(rt.alloc(), &mut ReaderSource::new(StandardInput::new(rt)))
-        }
-        Some(path) => match File::open(rt, path.as_str()) {
-            Ok(file) => read_rows(rt.alloc(), &mut ReaderSource::new(file)),
-            Err(error) => return end_unopened(rt, path.as_str(), &error),
-        },
+// The rows of an event file, which is read before anything comes; or the status with which the run ends.
+fn rows_of(rt: &HostRuntime, events: Option<&str>) -> Result<Vec<Event>, ExitCode> {
+    let Some(path) = events else {
+        return Ok(Vec::new(rt.alloc()));
     };
-    match rows {
+    let rows = if path == "-" {
+        read_rows(rt.alloc(), &mut ReaderSource::new(StandardInput::new(rt)))
+    } else {
+        match File::open(rt, path) {
+            Ok(file) => read_rows(rt.alloc(), &mut ReaderSource::new(file)),
+            Err(error) => return Err(end_unopened(rt, path, &error)),
+        }
+    };
+    rows.map_err(|ended| end_file(rt, path, &ended))
+}
+
+fn run_serve(rt: &HostRuntime, asked: &Serve) -> ExitCode {
+    match rows_of(rt, asked.events.as_ref().map(|path| path.as_str())) {
         Ok(rows) => end(rt, &serve_rows(rt, asked, rows)),
-        Err(ended) => match &asked.events {
-            Some(path) => end_file(rt, path.as_str(), &ended),
-            None => end(rt, &ended),
-        },
+        Err(code) => code,
+    }
+}
+
+fn run_live(rt: &HostRuntime, asked: &Live) -> ExitCode {
+    match rows_of(rt, asked.events.as_ref().map(|path| path.as_str())) {
+        Ok(rows) => end(rt, &live_rows(rt, asked, rows)),
+        Err(code) => code,
     }
 }
 
@@ -213,7 +227,8 @@ fn run<R: Read + Drop>(rt: &HostRuntime, request: &Request, reader: R) -> Ended 
         Request::Disassemble { .. } => {
             dis::<Lookups, _, _>(rt.alloc(), &mut reader, &mut writer)
         }
-        Request::Trace(_) | Request::Check { .. } | Request::Import { .. } | Request::Serve(_) =>
+        Request::Trace(_) | Request::Check { .. } | Request::Import { .. } | Request::Serve(_)
+        | Request::Live(_) =>
             Ended::Done,
     }
 }

@@ -1,4 +1,5 @@
 //! A switch that serves controllers over sockets.
+use crate::drawing::draw_seed;
 use crate::hinting::bytes_of;
 use crate::lookups::Lookups;
 use crate::sockets::{MachineClock, Sockets};
@@ -8,8 +9,6 @@ use of_replay::streams::WriterSink;
 use of_serve::{Refusals, serve_on};
 use of_switch::{Event, Switch};
 use std::alloc::AllocError;
-use std::io;
-use std::random::RandomSource;
 
 // The rows of the file that are refused, unless nothing is to be said. None where the file does not give its lines again, as
 // standard input does not.
@@ -22,21 +21,10 @@ fn refusals_of(rt: &HostRuntime, asked: &Serve, rows: &[Event]) -> Option<Refusa
     Refusals::new::<Lookups>(rt.alloc(), &file, rows).ok()
 }
 
-// A number that only the system knows: who picks flows and frames must not know which hashes they have.
-fn draw_seed(rt: &HostRuntime) -> io::Result<u64> {
-    let mut bytes = [0; 8];
-    rt.fill_bytes(&mut bytes)?;
-    Ok(u64::from_le_bytes(bytes))
-}
-
 /// Serves controllers on a new switch, with the events of a file.
 pub fn serve_rows(rt: &HostRuntime, asked: &Serve, rows: Vec<Event>) -> Ended {
-    let seed = match draw_seed(rt) {
-        Ok(seed) => seed,
-        Err(error) => {
-            let _ = eprintln!(rt; "cannot draw a random number: {error}");
-            return Ended::ReadFault;
-        }
+    let Some(seed) = draw_seed(rt) else {
+        return Ended::ReadFault;
     };
     let mut peers = match Sockets::new(rt, asked.meeting, asked.quiet) {
         Ok(peers) => peers,

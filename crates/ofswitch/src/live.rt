@@ -1,0 +1,81 @@
+//! A switch that forwards the frames of a network.
+use crate::drawing::draw_seed;
+use crate::lookups::Lookups;
+use network::Sockets;
+use of_command_line::{Live as Asked, PortPeer};
+use of_live::{Live, Peer, live};
+use of_replay::Ended;
+use of_switch::{Event, PortChange, Switch};
+use std::alloc::AllocError;
+
+mod controller;
+mod log;
+mod network;
+mod places;
+mod tunnel;
+
+// The change that adds port N: 02:00:00:00:00:NN, pN, up.
+fn port_of(alloc: std::alloc::Global, number: u32) -> Result<Event, AllocError> {
+    let text = number.to_string(alloc)?;
+    let mut name = [0; 16];
+    name[0] = b'p';
+    for (place, digit) in name.iter_mut().skip(1).zip(text.as_bytes()) {
+        *place = *digit;
+    }
+    let [_, _, _, last] = number.to_be_bytes();
+    Ok(Event::Ports(PortChange::Add {
+        number,
+        hw: [2, 0, 0, 0, 0, last],
+        name,
+        up: true,
+    }))
+}
+
+// The ports 1 to this one, and then the rows of the event file.
+fn all_rows(rt: &HostRuntime, ports: u32, rows: Vec<Event>) -> Result<Vec<Event>, AllocError> {
+    let mut all = Vec::new(rt.alloc());
+    for number in 1..=ports {
+        all.push(port_of(rt.alloc(), number)?)?;
+    }
+    let mut rows = rows;
+    all.append(&mut rows)?;
+    Ok(all)
+}
+
+fn set_peers(rt: &HostRuntime, asked: &[PortPeer]) -> Result<Vec<Peer>, AllocError> {
+    let mut peers = Vec::new(rt.alloc());
+    for peer in asked {
+        peers.push(Peer {
+            port: peer.port,
+            place: places::place_of(&peer.address),
+            is_set: true,
+        })?;
+    }
+    Ok(peers)
+}
+
+// The switch, before anything came.
+fn begun(rt: &HostRuntime, asked: &Asked, rows: Vec<Event>, seed: u64) -> Result<Live<Lookups>, AllocError> {
+    let rows = all_rows(rt, asked.ports, rows)?;
+    let peers = set_peers(rt, asked.peers.as_slice())?;
+    let switch = Switch::<Lookups>::with_seed(rt.alloc(), asked.dpid, seed)?;
+    Ok(Live::new(rt.alloc(), switch, rows, peers))
+}
+
+/// Forwards the frames of a network on a new switch, with the events of a file.
+pub fn live_rows(rt: &HostRuntime, asked: &Asked, rows: Vec<Event>) -> Ended {
+    let Some(seed) = draw_seed(rt) else {
+        return Ended::ReadFault;
+    };
+    let Some(mut network) = Sockets::begin(rt, asked) else {
+        return Ended::ReadFault;
+    };
+    match begun(rt, asked, rows, seed) {
+        Ok(mut switch) => {
+            let ended = live(rt.alloc(), &mut switch, &mut network, asked.turns);
+            network.say_counts();
+            ended
+        }
+        Err(AllocError) => Ended::NoMemory,
+    }
+}

@@ -1,0 +1,308 @@
+//! One controller at a time, over TCP, without waiting for it.
+ghost use Rattle.std.specs.Prelude.{◌≡◌, ◌≤◌, length};
+use mio::net::{TcpListener, TcpStream};
+use mio::{Interest, Registry, Token};
+use of_command_line::Meeting;
+use of_live::{Input, Written};
+use of_serve::{Attempt, Ending, Pauses, attempt_of, is_nobody};
+use of_wire::rest_from;
+use std::io::{self, ErrorKind, Read, Write};
+use std::net::SocketAddr;
+
+/// The tokens of what may be ready.
+pub const DOOR: Token = Token(1);
+
+pub const CONNECTION: Token = Token(2);
+
+/// How controllers and the switch find each other.
+#[derive(Drop)]
+enum Door {
+    Listening {
+        listener: TcpListener,
+        is_ready: bool,
+    },
+    Dialing {
+        address: SocketAddr,
+        pauses: Pauses,
+        // when the next call is due, in nanoseconds
+        due: u64,
+    },
+}
+
+/// A connection, and what is known of it.
+#[derive(Drop)]
+struct Connection {
+    stream: TcpStream,
+    address: SocketAddr,
+    // a call that is not answered yet
+    is_called: bool,
+    is_readable: bool,
+    is_writable: bool,
+    // a write did not take all
+    is_full: bool,
+}
+
+/// Controllers that connect, or one that is called.
+#[derive(Drop)]
+pub struct Controller<'r> {
+    rt: &'r HostRuntime,
+    door: Door,
+    connection: Option<Connection>,
+    quiet: bool,
+}
+
+fn prepare(stream: &TcpStream) -> io::Result<()> {
+    stream.set_nodelay(true)
+}
+
+impl<'r> Controller<'r> {
+    /// Begins to listen, if controllers connect to the switch.
+    pub fn new(rt: &'r HostRuntime, meeting: Meeting, quiet: bool, registry: &Registry) -> io::Result<Self> {
+        let door = match meeting {
+            Meeting::Listen(address) => {
+                let mut listener = TcpListener::bind(rt, address)?;
+                registry.register(&mut listener, DOOR, Interest::READABLE)?;
+                Door::Listening {
+                    listener,
+                    is_ready: true,
+                }
+            }
+            Meeting::Dial(address) => Door::Dialing {
+                address,
+                pauses: Pauses::new(),
+                due: 0,
+            },
+        };
+        Ok(Controller {
+            rt,
+            door,
+            connection: None,
+            quiet,
+        })
+    }
+
+    /// Somebody connects.
+    pub fn wake_door(&mut self) {
+        if let Door::Listening { is_ready, .. } = &mut self.door {
+            *is_ready = true;
+        }
+    }
+
+    /// The connection may be read, or written.
+    pub fn wake(&mut self, is_readable: bool, is_writable: bool) {
+        if let Some(connection) = &mut self.connection {
+            connection.is_readable = connection.is_readable || is_readable;
+            connection.is_writable = connection.is_writable || is_writable;
+        }
+    }
+
+    /// Whether something may come at once.
+    pub fn is_ready(&self) -> bool {
+        let is_waiting = match &self.door {
+            Door::Listening { is_ready, .. } => *is_ready,
+            Door::Dialing { .. } => false,
+        };
+        match &self.connection {
+            Some(connection) => is_waiting || connection.is_readable,
+            None => is_waiting,
+        }
+    }
+
+    fn say(&self, text: &str, address: SocketAddr) {
+        if !self.quiet {
+            let _ = eprintln!(self.rt; "{text} {address}");
+        }
+    }
+
+    fn say_end(&self, why: Ending) {
+        if !self.quiet {
+            let _ = eprintln!(self.rt; "connection ended: {why}");
+        }
+    }
+
+    // Accepts whoever waits; one that comes while there is a connection is closed at once.
+    fn accept(&mut self, registry: &Registry) -> Option<Input> {
+        let Door::Listening { listener, is_ready } = &mut self.door else {
+            return None;
+        };
+        if !*is_ready {
+            return None;
+        }
+        match listener.accept() {
+            Ok((stream, address)) => self.meet(stream, address, registry),
+            Err(error) => {
+                *is_ready = error.kind() == ErrorKind::Interrupted;
+                if is_nobody(error.kind()) {
+                    return None;
+                }
+                let _ = eprintln!(self.rt; "cannot accept: {error}");
+                Some(Input::Fault)
+            }
+        }
+    }
+
+    fn meet(&mut self, stream: TcpStream, address: SocketAddr, registry: &Registry) -> Option<Input> {
+        if self.connection.is_some() {
+            self.say("closed at once, since there is a connection: ", address);
+            return None;
+        }
+        self.begin(stream, address, false, registry).ok()?;
+        self.say("connection with", address);
+        Some(Input::Opened)
+    }
+
+    fn begin(&mut self, stream: TcpStream, address: SocketAddr, is_called: bool, registry: &Registry) -> io::Result<()> {
+        let mut stream = stream;
+        prepare(&stream)?;
+        registry.register(&mut stream, CONNECTION, Interest::READABLE | Interest::WRITABLE)?;
+        self.connection = Some(Connection {
+            stream,
+            address,
+            is_called,
+            is_readable: false,
+            is_writable: false,
+            is_full: false,
+        });
+        Ok(())
+    }
+
+    // Calls the controller when that is due. A call is answered, or refused, when the connection may be written.
+    fn call(&mut self, now: u64, registry: &Registry) {
+        if self.connection.is_some() {
+            return;
+        }
+        let Door::Dialing { address, pauses, due } = &mut self.door else {
+            return;
+        };
+        if now < *due {
+            return;
+        }
+        let address = *address;
+        *due = now.saturating_add(pauses.next().saturating_mul(1_000_000));
+        if let Ok(stream) = TcpStream::connect(self.rt, address) {
+            let _ = self.begin(stream, address, true, registry);
+        }
+    }
+
+    // Whether a call was answered.
+    fn answered(&mut self) -> Option<Input> {
+        let connection = self.connection.as_mut()?;
+        if !connection.is_called || !connection.is_writable {
+            return None;
+        }
+        match connection.stream.take_error() {
+            Ok(None) => {
+                connection.is_called = false;
+                let address = connection.address;
+                if let Door::Dialing { pauses, .. } = &mut self.door {
+                    pauses.reset();
+                }
+                self.say("connection with", address);
+                Some(Input::Opened)
+            }
+            _ => {
+                self.connection = None;
+                None
+            }
+        }
+    }
+
+    // What the connection says, at the start of the buffer.
+    fn hear(&mut self, buffer: &mut [u8]) -> Option<Input>
+        requires { length buffer.old ≡ 65536 }
+        ensures { length buffer.new ≡ 65536 }
+    {
+        let connection = self.connection.as_mut()?;
+        if connection.is_called || !connection.is_readable {
+            return None;
+        }
+        match connection.stream.read(buffer) {
+            Ok(0) => Some(self.end(Ending::ByController)),
+            Ok(n) => Some(Input::Heard(n)),
+            Err(error) => match error.kind() {
+                ErrorKind::WouldBlock => {
+                    connection.is_readable = false;
+                    None
+                }
+                ErrorKind::Interrupted => None,
+                _ => Some(self.end(Ending::ReadFailed)),
+            },
+        }
+    }
+
+    fn end(&mut self, why: Ending) -> Input {
+        self.connection = None;
+        self.say_end(why);
+        Input::Ended
+    }
+
+    // Whether a connection that did not take all takes bytes again.
+    fn takes_again(&mut self) -> Option<Input> {
+        let connection = self.connection.as_mut()?;
+        if !connection.is_full || !connection.is_writable {
+            return None;
+        }
+        connection.is_full = false;
+        Some(Input::Ready)
+    }
+
+    /// What comes from controllers, if something does.
+    pub fn next(&mut self, now: u64, registry: &Registry, buffer: &mut [u8]) -> Option<Input>
+        requires { length buffer.old ≡ 65536 }
+        ensures { length buffer.new ≡ 65536 }
+    {
+        self.call(now, registry);
+        if let Some(input) = self.answered() {
+            return Some(input);
+        }
+        if let Some(input) = self.accept(registry) {
+            return Some(input);
+        }
+        if let Some(input) = self.takes_again() {
+            return Some(input);
+        }
+        self.hear(buffer)
+    }
+
+    /// Offers bytes to the connection.
+    pub fn write(&mut self, bytes: &[u8]) -> Written
+        ensures { result.taken ≤ length bytes.now }
+    {
+        let Some(connection) = &mut self.connection else {
+            return Written {
+                taken: 0,
+                failed: true,
+            };
+        };
+        let mut taken = 0;
+        while taken < bytes.len() {
+            match attempt_of(&connection.stream.write(rest_from(bytes, taken))) {
+                Attempt::Took(n) => taken += n,
+                Attempt::Again => {}
+                Attempt::Failed(Ending::ReadsNothing) => {
+                    connection.is_full = true;
+                    connection.is_writable = false;
+                    break;
+                }
+                Attempt::Failed(_) => {
+                    return Written {
+                        taken,
+                        failed: true,
+                    };
+                }
+            }
+        }
+        Written {
+            taken,
+            failed: false,
+        }
+    }
+
+    /// Closes the connection.
+    pub fn close(&mut self) {
+        if self.connection.is_some() {
+            self.connection = None;
+            self.say_end(Ending::BySwitch);
+        }
+    }
+}
