@@ -1,4 +1,5 @@
 mod Passing
-mod Doing
+pub mod Doing
+mod Recording
 mod Turning
 pub mod Ending

@@ -2,4 +2,5 @@ pub mod Live
 pub mod Inputs
 pub mod Turns
 pub mod Ends
+pub mod Recorded
 pub mod Working

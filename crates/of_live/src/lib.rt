@@ -1,6 +1,7 @@
 //! A switch on a network: frames in VXLAN datagrams (RFC 7348), a controller, and a log of what happened.
 #![tactic(auto)]
 
+mod laws;
 mod network;
 mod peers;
 mod rows;
@@ -8,6 +9,7 @@ mod running;
 mod state;
 mod work;
 
+pub use laws::{logs_are_read, turns_are_a_run};
 pub use network::{Dropped, Input, Network, Place, Written};
 pub use peers::Peer;
 pub use running::live;
