@@ -2,3 +2,4 @@ pub mod ListingLemmas
 pub mod SendingLemmas
 pub mod ComingBack
 pub mod Outcomes
+pub mod BuildingLemmas
