@@ -11,3 +11,4 @@ pub mod Vid
 pub mod RuleLemmas
 pub mod ReachedLemmas
 pub mod IngressLemmas
+pub mod SilentLemmas

@@ -1,6 +1,6 @@
 //! What verdicts and remarks mean, and what comes of a file.
 ghost use Rattle.std.specs.Prelude.{◌≡◌, ◌≢◌, ◌≤◌, ◌<◌, ◌∷◌, ℕ, Bool, false, List, [], Option, Some, Ok, IsSome, ◌^◌, ◌++◌, true, length};
-ghost use Rattle.std.specs.List.{Contains};
+ghost use Rattle.std.specs.List.{Contains, list_any};
 ghost use Rattle.of_layers.specs.declared.field.Field.{Field};
 ghost use Rattle.of_layers.specs.Reading.{layers_of};
 ghost use Rattle.of_layers.specs.WellFormed.{AreBytes};
@@ -11,12 +11,13 @@ ghost use Rattle.of_table.specs.declared.flow.Flow.{Flow};
 ghost use Rattle.of_oxm.specs.declared.match_field.MatchField.{MatchField};
 ghost use Rattle.of_actions.specs.declared.action.Action.TheVariants.{Output};
 ghost use Rattle.of_actions.specs.PortNumbers.{is_number};
+ghost use Rattle.of_action_set.specs.Sets.{in_order};
 ghost use Rattle.of_text.specs.Configs.{IsConfig};
 ghost use Rattle.of_remarks.specs.Tables.{IsReached, is_reached};
-ghost use Rattle.of_remarks.specs.Actions.{required_port};
+ghost use Rattle.of_remarks.specs.Actions.{may_send, required_port};
 ghost use Rattle.of_machine.specs.declared.data.Packet.{Packet as PacketInRun};
-ghost use Rattle.of_machine.specs.Rows.{Act, Lookup as LookUp, Task, Work, acts, key_of, task};
-ghost use Rattle.of_machine.specs.Runs.{after, run_of, starting, step};
+ghost use Rattle.of_machine.specs.Rows.{Act, Lookup as LookUp, RunSet, Task, Work, acts, key_of, task};
+ghost use Rattle.of_machine.specs.Runs.{Machine, after, run_of, starting, step};
 ghost use Rattle.of_machine.specs.TheWorld.{TheWorld};
 ghost use Rattle.of_machine.specs.declared.data.Step.TheVariants.{Act as DidAct};
 ghost use Rattle.of_datapath.specs.Datapath.{Forwarding, flow_in, winner_in, world_of};
@@ -67,6 +68,14 @@ pub fn nothing_leaves_by_the_ingress_port()
         } }
     ensures came_by { (f : Forwarding) (t n : ℕ) (q : PacketInRun) (flow : Flow) (e : MatchField) (port : ℕ) → q.ingress < 2 ^ 32 →
         winner_in f t (key_of q) ≡ Some n → flow_in f t n ≡ Some flow → Contains flow.fields e → required_port e ≡ Some port → q.ingress ≡ port }
+{}
+
+/// Last actions are unseen: where a packet has only actions to do that may not send, and an action set to run then that holds none that may, it ends after
+/// so many steps, and nothing was emitted or counted, whatever they made of the frame (OpenFlow 1.3.5, 5.10 and 5.12).
+pub fn last_actions_are_unseen()
+    ensures { (w : TheWorld) (m : Machine) (p : PacketInRun) (actions : List Action) (others : List Task) → list_any may_send actions ≡ false →
+        list_any may_send (in_order p.action_set) ≡ false → m.tasks ≡ task p (acts actions ++ RunSet ∷ []) ∷ others →
+        (k : ℕ) × ((after w k m).tasks ≡ others) × ((after w k m).items ≡ m.items) × ((after w k m).counts ≡ m.counts) }
 {}
 
 /// From the bytes of a file to the bytes of the output, where no read and no write fails and memory suffices: where a reader has `file` left,
