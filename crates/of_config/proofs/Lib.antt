@@ -3,3 +3,4 @@ pub mod SendingLemmas
 pub mod ComingBack
 pub mod Outcomes
 pub mod BuildingLemmas
+pub mod BuiltAgain
