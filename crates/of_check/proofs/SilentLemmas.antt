@@ -10,7 +10,6 @@ use Rattle.of_remarks.specs.Actions.{may_send}
 use Rattle.of_machine.specs.declared.data.Packet.{Packet}
 use Rattle.of_machine.specs.declared.data.Item.{Item}
 use Rattle.of_machine.specs.declared.data.Count.{Count}
-use Rattle.of_machine.specs.declared.data.Step.{Step}
 use Rattle.of_machine.specs.declared.data.Step.TheVariants.{Act as DidAct}
 use Rattle.of_machine.specs.TheWorld.{TheWorld}
 use Rattle.of_machine.specs.Rows.{Work, RunSet, Act, Task, task, Row, row, acts, act_row, goes_on, rewritten, set_out}
