@@ -12,3 +12,4 @@ pub mod RuleLemmas
 pub mod ReachedLemmas
 pub mod IngressLemmas
 pub mod SilentLemmas
+pub mod UsedLemmas

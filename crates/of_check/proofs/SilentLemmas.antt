@@ -14,6 +14,7 @@ use Rattle.of_machine.specs.declared.data.Step.TheVariants.{Act as DidAct}
 use Rattle.of_machine.specs.TheWorld.{TheWorld}
 use Rattle.of_machine.specs.Rows.{Work, RunSet, Act, Task, task, Row, row, acts, act_row, goes_on, rewritten, set_out}
 use Rattle.of_machine.specs.Runs.{Machine, step, first_step, taken, after}
+use Rattle.of_check.specs.Unseen.{ComesUnseen as Quietly}
 
 -- ---- steps, one after the other
 
@@ -24,15 +25,8 @@ after_after w (suc a) b m =
     let more : suc (a + b) ≡ suc a + b = omega arith in
     ap (step w) (after_after w a b m) ∙ ap (λ (k : ℕ). after w k m) more
 
--- the machine comes from m to tasks with the same items and counts
-record Quietly (w : TheWorld) (m : Machine) (tasks : List Task) : Type 0 where
-  pub steps : ℕ
-  pub tasks_are : (after w steps m).tasks ≡ tasks
-  pub items_are : (after w steps m).items ≡ m.items
-  pub counts_are : (after w steps m).counts ≡ m.counts
-
-then : (w : TheWorld) (m : Machine) (tasks tasks' : List Task) → (a : Quietly w m tasks) → Quietly w (after w a.steps m) tasks' → Quietly w m tasks'
-then w m tasks tasks' a b =
+pub onward : (w : TheWorld) (m : Machine) (tasks tasks' : List Task) → (a : Quietly w m tasks) → Quietly w (after w a.steps m) tasks' → Quietly w m tasks'
+onward w m tasks tasks' a b =
     let both = after_after w b.steps a.steps m in
     record {
       steps = b.steps + a.steps;
@@ -46,7 +40,7 @@ unfolding after
 nowhere w m tasks is = record { steps = 0; tasks_are = is; items_are = refl; counts_are = refl }
 
 -- one step whose row emits and counts nothing
-one_step : (w : TheWorld) (m : Machine) (p : Packet) (work : List Work) (others : List Task) (r : Row) → m.tasks ≡ task p work ∷ others → row w p work ≡ r → r.items ≡ [] → r.counts ≡ [] → Quietly w m (r.left ++ others)
+pub one_step : (w : TheWorld) (m : Machine) (p : Packet) (work : List Work) (others : List Task) (r : Row) → m.tasks ≡ task p work ∷ others → row w p work ≡ r → r.items ≡ [] → r.counts ≡ [] → Quietly w m (r.left ++ others)
 unfolding after step
 one_step w m p work others r is e i c =
     let stepped : step w m ≡ taken m r others = ap (λ (ts : List Task). first_step w m ts) is ∙ ap (λ (x : Row). taken m x others) e in
@@ -68,39 +62,37 @@ silent_row w p rest PopVlan h = refl
 silent_row w p rest (SetNwTtl ttl) h = refl
 silent_row w p rest (SetField field value) h = refl
 
-or_parts : (a b : Bool) → (a || b) ≡ false → (a ≡ false) × (b ≡ false)
+pub or_parts : (a b : Bool) → (a || b) ≡ false → (a ≡ false) × (b ≡ false)
 or_parts true b h = absurd cc
 or_parts false b h = (refl, h)
 
 -- after them the packet has the same action set
-record Done (w : TheWorld) (m : Machine) (p : Packet) (rest : List Work) (others : List Task) : Type 0 where
+pub record Done (w : TheWorld) (m : Machine) (p : Packet) (rest : List Work) (others : List Task) : Type 0 where
   pub packet : Packet
   pub same_set : packet.action_set ≡ p.action_set
   pub comes : Quietly w m (task packet rest ∷ others)
 
-acts_done : (w : TheWorld) (l : List Action) (p : Packet) (rest : List Work) (others : List Task) (m : Machine) → list_any may_send l ≡ false → m.tasks ≡ task p (acts l ++ rest) ∷ others → Done w m p rest others
+pub acts_done : (w : TheWorld) (l : List Action) (p : Packet) (rest : List Work) (others : List Task) (m : Machine) → list_any may_send l ≡ false → m.tasks ≡ task p (acts l ++ rest) ∷ others → Done w m p rest others
 acts_done w [] p rest others m h is = record { packet = p; same_set = refl; comes = nowhere w m (task p rest ∷ others) is }
 acts_done w (a ∷ l) p rest others m h is =
     let parts = or_parts (may_send a) (list_any may_send l) h in
     let q : Packet = record p { frame = rewritten a p.frame } in
     let first = one_step w m p (Act a ∷ acts l ++ rest) others (goes_on (DidAct a) q (acts l ++ rest)) is (silent_row w p (acts l ++ rest) a parts.0) refl refl in
     let others_done = acts_done w l q rest others (after w first.steps m) parts.1 first.tasks_are in
-    record { packet = others_done.packet; same_set = others_done.same_set; comes = then w m _ _ first others_done.comes }
+    record { packet = others_done.packet; same_set = others_done.same_set; comes = onward w m _ _ first others_done.comes }
 
 ended : (w : TheWorld) (m : Machine) (p : Packet) (others : List Task) → m.tasks ≡ task p [] ∷ others → Quietly w m others
 ended w m p others is = one_step w m p [] others (row w p []) is refl refl refl
 
-set_ended : (w : TheWorld) (m : Machine) (p : Packet) (others : List Task) → list_any may_send (in_order p.action_set) ≡ false → m.tasks ≡ task p (RunSet ∷ []) ∷ others → Quietly w m others
+pub set_ended : (w : TheWorld) (m : Machine) (p : Packet) (others : List Task) → list_any may_send (in_order p.action_set) ≡ false → m.tasks ≡ task p (RunSet ∷ []) ∷ others → Quietly w m others
 set_ended w m p others h is =
     let first = one_step w m p (RunSet ∷ []) others (row w p (RunSet ∷ [])) is refl refl refl in
     let done = acts_done w (in_order p.action_set) (set_out p) [] others (after w first.steps m) h first.tasks_are in
-    let so_far = then w m _ _ first done.comes in
-    then w m _ _ so_far (ended w (after w so_far.steps m) done.packet others so_far.tasks_are)
+    let so_far = onward w m _ _ first done.comes in
+    onward w m _ _ so_far (ended w (after w so_far.steps m) done.packet others so_far.tasks_are)
 
-pub unseen : (w : TheWorld) (m : Machine) (p : Packet) (l : List Action) (others : List Task) → list_any may_send l ≡ false → list_any may_send (in_order p.action_set) ≡ false → m.tasks ≡ task p (acts l ++ RunSet ∷ []) ∷ others
-    → (k : ℕ) × ((after w k m).tasks ≡ others) × ((after w k m).items ≡ m.items) × ((after w k m).counts ≡ m.counts)
+pub unseen : (w : TheWorld) (m : Machine) (p : Packet) (l : List Action) (others : List Task) → list_any may_send l ≡ false → list_any may_send (in_order p.action_set) ≡ false → m.tasks ≡ task p (acts l ++ RunSet ∷ []) ∷ others → Quietly w m others
 unseen w m p l others h s is =
     let done = acts_done w l p (RunSet ∷ []) others m h is in
     let silent : list_any may_send (in_order done.packet.action_set) ≡ false = ap (λ (x : List Action). list_any may_send (in_order x)) done.same_set ∙ s in
-    let all = then w m _ _ done.comes (set_ended w (after w done.comes.steps m) done.packet others silent done.comes.tasks_are) in
-    (all.steps, all.tasks_are, all.items_are, all.counts_are)
+    onward w m _ _ done.comes (set_ended w (after w done.comes.steps m) done.packet others silent done.comes.tasks_are)
