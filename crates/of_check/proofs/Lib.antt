@@ -11,3 +11,5 @@ pub mod Vid
 pub mod RuleLemmas
 pub mod ReachedLemmas
 pub mod IngressLemmas
+pub mod SilentLemmas
+pub mod UsedLemmas

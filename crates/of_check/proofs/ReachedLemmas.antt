@@ -165,16 +165,16 @@ way_more tables from (x ∷ way) t u w l =
     and_parts true b h = (refl, h)
     and_parts false b h = absurd cc
 
-text_at : (k : ℕ) (ts : List Table) (i : ℕ) → (j : ℕ) × (slice_index_or (texts_from k ts) i [] ≡ table_text j (slice_index_or ts i empty_table))
+pub text_at : (k : ℕ) (ts : List Table) (i : ℕ) → (j : ℕ) × (slice_index_or (texts_from k ts) i [] ≡ table_text j (slice_index_or ts i empty_table))
 text_at k [] i = (k, refl)
 text_at k (t ∷ ts) zero = (k, refl)
 text_at k (t ∷ ts) (suc i) = text_at (suc k) ts i
 
-or_right : (a b : Bool) → b ≡ true → (a || b) ≡ true
+pub or_right : (a b : Bool) → b ≡ true → (a || b) ≡ true
 or_right true b h = refl
 or_right false b h = h
 
-any_entry : (test : TextFlow → Bool) (j : ℕ) (flows : List FlowEntry) (n : ℕ) (f : Flow) → flow_at n flows ≡ Some f → ((e : FlowEntry) → e.flow ≡ f → test (entry_text j e) ≡ true) → list_any test (table_text j (record { lookups = 0; matched = 0; flows = flows })) ≡ true
+pub any_entry : (test : TextFlow → Bool) (j : ℕ) (flows : List FlowEntry) (n : ℕ) (f : Flow) → flow_at n flows ≡ Some f → ((e : FlowEntry) → e.flow ≡ f → test (entry_text j e) ≡ true) → list_any test (table_text j (record { lookups = 0; matched = 0; flows = flows })) ≡ true
 any_entry test j [] n f at h = absurd cc
 any_entry test j (e ∷ es) zero f at h = let is : Some e.flow ≡ Some f = at in rw (h e cc) refl
 any_entry test j (e ∷ es) (suc n) f at h = or_right (test (entry_text j e)) (list_any test (map (entry_text j) es)) (any_entry test j es n f at h)

@@ -6,3 +6,4 @@ pub mod Rules
 pub mod Pieces
 pub mod Search
 pub mod Reached
+pub mod Unseen

@@ -1,6 +1,6 @@
 //! What verdicts and remarks mean, and what comes of a file.
-ghost use Rattle.std.specs.Prelude.{◌≡◌, ◌≢◌, ◌≤◌, ◌<◌, ◌∷◌, ℕ, Bool, false, List, [], Option, Some, Ok, IsSome, ◌^◌, ◌++◌, true, length};
-ghost use Rattle.std.specs.List.{Contains};
+ghost use Rattle.std.specs.Prelude.{◌≡◌, ◌≢◌, ◌≤◌, ◌<◌, ◌∷◌, ℕ, Bool, false, List, [], Option, Some, Ok, IsSome, ◌^◌, ◌++◌, true, length, map};
+ghost use Rattle.std.specs.List.{Contains, list_any};
 ghost use Rattle.of_layers.specs.declared.field.Field.{Field};
 ghost use Rattle.of_layers.specs.Reading.{layers_of};
 ghost use Rattle.of_layers.specs.WellFormed.{AreBytes};
@@ -11,12 +11,16 @@ ghost use Rattle.of_table.specs.declared.flow.Flow.{Flow};
 ghost use Rattle.of_oxm.specs.declared.match_field.MatchField.{MatchField};
 ghost use Rattle.of_actions.specs.declared.action.Action.TheVariants.{Output};
 ghost use Rattle.of_actions.specs.PortNumbers.{is_number};
+ghost use Rattle.of_action_set.specs.Sets.{in_order};
+ghost use Rattle.of_actions.specs.declared.instruction.Instruction.{Instruction};
+ghost use Rattle.of_text.specs.Kept.{step_of};
 ghost use Rattle.of_text.specs.Configs.{IsConfig};
 ghost use Rattle.of_remarks.specs.Tables.{IsReached, is_reached};
-ghost use Rattle.of_remarks.specs.Actions.{required_port};
+ghost use Rattle.of_remarks.specs.Actions.{is_used_later, may_send, required_port};
 ghost use Rattle.of_machine.specs.declared.data.Packet.{Packet as PacketInRun};
-ghost use Rattle.of_machine.specs.Rows.{Act, Lookup as LookUp, Task, Work, acts, key_of, task};
-ghost use Rattle.of_machine.specs.Runs.{after, run_of, starting, step};
+ghost use Rattle.of_machine.specs.Rows.{Act, Lookup as LookUp, RunSet, Task, Work, acts, entering, key_of, task, works};
+ghost use Rattle.of_machine.specs.Sound.{IsSound};
+ghost use Rattle.of_machine.specs.Runs.{Machine, after, run_of, starting, step};
 ghost use Rattle.of_machine.specs.TheWorld.{TheWorld};
 ghost use Rattle.of_machine.specs.declared.data.Step.TheVariants.{Act as DidAct};
 ghost use Rattle.of_datapath.specs.Datapath.{Forwarding, flow_in, winner_in, world_of};
@@ -27,6 +31,7 @@ ghost use Rattle.of_replay.specs.declared.event_file.Ended.TheVariants.{Done};
 ghost use Rattle.of_check.specs.Files.{findings_in, findings_on};
 ghost use Rattle.of_check.specs.Reached.{AtTables};
 ghost use Rattle.of_check.specs.Rules.{leads_to};
+ghost use Rattle.of_check.specs.Unseen.{ComesUnseen};
 ghost use Rattle.of_check.specs.Verdicts.{IsPacket, NeverWins, Packet, fields_of};
 
 /// An entry that never wins is the winner of no packet.
@@ -67,6 +72,19 @@ pub fn nothing_leaves_by_the_ingress_port()
         } }
     ensures came_by { (f : Forwarding) (t n : ℕ) (q : PacketInRun) (flow : Flow) (e : MatchField) (port : ℕ) → q.ingress < 2 ^ 32 →
         winner_in f t (key_of q) ≡ Some n → flow_in f t n ≡ Some flow → Contains flow.fields e → required_port e ≡ Some port → q.ingress ≡ port }
+{}
+
+/// Last actions are unseen: where a packet has only actions to do that may not send, and an action set to run then that holds none that may, it ends,
+/// and nothing is emitted or counted, whatever they made of the frame (OpenFlow 1.3.5, 5.10 and 5.12). So it is in the run of a frame that is
+/// received, where the actions are those of an entry of which `check` remarks that its last actions are unseen: nothing uses the packet later.
+pub fn last_actions_are_unseen()
+    ensures silent { (w : TheWorld) (m : Machine) (p : PacketInRun) (actions : List Action) (others : List Task) → list_any may_send actions ≡ false →
+        list_any may_send (in_order p.action_set) ≡ false → m.tasks ≡ task p (acts actions ++ RunSet ∷ []) ∷ others → ComesUnseen w m others }
+    ensures remarked { (f : Forwarding) → IsSound (world_of f) → (frame : List ℕ) (port k : ℕ) (q : PacketInRun) (first : Action) (actions : List Action)
+        (later : List Instruction) (others : List Task) →
+        (after (world_of f) k (starting (entering frame port) (LookUp 0 ∷ []))).tasks ≡ task q (Act first ∷ acts actions ++ works later) ∷ others →
+        may_send first ≡ false → list_any may_send actions ≡ false → is_used_later (configuration_of f).tables q.table (map step_of later) ≡ false →
+        ComesUnseen (world_of f) (after (world_of f) k (starting (entering frame port) (LookUp 0 ∷ []))) others }
 {}
 
 /// From the bytes of a file to the bytes of the output, where no read and no write fails and memory suffices: where a reader has `file` left,

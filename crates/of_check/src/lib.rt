@@ -21,8 +21,8 @@ pub use checking_events::check_events;
 pub use checking_file::{check_file, write_findings};
 pub use finding::Finding;
 pub use laws::{
-    fields_go_together, findings_come_whole, never_is_never, nothing_leaves_by_the_ingress_port,
-    runs_stay_at_reached_tables,
+    fields_go_together, findings_come_whole, last_actions_are_unseen, never_is_never,
+    nothing_leaves_by_the_ingress_port, runs_stay_at_reached_tables,
 };
 pub use printing::{print, print_all};
 pub use search::check_entry;

@@ -91,7 +91,7 @@ each_sent all (g ∷ gs) short fits numbers fit whole there =
       each_sent all gs short (all_back Fits (group_rows g) (rows_of_groups gs) fits) numbers.1 f.1 w.1 there.1,
     )
 
-groups_sent : (gs : List TextGroup) → AreKeptGroups gs → AreSentGroups gs
+pub groups_sent : (gs : List TextGroup) → AreKeptGroups gs → AreSentGroups gs
 groups_sent gs k = record {
   each = each_sent (groups_at 0 gs) gs k.sound.short k.fits k.numbers k.sound.fit k.sound.whole (there_among (groups_at 0 gs) gs (λ m h. h));
   rising = k.sound.rising;
@@ -126,7 +126,7 @@ tables_sent gs k (fs ∷ ts) h fits =
 many : (c : Configuration) → IsConfig c → length c.tables ≡ 16
 many c k = ap length k.filled ∙ sixteen k.flows
 
-all_sent : (c : Configuration) → IsConfig c → AreSent c.groups 0 c.tables
+pub all_sent : (c : Configuration) → IsConfig c → AreSent c.groups 0 c.tables
 all_sent c k =
     let n = many c k in
     let each : (j : ℕ) → j < length c.tables → IsTable c.groups (0 + j) (slice_index_or c.tables j []) = λ j l.

@@ -2,3 +2,5 @@ pub mod ListingLemmas
 pub mod SendingLemmas
 pub mod ComingBack
 pub mod Outcomes
+pub mod BuildingLemmas
+pub mod BuiltAgain

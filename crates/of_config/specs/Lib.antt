@@ -1,3 +1,5 @@
 pub mod Listing
 pub mod Sending
 pub mod Outcomes
+pub mod Built
+pub mod BuiltViews

@@ -11,7 +11,8 @@ pub enum ConfigFault {
     /// Memory ran out. The call can be made again.
     #[error("no memory")]
     NoMemory,
-    /// The place of the first that is not a single whole GROUP_MOD or FLOW_MOD, from 0. It was not sent.
+    /// The place of the first that is not a single whole GROUP_MOD or FLOW_MOD, or not one that `build` takes there, from 0. It
+    /// was not sent.
     #[error("message {place}: no GROUP_MOD or FLOW_MOD")]
     NotACommand { place: usize },
     /// The place of the first that is answered by an ERROR, from 0, and the code of the ERROR (OpenFlow 1.3.5, 7.4.4).

@@ -1,7 +1,7 @@
 //! Laws of configurations and their messages.
-ghost use Rattle.std.specs.Prelude.{◌≡◌, ◌++◌, ◌∷◌, [], ℕ, List, true, false, Ok, Err, codes, take};
+ghost use Rattle.std.specs.Prelude.{◌≡◌, ◌++◌, ◌∷◌, ◌+◌, ◌≤◌, ◌^◌, [], ℕ, List, true, false, Ok, Err, codes, length, take};
 ghost use Rattle.std.specs.List.{flat_map};
-ghost use Rattle.of_text.specs.Configs.{Configuration, IsConfig};
+ghost use Rattle.of_text.specs.Configs.{Configuration, IsConfig, all_flows};
 ghost use Rattle.of_wire.specs.declared.code.Code.{Code};
 ghost use Rattle.of_messages.specs.Heads.{xid_of};
 ghost use Rattle.of_messages.specs.Written.{error_bytes};
@@ -13,7 +13,8 @@ ghost use Rattle.of_switch.specs.Loading.{config_of};
 ghost use Rattle.of_config.specs.declared.fault.ConfigFault.TheVariants.{NoMemory, NotACommand, Refused};
 ghost use Rattle.of_config.specs.Outcomes.{ComesTo, Takes};
 ghost use Rattle.of_build.specs.Building.{build_text, hello, chunk_line};
-ghost use Rattle.of_config.specs.Listing.{messages_of};
+ghost use Rattle.of_config.specs.Built.{config_said};
+ghost use Rattle.of_config.specs.Listing.{flow_adds, group_adds, messages_of};
 ghost use Rattle.of_config.specs.Sending.{config_by, greeted, is_command};
 
 /// The event file of a configuration is a connection, a HELLO, and a row for each message of the configuration, in their order.
@@ -24,6 +25,12 @@ pub fn file_has_the_messages()
 /// The configuration that the messages of a configuration give is that configuration.
 pub fn messages_give_it_back()
     ensures { (c : Configuration) → IsConfig c → config_by (messages_of c) ≡ Ok c }
+{}
+
+/// So is the one that they are beside each other (`build`), where its groups are by number, whatever their transaction ids begin at.
+pub fn messages_by_number_build_it()
+    ensures { (c : Configuration) (groups flows : ℕ) → IsConfig c → flows + length (all_flows c.tables) ≤ 2 ^ 32 →
+        config_said (group_adds groups c.groups ++ flow_adds flows (all_flows c.tables)) ≡ Ok c }
 {}
 
 /// Messages are sent to one switch, up to the first that is no command or that it answers by an ERROR.

@@ -1,4 +1,4 @@
-use of_config::{ConfigFault, config_of, messages};
+use of_config::{ConfigFault, build, config_of, messages};
 use of_test_rows::bytes_of;
 use of_text::{Config, assemble, disassemble};
 use of_wire::{Bytes, Code};
@@ -98,5 +98,79 @@ fn no_command(rt: HostRuntime) -> Result<(), Fail> {
     assert_eq!(rt; fault(rt.alloc(), rows::BARRIER)?, second);
     let first = Some(ConfigFault::NotACommand { place: 0 });
     assert_eq!(rt; fault(rt.alloc(), rows::TWO_AS_ONE)?, first);
+    Ok(())
+}
+
+/// Asserts that the configuration of the rows of messages beside each other has that text.
+fn builds(rt: &impl Abort, alloc: Global, rows: &str, text: &[u8]) -> Result<(), Fail> {
+    let config = build(alloc, &encoded(alloc, rows)?)
+        .ok()
+        .ok_or("a configuration")?;
+    let written = disassemble(alloc, &config)?;
+    assert_eq!(rt; written.as_slice(), text);
+    Ok(())
+}
+
+#[test]
+fn built(rt: HostRuntime) -> Result<(), Fail> {
+    builds(
+        &rt,
+        rt.alloc(),
+        rows::ONE_FLOW,
+        b"flow 0 10 0x0000000000000000 0 0 0
+match in_port 0x00000001
+apply
+output 2 0
+",
+    )?;
+    builds(
+        &rt,
+        rt.alloc(),
+        rows::LATER_GROUP,
+        b"group 1 all
+bucket 0 4294967295 4294967295
+to_group 2
+group 2 indirect
+bucket 7 1 2
+output 2 0
+",
+    )
+}
+
+/// Why messages beside each other are no configuration, at which place.
+fn unbuilt(alloc: Global, rows: &str) -> Result<Option<ConfigFault>, Fail> {
+    Ok(build(alloc, &encoded(alloc, rows)?).err())
+}
+
+#[test]
+fn refused_beside_each_other(rt: HostRuntime) -> Result<(), Fail> {
+    for (rows, place, kind, code) in [
+        (rows::SAME_FLOW, 1, 5, 3),
+        (rows::TO_ABSENT_GROUP, 0, 2, 9),
+        (rows::OTHER_FLAGS, 0, 5, 7),
+        (rows::BAD_LATER_GROUP, 1, 6, 12),
+    ] {
+        let wanted = ConfigFault::Refused {
+            place,
+            code: Code { kind, code },
+        };
+        assert_eq!(rt; unbuilt(rt.alloc(), rows)?, Some(wanted));
+    }
+    Ok(())
+}
+
+#[test]
+fn not_to_be_built(rt: HostRuntime) -> Result<(), Fail> {
+    let first = Some(ConfigFault::NotACommand { place: 0 });
+    // group 2, and then group 1
+    let second = Some(ConfigFault::NotACommand { place: 1 });
+    for (rows, wanted) in [
+        (rows::HELD, first),
+        (rows::DELETED, second),
+        (rows::BARRIER, first),
+        (rows::MESSAGES, second),
+    ] {
+        assert_eq!(rt; unbuilt(rt.alloc(), rows)?, wanted);
+    }
     Ok(())
 }
