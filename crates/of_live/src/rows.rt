@@ -14,8 +14,7 @@ use std::alloc::AllocError;
 fn push_decimal(out: &mut Vec<u8>, number: u64) -> Result<(), AllocError>
     ensures { OnOk result (out.new.items ≡ out.old.items ++ decimal number) }
 {
-    let mut buffer = Buffer::new();
-    out.extend_from_slice(buffer.format(number).as_bytes())
+    out.extend_from_slice(Buffer::new().format(number).as_bytes())
 }
 
 // Appends bytes as hex digits in lower case.

@@ -147,7 +147,10 @@ impl<L: Lookup> Live<L> {
         work: &mut Work,
     ) -> Result<(), AllocError>
         ensures does { OnOk result (Does keeps (frame_of (received self.old from (carried datagram.now))) self.old.state self.new.state work.old work.new) }
-        ensures peers { OnOk result (self.new ≡ record self.old { state = self.new.state; peers = peers_after from (received self.old from (carried datagram.now)) self.old.peers }) }
+        ensures peers { OnOk result (self.new ≡ record self.old {
+          state = self.new.state;
+          peers = peers_after from (received self.old from (carried datagram.now)) self.old.peers;
+        }) }
         ensures told { Records (N.told network.old) (dropped_in (received self.old from (carried datagram.now))) (N.told network.new) }
         ensures keeps { N.keeps network.new ≡ N.keeps network.old }
     {
@@ -254,7 +257,8 @@ impl<L: Lookup> Live<L> {
         requires room { length buffer.now ≡ 65536 }
         requires empty { work.old ≡ record { reports = []; text = [] } }
         ensures hears { IfOk result (λ asks. Hears (came_of input.now buffer.now) keeps asks self.old self.new work.new) }
-        ensures told { (some : Bool) × (Records (N.told network.old) (if some then drops (came_of input.now buffer.now) self.old else []) (N.told network.new)) × OnOk result (some ≡ true) }
+        ensures told { (some : Bool) × (Records (N.told network.old) (if some then drops (came_of input.now buffer.now) self.old else [])
+            (N.told network.new)) × OnOk result (some ≡ true) }
         ensures keeps { N.keeps network.new ≡ N.keeps network.old }
     {
         self.begin(input.is_opened(), keeps, work)?;

@@ -13,7 +13,7 @@ use crate::peers::{Peer, peer_of};
 use crate::rows::{push_frame_row, push_row};
 use of_classifier::Lookup;
 use of_serve::{Rows, push_answers, waits};
-use of_switch::{Effect, Event, Report, Switch};
+use of_switch::{Effect, Event, Report, Switch, SwitchError};
 use of_vxlan::write_header;
 use std::alloc::{AllocError, Global};
 use std::marker::Model;
@@ -174,7 +174,8 @@ pub fn happen_frame<L: Lookup>(
     }
     match switch.frame(port, frame) {
         Ok(effects) => Ok(work.reports.push(Report::Gives(effects))?),
-        Err(_) => Err(AllocError),
+        Err(SwitchError::NoMemory) => Err(AllocError),
+        Err(refusal) => Ok(work.reports.push(Report::Refused(refusal))?),
     }
 }
 

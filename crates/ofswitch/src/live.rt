@@ -55,7 +55,12 @@ fn set_peers(rt: &HostRuntime, asked: &[PortPeer]) -> Result<Vec<Peer>, AllocErr
 }
 
 // The switch, before anything came.
-fn begun(rt: &HostRuntime, asked: &Asked, rows: Vec<Event>, seed: u64) -> Result<Live<Lookups>, AllocError> {
+fn begun(
+    rt: &HostRuntime,
+    asked: &Asked,
+    rows: Vec<Event>,
+    seed: u64,
+) -> Result<Live<Lookups>, AllocError> {
     let rows = all_rows(rt, asked.ports, rows)?;
     let peers = set_peers(rt, asked.peers.as_slice())?;
     let switch = Switch::<Lookups>::with_seed(rt.alloc(), asked.dpid, seed)?;

@@ -227,9 +227,11 @@ fn run<R: Read + Drop>(rt: &HostRuntime, request: &Request, reader: R) -> Ended 
         Request::Disassemble { .. } => {
             dis::<Lookups, _, _>(rt.alloc(), &mut reader, &mut writer)
         }
-        Request::Trace(_) | Request::Check { .. } | Request::Import { .. } | Request::Serve(_)
-        | Request::Live(_) =>
-            Ended::Done,
+        Request::Trace(_)
+        | Request::Check { .. }
+        | Request::Import { .. }
+        | Request::Serve(_)
+        | Request::Live(_) => Ended::Done,
     }
 }
 

@@ -1,5 +1,6 @@
 //! One controller at a time, over TCP, without waiting for it.
 ghost use Rattle.std.specs.Prelude.{◌≡◌, ◌≤◌, length};
+
 use mio::net::{TcpListener, TcpStream};
 use mio::{Interest, Registry, Token};
 use of_command_line::Meeting;
@@ -57,7 +58,12 @@ fn prepare(stream: &TcpStream) -> io::Result<()> {
 
 impl<'r> Controller<'r> {
     /// Begins to listen, if controllers connect to the switch.
-    pub fn new(rt: &'r HostRuntime, meeting: Meeting, quiet: bool, registry: &Registry) -> io::Result<Self> {
+    pub fn new(
+        rt: &'r HostRuntime,
+        meeting: Meeting,
+        quiet: bool,
+        registry: &Registry,
+    ) -> io::Result<Self> {
         let door = match meeting {
             Meeting::Listen(address) => {
                 let mut listener = TcpListener::bind(rt, address)?;
@@ -141,7 +147,12 @@ impl<'r> Controller<'r> {
         }
     }
 
-    fn meet(&mut self, stream: TcpStream, address: SocketAddr, registry: &Registry) -> Option<Input> {
+    fn meet(
+        &mut self,
+        stream: TcpStream,
+        address: SocketAddr,
+        registry: &Registry,
+    ) -> Option<Input> {
         if self.connection.is_some() {
             self.say("closed at once, since there is a connection: ", address);
             return None;
@@ -151,10 +162,20 @@ impl<'r> Controller<'r> {
         Some(Input::Opened)
     }
 
-    fn begin(&mut self, stream: TcpStream, address: SocketAddr, is_called: bool, registry: &Registry) -> io::Result<()> {
+    fn begin(
+        &mut self,
+        stream: TcpStream,
+        address: SocketAddr,
+        is_called: bool,
+        registry: &Registry,
+    ) -> io::Result<()> {
         let mut stream = stream;
         prepare(&stream)?;
-        registry.register(&mut stream, CONNECTION, Interest::READABLE | Interest::WRITABLE)?;
+        registry.register(
+            &mut stream,
+            CONNECTION,
+            Interest::READABLE | Interest::WRITABLE,
+        )?;
         self.connection = Some(Connection {
             stream,
             address,
@@ -171,7 +192,12 @@ impl<'r> Controller<'r> {
         if self.connection.is_some() {
             return;
         }
-        let Door::Dialing { address, pauses, due } = &mut self.door else {
+        let Door::Dialing {
+            address,
+            pauses,
+            due,
+        } = &mut self.door
+        else {
             return;
         };
         if now < *due {

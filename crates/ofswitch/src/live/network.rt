@@ -1,5 +1,6 @@
 //! The network of a live switch: datagrams, a controller, the machine's clock and a log.
 ghost use Rattle.std.specs.Prelude.{◌≡◌, None as NotTold};
+
 use super::controller::{CONNECTION, Controller, DOOR};
 use super::log::write_rows;
 use super::tunnel::Tunnel;
@@ -54,15 +55,25 @@ impl<'r> Sockets<'r> {
 
     fn new(rt: &'r HostRuntime, asked: &Asked) -> Result<Self, (&'static str, io::Error)> {
         let poll = Poll::new(rt).map_err(|error| ("wait for sockets", error))?;
-        let events = Events::with_capacity(rt.alloc(), 16).map_err(|error| ("wait for sockets", io::Error::from(error)))?;
-        let mut tunnel = Tunnel::new(rt, asked.tunnel).map_err(|error| ("receive datagrams", error))?;
+        let events = Events::with_capacity(rt.alloc(), 16).map_err(|error| (
+            "wait for sockets",
+            io::Error::from(error),
+        ))?;
+        let mut tunnel = Tunnel::new(rt, asked.tunnel).map_err(|error| (
+            "receive datagrams",
+            error,
+        ))?;
         poll.registry()
             .register(tunnel.socket(), TUNNEL, Interest::READABLE)
             .map_err(|error| ("receive datagrams", error))?;
-        let controller = Controller::new(rt, asked.meeting, asked.quiet, poll.registry())
-            .map_err(|error| ("listen", error))?;
+        let controller = Controller::new(rt, asked.meeting, asked.quiet, poll.registry()).map_err(
+            |error| ("listen", error),
+        )?;
         let log = match &asked.log {
-            Some(path) => Some(File::create(rt, path.as_str()).map_err(|error| ("write the log", error))?),
+            Some(path) => Some(File::create(rt, path.as_str()).map_err(|error| (
+                "write the log",
+                error,
+            ))?),
             None => None,
         };
         let start = Instant::now(rt).map_err(|error| ("read the clock", error))?;
@@ -89,7 +100,10 @@ impl<'r> Sockets<'r> {
     fn ready(&mut self, buffer: &mut [u8]) -> Option<Input> {
         if self.is_controllers_turn {
             self.is_controllers_turn = false;
-            if let Some(input) = self.controller.next(self.time, self.poll.registry(), buffer) {
+            if let Some(input) = self
+                .controller
+                .next(self.time, self.poll.registry(), buffer)
+            {
                 return Some(input);
             }
         }
@@ -111,7 +125,8 @@ impl<'r> Sockets<'r> {
     fn wait(&mut self) -> io::Result<()> {
         let is_ready = self.controller.is_ready() || self.tunnel.is_tired();
         let timeout = if is_ready { 0 } else { IDLE };
-        self.poll.poll(&mut self.events, Some(Duration::from_millis(timeout)))?;
+        self.poll
+            .poll(&mut self.events, Some(Duration::from_millis(timeout)))?;
         for event in self.events.iter() {
             match event.token() {
                 TUNNEL => self.tunnel.wake(),
@@ -142,7 +157,10 @@ impl<'r> Sockets<'r> {
         for (count, what) in [
             (self.no_network, "datagrams without a network"),
             (self.no_port, "datagrams of networks that are no ports"),
-            (self.other_peer, "datagrams from another address than the port's peer"),
+            (
+                self.other_peer,
+                "datagrams from another address than the port's peer",
+            ),
             (self.no_peer, "frames for ports whose peer is not known"),
             (unsent, "datagrams that the system did not take"),
         ] {

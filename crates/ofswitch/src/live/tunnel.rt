@@ -1,5 +1,6 @@
 //! Datagrams.
 ghost use Rattle.std.specs.Prelude.{◌≤◌, length, IfSome};
+
 use super::places::{address_of, place_of};
 use mio::net::UdpSocket;
 use of_live::Place;
@@ -100,7 +101,8 @@ impl Tunnel {
         self.datagram.clear();
         self.datagram.extend_from_slice(&header)?;
         self.datagram.extend_from_slice(frame)?;
-        self.socket.send_to(&self.datagram, address_of(to, self.is_ipv4))?;
+        self.socket
+            .send_to(&self.datagram, address_of(to, self.is_ipv4))?;
         Ok(())
     }
 
