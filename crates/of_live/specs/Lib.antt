@@ -3,4 +3,5 @@ pub mod Inputs
 pub mod Turns
 pub mod Ends
 pub mod Recorded
+pub mod Memory
 pub mod Working

@@ -2,6 +2,7 @@
 #![tactic(auto)]
 
 mod laws;
+pub mod memory;
 mod network;
 mod peers;
 mod rows;

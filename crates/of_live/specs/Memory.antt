@@ -1,0 +1,28 @@
+-- What a network in memory records.
+use Rattle.std.specs.Prelude.{ℕ, ◌++◌, Bool, true, false, List, map, Option, Some, None, if◌then◌else◌}
+use Rattle.of_switch.specs.declared.event.Event.TheVariants.{Ports}
+use Rattle.of_live.specs.declared.memory.Passed.{Passed}
+use Rattle.of_live.specs.declared.memory.Passed.TheVariants as passed
+use Rattle.of_live.specs.declared.memory.MemoryNetwork.{MemoryNetwork}
+use Rattle.of_live.specs.Live.{Came, Time, Datagram, Opened, Heard, Ended, Ready, Row, Nothing, Fault}
+use Rattle.of_live.specs.Turns.{Act, Told, Drops, Logs, Sends, Writes, Closes}
+
+abbrev pub act_of : Passed → Act
+act_of (passed.Time now) = Told (Time now)
+act_of (passed.Datagram from bytes) = Told (Datagram from bytes)
+act_of passed.Opened = Told Opened
+act_of (passed.Heard bytes) = Told (Heard bytes)
+act_of passed.Ended = Told Ended
+act_of passed.Ready = Told Ready
+act_of (passed.Port change) = Told (Row (Ports change))
+act_of passed.Nothing = Told Nothing
+act_of passed.Fault = Told Fault
+act_of (passed.Dropped why) = Drops why
+act_of (passed.Logged rows whole) = Logs rows whole
+act_of (passed.Sent to datagram) = Sends to datagram
+act_of (passed.Written bytes taken failed) = Writes bytes taken failed
+act_of passed.Closed = Closes
+
+-- all that passed; nothing is known once memory ran out for it
+abbrev pub told : MemoryNetwork → Option (List Act)
+told n = if n.is_whole then Some (map act_of n.passed.items) else None

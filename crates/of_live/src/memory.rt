@@ -1,0 +1,268 @@
+//! A network in memory, which tells what its script says and records what passes.
+ghost use Rattle.std.specs.Prelude.{◌≡◌, ◌≤◌, ◌∷◌, ◌++◌, [], length, take, Some, IfOk, IsTrue};
+ghost use Rattle.of_live.specs.Memory.{act_of, told};
+ghost use Rattle.of_live.specs.Live.{Datagram, Fault, Heard};
+ghost use Rattle.of_live.specs.Turns.{Act, Logs, Records, Sends, Told, Writes};
+
+use crate::network::{Dropped, Input, Network, Place, Written};
+use of_switch::{Event, PortChange};
+use of_wire::Bytes;
+use std::alloc::{AllocError, Global};
+
+/// What a script tells at one time.
+#[derive(Debug, Drop)]
+pub enum Line {
+    Time(u64),
+    Datagram { from: Place, bytes: Bytes },
+    Opened,
+    Heard(Bytes),
+    Ended,
+    Ready,
+    /// Somebody writes the row of this change.
+    Port(PortChange),
+    Nothing,
+}
+
+/// What passed between a network and a switch.
+#[derive(Debug, Drop)]
+pub enum Passed {
+    /// The network told one of these.
+    Time(u64),
+    Datagram {
+        from: Place,
+        bytes: Bytes,
+    },
+    Opened,
+    Heard(Bytes),
+    Ended,
+    Ready,
+    Port(PortChange),
+    Nothing,
+    Fault,
+    /// A datagram, or a frame that should leave, was dropped.
+    Dropped(Dropped),
+    /// Rows were to be written to the log.
+    Logged {
+        rows: Bytes,
+        whole: bool,
+    },
+    /// A datagram was sent.
+    Sent {
+        to: Place,
+        datagram: Bytes,
+    },
+    /// Bytes were offered to the connection.
+    Written {
+        bytes: Bytes,
+        taken: usize,
+        failed: bool,
+    },
+    /// The connection was closed.
+    Closed,
+}
+
+/// How the connection and the log take bytes.
+#[derive(Clone, Copy, Debug, PartialEq, Eq)]
+pub struct Taking {
+    /// How many bytes a write takes at most.
+    pub most: usize,
+    /// Whether writes to the connection fail.
+    pub fails: bool,
+    /// Whether there is a log, and whether it takes rows.
+    pub has_log: bool,
+    pub log_fails: bool,
+}
+
+/// A network that tells the lines of a script, one after the other, and then fails.
+#[derive(Drop)]
+pub struct MemoryNetwork {
+    script: Vec<Line>,
+    // how many lines were told
+    at: usize,
+    taking: Taking,
+    /// What passed, in order.
+    pub passed: Vec<Passed>,
+    /// Whether that is all: memory did not run out for it.
+    pub is_whole: bool,
+    alloc: Global,
+}
+
+// Puts bytes at the start of a buffer; false if they do not fit.
+fn fill(buffer: &mut [u8], bytes: &[u8]) -> bool
+    ensures fits { IsTrue result → length bytes.now ≤ length buffer.old }
+    ensures filled { IsTrue result → take (length bytes.now) buffer.new ≡ bytes.now }
+    ensures room { length buffer.new ≡ length buffer.old }
+{
+    if bytes.len() > buffer.len() {
+        return false;
+    }
+    buffer[..bytes.len()].copy_from_slice(bytes);
+    true
+}
+
+// The record of bytes that were offered to the connection.
+fn written(alloc: Global, bytes: &[u8], taken: usize, failed: bool) -> Result<Passed, AllocError>
+    ensures { IfOk result (λ p. act_of p ≡ Writes bytes.now taken failed) }
+{
+    Ok(Passed::Written {
+        bytes: Bytes::from_slice(alloc, bytes)?,
+        taken,
+        failed,
+    })
+}
+
+// The record of rows for the log.
+fn logged(alloc: Global, rows: &[u8], whole: bool) -> Result<Passed, AllocError>
+    ensures { IfOk result (λ p. act_of p ≡ Logs rows.now whole) }
+{
+    Ok(Passed::Logged {
+        rows: Bytes::from_slice(alloc, rows)?,
+        whole,
+    })
+}
+
+// The record of a datagram that was sent.
+fn sent(alloc: Global, to: Place, header: &[u8], frame: &[u8]) -> Result<Passed, AllocError>
+    ensures { IfOk result (λ p. act_of p ≡ Sends to (header.now ++ frame.now)) }
+{
+    let mut datagram = Vec::new(alloc);
+    datagram.extend_from_slice(header)?;
+    datagram.extend_from_slice(frame)?;
+    Ok(Passed::Sent {
+        to,
+        datagram: Bytes::new(datagram),
+    })
+}
+
+// The record of a datagram that came.
+fn datagram(alloc: Global, from: Place, bytes: &[u8]) -> Result<Passed, AllocError>
+    ensures { IfOk result (λ p. act_of p ≡ Told (Datagram from bytes.now)) }
+{
+    Ok(Passed::Datagram {
+        from,
+        bytes: Bytes::from_slice(alloc, bytes)?,
+    })
+}
+
+// The record of bytes of the controller.
+fn heard(alloc: Global, bytes: &[u8]) -> Result<Passed, AllocError>
+    ensures { IfOk result (λ p. act_of p ≡ Told (Heard bytes.now)) }
+{
+    Ok(Passed::Heard(Bytes::from_slice(alloc, bytes)?))
+}
+
+impl MemoryNetwork {
+    /// A network of that script.
+    pub fn new(alloc: Global, script: Vec<Line>, taking: Taking) -> Self
+        ensures told { told result ≡ Some [] }
+        ensures keeps { result.taking ≡ taking }
+    {
+        MemoryNetwork {
+            script,
+            at: 0,
+            taking,
+            passed: Vec::new(alloc),
+            is_whole: true,
+            alloc,
+        }
+    }
+
+    // Appends a record, if there is memory for it.
+    fn note(&mut self, made: Result<Passed, AllocError>)
+        ensures told { (act : Act) → IfOk made (λ p. act_of p ≡ act) → Records (told self.old) (act ∷ []) (told self.new) }
+        ensures taking { self.new.taking ≡ self.old.taking }
+    {
+        let Ok(passed) = made else {
+            self.is_whole = false;
+            return;
+        };
+        if self.passed.push(passed).is_err() {
+            self.is_whole = false;
+        }
+    }
+
+    // The script tells nothing more, or what does not fit.
+    fn fail(&mut self) -> Input
+        ensures input { result ≡ Input.Fault }
+        ensures told { Records (told self.old) (Told Fault ∷ []) (told self.new) }
+        ensures taking { self.new.taking ≡ self.old.taking }
+    {
+        self.note(Ok(Passed::Fault));
+        Input::Fault
+    }
+}
+
+impl Network for MemoryNetwork {
+    ghost told = { λ n. told n };
+
+    ghost keeps = { λ n. n.taking.has_log };
+
+    fn next(&mut self, buffer: &mut [u8]) -> Input {
+        let Some(line) = self.script.get(self.at) else {
+            return self.fail();
+        };
+        let (made, input) = match line {
+            Line::Time(now) => (Ok(Passed::Time(*now)), Input::Time(*now)),
+            Line::Opened => (Ok(Passed::Opened), Input::Opened),
+            Line::Ended => (Ok(Passed::Ended), Input::Ended),
+            Line::Ready => (Ok(Passed::Ready), Input::Ready),
+            Line::Nothing => (Ok(Passed::Nothing), Input::Nothing),
+            Line::Port(change) => (Ok(Passed::Port(*change)), Input::Row(Event::Ports(*change))),
+            Line::Heard(bytes) => {
+                if !fill(buffer, bytes.as_slice()) {
+                    return self.fail();
+                }
+                let length = bytes.len();
+                (heard(self.alloc, bytes.as_slice()), Input::Heard(length))
+            }
+            Line::Datagram { from, bytes } => {
+                if !fill(buffer, bytes.as_slice()) {
+                    return self.fail();
+                }
+                let length = bytes.len();
+                (
+                    datagram(self.alloc, *from, bytes.as_slice()),
+                    Input::Datagram {
+                        from: *from,
+                        length,
+                    },
+                )
+            }
+        };
+        self.at += 1;
+        self.note(made);
+        input
+    }
+
+    fn is_logged(&self) -> bool {
+        self.taking.has_log
+    }
+
+    fn log(&mut self, rows: &[u8]) -> bool {
+        let whole = !self.taking.log_fails;
+        let made = logged(self.alloc, rows, whole);
+        self.note(made);
+        whole
+    }
+
+    fn send(&mut self, to: Place, header: [u8; 8], frame: &[u8]) {
+        let made = sent(self.alloc, to, &header, frame);
+        self.note(made);
+    }
+
+    fn count(&mut self, why: Dropped) {
+        self.note(Ok(Passed::Dropped(why)));
+    }
+
+    fn write(&mut self, bytes: &[u8]) -> Written {
+        let taken = self.taking.most.min(bytes.len());
+        let failed = self.taking.fails;
+        let made = written(self.alloc, bytes, taken, failed);
+        self.note(made);
+        Written { taken, failed }
+    }
+
+    fn close(&mut self) {
+        self.note(Ok(Passed::Closed));
+    }
+}
