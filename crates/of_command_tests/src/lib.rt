@@ -1,5 +1,5 @@
 //! Tests of what commands of the program do, in memory: of the check (which entries of a flow text win, and which never do), of the
-//! tracer, and of a switch that serves controllers. Each public call with ample memory.
+//! tracer, of a switch that serves controllers, and of one on a network. Each public call with ample memory.
 //!
 //! They are in a separate crate, since a crate that has tests is proved twice.
 #![tactic(auto)]
@@ -8,6 +8,8 @@
 mod calls;
 #[cfg(test)]
 mod findings;
+#[cfg(test)]
+mod live;
 #[cfg(test)]
 mod served;
 #[cfg(test)]

@@ -1,5 +1,6 @@
 //! One controller at a time, over TCP, without waiting for it.
-ghost use Rattle.std.specs.Prelude.{◌≡◌, ◌≤◌, length};
+ghost use Rattle.std.specs.Prelude.{◌≡◌, ◌≤◌, length, IfSome};
+ghost use Rattle.of_live.specs.Inputs.{IsInput};
 
 use mio::net::{TcpListener, TcpStream};
 use mio::{Interest, Registry, Token};
@@ -14,6 +15,9 @@ use std::net::SocketAddr;
 pub const DOOR: Token = Token(1);
 
 pub const CONNECTION: Token = Token(2);
+
+/// How many nanoseconds a call of a controller waits for its answer.
+const DIAL_WAIT: u64 = 5_000_000_000;
 
 /// How controllers and the switch find each other.
 #[derive(Drop)]
@@ -41,6 +45,10 @@ struct Connection {
     is_writable: bool,
     // a write did not take all
     is_full: bool,
+    // when it began, in nanoseconds
+    begun: u64,
+    // why it ends if it is closed now
+    ending: Ending,
 }
 
 /// Controllers that connect, or one that is called.
@@ -49,6 +57,8 @@ pub struct Controller<'r> {
     rt: &'r HostRuntime,
     door: Door,
     connection: Option<Connection>,
+    // what the clock said last, in nanoseconds
+    time: u64,
     quiet: bool,
 }
 
@@ -83,6 +93,7 @@ impl<'r> Controller<'r> {
             rt,
             door,
             connection: None,
+            time: 0,
             quiet,
         })
     }
@@ -127,7 +138,9 @@ impl<'r> Controller<'r> {
     }
 
     // Accepts whoever waits; one that comes while there is a connection is closed at once.
-    fn accept(&mut self, registry: &Registry) -> Option<Input> {
+    fn accept(&mut self, registry: &Registry) -> Option<Input>
+        ensures { IfSome result IsInput }
+    {
         let Door::Listening { listener, is_ready } = &mut self.door else {
             return None;
         };
@@ -147,14 +160,14 @@ impl<'r> Controller<'r> {
         }
     }
 
-    fn meet(
-        &mut self,
-        stream: TcpStream,
-        address: SocketAddr,
-        registry: &Registry,
-    ) -> Option<Input> {
+    fn meet(&mut self, stream: TcpStream, address: SocketAddr, registry: &Registry) -> Option<Input>
+        ensures { IfSome result IsInput }
+    {
         if self.connection.is_some() {
-            self.say("closed at once, since there is a connection: ", address);
+            self.say(
+                "closed at once, because there is another connection:",
+                address,
+            );
             return None;
         }
         self.begin(stream, address, false, registry).ok()?;
@@ -183,12 +196,25 @@ impl<'r> Controller<'r> {
             is_readable: false,
             is_writable: false,
             is_full: false,
+            begun: self.time,
+            ending: Ending::BySwitch,
         });
         Ok(())
     }
 
+    // Gives up a call that was not answered for some time.
+    fn hang_up(&mut self) {
+        let Some(connection) = &self.connection else {
+            return;
+        };
+        if connection.is_called && self.time.saturating_sub(connection.begun) >= DIAL_WAIT {
+            self.connection = None;
+        }
+    }
+
     // Calls the controller when that is due. A call is answered, or refused, when the connection may be written.
-    fn call(&mut self, now: u64, registry: &Registry) {
+    fn call(&mut self, registry: &Registry) {
+        self.hang_up();
         if self.connection.is_some() {
             return;
         }
@@ -200,18 +226,22 @@ impl<'r> Controller<'r> {
         else {
             return;
         };
-        if now < *due {
+        if self.time < *due {
             return;
         }
         let address = *address;
-        *due = now.saturating_add(pauses.next().saturating_mul(1_000_000));
+        *due = self
+            .time
+            .saturating_add(pauses.next().saturating_mul(1_000_000));
         if let Ok(stream) = TcpStream::connect(self.rt, address) {
             let _ = self.begin(stream, address, true, registry);
         }
     }
 
     // Whether a call was answered.
-    fn answered(&mut self) -> Option<Input> {
+    fn answered(&mut self) -> Option<Input>
+        ensures { IfSome result IsInput }
+    {
         let connection = self.connection.as_mut()?;
         if !connection.is_called || !connection.is_writable {
             return None;
@@ -233,13 +263,22 @@ impl<'r> Controller<'r> {
         }
     }
 
-    // What the connection says, at the start of the buffer.
+    fn is_somebody_waiting(&self) -> bool {
+        match &self.door {
+            Door::Listening { is_ready, .. } => *is_ready,
+            Door::Dialing { .. } => false,
+        }
+    }
+
+    // What the connection says, at the start of the buffer. It is also read if somebody waits: its end may have come before.
     fn hear(&mut self, buffer: &mut [u8]) -> Option<Input>
         requires { length buffer.old ≡ 65536 }
-        ensures { length buffer.new ≡ 65536 }
+        ensures room { length buffer.new ≡ 65536 }
+        ensures fits { IfSome result IsInput }
     {
+        let is_somebody_waiting = self.is_somebody_waiting();
         let connection = self.connection.as_mut()?;
-        if connection.is_called || !connection.is_readable {
+        if connection.is_called || !(connection.is_readable || is_somebody_waiting) {
             return None;
         }
         match connection.stream.read(buffer) {
@@ -256,38 +295,45 @@ impl<'r> Controller<'r> {
         }
     }
 
-    fn end(&mut self, why: Ending) -> Input {
+    fn end(&mut self, why: Ending) -> Input
+        ensures { result ≡ Input.Ended }
+    {
         self.connection = None;
         self.say_end(why);
         Input::Ended
     }
 
     // Whether a connection that did not take all takes bytes again.
-    fn takes_again(&mut self) -> Option<Input> {
+    fn takes_again(&mut self) -> Option<Input>
+        ensures { IfSome result IsInput }
+    {
         let connection = self.connection.as_mut()?;
         if !connection.is_full || !connection.is_writable {
             return None;
         }
         connection.is_full = false;
+        connection.ending = Ending::BySwitch;
         Some(Input::Ready)
     }
 
-    /// What comes from controllers, if something does.
-    pub fn next(&mut self, now: u64, registry: &Registry, buffer: &mut [u8]) -> Option<Input>
+    /// What comes from controllers, if something does: the end of a connection comes before the next one.
+    pub fn next(&mut self, time: u64, registry: &Registry, buffer: &mut [u8]) -> Option<Input>
         requires { length buffer.old ≡ 65536 }
-        ensures { length buffer.new ≡ 65536 }
+        ensures room { length buffer.new ≡ 65536 }
+        ensures fits { IfSome result IsInput }
     {
-        self.call(now, registry);
+        self.time = time;
+        self.call(registry);
         if let Some(input) = self.answered() {
-            return Some(input);
-        }
-        if let Some(input) = self.accept(registry) {
             return Some(input);
         }
         if let Some(input) = self.takes_again() {
             return Some(input);
         }
-        self.hear(buffer)
+        if let Some(input) = self.hear(buffer) {
+            return Some(input);
+        }
+        self.accept(registry)
     }
 
     /// Offers bytes to the connection.
@@ -305,15 +351,13 @@ impl<'r> Controller<'r> {
             match attempt_of(&connection.stream.write(rest_from(bytes, taken))) {
                 Attempt::Took(n) => taken += n,
                 Attempt::Again => {}
-                Attempt::Failed(Ending::ReadsNothing) => {
+                Attempt::Failed(ending) => {
+                    connection.ending = ending;
                     connection.is_full = true;
                     connection.is_writable = false;
-                    break;
-                }
-                Attempt::Failed(_) => {
                     return Written {
                         taken,
-                        failed: true,
+                        failed: ending != Ending::ReadsNothing,
                     };
                 }
             }
@@ -326,9 +370,10 @@ impl<'r> Controller<'r> {
 
     /// Closes the connection.
     pub fn close(&mut self) {
-        if self.connection.is_some() {
+        if let Some(connection) = &self.connection {
+            let ending = connection.ending;
             self.connection = None;
-            self.say_end(Ending::BySwitch);
+            self.say_end(ending);
         }
     }
 }

@@ -1,5 +1,6 @@
 //! The network of a live switch: datagrams, a controller, the machine's clock and a log.
-ghost use Rattle.std.specs.Prelude.{◌≡◌, None as NotTold};
+ghost use Rattle.std.specs.Prelude.{◌≡◌, length, IfSome, None as NotTold};
+ghost use Rattle.of_live.specs.Inputs.{IsInput};
 
 use super::controller::{CONNECTION, Controller, DOOR};
 use super::log::write_rows;
@@ -15,7 +16,7 @@ use std::time::{Duration, Instant};
 const TUNNEL: Token = Token(0);
 
 /// How many milliseconds an idle switch waits at most, so that flows expire and rows of the event file happen in time.
-const IDLE: u64 = 50;
+const IDLE: u64 = 100;
 
 /// How often a switch that is busy looks for another datagram before it waits.
 const LOOKS: u32 = 32;
@@ -97,7 +98,12 @@ impl<'r> Sockets<'r> {
     }
 
     // A controller or a datagram, by turns; None if nothing came.
-    fn ready(&mut self, buffer: &mut [u8]) -> Option<Input> {
+    fn ready(&mut self, buffer: &mut [u8]) -> Option<Input>
+        requires { length buffer.old ≡ 65536 }
+        ensures room { length buffer.new ≡ 65536 }
+        ensures fits { IfSome result IsInput }
+        ensures keeps { self.new.keeps ≡ self.old.keeps }
+    {
         if self.is_controllers_turn {
             self.is_controllers_turn = false;
             if let Some(input) = self
@@ -122,8 +128,10 @@ impl<'r> Sockets<'r> {
     }
 
     // Waits until something may come, or some time has passed.
-    fn wait(&mut self) -> io::Result<()> {
-        let is_ready = self.controller.is_ready() || self.tunnel.is_tired();
+    fn wait(&mut self) -> io::Result<()>
+        ensures { self.new.keeps ≡ self.old.keeps }
+    {
+        let is_ready = self.controller.is_ready() || self.tunnel.is_ready();
         let timeout = if is_ready { 0 } else { IDLE };
         self.poll
             .poll(&mut self.events, Some(Duration::from_millis(timeout)))?;
@@ -144,7 +152,10 @@ impl<'r> Sockets<'r> {
     }
 
     // If the machine's clock fails, it is as late as it was.
-    fn tell_time(&mut self) -> Input {
+    fn tell_time(&mut self) -> Input
+        ensures input { IsInput result }
+        ensures keeps { self.new.keeps ≡ self.old.keeps }
+    {
         if let Ok(passed) = self.start.elapsed(self.rt) {
             self.time = u64::try_from(passed.as_nanos()).unwrap_or(self.time);
         }

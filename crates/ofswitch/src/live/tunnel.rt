@@ -71,7 +71,8 @@ impl Tunnel {
 
     /// The next datagram, at the start of the buffer: its length, and where its sender receives.
     pub fn receive(&mut self, buffer: &mut [u8]) -> Option<(usize, Place)>
-        ensures { IfSome result (λ r. r.0 ≤ length buffer.old) }
+        ensures fits { IfSome result (λ r. r.0 ≤ length buffer.old) }
+        ensures room { length buffer.new ≡ length buffer.old }
     {
         match self.socket.recv_from(buffer) {
             Ok((length, from)) => {
