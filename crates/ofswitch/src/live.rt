@@ -11,6 +11,7 @@ use std::alloc::AllocError;
 mod controller;
 mod log;
 mod network;
+mod outside;
 mod places;
 mod tunnel;
 

@@ -1,14 +1,13 @@
 //! One controller at a time, over TCP, without waiting for it.
-ghost use Rattle.std.specs.Prelude.{◌≡◌, ◌≤◌, length, IfSome};
+ghost use Rattle.std.specs.Prelude.{◌≡◌, ◌<◌, ◌≤◌, length, IfSome};
 ghost use Rattle.of_live.specs.Inputs.{IsInput};
 
 use mio::net::{TcpListener, TcpStream};
 use mio::{Interest, Registry, Token};
 use of_command_line::Meeting;
 use of_live::{Input, Written};
-use of_serve::{Attempt, Ending, Pauses, attempt_of, is_nobody};
-use of_wire::rest_from;
-use std::io::{self, ErrorKind, Read, Write};
+use of_serve::{Ending, Pauses, is_nobody, write_some};
+use std::io::{self, ErrorKind, Read};
 use std::net::SocketAddr;
 
 /// The tokens of what may be ready.
@@ -336,8 +335,9 @@ impl<'r> Controller<'r> {
         self.accept(registry)
     }
 
-    /// Offers bytes to the connection.
+    /// Offers bytes to the connection. One that takes a part of them takes no more for now.
     pub fn write(&mut self, bytes: &[u8]) -> Written
+        requires { 0 < length bytes.now }
         ensures { result.taken ≤ length bytes.now }
     {
         let Some(connection) = &mut self.connection else {
@@ -346,25 +346,24 @@ impl<'r> Controller<'r> {
                 failed: true,
             };
         };
-        let mut taken = 0;
-        while taken < bytes.len() {
-            match attempt_of(&connection.stream.write(rest_from(bytes, taken))) {
-                Attempt::Took(n) => taken += n,
-                Attempt::Again => {}
-                Attempt::Failed(ending) => {
-                    connection.ending = ending;
-                    connection.is_full = true;
-                    connection.is_writable = false;
-                    return Written {
-                        taken,
-                        failed: ending != Ending::ReadsNothing,
-                    };
+        match write_some(&mut connection.stream, bytes) {
+            Ok(taken) => {
+                connection.is_full = taken < bytes.len();
+                connection.is_writable = taken == bytes.len();
+                Written {
+                    taken,
+                    failed: false,
                 }
             }
-        }
-        Written {
-            taken,
-            failed: false,
+            Err(ending) => {
+                connection.ending = ending;
+                connection.is_full = true;
+                connection.is_writable = false;
+                Written {
+                    taken: 0,
+                    failed: ending != Ending::ReadsNothing,
+                }
+            }
         }
     }
 

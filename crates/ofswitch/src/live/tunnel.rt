@@ -59,11 +59,6 @@ impl Tunnel {
         self.is_ready
     }
 
-    /// Whether datagrams came since other sources had their turn.
-    pub fn is_busy(&self) -> bool {
-        self.received > 0
-    }
-
     /// Whether it is the turn of other sources.
     pub fn is_tired(&self) -> bool {
         self.received >= AT_ONCE
