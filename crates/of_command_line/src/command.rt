@@ -144,8 +144,9 @@ that connects meanwhile is closed at once. A controller that takes none of its a
 The event file has the rows of `replay`, except `connect`, `lost` and `c`; its rows happen as soon as the time of each `t` row
 before them has come, in nanoseconds since the start.
 
-The log is an event file of all that happens, and a row is written before anything goes out for it. So `replay LOG` prints
-what the switch sent, `dis LOG` its flow tables, and `trace --events LOG` and `check --events LOG` say why.
+The log is an event file of all that happens, and a row is written before anything goes out for it. So `replay LOG` prints the
+frames that the switch sent (and those for ports whose peer was not known), `dis LOG` its flow tables, and `trace --events LOG` and
+`check --events LOG` say why.
 
 A turn is one thing that comes: the time, a datagram, or bytes of the controller.";
 

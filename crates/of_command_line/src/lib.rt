@@ -383,7 +383,7 @@ fn tunnel_of(alloc: Global, word: &str) -> Result<SocketAddr, NoRequest> {
         Some(address) => Ok(address),
         None => Err(refused(
             alloc,
-            "bad address\nan address is an IP address, and a port after it if that is not 4789, as 10.0.0.1 or [::1]:8472\n",
+            "bad address\nan address is an IP address, and a port after it if that is not 4789, such as 10.0.0.1 or [::1]:8472\n",
         )?),
     }
 }
@@ -411,7 +411,7 @@ fn peer_of(alloc: Global, word: &str) -> Result<PortPeer, NoRequest> {
         Some(peer) => Ok(peer),
         None => Err(refused(
             alloc,
-            "bad peer: it is a port and an address, as 1=10.0.0.7 or 1=10.0.0.7:4789\n",
+            "bad peer: it is a port and an address, such as 1=10.0.0.7 or 1=10.0.0.7:4789\n",
         )?),
     }
 }
