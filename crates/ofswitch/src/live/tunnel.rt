@@ -1,5 +1,5 @@
 //! Datagrams.
-ghost use Rattle.std.specs.Prelude.{◌≤◌, length, IfSome};
+ghost use Rattle.std.specs.Prelude.{◌≡◌, ◌≤◌, length, IfSome};
 
 use super::places::{address_of, place_of};
 use mio::net::UdpSocket;
