@@ -111,6 +111,17 @@ names the line and the word, and nothing is printed, unless --skip leaves such l
   ovs-ofctl -O OpenFlow13 --no-names dump-flows br0 | ofswitch import - > br0.flows
   ofswitch check --flows br0.flows";
 
+const SAYING: &str =
+    "FILE is one or more OpenFlow 1.3 messages, one after the other: hexadecimal digits on the command line, or a file that has
+hexadecimal digits, with white space between them or not, or the bytes themselves. It does not matter which side sends them.
+
+Each message is a line: its type, its transaction id, its fields, and how many bytes it has, as `replay --explain` prints them.
+Below it are its match, actions or group in flow text, or the rows of a multipart reply. Bytes after the last whole message
+end with status 2.
+
+  ofswitch say 0400000800000001
+  ofswitch say message.bin";
+
 const SERVING: &str =
     "A controller connects over TCP (`--listen`), or the switch connects to it (`--connect`), again whenever the connection
 is lost. It serves one controller at a time; a second one waits. The switch keeps its flows between connections, but its
@@ -142,13 +153,14 @@ Without a controller the switch goes on forwarding, and flows expire by the cloc
 that connects meanwhile is closed at once. A controller that takes none of its answers for 10 seconds is closed.
 
 The event file has the rows of `replay`, except `connect`, `lost` and `c`; its rows happen as soon as the time of each `t` row
-before them has come, in nanoseconds since the start.
+before them has come, in nanoseconds since the start. With `--rows -`, rows `f` and `port` on standard input happen as soon as
+they are read, such as `port link 1 down`. Standard error reports bad rows and refused rows; the switch goes on.
 
 The log is an event file of all that happens, and a row is written before anything goes out for it. So `replay LOG` prints the
 frames that the switch sent (and those for ports whose peer was not known), `dis LOG` its flow tables, and `trace --events LOG` and
 `check --events LOG` say why.
 
-A turn is one thing that comes: the time, a datagram, or bytes of the controller.";
+A turn is one thing that comes: the time, a datagram, a row, or bytes of the controller.";
 
 const VERSION: &str = "0.1.0";
 
@@ -180,7 +192,7 @@ enum Kind {
     Flag(&'static str),
 }
 
-const REPLAY: [Argument; 3] = [
+const REPLAY: [Argument; 5] = [
     Argument {
         name: "FILE",
         kind: Kind::Positional,
@@ -195,6 +207,16 @@ const REPLAY: [Argument; 3] = [
         name: "explain",
         kind: Kind::Flag("explain"),
         help: "Print each row, and below it what it did, in words",
+    },
+    Argument {
+        name: "ask",
+        kind: Kind::Flag("ask"),
+        help: "Answer questions, such as a line `#? flows` (docs/EVENTS.md)",
+    },
+    Argument {
+        name: "reads",
+        kind: Kind::Optional("reads", "N"),
+        help: "Read FILE at most N times, 65536 bytes each at most (by default 1000000)",
     },
 ];
 
@@ -222,6 +244,12 @@ const IMPORT: [Argument; 2] = [
         help: "Leave out lines that this switch refuses",
     },
 ];
+
+const SAY: [Argument; 1] = [Argument {
+    name: "FILE",
+    kind: Kind::Positional,
+    help: "Messages in hexadecimal digits, or a file with such digits or with the bytes; - is standard input",
+}];
 
 const TRACE: [Argument; 7] = [
     Argument {
@@ -312,7 +340,7 @@ const SERVE: [Argument; 6] = [
     },
 ];
 
-const LIVE_ARGUMENTS: [Argument; 10] = [
+const LIVE_ARGUMENTS: [Argument; 11] = [
     Argument {
         name: "vxlan",
         kind: Kind::Optional("vxlan", "ADDR[:PORT]"),
@@ -337,6 +365,11 @@ const LIVE_ARGUMENTS: [Argument; 10] = [
         name: "FILE",
         kind: Kind::Optional("events", "FILE"),
         help: "An event file with ports and frames",
+    },
+    Argument {
+        name: "rows",
+        kind: Kind::Optional("rows", "-"),
+        help: "Take rows of frames and ports from standard input while the switch runs",
     },
     Argument {
         name: "peer",
@@ -373,7 +406,7 @@ struct Subcommand {
     arguments: &'static [Argument],
 }
 
-const SUBCOMMANDS: [Subcommand; 8] = [
+const SUBCOMMANDS: [Subcommand; 9] = [
     Subcommand {
         name: "replay",
         about: "Runs an event file on a new switch and prints the effects",
@@ -397,6 +430,12 @@ const SUBCOMMANDS: [Subcommand; 8] = [
         about: "Converts flows and groups in the syntax of ovs-ofctl to flow text",
         text: IMPORTS,
         arguments: &IMPORT,
+    },
+    Subcommand {
+        name: "say",
+        about: "Prints OpenFlow messages in words",
+        text: SAYING,
+        arguments: &SAY,
     },
     Subcommand {
         name: "trace",

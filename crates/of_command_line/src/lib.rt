@@ -30,6 +30,8 @@ const VXLAN_PORT: u16 = 4789;
 
 const DEFAULT_TURNS: u32 = 1_000_000;
 
+const DEFAULT_READS: u32 = 1_000_000;
+
 const DEFAULT_STEPS: u32 = 100_000;
 
 const DEFAULT_DPID: u64 = 1;
@@ -44,6 +46,14 @@ pub enum Request {
         dpid: u64,
         /// Whether its rows are printed too, with what they did in words.
         explain: bool,
+        /// Whether questions in the file are answered.
+        ask: bool,
+        /// How often the file is read at most.
+        reads: u32,
+    },
+    /// To print messages of OpenFlow in words: hexadecimal digits, or a file of them or of bytes; `-` is standard input.
+    Say {
+        messages: String,
     },
     /// To print an event file that builds the flow tables of a flow text; `-` is standard input.
     Assemble {
@@ -131,6 +141,8 @@ pub struct Live {
     pub ports: u32,
     /// An event file with ports and frames; `-` is standard input.
     pub events: Option<String>,
+    /// Whether rows of frames and ports are read from standard input while the switch runs.
+    pub rows: bool,
     pub peers: Vec<PortPeer>,
     /// Where all that happens is written.
     pub log: Option<String>,
@@ -190,6 +202,8 @@ fn request_of(alloc: Global, matches: &ArgMatches<'_>) -> Result<Request, NoRequ
             file: "-".to_string(alloc)?,
             dpid: DEFAULT_DPID,
             explain: false,
+            ask: false,
+            reads: DEFAULT_READS,
         });
     };
     match name {
@@ -211,6 +225,7 @@ fn file_request_of(
     match name {
         "asm" => Ok(Request::Assemble { file }),
         "dis" => Ok(Request::Disassemble { file }),
+        "say" => Ok(Request::Say { messages: file }),
         "import" => Ok(Request::Import {
             file,
             skip: matches.get_flag("skip"),
@@ -219,6 +234,8 @@ fn file_request_of(
             file,
             dpid: dpid_of(alloc, matches.get_str("dpid"))?,
             explain: matches.get_flag("explain"),
+            ask: matches.get_flag("ask"),
+            reads: reads_of(alloc, matches.get_str("reads"))?,
         }),
     }
 }
@@ -362,6 +379,7 @@ fn live_of(alloc: Global, matches: &ArgMatches<'_>) -> Result<Live, NoRequest> {
         meeting: meeting_of(alloc, matches)?,
         ports: ports_of(alloc, matches.get_str("ports"))?,
         events: text_of(alloc, matches.get_str("FILE"))?,
+        rows: running_rows_of(alloc, matches.get_str("rows"), matches.get_str("FILE"))?,
         peers: peers_of(alloc, matches.get_strs("peer").unwrap_or(&[]))?,
         log: text_of(alloc, matches.get_str("log"))?,
         turns: live_turns_of(alloc, matches.get_str("turns"))?,
@@ -392,6 +410,23 @@ fn ports_of(alloc: Global, word: Option<&str>) -> Result<u32, NoRequest> {
     match number_in(word.unwrap_or("0")) {
         Some(ports) if ports <= LAST_PORT => Ok(ports),
         _ => Err(refused(alloc, "bad ports: it is a number from 0 to 64\n")?),
+    }
+}
+
+// Rows come from standard input alone, which the event file may not be then.
+fn running_rows_of(
+    alloc: Global,
+    rows: Option<&str>,
+    events: Option<&str>,
+) -> Result<bool, NoRequest> {
+    match (rows, events) {
+        (None, _) => Ok(false),
+        (Some("-"), Some("-")) => Err(refused(
+            alloc,
+            "bad rows: --events and --rows cannot both read standard input\n",
+        )?),
+        (Some("-"), _) => Ok(true),
+        (Some(_), _) => Err(refused(alloc, "bad rows: it is -, for standard input\n")?),
     }
 }
 
@@ -451,6 +486,16 @@ fn turns_of(alloc: Global, word: Option<&str>) -> Result<u32, NoRequest> {
     match number_in(word) {
         Some(turns) => Ok(turns),
         None => Err(refused(alloc, "bad turns: a 32-bit number\n")?),
+    }
+}
+
+fn reads_of(alloc: Global, word: Option<&str>) -> Result<u32, NoRequest> {
+    let Some(word) = word else {
+        return Ok(DEFAULT_READS);
+    };
+    match number_in(word) {
+        Some(reads) => Ok(reads),
+        None => Err(refused(alloc, "bad reads: a 32-bit number\n")?),
     }
 }
 

@@ -1,7 +1,7 @@
 //! A switch on a network in memory: what passes, against the text that RFC 7348 and the rows of event files give.
 use of_cache::Cached;
 use of_live::memory::{Line, MemoryNetwork, Passed, Taking};
-use of_live::{Live, Place, live};
+use of_live::{Live, Endpoint, live};
 use of_mask_groups::MaskGroups;
 use of_replay::Ended;
 use of_replay::memory::MemorySource;
@@ -25,7 +25,7 @@ port add 2 020000000002 p2 up
 
 const FRAME: &str = "02000000000202000000000188b5";
 
-/// What passes: rows of the log, `w` and bytes for the controller, `s`, the port of a place and a datagram, `d` for what is dropped.
+/// What passes: rows of the log, `w` and bytes for the controller, `s`, the port of an endpoint and a datagram, `d` for what is dropped.
 const PASSED: &[u8] = b"t 0
 port add 1 020000000001 p1 up
 port add 2 020000000002 p2 up
@@ -50,9 +50,9 @@ fn bytes_of(alloc: Global, parts: &[&str]) -> Result<Bytes, Fail> {
     Ok(Bytes::new(bytes))
 }
 
-// A datagram from the port of a place.
+// A datagram from the port of an endpoint.
 fn datagram(alloc: Global, port: u16, parts: &[&str]) -> Result<Line, Fail> {
-    let from = Place {
+    let from = Endpoint {
         address: 0xffff_0a00_0001,
         port,
     };

@@ -5,3 +5,4 @@ pub mod Messages
 pub mod Requests
 pub mod Replies
 pub mod Explained
+pub mod Saying

@@ -7,7 +7,7 @@ ghost use Rattle.of_explain.specs.Explained.{explained};
 
 use crate::rows::Explaining;
 use of_classifier::Lookup;
-use of_replay::{Ended, Sink, Source, print_file};
+use of_replay::{Ended, MOST_READS, Sink, Source, print_file};
 use std::alloc::Global;
 
 /// Plays the rows of a source as `replay` does, and writes each line, and below it, after four spaces, what it did in words.
@@ -36,5 +36,5 @@ pub fn explain<L: Lookup, S: Source, W: Sink>(
     ensures write_fault { (result ≡ Ended.WriteFault) ↔ (0 < W.failures writer.new) }
     ensures early { WrittenEarly (told (start dpid) explained) (S.answers reader.old) (S.answers reader.new) (W.taken writer.old) (W.taken writer.new) }
 {
-    print_file::<L, _, _, _>(alloc, dpid, &Explaining, reader, writer)
+    print_file::<L, _, _, _>(alloc, dpid, MOST_READS, &Explaining, reader, writer)
 }

@@ -13,6 +13,7 @@ mod replies;
 mod requests;
 mod rows;
 mod said;
+mod saying;
 mod told;
 
 pub use explaining::explain;
@@ -21,3 +22,5 @@ pub use laws::each_message_is_told;
 pub use messages::push_message;
 pub use names::Names;
 pub use requests::push_request;
+pub use rows::Explaining;
+pub use saying::say_messages;

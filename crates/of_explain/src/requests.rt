@@ -21,7 +21,8 @@ pub fn push_line(out: &mut Vec<u8>, row: Row) -> Result<(), AllocError>
     end_note(out)
 }
 
-fn push_lines(out: &mut Vec<u8>, rows: &[Row]) -> Result<(), AllocError>
+/// Appends lines of flow text after eight spaces.
+pub fn push_lines(out: &mut Vec<u8>, rows: &[Row]) -> Result<(), AllocError>
     requires { AllByRecursion Fits rows.now }
     ensures { OnOk result (out.new.items ≡ out.old.items ++ row_lines rows.now) }
 {

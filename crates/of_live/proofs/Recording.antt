@@ -92,7 +92,7 @@ none_drops other l = refl
 none_sent : (peers : List Peer) (e : Effect) → log_of (sent_in peers e) ≡ []
 none_sent peers (effect.Sent port frame) = none_to port frame (peer_of port peers)
   where
-    none_if : (port : ℕ) (frame : List ℕ) (p : Peer) (x : Bool) → log_of ((if x then Sends p.place (header_of port ++ frame) else Drops dropped.NoPeer) ∷ []) ≡ []
+    none_if : (port : ℕ) (frame : List ℕ) (p : Peer) (x : Bool) → log_of ((if x then Sends p.endpoint (header_of port ++ frame) else Drops dropped.NoPeer) ∷ []) ≡ []
     none_if port frame p true = refl
     none_if port frame p false = refl
 

@@ -3,5 +3,6 @@ pub mod Inputs
 pub mod Turns
 pub mod Ends
 pub mod Recorded
+pub mod RunningRows
 pub mod Memory
 pub mod Working

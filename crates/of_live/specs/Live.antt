@@ -9,7 +9,7 @@ use Rattle.of_switch.specs.declared.event.Event.TheVariants.{Connect, Lost, Chun
 use Rattle.of_switch.specs.State.{State}
 use Rattle.of_switch.specs.Steps.{lost}
 use Rattle.of_serve.specs.Turns.{due, left}
-use Rattle.of_live.specs.declared.network.Place.{Place}
+use Rattle.of_live.specs.declared.network.Endpoint.{Endpoint}
 use Rattle.of_live.specs.declared.network.Dropped.{Dropped}
 use Rattle.of_live.specs.declared.network.Dropped.TheVariants as dropped
 use Rattle.of_live.specs.declared.peers.Peer.{Peer}
@@ -34,7 +34,7 @@ pub data Came : Type 0 where
   -- what the clock says, in nanoseconds
   Time : (now : ℕ) → Came
   -- a datagram, and where its sender receives
-  Datagram : (from : Place) → (bytes : List ℕ) → Came
+  Datagram : (from : Endpoint) → (bytes : List ℕ) → Came
   -- a controller connected, instead of the one before it
   Opened : Came
   -- bytes of the controller
@@ -55,21 +55,21 @@ abbrev pub peer_of : ℕ → List Peer → Option Peer
 peer_of number peers = find (λ p. p.port == number) peers
 
 -- whether a datagram from there may be a frame of this port: any may, unless another address was set
-abbrev pub may_send : Place → Option Peer → Bool
+abbrev pub may_send : Endpoint → Option Peer → Bool
 may_send from None = true
-may_send from (Some p) = not p.is_set || p.place.address == from.address
+may_send from (Some p) = not p.is_set || p.endpoint.address == from.address
 
 -- to where its last datagram came from, unless that was set
-abbrev pub moved : ℕ → Place → Peer → Peer
-moved number from p = if p.port == number && not p.is_set then record p { place = from } else p
+abbrev pub moved : ℕ → Endpoint → Peer → Peer
+moved number from p = if p.port == number && not p.is_set then record p { endpoint = from } else p
 
-abbrev pub heard_from : ℕ → Place → List Peer → List Peer
+abbrev pub heard_from : ℕ → Endpoint → List Peer → List Peer
 heard_from number from peers = if list_any (λ p. p.port == number) peers
     then map (moved number from) peers
-    else peers ++ record { port = number; place = from; is_set = false } ∷ []
+    else peers ++ record { port = number; endpoint = from; is_set = false } ∷ []
 
 -- A DATAGRAM is a frame of the port of its network, or it is dropped
-abbrev pub received : Live → Place → Option Encapsulated → Result Encapsulated Dropped
+abbrev pub received : Live → Endpoint → Option Encapsulated → Result Encapsulated Dropped
 received l from None = Err dropped.NoNetwork
 received l from (Some d) = if not (has_port d.vni l.state.core.forwarding.ports)
     then Err dropped.NoSuchPort
@@ -79,7 +79,7 @@ abbrev pub frame_of : Result Encapsulated Dropped → List Event
 frame_of (Ok d) = Frame d.vni d.frame ∷ []
 frame_of (Err why) = []
 
-abbrev pub peers_after : Place → Result Encapsulated Dropped → List Peer → List Peer
+abbrev pub peers_after : Endpoint → Result Encapsulated Dropped → List Peer → List Peer
 peers_after from (Ok d) peers = heard_from d.vni from peers
 peers_after from (Err why) peers = peers
 

@@ -10,7 +10,7 @@ use Rattle.of_switch.specs.State.{State}
 use Rattle.of_switch.specs.Runs.{Run, run, effects_in}
 use Rattle.of_serve.specs.Turns.{answer_in}
 use Rattle.of_laws.specs.RowText.{file_text}
-use Rattle.of_live.specs.declared.network.Place.{Place}
+use Rattle.of_live.specs.declared.network.Endpoint.{Endpoint}
 use Rattle.of_live.specs.declared.network.Dropped.{Dropped}
 use Rattle.of_live.specs.declared.network.Dropped.TheVariants as dropped
 use Rattle.of_live.specs.declared.peers.Peer.{Peer}
@@ -25,7 +25,7 @@ pub data Act : Type 0 where
   -- these rows were to be written to the log, and were or were not
   Logs : (rows : List ℕ) → (whole : Bool) → Act
   -- a datagram was sent
-  Sends : (to : Place) → (datagram : List ℕ) → Act
+  Sends : (to : Endpoint) → (datagram : List ℕ) → Act
   -- the connection was offered these bytes, took the first of them, and failed or did not
   Writes : (bytes : List ℕ) → (taken : ℕ) → (failed : Bool) → Act
   -- the connection was closed
@@ -56,7 +56,7 @@ is_connected_after came l = not (is_disconnected (ran came l).state.connection.p
 -- a frame that is sent is a datagram to where the port's frames go
 abbrev pub sent_to : ℕ → List ℕ → Option Peer → Act
 sent_to port frame Nobody = Drops dropped.NoPeer
-sent_to port frame (Some p) = if nat_lt port 16777216 then Sends p.place (header_of port ++ frame) else Drops dropped.NoPeer
+sent_to port frame (Some p) = if nat_lt port 16777216 then Sends p.endpoint (header_of port ++ frame) else Drops dropped.NoPeer
 
 abbrev pub sent_in : List Peer → Effect → List Act
 sent_in peers (Sent port frame) = sent_to port frame (peer_of port peers) ∷ []

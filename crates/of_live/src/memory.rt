@@ -4,7 +4,7 @@ ghost use Rattle.of_live.specs.Memory.{act_of, told};
 ghost use Rattle.of_live.specs.Live.{Datagram, Fault, Heard};
 ghost use Rattle.of_live.specs.Turns.{Act, Logs, Records, Sends, Told, Writes};
 
-use crate::network::{Dropped, Input, Network, Place, Written};
+use crate::network::{Dropped, Endpoint, Input, Network, Written};
 use of_switch::{Event, PortChange};
 use of_wire::Bytes;
 use std::alloc::{AllocError, Global};
@@ -13,7 +13,7 @@ use std::alloc::{AllocError, Global};
 #[derive(Debug, Drop)]
 pub enum Line {
     Time(u64),
-    Datagram { from: Place, bytes: Bytes },
+    Datagram { from: Endpoint, bytes: Bytes },
     Opened,
     Heard(Bytes),
     Ended,
@@ -29,7 +29,7 @@ pub enum Passed {
     /// The network told one of these.
     Time(u64),
     Datagram {
-        from: Place,
+        from: Endpoint,
         bytes: Bytes,
     },
     Opened,
@@ -48,7 +48,7 @@ pub enum Passed {
     },
     /// A datagram was sent.
     Sent {
-        to: Place,
+        to: Endpoint,
         datagram: Bytes,
     },
     /// Bytes were offered to the connection.
@@ -122,7 +122,7 @@ fn logged(alloc: Global, rows: &[u8], whole: bool) -> Result<Passed, AllocError>
 }
 
 // The record of a datagram that was sent.
-fn sent(alloc: Global, to: Place, header: &[u8], frame: &[u8]) -> Result<Passed, AllocError>
+fn sent(alloc: Global, to: Endpoint, header: &[u8], frame: &[u8]) -> Result<Passed, AllocError>
     ensures { IfOk result (λ p. act_of p ≡ Sends to (header.now ++ frame.now)) }
 {
     let mut datagram = Vec::new(alloc);
@@ -135,7 +135,7 @@ fn sent(alloc: Global, to: Place, header: &[u8], frame: &[u8]) -> Result<Passed,
 }
 
 // The record of a datagram that came.
-fn datagram(alloc: Global, from: Place, bytes: &[u8]) -> Result<Passed, AllocError>
+fn datagram(alloc: Global, from: Endpoint, bytes: &[u8]) -> Result<Passed, AllocError>
     ensures { IfOk result (λ p. act_of p ≡ Told (Datagram from bytes.now)) }
 {
     Ok(Passed::Datagram {
@@ -245,7 +245,7 @@ impl Network for MemoryNetwork {
         whole
     }
 
-    fn send(&mut self, to: Place, header: [u8; 8], frame: &[u8]) {
+    fn send(&mut self, to: Endpoint, header: [u8; 8], frame: &[u8]) {
         let made = sent(self.alloc, to, &header, frame);
         self.note(made);
     }

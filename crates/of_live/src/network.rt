@@ -8,7 +8,7 @@ use of_switch::Event;
 
 /// Where datagrams are received: an address and a UDP port.
 #[derive(Clone, Copy, Debug, PartialEq, Eq)]
-pub struct Place {
+pub struct Endpoint {
     /// An IPv6 address, or an IPv4 address as `::ffff:a.b.c.d`.
     pub address: u128,
     pub port: u16,
@@ -33,7 +33,7 @@ pub enum Input {
     /// This many nanoseconds have passed since the start.
     Time(u64),
     /// A datagram, which fills the start of the buffer, and where its sender receives.
-    Datagram { from: Place, length: usize },
+    Datagram { from: Endpoint, length: usize },
     /// A controller connected. The connection before it is over.
     Opened,
     /// Bytes of the controller, which fill the start of the buffer.
@@ -108,7 +108,7 @@ pub trait Network {
         ensures keeps { keeps self.new ≡ keeps self.old };
 
     /// Sends a datagram, of a header and a frame. One that the network does not take is lost, as datagrams may be.
-    fn send(&mut self, to: Place, header: [u8; 8], frame: &[u8])
+    fn send(&mut self, to: Endpoint, header: [u8; 8], frame: &[u8])
         ensures told { Records (told self.old) (Sends to (header ++ frame.now) ∷ []) (told self.new) }
         ensures keeps { keeps self.new ≡ keeps self.old };
 

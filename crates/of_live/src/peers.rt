@@ -4,14 +4,14 @@ ghost use Rattle.std.specs.List.{list_any};
 ghost use Rattle.std.specs.Option.{option_copied, option_map};
 ghost use Rattle.of_live.specs.Live.{heard_from, may_send as may, moved as moved_to, peer_of as found};
 
-use crate::network::Place;
+use crate::network::Endpoint;
 use std::alloc::AllocError;
 
 /// Where the frames of a port go.
 #[derive(Clone, Copy, Debug, PartialEq, Eq)]
 pub struct Peer {
     pub port: u32,
-    pub place: Place,
+    pub endpoint: Endpoint,
     /// Whether it was set, and is not learned: then only datagrams from this address are frames of the port.
     pub is_set: bool,
 }
@@ -24,22 +24,22 @@ pub fn peer_of(number: u32, peers: &[Peer]) -> Option<&Peer>
 }
 
 /// Whether a datagram from there may be a frame of the port of this peer.
-pub fn may_send(from: Place, peer: Option<&Peer>) -> bool
+pub fn may_send(from: Endpoint, peer: Option<&Peer>) -> bool
     ensures { result ≡ may from (option_map (λ p. p.now) peer.entry) }
 {
     match peer {
         None => true,
-        Some(peer) => !peer.is_set || peer.place.address == from.address,
+        Some(peer) => !peer.is_set || peer.endpoint.address == from.address,
     }
 }
 
 // The peer, which is where a datagram of that port came from, unless it was set.
-fn moved(peer: Peer, number: u32, from: Place) -> Peer
+fn moved(peer: Peer, number: u32, from: Endpoint) -> Peer
     ensures { result ≡ moved_to number from peer }
 {
     if peer.port == number && !peer.is_set {
         Peer {
-            place: from,
+            endpoint: from,
             ..peer
         }
     } else {
@@ -47,7 +47,7 @@ fn moved(peer: Peer, number: u32, from: Place) -> Peer
     }
 }
 
-fn move_each(peers: &mut [Peer], number: u32, from: Place)
+fn move_each(peers: &mut [Peer], number: u32, from: Endpoint)
     ensures { peers.new ≡ map (moved_to number from) peers.old }
 {
     for peer in peers.iter_mut() {
@@ -62,7 +62,7 @@ fn is_known(number: u32, peers: &[Peer]) -> bool
 }
 
 /// A datagram of a port came from there: that is where the port's frames go, unless their peer was set.
-pub fn learn(peers: &mut Vec<Peer>, number: u32, from: Place) -> Result<(), AllocError>
+pub fn learn(peers: &mut Vec<Peer>, number: u32, from: Endpoint) -> Result<(), AllocError>
     ensures ok { OnOk result (peers.new.items ≡ heard_from number from peers.old.items) }
     ensures err { OnErr result (peers.new.items ≡ peers.old.items) }
 {
@@ -72,7 +72,7 @@ pub fn learn(peers: &mut Vec<Peer>, number: u32, from: Place) -> Result<(), Allo
     }
     Ok(peers.push(Peer {
         port: number,
-        place: from,
+        endpoint: from,
         is_set: false,
     })?)
 }

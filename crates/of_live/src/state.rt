@@ -11,7 +11,7 @@ ghost use Rattle.of_live.specs.Live.{asked, events_in, frame_of, is_connected as
 ghost use Rattle.of_live.specs.Turns.{Records, Writes, closes as closing_acts, dropped_in, dropped_of, drops, is_stuck as stuck, may_write as may_write_after};
 ghost use Rattle.of_live.specs.Working.{Does, Goes, Hears, Passes, Settles, asks_by, closing, offered_acts, offered_to, offers, text_of};
 
-use crate::network::{Dropped, Input, Network, Place, Written};
+use crate::network::{Dropped, Endpoint, Input, Network, Written};
 use crate::peers::{Peer, learn, may_send, peer_of};
 use crate::work::{Work, happen, happen_due, happen_frame};
 use of_classifier::Lookup;
@@ -121,7 +121,7 @@ impl<L: Lookup> Live<L> {
     }
 
     // The port and the frame of a datagram, or why it is dropped.
-    fn receive<'a>(&self, from: Place, datagram: &'a [u8]) -> Result<(u32, &'a [u8]), Dropped>
+    fn receive<'a>(&self, from: Endpoint, datagram: &'a [u8]) -> Result<(u32, &'a [u8]), Dropped>
         ensures ok { IfOk result (λ d. received self.now from (carried datagram.now) ≡ Ok (record { vni = d.0; frame = d.1.now })) }
         ensures err { IfErr result (λ why. received self.now from (carried datagram.now) ≡ Err why) }
     {
@@ -140,7 +140,7 @@ impl<L: Lookup> Live<L> {
     // A datagram is a frame of a port, or it is dropped.
     fn take_datagram<N: Network>(
         &mut self,
-        from: Place,
+        from: Endpoint,
         datagram: &[u8],
         network: &mut N,
         keeps: bool,

@@ -97,7 +97,7 @@ fn send_frame<N: Network>(peers: &[Peer], port: u32, frame: &[u8], network: &mut
     ensures keeps { N.keeps network.new ≡ N.keeps network.old }
 {
     match peer_of(port, peers) {
-        Some(peer) if port < NETWORKS => network.send(peer.place, write_header(port), frame),
+        Some(peer) if port < NETWORKS => network.send(peer.endpoint, write_header(port), frame),
         _ => network.count(Dropped::NoPeer),
     }
 }

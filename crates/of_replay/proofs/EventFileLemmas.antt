@@ -37,7 +37,7 @@ played_not begun tale Memory answers answers' ends ends' taken taken' r w = reco
 played_not begun tale Read answers answers' ends ends' taken taken' r w = record { more = r.more; answers_are = r.answers_are; whole = r.whole; is_read = (r.ends_so.0, not_yet (nat_lt ends ends') (given r.more) r.ends_so.0 r.ends_so.1) }
 played_not begun tale Write answers answers' ends ends' taken taken' r w = absurd (written Write w refl)
 
-pub faults_unplayed : (h : Halt) (reads ends ends' failures failures' : ℕ) → ReadsFail (Err h) reads ends ends' failures failures' → WritesFail (Err h) 0 → Faults (ended_so (Err h)) reads ends ends' failures failures' 0
+pub faults_unplayed : (h : Halt) (reads ends ends' failures failures' : ℕ) → ReadsFail 1000000 (Err h) reads ends ends' failures failures' → WritesFail (Err h) 0 → Faults (ended_so (Err h)) reads ends ends' failures failures' 0
 faults_unplayed (Bad n) reads ends ends' failures failures' h w = record { done = λ e. cc; once = omega (arith, h); read_fault = λ e. cc; failed_read = λ lt. absurd (omega (arith, lt, h)); write_fault = (λ e. cc, λ lt. absurd (omega (arith, lt))) }
 faults_unplayed Memory reads ends ends' failures failures' h w = record { done = λ e. cc; once = omega (arith, h); read_fault = λ e. cc; failed_read = λ lt. absurd (omega (arith, lt, h)); write_fault = (λ e. cc, λ lt. absurd (omega (arith, lt))) }
 faults_unplayed Read reads ends ends' failures failures' h w = let b = by_read reads ends ends' failures failures' h in record { done = λ e. cc; once = b.0; read_fault = λ e. b.1; failed_read = λ lt. refl; write_fault = (λ e. cc, λ lt. absurd (omega (arith, lt))) }

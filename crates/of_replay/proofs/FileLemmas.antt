@@ -88,7 +88,7 @@ runs_read is IsText value e answers answers' ends ends' taken taken' r w = recor
 
 -- ---- faults
 
-pub by_read : (reads ends ends' failures failures' : ℕ) → ReadsFail (Err Read) reads ends ends' failures failures' → (failures' ≤ failures + 1) × ((failures < failures') ⊎ ((reads ≡ 1000000) × (ends' ≡ ends)))
+pub by_read : (reads ends ends' failures failures' : ℕ) → ReadsFail 1000000 (Err Read) reads ends ends' failures failures' → (failures' ≤ failures + 1) × ((failures < failures') ⊎ ((reads ≡ 1000000) × (ends' ≡ ends)))
 by_read reads ends ends' failures failures' h = by_case h.1
   where
     by_case : (failures' ≡ failures + 1) ⊎ ((failures' ≡ failures) × (reads ≡ 1000000)) → (failures' ≤ failures + 1) × ((failures < failures') ⊎ ((reads ≡ 1000000) × (ends' ≡ ends)))
@@ -104,7 +104,7 @@ faults_nothing reads ends failures writes w = record {
   write_fault = (λ e. cc, λ lt. absurd (omega (arith, w, lt)));
 }
 
-pub faults_unread : (h : Halt) (answers answers' : Known) (file : List ℕ) (reads ends ends' failures failures' writes : ℕ) → ReadsFile (Err h) answers answers' ends ends' file → ReadsFail (Err h) reads ends ends' failures failures' → writes ≡ 0 → Faults (ended_so (Err h)) reads ends ends' failures failures' writes
+pub faults_unread : (h : Halt) (answers answers' : Known) (file : List ℕ) (reads ends ends' failures failures' writes : ℕ) → ReadsFile (Err h) answers answers' ends ends' file → ReadsFail 1000000 (Err h) reads ends ends' failures failures' → writes ≡ 0 → Faults (ended_so (Err h)) reads ends ends' failures failures' writes
 faults_unread (Bad n) answers answers' file reads ends ends' failures failures' writes r h w = absurd r.is
 faults_unread Memory answers answers' file reads ends ends' failures failures' writes r h w = record {
   done = λ e. cc;
@@ -123,7 +123,7 @@ faults_unread Read answers answers' file reads ends ends' failures failures' wri
 faults_unread Write answers answers' file reads ends ends' failures failures' writes r h w = absurd r.is
 
 -- a failure that is no fault of the source's: the file was read whole
-faults_none : (e : Ended) (reads ends ends' failures failures' : ℕ) → (e ≡ ReadFault → ⊥) → (e ≡ WriteFault → ⊥) → ReadsFail (Ok tt) reads ends ends' failures failures' → Faults e reads ends ends' failures failures' 0
+faults_none : (e : Ended) (reads ends ends' failures failures' : ℕ) → (e ≡ ReadFault → ⊥) → (e ≡ WriteFault → ⊥) → ReadsFail 1000000 (Ok tt) reads ends ends' failures failures' → Faults e reads ends ends' failures failures' 0
 faults_none e reads ends ends' failures failures' read write h = record {
   done = λ is. (h.1, h.0, refl);
   once = omega (arith, h.1);
@@ -133,7 +133,7 @@ faults_none e reads ends ends' failures failures' read write h = record {
 }
 
 -- the file was read whole, and then something was read of it or not
-pub faults_whole : {A : Type 0} (is : Meaning A) (result : Result A Ended) (file : List ℕ) (reads ends ends' failures failures' : ℕ) → IsRead is result true file → ReadsFail (Ok tt) reads ends ends' failures failures' → Faults (ended_as result) reads ends ends' failures failures' 0
+pub faults_whole : {A : Type 0} (is : Meaning A) (result : Result A Ended) (file : List ℕ) (reads ends ends' failures failures' : ℕ) → IsRead is result true file → ReadsFail 1000000 (Ok tt) reads ends ends' failures failures' → Faults (ended_as result) reads ends ends' failures failures' 0
 faults_whole is (Ok value) file reads ends ends' failures failures' r h = faults_none Done reads ends ends' failures failures' (λ e. cc) (λ e. cc) h
 faults_whole is (Err Done) file reads ends ends' failures failures' r h = absurd r
 faults_whole is (Err (BadRow n)) file reads ends ends' failures failures' r h = faults_none (BadRow n) reads ends ends' failures failures' (λ e. cc) (λ e. cc) h
@@ -142,7 +142,7 @@ faults_whole is (Err ReadFault) file reads ends ends' failures failures' r h = a
 faults_whole is (Err WriteFault) file reads ends ends' failures failures' r h = absurd r
 faults_whole is (Err NoMemory) file reads ends ends' failures failures' r h = faults_none NoMemory reads ends ends' failures failures' (λ e. cc) (λ e. cc) h
 
-pub faults_done : (reads ends ends' failures failures' : ℕ) → ReadsFail (Ok tt) reads ends ends' failures failures' → Faults Done reads ends ends' failures failures' 0
+pub faults_done : (reads ends ends' failures failures' : ℕ) → ReadsFail 1000000 (Ok tt) reads ends ends' failures failures' → Faults Done reads ends ends' failures failures' 0
 faults_done reads ends ends' failures failures' h = faults_none Done reads ends ends' failures failures' (λ e. cc) (λ e. cc) h
 
 no_write : (writes : ℕ) → ((0 < writes) → ⊥) → writes ≡ 0

@@ -34,11 +34,11 @@ chunk_size n buffer chunk is le size =
     omega (arith, same, le, size)
 
 -- no read fails in a chunk
-pub chunk_reads : (begun : State) (tale : RowText) (h : Halt) (earlier lines : List (List ℕ)) (out : List ℕ) (first taken : Option (List ℕ)) (reads ends ends' failures failures' : ℕ) → Halts begun tale h earlier lines out first taken → failures' ≡ failures → ReadsFail (Err h) reads ends ends' failures failures'
-chunk_reads begun tale (Bad n) earlier lines out first taken reads ends ends' failures failures' h e = e
-chunk_reads begun tale Memory earlier lines out first taken reads ends ends' failures failures' h e = e
-chunk_reads begun tale Read earlier lines out first taken reads ends ends' failures failures' h e = absurd h
-chunk_reads begun tale Write earlier lines out first taken reads ends ends' failures failures' h e = omega (arith, e)
+pub chunk_reads : (most : ℕ) (begun : State) (tale : RowText) (h : Halt) (earlier lines : List (List ℕ)) (out : List ℕ) (first taken : Option (List ℕ)) (reads ends ends' failures failures' : ℕ) → Halts begun tale h earlier lines out first taken → failures' ≡ failures → ReadsFail most (Err h) reads ends ends' failures failures'
+chunk_reads most begun tale (Bad n) earlier lines out first taken reads ends ends' failures failures' h e = e
+chunk_reads most begun tale Memory earlier lines out first taken reads ends ends' failures failures' h e = e
+chunk_reads most begun tale Read earlier lines out first taken reads ends ends' failures failures' h e = absurd h
+chunk_reads most begun tale Write earlier lines out first taken reads ends ends' failures failures' h e = omega (arith, e)
 
 -- a read that gave no bytes
 pub given_same : (more : List Answer) (one : Answer) → bytes_of one ≡ [] → given (more ++ one ∷ []) ≡ given more
@@ -249,30 +249,30 @@ not_write (Err Memory) writes w e is = cc
 not_write (Err Read) writes w e is = cc
 not_write (Err Write) writes w e is = omega (arith, w, e)
 
-pub done_by : (r : Result (Unit {0}) Halt) (reads ends ends' failures failures' writes : ℕ) → ReadsFail r reads ends ends' failures failures' → WritesFail r writes → ended_so r ≡ Done → (failures' ≡ failures) × (ends' ≡ ends + 1) × (writes ≡ 0)
-done_by (Ok u) reads ends ends' failures failures' writes h w e = (h.1, h.0, w)
-done_by (Err (Bad n)) reads ends ends' failures failures' writes h w e = cc
-done_by (Err Memory) reads ends ends' failures failures' writes h w e = cc
-done_by (Err Read) reads ends ends' failures failures' writes h w e = cc
-done_by (Err Write) reads ends ends' failures failures' writes h w e = cc
+pub done_by : (most : ℕ) (r : Result (Unit {0}) Halt) (reads ends ends' failures failures' writes : ℕ) → ReadsFail most r reads ends ends' failures failures' → WritesFail r writes → ended_so r ≡ Done → (failures' ≡ failures) × (ends' ≡ ends + 1) × (writes ≡ 0)
+done_by most (Ok u) reads ends ends' failures failures' writes h w e = (h.1, h.0, w)
+done_by most (Err (Bad n)) reads ends ends' failures failures' writes h w e = cc
+done_by most (Err Memory) reads ends ends' failures failures' writes h w e = cc
+done_by most (Err Read) reads ends ends' failures failures' writes h w e = cc
+done_by most (Err Write) reads ends ends' failures failures' writes h w e = cc
 
-once_or : (reads failures failures' : ℕ) → (failures' ≡ failures + 1) ⊎ ((failures' ≡ failures) × (reads ≡ 1000000)) → failures' ≤ failures + 1
-once_or reads failures failures' (inl e) = omega (arith, e)
-once_or reads failures failures' (inr h) = omega (arith, h.0)
+once_or : (most : ℕ) (reads failures failures' : ℕ) → (failures' ≡ failures + 1) ⊎ ((failures' ≡ failures) × (reads ≡ most)) → failures' ≤ failures + 1
+once_or most reads failures failures' (inl e) = omega (arith, e)
+once_or most reads failures failures' (inr h) = omega (arith, h.0)
 
-pub once_by : (r : Result (Unit {0}) Halt) (reads ends ends' failures failures' : ℕ) → ReadsFail r reads ends ends' failures failures' → failures' ≤ failures + 1
-once_by (Ok u) reads ends ends' failures failures' h = omega (arith, h.1)
-once_by (Err (Bad n)) reads ends ends' failures failures' h = omega (arith, h)
-once_by (Err Memory) reads ends ends' failures failures' h = omega (arith, h)
-once_by (Err Read) reads ends ends' failures failures' h = once_or reads failures failures' h.1
-once_by (Err Write) reads ends ends' failures failures' h = h
+pub once_by : (most : ℕ) (r : Result (Unit {0}) Halt) (reads ends ends' failures failures' : ℕ) → ReadsFail most r reads ends ends' failures failures' → failures' ≤ failures + 1
+once_by most (Ok u) reads ends ends' failures failures' h = omega (arith, h.1)
+once_by most (Err (Bad n)) reads ends ends' failures failures' h = omega (arith, h)
+once_by most (Err Memory) reads ends ends' failures failures' h = omega (arith, h)
+once_by most (Err Read) reads ends ends' failures failures' h = once_or most reads failures failures' h.1
+once_by most (Err Write) reads ends ends' failures failures' h = h
 
-pub failed_by : (r : Result (Unit {0}) Halt) (reads ends ends' failures failures' : ℕ) → ReadsFail r reads ends ends' failures failures' → failures < failures' → (ended_so r ≡ ReadFault) ⊎ (ended_so r ≡ WriteFault)
-failed_by (Ok u) reads ends ends' failures failures' h lt = absurd (omega (arith, h.1, lt))
-failed_by (Err (Bad n)) reads ends ends' failures failures' h lt = absurd (omega (arith, h, lt))
-failed_by (Err Memory) reads ends ends' failures failures' h lt = absurd (omega (arith, h, lt))
-failed_by (Err Read) reads ends ends' failures failures' h lt = inl refl
-failed_by (Err Write) reads ends ends' failures failures' h lt = inr refl
+pub failed_by : (most : ℕ) (r : Result (Unit {0}) Halt) (reads ends ends' failures failures' : ℕ) → ReadsFail most r reads ends ends' failures failures' → failures < failures' → (ended_so r ≡ ReadFault) ⊎ (ended_so r ≡ WriteFault)
+failed_by most (Ok u) reads ends ends' failures failures' h lt = absurd (omega (arith, h.1, lt))
+failed_by most (Err (Bad n)) reads ends ends' failures failures' h lt = absurd (omega (arith, h, lt))
+failed_by most (Err Memory) reads ends ends' failures failures' h lt = absurd (omega (arith, h, lt))
+failed_by most (Err Read) reads ends ends' failures failures' h lt = inl refl
+failed_by most (Err Write) reads ends ends' failures failures' h lt = inr refl
 
 pub unwritten_by : (r : Result (Unit {0}) Halt) (writes : ℕ) → WritesFail r writes → (ended_so r ≡ WriteFault) ↔ (0 < writes)
 unwritten_by (Ok u) writes w = (λ e. cc, λ lt. absurd (omega (arith, w, lt)))

@@ -144,13 +144,13 @@ WritesFail (Err halt.Memory) failures = failures ≡ 0
 WritesFail (Err halt.Read) failures = failures ≡ 0
 WritesFail (Err halt.Write) failures = 0 < failures
 
--- what the last read answered
-abbrev pub ReadsFail : Result (Unit {0}) Halt → (reads ends ends' failures failures' : ℕ) → Type 0
-ReadsFail (Ok u) reads ends ends' failures failures' = (ends' ≡ ends + 1) × (failures' ≡ failures)
-ReadsFail (Err (halt.Bad n)) reads ends ends' failures failures' = failures' ≡ failures
-ReadsFail (Err halt.Memory) reads ends ends' failures failures' = failures' ≡ failures
-ReadsFail (Err halt.Read) reads ends ends' failures failures' = (ends' ≡ ends) × ((failures' ≡ failures + 1) ⊎ ((failures' ≡ failures) × (reads ≡ 1000000)))
-ReadsFail (Err halt.Write) reads ends ends' failures failures' = failures' ≤ failures + 1
+-- what the last read answered, of at most so many
+abbrev pub ReadsFail : (most : ℕ) → Result (Unit {0}) Halt → (reads ends ends' failures failures' : ℕ) → Type 0
+ReadsFail most (Ok u) reads ends ends' failures failures' = (ends' ≡ ends + 1) × (failures' ≡ failures)
+ReadsFail most (Err (halt.Bad n)) reads ends ends' failures failures' = failures' ≡ failures
+ReadsFail most (Err halt.Memory) reads ends ends' failures failures' = failures' ≡ failures
+ReadsFail most (Err halt.Read) reads ends ends' failures failures' = (ends' ≡ ends) × ((failures' ≡ failures + 1) ⊎ ((failures' ≡ failures) × (reads ≡ most)))
+ReadsFail most (Err halt.Write) reads ends ends' failures failures' = failures' ≤ failures + 1
 
 -- how a run ends that halted so
 abbrev pub ended_so : Result (Unit {0}) Halt → Ended

@@ -3,7 +3,7 @@ ghost use Rattle.std.specs.Prelude.{◌≡◌, ◌≤◌, ◌<◌, ◌↔◌, No
 ghost use Rattle.of_replay.specs.FileRuns.{Reads, Runs, Writes, ended_as, event_file, is_text, switch_text};
 ghost use Rattle.of_replay.specs.WholeFiles.{Faults};
 
-use crate::event_file::{Ended, READ_SIZE, ended_by, zeros};
+use crate::event_file::{Ended, MOST_READS, READ_SIZE, ended_by, zeros};
 use crate::io::{Sink, Source, Writing};
 use crate::plain::Plain;
 use crate::replaying::Replaying;
@@ -46,7 +46,7 @@ pub fn read_switch<L: Lookup, S: Source>(alloc: Global, reader: &mut S) -> Resul
         return Err(Ended::NoMemory);
     };
     let mut replaying = Replaying::new(alloc, switch);
-    match replaying.play(&Plain, reader, &mut buffer, &mut Nowhere) {
+    match replaying.play(&Plain, MOST_READS, reader, &mut buffer, &mut Nowhere) {
         Ok(()) => Ok(replaying.into_switch()),
         Err(halt) => Err(ended_by(Err(halt))),
     }

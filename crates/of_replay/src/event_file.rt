@@ -22,6 +22,9 @@ use thiserror::Error;
 /// How many bytes a read asks for.
 pub const READ_SIZE: usize = 65_536;
 
+/// How often a source is read at most, unless another number is asked for: then no more than 65,536,000,000 bytes are read of it.
+pub const MOST_READS: u32 = 1_000_000;
+
 /// How a run ended. Displayed, it is the line on standard error.
 #[derive(Clone, Copy, Debug, PartialEq, Eq, Error)]
 pub enum Ended {
@@ -81,10 +84,11 @@ pub fn zeros(alloc: Global, len: usize) -> Result<Vec<u8>, AllocError>
 /// Plays the rows of a source on a new switch without a connection, flows and ports, and writes what the teller says of them.
 ///
 /// Rows are played as they are read, and what they give is written before the next read. Of the file no more is kept than one
-/// read and the line that has begun, up to 1,048,577 bytes.
+/// read and the line that has begun, up to 1,048,577 bytes. After so many reads without an end it is a read fault.
 pub fn print_file<L: Lookup, T: RowPrinter<L>, S: Source, W: Sink>(
     alloc: Global,
     dpid: u64,
+    most: u32,
     teller: &T,
     reader: &mut S,
     writer: &mut W,
@@ -95,10 +99,10 @@ pub fn print_file<L: Lookup, T: RowPrinter<L>, S: Source, W: Sink>(
         (W.taken writer.old) (W.taken writer.new) }
     ensures done { result ≡ Ended.Done → (S.failures reader.new ≡ S.failures reader.old) × (S.ends reader.new ≡ S.ends reader.old + 1) ×
         (W.failures writer.new ≡ 0) }
-    ensures reads { S.reads reader.new ≤ 1000000 }
+    ensures reads { S.reads reader.new ≤ most }
     ensures once { S.failures reader.new ≤ S.failures reader.old + 1 }
     ensures read_fault { result ≡ Ended.ReadFault → (S.failures reader.old < S.failures reader.new) ⊎
-        ((S.reads reader.new ≡ 1000000) × (S.ends reader.new ≡ S.ends reader.old)) }
+        ((S.reads reader.new ≡ most) × (S.ends reader.new ≡ S.ends reader.old)) }
     ensures failed_read { S.failures reader.old < S.failures reader.new → (result ≡ Ended.ReadFault) ⊎ (result ≡ Ended.WriteFault) }
     ensures write_fault { (result ≡ Ended.WriteFault) ↔ (0 < W.failures writer.new) }
     ensures early { WrittenEarly (told (start dpid) T.tale) (S.answers reader.old) (S.answers reader.new) (W.taken writer.old) (W.taken writer.new) }
@@ -110,7 +114,7 @@ pub fn print_file<L: Lookup, T: RowPrinter<L>, S: Source, W: Sink>(
         return Ended::NoMemory;
     };
     let mut replaying = Replaying::new(alloc, switch);
-    ended_by(replaying.play(teller, reader, &mut buffer, writer))
+    ended_by(replaying.play(teller, most, reader, &mut buffer, writer))
 }
 
 /// Plays the rows of a source on a new switch without a connection, flows and ports, and writes what it gives.
@@ -138,5 +142,5 @@ pub fn replay<L: Lookup, S: Source, W: Sink>(
     ensures early { WrittenEarly (λ lines. printed_from (start dpid) (rows_of lines).events) (S.answers reader.old) (S.answers reader.new)
         (W.taken writer.old) (W.taken writer.new) }
 {
-    print_file::<L, _, _, _>(alloc, dpid, &Plain, reader, writer)
+    print_file::<L, _, _, _>(alloc, dpid, MOST_READS, &Plain, reader, writer)
 }

@@ -23,12 +23,14 @@ mod whole_file;
 
 pub use config_file::read_config;
 pub use disassembling::{dis, read_switch};
-pub use event_file::{Ended, READ_SIZE, ended_by, print_file, replay, status, zeros};
+pub use event_file::{Ended, MOST_READS, READ_SIZE, ended_by, print_file, replay, status, zeros};
 pub use flow_text::asm;
 pub use halt::Halt;
 pub use io::{Reading, Sink, Source, Writing};
 pub use laws::{files_come_whole, mark_changes_nothing};
+pub use lexing::{cut_word, read_bytes, read_number};
 pub use output::push_effects;
+pub use plain::Plain;
 pub use play::play_row;
 pub use rows::{Row, read_row};
 pub use telling::RowPrinter;

@@ -19,9 +19,6 @@ use of_switch::Switch;
 use of_wire::{front_of, rest_from};
 use std::alloc::{AllocError, Global};
 
-/// How often a reader is read at most: no more than 65,536,000,000 bytes are read of it.
-const MOST_READS: u32 = 1_000_000;
-
 /// A run of a file's rows, which are played as they are read: of the file, only the line that has begun is kept.
 #[derive(Drop)]
 pub struct Replaying<L: Lookup> {
@@ -197,10 +194,11 @@ impl<L: Lookup> Replaying<L> {
         reader.read(buffer)
     }
 
-    // Plays the lines of a source as they are read. The text of the last line is still to be written.
+    // Plays the lines of a source as they are read, at most so many times. The text of the last line is still to be written.
     fn read<T: RowPrinter<L>, S: Source, W: Sink>(
         &mut self,
         teller: &T,
+        most: u32,
         reader: &mut S,
         buffer: &mut [u8],
         writer: &mut W,
@@ -212,12 +210,12 @@ impl<L: Lookup> Replaying<L> {
         ensures played { OnOk result (PlayedAll self.old.switch (S.answers reader.old) (S.answers reader.new) self.new.switch) }
         ensures plays { PlaysRead self.old.switch T.tale result (S.answers reader.old) (S.answers reader.new) (S.ends reader.old) (S.ends reader.new)
             self.new.printer (W.taken writer.old) (W.taken writer.new) }
-        ensures reads { ReadsFail result (S.reads reader.new) (S.ends reader.old) (S.ends reader.new) (S.failures reader.old) (S.failures reader.new) }
-        ensures few { S.reads reader.new ≤ 1000000 }
+        ensures reads { ReadsFail most result (S.reads reader.new) (S.ends reader.old) (S.ends reader.new) (S.failures reader.old) (S.failures reader.new) }
+        ensures few { S.reads reader.new ≤ most }
         ensures writes { WritesFail result (W.failures writer.new) }
         ensures early { WrittenEarly (told self.old.switch T.tale) (S.answers reader.old) (S.answers reader.new) (W.taken writer.old) (W.taken writer.new) }
     {
-        for _ in 0..MOST_READS {
+        for _ in 0..most {
             match self.read_once(reader, buffer) {
                 Reading::Bytes(n) => self.chunk(teller, front_of(buffer, n), writer)?,
                 Reading::End => return self.line(teller, writer),
@@ -228,10 +226,11 @@ impl<L: Lookup> Replaying<L> {
         Err(Halt::Read)
     }
 
-    /// Plays the lines of a source as they are read, and writes what the teller says of them.
+    /// Plays the lines of a source as they are read, at most so many times, and writes what the teller says of them.
     pub fn play<T: RowPrinter<L>, S: Source, W: Sink>(
         &mut self,
         teller: &T,
+        most: u32,
         reader: &mut S,
         buffer: &mut [u8],
         writer: &mut W,
@@ -243,12 +242,12 @@ impl<L: Lookup> Replaying<L> {
         ensures played { OnOk result (PlayedAll self.old.switch (S.answers reader.old) (S.answers reader.new) self.new.switch) }
         ensures plays { PrintsLines (told self.old.switch T.tale) (ended_so result) (S.answers reader.old) (S.answers reader.new) (S.ends reader.old)
             (S.ends reader.new) (W.taken writer.old) (W.taken writer.new) }
-        ensures reads { ReadsFail result (S.reads reader.new) (S.ends reader.old) (S.ends reader.new) (S.failures reader.old) (S.failures reader.new) }
-        ensures few { S.reads reader.new ≤ 1000000 }
+        ensures reads { ReadsFail most result (S.reads reader.new) (S.ends reader.old) (S.ends reader.new) (S.failures reader.old) (S.failures reader.new) }
+        ensures few { S.reads reader.new ≤ most }
         ensures writes { WritesFail result (W.failures writer.new) }
         ensures early { WrittenEarly (told self.old.switch T.tale) (S.answers reader.old) (S.answers reader.new) (W.taken writer.old) (W.taken writer.new) }
     {
-        let played = self.read(teller, reader, buffer, writer);
+        let played = self.read(teller, most, reader, buffer, writer);
         if let Err(Halt::Write) = played {
             return played;
         }

@@ -3,14 +3,12 @@ ghost use Rattle.std.specs.Prelude.{◌≡◌, ◌≤◌, ◌<◌, ◌++◌, [],
 ghost use Rattle.of_replay.specs.WholeFiles.{ReadsFile, bad_line as first_bad_line};
 ghost use Rattle.of_replay.specs.Stepping.{ReadsFail};
 
+use crate::event_file::MOST_READS;
 use crate::halt::Halt;
 use crate::io::{Reading, Source};
 use crate::lexing::is_readable;
 use of_text::cut;
 use of_wire::front_of;
-
-/// How often a reader is read at most: no more than 65,536,000,000 bytes are read of it.
-const MOST_READS: u32 = 1_000_000;
 
 // Appends these bytes to the file.
 fn keep(file: &mut Vec<u8>, part: &[u8]) -> Result<(), Halt>
@@ -33,7 +31,7 @@ pub fn read_file<S: Source>(
     requires fresh { S.reads reader.old ≡ 0 }
     requires empty { file.old.items ≡ [] }
     ensures gave { ReadsFile result (S.answers reader.old) (S.answers reader.new) (S.ends reader.old) (S.ends reader.new) file.new.items }
-    ensures reads { ReadsFail result (S.reads reader.new) (S.ends reader.old) (S.ends reader.new) (S.failures reader.old) (S.failures reader.new) }
+    ensures reads { ReadsFail 1000000 result (S.reads reader.new) (S.ends reader.old) (S.ends reader.new) (S.failures reader.old) (S.failures reader.new) }
     ensures few { S.reads reader.new ≤ 1000000 }
 {
     for _ in 0..MOST_READS {

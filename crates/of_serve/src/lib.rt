@@ -22,6 +22,6 @@ pub use gathering::{push_answers, waits};
 pub use laws::connections_take_prefixes;
 pub use pauses::{FIRST_PAUSE, LONGEST_PAUSE, Pauses};
 pub use peers::{Accepted, Clock, Peers};
-pub use refusals::{Refusals, RefusedRow};
+pub use refusals::{Refusals, RefusedRow, later_of, refusal_of, row_numbers};
 pub use rows::Rows;
 pub use serving::{serve, serve_on};

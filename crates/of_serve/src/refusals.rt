@@ -22,8 +22,8 @@ pub struct RefusedRow {
     pub why: SwitchError,
 }
 
-// The numbers of the lines that are neither empty nor comments, from 1.
-fn row_numbers(alloc: Global, file: &[u8]) -> Result<Vec<usize>, AllocError>
+/// The numbers of the lines that are neither empty nor comments, from 1: those of the rows of an event file.
+pub fn row_numbers(alloc: Global, file: &[u8]) -> Result<Vec<usize>, AllocError>
     ensures { IfOk result (λ numbers. numbers.items ≡ numbers_of_rows 0 (lines_of file.now)) }
 {
     let mut numbers = Vec::new(alloc);
@@ -40,8 +40,8 @@ fn row_numbers(alloc: Global, file: &[u8]) -> Result<Vec<usize>, AllocError>
     Ok(numbers)
 }
 
-// Changes the ports, and returns why that is refused, if it is.
-fn refusal_of<L: Lookup>(
+/// Changes the ports of a switch, and returns why that is refused, if it is.
+pub fn refusal_of<L: Lookup>(
     switch: &mut Switch<L>,
     change: PortChange,
 ) -> Result<Option<SwitchError>, AllocError>
@@ -75,8 +75,8 @@ fn push_refused<L: Lookup>(
     Ok(())
 }
 
-// The latest moment after a row.
-fn later_of(event: &Event, due: u64) -> u64
+/// When the rows after this row are due, in nanoseconds: at the latest moment before them.
+pub fn later_of(event: &Event, due: u64) -> u64
     ensures { result ≡ later event.now due }
 {
     match event {

@@ -32,4 +32,4 @@ pub use traces::Trace;
 pub use tracing::trace;
 pub use tracing_events::trace_events;
 pub use tracing_file::trace_file;
-pub use writing::write_trace;
+pub use writing::{trace_text, write_trace};

@@ -1,5 +1,5 @@
 //! Traces to a sink.
-ghost use Rattle.std.specs.Prelude.{◌≡◌, ◌↔◌, ◌<◌};
+ghost use Rattle.std.specs.Prelude.{◌≡◌, ◌↔◌, ◌<◌, IfOk};
 ghost use Rattle.of_replay.specs.FileRuns.{Writes, is_text};
 ghost use Rattle.of_trace.specs.Files.{trace_on};
 
@@ -10,7 +10,25 @@ use crate::tracing::trace;
 use of_classifier::Lookup;
 use of_replay::{Ended, Sink, write_all};
 use of_switch::Switch;
-use std::alloc::Global;
+use std::alloc::{AllocError, Global};
+
+/// The text of the trace of a frame received at a port, in one of its forms.
+pub fn trace_text<L: Lookup>(
+    alloc: Global,
+    switch: &Switch<L>,
+    port: u32,
+    frame: &[u8],
+    form: Form,
+) -> Result<Vec<u8>, AllocError>
+    ensures { IfOk result (λ text. text.items ≡ trace_on form port frame.now switch.now) }
+{
+    let traced = trace(alloc, switch, port, frame)?;
+    match form {
+        Form::Plain => print(alloc, &traced),
+        Form::Explained => explain(alloc, switch, Asked::Nothing, port, frame, &traced),
+        Form::Why(asked) => explain(alloc, switch, asked, port, frame, &traced),
+    }
+}
 
 /// Writes the text of the trace of a frame received at a port, in one of its forms. Nothing changes.
 ///
@@ -27,15 +45,7 @@ pub fn write_trace<L: Lookup, W: Sink>(
     ensures output { Writes (is_text (trace_on form port frame.now) switch.now) result (W.taken writer.old) (W.taken writer.new) }
     ensures write_fault { (result ≡ Ended.WriteFault) ↔ (0 < W.failures writer.new) }
 {
-    let Ok(traced) = trace(alloc, switch, port, frame) else {
-        return Ended::NoMemory;
-    };
-    let said = match form {
-        Form::Plain => print(alloc, &traced),
-        Form::Explained => explain(alloc, switch, Asked::Nothing, port, frame, &traced),
-        Form::Why(asked) => explain(alloc, switch, asked, port, frame, &traced),
-    };
-    let Ok(text) = said else {
+    let Ok(text) = trace_text(alloc, switch, port, frame, form) else {
         return Ended::NoMemory;
     };
     if write_all(writer, &text) {

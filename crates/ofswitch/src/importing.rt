@@ -16,8 +16,8 @@ pub enum NotImported {
     Ended(Ended),
 }
 
-// The bytes of a source.
-fn read_whole<R: Read + Drop>(alloc: Global, reader: R) -> Result<Vec<u8>, Ended> {
+/// The bytes of a source.
+pub fn read_whole<R: Read + Drop>(alloc: Global, reader: R) -> Result<Vec<u8>, Ended> {
     let mut reader = ReaderSource::new(reader);
     let Ok(mut buffer) = zeros(alloc, READ_SIZE) else {
         return Err(Ended::NoMemory);

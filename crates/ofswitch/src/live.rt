@@ -6,13 +6,17 @@ use of_command_line::{Live as Asked, PortPeer};
 use of_live::{Live, Peer, live};
 use of_replay::Ended;
 use of_switch::{Event, PortChange, Switch};
+use port_rows::PortRows;
 use std::alloc::AllocError;
 
 mod controller;
+mod endpoints;
+mod lines;
 mod log;
 mod network;
 mod outside;
-mod places;
+mod port_rows;
+mod standard_rows;
 mod tunnel;
 
 // The change that adds port N: 02:00:00:00:00:NN, pN, up.
@@ -32,15 +36,29 @@ fn port_of(alloc: std::alloc::Global, number: u32) -> Result<Event, AllocError> 
     }))
 }
 
-// The ports 1 to this one, and then the rows of the event file.
-fn all_rows(rt: &HostRuntime, ports: u32, rows: Vec<Event>) -> Result<Vec<Event>, AllocError> {
+// The changes that add the ports 1 to this one.
+fn first_ports(rt: &HostRuntime, ports: u32) -> Result<Vec<Event>, AllocError> {
     let mut all = Vec::new(rt.alloc());
     for number in 1..=ports {
         all.push(port_of(rt.alloc(), number)?)?;
     }
-    let mut rows = rows;
-    all.append(&mut rows)?;
     Ok(all)
+}
+
+// What says which rows of ports are refused, unless nothing is to be said.
+fn watched_ports<'r>(
+    rt: &'r HostRuntime,
+    asked: &Asked,
+    rows: &[Event],
+) -> Result<Option<PortRows<'r>>, AllocError> {
+    if asked.quiet {
+        return Ok(None);
+    }
+    let mut ports = PortRows::new(rt, &first_ports(rt, asked.ports)?)?;
+    if let Some(path) = &asked.events {
+        ports.read(path.as_str(), rows)?;
+    }
+    Ok(Some(ports))
 }
 
 fn set_peers(rt: &HostRuntime, asked: &[PortPeer]) -> Result<Vec<Peer>, AllocError> {
@@ -48,7 +66,7 @@ fn set_peers(rt: &HostRuntime, asked: &[PortPeer]) -> Result<Vec<Peer>, AllocErr
     for peer in asked {
         peers.push(Peer {
             port: peer.port,
-            place: places::place_of(&peer.address),
+            endpoint: endpoints::endpoint_of(&peer.address),
             is_set: true,
         })?;
     }
@@ -62,10 +80,12 @@ fn begun(
     rows: Vec<Event>,
     seed: u64,
 ) -> Result<Live<Lookups>, AllocError> {
-    let rows = all_rows(rt, asked.ports, rows)?;
+    let mut all = first_ports(rt, asked.ports)?;
+    let mut rows = rows;
+    all.append(&mut rows)?;
     let peers = set_peers(rt, asked.peers.as_slice())?;
     let switch = Switch::<Lookups>::with_seed(rt.alloc(), asked.dpid, seed)?;
-    Ok(Live::new(rt.alloc(), switch, rows, peers))
+    Ok(Live::new(rt.alloc(), switch, all, peers))
 }
 
 /// Forwards the frames of a network on a new switch, with the events of a file.
@@ -73,7 +93,10 @@ pub fn live_rows(rt: &HostRuntime, asked: &Asked, rows: Vec<Event>) -> Ended {
     let Some(seed) = draw_seed(rt) else {
         return Ended::ReadFault;
     };
-    let Some(mut network) = Sockets::begin(rt, asked) else {
+    let Ok(ports) = watched_ports(rt, asked, &rows) else {
+        return Ended::NoMemory;
+    };
+    let Some(mut network) = Sockets::begin(rt, asked, ports) else {
         return Ended::ReadFault;
     };
     match begun(rt, asked, rows, seed) {

@@ -8,6 +8,7 @@ mod hinting;
 mod importing;
 mod live;
 mod lookups;
+mod saying;
 mod serving;
 mod sockets;
 mod standard_input;
@@ -16,16 +17,18 @@ use crate::lookups::Lookups;
 use hinting::say_hint;
 use importing::{NotImported, imported, say_faults};
 use live::live_rows;
+use of_asking::Answering;
 use of_check::{check_events, check_file};
 use of_classifier::Scan;
 use of_command_line::{Asked, FileKind, Live, NoRequest, Request, Serve, Trace, read_request};
-use of_explain::explain;
+use of_explain::Explaining;
 use of_replay::streams::{ReaderSource, WriterSink};
-use of_replay::{Ended, Source, asm, dis, replay, status};
+use of_replay::{Ended, Plain, RowPrinter, Sink, Source, asm, dis, print_file, status};
 use of_serve::{ended_unopened, read_rows};
 use of_switch::Event;
 use of_text::TextFault;
 use of_trace::{FirstLines, Form, trace_events, trace_file};
+use saying::{Unsaid, said};
 use serving::serve_rows;
 use standard_input::StandardInput;
 use std::alloc::Global;
@@ -36,7 +39,7 @@ use std::process::ExitCode;
 /// The exit status if the arguments are not understood.
 const BAD_ARGUMENTS: u8 = 1;
 
-/// The exit status if lines of a table of Open vSwitch are at fault.
+/// The exit status if lines of a table of Open vSwitch, or bytes of messages, are at fault.
 const BAD_LINES: u8 = 2;
 
 /// The exit status if some of its lines are left out.
@@ -89,6 +92,7 @@ fn carry_out(rt: &HostRuntime, request: &Request) -> ExitCode {
             run_check(rt, file.as_str(), *kind, *steps as usize)
         }
         Request::Import { file, skip } => run_import(rt, file.as_str(), *skip),
+        Request::Say { messages } => run_say(rt, messages.as_str()),
         Request::Serve(asked) => run_serve(rt, asked),
         Request::Live(asked) => run_live(rt, asked),
     }
@@ -114,6 +118,24 @@ fn run_import(rt: &HostRuntime, path: &str, skip: bool) -> ExitCode {
             ExitCode::from(BAD_LINES)
         }
         Err(NotImported::Ended(ended)) => end(rt, &ended),
+    }
+}
+
+fn run_say(rt: &HostRuntime, word: &str) -> ExitCode {
+    match said(rt, word) {
+        Ok(()) => ExitCode::SUCCESS,
+        Err(Unsaid::Ended(ended)) => end(rt, &ended),
+        Err(Unsaid::Unopened(error)) => end_unopened(rt, word, &error),
+        Err(Unsaid::BadHex) => {
+            let _ = eprintln!(rt;
+                "bad hex: messages are hexadecimal digits, two per byte, or the bytes themselves"
+            );
+            ExitCode::from(BAD_LINES)
+        }
+        Err(Unsaid::Left(count)) => {
+            let _ = eprintln!(rt; "the last {count} bytes are no whole message");
+            ExitCode::from(BAD_LINES)
+        }
     }
 }
 
@@ -217,11 +239,34 @@ fn run<R: Read + Drop>(rt: &HostRuntime, request: &Request, reader: R) -> Ended 
     match request {
         Request::Replay {
             dpid,
-            explain: true,
+            explain,
+            ask,
+            reads,
             ..
-        } => explain::<Lookups, _, _>(rt.alloc(), *dpid, &mut reader, &mut writer),
-        Request::Replay { dpid, .. } => {
-            replay::<Lookups, _, _>(rt.alloc(), *dpid, &mut reader, &mut writer)
+        } => {
+            let limits = (*dpid, *reads);
+            match (*explain, *ask) {
+                (false, false) => play(rt, limits, &Plain, &mut reader, &mut writer),
+                (true, false) => play(rt, limits, &Explaining, &mut reader, &mut writer),
+                (false, true) => {
+                    play(
+                        rt,
+                        limits,
+                        &Answering { rows: Plain },
+                        &mut reader,
+                        &mut writer,
+                    )
+                }
+                (true, true) => {
+                    play(
+                        rt,
+                        limits,
+                        &Answering { rows: Explaining },
+                        &mut reader,
+                        &mut writer,
+                    )
+                }
+            }
         }
         Request::Assemble { .. } => asm(rt.alloc(), &mut reader, &mut writer),
         Request::Disassemble { .. } => {
@@ -230,9 +275,24 @@ fn run<R: Read + Drop>(rt: &HostRuntime, request: &Request, reader: R) -> Ended 
         Request::Trace(_)
         | Request::Check { .. }
         | Request::Import { .. }
+        | Request::Say { .. }
         | Request::Serve(_)
         | Request::Live(_) => Ended::Done,
     }
+}
+
+// Plays the rows of a file on a switch with this datapath_id, and reads it at most so many times.
+fn play<T: RowPrinter<Lookups>, S: Source, W: Sink>(
+    rt: &HostRuntime,
+    (dpid, reads): (u64, u32),
+    rows: &T,
+    reader: &mut S,
+    writer: &mut W,
+) -> Ended
+    requires reads { S.reads reader.old ≡ 0 }
+    requires failures { W.failures writer.old ≡ 0 }
+{
+    print_file::<Lookups, _, _, _>(rt.alloc(), dpid, reads, rows, reader, writer)
 }
 
 // The switch before a line is the one that the lines before it leave.

@@ -3,8 +3,9 @@ ghost use Rattle.std.specs.Prelude.{◌≡◌, None as NotTold};
 
 use super::log::write_rows;
 use super::outside::Outside;
+use super::port_rows::PortRows;
 use of_command_line::Live as Asked;
-use of_live::{Dropped, Input, Network, Place, Written};
+use of_live::{Dropped, Endpoint, Input, Network, Written};
 use std::fs::File;
 use std::io;
 
@@ -26,8 +27,8 @@ pub struct Unopened {
 
 impl<'r> Sockets<'r> {
     /// Opens the sockets and the log. None, with a line on standard error, if one does not open.
-    pub fn begin(rt: &'r HostRuntime, asked: &Asked) -> Option<Self> {
-        match Sockets::new(rt, asked) {
+    pub fn begin(rt: &'r HostRuntime, asked: &Asked, ports: Option<PortRows<'r>>) -> Option<Self> {
+        match Sockets::new(rt, asked, ports) {
             Ok(sockets) => Some(sockets),
             Err(Unopened { what, why }) => {
                 let _ = eprintln!(rt; "cannot {what}: {why}");
@@ -36,8 +37,12 @@ impl<'r> Sockets<'r> {
         }
     }
 
-    fn new(rt: &'r HostRuntime, asked: &Asked) -> Result<Self, Unopened> {
-        let outside = Outside::new(rt, asked)?;
+    fn new(
+        rt: &'r HostRuntime,
+        asked: &Asked,
+        ports: Option<PortRows<'r>>,
+    ) -> Result<Self, Unopened> {
+        let outside = Outside::new(rt, asked, ports)?;
         let log = match &asked.log {
             Some(path) => match File::create(rt, path.as_str()) {
                 Ok(file) => Some(file),
@@ -91,7 +96,7 @@ impl Network for Sockets<'_> {
         }
     }
 
-    fn send(&mut self, to: Place, header: [u8; 8], frame: &[u8]) {
+    fn send(&mut self, to: Endpoint, header: [u8; 8], frame: &[u8]) {
         self.outside.send(to, header, frame);
     }
 

@@ -4,10 +4,13 @@ ghost use Rattle.of_live.specs.Inputs.{IsInput};
 
 use super::controller::{CONNECTION, Controller, DOOR};
 use super::network::Unopened;
+use super::port_rows::PortRows;
+use super::standard_rows::{Given, ROWS, StandardRows};
 use super::tunnel::Tunnel;
 use mio::{Events, Interest, Poll, Token};
 use of_command_line::Live as Asked;
-use of_live::{Dropped, Input, Place, Written};
+use of_live::{Dropped, Endpoint, Input, Written};
+use of_switch::Event;
 use std::alloc::Global;
 use std::io;
 use std::time::{Duration, Instant};
@@ -16,6 +19,9 @@ const TUNNEL: Token = Token(0);
 
 /// How many milliseconds an idle switch waits at most, so that flows expire and rows of the event file happen in time.
 const IDLE: u64 = 100;
+
+/// How many rows of standard input come at most before the next datagram or message.
+const ROWS_A_TURN: u32 = 64;
 
 /// How often a switch looks for another datagram after the last one, before it waits.
 const LOOKS: u32 = 32;
@@ -28,9 +34,13 @@ pub struct Outside<'r> {
     events: Events<Global>,
     tunnel: Tunnel,
     controller: Controller<'r>,
+    rows: Option<StandardRows<'r>>,
+    // how many rows may come before the next datagram
+    rows_left: u32,
+    ports: Option<PortRows<'r>>,
     start: Instant,
-    // what the clock said last, in nanoseconds since the start
-    time: u64,
+    // what the clock said last, in nanoseconds since the start; None before it said anything
+    time: Option<u64>,
     // whether the controller comes before the next datagram
     is_controllers_turn: bool,
     // how often it looked for another datagram
@@ -50,8 +60,12 @@ fn unopened<T: Drop>(opened: io::Result<T>, what: &'static str) -> Result<T, Uno
 }
 
 impl<'r> Outside<'r> {
-    /// Opens the sockets.
-    pub fn new(rt: &'r HostRuntime, asked: &Asked) -> Result<Self, Unopened> {
+    /// Opens the sockets. The rows of ports are those that are watched for refusals.
+    pub fn new(
+        rt: &'r HostRuntime,
+        asked: &Asked,
+        ports: Option<PortRows<'r>>,
+    ) -> Result<Self, Unopened> {
         let poll = unopened(Poll::new(rt), "wait for sockets")?;
         let events = match Events::with_capacity(rt.alloc(), 16) {
             Ok(events) => events,
@@ -69,6 +83,14 @@ impl<'r> Outside<'r> {
         unopened(registered, "receive datagrams")?;
         let controller = Controller::new(rt, asked.meeting, asked.quiet, poll.registry());
         let controller = unopened(controller, "listen")?;
+        let rows = if asked.rows {
+            Some(unopened(
+                StandardRows::new(rt, poll.registry()),
+                "wait for standard input",
+            )?)
+        } else {
+            None
+        };
         let start = unopened(Instant::now(rt), "read the clock")?;
         Ok(Outside {
             rt,
@@ -76,8 +98,11 @@ impl<'r> Outside<'r> {
             events,
             tunnel,
             controller,
+            rows,
+            rows_left: ROWS_A_TURN,
+            ports,
             start,
-            time: 0,
+            time: None,
             is_controllers_turn: true,
             looks: LOOKS,
             no_network: 0,
@@ -107,7 +132,26 @@ impl<'r> Outside<'r> {
         Some(Input::Nothing)
     }
 
-    // A controller or a datagram, by turns; None if nothing came.
+    // A row of standard input, if there is one.
+    fn next_row(&mut self, buffer: &mut [u8]) -> Option<Input>
+        requires { length buffer.old ≡ 65536 }
+        ensures room { length buffer.new ≡ 65536 }
+        ensures fits { IfSome result IsInput }
+    {
+        let rows = self.rows.as_mut()?;
+        self.rows_left = self.rows_left.checked_sub(1)?;
+        match rows.next(self.poll.registry(), buffer)? {
+            Given::Row { number, event } => {
+                if let (Event::Ports(change), Some(ports)) = (&event, &mut self.ports) {
+                    ports.play(number, *change);
+                }
+                Some(Input::Row(event))
+            }
+            Given::Nothing => Some(Input::Nothing),
+        }
+    }
+
+    // A controller, rows and datagrams, by turns; None if nothing came.
     fn ready(&mut self, buffer: &mut [u8]) -> Option<Input>
         requires { length buffer.old ≡ 65536 }
         ensures room { length buffer.new ≡ 65536 }
@@ -117,17 +161,23 @@ impl<'r> Outside<'r> {
             self.is_controllers_turn = false;
             let input = self
                 .controller
-                .next(self.time, self.poll.registry(), buffer);
+                .next(self.time.unwrap_or(0), self.poll.registry(), buffer);
             if input.is_some() {
                 return input;
             }
+        }
+        let row = self.next_row(buffer);
+        if row.is_some() {
+            return row;
         }
         self.look(buffer)
     }
 
     // Waits until something may come, or some time has passed.
     fn wait(&mut self) -> io::Result<()> {
-        let is_ready = self.controller.is_ready() || self.tunnel.is_ready();
+        let is_ready = self.controller.is_ready()
+            || self.tunnel.is_ready()
+            || self.rows.as_ref().is_some_and(|rows| rows.is_ready());
         let timeout = if is_ready { 0 } else { IDLE };
         self.poll
             .poll(&mut self.events, Some(Duration::from_millis(timeout)))?;
@@ -139,9 +189,15 @@ impl<'r> Outside<'r> {
                     event.is_readable() || event.is_read_closed() || event.is_error(),
                     event.is_writable() || event.is_error(),
                 ),
+                ROWS => {
+                    if let Some(rows) = &mut self.rows {
+                        rows.wake();
+                    }
+                }
                 _ => {}
             }
         }
+        self.rows_left = ROWS_A_TURN;
         self.tunnel.begin_turn();
         self.is_controllers_turn = true;
         Ok(())
@@ -151,18 +207,27 @@ impl<'r> Outside<'r> {
     fn tell_time(&mut self) -> Input
         ensures { IsInput result }
     {
-        if let Ok(passed) = self.start.elapsed(self.rt) {
-            self.time = u64::try_from(passed.as_nanos()).unwrap_or(self.time);
+        let before = self.time.unwrap_or(0);
+        let now = match self.start.elapsed(self.rt) {
+            Ok(passed) => u64::try_from(passed.as_nanos()).unwrap_or(before),
+            Err(_) => before,
+        };
+        self.time = Some(now);
+        if let Some(ports) = &mut self.ports {
+            ports.pass(now);
         }
-        Input::Time(self.time)
+        Input::Time(now)
     }
 
-    /// What comes next.
+    /// What comes next: first the time, so that the first rows of the event file happen before anything else.
     pub fn next(&mut self, buffer: &mut [u8]) -> Input
         requires { length buffer.old ≡ 65536 }
         ensures room { length buffer.new ≡ 65536 }
         ensures fits { IsInput result }
     {
+        if self.time.is_none() {
+            return self.tell_time();
+        }
         if let Some(input) = self.ready(buffer) {
             return input;
         }
@@ -176,7 +241,7 @@ impl<'r> Outside<'r> {
     }
 
     /// Sends a datagram.
-    pub fn send(&mut self, to: Place, header: [u8; 8], frame: &[u8]) {
+    pub fn send(&mut self, to: Endpoint, header: [u8; 8], frame: &[u8]) {
         self.tunnel.send(to, header, frame);
     }
 

@@ -1,9 +1,9 @@
 //! Datagrams.
 ghost use Rattle.std.specs.Prelude.{◌≡◌, ◌≤◌, length, IfSome};
 
-use super::places::{address_of, place_of};
+use super::endpoints::{address_of, endpoint_of};
 use mio::net::UdpSocket;
-use of_live::Place;
+use of_live::Endpoint;
 use std::io::{self, ErrorKind};
 use std::net::SocketAddr;
 
@@ -65,7 +65,7 @@ impl Tunnel {
     }
 
     /// The next datagram, at the start of the buffer: its length, and where its sender receives.
-    pub fn receive(&mut self, buffer: &mut [u8]) -> Option<(usize, Place)>
+    pub fn receive(&mut self, buffer: &mut [u8]) -> Option<(usize, Endpoint)>
         ensures fits { IfSome result (λ r. r.0 ≤ length buffer.old) }
         ensures room { length buffer.new ≡ length buffer.old }
     {
@@ -73,9 +73,9 @@ impl Tunnel {
             Ok((length, from)) => {
                 self.is_ready = true;
                 self.received = self.received.saturating_add(1);
-                let mut place = place_of(&from);
-                place.port = self.port;
-                Some((length, place))
+                let mut endpoint = endpoint_of(&from);
+                endpoint.port = self.port;
+                Some((length, endpoint))
             }
             Err(error) => {
                 if error.kind() == ErrorKind::WouldBlock {
@@ -87,13 +87,13 @@ impl Tunnel {
     }
 
     /// Sends a datagram, or counts it.
-    pub fn send(&mut self, to: Place, header: [u8; 8], frame: &[u8]) {
+    pub fn send(&mut self, to: Endpoint, header: [u8; 8], frame: &[u8]) {
         if self.send_whole(to, header, frame).is_err() {
             self.unsent = self.unsent.saturating_add(1);
         }
     }
 
-    fn send_whole(&mut self, to: Place, header: [u8; 8], frame: &[u8]) -> io::Result<()> {
+    fn send_whole(&mut self, to: Endpoint, header: [u8; 8], frame: &[u8]) -> io::Result<()> {
         self.datagram.clear();
         self.datagram.extend_from_slice(&header)?;
         self.datagram.extend_from_slice(frame)?;

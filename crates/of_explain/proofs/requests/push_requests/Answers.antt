@@ -10,7 +10,7 @@ pub loop-size-preserved : goal.loop-size-preserved
 loop-size-preserved c =
     let there = c.in-Message.ensures.there in
     let more = c.in_ok-push_request-in-Message.ensures ∙ ap (λ (x : List ℕ). c.loop-size.out.items ++ request_notes x) c.first.ensures in
-    rw c.take.ensures (told_more c.in-Message.size c.loop-size.stream c.loop-size.out.items c.push_request.new.out.items _ there.0 there.1 c.in-Message.ensures.front more c.loop-size.invariant)
+    rw c.take.ensures (told_more request_notes c.in-Message.size c.loop-size.stream c.loop-size.out.items c.push_request.new.out.items _ there.0 there.1 c.in-Message.ensures.front more c.loop-size.invariant)
 
 pub returns-in-Malformed : goal.returns-in-Malformed
-returns-in-Malformed c = done_told c.front.result c.loop-size.stream c.loop-size.out.items _ c.in-Malformed.is c.front.ensures.front c.loop-size.invariant
+returns-in-Malformed c = done_told request_notes c.front.result c.loop-size.stream c.loop-size.out.items _ c.in-Malformed.is c.front.ensures.front c.loop-size.invariant

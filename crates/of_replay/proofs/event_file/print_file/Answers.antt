@@ -11,16 +11,16 @@ returns-clause-output g c =
 
 pub returns-clause-done : goal.returns-clause-done
 returns-clause-done g c =
-    rw c.ended_by.ensures (done_by c.play.result (g.S.Source.reads c.play.new.reader) (g.S.Source.ends c.args.reader.now) (g.S.Source.ends c.play.new.reader) (g.S.Source.failures c.args.reader.now) (g.S.Source.failures c.play.new.reader) (g.W.Sink.failures c.play.new.writer)
+    rw c.ended_by.ensures (done_by c.args.most c.play.result (g.S.Source.reads c.play.new.reader) (g.S.Source.ends c.args.reader.now) (g.S.Source.ends c.play.new.reader) (g.S.Source.failures c.args.reader.now) (g.S.Source.failures c.play.new.reader) (g.W.Sink.failures c.play.new.writer)
     c.play.ensures.reads c.play.ensures.writes)
 
 pub returns-clause-once : goal.returns-clause-once
 returns-clause-once g c =
-    once_by c.play.result (g.S.Source.reads c.play.new.reader) (g.S.Source.ends c.args.reader.now) (g.S.Source.ends c.play.new.reader) (g.S.Source.failures c.args.reader.now) (g.S.Source.failures c.play.new.reader) c.play.ensures.reads
+    once_by c.args.most c.play.result (g.S.Source.reads c.play.new.reader) (g.S.Source.ends c.args.reader.now) (g.S.Source.ends c.play.new.reader) (g.S.Source.failures c.args.reader.now) (g.S.Source.failures c.play.new.reader) c.play.ensures.reads
 
 pub returns-clause-failed_read : goal.returns-clause-failed_read
 returns-clause-failed_read g c =
-    rw c.ended_by.ensures (failed_by c.play.result (g.S.Source.reads c.play.new.reader) (g.S.Source.ends c.args.reader.now) (g.S.Source.ends c.play.new.reader) (g.S.Source.failures c.args.reader.now) (g.S.Source.failures c.play.new.reader) c.play.ensures.reads)
+    rw c.ended_by.ensures (failed_by c.args.most c.play.result (g.S.Source.reads c.play.new.reader) (g.S.Source.ends c.args.reader.now) (g.S.Source.ends c.play.new.reader) (g.S.Source.failures c.args.reader.now) (g.S.Source.failures c.play.new.reader) c.play.ensures.reads)
 
 pub returns-clause-write_fault : goal.returns-clause-write_fault
 returns-clause-write_fault g c = rw c.ended_by.ensures (unwritten_by c.play.result (g.W.Sink.failures c.play.new.writer) c.play.ensures.writes)

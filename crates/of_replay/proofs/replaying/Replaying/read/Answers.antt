@@ -34,7 +34,7 @@ returns-in_err-chunk-in-Bytes-clause-reads g c =
     let l = c.loop in
     let r = l.invariant.so_far in
     let p = err_from_is_err_and c.from_residual.result c.from_residual.ensures.1 in
-    rw (p.1, p.2) (chunk_reads c.args.self.now.switch g.T.RowPrinter.tale c.in_err-chunk-in-Bytes.field-0.0 _ _ c.chunk.new.self.printer (g.W.Sink.taken c.args.writer.now) (g.W.Sink.taken c.chunk.new.writer) (g.S.Source.reads c.read_once.new.reader) (g.S.Source.ends c.args.reader.now) (g.S.Source.ends c.read_once.new.reader)
+    rw (p.1, p.2) (chunk_reads c.args.most c.args.self.now.switch g.T.RowPrinter.tale c.in_err-chunk-in-Bytes.field-0.0 _ _ c.chunk.new.self.printer (g.W.Sink.taken c.args.writer.now) (g.W.Sink.taken c.chunk.new.writer) (g.S.Source.reads c.read_once.new.reader) (g.S.Source.ends c.args.reader.now) (g.S.Source.ends c.read_once.new.reader)
     (g.S.Source.failures c.args.reader.now) (g.S.Source.failures c.read_once.new.reader) (c.in_err-chunk-in-Bytes.ensures.goes c.args.self.now.switch (given r.more) (g.W.Sink.taken c.args.writer.now) r.within) (omega (arith, c.in-Bytes.ensures.failures, l.invariant.failures)))
 
 pub returns-in-End-clause-plays : goal.returns-in-End-clause-plays

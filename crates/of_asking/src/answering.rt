@@ -1,0 +1,103 @@
+//! Answers to questions.
+ghost use Rattle.std.specs.Prelude.{◌≡◌, ◌++◌, IfErr, OnOk, drop};
+ghost use Rattle.of_switch.specs.declared.switch_error.SwitchError.TheVariants.{NoMemory};
+ghost use Rattle.of_replay.specs.FileRuns.{switch_text};
+ghost use Rattle.of_asking.specs.Questions.{answer, answered, is_question as asks, with_answers, with_frame};
+
+use crate::question::{Question, read_question};
+use of_classifier::Lookup;
+use of_replay::{Row, RowPrinter};
+use of_switch::{Switch, SwitchError};
+use of_text::{disassemble, is};
+use of_trace::trace_text;
+use of_wire::{front_of, rest_from};
+use std::alloc::{AllocError, Global};
+
+/// What a question begins with.
+const BEGINNING: usize = 3;
+
+fn is_question(line: &[u8]) -> bool
+    ensures { result ≡ asks line.now }
+{
+    is(&line[..line.len().min(BEGINNING)], b"#? ")
+}
+
+// Appends the groups and flow tables of a switch as flow text.
+fn push_flows<L: Lookup>(
+    alloc: Global,
+    out: &mut Vec<u8>,
+    switch: &Switch<L>,
+) -> Result<(), AllocError>
+    ensures { OnOk result (out.new.items ≡ out.old.items ++ switch_text switch.now) }
+{
+    let Ok(config) = switch.config() else {
+        return Err(AllocError);
+    };
+    let text = disassemble(alloc, &config)?;
+    out.extend_from_slice(&text)
+}
+
+// Appends the answer to a question, without the line that ends it.
+fn push_answer<L: Lookup>(
+    alloc: Global,
+    out: &mut Vec<u8>,
+    switch: &Switch<L>,
+    question: Question,
+    frame: &[u8],
+) -> Result<(), AllocError>
+    ensures { OnOk result (out.new.items ≡ out.old.items ++ answer switch.now (with_frame frame.now question)) }
+{
+    match question {
+        Question::Flows => push_flows(alloc, out, switch),
+        Question::Way { form, port } => {
+            let text = trace_text(alloc, switch, port, frame, form)?;
+            out.extend_from_slice(&text)
+        }
+        Question::Mark => Ok(()),
+        Question::Unknown => out.extend_from_slice(b"unknown question\n"),
+    }
+}
+
+// Appends the answer to the question of a comment.
+#[tactic(auto, unfolding(crate::specs::Questions::answered))]
+fn push_answered<L: Lookup>(
+    alloc: Global,
+    out: &mut Vec<u8>,
+    switch: &Switch<L>,
+    line: &[u8],
+) -> Result<(), AllocError>
+    ensures { OnOk result (out.new.items ≡ out.old.items ++ answered switch.now line.now) }
+{
+    let mut frame = Vec::new(alloc);
+    let question = read_question(rest_from(line, BEGINNING), &mut frame)?;
+    push_answer(alloc, out, switch, question, &frame)?;
+    out.extend_from_slice(b"?\n")
+}
+
+/// Prints for each row what another printer does, and answers questions: comments that begin with `#? `. The last line of an answer is `?`.
+///
+/// `flows` asks for the groups and flow tables as flow text; `trace PORT HEX`, `explain PORT HEX` and `why PORT HEX` for the way of a frame
+/// that would be received now; `mark` for nothing. Nothing changes.
+#[derive(Drop)]
+pub struct Answering<T> {
+    pub rows: T,
+}
+
+impl<L: Lookup, T: RowPrinter<L> + Drop> RowPrinter<L> for Answering<T> {
+    ghost tale = { with_answers T.RowPrinter.tale };
+
+    fn tell(
+        &self,
+        alloc: Global,
+        switch: &mut Switch<L>,
+        line: &[u8],
+        row: Row,
+        bytes: &[u8],
+        out: &mut Vec<u8>,
+    ) -> Result<(), SwitchError> {
+        if row == Row::Passed && is_question(line) {
+            return Ok(push_answered(alloc, out, switch, line)?);
+        }
+        self.rows.tell(alloc, switch, line, row, bytes, out)
+    }
+}

@@ -1,0 +1,84 @@
+//! Rows of ports that the switch refuses.
+use crate::hinting::bytes_of;
+use crate::lookups::Lookups;
+use of_serve::{later_of, refusal_of, row_numbers};
+use of_switch::{Event, PortChange, Switch};
+use std::alloc::AllocError;
+
+/// A change of ports by a row of the event file.
+#[derive(Clone, Copy)]
+struct DueRow {
+    // in nanoseconds
+    due: u64,
+    // the number of its line, from 1
+    line: usize,
+    change: PortChange,
+}
+
+/// The ports that there are by all rows until now. Only rows add and remove ports, so a switch of its own refuses the same rows.
+#[derive(Drop)]
+pub struct PortRows<'r> {
+    rt: &'r HostRuntime,
+    switch: Switch<Lookups>,
+    // those of the event file, and how many of them came
+    rows: Vec<DueRow>,
+    came: usize,
+}
+
+impl<'r> PortRows<'r> {
+    /// The ports that are there before the first row.
+    pub fn new(rt: &'r HostRuntime, first: &[Event]) -> Result<Self, AllocError> {
+        let mut ports = PortRows {
+            rt,
+            switch: Switch::<Lookups>::new(rt.alloc(), 1)?,
+            rows: Vec::new(rt.alloc()),
+            came: 0,
+        };
+        for event in first {
+            if let Event::Ports(change) = event {
+                refusal_of(&mut ports.switch, *change)?;
+            }
+        }
+        Ok(ports)
+    }
+
+    /// The rows of an event file, which are these events.
+    pub fn read(&mut self, path: &str, events: &[Event]) -> Result<(), AllocError> {
+        let Some(file) = bytes_of(self.rt, path) else {
+            return Ok(());
+        };
+        let lines = row_numbers(self.rt.alloc(), &file)?;
+        let mut due: u64 = 0;
+        for (event, line) in events.iter().zip(lines.iter()) {
+            if let Event::Ports(change) = event {
+                self.rows.push(DueRow {
+                    due,
+                    line: *line,
+                    change: *change,
+                })?;
+            }
+            due = later_of(event, due);
+        }
+        Ok(())
+    }
+
+    /// The clock says this time: says which of the rows that are due by now are refused.
+    pub fn pass(&mut self, now: u64) {
+        while let Some(row) = self.rows.get(self.came) {
+            if row.due > now {
+                return;
+            }
+            if let Ok(Some(why)) = refusal_of(&mut self.switch, row.change) {
+                let _ = eprintln!(self.rt; "row {} refused: {why}", row.line);
+            }
+            self.came += 1;
+        }
+    }
+
+    /// Says that a row of standard input is refused, if it is.
+    pub fn play(&mut self, number: u64, change: PortChange) {
+        if let Ok(Some(why)) = refusal_of(&mut self.switch, change) {
+            let _ = eprintln!(self.rt; "standard input: row {number} refused: {why}");
+        }
+    }
+}
