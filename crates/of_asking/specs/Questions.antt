@@ -10,6 +10,9 @@ use Rattle.of_trace.specs.declared.form.Form.{Form}
 use Rattle.of_trace.specs.declared.form.Form.TheVariants.{Plain, Explained, Why}
 use Rattle.of_trace.specs.declared.form.Asked.TheVariants.{All}
 use Rattle.of_trace.specs.Files.{trace_on}
+use Rattle.of_explain.specs.Explained.{frame_notes}
+use Rattle.of_asking.specs.declared.question.Manner.{Manner}
+use Rattle.of_asking.specs.declared.question.Manner.TheVariants.{Words, Steps}
 use Rattle.of_asking.specs.declared.question.Question.{Question as Asked}
 use Rattle.of_asking.specs.declared.question.Question.TheVariants as asked
 
@@ -17,37 +20,38 @@ use Rattle.of_asking.specs.declared.question.Question.TheVariants as asked
 pub data Question : Type 0 where
   -- the groups and flow tables
   Flows : Question
-  -- the way of a frame that would be received now, in a form
-  Way : (form : Form) → (port : ℕ) → (frame : List ℕ) → Question
+  -- what a frame would do that is received next
+  Next : (manner : Manner) → (port : ℕ) → (frame : List ℕ) → Question
   -- nothing: the end of the answer says that the lines before were played
   Mark : Question
   Unknown : Question
 
 -- `PORT HEX`
-abbrev pub way_of : Form → Option ℕ → Option (List ℕ) → Question
-way_of form (Some port) (Some frame) = Way form port frame
-way_of form port frame = Unknown
+abbrev pub next_of : Manner → Option ℕ → Option (List ℕ) → Question
+next_of manner (Some port) (Some frame) = Next manner port frame
+next_of manner port frame = Unknown
 
 abbrev pub frame_in : Option (List ℕ) → Option (List ℕ)
 frame_in None = None
 frame_in (Some word) = bytes_of word
 
-unfoldable pub way_in : Form → List ℕ → Question
-way_in form words = way_of form (number_of (first_word words)) (frame_in (after_word words))
+unfoldable pub next_in : Manner → List ℕ → Question
+next_in manner words = next_of manner (number_of (first_word words)) (frame_in (after_word words))
 
--- how much is told of the way
-abbrev pub form_named : List ℕ → Option Form
-form_named name = if bytes_eq name (codes "trace") then Some Plain
-    else (if bytes_eq name (codes "explain") then Some Explained else (if bytes_eq name (codes "why") then Some (Why All) else None))
+-- how that is told
+abbrev pub manner_named : List ℕ → Option Manner
+manner_named name = if bytes_eq name (codes "frame") then Some Words
+    else (if bytes_eq name (codes "trace") then Some (Steps Plain)
+    else (if bytes_eq name (codes "explain") then Some (Steps Explained) else (if bytes_eq name (codes "why") then Some (Steps (Why All)) else None)))
 
-abbrev pub way_by : Option Form → List ℕ → Question
-way_by None words = Unknown
-way_by (Some form) words = way_in form words
+abbrev pub next_by : Option Manner → List ℕ → Question
+next_by None words = Unknown
+next_by (Some manner) words = next_in manner words
 
--- `flows`, `mark`, or `trace`, `explain` or `why` and a frame
+-- `flows`, `mark`, or `frame`, `trace`, `explain` or `why` and a frame
 abbrev pub question_named : List ℕ → Option (List ℕ) → Question
 question_named name None = if bytes_eq name (codes "flows") then Flows else (if bytes_eq name (codes "mark") then Mark else Unknown)
-question_named name (Some words) = way_by (form_named name) words
+question_named name (Some words) = next_by (manner_named name) words
 
 unfoldable pub question_of : List ℕ → Question
 question_of words = question_named (first_word words) (after_word words)
@@ -55,7 +59,7 @@ question_of words = question_named (first_word words) (after_word words)
 -- the same, where the frame is beside it
 abbrev pub with_frame : List ℕ → Asked → Question
 with_frame frame asked.Flows = Flows
-with_frame frame (asked.Way form port) = Way form port frame
+with_frame frame (asked.Next manner port) = Next manner port frame
 with_frame frame asked.Mark = Mark
 with_frame frame asked.Unknown = Unknown
 
@@ -66,7 +70,8 @@ is_question line = bytes_eq (take 3 line) (codes "#? ")
 -- THE ANSWER of a switch
 abbrev pub answer : State → Question → List ℕ
 answer s Flows = switch_text s
-answer s (Way form port frame) = trace_on form port frame s
+answer s (Next (Steps form) port frame) = trace_on form port frame s
+answer s (Next Words port frame) = frame_notes port frame s
 answer s Mark = []
 answer s Unknown = codes "unknown question" ++ 10 ∷ []
 

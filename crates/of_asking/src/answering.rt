@@ -2,10 +2,11 @@
 ghost use Rattle.std.specs.Prelude.{◌≡◌, ◌++◌, IfErr, OnOk, drop};
 ghost use Rattle.of_switch.specs.declared.switch_error.SwitchError.TheVariants.{NoMemory};
 ghost use Rattle.of_replay.specs.FileRuns.{switch_text};
-ghost use Rattle.of_asking.specs.Questions.{answer, answered, is_question as asks, with_answers, with_frame};
+ghost use Rattle.of_asking.specs.Questions.{Next, answer, answered, is_question as asks, with_answers, with_frame};
 
-use crate::question::{Question, read_question};
+use crate::question::{Manner, Question, read_question};
 use of_classifier::Lookup;
+use of_explain::push_frame_notes;
 use of_replay::{Row, RowPrinter};
 use of_switch::{Switch, SwitchError};
 use of_text::{disassemble, is};
@@ -19,7 +20,7 @@ const BEGINNING: usize = 3;
 fn is_question(line: &[u8]) -> bool
     ensures { result ≡ asks line.now }
 {
-    is(&line[..line.len().min(BEGINNING)], b"#? ")
+    is(front_of(line, BEGINNING), b"#? ")
 }
 
 // Appends the groups and flow tables of a switch as flow text.
@@ -30,11 +31,31 @@ fn push_flows<L: Lookup>(
 ) -> Result<(), AllocError>
     ensures { OnOk result (out.new.items ≡ out.old.items ++ switch_text switch.now) }
 {
-    let Ok(config) = switch.config() else {
-        return Err(AllocError);
-    };
+    let config = switch.config()?;
     let text = disassemble(alloc, &config)?;
     out.extend_from_slice(&text)
+}
+
+// Appends what a frame would do that is received next.
+fn push_next<L: Lookup>(
+    alloc: Global,
+    out: &mut Vec<u8>,
+    switch: &Switch<L>,
+    manner: Manner,
+    port: u32,
+    frame: &[u8],
+) -> Result<(), SwitchError>
+    ensures text { OnOk result (out.new.items ≡ out.old.items ++ answer switch.now (Next manner port frame.now)) }
+    ensures err { IfErr result (λ e. e ≡ NoMemory) }
+{
+    match manner {
+        Manner::Words => push_frame_notes(alloc, out, switch, port, frame),
+        Manner::Steps(form) => {
+            let text = trace_text(alloc, switch, port, frame, form)?;
+            out.extend_from_slice(&text)?;
+            Ok(())
+        }
+    }
 }
 
 // Appends the answer to a question, without the line that ends it.
@@ -44,17 +65,15 @@ fn push_answer<L: Lookup>(
     switch: &Switch<L>,
     question: Question,
     frame: &[u8],
-) -> Result<(), AllocError>
-    ensures { OnOk result (out.new.items ≡ out.old.items ++ answer switch.now (with_frame frame.now question)) }
+) -> Result<(), SwitchError>
+    ensures text { OnOk result (out.new.items ≡ out.old.items ++ answer switch.now (with_frame frame.now question)) }
+    ensures err { IfErr result (λ e. e ≡ NoMemory) }
 {
     match question {
-        Question::Flows => push_flows(alloc, out, switch),
-        Question::Way { form, port } => {
-            let text = trace_text(alloc, switch, port, frame, form)?;
-            out.extend_from_slice(&text)
-        }
+        Question::Flows => Ok(push_flows(alloc, out, switch)?),
+        Question::Next { manner, port } => push_next(alloc, out, switch, manner, port, frame),
         Question::Mark => Ok(()),
-        Question::Unknown => out.extend_from_slice(b"unknown question\n"),
+        Question::Unknown => Ok(out.extend_from_slice(b"unknown question\n")?),
     }
 }
 
@@ -65,19 +84,20 @@ fn push_answered<L: Lookup>(
     out: &mut Vec<u8>,
     switch: &Switch<L>,
     line: &[u8],
-) -> Result<(), AllocError>
-    ensures { OnOk result (out.new.items ≡ out.old.items ++ answered switch.now line.now) }
+) -> Result<(), SwitchError>
+    ensures text { OnOk result (out.new.items ≡ out.old.items ++ answered switch.now line.now) }
+    ensures err { IfErr result (λ e. e ≡ NoMemory) }
 {
     let mut frame = Vec::new(alloc);
     let question = read_question(rest_from(line, BEGINNING), &mut frame)?;
     push_answer(alloc, out, switch, question, &frame)?;
-    out.extend_from_slice(b"?\n")
+    Ok(out.extend_from_slice(b"?\n")?)
 }
 
 /// Prints for each row what another printer does, and answers questions: comments that begin with `#? `. The last line of an answer is `?`.
 ///
-/// `flows` asks for the groups and flow tables as flow text; `trace PORT HEX`, `explain PORT HEX` and `why PORT HEX` for the way of a frame
-/// that would be received now; `mark` for nothing. Nothing changes.
+/// `flows` asks for the groups and flow tables as flow text; `frame PORT HEX` for what a frame would do that is received next, in words;
+/// `trace PORT HEX`, `explain PORT HEX` and `why PORT HEX` for its steps; `mark` for nothing. Nothing changes.
 #[derive(Drop)]
 pub struct Answering<T> {
     pub rows: T,
@@ -96,7 +116,7 @@ impl<L: Lookup, T: RowPrinter<L> + Drop> RowPrinter<L> for Answering<T> {
         out: &mut Vec<u8>,
     ) -> Result<(), SwitchError> {
         if row == Row::Passed && is_question(line) {
-            return Ok(push_answered(alloc, out, switch, line)?);
+            return push_answered(alloc, out, switch, line);
         }
         self.rows.tell(alloc, switch, line, row, bytes, out)
     }

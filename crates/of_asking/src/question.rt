@@ -1,35 +1,47 @@
 //! What a comment asks.
 ghost use Rattle.std.specs.Prelude.{◌≡◌, ℕ, List, None, Some, IfOk};
-ghost use Rattle.of_asking.specs.Questions.{form_named as form_by, question_named, question_of, way_in, with_frame};
+ghost use Rattle.of_asking.specs.Questions.{manner_named as manner_by, next_in, question_named, question_of, with_frame};
 
 use of_replay::{cut_word, read_bytes, read_number};
 use of_text::is;
 use of_trace::{Asked, Form};
 use std::alloc::AllocError;
 
+/// How it is told what a frame would do.
+#[derive(Clone, Copy, Debug, PartialEq, Eq)]
+pub enum Manner {
+    /// In words, as `replay --explain` tells it.
+    Words,
+    /// Step by step, as `trace` does.
+    Steps(Form),
+}
+
 /// What a comment asks. The bytes of a frame are in the buffer that it was read with.
 #[derive(Clone, Copy, Debug, PartialEq, Eq)]
 pub enum Question {
     /// The groups and flow tables.
     Flows,
-    /// The way of a frame that would be received now.
-    Way { form: Form, port: u32 },
+    /// What a frame would do that is received next.
+    Next { manner: Manner, port: u32 },
     /// Nothing.
     Mark,
     Unknown,
 }
 
-fn form_named(name: &[u8]) -> Option<Form>
-    ensures { result ≡ form_by name.now }
+fn manner_named(name: &[u8]) -> Option<Manner>
+    ensures { result ≡ manner_by name.now }
 {
+    if is(name, b"frame") {
+        return Some(Manner::Words);
+    }
     if is(name, b"trace") {
-        return Some(Form::Plain);
+        return Some(Manner::Steps(Form::Plain));
     }
     if is(name, b"explain") {
-        return Some(Form::Explained);
+        return Some(Manner::Steps(Form::Explained));
     }
     if is(name, b"why") {
-        return Some(Form::Why(Asked::All));
+        return Some(Manner::Steps(Form::Why(Asked::All)));
     }
     None
 }
@@ -48,9 +60,9 @@ fn question_of_word(name: &[u8]) -> Question
 }
 
 // `PORT HEX`.
-#[tactic(auto, unfolding(crate::specs::Questions::way_in))]
-fn read_way(form: Form, words: &[u8], frame: &mut Vec<u8>) -> Result<Question, AllocError>
-    ensures { IfOk result (λ q. way_in form words.now ≡ with_frame frame.new.items q) }
+#[tactic(auto, unfolding(crate::specs::Questions::next_in))]
+fn read_next(manner: Manner, words: &[u8], frame: &mut Vec<u8>) -> Result<Question, AllocError>
+    ensures { IfOk result (λ q. next_in manner words.now ≡ with_frame frame.new.items q) }
 {
     let (first, rest) = cut_word(words);
     let Some(port) = read_number(first) else {
@@ -60,7 +72,7 @@ fn read_way(form: Form, words: &[u8], frame: &mut Vec<u8>) -> Result<Question, A
         return Ok(Question::Unknown);
     };
     if read_bytes(word, frame)? {
-        Ok(Question::Way { form, port })
+        Ok(Question::Next { manner, port })
     } else {
         Ok(Question::Unknown)
     }
@@ -70,8 +82,8 @@ fn read_way(form: Form, words: &[u8], frame: &mut Vec<u8>) -> Result<Question, A
 fn read_named(name: &[u8], words: &[u8], frame: &mut Vec<u8>) -> Result<Question, AllocError>
     ensures { IfOk result (λ q. question_named name.now (Some words.now) ≡ with_frame frame.new.items q) }
 {
-    match form_named(name) {
-        Some(form) => read_way(form, words, frame),
+    match manner_named(name) {
+        Some(manner) => read_next(manner, words, frame),
         None => Ok(Question::Unknown),
     }
 }

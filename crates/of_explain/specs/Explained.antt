@@ -15,6 +15,7 @@ use Rattle.of_switch.specs.declared.switch_error.SwitchError.TheVariants as refu
 use Rattle.of_datapath.specs.DryRun.{steps_in}
 use Rattle.of_datapath.specs.Datapath.{Forwarding}
 use Rattle.of_switch.specs.State.{State}
+use Rattle.of_switch.specs.Steps.{frame_in}
 use Rattle.of_switch.specs.Runs.{Report, Gives, IsRefused}
 use Rattle.of_switch.specs.declared.event.Event.{Event}
 use Rattle.of_switch.specs.declared.event.Event.TheVariants.{Chunk, Frame}
@@ -93,6 +94,11 @@ way_notes number bytes f = arrival_notes number bytes (port_at f.ports number) +
 abbrev pub nothing_leaves : List Effect → List ℕ
 nothing_leaves [] = note (codes "nothing leaves")
 nothing_leaves (e ∷ es) = []
+
+-- WHAT A FRAME WOULD DO that is received next: its way, a note for each effect, and how that ends
+abbrev pub frame_notes : ℕ → List ℕ → State → List ℕ
+frame_notes number bytes s = way_notes number bytes s.core.forwarding
+    ++ (effect_notes (frame_in number bytes s).effects ++ nothing_leaves (frame_in number bytes s).effects)
 
 -- ---- a row
 

@@ -1,19 +1,21 @@
 //! The ways of frames in words.
-ghost use Rattle.std.specs.Prelude.{◌≡◌, ◌++◌, IfErr, OnOk, codes};
+ghost use Rattle.std.specs.Prelude.{◌≡◌, ◌++◌, IfErr, IfOk, OnOk, codes};
+ghost use Rattle.of_switch.specs.Steps.{frame_in};
 ghost use Rattle.of_switch.specs.declared.switch_error.SwitchError.TheVariants.{NoMemory};
 ghost use Rattle.std.specs.List.{flat_map};
 ghost use Rattle.std.specs.Option.{option_copied};
 ghost use Rattle.of_headers.specs.Faults.{frame_fault};
 ghost use Rattle.of_text.specs.Lines.{note};
 ghost use Rattle.of_explain.specs.Notes.{number_note, port_and_size, with_number};
-ghost use Rattle.of_explain.specs.Explained.{arrival_notes, length_notes, not_received, nothing_leaves, port_notes, step_notes, way_notes};
+ghost use Rattle.of_explain.specs.Explained.{arrival_notes, frame_notes, length_notes, not_received, nothing_leaves, port_notes, step_notes, way_notes};
 
+use crate::effects::push_effects;
 use crate::notes::{push_number_note, push_port_and_size, push_with_number};
 use of_classifier::Lookup;
 use of_headers::check_length;
 use of_machine::{Step, Steps};
 use of_ports::Port;
-use of_switch::{Effect, Switch, SwitchError};
+use of_switch::{Effect, Effects, Switch, SwitchError};
 use of_text::{begin_note, end_note, push_note};
 use std::alloc::{AllocError, Global};
 
@@ -119,22 +121,41 @@ fn push_steps(out: &mut Vec<u8>, steps: &[Step]) -> Result<(), AllocError>
     Ok(())
 }
 
-/// Appends the way that a frame would take next. Nothing changes.
+/// Appends the way that a frame would take next, and returns what it would give. Nothing changes.
 pub fn push_way<L: Lookup>(
     alloc: Global,
     out: &mut Vec<u8>,
     switch: &Switch<L>,
     number: u32,
     frame: &[u8],
-) -> Result<(), SwitchError>
+) -> Result<Effects, SwitchError>
     ensures text { OnOk result (out.new.items ≡ out.old.items ++ way_notes number frame.now switch.now.core.forwarding) }
+    ensures effects { IfOk result (λ effects. effects.items ≡ (frame_in number frame.now switch.now).effects) }
     ensures err { IfErr result (λ e. e ≡ NoMemory) }
 {
     let mut log = Steps::new(alloc);
-    switch.dry_run(number, frame, &mut log)?;
+    let effects = switch.dry_run(number, frame, &mut log)?;
     let port = switch.datapath().ports.port(number);
     push_arrival(out, port, number, frame)?;
     push_steps(out, &log.list)?;
+    Ok(effects)
+}
+
+/// Appends what a frame would do that is received next, in words, as `replay --explain` prints it below the frame's row: its way, a note
+/// for each effect, and how that ends. Nothing changes.
+pub fn push_frame_notes<L: Lookup>(
+    alloc: Global,
+    out: &mut Vec<u8>,
+    switch: &Switch<L>,
+    number: u32,
+    frame: &[u8],
+) -> Result<(), SwitchError>
+    ensures text { OnOk result (out.new.items ≡ out.old.items ++ frame_notes number frame.now switch.now) }
+    ensures err { IfErr result (λ e. e ≡ NoMemory) }
+{
+    let effects = push_way(alloc, out, switch, number, frame)?;
+    push_effects(alloc, out, &effects)?;
+    push_nothing(out, &effects)?;
     Ok(())
 }
 

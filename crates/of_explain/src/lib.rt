@@ -18,6 +18,7 @@ mod told;
 
 pub use explaining::explain;
 pub use fields::{Field, Form};
+pub use frames::push_frame_notes;
 pub use laws::each_message_is_told;
 pub use messages::push_message;
 pub use names::Names;

@@ -38,7 +38,10 @@ fn push_row<L: Lookup>(
 {
     match row {
         Row::Chunk => Ok(push_chunk(alloc, out, switch.pending(), bytes)?),
-        Row::Frame { port } => push_way(alloc, out, switch, port, bytes),
+        Row::Frame { port } => {
+            push_way(alloc, out, switch, port, bytes)?;
+            Ok(())
+        }
         Row::Passed | Row::Connect | Row::Lost | Row::Moment { .. } | Row::Ports(_) => Ok(()),
     }
 }

@@ -1,5 +1,5 @@
 //! Traces to a sink.
-ghost use Rattle.std.specs.Prelude.{◌≡◌, ◌↔◌, ◌<◌, IfOk};
+ghost use Rattle.std.specs.Prelude.{◌≡◌, ◌↔◌, ◌<◌, IfErr, IfOk};
 ghost use Rattle.of_replay.specs.FileRuns.{Writes, is_text};
 ghost use Rattle.of_trace.specs.Files.{trace_on};
 
@@ -9,25 +9,27 @@ use crate::printing::print;
 use crate::tracing::trace;
 use of_classifier::Lookup;
 use of_replay::{Ended, Sink, write_all};
-use of_switch::Switch;
-use std::alloc::{AllocError, Global};
+use of_switch::{Switch, SwitchError};
+use std::alloc::Global;
 
-/// The text of the trace of a frame received at a port, in one of its forms.
+/// The text of the trace of a frame received at a port, in one of its forms. It fails only if memory runs out.
 pub fn trace_text<L: Lookup>(
     alloc: Global,
     switch: &Switch<L>,
     port: u32,
     frame: &[u8],
     form: Form,
-) -> Result<Vec<u8>, AllocError>
-    ensures { IfOk result (λ text. text.items ≡ trace_on form port frame.now switch.now) }
+) -> Result<Vec<u8>, SwitchError>
+    ensures text { IfOk result (λ text. text.items ≡ trace_on form port frame.now switch.now) }
+    ensures err { IfErr result (λ e. e ≡ SwitchError.NoMemory) }
 {
     let traced = trace(alloc, switch, port, frame)?;
-    match form {
-        Form::Plain => print(alloc, &traced),
-        Form::Explained => explain(alloc, switch, Asked::Nothing, port, frame, &traced),
-        Form::Why(asked) => explain(alloc, switch, asked, port, frame, &traced),
-    }
+    let text = match form {
+        Form::Plain => print(alloc, &traced)?,
+        Form::Explained => explain(alloc, switch, Asked::Nothing, port, frame, &traced)?,
+        Form::Why(asked) => explain(alloc, switch, asked, port, frame, &traced)?,
+    };
+    Ok(text)
 }
 
 /// Writes the text of the trace of a frame received at a port, in one of its forms. Nothing changes.
