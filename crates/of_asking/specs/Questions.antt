@@ -1,5 +1,5 @@
 -- QUESTIONS in an event file: comments that ask about the switch at that place.
-use Rattle.std.specs.Prelude.{ℕ, Bool, true, false, List, [], ◌∷◌, ◌++◌, drop, take, codes, Option, Some, None, if◌then◌else◌}
+use Rattle.std.specs.Prelude.{ℕ, List, [], ◌∷◌, ◌++◌, drop, take, length, nat_lt, codes, Option, Some, None, if◌then◌else◌}
 use Rattle.std.specs.Str.{bytes_eq}
 use Rattle.of_switch.specs.declared.event.Event.{Event}
 use Rattle.of_switch.specs.State.{State}
@@ -64,8 +64,8 @@ with_frame frame asked.Mark = Mark
 with_frame frame asked.Unknown = Unknown
 
 -- a comment that begins with `#? ` is a question
-abbrev pub is_question : List ℕ → Bool
-is_question line = bytes_eq (take 3 line) (codes "#? ")
+abbrev pub question_words : List ℕ → Option (List ℕ)
+question_words line = if nat_lt (length line) 3 then None else (if bytes_eq (take 3 line) (codes "#? ") then Some (drop 3 line) else None)
 
 -- THE ANSWER of a switch
 abbrev pub answer : State → Question → List ℕ
@@ -77,13 +77,13 @@ answer s Unknown = codes "unknown question" ++ 10 ∷ []
 
 -- and a line that ends it
 unfoldable pub answered : State → List ℕ → List ℕ
-answered s line = answer s (question_of (drop 3 line)) ++ codes "?" ++ 10 ∷ []
+answered s words = answer s (question_of words) ++ codes "?" ++ 10 ∷ []
 
 -- WHAT IS PRINTED for a row: for a question its answer, and for all else what is printed without questions
-abbrev pub comment_text : Bool → RowText → State → List ℕ → List ℕ
-comment_text true tale s line = answered s line
-comment_text false tale s line = tale s line None
+abbrev pub comment_text : Option (List ℕ) → RowText → State → List ℕ → List ℕ
+comment_text (Some words) tale s line = answered s words
+comment_text None tale s line = tale s line None
 
 abbrev pub with_answers : RowText → RowText
-with_answers tale s line None = comment_text (is_question line) tale s line
+with_answers tale s line None = comment_text (question_words line) tale s line
 with_answers tale s line (Some event) = tale s line (Some event)

@@ -1,8 +1,9 @@
 //! Answers to questions.
-ghost use Rattle.std.specs.Prelude.{◌≡◌, ◌++◌, IfErr, OnOk, drop};
+ghost use Rattle.std.specs.Prelude.{◌≡◌, ◌++◌, IfErr, OnOk};
+ghost use Rattle.std.specs.Option.{option_copied};
 ghost use Rattle.of_switch.specs.declared.switch_error.SwitchError.TheVariants.{NoMemory};
 ghost use Rattle.of_replay.specs.FileRuns.{switch_text};
-ghost use Rattle.of_asking.specs.Questions.{Next, answer, answered, is_question as asks, with_answers, with_frame};
+ghost use Rattle.of_asking.specs.Questions.{Next, answer, answered, question_words, with_answers, with_frame};
 
 use crate::question::{Manner, Question, read_question};
 use of_classifier::Lookup;
@@ -11,16 +12,21 @@ use of_replay::{Row, RowPrinter};
 use of_switch::{Switch, SwitchError};
 use of_text::{disassemble, is};
 use of_trace::trace_text;
-use of_wire::{front_of, rest_from};
 use std::alloc::{AllocError, Global};
 
-/// What a question begins with.
-const BEGINNING: usize = 3;
-
-fn is_question(line: &[u8]) -> bool
-    ensures { result ≡ asks line.now }
+// The words of a comment that is a question.
+fn words_in(line: &[u8]) -> Option<&[u8]>
+    ensures { option_copied result ≡ question_words line.now }
 {
-    is(front_of(line, BEGINNING), b"#? ")
+    if line.len() < 3 {
+        return None;
+    }
+    let (beginning, words) = line.split_at(3);
+    if is(beginning, b"#? ") {
+        Some(words)
+    } else {
+        None
+    }
 }
 
 // Appends the groups and flow tables of a switch as flow text.
@@ -83,13 +89,13 @@ fn push_answered<L: Lookup>(
     alloc: Global,
     out: &mut Vec<u8>,
     switch: &Switch<L>,
-    line: &[u8],
+    words: &[u8],
 ) -> Result<(), SwitchError>
-    ensures text { OnOk result (out.new.items ≡ out.old.items ++ answered switch.now line.now) }
+    ensures text { OnOk result (out.new.items ≡ out.old.items ++ answered switch.now words.now) }
     ensures err { IfErr result (λ e. e ≡ NoMemory) }
 {
     let mut frame = Vec::new(alloc);
-    let question = read_question(rest_from(line, BEGINNING), &mut frame)?;
+    let question = read_question(words, &mut frame)?;
     push_answer(alloc, out, switch, question, &frame)?;
     Ok(out.extend_from_slice(b"?\n")?)
 }
@@ -115,9 +121,17 @@ impl<L: Lookup, T: RowPrinter<L> + Drop> RowPrinter<L> for Answering<T> {
         bytes: &[u8],
         out: &mut Vec<u8>,
     ) -> Result<(), SwitchError> {
-        if row == Row::Passed && is_question(line) {
-            return push_answered(alloc, out, switch, line);
+        match row {
+            Row::Passed => match words_in(line) {
+                Some(words) => push_answered(alloc, out, switch, words),
+                None => self.rows.tell(alloc, switch, line, row, bytes, out),
+            },
+            Row::Connect
+            | Row::Lost
+            | Row::Chunk
+            | Row::Frame { .. }
+            | Row::Moment { .. }
+            | Row::Ports(_) => self.rows.tell(alloc, switch, line, row, bytes, out),
         }
-        self.rows.tell(alloc, switch, line, row, bytes, out)
     }
 }
