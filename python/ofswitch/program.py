@@ -11,9 +11,9 @@ from typing import Union
 
 StrPath = Union[str, "os.PathLike[str]"]
 
-# Changes nothing, and always prints `refused 8`: it marks the end of the text of the rows before it.
-MARK_ROW = b"port remove 0\n"
-MARK_LINE = b"refused 8"
+# A question that asks nothing (docs/EVENTS.md): the line that ends its answer marks the end of the text of the rows before it.
+MARK_ROW = b"#? mark\n"
+ANSWER_END = b"?"
 
 # How many bytes a read asks for, here and in the program.
 _READ_SIZE = 65_536
@@ -65,7 +65,7 @@ def reads_of(size: int) -> int:
 
 
 class Run:
-    """A run of `ofswitch replay -` over two pipes. Only one thread may use it at a time."""
+    """A run of `ofswitch replay --ask -` over two pipes. Only one thread may use it at a time."""
 
     def __init__(self, command: list[str], timeout: float) -> None:
         self._command = command
@@ -99,44 +99,35 @@ class Run:
         if not self._finalizer.alive:
             raise ProgramError(f"{' '.join(self._command)} was ended")
 
-    def play(self, rows: bytes, marks: int) -> list[bytes]:
-        """Plays rows, and returns the lines that they print, without line ends.
+    def play(self, rows: bytes) -> list[bytes]:
+        """Plays rows, and returns the lines that they print, without line ends. After an exception the run has ended."""
+        return self.play_each(rows + MARK_ROW, 1)[0]
 
-        `marks` is how many of them print the line of the mark themselves. After an exception the run has ended.
-        """
-        return self.play_each(rows + MARK_ROW, [marks])[0]
-
-    def play_each(self, rows: bytes, marks: list[int]) -> list[list[bytes]]:
-        """Plays rows with a mark after each part, and returns the lines that each part prints.
-
-        `marks` is, for each part, how many of its rows print the line of the mark themselves.
-        """
+    def play_each(self, rows: bytes, parts: int) -> list[list[bytes]]:
+        """Plays so many parts, each with a question at its end, and returns the lines that each part prints."""
         try:
-            return self._exchange(memoryview(rows), [it + 1 for it in marks])
+            return self._exchange(memoryview(rows), parts)
         except BaseException:
             # what is still to come would be taken for the text of the next row
             self._process.kill()
             self.close()
             raise
 
-    def _exchange(self, left: memoryview, marks: list[int]) -> list[list[bytes]]:
+    def _exchange(self, left: memoryview, count: int) -> list[list[bytes]]:
         parts: list[list[bytes]] = []
         lines: list[bytes] = []
         line = b""
-        seen = 0
         while True:
             if left:
                 left = left[self._write(left) :]
             *whole, line = (line + self._read(self._ready if left else self._answering)).split(b"\n")
             for it in whole:
-                if it == MARK_LINE:
-                    seen += 1
-                    if seen == marks[len(parts)]:
-                        parts.append(lines)
-                        lines, seen = [], 0
-                        continue
-                lines.append(it)
-            if len(parts) == len(marks):
+                if it == ANSWER_END:
+                    parts.append(lines)
+                    lines = []
+                else:
+                    lines.append(it)
+            if len(parts) == count:
                 return parts
 
     def _write(self, data: memoryview) -> int:

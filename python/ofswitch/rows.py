@@ -50,7 +50,6 @@ _ROW = re.compile(
     rf"|remove (?P<removed>{_NUMBER})|link (?P<linked>{_NUMBER}) (?:up|down))"
 )
 _BITS = {"port": 32, "nanos": 64, "added": 32, "removed": 32, "linked": 32}
-_PORT_NUMBER = re.compile(r"port \w+ ([0-9]+)")
 
 
 def as_bytes(octets: Octets) -> bytes:
@@ -116,10 +115,12 @@ def port_link(number: int, up: bool) -> str:
 
 
 def check(row: str) -> None:
-    """Raises ValueError if this is not a valid row: `ofswitch replay` would end at this line."""
+    """Raises ValueError if this is not a valid row: `ofswitch replay` would end at this line, or answer a question."""
     if "\n" in row:
         raise ValueError("one row at a time: a row has no line end")
     _fits(row)
+    if row.startswith("#? "):
+        raise ValueError("a question is not a row: use the queries, such as switch.flows()")
     if row == "" or row.startswith("#"):
         return
     head, _, word = row.rpartition(" ")
@@ -142,12 +143,6 @@ def _is_hex(word: str) -> bool:
 def is_of_controller(row: str) -> bool:
     """Whether this row is about the connection with the controller."""
     return row in ("connect", "lost") or row.startswith("c ")
-
-
-def is_refused_as_8(row: str) -> bool:
-    """Whether this is a row about a port number that no port can have. Only such a row prints `refused 8`."""
-    named = _PORT_NUMBER.match(row)
-    return named is not None and not 1 <= int(named[1]) <= MOST_PORT
 
 
 def _number(value: SupportsIndex, bits: int) -> int:

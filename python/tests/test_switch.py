@@ -270,7 +270,8 @@ def test_without_a_log(new_switch, monkeypatch):
     switch.feed(messages.flow(messages.output(2)))
     assert switch.frame(1, FRAME) == [Sent(2, FRAME)]
     assert not switch.keeps_log
-    for ask in (switch.flows, switch.explain, switch.check, lambda: switch.log, lambda: switch.pcap("/nowhere"), lambda: switch.steps(1, FRAME)):
+    assert "output 2 0" in switch.flows() and "s 2 " in switch.steps(1, FRAME) and "sent out of port 2" in switch.trace(1, FRAME)
+    for ask in (switch.explain, switch.check, lambda: switch.log, lambda: switch.pcap("/nowhere")):
         with pytest.raises(RuntimeError, match="no log"):
             ask()
     with pytest.raises(ProgramError, match="without a log"):

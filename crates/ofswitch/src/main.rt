@@ -284,7 +284,8 @@ fn run<R: Read + Drop>(rt: &HostRuntime, request: &Request, reader: R) -> Ended 
 // Plays the rows of a file on a switch with this datapath_id, and reads it at most so many times.
 fn play<T: RowPrinter<Lookups>, S: Source, W: Sink>(
     rt: &HostRuntime,
-    (dpid, reads): (u64, u32),
+    dpid: u64,
+    reads: u32,
     rows: &T,
     reader: &mut S,
     writer: &mut W,
