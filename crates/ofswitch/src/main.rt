@@ -244,28 +244,13 @@ fn run<R: Read + Drop>(rt: &HostRuntime, request: &Request, reader: R) -> Ended 
             reads,
             ..
         } => {
-            let limits = (*dpid, *reads);
+            let (dpid, reads) = (*dpid, *reads);
+            let (from, to) = (&mut reader, &mut writer);
             match (*explain, *ask) {
-                (false, false) => play(rt, limits, &Plain, &mut reader, &mut writer),
-                (true, false) => play(rt, limits, &Explaining, &mut reader, &mut writer),
-                (false, true) => {
-                    play(
-                        rt,
-                        limits,
-                        &Answering { rows: Plain },
-                        &mut reader,
-                        &mut writer,
-                    )
-                }
-                (true, true) => {
-                    play(
-                        rt,
-                        limits,
-                        &Answering { rows: Explaining },
-                        &mut reader,
-                        &mut writer,
-                    )
-                }
+                (false, false) => play(rt, dpid, reads, &Plain, from, to),
+                (true, false) => play(rt, dpid, reads, &Explaining, from, to),
+                (false, true) => play(rt, dpid, reads, &Answering { rows: Plain }, from, to),
+                (true, true) => play(rt, dpid, reads, &Answering { rows: Explaining }, from, to),
             }
         }
         Request::Assemble { .. } => asm(rt.alloc(), &mut reader, &mut writer),
