@@ -1,9 +1,11 @@
 //! Tests of what commands of the program do, in memory: of the check (which entries of a flow text win, and which never do), of the
-//! tracer, of a switch that serves controllers, and of one on a network. Each public call with ample memory.
+//! tracer, of questions and messages in words, of a switch that serves controllers, and of one on a network. Each public call with ample memory.
 //!
 //! They are in a separate crate, since a crate that has tests is proved twice.
 #![tactic(auto)]
 
+#[cfg(test)]
+mod asked;
 #[cfg(test)]
 mod calls;
 #[cfg(test)]

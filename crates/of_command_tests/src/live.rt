@@ -1,7 +1,7 @@
 //! A switch on a network in memory: what passes, against the text that RFC 7348 and the rows of event files give.
 use of_cache::Cached;
 use of_live::memory::{Line, MemoryNetwork, Passed, Taking};
-use of_live::{Live, Endpoint, live};
+use of_live::{Endpoint, Live, live};
 use of_mask_groups::MaskGroups;
 use of_replay::Ended;
 use of_replay::memory::MemorySource;
