@@ -79,6 +79,8 @@ class Switch:
             weakref.finalize(self, self._log.close)
         self._port_names: dict[int, str] = {}
         self._is_connected = False
+        # what the rows did in words, once somebody asked for it
+        self._story: _Story | None = None
 
     # ---- rows
 
@@ -193,8 +195,15 @@ class Switch:
         return self._answer("flows")
 
     def explain(self) -> str:
-        """The rows so far and what each did, in words (docs/EVENTS.md)."""
-        return self._ask(["replay", *self._options, "--explain", "-"], b"")
+        """The rows so far and what each did, in words (docs/EVENTS.md).
+
+        A second run of the program plays the rows of the log that are new since the last call.
+        """
+        with self._played, self._log_from_start() as log:
+            if self._story is None:
+                self._story = _Story(self._new_run("--explain"))
+            self._story.follow(log)
+            return self._story.text()
 
     def trace(self, port: int, frame: Octets) -> str:
         """What this frame would do now, in words: how it comes in, each lookup, and what leaves."""
@@ -222,6 +231,8 @@ class Switch:
     def close(self) -> None:
         """Ends the program. The log stays."""
         self._run.close()
+        if self._story is not None:
+            self._story.close()
 
     def __enter__(self) -> Switch:
         return self
@@ -301,8 +312,9 @@ class Switch:
             if self._log_has_path:
                 self._log.flush()
 
-    def _new_run(self) -> Run:
-        return Run([self._program, "replay", *self._options, "--ask", "--reads", str(self.MOST_READS), "-"], self._timeout)
+    def _new_run(self, *options: str) -> Run:
+        words = ["replay", *self._options, *options, "--ask", "--reads", str(self.MOST_READS), "-"]
+        return Run([self._program, *words], self._timeout)
 
     def _renew(self) -> None:
         """Replaces the program by a new run, which plays the log first: the same rows lead to the same switch."""
@@ -359,6 +371,30 @@ class Switch:
             self._play(rows.lost())
         # without the HELLO of the switch
         return [it for its in effects[1:] for it in its]
+
+
+class _Story:
+    """What the rows of a log did, in words: a run that follows the log."""
+
+    def __init__(self, run: Run) -> None:
+        self._run = run
+        # how many bytes of the log were played
+        self._at = 0
+        self._lines: list[bytes] = []
+
+    def follow(self, log: IO[bytes]) -> None:
+        """Plays the rows that are new."""
+        log.seek(self._at)
+        while block := log.read(_BLOCK_SIZE):
+            block += log.readline()
+            self._lines += self._run.play(block)
+            self._at += len(block)
+
+    def text(self) -> str:
+        return b"".join(it + b"\n" for it in self._lines).decode()
+
+    def close(self) -> None:
+        self._run.close()
 
 
 def _parts(many: list[str]) -> Iterator[list[str]]:
