@@ -67,6 +67,13 @@ class Namespace:
             called(LIBC.setns(before.fileno(), NEW_NETWORK))
         self.ip("link", "set", "lo", "up")
 
+    @classmethod
+    def of(cls, process):
+        """The namespace that a process is in."""
+        it = cls.__new__(cls)
+        it.file = os.open(f"/proc/{process}/ns/net", os.O_RDONLY)
+        return it
+
     @property
     def path(self):
         return f"/proc/{os.getpid()}/fd/{self.file}"
