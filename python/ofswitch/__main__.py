@@ -268,11 +268,16 @@ def run_live(asked: argparse.Namespace) -> int:
         with LiveSwitch(ports, words, program=asked.program, events=asked.events) as switch:
             for note in switch.notes:
                 logging.info("%s", note)
-            if asked.rows:
-                if not switch.takes_rows:
-                    raise ProgramError("this ofswitch takes no rows while it runs")
-                threading.Thread(target=play_live, args=[switch], daemon=True).start()
-            return switch.wait()
+            try:
+                if asked.rows:
+                    if not switch.takes_rows:
+                        raise ProgramError("this ofswitch takes no rows while it runs")
+                    threading.Thread(target=play_live, args=[switch], daemon=True).start()
+                return switch.wait()
+            finally:
+                # what was made is removed whatever comes now
+                for number in (signal.SIGTERM, signal.SIGHUP, signal.SIGINT):
+                    signal.signal(number, signal.SIG_IGN)
     except Terminated as it:
         return 128 + it.number
 
