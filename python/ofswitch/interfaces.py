@@ -45,6 +45,10 @@ _EVERY_FRAME = ("matchall", 'bpf bytecode "1,6 0 0 4294967295"', "u32 match u32 
 _ETHTOOL = 0x8946
 _OFFLOADS = (0x17, 0x1F, 0x24)
 
+# A system call and an option of sockets that Python does not name.
+_PIDFD_GETFD, _RCVBUFFORCE = 438, 33
+
+# netlink: messages about links, and the flags UP and LOWER_UP.
 _LINKS_GROUP = 1
 _NEW_LINK, _DELETED_LINK = 16, 17
 _IS_UP = 0x1 | 0x10000
@@ -105,7 +109,8 @@ def port_interface(word: str) -> tuple[int, Interface]:
 
 
 def _name(word: str) -> str:
-    if not 1 <= len(word.encode()) <= _MOST_NAME_BYTES or re.search(r"[\s/:\"]", word) or word in (".", ".."):
+    is_plain = word.isprintable() and not re.search(r"[\s/:\"]", word) and word not in (".", "..")
+    if not (is_plain and 1 <= len(word.encode()) <= _MOST_NAME_BYTES):
         raise ValueError(f"an interface's name has 1 to {_MOST_NAME_BYTES} bytes, and no space, quote, colon or slash, not {word!r}")
     return word
 
@@ -456,22 +461,18 @@ def _bound(switch_port: int) -> Iterator[str]:
 
 
 def widen(pid: int, switch_port: int, size: int) -> bool:
-    """Gives the UDP socket of a process at this port a receive buffer of this many bytes, whether or not the system's default is less."""
+    """Gives the UDP socket of a process at this port a receive buffer of this many bytes, also above the system's limit, if it may."""
     inodes = {f"socket:[{it}]" for it in _bound(switch_port)}
-    process = os.pidfd_open(pid)
-    try:
+    with contextlib.suppress(OSError), contextlib.ExitStack() as stack:
+        process = os.pidfd_open(pid)
+        stack.callback(os.close, process)
         for number in os.listdir(f"/proc/{pid}/fd"):
             if os.readlink(f"/proc/{pid}/fd/{number}") in inodes:
-                # pidfd_getfd; SO_RCVBUFFORCE
-                file = _LIBC.syscall(438, process, int(number), 0)
+                file = _LIBC.syscall(_PIDFD_GETFD, process, int(number), 0)
                 if file >= 0:
                     with socket.socket(fileno=file) as one:
-                        one.setsockopt(socket.SOL_SOCKET, 33, size)
+                        one.setsockopt(socket.SOL_SOCKET, _RCVBUFFORCE, size)
                     return True
-    except OSError:
-        pass
-    finally:
-        os.close(process)
     return False
 
 

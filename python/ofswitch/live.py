@@ -82,7 +82,8 @@ class LiveSwitch:
         )
         self._undo.callback(self._end)
         if interfaces.wait_until_bound(under.port, self.process, _BEGIN_WAIT):
-            interfaces.widen(self.process.pid, under.port, _BUFFER)
+            if not interfaces.widen(self.process.pid, under.port, _BUFFER):
+                self.joined.notes.append("the receive buffer of the switch cannot be made larger: bursts of frames may be lost")
             self._watch()
 
     def _first_rows(self) -> list[str]:
@@ -92,8 +93,7 @@ class LiveSwitch:
             seen = self.joined.seen.get(number)
             # an address of Ethernet; other interfaces have none
             address = seen.address if seen and seen.address.count(":") == 5 else None
-            name = rows.port_name(it.name, number)
-            added.append(rows.port_add(number, address, name, up=seen is None or seen.is_up or not self.takes_rows))
+            added.append(rows.port_add(number, address, it.name, up=seen is None or seen.is_up or not self.takes_rows))
         return added
 
     @property

@@ -31,7 +31,7 @@ def test_a_port_and_its_interface(word, port, interface):
 @pytest.mark.parametrize(
     "word",
     ["", "1", "1=", "=eth0", "0=eth0", "-1=eth0", "16777216=eth0", "one=eth0", "\u0661=eth0", "1=..", "1=a name", "1=sixteen-letters-", "1=veth:0",
-     "1=tap:", "1=tap:/eth0", "1=tap:a/b/eth0", "1=tap:h1/", "1=net/eth0", '1=a"b'],
+     "1=tap:", "1=tap:/eth0", "1=tap:a/b/eth0", "1=tap:h1/", "1=net/eth0", '1=a"b', "1=a\x07b"],
 )
 def test_what_is_not_a_port_and_its_interface(word):
     with pytest.raises(ValueError):
