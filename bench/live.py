@@ -7,8 +7,6 @@ TCP for SECONDS (by default 4) and datagrams of 64 bytes for as long. There are 
 rounds behind it. It needs root, ping, iperf3, and what tools/try-live needs. OFSWITCH names another program.
 """
 import contextlib
-import importlib.machinery
-import importlib.util
 import json
 import os
 import pathlib
@@ -22,22 +20,14 @@ import time
 
 sys.dont_write_bytecode = True
 TOP = pathlib.Path(__file__).resolve().parent.parent
+sys.path.insert(0, str(TOP / "tools"))
+import lab as LAB  # noqa: E402
+
 PROGRAM = os.environ.get("OFSWITCH", str(TOP / "crates/ofswitch/out/ofswitch"))
 SECONDS = int(sys.argv[1]) if len(sys.argv) > 1 else 4
 ROUNDS = 3
 PINGS = 5_000 * SECONDS
 OVS_SCHEMA = "/usr/share/openvswitch/vswitch.ovsschema"
-
-
-def lab_tools():
-    """tools/try-live as a module: its namespaces, hosts and controller."""
-    loader = importlib.machinery.SourceFileLoader("try_live", str(TOP / "tools/try-live"))
-    module = importlib.util.module_from_spec(importlib.util.spec_from_loader("try_live", loader))
-    loader.exec_module(module)
-    return module
-
-
-LAB = lab_tools()
 
 
 # ---- what is timed, each with the two hosts that it connects

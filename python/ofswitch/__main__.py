@@ -1,18 +1,24 @@
-"""`python -m ofswitch bridge`: a switch whose rows are typed and whose controller connects over TCP; also `draw` and `capture`."""
+"""`python -m ofswitch bridge`: a switch whose rows are typed and whose controller connects over TCP; also `live`, `mininet`, `draw`, `capture`."""
 
 from __future__ import annotations
 
 import argparse
 import ipaddress
 import logging
+import os
+import signal
 import sys
+import threading
 from collections.abc import Iterable
+from types import FrameType
 from typing import NoReturn, TextIO
 
-from . import capture, picture, rows
+from . import capture, interfaces, picture, rows
 from .bridge import Bridge
 from .connection import Address
 from .effects import Effect
+from .interfaces import Interface, InterfaceError
+from .live import LiveSwitch
 from .pcap import CaptureError
 from .program import ProgramError
 from .recording import PortFile
@@ -60,6 +66,27 @@ is not a capture, or the program is missing or ended; 4 the recorded switch diff
 """
 
 
+LIVE_DESCRIPTION = """
+Runs `ofswitch live` (docs/LIVE.md) with network interfaces as its ports, until it is interrupted. The kernel carries the frames: each
+port has a VXLAN interface, which `tc` joins to the interface that is named. All that is made is removed at the end.
+It needs root, and the programs ip and tc (iproute2).
+"""
+
+LIVE_PORTS = """
+An interface of a port is one of these: NAME, which exists in this network namespace; tap:NETNS/NAME, which is made in the network
+namespace NETNS (a name of `ip netns`, or the number of a process in it); tap:NAME, which is made here. An interface that exists
+belongs to the switch then: the machine receives nothing there. Its offloads may stay on, since the kernel cuts long segments and
+computes checksums before the frames reach the switch.
+
+Exit status: that of `ofswitch live`; 1 bad arguments; 3 an interface or the program cannot be used; 130 and 143 after SIGINT and SIGTERM.
+"""
+
+MININET_DESCRIPTION = """
+Prints the file that Mininet has to read: sudo mn --custom $(python -m ofswitch mininet) --switch ofswitch --controller remote
+(docs/LAB.md).
+"""
+
+
 class Parser(argparse.ArgumentParser):
     def error(self, message: str) -> NoReturn:
         self.print_usage(sys.stderr)
@@ -79,9 +106,29 @@ def parser() -> argparse.ArgumentParser:
     bridge.add_argument("--log", metavar="FILE", help="the file for all rows, also those of the controller")
     bridge.add_argument("--dpid", metavar="N", type=dpid, default=1, help="the datapath_id (by default 1)")
     bridge.add_argument("--program", metavar="PATH", help="the program ofswitch (by default OFSWITCH, or the one on the PATH)")
+    add_live(commands)
+    commands.add_parser("mininet", help="the file for `mn --custom`", description=MININET_DESCRIPTION)
     add_draw(commands)
     add_capture(commands)
     return whole
+
+
+def add_live(commands: argparse._SubParsersAction[Parser]) -> None:
+    live = commands.add_parser("live", help="a switch whose ports are network interfaces", description=LIVE_DESCRIPTION, epilog=LIVE_PORTS)
+    live.add_argument(
+        "--port", metavar="N=INTERFACE", type=port_interface, action="append", required=True, dest="ports",
+        help="the interface of port N, such as 1=veth0 or 2=tap:h2/eth0; may be given for each port",
+    )
+    way = live.add_mutually_exclusive_group()
+    way.add_argument("--listen", metavar="ADDR", help="the address at which to wait for a controller (by default 127.0.0.1:6653)")
+    way.add_argument("--connect", metavar="ADDR", help="the controller to connect to")
+    live.add_argument("--events", metavar="FILE", help="an event file that is played at the start, after the ports are added")
+    live.add_argument("--log", metavar="FILE", help="log all events to this event file")
+    live.add_argument("--turns", metavar="N", help="end after N turns (by default never)")
+    live.add_argument("--dpid", metavar="N", help="the datapath_id, decimal or 0x and hexadecimal digits (by default 1)")
+    live.add_argument("--quiet", action="store_true", help="do not report connections on standard error")
+    live.add_argument("--rows", choices=["-"], help="play rows of standard input while it runs, if the program can")
+    live.add_argument("--program", metavar="PATH", help="the program ofswitch (by default OFSWITCH, or the one on the PATH)")
 
 
 def add_draw(commands: argparse._SubParsersAction[Parser]) -> None:
@@ -134,6 +181,13 @@ def port_file(word: str) -> PortFile:
     if not (is_there and path):
         raise argparse.ArgumentTypeError("a port and a capture are N=FILE")
     return port(number), path
+
+
+def port_interface(word: str) -> tuple[int, Interface]:
+    try:
+        return interfaces.port_interface(word)
+    except ValueError as fault:
+        raise argparse.ArgumentTypeError(str(fault)) from None
 
 
 def address(word: str) -> Address:
@@ -190,6 +244,59 @@ def run(asked: argparse.Namespace) -> int:
             return play(switch, lines, "standard input") or status
 
 
+class Terminated(Exception):
+    """SIGTERM or SIGHUP, with the number of the signal."""
+
+    def __init__(self, number: int) -> None:
+        super().__init__(number)
+        self.number = number
+
+
+def terminate(number: int, _frame: FrameType | None) -> NoReturn:
+    raise Terminated(number)
+
+
+def run_live(asked: argparse.Namespace) -> int:
+    ports = dict(asked.ports)
+    if len(ports) < len(asked.ports):
+        parser().error("a port has one interface")
+    words = [word for name in ("listen", "connect", "log", "turns", "dpid") if (value := getattr(asked, name)) is not None for word in (f"--{name}", value)]
+    words += ["--quiet"] if asked.quiet else []
+    for number in (signal.SIGTERM, signal.SIGHUP):
+        signal.signal(number, terminate)
+    try:
+        with LiveSwitch(ports, words, program=asked.program, events=asked.events) as switch:
+            for note in switch.notes:
+                logging.info("%s", note)
+            try:
+                if asked.rows:
+                    if not switch.takes_rows:
+                        raise ProgramError("this ofswitch takes no rows while it runs")
+                    threading.Thread(target=play_live, args=[switch], daemon=True).start()
+                return switch.wait()
+            finally:
+                # what was made is removed whatever comes now
+                for number in (signal.SIGTERM, signal.SIGHUP, signal.SIGINT):
+                    signal.signal(number, signal.SIG_IGN)
+    except Terminated as it:
+        return 128 + it.number
+
+
+def play_live(switch: LiveSwitch) -> None:
+    """Plays the rows of standard input, and reports those that are not valid."""
+    with open_lines(sys.stdin.fileno()) as lines:
+        for place, line in enumerate(lines, 1):
+            try:
+                switch.play(line.removesuffix("\n"))
+            except ValueError as fault:
+                print(f"standard input, line {place}: {fault}", file=sys.stderr)
+
+
+def run_mininet(asked: argparse.Namespace) -> int:
+    print(os.path.join(os.path.dirname(os.path.abspath(__file__)), "mn_custom.py"))
+    return 0
+
+
 def open_lines(file: str | int) -> TextIO:
     """Opens a file whose lines end only with LF. A line with bytes that are not UTF-8 is not a valid row."""
     return open(file, encoding="utf-8", errors="surrogateescape", newline="\n", closefd=isinstance(file, str))
@@ -201,8 +308,9 @@ def main() -> int:
         parser().error("a frame needs its port, and a port its frame")
     logging.basicConfig(level=logging.INFO, format="%(message)s")
     try:
-        return {"draw": picture.run, "capture": capture.run, "bridge": run}[asked.command](asked)
-    except (ProgramError, CaptureError, OSError) as fault:
+        commands = {"draw": picture.run, "capture": capture.run, "bridge": run, "live": run_live, "mininet": run_mininet}
+        return commands[asked.command](asked)
+    except (ProgramError, CaptureError, InterfaceError, OSError) as fault:
         print(fault, file=sys.stderr)
         return FAULT
     except KeyboardInterrupt:

@@ -1,0 +1,121 @@
+"""Interfaces as ports of a live switch: what needs no root. tools/try-mininet tries the rest."""
+
+import struct
+import subprocess
+import sys
+
+import pytest
+from ofswitch import interfaces, live
+from ofswitch.interfaces import InterfaceError, Made, Seen, Taken
+
+COMMAND = [sys.executable, "-m", "ofswitch"]
+
+
+@pytest.mark.parametrize(
+    "word, port, interface",
+    [
+        ("1=veth0", 1, Taken("veth0")),
+        ("16777215=s1-eth1", 16_777_215, Taken("s1-eth1")),
+        ("2=eth0.5", 2, Taken("eth0.5")),
+        ("3=a=b", 3, Taken("a=b")),
+        ("4=tap:eth0", 4, Made("eth0")),
+        ("5=tap:h2/eth0", 5, Made("eth0", "h2")),
+        ("6=tap:1234/eth0", 6, Made("eth0", "1234")),
+    ],
+)
+def test_a_port_and_its_interface(word, port, interface):
+    assert interfaces.port_interface(word) == (port, interface)
+    assert f"{port}={interface}" == word
+
+
+@pytest.mark.parametrize(
+    "word",
+    ["", "1", "1=", "=eth0", "0=eth0", "-1=eth0", "16777216=eth0", "one=eth0", "\u0661=eth0", "1=..", "1=a name", "1=sixteen-letters-", "1=veth:0",
+     "1=tap:", "1=tap:/eth0", "1=tap:a/b/eth0", "1=tap:h1/", "1=net/eth0", '1=a"b', "1=a\x07b"],
+)
+def test_what_is_not_a_port_and_its_interface(word):
+    with pytest.raises(ValueError):
+        interfaces.port_interface(word)
+
+
+LISTED = """[
+ {"ifindex": 1, "ifname": "lo", "flags": ["LOOPBACK", "UP", "LOWER_UP"], "mtu": 65536, "operstate": "UNKNOWN", "address": "00:00:00:00:00:00",
+  "addr_info": [{"family": "inet", "local": "127.0.0.1", "prefixlen": 8, "scope": "host"}]},
+ {"ifindex": 7, "link": "eth0", "ifname": "s1-eth1", "flags": ["BROADCAST", "MULTICAST", "UP", "LOWER_UP"], "mtu": 1450, "master": "br0",
+  "address": "5e:15:ad:3d:9a:2f", "addr_info": [{"family": "inet6", "local": "fe80::1", "prefixlen": 64, "scope": "link"}]},
+ {"ifindex": 8, "ifname": "s1-eth2", "flags": ["NO-CARRIER", "BROADCAST", "MULTICAST", "UP"], "mtu": 1500, "address": "02:00:00:00:00:02",
+  "addr_info": [{"family": "inet", "local": "10.0.0.1", "prefixlen": 24, "scope": "global"}]}
+]"""
+
+
+def test_what_the_system_reports(monkeypatch):
+    monkeypatch.setattr(interfaces, "_run", lambda *command: LISTED)
+    assert interfaces.seen("s1-eth1") == Seen(7, "5e:15:ad:3d:9a:2f", 1450, True, "br0", ())
+    assert interfaces.seen("s1-eth2") == Seen(8, "02:00:00:00:00:02", 1500, False, None, ("10.0.0.1/24",))
+    with pytest.raises(InterfaceError, match="there is no interface s1-eth3"):
+        interfaces.seen("s1-eth3")
+
+
+def link_message(kind, index, flags, more=b""):
+    body = struct.pack("=BxHiII", 0, 1, index, flags, 0) + more
+    return struct.pack("=IHHII", 16 + len(body), kind, 0, 0, 0) + body + bytes(-len(body) % 4)
+
+
+def test_messages_about_links():
+    up, carrier = 0x1, 0x10000
+    data = link_message(16, 7, up | carrier, b"xyz") + link_message(16, 8, up) + link_message(24, 9, up) + link_message(17, 7, up | carrier)
+    assert list(interfaces._link_messages(data)) == [(7, True), (8, False), (7, False)]
+    assert list(interfaces._link_messages(data[:20])) == []
+
+
+def test_addresses_of_an_underlay(monkeypatch):
+    monkeypatch.setattr(interfaces, "_run", lambda *command: "[]")
+    port, switch, kernel = interfaces._free_addresses()
+    assert 1024 <= port < 65_536
+    assert switch.startswith("169.254.") and kernel.startswith("169.254.")
+    assert int(kernel.rpartition(".")[2]) == int(switch.rpartition(".")[2]) + 1
+
+
+def test_without_root(monkeypatch):
+    monkeypatch.setattr(interfaces.os, "geteuid", lambda: 1000)
+    with pytest.raises(InterfaceError, match="need root"):
+        interfaces.require_system()
+
+
+def program(folder, text):
+    path = folder / "ofswitch"
+    path.write_text(f"#!/bin/sh\n{text}\n")
+    path.chmod(0o755)
+    return str(path)
+
+
+def test_whether_a_program_takes_rows(tmp_path):
+    for name, text, wanted in (("a", "echo --peer --rows", True), ("b", "echo --peer", False)):
+        (tmp_path / name).mkdir()
+        assert live.takes_rows(program(tmp_path / name, text)) == wanted
+    (tmp_path / "c").mkdir()
+    with pytest.raises(live.ProgramError, match="no subcommand live"):
+        live.takes_rows(program(tmp_path / "c", "echo replay"))
+
+
+@pytest.mark.parametrize(
+    "words, status, said",
+    [
+        ([], 1, "--port"),
+        (["--port", "1"], 1, "a port is N=INTERFACE"),
+        (["--port", "1=veth0", "--port", "1=veth1"], 1, "a port has one interface"),
+        (["--port", "1=veth0", "--vxlan", "10.0.0.1"], 1, "--vxlan"),
+        (["--port", "1=veth0", "--listen", "127.0.0.1:1", "--connect", "127.0.0.1:1"], 1, "not allowed"),
+        (["--port", "1=veth0", "--program", "/nowhere/ofswitch"], 3, "no program /nowhere/ofswitch"),
+    ],
+)
+def test_the_command(words, status, said):
+    done = subprocess.run([*COMMAND, "live", *words], capture_output=True, text=True, timeout=60)
+    assert done.returncode == status
+    assert said in done.stderr
+
+
+def test_the_file_for_mininet():
+    done = subprocess.run([*COMMAND, "mininet"], capture_output=True, text=True, timeout=60, check=True)
+    with open(done.stdout.strip(), encoding="utf-8") as file:
+        assert 'switches = {"ofswitch": OFSwitch}' in file.read()
