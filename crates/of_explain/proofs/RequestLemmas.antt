@@ -1,5 +1,5 @@
 -- The messages of a stream are those into which it splits.
-use Rattle.std.proofs.Common.{◌≡◌, ℕ, zero, suc, ◌<◌, ◌≤◌, ◌⊎◌, inl, inr, List, [], ◌∷◌, ◌++◌, length, take, drop, Result, Ok, Err, refl, sym, ◌∙◌, ap, subst, arith, append_assoc, length-append, length-drop, length-take, ◌+◌}
+use Rattle.std.proofs.Common.{◌≡◌, ℕ, zero, suc, ◌<◌, ◌≤◌, ◌⊎◌, inl, inr, List, [], ◌∷◌, ◌++◌, length, take, drop, Result, Ok, Err, refl, sym, ◌∙◌, ap, subst, arith, append_assoc, length-append, length-drop, length-take-le, ◌+◌}
 use Rattle.std.specs.Prelude.{OnOk}
 use Rattle.std.specs.List.{flat_map}
 use Rattle.std.proofs.lemmas.List.{append-nil}
@@ -99,7 +99,7 @@ size_of bytes = length (concat (messages_of bytes))
 size_more : (size : ℕ) (bytes : List ℕ) → 8 ≤ size → size ≤ length bytes → beginning_of bytes ≡ Whole (take size bytes) (drop size bytes) → size_of bytes ≡ size + size_of (drop size bytes)
 size_more size bytes low high begins =
     let first : messages_of bytes ≡ take size bytes ∷ messages_of (drop size bytes) = first_message bytes (take size bytes) (drop size bytes) begins (omega (arith, length-drop size bytes, low, high)) in
-    ap (λ (x : List (List ℕ)). length (concat x)) first ∙ (length-append (take size bytes) (concat (messages_of (drop size bytes))) ∙ ap (λ (x : ℕ). x + size_of (drop size bytes)) (length-take size bytes high))
+    ap (λ (x : List (List ℕ)). length (concat x)) first ∙ (length-append (take size bytes) (concat (messages_of (drop size bytes))) ∙ ap (λ (x : ℕ). x + size_of (drop size bytes)) (length-take-le size bytes high))
 
 -- what is left and what was taken
 pub counts_more : (size : ℕ) (bytes all : List ℕ) → 8 ≤ size → size ≤ length bytes → beginning_of bytes ≡ Whole (take size bytes) (drop size bytes)

@@ -20,7 +20,7 @@ pub enum RunningRow {
 }
 
 fn running_row_of(alloc: Global, row: Row, bytes: &[u8]) -> Result<RunningRow, AllocError>
-    ensures { IfOk result (λ it. it.now ≡ running_row (Some (with_bytes bytes.now row))) }
+    ensures { IfOk result (λ it. it ≡ running_row (Some (with_bytes bytes.now row))) }
 {
     match row {
         Row::Passed => Ok(RunningRow::Skipped),
@@ -40,7 +40,7 @@ pub fn read_running_row(
     line: &[u8],
     buffer: &mut Vec<u8>,
 ) -> Result<RunningRow, AllocError>
-    ensures { IfOk result (λ it. it.now ≡ running_row (row_of line.now)) }
+    ensures { IfOk result (λ it. it ≡ running_row (row_of line.now)) }
 {
     match read_row(line, buffer)? {
         Some(row) => running_row_of(alloc, row, buffer),

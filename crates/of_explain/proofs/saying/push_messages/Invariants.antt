@@ -1,4 +1,4 @@
-use Rattle.std.proofs.Common.{◌≡◌, ◌++◌, ◌+◌, ◌×◌, length}
+use Rattle.std.proofs.Common.{◌≡◌, ◌++◌, ◌+◌, length}
 use Rattle.std.specs.List.{flat_map}
 use Rattle.of_session.specs.Stream.{concat}
 use Rattle.of_explain.specs.Requests.{messages_of}
