@@ -7,13 +7,15 @@ ghost use Rattle.of_table.specs.Tables.{table_at};
 ghost use Rattle.of_check.specs.Search.{AreRivals, IsSearch, IsWhole, UnderWay, named};
 ghost use Rattle.of_check.specs.Verdicts.{Covers, Holds};
 
+use crate::begin::{by_shapes, push_taggings};
 use crate::look::{Look, look_at};
 use crate::piece::Piece;
 use crate::rivals::{Rival, first_cover, rivals_of};
 use crate::trying::tried;
 use crate::verdict::Verdict;
 use of_classifier::Lookup;
-use of_oxm::covered_is_matched;
+use of_headers::Field;
+use of_oxm::{MatchField, covered_is_matched};
 use of_switch::Switch;
 use of_table::Entry;
 use std::alloc::{AllocError, Global};
@@ -61,14 +63,12 @@ fn push_both(pieces: &mut Vec<Piece>, first: Piece, second: Piece) -> Result<(),
 }
 
 impl Search {
-    // A piece is left, which is all that an entry matches.
+    // All that an entry matches is left.
     fn of_piece(alloc: Global, piece: Piece) -> Result<Search, AllocError>
         ensures { (flows : List FlowEntry) (k : ℕ) (e : FlowEntry) → slice_get flows k ≡ Some e → IsWhole e piece → IfOk result (IsSearch flows k) }
     {
-        let mut pieces = Vec::new(alloc);
-        pieces.push(piece)?;
         Ok(Search {
-            pieces,
+            pieces: by_shapes(alloc, piece)?,
             by: Vec::new(alloc),
             missed: false,
         })
@@ -105,17 +105,13 @@ fn step<L: Lookup>(
     ensures left { OnOk result (IsSearch (table_at table switch.now.core.forwarding.tables).flows place search.new) }
     ensures won { IfOk result (λ found. IfSome found (Holds (table_at table switch.now.core.forwarding.tables).flows place)) }
 {
-    if piece.is_impossible() {
-        return Ok(None);
-    }
     match look_at(rivals, place, own, &piece) {
         Look::Taken(at) => {
             name(&mut search.by, at)?;
             Ok(None)
         }
         Look::Splits(at, e) => {
-            let (first, second) = piece.resumed(at).halves(&e);
-            push_both(&mut search.pieces, first.completed(), second.completed())?;
+            push_halves(&mut search.pieces, piece.resumed(at), &e)?;
             Ok(None)
         }
         Look::Free => {
@@ -125,11 +121,15 @@ fn step<L: Lookup>(
     }
 }
 
-// The piece that is all that an entry matches.
-fn whole(own: &Entry) -> Piece
-    ensures { IsWhole (entry_of own.now) result }
-{
-    Piece::of_match(&own.flow.fields).of_frames().completed()
+// Appends the two halves of a piece.
+fn push_halves(pieces: &mut Vec<Piece>, piece: Piece, e: &MatchField) -> Result<(), AllocError> {
+    if e.field == Field::VlanPcp && !piece.knows(Field::VlanPcp)
+        || e.field == Field::VlanVid && !piece.knows(Field::VlanVid)
+    {
+        return push_taggings(pieces, piece, e.value == 0 && e.field == Field::VlanVid);
+    }
+    let (first, second) = piece.halves(e);
+    push_both(pieces, first, second)
 }
 
 // One entry covers the one at a place.
@@ -156,7 +156,7 @@ fn searched<L: Lookup>(
     requires uncovered { (j : ℕ) → ¬ (Covers (table_at table switch.now.core.forwarding.tables).flows j place) }
     ensures { IfOk result (Holds (table_at table switch.now.core.forwarding.tables).flows place) }
 {
-    let all = whole(own);
+    let all = Piece::of_match(&own.flow.fields);
     let rivals = rivals_of(alloc, switch, table, place, own, &all)?;
     let mut search = Search::of_piece(alloc, all)?;
     for _ in 0..steps {
