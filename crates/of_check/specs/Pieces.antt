@@ -6,6 +6,8 @@ use Rattle.of_headers.specs.FieldMap.{value, seen}
 use Rattle.of_oxm.specs.declared.match_field.MatchField.{MatchField}
 use Rattle.of_oxm.specs.Masks.{mask_at}
 use Rattle.of_oxm.specs.Relations.{bits_looked_at}
+use Rattle.of_shapes.specs.declared.shape.Tagging.{Tagging}
+use Rattle.of_shapes.specs.Rules.{IsTagging}
 use Rattle.of_check.specs.declared.piece.Piece.{Piece}
 
 -- under the masks of the piece the fields are those that it has seen; a field that has a mask and was not seen is absent
@@ -31,6 +33,10 @@ abbrev pub is_apart : MatchField → Option ℕ → Option ℕ → Bool
 is_apart e None bits = false
 is_apart e (Some mask) None = true
 is_apart e (Some mask) (Some bits) = not (bit_and bits (bits_looked_at e) == bit_and e.value mask)
+
+-- a frame has a tag or none
+abbrev pub SomeTagging : (Field → Option ℕ) → Type 0
+SomeTagging map = (t : Tagging) × IsTagging t map
 
 -- none, or one
 abbrev pub listed : Option Piece → List Piece

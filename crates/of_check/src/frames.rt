@@ -1,8 +1,8 @@
 //! Frames that are made from what is known of their fields. What is not known is zero, checksums too.
 
 use crate::piece::Piece;
-use crate::shape::PRESENT;
 use of_headers::{Field, Numbers};
+use of_shapes::PRESENT;
 use std::alloc::{AllocError, Global};
 
 const TAG: u16 = 0x8100;

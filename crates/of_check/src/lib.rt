@@ -13,7 +13,6 @@ mod piece;
 mod printing;
 mod rivals;
 mod search;
-mod shape;
 mod trying;
 mod verdict;
 

@@ -7,12 +7,12 @@ ghost use Rattle.of_layers.specs.Fields.{ones_of};
 ghost use Rattle.of_headers.specs.FieldMap.{seen, value};
 ghost use Rattle.of_oxm.specs.Masks.{mask_at};
 ghost use Rattle.of_oxm.specs.Relations.{bits_looked_at, matches_map};
-ghost use Rattle.of_check.specs.Rules.{HasShape, IsTagging, Obeys};
+ghost use Rattle.of_shapes.specs.Rules.{HasShape, IsTagging, Obeys};
 ghost use Rattle.of_check.specs.Pieces.{In, InOne, is_apart as apart, is_settled as settled};
 
-use crate::shape::{Rule, Shape, Tagging};
 use of_headers::{Field, FieldKey};
 use of_oxm::{FieldMask, Match, MatchField, key_of, mask_of, matched_is_seen};
+use of_shapes::{Rule, Shape, Tagging};
 
 /// What is known of a packet's fields: of each field that has a mask, whether it is present, and its bits under the mask.
 #[derive(Clone, Copy, Debug)]

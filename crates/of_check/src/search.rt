@@ -1,11 +1,12 @@
 //! The search for a packet with which an entry wins.
-ghost use Rattle.std.specs.Prelude.{◌≡◌, ◌<◌, ◌++◌, ◌∷◌, [], ℕ, nat_le, List, Some, IfOk, IfSome, OnOk, false, slice_get};
+ghost use Rattle.std.specs.Prelude.{◌≡◌, ◌<◌, ◌⊎◌, ◌++◌, ◌∷◌, [], ℕ, nat_le, List, Some, IfOk, IfSome, OnOk, false, slice_get};
 ghost use Rattle.std.specs.List.{position};
 ghost use Rattle.of_table.specs.Entries.{entry_of};
 ghost use Rattle.of_table.specs.Table.{FlowEntry};
 ghost use Rattle.of_table.specs.Tables.{table_at};
 ghost use Rattle.of_check.specs.Search.{AreRivals, IsSearch, IsWhole, UnderWay, named};
-ghost use Rattle.of_check.specs.Verdicts.{Covers, Holds};
+ghost use Rattle.of_check.specs.Pieces.{In, InSome};
+ghost use Rattle.of_check.specs.Verdicts.{Covers, Holds, IsPacket, Packet, fields_of};
 
 use crate::begin::{by_shapes, push_taggings};
 use crate::look::{Look, look_at};
@@ -121,15 +122,22 @@ fn step<L: Lookup>(
     }
 }
 
+// Whether it is not known whether a piece has a tag, and a field of a match looks at it.
+fn asks_tag(piece: &Piece, e: &MatchField) -> bool {
+    (e.field == Field::VlanVid || e.field == Field::VlanPcp) && !piece.knows(e.field)
+}
+
 // Appends the two halves of a piece.
-fn push_halves(pieces: &mut Vec<Piece>, piece: Piece, e: &MatchField) -> Result<(), AllocError> {
-    if e.field == Field::VlanPcp && !piece.knows(Field::VlanPcp)
-        || e.field == Field::VlanVid && !piece.knows(Field::VlanVid)
-    {
-        return push_taggings(pieces, piece, e.value == 0 && e.field == Field::VlanVid);
+fn push_halves(pieces: &mut Vec<Piece>, piece: Piece, e: &MatchField) -> Result<(), AllocError>
+    ensures { OnOk result ((p : Packet) → IsPacket p → InSome pieces.old.items (fields_of p) ⊎ In piece (fields_of p) → InSome pieces.new.items (fields_of p)) }
+{
+    if asks_tag(&piece, e) {
+        push_taggings(pieces, piece, e.field == Field::VlanVid && e.value == 0)?;
+        return Ok(());
     }
     let (first, second) = piece.halves(e);
-    push_both(pieces, first, second)
+    push_both(pieces, first, second)?;
+    Ok(())
 }
 
 // One entry covers the one at a place.

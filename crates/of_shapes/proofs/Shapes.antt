@@ -206,8 +206,8 @@ chain_names kind (Fragment ns) [] c h = elim (eqb (get_or ns 2 0) 0) as (λ b. e
 ] refl
 chain_names kind (Fragment ns) (e ∷ es) c h = either_way (Names (extension_cells (Fragment ns ∷ e ∷ es)) c) (eqb (get_or ns 2 0) 0)
     (λ is.
-        let others : Names (extension_cells (e ∷ es)) c = chain_names (get_or ns 0 0) e es c (h.2 is) in
-        record { protocol = others.protocol; there = none_before 10 (cells_in (fragment (plain 8)) ns) (extension_cells (e ∷ es)) (some_items 10 (fragment (plain 8)) ns h.1) ∙ others.there; carried = others.carried; fits = others.fits })
+    let others : Names (extension_cells (e ∷ es)) c = chain_names (get_or ns 0 0) e es c (h.2 is) in
+    record { protocol = others.protocol; there = none_before 10 (cells_in (fragment (plain 8)) ns) (extension_cells (e ∷ es)) (some_items 10 (fragment (plain 8)) ns h.1) ∙ others.there; carried = others.carried; fits = others.fits })
     (λ is. let none = (h.3 is).0 in absurd cc)
 
 -- IPv6's own header and those that extend it
@@ -519,9 +519,9 @@ vid_by l h (t ∷ ts) is =
     let fits : AreTags (t ∷ ts) = subst AreTags is h.tags in
     let rest = cells_in ether_type (l.type ∷ []) ++ body_cells l.body in
     let found : look VlanVid (cells l) ≡ Some (get_or t 3 0) =
-        none_before 6 (cells_in addresses l.ends) (tag_cells l.tags ++ rest) (some_items 6 addresses l.ends h.ends)
-        ∙ ap (λ (xs : List (List ℕ)). look_up 6 (tag_cells xs ++ rest)) is
-        ∙ found_first 6 (tag_cells (t ∷ ts)) rest (get_or t 3 0) (found_first 6 (cells_in outer_tag t) (inner_cells ts) (get_or t 3 0) (value_at 6 outer_tag t 3 refl (outer_fits t fits.0))) in
+    none_before 6 (cells_in addresses l.ends) (tag_cells l.tags ++ rest) (some_items 6 addresses l.ends h.ends)
+    ∙ ap (λ (xs : List (List ℕ)). look_up 6 (tag_cells xs ++ rest)) is
+    ∙ found_first 6 (tag_cells (t ∷ ts)) rest (get_or t 3 0) (found_first 6 (cells_in outer_tag t) (inner_cells ts) (get_or t 3 0) (value_at 6 outer_tag t 3 refl (outer_fits t fits.0))) in
     rw found (ap Some (present (get_or t 3 0) (vid_fits t fits.0)))
 
 pcp_by : (l : Layers) → IsLayers l → (ts : List (List ℕ)) → l.tags ≡ ts → Obeys (of_tagging (tagging_of ts) VlanPcp) (look VlanPcp (cells l))
