@@ -8,6 +8,7 @@ pub mod TryingLemmas
 pub mod FindingLemmas
 pub mod Together
 pub mod BeginLemmas
+pub mod TieLemmas
 pub mod ReachedLemmas
 pub mod IngressLemmas
 pub mod SilentLemmas

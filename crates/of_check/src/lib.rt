@@ -13,6 +13,7 @@ mod piece;
 mod printing;
 mod rivals;
 mod search;
+mod ties;
 mod trying;
 mod verdict;
 

@@ -12,6 +12,7 @@ use crate::begin::{by_shapes, push_taggings};
 use crate::look::{Look, look_at};
 use crate::piece::Piece;
 use crate::rivals::{Rival, first_cover, rivals_of};
+use crate::ties::is_tied;
 use crate::trying::tried;
 use crate::verdict::Verdict;
 use of_classifier::Lookup;
@@ -74,17 +75,6 @@ impl Search {
             missed: false,
         })
     }
-
-    // What is found where the search ends.
-    fn verdict(self) -> Verdict
-        ensures { (flows : List FlowEntry) (k : ℕ) → ((j : ℕ) → ¬ (Covers flows j k)) → IsSearch flows k self → Holds flows k result }
-    {
-        let Search { pieces, by, missed } = self;
-        if missed || !pieces.is_empty() {
-            return Verdict::Open;
-        }
-        Verdict::Never { by }
-    }
 }
 
 // One piece: an entry takes it, or it is split, or the entry wins with a packet of it, or it is given up.
@@ -140,14 +130,54 @@ fn push_halves(pieces: &mut Vec<Piece>, piece: Piece, e: &MatchField) -> Result<
     Ok(())
 }
 
+// What is found where the search ends.
+fn ended<L: Lookup>(
+    switch: &Switch<L>,
+    table: u8,
+    place: usize,
+    own: &Entry,
+    search: Search,
+) -> Verdict
+    requires table { table < 16 }
+    requires there { slice_get (table_at table switch.now.core.forwarding.tables).flows place ≡ Some (entry_of own.now) }
+    requires uncovered { (j : ℕ) → ¬ (Covers (table_at table switch.now.core.forwarding.tables).flows j place) }
+    requires search { IsSearch (table_at table switch.now.core.forwarding.tables).flows place search }
+    ensures { Holds (table_at table switch.now.core.forwarding.tables).flows place result }
+{
+    let Search { pieces, by, missed } = search;
+    if missed || !pieces.is_empty() {
+        return Verdict::Open;
+    }
+    let tie = is_tied(switch, table, place, own, &by);
+    Verdict::Never { by, tie }
+}
+
 // One entry covers the one at a place.
-fn covered_by(alloc: Global, at: usize) -> Result<Verdict, AllocError>
-    ensures { (flows : List FlowEntry) (k : ℕ) → Covers flows at k → IfOk result (Holds flows k) }
+fn covered_by<L: Lookup>(
+    alloc: Global,
+    switch: &Switch<L>,
+    table: u8,
+    place: usize,
+    own: &Entry,
+    at: usize,
+) -> Result<Verdict, AllocError>
+    requires table { table < 16 }
+    requires there { slice_get (table_at table switch.now.core.forwarding.tables).flows place ≡ Some (entry_of own.now) }
+    requires covers { Covers (table_at table switch.now.core.forwarding.tables).flows at place }
+    ensures { IfOk result (Holds (table_at table switch.now.core.forwarding.tables).flows place) }
 {
     covered_is_matched();
     let mut by = Vec::new(alloc);
     by.push(at)?;
-    Ok(Verdict::Never { by })
+    let tie = is_tied(switch, table, place, own, &by);
+    Ok(Verdict::Never { by, tie })
+}
+
+// The piece that is all that an entry matches.
+fn whole(own: &Entry) -> Piece
+    ensures { IsWhole (entry_of own.now) result }
+{
+    Piece::of_match(&own.flow.fields)
 }
 
 // The verdict on an entry that no one entry covers.
@@ -164,12 +194,12 @@ fn searched<L: Lookup>(
     requires uncovered { (j : ℕ) → ¬ (Covers (table_at table switch.now.core.forwarding.tables).flows j place) }
     ensures { IfOk result (Holds (table_at table switch.now.core.forwarding.tables).flows place) }
 {
-    let all = Piece::of_match(&own.flow.fields);
+    let all = whole(own);
     let rivals = rivals_of(alloc, switch, table, place, own, &all)?;
     let mut search = Search::of_piece(alloc, all)?;
     for _ in 0..steps {
         let Some(piece) = search.pieces.pop() else {
-            return Ok(search.verdict());
+            return Ok(ended(switch, table, place, own, search));
         };
         let found = step(
             alloc,
@@ -185,7 +215,7 @@ fn searched<L: Lookup>(
             return Ok(verdict);
         }
     }
-    Ok(search.verdict())
+    Ok(ended(switch, table, place, own, search))
 }
 
 /// The verdict on the entry of a table at a place by age, from 0. An entry that no one entry covers is searched piece by piece; it is left
@@ -204,7 +234,7 @@ pub fn check_entry<L: Lookup>(
         return Ok(Verdict::Open);
     };
     match first_cover(switch, table, place, own) {
-        Some(at) => covered_by(alloc, at),
+        Some(at) => covered_by(alloc, switch, table, place, own, at),
         None => searched(alloc, switch, table, place, own, steps),
     }
 }
