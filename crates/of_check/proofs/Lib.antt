@@ -7,8 +7,8 @@ pub mod WalkLemmas
 pub mod TryingLemmas
 pub mod FindingLemmas
 pub mod Together
-pub mod Vid
-pub mod RuleLemmas
+pub mod BeginLemmas
+pub mod TieLemmas
 pub mod ReachedLemmas
 pub mod IngressLemmas
 pub mod SilentLemmas

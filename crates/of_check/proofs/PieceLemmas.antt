@@ -1,6 +1,6 @@
 -- What pieces say of the maps that are in them.
 use Rattle.std.proofs.Common.{◌≡◌, ℕ, zero, suc, Bool, true, false, cond, eqb, List, [], ◌∷◌, Option, Some, None, refl, sym, ap, ◌∙◌, arith, inl, inr}
-use Rattle.std.specs.Prelude.{bit_and, bit_or, not, find, ◌&&◌, ◌⊎◌, ◌*◌, ◌^◌, ◌<◌}
+use Rattle.std.specs.Prelude.{is_some, bit_and, bit_or, not, find, ◌&&◌, ◌⊎◌, ◌*◌, ◌^◌, ◌<◌}
 use Rattle.std.specs.Int.{bit_at}
 use Rattle.std.specs.Int.Bits.{and_comm}
 use Rattle.std.proofs.lemmas.Bool.{eqb-true, eq-eqb}
@@ -126,3 +126,44 @@ pub as_read : (o m b read_mask read_bits : Option ℕ) (mask known : ℕ) → se
 as_read o m b read_mask read_bits mask known h mask_is bits_is some_mask some_bits =
     let wanted : m ≡ Some mask = sym mask_is ∙ some_mask in
     ap (λ (x : Option ℕ). seen x o) (sym wanted) ∙ (h ∙ (sym bits_is ∙ some_bits))
+
+-- ---- a rule about a field
+
+both_masks : (v m k mask bits ones : ℕ) → bit_and v m ≡ k → bit_and v mask ≡ bits → bit_and v (bit_and (bit_or m mask) ones) ≡ bit_and (bit_or k bits) ones
+both_masks v m k mask bits ones a b = same_from_bits _ _ (λ i.
+    let p : bit_at (bit_and v m) i ≡ bit_at k i = ap (λ (n : ℕ). bit_at n i) a in
+    let q : bit_at (bit_and v mask) i ≡ bit_at bits i = ap (λ (n : ℕ). bit_at n i) b in
+    omega (arith, p, q, bit_at_and v (bit_and (bit_or m mask) ones) i, bit_at_and (bit_or m mask) ones i, bit_at_or m mask i, bit_at_and (bit_or k bits) ones i, bit_at_or k bits i, bit_at_and v m i, bit_at_and v mask i))
+
+same_both : (v m k mask bits : ℕ) → bit_and v m ≡ k → bit_and v mask ≡ bits → bit_and k mask ≡ bit_and bits m
+same_both v m k mask bits a b = ap (λ (n : ℕ). bit_and n mask) (sym a) ∙ and_assoc mask v m ∙ ap (bit_and v) (and_comm m mask) ∙ sym (and_assoc m v mask) ∙ ap (λ (n : ℕ). bit_and n m) b
+
+module _ (o : Option ℕ) (mask bits ones : ℕ) where
+  pub first_rule : seen (Some mask) o ≡ Some bits → seen (Some (bit_and mask ones)) o ≡ Some (bit_and bits ones)
+  first_rule h = elim o as (λ o. seen (Some mask) o ≡ Some bits → seen (Some (bit_and mask ones)) o ≡ Some (bit_and bits ones)) [
+    | None ↦ λ h. absurd cc
+    | Some v ↦ λ h. let is : bit_and v mask ≡ bits = cc in ap Some (sym (and_assoc ones v mask) ∙ ap (λ (n : ℕ). bit_and n ones) is)
+  ] h
+
+  pub more_ruled : (m k : ℕ) → seen (Some m) o ≡ Some k → seen (Some mask) o ≡ Some bits → seen (Some (bit_and (bit_or m mask) ones)) o ≡ Some (bit_and (bit_or k bits) ones)
+  more_ruled m k a b = elim o as (λ o. seen (Some m) o ≡ Some k → seen (Some mask) o ≡ Some bits → seen (Some (bit_and (bit_or m mask) ones)) o ≡ Some (bit_and (bit_or k bits) ones)) [
+    | None ↦ λ a b. absurd cc
+    | Some v ↦ λ a b. let p : bit_and v m ≡ k = cc in let q : bit_and v mask ≡ bits = cc in ap Some (both_masks v m k mask bits ones p q)
+  ] a b
+
+  pub not_ruled : (m k : ℕ) → seen (Some m) o ≡ Some k → seen (Some mask) o ≡ Some bits → bit_and k mask ≡ bit_and bits m
+  not_ruled m k a b = elim o as (λ o. seen (Some m) o ≡ Some k → seen (Some mask) o ≡ Some bits → bit_and k mask ≡ bit_and bits m) [
+    | None ↦ λ a b. absurd cc
+    | Some v ↦ λ a b. let p : bit_and v m ≡ k = cc in let q : bit_and v mask ≡ bits = cc in same_both v m k mask bits p q
+  ] a b
+
+  pub not_absent : (m : ℕ) → seen (Some m) o ≡ None → seen (Some mask) o ≡ Some bits → ⊥
+  not_absent m a b = elim o as (λ o. seen (Some m) o ≡ None → seen (Some mask) o ≡ Some bits → ⊥) [
+    | None ↦ λ a b. absurd cc
+    | Some v ↦ λ a b. absurd cc
+  ] a b
+
+-- what is absent is not seen
+pub absent_unseen : (o m b : Option ℕ) → seen m o ≡ b → is_some b ≡ true → o ≡ None → ⊥
+absent_unseen o None b h some none = absurd cc
+absent_unseen o (Some m) b h some none = let unseen : seen (Some m) o ≡ None = ap (seen (Some m)) none in absurd cc

@@ -1,8 +1,8 @@
 -- How a search goes on.
-use Rattle.std.proofs.Common.{◌≡◌, ℕ, ◌⊎◌, true, List, [], ◌∷◌, ◌++◌, Some, refl, sym, ap, subst, ◌∙◌, arith, inl, inr}
+use Rattle.std.proofs.Common.{◌≡◌, ℕ, ◌⊎◌, true, List, [], ◌∷◌, ◌++◌, Some, sym, ap, subst, ◌∙◌, arith, inl, inr}
 use Rattle.std.specs.Prelude.{slice_get}
 use Rattle.std.specs.List.{Contains}
-use Rattle.std.proofs.lemmas.List.Elements.{Contains-push, Contains-append_left, Contains-append_right, Contains-push_cases}
+use Rattle.std.proofs.lemmas.List.Elements.{Contains-push_cases}
 use Rattle.of_oxm.specs.Relations.{matches_map}
 use Rattle.of_table.specs.Table.{FlowEntry}
 use Rattle.of_check.specs.declared.piece.Piece.{Piece}
@@ -25,20 +25,14 @@ finished flows k by u = record {
 }
 
 -- all is left
-pub begun : (flows : List FlowEntry) (k : ℕ) (e : FlowEntry) (piece : Piece) → slice_get flows k ≡ Some e → ((p : Packet) → IsPacket p → matches_map e.flow.fields (fields_of p) ≡ true → In piece (fields_of p)) → UnderWay flows k (piece ∷ []) []
-begun flows k e piece there all = record {
+pub begun : (flows : List FlowEntry) (k : ℕ) (e : FlowEntry) (pieces : List Piece) → slice_get flows k ≡ Some e → ((p : Packet) → IsPacket p → matches_map e.flow.fields (fields_of p) ≡ true → InSome pieces (fields_of p)) → UnderWay flows k pieces []
+begun flows k e pieces there all = record {
   before = λ j c. absurd (none_of j c);
   covered = λ p is m.
       let same : m.entry ≡ e = let t = m.there in cc in
-      inl (piece, Contains-push [] piece, all p is (ap (λ (x : FlowEntry). matches_map x.flow.fields (fields_of p)) (sym same) ∙ m.matches));
+      inl (all p is (ap (λ (x : FlowEntry). matches_map x.flow.fields (fields_of p)) (sym same) ∙ m.matches));
   by_age = tt;
 }
-
-first_of : (a b : Piece) → Contains (a ∷ b ∷ []) a
-first_of a b = (0, omega arith, refl)
-
-second_of : (a b : Piece) → Contains (a ∷ b ∷ []) b
-second_of a b = (1, omega arith, refl)
 
 module _ (flows : List FlowEntry) (k : ℕ) (pieces : List Piece) (piece : Piece) (by : List ℕ) (u : UnderWay flows k (pieces ++ piece ∷ []) by) where
   -- an entry takes the last piece
@@ -58,31 +52,14 @@ module _ (flows : List FlowEntry) (k : ℕ) (pieces : List Piece) (piece : Piece
     by_age = up;
   }
 
-  -- no packet is in the last piece
-  pub dropped : ((p : Packet) → IsPacket p → ¬ (In piece (fields_of p))) → UnderWay flows k pieces by
-  dropped none = record {
-    before = u.before;
-    covered = λ p is m. elim (u.covered p is m) as (λ x. InSome pieces (fields_of p) ⊎ SomeMatches flows by p) [
-      | inl left ↦ elim (Contains-push_cases pieces piece left.0 left.1) as (λ x. InSome pieces (fields_of p) ⊎ SomeMatches flows by p) [
-        | inl old ↦ inl (left.0, old, left.2)
-        | inr same ↦ absurd (none p is (subst (λ x. In x (fields_of p)) (sym same) left.2))
-      ]
-      | inr other ↦ inr other
-    ];
-    by_age = u.by_age;
-  }
-
   -- the last piece is split
-  pub halved : (a b : Piece) → ((p : Packet) → IsPacket p → In piece (fields_of p) → In a (fields_of p) ⊎ In b (fields_of p)) → UnderWay flows k (pieces ++ a ∷ b ∷ []) by
-  halved a b halves = record {
+  pub halved : (others : List Piece) → ((p : Packet) → IsPacket p → InSome pieces (fields_of p) ⊎ In piece (fields_of p) → InSome others (fields_of p)) → UnderWay flows k others by
+  halved others halves = record {
     before = u.before;
-    covered = λ p is m. elim (u.covered p is m) as (λ x. InSome (pieces ++ a ∷ b ∷ []) (fields_of p) ⊎ SomeMatches flows by p) [
-      | inl left ↦ elim (Contains-push_cases pieces piece left.0 left.1) as (λ x. InSome (pieces ++ a ∷ b ∷ []) (fields_of p) ⊎ SomeMatches flows by p) [
-        | inl old ↦ inl (left.0, Contains-append_left pieces (a ∷ b ∷ []) left.0 old, left.2)
-        | inr same ↦ elim (halves p is (subst (λ x. In x (fields_of p)) (sym same) left.2)) as (λ x. InSome (pieces ++ a ∷ b ∷ []) (fields_of p) ⊎ SomeMatches flows by p) [
-          | inl first ↦ inl (a, Contains-append_right pieces (a ∷ b ∷ []) a (first_of a b), first)
-          | inr second ↦ inl (b, Contains-append_right pieces (a ∷ b ∷ []) b (second_of a b), second)
-        ]
+    covered = λ p is m. elim (u.covered p is m) as (λ x. InSome others (fields_of p) ⊎ SomeMatches flows by p) [
+      | inl left ↦ elim (Contains-push_cases pieces piece left.0 left.1) as (λ x. InSome others (fields_of p) ⊎ SomeMatches flows by p) [
+        | inl old ↦ inl (halves p is (inl (left.0, old, left.2)))
+        | inr same ↦ inl (halves p is (inr (subst (λ x. In x (fields_of p)) (sym same) left.2)))
       ]
       | inr other ↦ inr other
     ];

@@ -1,5 +1,5 @@
 -- THE TEXT OF FINDINGS: one line each, and then one for each remark.
-use Rattle.std.specs.Prelude.{ℕ, Bool, true, false, not, ◌||◌, List, [], ◌∷◌, ◌++◌, codes, decimal}
+use Rattle.std.specs.Prelude.{ℕ, Bool, true, false, not, ◌||◌, List, [], ◌∷◌, ◌++◌, codes, decimal, if◌then◌else◌}
 use Rattle.std.specs.List.{flat_map, list_any}
 use Rattle.hex.specs.Hex.{encode_lower}
 use Rattle.of_layers.specs.declared.field.Field.TheVariants.{Metadata}
@@ -25,10 +25,13 @@ metadata_text metadata = codes " metadata" ++ 32 ∷ value_word Metadata metadat
 abbrev pub packet_text : List ℕ → ℕ → ℕ → List ℕ
 packet_text frame in_port metadata = codes " wins" ++ port_text in_port ++ metadata_text metadata ++ 32 ∷ encode_lower frame
 
--- `wins in_port P metadata M HEX`, `never: T J ..` or `open`
+abbrev pub tie_text : Bool → List ℕ
+tie_text tie = if tie then codes " (tie)" else []
+
+-- `wins in_port P metadata M HEX`, `never: T J ..`, with ` (tie)` behind it if one of these has the same priority, or `open`
 abbrev pub verdict_text : ℕ → Verdict → List ℕ
 verdict_text table (Wins frame in_port metadata) = packet_text frame.items in_port metadata
-verdict_text table (Never by) = codes " never:" ++ places_text table by.items
+verdict_text table (Never by tie) = codes " never:" ++ places_text table by.items ++ tie_text tie
 verdict_text table Open = codes " open"
 
 -- `flow T K` and the verdict
@@ -44,7 +47,7 @@ all_text findings remarks = findings_text findings ++ remarks_text remarks
 -- ---- what is found
 
 abbrev pub is_never : Verdict → Bool
-is_never (Never by) = true
+is_never (Never by tie) = true
 is_never (Wins frame in_port metadata) = false
 is_never Open = false
 

@@ -1,6 +1,6 @@
 -- WHAT IS SAID OF A FLOW ENTRY: a packet with which it wins, or the entries that leave it none (OpenFlow 1.3.5, 5.3).
-use Rattle.std.specs.Prelude.{◌≡◌, ℕ, ◌^◌, ◌<◌, ◌≤◌, ◌⊎◌, true, List, [], ◌∷◌, length, Option, Some, slice_get}
-use Rattle.std.specs.List.{AllByRecursion, Contains}
+use Rattle.std.specs.Prelude.{◌≡◌, ℕ, ◌^◌, ◌<◌, ◌≤◌, ◌⊎◌, ◌==◌, Bool, true, false, List, [], ◌∷◌, length, Option, Some, slice_get}
+use Rattle.std.specs.List.{AllByRecursion, Contains, list_any}
 use Rattle.of_wire.specs.declared.limits.TheConstants.{OFPP_CONTROLLER, OFPP_MAX}
 use Rattle.of_layers.specs.declared.field.Field.{Field}
 use Rattle.of_layers.specs.Reading.{layers_of}
@@ -74,6 +74,15 @@ pub record NeverWins (flows : List FlowEntry) (k : ℕ) (by : List ℕ) : Type 0
   pub covered : (p : Packet) → IsPacket p → Matches flows k p → SomeMatches flows by p
   pub by_age : AreAscending by
 
+-- entries of one priority
+abbrev pub are_level : Option FlowEntry → Option FlowEntry → Bool
+are_level (Some a) (Some b) = a.flow.priority == b.flow.priority
+are_level a b = false
+
+-- one of these entries has the priority of the one at k: which of two such entries wins is undefined (5.3)
+abbrev pub is_tie : List FlowEntry → ℕ → List ℕ → Bool
+is_tie flows k places = list_any (λ j. are_level (slice_get flows j) (slice_get flows k)) places
+
 -- the entry at j goes before the one at k, and its match covers that one's: each of its fields is there, with at least its mask and the same bits under it (6.4)
 pub record Covers (flows : List FlowEntry) (j k : ℕ) : Type 0 where
   pub before : GoesBefore flows j k
@@ -82,5 +91,5 @@ pub record Covers (flows : List FlowEntry) (j k : ℕ) : Type 0 where
 -- a verdict on the entry at k; `Open` says that no one entry covers it
 abbrev pub Holds : List FlowEntry → ℕ → Verdict → Type 0
 Holds flows k (Wins frame in_port metadata) = WinsWith flows k (record { frame = frame.items; in_port = in_port; metadata = metadata })
-Holds flows k (Never by) = NeverWins flows k by.items
+Holds flows k (Never by tie) = NeverWins flows k by.items × (tie ≡ is_tie flows k by.items)
 Holds flows k Open = (j : ℕ) → ¬ (Covers flows j k)

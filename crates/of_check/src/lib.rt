@@ -1,6 +1,7 @@
 //! Which flow entries can never win a lookup.
 #![tactic(auto)]
 
+mod begin;
 mod checking;
 mod checking_events;
 mod checking_file;
@@ -11,8 +12,8 @@ mod look;
 mod piece;
 mod printing;
 mod rivals;
-mod rules;
 mod search;
+mod ties;
 mod trying;
 mod verdict;
 

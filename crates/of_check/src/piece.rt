@@ -7,17 +7,12 @@ ghost use Rattle.of_layers.specs.Fields.{ones_of};
 ghost use Rattle.of_headers.specs.FieldMap.{seen, value};
 ghost use Rattle.of_oxm.specs.Masks.{mask_at};
 ghost use Rattle.of_oxm.specs.Relations.{bits_looked_at, matches_map};
-ghost use Rattle.of_check.specs.Verdicts.{IsPacket, Packet, fields_of};
-ghost use Rattle.of_check.specs.Pieces.{In, is_lacking as lacking, is_apart as apart, is_settled as settled};
+ghost use Rattle.of_shapes.specs.Rules.{HasShape, IsTagging, Obeys};
+ghost use Rattle.of_check.specs.Pieces.{In, InOne, is_apart as apart, is_settled as settled};
 
-use crate::rules::leads_to;
 use of_headers::{Field, FieldKey};
-use of_laws::{fields_of_every_frame, values_within_their_bits};
-use of_layers::Prerequisite;
 use of_oxm::{FieldMask, Match, MatchField, key_of, mask_of, matched_is_seen};
-
-/// The bit of VLAN_VID that says that there is a tag (OpenFlow 1.3.5, 7.2.3.7).
-const PRESENT: u128 = 0x1000;
+use of_shapes::{Rule, Shape, Tagging};
 
 /// What is known of a packet's fields: of each field that has a mask, whether it is present, and its bits under the mask.
 #[derive(Clone, Copy, Debug)]
@@ -116,29 +111,6 @@ impl Piece {
         }
     }
 
-    // Those that have a field, where that is not known.
-    fn there(self, field: Field) -> Piece
-        ensures { (map : TheField → Option ℕ) → IsSome (map field) → In self map → In result map }
-    {
-        match self.mask.masks.get(field) {
-            None => self.with(field, 0, 0),
-            Some(_) => self,
-        }
-    }
-
-    /// It is known which fields each frame has (OpenFlow 1.3.5, 7.2.3.7).
-    pub fn of_frames(self) -> Piece
-        ensures { (p : Packet) → In self (fields_of p) → In result (fields_of p) }
-    {
-        fields_of_every_frame();
-        self.there(Field::InPort)
-            .there(Field::Metadata)
-            .there(Field::EthDst)
-            .there(Field::EthSrc)
-            .there(Field::EthType)
-            .there(Field::VlanVid)
-    }
-
     /// The same, where none of the rivals before this one takes any of it.
     pub fn resumed(self, from: usize) -> Piece
         ensures { (map : TheField → Option ℕ) → In self map → In result map }
@@ -146,97 +118,72 @@ impl Piece {
         Piece { from, ..self }
     }
 
-    // Those that have these fields, where that is not known.
-    fn with_all(self, fields: &[Field]) -> Piece
-        ensures { (map : TheField → Option ℕ) → ((g : TheField) → Contains fields.now g → IsSome (map g)) → In self map → In result map }
+    // Those whose field has these bits under a mask. None if it is known that there are none.
+    fn under(self, field: Field, mask: u128, bits: u128) -> Option<Piece>
+        ensures { (map : TheField → Option ℕ) → In self map → seen (Some mask) (map field) ≡ Some bits → InOne result map }
+    {
+        let ones = field.row().ones;
+        match (self.mask.masks.get(field), self.seen.get(field)) {
+            (None, _) => Some(self.with(field, mask & ones, bits & ones)),
+            (Some(_), None) => None,
+            (Some(known_mask), Some(known)) => {
+                if known & mask == bits & known_mask {
+                    return Some(self.with(
+                        field,
+                        (known_mask | mask) & ones,
+                        (known | bits) & ones,
+                    ));
+                }
+                None
+            }
+        }
+    }
+
+    // Those whose field obeys a rule.
+    fn ruled(self, field: Field, rule: Rule) -> Option<Piece>
+        ensures { (map : TheField → Option ℕ) → In self map → Obeys rule (map field) → InOne result map }
+    {
+        match rule {
+            Rule::Free => Some(self),
+            Rule::Absent => {
+                if self.has(field) {
+                    return None;
+                }
+                Some(self.without(field))
+            }
+            Rule::Under(mask, bits) => self.under(field, mask, bits),
+        }
+    }
+
+    /// The packets of a shape. None if it is known that there are none.
+    pub fn shaped(self, shape: Shape) -> Option<Piece>
+        ensures { (map : TheField → Option ℕ) → In self map → HasShape shape map → InOne result map }
     {
         let mut piece = self;
-        for field in fields {
-            piece = piece.there(*field);
+        for field in &Field::ALL {
+            piece = piece.ruled(*field, shape.rule(*field))?;
         }
-        piece
+        Some(piece)
+    }
+
+    /// The packets with a tag, or those without. None if it is known that there are none.
+    pub fn tagged(self, tagging: Tagging) -> Option<Piece>
+        ensures { (map : TheField → Option ℕ) → In self map → IsTagging tagging map → InOne result map }
+    {
+        self.ruled(Field::VlanVid, tagging.rule(Field::VlanVid))?
+            .ruled(Field::VlanPcp, tagging.rule(Field::VlanPcp))
+    }
+
+    /// Whether something is known about a field.
+    pub fn knows(&self, field: Field) -> bool {
+        self.mask.masks.get(field).is_some()
     }
 
     /// Whether the packets have a field.
-    fn has(&self, field: Field) -> bool
+    pub fn has(&self, field: Field) -> bool
         ensures { result ≡ is_some (value self.now.seen field) }
     {
         self.seen.get(field).is_some()
-    }
-
-    /// Whether the packets lack a field.
-    pub fn lacks(&self, field: Field) -> bool
-        ensures { result ≡ lacking (mask_at self.now.mask field) (value self.now.seen field) }
-    {
-        self.mask.masks.get(field).is_some() && !self.has(field)
-    }
-
-    // It is known which fields go with this one, if the packets have it.
-    fn completed_at(self, field: Field) -> Piece
-        ensures { (p : Packet) → IsPacket p → In self (fields_of p) → In result (fields_of p) }
-    {
-        if !self.has(field) {
-            return self;
-        }
-        self.with_all(leads_to(field))
-    }
-
-    /// It is known which fields go with those that the packets have.
-    pub fn completed(self) -> Piece
-        ensures { (p : Packet) → IsPacket p → In self (fields_of p) → In result (fields_of p) }
-    {
-        let mut piece = self;
-        for field in &Field::ALL {
-            piece = piece.completed_at(*field);
-        }
-        piece
-    }
-
-    // Whether the packets have a field and lack one that goes with it.
-    fn is_torn_at(&self, field: Field) -> bool
-        ensures { result ≡ true → (p : Packet) → IsPacket p → ¬ (In self.now (fields_of p)) }
-    {
-        if !self.has(field) {
-            return false;
-        }
-        for other in leads_to(field) {
-            if self.lacks(*other) {
-                return true;
-            }
-        }
-        false
-    }
-
-    // Whether the packets have no VLAN tag, and a bit of one.
-    fn is_half_tagged(&self) -> bool
-        ensures { result ≡ true → (p : Packet) → IsPacket p → ¬ (In self.now (fields_of p)) }
-    {
-        values_within_their_bits();
-        let Some(mask) = self.mask.masks.get(Field::VlanVid) else {
-            return false;
-        };
-        let Some(known) = self.seen.get(Field::VlanVid) else {
-            return false;
-        };
-        if mask & PRESENT == 0 {
-            return false;
-        }
-        if known & PRESENT == 0 {
-            return !(known == 0);
-        }
-        false
-    }
-
-    /// Whether it is known that there are no such packets.
-    pub fn is_impossible(&self) -> bool
-        ensures { result ≡ true → (p : Packet) → IsPacket p → ¬ (In self.now (fields_of p)) }
-    {
-        for field in &Field::ALL {
-            if self.is_torn_at(*field) {
-                return true;
-            }
-        }
-        self.is_half_tagged()
     }
 
     // The two halves by one bit of a field.
@@ -253,42 +200,31 @@ impl Piece {
         )
     }
 
-    // Whether a frame with what is known of its type and its protocol may be long enough for a field (OpenFlow 1.3.5, 7.2.3.6).
-    fn expects(&self, field: Field) -> bool {
-        let ethernet = self.seen.get(Field::EthType);
-        let protocol = self.seen.get(Field::IpProto);
-        match field.row().need {
-            Prerequisite::Nothing => true,
-            Prerequisite::Tag => false,
-            Prerequisite::Ip => ethernet == Some(0x0800) || ethernet == Some(0x86dd),
-            Prerequisite::Ipv4 => ethernet == Some(0x0800),
-            Prerequisite::Ipv6 => ethernet == Some(0x86dd),
-            Prerequisite::Arp => ethernet == Some(0x0806),
-            Prerequisite::Tcp => protocol == Some(6),
-            Prerequisite::Udp => protocol == Some(17),
-            Prerequisite::Icmpv4 => protocol == Some(1),
-            Prerequisite::Icmpv6 => protocol == Some(58),
-        }
-    }
-
-    /// Two halves, of which the first agrees with more of a field of a match, and the second with none.
+    /// Two halves by the first bit of a field of a match that is not known: the second is the one with which the match agrees less.
     pub fn halves(self, e: &MatchField) -> (Piece, Piece)
         ensures { (map : TheField → Option ℕ) → In self map → In result.0 map ⊎ In result.1 map }
     {
         match (self.mask.masks.get(e.field), self.seen.get(e.field)) {
-            (None, _) => {
-                let lacks = !self.expects(e.field);
-                in_order(lacks, self.with(e.field, 0, 0), self.without(e.field))
-            }
+            (None, _) => in_order(true, self.with(e.field, 0, 0), self.without(e.field)),
             (Some(_), None) => (self, self),
             (Some(mask), Some(known)) => {
                 let unknown = bits(e) ^ (bits(e) & mask);
-                let bit = unknown.trailing_zeros().min(127);
+                let bit = chosen_bit(e.field, unknown);
                 let (ones, zeros) = self.by_bit(e.field, mask, known, bit);
                 in_order(e.value & one_bit(bit) == 0, zeros, ones)
             }
         }
     }
+}
+
+// A bit that is set: the highest, if the field may have a mask, such as that of a prefix; else the lowest.
+fn chosen_bit(field: Field, bits: u128) -> u32
+    ensures { result < 128 }
+{
+    if field.row().maskable {
+        return 127 - bits.leading_zeros().min(127);
+    }
+    bits.trailing_zeros().min(127)
 }
 
 /// The first field of a match that does not agree with all of the piece.

@@ -1,7 +1,7 @@
 //! Findings as text.
 ghost use Rattle.std.specs.Prelude.{◌≡◌, ◌++◌, ◌∷◌, IfOk, OnOk};
 ghost use Rattle.hex.specs.Hex.{encode_lower};
-ghost use Rattle.of_check.specs.Text.{all_text, finding_line, findings_text, metadata_text, packet_text, places_text, port_text, verdict_text};
+ghost use Rattle.of_check.specs.Text.{all_text, finding_line, findings_text, metadata_text, packet_text, places_text, port_text, tie_text, verdict_text};
 
 use crate::finding::Finding;
 use crate::verdict::Verdict;
@@ -63,6 +63,16 @@ fn push_packet(
     push_frame(alloc, out, frame)
 }
 
+// Appends whether there is a tie.
+fn push_tie(out: &mut Vec<u8>, tie: bool) -> Result<(), AllocError>
+    ensures { OnOk result (out.new.items ≡ out.old.items ++ tie_text tie) }
+{
+    if tie {
+        out.extend_from_slice(b" (tie)")?;
+    }
+    Ok(())
+}
+
 // Appends a verdict on an entry of a table.
 fn push_verdict(
     alloc: Global,
@@ -78,9 +88,10 @@ fn push_verdict(
             in_port,
             metadata,
         } => push_packet(alloc, out, frame, *in_port, *metadata),
-        Verdict::Never { by } => {
+        Verdict::Never { by, tie } => {
             out.extend_from_slice(b" never:")?;
-            push_places(out, table, by)
+            push_places(out, table, by)?;
+            push_tie(out, *tie)
         }
         Verdict::Open => out.extend_from_slice(b" open"),
     }
@@ -99,8 +110,8 @@ fn push_finding(alloc: Global, out: &mut Vec<u8>, finding: &Finding) -> Result<(
 }
 
 /// The text of findings, one line each: `flow T K wins in_port P metadata M HEX` (the entry of table T at index K by age, from 0, wins the
-/// lookup of the frame HEX, received at port P, with the metadata M), `flow T K never: T J ..` (it wins none, because of these entries), or
-/// `flow T K open` (it was not decided). Each line ends by LF.
+/// lookup of the frame HEX, received at port P, with the metadata M), `flow T K never: T J ..` (it wins none, because of these entries; with
+/// ` (tie)` if one of them has the same priority), or `flow T K open` (it was not decided). Each line ends by LF.
 pub fn print(alloc: Global, findings: &[Finding]) -> Result<Vec<u8>, AllocError>
     ensures { IfOk result (λ text. text.items ≡ findings_text findings.now) }
 {

@@ -1,19 +1,23 @@
 //! The search for a packet with which an entry wins.
-ghost use Rattle.std.specs.Prelude.{◌≡◌, ◌<◌, ◌++◌, ◌∷◌, [], ℕ, nat_le, List, Some, IfOk, IfSome, OnOk, false, slice_get};
+ghost use Rattle.std.specs.Prelude.{◌≡◌, ◌<◌, ◌⊎◌, ◌++◌, ◌∷◌, [], ℕ, nat_le, List, Some, IfOk, IfSome, OnOk, false, slice_get};
 ghost use Rattle.std.specs.List.{position};
 ghost use Rattle.of_table.specs.Entries.{entry_of};
 ghost use Rattle.of_table.specs.Table.{FlowEntry};
 ghost use Rattle.of_table.specs.Tables.{table_at};
 ghost use Rattle.of_check.specs.Search.{AreRivals, IsSearch, IsWhole, UnderWay, named};
-ghost use Rattle.of_check.specs.Verdicts.{Covers, Holds};
+ghost use Rattle.of_check.specs.Pieces.{In, InSome};
+ghost use Rattle.of_check.specs.Verdicts.{Covers, Holds, IsPacket, Packet, fields_of};
 
+use crate::begin::{by_shapes, push_taggings};
 use crate::look::{Look, look_at};
 use crate::piece::Piece;
 use crate::rivals::{Rival, first_cover, rivals_of};
+use crate::ties::is_tied;
 use crate::trying::tried;
 use crate::verdict::Verdict;
 use of_classifier::Lookup;
-use of_oxm::covered_is_matched;
+use of_headers::Field;
+use of_oxm::{MatchField, covered_is_matched};
 use of_switch::Switch;
 use of_table::Entry;
 use std::alloc::{AllocError, Global};
@@ -61,28 +65,15 @@ fn push_both(pieces: &mut Vec<Piece>, first: Piece, second: Piece) -> Result<(),
 }
 
 impl Search {
-    // A piece is left, which is all that an entry matches.
+    // All that an entry matches is left.
     fn of_piece(alloc: Global, piece: Piece) -> Result<Search, AllocError>
         ensures { (flows : List FlowEntry) (k : ℕ) (e : FlowEntry) → slice_get flows k ≡ Some e → IsWhole e piece → IfOk result (IsSearch flows k) }
     {
-        let mut pieces = Vec::new(alloc);
-        pieces.push(piece)?;
         Ok(Search {
-            pieces,
+            pieces: by_shapes(alloc, piece)?,
             by: Vec::new(alloc),
             missed: false,
         })
-    }
-
-    // What is found where the search ends.
-    fn verdict(self) -> Verdict
-        ensures { (flows : List FlowEntry) (k : ℕ) → ((j : ℕ) → ¬ (Covers flows j k)) → IsSearch flows k self → Holds flows k result }
-    {
-        let Search { pieces, by, missed } = self;
-        if missed || !pieces.is_empty() {
-            return Verdict::Open;
-        }
-        Verdict::Never { by }
     }
 }
 
@@ -105,17 +96,13 @@ fn step<L: Lookup>(
     ensures left { OnOk result (IsSearch (table_at table switch.now.core.forwarding.tables).flows place search.new) }
     ensures won { IfOk result (λ found. IfSome found (Holds (table_at table switch.now.core.forwarding.tables).flows place)) }
 {
-    if piece.is_impossible() {
-        return Ok(None);
-    }
     match look_at(rivals, place, own, &piece) {
         Look::Taken(at) => {
             name(&mut search.by, at)?;
             Ok(None)
         }
         Look::Splits(at, e) => {
-            let (first, second) = piece.resumed(at).halves(&e);
-            push_both(&mut search.pieces, first.completed(), second.completed())?;
+            push_halves(&mut search.pieces, piece.resumed(at), &e)?;
             Ok(None)
         }
         Look::Free => {
@@ -125,21 +112,72 @@ fn step<L: Lookup>(
     }
 }
 
-// The piece that is all that an entry matches.
-fn whole(own: &Entry) -> Piece
-    ensures { IsWhole (entry_of own.now) result }
+// Whether it is not known whether a piece has a tag, and a field of a match looks at it.
+fn asks_tag(piece: &Piece, e: &MatchField) -> bool {
+    (e.field == Field::VlanVid || e.field == Field::VlanPcp) && !piece.knows(e.field)
+}
+
+// Appends the two halves of a piece.
+fn push_halves(pieces: &mut Vec<Piece>, piece: Piece, e: &MatchField) -> Result<(), AllocError>
+    ensures { OnOk result ((p : Packet) → IsPacket p → InSome pieces.old.items (fields_of p) ⊎ In piece (fields_of p) → InSome pieces.new.items (fields_of p)) }
 {
-    Piece::of_match(&own.flow.fields).of_frames().completed()
+    if asks_tag(&piece, e) {
+        push_taggings(pieces, piece, e.field == Field::VlanVid && e.value == 0)?;
+        return Ok(());
+    }
+    let (first, second) = piece.halves(e);
+    push_both(pieces, first, second)?;
+    Ok(())
+}
+
+// What is found where the search ends.
+fn ended<L: Lookup>(
+    switch: &Switch<L>,
+    table: u8,
+    place: usize,
+    own: &Entry,
+    search: Search,
+) -> Verdict
+    requires table { table < 16 }
+    requires there { slice_get (table_at table switch.now.core.forwarding.tables).flows place ≡ Some (entry_of own.now) }
+    requires uncovered { (j : ℕ) → ¬ (Covers (table_at table switch.now.core.forwarding.tables).flows j place) }
+    requires search { IsSearch (table_at table switch.now.core.forwarding.tables).flows place search }
+    ensures { Holds (table_at table switch.now.core.forwarding.tables).flows place result }
+{
+    let Search { pieces, by, missed } = search;
+    if missed || !pieces.is_empty() {
+        return Verdict::Open;
+    }
+    let tie = is_tied(switch, table, place, own, &by);
+    Verdict::Never { by, tie }
 }
 
 // One entry covers the one at a place.
-fn covered_by(alloc: Global, at: usize) -> Result<Verdict, AllocError>
-    ensures { (flows : List FlowEntry) (k : ℕ) → Covers flows at k → IfOk result (Holds flows k) }
+fn covered_by<L: Lookup>(
+    alloc: Global,
+    switch: &Switch<L>,
+    table: u8,
+    place: usize,
+    own: &Entry,
+    at: usize,
+) -> Result<Verdict, AllocError>
+    requires table { table < 16 }
+    requires there { slice_get (table_at table switch.now.core.forwarding.tables).flows place ≡ Some (entry_of own.now) }
+    requires covers { Covers (table_at table switch.now.core.forwarding.tables).flows at place }
+    ensures { IfOk result (Holds (table_at table switch.now.core.forwarding.tables).flows place) }
 {
     covered_is_matched();
     let mut by = Vec::new(alloc);
     by.push(at)?;
-    Ok(Verdict::Never { by })
+    let tie = is_tied(switch, table, place, own, &by);
+    Ok(Verdict::Never { by, tie })
+}
+
+// The piece that is all that an entry matches.
+fn whole(own: &Entry) -> Piece
+    ensures { IsWhole (entry_of own.now) result }
+{
+    Piece::of_match(&own.flow.fields)
 }
 
 // The verdict on an entry that no one entry covers.
@@ -161,7 +199,7 @@ fn searched<L: Lookup>(
     let mut search = Search::of_piece(alloc, all)?;
     for _ in 0..steps {
         let Some(piece) = search.pieces.pop() else {
-            return Ok(search.verdict());
+            return Ok(ended(switch, table, place, own, search));
         };
         let found = step(
             alloc,
@@ -177,7 +215,7 @@ fn searched<L: Lookup>(
             return Ok(verdict);
         }
     }
-    Ok(search.verdict())
+    Ok(ended(switch, table, place, own, search))
 }
 
 /// The verdict on the entry of a table at a place by age, from 0. An entry that no one entry covers is searched piece by piece; it is left
@@ -196,7 +234,7 @@ pub fn check_entry<L: Lookup>(
         return Ok(Verdict::Open);
     };
     match first_cover(switch, table, place, own) {
-        Some(at) => covered_by(alloc, at),
+        Some(at) => covered_by(alloc, switch, table, place, own, at),
         None => searched(alloc, switch, table, place, own, steps),
     }
 }

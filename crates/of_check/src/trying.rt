@@ -12,14 +12,18 @@ use of_switch::Switch;
 use of_wire::limits::{OFPP_CONTROLLER, OFPP_MAX};
 use std::alloc::{AllocError, Global};
 
-// The ingress port of a packet of the piece. 0 is no port of a switch: where it may be another, the lowest bit that is not known is set.
+// The ingress port of a packet of the piece. 0 is no port of a switch: if it may be another, the lowest bit that is not known is set. If each
+// number is too high for a port, the only one left is CONTROLLER.
 fn port_of(piece: &Piece) -> u32 {
     let port = piece.seen.numbers.in_port;
-    if port != 0 {
-        return port;
+    let mask = piece.mask.masks.numbers.in_port;
+    if port == 0 {
+        return !mask & (!mask).wrapping_neg();
     }
-    let unknown = !piece.mask.masks.numbers.in_port;
-    unknown & unknown.wrapping_neg()
+    if port > OFPP_MAX && OFPP_CONTROLLER & mask == port {
+        return OFPP_CONTROLLER;
+    }
+    port
 }
 
 // Whether a frame may have this ingress port.

@@ -10,9 +10,11 @@ pub enum Verdict {
         metadata: u64,
     },
     /// It wins no lookup: each packet that it matches is matched by one of these entries, which go before it: each has a higher priority, or
-    /// the same and is older. Entries are named by their index by age, from 0.
+    /// the same and is older. Entries are named by their index by age, from 0. `tie` says whether one of them has the same priority: OpenFlow
+    /// does not say which of two such entries wins.
     Never {
         by: Vec<usize>,
+        tie: bool,
     },
     /// It was not decided.
     Open,

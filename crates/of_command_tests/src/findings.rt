@@ -97,6 +97,39 @@ match vlan_vid 0x1000 0x1000
 flow 3 1 0x0000000000000000 0 0 0
 ";
 
+/// Masks of VLAN_VID: some bits of the number say that there is a tag, and its absence is no number.
+const TAG_MASKS: &[u8] = b"flow 0 9 0x0000000000000000 0 0 0
+match vlan_vid 0x0000 0x0fff
+flow 0 0 0x0000000000000000 0 0 0
+flow 1 5 0x0000000000000000 0 0 0
+match vlan_vid 0x0010 0x01ff
+flow 1 0 0x0000000000000000 0 0 0
+flow 2 5 0x0000000000000000 0 0 0
+match vlan_vid 0x0005 0x0fff
+flow 2 4 0x0000000000000000 0 0 0
+match vlan_vid 0x1005
+flow 2 3 0x0000000000000000 0 0 0
+match vlan_vid 0x0005
+flow 2 0 0x0000000000000000 0 0 0
+";
+
+/// A frame with an IP protocol has addresses, which are in one of the halves; one without them has neither.
+const PROTOCOL: &[u8] = b"flow 0 7 0x0000000000000000 0 0 0
+match eth_type 0x0800
+match ipv4_dst 0x00000000 0x80000000
+flow 0 7 0x0000000000000000 0 0 0
+match eth_type 0x0800
+match ipv4_dst 0x80000000 0x80000000
+flow 0 5 0x0000000000000000 0 0 0
+match eth_type 0x0800
+match ip_proto 0x06
+flow 0 5 0x0000000000000000 0 0 0
+match eth_type 0x0800
+match ip_proto 0x06
+match tcp_dst 0x0050
+flow 0 0 0x0000000000000000 0 0 0
+";
+
 /// No cover: each has packets of its own.
 const APART: &[u8] = b"flow 0 9 0x0000000000000000 0 0 0
 match eth_type 0x0806
@@ -161,14 +194,14 @@ apply
 set eth_src 0x020000000003
 ";
 
-const WANTED: [(&[u8], &str); 11] = [
+const WANTED: [(&[u8], &str); 13] = [
     (
         HIGHER,
         "flow 0 0 never: 0 1\nflow 0 1 wins\ntable 0 no table-miss entry\n",
     ),
     (
         OLDER,
-        "flow 1 0 wins\nflow 1 1 never: 1 0\nflow 2 0 wins\nflow 2 1 wins\ntable 1 unreachable\ntable 1 no table-miss entry\ntable 2 unreachable\ntable 2 no table-miss entry\n",
+        "flow 1 0 wins\nflow 1 1 never: 1 0 (tie)\nflow 2 0 wins\nflow 2 1 wins\ntable 1 unreachable\ntable 1 no table-miss entry\ntable 2 unreachable\ntable 2 no table-miss entry\n",
     ),
     (
         TOGETHER,
@@ -184,12 +217,20 @@ const WANTED: [(&[u8], &str); 11] = [
     ),
     (
         EQUAL,
-        "flow 0 0 wins\nflow 0 1 wins\nflow 0 2 never: 0 0 0 1\ntable 0 no table-miss entry\n",
+        "flow 0 0 wins\nflow 0 1 wins\nflow 0 2 never: 0 0 0 1 (tie)\ntable 0 no table-miss entry\n",
     ),
     (UDP, "flow 0 0 wins\nflow 0 1 wins\n"),
     (
         TAGS,
         "flow 3 0 wins\nflow 3 1 wins\nflow 3 2 never: 3 0 3 1\ntable 3 unreachable\ntable 3 no table-miss entry\n",
+    ),
+    (
+        TAG_MASKS,
+        "flow 0 0 wins\nflow 0 1 wins\nflow 1 0 wins\nflow 1 1 wins\nflow 2 0 wins\nflow 2 1 never: 2 0\nflow 2 2 never:\nflow 2 3 wins\ntable 1 unreachable\ntable 2 unreachable\n",
+    ),
+    (
+        PROTOCOL,
+        "flow 0 0 wins\nflow 0 1 wins\nflow 0 2 never: 0 0 0 1\nflow 0 3 never: 0 2 (tie)\nflow 0 4 wins\n",
     ),
     (
         APART,

@@ -2,4 +2,4 @@ use Rattle.of_check.specs.Verdicts.{fields_of}
 use Rattle.of_check.proofs.search.whole.Goals as goal
 
 pub returns : goal.returns
-returns c p is m = c.completed.ensures p is (c.of_frames.ensures p (c.of_match.ensures (fields_of p) m))
+returns c p is m = c.of_match.ensures (fields_of p) m
