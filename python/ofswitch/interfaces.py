@@ -63,6 +63,14 @@ class InterfaceError(Exception):
     """An interface cannot be a port: it is missing, or the system refuses something."""
 
 
+class BatchError(InterfaceError):
+    """A command of a batch failed, the one with this number, from 0."""
+
+    def __init__(self, text: str, line: int) -> None:
+        super().__init__(text)
+        self.line = line
+
+
 @dataclass(frozen=True)
 class Taken:
     """An interface of this network namespace."""
@@ -150,9 +158,9 @@ def require_system() -> None:
     """InterfaceError, with what is missing, if interfaces cannot be joined here."""
     if os.geteuid() != 0:
         raise InterfaceError("interfaces need root: run this with sudo, or use `ofswitch live` (docs/LIVE.md), which needs no root")
-    for tool, package in (("ip", "iproute2"), ("tc", "iproute2"), ("nsenter", "util-linux")):
+    for tool in ("ip", "tc"):
         if not shutil.which(tool):
-            raise InterfaceError(f"{tool} is not installed (Debian: {package})")
+            raise InterfaceError(f"{tool} is not installed (Debian: iproute2)")
 
 
 class Underlay:
@@ -189,6 +197,12 @@ class Underlay:
 
     def close(self) -> None:
         self._undo.close()
+
+
+def _remove(place: str, names: list[str]) -> None:
+    """Removes interfaces of a namespace, if they are there."""
+    with entered(place):
+        _batch("ip", (f"link delete {it}" for it in names), is_checked=False)
 
 
 class Joined:
@@ -232,33 +246,41 @@ class Joined:
     def _make(self) -> None:
         """The VXLAN interfaces, each in its namespace."""
         under = self._underlay
-        words = f"remote {under.switch} local {under.kernel} dstport {under.port} nolearning"
-        under.batch(f"link add {self.tunnel(it)} type vxlan id {it} {words}" for it in self.ports)
-        with entered(under.place):
-            for number in self.ports:
-                # the kernel computes checksums and cuts segments before a frame leaves in a datagram
-                _without_offloads(self.tunnel(number))
-        for number, it in self.ports.items():
-            self._move(number, it)
-        # a kernel without IPv6 has no such file
-        for number, name in self._taken.items():
-            _set_ipv6(self.tunnel(number), is_off="1")
-        _batch("ip", (f"link set {self.tunnel(number)} mtu {self.seen[number].mtu} up" for number in self._taken))
-
-    def _move(self, number: int, it: Interface) -> None:
-        place, name = self._underlay.here, self.tunnel(number)
-        if isinstance(it, Made):
-            name = it.name
-            if it.namespace is not None:
-                place = self._undo.enter_context(_named_namespace(it.namespace))
+        words = f"type vxlan id {{}} remote {under.switch} local {under.kernel} dstport {under.port} nolearning"
+        places = {number: self._place(it) for number, it in self.ports.items()}
+        names = {number: it.name if isinstance(it, Made) else self.tunnel(number) for number, it in self.ports.items()}
+        numbers = list(self.ports)
         try:
-            self._underlay.batch([f"link set {self.tunnel(number)} netns {place} name {name}"])
-        except InterfaceError as fault:
-            raise InterfaceError(f"{it} cannot be made: {fault}") from None
-        within = [] if place == self._underlay.here else ["nsenter", f"--net={place}"]
-        self._undo.callback(_run, *within, "ip", "link", "delete", name, is_checked=False)
-        if isinstance(it, Made):
-            _run(*within, "ip", "link", "set", name, "up")
+            under.batch(f"link add {names[it]} netns {places[it]} {words.format(it)}" for it in numbers)
+        except BatchError as fault:
+            # those before it were made
+            numbers = numbers[: fault.line]
+            raise InterfaceError(f"{list(self.ports.values())[fault.line]} cannot be made: {fault}") from None
+        finally:
+            for place in dict.fromkeys(places.values()):
+                self._undo.callback(_remove, place, [names[it] for it in numbers if places[it] == place])
+        for place in dict.fromkeys(places.values()):
+            self._begin(place, {number: names[number] for number in numbers if places[number] == place})
+
+    def _place(self, it: Interface) -> str:
+        """The path of the namespace of a port's VXLAN interface."""
+        if isinstance(it, Made) and it.namespace is not None:
+            return self._undo.enter_context(_named_namespace(it.namespace))
+        return self._underlay.here
+
+    def _begin(self, place: str, names: Mapping[int, str]) -> None:
+        """Sets VXLAN interfaces of a namespace up."""
+        with entered(place):
+            lines = []
+            for number, name in names.items():
+                # the kernel computes checksums and cuts segments before a frame leaves in a datagram
+                _without_offloads(name)
+                mtu = ""
+                if number in self.seen:
+                    _set_ipv6(name, is_off="1")
+                    mtu = f"mtu {self.seen[number].mtu} "
+                lines.append(f"link set {name} {mtu}up")
+            _batch("ip", lines)
 
     def _redirect(self) -> None:
         """Each interface that is taken, and its VXLAN interface, receive for each other."""
@@ -357,9 +379,9 @@ def _batch(tool: str, lines: Iterable[str], is_checked: bool = True) -> None:
         raise InterfaceError(f"{tool}: {fault}") from fault
     if is_checked and done.returncode:
         at = re.search(r"Command failed -:(\d+)", done.stderr)
-        what = listed[int(at[1]) - 1] if at else listed[0]
+        line = int(at[1]) - 1 if at else 0
         said = " ".join(done.stderr.split("Command failed")[0].split())
-        raise InterfaceError(f"{tool} {what}: {said}")
+        raise BatchError(f"{tool} {listed[line]}: {said}", line)
 
 
 @contextlib.contextmanager
