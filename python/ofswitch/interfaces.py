@@ -138,20 +138,30 @@ class Seen:
 
 def seen(name: str) -> Seen:
     """An interface of this network namespace."""
+    found = all_seen().get(name)
+    if found is None:
+        raise InterfaceError(f"there is no interface {name}")
+    return found
+
+
+def all_seen() -> dict[str, Seen]:
+    """The interfaces of this network namespace, by name."""
     listed = json.loads(_run("ip", "-json", "address", "show") or "[]")
-    for it in listed:
-        if it.get("ifname") == name:
-            addresses = (one for one in it.get("addr_info", []) if one.get("scope") != "link")
-            flags = it.get("flags", [])
-            return Seen(
-                index=it["ifindex"],
-                address=it.get("address", ""),
-                mtu=it["mtu"],
-                is_up="UP" in flags and "LOWER_UP" in flags,
-                master=it.get("master"),
-                addresses=tuple(f"{one['local']}/{one['prefixlen']}" for one in addresses),
-            )
-    raise InterfaceError(f"there is no interface {name}")
+    # an interface may end while they are listed
+    return {it["ifname"]: _as_seen(it) for it in listed if "ifname" in it}
+
+
+def _as_seen(it: dict[str, Any]) -> Seen:
+    addresses = (one for one in it.get("addr_info", []) if one.get("scope") != "link")
+    flags = it.get("flags", [])
+    return Seen(
+        index=it["ifindex"],
+        address=it.get("address", ""),
+        mtu=it["mtu"],
+        is_up="UP" in flags and "LOWER_UP" in flags,
+        master=it.get("master"),
+        addresses=tuple(f"{one['local']}/{one['prefixlen']}" for one in addresses),
+    )
 
 
 def require_system() -> None:
@@ -174,7 +184,7 @@ class Underlay:
         self.here = self._undo.enter_context(_kept_namespace("/proc/thread-self/ns/net"))
         self.place = self._undo.enter_context(_new_namespace())
         self.port, self.switch, self.kernel = _free_addresses()
-        outer, inner = f"v{self.port}", "v"
+        outer, inner = f"ofs{self.port}", "v"
         try:
             _run("ip", "link", "add", outer, "mtu", str(_UNDERLAY_MTU), "type", "veth", "peer", "name", inner, "mtu", str(_UNDERLAY_MTU), "netns", self.place)
             # removed now, and not only when the kernel ends the namespace
@@ -313,19 +323,32 @@ def _redirected(here: str, every: str, there: str) -> str:
     return f"filter add dev {here} ingress protocol all {every} action mirred egress redirect dev {there}"
 
 
-def link_changes(names: Mapping[int, int], stopped: int) -> Iterator[tuple[int, bool]]:
-    """Whether the link of an interface is up, when that changes: its index in `names` is the port. Ends when `stopped` can be read."""
+def link_states(names: Mapping[str, int], stopped: int) -> Iterator[tuple[int, bool]]:
+    """The ports of interfaces, with whether their links are up: now, and whenever one may have changed, until `stopped` can be read."""
     with socket.socket(socket.AF_NETLINK, socket.SOCK_RAW, socket.NETLINK_ROUTE) as links:
         links.bind((0, _LINKS_GROUP))
+        # after this, no change is missed
+        indexes = {it.index: names[name] for name, it in all_seen().items() if name in names}
+        yield from _states(names)
         while True:
             ready, _, _ = select.select([links, stopped], [], [])
             if stopped in ready:
                 return
-            with contextlib.suppress(OSError):
+            try:
                 data = links.recv(1 << 16)
-                for index, is_up in _link_messages(data):
-                    if index in names:
-                        yield names[index], is_up
+            except OSError:
+                # messages were lost
+                yield from _states(names)
+                continue
+            for index, is_up in _link_messages(data):
+                if index in indexes:
+                    yield indexes[index], is_up
+
+
+def _states(names: Mapping[str, int]) -> Iterator[tuple[int, bool]]:
+    found = all_seen()
+    for name, number in names.items():
+        yield number, name in found and found[name].is_up
 
 
 def _link_messages(data: bytes) -> Iterator[tuple[int, bool]]:
