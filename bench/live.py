@@ -27,7 +27,6 @@ PROGRAM = os.environ.get("OFSWITCH", str(TOP / "crates/ofswitch/out/ofswitch"))
 SECONDS = int(sys.argv[1]) if len(sys.argv) > 1 else 4
 ROUNDS = 3
 PINGS = 5_000 * SECONDS
-OVS_SCHEMA = "/usr/share/openvswitch/vswitch.ovsschema"
 
 
 # ---- what is timed, each with the two hosts that it connects
@@ -72,29 +71,13 @@ def open_vswitch(folder):
         host.ip("link", "set", f"e{number}", "up")
         switch.checksums_in_software(f"s{number}")
         host.checksums_in_software(f"e{number}")
-    place = folder / "ovs"
-    place.mkdir()
-    database, log = f"unix:{place}/db.sock", ["-vconsole:off", "-vfile:off"]
-    os.environ.update(OVS_RUNDIR=str(place), OVS_LOGDIR=str(place), OVS_DBDIR=str(place))
-    subprocess.run(["ovsdb-tool", "create", f"{place}/conf.db", OVS_SCHEMA], check=True)
-    server = switch.begin("ovsdb-server", f"{place}/conf.db", f"--remote=p{database}", *log)
-    time.sleep(0.5)
-    said = [switch.run("ovs-vsctl", f"--db={database}", "--no-wait", "init")]
-    daemon = switch.begin("ovs-vswitchd", database, "--disable-system", *log)
-    try:
-        bridge = "add-br br0 -- set bridge br0 datapath_type=netdev protocols=OpenFlow13 fail-mode=secure -- add-port br0 s1 -- add-port br0 s2"
-        said.append(switch.run("ovs-vsctl", f"--db={database}", *bridge.split()))
+    with LAB.open_vswitch(switch, folder / "ovs") as control:
+        control(*"add-br br0 -- set bridge br0 datapath_type=netdev protocols=OpenFlow13 fail-mode=secure -- add-port br0 s1 -- add-port br0 s2".split())
         for here, there in ((1, 2), (2, 1)):
-            flow = f"in_port={here},actions=output:{there}"
-            said.append(switch.run("ovs-ofctl", "-O", "OpenFlow13", "add-flow", f"unix:{place}/br0.mgmt", flow))
-        if any(status for _, status in said):
-            raise OSError(f"Open vSwitch: {said}")
+            said, status = switch.run("ovs-ofctl", "-O", "OpenFlow13", "add-flow", f"unix:{folder}/ovs/br0.mgmt", f"in_port={here},actions=output:{there}")
+            if status:
+                raise OSError(f"Open vSwitch: {said}")
         yield hosts
-    finally:
-        for running in (daemon, server):
-            running.kill()
-            running.wait()
-        shutil.rmtree(place)
 
 
 # ---- figures

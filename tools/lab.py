@@ -8,6 +8,7 @@ import fcntl
 import os
 import pathlib
 import random
+import shutil
 import signal
 import socket
 import struct
@@ -20,6 +21,7 @@ PATIENCE = 10
 VXLAN = 4789
 SWITCH, UNDERLAY, SET_PEER = "10.9.0.2", "10.9.0.1", "10.9.0.9"
 CONTROLLER = ("127.0.0.1", 6653)
+OVS_SCHEMA = "/usr/share/openvswitch/vswitch.ovsschema"
 
 HELLO, ERROR, ECHO_REQUEST, FLOW_REMOVED, MULTIPART, BARRIER = 0, 1, 2, 11, 18, 20
 FLOW_STATISTICS, PORT_STATISTICS = 1, 4
@@ -371,6 +373,33 @@ def live(lab, program, folder, *words):
         switch.running.kill()
         switch.running.wait()
         switch.said.close()
+
+
+@contextlib.contextmanager
+def open_vswitch(place, folder):
+    """Open vSwitch in a namespace, with its files in a new folder; gives a command `ovs-vsctl` for it."""
+    folder.mkdir()
+    database, log = f"unix:{folder}/db.sock", ["-vconsole:off", "-vfile:off"]
+    os.environ.update(OVS_RUNDIR=str(folder), OVS_LOGDIR=str(folder), OVS_DBDIR=str(folder))
+    subprocess.run(["ovsdb-tool", "create", f"{folder}/conf.db", OVS_SCHEMA], check=True)
+    running = [place.begin("ovsdb-server", f"{folder}/conf.db", f"--remote=p{database}", *log)]
+
+    def control(*words):
+        said, status = place.run("ovs-vsctl", f"--db={database}", *words)
+        if status:
+            raise OSError(f"ovs-vsctl {' '.join(words)}: {said.strip()}")
+
+    try:
+        time.sleep(0.5)
+        control("--no-wait", "init")
+        # the userspace datapath alone
+        running.append(place.begin("ovs-vswitchd", database, "--disable-system", *log))
+        yield control
+    finally:
+        for it in reversed(running):
+            it.kill()
+            it.wait()
+        shutil.rmtree(folder)
 
 
 # ---- what hosts do

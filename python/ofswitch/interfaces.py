@@ -63,6 +63,14 @@ class InterfaceError(Exception):
     """An interface cannot be a port: it is missing, or the system refuses something."""
 
 
+class BatchError(InterfaceError):
+    """A command of a batch failed, the one with this number, from 0."""
+
+    def __init__(self, text: str, line: int) -> None:
+        super().__init__(text)
+        self.line = line
+
+
 @dataclass(frozen=True)
 class Taken:
     """An interface of this network namespace."""
@@ -130,29 +138,39 @@ class Seen:
 
 def seen(name: str) -> Seen:
     """An interface of this network namespace."""
+    found = all_seen().get(name)
+    if found is None:
+        raise InterfaceError(f"there is no interface {name}")
+    return found
+
+
+def all_seen() -> dict[str, Seen]:
+    """The interfaces of this network namespace, by name."""
     listed = json.loads(_run("ip", "-json", "address", "show") or "[]")
-    for it in listed:
-        if it.get("ifname") == name:
-            addresses = (one for one in it.get("addr_info", []) if one.get("scope") != "link")
-            flags = it.get("flags", [])
-            return Seen(
-                index=it["ifindex"],
-                address=it.get("address", ""),
-                mtu=it["mtu"],
-                is_up="UP" in flags and "LOWER_UP" in flags,
-                master=it.get("master"),
-                addresses=tuple(f"{one['local']}/{one['prefixlen']}" for one in addresses),
-            )
-    raise InterfaceError(f"there is no interface {name}")
+    # an interface may end while they are listed
+    return {it["ifname"]: _as_seen(it) for it in listed if "ifname" in it}
+
+
+def _as_seen(it: dict[str, Any]) -> Seen:
+    addresses = (one for one in it.get("addr_info", []) if one.get("scope") != "link")
+    flags = it.get("flags", [])
+    return Seen(
+        index=it["ifindex"],
+        address=it.get("address", ""),
+        mtu=it["mtu"],
+        is_up="UP" in flags and "LOWER_UP" in flags,
+        master=it.get("master"),
+        addresses=tuple(f"{one['local']}/{one['prefixlen']}" for one in addresses),
+    )
 
 
 def require_system() -> None:
     """InterfaceError, with what is missing, if interfaces cannot be joined here."""
     if os.geteuid() != 0:
         raise InterfaceError("interfaces need root: run this with sudo, or use `ofswitch live` (docs/LIVE.md), which needs no root")
-    for tool, package in (("ip", "iproute2"), ("tc", "iproute2"), ("nsenter", "util-linux")):
+    for tool in ("ip", "tc"):
         if not shutil.which(tool):
-            raise InterfaceError(f"{tool} is not installed (Debian: {package})")
+            raise InterfaceError(f"{tool} is not installed (Debian: iproute2)")
 
 
 class Underlay:
@@ -166,7 +184,7 @@ class Underlay:
         self.here = self._undo.enter_context(_kept_namespace("/proc/thread-self/ns/net"))
         self.place = self._undo.enter_context(_new_namespace())
         self.port, self.switch, self.kernel = _free_addresses()
-        outer, inner = f"v{self.port}", "v"
+        outer, inner = f"ofs{self.port}", "v"
         try:
             _run("ip", "link", "add", outer, "mtu", str(_UNDERLAY_MTU), "type", "veth", "peer", "name", inner, "mtu", str(_UNDERLAY_MTU), "netns", self.place)
             # removed now, and not only when the kernel ends the namespace
@@ -189,6 +207,12 @@ class Underlay:
 
     def close(self) -> None:
         self._undo.close()
+
+
+def _remove(place: str, names: list[str]) -> None:
+    """Removes interfaces of a namespace, if they are there."""
+    with entered(place):
+        _batch("ip", (f"link delete {it}" for it in names), is_checked=False)
 
 
 class Joined:
@@ -232,33 +256,41 @@ class Joined:
     def _make(self) -> None:
         """The VXLAN interfaces, each in its namespace."""
         under = self._underlay
-        words = f"remote {under.switch} local {under.kernel} dstport {under.port} nolearning"
-        under.batch(f"link add {self.tunnel(it)} type vxlan id {it} {words}" for it in self.ports)
-        with entered(under.place):
-            for number in self.ports:
-                # the kernel computes checksums and cuts segments before a frame leaves in a datagram
-                _without_offloads(self.tunnel(number))
-        for number, it in self.ports.items():
-            self._move(number, it)
-        # a kernel without IPv6 has no such file
-        for number, name in self._taken.items():
-            _set_ipv6(self.tunnel(number), is_off="1")
-        _batch("ip", (f"link set {self.tunnel(number)} mtu {self.seen[number].mtu} up" for number in self._taken))
-
-    def _move(self, number: int, it: Interface) -> None:
-        place, name = self._underlay.here, self.tunnel(number)
-        if isinstance(it, Made):
-            name = it.name
-            if it.namespace is not None:
-                place = self._undo.enter_context(_named_namespace(it.namespace))
+        words = f"type vxlan id {{}} remote {under.switch} local {under.kernel} dstport {under.port} nolearning"
+        places = {number: self._place(it) for number, it in self.ports.items()}
+        names = {number: it.name if isinstance(it, Made) else self.tunnel(number) for number, it in self.ports.items()}
+        numbers = list(self.ports)
         try:
-            self._underlay.batch([f"link set {self.tunnel(number)} netns {place} name {name}"])
-        except InterfaceError as fault:
-            raise InterfaceError(f"{it} cannot be made: {fault}") from None
-        within = [] if place == self._underlay.here else ["nsenter", f"--net={place}"]
-        self._undo.callback(_run, *within, "ip", "link", "delete", name, is_checked=False)
-        if isinstance(it, Made):
-            _run(*within, "ip", "link", "set", name, "up")
+            under.batch(f"link add {names[it]} netns {places[it]} {words.format(it)}" for it in numbers)
+        except BatchError as fault:
+            # those before it were made
+            numbers = numbers[: fault.line]
+            raise InterfaceError(f"{list(self.ports.values())[fault.line]} cannot be made: {fault}") from None
+        finally:
+            for place in dict.fromkeys(places.values()):
+                self._undo.callback(_remove, place, [names[it] for it in numbers if places[it] == place])
+        for place in dict.fromkeys(places.values()):
+            self._begin(place, {number: names[number] for number in numbers if places[number] == place})
+
+    def _place(self, it: Interface) -> str:
+        """The path of the namespace of a port's VXLAN interface."""
+        if isinstance(it, Made) and it.namespace is not None:
+            return self._undo.enter_context(_named_namespace(it.namespace))
+        return self._underlay.here
+
+    def _begin(self, place: str, names: Mapping[int, str]) -> None:
+        """Sets VXLAN interfaces of a namespace up."""
+        with entered(place):
+            lines = []
+            for number, name in names.items():
+                # the kernel computes checksums and cuts segments before a frame leaves in a datagram
+                _without_offloads(name)
+                mtu = ""
+                if number in self.seen:
+                    _set_ipv6(name, is_off="1")
+                    mtu = f"mtu {self.seen[number].mtu} "
+                lines.append(f"link set {name} {mtu}up")
+            _batch("ip", lines)
 
     def _redirect(self) -> None:
         """Each interface that is taken, and its VXLAN interface, receive for each other."""
@@ -291,19 +323,32 @@ def _redirected(here: str, every: str, there: str) -> str:
     return f"filter add dev {here} ingress protocol all {every} action mirred egress redirect dev {there}"
 
 
-def link_changes(names: Mapping[int, int], stopped: int) -> Iterator[tuple[int, bool]]:
-    """Whether the link of an interface is up, when that changes: its index in `names` is the port. Ends when `stopped` can be read."""
+def link_states(names: Mapping[str, int], stopped: int) -> Iterator[tuple[int, bool]]:
+    """The ports of interfaces, with whether their links are up: now, and whenever one may have changed, until `stopped` can be read."""
     with socket.socket(socket.AF_NETLINK, socket.SOCK_RAW, socket.NETLINK_ROUTE) as links:
         links.bind((0, _LINKS_GROUP))
+        # after this, no change is missed
+        indexes = {it.index: names[name] for name, it in all_seen().items() if name in names}
+        yield from _states(names)
         while True:
             ready, _, _ = select.select([links, stopped], [], [])
             if stopped in ready:
                 return
-            with contextlib.suppress(OSError):
+            try:
                 data = links.recv(1 << 16)
-                for index, is_up in _link_messages(data):
-                    if index in names:
-                        yield names[index], is_up
+            except OSError:
+                # messages were lost
+                yield from _states(names)
+                continue
+            for index, is_up in _link_messages(data):
+                if index in indexes:
+                    yield indexes[index], is_up
+
+
+def _states(names: Mapping[str, int]) -> Iterator[tuple[int, bool]]:
+    found = all_seen()
+    for name, number in names.items():
+        yield number, name in found and found[name].is_up
 
 
 def _link_messages(data: bytes) -> Iterator[tuple[int, bool]]:
@@ -357,9 +402,9 @@ def _batch(tool: str, lines: Iterable[str], is_checked: bool = True) -> None:
         raise InterfaceError(f"{tool}: {fault}") from fault
     if is_checked and done.returncode:
         at = re.search(r"Command failed -:(\d+)", done.stderr)
-        what = listed[int(at[1]) - 1] if at else listed[0]
+        line = int(at[1]) - 1 if at else 0
         said = " ".join(done.stderr.split("Command failed")[0].split())
-        raise InterfaceError(f"{tool} {what}: {said}")
+        raise BatchError(f"{tool} {listed[line]}: {said}", line)
 
 
 @contextlib.contextmanager

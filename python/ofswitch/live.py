@@ -114,14 +114,14 @@ class LiveSwitch:
 
     def _watch(self) -> None:
         """From now on, the link of an interface that goes up or down is that of its port."""
-        names = {self.joined.seen[number].index: number for number, it in self.ports.items() if isinstance(it, Taken)}
+        names = {it.name: number for number, it in self.ports.items() if isinstance(it, Taken)}
         if not (names and self.takes_rows):
             return
         stopped, stop = os.pipe()
 
         def watch() -> None:
             state = {number: self.joined.seen[number].is_up for number in names.values()}
-            for number, is_up in interfaces.link_changes(names, stopped):
+            for number, is_up in interfaces.link_states(names, stopped):
                 if is_up != state[number]:
                     state[number] = is_up
                     self.play(rows.port_link(number, is_up))

@@ -11,7 +11,7 @@ import os
 import subprocess
 import sys
 import tempfile
-from typing import IO, Any
+from typing import IO, Any, NoReturn
 
 from mininet.log import error, warn
 from mininet.node import Switch
@@ -28,6 +28,12 @@ _ANSWERS = {
 }
 
 
+def _give_up(fault: Exception) -> NoReturn:
+    """Ends Mininet before anything runs. After another exception `mn` would remove all that has the name of something of Mininet's."""
+    error(f"ofswitch: {fault}\n")
+    sys.exit(1)
+
+
 class OFSwitch(Switch):  # type: ignore[misc]
     """A switch whose port N is the N-th interface that Mininet gives it, such as s1-eth1.
 
@@ -37,8 +43,12 @@ class OFSwitch(Switch):  # type: ignore[misc]
     """
 
     def __init__(self, name: str, log: str | None = None, program: str | None = None, **params: Any) -> None:
+        try:
+            self.program = os.path.abspath(find(program))
+            self._takes_rows = takes_rows(self.program)
+        except ProgramError as fault:
+            _give_up(fault)
         super().__init__(name, **params)
-        self.program = program
         self.log = None if log is None else os.path.join(os.path.abspath(log), f"{name}.events")
         self.live: LiveSwitch | None = None
         self._printed: IO[bytes] | None = None
@@ -49,9 +59,7 @@ class OFSwitch(Switch):  # type: ignore[misc]
         try:
             require_system()
         except InterfaceError as fault:
-            # not another exception: then Mininet would end all that has the name of a switch of its own
-            error(f"ofswitch: {fault}\n")
-            sys.exit(1)
+            _give_up(fault)
 
     def start(self, controllers: list[Any] | None) -> None:
         if self.inNamespace:
@@ -71,7 +79,7 @@ class OFSwitch(Switch):  # type: ignore[misc]
         self.live = LiveSwitch(ports, words, program=self.program, output=self._printed)
         if self.live.poll() is not None:
             raise ProgramError(f"{self.name}: ofswitch ended: {self.printed()}")
-        if not takes_rows(find(self.program)):
+        if not self._takes_rows:
             warn(f"{self.name}: this ofswitch takes no rows while it runs, so a link that goes down stays up for it\n")
 
     def stop(self, deleteIntfs: bool = True) -> None:
@@ -98,7 +106,7 @@ class OFSwitch(Switch):  # type: ignore[misc]
             return f"ofswitch answers {', '.join(_ANSWERS)}\n"
         if self.log is None:
             return "this switch has no log to answer from: give it log=FOLDER\n"
-        done = subprocess.run([find(self.program), *command, self.log], capture_output=True, text=True)
+        done = subprocess.run([self.program, *command, self.log], capture_output=True, text=True)
         return done.stdout + done.stderr
 
     def flows(self) -> str:

@@ -93,13 +93,10 @@ done_told notes f bytes out all (inr is) begins told = waits_told notes bytes ou
 
 -- ---- how many bytes they have
 
-size_of : List ℕ → ℕ
-size_of bytes = length (concat (messages_of bytes))
-
-size_more : (size : ℕ) (bytes : List ℕ) → 8 ≤ size → size ≤ length bytes → beginning_of bytes ≡ Whole (take size bytes) (drop size bytes) → size_of bytes ≡ size + size_of (drop size bytes)
+size_more : (size : ℕ) (bytes : List ℕ) → 8 ≤ size → size ≤ length bytes → beginning_of bytes ≡ Whole (take size bytes) (drop size bytes) → length (concat (messages_of bytes)) ≡ size + length (concat (messages_of (drop size bytes)))
 size_more size bytes low high begins =
     let first : messages_of bytes ≡ take size bytes ∷ messages_of (drop size bytes) = first_message bytes (take size bytes) (drop size bytes) begins (omega (arith, length-drop size bytes, low, high)) in
-    ap (λ (x : List (List ℕ)). length (concat x)) first ∙ (length-append (take size bytes) (concat (messages_of (drop size bytes))) ∙ ap (λ (x : ℕ). x + size_of (drop size bytes)) (length-take-le size bytes high))
+    ap (λ (x : List (List ℕ)). length (concat x)) first ∙ (length-append (take size bytes) (concat (messages_of (drop size bytes))) ∙ ap (λ (x : ℕ). x + length (concat (messages_of (drop size bytes)))) (length-take-le size bytes high))
 
 -- what is left and what was taken
 pub counts_more : (size : ℕ) (bytes all : List ℕ) → 8 ≤ size → size ≤ length bytes → beginning_of bytes ≡ Whole (take size bytes) (drop size bytes)

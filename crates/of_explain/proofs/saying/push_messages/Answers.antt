@@ -12,7 +12,7 @@ loop-size-preserved c =
     let more = c.in_ok-push_message_lines-in-Message.ensures ∙ ap (λ (x : List ℕ). c.loop-size.out.items ++ message_lines x) c.first.ensures in
     rw c.take.ensures (
       told_more message_lines c.in-Message.size c.loop-size.stream c.loop-size.out.items c.push_message_lines.new.out.items _ there.0 there.1 c.in-Message.ensures.front more c.loop-size.invariant.0,
-      counts_more c.in-Message.size c.loop-size.stream c.fn.stream.old there.0 there.1 c.in-Message.ensures.front c.loop-size.invariant.1,
+      counts_more c.in-Message.size c.loop-size.stream _ there.0 there.1 c.in-Message.ensures.front c.loop-size.invariant.1,
     )
 
 pub returns-in-Malformed : goal.returns-in-Malformed
