@@ -52,19 +52,23 @@ pub fn meet(piece: &Piece, fields: &[MatchField]) -> Meeting
     }
 }
 
-/// What rivals of an entry do with a piece, from the piece's place among them on.
+/// What rivals of an entry do with a piece, from the piece's place among them on. One that matches all of it comes before one that splits it.
 pub fn look_at(rivals: &[Rival<'_>], place: usize, own: &Entry, piece: &Piece) -> Look
     ensures { (flows : List FlowEntry) → slice_get flows place ≡ Some (entry_of own.now) → AreRivals flows rivals.now → IsFound flows place piece.now result }
 {
+    let mut split = None;
     for index in piece.from..rivals.len() {
         let rival = rivals[index];
         if goes_before(rival.entry, rival.place, own, place) {
             match meet(piece, rival.entry.flow.fields.fields()) {
                 Meeting::Nothing => {}
                 Meeting::All => return Look::Taken(rival.place),
-                Meeting::Some(e) => return Look::Splits(index, e),
+                Meeting::Some(e) => split = split.or(Some((index, e))),
             }
         }
     }
-    Look::Free
+    match split {
+        None => Look::Free,
+        Some((index, e)) => Look::Splits(index, e),
+    }
 }

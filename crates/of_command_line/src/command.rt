@@ -77,7 +77,7 @@ by table, then by age from 0:
 
   flow 0 1 wins in_port 1 metadata 0x0000000000000000 HEX    it wins the lookup of this frame, at this port, with this metadata
   flow 0 2 never: 0 0 0 1               shadowed: flows 0 and 1 of table 0 have precedence and match all that it matches
-  flow 0 3 never: 0 0 (tie)             the same, and one of those flows has the same priority: OpenFlow leaves open which of the two wins
+  flow 0 3 never: 0 0 (tie)             the same by a flow of equal priority: OpenFlow leaves open which of the two wins
   flow 0 4 open                         undecided within N steps
 
 A step looks at a part of what a flow matches. `never` holds for all frames, ports and metadata. Whether packets reach a flow

@@ -226,7 +226,7 @@ const WANTED: [(&[u8], &str); 13] = [
     ),
     (
         TAG_MASKS,
-        "flow 0 0 wins\nflow 0 1 wins\nflow 1 0 wins\nflow 1 1 wins\nflow 2 0 wins\nflow 2 1 never: 2 0\nflow 2 2 never:\nflow 2 3 wins\ntable 1 unreachable\ntable 2 unreachable\n",
+        "flow 0 0 wins\nflow 0 1 wins\nflow 1 0 wins\nflow 1 1 wins\nflow 2 0 wins\nflow 2 1 never: 2 0\nflow 2 2 never: 2 0\nflow 2 3 wins\ntable 1 unreachable\ntable 2 unreachable\n",
     ),
     (
         PROTOCOL,
