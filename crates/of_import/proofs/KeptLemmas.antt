@@ -141,9 +141,10 @@ pub sifting_next : (old left : List FlowLine) (x : FlowLine) → AllByRecursion 
 sifting_next old left x h e = (all_back FlowIsSound left (x ∷ []) (subst (AllByRecursion FlowIsSound) e h)).0
 
 pub sifting_done : (gs : List TextGroup) (all : List FlowAt) (was : List (ℕ × Code)) (left kept : List FlowLine) (now : List (ℕ × Code)) → Sifting gs all was left kept now → left ≡ [] → (map view_flow_line kept ≡ accepted gs all) × (now ≡ was ++ refused gs all)
-sifting_done gs all was left kept now s e =
-    (sym (append-nil (map view_flow_line kept)) ∙ (ap (λ (fs : List FlowLine). map view_flow_line kept ++ accepted gs (map view_flow_line (reverse fs))) (sym e) ∙ s.accepted),
-     sym (append-nil now) ∙ (ap (λ (fs : List FlowLine). now ++ refused gs (map view_flow_line (reverse fs))) (sym e) ∙ s.refused))
+sifting_done gs all was left kept now s e = (
+  sym (append-nil (map view_flow_line kept)) ∙ (ap (λ (fs : List FlowLine). map view_flow_line kept ++ accepted gs (map view_flow_line (reverse fs))) (sym e) ∙ s.accepted),
+  sym (append-nil now) ∙ (ap (λ (fs : List FlowLine). now ++ refused gs (map view_flow_line (reverse fs))) (sym e) ∙ s.refused),
+)
 
 -- ---- flows, from the last one back
 

@@ -3,5 +3,6 @@ pub mod SoundLemmas
 pub mod ParsedLinesLemmas
 pub mod RowLemmas
 pub mod NumberLemmas
+pub mod DigestLemmas
 pub mod KeptLemmas
 pub mod ImportLemmas

@@ -9,6 +9,7 @@ pub mod Sound
 pub mod ParsedLines
 pub mod ParsedLinesViews
 pub mod Kept
+pub mod Digests
 pub mod KeptViews
 pub mod TableNumbers
 pub mod TableNumbersViews

@@ -1,5 +1,5 @@
 //! Which groups and flows of a table are kept.
-ghost use Rattle.std.specs.Prelude.{◌≡◌, ◌++◌, ◌∷◌, map, length, is_some, slice_index_or, [], IfOk, OnOk};
+ghost use Rattle.std.specs.Prelude.{◌≡◌, ◌==◌, ◌++◌, ◌∷◌, map, length, is_some, slice_index_or, [], IfOk, OnOk};
 ghost use Rattle.std.specs.List.{AllByRecursion, list_any};
 ghost use Rattle.of_oxm.specs.SameMatch.{is_same_match};
 ghost use Rattle.std.specs.Option.{option_map};
@@ -7,6 +7,7 @@ ghost use Rattle.of_text.specs.First.{first_refusal};
 ghost use Rattle.of_text.specs.Flows.{text_rows};
 ghost use Rattle.of_text.specs.Texts.{AreRows};
 ghost use Rattle.of_text.specs.Views.{view, view_flows, view_group, view_groups};
+ghost use Rattle.of_import.specs.Digests.{digest_of, digests_of, mixed as mixed_of};
 ghost use Rattle.of_import.specs.Kept.{accepted, after_refusal, groups_in, kept_groups, kept_of, refusal_alone as refusal_alone_of, refused as refused_of, replaces as replaces_flow, with_older, youngest as youngest_of};
 ghost use Rattle.of_import.specs.KeptViews.{view_kept, view_kept_groups, view_refusal};
 ghost use Rattle.of_import.specs.ParsedLinesViews.{AreSoundGroups, FlowIsSound, view_flow_line, view_group_line};
@@ -14,7 +15,7 @@ ghost use Rattle.of_import.specs.Sound.{IsSound};
 
 use crate::copies::{copy_flow, copy_group};
 use crate::parsed_lines::{FlowLine, GroupLine, remove_id};
-use of_oxm::Code;
+use of_oxm::{Code, MatchField};
 use of_text::{Config, FillError, FlowText, GroupText};
 use std::alloc::{AllocError, Global};
 
@@ -60,10 +61,7 @@ fn refusal_among(
 }
 
 // The same among groups alone.
-fn refused_group(
-    alloc: Global,
-    groups: &[GroupLine],
-) -> Result<Option<(usize, Code)>, AllocError>
+fn refused_group(alloc: Global, groups: &[GroupLine]) -> Result<Option<(usize, Code)>, AllocError>
     requires { AreSoundGroups groups.now }
     ensures { IfOk result (λ r. r ≡ first_refusal (groups_in (map view_group_line groups.now)) []) }
 {
@@ -247,14 +245,66 @@ fn replaces(flow: &FlowText, other: &FlowText) -> bool
         && has_fields_of(flow, other)
 }
 
+#[tactic(auto, unfolding(crate::specs::Digests::mixed))]
+fn mixed(sum: u128, e: MatchField) -> u128
+    ensures { result ≡ mixed_of sum e }
+{
+    sum.wrapping_mul(1_000_003)
+        .wrapping_add(e.value)
+        .wrapping_mul(1_000_003)
+        .wrapping_add(e.mask.unwrap_or(0))
+}
+
+// A number that is the same for flows that replace each other.
+#[tactic(auto, unfolding(crate::specs::Digests::digest_of))]
+fn digest(flow: &FlowText) -> u128
+    ensures { result ≡ digest_of (view flow.now) }
+{
+    let seed = u128::from(flow.head.table)
+        .wrapping_mul(65536)
+        .wrapping_add(u128::from(flow.head.priority));
+    flow.fields.iter().fold(seed, |sum, e| mixed(sum, *e))
+}
+
+fn has_digest(digests: &[u128], digest: u128) -> bool
+    ensures { result ≡ list_any (λ d. d == digest) digests.now }
+{
+    digests.iter().any(|other| *other == digest)
+}
+
+// Whether one of these flows, which have these digests, replaces another.
+fn has_younger(later: &[FlowLine], digests: &[u128], flow: &FlowText) -> bool
+    requires { digests.now ≡ digests_of later.now }
+    ensures { result ≡ list_any (λ g. replaces_flow (view g.flow) (view flow.now)) later.now }
+{
+    if has_digest(digests, digest(flow)) {
+        return is_replaced(later, flow);
+    }
+    false
+}
+
+fn push_digest(digests: &mut Vec<u128>, flow: &FlowText) -> Result<(), AllocError>
+    ensures { OnOk result (digests.new.items ≡ digests.old.items ++ digest_of (view flow.now) ∷ []) }
+{
+    digests.push(digest(flow))?;
+    Ok(())
+}
+
 // Adds a flow to those after it, unless one of them replaces it.
-fn add_older(later: &mut Vec<FlowLine>, it: FlowLine) -> Result<(), AllocError>
+fn add_older(
+    later: &mut Vec<FlowLine>,
+    digests: &mut Vec<u128>,
+    it: FlowLine,
+) -> Result<(), AllocError>
+    requires digests { digests.old.items ≡ digests_of later.old.items }
     requires later { AllByRecursion FlowIsSound later.old.items }
     requires flow { FlowIsSound it }
     ensures added { OnOk result (map view_flow_line later.new.items ≡ with_older (map view_flow_line later.old.items) (view_flow_line it)) }
+    ensures digests { OnOk result (digests.new.items ≡ digests_of later.new.items) }
     ensures sound { OnOk result (AllByRecursion FlowIsSound later.new.items) }
 {
-    if !is_replaced(later, &it.flow) {
+    if !has_younger(later, digests, &it.flow) {
+        push_digest(digests, &it.flow)?;
         later.push(it)?;
     }
     Ok(())
@@ -268,9 +318,10 @@ pub fn youngest(alloc: Global, flows: Vec<FlowLine>) -> Result<Vec<FlowLine>, Al
     ensures sound { IfOk result (λ kept. AllByRecursion FlowIsSound kept.items) }
 {
     let mut later = Vec::new(alloc);
+    let mut digests = Vec::new(alloc);
     let mut left = flows;
     while let Some(it) = left.pop() {
-        add_older(&mut later, it)?;
+        add_older(&mut later, &mut digests, it)?;
     }
     later.reverse();
     Ok(later)

@@ -16,7 +16,11 @@ use std::alloc::{AllocError, Global};
 fn shown(byte: u8) -> u8
     ensures { result ≡ shown_byte byte }
 {
-    if (32..=126).contains(&byte) { byte } else { b'?' }
+    if (32..=126).contains(&byte) {
+        byte
+    } else {
+        b'?'
+    }
 }
 
 fn push_shown(out: &mut Vec<u8>, words: &[u8]) -> Result<(), AllocError>
@@ -63,11 +67,7 @@ fn push_move(alloc: Global, out: &mut Vec<u8>, from: u8, to: u8) -> Result<(), A
 }
 
 // Tables that have other numbers.
-fn push_moves(
-    alloc: Global,
-    out: &mut Vec<u8>,
-    moves: &[(u8, u8)],
-) -> Result<(), AllocError>
+fn push_moves(alloc: Global, out: &mut Vec<u8>, moves: &[(u8, u8)]) -> Result<(), AllocError>
     ensures { OnOk result (out.new.items ≡ out.old.items ++ flat_map (λ m. comment (table_words m)) moves.now) }
 {
     for it in moves {
@@ -98,11 +98,7 @@ fn push_fault(alloc: Global, out: &mut Vec<u8>, it: &LineFaults) -> Result<(), A
 }
 
 // Lines with words that are refused.
-fn push_faults(
-    alloc: Global,
-    out: &mut Vec<u8>,
-    faults: &[LineFaults],
-) -> Result<(), AllocError>
+fn push_faults(alloc: Global, out: &mut Vec<u8>, faults: &[LineFaults]) -> Result<(), AllocError>
     ensures { OnOk result (out.new.items ≡ out.old.items ++ flat_map (λ f. comment (fault_words f)) (map view_faults faults.now)) }
 {
     for it in faults {
@@ -189,11 +185,7 @@ fn push_mark(alloc: Global, out: &mut Vec<u8>, it: &FlowLine) -> Result<(), Allo
 }
 
 // Actions that are left out or changed.
-fn push_marks(
-    alloc: Global,
-    out: &mut Vec<u8>,
-    flows: &[FlowLine],
-) -> Result<(), AllocError>
+fn push_marks(alloc: Global, out: &mut Vec<u8>, flows: &[FlowLine]) -> Result<(), AllocError>
     ensures { OnOk result (out.new.items ≡ out.old.items ++ flat_map mark_notes (map view_flow_line flows.now)) }
 {
     for it in flows {
