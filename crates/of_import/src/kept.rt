@@ -209,7 +209,8 @@ pub fn keep_flows(
 ) -> Result<Vec<FlowLine>, AllocError>
     requires groups { AreSoundGroups groups.now }
     requires flows { AllByRecursion FlowIsSound flows.items }
-    ensures accepted { IfOk result (λ kept. map view_flow_line kept.items ≡ accepted (groups_in (map view_group_line groups.now)) (map view_flow_line flows.items)) }
+    ensures accepted { IfOk result (λ kept. map view_flow_line kept.items ≡
+        accepted (groups_in (map view_group_line groups.now)) (map view_flow_line flows.items)) }
     ensures refused { OnOk result (map view_refusal refused.new.items ≡
         map view_refusal refused.old.items ++ refused_of (groups_in (map view_group_line groups.now)) (map view_flow_line flows.items)) }
     ensures sound { IfOk result (λ kept. AllByRecursion FlowIsSound kept.items) }
