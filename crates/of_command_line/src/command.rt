@@ -102,14 +102,16 @@ const IMPORTS: &str =
     "FILE has flows and groups, one per line, as `ovs-ofctl -O OpenFlow13 --no-names dump-flows` and `dump-groups` print them, or
 as `ovs-ofctl add-flows` and `add-groups` read them. Groups and flows may be in one file. Statistics, the heading lines of
 dumps, comments and empty lines are skipped. A flow that has the table, the priority and the match of an earlier flow
-replaces it, as an ADD would.
+replaces it, as an ADD would. A resubmit to a later table becomes GOTO_TABLE if it is the last action.
 
 It prints flow text (`ofswitch asm --help`), which `asm`, `trace --flows` and `check --flows` read: groups by number, flows
 by table, and in a table in the order of FILE. If a line uses something that this switch does not support, standard error
-names the line and the word, and nothing is printed, unless --skip leaves such lines out.
+names the line and the words, and nothing is printed, unless --skip leaves such lines out. Comments before the flow text say
+what was left out or changed; the first one is `# part of a table: N lines left out`.
 
   ofswitch import examples/ovs-router.txt
   ovs-ofctl -O OpenFlow13 --no-names dump-flows br0 | ofswitch import - > br0.flows
+  ofswitch import --skip --renumber br-int.txt > br-int.flows
   ofswitch check --flows br0.flows";
 
 const SAYING: &str =
@@ -233,7 +235,7 @@ const DISASSEMBLE: [Argument; 1] = [Argument {
     help: "The event file to run; - is standard input",
 }];
 
-const IMPORT: [Argument; 2] = [
+const IMPORT: [Argument; 3] = [
     Argument {
         name: "FILE",
         kind: Kind::Positional,
@@ -242,7 +244,12 @@ const IMPORT: [Argument; 2] = [
     Argument {
         name: "skip",
         kind: Kind::Flag("skip"),
-        help: "Leave out lines that this switch refuses",
+        help: "Leave out lines that this switch refuses, and actions to NORMAL and LOCAL",
+    },
+    Argument {
+        name: "renumber",
+        kind: Kind::Flag("renumber"),
+        help: "Give the tables that occur the numbers 0 to 15, in their order",
     },
 ];
 

@@ -68,6 +68,8 @@ pub enum Request {
         file: String,
         /// Whether lines that the switch cannot take are left out.
         skip: bool,
+        /// Whether tables get the numbers 0 to 15.
+        renumber: bool,
     },
     /// To print the trace of a frame that is received at a port of the switch of a file; `-` is standard input.
     Trace(Trace),
@@ -229,6 +231,7 @@ fn file_request_of(
         "import" => Ok(Request::Import {
             file,
             skip: matches.get_flag("skip"),
+            renumber: matches.get_flag("renumber"),
         }),
         _ => Ok(Request::Replay {
             file,

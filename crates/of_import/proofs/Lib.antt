@@ -2,4 +2,7 @@ pub mod LineLemmas
 pub mod SoundLemmas
 pub mod ParsedLinesLemmas
 pub mod RowLemmas
+pub mod NumberLemmas
+pub mod DigestLemmas
+pub mod KeptLemmas
 pub mod ImportLemmas

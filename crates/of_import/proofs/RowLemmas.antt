@@ -10,7 +10,7 @@ use Rattle.of_lines.specs.declared.order.Place.{Place}
 use Rattle.of_lines.specs.declared.order.Place.TheVariants.{Start, InGroup, InBucket, InFlow}
 use Rattle.of_lines.specs.declared.row.Row.{Row}
 use Rattle.of_lines.specs.declared.row.Row.TheVariants as rows
-use Rattle.of_text.specs.Flows.{text_rows}
+use Rattle.of_text.specs.Flows.{Flow, text_rows}
 use Rattle.of_text.specs.Groups.{TextBucket, TextGroup, bucket_rows, group_rows, rows_of_groups}
 use Rattle.of_text.specs.Order.{start, following, standing}
 use Rattle.of_text.specs.Rows.{Fits}
@@ -20,8 +20,7 @@ use Rattle.of_text.proofs.TextLemmas.{standing_both, all_both}
 use Rattle.of_text.proofs.ConfigLemmas.{IsWhole, rows_from}
 use Rattle.of_import.specs.declared.parsed_lines.FlowLine.{FlowLine}
 use Rattle.of_import.specs.declared.parsed_lines.GroupLine.{GroupLine}
-use Rattle.of_import.specs.declared.parsed_lines.ParsedLines.{ParsedLines as Declared}
-use Rattle.of_import.specs.ParsedLinesViews.{id_of, view_group_line, view_flow_line, AreSoundLines}
+use Rattle.of_import.specs.ParsedLinesViews.{id_of, view_group_line, view_flow_line, AreSoundGroups, FlowIsSound}
 use Rattle.of_import.specs.Sound.{IsSound}
 use Rattle.of_import.proofs.SoundLemmas.{and_parts}
 
@@ -105,18 +104,27 @@ viewed_whole : (fs : List FlowLine) → AllByRecursion (λ f. IsSound (view f.fl
 viewed_whole [] h = tt
 viewed_whole (f ∷ fs) h = (record { fits = h.0.fits; order = h.0.order }, viewed_whole fs h.1)
 
--- the lines of what was read
-pub parsed_rows : (r : Declared) (gs : List GroupText) (fs : List FlowText) → AreSoundLines r → gs ≡ map (λ g. g.group) r.groups.items → fs ≡ map (λ f. f.flow) r.flows.items → AreRows (text_rows (view_groups gs) (view_flows fs))
-parsed_rows r gs fs s g f =
-    let place = groups_stand (view_groups (map (λ g. g.group) r.groups.items)) (viewed_rise r.groups.items s.rising) in
-    rw (g, f) (rows_from (view_groups (map (λ g. g.group) r.groups.items)) (view_flows (map (λ f. f.flow) r.flows.items)) (record { fits = viewed_fit r.groups.items s.groups; place = place.0; order = place.1; whole = viewed_whole r.flows.items s.flows }))
+-- the lines of groups and flows
+pub parsed_rows : (ls : List GroupLine) (ms : List FlowLine) (gs : List TextGroup) (fs : List Flow) → AreSoundGroups ls → AllByRecursion FlowIsSound ms → gs ≡ view_groups (map (λ g. g.group) ls) → fs ≡ view_flows (map (λ f. f.flow) ms) → AreRows (text_rows gs fs)
+parsed_rows ls ms gs fs s h g f =
+    let place = groups_stand (view_groups (map (λ g. g.group) ls)) (viewed_rise ls s.rising) in
+    rw (g, f) (rows_from (view_groups (map (λ g. g.group) ls)) (view_flows (map (λ f. f.flow) ms)) (record { fits = viewed_fit ls s.each; place = place.0; order = place.1; whole = viewed_whole ms h }))
+
+-- the lines of groups and a flow
+pub parsed_row : (ls : List GroupLine) (gs : List TextGroup) (fs : List Flow) (f : Flow) → AreSoundGroups ls → IsSound f → gs ≡ view_groups (map (λ g. g.group) ls) → fs ≡ f ∷ [] → AreRows (text_rows gs fs)
+parsed_row ls gs fs f s h g k =
+    let place = groups_stand (view_groups (map (λ g. g.group) ls)) (viewed_rise ls s.rising) in
+    rw (g, k) (rows_from (view_groups (map (λ g. g.group) ls)) (f ∷ []) (record { fits = viewed_fit ls s.each; place = place.0; order = place.1; whole = (record { fits = h.fits; order = h.order }, tt) }))
+
+pub one_flow : (old new : List FlowText) (x : FlowText) (f : Flow) → old ≡ [] → new ≡ old ++ x ∷ [] → view x ≡ f → view_flows new ≡ f ∷ []
+one_flow old new x f o e v = ap view_flows (e ∙ ap (λ (xs : List FlowText). xs ++ x ∷ []) o) ∙ ap (λ (g : Flow). g ∷ []) v
 
 -- the groups and flows that were read
 pub parsed_groups : (gs : List GroupLine) → view_groups (map (λ g. g.group) gs) ≡ map (λ g. g.1) (map view_group_line gs)
 parsed_groups [] = refl
 parsed_groups (g ∷ gs) = ap (λ xs. view_group g.group ∷ xs) (parsed_groups gs)
 
-pub parsed_flows : (fs : List FlowLine) → view_flows (map (λ f. f.flow) fs) ≡ map (λ f. f.1) (map view_flow_line fs)
+pub parsed_flows : (fs : List FlowLine) → view_flows (map (λ f. f.flow) fs) ≡ map (λ f. f.flow) (map view_flow_line fs)
 parsed_flows [] = refl
 parsed_flows (f ∷ fs) = ap (λ xs. view f.flow ∷ xs) (parsed_flows fs)
 
@@ -124,6 +132,6 @@ pub parsed_group_lines : (gs : List GroupLine) → map (λ g. g.line) gs ≡ map
 parsed_group_lines [] = refl
 parsed_group_lines (g ∷ gs) = ap (λ xs. g.line ∷ xs) (parsed_group_lines gs)
 
-pub parsed_flow_lines : (fs : List FlowLine) → map (λ f. f.line) fs ≡ map (λ f. f.0) (map view_flow_line fs)
+pub parsed_flow_lines : (fs : List FlowLine) → map (λ f. f.line) fs ≡ map (λ f. f.line) (map view_flow_line fs)
 parsed_flow_lines [] = refl
 parsed_flow_lines (f ∷ fs) = ap (λ xs. f.line ∷ xs) (parsed_flow_lines fs)

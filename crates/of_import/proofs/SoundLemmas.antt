@@ -1,6 +1,6 @@
 -- The flow of its words may stand in a flow text.
-use Rattle.std.proofs.Common.{◌≡◌, ℕ, ◌+◌, ◌<◌, ◌≤◌, ◌^◌, eqb, Bool, true, false, cond, List, [], ◌∷◌, ◌++◌, length, Option, Some, None, Ok, Err, refl, sym, ap, subst, ◌∙◌, append_assoc, arith}
-use Rattle.std.specs.Prelude.{map, not, nat_lt, nat_le, ◌&&◌, ◌||◌, IsSome, IfSome, reverse, find, filter_map}
+use Rattle.std.proofs.Common.{◌≡◌, ℕ, ◌+◌, ◌<◌, ◌≤◌, ◌^◌, eqb, Bool, true, false, cond, List, [], ◌∷◌, ◌++◌, length, Option, Some, None, refl, sym, ap, subst, ◌∙◌, append_assoc, arith}
+use Rattle.std.specs.Prelude.{codes, map, not, nat_lt, nat_le, ◌&&◌, ◌||◌, IsSome, IfSome, reverse, find, filter_map}
 use Rattle.std.specs.List.{AllByRecursion, flat_map, list_all}
 use Rattle.std.specs.Option.{option_map_or}
 use Rattle.std.proofs.lemmas.Bool.{le-leb, leb-true, ltb-true, eqb-true}
@@ -19,8 +19,8 @@ use Rattle.of_text.specs.Rows.{Fits, ActionFits, HeadFits, IsMask}
 use Rattle.of_text.specs.Order.{flow_next, flow_standing}
 use Rattle.of_ovs_words.specs.Settings.{last_of}
 use Rattle.of_ovs_words.specs.Matches.{fields_of}
-use Rattle.of_import.specs.PartialFlows.{PartialFlow}
-use Rattle.of_import.specs.Finished.{when, metadata_step, goto_step, steps_of, field_fits, action_fits, numbers_fit, flow_of}
+use Rattle.of_import.specs.PartialFlows.{PartialFlow, Refusal}
+use Rattle.of_import.specs.Finished.{when, metadata_step, goto_step, steps_of, field_fits, action_fits, numbers_fit, flow_of, refusal_of}
 use Rattle.of_ovs_words.specs.declared.why.Why.TheVariants as whys
 use Rattle.of_import.specs.PartialGroups.{bucket_fits}
 use Rattle.of_text.specs.Groups.{TextBucket, bucket_rows}
@@ -259,21 +259,32 @@ partial_flow_sound s t n =
       order = is_some _ back.next (front.is ∙ (ap (flow_standing front.next) (sym (append-nil (flat_map step_rows (steps_of s)))) ∙ back.is));
     }
 
--- a flow that is of its words
-pub flow_sound : (s : PartialFlow) (f : Flow) → IsTyped s → flow_of s ≡ Ok f → IsSound f
-unfolding flow_of
-flow_sound s f t e = by_actions s.in_actions refl
-  where
-    by_numbers : (b : Bool) → numbers_fit s ≡ b → s.in_actions ≡ true → IsSound f
-    by_numbers true n a =
-        let given : Ok (record { head = s.head; fields = fields_of s.settings; steps = steps_of s }) ≡ Ok f = rw (a, n) at e in
-        let same : record { head = s.head; fields = fields_of s.settings; steps = steps_of s } ≡ f = cc in
-        subst IsSound same (partial_flow_sound s t n)
-    by_numbers false n a = let given : Err whys.Value ≡ Ok f = rw (a, n) at e in absurd cc
+some_or_none : {A : Type 0} (x : A) (o : Option A) → o ≡ Some x → o ≡ None → ⊥
+some_or_none x None h k = absurd cc
+some_or_none x (Some y) h k = absurd cc
 
-    by_actions : (b : Bool) → s.in_actions ≡ b → IsSound f
+abbrev value_refused : PartialFlow → Refusal
+value_refused s = record { word = codes "actions"; why = whys.Value }
+
+abbrev value_missing : PartialFlow → Refusal
+value_missing s = record { word = codes "actions"; why = whys.Missing }
+
+-- the flow of words of which none is refused
+pub flow_sound : (s : PartialFlow) → IsTyped s → refusal_of s ≡ None → IsSound (flow_of s)
+unfolding refusal_of
+flow_sound s t e = by_actions s.in_actions refl
+  where
+    by_numbers : (b : Bool) → numbers_fit s ≡ b → s.in_actions ≡ true → IsSound (flow_of s)
+    by_numbers true n a = partial_flow_sound s t n
+    by_numbers false n a = absurd (some_or_none (value_refused s) (refusal_of s) (rw (a, n) refl) e)
+
+    by_actions : (b : Bool) → s.in_actions ≡ b → IsSound (flow_of s)
     by_actions true a = by_numbers (numbers_fit s) refl a
-    by_actions false a = let given : Err whys.Missing ≡ Ok f = rw a at e in absurd cc
+    by_actions false a = absurd (some_or_none (value_missing s) (refusal_of s) (rw a refl) e)
+
+-- as it is made
+pub flow_made : (s : PartialFlow) (fields : List MatchField) (steps : List Step) → fields ≡ fields_of s.settings → steps ≡ steps_of s → IsSound (flow_of s) → IsSound (record { head = s.head; fields = fields; steps = steps })
+flow_made s fields steps f t h = rw (f, t) h
 
 -- ---- groups
 

@@ -1,8 +1,12 @@
 -- THE FLOW OF ITS WORDS.
-use Rattle.std.specs.Prelude.{ℕ, ◌^◌, ◌==◌, ◌&&◌, not, nat_le, nat_lt, Bool, true, List, [], ◌∷◌, ◌++◌, length, Option, Some, None, Result, Ok, Err, if◌then◌else◌}
-use Rattle.std.specs.Option.{option_map_or}
+use Rattle.std.specs.Prelude.{ℕ, ◌^◌, ◌==◌, ◌&&◌, not, nat_le, nat_lt, Bool, true, List, [], ◌∷◌, ◌++◌, length, codes, find, slice_index_or, Option, Some, None, if◌then◌else◌}
+use Rattle.std.specs.Option.{option_map, option_map_or}
 use Rattle.std.specs.List.{list_all}
-use Rattle.of_layers.specs.Fields.{ones_of}
+use Rattle.of_layers.specs.declared.field.Field.{Field}
+use Rattle.of_layers.specs.declared.field.Prerequisite.{Prerequisite}
+use Rattle.of_layers.specs.declared.field.Prerequisite.TheVariants as needs
+use Rattle.of_layers.specs.Fields.{ones_of, prerequisite_of}
+use Rattle.of_oxm.specs.Prerequisites.{is_met}
 use Rattle.of_oxm.specs.declared.match_field.MatchField.{MatchField}
 use Rattle.of_actions.specs.declared.action.Action.{Action}
 use Rattle.of_actions.specs.declared.action.Action.TheVariants.{Output, PushVlan, PopVlan, Group, SetNwTtl, DecNwTtl, SetField}
@@ -10,7 +14,8 @@ use Rattle.of_text.specs.Flows.{Flow, Step, Apply, Clear, Write, Metadata, Goto}
 use Rattle.of_ovs_words.specs.declared.why.Why.{Why}
 use Rattle.of_ovs_words.specs.declared.why.Why.TheVariants as whys
 use Rattle.of_ovs_words.specs.Matches.{fields_of}
-use Rattle.of_import.specs.PartialFlows.{PartialFlow}
+use Rattle.of_ovs_words.specs.FieldWords.{text_of, word_for}
+use Rattle.of_import.specs.PartialFlows.{PartialFlow, Refusal}
 
 abbrev pub when : {A : Type 0} → Bool → A → List A
 when wanted a = if wanted then a ∷ [] else []
@@ -44,9 +49,43 @@ action_fits (SetField f value) = nat_le value (ones_of f)
 abbrev pub numbers_fit : PartialFlow → Bool
 numbers_fit s = list_all field_fits (fields_of s.settings) && list_all action_fits s.apply && list_all action_fits s.write
 
--- THE FLOW of its words; a line without `actions=` is none
-unfoldable pub flow_of : PartialFlow → Result Flow Why
-flow_of s =
-    if not s.in_actions then Err whys.Missing
-    else if not (numbers_fit s) then Err whys.Value
-    else Ok (record { head = s.head; fields = fields_of s.settings; steps = steps_of s })
+-- ---- prerequisites (OpenFlow 1.3.5, 7.2.3.8)
+
+abbrev pub why_missing : Prerequisite → Why
+why_missing needs.Tag = whys.NeedsTag
+why_missing needs.Ip = whys.NeedsIp
+why_missing needs.Ipv4 = whys.NeedsIpv4
+why_missing needs.Ipv6 = whys.NeedsIpv6
+why_missing needs.Arp = whys.NeedsArp
+why_missing needs.Tcp = whys.NeedsTcp
+why_missing needs.Udp = whys.NeedsUdp
+why_missing needs.Icmpv4 = whys.NeedsIcmp
+why_missing needs.Icmpv6 = whys.NeedsIcmp6
+why_missing needs.Nothing = whys.Unknown
+
+abbrev pub refused_for : Field → Refusal
+refused_for f = record { word = text_of (word_for f); why = why_missing (prerequisite_of f) }
+
+-- the first field whose prerequisite is not in the match
+abbrev pub first_unmet : List MatchField → Option MatchField
+first_unmet fields = find (λ e. not (is_met fields (prerequisite_of e.field))) fields
+
+-- WHY the words are no flow, if none of them is refused
+unfoldable pub refusal_of : PartialFlow → Option Refusal
+refusal_of s =
+    if not s.in_actions then Some (record { word = codes "actions"; why = whys.Missing })
+    else if not (numbers_fit s) then Some (record { word = codes "actions"; why = whys.Value })
+    else option_map (λ e. refused_for e.field) (first_unmet (fields_of s.settings))
+
+-- THE FLOW of its words
+abbrev pub flow_of : PartialFlow → Flow
+flow_of s = record { head = s.head; fields = fields_of s.settings; steps = steps_of s }
+
+-- ---- tables
+
+-- the new number of a table, where the list has one
+abbrev pub renumbered : List ℕ → ℕ → ℕ
+renumbered numbers n = slice_index_or numbers n n
+
+abbrev pub in_numbers : List ℕ → PartialFlow → PartialFlow
+in_numbers numbers s = record s { head = record s.head { table = renumbered numbers s.head.table }; goto = option_map (renumbered numbers) s.goto }

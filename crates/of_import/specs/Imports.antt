@@ -1,44 +1,78 @@
--- THE CONFIGURATION OF A TABLE OF OPEN VSWITCH: the groups and the flows that its lines say, of which none is refused.
-use Rattle.std.specs.Prelude.{◌≡◌, ◌<◌, ℕ, Bool, false, List, map, length, None, Some}
+-- THE TEXT OF A TABLE OF OPEN VSWITCH: the configuration that its lines say, without those that are left out, after comments about these.
+use Rattle.std.specs.Prelude.{◌≡◌, ◌<◌, ◌≤◌, ◌+◌, ◌++◌, ℕ, Bool, false, List, [], filter, map, length, None, Some, if◌then◌else◌}
 use Rattle.of_text.specs.Configs.{Configuration, EncodeConfig, tables_of, config_text}
+use Rattle.of_text.specs.Groups.{TextGroup}
 use Rattle.of_text.specs.Lines.{lines_of}
 use Rattle.of_text.specs.First.{first_refusal}
-use Rattle.of_import.specs.declared.parsed_lines.LineFault.{LineFault}
-use Rattle.of_import.specs.declared.parsed_lines.ParsedLines.{ParsedLines as Declared}
+use Rattle.of_import.specs.declared.mode.Mode.{Mode}
+use Rattle.of_import.specs.declared.parsed_lines.LineFaults.{LineFaults}
+use Rattle.of_import.specs.declared.kept.LineRefusal.{LineRefusal}
 use Rattle.of_import.specs.declared.import.ImportError.{ImportError}
-use Rattle.of_import.specs.declared.import.ImportError.TheVariants.{NoMemory, Faults, Refused}
-use Rattle.of_import.specs.ParsedLinesViews.{view_fault}
-use Rattle.of_import.specs.ParsedLines.{ParsedLines, parsed_lines_of, groups_parsed, flows_parsed, line_at}
+use Rattle.of_import.specs.declared.import.ImportError.TheVariants.{NoMemory, Faults, Refused, TooMany}
+use Rattle.of_import.specs.ParsedLinesViews.{view_faults}
+use Rattle.of_import.specs.ParsedLines.{FlowAt, ParsedLines, parsed_lines_of}
+use Rattle.of_import.specs.Kept.{Kept, flows_in, groups_in, kept_of, line_of}
+use Rattle.of_import.specs.KeptViews.{view_refusal}
+use Rattle.of_import.specs.TableNumbers.{TableNumbers, numbers_of, same_numbers}
+use Rattle.of_import.specs.Notes.{is_changed, notes_of}
 
--- the configuration has the groups and flows that were read, each flow in its table after those before it
-pub record IsConfigOf (t : ParsedLines) (c : Configuration) : Type 0 where
-  pub groups : c.groups ≡ groups_parsed t
-  pub tables : c.tables ≡ tables_of (flows_parsed t)
-  pub stand : first_refusal (groups_parsed t) (flows_parsed t) ≡ None
+-- the configuration has these groups and flows, each flow in its table after those before it, and none is refused
+pub record IsConfigOf (gs : List (ℕ × TextGroup)) (fs : List FlowAt) (c : Configuration) : Type 0 where
+  pub groups : c.groups ≡ groups_in gs
+  pub tables : c.tables ≡ tables_of (flows_in fs)
+  pub stand : first_refusal (groups_in gs) (flows_in fs) ≡ None
 
--- A TEXT AND ITS LINES AT FAULT: the canonical text of the configuration that the other lines say, which is read back as that; without `skip` no line is at fault
-pub record IsImport (lines : List (List ℕ)) (skip : Bool) (text : List ℕ) (faults : List LineFault) : Type 0 where
+-- the text of a configuration, after comments: it is read back as that
+pub record IsTextOf (k : Kept) (notes text : List ℕ) : Type 0 where
   pub config : Configuration
-  pub is : IsConfigOf (parsed_lines_of lines) config
-  pub text_is : text ≡ config_text config
-  pub encoded : EncodeConfig (lines_of text) config
-  pub faults_are : map view_fault faults ≡ (parsed_lines_of lines).faults
-  pub none : skip ≡ false → length faults ≡ 0
+  pub is : IsConfigOf k.groups k.flows config
+  pub text_is : text ≡ notes ++ config_text config
+  pub encoded : EncodeConfig (lines_of (config_text config)) config
 
--- the first group or flow that is refused, by its line
-abbrev pub RefusedOf : ParsedLines → ImportError → Type 0
-RefusedOf t NoMemory = Unit {0}
-RefusedOf t (Faults faults) = ⊥
-RefusedOf t (Refused line code) = (place : ℕ) × (first_refusal (groups_parsed t) (flows_parsed t) ≡ Some (place, code)) × (line ≡ line_at place t)
+-- ---- the lines
 
--- some lines are at fault, and these are all
-abbrev pub FaultsOf : Declared → Bool → ImportError → Type 0
-FaultsOf parsed skip (Faults faults) = (skip ≡ false) × (faults.items ≡ parsed.faults.items) × (0 < length faults.items)
-FaultsOf parsed skip NoMemory = ⊥
-FaultsOf parsed skip (Refused line code) = ⊥
+-- the new numbers of tables
+abbrev pub numbers_for : Mode → List (List ℕ) → TableNumbers
+numbers_for mode lines = if mode.renumber then numbers_of (parsed_lines_of mode [] lines).flows else same_numbers
 
--- WHY THERE IS NONE: memory ran out; some lines are at fault, and these are all; or the first group or flow that the switch refuses, by its line, and its first refusal
-abbrev pub NoImport : List (List ℕ) → Bool → ImportError → Type 0
-NoImport lines skip NoMemory = Unit {0}
-NoImport lines skip (Faults faults) = (skip ≡ false) × (map view_fault faults.items ≡ (parsed_lines_of lines).faults) × (0 < length faults.items)
-NoImport lines skip (Refused line code) = RefusedOf (parsed_lines_of lines) (Refused line code)
+abbrev pub parsed : Mode → List (List ℕ) → ParsedLines
+parsed mode lines = parsed_lines_of mode (numbers_for mode lines).numbers lines
+
+abbrev pub kept_in : ParsedLines → Kept
+kept_in t = kept_of t.groups t.flows
+
+abbrev pub notes_for : Mode → List (List ℕ) → List ℕ
+notes_for mode lines = notes_of (numbers_for mode lines).moves (parsed mode lines).faults (kept_in (parsed mode lines))
+
+-- A TEXT, the lines with words that are refused, and those that the switch refuses (without `skip` there are none), and how many flows have an action left out
+pub record IsImport (lines : List (List ℕ)) (mode : Mode) (text : List ℕ) (faults : List LineFaults) (refused : List LineRefusal) (changed : ℕ) : Type 0 where
+  pub text_is : IsTextOf (kept_in (parsed mode lines)) (notes_for mode lines) text
+  pub faults_are : map view_faults faults ≡ (parsed mode lines).faults
+  pub refused_are : map view_refusal refused ≡ (kept_in (parsed mode lines)).refused
+  pub changed_is : changed ≡ length (filter is_changed (kept_in (parsed mode lines)).flows)
+  pub none : mode.skip ≡ false → length faults + length refused ≡ 0
+  pub few : (numbers_for mode lines).count ≤ 16
+
+-- ---- why there is none
+
+-- the first group or flow that is refused beside the others, by its line
+abbrev pub RefusedOf : List (ℕ × TextGroup) → List FlowAt → ImportError → Type 0
+RefusedOf gs fs NoMemory = Unit {0}
+RefusedOf gs fs (Faults faults refused) = ⊥
+RefusedOf gs fs (Refused line code) = (place : ℕ) × (first_refusal (groups_in gs) (flows_in fs) ≡ Some (place, code)) × (line ≡ line_of place gs fs)
+RefusedOf gs fs (TooMany count) = ⊥
+
+-- some lines are refused, and these are all
+abbrev pub FaultsOf : Mode → ParsedLines → ImportError → Type 0
+FaultsOf mode t NoMemory = Unit {0}
+FaultsOf mode t (Faults faults refused) = (mode.skip ≡ false) × (map view_faults faults.items ≡ t.faults) × (map view_refusal refused.items ≡ (kept_in t).refused) × (0 < length faults.items + length refused.items)
+FaultsOf mode t (Refused line code) = ⊥
+FaultsOf mode t (TooMany count) = ⊥
+
+-- WHY THERE IS NONE: memory ran out; some lines are refused, and these are all; or the first flow that is refused beside the others, such as
+-- one for which its table has no room, by its line, and its first refusal; or there are more than 16 tables
+abbrev pub NoImport : List (List ℕ) → Mode → ImportError → Type 0
+NoImport lines mode NoMemory = Unit {0}
+NoImport lines mode (Faults faults refused) = FaultsOf mode (parsed mode lines) (Faults faults refused)
+NoImport lines mode (Refused line code) = RefusedOf (kept_in (parsed mode lines)).groups (kept_in (parsed mode lines)).flows (Refused line code)
+NoImport lines mode (TooMany count) = (count ≡ (numbers_for mode lines).count) × (16 < count)

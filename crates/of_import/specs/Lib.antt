@@ -4,9 +4,14 @@ pub mod PartialGroups
 pub mod PartialGroupViews
 pub mod Finished
 pub mod LineContents
-pub mod LineStops
 pub mod LineContentViews
 pub mod Sound
 pub mod ParsedLines
 pub mod ParsedLinesViews
+pub mod Kept
+pub mod Digests
+pub mod KeptViews
+pub mod TableNumbers
+pub mod TableNumbersViews
+pub mod Notes
 pub mod Imports

@@ -1,34 +1,31 @@
--- WHAT A LINE SAYS (ovs-ofctl(8)): a flow, a group, or nothing.
-use Rattle.std.specs.Prelude.{ℕ, ◌==◌, ◌||◌, Bool, List, [], ◌∷◌, codes, length, Result, Ok, Err, if◌then◌else◌}
+-- WHAT A LINE SAYS (ovs-ofctl(8)): a flow, a group, nothing, or words that are refused.
+use Rattle.std.specs.Prelude.{ℕ, ◌==◌, ◌||◌, Bool, List, [], ◌∷◌, codes, length, Option, Some, None, Result, Ok, Err, if◌then◌else◌}
 use Rattle.std.specs.Str.{bytes_eq}
 use Rattle.of_text.specs.Flows.{Flow as TextFlow}
 use Rattle.of_text.specs.Groups.{TextGroup}
 use Rattle.of_text.specs.Lines.{before}
 use Rattle.of_ovs_words.specs.declared.why.Why.{Why}
 use Rattle.of_ovs_words.specs.Words.{is_gap, name_of, words_from}
-use Rattle.of_ovs_words.specs.Outcomes.{◌>>=◌}
-use Rattle.of_import.specs.PartialFlows.{blank, with_word}
-use Rattle.of_import.specs.Finished.{flow_of}
-use Rattle.of_import.specs.PartialGroups.{no_group, with_group_word, group_of}
+use Rattle.of_import.specs.declared.mode.Mode.{Mode}
+use Rattle.of_import.specs.PartialFlows.{PartialFlow, Refusal, blank, with_word}
+use Rattle.of_import.specs.Finished.{flow_of, in_numbers, refusal_of}
+use Rattle.of_import.specs.PartialGroups.{PartialGroup, no_group, with_group_word, group_of}
+
+-- what differs from the line: actions that are left out, and whether GOTO_TABLE is its `resubmit`
+pub record Marks : Type 0 where
+  pub left : List (List ℕ)
+  pub resubmits : Bool
 
 pub data LineContent : Type 0 where
   Nothing : LineContent
   Group : (group : TextGroup) → LineContent
-  Flow : (flow : TextFlow) → LineContent
-
--- the word that is refused, and why
-pub record Refusal : Type 0 where
-  pub word : List ℕ
-  pub why : Why
-
-abbrev pub at_word : {A : Type 0} → List ℕ → Result A Why → Result A Refusal
-at_word word (Err why) = Err (record { word = word; why = why })
-at_word word (Ok a) = Ok a
+  Flow : (flow : TextFlow) (marks : Marks) → LineContent
+  Refused : (faults : List Refusal) → LineContent
 
 -- after words more, of which empty ones are passed over
-abbrev pub with_words : {S : Type 0} → (S → List ℕ → Result S Why) → S → List (List ℕ) → Result S Refusal
-with_words step s [] = Ok s
-with_words step s (w ∷ ws) = if length w == 0 then with_words step s ws else at_word w (step s w) >>= λ next. with_words step next ws
+abbrev pub with_words : {S : Type 0} → (S → List ℕ → S) → S → List (List ℕ) → S
+with_words step s [] = s
+with_words step s (w ∷ ws) = if length w == 0 then with_words step s ws else with_words step (step s w) ws
 
 -- without white space before it, and without a comment
 abbrev pub trimmed : List ℕ → List ℕ
@@ -42,18 +39,33 @@ without_comment line = trimmed (before 35 line)
 abbrev pub is_heading : List ℕ → Bool
 is_heading text = bytes_eq (before 95 text) (codes "OFPST") || bytes_eq (before 95 text) (codes "NXST")
 
-abbrev pub parsed_flow : List ℕ → Result LineContent Refusal
-parsed_flow text = with_words with_word blank (words_from 0 text) >>= λ s. at_word (codes "actions") (flow_of s) >>= λ flow. Ok (Flow flow)
+-- all words that are refused, or else why they are no flow
+abbrev pub flow_unless : Option Refusal → PartialFlow → LineContent
+flow_unless (Some refusal) s = Refused (refusal ∷ [])
+flow_unless None s = Flow (flow_of s) (record { left = s.left; resubmits = s.resubmits })
 
-abbrev pub parsed_group : List ℕ → Result LineContent Refusal
-parsed_group text = with_words with_group_word no_group (words_from 0 text) >>= λ s. at_word (codes "type") (group_of s) >>= λ group. Ok (Group group)
+unfoldable pub flow_content : PartialFlow → LineContent
+flow_content s = if length s.faults == 0 then flow_unless (refusal_of s) s else Refused s.faults
 
-abbrev pub parsed_text : List ℕ → Result LineContent Refusal
-parsed_text text =
-    if length text == 0 || is_heading text then Ok Nothing
+abbrev pub parsed_flow : Mode → List ℕ → List ℕ → LineContent
+parsed_flow mode numbers text = flow_content (in_numbers numbers (with_words with_word (blank mode) (words_from 0 text)))
+
+abbrev pub group_or_why : Result TextGroup Why → LineContent
+group_or_why (Ok group) = Group group
+group_or_why (Err why) = Refused (record { word = codes "type"; why = why } ∷ [])
+
+unfoldable pub group_content : PartialGroup → LineContent
+group_content s = if length s.faults == 0 then group_or_why (group_of s) else Refused s.faults
+
+abbrev pub parsed_group : List ℕ → LineContent
+parsed_group text = group_content (with_words with_group_word no_group (words_from 0 text))
+
+abbrev pub parsed_text : Mode → List ℕ → List ℕ → LineContent
+parsed_text mode numbers text =
+    if length text == 0 || is_heading text then Nothing
     else if bytes_eq (name_of text) (codes "group_id") then parsed_group text
-    else parsed_flow text
+    else parsed_flow mode numbers text
 
--- WHAT A LINE SAYS, or which word of it is refused
-unfoldable pub parsed_line : List ℕ → Result LineContent Refusal
-parsed_line line = parsed_text (without_comment line)
+-- WHAT A LINE SAYS, or all its words that are refused; tables get the numbers of the list
+unfoldable pub parsed_line : Mode → List ℕ → List ℕ → LineContent
+parsed_line mode numbers line = parsed_text mode numbers (without_comment line)

@@ -1,5 +1,6 @@
 -- WHAT THE WORDS OF A LINE SAY OF A FLOW, one after the other (ovs-ofctl(8)).
-use Rattle.std.specs.Prelude.{ℕ, ◌^◌, ◌==◌, Bool, true, false, List, [], codes, length, bit_or, Option, Some, None, Result, Ok, Err, if◌then◌else◌}
+use Rattle.std.specs.Prelude.{ℕ, ◌^◌, ◌==◌, ◌&&◌, ◌||◌, not, nat_lt, nat_le, Bool, true, false, List, [], ◌∷◌, ◌++◌, codes, length, bit_or, Option, Some, None, Result, Ok, Err, if◌then◌else◌}
+use Rattle.std.specs.Option.{option_map_or}
 use Rattle.std.specs.Str.{bytes_eq}
 use Rattle.of_oxm.specs.declared.match_field.MatchField.{MatchField}
 use Rattle.of_actions.specs.declared.action.Action.{Action}
@@ -15,44 +16,73 @@ use Rattle.of_ovs_words.specs.declared.field_word.FieldWord.{FieldWord}
 use Rattle.of_ovs_words.specs.declared.action_word.ActionWord.{ActionWord}
 use Rattle.of_ovs_words.specs.declared.action_word.Verb.{Verb}
 use Rattle.of_ovs_words.specs.declared.action_word.Verb.TheVariants as verbs
+use Rattle.of_ovs_words.specs.declared.port_word.PortWord.{PortWord}
+use Rattle.of_ovs_words.specs.declared.port_word.PortWord.TheVariants as ports
 use Rattle.of_ovs_words.specs.Words.{name_of, value_of, words_from}
 use Rattle.of_ovs_words.specs.Outcomes.{◌>>=◌, numbered}
 use Rattle.of_ovs_words.specs.HeadWords.{head_named, part_of}
+use Rattle.of_ovs_words.specs.PortWords.{port_word_named}
 use Rattle.of_ovs_words.specs.ProtocolWords.{protocol_named}
 use Rattle.of_ovs_words.specs.FieldWords.{field_word_named}
 use Rattle.of_ovs_words.specs.ActionWords.{action_named, verb_of}
 use Rattle.of_ovs_words.specs.Matches.{with_field, with_protocol}
-use Rattle.of_ovs_words.specs.Actions.{with_action, with_actions}
+use Rattle.of_ovs_words.specs.Actions.{actions_in, is_word_of, with_action}
+use Rattle.of_import.specs.declared.mode.Mode.{Mode}
+
+-- a word that is refused, and why
+pub record Refusal : Type 0 where
+  pub word : List ℕ
+  pub why : Why
 
 pub record PartialFlow : Type 0 where
+  pub mode : Mode
   pub head : FlowHead
   pub settings : List MatchField
   -- the words are actions
   pub in_actions : Bool
   pub apply : List Action
+  -- the only action is `drop`
+  pub dropped : Bool
   pub clears : Bool
   pub writes : Bool
   pub write : List Action
   pub metadata : Option (ℕ × ℕ)
   pub goto : Option ℕ
+  -- which instruction came last: 0 actions that are applied, then in execution order
+  pub stage : ℕ
+  -- actions that are left out
+  pub left : List (List ℕ)
+  -- the table to go to is that of `resubmit`
+  pub resubmits : Bool
+  pub faults : List Refusal
 
 -- a flow of which nothing is said: OFP_DEFAULT_PRIORITY, and all else 0
-abbrev pub blank : PartialFlow
-blank = record { head = record { table = 0; priority = 32768; cookie = 0; idle = 0; hard = 0; flags = 0 }; settings = []; in_actions = false; apply = []; clears = false; writes = false; write = []; metadata = None; goto = None }
+abbrev pub blank : Mode → PartialFlow
+blank mode = record { mode = mode; head = record { table = 0; priority = 32768; cookie = 0; idle = 0; hard = 0; flags = 0 }; settings = []; in_actions = false; apply = []; dropped = false; clears = false; writes = false; write = []; metadata = None; goto = None; stage = 0; left = []; resubmits = false; faults = [] }
+
+-- a word that is refused changes nothing else
+abbrev pub or_refused : PartialFlow → List ℕ → Result PartialFlow Why → PartialFlow
+or_refused s word (Ok next) = next
+or_refused s word (Err why) = record s { faults = s.faults ++ record { word = word; why = why } ∷ [] }
 
 -- ---- beside its match and its actions
 
 abbrev pub with_flag : FlowHead → ℕ → List ℕ → Result FlowHead Why
 with_flag h bit value = if length value == 0 then Ok (record h { flags = bit_or h.flags bit }) else Err whys.Value
 
-unfoldable pub head_after : FlowHead → Part → List ℕ → Result FlowHead Why
-head_after h parts.Cookie value = numbered (2 ^ 64) value >>= λ n. Ok (record h { cookie = n })
-head_after h parts.Table value = numbered 256 value >>= λ n. Ok (record h { table = n })
-head_after h parts.Priority value = numbered 65536 value >>= λ n. Ok (record h { priority = n })
-head_after h parts.Idle value = numbered 65536 value >>= λ n. Ok (record h { idle = n })
-head_after h parts.Hard value = numbered 65536 value >>= λ n. Ok (record h { hard = n })
-head_after h (parts.Flag bit) value = with_flag h bit value
-head_after h parts.Passed value = Ok h
+-- a table that this switch has, or any if tables get other numbers
+abbrev pub table_in : Mode → List ℕ → Result ℕ Why
+table_in mode value = numbered 256 value >>= λ n. if mode.renumber || nat_le n 15 then Ok n else Err whys.Table
+
+unfoldable pub head_after : Mode → FlowHead → Part → List ℕ → Result FlowHead Why
+head_after mode h parts.Cookie value = numbered (2 ^ 64) value >>= λ n. Ok (record h { cookie = n })
+head_after mode h parts.Table value = table_in mode value >>= λ n. Ok (record h { table = n })
+head_after mode h parts.Priority value = numbered 65536 value >>= λ n. Ok (record h { priority = n })
+head_after mode h parts.Idle value = numbered 65536 value >>= λ n. Ok (record h { idle = n })
+head_after mode h parts.Hard value = numbered 65536 value >>= λ n. Ok (record h { hard = n })
+head_after mode h (parts.Flag bit) value = with_flag h bit value
+head_after mode h parts.Passed value = Ok h
+head_after mode h parts.Command value = Err whys.Command
 
 -- ---- its instructions
 
@@ -69,18 +99,59 @@ metadata_in value = do
 abbrev pub alone : List ℕ → Result (Unit {0}) Why
 alone value = if length value == 0 then Ok tt else Err whys.Unknown
 
+-- the instruction of that place may come now: after those before it, once, and not beside `drop`
+abbrev pub may_follow : PartialFlow → ℕ → Result (Unit {0}) Why
+may_follow s place =
+    if s.dropped then Err whys.Alone
+    else if nat_lt place s.stage then Err whys.Order
+    else if place == s.stage then Err whys.Twice
+    else Ok tt
+
+-- resubmit(,TABLE), as GOTO_TABLE
+abbrev pub later_table : PartialFlow → List ℕ → Result ℕ Why
+later_table s value =
+    if not (length (before 44 value) == 0) then Err whys.Backward
+    else table_in s.mode (behind 44 value) >>= λ n. if nat_lt s.head.table n then Ok n else Err whys.Backward
+
+-- to NORMAL or LOCAL
+abbrev pub is_normal_or_local : PortWord → Bool
+is_normal_or_local ports.Normal = true
+is_normal_or_local ports.Local = true
+is_normal_or_local other = false
+
+abbrev pub is_such_port : List ℕ → Bool
+is_such_port text = option_map_or is_normal_or_local (port_word_named text) false
+
+abbrev pub is_output : Verb → Bool
+is_output verbs.Output = true
+is_output other = false
+
+abbrev pub may_be_left : List ℕ → Bool
+may_be_left word = is_such_port word || (is_word_of is_output word && is_such_port (value_of word))
+
+-- an action that is applied
+abbrev pub with_applied : PartialFlow → List ℕ → Result PartialFlow Why
+with_applied s word =
+    if nat_lt 0 s.stage then Err whys.Order
+    else if s.mode.skip && may_be_left word then Ok (record s { left = s.left ++ word ∷ [] })
+    else with_action s.settings [] s.dropped s.apply word >>= λ r. Ok (record s { dropped = r.0; apply = r.1 })
+
+abbrev pub with_write : PartialFlow → List ℕ → Result PartialFlow Why
+with_write s value = may_follow s 2 >>= λ _. actions_in s.settings s.apply [] (words_from 0 value) >>= λ actions. Ok (record s { stage = 2; writes = true; write = actions })
+
 unfoldable pub with_instruction : PartialFlow → Verb → List ℕ → Result PartialFlow Why
-with_instruction s verbs.Write word = with_actions s.settings s.write (words_from 0 (value_of word)) >>= λ actions. Ok (record s { writes = true; write = actions })
-with_instruction s verbs.Clear word = alone (value_of word) >>= λ _. Ok (record s { clears = true })
-with_instruction s verbs.Metadata word = metadata_in (value_of word) >>= λ m. Ok (record s { metadata = Some m })
-with_instruction s verbs.Goto word = numbered 256 (value_of word) >>= λ n. Ok (record s { goto = Some n })
-with_instruction s other word = with_action s.settings s.apply word >>= λ actions. Ok (record s { apply = actions })
+with_instruction s verbs.Clear word = may_follow s 1 >>= λ _. alone (value_of word) >>= λ _. Ok (record s { stage = 1; clears = true })
+with_instruction s verbs.Write word = with_write s (value_of word)
+with_instruction s verbs.Metadata word = may_follow s 3 >>= λ _. metadata_in (value_of word) >>= λ m. Ok (record s { stage = 3; metadata = Some m })
+with_instruction s verbs.Goto word = may_follow s 4 >>= λ _. table_in s.mode (value_of word) >>= λ n. Ok (record s { stage = 4; goto = Some n })
+with_instruction s verbs.Resubmit word = may_follow s 4 >>= λ _. later_table s (value_of word) >>= λ n. Ok (record s { stage = 4; goto = Some n; resubmits = true })
+with_instruction s other word = with_applied s word
 
 -- ---- words
 
 abbrev pub with_named_action : PartialFlow → Option ActionWord → List ℕ → Result PartialFlow Why
 with_named_action s (Some named) word = with_instruction s (verb_of named) word
-with_named_action s None word = with_action s.settings s.apply word >>= λ actions. Ok (record s { apply = actions })
+with_named_action s None word = with_applied s word
 
 abbrev pub with_flow_action : PartialFlow → List ℕ → Result PartialFlow Why
 with_flow_action s word = with_named_action s (action_named (name_of word)) word
@@ -95,19 +166,26 @@ with_protocol_word s (Some word) name value = with_protocol s.settings word valu
 
 abbrev pub with_part : PartialFlow → Option HeadWord → List ℕ → List ℕ → Result PartialFlow Why
 with_part s None name value = with_protocol_word s (protocol_named name) name value
-with_part s (Some word) name value = head_after s.head (part_of word) value >>= λ head. Ok (record s { head = head })
+with_part s (Some word) name value = head_after s.mode s.head (part_of word) value >>= λ head. Ok (record s { head = head })
 
 -- a word before the actions
 unfoldable pub with_head_word : PartialFlow → List ℕ → List ℕ → Result PartialFlow Why
 with_head_word s name value = with_part s (head_named name) name value
 
--- the first word of the actions stands behind `actions=`
-abbrev pub with_first_action : PartialFlow → List ℕ → Result PartialFlow Why
-with_first_action s value = if length value == 0 then Ok (record s { in_actions = true }) else with_flow_action (record s { in_actions = true }) value
+-- an action or an instruction, if it is one
+abbrev pub with_action_word : PartialFlow → List ℕ → PartialFlow
+with_action_word s word = or_refused s word (with_flow_action s word)
+
+-- the first of them is behind `actions=`
+abbrev pub with_first_action : PartialFlow → List ℕ → PartialFlow
+with_first_action s value = if length value == 0 then record s { in_actions = true } else with_action_word (record s { in_actions = true }) value
+
+abbrev pub begins_actions : List ℕ → Bool
+begins_actions name = bytes_eq name (codes "actions") || bytes_eq name (codes "action")
 
 -- ONE MORE WORD of a flow
-unfoldable pub with_word : PartialFlow → List ℕ → Result PartialFlow Why
+unfoldable pub with_word : PartialFlow → List ℕ → PartialFlow
 with_word s word =
-    if s.in_actions then with_flow_action s word
-    else if bytes_eq (name_of word) (codes "actions") then with_first_action s (value_of word)
-    else with_head_word s (name_of word) (value_of word)
+    if s.in_actions then with_action_word s word
+    else if begins_actions (name_of word) then with_first_action s (value_of word)
+    else or_refused s word (with_head_word s (name_of word) (value_of word))

@@ -13,6 +13,7 @@ use Rattle.of_ovs_words.specs.Words.{name_of, value_of}
 use Rattle.of_ovs_words.specs.Outcomes.{◌>>=◌, numbered}
 use Rattle.of_ovs_words.specs.Ports.{port_in}
 use Rattle.of_ovs_words.specs.Actions.{with_action}
+use Rattle.of_import.specs.PartialFlows.{Refusal, begins_actions}
 use Rattle.of_import.specs.Finished.{action_fits}
 
 pub record PartialGroup : Type 0 where
@@ -22,21 +23,24 @@ pub record PartialGroup : Type 0 where
   pub begun : Bool
   pub head : BucketHead
   pub actions : List Action
+  -- its only action is `drop`
+  pub dropped : Bool
   -- those before it
   pub buckets : List TextBucket
+  pub faults : List Refusal
 
 -- a bucket that watches nothing (OpenFlow 1.3.5, 7.3.4.2)
 abbrev pub new_bucket : BucketHead
 new_bucket = record { weight = 0; watch_port = 0xffffffff; watch_group = 0xffffffff }
 
 abbrev pub no_group : PartialGroup
-no_group = record { id = None; kind = None; begun = false; head = new_bucket; actions = []; buckets = [] }
+no_group = record { id = None; kind = None; begun = false; head = new_bucket; actions = []; dropped = false; buckets = []; faults = [] }
 
 abbrev pub closed : PartialGroup → List TextBucket
 closed s = if s.begun then s.buckets ++ record { head = s.head; actions = s.actions } ∷ [] else s.buckets
 
 abbrev pub with_new_bucket : PartialGroup → PartialGroup
-with_new_bucket s = record s { begun = true; head = new_bucket; actions = []; buckets = closed s }
+with_new_bucket s = record s { begun = true; head = new_bucket; actions = []; dropped = false; buckets = closed s }
 
 abbrev pub kind_in : List ℕ → Result GroupKind Why
 kind_in value =
@@ -47,7 +51,7 @@ kind_in value =
     else Err whys.Unknown
 
 abbrev pub with_bucket_action : PartialGroup → List ℕ → Result PartialGroup Why
-with_bucket_action s word = with_action [] s.actions word >>= λ actions. Ok (record s { actions = actions })
+with_bucket_action s word = with_action [] [] s.dropped s.actions word >>= λ r. Ok (record s { dropped = r.0; actions = r.1 })
 
 abbrev pub first_action : PartialGroup → List ℕ → Result PartialGroup Why
 first_action s value = if length value == 0 then Ok s else with_bucket_action s value
@@ -59,20 +63,33 @@ with_bucket_word s word =
     else if bytes_eq (name_of word) (codes "watch_port") then (port_in whys.PortName (value_of word) >>= λ n. Ok (record s { head = record s.head { watch_port = n } }))
     else if bytes_eq (name_of word) (codes "watch_group") then (numbered (2 ^ 32) (value_of word) >>= λ n. Ok (record s { head = record s.head { watch_group = n } }))
     else if bytes_eq (name_of word) (codes "bucket_id") then Ok s
-    else if bytes_eq (name_of word) (codes "actions") then first_action s (value_of word)
+    else if begins_actions (name_of word) then first_action s (value_of word)
     else with_bucket_action s word
 
-abbrev pub with_first_word : PartialGroup → List ℕ → Result PartialGroup Why
-with_first_word s value = if length value == 0 then Ok s else with_bucket_word s value
+-- a word that is refused changes nothing else
+abbrev pub group_or_refused : PartialGroup → List ℕ → Result PartialGroup Why → PartialGroup
+group_or_refused s word (Ok next) = next
+group_or_refused s word (Err why) = record s { faults = s.faults ++ record { word = word; why = why } ∷ [] }
 
--- ONE MORE WORD of a group
-unfoldable pub with_group_word : PartialGroup → List ℕ → Result PartialGroup Why
-with_group_word s word =
-    if bytes_eq (name_of word) (codes "bucket") then with_first_word (with_new_bucket s) (value_of word)
-    else if s.begun then with_bucket_word s word
-    else if bytes_eq (name_of word) (codes "group_id") then (numbered (2 ^ 32) (value_of word) >>= λ n. Ok (record s { id = Some n }))
+abbrev pub with_word_of_bucket : PartialGroup → List ℕ → PartialGroup
+with_word_of_bucket s word = group_or_refused s word (with_bucket_word s word)
+
+abbrev pub with_first_word : PartialGroup → List ℕ → PartialGroup
+with_first_word s value = if length value == 0 then s else with_word_of_bucket s value
+
+-- a word before the buckets
+unfoldable pub with_group_head : PartialGroup → List ℕ → Result PartialGroup Why
+with_group_head s word =
+    if bytes_eq (name_of word) (codes "group_id") then (numbered (2 ^ 32) (value_of word) >>= λ n. Ok (record s { id = Some n }))
     else if bytes_eq (name_of word) (codes "type") then (kind_in (value_of word) >>= λ kind. Ok (record s { kind = Some kind }))
     else Err whys.Unknown
+
+-- ONE MORE WORD of a group
+unfoldable pub with_group_word : PartialGroup → List ℕ → PartialGroup
+with_group_word s word =
+    if bytes_eq (name_of word) (codes "bucket") then with_first_word (with_new_bucket s) (value_of word)
+    else if s.begun then with_word_of_bucket s word
+    else group_or_refused s word (with_group_head s word)
 
 abbrev pub bucket_fits : TextBucket → Bool
 bucket_fits b = nat_lt b.head.weight (2 ^ 16) && nat_lt b.head.watch_port (2 ^ 32) && nat_lt b.head.watch_group (2 ^ 32) && list_all action_fits b.actions

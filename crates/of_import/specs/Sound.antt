@@ -18,4 +18,5 @@ pub record IsSound (f : Flow) : Type 0 where
 abbrev pub IsSoundContent : Declared → Type 0
 IsSoundContent variants.Nothing = Unit {0}
 IsSoundContent (variants.Group g) = AllByRecursion Fits (group_rows (view_group g))
-IsSoundContent (variants.Flow f) = IsSound (view f)
+IsSoundContent (variants.Flow f marks) = IsSound (view f)
+IsSoundContent (variants.Refused faults) = Unit {0}

@@ -1,18 +1,20 @@
 //! The flow of its words.
-ghost use Rattle.std.specs.Prelude.{◌≡◌, ◌++◌, ◌&&◌, IfOk, IfErr, OnOk, Ok, map, IfSome, [], ◌<◌, ◌^◌};
+ghost use Rattle.std.specs.Prelude.{◌≡◌, ◌++◌, ◌&&◌, None, IfOk, OnOk, map, IfSome, [], ◌<◌, ◌^◌};
 ghost use Rattle.std.specs.List.{list_all};
-ghost use Rattle.of_import.specs.Finished.{action_fits as action_fits_so, field_fits as field_fits_so, flow_of, goto_step, metadata_step, steps_of, when};
+ghost use Rattle.std.specs.Option.{option_map};
+ghost use Rattle.of_import.specs.Finished.{action_fits as action_fits_so, field_fits as field_fits_so, first_unmet as first_unmet_of, flow_of, goto_step, metadata_step, refusal_of as refusal_in, steps_of, when, why_missing as why_missing_so};
 ghost use Rattle.of_ovs_words.specs.Matches.{fields_of as fields_in};
-ghost use Rattle.of_import.specs.PartialFlowViews.{view_partial_flow};
+ghost use Rattle.of_import.specs.PartialFlowViews.{view_partial_flow, view_word_fault};
 ghost use Rattle.of_text.specs.Rows.{HeadFits};
 ghost use Rattle.of_import.specs.Sound.{IsSound};
-ghost use Rattle.of_ovs_words.specs.Stops.{Stops};
 ghost use Rattle.of_text.specs.Views.{view, view_step};
 
 use crate::partial_flow::PartialFlow;
+use crate::word_fault::WordFault;
 use of_actions::Action;
-use of_ovs_words::{Stop, Why, fields_of};
-use of_oxm::MatchField;
+use of_layers::Prerequisite;
+use of_ovs_words::{FieldWord, Why};
+use of_oxm::{MatchField, is_met};
 use of_text::{FlowHead, FlowText, StepText};
 use std::alloc::{AllocError, Global};
 
@@ -54,7 +56,9 @@ pub fn take_actions(actions: &mut Vec<Action>) -> Vec<Action>
 
 // Appends the instructions, in execution order, and takes their actions out of the flow.
 fn push_steps(steps: &mut Vec<StepText>, partial: &mut PartialFlow) -> Result<(), AllocError>
-    ensures { OnOk result (map view_step steps.new.items ≡ map view_step steps.old.items ++ steps_of (view_partial_flow partial.old)) }
+    ensures steps { OnOk result (map view_step steps.new.items ≡ map view_step steps.old.items ++ steps_of (view_partial_flow partial.old)) }
+    ensures left { partial.new.left ≡ partial.old.left }
+    ensures resubmits { partial.new.resubmits ≡ partial.old.resubmits }
 {
     let applies = !partial.apply.is_empty();
     push_when(
@@ -73,7 +77,9 @@ fn push_steps(steps: &mut Vec<StepText>, partial: &mut PartialFlow) -> Result<()
 }
 
 fn steps_from(alloc: Global, partial: &mut PartialFlow) -> Result<Vec<StepText>, AllocError>
-    ensures { IfOk result (λ steps. map view_step steps.items ≡ steps_of (view_partial_flow partial.old)) }
+    ensures steps { IfOk result (λ steps. map view_step steps.items ≡ steps_of (view_partial_flow partial.old)) }
+    ensures left { partial.new.left ≡ partial.old.left }
+    ensures resubmits { partial.new.resubmits ≡ partial.old.resubmits }
 {
     let mut steps = Vec::new(alloc);
     push_steps(&mut steps, partial)?;
@@ -142,37 +148,83 @@ fn known_goto(goto: Option<u8>)
     if let Some(_table) = goto {}
 }
 
-#[tactic(auto, unfolding(crate::specs::Finished::flow_of))]
-fn finished(alloc: Global, partial: &mut PartialFlow) -> Result<FlowText, Stop>
-    ensures finished { IfOk result (λ flow. flow_of (view_partial_flow partial.old) ≡ Ok (view flow)) }
-    ensures stopped { IfErr result (Stops (flow_of (view_partial_flow partial.old))) }
+fn why_missing(need: Prerequisite) -> Why
+    ensures { result ≡ why_missing_so need }
+{
+    match need {
+        Prerequisite::Tag => Why::NeedsTag,
+        Prerequisite::Ip => Why::NeedsIp,
+        Prerequisite::Ipv4 => Why::NeedsIpv4,
+        Prerequisite::Ipv6 => Why::NeedsIpv6,
+        Prerequisite::Arp => Why::NeedsArp,
+        Prerequisite::Tcp => Why::NeedsTcp,
+        Prerequisite::Udp => Why::NeedsUdp,
+        Prerequisite::Icmpv4 => Why::NeedsIcmp,
+        Prerequisite::Icmpv6 => Why::NeedsIcmp6,
+        Prerequisite::Nothing => Why::Unknown,
+    }
+}
+
+// The first field whose prerequisite is not in the match.
+fn first_unmet(fields: &[MatchField]) -> Option<MatchField>
+    ensures { result ≡ first_unmet_of fields.now }
+{
+    fields
+        .iter()
+        .copied()
+        .find(|e| !is_met(fields, e.field.row().need))
+}
+
+/// Why the words are no flow, if none of them is refused.
+#[tactic(auto, unfolding(crate::specs::Finished::refusal_of))]
+pub fn refusal_of(
+    alloc: Global,
+    fields: &[MatchField],
+    partial: &PartialFlow,
+) -> Result<Option<WordFault>, AllocError>
+    requires { fields.now ≡ fields_in partial.now.settings.items }
+    ensures { IfOk result (λ r. option_map view_word_fault r ≡ refusal_in (view_partial_flow partial.now)) }
 {
     if !partial.in_actions {
-        return Err(Stop::Refused(Why::Missing));
+        return Ok(Some(WordFault {
+            word: b"actions".to_vec(alloc)?,
+            why: Why::Missing,
+        }));
     }
-    let fields = fields_of(alloc, &partial.settings)?;
-    if !numbers_fit(&fields, partial) {
-        return Err(Stop::Refused(Why::Value));
+    if !numbers_fit(fields, partial) {
+        return Ok(Some(WordFault {
+            word: b"actions".to_vec(alloc)?,
+            why: Why::Value,
+        }));
     }
+    match first_unmet(fields) {
+        Some(e) => Ok(Some(WordFault {
+            word: FieldWord::of(e.field).text().to_vec(alloc)?,
+            why: why_missing(e.field.row().need),
+        })),
+        None => Ok(None),
+    }
+}
+
+/// The flow that the words say, of which none is refused.
+pub fn flow_from(
+    alloc: Global,
+    fields: Vec<MatchField>,
+    partial: &mut PartialFlow,
+) -> Result<FlowText, AllocError>
+    requires fields { fields.items ≡ fields_in partial.old.settings.items }
+    requires whole { refusal_in (view_partial_flow partial.old) ≡ None }
+    ensures flow { IfOk result (λ flow. view flow ≡ flow_of (view_partial_flow partial.old)) }
+    ensures sound { IfOk result (λ flow. IsSound (view flow)) }
+    ensures left { partial.new.left ≡ partial.old.left }
+    ensures resubmits { partial.new.resubmits ≡ partial.old.resubmits }
+{
+    known_head(partial.head);
+    known_metadata(partial.metadata);
+    known_goto(partial.goto);
     Ok(FlowText {
         head: partial.head,
         fields,
         steps: steps_from(alloc, partial)?,
     })
-}
-
-/// The flow that its words say.
-pub fn finish_flow(alloc: Global, partial: PartialFlow) -> Result<FlowText, Stop>
-    ensures finished { IfOk result (λ flow. flow_of (view_partial_flow partial) ≡ Ok (view flow)) }
-    ensures sound { IfOk result (λ flow. IsSound (view flow)) }
-    ensures stopped { IfErr result (Stops (flow_of (view_partial_flow partial))) }
-{
-    known_head(partial.head);
-    known_metadata(partial.metadata);
-    known_goto(partial.goto);
-    let mut partial = partial;
-    match finished(alloc, &mut partial) {
-        Ok(flow) => Ok(flow),
-        Err(stop) => Err(stop),
-    }
 }

@@ -1,14 +1,20 @@
 //! Tables of Open vSwitch as configurations.
-ghost use Rattle.std.specs.Prelude.{◌≡◌, ◌<◌, ◌++◌, [], false, Some, None, map, length, slice_index_or, IfOk, IfErr, OnOk};
-ghost use Rattle.of_text.specs.Configs.{EncodeConfig, config_text, tables_of};
-ghost use Rattle.of_text.specs.First.{first_refusal};
+ghost use Rattle.std.specs.Prelude.{◌≡◌, ◌<◌, ◌+◌, ◌++◌, [], false, Some, None, map, length, slice_index_or, IfOk, IfErr, OnOk};
+ghost use Rattle.std.specs.List.{AllByRecursion};
+ghost use Rattle.of_text.specs.Configs.{EncodeConfig, config_text};
 ghost use Rattle.of_text.specs.Lines.{lines_of};
-ghost use Rattle.of_import.specs.Imports.{FaultsOf, IsConfigOf, IsImport, NoImport, RefusedOf};
-ghost use Rattle.of_import.specs.ParsedLinesViews.{AreSoundLines, view_parsed_lines};
-ghost use Rattle.of_import.specs.ParsedLines.{flows_parsed, groups_parsed, line_at};
+ghost use Rattle.of_import.specs.Imports.{FaultsOf, IsConfigOf, IsImport, IsTextOf, NoImport, RefusedOf, kept_in, numbers_for as numbers_for_lines};
+ghost use Rattle.of_import.specs.KeptViews.{view_kept};
+ghost use Rattle.of_import.specs.ParsedLines.{parsed_lines_of};
+ghost use Rattle.of_import.specs.ParsedLinesViews.{AreSoundGroups, FlowIsSound, view_faults, view_flow_line, view_group_line};
+ghost use Rattle.of_import.specs.TableNumbersViews.{view_numbers};
 ghost use Rattle.of_import.specs.declared.import.ImportError.TheVariants.{NoMemory};
 
-use crate::parsed_lines::{FlowLine, GroupLine, LineFault, ParsedLines, read_tables};
+use crate::kept::{KeptLines, LineRefusal, keep};
+use crate::mode::Mode;
+use crate::notes::{count_changed, notes_for};
+use crate::parsed_lines::{FlowLine, GroupLine, LineFaults, ParsedLines, read_tables};
+use crate::table_numbers::TableNumbers;
 use of_oxm::Code;
 use of_text::{Config, FillError, FlowText, GroupText, disassemble, texts_are_of_configs};
 use std::alloc::{AllocError, AllocFailed, Global};
@@ -18,7 +24,12 @@ use thiserror::Error;
 #[derive(Debug, Drop)]
 pub struct Import {
     pub text: Vec<u8>,
-    pub faults: Vec<LineFault>,
+    /// Lines with words that are refused.
+    pub faults: Vec<LineFaults>,
+    /// Lines that the switch refuses.
+    pub refused: Vec<LineRefusal>,
+    /// How many flows have an action left out.
+    pub changed: usize,
 }
 
 /// Why a table gave no flow text.
@@ -26,12 +37,15 @@ pub struct Import {
 pub enum ImportError {
     #[error("out of memory")]
     NoMemory,
-    /// These lines are at fault.
+    /// These lines have words that are refused, and these are refused by the switch.
     #[error("some lines are refused")]
-    Faults(Vec<LineFault>),
-    /// The line of the first group or flow that the switch refuses, and its first refusal (OpenFlow 1.3.5, 7.4.4).
+    Faults(Vec<LineFaults>, Vec<LineRefusal>),
+    /// The line of the first group or flow that the switch refuses beside the others, and its first refusal (OpenFlow 1.3.5, 7.4.4).
     #[error("line {line} is refused")]
     Refused { line: usize, code: Code },
+    /// More tables than a switch has.
+    #[error("{0} tables")]
+    TooMany(u8),
 }
 
 impl From<AllocError> for ImportError {
@@ -93,23 +107,22 @@ fn line_of(lines: &[usize], place: usize) -> usize
     }
 }
 
-// The configuration of what was read, and the faults.
-fn configure(alloc: Global, parsed: ParsedLines) -> Result<(Config, Vec<LineFault>), ImportError>
-    requires { AreSoundLines parsed }
-    ensures found { IfOk result (λ r. IsConfigOf (view_parsed_lines parsed) r.0) }
-    ensures faults { IfOk result (λ r. r.1.items ≡ parsed.faults.items) }
-    ensures failed { IfErr result (RefusedOf (view_parsed_lines parsed)) }
+// The configuration of what is kept.
+fn configure(
+    alloc: Global,
+    groups: Vec<GroupLine>,
+    flows: Vec<FlowLine>,
+) -> Result<Config, ImportError>
+    requires groups { AreSoundGroups groups.items }
+    requires flows { AllByRecursion FlowIsSound flows.items }
+    ensures found { IfOk result (λ config. IsConfigOf (map view_group_line groups.items) (map view_flow_line flows.items) config) }
+    ensures failed { IfErr result (RefusedOf (map view_group_line groups.items) (map view_flow_line flows.items)) }
 {
-    let ParsedLines {
-        groups,
-        flows,
-        faults,
-    } = parsed;
     let mut lines = Vec::new(alloc);
     let groups = unzip_groups(alloc, &mut lines, groups)?;
     let flows = unzip_flows(alloc, &mut lines, flows)?;
     match Config::of_items(alloc, groups, flows) {
-        Ok(config) => Ok((config, faults)),
+        Ok(config) => Ok(config),
         Err(FillError::NoMemory) => Err(ImportError::NoMemory),
         Err(FillError::Refused { place, code }) => Err(ImportError::Refused {
             line: line_of(&lines, place),
@@ -118,41 +131,97 @@ fn configure(alloc: Global, parsed: ParsedLines) -> Result<(Config, Vec<LineFaul
     }
 }
 
-// Without faults, unless they are skipped.
-fn accepted(parsed: ParsedLines, skip: bool) -> Result<ParsedLines, ImportError>
-    ensures same { IfOk result (λ r. r ≡ parsed) }
-    ensures none { IfOk result (λ r. skip ≡ false → length r.faults.items ≡ 0) }
-    ensures faults { IfErr result (FaultsOf parsed skip) }
+// Appends the text of a configuration to comments.
+fn push_text(alloc: Global, notes: &mut Vec<u8>, config: &Config) -> Result<(), AllocError>
+    ensures { OnOk result (notes.new.items ≡ notes.old.items ++ config_text config.now) }
 {
-    if !skip && !parsed.faults.is_empty() {
-        Err(ImportError::Faults(parsed.faults))
-    } else {
-        Ok(parsed)
-    }
+    let text = disassemble(alloc, config)?;
+    notes.extend_from_slice(&text)
 }
 
-// The text of a configuration.
-fn written(alloc: Global, config: &Config, faults: Vec<LineFault>) -> Result<Import, ImportError>
-    ensures text { IfOk result (λ r. r.text.items ≡ config_text config.now) }
-    ensures encoded { IfOk result (λ r. EncodeConfig (lines_of r.text.items) config.now) }
-    ensures faults { IfOk result (λ r. r.faults.items ≡ faults.items) }
-    ensures failed { IfErr result (λ e. e ≡ NoMemory) }
+// What is known of a configuration and its text.
+fn known_text(config: &Config)
+    ensures { EncodeConfig (lines_of (config_text config.now)) config.now }
 {
     config.known();
     texts_are_of_configs();
-    match disassemble(alloc, config) {
-        Ok(text) => Ok(Import { text, faults }),
-        Err(_) => Err(ImportError::NoMemory),
-    }
 }
 
-/// The canonical flow text (docs/FLOWTEXT.md) of a table that `ovs-ofctl` printed or would read. With `skip` lines that are at fault are left
-/// out, else there has to be none.
-pub fn import_tables(alloc: Global, text: &[u8], skip: bool) -> Result<Import, ImportError>
-    ensures found { IfOk result (λ r. IsImport (lines_of text.now) skip r.text.items r.faults.items) }
-    ensures failed { IfErr result (NoImport (lines_of text.now) skip) }
+// The text of what is kept, after these comments.
+fn written(
+    alloc: Global,
+    notes: &mut Vec<u8>,
+    kept: KeptLines,
+) -> Result<Vec<LineRefusal>, ImportError>
+    requires groups { AreSoundGroups kept.groups.items }
+    requires flows { AllByRecursion FlowIsSound kept.flows.items }
+    ensures text { IfOk result (λ _. IsTextOf (view_kept kept) notes.old.items notes.new.items) }
+    ensures refused { IfOk result (λ refused. refused.items ≡ kept.refused.items) }
+    ensures failed { IfErr result (RefusedOf (view_kept kept).groups (view_kept kept).flows) }
 {
-    let parsed = accepted(read_tables(alloc, text)?, skip)?;
-    let (config, faults) = configure(alloc, parsed)?;
-    written(alloc, &config, faults)
+    let config = configure(alloc, kept.groups, kept.flows)?;
+    known_text(&config);
+    push_text(alloc, notes, &config)?;
+    Ok(kept.refused)
+}
+
+// The new numbers of tables.
+fn numbers_for(alloc: Global, mode: Mode, text: &[u8]) -> Result<TableNumbers, AllocError>
+    ensures { IfOk result (λ r. view_numbers r ≡ numbers_for_lines mode (lines_of text.now)) }
+{
+    if !mode.renumber {
+        return Ok(TableNumbers::same(alloc));
+    }
+    let first = read_tables(alloc, mode, &[], text)?;
+    TableNumbers::of(alloc, &first.flows)
+}
+
+// What the lines say, in these numbers, and what is kept of it; without `skip` all lines are.
+fn accepted(
+    alloc: Global,
+    mode: Mode,
+    numbers: &[u8],
+    text: &[u8],
+) -> Result<(KeptLines, Vec<LineFaults>), ImportError>
+    ensures kept { IfOk result (λ r. view_kept r.0 ≡ kept_in (parsed_lines_of mode numbers.now (lines_of text.now))) }
+    ensures faults { IfOk result (λ r. map view_faults r.1.items ≡ (parsed_lines_of mode numbers.now (lines_of text.now)).faults) }
+    ensures groups { IfOk result (λ r. AreSoundGroups r.0.groups.items) }
+    ensures flows { IfOk result (λ r. AllByRecursion FlowIsSound r.0.flows.items) }
+    ensures none { IfOk result (λ r. mode.skip ≡ false → length r.1.items + length r.0.refused.items ≡ 0) }
+    ensures failed { IfErr result (FaultsOf mode (parsed_lines_of mode numbers.now (lines_of text.now))) }
+{
+    let ParsedLines {
+        groups,
+        flows,
+        faults,
+    } = read_tables(alloc, mode, numbers, text)?;
+    let kept = keep(alloc, groups, flows)?;
+    if !mode.skip && !(faults.is_empty() && kept.refused.is_empty()) {
+        return Err(ImportError::Faults(faults, kept.refused));
+    }
+    Ok((kept, faults))
+}
+
+/// The flow text (docs/FLOWTEXT.md) of a table that `ovs-ofctl` printed or would read, after comments about it. With `skip` lines that are
+/// refused are left out, else there has to be none. With `renumber` the tables that occur get the numbers 0 to 15.
+pub fn import_tables(alloc: Global, text: &[u8], mode: Mode) -> Result<Import, ImportError>
+    ensures found { IfOk result (λ r. IsImport (lines_of text.now) mode r.text.items r.faults.items r.refused.items r.changed) }
+    ensures failed { IfErr result (NoImport (lines_of text.now) mode) }
+{
+    let numbers = numbers_for(alloc, mode, text)?;
+    if 16 < numbers.count {
+        return Err(ImportError::TooMany(numbers.count));
+    }
+    let (kept, faults) = accepted(alloc, mode, &numbers.numbers, text)?;
+    let mut text = notes_for(alloc, &numbers.moves, &faults, &kept)?;
+    let changed = count_changed(&kept.flows);
+    match written(alloc, &mut text, kept) {
+        Ok(refused) => Ok(Import {
+            text,
+            faults,
+            refused,
+            changed,
+        }),
+        Err(error) => Err(error),
+    }
 }

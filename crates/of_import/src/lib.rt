@@ -1,14 +1,22 @@
 //! Tables of Open vSwitch, as `ovs-ofctl` prints and reads them, as configurations.
 #![tactic(auto)]
 
+mod copies;
 mod finish;
 mod import;
+mod kept;
 mod line;
-mod line_stop;
+mod mode;
+mod notes;
 mod parsed_lines;
 mod partial_flow;
 mod partial_group;
+mod table_numbers;
+mod word_fault;
 
 pub use import::{Import, ImportError, import_tables};
-pub use of_ovs_words::Why;
-pub use parsed_lines::LineFault;
+pub use kept::LineRefusal;
+pub use mode::Mode;
+pub use of_ovs_words::{Why, name_of};
+pub use parsed_lines::LineFaults;
+pub use word_fault::WordFault;

@@ -1,60 +1,56 @@
 //! What a line says.
-ghost use Rattle.std.specs.Prelude.{◌≡◌, ◌++◌, ◌||◌, codes, IfOk, IfErr, OnOk, Ok};
-ghost use Rattle.std.specs.List.{AllByRecursion};
+ghost use Rattle.std.specs.Prelude.{◌≡◌, ◌++◌, ◌∷◌, [], ◌||◌, codes, IfOk, OnOk};
 ghost use Rattle.std.specs.Str.{bytes_eq};
 ghost use Rattle.of_text.specs.Lines.{before};
 ghost use Rattle.of_ovs_words.specs.Words.{words_from};
+ghost use Rattle.of_import.specs.Finished.{in_numbers, renumbered as renumbered_by};
 ghost use Rattle.of_import.specs.PartialFlows.{blank, with_word};
 ghost use Rattle.of_import.specs.PartialGroups.{no_group, with_group_word};
-ghost use Rattle.of_import.specs.LineContents.{parsed_flow, parsed_group, is_heading as is_heading_text, parsed_line, parsed_text as parsed_text_of, with_words, trimmed as trimmed_of};
-ghost use Rattle.of_import.specs.LineStops.{IsAt, LineStops};
+ghost use Rattle.of_import.specs.LineContents.{flow_content, group_content, parsed_flow, parsed_group, is_heading as is_heading_text, parsed_line, parsed_text as parsed_text_of, with_words, trimmed as trimmed_of};
 ghost use Rattle.of_import.specs.Sound.{IsSoundContent};
 ghost use Rattle.of_import.specs.PartialFlowViews.{view_partial_flow};
 ghost use Rattle.of_import.specs.PartialGroupViews.{view_partial_group};
 ghost use Rattle.of_import.specs.LineContentViews.{view_line_content};
 
-use crate::finish::finish_flow;
-use crate::line_stop::LineStop;
+use crate::finish::{flow_from, refusal_of};
+use crate::mode::Mode;
 use crate::partial_flow::PartialFlow;
 use crate::partial_group::PartialGroup;
-use of_ovs_words::{Stop, cut_word, is_gap, name_of};
+use crate::word_fault::WordFault;
+use of_ovs_words::{Stop, cut_word, fields_of, is_gap, name_of};
 use of_text::{FlowText, GroupText, cut, is};
-use std::alloc::Global;
+use std::alloc::{AllocError, Global};
+
+/// What differs from the line of a flow.
+#[derive(Drop)]
+pub struct FlowMarks {
+    /// Actions that are left out.
+    pub left: Vec<Vec<u8>>,
+    /// Whether GOTO_TABLE is its `resubmit`.
+    pub resubmits: bool,
+}
 
 /// What a line says.
 #[derive(Drop)]
 pub enum LineContent {
     Nothing,
     Group(GroupText),
-    Flow(FlowText),
-}
-
-// The stop at a word.
-fn stop_at(alloc: Global, word: &[u8], stop: Stop) -> LineStop
-    ensures { IsAt word.now stop result }
-{
-    match stop {
-        Stop::NoMemory => LineStop::NoMemory,
-        Stop::Refused(why) => match word.to_vec(alloc) {
-            Ok(word) => LineStop::Refused { word, why },
-            Err(_) => LineStop::NoMemory,
-        },
-    }
+    Flow(FlowText, FlowMarks),
+    Refused(Vec<WordFault>),
 }
 
 // Adds what words say of a flow.
-fn add_flow_words(alloc: Global, partial: &mut PartialFlow, text: &[u8]) -> Result<(), LineStop>
-    ensures added { IfOk result (λ _. with_words with_word (view_partial_flow partial.old) (words_from 0 text.now) ≡ Ok (view_partial_flow partial.new)) }
-    ensures stopped { IfErr result (LineStops (with_words with_word (view_partial_flow partial.old) (words_from 0 text.now))) }
+fn add_flow_words(alloc: Global, partial: &mut PartialFlow, text: &[u8]) -> Result<(), AllocError>
+    ensures { OnOk result (with_words with_word (view_partial_flow partial.old) (words_from 0 text.now) ≡ view_partial_flow partial.new) }
 {
     let mut rest = text;
     while !rest.is_empty() {
         let (word, after) = cut_word(rest);
         rest = after;
         if !word.is_empty() {
-            match partial.add_word(word) {
+            match partial.add_word(alloc, word) {
                 Ok(()) => {}
-                Err(stop) => return Err(stop_at(alloc, word, stop)),
+                Err(error) => return Err(error),
             }
         }
     }
@@ -62,49 +58,116 @@ fn add_flow_words(alloc: Global, partial: &mut PartialFlow, text: &[u8]) -> Resu
 }
 
 // Adds what words say of a group.
-fn add_group_words(alloc: Global, partial: &mut PartialGroup, text: &[u8]) -> Result<(), LineStop>
-    ensures added { IfOk result (λ _. with_words with_group_word (view_partial_group partial.old) (words_from 0 text.now) ≡
-        Ok (view_partial_group partial.new)) }
-    ensures stopped { IfErr result (LineStops (with_words with_group_word (view_partial_group partial.old) (words_from 0 text.now))) }
+fn add_group_words(alloc: Global, partial: &mut PartialGroup, text: &[u8]) -> Result<(), AllocError>
+    ensures { OnOk result (with_words with_group_word (view_partial_group partial.old) (words_from 0 text.now) ≡ view_partial_group partial.new) }
 {
     let mut rest = text;
     while !rest.is_empty() {
         let (word, after) = cut_word(rest);
         rest = after;
         if !word.is_empty() {
-            match partial.add_word(word) {
+            match partial.add_word(alloc, word) {
                 Ok(()) => {}
-                Err(stop) => return Err(stop_at(alloc, word, stop)),
+                Err(error) => return Err(error),
             }
         }
     }
     Ok(())
 }
 
-fn read_flow(alloc: Global, text: &[u8]) -> Result<LineContent, LineStop>
-    ensures parsed { IfOk result (λ content. parsed_flow text.now ≡ Ok (view_line_content content)) }
-    ensures sound { IfOk result IsSoundContent }
-    ensures stopped { IfErr result (LineStops (parsed_flow text.now)) }
+// The new number of a table, where the list has one.
+fn renumbered(numbers: &[u8], table: u8) -> u8
+    ensures { result ≡ renumbered_by numbers.now table }
 {
-    let mut partial = PartialFlow::blank(alloc);
-    add_flow_words(alloc, &mut partial, text)?;
-    match finish_flow(alloc, partial) {
-        Ok(flow) => Ok(LineContent::Flow(flow)),
-        Err(stop) => Err(stop_at(alloc, b"actions", stop)),
+    match numbers.get(usize::from(table)) {
+        Some(number) => *number,
+        None => table,
     }
 }
 
-fn read_group(alloc: Global, text: &[u8]) -> Result<LineContent, LineStop>
-    ensures parsed { IfOk result (λ content. parsed_group text.now ≡ Ok (view_line_content content)) }
+fn renumber(partial: &mut PartialFlow, numbers: &[u8])
+    ensures { view_partial_flow partial.new ≡ in_numbers numbers.now (view_partial_flow partial.old) }
+{
+    partial.head.table = renumbered(numbers, partial.head.table);
+    partial.goto = match partial.goto {
+        Some(table) => Some(renumbered(numbers, table)),
+        None => None,
+    };
+}
+
+fn one_fault(alloc: Global, fault: WordFault) -> Result<Vec<WordFault>, AllocError>
+    ensures { IfOk result (λ faults. faults.items ≡ fault ∷ []) }
+{
+    let mut faults = Vec::new(alloc);
+    faults.push(fault)?;
+    Ok(faults)
+}
+
+// What the words of a flow say.
+#[tactic(auto, unfolding(crate::specs::LineContents::flow_content))]
+fn finish_flow(alloc: Global, partial: PartialFlow) -> Result<LineContent, AllocError>
+    ensures parsed { IfOk result (λ content. view_line_content content ≡ flow_content (view_partial_flow partial)) }
     ensures sound { IfOk result IsSoundContent }
-    ensures stopped { IfErr result (LineStops (parsed_group text.now)) }
+{
+    let mut partial = partial;
+    if !partial.faults.is_empty() {
+        return Ok(LineContent::Refused(partial.faults));
+    }
+    let fields = fields_of(alloc, &partial.settings)?;
+    if let Some(fault) = refusal_of(alloc, &fields, &partial)? {
+        return Ok(LineContent::Refused(one_fault(alloc, fault)?));
+    }
+    let flow = flow_from(alloc, fields, &mut partial)?;
+    Ok(LineContent::Flow(
+        flow,
+        FlowMarks {
+            left: partial.left,
+            resubmits: partial.resubmits,
+        },
+    ))
+}
+
+fn read_flow(
+    alloc: Global,
+    mode: Mode,
+    numbers: &[u8],
+    text: &[u8],
+) -> Result<LineContent, AllocError>
+    ensures parsed { IfOk result (λ content. view_line_content content ≡ parsed_flow mode numbers.now text.now) }
+    ensures sound { IfOk result IsSoundContent }
+{
+    let mut partial = PartialFlow::blank(alloc, mode);
+    add_flow_words(alloc, &mut partial, text)?;
+    renumber(&mut partial, numbers);
+    finish_flow(alloc, partial)
+}
+
+// What the words of a group say.
+#[tactic(auto, unfolding(crate::specs::LineContents::group_content))]
+fn finish_group(alloc: Global, partial: PartialGroup) -> Result<LineContent, AllocError>
+    ensures parsed { IfOk result (λ content. view_line_content content ≡ group_content (view_partial_group partial)) }
+    ensures sound { IfOk result IsSoundContent }
+{
+    if !partial.faults.is_empty() {
+        return Ok(LineContent::Refused(partial.faults));
+    }
+    match partial.finish() {
+        Ok(group) => Ok(LineContent::Group(group)),
+        Err(Stop::Refused(why)) => {
+            let word = b"type".to_vec(alloc)?;
+            Ok(LineContent::Refused(one_fault(alloc, WordFault { word, why })?))
+        }
+        Err(Stop::NoMemory) => Err(AllocError),
+    }
+}
+
+fn read_group(alloc: Global, text: &[u8]) -> Result<LineContent, AllocError>
+    ensures parsed { IfOk result (λ content. view_line_content content ≡ parsed_group text.now) }
+    ensures sound { IfOk result IsSoundContent }
 {
     let mut partial = PartialGroup::blank(alloc);
     add_group_words(alloc, &mut partial, text)?;
-    match partial.finish() {
-        Ok(group) => Ok(LineContent::Group(group)),
-        Err(stop) => Err(stop_at(alloc, b"type", stop)),
-    }
+    finish_group(alloc, partial)
 }
 
 // Without white space before it.
@@ -127,27 +190,35 @@ fn is_heading(text: &[u8]) -> bool
     is(word, b"OFPST") || is(word, b"NXST")
 }
 
-fn read_text(alloc: Global, text: &[u8]) -> Result<LineContent, LineStop>
-    ensures parsed { IfOk result (λ content. parsed_text_of text.now ≡ Ok (view_line_content content)) }
+fn read_text(
+    alloc: Global,
+    mode: Mode,
+    numbers: &[u8],
+    text: &[u8],
+) -> Result<LineContent, AllocError>
+    ensures parsed { IfOk result (λ content. view_line_content content ≡ parsed_text_of mode numbers.now text.now) }
     ensures sound { IfOk result IsSoundContent }
-    ensures stopped { IfErr result (LineStops (parsed_text_of text.now)) }
 {
     if text.is_empty() || is_heading(text) {
         Ok(LineContent::Nothing)
     } else if is(name_of(text), b"group_id") {
         read_group(alloc, text)
     } else {
-        read_flow(alloc, text)
+        read_flow(alloc, mode, numbers, text)
     }
 }
 
-/// What a line says, or which word of it is refused.
+/// What a line says, or all its words that are refused; tables get the numbers of the list.
 #[tactic(auto, unfolding(crate::specs::LineContents::parsed_line))]
-pub fn read_line(alloc: Global, line: &[u8]) -> Result<LineContent, LineStop>
-    ensures parsed { IfOk result (λ content. parsed_line line.now ≡ Ok (view_line_content content)) }
+pub fn read_line(
+    alloc: Global,
+    mode: Mode,
+    numbers: &[u8],
+    line: &[u8],
+) -> Result<LineContent, AllocError>
+    ensures parsed { IfOk result (λ content. view_line_content content ≡ parsed_line mode numbers.now line.now) }
     ensures sound { IfOk result IsSoundContent }
-    ensures stopped { IfErr result (LineStops (parsed_line line.now)) }
 {
     let (text, _) = cut(line, b'#');
-    read_text(alloc, trimmed(text))
+    read_text(alloc, mode, numbers, trimmed(text))
 }

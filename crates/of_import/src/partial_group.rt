@@ -1,14 +1,16 @@
 //! The meaning of the words of a line for a group.
-ghost use Rattle.std.specs.Prelude.{◌≡◌, ◌++◌, IfOk, IfErr, OnOk, Ok, map, false, [], ◌<◌, ◌^◌};
-ghost use Rattle.of_import.specs.PartialGroups.{with_new_bucket, bucket_fits as bucket_fits_so, closed, first_action, group_of as group_in, kind_in as kind_of, no_group, with_bucket_word as bucket_with_word, with_first_word, with_group_word, with_bucket_action};
+ghost use Rattle.std.specs.Prelude.{◌≡◌, ◌++◌, ◌∷◌, IfOk, IfErr, OnOk, Ok, Err, map, false, [], ◌<◌, ◌^◌};
+ghost use Rattle.of_import.specs.PartialGroups.{with_new_bucket, bucket_fits as bucket_fits_so, closed, first_action, group_of as group_in, group_or_refused, kind_in as kind_of, no_group, with_bucket_word as bucket_with_word, with_first_word, with_group_head, with_group_word, with_bucket_action, with_word_of_bucket};
 ghost use Rattle.of_import.specs.PartialGroupViews.{view_partial_group};
 ghost use Rattle.std.specs.List.{AllByRecursion, list_all};
 ghost use Rattle.of_text.specs.Groups.{group_rows};
 ghost use Rattle.of_text.specs.Rows.{Fits};
-ghost use Rattle.of_ovs_words.specs.Stops.{Stops};
+ghost use Rattle.of_ovs_words.specs.Stops.{IfRefused, Stops};
 ghost use Rattle.of_text.specs.Views.{view_bucket, view_group};
 
 use crate::finish::{actions_fit, take_actions};
+use crate::partial_flow::begins_actions;
+use crate::word_fault::WordFault;
 use of_actions::Action;
 use of_groups::GroupKind;
 use of_ovs_words::{Stop, Why, name_of, numbered, port_in, push_action, value_of};
@@ -24,8 +26,11 @@ pub struct PartialGroup {
     pub begun: bool,
     pub head: BucketHead,
     pub actions: Vec<Action>,
+    /// Whether its only action is `drop`.
+    pub dropped: bool,
     /// Those before it.
     pub buckets: Vec<BucketText>,
+    pub faults: Vec<WordFault>,
 }
 
 // A bucket that watches nothing.
@@ -92,7 +97,9 @@ impl PartialGroup {
             begun: false,
             head: NEW_BUCKET,
             actions: Vec::new(alloc),
+            dropped: false,
             buckets: Vec::new(alloc),
+            faults: Vec::new(alloc),
         }
     }
 
@@ -117,6 +124,7 @@ impl PartialGroup {
     {
         self.close()?;
         self.begun = true;
+        self.dropped = false;
         self.head = NEW_BUCKET;
         Ok(())
     }
@@ -124,13 +132,16 @@ impl PartialGroup {
     fn add_action(&mut self, word: &[u8]) -> Result<(), Stop>
         ensures added { IfOk result (λ _. with_bucket_action (view_partial_group self.old) word.now ≡ Ok (view_partial_group self.new)) }
         ensures stopped { IfErr result (Stops (with_bucket_action (view_partial_group self.old) word.now)) }
+        ensures same { IfErr result (IfRefused (view_partial_group self.new ≡ view_partial_group self.old)) }
     {
-        push_action(&[], &mut self.actions, word)
+        self.dropped = push_action(&[], &[], self.dropped, &mut self.actions, word)?;
+        Ok(())
     }
 
     fn add_first_action(&mut self, value: &[u8]) -> Result<(), Stop>
         ensures added { IfOk result (λ _. first_action (view_partial_group self.old) value.now ≡ Ok (view_partial_group self.new)) }
         ensures stopped { IfErr result (Stops (first_action (view_partial_group self.old) value.now)) }
+        ensures same { IfErr result (IfRefused (view_partial_group self.new ≡ view_partial_group self.old)) }
     {
         if value.is_empty() {
             Ok(())
@@ -144,6 +155,7 @@ impl PartialGroup {
     fn add_bucket_word(&mut self, word: &[u8]) -> Result<(), Stop>
         ensures added { IfOk result (λ _. bucket_with_word (view_partial_group self.old) word.now ≡ Ok (view_partial_group self.new)) }
         ensures stopped { IfErr result (Stops (bucket_with_word (view_partial_group self.old) word.now)) }
+        ensures same { IfErr result (IfRefused (view_partial_group self.new ≡ view_partial_group self.old)) }
     {
         let name = name_of(word);
         if is(name, b"weight") {
@@ -157,45 +169,85 @@ impl PartialGroup {
             Ok(())
         } else if is(name, b"bucket_id") {
             Ok(())
-        } else if is(name, b"actions") {
+        } else if begins_actions(name) {
             self.add_first_action(value_of(word))
         } else {
             self.add_action(word)
         }
     }
 
+    // A word that is refused.
+    fn refuse(&mut self, alloc: Global, word: &[u8], why: Why) -> Result<(), AllocError>
+        ensures { OnOk result (view_partial_group self.new ≡ record (view_partial_group self.old)
+            { faults = (view_partial_group self.old).faults ++ record { word = word.now; why = why } ∷ [] }) }
+    {
+        let word = word.to_vec(alloc)?;
+        self.faults.push(WordFault { word, why })?;
+        Ok(())
+    }
+
+    fn add_word_of_bucket(&mut self, alloc: Global, word: &[u8]) -> Result<(), AllocError>
+        ensures { OnOk result (view_partial_group self.new ≡ with_word_of_bucket (view_partial_group self.old) word.now) }
+    {
+        match self.add_bucket_word(word) {
+            Ok(()) => Ok(()),
+            Err(Stop::Refused(why)) => self.refuse(alloc, word, why),
+            Err(Stop::NoMemory) => Err(AllocError),
+        }
+    }
+
     // The first word of a bucket stands behind `bucket=`.
-    fn add_first_word(&mut self, value: &[u8]) -> Result<(), Stop>
-        ensures added { IfOk result (λ _. with_first_word (view_partial_group self.old) value.now ≡ Ok (view_partial_group self.new)) }
-        ensures stopped { IfErr result (Stops (with_first_word (view_partial_group self.old) value.now)) }
+    fn add_first_word(&mut self, alloc: Global, value: &[u8]) -> Result<(), AllocError>
+        ensures { OnOk result (view_partial_group self.new ≡ with_first_word (view_partial_group self.old) value.now) }
     {
         if value.is_empty() {
             Ok(())
         } else {
-            self.add_bucket_word(value)
+            self.add_word_of_bucket(alloc, value)
         }
     }
 
-    /// Adds what one more word says.
-    #[tactic(auto, unfolding(crate::specs::PartialGroups::with_group_word))]
-    pub fn add_word(&mut self, word: &[u8]) -> Result<(), Stop>
-        ensures added { IfOk result (λ _. with_group_word (view_partial_group self.old) word.now ≡ Ok (view_partial_group self.new)) }
-        ensures stopped { IfErr result (Stops (with_group_word (view_partial_group self.old) word.now)) }
+    // A word before the buckets.
+    #[tactic(auto, unfolding(crate::specs::PartialGroups::with_group_head))]
+    fn add_head_word(&mut self, word: &[u8]) -> Result<(), Why>
+        ensures added { IfOk result (λ _. with_group_head (view_partial_group self.old) word.now ≡ Ok (view_partial_group self.new)) }
+        ensures stopped { IfErr result (λ why. with_group_head (view_partial_group self.old) word.now ≡ Err why) }
+        ensures same { IfErr result (λ _. view_partial_group self.new ≡ view_partial_group self.old) }
     {
         let name = name_of(word);
-        if is(name, b"bucket") {
-            self.begin_bucket()?;
-            self.add_first_word(value_of(word))
-        } else if self.begun {
-            self.add_bucket_word(word)
-        } else if is(name, b"group_id") {
+        if is(name, b"group_id") {
             self.id = Some(numbered(0x1_0000_0000, value_of(word))? as u32);
             Ok(())
         } else if is(name, b"type") {
             self.kind = Some(kind_in(value_of(word))?);
             Ok(())
         } else {
-            Err(Stop::Refused(Why::Unknown))
+            Err(Why::Unknown)
+        }
+    }
+
+    fn add_other_word(&mut self, alloc: Global, word: &[u8]) -> Result<(), AllocError>
+        ensures { OnOk result (view_partial_group self.new ≡
+            group_or_refused (view_partial_group self.old) word.now (with_group_head (view_partial_group self.old) word.now)) }
+    {
+        match self.add_head_word(word) {
+            Ok(()) => Ok(()),
+            Err(why) => self.refuse(alloc, word, why),
+        }
+    }
+
+    /// Adds what one more word says.
+    #[tactic(auto, unfolding(crate::specs::PartialGroups::with_group_word))]
+    pub fn add_word(&mut self, alloc: Global, word: &[u8]) -> Result<(), AllocError>
+        ensures { OnOk result (view_partial_group self.new ≡ with_group_word (view_partial_group self.old) word.now) }
+    {
+        if is(name_of(word), b"bucket") {
+            self.begin_bucket()?;
+            self.add_first_word(alloc, value_of(word))
+        } else if self.begun {
+            self.add_word_of_bucket(alloc, word)
+        } else {
+            self.add_other_word(alloc, word)
         }
     }
 

@@ -1,12 +1,12 @@
 -- THE WORDS FOR ACTIONS AND INSTRUCTIONS (ovs-actions(7)): what each does.
 use Rattle.std.specs.Prelude.{ℕ, List, codes, Option, find}
-use Rattle.std.specs.Str.{bytes_eq}
+use Rattle.std.specs.Str.{str_eq_ignore_ascii_case}
 use Rattle.of_ovs_words.specs.declared.action_word.ActionWord.{ActionWord}
 use Rattle.of_ovs_words.specs.declared.action_word.ActionWord.TheVariants as words
 use Rattle.of_ovs_words.specs.declared.action_word.TheConstants.ActionWord as constants
 use Rattle.of_ovs_words.specs.declared.field_word.FieldWord.TheVariants as fields
 use Rattle.of_ovs_words.specs.declared.action_word.Verb.{Verb}
-use Rattle.of_ovs_words.specs.declared.action_word.Verb.TheVariants.{Output, Controller, Group, Drop, PushVlan, PopVlan, SetField, Mod, Tag, DecTtl, SetTtl, Write, Clear, Metadata, Goto}
+use Rattle.of_ovs_words.specs.declared.action_word.Verb.TheVariants.{Output, Controller, Group, Drop, PushVlan, PopVlan, SetField, Mod, Tag, DecTtl, SetTtl, Write, Clear, Metadata, Goto, Resubmit}
 
 -- a row of the table
 pub record ActionRow : Type 0 where
@@ -19,7 +19,6 @@ row text verb = record { text = text; verb = verb }
 unfoldable pub row_of : ActionWord → ActionRow
 row_of words.Output = row (codes "output") Output
 row_of words.Controller = row (codes "controller") Controller
-row_of words.LargeController = row (codes "CONTROLLER") Controller
 row_of words.Group = row (codes "group") Group
 row_of words.Drop = row (codes "drop") Drop
 row_of words.PushVlan = row (codes "push_vlan") PushVlan
@@ -45,6 +44,7 @@ row_of words.WriteActions = row (codes "write_actions") Write
 row_of words.ClearActions = row (codes "clear_actions") Clear
 row_of words.WriteMetadata = row (codes "write_metadata") Metadata
 row_of words.GotoTable = row (codes "goto_table") Goto
+row_of words.Resubmit = row (codes "resubmit") Resubmit
 
 abbrev pub text_of : ActionWord → List ℕ
 text_of word = (row_of word).text
@@ -52,6 +52,6 @@ text_of word = (row_of word).text
 abbrev pub verb_of : ActionWord → Verb
 verb_of word = (row_of word).verb
 
--- the word of a text
+-- the word of a text, in any case
 unfoldable pub action_named : List ℕ → Option ActionWord
-action_named text = find (λ w. bytes_eq (text_of w) text) constants.ALL
+action_named text = find (λ w. str_eq_ignore_ascii_case (text_of w) text) constants.ALL

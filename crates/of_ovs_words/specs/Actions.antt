@@ -1,7 +1,7 @@
 -- WHAT A WORD SAYS AS AN ACTION (ovs-actions(7)), beside the settings of the flow's match.
-use Rattle.std.specs.Prelude.{ℕ, ◌^◌, ◌==◌, ◌&&◌, ◌||◌, nat_le, not, Bool, true, false, List, [], ◌∷◌, ◌++◌, codes, length, drop, Option, Some, None, Result, Ok, Err, if◌then◌else◌}
+use Rattle.std.specs.Prelude.{ℕ, ◌+◌, ◌-◌, ◌^◌, ◌==◌, ◌&&◌, ◌||◌, nat_le, min, not, Bool, true, false, List, [], ◌∷◌, ◌++◌, codes, length, drop, Option, Some, None, Result, Ok, Err, if◌then◌else◌}
 use Rattle.std.specs.Option.{option_map_or}
-use Rattle.std.specs.List.{list_any}
+use Rattle.std.specs.List.{fold}
 use Rattle.std.specs.Str.{bytes_eq}
 use Rattle.of_layers.specs.declared.field.Field.{Field}
 use Rattle.of_layers.specs.declared.field.Field.TheVariants.{VlanVid}
@@ -17,8 +17,9 @@ use Rattle.of_ovs_words.specs.declared.action_word.ActionWord.{ActionWord}
 use Rattle.of_ovs_words.specs.declared.action_word.Verb.{Verb}
 use Rattle.of_ovs_words.specs.declared.action_word.Verb.TheVariants.{Output, Controller, Group, Drop, PushVlan, PopVlan, SetField, Mod, Tag, DecTtl, SetTtl}
 use Rattle.of_lines.specs.Lines.{before, behind}
-use Rattle.of_ovs_words.specs.Words.{name_of, value_of}
-use Rattle.of_ovs_words.specs.Outcomes.{◌>>=◌, given, numbered, one}
+use Rattle.of_ovs_words.specs.Words.{name_of, value_of, words_from}
+use Rattle.of_ovs_words.specs.Numbers.{number_in}
+use Rattle.of_ovs_words.specs.Outcomes.{◌>>=◌, given, numbered, one, through}
 use Rattle.of_ovs_words.specs.Ports.{port_in}
 use Rattle.of_ovs_words.specs.FieldWords.{field_word_named, target_of, form_of}
 use Rattle.of_ovs_words.specs.Settings.{field_for, fitting_in, last_of}
@@ -31,12 +32,21 @@ controller = 0xffff_fffd
 abbrev pub output_to : ℕ → Action
 output_to port = actions.Output port (if port == controller then 65535 else 0)
 
+-- a word of controller(max_len=128,id=0,reason=action): only the length may differ from what a controller of OpenFlow 1.3 gets
+unfoldable pub with_key : ℕ → List ℕ → Result ℕ Why
+with_key len word =
+    if bytes_eq (name_of word) (codes "max_len") then numbered 65536 (value_of word)
+    else if bytes_eq (name_of word) (codes "id") && bytes_eq (value_of word) (codes "0") then Ok len
+    else if bytes_eq (name_of word) (codes "reason") && bytes_eq (value_of word) (codes "action") then Ok len
+    else Err whys.Unknown
+
 -- CONTROLLER, CONTROLLER:128 or controller(max_len=128)
+abbrev pub length_by : Option ℕ → List ℕ → Result ℕ Why
+length_by (Some n) value = Ok n
+length_by None value = through with_key 65535 (words_from 0 value)
+
 abbrev pub length_in : List ℕ → Result ℕ Why
-length_in value =
-    if length value == 0 then Ok 65535
-    else if bytes_eq (name_of value) (codes "max_len") then numbered 65536 (value_of value)
-    else numbered 65536 value
+length_in value = length_by (number_in 65536 value) value
 
 abbrev pub controller_in : List ℕ → Result Action Why
 controller_in value = length_in value >>= λ n. Ok (actions.Output controller n)
@@ -79,6 +89,13 @@ group_in value = numbered (2 ^ 32) value >>= λ n. Ok (actions.Group n)
 abbrev pub output_in : Why → List ℕ → Result Action Why
 output_in why word = port_in why word >>= λ port. Ok (output_to port)
 
+-- output:2; output(port=2,max_len=100) truncates the packet
+abbrev pub truncates : List ℕ → Bool
+truncates value = bytes_eq (name_of value) (codes "port") || bytes_eq (name_of value) (codes "max_len")
+
+abbrev pub output_at : List ℕ → Result Action Why
+output_at value = if truncates value then Err whys.Truncates else output_in whys.PortName value
+
 -- a word without a value
 abbrev pub alone : List ℕ → Option Action → Result (Option Action) Why
 alone value action = if length value == 0 then Ok action else Err whys.Unknown
@@ -88,7 +105,7 @@ some r = r >>= λ action. Ok (Some action)
 
 -- the action of a verb; none of `drop`
 unfoldable pub verb_action : List MatchField → Verb → List ℕ → Result (Option Action) Why
-verb_action settings Output value = some (output_in whys.PortName value)
+verb_action settings Output value = some (output_at value)
 verb_action settings Controller value = some (controller_in value)
 verb_action settings Group value = some (group_in value)
 verb_action settings Drop value = alone value None
@@ -114,31 +131,57 @@ action_in settings word = named_action settings (action_named (name_of word)) wo
 
 -- ---- a tag before the action
 
-abbrev pub is_push : Action → Bool
-is_push (actions.PushVlan type) = true
-is_push other = false
-
 -- the match says that there is a tag
 abbrev pub is_matched : List MatchField → Bool
 is_matched settings = option_map_or (λ e. nat_le 4096 e.value) (last_of VlanVid settings) false
+
+-- HOW MANY TAGS there are after an action, of so many before it (of more than 128 only 128 are counted)
+abbrev pub tags_after : ℕ → Action → ℕ
+tags_after n (actions.PushVlan type) = min 128 (n + 1)
+tags_after n actions.PopVlan = n - 1
+tags_after n other = n
+
+-- after the actions of the lists before, and of this one so far
+abbrev pub tag_count : List MatchField → List Action → List Action → ℕ
+tag_count settings earlier done = fold tags_after (fold tags_after (if is_matched settings then 1 else 0) earlier) done
 
 abbrev pub is_tag : Verb → Bool
 is_tag (Tag f) = true
 is_tag other = false
 
+abbrev pub is_drop : Verb → Bool
+is_drop Drop = true
+is_drop other = false
+
+-- the word is one of such a verb
+abbrev pub is_word_of : (Verb → Bool) → List ℕ → Bool
+is_word_of test word = option_map_or (λ named. test (verb_of named)) (action_named (name_of word)) false
+
 abbrev pub tags : List ℕ → Bool
-tags word = option_map_or (λ named. is_tag (verb_of named)) (action_named (name_of word)) false
+tags word = is_word_of is_tag word
+
+abbrev pub drops : List ℕ → Bool
+drops word = is_word_of is_drop word
 
 -- ---- actions one after the other
 
-abbrev pub tag_first : List MatchField → List Action → List ℕ → List Action
-tag_first settings done word = if tags word && not (is_matched settings) && not (list_any is_push done) then actions.PushVlan 0x8100 ∷ [] else []
+abbrev pub tag_first : List MatchField → List Action → List Action → List ℕ → List Action
+tag_first settings earlier done word = if tags word && tag_count settings earlier done == 0 then actions.PushVlan 0x8100 ∷ [] else []
 
--- THE ACTIONS after a word more
-unfoldable pub with_action : List MatchField → List Action → List ℕ → Result (List Action) Why
-with_action settings done word = action_in settings word >>= λ action. Ok (done ++ tag_first settings done word ++ one action)
+-- `drop` with another action
+abbrev pub is_beside_drop : Bool → List Action → List ℕ → Bool
+is_beside_drop dropped done word = dropped || (drops word && not (length done == 0))
 
--- the actions after words more, of which empty ones are passed over
-abbrev pub with_actions : List MatchField → List Action → List (List ℕ) → Result (List Action) Why
-with_actions settings done [] = Ok done
-with_actions settings done (w ∷ ws) = if length w == 0 then with_actions settings done ws else with_action settings done w >>= λ more. with_actions settings more ws
+-- THE ACTIONS after a word more, and whether it was `drop`; after `drop` there is none
+unfoldable pub with_action : List MatchField → List Action → Bool → List Action → List ℕ → Result (Bool × List Action) Why
+with_action settings earlier dropped done word =
+    if is_beside_drop dropped done word then Err whys.Alone
+    else action_in settings word >>= λ action. Ok (drops word, done ++ tag_first settings earlier done word ++ one action)
+
+-- the actions after words more
+abbrev pub with_words : List MatchField → List Action → Bool × List Action → List (List ℕ) → Result (Bool × List Action) Why
+with_words settings earlier s words = through (λ s word. with_action settings earlier s.0 s.1 word) s words
+
+-- THE ACTIONS OF A LIST, after the lists before
+abbrev pub actions_in : List MatchField → List Action → List Action → List (List ℕ) → Result (List Action) Why
+actions_in settings earlier done words = with_words settings earlier (false, done) words >>= λ s. Ok s.1

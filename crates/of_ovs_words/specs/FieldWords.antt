@@ -1,6 +1,7 @@
 -- THE WORDS FOR MATCH FIELDS (ovs-fields(7)): the text of each, the field that it is for, and how its value is written.
 use Rattle.std.specs.Prelude.{ℕ, List, codes, Option, find}
 use Rattle.std.specs.Str.{bytes_eq}
+use Rattle.of_layers.specs.declared.field.Field.{Field}
 use Rattle.of_layers.specs.declared.field.Field.TheVariants as fields
 use Rattle.of_ovs_words.specs.declared.field_word.FieldWord.{FieldWord}
 use Rattle.of_ovs_words.specs.declared.field_word.FieldWord.TheVariants as words
@@ -74,3 +75,34 @@ form_of word = (row_of word).form
 -- the word of a text
 unfoldable pub field_word_named : List ℕ → Option FieldWord
 field_word_named text = find (λ w. bytes_eq (text_of w) text) constants.ALL
+
+-- a word for a field
+unfoldable pub word_for : Field → FieldWord
+word_for fields.InPort = words.InPort
+word_for fields.Metadata = words.Metadata
+word_for fields.EthDst = words.DlDst
+word_for fields.EthSrc = words.DlSrc
+word_for fields.EthType = words.DlType
+word_for fields.VlanVid = words.DlVlan
+word_for fields.VlanPcp = words.DlVlanPcp
+word_for fields.IpDscp = words.NwTos
+word_for fields.IpEcn = words.NwEcn
+word_for fields.IpProto = words.NwProto
+word_for fields.Ipv4Src = words.NwSrc
+word_for fields.Ipv4Dst = words.NwDst
+word_for fields.TcpSrc = words.TcpSrc
+word_for fields.TcpDst = words.TcpDst
+word_for fields.UdpSrc = words.UdpSrc
+word_for fields.UdpDst = words.UdpDst
+word_for fields.Icmpv4Type = words.IcmpType
+word_for fields.Icmpv4Code = words.IcmpCode
+word_for fields.ArpOp = words.ArpOp
+word_for fields.ArpSpa = words.ArpSpa
+word_for fields.ArpTpa = words.ArpTpa
+word_for fields.ArpSha = words.ArpSha
+word_for fields.ArpTha = words.ArpTha
+word_for fields.Ipv6Src = words.Ipv6Src
+word_for fields.Ipv6Dst = words.Ipv6Dst
+word_for fields.Ipv6Flabel = words.Ipv6Label
+word_for fields.Icmpv6Type = words.Icmpv6Type
+word_for fields.Icmpv6Code = words.Icmpv6Code

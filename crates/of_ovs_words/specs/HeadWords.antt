@@ -1,11 +1,11 @@
--- THE WORDS FOR A FLOW BESIDE ITS MATCH AND ITS ACTIONS (ovs-ofctl(8)). Statistics are passed over, and so are flags that only concern the adding of a flow.
+-- THE WORDS FOR A FLOW BESIDE ITS MATCH AND ITS ACTIONS (ovs-ofctl(8)). Statistics are passed over, and so are the command `add` and flags that only concern the adding of a flow.
 use Rattle.std.specs.Prelude.{ℕ, List, codes, Option, find}
 use Rattle.std.specs.Str.{bytes_eq}
 use Rattle.of_ovs_words.specs.declared.head_word.HeadWord.{HeadWord}
 use Rattle.of_ovs_words.specs.declared.head_word.HeadWord.TheVariants as words
 use Rattle.of_ovs_words.specs.declared.head_word.TheConstants.HeadWord as constants
 use Rattle.of_ovs_words.specs.declared.head_word.Part.{Part}
-use Rattle.of_ovs_words.specs.declared.head_word.Part.TheVariants.{Cookie, Table, Priority, Idle, Hard, Flag, Passed}
+use Rattle.of_ovs_words.specs.declared.head_word.Part.TheVariants.{Cookie, Table, Priority, Idle, Hard, Flag, Passed, Command}
 
 -- a row of the table
 pub record HeadRow : Type 0 where
@@ -31,6 +31,11 @@ row_of words.Packets = row (codes "n_packets") Passed
 row_of words.Bytes = row (codes "n_bytes") Passed
 row_of words.IdleAge = row (codes "idle_age") Passed
 row_of words.HardAge = row (codes "hard_age") Passed
+row_of words.Add = row (codes "add") Passed
+row_of words.Delete = row (codes "delete") Command
+row_of words.DeleteStrict = row (codes "delete_strict") Command
+row_of words.Modify = row (codes "modify") Command
+row_of words.ModifyStrict = row (codes "modify_strict") Command
 
 abbrev pub text_of : HeadWord → List ℕ
 text_of word = (row_of word).text

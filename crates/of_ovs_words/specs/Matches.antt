@@ -1,5 +1,8 @@
 -- WHAT WORDS SAY OF A MATCH, one after the other: settings of fields (ovs-fields(7)).
-use Rattle.std.specs.Prelude.{ℕ, ◌==◌, Bool, true, false, List, [], ◌∷◌, ◌++◌, length, filter_map, Option, Some, None, Result, Ok, Err, if◌then◌else◌}
+use Rattle.std.specs.Prelude.{ℕ, ◌==◌, bit_or, Bool, true, false, List, [], ◌∷◌, ◌++◌, length, filter_map, Option, Some, None, Result, Ok, Err, if◌then◌else◌}
+use Rattle.std.specs.Option.{unwrap_or}
+use Rattle.of_layers.specs.declared.field.Field.{Field}
+use Rattle.of_layers.specs.Fields.{number_of}
 use Rattle.of_layers.specs.declared.field.Field.TheVariants as fields
 use Rattle.of_layers.specs.declared.field.TheConstants.Field as constants
 use Rattle.of_oxm.specs.declared.match_field.MatchField.{MatchField}
@@ -12,7 +15,7 @@ use Rattle.of_ovs_words.specs.declared.field_word.Form.TheVariants.{Tci}
 use Rattle.of_ovs_words.specs.Outcomes.{◌>>=◌, given, one}
 use Rattle.of_ovs_words.specs.ProtocolWords.{ethertype_of, protocol_of}
 use Rattle.of_ovs_words.specs.FieldWords.{target_of, form_of}
-use Rattle.of_ovs_words.specs.Settings.{exact, field_for, setting_in, last_of}
+use Rattle.of_ovs_words.specs.Settings.{exact, field_for, setting_in, last_of, under}
 use Rattle.of_ovs_words.specs.Tci.{tci_settings}
 
 abbrev pub protocol_settings : Option ℕ → List MatchField
@@ -22,11 +25,19 @@ protocol_settings (Some n) = exact fields.IpProto n ∷ []
 abbrev pub with_protocol : List MatchField → ProtocolWord → List ℕ → Result (List MatchField) Why
 with_protocol settings word value = if length value == 0 then Ok (settings ++ exact fields.EthType (ethertype_of word) ∷ [] ++ protocol_settings (protocol_of word)) else Err whys.Unknown
 
+-- VLAN_PCP says that there is a tag, whatever was said of its number (OpenFlow 1.3.5, 7.2.3.7)
+abbrev pub tagged : Option MatchField → Option MatchField
+tagged None = under fields.VlanVid 4096 4096
+tagged (Some e) = under fields.VlanVid (bit_or e.value 4096) (bit_or (unwrap_or e.mask 8191) 4096)
+
+abbrev pub tag_with : Field → List MatchField → List MatchField
+tag_with f settings = if number_of f == number_of fields.VlanPcp then one (tagged (last_of fields.VlanVid settings)) else []
+
 abbrev pub with_setting : List MatchField → FieldWord → List ℕ → Result (List MatchField) Why
 with_setting settings word value = do
   f ← given whys.Protocol (field_for (target_of word) settings)
   e ← setting_in (form_of word) f value
-  Ok (settings ++ one e)
+  Ok (settings ++ tag_with f settings ++ one e)
 
 abbrev pub with_tci : List MatchField → List ℕ → Result (List MatchField) Why
 with_tci settings value = tci_settings value >>= λ es. Ok (settings ++ one es.0 ++ one es.1)

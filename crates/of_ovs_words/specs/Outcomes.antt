@@ -1,5 +1,5 @@
 -- What a word gives, or why it is refused.
-use Rattle.std.specs.Prelude.{ℕ, List, [], ◌∷◌, Option, Some, None, Result, Ok, Err}
+use Rattle.std.specs.Prelude.{ℕ, ◌==◌, List, [], ◌∷◌, length, Option, Some, None, Result, Ok, Err, if◌then◌else◌}
 use Rattle.of_ovs_words.specs.declared.why.Why.{Why}
 use Rattle.of_ovs_words.specs.declared.why.Why.TheVariants as whys
 use Rattle.of_ovs_words.specs.Numbers.{number_in}
@@ -23,3 +23,8 @@ numbered limit word = given whys.Value (number_in limit word)
 abbrev pub one : {A : Type 0} → Option A → List A
 one None = []
 one (Some a) = a ∷ []
+
+-- a step for each word, of which empty ones are passed over, until one is refused
+abbrev pub through : {S : Type 0} → (S → List ℕ → Result S Why) → S → List (List ℕ) → Result S Why
+through step s [] = Ok s
+through step s (w ∷ ws) = if length w == 0 then through step s ws else step s w >>= λ next. through step next ws

@@ -1,6 +1,6 @@
 -- THE NAMES OF RESERVED PORTS (ovs-ofctl(8)): the number of each in OpenFlow 1.3.5 (7.2.1), where this switch has it.
 use Rattle.std.specs.Prelude.{ℕ, List, codes, Option, Some, None, find}
-use Rattle.std.specs.Str.{bytes_eq}
+use Rattle.std.specs.Str.{str_eq_ignore_ascii_case}
 use Rattle.of_ovs_words.specs.declared.port_word.PortWord.{PortWord}
 use Rattle.of_ovs_words.specs.declared.port_word.PortWord.TheVariants as words
 use Rattle.of_ovs_words.specs.declared.port_word.TheConstants.PortWord as constants
@@ -14,22 +14,14 @@ abbrev pub row : List ℕ → Option ℕ → PortRow
 row text number = record { text = text; number = number }
 
 unfoldable pub row_of : PortWord → PortRow
-row_of words.InPort = row (codes "IN_PORT") (Some 0xffff_fff8)
-row_of words.SmallInPort = row (codes "in_port") (Some 0xffff_fff8)
-row_of words.Flood = row (codes "FLOOD") (Some 0xffff_fffb)
-row_of words.SmallFlood = row (codes "flood") (Some 0xffff_fffb)
-row_of words.All = row (codes "ALL") (Some 0xffff_fffc)
-row_of words.SmallAll = row (codes "all") (Some 0xffff_fffc)
-row_of words.Controller = row (codes "CONTROLLER") (Some 0xffff_fffd)
-row_of words.SmallController = row (codes "controller") (Some 0xffff_fffd)
-row_of words.Local = row (codes "LOCAL") None
-row_of words.SmallLocal = row (codes "local") None
-row_of words.Normal = row (codes "NORMAL") None
-row_of words.SmallNormal = row (codes "normal") None
-row_of words.Table = row (codes "TABLE") None
-row_of words.SmallTable = row (codes "table") None
-row_of words.Any = row (codes "ANY") None
-row_of words.SmallAny = row (codes "any") None
+row_of words.InPort = row (codes "in_port") (Some 0xffff_fff8)
+row_of words.Flood = row (codes "flood") (Some 0xffff_fffb)
+row_of words.All = row (codes "all") (Some 0xffff_fffc)
+row_of words.Controller = row (codes "controller") (Some 0xffff_fffd)
+row_of words.Local = row (codes "local") None
+row_of words.Normal = row (codes "normal") None
+row_of words.Table = row (codes "table") None
+row_of words.Any = row (codes "any") None
 
 abbrev pub text_of : PortWord → List ℕ
 text_of word = (row_of word).text
@@ -37,6 +29,6 @@ text_of word = (row_of word).text
 abbrev pub number_of : PortWord → Option ℕ
 number_of word = (row_of word).number
 
--- the word of a text
+-- the word of a text, in any case
 unfoldable pub port_word_named : List ℕ → Option PortWord
-port_word_named text = find (λ w. bytes_eq (text_of w) text) constants.ALL
+port_word_named text = find (λ w. str_eq_ignore_ascii_case (text_of w) text) constants.ALL

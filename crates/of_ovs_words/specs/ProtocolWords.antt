@@ -16,6 +16,9 @@ row text ethertype protocol = record { text = text; ethertype = ethertype; proto
 
 unfoldable pub row_of : ProtocolWord → ProtocolRow
 row_of words.Ip = row (codes "ip") 0x0800 None
+row_of words.Ip4 = row (codes "ip4") 0x0800 None
+row_of words.Ipv4 = row (codes "ipv4") 0x0800 None
+row_of words.Ip6 = row (codes "ip6") 0x86dd None
 row_of words.Ipv6 = row (codes "ipv6") 0x86dd None
 row_of words.Arp = row (codes "arp") 0x0806 None
 row_of words.Rarp = row (codes "rarp") 0x8035 None

@@ -7,3 +7,8 @@ use Rattle.of_ovs_words.specs.declared.stop.Stop.TheVariants.{NoMemory, Refused}
 abbrev pub Stops : {A : Type 0} → Result A Why → Stop → Type 0
 Stops outcome NoMemory = Unit {0}
 Stops outcome (Refused why) = outcome ≡ Err why
+
+-- if it is refused, and memory did not run out
+abbrev pub IfRefused : Type 0 → Stop → Type 0
+IfRefused fact NoMemory = Unit {0}
+IfRefused fact (Refused why) = fact

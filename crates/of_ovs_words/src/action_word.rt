@@ -35,6 +35,8 @@ pub enum Verb {
     Metadata,
     /// OFPIT_GOTO_TABLE.
     Goto,
+    /// A lookup in a table, which GOTO_TABLE does as well if no action follows.
+    Resubmit,
 }
 
 /// A word for an action or an instruction.
@@ -42,7 +44,6 @@ pub enum Verb {
 pub enum ActionWord {
     Output,
     Controller,
-    LargeController,
     Group,
     Drop,
     PushVlan,
@@ -68,6 +69,7 @@ pub enum ActionWord {
     ClearActions,
     WriteMetadata,
     GotoTable,
+    Resubmit,
 }
 
 impl ActionWord {
@@ -75,7 +77,6 @@ impl ActionWord {
     pub const ALL: [ActionWord; 28] = [
         ActionWord::Output,
         ActionWord::Controller,
-        ActionWord::LargeController,
         ActionWord::Group,
         ActionWord::Drop,
         ActionWord::PushVlan,
@@ -101,6 +102,7 @@ impl ActionWord {
         ActionWord::ClearActions,
         ActionWord::WriteMetadata,
         ActionWord::GotoTable,
+        ActionWord::Resubmit,
     ];
 
     /// Its text.
@@ -111,7 +113,6 @@ impl ActionWord {
         match self {
             ActionWord::Output => b"output",
             ActionWord::Controller => b"controller",
-            ActionWord::LargeController => b"CONTROLLER",
             ActionWord::Group => b"group",
             ActionWord::Drop => b"drop",
             ActionWord::PushVlan => b"push_vlan",
@@ -137,6 +138,7 @@ impl ActionWord {
             ActionWord::ClearActions => b"clear_actions",
             ActionWord::WriteMetadata => b"write_metadata",
             ActionWord::GotoTable => b"goto_table",
+            ActionWord::Resubmit => b"resubmit",
         }
     }
 
@@ -148,7 +150,6 @@ impl ActionWord {
         match self {
             ActionWord::Output => Verb::Output,
             ActionWord::Controller => Verb::Controller,
-            ActionWord::LargeController => Verb::Controller,
             ActionWord::Group => Verb::Group,
             ActionWord::Drop => Verb::Drop,
             ActionWord::PushVlan => Verb::PushVlan,
@@ -174,10 +175,11 @@ impl ActionWord {
             ActionWord::ClearActions => Verb::Clear,
             ActionWord::WriteMetadata => Verb::Metadata,
             ActionWord::GotoTable => Verb::Goto,
+            ActionWord::Resubmit => Verb::Resubmit,
         }
     }
 
-    /// The word of this text.
+    /// The word of this text, in any case.
     #[tactic(auto, unfolding(crate::specs::ActionWords::action_named))]
     pub fn named(text: &[u8]) -> Option<ActionWord>
         ensures { result ≡ action_named text.now }
@@ -185,6 +187,6 @@ impl ActionWord {
         ActionWord::ALL
             .iter()
             .copied()
-            .find(|word| word.text() == text)
+            .find(|word| word.text().eq_ignore_ascii_case(text))
     }
 }

@@ -1,15 +1,16 @@
 //! What a word says as an action.
 ghost use Rattle.std.specs.Prelude.{◌≡◌, ◌≤◌, ◌<◌, ◌^◌, ◌++◌, IfOk, Ok, Err, Some, None, IfErr, OnOk};
-ghost use Rattle.of_ovs_words.specs.Actions.{with_action, with_actions, action_in as action_of, alone as alone_of, is_push as is_push_action, controller_in as controller_of, verb_action as verb_action_of, is_matched as is_matched_by, length_in as length_of, new_value as new_value_of, output_in as sent_to, push_vlan_in as push_vlan_of, set_by as set_of, set_field_in as set_field_of, tag_first, tags as tags_of};
-ghost use Rattle.std.specs.List.{list_any};
+ghost use Rattle.of_ovs_words.specs.Actions.{actions_in, with_action, with_key as with_key_of, action_in as action_of, alone as alone_of, controller_in as controller_of, drops as drops_of, verb_action as verb_action_of, is_beside_drop as is_with_drop, is_matched as is_matched_by, length_in as length_of, new_value as new_value_of, output_at as output_of, output_in as sent_to, push_vlan_in as push_vlan_of, set_by as set_of, set_field_in as set_field_of, tag_first, tags as tags_of, tags_after as tags_behind, truncates as truncates_at};
+ghost use Rattle.std.specs.List.{fold};
+ghost use Rattle.of_ovs_words.specs.Outcomes.{through};
 ghost use Rattle.of_ovs_words.specs.Words.{words_from};
-ghost use Rattle.of_ovs_words.specs.Stops.{Stops};
+ghost use Rattle.of_ovs_words.specs.Stops.{IfRefused, Stops};
 ghost use Rattle.of_ovs_words.specs.declared.stop.Stop.TheVariants.{NoMemory};
 
 use crate::action_word::{ActionWord, Verb};
 use crate::field_word::{FieldWord, Form};
 use crate::lists::push_one;
-use crate::numbers::numbered;
+use crate::numbers::{number_in, numbered};
 use crate::port::port_in;
 use crate::setting::{field_for, fitting_in, last};
 use crate::stop::Stop;
@@ -22,19 +23,50 @@ use of_oxm::MatchField;
 use of_wire::limits::OFPP_CONTROLLER;
 use std::alloc::AllocError;
 
+// A word of controller(max_len=128,id=0,reason=action), after this length.
+#[tactic(auto, unfolding(crate::specs::Actions::with_key))]
+fn with_key(len: u16, word: &[u8]) -> Result<u16, Why>
+    ensures { result ≡ with_key_of len word.now }
+{
+    let name = name_of(word);
+    let value = value_of(word);
+    if is(name, b"max_len") {
+        Ok(numbered(0x1_0000, value)? as u16)
+    } else if is(name, b"id") && is(value, b"0") {
+        Ok(len)
+    } else if is(name, b"reason") && is(value, b"action") {
+        Ok(len)
+    } else {
+        Err(Why::Unknown)
+    }
+}
+
+fn length_by_keys(words: &[u8]) -> Result<u16, Why>
+    ensures { result ≡ through with_key_of 65535 (words_from 0 words.now) }
+{
+    let mut len = 0xffff;
+    let mut rest = words;
+    while !rest.is_empty() {
+        let (word, after) = cut_word(rest);
+        rest = after;
+        if !word.is_empty() {
+            match with_key(len, word) {
+                Ok(next) => len = next,
+                Err(why) => return Err(why),
+            }
+        }
+    }
+    Ok(len)
+}
+
 // The length in CONTROLLER, CONTROLLER:128 or controller(max_len=128).
 fn length_in(value: &[u8]) -> Result<u16, Why>
     ensures { result ≡ length_of value.now }
 {
-    if value.is_empty() {
-        return Ok(0xffff);
+    match number_in(0x1_0000, value) {
+        Some(len) => Ok(len as u16),
+        None => length_by_keys(value),
     }
-    let digits = if is(name_of(value), b"max_len") {
-        value_of(value)
-    } else {
-        value
-    };
-    Ok(numbered(0x1_0000, digits)? as u16)
 }
 
 fn controller_in(value: &[u8]) -> Result<Action, Why>
@@ -110,13 +142,31 @@ fn output_in(otherwise: Why, word: &[u8]) -> Result<Action, Why>
     })
 }
 
+// Whether it is output(port=2,max_len=100).
+fn truncates(value: &[u8]) -> bool
+    ensures { result ≡ truncates_at value.now }
+{
+    let name = name_of(value);
+    is(name, b"port") || is(name, b"max_len")
+}
+
+fn output_at(value: &[u8]) -> Result<Action, Why>
+    ensures { result ≡ output_of value.now }
+{
+    if truncates(value) {
+        Err(Why::Truncates)
+    } else {
+        output_in(Why::PortName, value)
+    }
+}
+
 // The action of a verb; none of `drop`.
 #[tactic(auto, unfolding(crate::specs::Actions::verb_action))]
 fn verb_action(settings: &[MatchField], verb: Verb, value: &[u8]) -> Result<Option<Action>, Why>
     ensures { result ≡ verb_action_of settings.now verb value.now }
 {
     match verb {
-        Verb::Output => output_in(Why::PortName, value).map(Some),
+        Verb::Output => output_at(value).map(Some),
         Verb::Controller => controller_in(value).map(Some),
         Verb::Group => Ok(Some(Action::Group(numbered(0x1_0000_0000, value)? as u32))),
         Verb::Drop => alone(value, None),
@@ -126,7 +176,9 @@ fn verb_action(settings: &[MatchField], verb: Verb, value: &[u8]) -> Result<Opti
         Verb::Mod(word) | Verb::Tag(word) => set_by(settings, word, value).map(Some),
         Verb::DecTtl => alone(value, Some(Action::DecNwTtl)),
         Verb::SetTtl => Ok(Some(Action::SetNwTtl(numbered(0x100, value)? as u8))),
-        Verb::Write | Verb::Clear | Verb::Metadata | Verb::Goto => Err(Why::Unknown),
+        Verb::Write | Verb::Clear | Verb::Metadata | Verb::Goto | Verb::Resubmit => {
+            Err(Why::Unknown)
+        }
     }
 }
 
@@ -150,17 +202,27 @@ fn is_matched(settings: &[MatchField]) -> bool
     }
 }
 
-// Whether an action pushed a tag.
-fn is_pushed(done: &[Action]) -> bool
-    ensures { result ≡ list_any is_push_action done.now }
+// How many tags there are after an action, of so many before it.
+fn tags_after(count: usize, action: Action) -> usize
+    ensures { result ≡ tags_behind count action }
 {
-    done.iter().any(|action| is_push(*action))
+    match action {
+        Action::PushVlan(_) => count.saturating_add(1).min(128),
+        Action::PopVlan => count.saturating_sub(1),
+        Action::Output { .. }
+        | Action::Group(_)
+        | Action::SetNwTtl(_)
+        | Action::DecNwTtl
+        | Action::SetField { .. } => count,
+    }
 }
 
-fn is_push(action: Action) -> bool
-    ensures { result ≡ is_push_action action }
+fn count_tags(count: usize, actions: &[Action]) -> usize
+    ensures { result ≡ fold tags_behind count actions.now }
 {
-    matches!(action, Action::PushVlan(_))
+    actions
+        .iter()
+        .fold(count, |count, action| tags_after(count, *action))
 }
 
 // Whether the word asks for a tag.
@@ -173,44 +235,82 @@ fn tags(word: &[u8]) -> bool
     }
 }
 
-// Appends a tag, where the word asks for one and there is none.
-fn push_tag(settings: &[MatchField], done: &mut Vec<Action>, word: &[u8]) -> Result<(), AllocError>
-    ensures { OnOk result (done.new.items ≡ done.old.items ++ tag_first settings.now done.old.items word.now) }
+/// Whether the word is `drop`.
+pub fn drops(word: &[u8]) -> bool
+    ensures { result ≡ drops_of word.now }
 {
-    if tags(word) && !is_matched(settings) && !is_pushed(done) {
-        done.push(Action::PushVlan(0x8100))?;
+    match ActionWord::named(name_of(word)) {
+        Some(named) => matches!(named.verb(), Verb::Drop),
+        None => false,
+    }
+}
+
+// Appends a tag, where the word asks for one and there is none after the actions before.
+fn push_tag(
+    settings: &[MatchField],
+    earlier: &[Action],
+    done: &mut Vec<Action>,
+    word: &[u8],
+) -> Result<(), AllocError>
+    ensures { OnOk result (done.new.items ≡ done.old.items ++ tag_first settings.now earlier.now done.old.items word.now) }
+{
+    if tags(word) {
+        let matched = if is_matched(settings) { 1 } else { 0 };
+        let count = count_tags(count_tags(matched, earlier), done);
+        if count == 0 {
+            done.push(Action::PushVlan(0x8100))?;
+        }
     }
     Ok(())
 }
 
-/// Appends what a word says as an action, after these settings of the match.
-#[tactic(auto, unfolding(crate::specs::Actions::with_action))]
-pub fn push_action(settings: &[MatchField], done: &mut Vec<Action>, word: &[u8]) -> Result<(), Stop>
-    ensures added { IfOk result (λ _. with_action settings.now done.old.items word.now ≡ Ok done.new.items) }
-    ensures stopped { IfErr result (Stops (with_action settings.now done.old.items word.now)) }
+fn is_beside_drop(dropped: bool, done: &[Action], word: &[u8]) -> bool
+    ensures { result ≡ is_with_drop dropped done.now word.now }
 {
+    dropped || drops(word) && !done.is_empty()
+}
+
+/// Appends what a word says as an action, after these settings of the match and the lists before; whether it is `drop`. A word that is
+/// refused leaves the actions as they were.
+#[tactic(auto, unfolding(crate::specs::Actions::with_action))]
+pub fn push_action(
+    settings: &[MatchField],
+    earlier: &[Action],
+    dropped: bool,
+    done: &mut Vec<Action>,
+    word: &[u8],
+) -> Result<bool, Stop>
+    ensures added { IfOk result (λ drop. with_action settings.now earlier.now dropped done.old.items word.now ≡ Ok (drop, done.new.items)) }
+    ensures stopped { IfErr result (Stops (with_action settings.now earlier.now dropped done.old.items word.now)) }
+    ensures same { IfErr result (IfRefused (done.new.items ≡ done.old.items)) }
+{
+    if is_beside_drop(dropped, done, word) {
+        return Err(Stop::Refused(Why::Alone));
+    }
     let action = action_in(settings, word)?;
-    push_tag(settings, done, word)?;
+    push_tag(settings, earlier, done, word)?;
     push_one(done, action)?;
-    Ok(())
+    Ok(drops(word))
 }
 
 /// Appends what words say as actions.
 pub fn push_actions(
     settings: &[MatchField],
+    earlier: &[Action],
     done: &mut Vec<Action>,
     words: &[u8],
 ) -> Result<(), Stop>
-    ensures added { IfOk result (λ _. with_actions settings.now done.old.items (words_from 0 words.now) ≡ Ok done.new.items) }
-    ensures stopped { IfErr result (Stops (with_actions settings.now done.old.items (words_from 0 words.now))) }
+    ensures added { IfOk result (λ _. actions_in settings.now earlier.now done.old.items (words_from 0 words.now) ≡ Ok done.new.items) }
+    ensures stopped { IfErr result (Stops (actions_in settings.now earlier.now done.old.items (words_from 0 words.now))) }
 {
+    let mut dropped = false;
     let mut rest = words;
     while !rest.is_empty() {
         let (word, after) = cut_word(rest);
         rest = after;
         if !word.is_empty() {
-            match push_action(settings, done, word) {
-                Ok(()) => {}
+            match push_action(settings, earlier, dropped, done, word) {
+                Ok(drop) => dropped = drop,
                 Err(stop) => return Err(stop),
             }
         }

@@ -1,6 +1,6 @@
 //! The words for match fields (ovs-fields(7)).
 ghost use Rattle.std.specs.Prelude.{◌≡◌};
-ghost use Rattle.of_ovs_words.specs.FieldWords.{field_word_named, form_of, target_of, text_of};
+ghost use Rattle.of_ovs_words.specs.FieldWords.{field_word_named, form_of, target_of, text_of, word_for};
 
 use of_layers::Field;
 
@@ -297,5 +297,42 @@ impl FieldWord {
             .iter()
             .copied()
             .find(|word| word.text() == text)
+    }
+
+    /// A word for a field.
+    #[tactic(auto, unfolding(crate::specs::FieldWords::word_for))]
+    pub fn of(field: Field) -> FieldWord
+        ensures { result ≡ word_for field }
+    {
+        match field {
+            Field::InPort => FieldWord::InPort,
+            Field::Metadata => FieldWord::Metadata,
+            Field::EthDst => FieldWord::DlDst,
+            Field::EthSrc => FieldWord::DlSrc,
+            Field::EthType => FieldWord::DlType,
+            Field::VlanVid => FieldWord::DlVlan,
+            Field::VlanPcp => FieldWord::DlVlanPcp,
+            Field::IpDscp => FieldWord::NwTos,
+            Field::IpEcn => FieldWord::NwEcn,
+            Field::IpProto => FieldWord::NwProto,
+            Field::Ipv4Src => FieldWord::NwSrc,
+            Field::Ipv4Dst => FieldWord::NwDst,
+            Field::TcpSrc => FieldWord::TcpSrc,
+            Field::TcpDst => FieldWord::TcpDst,
+            Field::UdpSrc => FieldWord::UdpSrc,
+            Field::UdpDst => FieldWord::UdpDst,
+            Field::Icmpv4Type => FieldWord::IcmpType,
+            Field::Icmpv4Code => FieldWord::IcmpCode,
+            Field::ArpOp => FieldWord::ArpOp,
+            Field::ArpSpa => FieldWord::ArpSpa,
+            Field::ArpTpa => FieldWord::ArpTpa,
+            Field::ArpSha => FieldWord::ArpSha,
+            Field::ArpTha => FieldWord::ArpTha,
+            Field::Ipv6Src => FieldWord::Ipv6Src,
+            Field::Ipv6Dst => FieldWord::Ipv6Dst,
+            Field::Ipv6Flabel => FieldWord::Ipv6Label,
+            Field::Icmpv6Type => FieldWord::Icmpv6Type,
+            Field::Icmpv6Code => FieldWord::Icmpv6Code,
+        }
     }
 }

@@ -16,6 +16,8 @@ pub enum Part {
     Flag(u16),
     /// Nothing that is kept.
     Passed,
+    /// A command other than `add`.
+    Command,
 }
 
 /// A word for a flow beside its match and its actions.
@@ -36,11 +38,16 @@ pub enum HeadWord {
     Bytes,
     IdleAge,
     HardAge,
+    Add,
+    Delete,
+    DeleteStrict,
+    Modify,
+    ModifyStrict,
 }
 
 impl HeadWord {
     /// Each once.
-    pub const ALL: [HeadWord; 15] = [
+    pub const ALL: [HeadWord; 20] = [
         HeadWord::Cookie,
         HeadWord::Table,
         HeadWord::Priority,
@@ -56,6 +63,11 @@ impl HeadWord {
         HeadWord::Bytes,
         HeadWord::IdleAge,
         HeadWord::HardAge,
+        HeadWord::Add,
+        HeadWord::Delete,
+        HeadWord::DeleteStrict,
+        HeadWord::Modify,
+        HeadWord::ModifyStrict,
     ];
 
     /// Its text.
@@ -79,6 +91,11 @@ impl HeadWord {
             HeadWord::Bytes => b"n_bytes",
             HeadWord::IdleAge => b"idle_age",
             HeadWord::HardAge => b"hard_age",
+            HeadWord::Add => b"add",
+            HeadWord::Delete => b"delete",
+            HeadWord::DeleteStrict => b"delete_strict",
+            HeadWord::Modify => b"modify",
+            HeadWord::ModifyStrict => b"modify_strict",
         }
     }
 
@@ -103,6 +120,11 @@ impl HeadWord {
             HeadWord::Bytes => Part::Passed,
             HeadWord::IdleAge => Part::Passed,
             HeadWord::HardAge => Part::Passed,
+            HeadWord::Add => Part::Passed,
+            HeadWord::Delete => Part::Command,
+            HeadWord::DeleteStrict => Part::Command,
+            HeadWord::Modify => Part::Command,
+            HeadWord::ModifyStrict => Part::Command,
         }
     }
 

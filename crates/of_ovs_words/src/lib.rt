@@ -20,11 +20,12 @@ mod why;
 mod words;
 
 pub use action_word::{ActionWord, Verb};
-pub use actions::{push_action, push_actions};
+pub use actions::{drops, push_action, push_actions};
 pub use field_word::{FieldWord, Form, Target};
 pub use head_word::{HeadWord, Part};
 pub use numbers::numbered;
 pub use port::port_in;
+pub use port_word::PortWord;
 pub use protocol_word::ProtocolWord;
 pub use settings::{fields_of, set_field, set_protocol};
 pub use stop::Stop;

@@ -6,7 +6,10 @@ ghost use Rattle.of_ovs_words.specs.ProtocolWords.{ethertype_of, protocol_named,
 #[derive(Clone, Copy)]
 pub enum ProtocolWord {
     Ip,
+    Ip4,
+    Ipv4,
     Ipv6,
+    Ip6,
     Arp,
     Rarp,
     Mpls,
@@ -23,9 +26,12 @@ pub enum ProtocolWord {
 
 impl ProtocolWord {
     /// Each once.
-    pub const ALL: [ProtocolWord; 14] = [
+    pub const ALL: [ProtocolWord; 17] = [
         ProtocolWord::Ip,
+        ProtocolWord::Ip4,
+        ProtocolWord::Ipv4,
         ProtocolWord::Ipv6,
+        ProtocolWord::Ip6,
         ProtocolWord::Arp,
         ProtocolWord::Rarp,
         ProtocolWord::Mpls,
@@ -47,7 +53,10 @@ impl ProtocolWord {
     {
         match self {
             ProtocolWord::Ip => b"ip",
+            ProtocolWord::Ip4 => b"ip4",
+            ProtocolWord::Ipv4 => b"ipv4",
             ProtocolWord::Ipv6 => b"ipv6",
+            ProtocolWord::Ip6 => b"ip6",
             ProtocolWord::Arp => b"arp",
             ProtocolWord::Rarp => b"rarp",
             ProtocolWord::Mpls => b"mpls",
@@ -70,7 +79,10 @@ impl ProtocolWord {
     {
         match self {
             ProtocolWord::Ip => 0x0800,
+            ProtocolWord::Ip4 => 0x0800,
+            ProtocolWord::Ipv4 => 0x0800,
             ProtocolWord::Ipv6 => 0x86dd,
+            ProtocolWord::Ip6 => 0x86dd,
             ProtocolWord::Arp => 0x0806,
             ProtocolWord::Rarp => 0x8035,
             ProtocolWord::Mpls => 0x8847,
@@ -93,7 +105,10 @@ impl ProtocolWord {
     {
         match self {
             ProtocolWord::Ip => None,
+            ProtocolWord::Ip4 => None,
+            ProtocolWord::Ipv4 => None,
             ProtocolWord::Ipv6 => None,
+            ProtocolWord::Ip6 => None,
             ProtocolWord::Arp => None,
             ProtocolWord::Rarp => None,
             ProtocolWord::Mpls => None,

@@ -189,7 +189,7 @@ fn mask_in(form: Form, field: Field, word: &[u8]) -> Option<u128>
     }
 }
 
-fn under(field: Field, value: u128, bits: u128) -> Option<MatchField>
+pub fn under(field: Field, value: u128, bits: u128) -> Option<MatchField>
     ensures { result ≡ under_bits field value bits }
 {
     if bits == 0 {

@@ -1,13 +1,13 @@
 //! The meaning of words for a match, one after the other.
 ghost use Rattle.std.specs.Prelude.{◌≡◌, ◌≤◌, ◌<◌, ◌++◌, ◌∷◌, [], IfOk, IfErr, OnOk, Ok, filter_map};
 ghost use Rattle.of_ovs_words.specs.Settings.{exact, last_of};
-ghost use Rattle.of_ovs_words.specs.Matches.{fields_of as fields_in, with_field, with_protocol, with_setting, with_tci};
-ghost use Rattle.of_ovs_words.specs.Stops.{Stops};
+ghost use Rattle.of_ovs_words.specs.Matches.{fields_of as fields_in, tag_with, tagged as tagged_by, with_field, with_protocol, with_setting, with_tci};
+ghost use Rattle.of_ovs_words.specs.Stops.{IfRefused, Stops};
 
 use crate::field_word::{FieldWord, Form};
 use crate::lists::push_one;
 use crate::protocol_word::ProtocolWord;
-use crate::setting::{field_for, last, setting_in};
+use crate::setting::{field_for, last, setting_in, under};
 use crate::stop::Stop;
 use crate::tci::tci_settings;
 use crate::why::Why;
@@ -34,6 +34,7 @@ pub fn set_protocol(
 ) -> Result<(), Stop>
     ensures added { IfOk result (λ _. with_protocol settings.old.items word value.now ≡ Ok settings.new.items) }
     ensures stopped { IfErr result (Stops (with_protocol settings.old.items word value.now)) }
+    ensures same { IfErr result (IfRefused (settings.new.items ≡ settings.old.items)) }
 {
     if !value.is_empty() {
         return Err(Stop::Refused(Why::Unknown));
@@ -45,12 +46,39 @@ pub fn set_protocol(
     Ok(())
 }
 
+// Appends that there is a tag, for a field of a tag.
+fn push_tag(settings: &mut Vec<MatchField>, field: Field) -> Result<(), AllocError>
+    ensures { OnOk result (settings.new.items ≡ settings.old.items ++ tag_with field settings.old.items) }
+{
+    if field.number() == Field::VlanPcp.number() {
+        let tag = tagged(last(settings, Field::VlanVid));
+        push_one(settings, tag)?;
+    }
+    Ok(())
+}
+
+// The number of a VLAN, with the bit that says that there is a tag.
+fn tagged(vid: Option<MatchField>) -> Option<MatchField>
+    ensures { result ≡ tagged_by vid }
+{
+    match vid {
+        None => under(Field::VlanVid, 0x1000, 0x1000),
+        Some(e) => under(
+            Field::VlanVid,
+            e.value | 0x1000,
+            e.mask.unwrap_or(0x1fff) | 0x1000,
+        ),
+    }
+}
+
 fn set_one(settings: &mut Vec<MatchField>, word: FieldWord, value: &[u8]) -> Result<(), Stop>
     ensures added { IfOk result (λ _. with_setting settings.old.items word value.now ≡ Ok settings.new.items) }
     ensures stopped { IfErr result (Stops (with_setting settings.old.items word value.now)) }
+    ensures same { IfErr result (IfRefused (settings.new.items ≡ settings.old.items)) }
 {
     let field = field_for(word.target(), settings).ok_or(Why::Protocol)?;
     let setting = setting_in(word.form(), field, value)?;
+    push_tag(settings, field)?;
     push_one(settings, setting)?;
     Ok(())
 }
@@ -58,6 +86,7 @@ fn set_one(settings: &mut Vec<MatchField>, word: FieldWord, value: &[u8]) -> Res
 fn set_tci(settings: &mut Vec<MatchField>, value: &[u8]) -> Result<(), Stop>
     ensures added { IfOk result (λ _. with_tci settings.old.items value.now ≡ Ok settings.new.items) }
     ensures stopped { IfErr result (Stops (with_tci settings.old.items value.now)) }
+    ensures same { IfErr result (IfRefused (settings.new.items ≡ settings.old.items)) }
 {
     let (vid, pcp) = tci_settings(value)?;
     push_one(settings, vid)?;
@@ -70,6 +99,7 @@ fn set_tci(settings: &mut Vec<MatchField>, value: &[u8]) -> Result<(), Stop>
 pub fn set_field(settings: &mut Vec<MatchField>, word: FieldWord, value: &[u8]) -> Result<(), Stop>
     ensures added { IfOk result (λ _. with_field settings.old.items word value.now ≡ Ok settings.new.items) }
     ensures stopped { IfErr result (Stops (with_field settings.old.items word value.now)) }
+    ensures same { IfErr result (IfRefused (settings.new.items ≡ settings.old.items)) }
 {
     if word.form() == Form::Tci {
         set_tci(settings, value)

@@ -1,19 +1,28 @@
 //! Tables of Open vSwitch as flow text.
 
-use of_import::{ImportError, LineFault, import_tables};
+use of_import::{Import, ImportError, LineFaults, LineRefusal, Mode, import_tables, name_of};
 use of_replay::streams::{ReaderSource, WriterSink};
 use of_replay::{Ended, READ_SIZE, ended_by, read_file, write_all, zeros};
 use of_text::TextFault;
+use of_wire::Code;
 use std::alloc::Global;
 use std::io::Read;
 
 /// Why nothing was printed, or not all.
 #[derive(Debug, Drop)]
 pub enum NotImported {
-    /// These lines are at fault.
-    Faults(Vec<LineFault>),
+    /// Lines are refused, which standard error names.
+    Faults,
     /// As other runs over a file end.
     Ended(Ended),
+}
+
+/// How often a keyword was refused.
+#[derive(Debug, Drop)]
+struct Tally {
+    name: Vec<u8>,
+    lines: usize,
+    last: usize,
 }
 
 /// The bytes of a source.
@@ -39,39 +48,156 @@ fn print_text(rt: &HostRuntime, text: &[u8]) -> Result<(), NotImported> {
     }
 }
 
-fn error_of(error: ImportError) -> NotImported {
-    match error {
-        ImportError::NoMemory => NotImported::Ended(Ended::NoMemory),
-        ImportError::Faults(faults) => NotImported::Faults(faults),
-        ImportError::Refused { line, code } => {
-            NotImported::Ended(Ended::Text(TextFault::Refused { line, code }))
-        }
-    }
-}
-
-/// Prints the flow text of a table, and returns the lines that are left out of it.
+/// Prints the flow text of a table, and returns how many of its lines were left out or lost an action; standard error names them.
 pub fn imported<R: Read + Drop>(
     rt: &HostRuntime,
     reader: R,
-    skip: bool,
-) -> Result<Vec<LineFault>, NotImported> {
+    mode: Mode,
+) -> Result<usize, NotImported> {
     let bytes = match read_whole(rt.alloc(), reader) {
         Ok(bytes) => bytes,
         Err(ended) => return Err(NotImported::Ended(ended)),
     };
-    match import_tables(rt.alloc(), &bytes, skip) {
+    match import_tables(rt.alloc(), &bytes, mode) {
         Ok(done) => {
             print_text(rt, &done.text)?;
-            Ok(done.faults)
+            say_faults(rt, &done.faults, &done.refused);
+            Ok(left_out(&done))
         }
-        Err(error) => Err(error_of(error)),
+        Err(error) => Err(say_error(rt, &error)),
     }
 }
 
-/// Names lines that are at fault on standard error.
-pub fn say_faults(rt: &HostRuntime, faults: &[LineFault]) {
-    for fault in faults {
-        let word = std::str::from_utf8(&fault.word).unwrap_or("?");
-        let _ = eprintln!(rt; "line {}: {}: {}", fault.line, word, fault.why);
+fn left_out(done: &Import) -> usize {
+    let lines = done.faults.len().saturating_add(done.refused.len());
+    lines.saturating_add(done.changed)
+}
+
+// Names what is wrong on standard error, except what other commands print at their end.
+fn say_error(rt: &HostRuntime, error: &ImportError) -> NotImported {
+    match error {
+        ImportError::NoMemory => NotImported::Ended(Ended::NoMemory),
+        ImportError::Faults(faults, refused) => {
+            say_faults(rt, faults, refused);
+            NotImported::Faults
+        }
+        ImportError::Refused { line, code } => {
+            say_way_out(rt, *code);
+            NotImported::Ended(Ended::Text(TextFault::Refused {
+                line: *line,
+                code: *code,
+            }))
+        }
+        ImportError::TooMany(count) => {
+            let _ = eprintln!(rt; "{count} tables: this switch has 16");
+            NotImported::Faults
+        }
+    }
+}
+
+// Names lines that are refused on standard error, and how often which keyword is.
+fn say_faults(rt: &HostRuntime, faults: &[LineFaults], refused: &[LineRefusal]) {
+    for it in faults {
+        for fault in it.faults.iter() {
+            let word = std::str::from_utf8(&fault.word).unwrap_or("?");
+            let _ = eprintln!(rt; "line {}: {}: {}", it.line, word, fault.why);
+            if let Some(missing) = fault.why.missing_word() {
+                let name = std::str::from_utf8(name_of(&fault.word)).unwrap_or("?");
+                let _ = eprintln!(rt; "write {missing},{name}=..");
+            }
+        }
+    }
+    for it in refused {
+        let _ = eprintln!(rt;
+            "line {}: type {} code {}",
+            it.line, it.code.kind, it.code.code
+        );
+        if let Some(name) = it.code.name() {
+            let _ = eprintln!(rt; "{name}");
+        }
+        say_way_out(rt, it.code);
+    }
+    if faults.len() > 1 {
+        if let Ok(tallies) = tallies_of(rt.alloc(), faults) {
+            say_tallies(rt, tallies);
+        }
+    }
+}
+
+// What a refusal of the switch means for a line.
+fn say_way_out(rt: &HostRuntime, code: Code) {
+    let words = match (code.kind, code.code) {
+        (2, 4) =>
+            "a port has a number from 1 to 4294967040, or is IN_PORT, ALL, FLOOD or CONTROLLER",
+        (2, 7) => "a list has at most 64 actions",
+        (2, 9) => "no group has this number: import the output of dump-groups as well",
+        (2, 10) => "an action sets a field without the match that it needs, such as ip or tcp",
+        (2, 13) => "the action sets a field that cannot be set",
+        (3, 2) => "goto_table leads to a later table, up to 15",
+        (4, 8) => "the field cannot have this mask",
+        (5, 1) => "a table holds 4096 flows",
+        (5, 2) => "this switch has tables 0 to 15; --renumber gives them numbers",
+        (6, 3) => "a switch holds 256 groups",
+        (6, 4) => "a group holds 16 buckets",
+        (6, 7) => "a chain has at most three groups",
+        (6, 13) => "a bucket of a fast failover group watches a port or a group that exists",
+        _ => return,
+    };
+    let _ = eprintln!(rt; "{words}");
+}
+
+// How often which keyword is refused.
+fn tallies_of(alloc: Global, faults: &[LineFaults]) -> Result<Vec<Tally>, std::alloc::AllocError> {
+    let mut tallies = Vec::new(alloc);
+    for it in faults {
+        for fault in it.faults.iter() {
+            count_one(alloc, &mut tallies, name_of(&fault.word), it.line)?;
+        }
+    }
+    Ok(tallies)
+}
+
+// Counts a line for a keyword, once.
+fn count_one(
+    alloc: Global,
+    tallies: &mut Vec<Tally>,
+    name: &[u8],
+    line: usize,
+) -> Result<(), std::alloc::AllocError> {
+    for tally in tallies.iter_mut() {
+        if tally.name.as_slice() == name {
+            if tally.last != line {
+                tally.lines = tally.lines.saturating_add(1);
+                tally.last = line;
+            }
+            return Ok(());
+        }
+    }
+    tallies.push(Tally {
+        name: name.to_vec(alloc)?,
+        lines: 1,
+        last: line,
+    })?;
+    Ok(())
+}
+
+// Names the keywords, the most frequent first.
+fn say_tallies(rt: &HostRuntime, tallies: Vec<Tally>) {
+    let mut most = usize::MAX;
+    for _ in 0..tallies.len() {
+        let next = tallies
+            .iter()
+            .map(|tally| tally.lines)
+            .filter(|lines| *lines < most)
+            .max()
+            .unwrap_or(0);
+        if next == 0 {
+            return;
+        }
+        for tally in tallies.iter().filter(|tally| tally.lines == next) {
+            let name = std::str::from_utf8(&tally.name).unwrap_or("?");
+            let _ = eprintln!(rt; "{name}: {} lines", tally.lines);
+        }
+        most = next;
     }
 }

@@ -15,13 +15,14 @@ mod standard_input;
 
 use crate::lookups::Lookups;
 use hinting::say_hint;
-use importing::{NotImported, imported, say_faults};
+use importing::{NotImported, imported};
 use live::live_rows;
 use of_asking::Answering;
 use of_check::{check_events, check_file};
 use of_classifier::Scan;
 use of_command_line::{Asked, FileKind, Live, NoRequest, Request, Serve, Trace, read_request};
 use of_explain::Explaining;
+use of_import::Mode;
 use of_replay::streams::{ReaderSource, WriterSink};
 use of_replay::{Ended, Plain, RowPrinter, Sink, Source, asm, dis, print_file, status};
 use of_serve::{ended_unopened, read_rows};
@@ -91,32 +92,37 @@ fn carry_out(rt: &HostRuntime, request: &Request) -> ExitCode {
         Request::Check { file, kind, steps } => {
             run_check(rt, file.as_str(), *kind, *steps as usize)
         }
-        Request::Import { file, skip } => run_import(rt, file.as_str(), *skip),
+        Request::Import {
+            file,
+            skip,
+            renumber,
+        } => run_import(
+            rt,
+            file.as_str(),
+            Mode {
+                skip: *skip,
+                renumber: *renumber,
+            },
+        ),
         Request::Say { messages } => run_say(rt, messages.as_str()),
         Request::Serve(asked) => run_serve(rt, asked),
         Request::Live(asked) => run_live(rt, asked),
     }
 }
 
-fn run_import(rt: &HostRuntime, path: &str, skip: bool) -> ExitCode {
+fn run_import(rt: &HostRuntime, path: &str, mode: Mode) -> ExitCode {
     let done = if path == "-" {
-        imported(rt, StandardInput::new(rt), skip)
+        imported(rt, StandardInput::new(rt), mode)
     } else {
         match File::open(rt, path) {
-            Ok(file) => imported(rt, file, skip),
+            Ok(file) => imported(rt, file, mode),
             Err(error) => return end_unopened(rt, path, &error),
         }
     };
     match done {
-        Ok(faults) if faults.is_empty() => ExitCode::SUCCESS,
-        Ok(faults) => {
-            say_faults(rt, &faults);
-            ExitCode::from(LEFT_OUT)
-        }
-        Err(NotImported::Faults(faults)) => {
-            say_faults(rt, &faults);
-            ExitCode::from(BAD_LINES)
-        }
+        Ok(0) => ExitCode::SUCCESS,
+        Ok(_) => ExitCode::from(LEFT_OUT),
+        Err(NotImported::Faults) => ExitCode::from(BAD_LINES),
         Err(NotImported::Ended(ended)) => end(rt, &ended),
     }
 }

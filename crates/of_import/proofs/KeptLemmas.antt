@@ -1,0 +1,196 @@
+-- What is kept.
+use Rattle.std.proofs.Common.{◌≡◌, ℕ, zero, suc, eqb, not, Bool, true, false, cond, List, [], ◌∷◌, ◌++◌, length, Option, Some, None, refl, sym, ap, subst, append_assoc, ◌∙◌, ◌<◌, vec_len, arith}
+use Rattle.std.specs.Prelude.{map, filter, filter_map, reverse, is_some, slice_index_or}
+use Rattle.std.specs.List.{AllByRecursion, fold, list_any}
+use Rattle.std.specs.Global.{Vec}
+use Rattle.std.proofs.lemmas.List.{append-nil, map-append, reverse-append, reverse-reverse}
+use Rattle.of_wire.specs.declared.code.Code.{Code}
+use Rattle.of_action_set.proofs.Ranked.{rising-filter}
+use Rattle.of_text.specs.First.{first_refusal}
+use Rattle.of_text.specs.Flows.{Flow}
+use Rattle.of_text.specs.Groups.{TextGroup}
+use Rattle.of_text.specs.Views.{view, view_group}
+use Rattle.of_import.specs.declared.parsed_lines.FlowLine.{FlowLine}
+use Rattle.of_import.specs.declared.parsed_lines.GroupLine.{GroupLine}
+use Rattle.of_import.specs.declared.kept.LineRefusal.{LineRefusal}
+use Rattle.of_import.specs.Kept.{KeptGroups, accepted, after_refusal, groups_in, id_at, kept_groups, line_at, refused, replaces, with_older, without, youngest}
+use Rattle.of_import.specs.KeptViews.{view_refusal}
+use Rattle.of_import.specs.ParsedLines.{FlowAt}
+use Rattle.of_import.specs.ParsedLinesViews.{AreSoundGroups, FlowIsSound, GroupFits, id_of, view_flow_line, view_group_line}
+use Rattle.of_import.proofs.ParsedLinesLemmas.{all_filtered, all_more, any_mapped, filter_mapped}
+use Rattle.of_import.proofs.SoundLemmas.{all_back, all_front}
+
+-- the groups of lines
+pub group_texts : (gs : List GroupLine) → map (λ g. view_group g.group) gs ≡ groups_in (map view_group_line gs)
+group_texts [] = refl
+group_texts (g ∷ gs) = ap (λ xs. view_group g.group ∷ xs) (group_texts gs)
+
+-- if none is refused, no step leaves any out
+pub none_left : (n : ℕ) (k : KeptGroups) → first_refusal (groups_in k.groups) [] ≡ None → kept_groups n k ≡ k
+none_left zero k e = refl
+none_left (suc n) k e = ap (λ r. kept_groups n (after_refusal r k)) e ∙ none_left n k e
+
+filter_both : {X : Type 0} (q : X → Bool) (xs ys : List X) → filter q (xs ++ ys) ≡ filter q xs ++ filter q ys
+filter_both q [] ys = refl
+filter_both q (x ∷ xs) ys = by_test (filter_both q xs ys) (q x) refl
+  where
+    by_test : filter q (xs ++ ys) ≡ filter q xs ++ filter q ys → (b : Bool) → q x ≡ b → cond (q x) (x ∷ filter q (xs ++ ys)) (filter q (xs ++ ys)) ≡ cond (q x) (x ∷ filter q xs) (filter q xs) ++ filter q ys
+    by_test others true e = rw e (ap (λ zs. x ∷ zs) others)
+    by_test others false e = rw e others
+
+pub accepted_both : (gs : List TextGroup) (xs ys : List FlowAt) → accepted gs (xs ++ ys) ≡ accepted gs xs ++ accepted gs ys
+accepted_both gs xs ys = filter_both _ xs ys
+
+found_both : {X Y : Type 0} (p : X → Option Y) (xs ys : List X) → filter_map p (xs ++ ys) ≡ filter_map p xs ++ filter_map p ys
+found_both p [] ys = refl
+found_both p (x ∷ xs) ys = by_value (found_both p xs ys) (p x) refl
+  where
+    by_value : filter_map p (xs ++ ys) ≡ filter_map p xs ++ filter_map p ys → (o : Option _) → p x ≡ o → filter_map p (x ∷ (xs ++ ys)) ≡ filter_map p (x ∷ xs) ++ filter_map p ys
+    by_value others None e = rw e others
+    by_value others (Some y) e = rw e (ap (λ zs. y ∷ zs) others)
+
+pub refused_both : (gs : List TextGroup) (xs ys : List FlowAt) → refused gs (xs ++ ys) ≡ refused gs xs ++ refused gs ys
+refused_both gs xs ys = found_both _ xs ys
+
+pub counted_mapped : {X Y : Type 0} (v : X → Y) (q : Y → Bool) (xs : List X) → length (filter q (map v xs)) ≡ length (filter (λ x. q (v x)) xs)
+counted_mapped v q [] = refl
+counted_mapped v q (x ∷ xs) = by_test (counted_mapped v q xs) (q (v x)) refl
+  where
+    by_test : length (filter q (map v xs)) ≡ length (filter (λ x. q (v x)) xs) → (b : Bool) → q (v x) ≡ b → length (cond (q (v x)) (v x ∷ filter q (map v xs)) (filter q (map v xs))) ≡ length (cond (q (v x)) (x ∷ filter (λ x. q (v x)) xs) (filter (λ x. q (v x)) xs))
+    by_test others true e = rw e (ap suc others)
+    by_test others false e = rw e others
+
+-- ---- a group that is left out
+
+pub left_out : (id : ℕ) (gs : List GroupLine) → map view_group_line (filter (λ g. not (eqb (id_of g) id)) gs) ≡ without id (map view_group_line gs)
+left_out id gs = filter_mapped view_group_line (λ h. not (eqb h.1.head.id id)) gs
+
+pub still_sound : (id : ℕ) (gs : List GroupLine) → AreSoundGroups gs → AreSoundGroups (filter (λ g. not (eqb (id_of g) id)) gs)
+still_sound id gs h = record { rising = rising-filter id_of (λ (g : GroupLine). not (eqb (id_of g) id)) gs h.rising; each = all_filtered GroupFits (λ (g : GroupLine). not (eqb (id_of g) id)) gs h.each }
+
+abbrev kept_from : List (ℕ × TextGroup) → List (ℕ × Code) → KeptGroups
+kept_from gs rs = record { groups = gs; refused = rs }
+
+made : (g h : List (ℕ × TextGroup)) (r s : List (ℕ × Code)) → g ≡ h → r ≡ s → kept_from g r ≡ kept_from h s
+made g h r s p q = rw (p, q) refl
+
+lines_are : (gs : List GroupLine) → map (λ g. g.line) gs ≡ map (λ g. g.0) (map view_group_line gs)
+lines_are [] = refl
+lines_are (g ∷ gs) = ap (λ (xs : List ℕ). g.line ∷ xs) (lines_are gs)
+
+ids_are : (gs : List GroupLine) → map (λ g. g.group.head.id) gs ≡ map (λ g. g.1.head.id) (map view_group_line gs)
+ids_are [] = refl
+ids_are (g ∷ gs) = ap (λ (xs : List ℕ). g.group.head.id ∷ xs) (ids_are gs)
+
+pub after_some : (o : Option (ℕ × Code)) (place line id : ℕ) (code : Code) (gs kept : List GroupLine) (rs all : List LineRefusal) → Some (place, code) ≡ o → line ≡ slice_index_or (map (λ g. g.line) gs) place 0 → id ≡ slice_index_or (map (λ g. g.group.head.id) gs) place 0 → kept ≡ filter (λ g. not (eqb (id_of g) id)) gs → all ≡ rs ++ record { line = line; code = code } ∷ [] → kept_from (map view_group_line kept) (map view_refusal all) ≡ after_refusal o (kept_from (map view_group_line gs) (map view_refusal rs))
+after_some o place line id code gs kept rs all e l i k a =
+    let l2 : line ≡ line_at place (map view_group_line gs) = l ∙ ap (λ (xs : List ℕ). slice_index_or xs place 0) (lines_are gs) in
+    let i2 : id ≡ id_at place (map view_group_line gs) = i ∙ ap (λ (xs : List ℕ). slice_index_or xs place 0) (ids_are gs) in
+    let groups : map view_group_line kept ≡ without (id_at place (map view_group_line gs)) (map view_group_line gs) = ap (map view_group_line) k ∙ (left_out id gs ∙ ap (λ (n : ℕ). without n (map view_group_line gs)) i2) in
+    let refused : map view_refusal all ≡ map view_refusal rs ++ (line_at place (map view_group_line gs), code) ∷ [] = ap (map view_refusal) a ∙ (map-append view_refusal rs (record { line = line; code = code } ∷ []) ∙ ap (λ (n : ℕ). map view_refusal rs ++ (n, code) ∷ []) l2) in
+    made _ _ _ _ groups refused ∙ ap (λ (r : Option (ℕ × Code)). after_refusal r (kept_from (map view_group_line gs) (map view_refusal rs))) e
+
+-- no group is refused
+pub not_some : {A : Type 0} (o : Option A) (b : Bool) → b ≡ is_some o → b ≡ false → o ≡ None
+not_some None b e h = refl
+not_some (Some x) b e h = absurd cc
+
+pub all_kept : (n m : ℕ) (o : Option (ℕ × Code)) (first old new : KeptGroups) → o ≡ first_refusal (groups_in old.groups) [] → o ≡ None → new ≡ after_refusal o old → kept_groups m first ≡ kept_groups n old → new ≡ kept_groups m first
+all_kept n m o first old new f e a i = a ∙ (ap (λ (r : Option (ℕ × Code)). after_refusal r old) e ∙ sym (i ∙ none_left n old (sym f ∙ e)))
+
+pub refusals_same : (a b : List TextGroup) (f g : List Flow) → a ≡ b → f ≡ g → first_refusal a f ≡ first_refusal b g
+refusals_same a b f g p q = rw (p, q) refl
+
+-- ---- flows, from the first on
+
+pub all_reversed : {X : Type 0} (P : X → Type 0) (xs : List X) → AllByRecursion P xs → AllByRecursion P (reverse xs)
+all_reversed P [] h = tt
+all_reversed P (x ∷ xs) h = rw (reverse-append (x ∷ []) xs) (all_more P (reverse xs) x (all_reversed P xs h.1) h.0)
+
+next_left : (left : List FlowLine) (x : FlowLine) → map view_flow_line (reverse (left ++ x ∷ [])) ≡ view_flow_line x ∷ map view_flow_line (reverse left)
+next_left left x = ap (map view_flow_line) (reverse-append left (x ∷ []))
+
+pub record Sifting (gs : List TextGroup) (all : List FlowAt) (was : List (ℕ × Code)) (left kept : List FlowLine) (now : List (ℕ × Code)) : Type 0 where
+  pub accepted : map view_flow_line kept ++ accepted gs (map view_flow_line (reverse left)) ≡ accepted gs all
+  pub refused : now ++ refused gs (map view_flow_line (reverse left)) ≡ was ++ refused gs all
+  pub to_come : AllByRecursion FlowIsSound left
+  pub sound : AllByRecursion FlowIsSound kept
+
+pub sifting_start : (gs : List TextGroup) (flows left kept : List FlowLine) (was : List (ℕ × Code)) → left ≡ reverse flows → kept ≡ [] → AllByRecursion FlowIsSound flows → Sifting gs (map view_flow_line flows) was left kept was
+sifting_start gs flows left kept was l k h =
+    let back : reverse left ≡ flows = ap reverse l ∙ reverse-reverse flows in
+    record {
+      accepted = rw (k, back) refl;
+      refused = rw back refl;
+      to_come = rw l (all_reversed FlowIsSound flows h);
+      sound = rw k tt;
+    }
+
+pub sifting_more : (gs : List TextGroup) (all : List FlowAt) (was : List (ℕ × Code)) (old left kept more : List FlowLine) (now next : List (ℕ × Code)) (x : FlowLine) → Sifting gs all was old kept now → old ≡ left ++ x ∷ [] → map view_flow_line more ≡ map view_flow_line kept ++ accepted gs (view_flow_line x ∷ []) → next ≡ now ++ refused gs (view_flow_line x ∷ []) → AllByRecursion FlowIsSound more → Sifting gs all was left more next
+sifting_more gs all was old left kept more now next x s e a r m =
+    let come : map view_flow_line (reverse old) ≡ (view_flow_line x ∷ []) ++ map view_flow_line (reverse left) = ap (λ (fs : List FlowLine). map view_flow_line (reverse fs)) e ∙ next_left left x in
+    let there : AllByRecursion FlowIsSound (left ++ x ∷ []) = subst (AllByRecursion FlowIsSound) e s.to_come in
+    record {
+      accepted = rw a (append_assoc (map view_flow_line kept) (accepted gs (view_flow_line x ∷ [])) (accepted gs (map view_flow_line (reverse left))) ∙ (ap (λ (fs : List FlowAt). map view_flow_line kept ++ fs) (sym (ap (accepted gs) come ∙ accepted_both gs (view_flow_line x ∷ []) (map view_flow_line (reverse left)))) ∙ s.accepted));
+      refused = rw r (append_assoc now (refused gs (view_flow_line x ∷ [])) (refused gs (map view_flow_line (reverse left))) ∙ (ap (λ (cs : List (ℕ × Code)). now ++ cs) (sym (ap (refused gs) come ∙ refused_both gs (view_flow_line x ∷ []) (map view_flow_line (reverse left)))) ∙ s.refused));
+      to_come = all_front FlowIsSound left (x ∷ []) there;
+      sound = m;
+    }
+
+pub sifting_next : (old left : List FlowLine) (x : FlowLine) → AllByRecursion FlowIsSound old → old ≡ left ++ x ∷ [] → FlowIsSound x
+sifting_next old left x h e = (all_back FlowIsSound left (x ∷ []) (subst (AllByRecursion FlowIsSound) e h)).0
+
+pub sifting_done : (gs : List TextGroup) (all : List FlowAt) (was : List (ℕ × Code)) (left kept : List FlowLine) (now : List (ℕ × Code)) → Sifting gs all was left kept now → left ≡ [] → (map view_flow_line kept ≡ accepted gs all) × (now ≡ was ++ refused gs all)
+sifting_done gs all was left kept now s e = (
+  sym (append-nil (map view_flow_line kept)) ∙ (ap (λ (fs : List FlowLine). map view_flow_line kept ++ accepted gs (map view_flow_line (reverse fs))) (sym e) ∙ s.accepted),
+  sym (append-nil now) ∙ (ap (λ (fs : List FlowLine). now ++ refused gs (map view_flow_line (reverse fs))) (sym e) ∙ s.refused),
+)
+
+-- ---- flows, from the last one back
+
+pub map_reverse : {X Y : Type 0} (f : X → Y) (xs : List X) → map f (reverse xs) ≡ reverse (map f xs)
+map_reverse f [] = refl
+map_reverse f (x ∷ xs) = ap (map f) (reverse-append (x ∷ []) xs) ∙ (map-append f (reverse xs) (x ∷ []) ∙ (ap (λ ys. ys ++ f x ∷ []) (map_reverse f xs) ∙ sym (reverse-append (f x ∷ []) (map f xs))))
+
+pub record Older (all : List FlowAt) (left later : List FlowLine) : Type 0 where
+  pub folded : fold with_older (map view_flow_line later) (map view_flow_line (reverse left)) ≡ fold with_older [] (reverse all)
+  pub to_come : AllByRecursion FlowIsSound left
+  pub sound : AllByRecursion FlowIsSound later
+
+pub older_start : (flows left later : List FlowLine) → left ≡ flows → later ≡ [] → AllByRecursion FlowIsSound flows → Older (map view_flow_line flows) left later
+older_start flows left later l k h = record {
+  folded = rw (k, l) (ap (fold with_older []) (map_reverse view_flow_line flows));
+  to_come = rw l h;
+  sound = rw k tt;
+}
+
+pub older_more : (all : List FlowAt) (old left later more : List FlowLine) (x : FlowLine) → Older all old later → old ≡ left ++ x ∷ [] → map view_flow_line more ≡ with_older (map view_flow_line later) (view_flow_line x) → AllByRecursion FlowIsSound more → Older all left more
+older_more all old left later more x s e a m =
+    let come : map view_flow_line (reverse old) ≡ view_flow_line x ∷ map view_flow_line (reverse left) = ap (λ (fs : List FlowLine). map view_flow_line (reverse fs)) e ∙ next_left left x in
+    record {
+      folded = rw a (ap (fold with_older (map view_flow_line later)) (sym come) ∙ s.folded);
+      to_come = all_front FlowIsSound left (x ∷ []) (subst (AllByRecursion FlowIsSound) e s.to_come);
+      sound = m;
+    }
+
+pub older_done : (all : List FlowAt) (left later kept : List FlowLine) → Older all left later → left ≡ [] → kept ≡ reverse later → map view_flow_line kept ≡ youngest all
+unfolding youngest
+older_done all left later kept s e k = ap (map view_flow_line) k ∙ (map_reverse view_flow_line later ∙ ap reverse (ap (λ (fs : List FlowLine). fold with_older (map view_flow_line later) (map view_flow_line (reverse fs))) (sym e) ∙ s.folded))
+
+pub no_more : (v : Vec FlowLine) → (0 < vec_len v → ⊥) → v.items ≡ []
+no_more v h = by_items v.items (λ p. h (omega (arith, p, v.ok)))
+  where
+    by_items : (xs : List FlowLine) → (0 < length xs → ⊥) → xs ≡ []
+    by_items [] h = refl
+    by_items (x ∷ xs) h = absurd (h (omega arith))
+
+-- a flow before those after it
+pub older_kept : (later : List FlowLine) (x : FlowLine) → list_any (λ g. replaces (view g.flow) (view x.flow)) later ≡ true → map view_flow_line later ≡ with_older (map view_flow_line later) (view_flow_line x)
+older_kept later x h = let any : list_any (λ g. replaces g.flow (view x.flow)) (map view_flow_line later) ≡ true = any_mapped view_flow_line (λ g. replaces g.flow (view x.flow)) later ∙ h in sym (rw any refl)
+
+pub older_put : (later more : List FlowLine) (x : FlowLine) → list_any (λ g. replaces (view g.flow) (view x.flow)) later ≡ false → more ≡ later ++ x ∷ [] → map view_flow_line more ≡ with_older (map view_flow_line later) (view_flow_line x)
+older_put later more x h e = let any : list_any (λ g. replaces g.flow (view x.flow)) (map view_flow_line later) ≡ false = any_mapped view_flow_line (λ g. replaces g.flow (view x.flow)) later ∙ h in ap (map view_flow_line) e ∙ (map-append view_flow_line later (x ∷ []) ∙ sym (rw any refl))
+
+pub texts_of_lines : (gs : List GroupLine) → map view_group (map (λ g. g.group) gs) ≡ map (λ g. view_group g.group) gs
+texts_of_lines [] = refl
+texts_of_lines (g ∷ gs) = ap (λ xs. view_group g.group ∷ xs) (texts_of_lines gs)

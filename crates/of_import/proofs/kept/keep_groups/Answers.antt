@@ -1,0 +1,11 @@
+use Rattle.std.proofs.Common.{◌∙◌, refl, [], length}
+use Rattle.std.specs.Prelude.{map}
+use Rattle.of_text.specs.First.{first_refusal}
+use Rattle.of_import.specs.Kept.{groups_in}
+use Rattle.of_import.specs.KeptViews.{view_kept_groups}
+use Rattle.of_import.specs.ParsedLinesViews.{view_group_line}
+use Rattle.of_import.proofs.KeptLemmas.{all_kept, not_some}
+use Rattle.of_import.proofs.kept.keep_groups.Goals as goal
+
+pub returns-then-not-branch-clause-left : goal.returns-then-not-branch-clause-left
+returns-then-not-branch-clause-left c = all_kept c.loop-left.left (length c.args.groups.now.items) (first_refusal (groups_in (map view_group_line c.loop-left.groups.items)) []) (view_kept_groups c.args.groups.now c.args.refused.now) (view_kept_groups c.loop-left.groups c.loop-left.refused) (view_kept_groups c.leave_first.new.groups c.leave_first.new.refused) refl (not_some (first_refusal (groups_in (map view_group_line c.loop-left.groups.items)) []) c.in_ok-leave_first.field-0 c.in_ok-leave_first.ensures.none c.if-not-branch.true) c.in_ok-leave_first.ensures.left c.loop-left.invariant.kept

@@ -1,0 +1,9 @@
+use Rattle.std.proofs.Common.{◌≡◌, ◌++◌, take, List, ℕ}
+use Rattle.std.specs.Prelude.{map}
+use Rattle.std.specs.List.{flat_map}
+use Rattle.of_import.specs.Notes.{comment, fault_words}
+use Rattle.of_import.specs.ParsedLinesViews.{view_faults}
+use Rattle.of_import.proofs.notes.push_faults.Given as goal
+
+abbrev pub invariant-loop-it : goal.invariant-loop-it
+invariant-loop-it l = l.out.items ≡ l.initial.out.items ++ flat_map (λ f. comment (fault_words f)) (map view_faults (take l.it-index l.faults))

@@ -1,0 +1,9 @@
+use Rattle.std.proofs.Common.{◌≡◌, ◌++◌, take, List, ℕ}
+use Rattle.std.specs.Prelude.{map}
+use Rattle.std.specs.List.{flat_map}
+use Rattle.of_import.specs.Notes.{comment, refusal_words}
+use Rattle.of_import.specs.KeptViews.{view_refusal}
+use Rattle.of_import.proofs.notes.push_refusals.Given as goal
+
+abbrev pub invariant-loop-it : goal.invariant-loop-it
+invariant-loop-it l = l.out.items ≡ l.initial.out.items ++ flat_map (λ r. comment (refusal_words r)) (map view_refusal (take l.it-index l.refused))

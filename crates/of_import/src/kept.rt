@@ -1,0 +1,354 @@
+//! Which groups and flows of a table are kept.
+ghost use Rattle.std.specs.Prelude.{◌≡◌, ◌==◌, ◌++◌, ◌∷◌, map, length, is_some, slice_index_or, [], IfOk, OnOk};
+ghost use Rattle.std.specs.List.{AllByRecursion, list_any};
+ghost use Rattle.of_oxm.specs.SameMatch.{is_same_match};
+ghost use Rattle.std.specs.Option.{option_map};
+ghost use Rattle.of_text.specs.First.{first_refusal};
+ghost use Rattle.of_text.specs.Flows.{text_rows};
+ghost use Rattle.of_text.specs.Texts.{AreRows};
+ghost use Rattle.of_text.specs.Views.{view, view_flows, view_group, view_groups};
+ghost use Rattle.of_import.specs.Digests.{digest_of, digests_of, mixed as mixed_of};
+ghost use Rattle.of_import.specs.Kept.{accepted, after_refusal, groups_in, kept_groups, kept_of, refusal_alone as refusal_alone_of, refused as refused_of, replaces as replaces_flow, with_older, youngest as youngest_of};
+ghost use Rattle.of_import.specs.KeptViews.{view_kept, view_kept_groups, view_refusal};
+ghost use Rattle.of_import.specs.ParsedLinesViews.{AreSoundGroups, FlowIsSound, view_flow_line, view_group_line};
+ghost use Rattle.of_import.specs.Sound.{IsSound};
+
+use crate::copies::{copy_flow, copy_group};
+use crate::parsed_lines::{FlowLine, GroupLine, remove_id};
+use of_oxm::{Code, MatchField};
+use of_text::{Config, FillError, FlowText, GroupText};
+use std::alloc::{AllocError, Global};
+
+/// A line that the switch refuses, and its first refusal (OpenFlow 1.3.5, 7.4.4).
+#[derive(Clone, Copy, Debug)]
+pub struct LineRefusal {
+    pub line: usize,
+    pub code: Code,
+}
+
+/// What is kept of the lines that were read, and the lines that the switch refuses.
+#[derive(Drop)]
+pub struct KeptLines {
+    pub groups: Vec<GroupLine>,
+    pub flows: Vec<FlowLine>,
+    pub refused: Vec<LineRefusal>,
+}
+
+fn copies_of(alloc: Global, groups: &[GroupLine]) -> Result<Vec<GroupText>, AllocError>
+    ensures { IfOk result (λ copies. map view_group copies.items ≡ map (λ it. view_group it.group) groups.now) }
+{
+    let mut copies = Vec::new(alloc);
+    for it in groups {
+        copies.push(copy_group(alloc, &it.group)?)?;
+    }
+    Ok(copies)
+}
+
+// The place of the first group or flow that is refused, and its first refusal.
+fn refusal_among(
+    alloc: Global,
+    groups: Vec<GroupText>,
+    flows: Vec<FlowText>,
+) -> Result<Option<(usize, Code)>, AllocError>
+    requires { AreRows (text_rows (view_groups groups.items) (view_flows flows.items)) }
+    ensures { IfOk result (λ r. r ≡ first_refusal (view_groups groups.items) (view_flows flows.items)) }
+{
+    match Config::of_items(alloc, groups, flows) {
+        Ok(_config) => Ok(None),
+        Err(FillError::Refused { place, code }) => Ok(Some((place, code))),
+        Err(FillError::NoMemory) => Err(AllocError),
+    }
+}
+
+// The same among groups alone.
+fn refused_group(alloc: Global, groups: &[GroupLine]) -> Result<Option<(usize, Code)>, AllocError>
+    requires { AreSoundGroups groups.now }
+    ensures { IfOk result (λ r. r ≡ first_refusal (groups_in (map view_group_line groups.now)) []) }
+{
+    let copies = copies_of(alloc, groups)?;
+    let flows = Vec::new(alloc);
+    match refusal_among(alloc, copies, flows) {
+        Ok(refusal) => Ok(refusal),
+        Err(error) => Err(error),
+    }
+}
+
+fn line_at(alloc: Global, groups: &[GroupLine], place: usize) -> Result<usize, AllocError>
+    ensures { IfOk result (λ line. line ≡ slice_index_or (map (λ g. g.line) groups.now) place 0) }
+{
+    let lines: Vec<usize> = groups.iter().map(|it| it.line).collect(alloc)?;
+    match lines.get(place) {
+        Some(line) => Ok(*line),
+        None => Ok(0),
+    }
+}
+
+fn id_at(alloc: Global, groups: &[GroupLine], place: usize) -> Result<u32, AllocError>
+    ensures { IfOk result (λ id. id ≡ slice_index_or (map (λ g. g.group.head.id) groups.now) place 0) }
+{
+    let ids: Vec<u32> = groups.iter().map(|it| it.group.head.id).collect(alloc)?;
+    match ids.get(place) {
+        Some(id) => Ok(*id),
+        None => Ok(0),
+    }
+}
+
+// Leaves out the group that is refused first; whether there is one.
+fn leave_first(
+    alloc: Global,
+    groups: &mut Vec<GroupLine>,
+    refused: &mut Vec<LineRefusal>,
+) -> Result<bool, AllocError>
+    requires { AreSoundGroups groups.old.items }
+    ensures left { OnOk result (view_kept_groups groups.new refused.new ≡
+        after_refusal (first_refusal (groups_in (map view_group_line groups.old.items)) []) (view_kept_groups groups.old refused.old)) }
+    ensures none { IfOk result (λ some. some ≡ is_some (first_refusal (groups_in (map view_group_line groups.old.items)) [])) }
+    ensures sound { OnOk result (AreSoundGroups groups.new.items) }
+{
+    match refused_group(alloc, groups)? {
+        Some((place, code)) => {
+            let line = line_at(alloc, groups, place)?;
+            let id = id_at(alloc, groups, place)?;
+            remove_id(groups, id);
+            refused.push(LineRefusal { line, code })?;
+            Ok(true)
+        }
+        None => Ok(false),
+    }
+}
+
+/// Leaves out the groups that the switch refuses.
+pub fn keep_groups(
+    alloc: Global,
+    groups: &mut Vec<GroupLine>,
+    refused: &mut Vec<LineRefusal>,
+) -> Result<(), AllocError>
+    requires { AreSoundGroups groups.old.items }
+    ensures left { OnOk result (view_kept_groups groups.new refused.new ≡ kept_groups (length groups.old.items) (view_kept_groups groups.old refused.old)) }
+    ensures sound { OnOk result (AreSoundGroups groups.new.items) }
+{
+    let count = groups.len();
+    let mut left = count;
+    while left > 0 {
+        left -= 1;
+        if !leave_first(alloc, groups, refused)? {
+            return Ok(());
+        }
+    }
+    Ok(())
+}
+
+fn code_of(refusal: Option<(usize, Code)>) -> Option<Code>
+    ensures { result ≡ option_map (λ r. r.1) refusal }
+{
+    match refusal {
+        Some((_place, code)) => Some(code),
+        None => None,
+    }
+}
+
+fn one_copy(alloc: Global, flow: &FlowText) -> Result<Vec<FlowText>, AllocError>
+    ensures { IfOk result (λ copies. view_flows copies.items ≡ view flow.now ∷ []) }
+{
+    let mut copies = Vec::new(alloc);
+    copies.push(copy_flow(alloc, flow)?)?;
+    Ok(copies)
+}
+
+// Why the switch refuses a flow as the only one beside these groups.
+fn refusal_alone(
+    alloc: Global,
+    groups: &[GroupLine],
+    flow: &FlowText,
+) -> Result<Option<Code>, AllocError>
+    requires groups { AreSoundGroups groups.now }
+    requires flow { IsSound (view flow.now) }
+    ensures { IfOk result (λ r. r ≡ refusal_alone_of (groups_in (map view_group_line groups.now)) (view flow.now)) }
+{
+    let copies = copies_of(alloc, groups)?;
+    let flows = one_copy(alloc, flow)?;
+    match refusal_among(alloc, copies, flows) {
+        Ok(refusal) => Ok(code_of(refusal)),
+        Err(error) => Err(error),
+    }
+}
+
+// Puts a flow to those that are accepted, or its line to those that are refused.
+fn judge(
+    alloc: Global,
+    groups: &[GroupLine],
+    kept: &mut Vec<FlowLine>,
+    refused: &mut Vec<LineRefusal>,
+    it: FlowLine,
+) -> Result<(), AllocError>
+    requires groups { AreSoundGroups groups.now }
+    requires kept { AllByRecursion FlowIsSound kept.old.items }
+    requires flow { FlowIsSound it }
+    ensures accepted { OnOk result (map view_flow_line kept.new.items ≡
+        map view_flow_line kept.old.items ++ accepted (groups_in (map view_group_line groups.now)) (view_flow_line it ∷ [])) }
+    ensures refused { OnOk result (map view_refusal refused.new.items ≡
+        map view_refusal refused.old.items ++ refused_of (groups_in (map view_group_line groups.now)) (view_flow_line it ∷ [])) }
+    ensures sound { OnOk result (AllByRecursion FlowIsSound kept.new.items) }
+{
+    match refusal_alone(alloc, groups, &it.flow)? {
+        Some(code) => refused.push(LineRefusal {
+            line: it.line,
+            code,
+        })?,
+        None => kept.push(it)?,
+    }
+    Ok(())
+}
+
+/// The flows that the switch accepts beside these groups; the others are appended to those that it refuses.
+pub fn keep_flows(
+    alloc: Global,
+    groups: &[GroupLine],
+    flows: Vec<FlowLine>,
+    refused: &mut Vec<LineRefusal>,
+) -> Result<Vec<FlowLine>, AllocError>
+    requires groups { AreSoundGroups groups.now }
+    requires flows { AllByRecursion FlowIsSound flows.items }
+    ensures accepted { IfOk result (λ kept. map view_flow_line kept.items ≡
+        accepted (groups_in (map view_group_line groups.now)) (map view_flow_line flows.items)) }
+    ensures refused { OnOk result (map view_refusal refused.new.items ≡
+        map view_refusal refused.old.items ++ refused_of (groups_in (map view_group_line groups.now)) (map view_flow_line flows.items)) }
+    ensures sound { IfOk result (λ kept. AllByRecursion FlowIsSound kept.items) }
+{
+    let mut kept = Vec::new(alloc);
+    let mut left = flows;
+    left.reverse();
+    while let Some(it) = left.pop() {
+        judge(alloc, groups, &mut kept, refused, it)?;
+    }
+    Ok(kept)
+}
+
+// Whether one of these flows replaces another.
+fn is_replaced(later: &[FlowLine], flow: &FlowText) -> bool
+    ensures { result ≡ list_any (λ g. replaces_flow (view g.flow) (view flow.now)) later.now }
+{
+    later.iter().any(|other| replaces(&other.flow, flow))
+}
+
+fn has_fields_of(flow: &FlowText, other: &FlowText) -> bool
+    ensures { result ≡ is_same_match other.now.fields.items flow.now.fields.items }
+{
+    other.fields.as_slice() == flow.fields.as_slice()
+}
+
+// Whether the flow takes the place of the other.
+fn replaces(flow: &FlowText, other: &FlowText) -> bool
+    ensures { result ≡ replaces_flow (view flow.now) (view other.now) }
+{
+    other.head.table == flow.head.table
+        && other.head.priority == flow.head.priority
+        && has_fields_of(flow, other)
+}
+
+#[tactic(auto, unfolding(crate::specs::Digests::mixed))]
+fn mixed(sum: u128, e: MatchField) -> u128
+    ensures { result ≡ mixed_of sum e }
+{
+    sum.wrapping_mul(1_000_003)
+        .wrapping_add(e.value)
+        .wrapping_mul(1_000_003)
+        .wrapping_add(e.mask.unwrap_or(0))
+}
+
+// A number that is the same for flows that replace each other.
+#[tactic(auto, unfolding(crate::specs::Digests::digest_of))]
+fn digest(flow: &FlowText) -> u128
+    ensures { result ≡ digest_of (view flow.now) }
+{
+    let seed = u128::from(flow.head.table)
+        .wrapping_mul(65536)
+        .wrapping_add(u128::from(flow.head.priority));
+    flow.fields.iter().fold(seed, |sum, e| mixed(sum, *e))
+}
+
+fn has_digest(digests: &[u128], digest: u128) -> bool
+    ensures { result ≡ list_any (λ d. d == digest) digests.now }
+{
+    digests.iter().any(|other| *other == digest)
+}
+
+// Whether one of these flows, which have these digests, replaces another.
+fn has_younger(later: &[FlowLine], digests: &[u128], flow: &FlowText) -> bool
+    requires { digests.now ≡ digests_of later.now }
+    ensures { result ≡ list_any (λ g. replaces_flow (view g.flow) (view flow.now)) later.now }
+{
+    if has_digest(digests, digest(flow)) {
+        return is_replaced(later, flow);
+    }
+    false
+}
+
+fn push_digest(digests: &mut Vec<u128>, flow: &FlowText) -> Result<(), AllocError>
+    ensures { OnOk result (digests.new.items ≡ digests.old.items ++ digest_of (view flow.now) ∷ []) }
+{
+    digests.push(digest(flow))?;
+    Ok(())
+}
+
+// Adds a flow to those after it, unless one of them replaces it.
+fn add_older(
+    later: &mut Vec<FlowLine>,
+    digests: &mut Vec<u128>,
+    it: FlowLine,
+) -> Result<(), AllocError>
+    requires digests { digests.old.items ≡ digests_of later.old.items }
+    requires later { AllByRecursion FlowIsSound later.old.items }
+    requires flow { FlowIsSound it }
+    ensures added { OnOk result (map view_flow_line later.new.items ≡ with_older (map view_flow_line later.old.items) (view_flow_line it)) }
+    ensures digests { OnOk result (digests.new.items ≡ digests_of later.new.items) }
+    ensures sound { OnOk result (AllByRecursion FlowIsSound later.new.items) }
+{
+    if !has_younger(later, digests, &it.flow) {
+        push_digest(digests, &it.flow)?;
+        later.push(it)?;
+    }
+    Ok(())
+}
+
+/// Without the flows that a later one replaces.
+#[tactic(auto, unfolding(crate::specs::Kept::youngest))]
+pub fn youngest(alloc: Global, flows: Vec<FlowLine>) -> Result<Vec<FlowLine>, AllocError>
+    requires { AllByRecursion FlowIsSound flows.items }
+    ensures kept { IfOk result (λ kept. map view_flow_line kept.items ≡ youngest_of (map view_flow_line flows.items)) }
+    ensures sound { IfOk result (λ kept. AllByRecursion FlowIsSound kept.items) }
+{
+    let mut later = Vec::new(alloc);
+    let mut digests = Vec::new(alloc);
+    let mut left = flows;
+    while let Some(it) = left.pop() {
+        add_older(&mut later, &mut digests, it)?;
+    }
+    later.reverse();
+    Ok(later)
+}
+
+/// What is kept of the lines that were read.
+#[tactic(auto, unfolding(crate::specs::Kept::kept_of))]
+pub fn keep(
+    alloc: Global,
+    groups: Vec<GroupLine>,
+    flows: Vec<FlowLine>,
+) -> Result<KeptLines, AllocError>
+    requires groups { AreSoundGroups groups.items }
+    requires flows { AllByRecursion FlowIsSound flows.items }
+    ensures kept { IfOk result (λ kept. view_kept kept ≡ kept_of (map view_group_line groups.items) (map view_flow_line flows.items)) }
+    ensures groups { IfOk result (λ kept. AreSoundGroups kept.groups.items) }
+    ensures flows { IfOk result (λ kept. AllByRecursion FlowIsSound kept.flows.items) }
+{
+    let mut groups = groups;
+    let mut refused = Vec::new(alloc);
+    keep_groups(alloc, &mut groups, &mut refused)?;
+    let flows = keep_flows(alloc, &groups, flows, &mut refused)?;
+    let flows = youngest(alloc, flows)?;
+    Ok(KeptLines {
+        groups,
+        flows,
+        refused,
+    })
+}
