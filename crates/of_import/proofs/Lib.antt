@@ -6,3 +6,4 @@ pub mod NumberLemmas
 pub mod DigestLemmas
 pub mod KeptLemmas
 pub mod ImportLemmas
+pub mod NoteLemmas

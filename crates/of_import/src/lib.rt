@@ -5,6 +5,7 @@ mod copies;
 mod finish;
 mod import;
 mod kept;
+mod laws;
 mod line;
 mod mode;
 mod notes;
@@ -16,6 +17,7 @@ mod word_fault;
 
 pub use import::{Import, ImportError, import_tables};
 pub use kept::LineRefusal;
+pub use laws::comments_change_nothing;
 pub use mode::Mode;
 pub use of_ovs_words::{Why, name_of};
 pub use parsed_lines::LineFaults;

@@ -1,0 +1,80 @@
+-- Comments before a text change nothing of what it encodes.
+use Rattle.std.proofs.Common.{◌≡◌, ℕ, ◌+◌, length, Bool, true, false, List, [], ◌∷◌, ◌++◌, refl, ◌∙◌, ap, append_assoc, arith}
+use Rattle.std.specs.Prelude.{◌==◌, ◌&&◌, nat_le, map, if◌then◌else◌}
+use Rattle.std.specs.List.{flat_map}
+use Rattle.std.proofs.lemmas.Bool.Decides.{nat_tests}
+use Rattle.of_text.specs.Lines.{lines_of}
+use Rattle.of_text.specs.Texts.{kept}
+use Rattle.of_text.specs.Configs.{Configuration, EncodeConfig}
+use Rattle.of_lines.specs.Lines.{prepended}
+use Rattle.of_import.specs.Kept.{Kept}
+use Rattle.of_import.specs.Notes.{action_words, comment, fault_words, mark_notes, notes_of, part_note, part_words, refusal_words, resubmit_note, resubmit_words, shown, table_words}
+use Rattle.of_import.specs.ParsedLines.{FlowAt}
+use Rattle.of_import.specs.PartialFlows.{Refusal}
+
+-- whatever follows these bytes, it has the same lines that count
+abbrev Passes : List ℕ → Type 0
+Passes notes = (text : List ℕ) → kept (lines_of (notes ++ text)) ≡ kept (lines_of text)
+
+none_pass : Passes []
+none_pass text = refl
+
+both_pass : (a b : List ℕ) → Passes a → Passes b → Passes (a ++ b)
+both_pass a b p q text = ap (λ (x : List ℕ). kept (lines_of x)) (append_assoc a b text) ∙ (p (b ++ text) ∙ q text)
+
+each_pass : {A : Type 0} (f : A → List ℕ) → ((x : A) → Passes (f x)) → (xs : List A) → Passes (flat_map f xs)
+each_pass f p [] = none_pass
+each_pass f p (x ∷ xs) = both_pass (f x) (flat_map f xs) (p x) (each_pass f p xs)
+
+-- ---- a comment
+
+no_end : (b : ℕ) → (shown b == 10) ≡ false
+no_end b = by_test (nat_le 32 b && nat_le b 126) refl
+  where
+    by_test : (t : Bool) → (nat_le 32 b && nat_le b 126) ≡ t → ((if t then b else 63) == 10) ≡ false
+    by_test true h = grind (arith, nat_tests, h)
+    by_test false h = refl
+
+line_of_words : (words rest : List ℕ) → lines_of (map shown words ++ 10 ∷ rest) ≡ map shown words ∷ lines_of rest
+unfolding lines_of
+line_of_words [] rest = refl
+line_of_words (b ∷ bs) rest = rw (no_end b) (ap (prepended (shown b)) (line_of_words bs rest))
+
+comment_passes : (words : List ℕ) → Passes (comment words)
+unfolding lines_of
+comment_passes words text =
+    ap (λ (x : List ℕ). kept (lines_of (35 ∷ 32 ∷ x))) (append_assoc (map shown words) (10 ∷ []) text)
+    ∙ ap (λ (ls : List (List ℕ)). kept (prepended 35 (prepended 32 ls))) (line_of_words words text)
+
+unless_passes : (t : Bool) (words : List ℕ) → Passes (if t then [] else comment words)
+unless_passes true words = none_pass
+unless_passes false words = comment_passes words
+
+if_passes : (t : Bool) (words : List ℕ) → Passes (if t then comment words else [])
+if_passes true words = comment_passes words
+if_passes false words = none_pass
+
+-- ---- the comments
+
+marks_pass : (f : FlowAt) → Passes (mark_notes f)
+marks_pass f = both_pass (flat_map (λ word. comment (action_words f.line word)) f.marks.left) (resubmit_note f)
+    (each_pass (λ word. comment (action_words f.line word)) (λ word. comment_passes (action_words f.line word)) f.marks.left)
+    (if_passes f.marks.resubmits (resubmit_words f.line))
+
+notes_pass : (moves : List (ℕ × ℕ)) (faults : List (ℕ × List Refusal)) (k : Kept) → Passes (notes_of moves faults k)
+unfolding notes_of
+notes_pass moves faults k =
+    both_pass _ _ (both_pass _ _ (both_pass _ _ (both_pass _ _
+    (unless_passes _ (part_words (length faults + length k.refused)))
+    (each_pass (λ m. comment (table_words m)) (λ m. comment_passes (table_words m)) moves))
+    (each_pass (λ f. comment (fault_words f)) (λ f. comment_passes (fault_words f)) faults))
+    (each_pass (λ r. comment (refusal_words r)) (λ r. comment_passes (refusal_words r)) k.refused))
+    (each_pass mark_notes marks_pass k.flows)
+
+pub encoded_behind : (moves : List (ℕ × ℕ)) (faults : List (ℕ × List Refusal)) (k : Kept) (text : List ℕ) (config : Configuration) → EncodeConfig (lines_of text) config → EncodeConfig (lines_of (notes_of moves faults k ++ text)) config
+encoded_behind moves faults k text config h = record {
+  flows = h.flows;
+  encoded = record { is = notes_pass moves faults k text ∙ h.encoded.is; allowed = h.encoded.allowed };
+  stand = h.stand;
+  filled = h.filled;
+}

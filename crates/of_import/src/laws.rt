@@ -1,0 +1,13 @@
+//! A law of the text that import writes.
+ghost use Rattle.std.specs.Prelude.{◌++◌, ℕ, List};
+ghost use Rattle.of_text.specs.Configs.{Configuration, EncodeConfig};
+ghost use Rattle.of_text.specs.Lines.{lines_of};
+ghost use Rattle.of_import.specs.Kept.{Kept};
+ghost use Rattle.of_import.specs.Notes.{notes_of};
+ghost use Rattle.of_import.specs.PartialFlows.{Refusal};
+
+/// The comments before a text change nothing of what the text encodes: with them it is read back as the same configuration.
+pub fn comments_change_nothing()
+    ensures { (moves : List (ℕ × ℕ)) (faults : List (ℕ × List Refusal)) (k : Kept) (text : List ℕ) (config : Configuration) →
+        EncodeConfig (lines_of text) config → EncodeConfig (lines_of (notes_of moves faults k ++ text)) config }
+{}
