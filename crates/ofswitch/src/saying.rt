@@ -1,4 +1,6 @@
 //! Messages of OpenFlow in words.
+ghost use Rattle.std.specs.Prelude.{◌≡◌};
+
 use crate::importing::read_whole;
 use crate::standard_input::StandardInput;
 use of_explain::say_messages;

@@ -64,14 +64,14 @@ impl<'r> PortRows<'r> {
 
     /// The clock says this time: says which of the rows that are due by now are refused.
     pub fn pass(&mut self, now: u64) {
-        while let Some(row) = self.rows.get(self.came) {
+        for row in self.rows.iter().skip(self.came) {
             if row.due > now {
                 return;
             }
             if let Ok(Some(why)) = refusal_of(&mut self.switch, row.change) {
                 let _ = eprintln!(self.rt; "row {} refused: {why}", row.line);
             }
-            self.came += 1;
+            self.came = self.came.saturating_add(1);
         }
     }
 
