@@ -1,6 +1,4 @@
 //! Messages of OpenFlow in words.
-ghost use Rattle.std.specs.Prelude.{◌≡◌};
-
 use crate::importing::read_whole;
 use crate::standard_input::StandardInput;
 use of_explain::say_messages;
@@ -8,7 +6,7 @@ use of_replay::streams::WriterSink;
 use of_replay::{Ended, write_all};
 use std::alloc::AllocError;
 use std::fs::File;
-use std::io;
+use std::io::{self, Read};
 
 /// Why messages are not said, or not all bytes are messages.
 #[derive(Drop)]
@@ -23,24 +21,6 @@ pub enum Unsaid {
     Ended(Ended),
 }
 
-impl From<AllocError> for Unsaid {
-    ghost use Rattle.of_replay.specs.declared.event_file.Ended.TheVariants as ended;
-
-    ghost from_gives = { λ _ e. e ≡ Ended ended.NoMemory };
-
-    fn from(_error: AllocError) -> Unsaid {
-        Unsaid::Ended(Ended::NoMemory)
-    }
-}
-
-impl From<Ended> for Unsaid {
-    ghost from_gives = { λ ended e. e ≡ Ended ended };
-
-    fn from(ended: Ended) -> Unsaid {
-        Unsaid::Ended(ended)
-    }
-}
-
 // Whether a word is hexadecimal digits, of a header at least, and not the name of a file.
 fn is_hex(word: &[u8]) -> bool {
     word.len() >= 16 && word.iter().all(|byte| byte.is_ascii_hexdigit())
@@ -50,8 +30,11 @@ fn is_hex(word: &[u8]) -> bool {
 fn bytes_from(rt: &HostRuntime, text: &[u8]) -> Result<Vec<u8>, Unsaid> {
     let mut digits = Vec::new(rt.alloc());
     for byte in text {
-        if !byte.is_ascii_whitespace() {
-            digits.push(*byte).map_err(AllocError::from)?;
+        if byte.is_ascii_whitespace() {
+            continue;
+        }
+        if digits.push(*byte).map_err(AllocError::from).is_err() {
+            return Err(Unsaid::Ended(Ended::NoMemory));
         }
     }
     match hex::decode(rt.alloc(), &digits) {
@@ -60,23 +43,37 @@ fn bytes_from(rt: &HostRuntime, text: &[u8]) -> Result<Vec<u8>, Unsaid> {
     }
 }
 
-// A file has the bytes themselves, which begin with a version below every printable character, or hexadecimal digits.
-fn messages_in(rt: &HostRuntime, bytes: Vec<u8>) -> Result<Vec<u8>, Unsaid> {
+// Bytes of messages begin with a version, which is below every printable character.
+fn is_text(bytes: &[u8]) -> bool {
     match bytes.first() {
-        Some(first) if *first < b'\t' => Ok(bytes),
-        _ => bytes_from(rt, &bytes),
+        Some(first) => *first >= b'\t',
+        None => true,
+    }
+}
+
+// A file has the bytes themselves, or hexadecimal digits.
+fn messages_in<R: Read + Drop>(rt: &HostRuntime, reader: R) -> Result<Vec<u8>, Unsaid> {
+    match read_whole(rt.alloc(), reader) {
+        Ok(bytes) => {
+            if is_text(&bytes) {
+                bytes_from(rt, &bytes)
+            } else {
+                Ok(bytes)
+            }
+        }
+        Err(ended) => Err(Unsaid::Ended(ended)),
     }
 }
 
 fn messages_of(rt: &HostRuntime, word: &str) -> Result<Vec<u8>, Unsaid> {
     if word == "-" {
-        return messages_in(rt, read_whole(rt.alloc(), StandardInput::new(rt))?);
+        return messages_in(rt, StandardInput::new(rt));
     }
     if is_hex(word.as_bytes()) {
         return bytes_from(rt, word.as_bytes());
     }
     match File::open(rt, word) {
-        Ok(file) => messages_in(rt, read_whole(rt.alloc(), file)?),
+        Ok(file) => messages_in(rt, file),
         Err(error) => Err(Unsaid::Unopened(error)),
     }
 }
@@ -85,7 +82,9 @@ fn messages_of(rt: &HostRuntime, word: &str) -> Result<Vec<u8>, Unsaid> {
 pub fn said(rt: &HostRuntime, word: &str) -> Result<(), Unsaid> {
     let bytes = messages_of(rt, word)?;
     let mut text = Vec::new(rt.alloc());
-    let left = say_messages(rt.alloc(), &mut text, &bytes)?;
+    let Ok(left) = say_messages(rt.alloc(), &mut text, &bytes) else {
+        return Err(Unsaid::Ended(Ended::NoMemory));
+    };
     if !write_all(&mut WriterSink::new(rt.stdout()), &text) {
         return Err(Unsaid::Ended(Ended::WriteFault));
     }
