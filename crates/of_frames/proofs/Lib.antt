@@ -1,0 +1,7 @@
+pub mod AddingLemmas
+pub mod SumLemmas
+pub mod FitLemmas
+pub mod FieldLemmas
+pub mod OctetLemmas
+pub mod FrameLemmas
+pub mod KnownLemmas

@@ -1,0 +1,7 @@
+use Rattle.std.proofs.Common.{arith}
+use Rattle.of_frames.proofs.SumLemmas.{ipv6_sum_is}
+use Rattle.of_frames.proofs.sums.ipv6_sum.Goals as goal
+
+pub returns-clause-sum : goal.returns-clause-sum
+returns-clause-sum c =
+    ipv6_sum_is c.args.kind c.args.numbers.now _ _ _ _ (omega arith) (omega arith) c.size_of.ensures.size c.protocol_of.ensures c.sum_of_sixteen.ensures.sum c.sum_of_sixteen-2.ensures.sum

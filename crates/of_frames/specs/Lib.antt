@@ -1,0 +1,5 @@
+pub mod Given
+pub mod Checksums
+pub mod Packets
+pub mod Adding
+pub mod Knowing
