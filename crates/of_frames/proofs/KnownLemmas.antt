@@ -1,6 +1,6 @@
 -- Packets of which something is known that has a shape.
 use Rattle.std.proofs.Common.{◌≡◌, ℕ, ◌+◌, ◌-◌, ◌*◌, ◌/◌, ◌%◌, ◌^◌, ◌<◌, ◌≤◌, Bool, true, false, cond, Option, Some, None, refl, sym, ap, ◌∙◌, arith, subst, inl, inr}
-use Rattle.std.specs.Prelude.{bit_and, slice_index, unwrap_or, IfSome}
+use Rattle.std.specs.Prelude.{bit_and, unwrap_or, IfSome}
 use Rattle.std.specs.Int.{bit_at}
 use Rattle.std.proofs.lemmas.Nat.{pow_pos, and_mask}
 use Rattle.std.proofs.lemmas.Nat.Bits.{and_pow}
@@ -8,18 +8,15 @@ use Rattle.std.proofs.Math.Nat.{mod-eq_of_lt}
 use Rattle.of_layers.specs.declared.field.Field.{Field}
 use Rattle.of_layers.specs.declared.field.Field.TheVariants.{InPort, Metadata, EthType, VlanVid, VlanPcp, IpProto}
 use Rattle.of_layers.specs.declared.field.Prerequisite.TheVariants as needs
-use Rattle.of_layers.specs.Fields.{row_of, number_of, bits_of, ones_of, prerequisite_of}
+use Rattle.of_layers.specs.Fields.{row_of, bits_of, ones_of, prerequisite_of}
 use Rattle.of_layers.specs.Reading.{layers_of}
-use Rattle.of_headers.specs.declared.key.FieldKey.{FieldKey}
-use Rattle.of_headers.specs.declared.numbers.Numbers.{Numbers}
-use Rattle.of_headers.specs.FieldMap.{field_map, seen, value}
-use Rattle.of_headers.specs.Numbers.{numbers_in}
+use Rattle.of_headers.specs.FieldMap.{field_map, seen}
 use Rattle.of_shapes.specs.declared.shape.Shape.{Shape}
 use Rattle.of_shapes.specs.declared.shape.Tagging.{Tagging}
 use Rattle.of_shapes.specs.declared.shape.Tagging.TheVariants.{Untagged, Tagged}
 use Rattle.of_shapes.specs.declared.shape.Rule.TheVariants.{Absent, Under}
 use Rattle.of_shapes.specs.Rules.{Obeys, HasShape, IsTagging, has_header, of_tagging, protocol_of, type_of, valued}
-use Rattle.of_frames.specs.Given.{given, fields_given, vlan_vid_given, vlan_pcp_given}
+use Rattle.of_frames.specs.Given.{given, or_zero, fields_given, vlan_vid_given, vlan_pcp_given}
 use Rattle.of_frames.specs.Knowing.{AreWithinBits, IsAmong, IsKnown, NothingOfTags}
 use Rattle.of_frames.specs.Packets.{frame_given}
 use Rattle.of_frames.proofs.FrameLemmas.{given_fields}
@@ -36,21 +33,16 @@ small f v h = omega (arith, ones_is f, pow_pos (bits_of f))
 under_ones : (f : Field) (v : ℕ) → v ≤ ones_of f → bit_and v (ones_of f) ≡ v
 under_ones f v h = ap (bit_and v) (ones_is f) ∙ and_mask v (bits_of f) ∙ mod-eq_of_lt (small f v h)
 
--- ---- the numbers of a key
+-- ---- values that are known
 
-there_is : (b : Bool) (x v : ℕ) → cond b (Some x) None ≡ Some v → x ≡ v
-there_is true x v e = cc
-there_is false x v e = absurd cc
+known_given : (known : Field → Option ℕ) (f : Field) (x : ℕ) → known f ≡ Some x → x ≤ ones_of f → given (or_zero known) f ≡ x
+known_given known f x e h = ap (λ (o : Option ℕ). unwrap_or o 0 % 2 ^ bits_of f) e ∙ mod-eq_of_lt (small f x h)
 
-number_known : (k : FieldKey) (f : Field) (v : ℕ) → value k f ≡ Some v → slice_index (numbers_in k.numbers) (number_of f) ≡ v
-unfolding value
-number_known k f v e = there_is _ (slice_index (numbers_in k.numbers) (number_of f)) v e
+is_given : (known : Field → Option ℕ) (f : Field) → IfSome (known f) (λ x. x ≤ ones_of f) → (x : ℕ) → known f ≡ Some x → given (or_zero known) f ≡ x
+is_given known f w x e = known_given known f x e (subst (λ (o : Option ℕ). IfSome o (λ x. x ≤ ones_of f)) e w)
 
-known_given : (k : FieldKey) (f : Field) (v : ℕ) → value k f ≡ Some v → v ≤ ones_of f → given k.numbers f ≡ v
-known_given k f v e h = ap (λ (x : ℕ). x % 2 ^ bits_of f) (number_known k f v e) ∙ mod-eq_of_lt (small f v h)
-
-is_given : (k : FieldKey) (f : Field) → IfSome (value k f) (λ v. v ≤ ones_of f) → (v : ℕ) → value k f ≡ Some v → given k.numbers f ≡ v
-is_given k f w v e = known_given k f v e (subst (λ (o : Option ℕ). IfSome o (λ v. v ≤ ones_of f)) e w)
+is_value : (known : Field → Option ℕ) (f : Field) (x : ℕ) → known f ≡ Some x → or_zero known f ≡ x
+is_value known f x e = ap (λ (o : Option ℕ). unwrap_or o 0) e
 
 -- ---- rule by rule
 
@@ -72,7 +64,7 @@ by_protocol false t o x h w g = sym h
 some_same : (a b : ℕ) → Some a ≡ Some b → a ≡ b
 some_same a b e = cc
 
-vid_by : (t : Tagging) (o : Option ℕ) (n : Numbers) → Obeys (of_tagging t VlanVid) o → IfSome o (λ v. v ≤ ones_of VlanVid) → ((v : ℕ) → o ≡ Some v → n.vlan_vid ≡ v) → Some (vlan_vid_given t n) ≡ o
+vid_by : (t : Tagging) (o : Option ℕ) (n : Field → ℕ) → Obeys (of_tagging t VlanVid) o → IfSome o (λ v. v ≤ ones_of VlanVid) → ((v : ℕ) → o ≡ Some v → n VlanVid ≡ v) → Some (vlan_vid_given t n) ≡ o
 unfolding row_of
 vid_by Untagged None n h w g = absurd cc
 vid_by Untagged (Some v) n h w g =
@@ -86,11 +78,11 @@ vid_by Tagged (Some v) n h w g =
     let masked : bit_and v 4096 ≡ 4096 = some_same (bit_and v 4096) 4096 h in
     let bit : bit_and v 4096 ≡ v / 4096 % 2 * 4096 = and_pow v 12 in
     let most : v ≤ 8191 = w in
-    let same : n.vlan_vid ≡ v = g v refl in
-    let is : 4096 + n.vlan_vid % 4096 ≡ v = omega arith in
+    let same : n VlanVid ≡ v = g v refl in
+    let is : 4096 + n VlanVid % 4096 ≡ v = omega arith in
     ap Some is
 
-pcp_by : (t : Tagging) (o : Option ℕ) (n : Numbers) → Obeys (of_tagging t VlanPcp) o → ((v : ℕ) → o ≡ Some v → given n VlanPcp ≡ v) → vlan_pcp_given t n ≡ o
+pcp_by : (t : Tagging) (o : Option ℕ) (n : Field → ℕ) → Obeys (of_tagging t VlanPcp) o → ((v : ℕ) → o ≡ Some v → given n VlanPcp ≡ v) → vlan_pcp_given t n ≡ o
 pcp_by Untagged o n h g = sym h
 pcp_by Tagged None n h g = absurd cc
 pcp_by Tagged (Some v) n h g = ap Some (g v refl)
@@ -102,52 +94,52 @@ is_tags VlanVid = true
 is_tags VlanPcp = true
 is_tags other = false
 
-others_known : (s : Shape) (t : Tagging) (k : FieldKey) (port metadata : ℕ) → HasShape s (value k) → AreWithinBits (value k) → value k InPort ≡ Some port → value k Metadata ≡ Some metadata →
-    (f : Field) → is_tags f ≡ false → fields_given s t k.numbers port metadata f ≡ value k f
+others_known : (s : Shape) (t : Tagging) (k : Field → Option ℕ) (port metadata : ℕ) → HasShape s k → AreWithinBits k → k InPort ≡ Some port → k Metadata ≡ Some metadata →
+    (f : Field) → is_tags f ≡ false → fields_given s t (or_zero k) port metadata f ≡ k f
 unfolding row_of
-others_known s t k port metadata h w p m f = elim f as (λ f. is_tags f ≡ false → fields_given s t k.numbers port metadata f ≡ value k f) [
+others_known s t k port metadata h w p m f = elim f as (λ f. is_tags f ≡ false → fields_given s t (or_zero k) port metadata f ≡ k f) [
   | InPort ↦ λ e. sym p
   | Metadata ↦ λ e. sym m
   | VlanVid ↦ λ e. absurd cc
   | VlanPcp ↦ λ e. absurd cc
-  | EthType ↦ λ e. by_value EthType (type_of s) (value k EthType) (given k.numbers EthType) (h EthType) (w EthType) (is_given k EthType (w EthType))
-  | IpProto ↦ λ e. by_protocol (has_header s needs.Ip) (protocol_of s) (value k IpProto) (given k.numbers IpProto) (h IpProto) (w IpProto) (is_given k IpProto (w IpProto))
-  | f ↦ λ e. by_header (has_header s (prerequisite_of f)) (value k f) (given k.numbers f) (h f) (is_given k f (w f))
+  | EthType ↦ λ e. by_value EthType (type_of s) (k EthType) (given (or_zero k) EthType) (h EthType) (w EthType) (is_given k EthType (w EthType))
+  | IpProto ↦ λ e. by_protocol (has_header s needs.Ip) (protocol_of s) (k IpProto) (given (or_zero k) IpProto) (h IpProto) (w IpProto) (is_given k IpProto (w IpProto))
+  | f ↦ λ e. by_header (has_header s (prerequisite_of f)) (k f) (given (or_zero k) f) (h f) (is_given k f (w f))
 ]
 
-vid_known : (t : Tagging) (k : FieldKey) → AreWithinBits (value k) → IsTagging t (value k) → Some (vlan_vid_given t k.numbers) ≡ value k VlanVid
+vid_known : (t : Tagging) (k : Field → Option ℕ) → AreWithinBits k → IsTagging t k → Some (vlan_vid_given t (or_zero k)) ≡ k VlanVid
 unfolding row_of
-vid_known t k w h = vid_by t (value k VlanVid) k.numbers (h VlanVid) (w VlanVid) (number_known k VlanVid)
+vid_known t k w h = vid_by t (k VlanVid) (or_zero k) (h VlanVid) (w VlanVid) (is_value k VlanVid)
 
-pcp_known : (t : Tagging) (k : FieldKey) → AreWithinBits (value k) → IsTagging t (value k) → vlan_pcp_given t k.numbers ≡ value k VlanPcp
-pcp_known t k w h = pcp_by t (value k VlanPcp) k.numbers (h VlanPcp) (is_given k VlanPcp (w VlanPcp))
+pcp_known : (t : Tagging) (k : Field → Option ℕ) → AreWithinBits k → IsTagging t k → vlan_pcp_given t (or_zero k) ≡ k VlanPcp
+pcp_known t k w h = pcp_by t (k VlanPcp) (or_zero k) (h VlanPcp) (is_given k VlanPcp (w VlanPcp))
 
 hidden : (mask known : Option ℕ) (x : Option ℕ) → mask ≡ None → seen mask known ≡ known → seen mask x ≡ known
 hidden None known x e h = h
 hidden (Some m) known x e h = absurd cc
 
 -- VLAN_VID and VLAN_PCP, of which all is known or nothing
-vid_among : (s : Shape) (t : Tagging) (mask : Field → Option ℕ) (k : FieldKey) → IsKnown s t mask (value k) → seen (mask VlanVid) (Some (vlan_vid_given t k.numbers)) ≡ value k VlanVid
+vid_among : (s : Shape) (t : Tagging) (mask : Field → Option ℕ) (k : Field → Option ℕ) → IsKnown s t mask k → seen (mask VlanVid) (Some (vlan_vid_given t (or_zero k))) ≡ k VlanVid
 vid_among s t mask k h = elim h.tags [
   | inl tagging ↦ ap (seen (mask VlanVid)) (vid_known t k h.within tagging) ∙ h.under VlanVid
-  | inr nothing ↦ hidden (mask VlanVid) (value k VlanVid) (Some (vlan_vid_given t k.numbers)) nothing.vid (h.under VlanVid)
+  | inr nothing ↦ hidden (mask VlanVid) (k VlanVid) (Some (vlan_vid_given t (or_zero k))) nothing.vid (h.under VlanVid)
 ]
 
-pcp_among : (s : Shape) (t : Tagging) (mask : Field → Option ℕ) (k : FieldKey) → IsKnown s t mask (value k) → seen (mask VlanPcp) (vlan_pcp_given t k.numbers) ≡ value k VlanPcp
+pcp_among : (s : Shape) (t : Tagging) (mask : Field → Option ℕ) (k : Field → Option ℕ) → IsKnown s t mask k → seen (mask VlanPcp) (vlan_pcp_given t (or_zero k)) ≡ k VlanPcp
 pcp_among s t mask k h = elim h.tags [
   | inl tagging ↦ ap (seen (mask VlanPcp)) (pcp_known t k h.within tagging) ∙ h.under VlanPcp
-  | inr nothing ↦ hidden (mask VlanPcp) (value k VlanPcp) (vlan_pcp_given t k.numbers) nothing.pcp (h.under VlanPcp)
+  | inr nothing ↦ hidden (mask VlanPcp) (k VlanPcp) (vlan_pcp_given t (or_zero k)) nothing.pcp (h.under VlanPcp)
 ]
 
-given_among : (s : Shape) (t : Tagging) (mask : Field → Option ℕ) (k : FieldKey) (port metadata : ℕ) → IsKnown s t mask (value k) → value k InPort ≡ Some port → value k Metadata ≡ Some metadata →
-    (f : Field) → seen (mask f) (fields_given s t k.numbers port metadata f) ≡ value k f
-given_among s t mask k port metadata h p m f = elim f as (λ f. seen (mask f) (fields_given s t k.numbers port metadata f) ≡ value k f) [
+given_among : (s : Shape) (t : Tagging) (mask : Field → Option ℕ) (k : Field → Option ℕ) (port metadata : ℕ) → IsKnown s t mask k → k InPort ≡ Some port → k Metadata ≡ Some metadata →
+    (f : Field) → seen (mask f) (fields_given s t (or_zero k) port metadata f) ≡ k f
+given_among s t mask k port metadata h p m f = elim f as (λ f. seen (mask f) (fields_given s t (or_zero k) port metadata f) ≡ k f) [
   | VlanVid ↦ vid_among s t mask k h
   | VlanPcp ↦ pcp_among s t mask k h
   | f ↦ ap (seen (mask f)) (others_known s t k port metadata h.shape h.within p m f refl) ∙ h.under f
 ]
 
-pub among : (s : Shape) (t : Tagging) (mask : Field → Option ℕ) (k : FieldKey) (port metadata : ℕ) → IsKnown s t mask (value k) → value k InPort ≡ Some port → value k Metadata ≡ Some metadata →
-    IsAmong mask (value k) (field_map (layers_of (frame_given s t k.numbers)) port metadata)
+pub among : (s : Shape) (t : Tagging) (mask : Field → Option ℕ) (k : Field → Option ℕ) (port metadata : ℕ) → IsKnown s t mask k → k InPort ≡ Some port → k Metadata ≡ Some metadata →
+    IsAmong mask k (field_map (layers_of (frame_given s t (or_zero k))) port metadata)
 among s t mask k port metadata h p m =
-    subst (λ (map : Field → Option ℕ). IsAmong mask (value k) map) (sym (given_fields s t k.numbers port metadata)) (given_among s t mask k port metadata h p m)
+    subst (λ (map : Field → Option ℕ). IsAmong mask k map) (sym (given_fields s t (or_zero k) port metadata)) (given_among s t mask k port metadata h p m)

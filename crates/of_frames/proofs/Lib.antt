@@ -3,5 +3,6 @@ pub mod SumLemmas
 pub mod FitLemmas
 pub mod FieldLemmas
 pub mod OctetLemmas
+pub mod KeyLemmas
 pub mod FrameLemmas
 pub mod KnownLemmas

@@ -3,7 +3,7 @@ use Rattle.std.specs.Prelude.{ℕ, zero, suc, ◌+◌, ◌-◌, ◌*◌, ◌/◌
 use Rattle.of_layers.specs.declared.field.Field.TheVariants.{IpDscp, IpEcn, IpProto, Ipv4Src, Ipv4Dst, Ipv6Src, Ipv6Dst, TcpSrc, TcpDst, UdpSrc, UdpDst, Icmpv4Type, Icmpv4Code, Icmpv6Type, Icmpv6Code}
 use Rattle.of_layers.specs.declared.transport.Transport.{Transport}
 use Rattle.of_layers.specs.declared.transport.Transport.TheVariants.{Nothing, Tcp, Udp, Icmpv4, Icmpv6}
-use Rattle.of_headers.specs.declared.numbers.Numbers.{Numbers}
+use Rattle.of_layers.specs.declared.field.Field.{Field}
 use Rattle.of_rewrite.specs.Checksum.{fold, never_zero}
 use Rattle.of_frames.specs.Given.{given}
 
@@ -17,12 +17,12 @@ word_sum (suc k) a = a / 2 ^ (16 * k) % 65536 + word_sum k a
 
 -- ---- what an IP packet carries: its protocol (IANA, Protocol Numbers), and how many bytes it takes
 
-abbrev pub protocol_with : Transport → Numbers → ℕ
-protocol_with Nothing n = given n IpProto
-protocol_with Tcp n = 6
-protocol_with Udp n = 17
-protocol_with Icmpv4 n = 1
-protocol_with Icmpv6 n = 58
+abbrev pub protocol_with : Transport → (Field → ℕ) → ℕ
+protocol_with Nothing v = given v IpProto
+protocol_with Tcp v = 6
+protocol_with Udp v = 17
+protocol_with Icmpv4 v = 1
+protocol_with Icmpv6 v = 58
 
 abbrev pub size_with : Transport → ℕ
 size_with Nothing = 0
@@ -34,24 +34,24 @@ size_with Icmpv6 = 8
 -- ---- the words that are covered; those that are 0 add nothing
 
 -- DSCP and ECN in one byte
-abbrev pub service_given : Numbers → ℕ
-service_given n = given n IpDscp * 4 + given n IpEcn
+abbrev pub service_given : (Field → ℕ) → ℕ
+service_given v = given v IpDscp * 4 + given v IpEcn
 
 -- the IPv4 header (RFC 791, 3.1): version, header length and DSCP, total length, TTL and protocol, addresses
-abbrev pub header_sum : Transport → Numbers → ℕ
-header_sum k n = 0x4500 + service_given n + (20 + size_with k) + (0x4000 + protocol_with k n) + word_sum 2 (given n Ipv4Src) + word_sum 2 (given n Ipv4Dst)
+abbrev pub header_sum : Transport → (Field → ℕ) → ℕ
+header_sum k v = 0x4500 + service_given v + (20 + size_with k) + (0x4000 + protocol_with k v) + word_sum 2 (given v Ipv4Src) + word_sum 2 (given v Ipv4Dst)
 
 -- the addresses, the protocol and the length, which TCP, UDP and ICMPv6 take in (RFC 9293, 3.1; RFC 768; RFC 8200, 8.1)
-abbrev pub ipv4_sum : Transport → Numbers → ℕ
-ipv4_sum k n = word_sum 2 (given n Ipv4Src) + word_sum 2 (given n Ipv4Dst) + protocol_with k n + size_with k
+abbrev pub ipv4_sum : Transport → (Field → ℕ) → ℕ
+ipv4_sum k v = word_sum 2 (given v Ipv4Src) + word_sum 2 (given v Ipv4Dst) + protocol_with k v + size_with k
 
-abbrev pub ipv6_sum : Transport → Numbers → ℕ
-ipv6_sum k n = word_sum 8 (given n Ipv6Src) + word_sum 8 (given n Ipv6Dst) + protocol_with k n + size_with k
+abbrev pub ipv6_sum : Transport → (Field → ℕ) → ℕ
+ipv6_sum k v = word_sum 8 (given v Ipv6Src) + word_sum 8 (given v Ipv6Dst) + protocol_with k v + size_with k
 
 -- The checksum in the header of what is carried, where those words sum up to `around`. ICMP over IPv4 leaves them out (RFC 792). UDP never has the checksum 0 (RFC 768).
-abbrev pub carried_checksum : ℕ → Transport → Numbers → ℕ
-carried_checksum around Nothing n = 0
-carried_checksum around Tcp n = checksum_of (around + given n TcpSrc + given n TcpDst + 0x5000)
-carried_checksum around Udp n = never_zero (checksum_of (around + given n UdpSrc + given n UdpDst + 8))
-carried_checksum around Icmpv4 n = checksum_of (given n Icmpv4Type * 256 + given n Icmpv4Code)
-carried_checksum around Icmpv6 n = checksum_of (around + given n Icmpv6Type * 256 + given n Icmpv6Code)
+abbrev pub carried_checksum : ℕ → Transport → (Field → ℕ) → ℕ
+carried_checksum around Nothing v = 0
+carried_checksum around Tcp v = checksum_of (around + given v TcpSrc + given v TcpDst + 0x5000)
+carried_checksum around Udp v = never_zero (checksum_of (around + given v UdpSrc + given v UdpDst + 8))
+carried_checksum around Icmpv4 v = checksum_of (given v Icmpv4Type * 256 + given v Icmpv4Code)
+carried_checksum around Icmpv6 v = checksum_of (around + given v Icmpv6Type * 256 + given v Icmpv6Code)

@@ -11,36 +11,44 @@ use Rattle.of_shapes.specs.declared.shape.Tagging.{Tagging}
 use Rattle.of_shapes.specs.declared.shape.Tagging.TheVariants.{Untagged, Tagged}
 use Rattle.of_shapes.specs.Rules.{has_header, type_of, protocol_of}
 
+-- the numbers of a key, each by its field
+abbrev pub number : Numbers → Field → ℕ
+number n f = slice_index (numbers_in n) (number_of f)
+
+-- the values of a field map; 0 where a field is absent
+abbrev pub or_zero : (Field → Option ℕ) → Field → ℕ
+or_zero map f = unwrap_or (map f) 0
+
 -- the number that is given for a field, in the bits of the field
-abbrev pub given : Numbers → Field → ℕ
-given n f = slice_index (numbers_in n) (number_of f) % 2 ^ bits_of f
+abbrev pub given : (Field → ℕ) → Field → ℕ
+given v f = v f % 2 ^ bits_of f
 
 -- the type and the protocol: those that name the headers, if there are such, or else those that are given
-abbrev pub type_given : Shape → Numbers → ℕ
-type_given s n = unwrap_or (type_of s) (given n EthType)
+abbrev pub type_given : Shape → (Field → ℕ) → ℕ
+type_given s v = unwrap_or (type_of s) (given v EthType)
 
-abbrev pub protocol_given : Shape → Numbers → ℕ
-protocol_given s n = unwrap_or (protocol_of s) (given n IpProto)
+abbrev pub protocol_given : Shape → (Field → ℕ) → ℕ
+protocol_given s v = unwrap_or (protocol_of s) (given v IpProto)
 
 -- the VID of the tag: the low 12 bits of VLAN_VID
-abbrev pub vid_given : Numbers → ℕ
-vid_given n = n.vlan_vid % 4096
+abbrev pub vid_given : (Field → ℕ) → ℕ
+vid_given v = v VlanVid % 4096
 
 -- VLAN_VID is 0 without a tag; with one it has the bit OFPVID_PRESENT
-abbrev pub vlan_vid_given : Tagging → Numbers → ℕ
-vlan_vid_given Untagged n = 0
-vlan_vid_given Tagged n = 4096 + vid_given n
+abbrev pub vlan_vid_given : Tagging → (Field → ℕ) → ℕ
+vlan_vid_given Untagged v = 0
+vlan_vid_given Tagged v = 4096 + vid_given v
 
-abbrev pub vlan_pcp_given : Tagging → Numbers → Option ℕ
-vlan_pcp_given Untagged n = None
-vlan_pcp_given Tagged n = Some (given n VlanPcp)
+abbrev pub vlan_pcp_given : Tagging → (Field → ℕ) → Option ℕ
+vlan_pcp_given Untagged v = None
+vlan_pcp_given Tagged v = Some (given v VlanPcp)
 
 -- the fields of the frame, received at a port, with metadata
-abbrev pub fields_given : Shape → Tagging → Numbers → ℕ → ℕ → Field → Option ℕ
-fields_given s t n port metadata InPort = Some port
-fields_given s t n port metadata Metadata = Some metadata
-fields_given s t n port metadata VlanVid = Some (vlan_vid_given t n)
-fields_given s t n port metadata VlanPcp = vlan_pcp_given t n
-fields_given s t n port metadata EthType = Some (type_given s n)
-fields_given s t n port metadata IpProto = if has_header s needs.Ip then Some (protocol_given s n) else None
-fields_given s t n port metadata f = if has_header s (prerequisite_of f) then Some (given n f) else None
+abbrev pub fields_given : Shape → Tagging → (Field → ℕ) → ℕ → ℕ → Field → Option ℕ
+fields_given s t v port metadata InPort = Some port
+fields_given s t v port metadata Metadata = Some metadata
+fields_given s t v port metadata VlanVid = Some (vlan_vid_given t v)
+fields_given s t v port metadata VlanPcp = vlan_pcp_given t v
+fields_given s t v port metadata EthType = Some (type_given s v)
+fields_given s t v port metadata IpProto = if has_header s needs.Ip then Some (protocol_given s v) else None
+fields_given s t v port metadata f = if has_header s (prerequisite_of f) then Some (given v f) else None

@@ -4,7 +4,7 @@ use Rattle.of_layers.specs.declared.field.Field.TheVariants.{EthDst, EthSrc, Vla
 use Rattle.of_layers.specs.declared.transport.Transport.{Transport}
 use Rattle.of_layers.specs.declared.transport.Transport.TheVariants.{Nothing, Tcp, Udp, Icmpv4, Icmpv6}
 use Rattle.of_layers.specs.Layers.{Carried, Body, Plain, Arp, Ipv4, Ipv6, Layers, cells}
-use Rattle.of_headers.specs.declared.numbers.Numbers.{Numbers}
+use Rattle.of_layers.specs.declared.field.Field.{Field}
 use Rattle.of_rewrite.specs.Frames.{bytes_in}
 use Rattle.of_shapes.specs.declared.shape.Shape.{Shape}
 use Rattle.of_shapes.specs.declared.shape.Shape.TheVariants as shapes
@@ -13,33 +13,33 @@ use Rattle.of_shapes.specs.declared.shape.Tagging.TheVariants.{Untagged, Tagged}
 use Rattle.of_frames.specs.Given.{given, type_given, vid_given}
 use Rattle.of_frames.specs.Checksums.{checksum_of, protocol_with, size_with, header_sum, ipv4_sum, ipv6_sum, carried_checksum}
 
-abbrev pub ends_given : Numbers → List ℕ
-ends_given n = given n EthDst ∷ given n EthSrc ∷ []
+abbrev pub ends_given : (Field → ℕ) → List ℕ
+ends_given v = given v EthDst ∷ given v EthSrc ∷ []
 
 -- a customer tag (IEEE 802.1Q, 9.5): type, PCP, DEI, VID
-abbrev pub tags_given : Tagging → Numbers → List (List ℕ)
-tags_given Untagged n = []
-tags_given Tagged n = (0x8100 ∷ given n VlanPcp ∷ 0 ∷ vid_given n ∷ []) ∷ []
+abbrev pub tags_given : Tagging → (Field → ℕ) → List (List ℕ)
+tags_given Untagged v = []
+tags_given Tagged v = (0x8100 ∷ given v VlanPcp ∷ 0 ∷ vid_given v ∷ []) ∷ []
 
 -- ARP for Ethernet and IPv4 (RFC 826)
-abbrev pub arp_given : Numbers → List ℕ
-arp_given n = 1 ∷ 0x0800 ∷ 6 ∷ 4 ∷ given n ArpOp ∷ given n ArpSha ∷ given n ArpSpa ∷ given n ArpTha ∷ given n ArpTpa ∷ []
+abbrev pub arp_given : (Field → ℕ) → List ℕ
+arp_given v = 1 ∷ 0x0800 ∷ 6 ∷ 4 ∷ given v ArpOp ∷ given v ArpSha ∷ given v ArpSpa ∷ given v ArpTha ∷ given v ArpTpa ∷ []
 
 -- without options, in one fragment
-abbrev pub ipv4_given : Transport → Numbers → List ℕ
-ipv4_given k n = 4 ∷ 5 ∷ given n IpDscp ∷ given n IpEcn ∷ (20 + size_with k) ∷ 0 ∷ 0 ∷ 0 ∷ 64 ∷ protocol_with k n ∷ checksum_of (header_sum k n) ∷ given n Ipv4Src ∷ given n Ipv4Dst ∷ []
+abbrev pub ipv4_given : Transport → (Field → ℕ) → List ℕ
+ipv4_given k v = 4 ∷ 5 ∷ given v IpDscp ∷ given v IpEcn ∷ (20 + size_with k) ∷ 0 ∷ 0 ∷ 0 ∷ 64 ∷ protocol_with k v ∷ checksum_of (header_sum k v) ∷ given v Ipv4Src ∷ given v Ipv4Dst ∷ []
 
 -- without extension headers
-abbrev pub ipv6_given : Transport → Numbers → List ℕ
-ipv6_given k n = 6 ∷ given n IpDscp ∷ given n IpEcn ∷ given n Ipv6Flabel ∷ size_with k ∷ protocol_with k n ∷ 64 ∷ given n Ipv6Src ∷ given n Ipv6Dst ∷ []
+abbrev pub ipv6_given : Transport → (Field → ℕ) → List ℕ
+ipv6_given k v = 6 ∷ given v IpDscp ∷ given v IpEcn ∷ given v Ipv6Flabel ∷ size_with k ∷ protocol_with k v ∷ 64 ∷ given v Ipv6Src ∷ given v Ipv6Dst ∷ []
 
 -- TCP: a header of five words of 32 bits without flags; UDP: a length of 8
-abbrev pub numbers_given : Transport → Numbers → ℕ → List ℕ
-numbers_given Nothing n sum = []
-numbers_given Tcp n sum = given n TcpSrc ∷ given n TcpDst ∷ 0 ∷ 0 ∷ 0x5000 ∷ 0 ∷ sum ∷ 0 ∷ []
-numbers_given Udp n sum = given n UdpSrc ∷ given n UdpDst ∷ 8 ∷ sum ∷ []
-numbers_given Icmpv4 n sum = given n Icmpv4Type ∷ given n Icmpv4Code ∷ sum ∷ []
-numbers_given Icmpv6 n sum = given n Icmpv6Type ∷ given n Icmpv6Code ∷ sum ∷ []
+abbrev pub numbers_given : Transport → (Field → ℕ) → ℕ → List ℕ
+numbers_given Nothing v sum = []
+numbers_given Tcp v sum = given v TcpSrc ∷ given v TcpDst ∷ 0 ∷ 0 ∷ 0x5000 ∷ 0 ∷ sum ∷ 0 ∷ []
+numbers_given Udp v sum = given v UdpSrc ∷ given v UdpDst ∷ 8 ∷ sum ∷ []
+numbers_given Icmpv4 v sum = given v Icmpv4Type ∷ given v Icmpv4Code ∷ sum ∷ []
+numbers_given Icmpv6 v sum = given v Icmpv6Type ∷ given v Icmpv6Code ∷ sum ∷ []
 
 -- the other four bytes of a header of ICMP (RFC 792; RFC 4443, 2.1)
 abbrev pub bytes_behind : Transport → List ℕ
@@ -49,33 +49,33 @@ bytes_behind Udp = []
 bytes_behind Icmpv4 = 0 ∷ 0 ∷ 0 ∷ 0 ∷ []
 bytes_behind Icmpv6 = 0 ∷ 0 ∷ 0 ∷ 0 ∷ []
 
-abbrev pub carried_given : Transport → Numbers → ℕ → Carried
-carried_given k n sum = record { kind = k; numbers = numbers_given k n sum; rest = bytes_behind k }
+abbrev pub carried_given : Transport → (Field → ℕ) → ℕ → Carried
+carried_given k v sum = record { kind = k; numbers = numbers_given k v sum; rest = bytes_behind k }
 
-abbrev pub over_ipv4 : Transport → Numbers → Body
-over_ipv4 k n = Ipv4 (ipv4_given k n) [] (carried_given k n (carried_checksum (ipv4_sum k n) k n)) []
+abbrev pub over_ipv4 : Transport → (Field → ℕ) → Body
+over_ipv4 k v = Ipv4 (ipv4_given k v) [] (carried_given k v (carried_checksum (ipv4_sum k v) k v)) []
 
-abbrev pub over_ipv6 : Transport → Numbers → Body
-over_ipv6 k n = Ipv6 (ipv6_given k n) [] (carried_given k n (carried_checksum (ipv6_sum k n) k n)) []
+abbrev pub over_ipv6 : Transport → (Field → ℕ) → Body
+over_ipv6 k v = Ipv6 (ipv6_given k v) [] (carried_given k v (carried_checksum (ipv6_sum k v) k v)) []
 
-abbrev pub body_given : Shape → Numbers → Body
-body_given shapes.Bare n = Plain []
-body_given shapes.Arp n = Arp (arp_given n) []
-body_given shapes.Ipv4 n = over_ipv4 Nothing n
-body_given shapes.Ipv4Tcp n = over_ipv4 Tcp n
-body_given shapes.Ipv4Udp n = over_ipv4 Udp n
-body_given shapes.Ipv4Icmp n = over_ipv4 Icmpv4 n
-body_given shapes.Ipv6 n = over_ipv6 Nothing n
-body_given shapes.Ipv6Tcp n = over_ipv6 Tcp n
-body_given shapes.Ipv6Udp n = over_ipv6 Udp n
-body_given shapes.Ipv6Icmp n = over_ipv6 Icmpv6 n
+abbrev pub body_given : Shape → (Field → ℕ) → Body
+body_given shapes.Bare v = Plain []
+body_given shapes.Arp v = Arp (arp_given v) []
+body_given shapes.Ipv4 v = over_ipv4 Nothing v
+body_given shapes.Ipv4Tcp v = over_ipv4 Tcp v
+body_given shapes.Ipv4Udp v = over_ipv4 Udp v
+body_given shapes.Ipv4Icmp v = over_ipv4 Icmpv4 v
+body_given shapes.Ipv6 v = over_ipv6 Nothing v
+body_given shapes.Ipv6Tcp v = over_ipv6 Tcp v
+body_given shapes.Ipv6Udp v = over_ipv6 Udp v
+body_given shapes.Ipv6Icmp v = over_ipv6 Icmpv6 v
 
-abbrev pub layers_given : Shape → Tagging → Numbers → Layers
-layers_given s t n = record { ends = ends_given n; tags = tags_given t n; type = type_given s n; body = body_given s n }
+abbrev pub layers_given : Shape → Tagging → (Field → ℕ) → Layers
+layers_given s t v = record { ends = ends_given v; tags = tags_given t v; type = type_given s v; body = body_given s v }
 
 -- its bytes
-unfoldable pub frame_given : Shape → Tagging → Numbers → List ℕ
-frame_given s t n = bytes_in (cells (layers_given s t n))
+unfoldable pub frame_given : Shape → Tagging → (Field → ℕ) → List ℕ
+frame_given s t v = bytes_in (cells (layers_given s t v))
 
 -- how many there are
 abbrev pub body_size : Shape → ℕ

@@ -3,30 +3,28 @@ ghost use Rattle.std.specs.Prelude.{◌≡◌, ℕ, Option, Some, length};
 ghost use Rattle.of_layers.specs.declared.field.Field.{Field};
 ghost use Rattle.of_layers.specs.declared.field.Field.TheVariants.{InPort, Metadata};
 ghost use Rattle.of_layers.specs.Reading.{layers_of};
-ghost use Rattle.of_headers.specs.declared.key.FieldKey.{FieldKey};
-ghost use Rattle.of_headers.specs.declared.numbers.Numbers.{Numbers};
-ghost use Rattle.of_headers.specs.FieldMap.{field_map, value};
+ghost use Rattle.of_headers.specs.FieldMap.{field_map};
 ghost use Rattle.of_rewrite.specs.Frames.{IsFrame};
 ghost use Rattle.of_shapes.specs.declared.shape.Shape.{Shape};
 ghost use Rattle.of_shapes.specs.declared.shape.Tagging.{Tagging};
-ghost use Rattle.of_frames.specs.Given.{fields_given};
+ghost use Rattle.of_frames.specs.Given.{fields_given, or_zero};
 ghost use Rattle.of_frames.specs.Knowing.{IsAmong, IsKnown};
 ghost use Rattle.of_frames.specs.Packets.{frame_given, frame_size, layers_given};
 
 /// The frame with given fields is a frame, and when it is read it has these fields: each field of its shape and of its tag with the number that was
 /// given, and no other field (OpenFlow 1.3.5, 7.2.3.7).
 pub fn frames_have_their_fields()
-    ensures frame { (s : Shape) (t : Tagging) (n : Numbers) → IsFrame (frame_given s t n) }
-    ensures size { (s : Shape) (t : Tagging) (n : Numbers) → length (frame_given s t n) ≡ frame_size s t }
-    ensures layers { (s : Shape) (t : Tagging) (n : Numbers) → layers_of (frame_given s t n) ≡ layers_given s t n }
-    ensures fields { (s : Shape) (t : Tagging) (n : Numbers) (port metadata : ℕ) →
-        field_map (layers_of (frame_given s t n)) port metadata ≡ fields_given s t n port metadata }
+    ensures frame { (s : Shape) (t : Tagging) (v : Field → ℕ) → IsFrame (frame_given s t v) }
+    ensures size { (s : Shape) (t : Tagging) (v : Field → ℕ) → length (frame_given s t v) ≡ frame_size s t }
+    ensures layers { (s : Shape) (t : Tagging) (v : Field → ℕ) → layers_of (frame_given s t v) ≡ layers_given s t v }
+    ensures fields { (s : Shape) (t : Tagging) (v : Field → ℕ) (port metadata : ℕ) →
+        field_map (layers_of (frame_given s t v)) port metadata ≡ fields_given s t v port metadata }
 {}
 
 /// If what is known of packets has a shape and a tagging, then there is such a packet: the frame with the bits that are known, and zeros for those that
 /// are not, at the port and with the metadata of that kind.
 pub fn known_packets_have_frames()
-    ensures { (s : Shape) (t : Tagging) (mask : Field → Option ℕ) (known : FieldKey) (port metadata : ℕ) → IsKnown s t mask (value known) →
-        value known InPort ≡ Some port → value known Metadata ≡ Some metadata →
-        IsAmong mask (value known) (field_map (layers_of (frame_given s t known.numbers)) port metadata) }
+    ensures { (s : Shape) (t : Tagging) (mask known : Field → Option ℕ) (port metadata : ℕ) → IsKnown s t mask known →
+        known InPort ≡ Some port → known Metadata ≡ Some metadata →
+        IsAmong mask known (field_map (layers_of (frame_given s t (or_zero known))) port metadata) }
 {}

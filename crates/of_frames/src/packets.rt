@@ -5,6 +5,7 @@ ghost use Rattle.of_layers.specs.Layers.{addresses, arp, body_cells, carried_cel
 ghost use Rattle.of_layers.specs.declared.field.Field.TheVariants.{IpProto};
 ghost use Rattle.of_layers.specs.declared.transport.Transport.TheVariants.{Tcp, Udp};
 ghost use Rattle.of_frames.specs.Adding.{Adds};
+ghost use Rattle.of_frames.specs.Given.{number};
 ghost use Rattle.of_frames.specs.Packets.{arp_given, body_given, carried_given, ends_given, ipv4_given, ipv6_given, over_ipv4, over_ipv6, tags_given};
 
 use crate::bits::{push_address, push_byte, push_double, push_sixteen, push_word};
@@ -22,7 +23,7 @@ const TTL: u8 = 64;
 
 /// Appends the addresses (IEEE 802.3, 3.1.1).
 pub fn push_ends(out: &mut Vec<u8>, numbers: &Numbers) -> Result<(), AllocError>
-    ensures { OnOk result (Adds out.old.items out.new.items (encoded (cells_in addresses (ends_given numbers.now)))) }
+    ensures { OnOk result (Adds out.old.items out.new.items (encoded (cells_in addresses (ends_given (number numbers.now))))) }
 {
     push_address(out, numbers.eth_dst % ADDRESSES)?;
     push_address(out, numbers.eth_src % ADDRESSES)?;
@@ -31,7 +32,7 @@ pub fn push_ends(out: &mut Vec<u8>, numbers: &Numbers) -> Result<(), AllocError>
 
 // Appends a customer tag (IEEE 802.1Q, 9.5).
 fn push_one_tag(out: &mut Vec<u8>, numbers: &Numbers) -> Result<(), AllocError>
-    ensures { OnOk result (Adds out.old.items out.new.items (encoded (tag_cells (tags_given Tagged numbers.now)))) }
+    ensures { OnOk result (Adds out.old.items out.new.items (encoded (tag_cells (tags_given Tagged (number numbers.now))))) }
 {
     let control = (numbers.vlan_pcp % 8) as u16 * 0x2000 + numbers.vlan_vid % 0x1000;
     push_word(out, 0x8100)?;
@@ -45,7 +46,7 @@ pub fn push_tags(
     tagging: Tagging,
     numbers: &Numbers,
 ) -> Result<(), AllocError>
-    ensures { OnOk result (Adds out.old.items out.new.items (encoded (tag_cells (tags_given tagging numbers.now)))) }
+    ensures { OnOk result (Adds out.old.items out.new.items (encoded (tag_cells (tags_given tagging (number numbers.now))))) }
 {
     match tagging {
         Tagging::Untagged => Ok(()),
@@ -55,7 +56,7 @@ pub fn push_tags(
 
 // Appends ARP for Ethernet and IPv4 (RFC 826).
 fn push_arp(out: &mut Vec<u8>, numbers: &Numbers) -> Result<(), AllocError>
-    ensures { OnOk result (Adds out.old.items out.new.items (encoded (cells_in arp (arp_given numbers.now)))) }
+    ensures { OnOk result (Adds out.old.items out.new.items (encoded (cells_in arp (arp_given (number numbers.now))))) }
 {
     push_word(out, 1)?;
     push_word(out, 0x0800)?;
@@ -71,7 +72,7 @@ fn push_arp(out: &mut Vec<u8>, numbers: &Numbers) -> Result<(), AllocError>
 
 // Appends a TCP header without options (RFC 9293, 3.1).
 fn push_tcp(out: &mut Vec<u8>, numbers: &Numbers, checksum: u16) -> Result<(), AllocError>
-    ensures { OnOk result (Adds out.old.items out.new.items (encoded (carried_cells (carried_given Tcp numbers.now checksum)))) }
+    ensures { OnOk result (Adds out.old.items out.new.items (encoded (carried_cells (carried_given Tcp (number numbers.now) checksum)))) }
 {
     push_word(out, numbers.tcp_src)?;
     push_word(out, numbers.tcp_dst)?;
@@ -86,7 +87,7 @@ fn push_tcp(out: &mut Vec<u8>, numbers: &Numbers, checksum: u16) -> Result<(), A
 
 // Appends a UDP header (RFC 768).
 fn push_udp(out: &mut Vec<u8>, numbers: &Numbers, checksum: u16) -> Result<(), AllocError>
-    ensures { OnOk result (Adds out.old.items out.new.items (encoded (carried_cells (carried_given Udp numbers.now checksum)))) }
+    ensures { OnOk result (Adds out.old.items out.new.items (encoded (carried_cells (carried_given Udp (number numbers.now) checksum)))) }
 {
     push_word(out, numbers.udp_src)?;
     push_word(out, numbers.udp_dst)?;
@@ -113,7 +114,7 @@ fn push_carried(
     numbers: &Numbers,
     checksum: u16,
 ) -> Result<(), AllocError>
-    ensures { OnOk result (Adds out.old.items out.new.items (encoded (carried_cells (carried_given kind numbers.now checksum)))) }
+    ensures { OnOk result (Adds out.old.items out.new.items (encoded (carried_cells (carried_given kind (number numbers.now) checksum)))) }
 {
     match kind {
         Transport::Nothing => Ok(()),
@@ -130,7 +131,7 @@ fn push_ipv4_header(
     kind: Transport,
     numbers: &Numbers,
 ) -> Result<(), AllocError>
-    ensures { OnOk result (Adds out.old.items out.new.items (encoded (cells_in ipv4 (ipv4_given kind numbers.now)))) }
+    ensures { OnOk result (Adds out.old.items out.new.items (encoded (cells_in ipv4 (ipv4_given kind (number numbers.now))))) }
 {
     push_byte(out, 0x45)?;
     push_byte(out, service_of(numbers))?;
@@ -146,7 +147,7 @@ fn push_ipv4_header(
 
 // Appends an IPv4 packet.
 fn push_ipv4(out: &mut Vec<u8>, kind: Transport, numbers: &Numbers) -> Result<(), AllocError>
-    ensures { OnOk result (Adds out.old.items out.new.items (encoded (body_cells (over_ipv4 kind numbers.now)))) }
+    ensures { OnOk result (Adds out.old.items out.new.items (encoded (body_cells (over_ipv4 kind (number numbers.now))))) }
 {
     let checksum = carried_checksum(ipv4_sum(kind, numbers), kind, numbers);
     push_ipv4_header(out, kind, numbers)?;
@@ -160,7 +161,7 @@ fn push_ipv6_header(
     kind: Transport,
     numbers: &Numbers,
 ) -> Result<(), AllocError>
-    ensures { OnOk result (Adds out.old.items out.new.items (encoded (cells_in (ipv6 (named IpProto 8)) (ipv6_given kind numbers.now)))) }
+    ensures { OnOk result (Adds out.old.items out.new.items (encoded (cells_in (ipv6 (named IpProto 8)) (ipv6_given kind (number numbers.now))))) }
 {
     let class = 6 * 256 + service_of(numbers) as u32;
     push_double(out, class * 0x10_0000 + numbers.ipv6_flabel % 0x10_0000)?;
@@ -174,7 +175,7 @@ fn push_ipv6_header(
 
 // Appends an IPv6 packet.
 fn push_ipv6(out: &mut Vec<u8>, kind: Transport, numbers: &Numbers) -> Result<(), AllocError>
-    ensures { OnOk result (Adds out.old.items out.new.items (encoded (body_cells (over_ipv6 kind numbers.now)))) }
+    ensures { OnOk result (Adds out.old.items out.new.items (encoded (body_cells (over_ipv6 kind (number numbers.now))))) }
 {
     let checksum = carried_checksum(ipv6_sum(kind, numbers), kind, numbers);
     push_ipv6_header(out, kind, numbers)?;
@@ -184,7 +185,7 @@ fn push_ipv6(out: &mut Vec<u8>, kind: Transport, numbers: &Numbers) -> Result<()
 
 /// Appends what comes after the type.
 pub fn push_body(out: &mut Vec<u8>, shape: Shape, numbers: &Numbers) -> Result<(), AllocError>
-    ensures { OnOk result (Adds out.old.items out.new.items (encoded (body_cells (body_given shape numbers.now)))) }
+    ensures { OnOk result (Adds out.old.items out.new.items (encoded (body_cells (body_given shape (number numbers.now))))) }
 {
     match shape {
         Shape::Bare => Ok(()),

@@ -1,6 +1,7 @@
 //! Checksums (RFC 1071, 1) of the headers of a frame with given fields.
 ghost use Rattle.std.specs.Prelude.{◌≡◌, ◌≤◌, ◌<◌, ◌/◌, ◌%◌, ◌^◌};
 ghost use Rattle.of_rewrite.specs.Checksum.{never_zero as never_zero_of};
+ghost use Rattle.of_frames.specs.Given.{number};
 ghost use Rattle.of_frames.specs.Checksums.{carried_checksum as carried_checksum_of, checksum_of, header_sum, ipv4_sum as ipv4_sum_of, ipv6_sum as ipv6_sum_of, protocol_with, service_given, size_with, word_sum};
 
 use of_headers::{Numbers, Transport};
@@ -8,7 +9,7 @@ use of_headers::{Numbers, Transport};
 /// The protocol (IANA, Protocol Numbers): that of the header that an IP packet carries, or else the one that is given.
 #[tactic(auto, unfolding(of_layers::specs::Fields::row_of))]
 pub fn protocol_of(kind: Transport, numbers: &Numbers) -> u8
-    ensures { result ≡ protocol_with kind numbers.now }
+    ensures { result ≡ protocol_with kind (number numbers.now) }
 {
     match kind {
         Transport::Nothing => numbers.ip_proto,
@@ -34,7 +35,7 @@ pub fn size_of(kind: Transport) -> u16
 /// DSCP and ECN in one byte.
 #[tactic(auto, unfolding(of_layers::specs::Fields::row_of))]
 pub fn service_of(numbers: &Numbers) -> u8
-    ensures { result ≡ service_given numbers.now }
+    ensures { result ≡ service_given (number numbers.now) }
 {
     (numbers.ip_dscp % 64) * 4 + numbers.ip_ecn % 4
 }
@@ -51,12 +52,12 @@ fn checksum(sum: u32) -> u16
 }
 
 // The word of a number above so many bits.
-fn word_above(number: u128, bits: u32) -> u32
+fn word_above(value: u128, bits: u32) -> u32
     requires { bits < 128 }
-    ensures word { result ≡ number / 2 ^ bits % 65536 }
+    ensures word { result ≡ value / 2 ^ bits % 65536 }
     ensures small { result < 65536 }
 {
-    ((number >> bits) % 0x1_0000) as u32
+    ((value >> bits) % 0x1_0000) as u32
 }
 
 // The sum of the words of four bytes.
@@ -68,23 +69,23 @@ fn sum_of_double(double: u32) -> u32
 }
 
 // The sum of the words of sixteen bytes.
-fn sum_of_sixteen(number: u128) -> u32
-    ensures sum { result ≡ word_sum 8 number }
+fn sum_of_sixteen(value: u128) -> u32
+    ensures sum { result ≡ word_sum 8 value }
     ensures small { result ≤ 524280 }
 {
-    word_above(number, 112)
-        + (word_above(number, 96)
-            + (word_above(number, 80)
-                + (word_above(number, 64)
-                    + (word_above(number, 48)
-                        + (word_above(number, 32)
-                            + (word_above(number, 16) + word_above(number, 0)))))))
+    word_above(value, 112)
+        + (word_above(value, 96)
+            + (word_above(value, 80)
+                + (word_above(value, 64)
+                    + (word_above(value, 48)
+                        + (word_above(value, 32)
+                            + (word_above(value, 16) + word_above(value, 0)))))))
 }
 
 /// The checksum of an IPv4 header without options (RFC 791, 3.1).
 #[tactic(auto, unfolding(of_layers::specs::Fields::row_of))]
 pub fn header_checksum(kind: Transport, numbers: &Numbers) -> u16
-    ensures { result ≡ checksum_of (header_sum kind numbers.now) }
+    ensures { result ≡ checksum_of (header_sum kind (number numbers.now)) }
 {
     checksum(
         0x4500
@@ -99,7 +100,7 @@ pub fn header_checksum(kind: Transport, numbers: &Numbers) -> u16
 /// The sum of what TCP and UDP take in of an IPv4 packet beside their own headers (RFC 9293, 3.1; RFC 768).
 #[tactic(auto, unfolding(of_layers::specs::Fields::row_of))]
 pub fn ipv4_sum(kind: Transport, numbers: &Numbers) -> u32
-    ensures sum { result ≡ ipv4_sum_of kind numbers.now }
+    ensures sum { result ≡ ipv4_sum_of kind (number numbers.now) }
     ensures small { result < 2 ^ 24 }
 {
     sum_of_double(numbers.ipv4_src)
@@ -111,7 +112,7 @@ pub fn ipv4_sum(kind: Transport, numbers: &Numbers) -> u32
 /// The same of an IPv6 packet (RFC 8200, 8.1).
 #[tactic(auto, unfolding(of_layers::specs::Fields::row_of))]
 pub fn ipv6_sum(kind: Transport, numbers: &Numbers) -> u32
-    ensures sum { result ≡ ipv6_sum_of kind numbers.now }
+    ensures sum { result ≡ ipv6_sum_of kind (number numbers.now) }
     ensures small { result < 2 ^ 24 }
 {
     sum_of_sixteen(numbers.ipv6_src)
@@ -131,7 +132,7 @@ fn never_zero(checksum: u16) -> u16
 #[tactic(auto, unfolding(of_layers::specs::Fields::row_of))]
 pub fn carried_checksum(around: u32, kind: Transport, numbers: &Numbers) -> u16
     requires { around < 2 ^ 24 }
-    ensures { result ≡ carried_checksum_of around kind numbers.now }
+    ensures { result ≡ carried_checksum_of around kind (number numbers.now) }
 {
     match kind {
         Transport::Nothing => 0,

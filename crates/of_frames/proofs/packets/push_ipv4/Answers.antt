@@ -2,12 +2,13 @@ use Rattle.std.proofs.Common.{ℕ, ◌∙◌, ap, subst}
 use Rattle.of_layers.specs.Layers.{carried_cells, encoded}
 use Rattle.of_frames.specs.Adding.{Adds}
 use Rattle.of_frames.specs.Checksums.{carried_checksum}
+use Rattle.of_frames.specs.Given.{number}
 use Rattle.of_frames.specs.Packets.{carried_given, ipv4_given}
 use Rattle.of_frames.proofs.AddingLemmas.{same, ipv4_packet}
 use Rattle.of_frames.proofs.packets.push_ipv4.Goals as goal
 
 pub returns : goal.returns
 returns c =
-    let n = c.args.numbers.now in
-    ipv4_packet (ipv4_given c.args.kind n) _ c.in_ok-push_ipv4_header.ensures
-    (same _ (ap (λ (sum : ℕ). encoded (carried_cells (carried_given c.args.kind n sum))) (c.carried_checksum-checksum.ensures ∙ ap (λ (around : ℕ). carried_checksum around c.args.kind n) c.ipv4_sum.ensures.sum)) c.in_ok-push_carried.ensures)
+    let v = number c.args.numbers.now in
+    ipv4_packet (ipv4_given c.args.kind v) _ c.in_ok-push_ipv4_header.ensures
+    (same _ (ap (λ (sum : ℕ). encoded (carried_cells (carried_given c.args.kind v sum))) (c.carried_checksum-checksum.ensures ∙ ap (λ (around : ℕ). carried_checksum around c.args.kind v) c.ipv4_sum.ensures.sum)) c.in_ok-push_carried.ensures)

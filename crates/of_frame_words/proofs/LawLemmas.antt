@@ -1,0 +1,114 @@
+-- The frames that words say have what the words say.
+use Rattle.std.proofs.Common.{◌≡◌, ℕ, ◌+◌, ◌%◌, ◌^◌, Bool, true, false, cond, not, ◌&&◌, List, [], ◌∷◌, Option, Some, None, Result, Ok, Err, refl, sym, ap, ◌∙◌, arith, subst, inl, inr}
+use Rattle.std.specs.Prelude.{◌||◌, ◌==◌, find, unwrap_or}
+use Rattle.std.specs.List.{list_all, list_any}
+use Rattle.of_layers.specs.declared.field.Field.{Field}
+use Rattle.of_layers.specs.declared.field.Field.TheVariants.{InPort, Metadata, EthType, VlanVid, VlanPcp, IpProto}
+use Rattle.of_layers.specs.declared.field.Prerequisite.TheVariants as needs
+use Rattle.of_layers.specs.Fields.{row_of, number_of, bits_of, prerequisite_of}
+use Rattle.of_shapes.specs.declared.shape.Shape.{Shape}
+use Rattle.of_shapes.specs.declared.shape.Shape.TheVariants as shapes
+use Rattle.of_shapes.specs.declared.shape.Tagging.{Tagging}
+use Rattle.of_shapes.specs.declared.shape.Tagging.TheVariants.{Untagged, Tagged}
+use Rattle.of_shapes.specs.Rules.{has_header, protocol_of, type_of}
+use Rattle.of_frames.specs.Given.{given, or_zero, fields_given, vlan_vid_given, vlan_pcp_given}
+use Rattle.of_frames.proofs.FrameLemmas.{given_fields, given_frame}
+use Rattle.of_oxm.specs.declared.match_field.MatchField.{MatchField}
+use Rattle.of_oxm.specs.Relations.{agrees, matches_map}
+use Rattle.of_ovs_words.specs.Outcomes.{◌>>=◌}
+use Rattle.of_ovs_words.specs.Words.{words_from}
+use Rattle.of_frame_words.specs.Frames.{ReceivedFrame, Has, IsDefault, at_port, with_setting, set_by, shape_by, tagging_by, received_by, received, map_of, missed, unless_missed, checked, frame_in, is_unsaid}
+use Rattle.of_frame_words.specs.Said.{WordRefusal, with_words}
+
+-- ---- settings that are all had
+
+all_by : {A : Type 0} (t : Bool) (x : A) (rest : Option A) (all : Bool) → cond (not t) (Some x) rest ≡ None → (rest ≡ None → all ≡ true) → (t && all) ≡ true
+all_by true x rest all e g = g e
+all_by false x rest all e g = absurd cc
+
+none_missed : (settings : List MatchField) (map : Field → Option ℕ) → missed settings map ≡ None → matches_map settings map ≡ true
+none_missed [] map e = refl
+none_missed (x ∷ settings) map e = all_by (agrees x (map x.field)) x (missed settings map) (matches_map settings map) e (none_missed settings map)
+
+-- ---- fields of which nothing is said
+
+parts : (a b : Bool) → not (a || b) ≡ true → (a ≡ false) × (not b ≡ true)
+parts true b e = absurd cc
+parts false b e = (refl, e)
+
+kept_by : (t : Bool) (x o : Option ℕ) → t ≡ false → cond t x o ≡ o
+kept_by true x o e = absurd cc
+kept_by false x o e = refl
+
+unset : (settings : List MatchField) (map : Field → Option ℕ) (f : Field) → is_unsaid settings f ≡ true → set_by settings map f ≡ map f
+unset [] map f e = refl
+unset (x ∷ settings) map f e =
+    let p = parts (number_of f == number_of x.field) (list_any (λ e. number_of f == number_of e.field) settings) e in
+    unset settings (with_setting x map) f p.1 ∙ kept_by (number_of f == number_of x.field) _ (map f) p.0
+
+at_other : (port : ℕ) (f : Field) → (number_of f == number_of InPort) ≡ false → at_port port f ≡ None
+unfolding row_of
+at_other port f = elim f as (λ f. (number_of f == number_of InPort) ≡ false → at_port port f ≡ None) [ InPort ↦ λ e. absurd cc | _ ↦ λ e. refl ]
+
+unsaid_zero : (port : ℕ) (settings : List MatchField) (f : Field) → is_unsaid settings f ≡ true → (number_of f == number_of InPort) ≡ false → or_zero (set_by settings (at_port port)) f ≡ 0
+unsaid_zero port settings f u e = ap (λ (o : Option ℕ). unwrap_or o 0) (unset settings (at_port port) f u ∙ at_other port f e)
+
+-- ---- fields whose number is 0
+
+default_by : (b : Bool) (x : ℕ) → x ≡ 0 → IsDefault (cond b (Some x) None)
+default_by true x z = inr (ap Some z)
+default_by false x z = inl refl
+
+pcp_default : (t : Tagging) (v : Field → ℕ) → v VlanPcp ≡ 0 → IsDefault (vlan_pcp_given t v)
+unfolding row_of
+pcp_default Untagged v z = inl refl
+pcp_default Tagged v z = inr (ap (λ (x : ℕ). Some (x % 8)) z)
+
+abbrev protocol_field : Shape → ℕ → Option ℕ
+protocol_field s x = cond (has_header s needs.Ip) (Some (unwrap_or (protocol_of s) (x % 256))) None
+
+protocol_by : (a b c : Bool) → IsDefault (protocol_field (cond a shapes.Arp (cond b shapes.Ipv4 (cond c shapes.Ipv6 shapes.Bare))) 0)
+protocol_by true b c = inl refl
+protocol_by false true c = inr refl
+protocol_by false false true = inr refl
+protocol_by false false false = inl refl
+
+protocol_default : (type p : ℕ) → p ≡ 0 → IsDefault (protocol_field (shape_by type p) p)
+protocol_default type p z = subst (λ (x : ℕ). IsDefault (protocol_field (shape_by type x) x)) (sym z) (protocol_by (type == 0x0806) (type == 0x0800) (type == 0x86dd))
+
+defaults : (v : Field → ℕ) (port : ℕ) (f : Field) → v f ≡ 0 → (number_of f == number_of InPort) ≡ false → IsDefault (fields_given (shape_by (v EthType) (v IpProto)) (tagging_by (v VlanVid)) v port 0 f)
+unfolding row_of
+defaults v port f = elim f as (λ f. v f ≡ 0 → (number_of f == number_of InPort) ≡ false → IsDefault (fields_given (shape_by (v EthType) (v IpProto)) (tagging_by (v VlanVid)) v port 0 f)) [
+  | InPort ↦ λ z e. absurd cc
+  | Metadata ↦ λ z e. inr refl
+  | VlanVid ↦ λ z e. inr (ap (λ (x : ℕ). Some (vlan_vid_given (tagging_by x) v)) z)
+  | VlanPcp ↦ λ z e. pcp_default (tagging_by (v VlanVid)) v z
+  | EthType ↦ λ z e. inr (ap (λ (x : ℕ). Some (unwrap_or (type_of (shape_by x (v IpProto))) (x % 65536))) z)
+  | IpProto ↦ λ z e. protocol_default (v EthType) (v IpProto) z
+  | f ↦ λ z e. default_by (has_header (shape_by (v EthType) (v IpProto)) (prerequisite_of f)) (given v f) (ap (λ (x : ℕ). x % 2 ^ bits_of f) z)
+]
+
+map_is : (v : Field → ℕ) (f : Field) → map_of (received_by v) f ≡ fields_given (shape_by (v EthType) (v IpProto)) (tagging_by (v VlanVid)) v (v InPort) 0 f
+map_is v f = ap (λ (map : Field → Option ℕ). map f) (given_fields (shape_by (v EthType) (v IpProto)) (tagging_by (v VlanVid)) v (v InPort) 0)
+
+-- ---- the whole
+
+unless_ok : (settings : List MatchField) (r s : ReceivedFrame) (o : Option MatchField) → unless_missed settings r o ≡ Ok s → (o ≡ None) × (r ≡ s)
+unless_ok settings r s None e = (refl, same r s e)
+  where
+    same : (r s : ReceivedFrame) → ◌≡◌ {A = Result ReceivedFrame WordRefusal} (Ok r) (Ok s) → r ≡ s
+    same r s e = cc
+unless_ok settings r s (Some x) e = absurd cc
+
+pub has_what_is_said : (port : ℕ) (text : List ℕ) (settings : List MatchField) (r : ReceivedFrame) → with_words [] (words_from 0 text) ≡ Ok settings → frame_in port text ≡ Ok r → Has port settings r
+unfolding frame_in
+has_what_is_said port text settings r w e =
+    let v = or_zero (set_by settings (at_port port)) in
+    let here : checked settings (received port settings) ≡ Ok r = sym (ap (λ x. x >>= λ settings. checked settings (received port settings)) w) ∙ e in
+    let ok = unless_ok settings (received port settings) r (missed settings (map_of (received port settings))) here in
+    subst (Has port settings) ok.1 (record {
+      frame = given_frame (shape_by (v EthType) (v IpProto)) (tagging_by (v VlanVid)) v;
+      said = none_missed settings (map_of (received port settings)) ok.0;
+      others = λ f u i. subst IsDefault (sym (map_is v f)) (defaults v (v InPort) f (unsaid_zero port settings f u i) i);
+      port_is = λ u. ap (λ (o : Option ℕ). unwrap_or o 0) (unset settings (at_port port) InPort u);
+    })

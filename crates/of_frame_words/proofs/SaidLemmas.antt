@@ -1,0 +1,52 @@
+-- The fields that settings say, and the frame with these.
+use Rattle.std.proofs.Common.{◌≡◌, ℕ, ◌+◌, ◌<◌, Bool, true, false, cond, List, [], ◌∷◌, length, drop, get_or, Option, Some, None, Result, Ok, Err, refl, sym, ap, ◌∙◌, arith}
+use Rattle.std.specs.Prelude.{◌==◌, bit_and}
+use Rattle.std.proofs.Math.Path.{fun_ext}
+use Rattle.std.proofs.lemmas.List.{drop_more}
+use Rattle.of_layers.specs.declared.field.Field.{Field}
+use Rattle.of_layers.specs.declared.field.Field.TheVariants.{InPort}
+use Rattle.of_layers.specs.Fields.{row_of, number_of, ones_of}
+use Rattle.of_headers.specs.declared.key.FieldKey.{FieldKey}
+use Rattle.of_headers.specs.FieldMap.{value}
+use Rattle.of_shapes.specs.declared.shape.Shape.{Shape}
+use Rattle.of_shapes.specs.declared.shape.Tagging.{Tagging}
+use Rattle.of_frames.specs.Given.{number, or_zero}
+use Rattle.of_frames.specs.Packets.{frame_given}
+use Rattle.of_frames.proofs.KeyLemmas.{numbers_are}
+use Rattle.of_oxm.specs.declared.match_field.MatchField.{MatchField}
+use Rattle.of_ovs_words.specs.FieldWords.{text_of, word_for}
+use Rattle.of_frame_words.specs.declared.why.NoFrame.{NoFrame}
+use Rattle.of_frame_words.specs.Frames.{ReceivedFrame, at_port, with_setting, set_by, shape_by, tagging_by, received_by, map_of, missed, why_missed, unless_missed, checked}
+use Rattle.of_frame_words.specs.Refusals.{IsRefusal, Stops}
+use Rattle.of_frame_words.proofs.WordLemmas.{refusal_stops}
+
+-- the port alone
+pub key_at_is : (port : ℕ) (none map : Field → Option ℕ) → ((f : Field) → none f ≡ None) → ((f : Field) → map f ≡ cond (number_of f == number_of InPort) (Some port) (none f)) → map ≡ at_port port
+unfolding row_of
+key_at_is port none map e h = fun_ext (λ f. elim f as (λ f. map f ≡ at_port port f) [ InPort ↦ h InPort | f ↦ h f ∙ e f ])
+
+-- one more setting
+pub setting_more : (settings : List MatchField) (i : ℕ) (e : MatchField) (map next all : Field → Option ℕ) → i < length settings → get_or settings i e ≡ e →
+    ((f : Field) → next f ≡ cond (number_of f == number_of e.field) (Some (bit_and e.value (ones_of e.field))) (map f)) →
+    set_by (drop i settings) map ≡ all → set_by (drop (i + 1) settings) next ≡ all
+setting_more settings i e map next all lt at h k =
+    let is : next ≡ with_setting e map = fun_ext h in
+    let cut : drop i settings ≡ e ∷ drop (i + 1) settings = drop_more settings i e lt ∙ ap (λ (x : MatchField). x ∷ drop (i + 1) settings) at in
+    ap (set_by (drop (i + 1) settings)) is ∙ sym (ap (λ (xs : List MatchField). set_by xs map) cut) ∙ k
+
+-- the frame with the fields of a key
+pub received_is : (key : FieldKey) (said : Field → Option ℕ) (shape : Shape) (tagging : Tagging) (frame : List ℕ) → value key ≡ said → shape ≡ shape_by key.numbers.eth_type key.numbers.ip_proto → tagging ≡ tagging_by key.numbers.vlan_vid →
+    frame ≡ frame_given shape tagging (or_zero (value key)) → ◌≡◌ {A = ReceivedFrame} (record { port = key.numbers.in_port; frame = frame }) (received_by (or_zero said))
+unfolding row_of
+received_is key said shape tagging frame k s t e =
+    let back : or_zero (value key) ≡ number key.numbers = sym (numbers_are key) in
+    let made : frame ≡ frame_given (shape_by key.numbers.eth_type key.numbers.ip_proto) (tagging_by key.numbers.vlan_vid) (number key.numbers) = e ∙ (λ j. frame_given (s j) (t j) (back j)) in
+    (λ j. record { port = key.numbers.in_port; frame = made j }) ∙ ap received_by (numbers_are key ∙ ap or_zero k)
+
+-- ---- settings that the frame has or lacks
+
+pub checked_ok : (settings : List MatchField) (r : ReceivedFrame) (map : Field → Option ℕ) → map ≡ map_of r → None ≡ missed settings map → checked settings r ≡ Ok r
+checked_ok settings r map k m = ap (unless_missed settings r) (sym (m ∙ ap (missed settings) k))
+
+pub checked_stop : (settings : List MatchField) (r : ReceivedFrame) (map : Field → Option ℕ) (e : MatchField) (stop : NoFrame) → map ≡ map_of r → Some e ≡ missed settings map → IsRefusal (text_of (word_for e.field)) (why_missed settings e) stop → Stops (checked settings r) stop
+checked_stop settings r map e stop k m h = refusal_stops (checked settings r) (text_of (word_for e.field)) (why_missed settings e) stop (ap (unless_missed settings r) (sym (m ∙ ap (missed settings) k))) h

@@ -1,0 +1,4 @@
+pub mod Said
+pub mod Frames
+pub mod Refusals
+pub mod Views

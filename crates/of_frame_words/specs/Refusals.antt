@@ -1,0 +1,18 @@
+-- Why there is no frame: memory ran out, or a word is refused.
+use Rattle.std.specs.Prelude.{◌≡◌, ℕ, List, Result, Err}
+use Rattle.of_frame_words.specs.declared.why.Why.{Why}
+use Rattle.of_frame_words.specs.declared.why.Refusal.{Refusal}
+use Rattle.of_frame_words.specs.declared.why.NoFrame.{NoFrame}
+use Rattle.of_frame_words.specs.declared.why.NoFrame.TheVariants.{NoMemory, Refused}
+use Rattle.of_frame_words.specs.Said.{WordRefusal}
+
+abbrev pub view_refusal : Refusal → WordRefusal
+view_refusal r = record { word = r.word.items; why = r.why }
+
+abbrev pub Stops : {A : Type 0} → Result A WordRefusal → NoFrame → Type 0
+Stops outcome NoMemory = Unit {0}
+Stops outcome (Refused r) = outcome ≡ Err (view_refusal r)
+
+abbrev pub IsRefusal : List ℕ → Why → NoFrame → Type 0
+IsRefusal word why NoMemory = Unit {0}
+IsRefusal word why (Refused r) = (r.word.items ≡ word) × (r.why ≡ why)

@@ -1,0 +1,12 @@
+//! Frames in the words of Open vSwitch (ovs-vswitchd(8), ofproto/trace; ovs-fields(7)).
+#![tactic(auto)]
+
+mod frame;
+mod laws;
+mod said;
+mod why;
+mod words;
+
+pub use frame::{Received, read_frame};
+pub use laws::frames_have_what_words_say;
+pub use why::{NoFrame, Refusal, Why};

@@ -1,0 +1,89 @@
+//! The settings of fields that words say.
+ghost use Rattle.std.specs.Prelude.{◌≡◌, IfOk, IfErr, Ok};
+ghost use Rattle.of_ovs_words.specs.Stops.{Stops as WordStops};
+ghost use Rattle.of_ovs_words.specs.Words.{words_from};
+ghost use Rattle.of_frame_words.specs.Refusals.{Stops};
+ghost use Rattle.of_frame_words.specs.Said.{by_name, has_mask as is_masked, said, with_word, with_words};
+
+use crate::why::{NoFrame, Why, refuse};
+use of_ovs_words::{
+    FieldWord, ProtocolWord, Stop, cut_word, name_of, set_field, set_protocol, value_of,
+};
+use of_oxm::MatchField;
+use std::alloc::Global;
+
+// Whether a mask comes after a value.
+fn has_mask(value: &[u8]) -> bool
+    ensures { result ≡ is_masked value.now }
+{
+    value.iter().any(|byte| *byte == b'/')
+}
+
+// Appends what the word of a field or of a protocol says.
+fn add_named(
+    settings: &mut Vec<MatchField>,
+    field: Option<FieldWord>,
+    protocol: Option<ProtocolWord>,
+    value: &[u8],
+) -> Result<(), Stop>
+    ensures added { IfOk result (λ _. by_name field protocol settings.old.items value.now ≡ Ok settings.new.items) }
+    ensures stopped { IfErr result (WordStops (by_name field protocol settings.old.items value.now)) }
+{
+    match (field, protocol) {
+        (Some(word), _) => set_field(settings, word, value),
+        (None, Some(word)) => set_protocol(settings, word, value),
+        (None, None) => Err(Stop::Refused(of_ovs_words::Why::Unknown)),
+    }
+}
+
+// Appends what a word says.
+fn add_said(settings: &mut Vec<MatchField>, word: &[u8]) -> Result<(), Stop>
+    ensures added { IfOk result (λ _. said settings.old.items word.now ≡ Ok settings.new.items) }
+    ensures stopped { IfErr result (WordStops (said settings.old.items word.now)) }
+{
+    let name = name_of(word);
+    add_named(
+        settings,
+        FieldWord::named(name),
+        ProtocolWord::named(name),
+        value_of(word),
+    )
+}
+
+// The same for a word that may be refused.
+fn add_word(alloc: Global, settings: &mut Vec<MatchField>, word: &[u8]) -> Result<(), NoFrame>
+    ensures added { IfOk result (λ _. with_word settings.old.items word.now ≡ Ok settings.new.items) }
+    ensures stopped { IfErr result (Stops (with_word settings.old.items word.now)) }
+{
+    if has_mask(value_of(word)) {
+        return Err(refuse(alloc, word, Why::Mask));
+    }
+    match add_said(settings, word) {
+        Ok(()) => Ok(()),
+        Err(Stop::NoMemory) => Err(NoFrame::NoMemory),
+        Err(Stop::Refused(why)) => Err(refuse(alloc, word, Why::Word(why))),
+    }
+}
+
+/// Appends what words say, until one is refused.
+pub fn add_words(
+    alloc: Global,
+    settings: &mut Vec<MatchField>,
+    text: &[u8],
+) -> Result<(), NoFrame>
+    ensures added { IfOk result (λ _. with_words settings.old.items (words_from 0 text.now) ≡ Ok settings.new.items) }
+    ensures stopped { IfErr result (Stops (with_words settings.old.items (words_from 0 text.now))) }
+{
+    let mut rest = text;
+    while !rest.is_empty() {
+        let (word, after) = cut_word(rest);
+        rest = after;
+        if !word.is_empty() {
+            match add_word(alloc, settings, word) {
+                Ok(()) => {}
+                Err(stop) => return Err(stop),
+            }
+        }
+    }
+    Ok(())
+}
