@@ -68,6 +68,10 @@ With --explain there are notes below the lines: below a lookup the entry that wo
 table sees; below an action what it changed, why an output sends nothing, and which buckets of a group run. With --why all,
 or --why \"0 100\" for the entries of table 0 that have priority 100, they also say why entries won or lost.
 
+A frame may be written in words, as `ovs-appctl ofproto/trace` takes it: the words of a match (ovs-fields(7)), without masks. Fields of
+its headers that no word says are 0, the TTL is 64, lengths and checksums are right. in_port in the words is as good as --port.
+
+  ofswitch trace --flows examples/router.flows in_port=1,dl_dst=02:00:00:00:00:a1,ip,nw_src=10.0.0.1,nw_dst=10.1.1.9
   ofswitch trace --flows examples/router.flows --port 1 0200000000a10200000000010800450000140000000040fd64e30a0000010a010109
   ofswitch trace --events examples/failover.events --at 14 --port 1 02000000000202000000000188b5";
 
@@ -277,13 +281,13 @@ const TRACE: [Argument; 7] = [
     },
     Argument {
         name: "N",
-        kind: Kind::Required("port"),
+        kind: Kind::Optional("port", "N"),
         help: "The port at which the frame is received; with --flows 1 to 64",
     },
     Argument {
-        name: "HEX",
+        name: "FRAME",
         kind: Kind::Positional,
-        help: "The frame, two hexadecimal digits per byte",
+        help: "The frame: two hexadecimal digits per byte, or words such as in_port=1,tcp,nw_src=10.0.0.1,tp_dst=80",
     },
     Argument {
         name: "explain",

@@ -9,6 +9,7 @@ ghost use Rattle.of_command_line.specs.declared.NoRequest.TheVariants.{NoMemory}
 use clap::ArgMatches;
 use clap::error::{Error, ErrorKind};
 use command::command;
+use of_frame_words::{NoFrame, Received, is_frame_words, read_frame};
 use of_wire::limits::{OFPP_MAX, TABLES};
 use std::alloc::{AllocError, Global};
 use std::net::{IpAddr, SocketAddr};
@@ -245,12 +246,15 @@ fn file_request_of(
 
 fn trace_of(alloc: Global, matches: &ArgMatches<'_>) -> Result<Trace, NoRequest> {
     let (file, kind) = switch_file_of(alloc, matches)?;
+    let at = row_of(alloc, matches.get_str("at"))?;
+    let frame = matches.get_str("FRAME").unwrap_or("");
+    let Received { port, frame } = received_of(alloc, kind, matches.get_str("N"), frame)?;
     Ok(Trace {
         file,
         kind,
-        at: row_of(alloc, matches.get_str("at"))?,
-        port: port_of(alloc, kind, matches.get_str("N").unwrap_or(""))?,
-        frame: frame_of(alloc, matches.get_str("HEX").unwrap_or(""))?,
+        at,
+        port,
+        frame,
         explain: matches.get_flag("explain"),
         why: why_of(alloc, matches.get_str("why"))?,
     })
@@ -298,15 +302,56 @@ fn row_of(alloc: Global, word: Option<&str>) -> Result<Option<u32>, NoRequest> {
     }
 }
 
-// The number of a port that frames are traced from.
-fn port_of(alloc: Global, kind: FileKind, word: &str) -> Result<u32, NoRequest> {
+// A port that frames are traced from.
+fn port_of(alloc: Global, kind: FileKind, number: Option<u32>) -> Result<u32, NoRequest> {
     let last = match kind {
         FileKind::Flows => LAST_PORT,
         FileKind::Events => OFPP_MAX,
     };
-    match number_in(word) {
+    match number {
         Some(port) if port >= 1 && port <= last => Ok(port),
         _ => Err(NoRequest::Refused(format!(in alloc; "bad port: a number from 1 to {last}\n")?)),
+    }
+}
+
+// A frame in hexadecimal digits or in words, and the port at which it is received. Words may say the port, too.
+fn received_of(
+    alloc: Global,
+    kind: FileKind,
+    port: Option<&str>,
+    frame: &str,
+) -> Result<Received, NoRequest> {
+    if is_frame_words(frame.as_bytes()) {
+        return said_of(alloc, kind, port, frame);
+    }
+    Ok(Received {
+        port: port_of(alloc, kind, number_in(port.unwrap_or("")))?,
+        frame: frame_of(alloc, frame)?,
+    })
+}
+
+// A frame in words. Without a port in them or beside them it has none.
+fn said_of(
+    alloc: Global,
+    kind: FileKind,
+    port: Option<&str>,
+    words: &str,
+) -> Result<Received, NoRequest> {
+    let given = match port {
+        Some(word) => port_of(alloc, kind, number_in(word))?,
+        None => 0,
+    };
+    match read_frame(alloc, given, words.as_bytes()) {
+        Ok(received) => {
+            port_of(alloc, kind, Some(received.port))?;
+            Ok(received)
+        }
+        Err(NoFrame::NoMemory) => Err(NoRequest::NoMemory),
+        Err(NoFrame::Refused(refusal)) => {
+            let word = std::str::from_utf8(&refusal.word).unwrap_or("?");
+            let why = refusal.why;
+            Err(NoRequest::Refused(format!(in alloc; "bad frame: {word}: {why}\n")?))
+        }
     }
 }
 

@@ -1,5 +1,5 @@
 -- WHAT WORDS SAY OF A FRAME (ovs-fields(7)): settings of fields, in the order of the words, by values without masks.
-use Rattle.std.specs.Prelude.{ℕ, ◌==◌, Bool, List, [], ◌∷◌, length, Option, Some, None, Result, Ok, Err, if◌then◌else◌}
+use Rattle.std.specs.Prelude.{ℕ, ◌==◌, ◌||◌, Bool, is_some, List, [], ◌∷◌, length, Option, Some, None, Result, Ok, Err, if◌then◌else◌}
 use Rattle.std.specs.List.{list_any}
 use Rattle.of_oxm.specs.declared.match_field.MatchField.{MatchField}
 use Rattle.of_ovs_words.specs.declared.why.Why.{Why as WordWhy}
@@ -10,7 +10,7 @@ use Rattle.of_ovs_words.specs.FieldWords.{field_word_named}
 use Rattle.of_ovs_words.specs.Matches.{with_field, with_protocol}
 use Rattle.of_ovs_words.specs.Outcomes.{◌>>=◌}
 use Rattle.of_ovs_words.specs.ProtocolWords.{protocol_named}
-use Rattle.of_ovs_words.specs.Words.{name_of, value_of}
+use Rattle.of_ovs_words.specs.Words.{name_of, value_of, word_in}
 use Rattle.of_frame_words.specs.declared.why.Why.{Why}
 use Rattle.of_frame_words.specs.declared.why.Why.TheVariants.{Word, Mask}
 
@@ -51,3 +51,7 @@ with_word settings word = if has_mask (value_of word) then refuse word Mask else
 abbrev pub with_words : List MatchField → List (List ℕ) → Result (List MatchField) WordRefusal
 with_words settings [] = Ok settings
 with_words settings (w ∷ ws) = if length w == 0 then with_words settings ws else with_word settings w >>= λ next. with_words next ws
+
+-- a text has words for a frame, and not its bytes
+abbrev pub are_frame_words : List ℕ → Bool
+are_frame_words text = list_any (λ b. b == 61) text || is_some (protocol_named (word_in 0 text))

@@ -10,3 +10,4 @@ mod words;
 pub use frame::{Received, read_frame};
 pub use laws::frames_have_what_words_say;
 pub use why::{NoFrame, Refusal, Why};
+pub use words::is_frame_words;

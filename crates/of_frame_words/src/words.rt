@@ -3,7 +3,7 @@ ghost use Rattle.std.specs.Prelude.{◌≡◌, IfOk, IfErr, Ok};
 ghost use Rattle.of_ovs_words.specs.Stops.{Stops as WordStops};
 ghost use Rattle.of_ovs_words.specs.Words.{words_from};
 ghost use Rattle.of_frame_words.specs.Refusals.{Stops};
-ghost use Rattle.of_frame_words.specs.Said.{by_name, has_mask as is_masked, said, with_word, with_words};
+ghost use Rattle.of_frame_words.specs.Said.{are_frame_words, by_name, has_mask as is_masked, said, with_word, with_words};
 
 use crate::why::{NoFrame, Why, refuse};
 use of_ovs_words::{
@@ -11,6 +11,14 @@ use of_ovs_words::{
 };
 use of_oxm::MatchField;
 use std::alloc::Global;
+
+/// Whether a text is a frame in words, which hexadecimal digits never are: it has a value, or its first word is one for a protocol.
+pub fn is_frame_words(text: &[u8]) -> bool
+    ensures { result ≡ are_frame_words text.now }
+{
+    let (first, _) = cut_word(text);
+    text.iter().any(|byte| *byte == b'=') || ProtocolWord::named(first).is_some()
+}
 
 // Whether a mask comes after a value.
 fn has_mask(value: &[u8]) -> bool

@@ -8,6 +8,7 @@ mod hinting;
 mod importing;
 mod live;
 mod lookups;
+mod noticing;
 mod saying;
 mod serving;
 mod sockets;
@@ -17,6 +18,7 @@ use crate::lookups::Lookups;
 use hinting::say_hint;
 use importing::{NotImported, imported};
 use live::live_rows;
+use noticing::Noticing;
 use of_asking::Answering;
 use of_check::{check_events, check_file};
 use of_classifier::Scan;
@@ -304,15 +306,33 @@ fn traced<S: Source>(rt: &HostRuntime, asked: &Trace, reader: &mut S) -> Ended
 {
     let form = form_of(asked.explain, asked.why);
     let (alloc, port, frame) = (rt.alloc(), asked.port, asked.frame.as_slice());
-    let mut writer = WriterSink::new(rt.stdout());
-    match asked.kind {
+    let mut writer = Noticing {
+        sink: WriterSink::new(rt.stdout()),
+        wrote: false,
+    };
+    let ended = match asked.kind {
         FileKind::Flows => {
             trace_file::<Lookups, _, _>(alloc, reader, port, frame, form, &mut writer)
         }
         FileKind::Events => {
             trace_events::<Lookups, _, _>(alloc, reader, port, frame, form, &mut writer)
         }
+    };
+    if ended == Ended::Done && !writer.wrote {
+        say_no_step(rt, port, frame.len());
     }
+    ended
+}
+
+// Why a frame takes no step: a frame that a switch receives is looked up at least.
+fn say_no_step(rt: &HostRuntime, port: u32, length: usize) {
+    let _ = match length {
+        0..=13 => eprintln!(rt; "no step: {length} bytes, and a frame has 14 at least"),
+        14..=9216 => {
+            eprintln!(rt; "no step: the switch has no port {port}, or it is down or does not receive")
+        }
+        _ => eprintln!(rt; "no step: {length} bytes, and a frame has 9,216 at most"),
+    };
 }
 
 fn form_of(explain: bool, why: Option<Asked>) -> Form {
