@@ -39,6 +39,15 @@ size_small Udp = omega arith
 size_small Icmpv4 = omega arith
 size_small Icmpv6 = omega arith
 
+total_small : (k : Transport) → 20 + size_with k < 2 ^ 16
+total_small k = omega (arith, size_small k)
+
+payload_small : (k : Transport) → size_with k < 2 ^ 16
+payload_small k = omega (arith, size_small k)
+
+total_fits : (k : Transport) → 20 ≤ 20 + size_with k
+total_fits k = omega arith
+
 below : (f : ℕ) → 65535 - f < 2 ^ 16
 below f = omega arith
 
@@ -166,10 +175,10 @@ arp_fits v = record {
 ipv4_fits : (k : Transport) (v : Field → ℕ) (sum : ℕ) → Over4 k → sum < 2 ^ 16 → IsIpv4 (ipv4_given k v) [] (carried_given k v sum) []
 unfolding row_of
 ipv4_fits k v sum o h = record {
-  numbers = (omega arith, (omega arith, (given_small v IpDscp, (given_small v IpEcn, (omega (arith, size_small k), (omega arith, (omega arith, (omega arith, (omega arith, (protocol_small k v, (below _, (given_small v Ipv4Src, (given_small v Ipv4Dst, tt)))))))))))));
+  numbers = (omega arith, (omega arith, (given_small v IpDscp, (given_small v IpEcn, (total_small k, (omega arith, (omega arith, (omega arith, (omega arith, (protocol_small k v, (below _, (given_small v Ipv4Src, (given_small v Ipv4Dst, tt)))))))))))));
   version = refl;
   words = refl;
-  total = omega arith;
+  total = total_fits k;
   inside = inside4 k v sum;
   options_fit = no_bytes;
   carries = record { there = kind4 k v sum o; numbers = numbers_fit k v sum h; rest = bytes_behind_fit k };
@@ -179,7 +188,7 @@ ipv4_fits k v sum o h = record {
 ipv6_fits : (k : Transport) (v : Field → ℕ) (sum : ℕ) → Over6 k → sum < 2 ^ 16 → IsIpv6 (ipv6_given k v) [] (carried_given k v sum) []
 unfolding row_of
 ipv6_fits k v sum o h = record {
-  numbers = (omega arith, (given_small v IpDscp, (given_small v IpEcn, (given_small v Ipv6Flabel, (omega (arith, size_small k), (protocol_small k v, (omega arith, (given_small v Ipv6Src, (given_small v Ipv6Dst, tt)))))))));
+  numbers = (omega arith, (given_small v IpDscp, (given_small v IpEcn, (given_small v Ipv6Flabel, (payload_small k, (protocol_small k v, (omega arith, (given_small v Ipv6Src, (given_small v Ipv6Dst, tt)))))))));
   version = refl;
   inside = inside6 k v sum;
   chain = (record { there = kind6 k v sum o; numbers = numbers_fit k v sum h; rest = bytes_behind_fit k }, no_extension k v);
@@ -217,7 +226,7 @@ body_fits shapes.Ipv6Icmp v = (refl, ipv6_fits Icmpv6 v _ tt (checksum_small _ I
 tags_fit : (t : Tagging) (v : Field → ℕ) → AreTags (tags_given t v)
 unfolding row_of
 tags_fit Untagged v = tt
-tags_fit Tagged v = ((omega arith, (given_small v VlanPcp, (omega arith, (omega arith, tt)))), (refl, tt))
+tags_fit Tagged v = ((omega arith, (given_small v VlanPcp, (omega arith, (omega arith, tt)))), refl, tt)
 
 type_fits : (s : Shape) (v : Field → ℕ) → type_given s v < 2 ^ 16
 unfolding row_of

@@ -1,9 +1,9 @@
 -- The numbers of a key are the values of its fields, and 0 for those that it lacks.
-use Rattle.std.proofs.Common.{◌≡◌, ℕ, zero, suc, ◌<◌, ◌+◌, ◌*◌, ◌/◌, ◌%◌, Bool, true, false, cond, Option, Some, None, refl, sym, ap, ◌∙◌, arith}
+use Rattle.std.proofs.Common.{◌≡◌, ℕ, zero, suc, ◌<◌, ◌+◌, ◌*◌, ◌/◌, ◌^◌, cond, Option, Some, None, refl, sym, ap, ◌∙◌, arith}
 use Rattle.std.specs.Prelude.{◌==◌, slice_index, unwrap_or}
 use Rattle.std.specs.Int.{bit_at}
 use Rattle.std.proofs.Math.Path.{fun_ext}
-use Rattle.std.proofs.lemmas.Bool.{ne_eqb, eq-eqb}
+use Rattle.std.proofs.lemmas.Nat.{mod_below}
 use Rattle.of_layers.specs.declared.field.Field.{Field}
 use Rattle.of_layers.specs.Fields.{number_of}
 use Rattle.of_headers.specs.declared.key.FieldKey.{FieldKey}
@@ -19,7 +19,7 @@ by_bit (suc (suc b)) x h z = absurd (omega arith)
 
 number_is : (k : FieldKey) (f : Field) → number k.numbers f ≡ or_zero (value k) f
 unfolding value
-number_is k f = by_bit (bit_at k.numbers.present (number_of f)) (slice_index (numbers_in k.numbers) (number_of f)) (omega arith) (k.absent f)
+number_is k f = by_bit (bit_at k.numbers.present (number_of f)) (slice_index (numbers_in k.numbers) (number_of f)) (mod_below (k.numbers.present / 2 ^ number_of f) 2 (omega arith)) (k.absent f)
 
 pub numbers_are : (k : FieldKey) → number k.numbers ≡ or_zero (value k)
 numbers_are k = fun_ext (number_is k)

@@ -1,11 +1,13 @@
-//! Tests of flow text (docs/FLOWTEXT.md) and of the names of errors, of the import of tables of Open vSwitch (docs/IMPORT.md), and of
-//! configurations as messages: each public call with ample memory.
+//! Tests of flow text (docs/FLOWTEXT.md) and of the names of errors, of the import of tables of Open vSwitch (docs/IMPORT.md), of
+//! configurations as messages, and of frames in words: each public call with ample memory.
 //!
 //! They are in a separate crate, since a crate that has tests is proved twice.
 #![tactic(auto)]
 
 #[cfg(test)]
 mod config;
+#[cfg(test)]
+mod frames;
 #[cfg(test)]
 mod import;
 #[cfg(test)]

@@ -1,6 +1,5 @@
-use Rattle.std.proofs.Common.{ℕ, ◌∙◌, ap, subst}
+use Rattle.std.proofs.Common.{ℕ, ◌∙◌, ap}
 use Rattle.of_layers.specs.Layers.{carried_cells, encoded}
-use Rattle.of_frames.specs.Adding.{Adds}
 use Rattle.of_frames.specs.Checksums.{carried_checksum}
 use Rattle.of_frames.specs.Given.{number}
 use Rattle.of_frames.specs.Packets.{carried_given, ipv4_given}

@@ -1,4 +1,4 @@
-use Rattle.std.proofs.Common.{ℕ, ◌∙◌, ap, subst}
+use Rattle.std.proofs.Common.{ℕ, ◌∙◌, ap}
 use Rattle.of_layers.specs.Layers.{carried_cells, encoded}
 use Rattle.of_frames.specs.Checksums.{carried_checksum}
 use Rattle.of_frames.specs.Given.{number}
