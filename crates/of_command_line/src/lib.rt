@@ -248,13 +248,13 @@ fn trace_of(alloc: Global, matches: &ArgMatches<'_>) -> Result<Trace, NoRequest>
     let (file, kind) = switch_file_of(alloc, matches)?;
     let at = row_of(alloc, matches.get_str("at"))?;
     let frame = matches.get_str("FRAME").unwrap_or("");
-    let Received { port, frame } = received_of(alloc, kind, matches.get_str("N"), frame)?;
+    let received = received_of(alloc, kind, matches.get_str("N"), frame)?;
     Ok(Trace {
         file,
         kind,
         at,
-        port,
-        frame,
+        port: received.port,
+        frame: received.frame,
         explain: matches.get_flag("explain"),
         why: why_of(alloc, matches.get_str("why"))?,
     })

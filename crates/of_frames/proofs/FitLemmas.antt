@@ -24,7 +24,7 @@ use Rattle.of_frames.specs.Packets.{ends_given, tags_given, arp_given, ipv4_give
 pub given_small : (v : Field → ℕ) (f : Field) → given v f < 2 ^ bits_of f
 given_small v f = mod_below (v f) (2 ^ bits_of f) (pow_pos (bits_of f))
 
-protocol_small : (k : Transport) (v : Field → ℕ) → protocol_with k v < 2 ^ 8
+pub protocol_small : (k : Transport) (v : Field → ℕ) → protocol_with k v < 2 ^ 8
 unfolding row_of
 protocol_small Nothing v = given_small v IpProto
 protocol_small Tcp v = omega arith
@@ -32,7 +32,7 @@ protocol_small Udp v = omega arith
 protocol_small Icmpv4 v = omega arith
 protocol_small Icmpv6 v = omega arith
 
-size_small : (k : Transport) → size_with k ≤ 20
+pub size_small : (k : Transport) → size_with k ≤ 20
 size_small Nothing = omega arith
 size_small Tcp = omega arith
 size_small Udp = omega arith
@@ -55,7 +55,7 @@ never_zero_small : (t : Bool) (c : ℕ) → c < 2 ^ 16 → cond t 65535 c < 2 ^ 
 never_zero_small true c h = omega arith
 never_zero_small false c h = h
 
-checksum_small : (around : ℕ) (k : Transport) (v : Field → ℕ) → carried_checksum around k v < 2 ^ 16
+pub checksum_small : (around : ℕ) (k : Transport) (v : Field → ℕ) → carried_checksum around k v < 2 ^ 16
 checksum_small around Nothing v = omega arith
 checksum_small around Tcp v = below _
 checksum_small around Udp v = never_zero_small _ _ (below _)
