@@ -66,7 +66,8 @@ switch before that line. There is one line per step:
 
 With --explain there are notes below the lines: below a lookup the entry that won, as flow text, and the fields that the
 table sees; below an action what it changed, why an output sends nothing, and which buckets of a group run. With --why all,
-or --why \"0 100\" for the entries of table 0 that have priority 100, they also say why entries won or lost.
+or --why \"0 100\" for the entries of table 0 that have priority 100, they also say why entries won or lost. With --words the same
+is said in words: first the frame, then the steps, with the priority and the match of each entry that won, then what leaves.
 
   ofswitch trace --flows examples/router.flows --port 1 0200000000a10200000000010800450000140000000040fd64e30a0000010a010109
   ofswitch trace --events examples/failover.events --at 14 --port 1 02000000000202000000000188b5";
@@ -259,7 +260,7 @@ const SAY: [Argument; 1] = [Argument {
     help: "Messages in hexadecimal digits, or a file with such digits or with the bytes; - is standard input",
 }];
 
-const TRACE: [Argument; 7] = [
+const TRACE: [Argument; 8] = [
     Argument {
         name: "flows",
         kind: Kind::Alternative("flows", "FILE"),
@@ -294,6 +295,11 @@ const TRACE: [Argument; 7] = [
         name: "why",
         kind: Kind::Optional("why", "ENTRIES"),
         help: "Add to the notes why entries won or lost: all, or those of \"TABLE PRIORITY\"",
+    },
+    Argument {
+        name: "words",
+        kind: Kind::Flag("words"),
+        help: "Print the frame and the steps in words, with addresses and ports as an operator writes them",
     },
 ];
 

@@ -100,6 +100,8 @@ pub struct Trace {
     pub explain: bool,
     /// Of which entries it says why they won or did not.
     pub why: Option<Asked>,
+    /// Whether it is in words.
+    pub words: bool,
 }
 
 /// Of which kind the file of a switch is.
@@ -253,6 +255,7 @@ fn trace_of(alloc: Global, matches: &ArgMatches<'_>) -> Result<Trace, NoRequest>
         frame: frame_of(alloc, matches.get_str("HEX").unwrap_or(""))?,
         explain: matches.get_flag("explain"),
         why: why_of(alloc, matches.get_str("why"))?,
+        words: matches.get_flag("words"),
     })
 }
 

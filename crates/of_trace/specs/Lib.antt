@@ -2,6 +2,7 @@ pub mod Encoded
 pub mod Text
 pub mod Why
 pub mod Sights
+pub mod Words
 pub mod Notes
 pub mod Files
 pub mod OnlyNotes

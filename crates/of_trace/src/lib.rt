@@ -18,14 +18,15 @@ mod traces;
 mod tracing;
 mod tracing_events;
 mod tracing_file;
+mod words;
 mod writing;
 
 pub use explaining::why;
 pub use first_lines::FirstLines;
-pub use form::{Asked, Form};
+pub use form::{Asked, Form, Style};
 pub use laws::{notes_only_add, steps_tell_packets, traces_come_whole};
 pub use noting::explain;
-pub use printing::print;
+pub use printing::{print, print_words};
 pub use reason::Reason;
 pub use sight::Sight;
 pub use traces::Trace;

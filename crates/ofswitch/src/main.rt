@@ -28,7 +28,7 @@ use of_replay::{Ended, Plain, RowPrinter, Sink, Source, asm, dis, print_file, st
 use of_serve::{ended_unopened, read_rows};
 use of_switch::Event;
 use of_text::TextFault;
-use of_trace::{FirstLines, Form, trace_events, trace_file};
+use of_trace::{FirstLines, Form, Style, trace_events, trace_file};
 use saying::{Unsaid, said};
 use serving::serve_rows;
 use standard_input::StandardInput;
@@ -303,16 +303,21 @@ fn traced<S: Source>(rt: &HostRuntime, asked: &Trace, reader: &mut S) -> Ended
     requires reads { S.reads reader.old ≡ 0 }
 {
     let form = form_of(asked.explain, asked.why);
+    let style = style_of(asked.words);
     let (alloc, port, frame) = (rt.alloc(), asked.port, asked.frame.as_slice());
     let mut writer = WriterSink::new(rt.stdout());
     match asked.kind {
         FileKind::Flows => {
-            trace_file::<Lookups, _, _>(alloc, reader, port, frame, form, &mut writer)
+            trace_file::<Lookups, _, _>(alloc, reader, port, frame, style, form, &mut writer)
         }
         FileKind::Events => {
-            trace_events::<Lookups, _, _>(alloc, reader, port, frame, form, &mut writer)
+            trace_events::<Lookups, _, _>(alloc, reader, port, frame, style, form, &mut writer)
         }
     }
+}
+
+fn style_of(words: bool) -> Style {
+    if words { Style::Words } else { Style::Lines }
 }
 
 fn form_of(explain: bool, why: Option<Asked>) -> Form {
