@@ -85,9 +85,7 @@ fn push_remark(
             count,
         } => {
             push_entry(out, config, lines, table, place)?;
-            out.extend_from_slice(
-                b" changes packets by its last actions, of which nothing sees ",
-            )?;
+            out.extend_from_slice(b" has actions at the end of its apply that nothing sees: ")?;
             push_decimal(out, count as u128)
         }
         Remark::UnusedGroup { id } => {
