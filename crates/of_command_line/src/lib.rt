@@ -74,12 +74,7 @@ pub enum Request {
     /// To print the trace of a frame that is received at a port of the switch of a file; `-` is standard input.
     Trace(Trace),
     /// To print which flows of the switch of a file can win, and which never do; `-` is standard input.
-    Check {
-        file: String,
-        kind: FileKind,
-        /// After how many of them a flow is given up.
-        steps: u32,
-    },
+    Check(Check),
     /// To serve controllers.
     Serve(Serve),
     /// To forward the frames of a network.
@@ -102,6 +97,42 @@ pub struct Trace {
     pub why: Option<Asked>,
     /// Whether it is in words.
     pub words: bool,
+}
+
+/// Which file is checked, and how.
+#[derive(Debug, PartialEq, Eq, Drop)]
+pub struct Check {
+    pub file: String,
+    pub kind: CheckedKind,
+    /// After how many of them a flow is given up.
+    pub steps: u32,
+    pub output: CheckOutput,
+}
+
+/// What a checked file is.
+#[derive(Clone, Copy, Debug, PartialEq, Eq)]
+pub enum CheckedKind {
+    /// What its content says.
+    Guessed,
+    /// A flow text.
+    Flows,
+    /// An event file.
+    Events,
+    /// What ovs-ofctl prints.
+    Ovs,
+}
+
+/// What is printed of a check.
+#[derive(Clone, Copy, Debug, PartialEq, Eq)]
+pub enum CheckOutput {
+    /// A line for each flow and each remark, for programs.
+    Lines,
+    /// What is found, and a summary.
+    Report,
+    /// The same, and the flows that win.
+    All,
+    /// The report as JSON.
+    Json,
 }
 
 /// Of which kind the file of a switch is.
@@ -260,12 +291,47 @@ fn trace_of(alloc: Global, matches: &ArgMatches<'_>) -> Result<Trace, NoRequest>
 }
 
 fn check_of(alloc: Global, matches: &ArgMatches<'_>) -> Result<Request, NoRequest> {
-    let (file, kind) = switch_file_of(alloc, matches)?;
-    Ok(Request::Check {
+    let (file, kind) = checked_file_of(alloc, matches)?;
+    Ok(Request::Check(Check {
         file,
         kind,
         steps: steps_of(alloc, matches.get_str("steps"))?,
-    })
+        output: output_of(kind, matches),
+    }))
+}
+
+// The file that is checked, and what it is: one of these is there.
+fn checked_file_of(
+    alloc: Global,
+    matches: &ArgMatches<'_>,
+) -> Result<(String, CheckedKind), AllocError> {
+    if let Some(file) = matches.get_str("flows") {
+        return Ok((file.to_string(alloc)?, CheckedKind::Flows));
+    }
+    if let Some(file) = matches.get_str("events") {
+        return Ok((file.to_string(alloc)?, CheckedKind::Events));
+    }
+    if let Some(file) = matches.get_str("ovs") {
+        return Ok((file.to_string(alloc)?, CheckedKind::Ovs));
+    }
+    let file = matches.get_str("FILE").unwrap_or("-");
+    Ok((file.to_string(alloc)?, CheckedKind::Guessed))
+}
+
+// Lines, if the options say which file it is and nothing of a report.
+fn output_of(kind: CheckedKind, matches: &ArgMatches<'_>) -> CheckOutput {
+    if matches.get_flag("json") {
+        return CheckOutput::Json;
+    }
+    if matches.get_flag("all") {
+        return CheckOutput::All;
+    }
+    match kind {
+        CheckedKind::Flows | CheckedKind::Events if !matches.get_flag("words") => {
+            CheckOutput::Lines
+        }
+        _ => CheckOutput::Report,
+    }
 }
 
 // The file of a switch, and its kind: one of the two options is there.

@@ -58,12 +58,16 @@ pub fn imported<R: Read + Drop>(
         Ok(bytes) => bytes,
         Err(ended) => return Err(NotImported::Ended(ended)),
     };
-    match import_tables(rt.alloc(), &bytes, mode) {
-        Ok(done) => {
-            print_text(rt, &done.text)?;
-            say_faults(rt, &done.faults, &done.refused);
-            Ok(left_out(&done))
-        }
+    let done = import_of(rt, &bytes, mode)?;
+    print_text(rt, &done.text)?;
+    say_faults(rt, &done.faults, &done.refused);
+    Ok(left_out(&done))
+}
+
+/// The import of a table; if there is none, standard error says why.
+pub fn import_of(rt: &HostRuntime, bytes: &[u8], mode: Mode) -> Result<Import, NotImported> {
+    match import_tables(rt.alloc(), bytes, mode) {
+        Ok(done) => Ok(done),
         Err(error) => Err(say_error(rt, &error)),
     }
 }

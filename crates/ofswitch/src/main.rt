@@ -3,6 +3,7 @@
 
 ghost use Rattle.std.specs.Prelude.{◌≡◌};
 
+mod checking;
 mod drawing;
 mod hinting;
 mod importing;
@@ -13,6 +14,7 @@ mod serving;
 mod sockets;
 mod standard_input;
 
+use crate::checking::{NoReport, reported};
 use crate::lookups::Lookups;
 use hinting::say_hint;
 use importing::{NotImported, imported};
@@ -20,7 +22,10 @@ use live::live_rows;
 use of_asking::Answering;
 use of_check::{check_events, check_file};
 use of_classifier::Scan;
-use of_command_line::{Asked, FileKind, Live, NoRequest, Request, Serve, Trace, read_request};
+use of_command_line::{
+    Asked, Check, CheckOutput, CheckedKind, FileKind, Live, NoRequest, Request, Serve, Trace,
+    read_request,
+};
 use of_explain::Explaining;
 use of_import::Mode;
 use of_replay::streams::{ReaderSource, WriterSink};
@@ -89,9 +94,7 @@ fn carry_out(rt: &HostRuntime, request: &Request) -> ExitCode {
         | Request::Assemble { file }
         | Request::Disassemble { file }
         | Request::Trace(Trace { file, .. }) => run_file(rt, request, file.as_str()),
-        Request::Check { file, kind, steps } => {
-            run_check(rt, file.as_str(), *kind, *steps as usize)
-        }
+        Request::Check(asked) => run_check(rt, asked),
         Request::Import {
             file,
             skip,
@@ -155,15 +158,33 @@ fn run_file(rt: &HostRuntime, request: &Request, path: &str) -> ExitCode {
     }
 }
 
-fn run_check(rt: &HostRuntime, path: &str, kind: FileKind, steps: usize) -> ExitCode {
+fn run_check(rt: &HostRuntime, asked: &Check) -> ExitCode {
+    if asked.output != CheckOutput::Lines {
+        return run_report(rt, asked);
+    }
+    let (path, steps) = (asked.file.as_str(), asked.steps as usize);
     let found = if path == "-" {
-        checked(rt, kind, steps, StandardInput::new(rt))
+        checked(rt, asked.kind, steps, StandardInput::new(rt))
     } else {
         match File::open(rt, path) {
-            Ok(file) => checked(rt, kind, steps, file),
+            Ok(file) => checked(rt, asked.kind, steps, file),
             Err(error) => return end_unopened(rt, path, &error),
         }
     };
+    end_check(rt, path, found)
+}
+
+fn run_report(rt: &HostRuntime, asked: &Check) -> ExitCode {
+    let path = asked.file.as_str();
+    match reported(rt, asked) {
+        Ok(found) => end_check(rt, path, Ok(found)),
+        Err(NoReport::Ended(ended)) => end_check(rt, path, Err(ended)),
+        Err(NoReport::Unopened(error)) => end_unopened(rt, path, &error),
+        Err(NoReport::Faults) => ExitCode::from(BAD_LINES),
+    }
+}
+
+fn end_check(rt: &HostRuntime, path: &str, found: Result<bool, Ended>) -> ExitCode {
     match found {
         Ok(true) => ExitCode::from(FOUND),
         Ok(false) => ExitCode::SUCCESS,
@@ -175,17 +196,16 @@ fn run_check(rt: &HostRuntime, path: &str, kind: FileKind, steps: usize) -> Exit
 // for each mask costs more where masks are many.
 fn checked<R: Read + Drop>(
     rt: &HostRuntime,
-    kind: FileKind,
+    kind: CheckedKind,
     steps: usize,
     reader: R,
 ) -> Result<bool, Ended> {
     let mut reader = ReaderSource::new(reader);
     let mut writer = WriterSink::new(rt.stdout());
-    match kind {
-        FileKind::Flows => { check_file::<Scan, _, _>(rt.alloc(), &mut reader, steps, &mut writer) }
-        FileKind::Events => {
-            check_events::<Lookups, _, _>(rt.alloc(), &mut reader, steps, &mut writer)
-        }
+    if kind == CheckedKind::Events {
+        check_events::<Lookups, _, _>(rt.alloc(), &mut reader, steps, &mut writer)
+    } else {
+        check_file::<Scan, _, _>(rt.alloc(), &mut reader, steps, &mut writer)
     }
 }
 
@@ -264,7 +284,7 @@ fn run<R: Read + Drop>(rt: &HostRuntime, request: &Request, reader: R) -> Ended 
             dis::<Lookups, _, _>(rt.alloc(), &mut reader, &mut writer)
         }
         Request::Trace(_)
-        | Request::Check { .. }
+        | Request::Check(_)
         | Request::Import { .. }
         | Request::Say { .. }
         | Request::Serve(_)

@@ -1,0 +1,112 @@
+//! Reports of `check`.
+use crate::importing::{NotImported, import_of, read_whole};
+use crate::lookups::Lookups;
+use crate::standard_input::StandardInput;
+use of_classifier::Scan;
+use of_command_line::{Check, CheckOutput, CheckedKind};
+use of_import::Mode;
+use of_replay::Ended;
+use of_replay::streams::{ReaderSource, WriterSink};
+use of_report::{Content, Form, content_of, lines_by_table, report_events, report_flows};
+use std::fs::File;
+use std::io;
+
+/// Why there is no report.
+#[derive(Drop)]
+pub enum NoReport {
+    /// The file does not open.
+    Unopened(io::Error),
+    /// Lines of a table of Open vSwitch are refused, which standard error names.
+    Faults,
+    /// As other runs over a file end.
+    Ended(Ended),
+}
+
+fn bytes_of(rt: &HostRuntime, path: &str) -> Result<Vec<u8>, NoReport> {
+    let bytes = if path == "-" {
+        read_whole(rt.alloc(), StandardInput::new(rt))
+    } else {
+        match File::open(rt, path) {
+            Ok(file) => read_whole(rt.alloc(), file),
+            Err(error) => return Err(NoReport::Unopened(error)),
+        }
+    };
+    bytes.map_err(NoReport::Ended)
+}
+
+fn form_of(output: CheckOutput) -> Form {
+    match output {
+        CheckOutput::Lines | CheckOutput::Report => Form::Findings,
+        CheckOutput::All => Form::All,
+        CheckOutput::Json => Form::Json,
+    }
+}
+
+fn content_as(kind: CheckedKind, bytes: &[u8]) -> Content {
+    match kind {
+        CheckedKind::Guessed => content_of(bytes),
+        CheckedKind::Flows => Content::FlowText,
+        CheckedKind::Events => Content::EventFile,
+        CheckedKind::Ovs => Content::OvsTable,
+    }
+}
+
+// Prints the report on a flow text, whose entries have these lines.
+fn flows_reported(
+    rt: &HostRuntime,
+    asked: &Check,
+    text: &[u8],
+    lines: &[Vec<usize>],
+) -> Result<bool, NoReport> {
+    let mut reader = ReaderSource::new(text);
+    let mut writer = WriterSink::new(rt.stdout());
+    let (steps, form) = (asked.steps as usize, form_of(asked.output));
+    report_flows::<Scan, _, _>(rt.alloc(), &mut reader, lines, steps, form, &mut writer)
+        .map_err(NoReport::Ended)
+}
+
+fn events_reported(rt: &HostRuntime, asked: &Check, bytes: &[u8]) -> Result<bool, NoReport> {
+    let mut reader = ReaderSource::new(bytes);
+    let mut writer = WriterSink::new(rt.stdout());
+    let (steps, form) = (asked.steps as usize, form_of(asked.output));
+    report_events::<Lookups, _, _>(rt.alloc(), &mut reader, steps, form, &mut writer)
+        .map_err(NoReport::Ended)
+}
+
+// Its entries have other lines than those of the flow text that it becomes.
+fn table_reported(rt: &HostRuntime, asked: &Check, bytes: &[u8]) -> Result<bool, NoReport> {
+    let mode = Mode {
+        skip: false,
+        renumber: false,
+    };
+    match import_of(rt, bytes, mode) {
+        Ok(done) => flows_reported(rt, asked, &done.text, &[]),
+        Err(NotImported::Ended(ended)) => Err(NoReport::Ended(ended)),
+        Err(NotImported::Faults) => {
+            say_guess(rt, asked.kind);
+            Err(NoReport::Faults)
+        }
+    }
+}
+
+// A file of another kind with a mistake in its first line is taken for a table of Open vSwitch.
+fn say_guess(rt: &HostRuntime, kind: CheckedKind) {
+    if kind == CheckedKind::Guessed {
+        let _ = eprintln!(rt;
+            "the file was taken for what ovs-ofctl prints; --flows or --events says that it is a flow text or an event file"
+        );
+    }
+}
+
+/// Prints the report on the file, and returns whether something was found.
+pub fn reported(rt: &HostRuntime, asked: &Check) -> Result<bool, NoReport> {
+    let bytes = bytes_of(rt, asked.file.as_str())?;
+    match content_as(asked.kind, &bytes) {
+        Content::EventFile => events_reported(rt, asked, &bytes),
+        Content::OvsTable => table_reported(rt, asked, &bytes),
+        Content::FlowText => match lines_by_table(rt.alloc(), &bytes) {
+            Ok(lines) => flows_reported(rt, asked, &bytes, &lines),
+            Err(_) => Err(NoReport::Ended(Ended::NoMemory)),
+        },
+    }
+}
