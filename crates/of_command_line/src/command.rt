@@ -53,9 +53,18 @@ row, nothing is printed.
   ofswitch asm examples/router.flows | ofswitch dis -";
 
 const TRACES: &str =
-    "With --flows the switch has ports 1 to 64, all of whose links are up, and the groups and flows of the text. With --events it is
-the switch after the rows of the event file (`ofswitch replay --help`), with its ports and its connection, or with --at ROW the
-switch before that line. There is one line per step:
+    "FILE is a flow text (`ofswitch asm --help`), an event file (`ofswitch replay --help`), or what ovs-ofctl prints
+(`ofswitch import --help`); the first word that is not in a comment says which. Or --flows, --events or --ovs says it. Of a flow
+text or a table of ovs-ofctl the switch has the groups and flows, and ports 1 to 64, all of whose links are up. Of an event file it
+is the switch after the rows, with its ports and its connection, or with --at ROW the switch before that line. The trace is in
+words: the frame, then the steps, with the priority and the match of each entry that won, then what leaves:
+
+  in_port 1, eth 02:00:00:00:01:02 > 02:00:00:00:00:a1, eth_type 0x0800, ipv4 10.0.0.1 > 10.1.1.9, ip_proto 253, ttl 64
+  table 0: entry 1, priority 20, eth_dst 02:00:00:00:00:a1, eth_type 0x0800
+  go to table 1
+  ...
+
+With --flows or --events alone there is one line per step, for programs:
 
   lookup 0 entry 2                      a table, and the entry that won, by age from 0 (or miss)
   apply, write, clear, metadata, goto   an instruction
@@ -66,9 +75,9 @@ switch before that line. There is one line per step:
 
 With --explain there are notes below the lines: below a lookup the entry that won, as flow text, and the fields that the
 table sees; below an action what it changed, why an output sends nothing, and which buckets of a group run. With --why all,
-or --why \"0 100\" for the entries of table 0 that have priority 100, they also say why entries won or lost. With --words the same
-is said in words: first the frame, then the steps, with the priority and the match of each entry that won, then what leaves.
+or --why \"0 100\" for the entries of table 0 that have priority 100, they also say why entries won or lost.
 
+  ofswitch trace examples/router.flows --port 1 0200000000a10200000000010800450000140000000040fd64e30a0000010a010109
   ofswitch trace --flows examples/router.flows --port 1 0200000000a10200000000010800450000140000000040fd64e30a0000010a010109
   ofswitch trace --events examples/failover.events --at 14 --port 1 02000000000202000000000188b5";
 
@@ -274,7 +283,12 @@ const SAY: [Argument; 1] = [Argument {
     help: "Messages in hexadecimal digits, or a file with such digits or with the bytes; - is standard input",
 }];
 
-const TRACE: [Argument; 8] = [
+const TRACE: [Argument; 10] = [
+    Argument {
+        name: "FILE",
+        kind: Kind::Positional,
+        help: "The file of the switch; or the frame, if an option names the file",
+    },
     Argument {
         name: "flows",
         kind: Kind::Alternative("flows", "FILE"),
@@ -284,6 +298,11 @@ const TRACE: [Argument; 8] = [
         name: "events",
         kind: Kind::Alternative("events", "FILE"),
         help: "The event file whose rows make the switch; - is standard input",
+    },
+    Argument {
+        name: "ovs",
+        kind: Kind::Alternative("ovs", "FILE"),
+        help: "The dump or file of ovs-ofctl with the switch's flows; - is standard input",
     },
     Argument {
         name: "at",
@@ -297,7 +316,7 @@ const TRACE: [Argument; 8] = [
     },
     Argument {
         name: "HEX",
-        kind: Kind::Positional,
+        kind: Kind::Place,
         help: "The frame, two hexadecimal digits per byte",
     },
     Argument {
@@ -313,7 +332,7 @@ const TRACE: [Argument; 8] = [
     Argument {
         name: "words",
         kind: Kind::Flag("words"),
-        help: "Print the frame and the steps in words, with addresses and ports as an operator writes them",
+        help: "Print the trace in words also with --flows or --events",
     },
 ];
 

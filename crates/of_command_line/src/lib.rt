@@ -88,14 +88,14 @@ pub struct Trace {
     pub kind: FileKind,
     /// The line of an event file, from 1, before which the switch is taken; else it is the one after all lines.
     pub at: Option<u32>,
-    /// 1 to 64 where the file is a flow text, else 1 to 0xffffff00.
+    /// 1 to 64 if an option says that the file is a flow text, else 1 to 0xffffff00.
     pub port: u32,
     pub frame: Vec<u8>,
     /// Whether its lines have notes.
     pub explain: bool,
     /// Of which entries it says why they won or did not.
     pub why: Option<Asked>,
-    /// Whether it is in words.
+    /// Whether it is in words: if this is asked for, or if no option says that the file is a flow text or an event file.
     pub words: bool,
 }
 
@@ -103,23 +103,10 @@ pub struct Trace {
 #[derive(Debug, PartialEq, Eq, Drop)]
 pub struct Check {
     pub file: String,
-    pub kind: CheckedKind,
+    pub kind: FileKind,
     /// After how many of them a flow is given up.
     pub steps: u32,
     pub output: CheckOutput,
-}
-
-/// What a checked file is.
-#[derive(Clone, Copy, Debug, PartialEq, Eq)]
-pub enum CheckedKind {
-    /// What its content says.
-    Guessed,
-    /// A flow text.
-    Flows,
-    /// An event file.
-    Events,
-    /// What ovs-ofctl prints.
-    Ovs,
 }
 
 /// What is printed of a check.
@@ -138,10 +125,14 @@ pub enum CheckOutput {
 /// Of which kind the file of a switch is.
 #[derive(Clone, Copy, Debug, PartialEq, Eq)]
 pub enum FileKind {
+    /// Its content says it.
+    Guessed,
     /// A flow text: the switch has its groups and flows.
     Flows,
     /// An event file: the switch is the one that its rows leave.
     Events,
+    /// What ovs-ofctl prints: the switch has its groups and flows.
+    Ovs,
 }
 
 /// Entries of which a trace says why they won or did not.
@@ -278,20 +269,22 @@ fn file_request_of(
 
 fn trace_of(alloc: Global, matches: &ArgMatches<'_>) -> Result<Trace, NoRequest> {
     let (file, kind) = switch_file_of(alloc, matches)?;
+    // with a file by its place the frame is the second word, else the first
+    let frame = matches.get_str("HEX").or(matches.get_str("FILE"));
     Ok(Trace {
         file,
         kind,
         at: row_of(alloc, matches.get_str("at"))?,
         port: port_of(alloc, kind, matches.get_str("N").unwrap_or(""))?,
-        frame: frame_of(alloc, matches.get_str("HEX").unwrap_or(""))?,
+        frame: frame_of(alloc, frame.unwrap_or(""))?,
         explain: matches.get_flag("explain"),
         why: why_of(alloc, matches.get_str("why"))?,
-        words: matches.get_flag("words"),
+        words: matches.get_flag("words") || matches!(kind, FileKind::Guessed | FileKind::Ovs),
     })
 }
 
 fn check_of(alloc: Global, matches: &ArgMatches<'_>) -> Result<Request, NoRequest> {
-    let (file, kind) = checked_file_of(alloc, matches)?;
+    let (file, kind) = switch_file_of(alloc, matches)?;
     Ok(Request::Check(Check {
         file,
         kind,
@@ -300,26 +293,26 @@ fn check_of(alloc: Global, matches: &ArgMatches<'_>) -> Result<Request, NoReques
     }))
 }
 
-// The file that is checked, and what it is: one of these is there.
-fn checked_file_of(
+// The file of a switch, and what it is: one of these is there.
+fn switch_file_of(
     alloc: Global,
     matches: &ArgMatches<'_>,
-) -> Result<(String, CheckedKind), AllocError> {
+) -> Result<(String, FileKind), AllocError> {
     if let Some(file) = matches.get_str("flows") {
-        return Ok((file.to_string(alloc)?, CheckedKind::Flows));
+        return Ok((file.to_string(alloc)?, FileKind::Flows));
     }
     if let Some(file) = matches.get_str("events") {
-        return Ok((file.to_string(alloc)?, CheckedKind::Events));
+        return Ok((file.to_string(alloc)?, FileKind::Events));
     }
     if let Some(file) = matches.get_str("ovs") {
-        return Ok((file.to_string(alloc)?, CheckedKind::Ovs));
+        return Ok((file.to_string(alloc)?, FileKind::Ovs));
     }
     let file = matches.get_str("FILE").unwrap_or("-");
-    Ok((file.to_string(alloc)?, CheckedKind::Guessed))
+    Ok((file.to_string(alloc)?, FileKind::Guessed))
 }
 
 // Lines, if the options say which file it is and nothing of a report.
-fn output_of(kind: CheckedKind, matches: &ArgMatches<'_>) -> CheckOutput {
+fn output_of(kind: FileKind, matches: &ArgMatches<'_>) -> CheckOutput {
     if matches.get_flag("json") {
         return CheckOutput::Json;
     }
@@ -327,26 +320,13 @@ fn output_of(kind: CheckedKind, matches: &ArgMatches<'_>) -> CheckOutput {
         return CheckOutput::All;
     }
     match kind {
-        CheckedKind::Flows | CheckedKind::Events if !matches.get_flag("words") => {
+        FileKind::Flows | FileKind::Events if !matches.get_flag("words") => {
             CheckOutput::Lines
         }
         _ => CheckOutput::Report,
     }
 }
 
-// The file of a switch, and its kind: one of the two options is there.
-fn switch_file_of(
-    alloc: Global,
-    matches: &ArgMatches<'_>,
-) -> Result<(String, FileKind), AllocError> {
-    match matches.get_str("events") {
-        Some(file) => Ok((file.to_string(alloc)?, FileKind::Events)),
-        None => {
-            let file = matches.get_str("flows").unwrap_or("-");
-            Ok((file.to_string(alloc)?, FileKind::Flows))
-        }
-    }
-}
 
 // A number of 32 bits as event files and flow texts write it: without a sign, and without zeros before it.
 fn number_in(word: &str) -> Option<u32> {
@@ -369,9 +349,10 @@ fn row_of(alloc: Global, word: Option<&str>) -> Result<Option<u32>, NoRequest> {
 
 // The number of a port that frames are traced from.
 fn port_of(alloc: Global, kind: FileKind, word: &str) -> Result<u32, NoRequest> {
-    let last = match kind {
-        FileKind::Flows => LAST_PORT,
-        FileKind::Events => OFPP_MAX,
+    let last = if kind == FileKind::Flows {
+        LAST_PORT
+    } else {
+        OFPP_MAX
     };
     match number_in(word) {
         Some(port) if port >= 1 && port <= last => Ok(port),

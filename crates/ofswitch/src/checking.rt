@@ -3,7 +3,7 @@ use crate::importing::{NotImported, import_of, read_whole};
 use crate::lookups::Lookups;
 use crate::standard_input::StandardInput;
 use of_classifier::Scan;
-use of_command_line::{Check, CheckOutput, CheckedKind};
+use of_command_line::{Check, CheckOutput, FileKind};
 use of_import::Mode;
 use of_replay::Ended;
 use of_replay::streams::{ReaderSource, WriterSink};
@@ -11,7 +11,7 @@ use of_report::{Content, Form, content_of, lines_by_table, report_events, report
 use std::fs::File;
 use std::io;
 
-/// Why there is no report.
+/// Why there is no report, or no trace.
 #[derive(Drop)]
 pub enum NoReport {
     /// The file does not open.
@@ -22,7 +22,8 @@ pub enum NoReport {
     Ended(Ended),
 }
 
-fn bytes_of(rt: &HostRuntime, path: &str) -> Result<Vec<u8>, NoReport> {
+/// The bytes of a file; `-` is standard input.
+pub fn bytes_of(rt: &HostRuntime, path: &str) -> Result<Vec<u8>, NoReport> {
     let bytes = if path == "-" {
         read_whole(rt.alloc(), StandardInput::new(rt))
     } else {
@@ -42,12 +43,13 @@ fn form_of(output: CheckOutput) -> Form {
     }
 }
 
-fn content_as(kind: CheckedKind, bytes: &[u8]) -> Content {
+/// What a file is.
+pub fn content_as(kind: FileKind, bytes: &[u8]) -> Content {
     match kind {
-        CheckedKind::Guessed => content_of(bytes),
-        CheckedKind::Flows => Content::FlowText,
-        CheckedKind::Events => Content::EventFile,
-        CheckedKind::Ovs => Content::OvsTable,
+        FileKind::Guessed => content_of(bytes),
+        FileKind::Flows => Content::FlowText,
+        FileKind::Events => Content::EventFile,
+        FileKind::Ovs => Content::OvsTable,
     }
 }
 
@@ -73,25 +75,35 @@ fn events_reported(rt: &HostRuntime, asked: &Check, bytes: &[u8]) -> Result<bool
         .map_err(NoReport::Ended)
 }
 
-// Its entries have other lines than those of the flow text that it becomes.
-fn table_reported(rt: &HostRuntime, asked: &Check, bytes: &[u8]) -> Result<bool, NoReport> {
+/// The flow text of what ovs-ofctl prints.
+pub fn text_of_table(
+    rt: &HostRuntime,
+    kind: FileKind,
+    bytes: &[u8],
+) -> Result<Vec<u8>, NoReport> {
     let mode = Mode {
         skip: false,
         renumber: false,
     };
     match import_of(rt, bytes, mode) {
-        Ok(done) => flows_reported(rt, asked, &done.text, &[]),
+        Ok(done) => Ok(done.text),
         Err(NotImported::Ended(ended)) => Err(NoReport::Ended(ended)),
         Err(NotImported::Faults) => {
-            say_guess(rt, asked.kind);
+            say_guess(rt, kind);
             Err(NoReport::Faults)
         }
     }
 }
 
+// Its entries have other lines than those of the flow text that it becomes.
+fn table_reported(rt: &HostRuntime, asked: &Check, bytes: &[u8]) -> Result<bool, NoReport> {
+    let text = text_of_table(rt, asked.kind, bytes)?;
+    flows_reported(rt, asked, &text, &[])
+}
+
 // A file of another kind with a mistake in its first line is taken for a table of Open vSwitch.
-fn say_guess(rt: &HostRuntime, kind: CheckedKind) {
-    if kind == CheckedKind::Guessed {
+fn say_guess(rt: &HostRuntime, kind: FileKind) {
+    if kind == FileKind::Guessed {
         let _ = eprintln!(rt;
             "the file was taken for what ovs-ofctl prints; --flows or --events says that it is a flow text or an event file"
         );

@@ -13,6 +13,7 @@ mod saying;
 mod serving;
 mod sockets;
 mod standard_input;
+mod tracing;
 
 use crate::checking::{NoReport, reported};
 use crate::lookups::Lookups;
@@ -23,8 +24,7 @@ use of_asking::Answering;
 use of_check::{check_events, check_file};
 use of_classifier::Scan;
 use of_command_line::{
-    Asked, Check, CheckOutput, CheckedKind, FileKind, Live, NoRequest, Request, Serve, Trace,
-    read_request,
+    Check, CheckOutput, FileKind, Live, NoRequest, Request, Serve, Trace, read_request,
 };
 use of_explain::Explaining;
 use of_import::Mode;
@@ -33,10 +33,10 @@ use of_replay::{Ended, Plain, RowPrinter, Sink, Source, asm, dis, print_file, st
 use of_serve::{ended_unopened, read_rows};
 use of_switch::Event;
 use of_text::TextFault;
-use of_trace::{FirstLines, Form, Style, trace_events, trace_file};
 use saying::{Unsaid, said};
 use serving::serve_rows;
 use standard_input::StandardInput;
+use tracing::{traced, traced_by_content};
 use std::alloc::Global;
 use std::fs::File;
 use std::io::{self, Read};
@@ -92,8 +92,8 @@ fn carry_out(rt: &HostRuntime, request: &Request) -> ExitCode {
     match request {
         Request::Replay { file, .. }
         | Request::Assemble { file }
-        | Request::Disassemble { file }
-        | Request::Trace(Trace { file, .. }) => run_file(rt, request, file.as_str()),
+        | Request::Disassemble { file } => run_file(rt, request, file.as_str()),
+        Request::Trace(asked) => run_trace(rt, request, asked),
         Request::Check(asked) => run_check(rt, asked),
         Request::Import {
             file,
@@ -158,6 +158,17 @@ fn run_file(rt: &HostRuntime, request: &Request, path: &str) -> ExitCode {
     }
 }
 
+fn run_trace(rt: &HostRuntime, request: &Request, asked: &Trace) -> ExitCode {
+    let path = asked.file.as_str();
+    if matches!(asked.kind, FileKind::Flows | FileKind::Events) {
+        return run_file(rt, request, path);
+    }
+    match traced_by_content(rt, asked) {
+        Ok(ended) => end_file(rt, path, &ended),
+        Err(why) => end_unread(rt, path, why),
+    }
+}
+
 fn run_check(rt: &HostRuntime, asked: &Check) -> ExitCode {
     if asked.output != CheckOutput::Lines {
         return run_report(rt, asked);
@@ -178,9 +189,16 @@ fn run_report(rt: &HostRuntime, asked: &Check) -> ExitCode {
     let path = asked.file.as_str();
     match reported(rt, asked) {
         Ok(found) => end_check(rt, path, Ok(found)),
-        Err(NoReport::Ended(ended)) => end_check(rt, path, Err(ended)),
-        Err(NoReport::Unopened(error)) => end_unopened(rt, path, &error),
-        Err(NoReport::Faults) => ExitCode::from(BAD_LINES),
+        Err(why) => end_unread(rt, path, why),
+    }
+}
+
+// Why a file that was read whole has no report or no trace.
+fn end_unread(rt: &HostRuntime, path: &str, why: NoReport) -> ExitCode {
+    match why {
+        NoReport::Ended(ended) => end_file(rt, path, &ended),
+        NoReport::Unopened(error) => end_unopened(rt, path, &error),
+        NoReport::Faults => ExitCode::from(BAD_LINES),
     }
 }
 
@@ -196,13 +214,13 @@ fn end_check(rt: &HostRuntime, path: &str, found: Result<bool, Ended>) -> ExitCo
 // for each mask costs more where masks are many.
 fn checked<R: Read + Drop>(
     rt: &HostRuntime,
-    kind: CheckedKind,
+    kind: FileKind,
     steps: usize,
     reader: R,
 ) -> Result<bool, Ended> {
     let mut reader = ReaderSource::new(reader);
     let mut writer = WriterSink::new(rt.stdout());
-    if kind == CheckedKind::Events {
+    if kind == FileKind::Events {
         check_events::<Lookups, _, _>(rt.alloc(), &mut reader, steps, &mut writer)
     } else {
         check_file::<Scan, _, _>(rt.alloc(), &mut reader, steps, &mut writer)
@@ -258,7 +276,7 @@ fn end_unopened(rt: &HostRuntime, path: &str, error: &io::Error) -> ExitCode {
 
 fn run<R: Read + Drop>(rt: &HostRuntime, request: &Request, reader: R) -> Ended {
     if let Request::Trace(asked) = request {
-        return run_trace(rt, asked, reader);
+        return traced(rt, asked, reader);
     }
     let mut reader = ReaderSource::new(reader);
     let mut writer = WriterSink::new(rt.stdout());
@@ -305,50 +323,6 @@ fn play<T: RowPrinter<Lookups>, S: Source, W: Sink>(
     requires failures { W.failures writer.old ≡ 0 }
 {
     print_file::<Lookups, _, _, _>(rt.alloc(), dpid, reads, rows, reader, writer)
-}
-
-// The switch before a line is the one that the lines before it leave.
-fn run_trace<R: Read + Drop>(rt: &HostRuntime, asked: &Trace, reader: R) -> Ended {
-    let mut source = ReaderSource::new(reader);
-    match asked.at {
-        Some(row) => {
-            let lines = u64::from(row).saturating_sub(1);
-            traced(rt, asked, &mut FirstLines::new(source, lines))
-        }
-        None => traced(rt, asked, &mut source),
-    }
-}
-
-fn traced<S: Source>(rt: &HostRuntime, asked: &Trace, reader: &mut S) -> Ended
-    requires reads { S.reads reader.old ≡ 0 }
-{
-    let form = form_of(asked.explain, asked.why);
-    let style = style_of(asked.words);
-    let (alloc, port, frame) = (rt.alloc(), asked.port, asked.frame.as_slice());
-    let mut writer = WriterSink::new(rt.stdout());
-    match asked.kind {
-        FileKind::Flows => {
-            trace_file::<Lookups, _, _>(alloc, reader, port, frame, style, form, &mut writer)
-        }
-        FileKind::Events => {
-            trace_events::<Lookups, _, _>(alloc, reader, port, frame, style, form, &mut writer)
-        }
-    }
-}
-
-fn style_of(words: bool) -> Style {
-    if words { Style::Words } else { Style::Lines }
-}
-
-fn form_of(explain: bool, why: Option<Asked>) -> Form {
-    match why {
-        Some(Asked::All) => Form::Why(of_trace::Asked::All),
-        Some(Asked::Priority { table, priority }) => {
-            Form::Why(of_trace::Asked::Priority { table, priority })
-        }
-        None if explain => Form::Explained,
-        None => Form::Plain,
-    }
 }
 
 // Why the run ended, on standard error where it is a fault, and the status.

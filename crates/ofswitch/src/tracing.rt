@@ -1,0 +1,86 @@
+//! Traces of frames.
+ghost use Rattle.std.specs.Prelude.{◌≡◌};
+
+use crate::checking::{NoReport, bytes_of, content_as, text_of_table};
+use crate::lookups::Lookups;
+use of_command_line::{Asked, FileKind, Trace};
+use of_replay::streams::{ReaderSource, WriterSink};
+use of_replay::{Ended, Source};
+use of_report::Content;
+use of_trace::{FirstLines, Form, Style, trace_events, trace_file};
+use std::io::Read;
+
+fn form_of(explain: bool, why: Option<Asked>) -> Form {
+    match why {
+        Some(Asked::All) => Form::Why(of_trace::Asked::All),
+        Some(Asked::Priority { table, priority }) => {
+            Form::Why(of_trace::Asked::Priority { table, priority })
+        }
+        None if explain => Form::Explained,
+        None => Form::Plain,
+    }
+}
+
+fn style_of(words: bool) -> Style {
+    if words { Style::Words } else { Style::Lines }
+}
+
+// Prints the trace on the switch with the groups and flows of a flow text.
+fn traced_on_flows<S: Source>(rt: &HostRuntime, asked: &Trace, reader: &mut S) -> Ended
+    requires reads { S.reads reader.old ≡ 0 }
+{
+    let (style, form) = (style_of(asked.words), form_of(asked.explain, asked.why));
+    let (alloc, port, frame) = (rt.alloc(), asked.port, asked.frame.as_slice());
+    let mut writer = WriterSink::new(rt.stdout());
+    trace_file::<Lookups, _, _>(alloc, reader, port, frame, style, form, &mut writer)
+}
+
+fn traced_on_rows<S: Source>(rt: &HostRuntime, asked: &Trace, reader: &mut S) -> Ended
+    requires reads { S.reads reader.old ≡ 0 }
+{
+    let (style, form) = (style_of(asked.words), form_of(asked.explain, asked.why));
+    let (alloc, port, frame) = (rt.alloc(), asked.port, asked.frame.as_slice());
+    let mut writer = WriterSink::new(rt.stdout());
+    trace_events::<Lookups, _, _>(alloc, reader, port, frame, style, form, &mut writer)
+}
+
+// The switch before a line is the one that the lines before it leave.
+fn traced_at<S: Source>(rt: &HostRuntime, asked: &Trace, source: S) -> Ended
+    requires reads { S.reads source ≡ 0 }
+{
+    let mut source = source;
+    match asked.at {
+        Some(row) => {
+            let lines = u64::from(row).saturating_sub(1);
+            traced_on_rows(rt, asked, &mut FirstLines::new(source, lines))
+        }
+        None => traced_on_rows(rt, asked, &mut source),
+    }
+}
+
+/// Prints the trace of a frame on the switch of a file that an option calls a flow text or an event file. The file is read as it is played.
+pub fn traced<R: Read + Drop>(rt: &HostRuntime, asked: &Trace, reader: R) -> Ended {
+    let mut source = ReaderSource::new(reader);
+    if asked.kind == FileKind::Events {
+        return traced_at(rt, asked, source);
+    }
+    traced_on_flows(rt, asked, &mut source)
+}
+
+/// Prints the trace of a frame on the switch of a file, which is what its content or an option says.
+pub fn traced_by_content(rt: &HostRuntime, asked: &Trace) -> Result<Ended, NoReport> {
+    let bytes = bytes_of(rt, asked.file.as_str())?;
+    match content_as(asked.kind, &bytes) {
+        Content::EventFile => Ok(traced_at(rt, asked, ReaderSource::new(bytes.as_slice()))),
+        Content::FlowText => Ok(traced_on_flows(
+            rt,
+            asked,
+            &mut ReaderSource::new(bytes.as_slice()),
+        )),
+        Content::OvsTable => {
+            let text = text_of_table(rt, asked.kind, &bytes)?;
+            let mut reader = ReaderSource::new(text.as_slice());
+            Ok(traced_on_flows(rt, asked, &mut reader))
+        }
+    }
+}
