@@ -4,6 +4,8 @@
 mod forms;
 mod hint;
 mod layout;
+mod sentences;
 mod words;
 
-pub use hint::{Hint, event_row_hint, flow_line_hint};
+pub use hint::{Hint, event_row_hint, flow_line_hint, import_hint};
+pub use sentences::refusal_sentence;
