@@ -23,6 +23,8 @@ pub enum Hint {
     EventFile,
     #[error("this is a line of ovs-ofctl: convert the file with import")]
     OpenVswitch,
+    #[error("a comment is a line of its own, which begins with #")]
+    Comment,
     #[error("{0}")]
     Words(WordFault),
     #[error("connect, lost and c are rows of a controller, which are not allowed in this file")]
@@ -71,6 +73,9 @@ fn fault(line: &[u8], forms: &[Form], unknown: Hint) -> Option<Hint>
 {
     if let Some(fault) = layout_fault(line) {
         return Some(Hint::Layout(fault));
+    }
+    if line.contains(&b'#') {
+        return Some(Hint::Comment);
     }
     let Some((form, words)) = form_of(line, forms) else {
         return Some(unknown);

@@ -1,5 +1,5 @@
 -- Comments behind the flows of a text change nothing of what it encodes.
-use Rattle.std.proofs.Common.{◌≡◌, ℕ, ◌<◌, eqb, length, Bool, true, false, cond, List, [], ◌∷◌, ◌++◌, refl, sym, ◌∙◌, ap, append_assoc}
+use Rattle.std.proofs.Common.{◌≡◌, ℕ, ◌<◌, eqb, length, Bool, true, false, cond, List, [], ◌∷◌, ◌++◌, refl, sym, ◌∙◌, ap, append_assoc, arith}
 use Rattle.std.specs.Prelude.{◌==◌, map, reverse, if◌then◌else◌}
 use Rattle.std.specs.List.{AllByRecursion, flat_map}
 use Rattle.std.specs.Global.{Vec}
@@ -103,7 +103,13 @@ to_come_next old left x e = ap notes_to_come e ∙ ap view_notes (reverse-append
 
 pub none_to_come : (old : List (Vec ℕ)) → length old ≡ 0 → notes_to_come old ≡ []
 none_to_come [] e = refl
-none_to_come (x ∷ xs) e = absurd cc
+none_to_come (x ∷ xs) e = absurd (omega (arith, e))
+
+pub next_out : (old left : List (Vec ℕ)) (x : Vec ℕ) → old ≡ left ++ x ∷ [] → next_note (notes_to_come old) ≡ x.items
+next_out old left x e = ap next_note (to_come_next old left x e)
+
+pub next_left : (old left : List (Vec ℕ)) (x : Vec ℕ) → old ≡ left ++ x ∷ [] → notes_to_come left ≡ later_notes (notes_to_come old)
+next_left old left x e = sym (ap later_notes (to_come_next old left x e))
 
 pub to_come_first : (notes left : List (Vec ℕ)) → left ≡ reverse notes → notes_to_come left ≡ view_notes notes
 to_come_first notes left e = ap notes_to_come e ∙ ap view_notes (reverse-reverse notes)
