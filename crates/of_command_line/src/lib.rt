@@ -4,6 +4,7 @@
 mod command;
 
 ghost use Rattle.std.specs.Prelude.{◌≡◌};
+ghost use Rattle.std.specs.Iterator.{IsFinite};
 ghost use Rattle.of_command_line.specs.declared.NoRequest.TheVariants.{NoMemory};
 
 use clap::ArgMatches;
@@ -11,7 +12,7 @@ use clap::error::{Error, ErrorKind};
 use command::command;
 use of_wire::limits::{OFPP_MAX, TABLES};
 use std::alloc::{AllocError, Global};
-use std::net::{IpAddr, SocketAddr};
+use std::net::{IpAddr, Net, SocketAddr, ToSocketAddrs};
 use std::str::FromStr;
 
 /// A switch that has the flows of a flow text has the ports 1 to this one.
@@ -214,15 +215,23 @@ impl From<AllocError> for NoRequest {
     }
 }
 
-/// Reads the words of a command line, of which the first is the program's name.
-pub fn read_request(alloc: Global, words: &[String]) -> Result<Request, NoRequest> {
+/// Reads the words of a command line, of which the first is the program's name. Names of hosts are looked up.
+pub fn read_request<N: Net>(
+    alloc: Global,
+    net: &N,
+    words: &[String],
+) -> Result<Request, NoRequest> {
     match command(alloc)?.try_get_matches_from(words) {
-        Ok(matches) => request_of(alloc, &matches),
+        Ok(matches) => request_of(alloc, net, &matches),
         Err(error) => Err(refusal_of(alloc, &error)?),
     }
 }
 
-fn request_of(alloc: Global, matches: &ArgMatches<'_>) -> Result<Request, NoRequest> {
+fn request_of<N: Net>(
+    alloc: Global,
+    net: &N,
+    matches: &ArgMatches<'_>,
+) -> Result<Request, NoRequest> {
     let Some((name, matches)) = matches.subcommand() else {
         return Ok(Request::Replay {
             file: "-".to_string(alloc)?,
@@ -233,8 +242,8 @@ fn request_of(alloc: Global, matches: &ArgMatches<'_>) -> Result<Request, NoRequ
         });
     };
     match name {
-        "serve" => Ok(Request::Serve(serve_of(alloc, matches)?)),
-        "live" => Ok(Request::Live(live_of(alloc, matches)?)),
+        "serve" => Ok(Request::Serve(serve_of(alloc, net, matches)?)),
+        "live" => Ok(Request::Live(live_of(alloc, net, matches)?)),
         "trace" => Ok(Request::Trace(trace_of(alloc, matches)?)),
         "check" => check_of(alloc, matches),
         _ => file_request_of(alloc, name, matches),
@@ -398,13 +407,17 @@ fn asked_in(word: &str) -> Option<Asked> {
     }
 }
 
-fn meeting_of(alloc: Global, matches: &ArgMatches<'_>) -> Result<Meeting, NoRequest> {
+fn meeting_of<N: Net>(
+    alloc: Global,
+    net: &N,
+    matches: &ArgMatches<'_>,
+) -> Result<Meeting, NoRequest> {
     match matches.get_str("connect") {
-        Some(word) => Ok(Meeting::Dial(address_of(alloc, word)?)),
-        None => Ok(Meeting::Listen(address_of(
-            alloc,
-            matches.get_str("listen").unwrap_or(DEFAULT_ADDRESS),
-        )?)),
+        Some(word) => Ok(Meeting::Dial(address_of(alloc, net, word)?)),
+        None => {
+            let word = matches.get_str("listen").unwrap_or(DEFAULT_ADDRESS);
+            Ok(Meeting::Listen(address_of(alloc, net, word)?))
+        }
     }
 }
 
@@ -416,9 +429,13 @@ fn text_of(alloc: Global, word: Option<&str>) -> Result<Option<String>, AllocErr
     }
 }
 
-fn serve_of(alloc: Global, matches: &ArgMatches<'_>) -> Result<Serve, NoRequest> {
+fn serve_of<N: Net>(
+    alloc: Global,
+    net: &N,
+    matches: &ArgMatches<'_>,
+) -> Result<Serve, NoRequest> {
     Ok(Serve {
-        meeting: meeting_of(alloc, matches)?,
+        meeting: meeting_of(alloc, net, matches)?,
         events: text_of(alloc, matches.get_str("FILE"))?,
         turns: turns_of(alloc, matches.get_str("turns"))?,
         dpid: dpid_of(alloc, matches.get_str("dpid"))?,
@@ -426,10 +443,14 @@ fn serve_of(alloc: Global, matches: &ArgMatches<'_>) -> Result<Serve, NoRequest>
     })
 }
 
-fn live_of(alloc: Global, matches: &ArgMatches<'_>) -> Result<Live, NoRequest> {
+fn live_of<N: Net>(
+    alloc: Global,
+    net: &N,
+    matches: &ArgMatches<'_>,
+) -> Result<Live, NoRequest> {
     Ok(Live {
         tunnel: tunnel_of(alloc, matches.get_str("vxlan").unwrap_or(DEFAULT_TUNNEL))?,
-        meeting: meeting_of(alloc, matches)?,
+        meeting: meeting_of(alloc, net, matches)?,
         ports: ports_of(alloc, matches.get_str("ports"))?,
         events: text_of(alloc, matches.get_str("FILE"))?,
         rows: running_rows_of(alloc, matches.get_str("rows"), matches.get_str("FILE"))?,
@@ -522,12 +543,55 @@ fn live_turns_of(alloc: Global, word: Option<&str>) -> Result<u64, NoRequest> {
     }
 }
 
-fn address_of(alloc: Global, word: &str) -> Result<SocketAddr, NoRequest> {
-    match SocketAddr::from_str(word) {
-        Ok(address) => Ok(address),
-        Err(_) => Err(refused(
+// The parts of a host's name and a port.
+fn name_in(word: &str) -> Option<(&str, u16)> {
+    let (host, port) = word.split_once(':')?;
+    if host.is_empty() {
+        return None;
+    }
+    Some((host, u16::try_from(number_in(port)?).ok()?))
+}
+
+// The first address of a host, those of IPv4 before the others.
+fn found_in<I: Iterator<Item = SocketAddr> + Drop>(addresses: I) -> Option<SocketAddr>
+    requires finite { IsFinite (I.remaining addresses) }
+    requires next { I.can_next addresses }
+{
+    let mut other = None;
+    for address in addresses {
+        if address.is_ipv4() {
+            return Some(address);
+        }
+        other = other.or(Some(address));
+    }
+    other
+}
+
+fn named_address<N: Net>(
+    alloc: Global,
+    net: &N,
+    host: &str,
+    port: u16,
+) -> Result<SocketAddr, NoRequest> {
+    let why = match (host, port).to_socket_addrs(net) {
+        Ok(addresses) => match found_in(addresses) {
+            Some(address) => return Ok(address),
+            None => format!(in alloc; "bad address\n{host}: no address\n")?,
+        },
+        Err(error) => format!(in alloc; "bad address\n{host}: {error}\n")?,
+    };
+    Err(NoRequest::Refused(why))
+}
+
+fn address_of<N: Net>(alloc: Global, net: &N, word: &str) -> Result<SocketAddr, NoRequest> {
+    if let Ok(address) = SocketAddr::from_str(word) {
+        return Ok(address);
+    }
+    match name_in(word) {
+        Some((host, port)) => named_address(alloc, net, host, port),
+        None => Err(refused(
             alloc,
-            "bad address\nan address is an IP address and a port, such as 127.0.0.1:6653 or [::1]:6653\n",
+            "bad address\nan address is an IP address or a host, and a port, such as 127.0.0.1:6653, [::1]:6653 or localhost:6653\n",
         )?),
     }
 }

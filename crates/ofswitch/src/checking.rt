@@ -1,5 +1,7 @@
 //! Reports of `check`.
+use crate::hinting::Seen;
 use crate::importing::{NotImported, import_of, read_whole};
+use crate::parts::print_part;
 use crate::lookups::Lookups;
 use crate::standard_input::StandardInput;
 use of_classifier::Scan;
@@ -59,20 +61,21 @@ fn flows_reported(
     asked: &Check,
     text: &[u8],
     lines: &[Vec<usize>],
-) -> Result<bool, NoReport> {
+) -> Result<bool, Ended> {
+    if asked.output != CheckOutput::Json {
+        print_part(rt, text)?;
+    }
     let mut reader = ReaderSource::new(text);
     let mut writer = WriterSink::new(rt.stdout());
     let (steps, form) = (asked.steps as usize, form_of(asked.output));
     report_flows::<Scan, _, _>(rt.alloc(), &mut reader, lines, steps, form, &mut writer)
-        .map_err(NoReport::Ended)
 }
 
-fn events_reported(rt: &HostRuntime, asked: &Check, bytes: &[u8]) -> Result<bool, NoReport> {
+fn events_reported(rt: &HostRuntime, asked: &Check, bytes: &[u8]) -> Result<bool, Ended> {
     let mut reader = ReaderSource::new(bytes);
     let mut writer = WriterSink::new(rt.stdout());
     let (steps, form) = (asked.steps as usize, form_of(asked.output));
     report_events::<Lookups, _, _>(rt.alloc(), &mut reader, steps, form, &mut writer)
-        .map_err(NoReport::Ended)
 }
 
 /// The flow text of what ovs-ofctl prints.
@@ -95,11 +98,6 @@ pub fn text_of_table(
     }
 }
 
-// Its entries have other lines than those of the flow text that it becomes.
-fn table_reported(rt: &HostRuntime, asked: &Check, bytes: &[u8]) -> Result<bool, NoReport> {
-    let text = text_of_table(rt, asked.kind, bytes)?;
-    flows_reported(rt, asked, &text, &[])
-}
 
 // A file of another kind with a mistake in its first line is taken for a table of Open vSwitch.
 fn say_guess(rt: &HostRuntime, kind: FileKind) {
@@ -110,15 +108,25 @@ fn say_guess(rt: &HostRuntime, kind: FileKind) {
     }
 }
 
-/// Prints the report on the file, and returns whether something was found.
-pub fn reported(rt: &HostRuntime, asked: &Check) -> Result<bool, NoReport> {
-    let bytes = bytes_of(rt, asked.file.as_str())?;
-    match content_as(asked.kind, &bytes) {
-        Content::EventFile => events_reported(rt, asked, &bytes),
-        Content::OvsTable => table_reported(rt, asked, &bytes),
-        Content::FlowText => match lines_by_table(rt.alloc(), &bytes) {
-            Ok(lines) => flows_reported(rt, asked, &bytes, &lines),
-            Err(_) => Err(NoReport::Ended(Ended::NoMemory)),
-        },
+// The report on a flow text.
+fn text_reported(rt: &HostRuntime, asked: &Check, text: &[u8]) -> Result<bool, Ended> {
+    match lines_by_table(rt.alloc(), text) {
+        Ok(lines) => flows_reported(rt, asked, text, &lines),
+        Err(_) => Err(Ended::NoMemory),
     }
+}
+
+/// Prints the report on the file. Returns whether something was found, or how the run ended, and what was read.
+pub fn reported(rt: &HostRuntime, asked: &Check) -> Result<(Result<bool, Ended>, Seen), NoReport> {
+    let bytes = bytes_of(rt, asked.file.as_str())?;
+    let found = match content_as(asked.kind, &bytes) {
+        Content::EventFile => events_reported(rt, asked, &bytes),
+        Content::FlowText => text_reported(rt, asked, &bytes),
+        // its entries have other lines than those of the flow text that it becomes
+        Content::OvsTable => {
+            let text = text_of_table(rt, asked.kind, &bytes)?;
+            flows_reported(rt, asked, &text, &[])
+        }
+    };
+    Ok((found, Seen::whole(bytes)))
 }

@@ -2,6 +2,7 @@
 ghost use Rattle.std.specs.Prelude.{◌≡◌};
 
 use crate::checking::{NoReport, bytes_of, content_as, text_of_table};
+use crate::hinting::Seen;
 use crate::lookups::Lookups;
 use of_command_line::{Asked, FileKind, Trace};
 use of_replay::streams::{ReaderSource, WriterSink};
@@ -67,20 +68,21 @@ pub fn traced<R: Read + Drop>(rt: &HostRuntime, asked: &Trace, reader: R) -> End
     traced_on_flows(rt, asked, &mut source)
 }
 
-/// Prints the trace of a frame on the switch of a file, which is what its content or an option says.
-pub fn traced_by_content(rt: &HostRuntime, asked: &Trace) -> Result<Ended, NoReport> {
+/// Prints the trace of a frame on the switch of a file, which is what its content or an option says. Returns how the run ended, and what was
+/// read.
+pub fn traced_by_content(rt: &HostRuntime, asked: &Trace) -> Result<(Ended, Seen), NoReport> {
     let bytes = bytes_of(rt, asked.file.as_str())?;
-    match content_as(asked.kind, &bytes) {
-        Content::EventFile => Ok(traced_at(rt, asked, ReaderSource::new(bytes.as_slice()))),
-        Content::FlowText => Ok(traced_on_flows(
-            rt,
-            asked,
-            &mut ReaderSource::new(bytes.as_slice()),
-        )),
+    let ended = match content_as(asked.kind, &bytes) {
+        Content::EventFile => traced_at(rt, asked, ReaderSource::new(bytes.as_slice())),
+        Content::FlowText => {
+            let mut reader = ReaderSource::new(bytes.as_slice());
+            traced_on_flows(rt, asked, &mut reader)
+        }
         Content::OvsTable => {
             let text = text_of_table(rt, asked.kind, &bytes)?;
             let mut reader = ReaderSource::new(text.as_slice());
-            Ok(traced_on_flows(rt, asked, &mut reader))
+            traced_on_flows(rt, asked, &mut reader)
         }
-    }
+    };
+    Ok((ended, Seen::whole(bytes)))
 }
