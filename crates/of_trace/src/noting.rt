@@ -77,7 +77,25 @@ fn push_flow_notes(out: &mut Vec<u8>, table: u8, flow: &Flow) -> Result<(), Allo
     push_match_notes(out, flow.fields.fields())
 }
 
-// Appends what the entry at that place is, if its line does not say it.
+// Appends what the entry at that place is.
+fn push_found_notes<L: Lookup>(
+    out: &mut Vec<u8>,
+    switch: &Switch<L>,
+    table: u8,
+    place: usize,
+) -> Result<(), AllocError>
+    ensures { OnOk result (out.new.items ≡ out.old.items ++ entry_notes table (flow_there switch.now.core.forwarding table place)) }
+{
+    if table >= TABLES {
+        return Ok(());
+    }
+    match switch.datapath().entry(table, place) {
+        Some(entry) => push_flow_notes(out, table, &entry.flow),
+        None => Ok(()),
+    }
+}
+
+// The same, if its line does not say it.
 fn push_entry_notes<L: Lookup>(
     out: &mut Vec<u8>,
     style: Style,
@@ -87,12 +105,9 @@ fn push_entry_notes<L: Lookup>(
 ) -> Result<(), AllocError>
     ensures { OnOk result (out.new.items ≡ out.old.items ++ found_notes style table (flow_there switch.now.core.forwarding table place)) }
 {
-    if style == Style::Words || table >= TABLES {
-        return Ok(());
-    }
-    match switch.datapath().entry(table, place) {
-        Some(entry) => push_flow_notes(out, table, &entry.flow),
-        None => Ok(()),
+    match style {
+        Style::Lines => push_found_notes(out, switch, table, place),
+        Style::Words => Ok(()),
     }
 }
 

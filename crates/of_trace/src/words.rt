@@ -130,9 +130,9 @@ fn push_sight(out: &mut Vec<u8>, sight: &Sight) -> Result<(), AllocError>
 fn push_packet(
     out: &mut Vec<u8>,
     frame: &[u8],
-    packet: Option<&Sight>,
+    packet: &Option<Sight>,
 ) -> Result<(), AllocError>
-    ensures { OnOk result (out.new.items ≡ out.old.items ++ packet_words frame.now (option_to_list (option_copied packet.entry))) }
+    ensures { OnOk result (out.new.items ≡ out.old.items ++ packet_words frame.now (option_to_list packet.now)) }
 {
     match packet {
         Some(sight) => push_sight(out, sight),
@@ -167,7 +167,7 @@ pub fn push_heading<L: Lookup>(
     let packet = arrived(alloc, port, frame)?;
     out.extend_from_slice(b"in_port ")?;
     push_port(out, u128::from(port))?;
-    push_packet(out, frame, packet.as_ref())?;
+    push_packet(out, frame, &packet)?;
     push_absent(out, find_port(switch.datapath().ports.as_slice(), port))?;
     out.push(b'\n')?;
     Ok(())
