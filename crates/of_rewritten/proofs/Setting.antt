@@ -2,7 +2,7 @@
 use Rattle.std.proofs.Common.{◌≡◌, ◌≢◌, ℕ, zero, suc, ◌+◌, ◌-◌, ◌%◌, ◌^◌, ◌<◌, Bool, true, false, cond, eqb, List, [], ◌∷◌, Option, Some, None, refl, sym, ap, subst, ◌∙◌, arith}
 use Rattle.std.specs.Prelude.{IsTrue, nat_le}
 use Rattle.std.specs.Option.{option_map}
-use Rattle.std.proofs.lemmas.Bool.{eqb-true, ne_eqb}
+use Rattle.std.proofs.lemmas.Bool.{eq-eqb, eqb-true, ne_eqb}
 use Rattle.of_layers.specs.declared.field.Field.{Field}
 use Rattle.of_layers.specs.declared.field.Field.TheVariants.{InPort, Metadata, VlanVid, EthType, IpProto}
 use Rattle.of_layers.specs.Fields.{row_of, number_of, bits_of, is_settable}
@@ -59,12 +59,8 @@ module _ (f : Field) (v : ℕ) (l : Layers) (settable : IsTrue (is_settable f)) 
   pub found : (g : Field) → look_up (number_of g) (cells (layers_set (number_of f) v l)) ≡ cond (eqb (number_of g) (number_of f)) (option_map (λ x. v % 2 ^ cell_bits g) (look_up (number_of g) (cells l))) (look_up (number_of g) (cells l))
   found g = elim (eqb (number_of g) (number_of f)) as (λ t. eqb (number_of g) (number_of f) ≡ t → look_up (number_of g) (cells (layers_set (number_of f) v l)) ≡ cond t (option_map (λ x. v % 2 ^ cell_bits g) (look_up (number_of g) (cells l))) (look_up (number_of g) (cells l))) [
     | true ↦ λ t. same_found g (eqb-true (number_of g) (number_of f) t)
-    | false ↦ λ t. other_found g (λ e. let yes : eqb (number_of g) (number_of f) ≡ true = rw e (eqb_same (number_of f)) in let no : true ≡ false = sym yes ∙ t in cc)
+    | false ↦ λ t. other_found g (λ e. let no : true ≡ false = sym (eq-eqb (number_of g) (number_of f) e) ∙ t in cc)
   ] refl
-    where
-      eqb_same : (n : ℕ) → eqb n n ≡ true
-      eqb_same zero = refl
-      eqb_same (suc n) = eqb_same n
 
   -- the number of a port and the metadata are not set
   not_set : (g : Field) (x y : Option ℕ) → is_settable g ≡ false → x ≡ cond (eqb (number_of g) (number_of f)) y x
@@ -80,18 +76,18 @@ vid_by v true (Some x) new e =
     rw (e, some) refl
 vid_by v false old new e = rw e refl
 
+set_fields : (f : Field) (v : ℕ) (l : Layers) → IsTrue (is_settable f) → (port metadata : ℕ) (g : Field) → field_map (layers_set (number_of f) v l) port metadata g ≡ fields_set f v (field_map l port metadata) g
+unfolding row_of
+set_fields f v l settable port metadata InPort = not_set f v l settable InPort (Some port) (value_after InPort v (Some port)) refl
+set_fields f v l settable port metadata Metadata = not_set f v l settable Metadata (Some metadata) (value_after Metadata v (Some metadata)) refl
+set_fields f v l settable port metadata VlanVid =
+    vid_by v (eqb (number_of VlanVid) (number_of f)) (look_up (number_of VlanVid) (cells l)) (look_up (number_of VlanVid) (cells (layers_set (number_of f) v l))) (found f v l settable VlanVid)
+set_fields f v l settable port metadata g = found f v l settable g
+
 pub after_set : (f : Field) (v : ℕ) (frame : List ℕ) (port metadata : ℕ) (g : Field) → IsFrame frame → IsTrue (is_settable f) →
     field_map (layers_of (frame_set f v frame)) port metadata g ≡ fields_set f v (field_map (layers_of frame) port metadata) g
-unfolding row_of
 after_set f v frame port metadata g h settable =
-    let l : Layers = layers_of frame in
-    ap (λ (x : Layers). field_map x port metadata g) (layers_after_set f v frame h settable)
-    ∙ elim g as (λ g. field_map (layers_set (number_of f) v l) port metadata g ≡ fields_set f v (field_map l port metadata) g) [
-      | InPort ↦ not_set f v l settable InPort (Some port) (value_after InPort v (Some port)) refl
-      | Metadata ↦ not_set f v l settable Metadata (Some metadata) (value_after Metadata v (Some metadata)) refl
-      | VlanVid ↦ vid_by v (eqb (number_of VlanVid) (number_of f)) (look_up (number_of VlanVid) (cells l)) (look_up (number_of VlanVid) (cells (layers_set (number_of f) v l))) (found f v l settable VlanVid)
-      | g ↦ found f v l settable g
-    ]
+    ap (λ (x : Layers). field_map x port metadata g) (layers_after_set f v frame h settable) ∙ set_fields f v (layers_of frame) settable port metadata g
 
 -- ---- the TTL is set
 
@@ -101,12 +97,10 @@ ttl_other v l g =
     look_set (number_of g) ttl v l leaves_ttl below ∙ look_others (number_of g) ttl (λ x. v) (cells l) (omega arith)
 
 ttl_fields : (v : ℕ) (l : Layers) (port metadata : ℕ) (g : Field) → field_map (layers_set ttl v l) port metadata g ≡ field_map l port metadata g
-ttl_fields v l port metadata g = elim g as (λ g. field_map (layers_set ttl v l) port metadata g ≡ field_map l port metadata g) [
-  | InPort ↦ refl
-  | Metadata ↦ refl
-  | VlanVid ↦ ap (λ (x : Option ℕ). Some (vid x)) (ttl_other v l VlanVid)
-  | g ↦ ttl_other v l g
-]
+ttl_fields v l port metadata InPort = refl
+ttl_fields v l port metadata Metadata = refl
+ttl_fields v l port metadata VlanVid = ap (λ (x : Option ℕ). Some (vid x)) (ttl_other v l VlanVid)
+ttl_fields v l port metadata g = ttl_other v l g
 
 pub after_ttl : (v : ℕ) (frame : List ℕ) (port metadata : ℕ) (g : Field) → IsFrame frame →
     field_map (layers_of (frame_ttl v frame)) port metadata g ≡ field_map (layers_of frame) port metadata g

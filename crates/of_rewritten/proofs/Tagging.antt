@@ -47,14 +47,18 @@ look_other n ts l h = look_through n (with_tags ts l) (tags_none n ts h) ∙ sym
 
 -- ---- VLAN_VID and VLAN_PCP
 
+next_lacks : (n : ℕ) (es : List Extension) (is : Item → List Item) → lacks n (is (next_before [])) ≡ true → ((e : Extension) (rest : List Extension) → lacks n (is (next_before (e ∷ rest))) ≡ true) → lacks n (is (next_before es)) ≡ true
+next_lacks n [] is a b = a
+next_lacks n (e ∷ es) is a b = b e es
+
 pcp_outer : IsOuter (number_of VlanPcp)
 unfolding row_of
 pcp_outer = record {
   no_arp = refl;
   no_ipv4 = refl;
-  no_ipv6 = λ es. elim es as (λ es. lacks 7 (ipv6 (next_before es)) ≡ true) [ [] ↦ refl | e ∷ rest ↦ refl ];
-  no_options = λ es. elim es as (λ es. lacks 7 (options (next_before es)) ≡ true) [ [] ↦ refl | e ∷ rest ↦ refl ];
-  no_fragment = λ es. elim es as (λ es. lacks 7 (fragment (next_before es)) ≡ true) [ [] ↦ refl | e ∷ rest ↦ refl ];
+  no_ipv6 = λ es. next_lacks 7 es ipv6 refl (λ e rest. refl);
+  no_options = λ es. next_lacks 7 es options refl (λ e rest. refl);
+  no_fragment = λ es. next_lacks 7 es fragment refl (λ e rest. refl);
   no_transport = λ t. elim t as (λ t. lacks 7 (items_of t) ≡ true) [ Nothing ↦ refl | _ ↦ refl ];
 }
 
@@ -107,10 +111,8 @@ pcp_is l h = look_tag (number_of VlanPcp) l pcp_outer refl refl ∙ pcp_in l.tag
 -- LAYERS WITH OTHER TAGS, both of frames
 pub other_tags : (l m : Layers) (port metadata : ℕ) (g : Field) → IsLayers m → m ≡ record l { tags = m.tags } → field_map m port metadata g ≡ fields_tagged m.tags (field_map l port metadata) g
 unfolding row_of
-other_tags l m port metadata g h same = elim g as (λ g. field_map m port metadata g ≡ fields_tagged m.tags (field_map l port metadata) g) [
-  | InPort ↦ refl
-  | Metadata ↦ refl
-  | VlanVid ↦ ap Some (vid_is m h)
-  | VlanPcp ↦ pcp_is m h
-  | g ↦ ap (λ (x : Layers). look_up (number_of g) (cells x)) same ∙ look_other (number_of g) m.tags l refl
-]
+other_tags l m port metadata InPort h same = refl
+other_tags l m port metadata Metadata h same = refl
+other_tags l m port metadata VlanVid h same = ap Some (vid_is m h)
+other_tags l m port metadata VlanPcp h same = pcp_is m h
+other_tags l m port metadata g h same = ap (λ (x : Layers). look_up (number_of g) (cells x)) same ∙ look_other (number_of g) m.tags l refl

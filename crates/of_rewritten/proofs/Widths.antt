@@ -98,25 +98,27 @@ abbrev pub cell_bits : Field → ℕ
 cell_bits VlanVid = 12
 cell_bits f = bits_of f
 
+next_wide : (n w : ℕ) (es : List Extension) (is : Item → List Item) → wide n w (is (next_before [])) ≡ true → ((e : Extension) (rest : List Extension) → wide n w (is (next_before (e ∷ rest))) ≡ true) → wide n w (is (next_before es)) ≡ true
+next_wide n w [] is a b = a
+next_wide n w (e ∷ es) is a b = b e es
+
 pub settable_wide : (f : Field) → IsTrue (is_settable f) → IsWide (number_of f) (cell_bits f)
 unfolding row_of
-settable_wide f h = elim f as (λ f. is_settable f ≡ true → IsWide (number_of f) (cell_bits f)) [
-  | InPort ↦ λ h. absurd cc
-  | Metadata ↦ λ h. absurd cc
-  | EthType ↦ λ h. absurd cc
-  | IpProto ↦ λ h. absurd cc
-  | f ↦ λ h. record {
-      ends = refl;
-      tag = refl;
-      type = refl;
-      in_arp = refl;
-      in_ipv4 = refl;
-      in_ipv6 = λ es. elim es as (λ es. wide (number_of f) (cell_bits f) (ipv6 (next_before es)) ≡ true) [ [] ↦ refl | e ∷ rest ↦ refl ];
-      in_options = λ es. elim es as (λ es. wide (number_of f) (cell_bits f) (options (next_before es)) ≡ true) [ [] ↦ refl | e ∷ rest ↦ refl ];
-      in_fragment = λ es. elim es as (λ es. wide (number_of f) (cell_bits f) (fragment (next_before es)) ≡ true) [ [] ↦ refl | e ∷ rest ↦ refl ];
-      in_transport = λ t. elim t as (λ t. wide (number_of f) (cell_bits f) (items_of t) ≡ true) [ Nothing ↦ refl | _ ↦ refl ];
-    }
-] h
+settable_wide InPort h = absurd cc
+settable_wide Metadata h = absurd cc
+settable_wide EthType h = absurd cc
+settable_wide IpProto h = absurd cc
+settable_wide f h = record {
+  ends = refl;
+  tag = refl;
+  type = refl;
+  in_arp = refl;
+  in_ipv4 = refl;
+  in_ipv6 = λ es. next_wide (number_of f) (cell_bits f) es ipv6 refl (λ e rest. refl);
+  in_options = λ es. next_wide (number_of f) (cell_bits f) es options refl (λ e rest. refl);
+  in_fragment = λ es. next_wide (number_of f) (cell_bits f) es fragment refl (λ e rest. refl);
+  in_transport = λ t. elim t as (λ t. wide (number_of f) (cell_bits f) (items_of t) ≡ true) [ Nothing ↦ refl | _ ↦ refl ];
+}
 
 -- ---- what is found in cells one of which was changed
 
