@@ -323,11 +323,12 @@ fn output_of(kind: CheckedKind, matches: &ArgMatches<'_>) -> CheckOutput {
     if matches.get_flag("all") {
         return CheckOutput::All;
     }
+    if matches.get_flag("words") {
+        return CheckOutput::Report;
+    }
     match kind {
-        CheckedKind::Flows | CheckedKind::Events if !matches.get_flag("words") => {
-            CheckOutput::Lines
-        }
-        _ => CheckOutput::Report,
+        CheckedKind::Flows | CheckedKind::Events => CheckOutput::Lines,
+        CheckedKind::Guessed | CheckedKind::Ovs => CheckOutput::Report,
     }
 }
 
