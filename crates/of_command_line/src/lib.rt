@@ -328,11 +328,12 @@ fn output_of(kind: FileKind, matches: &ArgMatches<'_>) -> CheckOutput {
     if matches.get_flag("all") {
         return CheckOutput::All;
     }
+    if matches.get_flag("words") {
+        return CheckOutput::Report;
+    }
     match kind {
-        FileKind::Flows | FileKind::Events if !matches.get_flag("words") => {
-            CheckOutput::Lines
-        }
-        _ => CheckOutput::Report,
+        FileKind::Flows | FileKind::Events => CheckOutput::Lines,
+        FileKind::Guessed | FileKind::Ovs => CheckOutput::Report,
     }
 }
 

@@ -89,8 +89,8 @@ unfoldable pub remark_members : List (List ℕ) → List (List Flow) → Remark 
 remark_members lines tables (Unreachable table) = key (codes "table") ++ decimal table ++ remark_member (codes "unreachable")
 remark_members lines tables (NoTableMiss table) = key (codes "table") ++ decimal table ++ remark_member (codes "no table-miss entry")
 remark_members lines tables (EmptyGoto table place to) = entry_members lines tables table place ++ remark_member (codes "goto to a table without entries") ++ number_member (codes "to") to
-remark_members lines tables (IngressOutput table place port) = entry_members lines tables table place ++ remark_member (codes "output to the ingress port") ++ number_member (codes "port") port
-remark_members lines tables (UnseenActions table place count) = entry_members lines tables table place ++ remark_member (codes "last actions unseen") ++ number_member (codes "count") count
+remark_members lines tables (IngressOutput table place number) = entry_members lines tables table place ++ remark_member (codes "output to the ingress port") ++ number_member (codes "port") number
+remark_members lines tables (UnseenActions table place n) = entry_members lines tables table place ++ remark_member (codes "last actions unseen") ++ number_member (codes "count") n
 remark_members lines tables (UnusedGroup id) = key (codes "group") ++ decimal id ++ remark_member (codes "unused")
 remark_members lines tables (NoBuckets id) = key (codes "group") ++ decimal id ++ remark_member (codes "no buckets")
 

@@ -62,7 +62,7 @@ remark_words lines tables (Unreachable table) = table_words table ++ codes " is 
 remark_words lines tables (NoTableMiss table) = table_words table ++ codes " has no table-miss entry: packets that match none of its entries are dropped"
 remark_words lines tables (EmptyGoto table place to) = entry lines tables table place ++ codes " goes to table " ++ decimal to ++ codes ", which has no entries: its packets are dropped"
 remark_words lines tables (IngressOutput table place number) = entry lines tables table place ++ codes " sends to port " ++ port number ++ codes ", the ingress port that its match requires: nothing leaves"
-remark_words lines tables (UnseenActions table place count) = entry lines tables table place ++ codes " has actions at the end of its apply that nothing sees: " ++ decimal count
+remark_words lines tables (UnseenActions table place n) = entry lines tables table place ++ codes " has actions at the end of its apply that nothing sees: " ++ decimal n
 remark_words lines tables (UnusedGroup id) = group_words id ++ codes " is unused: no entry and no group names it"
 remark_words lines tables (NoBuckets id) = group_words id ++ codes " has no buckets: packets end there"
 

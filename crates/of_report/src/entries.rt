@@ -56,6 +56,7 @@ fn push_flow(out: &mut Vec<u8>, line: Option<usize>, flow: &FlowText) -> Result<
 }
 
 // Appends what the entry at a place is, if there is one.
+#[tactic(auto, unfolding(crate::specs::Entries::detail_words))]
 fn push_detail(
     out: &mut Vec<u8>,
     line: Option<usize>,

@@ -1,5 +1,5 @@
--- NUMBERS IN WORDS: hexadecimal digits, addresses, prefixes, ports.
-use Rattle.std.specs.Prelude.{ℕ, zero, suc, ◌+◌, ◌-◌, ◌*◌, ◌/◌, ◌%◌, ◌^◌, ◌==◌, ◌||◌, not, nat_lt, List, [], ◌∷◌, ◌++◌, codes, decimal, Option, Some, None, if◌then◌else◌}
+-- NUMBERS IN WORDS: hexadecimal digits, Ethernet and IPv4 addresses, ports.
+use Rattle.std.specs.Prelude.{ℕ, zero, suc, ◌+◌, ◌*◌, ◌/◌, ◌%◌, ◌^◌, ◌==◌, ◌||◌, not, nat_lt, List, [], ◌∷◌, ◌++◌, codes, decimal, if◌then◌else◌}
 
 -- ---- hexadecimal digits
 
@@ -22,12 +22,9 @@ hexadecimal least n = codes "0x" ++ digits least 32 n
 
 -- ---- addresses
 
--- the byte, and the 16 bits, that begin at a bit, from 0 for the last one
+-- the byte that begins at a bit, from 0 for the last one
 abbrev pub byte_at : ℕ → ℕ → ℕ
 byte_at bit n = n / 2 ^ bit % 256
-
-abbrev pub group_at : ℕ → ℕ → ℕ
-group_at bit n = n / 2 ^ bit % 65536
 
 -- 02:00:00:00:00:a1
 abbrev pub byte_digits : ℕ → ℕ → List ℕ
@@ -45,40 +42,6 @@ dot_byte bit n = 46 ∷ decimal (byte_at bit n)
 
 unfoldable pub ipv4 : ℕ → List ℕ
 ipv4 n = decimal (byte_at 24 n) ++ dot_byte 16 n ++ dot_byte 8 n ++ dot_byte 0 n
-
--- 2001:db8:0:0:0:0:0:1, the first form of RFC 4291, 2.2
-abbrev pub group_digits : ℕ → ℕ → List ℕ
-group_digits bit n = digits 1 4 (group_at bit n)
-
-abbrev pub colon_group : ℕ → ℕ → List ℕ
-colon_group bit n = 58 ∷ group_digits bit n
-
-unfoldable pub ipv6 : ℕ → List ℕ
-ipv6 n =
-    group_digits 112 n ++ colon_group 96 n ++ colon_group 80 n ++ colon_group 64 n ++ colon_group 48 n ++ colon_group 32 n ++ colon_group 16 n
-    ++ colon_group 0 n
-
--- ---- prefixes
-
--- the mask of the first n bits of as many as `ones` has
-abbrev pub first_bits : ℕ → ℕ → ℕ
-first_bits ones n = ones - ones / 2 ^ n
-
--- the greatest n below the limit of which it is the mask
-unfoldable pub prefix_below : ℕ → ℕ → ℕ → Option ℕ
-prefix_below ones mask zero = None
-prefix_below ones mask (suc n) = if first_bits ones n == mask then Some n else prefix_below ones mask n
-
--- the length of the prefix, or these words for a mask that is none
-abbrev pub length_or : List ℕ → Option ℕ → List ℕ
-length_or words None = words
-length_or words (Some n) = decimal n
-
-unfoldable pub ipv4_mask : ℕ → List ℕ
-ipv4_mask mask = length_or (ipv4 mask) (prefix_below 0xffffffff mask 32)
-
-unfoldable pub ipv6_mask : ℕ → List ℕ
-ipv6_mask mask = length_or (ipv6 mask) (prefix_below 0xffffffffffffffffffffffffffffffff mask 128)
 
 -- ---- ports (7.2.1): the reserved ones by their names
 

@@ -5,6 +5,8 @@ use Rattle.of_layers.specs.declared.field.Field.TheVariants.{InPort, Metadata, E
 use Rattle.of_values.specs.declared.form.Form.{Form}
 use Rattle.of_values.specs.declared.form.Form.TheVariants.{Number, Hexadecimal, Port, Vlan, Ethernet, Ipv4, Ipv6}
 use Rattle.of_values.specs.Numbers as words
+use Rattle.of_values.specs.Ipv6.{ipv6}
+use Rattle.of_values.specs.Masks.{ipv4_mask, ipv6_mask}
 
 -- THE FORM OF EACH FIELD
 unfoldable pub form_of : Field → Form
@@ -49,12 +51,12 @@ in_form Port n = words.port n
 in_form Vlan n = vlan_words n
 in_form Ethernet n = words.ethernet n
 in_form Ipv4 n = words.ipv4 n
-in_form Ipv6 n = words.ipv6 n
+in_form Ipv6 n = ipv6 n
 
 -- A MASK: that of a prefix of addresses is its length
 unfoldable pub mask_in_form : Form → ℕ → List ℕ
-mask_in_form Ipv4 mask = words.ipv4_mask mask
-mask_in_form Ipv6 mask = words.ipv6_mask mask
+mask_in_form Ipv4 mask = ipv4_mask mask
+mask_in_form Ipv6 mask = ipv6_mask mask
 mask_in_form form mask = in_form form mask
 
 -- OFPVID_PRESENT under its own mask is any tag

@@ -1,6 +1,6 @@
-//! Addresses in words.
+//! Ethernet and IPv4 addresses in words.
 ghost use Rattle.std.specs.Prelude.{◌≡◌, ◌<◌, ◌++◌, OnOk};
-ghost use Rattle.of_values.specs.Numbers.{byte_at as a_byte_at, byte_digits, colon_byte, colon_group, dot_byte, ethernet, group_at as a_group_at, group_digits, ipv4, ipv6};
+ghost use Rattle.of_values.specs.Numbers.{byte_at as a_byte_at, byte_digits, colon_byte, dot_byte, ethernet, ipv4};
 
 use crate::digits::{push_decimal, push_digits};
 use std::alloc::AllocError;
@@ -11,14 +11,6 @@ fn byte_at(number: u128, bit: u32) -> u128
     ensures { result ≡ a_byte_at bit number }
 {
     (number >> bit) % 0x100
-}
-
-// The 16 bits of a number that begin at a bit.
-fn group_at(number: u128, bit: u32) -> u128
-    requires { bit < 128 }
-    ensures { result ≡ a_group_at bit number }
-{
-    (number >> bit) % 0x1_0000
 }
 
 fn push_byte(out: &mut Vec<u8>, number: u128, bit: u32) -> Result<(), AllocError>
@@ -66,34 +58,4 @@ pub fn push_ipv4(out: &mut Vec<u8>, number: u128) -> Result<(), AllocError>
     push_dot_byte(out, number, 16)?;
     push_dot_byte(out, number, 8)?;
     push_dot_byte(out, number, 0)
-}
-
-fn push_group(out: &mut Vec<u8>, number: u128, bit: u32) -> Result<(), AllocError>
-    requires { bit < 128 }
-    ensures { OnOk result (out.new.items ≡ out.old.items ++ group_digits bit number) }
-{
-    push_digits(out, 1, 4, group_at(number, bit))
-}
-
-fn push_colon_group(out: &mut Vec<u8>, number: u128, bit: u32) -> Result<(), AllocError>
-    requires { bit < 128 }
-    ensures { OnOk result (out.new.items ≡ out.old.items ++ colon_group bit number) }
-{
-    out.push(b':')?;
-    push_group(out, number, bit)
-}
-
-/// Appends an IPv6 address.
-#[tactic(auto, unfolding(crate::specs::Numbers::ipv6))]
-pub fn push_ipv6(out: &mut Vec<u8>, number: u128) -> Result<(), AllocError>
-    ensures { OnOk result (out.new.items ≡ out.old.items ++ ipv6 number) }
-{
-    push_group(out, number, 112)?;
-    push_colon_group(out, number, 96)?;
-    push_colon_group(out, number, 80)?;
-    push_colon_group(out, number, 64)?;
-    push_colon_group(out, number, 48)?;
-    push_colon_group(out, number, 32)?;
-    push_colon_group(out, number, 16)?;
-    push_colon_group(out, number, 0)
 }

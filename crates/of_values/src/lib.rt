@@ -5,6 +5,7 @@ mod addresses;
 mod digits;
 mod entries;
 mod form;
+mod ipv6;
 mod ports;
 mod prefixes;
 mod values;

@@ -1,9 +1,10 @@
 //! Masks of addresses in words.
 ghost use Rattle.std.specs.Prelude.{◌≡◌, ◌≤◌, ◌<◌, ◌++◌, OnOk};
-ghost use Rattle.of_values.specs.Numbers.{first_bits as first_bits_of, ipv4_mask, ipv6_mask, prefix_below};
+ghost use Rattle.of_values.specs.Masks.{first_bits as first_bits_of, ipv4_mask, ipv6_mask, prefix_below};
 
-use crate::addresses::{push_ipv4, push_ipv6};
+use crate::addresses::push_ipv4;
 use crate::digits::push_decimal;
+use crate::ipv6::push_ipv6;
 use std::alloc::AllocError;
 
 const IPV4_ONES: u128 = 0xffff_ffff;
@@ -19,7 +20,7 @@ fn first_bits(ones: u128, bits: u32) -> u128
 }
 
 // The length of the prefix that a mask is of, below the limit.
-#[tactic(auto, unfolding(crate::specs::Numbers::prefix_below))]
+#[tactic(auto, unfolding(crate::specs::Masks::prefix_below))]
 fn prefix_length(ones: u128, mask: u128, limit: u32) -> Option<u32>
     requires { limit ≤ 128 }
     ensures { result ≡ prefix_below ones mask limit }
@@ -35,7 +36,7 @@ fn prefix_length(ones: u128, mask: u128, limit: u32) -> Option<u32>
 }
 
 /// Appends a mask of an IPv4 address: the length of a prefix, or as an address.
-#[tactic(auto, unfolding(crate::specs::Numbers::ipv4_mask))]
+#[tactic(auto, unfolding(crate::specs::Masks::ipv4_mask))]
 pub fn push_ipv4_mask(out: &mut Vec<u8>, mask: u128) -> Result<(), AllocError>
     ensures { OnOk result (out.new.items ≡ out.old.items ++ ipv4_mask mask) }
 {
@@ -46,7 +47,7 @@ pub fn push_ipv4_mask(out: &mut Vec<u8>, mask: u128) -> Result<(), AllocError>
 }
 
 /// Appends a mask of an IPv6 address: the length of a prefix, or as an address.
-#[tactic(auto, unfolding(crate::specs::Numbers::ipv6_mask))]
+#[tactic(auto, unfolding(crate::specs::Masks::ipv6_mask))]
 pub fn push_ipv6_mask(out: &mut Vec<u8>, mask: u128) -> Result<(), AllocError>
     ensures { OnOk result (out.new.items ≡ out.old.items ++ ipv6_mask mask) }
 {

@@ -2,9 +2,10 @@
 ghost use Rattle.std.specs.Prelude.{◌≡◌, ◌++◌, OnOk};
 ghost use Rattle.of_values.specs.Values.{in_form, mask_in_form, masked, masked_vlan, value_words, vlan_words};
 
-use crate::addresses::{push_ethernet, push_ipv4, push_ipv6};
+use crate::addresses::{push_ethernet, push_ipv4};
 use crate::digits::{push_decimal, push_hexadecimal};
 use crate::form::{Form, form_of};
+use crate::ipv6::push_ipv6;
 use crate::ports::push_port;
 use crate::prefixes::{push_ipv4_mask, push_ipv6_mask};
 use of_layers::Field;

@@ -1,5 +1,5 @@
 use Rattle.std.proofs.Common.{◌≡◌, ◌≤◌}
-use Rattle.of_values.specs.Numbers.{prefix_below}
+use Rattle.of_values.specs.Masks.{prefix_below}
 use Rattle.of_values.proofs.prefixes.prefix_length.Given as goal
 
 abbrev pub decreases-loop-bits : goal.decreases-loop-bits
