@@ -1,12 +1,15 @@
 -- Flows that replace each other have the same digest.
-use Rattle.std.proofs.Common.{◌≡◌, ℕ, eqb, Bool, true, false, cond, List, [], ◌∷◌, ◌++◌, refl, sym, ap, ◌∙◌}
-use Rattle.std.specs.Prelude.{map, ◌||◌, ◌&&◌}
-use Rattle.std.specs.HashSet.{HashSet}
+use Rattle.std.proofs.Common.{◌≡◌, ℕ, eqb, Bool, true, false, cond, List, [], ◌∷◌, ◌++◌, Option, Some, None, refl, sym, ap, ◌∙◌}
+use Rattle.std.specs.Prelude.{map, ◌||◌, ◌&&◌, is_some, slice_get}
+use Rattle.std.specs.HashMap.{HashMap, get}
 use Rattle.std.specs.List.{list_any}
+use Rattle.std.specs.Map.{lookup}
+use Rattle.std.specs.Option.{option_map_or}
 use Rattle.std.specs.Cmp.Lexicographic.{pointwise}
 use Rattle.std.proofs.lemmas.Bool.{eqb-true, eq-eqb}
 use Rattle.std.proofs.lemmas.List.{map-append}
 use Rattle.std.proofs.lemmas.List.Folds.{list_any-append}
+use Rattle.std.proofs.lemmas.Map.Keys.{any_passes_from_place}
 use Rattle.of_oxm.specs.SameMatch.{is_same_match}
 use Rattle.of_oxm.specs.contracts.match_field.MatchFieldPartialEq.TheImpl as the_match_field
 use Rattle.of_oxm.specs.declared.match_field.MatchField.{MatchField}
@@ -65,10 +68,23 @@ either false false = refl
 put : (ds : List ℕ) (d q : ℕ) → cond (eqb d q) true (list_any (eqb q) ds) ≡ list_any (eqb q) (ds ++ d ∷ [])
 put ds d q = either (eqb d q) (list_any (eqb q) ds) ∙ (ap (λ (t : Bool). list_any (eqb q) ds || (t || false)) (flip d q) ∙ sym (list_any-append (eqb q) ds (d ∷ [])))
 
-pub digests_more : {S : Type 0} (later more : List FlowLine) (x : FlowLine) (old new : HashSet ℕ S) (d : ℕ) → HasDigests (digests_of later) old → PutsDigest old new d → d ≡ digest_of (view x.flow) → more ≡ later ++ x ∷ [] → HasDigests (digests_of more) new
-digests_more later more x old new d h p e m q =
-    let all : digests_of later ++ d ∷ [] ≡ digests_of more = ap (λ (n : ℕ). digests_of later ++ n ∷ []) e ∙ sym (ap digests_of m ∙ map-append (λ (f : FlowLine). digest_of (view f.flow)) later (x ∷ [])) in
-    p q ∙ (ap (λ (t : Bool). cond (eqb d q) true t) (h q) ∙ (put (digests_of later) d q ∙ ap (λ (ds : List ℕ). list_any (eqb q) ds) all))
+some_put : (t : Bool) (place : ℕ) (o : Option ℕ) → is_some (cond t (Some place) o) ≡ cond t true (is_some o)
+some_put true place o = refl
+some_put false place o = refl
 
-pub no_digests : {S : Type 0} (set : HashSet ℕ S) (later : List FlowLine) → set.keys ≡ [] → later ≡ [] → HasDigests (digests_of later) set
-no_digests set later e k q = ap (λ (ds : List ℕ). list_any (eqb q) ds) e ∙ sym (ap (λ (fs : List FlowLine). list_any (eqb q) (digests_of fs)) k)
+pub digests_more : {S : Type 0} (later more : List FlowLine) (x : FlowLine) (old new : HashMap ℕ ℕ S) (d place : ℕ) → HasDigests (digests_of later) old → PutsDigest old new d place → d ≡ digest_of (view x.flow) → more ≡ later ++ x ∷ [] → HasDigests (digests_of more) new
+digests_more later more x old new d place h p e m q =
+    let all : digests_of later ++ d ∷ [] ≡ digests_of more = ap (λ (n : ℕ). digests_of later ++ n ∷ []) e ∙ sym (ap digests_of m ∙ map-append (λ (f : FlowLine). digest_of (view f.flow)) later (x ∷ [])) in
+    ap is_some (p q) ∙ (some_put (eqb d q) place (get eqb old q) ∙ (ap (λ (t : Bool). cond (eqb d q) true t) (h q) ∙ (put (digests_of later) d q ∙ ap (λ (ds : List ℕ). list_any (eqb q) ds) all)))
+
+pub no_digests : {S : Type 0} (places : HashMap ℕ ℕ S) (later : List FlowLine) → places.entries ≡ [] → later ≡ [] → HasDigests (digests_of later) places
+no_digests places later e k q = ap (λ (es : List (ℕ × ℕ)). is_some (lookup (eqb q) es)) e ∙ sym (ap (λ (fs : List FlowLine). list_any (eqb q) (digests_of fs)) k)
+
+-- ---- a place
+
+pub any_at : {X : Type 0} (test : X → Bool) (xs : List X) (i : ℕ) → option_map_or test (slice_get xs i) false ≡ true → list_any test xs ≡ true
+any_at test xs i h = by_item (slice_get xs i) refl h
+  where
+    by_item : (o : Option _) → slice_get xs i ≡ o → option_map_or test o false ≡ true → list_any test xs ≡ true
+    by_item None e k = absurd cc
+    by_item (Some x) e k = any_passes_from_place test xs i x e k

@@ -11,5 +11,5 @@ decreases-loop-it l = vec_len l.left
 abbrev pub invariant-loop-it : goal.invariant-loop-it
 invariant-loop-it l = record {
   older : Older (map view_flow_line l.fn.flows.items) l.left.items l.later.items;
-  digests : HasDigests (digests_of l.later.items) l.digests;
+  digests : HasDigests (digests_of l.later.items) l.places;
 }
