@@ -283,7 +283,7 @@ const SAY: [Argument; 1] = [Argument {
     help: "Messages in hexadecimal digits, or a file with such digits or with the bytes; - is standard input",
 }];
 
-const TRACE: [Argument; 10] = [
+const TRACE: [Argument; 11] = [
     Argument {
         name: "FILE",
         kind: Kind::Positional,
@@ -333,6 +333,11 @@ const TRACE: [Argument; 10] = [
         name: "words",
         kind: Kind::Flag("words"),
         help: "Print the trace in words also with --flows or --events",
+    },
+    Argument {
+        name: "json",
+        kind: Kind::Flag("json"),
+        help: "Print the trace as JSON (docs/JSON.md), without notes",
     },
 ];
 

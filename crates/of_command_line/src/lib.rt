@@ -98,6 +98,8 @@ pub struct Trace {
     pub why: Option<Asked>,
     /// Whether it is in words: if this is asked for, or if no option says that the file is a flow text or an event file.
     pub words: bool,
+    /// Whether it is one JSON document.
+    pub json: bool,
 }
 
 /// Which file is checked, and how.
@@ -288,6 +290,7 @@ fn trace_of(alloc: Global, matches: &ArgMatches<'_>) -> Result<Trace, NoRequest>
         frame: frame_of(alloc, frame.unwrap_or(""))?,
         explain: matches.get_flag("explain"),
         why: why_of(alloc, matches.get_str("why"))?,
+        json: matches.get_flag("json"),
         words: matches.get_flag("words") || matches!(kind, FileKind::Guessed | FileKind::Ovs),
     })
 }

@@ -2,8 +2,6 @@
 use Rattle.std.specs.Prelude.{ℕ, Bool, true, false, List, [], ◌∷◌, ◌++◌, slice_get, length, codes, decimal, Option, Some, None, if◌then◌else◌}
 use Rattle.std.specs.List.{flat_map}
 use Rattle.hex.specs.Hex.{encode_lower}
-use Rattle.of_layers.specs.Fields.{name_of}
-use Rattle.of_oxm.specs.declared.match_field.MatchField.{MatchField}
 use Rattle.of_text.specs.Flows.{Flow}
 use Rattle.of_remarks.specs.Tables.{flows_at}
 use Rattle.of_remarks.specs.declared.remark.Remark.{Remark}
@@ -13,37 +11,11 @@ use Rattle.of_check.specs.declared.verdict.Verdict.{Verdict}
 use Rattle.of_check.specs.declared.verdict.Verdict.TheVariants.{Wins, Never, Open}
 use Rattle.of_check.specs.Text.{is_never}
 use Rattle.of_values.specs.Numbers.{hexadecimal}
-use Rattle.of_values.specs.Values.{value_words}
+use Rattle.of_json.specs.Parts.{key, listed, match_object, number_member, quoted, text_member, truth}
 use Rattle.of_report.specs.Entries.{line_at}
 use Rattle.of_report.specs.Report.{count, is_found, is_open, is_win}
 
--- ---- values: 34 is a quotation mark, 44 a comma, 58 a colon, 91 and 93 are brackets, 123 and 125 braces
-
-abbrev pub quoted : List ℕ → List ℕ
-quoted text = 34 ∷ text ++ 34 ∷ []
-
-abbrev pub key : List ℕ → List ℕ
-key name = quoted name ++ 58 ∷ []
-
-abbrev pub truth : Bool → List ℕ
-truth b = if b then codes "true" else codes "false"
-
--- items with commas between them
-abbrev pub listed : {A : Type 0} → (A → List ℕ) → List A → List ℕ
-listed text [] = []
-listed text (x ∷ xs) = text x ++ flat_map (λ y. 44 ∷ text y) xs
-
--- further members of an object
-unfoldable pub number_member : List ℕ → ℕ → List ℕ
-number_member name n = 44 ∷ key name ++ decimal n
-
-unfoldable pub text_member : List ℕ → List ℕ → List ℕ
-text_member name text = 44 ∷ key name ++ quoted text
-
 -- ---- a flow entry: `"table":1,"entry":0,"line":12,"priority":100,"match":{"eth_type":"0x0800"}`
-
-unfoldable pub match_member : MatchField → List ℕ
-match_member e = key (name_of e.field) ++ quoted (value_words e.field e.value e.mask)
 
 abbrev pub line_member : Option ℕ → List ℕ
 line_member None = []
@@ -51,7 +23,7 @@ line_member (Some n) = number_member (codes "line") n
 
 unfoldable pub flow_members : Option ℕ → Option Flow → List ℕ
 flow_members line None = []
-flow_members line (Some f) = line_member line ++ number_member (codes "priority") f.head.priority ++ 44 ∷ key (codes "match") ++ 123 ∷ listed match_member f.fields ++ 125 ∷ []
+flow_members line (Some f) = line_member line ++ number_member (codes "priority") f.head.priority ++ 44 ∷ key (codes "match") ++ match_object f.fields
 
 unfoldable pub entry_members : List (List ℕ) → List (List Flow) → ℕ → ℕ → List ℕ
 entry_members lines tables table place =

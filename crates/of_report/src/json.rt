@@ -1,13 +1,14 @@
 //! The report as JSON.
 ghost use Rattle.std.specs.Prelude.{◌≡◌, ◌++◌, ◌∷◌, IfOk, OnOk};
 ghost use Rattle.std.specs.List.{flat_map};
-ghost use Rattle.of_report.specs.Json.{finding_object, head_members, listed, never_members, packet_members, report_json, summary_members, verdict_members};
+ghost use Rattle.of_json.specs.Parts.{listed};
+ghost use Rattle.of_report.specs.Json.{finding_object, head_members, never_members, packet_members, report_json, summary_members, verdict_members};
 ghost use Rattle.of_report.specs.Files.{view_lines};
 
 use crate::counting::{count_open, count_shadowed, count_wins, is_found};
 use crate::json_entries::{push_entry_members, push_entry_objects};
-use crate::json_parts::{push_bytes_member, push_hex_member, push_key, push_number_member, push_quoted, push_text_member, push_truth};
 use crate::json_remarks::push_remark_objects;
+use of_json::{push_bytes_member, push_hex_member, push_key, push_number_member, push_quoted, push_text_member, push_truth};
 use of_check::{Finding, Verdict};
 use of_remarks::Remark;
 use of_text::Config;

@@ -2,48 +2,15 @@
 ghost use Rattle.std.specs.Prelude.{◌≡◌, ◌++◌, ◌∷◌, Some, slice_get, OnOk};
 ghost use Rattle.std.specs.List.{flat_map};
 ghost use Rattle.of_text.specs.Views.{view, view_flows};
-ghost use Rattle.of_report.specs.Json.{entry_members, entry_object, flow_members, line_member, listed, match_member};
+ghost use Rattle.of_json.specs.Parts.{listed};
+ghost use Rattle.of_report.specs.Json.{entry_members, entry_object, flow_members, line_member};
 ghost use Rattle.of_report.specs.Files.{view_lines};
 
 use crate::entries::{entries_of, line_at};
-use crate::json_parts::{push_key, push_number_member};
-use of_oxm::MatchField;
+use of_json::{push_key, push_match_object, push_number_member};
 use of_text::{Config, FlowText};
-use of_values::{push_decimal, push_value_words};
+use of_values::push_decimal;
 use std::alloc::AllocError;
-
-#[tactic(auto, unfolding(crate::specs::Json::match_member))]
-fn push_match(out: &mut Vec<u8>, e: &MatchField) -> Result<(), AllocError>
-    ensures { OnOk result (out.new.items ≡ out.old.items ++ match_member e.now) }
-{
-    push_key(out, e.field.name())?;
-    out.push(b'"')?;
-    push_value_words(out, e.field, e.value, e.mask)?;
-    out.push(b'"')?;
-    Ok(())
-}
-
-fn push_further_matches(out: &mut Vec<u8>, fields: &[MatchField]) -> Result<(), AllocError>
-    ensures { OnOk result (out.new.items ≡ out.old.items ++ flat_map (λ e. 44 ∷ match_member e) fields.now) }
-{
-    for e in fields {
-        out.push(b',')?;
-        push_match(out, e)?;
-    }
-    Ok(())
-}
-
-fn push_matches(out: &mut Vec<u8>, fields: &[MatchField]) -> Result<(), AllocError>
-    ensures { OnOk result (out.new.items ≡ out.old.items ++ listed match_member fields.now) }
-{
-    match fields {
-        [] => Ok(()),
-        [first, others @ ..] => {
-            push_match(out, first)?;
-            push_further_matches(out, others)
-        }
-    }
-}
 
 fn push_line(out: &mut Vec<u8>, line: Option<usize>) -> Result<(), AllocError>
     ensures { OnOk result (out.new.items ≡ out.old.items ++ line_member line) }
@@ -63,10 +30,7 @@ fn push_flow(out: &mut Vec<u8>, line: Option<usize>, flow: &FlowText) -> Result<
     push_number_member(out, b"priority", u128::from(flow.head.priority))?;
     out.push(b',')?;
     push_key(out, b"match")?;
-    out.push(b'{')?;
-    push_matches(out, &flow.fields)?;
-    out.push(b'}')?;
-    Ok(())
+    push_match_object(out, &flow.fields)
 }
 
 // Appends what the entry at a place is, if there is one.

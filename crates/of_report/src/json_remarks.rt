@@ -1,11 +1,12 @@
 //! Remarks as JSON.
 ghost use Rattle.std.specs.Prelude.{◌≡◌, ◌++◌, ◌∷◌, OnOk, decimal};
 ghost use Rattle.std.specs.List.{flat_map};
-ghost use Rattle.of_report.specs.Json.{key, listed, remark_member, remark_members, remark_object};
+ghost use Rattle.of_json.specs.Parts.{key, listed};
+ghost use Rattle.of_report.specs.Json.{remark_member, remark_members, remark_object};
 ghost use Rattle.of_report.specs.Files.{view_lines};
 
 use crate::json_entries::push_entry_members;
-use crate::json_parts::{push_key, push_number_member, push_text_member};
+use of_json::{push_key, push_number_member, push_text_member};
 use of_remarks::Remark;
 use of_text::Config;
 use of_values::push_decimal;

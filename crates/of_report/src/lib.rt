@@ -8,7 +8,6 @@ mod events;
 mod flows;
 mod json;
 mod json_entries;
-mod json_parts;
 mod json_remarks;
 mod laws;
 mod lines;

@@ -35,7 +35,7 @@ use Rattle.of_trace.specs.declared.sight.Sight.{Sight}
 use Rattle.of_trace.specs.Sights.{key_seen, sight_after, stepped}
 use Rattle.of_trace.specs.Why.{reason_in}
 use Rattle.of_trace.specs.OnlyNotes.{NotedLine, OnlyNotesAdded}
-use Rattle.of_trace.specs.Notes.{changes, entry_notes, explained, explained_from, first_notes, found_notes, group_notes, head_in, is_asked, is_many, is_set, is_unsent, line_in, look_notes, looks_at, match_notes, miss_notes, notes, output_note, plain, port_note, port_words, reason_note, reasons_from, said, same_value, seen_notes, sending_notes, set_notes, ttl_seen, ttl_words, reason_words, value_or_absent}
+use Rattle.of_trace.specs.Notes.{changes, entry_notes, explained, explained_from, first_notes, found_notes, group_notes, head_in, is_asked, is_many, is_set, is_unsent, line_in, look_notes, looks_at, match_notes, miss_notes, notes, output_note, plain, port_note, port_words, reason_note, reasons_from, same_value, seen_notes, sending_notes, set_notes, styled, ttl_seen, ttl_words, reason_words, value_or_absent}
 use Rattle.of_trace.specs.Words.{entered, flow_there, heading, leaving_text, words_text}
 
 pub record AreNotes (text : List ℕ) : Type 0 where
@@ -185,7 +185,7 @@ explained_noted Words f asked port frame steps effects =
     let noted_is : first ++ [] ++ (noted ++ rest) ≡ explained Words f asked port frame steps effects = ap (λ (l : List ℕ). l ++ (noted ++ rest)) (append-nil first) ∙ sym (append_assoc first noted rest) in
     rw (sym plain_is, sym noted_is) whole
 
-pub said_noted : (style : Style) (form : Form) (f : Forwarding) (port : ℕ) (frame : List ℕ) (steps : List Step) (effects : List Effect) → OnlyNotesAdded (plain style f port frame steps effects) (said style form f port frame steps effects)
+pub said_noted : (style : Style) (form : Form) (f : Forwarding) (port : ℕ) (frame : List ℕ) (steps : List Step) (effects : List Effect) → OnlyNotesAdded (plain style f port frame steps effects) (styled style form f port frame steps effects)
 said_noted style Plain f port frame steps effects = record { lines = []; rest = plain style f port frame steps effects; plain_is = refl; noted_is = refl }
 said_noted style Explained f port frame steps effects = explained_noted style f Nothing port frame steps effects
 said_noted style (Why asked) f port frame steps effects = explained_noted style f asked port frame steps effects

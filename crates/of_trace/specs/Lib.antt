@@ -3,6 +3,7 @@ pub mod Text
 pub mod Why
 pub mod Sights
 pub mod Words
+pub mod Json
 pub mod Notes
 pub mod Files
 pub mod OnlyNotes

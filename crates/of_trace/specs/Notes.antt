@@ -8,7 +8,7 @@ use Rattle.of_layers.specs.Fields.{name_of, number_of, ones_of}
 use Rattle.of_layers.specs.Reading.{layers_of}
 use Rattle.of_rewrite.specs.TimeToLive.{ttl_of}
 use Rattle.of_actions.specs.declared.action.Action.{Action}
-use Rattle.of_actions.specs.declared.action.Action.TheVariants.{Output, Group}
+use Rattle.of_actions.specs.declared.action.Action.TheVariants as actions
 use Rattle.of_ports.specs.declared.port.Port.{Port}
 use Rattle.of_ports.specs.Ports.{is_live, may_send, port_at}
 use Rattle.of_table.specs.declared.flow.Flow.{Flow}
@@ -29,6 +29,8 @@ use Rattle.of_trace.specs.declared.form.Style.{Style}
 use Rattle.of_trace.specs.declared.form.Style.TheVariants.{Lines, Words}
 use Rattle.of_trace.specs.declared.form.Asked.{Asked}
 use Rattle.of_trace.specs.declared.form.Asked.TheVariants.{Nothing, All, Priority}
+use Rattle.of_trace.specs.declared.form.Output.{Output}
+use Rattle.of_trace.specs.declared.form.Output.TheVariants as outputs
 use Rattle.of_trace.specs.declared.form.Form.{Form}
 use Rattle.of_trace.specs.declared.form.Form.TheVariants.{Plain, Explained, Why}
 use Rattle.of_trace.specs.declared.reason.Reason.{Reason}
@@ -37,6 +39,7 @@ use Rattle.of_trace.specs.declared.sight.Sight.{Sight}
 use Rattle.of_trace.specs.Sights.{key_seen, sight_after, stepped}
 use Rattle.of_trace.specs.Text.{step_line, trace_text}
 use Rattle.of_trace.specs.Words.{flow_there, heading, leaving_text, words_line, words_text}
+use Rattle.of_trace.specs.Json.{trace_json}
 use Rattle.of_trace.specs.Why.{reason_in}
 
 -- ---- values
@@ -186,8 +189,8 @@ abbrev pub changes : Style → Step → Sight → List ℕ
 changes style step s = change_notes style (key_seen s) (key_seen (sight_after step s)) ++ ttl_note (ttl_seen s) (ttl_seen (sight_after step s))
 
 abbrev pub sending_notes : Forwarding → Sight → Action → List ℕ
-sending_notes f s (Output port max_len) = output_note f.ports s.ingress port
-sending_notes f s (Group group) = group_notes group ((world_of f).chosen group)
+sending_notes f s (actions.Output port max_len) = output_note f.ports s.ingress port
+sending_notes f s (actions.Group group) = group_notes group ((world_of f).chosen group)
 sending_notes f s other = []
 
 abbrev pub notes : Style → Forwarding → Asked → Sight → Step → List ℕ
@@ -201,8 +204,8 @@ notes style f asked s other = []
 -- ---- an action set without output: none of its actions sends, and the packet ends (5.10)
 
 abbrev pub sends : Action → Bool
-sends (Output port max_len) = true
-sends (Group group) = true
+sends (actions.Output port max_len) = true
+sends (actions.Group group) = true
 sends other = false
 
 -- of a step, where this is so of those after it
@@ -254,7 +257,13 @@ plain Lines f port frame steps effects = trace_text steps effects
 plain Words f port frame steps effects = ended (heading f port frame) ++ words_text f steps ++ leaving_text effects
 
 -- THE TEXT OF A TRACE in one of its styles and forms
-abbrev pub said : Style → Form → Forwarding → ℕ → List ℕ → List Step → List Effect → List ℕ
-said style Plain f port frame steps effects = plain style f port frame steps effects
-said style Explained f port frame steps effects = explained style f Nothing port frame steps effects
-said style (Why asked) f port frame steps effects = explained style f asked port frame steps effects
+abbrev pub styled : Style → Form → Forwarding → ℕ → List ℕ → List Step → List Effect → List ℕ
+styled style Plain f port frame steps effects = plain style f port frame steps effects
+styled style Explained f port frame steps effects = explained style f Nothing port frame steps effects
+styled style (Why asked) f port frame steps effects = explained style f asked port frame steps effects
+
+-- and what is written of it: one of these texts, or JSON
+abbrev pub said : Output → Forwarding → ℕ → List ℕ → List Step → List Effect → List ℕ
+said (outputs.Lines form) f port frame steps effects = styled Lines form f port frame steps effects
+said (outputs.Words form) f port frame steps effects = styled Words form f port frame steps effects
+said outputs.Json f port frame steps effects = trace_json f port frame steps effects

@@ -18,6 +18,17 @@ pub enum Style {
     Words,
 }
 
+/// What is written of a trace.
+#[derive(Clone, Copy, Debug, PartialEq, Eq)]
+pub enum Output {
+    /// Text in lines for programs.
+    Lines(Form),
+    /// Text in words for people.
+    Words(Form),
+    /// One JSON document (RFC 8259), without notes.
+    Json,
+}
+
 /// How much the text of a trace says.
 #[derive(Clone, Copy, Debug, PartialEq, Eq)]
 pub enum Form {

@@ -5,6 +5,7 @@ mod explaining;
 mod fields;
 mod first_lines;
 mod form;
+mod json;
 mod laws;
 mod notes;
 mod noting;
@@ -23,7 +24,8 @@ mod writing;
 
 pub use explaining::why;
 pub use first_lines::FirstLines;
-pub use form::{Asked, Form, Style};
+pub use form::{Asked, Form, Output, Style};
+pub use json::print_json;
 pub use laws::{notes_only_add, steps_tell_packets, traces_come_whole};
 pub use noting::explain;
 pub use printing::{print, print_words};

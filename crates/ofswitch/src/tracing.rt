@@ -8,7 +8,7 @@ use of_command_line::{Asked, FileKind, Trace};
 use of_replay::streams::{ReaderSource, WriterSink};
 use of_replay::{Ended, Source};
 use of_report::Content;
-use of_trace::{FirstLines, Form, Style, trace_events, trace_file};
+use of_trace::{FirstLines, Form, Output, trace_events, trace_file};
 use std::io::Read;
 
 fn form_of(explain: bool, why: Option<Asked>) -> Form {
@@ -22,27 +22,34 @@ fn form_of(explain: bool, why: Option<Asked>) -> Form {
     }
 }
 
-fn style_of(words: bool) -> Style {
-    if words { Style::Words } else { Style::Lines }
+fn output_of(asked: &Trace) -> Output {
+    let form = form_of(asked.explain, asked.why);
+    if asked.json {
+        Output::Json
+    } else if asked.words {
+        Output::Words(form)
+    } else {
+        Output::Lines(form)
+    }
 }
 
 // Prints the trace on the switch with the groups and flows of a flow text.
 fn traced_on_flows<S: Source>(rt: &HostRuntime, asked: &Trace, reader: &mut S) -> Ended
     requires reads { S.reads reader.old ≡ 0 }
 {
-    let (style, form) = (style_of(asked.words), form_of(asked.explain, asked.why));
+    let output = output_of(asked);
     let (alloc, port, frame) = (rt.alloc(), asked.port, asked.frame.as_slice());
     let mut writer = WriterSink::new(rt.stdout());
-    trace_file::<Lookups, _, _>(alloc, reader, port, frame, style, form, &mut writer)
+    trace_file::<Lookups, _, _>(alloc, reader, port, frame, output, &mut writer)
 }
 
 fn traced_on_rows<S: Source>(rt: &HostRuntime, asked: &Trace, reader: &mut S) -> Ended
     requires reads { S.reads reader.old ≡ 0 }
 {
-    let (style, form) = (style_of(asked.words), form_of(asked.explain, asked.why));
+    let output = output_of(asked);
     let (alloc, port, frame) = (rt.alloc(), asked.port, asked.frame.as_slice());
     let mut writer = WriterSink::new(rt.stdout());
-    trace_events::<Lookups, _, _>(alloc, reader, port, frame, style, form, &mut writer)
+    trace_events::<Lookups, _, _>(alloc, reader, port, frame, output, &mut writer)
 }
 
 // The switch before a line is the one that the lines before it leave.

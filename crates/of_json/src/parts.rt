@@ -1,8 +1,8 @@
-//! Parts of JSON (RFC 8259). Strings here have no characters that need an escape.
+//! Strings, numbers and members.
 ghost use Rattle.std.specs.Prelude.{◌≡◌, ◌++◌, OnOk};
 ghost use Rattle.hex.specs.Hex.{encode_lower};
 ghost use Rattle.of_values.specs.Numbers.{hexadecimal};
-ghost use Rattle.of_report.specs.Json.{key, number_member, quoted, text_member, truth as truth_of};
+ghost use Rattle.of_json.specs.Parts.{key, number_member, quoted, text_member, truth as truth_of};
 
 use of_build::push_hex;
 use of_values::{push_decimal, push_hexadecimal};
@@ -39,7 +39,7 @@ pub fn push_truth(out: &mut Vec<u8>, truth: bool) -> Result<(), AllocError>
 }
 
 /// Appends a further member: a number.
-#[tactic(auto, unfolding(crate::specs::Json::number_member))]
+#[tactic(auto, unfolding(crate::specs::Parts::number_member))]
 pub fn push_number_member(out: &mut Vec<u8>, name: &[u8], number: u128) -> Result<(), AllocError>
     ensures { OnOk result (out.new.items ≡ out.old.items ++ number_member name.now number) }
 {
@@ -49,7 +49,7 @@ pub fn push_number_member(out: &mut Vec<u8>, name: &[u8], number: u128) -> Resul
 }
 
 /// Appends a further member: a string.
-#[tactic(auto, unfolding(crate::specs::Json::text_member))]
+#[tactic(auto, unfolding(crate::specs::Parts::text_member))]
 pub fn push_text_member(out: &mut Vec<u8>, name: &[u8], text: &[u8]) -> Result<(), AllocError>
     ensures { OnOk result (out.new.items ≡ out.old.items ++ text_member name.now text.now) }
 {
@@ -59,7 +59,7 @@ pub fn push_text_member(out: &mut Vec<u8>, name: &[u8], text: &[u8]) -> Result<(
 }
 
 /// Appends a further member: a number in a string, in hexadecimal.
-#[tactic(auto, unfolding(crate::specs::Json::text_member))]
+#[tactic(auto, unfolding(crate::specs::Parts::text_member))]
 pub fn push_hex_member(out: &mut Vec<u8>, name: &[u8], number: u128) -> Result<(), AllocError>
     ensures { OnOk result (out.new.items ≡ out.old.items ++ text_member name.now (hexadecimal 1 number)) }
 {
@@ -72,7 +72,7 @@ pub fn push_hex_member(out: &mut Vec<u8>, name: &[u8], number: u128) -> Result<(
 }
 
 /// Appends a further member: the digits of bytes, in a string.
-#[tactic(auto, unfolding(crate::specs::Json::text_member))]
+#[tactic(auto, unfolding(crate::specs::Parts::text_member))]
 pub fn push_bytes_member(
     alloc: Global,
     out: &mut Vec<u8>,
