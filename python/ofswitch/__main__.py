@@ -50,7 +50,7 @@ never win (docs/CHECK.md) are gray. With a port and a frame, the path of the fra
 """
 
 DRAW_STATUSES = """
-Exit status: 0 drawn; 1 bad arguments; 3 the program found a fault in the file, is missing or ended, or `dot` is missing or failed.
+Exit status: 0 drawn; 1 bad arguments; 2 the file is at fault; 3 a file cannot be read, or the program or `dot` is missing or failed.
 """
 
 
@@ -311,6 +311,10 @@ def main() -> int:
         commands = {"draw": picture.run, "capture": capture.run, "bridge": run, "live": run_live, "mininet": run_mininet}
         return commands[asked.command](asked)
     except (ProgramError, CaptureError, InterfaceError, OSError) as fault:
+        if asked.command == "draw" and isinstance(fault, ProgramError) and fault.status is not None and fault.status > 0:
+            # the program says what is wrong with the file
+            print(fault.said, file=sys.stderr)
+            return fault.status
         print(fault, file=sys.stderr)
         return FAULT
     except KeyboardInterrupt:

@@ -131,5 +131,5 @@ def test_a_frame_and_its_port(flows, words):
 
 def test_a_faulty_text(flows):
     done = subprocess.run([*COMMAND, "--flows", flows("flow 0 1\n")], capture_output=True, text=True, timeout=120)
-    assert done.returncode == 3
+    assert done.returncode == 2
     assert "line 1: syntax" in done.stderr

@@ -6,6 +6,7 @@ use Rattle.of_switch.specs.State.{State}
 use Rattle.of_replay.specs.Lexing.{first_word, after_word, number_of, bytes_of}
 use Rattle.of_replay.specs.FileRuns.{switch_text}
 use Rattle.of_replay.specs.RowTexts.{RowText}
+use Rattle.of_trace.specs.declared.form.Output.TheVariants.{Lines}
 use Rattle.of_trace.specs.declared.form.Form.{Form}
 use Rattle.of_trace.specs.declared.form.Form.TheVariants.{Plain, Explained, Why}
 use Rattle.of_trace.specs.declared.form.Asked.TheVariants.{All}
@@ -70,7 +71,7 @@ question_words line = if nat_lt (length line) 3 then None else (if bytes_eq (tak
 -- THE ANSWER of a switch
 abbrev pub answer : State → Question → List ℕ
 answer s Flows = switch_text s
-answer s (Next (Steps form) port frame) = trace_on form port frame s
+answer s (Next (Steps form) port frame) = trace_on (Lines form) port frame s
 answer s (Next Words port frame) = frame_notes port frame s
 answer s Mark = []
 answer s Unknown = codes "unknown question" ++ 10 ∷ []

@@ -11,7 +11,7 @@ use of_explain::push_frame_notes;
 use of_replay::{Row, RowPrinter};
 use of_switch::{Switch, SwitchError};
 use of_text::{disassemble, is};
-use of_trace::trace_text;
+use of_trace::{Output, trace_text};
 use std::alloc::{AllocError, Global};
 
 // The words of a comment that is a question.
@@ -57,7 +57,7 @@ fn push_next<L: Lookup>(
     match manner {
         Manner::Words => push_frame_notes(alloc, out, switch, port, frame),
         Manner::Steps(form) => {
-            let text = trace_text(alloc, switch, port, frame, form)?;
+            let text = trace_text(alloc, switch, port, frame, Output::Lines(form))?;
             out.extend_from_slice(&text)?;
             Ok(())
         }

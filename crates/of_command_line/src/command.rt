@@ -53,9 +53,18 @@ row, nothing is printed.
   ofswitch asm examples/router.flows | ofswitch dis -";
 
 const TRACES: &str =
-    "With --flows the switch has ports 1 to 64, all of whose links are up, and the groups and flows of the text. With --events it is
-the switch after the rows of the event file (`ofswitch replay --help`), with its ports and its connection, or with --at ROW the
-switch before that line. There is one line per step:
+    "FILE is a flow text (`ofswitch asm --help`), an event file (`ofswitch replay --help`), or what ovs-ofctl prints
+(`ofswitch import --help`); the first word that is not in a comment says which. Or --flows, --events or --ovs says it. Of a flow
+text or a table of ovs-ofctl the switch has the groups and flows, and ports 1 to 64, all of whose links are up. Of an event file it
+is the switch after the rows, with its ports and its connection, or with --at ROW the switch before that line. The trace is in
+words: the frame, then the steps, with the priority and the match of each entry that won, then what leaves:
+
+  in_port 1, eth 02:00:00:00:01:02 > 02:00:00:00:00:a1, eth_type 0x0800, ipv4 10.0.0.1 > 10.1.1.9, ip_proto 253, ttl 64
+  table 0: entry 1, priority 20, eth_dst 02:00:00:00:00:a1, eth_type 0x0800
+  go to table 1
+  ...
+
+With --flows or --events alone there is one line per step, for programs:
 
   lookup 0 entry 2                      a table, and the entry that won, by age from 0 (or miss)
   apply, write, clear, metadata, goto   an instruction
@@ -68,24 +77,37 @@ With --explain there are notes below the lines: below a lookup the entry that wo
 table sees; below an action what it changed, why an output sends nothing, and which buckets of a group run. With --why all,
 or --why \"0 100\" for the entries of table 0 that have priority 100, they also say why entries won or lost.
 
-A frame may be written in words, as `ovs-appctl ofproto/trace` takes it: the words of a match (ovs-fields(7)), without masks. Fields of
-its headers that no word says are 0, the TTL is 64, lengths and checksums are right. in_port in the words is as good as --port.
+FRAME may be in words, as `ovs-appctl ofproto/trace` takes it: the words of a match (ovs-fields(7)), without masks. Fields of its
+headers that no word says are 0, the TTL is 64, lengths and checksums are right. Then --port may be left out, if in_port says it.
 
-  ofswitch trace --flows examples/router.flows in_port=1,dl_dst=02:00:00:00:00:a1,ip,nw_src=10.0.0.1,nw_dst=10.1.1.9
+  ofswitch trace examples/router.flows in_port=1,dl_dst=02:00:00:00:00:a1,ip,nw_src=10.0.0.1,nw_dst=10.1.1.9
+  ofswitch trace examples/router.flows --port 1 0200000000a10200000000010800450000140000000040fd64e30a0000010a010109
   ofswitch trace --flows examples/router.flows --port 1 0200000000a10200000000010800450000140000000040fd64e30a0000010a010109
   ofswitch trace --events examples/failover.events --at 14 --port 1 02000000000202000000000188b5";
 
 const CHECKS: &str =
-    "Checks the flows of the text, or with --events those of the switch after the rows of the event file. There is one line per flow,
-by table, then by age from 0:
+    "FILE is a flow text (`ofswitch asm --help`), an event file (`ofswitch replay --help`), or what ovs-ofctl prints
+(`ofswitch import --help`); the first word that is not in a comment says which. Or --flows, --events or --ovs says it.
+The report has first what was found, then a summary, then, with --all, the flows that win, each with a packet:
+
+  table 0 entry 2 (line 7, priority 5, eth_type 0x0800, ipv4_dst 10.1.0.0/16) never wins: shadowed by
+      table 0 entry 0 (line 1, priority 9, eth_type 0x0800, ipv4_dst 10.0.0.0/8)
+  table 3 is unreachable: no goto leads to it from table 0
+  12 flows: 9 win, 3 never win, 0 undecided
+
+The entries that shadow a flow have precedence and match together all that it matches, whatever the frame, the port and the
+metadata. A flow is undecided if the search ended after N steps. Whether packets reach a flow also depends on the tables
+before it. A table without a table-miss entry is reported if a goto leads to it, or with --all. A flow that is not
+reported does not necessarily do what was intended.
+
+With --flows or --events alone there is one line per flow, for programs, by table, then by age from 0:
 
   flow 0 1 wins in_port 1 metadata 0x0000000000000000 HEX    it wins the lookup of this frame, at this port, with this metadata
-  flow 0 2 never: 0 0 0 1               shadowed: flows 0 and 1 of table 0 have precedence and match all that it matches
+  flow 0 2 never: 0 0 0 1               shadowed by flows 0 and 1 of table 0
   flow 0 3 never: 0 0 (tie)             the same by a flow of equal priority: OpenFlow leaves open which of the two wins
   flow 0 4 open                         undecided within N steps
 
-A step looks at a part of what a flow matches. `never` holds for all frames, ports and metadata. Whether packets reach a flow
-also depends on the tables before it. After the flows there are lines about tables and groups, if there is anything to report:
+and after these a line for each remark about tables and groups:
 
   table 3 unreachable                   it has flows, and no goto leads there from table 0
   table 0 no table-miss entry           it has flows, and none of priority 0 without fields: packets that hit none are dropped
@@ -95,12 +117,12 @@ also depends on the tables before it. After the flows there are lines about tabl
   group 7 unused                        no flow and no group names it
   group 7 no buckets                    packets end there
 
-A flow that is not reported does not necessarily do what was intended.
+Exit status: 4 if the report has a line before its summary, or, without a report, if a flow never wins or there is a remark;
+0 if nothing was found.
 
-Exit status: 0 if nothing was found, 4 if a flow never wins or there is a line about a table or a group.
-
-  ofswitch check --flows examples/router.flows
-  ofswitch check --events examples/failover.events";
+  ofswitch check examples/office.txt
+  ofswitch check --all examples/router.flows
+  ofswitch check --flows examples/router.flows";
 
 const IMPORTS: &str =
     "FILE has flows and groups, one per line, as `ovs-ofctl -O OpenFlow13 --no-names dump-flows` and `dump-groups` print them, or
@@ -189,6 +211,8 @@ enum Kind {
     Required(&'static str),
     // Behind this option, of which there has to be exactly one; the help calls the value so.
     Alternative(&'static str, &'static str),
+    // By its place, in place of the options of which there has to be exactly one.
+    Place,
     // Behind this option, where it is there; the help calls the value so.
     Optional(&'static str, &'static str),
     // Behind this option, as often as it is there; the help calls the value so.
@@ -263,7 +287,12 @@ const SAY: [Argument; 1] = [Argument {
     help: "Messages in hexadecimal digits, or a file with such digits or with the bytes; - is standard input",
 }];
 
-const TRACE: [Argument; 7] = [
+const TRACE: [Argument; 11] = [
+    Argument {
+        name: "FILE",
+        kind: Kind::Positional,
+        help: "The file of the switch; or the frame, if an option names the file",
+    },
     Argument {
         name: "flows",
         kind: Kind::Alternative("flows", "FILE"),
@@ -275,6 +304,11 @@ const TRACE: [Argument; 7] = [
         help: "The event file whose rows make the switch; - is standard input",
     },
     Argument {
+        name: "ovs",
+        kind: Kind::Alternative("ovs", "FILE"),
+        help: "The dump or file of ovs-ofctl with the switch's flows; - is standard input",
+    },
+    Argument {
         name: "at",
         kind: Kind::Excluded("at", "ROW", "flows"),
         help: "Play the event file only up to this line, which is not played (by default all of it)",
@@ -282,11 +316,11 @@ const TRACE: [Argument; 7] = [
     Argument {
         name: "N",
         kind: Kind::Optional("port", "N"),
-        help: "The port at which the frame is received; with --flows 1 to 64",
+        help: "The port at which the frame is received; with --flows 1 to 64. Words of FRAME may say it instead",
     },
     Argument {
         name: "FRAME",
-        kind: Kind::Positional,
+        kind: Kind::Place,
         help: "The frame: two hexadecimal digits per byte, or words such as in_port=1,tcp,nw_src=10.0.0.1,tp_dst=80",
     },
     Argument {
@@ -299,9 +333,24 @@ const TRACE: [Argument; 7] = [
         kind: Kind::Optional("why", "ENTRIES"),
         help: "Add to the notes why entries won or lost: all, or those of \"TABLE PRIORITY\"",
     },
+    Argument {
+        name: "words",
+        kind: Kind::Flag("words"),
+        help: "Print the trace in words also with --flows or --events",
+    },
+    Argument {
+        name: "json",
+        kind: Kind::Flag("json"),
+        help: "Print the trace as JSON (docs/JSON.md), without notes",
+    },
 ];
 
-const CHECK: [Argument; 3] = [
+const CHECK: [Argument; 8] = [
+    Argument {
+        name: "FILE",
+        kind: Kind::Place,
+        help: "The file to check; - is standard input",
+    },
     Argument {
         name: "flows",
         kind: Kind::Alternative("flows", "FILE"),
@@ -313,9 +362,29 @@ const CHECK: [Argument; 3] = [
         help: "The event file whose rows make the flows to check; - is standard input",
     },
     Argument {
+        name: "ovs",
+        kind: Kind::Alternative("ovs", "FILE"),
+        help: "The dump or file of ovs-ofctl to check; - is standard input",
+    },
+    Argument {
+        name: "words",
+        kind: Kind::Flag("words"),
+        help: "Print the report also with --flows or --events",
+    },
+    Argument {
+        name: "all",
+        kind: Kind::Flag("all"),
+        help: "Print the report with all remarks and the flows that win",
+    },
+    Argument {
+        name: "json",
+        kind: Kind::Flag("json"),
+        help: "Print the report as JSON (docs/JSON.md), with all remarks and all flows",
+    },
+    Argument {
         name: "steps",
         kind: Kind::Optional("steps", "N"),
-        help: "Leave a flow open after N steps (by default 100000)",
+        help: "Leave a flow undecided after N steps (by default 100000)",
     },
 ];
 
@@ -496,7 +565,7 @@ fn subcommand_of<'a>(alloc: Global, row: &Subcommand) -> Result<Command<'a>, All
     let mut alternatives = ArgGroup::new(alloc, ALTERNATIVES).required(true);
     let mut some = false;
     for it in row.arguments {
-        if let Kind::Alternative(_, _) = it.kind {
+        if is_alternative(&it.kind) {
             alternatives = alternatives.arg(it.name)?;
             some = true;
         }
@@ -509,10 +578,19 @@ fn subcommand_of<'a>(alloc: Global, row: &Subcommand) -> Result<Command<'a>, All
     }
 }
 
+// Whether an argument is one of those of which there has to be exactly one.
+fn is_alternative(kind: &Kind) -> bool {
+    match kind {
+        Kind::Alternative(_, _) | Kind::Place => true,
+        _ => false,
+    }
+}
+
 fn argument_of<'a>(alloc: Global, argument: &Argument) -> Result<Arg<'a>, AllocError> {
     let named = Arg::new(alloc, argument.name).help(argument.help);
     match argument.kind {
         Kind::Positional => Ok(named.required(true)),
+        Kind::Place => Ok(named),
         Kind::Required(option) => Ok(named.long(option).required(true)),
         Kind::Alternative(option, value) | Kind::Optional(option, value) => Ok(
             named.long(option).value_name(value),

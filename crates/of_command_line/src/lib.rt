@@ -4,6 +4,7 @@
 mod command;
 
 ghost use Rattle.std.specs.Prelude.{◌≡◌};
+ghost use Rattle.std.specs.Iterator.{IsFinite};
 ghost use Rattle.of_command_line.specs.declared.NoRequest.TheVariants.{NoMemory};
 
 use clap::ArgMatches;
@@ -12,7 +13,7 @@ use command::command;
 use of_frame_words::{NoFrame, Received, is_frame_words, read_frame};
 use of_wire::limits::{OFPP_MAX, TABLES};
 use std::alloc::{AllocError, Global};
-use std::net::{IpAddr, SocketAddr};
+use std::net::{IpAddr, Net, SocketAddr, ToSocketAddrs};
 use std::str::FromStr;
 
 /// A switch that has the flows of a flow text has the ports 1 to this one.
@@ -75,12 +76,7 @@ pub enum Request {
     /// To print the trace of a frame that is received at a port of the switch of a file; `-` is standard input.
     Trace(Trace),
     /// To print which flows of the switch of a file can win, and which never do; `-` is standard input.
-    Check {
-        file: String,
-        kind: FileKind,
-        /// After how many of them a flow is given up.
-        steps: u32,
-    },
+    Check(Check),
     /// To serve controllers.
     Serve(Serve),
     /// To forward the frames of a network.
@@ -94,22 +90,53 @@ pub struct Trace {
     pub kind: FileKind,
     /// The line of an event file, from 1, before which the switch is taken; else it is the one after all lines.
     pub at: Option<u32>,
-    /// 1 to 64 where the file is a flow text, else 1 to 0xffffff00.
+    /// 1 to 64 if an option says that the file is a flow text, else 1 to 0xffffff00.
     pub port: u32,
     pub frame: Vec<u8>,
     /// Whether its lines have notes.
     pub explain: bool,
     /// Of which entries it says why they won or did not.
     pub why: Option<Asked>,
+    /// Whether it is in words: if this is asked for, or if no option says that the file is a flow text or an event file.
+    pub words: bool,
+    /// Whether it is one JSON document.
+    pub json: bool,
+}
+
+/// Which file is checked, and how.
+#[derive(Debug, PartialEq, Eq, Drop)]
+pub struct Check {
+    pub file: String,
+    pub kind: FileKind,
+    /// After how many of them a flow is given up.
+    pub steps: u32,
+    pub output: CheckOutput,
+}
+
+/// What is printed of a check.
+#[derive(Clone, Copy, Debug, PartialEq, Eq)]
+pub enum CheckOutput {
+    /// A line for each flow and each remark, for programs.
+    Lines,
+    /// What is found, and a summary.
+    Report,
+    /// The same, and the flows that win.
+    All,
+    /// The report as JSON.
+    Json,
 }
 
 /// Of which kind the file of a switch is.
 #[derive(Clone, Copy, Debug, PartialEq, Eq)]
 pub enum FileKind {
+    /// Its content says it.
+    Guessed,
     /// A flow text: the switch has its groups and flows.
     Flows,
     /// An event file: the switch is the one that its rows leave.
     Events,
+    /// What ovs-ofctl prints: the switch has its groups and flows.
+    Ovs,
 }
 
 /// Entries of which a trace says why they won or did not.
@@ -191,15 +218,23 @@ impl From<AllocError> for NoRequest {
     }
 }
 
-/// Reads the words of a command line, of which the first is the program's name.
-pub fn read_request(alloc: Global, words: &[String]) -> Result<Request, NoRequest> {
+/// Reads the words of a command line, of which the first is the program's name. Names of hosts are looked up.
+pub fn read_request<N: Net>(
+    alloc: Global,
+    net: &N,
+    words: &[String],
+) -> Result<Request, NoRequest> {
     match command(alloc)?.try_get_matches_from(words) {
-        Ok(matches) => request_of(alloc, &matches),
+        Ok(matches) => request_of(alloc, net, &matches),
         Err(error) => Err(refusal_of(alloc, &error)?),
     }
 }
 
-fn request_of(alloc: Global, matches: &ArgMatches<'_>) -> Result<Request, NoRequest> {
+fn request_of<N: Net>(
+    alloc: Global,
+    net: &N,
+    matches: &ArgMatches<'_>,
+) -> Result<Request, NoRequest> {
     let Some((name, matches)) = matches.subcommand() else {
         return Ok(Request::Replay {
             file: "-".to_string(alloc)?,
@@ -210,8 +245,8 @@ fn request_of(alloc: Global, matches: &ArgMatches<'_>) -> Result<Request, NoRequ
         });
     };
     match name {
-        "serve" => Ok(Request::Serve(serve_of(alloc, matches)?)),
-        "live" => Ok(Request::Live(live_of(alloc, matches)?)),
+        "serve" => Ok(Request::Serve(serve_of(alloc, net, matches)?)),
+        "live" => Ok(Request::Live(live_of(alloc, net, matches)?)),
         "trace" => Ok(Request::Trace(trace_of(alloc, matches)?)),
         "check" => check_of(alloc, matches),
         _ => file_request_of(alloc, name, matches),
@@ -246,9 +281,10 @@ fn file_request_of(
 
 fn trace_of(alloc: Global, matches: &ArgMatches<'_>) -> Result<Trace, NoRequest> {
     let (file, kind) = switch_file_of(alloc, matches)?;
+    // with a file by its place the frame is the second word, else the first
+    let frame = matches.get_str("FRAME").or(matches.get_str("FILE"));
     let at = row_of(alloc, matches.get_str("at"))?;
-    let frame = matches.get_str("FRAME").unwrap_or("");
-    let received = received_of(alloc, kind, matches.get_str("N"), frame)?;
+    let received = received_of(alloc, kind, matches.get_str("N"), frame.unwrap_or(""))?;
     Ok(Trace {
         file,
         kind,
@@ -257,31 +293,56 @@ fn trace_of(alloc: Global, matches: &ArgMatches<'_>) -> Result<Trace, NoRequest>
         frame: received.frame,
         explain: matches.get_flag("explain"),
         why: why_of(alloc, matches.get_str("why"))?,
+        json: matches.get_flag("json"),
+        words: matches.get_flag("words") || matches!(kind, FileKind::Guessed | FileKind::Ovs),
     })
 }
 
 fn check_of(alloc: Global, matches: &ArgMatches<'_>) -> Result<Request, NoRequest> {
     let (file, kind) = switch_file_of(alloc, matches)?;
-    Ok(Request::Check {
+    Ok(Request::Check(Check {
         file,
         kind,
         steps: steps_of(alloc, matches.get_str("steps"))?,
-    })
+        output: output_of(kind, matches),
+    }))
 }
 
-// The file of a switch, and its kind: one of the two options is there.
+// The file of a switch, and what it is: one of these is there.
 fn switch_file_of(
     alloc: Global,
     matches: &ArgMatches<'_>,
 ) -> Result<(String, FileKind), AllocError> {
-    match matches.get_str("events") {
-        Some(file) => Ok((file.to_string(alloc)?, FileKind::Events)),
-        None => {
-            let file = matches.get_str("flows").unwrap_or("-");
-            Ok((file.to_string(alloc)?, FileKind::Flows))
-        }
+    if let Some(file) = matches.get_str("flows") {
+        return Ok((file.to_string(alloc)?, FileKind::Flows));
+    }
+    if let Some(file) = matches.get_str("events") {
+        return Ok((file.to_string(alloc)?, FileKind::Events));
+    }
+    if let Some(file) = matches.get_str("ovs") {
+        return Ok((file.to_string(alloc)?, FileKind::Ovs));
+    }
+    let file = matches.get_str("FILE").unwrap_or("-");
+    Ok((file.to_string(alloc)?, FileKind::Guessed))
+}
+
+// Lines, if the options say which file it is and nothing of a report.
+fn output_of(kind: FileKind, matches: &ArgMatches<'_>) -> CheckOutput {
+    if matches.get_flag("json") {
+        return CheckOutput::Json;
+    }
+    if matches.get_flag("all") {
+        return CheckOutput::All;
+    }
+    if matches.get_flag("words") {
+        return CheckOutput::Report;
+    }
+    match kind {
+        FileKind::Flows | FileKind::Events => CheckOutput::Lines,
+        FileKind::Guessed | FileKind::Ovs => CheckOutput::Report,
     }
 }
+
 
 // A number of 32 bits as event files and flow texts write it: without a sign, and without zeros before it.
 fn number_in(word: &str) -> Option<u32> {
@@ -304,9 +365,10 @@ fn row_of(alloc: Global, word: Option<&str>) -> Result<Option<u32>, NoRequest> {
 
 // A port that frames are traced from.
 fn port_of(alloc: Global, kind: FileKind, number: Option<u32>) -> Result<u32, NoRequest> {
-    let last = match kind {
-        FileKind::Flows => LAST_PORT,
-        FileKind::Events => OFPP_MAX,
+    let last = if kind == FileKind::Flows {
+        LAST_PORT
+    } else {
+        OFPP_MAX
     };
     match number {
         Some(port) if port >= 1 && port <= last => Ok(port),
@@ -330,7 +392,7 @@ fn received_of(
     })
 }
 
-// A frame in words. Without a port in them or beside them it has none.
+// A frame in words. Without a port in them or beside them its port is 0, which is refused.
 fn said_of(
     alloc: Global,
     kind: FileKind,
@@ -393,13 +455,17 @@ fn asked_in(word: &str) -> Option<Asked> {
     }
 }
 
-fn meeting_of(alloc: Global, matches: &ArgMatches<'_>) -> Result<Meeting, NoRequest> {
+fn meeting_of<N: Net>(
+    alloc: Global,
+    net: &N,
+    matches: &ArgMatches<'_>,
+) -> Result<Meeting, NoRequest> {
     match matches.get_str("connect") {
-        Some(word) => Ok(Meeting::Dial(address_of(alloc, word)?)),
-        None => Ok(Meeting::Listen(address_of(
-            alloc,
-            matches.get_str("listen").unwrap_or(DEFAULT_ADDRESS),
-        )?)),
+        Some(word) => Ok(Meeting::Dial(address_of(alloc, net, word)?)),
+        None => {
+            let word = matches.get_str("listen").unwrap_or(DEFAULT_ADDRESS);
+            Ok(Meeting::Listen(address_of(alloc, net, word)?))
+        }
     }
 }
 
@@ -411,9 +477,13 @@ fn text_of(alloc: Global, word: Option<&str>) -> Result<Option<String>, AllocErr
     }
 }
 
-fn serve_of(alloc: Global, matches: &ArgMatches<'_>) -> Result<Serve, NoRequest> {
+fn serve_of<N: Net>(
+    alloc: Global,
+    net: &N,
+    matches: &ArgMatches<'_>,
+) -> Result<Serve, NoRequest> {
     Ok(Serve {
-        meeting: meeting_of(alloc, matches)?,
+        meeting: meeting_of(alloc, net, matches)?,
         events: text_of(alloc, matches.get_str("FILE"))?,
         turns: turns_of(alloc, matches.get_str("turns"))?,
         dpid: dpid_of(alloc, matches.get_str("dpid"))?,
@@ -421,10 +491,14 @@ fn serve_of(alloc: Global, matches: &ArgMatches<'_>) -> Result<Serve, NoRequest>
     })
 }
 
-fn live_of(alloc: Global, matches: &ArgMatches<'_>) -> Result<Live, NoRequest> {
+fn live_of<N: Net>(
+    alloc: Global,
+    net: &N,
+    matches: &ArgMatches<'_>,
+) -> Result<Live, NoRequest> {
     Ok(Live {
         tunnel: tunnel_of(alloc, matches.get_str("vxlan").unwrap_or(DEFAULT_TUNNEL))?,
-        meeting: meeting_of(alloc, matches)?,
+        meeting: meeting_of(alloc, net, matches)?,
         ports: ports_of(alloc, matches.get_str("ports"))?,
         events: text_of(alloc, matches.get_str("FILE"))?,
         rows: running_rows_of(alloc, matches.get_str("rows"), matches.get_str("FILE"))?,
@@ -517,12 +591,55 @@ fn live_turns_of(alloc: Global, word: Option<&str>) -> Result<u64, NoRequest> {
     }
 }
 
-fn address_of(alloc: Global, word: &str) -> Result<SocketAddr, NoRequest> {
-    match SocketAddr::from_str(word) {
-        Ok(address) => Ok(address),
-        Err(_) => Err(refused(
+// The parts of a host's name and a port.
+fn name_in(word: &str) -> Option<(&str, u16)> {
+    let (host, port) = word.split_once(':')?;
+    if host.is_empty() {
+        return None;
+    }
+    Some((host, u16::try_from(number_in(port)?).ok()?))
+}
+
+// The first address of a host, those of IPv4 before the others.
+fn found_in<I: Iterator<Item = SocketAddr> + Drop>(addresses: I) -> Option<SocketAddr>
+    requires finite { IsFinite (I.remaining addresses) }
+    requires next { I.can_next addresses }
+{
+    let mut other = None;
+    for address in addresses {
+        if address.is_ipv4() {
+            return Some(address);
+        }
+        other = other.or(Some(address));
+    }
+    other
+}
+
+fn named_address<N: Net>(
+    alloc: Global,
+    net: &N,
+    host: &str,
+    port: u16,
+) -> Result<SocketAddr, NoRequest> {
+    let why = match (host, port).to_socket_addrs(net) {
+        Ok(addresses) => match found_in(addresses) {
+            Some(address) => return Ok(address),
+            None => format!(in alloc; "bad address\n{host}: no address\n")?,
+        },
+        Err(error) => format!(in alloc; "bad address\n{host}: {error}\n")?,
+    };
+    Err(NoRequest::Refused(why))
+}
+
+fn address_of<N: Net>(alloc: Global, net: &N, word: &str) -> Result<SocketAddr, NoRequest> {
+    if let Ok(address) = SocketAddr::from_str(word) {
+        return Ok(address);
+    }
+    match name_in(word) {
+        Some((host, port)) => named_address(alloc, net, host, port),
+        None => Err(refused(
             alloc,
-            "bad address\nan address is an IP address and a port, such as 127.0.0.1:6653 or [::1]:6653\n",
+            "bad address\nan address is an IP address or a host, and a port, such as 127.0.0.1:6653, [::1]:6653 or localhost:6653\n",
         )?),
     }
 }

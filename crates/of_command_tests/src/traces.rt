@@ -8,7 +8,7 @@ use of_replay::memory::MemorySink;
 use of_replay::streams::ReaderSource;
 use of_replay::{Ended, READ_SIZE, Reading, Source, push_effects, zeros};
 use of_switch::{Effect, PortChange, Switch};
-use of_trace::{Asked, FirstLines, Form, Reason, explain, print, trace, why, write_trace};
+use of_trace::{Asked, FirstLines, Form, Output, Reason, Style, explain, print, trace, why, write_trace};
 use std::alloc::Global;
 use std::process::Abort;
 use std::test::Fail;
@@ -56,6 +56,20 @@ const REASONED: &[u8] = b"lookup 0 miss
 end
 ";
 
+/// In words, written by hand.
+const IN_WORDS: &[u8] = b"in_port 1, eth 02:00:00:00:00:01 > 02:00:00:00:00:02, eth_type 0x88b5
+table 0: entry 0, priority 10, in_port 1
+apply actions
+output 2
+run the action set
+end
+out by port 2: 02000000000202000000000188b500000000000000000000000000000000000000000000000000000000000000000000000000000000000000000000
+";
+
+/// As JSON, written by hand.
+const AS_JSON: &[u8] = b"{\"command\":\"trace\",\"in_port\":1,\"frame\":\"02000000000202000000000188b500000000000000000000000000000000000000000000000000000000000000000000000000000000000000000000\",\"steps\":[{\"step\":\"entry\",\"table\":0,\"entry\":0,\"priority\":10,\"match\":{\"in_port\":\"1\"}},{\"step\":\"apply\"},{\"step\":\"output\",\"port\":\"2\",\"max_len\":0},{\"step\":\"action set\"},{\"step\":\"end\"}],\"effects\":[{\"effect\":\"frame\",\"port\":2,\"frame\":\"02000000000202000000000188b500000000000000000000000000000000000000000000000000000000000000000000000000000000000000000000\"}]}
+";
+
 fn added(number: u32) -> PortChange {
     PortChange::Add {
         number,
@@ -80,7 +94,7 @@ fn open<L: Lookup>(switch: &mut Switch<L>) -> Result<(), Fail> {
 enum Text {
     Printed,
     Explained,
-    Written(Form),
+    Written(Output),
 }
 
 /// Why an entry won or did not.
@@ -118,8 +132,10 @@ const STEPS: &[Step] = &[
     Step::Trace(1, Text::Printed, TRACED),
     Step::Trace(1, Text::Printed, TRACED),
     Step::Trace(1, Text::Explained, EXPLAINED),
-    Step::Trace(1, Text::Written(Form::Plain), TRACED),
-    Step::Trace(2, Text::Written(WHY), REASONED),
+    Step::Trace(1, Text::Written(Output::Lines(Form::Plain)), TRACED),
+    Step::Trace(1, Text::Written(Output::Words(Form::Plain)), IN_WORDS),
+    Step::Trace(1, Text::Written(Output::Json), AS_JSON),
+    Step::Trace(2, Text::Written(Output::Lines(WHY)), REASONED),
     Step::Reason(1, 0, Why::Won),
     Step::Reason(1, 1, Why::NoEntry),
     Step::Reason(2, 0, Why::Has(2)),
@@ -133,17 +149,17 @@ fn printed<L: Lookup>(alloc: Global, switch: &Switch<L>, port: u32) -> Result<Ve
 
 fn explained<L: Lookup>(alloc: Global, switch: &Switch<L>, port: u32) -> Result<Vec<u8>, Fail> {
     let traced = trace(alloc, switch, port, &FRAME)?;
-    Ok(explain(alloc, switch, Asked::Nothing, port, &FRAME, &traced)?)
+    Ok(explain(alloc, switch, Style::Lines, Asked::Nothing, port, &FRAME, &traced)?)
 }
 
 fn written<L: Lookup>(
     alloc: Global,
     switch: &Switch<L>,
     port: u32,
-    form: Form,
+    output: Output,
 ) -> Result<Vec<u8>, Fail> {
     let mut sink = MemorySink::new(alloc, 100, 0);
-    let ended = write_trace(alloc, switch, port, &FRAME, form, &mut sink);
+    let ended = write_trace(alloc, switch, port, &FRAME, output, &mut sink);
     let text = if ended == Ended::Done {
         sink.bytes()
     } else {
@@ -161,7 +177,7 @@ fn text_of<L: Lookup>(
     match text {
         Text::Printed => printed(alloc, switch, port),
         Text::Explained => explained(alloc, switch, port),
-        Text::Written(form) => written(alloc, switch, port, form),
+        Text::Written(output) => written(alloc, switch, port, output),
     }
 }
 

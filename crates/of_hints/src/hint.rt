@@ -3,8 +3,9 @@ ghost use Rattle.of_hints.specs.Layout.{IsSo};
 ghost use Rattle.std.specs.Prelude.{IfSome};
 
 use crate::forms::{EVENT_ROWS, FLOW_LINES, Form, form_of};
-use crate::layout::{LayoutFault, layout_fault};
+use crate::layout::{LayoutFault, layout_fault, text_fault};
 use crate::words::{WordFault, words_fault};
+use of_text::is_passed_over;
 use thiserror::Error;
 
 /// What is wrong with a line, as a sentence that says what to do.
@@ -16,12 +17,53 @@ pub enum Hint {
     UnknownRow,
     #[error("unknown line; lines are group, bucket, flow, match, apply, clear, write, metadata, goto, output, push_vlan, pop_vlan, to_group, set_nw_ttl, dec_nw_ttl, set")]
     UnknownLine,
+    #[error("this is a line of flow text, which asm, and trace and check with --flows, read")]
+    FlowText,
+    #[error("this is a row of an event file, which replay, dis, and trace and check with --events, read")]
+    EventFile,
+    #[error("this is a line of ovs-ofctl: convert the file with import")]
+    OpenVswitch,
+    #[error("a comment is a line of its own, which begins with #")]
+    Comment,
     #[error("{0}")]
     Words(WordFault),
     #[error("connect, lost and c are rows of a controller, which are not allowed in this file")]
     Controller,
     #[error("the words are right, but the line is out of place: {0}")]
     Order(&'static str),
+}
+
+// Whether a word before an equals sign is one that lines of ovs-ofctl have.
+fn is_ovs_line(line: &[u8]) -> bool {
+    line.split(|byte| *byte == b'=').any(|part| {
+        part.ends_with(b"actions") || part.ends_with(b"action") || part.ends_with(b"group_id")
+    })
+}
+
+// What a line is that is none of an event file.
+fn other_than_row(line: &[u8]) -> Hint
+    ensures { IsSo result line.now }
+{
+    if form_of(line, &FLOW_LINES).is_some() {
+        Hint::FlowText
+    } else if is_ovs_line(line) {
+        Hint::OpenVswitch
+    } else {
+        Hint::UnknownRow
+    }
+}
+
+// What a line is that is none of a flow text.
+fn other_than_flow(line: &[u8]) -> Hint
+    ensures { IsSo result line.now }
+{
+    if form_of(line, &EVENT_ROWS).is_some() {
+        Hint::EventFile
+    } else if is_ovs_line(line) {
+        Hint::OpenVswitch
+    } else {
+        Hint::UnknownLine
+    }
 }
 
 // What is wrong with a line that has to be of one of these forms, if anything is.
@@ -31,6 +73,9 @@ fn fault(line: &[u8], forms: &[Form], unknown: Hint) -> Option<Hint>
 {
     if let Some(fault) = layout_fault(line) {
         return Some(Hint::Layout(fault));
+    }
+    if line.contains(&b'#') {
+        return Some(Hint::Comment);
     }
     let Some((form, words)) = form_of(line, forms) else {
         return Some(unknown);
@@ -42,14 +87,31 @@ fn fault(line: &[u8], forms: &[Form], unknown: Hint) -> Option<Hint>
 pub fn event_row_hint(line: &[u8]) -> Hint
     ensures { IsSo result line.now }
 {
-    fault(line, &EVENT_ROWS, Hint::UnknownRow).unwrap_or(Hint::Controller)
+    fault(line, &EVENT_ROWS, other_than_row(line)).unwrap_or(Hint::Controller)
 }
 
 /// What is wrong with a line of a flow text that is a syntax fault.
 pub fn flow_line_hint(line: &[u8]) -> Hint
     ensures { IsSo result line.now }
 {
-    fault(line, &FLOW_LINES, Hint::UnknownLine).unwrap_or(Hint::Order(
+    fault(line, &FLOW_LINES, other_than_flow(line)).unwrap_or(Hint::Order(
         "groups in ascending order of number, each with its buckets and their actions; then flows, each with its match in the order of fields, and apply, clear, write, metadata, goto, once each; a mask of all ones is left out, and so is a field whose mask is 0",
     ))
+}
+
+/// What is wrong with a text that is to be imported, apart from its words.
+pub fn import_hint(text: &[u8]) -> Option<Hint>
+    ensures { IfSome result (λ hint. IsSo hint text.now) }
+{
+    if let Some(fault) = text_fault(text) {
+        return Some(Hint::Layout(fault));
+    }
+    let line = text.split(|byte| *byte == b'\n').find(|line| !is_passed_over(line))?;
+    if form_of(line, &FLOW_LINES).is_some() {
+        return Some(Hint::FlowText);
+    }
+    if form_of(line, &EVENT_ROWS).is_some() {
+        return Some(Hint::EventFile);
+    }
+    None
 }

@@ -3,7 +3,12 @@
 
 mod forms;
 mod hint;
+mod laws;
 mod layout;
+mod sentences;
+mod values;
 mod words;
 
-pub use hint::{Hint, event_row_hint, flow_line_hint};
+pub use hint::{Hint, event_row_hint, flow_line_hint, import_hint};
+pub use laws::refusals_have_sentences;
+pub use sentences::refusal_sentence;

@@ -1,6 +1,7 @@
 //! What is wrong with the words of a line.
 
 use crate::forms::{Form, Word};
+use crate::values::{is_decimal, prefix_in, value_in, value_of};
 use of_layers::Field;
 use thiserror::Error;
 
@@ -27,30 +28,20 @@ pub enum WordFault {
     GroupKind(usize),
     #[error("word {place}: 0x and {digits} lower case hexadecimal digits")]
     Hex { place: usize, digits: usize },
+    #[error("word {place}: 0x and 4 lower case hexadecimal digits, here 0x{value:04x}")]
+    Short { place: usize, value: u64 },
+    #[error("word {place}: 0x and 8 lower case hexadecimal digits, here 0x{value:08x}")]
+    Long { place: usize, value: u64 },
+    #[error("word {place}: 0x and 12 lower case hexadecimal digits, here 0x{value:012x}")]
+    Address { place: usize, value: u64 },
+    #[error("word {place}: a value and a mask of 8 hexadecimal digits, here 0x{value:08x} 0x{mask:08x}")]
+    Prefix { place: usize, value: u64, mask: u64 },
     #[error("word {0}: unknown field; fields are in_port, metadata, eth_dst, eth_src, eth_type, vlan_vid, vlan_pcp, ip_dscp, ip_ecn, ip_proto, ipv4_src, ipv4_dst, tcp_src, tcp_dst, udp_src, udp_dst, icmpv4_type, icmpv4_code, arp_op, arp_spa, arp_tpa, arp_sha, arp_tha, ipv6_src, ipv6_dst, ipv6_flabel, icmpv6_type, icmpv6_code")]
     Field(usize),
 }
 
 fn is(word: &[u8], wanted: &[u8]) -> bool {
     word == wanted
-}
-
-// Whether it is a decimal number without leading zeros.
-fn is_decimal(word: &[u8]) -> bool {
-    !word.is_empty()
-        && word.iter().all(|byte| byte.is_ascii_digit())
-        && (word.len() == 1 || word.first() != Some(&b'0'))
-}
-
-// The value of digits, or None where it is above 64 bits.
-fn value_of(digits: &[u8]) -> Option<u64> {
-    let mut value = 0_u64;
-    for digit in digits {
-        value = value
-            .checked_mul(10)?
-            .checked_add(u64::from(digit.wrapping_sub(b'0')))?;
-    }
-    Some(value)
 }
 
 fn decimal_fault(word: &[u8], place: usize, most: u64) -> Option<WordFault> {
@@ -84,7 +75,22 @@ fn hex_fault(word: &[u8], place: usize, bytes: usize) -> Option<WordFault> {
     let digits = bytes.saturating_mul(2);
     match word.strip_prefix(b"0x") {
         Some(rest) if rest.len() == digits && rest.iter().all(|byte| is_lower_hex(*byte)) => None,
-        _ => Some(WordFault::Hex { place, digits }),
+        _ => Some(value_fault(word, place, digits)),
+    }
+}
+
+// The fault of a value that is not hexadecimal: how it is written, if it is a number or an address.
+fn value_fault(word: &[u8], place: usize, digits: usize) -> WordFault {
+    if digits == 8 {
+        if let Some((value, mask)) = prefix_in(word) {
+            return WordFault::Prefix { place, value, mask };
+        }
+    }
+    match value_in(word, digits) {
+        Some(value) if digits == 4 => WordFault::Short { place, value },
+        Some(value) if digits == 8 => WordFault::Long { place, value },
+        Some(value) => WordFault::Address { place, value },
+        None => WordFault::Hex { place, digits },
     }
 }
 

@@ -7,3 +7,4 @@ pub mod DigestLemmas
 pub mod KeptLemmas
 pub mod ImportLemmas
 pub mod NoteLemmas
+pub mod CounterLemmas

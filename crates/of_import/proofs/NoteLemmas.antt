@@ -13,10 +13,10 @@ use Rattle.of_import.specs.ParsedLines.{FlowAt}
 use Rattle.of_import.specs.PartialFlows.{Refusal}
 
 -- whatever follows these bytes, it has the same lines that count
-abbrev Passes : List ℕ → Type 0
+abbrev pub Passes : List ℕ → Type 0
 Passes notes = (text : List ℕ) → kept (lines_of (notes ++ text)) ≡ kept (lines_of text)
 
-none_pass : Passes []
+pub none_pass : Passes []
 none_pass text = refl
 
 both_pass : (a b : List ℕ) → Passes a → Passes b → Passes (a ++ b)
@@ -46,11 +46,11 @@ comment_passes words text =
     ap (λ (x : List ℕ). kept (lines_of (35 ∷ 32 ∷ x))) (append_assoc (map shown words) (10 ∷ []) text)
     ∙ ap (λ (ls : List (List ℕ)). kept (prepended 35 (prepended 32 ls))) (line_of_words words text)
 
-unless_passes : (t : Bool) (words : List ℕ) → Passes (if t then [] else comment words)
+pub unless_passes : (t : Bool) (words : List ℕ) → Passes (if t then [] else comment words)
 unless_passes true words = none_pass
 unless_passes false words = comment_passes words
 
-if_passes : (t : Bool) (words : List ℕ) → Passes (if t then comment words else [])
+pub if_passes : (t : Bool) (words : List ℕ) → Passes (if t then comment words else [])
 if_passes true words = comment_passes words
 if_passes false words = none_pass
 

@@ -14,6 +14,7 @@ use Rattle.of_import.specs.ParsedLines.{FlowAt, ParsedLines, parsed_lines_of}
 use Rattle.of_import.specs.Kept.{Kept, flows_in, groups_in, kept_of, line_of}
 use Rattle.of_import.specs.KeptViews.{view_refusal}
 use Rattle.of_import.specs.TableNumbers.{TableNumbers, numbers_of, same_numbers}
+use Rattle.of_import.specs.Counters.{with_counters}
 use Rattle.of_import.specs.Notes.{is_changed, notes_of}
 
 -- the configuration has these groups and flows, each flow in its table after those before it, and none is refused
@@ -22,11 +23,11 @@ pub record IsConfigOf (gs : List (ℕ × TextGroup)) (fs : List FlowAt) (c : Con
   pub tables : c.tables ≡ tables_of (flows_in fs)
   pub stand : first_refusal (groups_in gs) (flows_in fs) ≡ None
 
--- the text of a configuration, after comments: it is read back as that
+-- the text of a configuration, with the counters of its flows, after comments: it is read back as that
 pub record IsTextOf (k : Kept) (notes text : List ℕ) : Type 0 where
   pub config : Configuration
   pub is : IsConfigOf k.groups k.flows config
-  pub text_is : text ≡ notes ++ config_text config
+  pub text_is : text ≡ notes ++ with_counters k.flows (config_text config)
   pub encoded : EncodeConfig (lines_of (config_text config)) config
 
 -- ---- the lines

@@ -14,4 +14,6 @@ pub mod KeptViews
 pub mod TableNumbers
 pub mod TableNumbersViews
 pub mod Notes
+pub mod Counters
+pub mod CounterViews
 pub mod Imports

@@ -8,7 +8,7 @@ use Rattle.of_import.specs.PartialFlowViews.{view_word_fault}
 use Rattle.of_import.specs.LineContents.{LineContent, Marks, Nothing, Group, Flow, Refused}
 
 abbrev pub view_marks : FlowMarks → Marks
-view_marks m = record { left = map (λ w. w.items) m.left.items; resubmits = m.resubmits }
+view_marks m = record { left = map (λ w. w.items) m.left.items; resubmits = m.resubmits; counters = map (λ w. w.items) m.counters.items }
 
 abbrev pub view_line_content : Declared → LineContent
 view_line_content variants.Nothing = Nothing

@@ -1,20 +1,21 @@
 -- WHAT A LINE SAYS (ovs-ofctl(8)): a flow, a group, nothing, or words that are refused.
-use Rattle.std.specs.Prelude.{ℕ, ◌==◌, ◌||◌, Bool, List, [], ◌∷◌, codes, length, Option, Some, None, Result, Ok, Err, if◌then◌else◌}
+use Rattle.std.specs.Prelude.{ℕ, ◌==◌, ◌&&◌, ◌||◌, Bool, List, [], ◌∷◌, codes, length, Option, Some, None, Result, Ok, Err, if◌then◌else◌}
 use Rattle.std.specs.Str.{bytes_eq}
 use Rattle.of_text.specs.Flows.{Flow as TextFlow}
 use Rattle.of_text.specs.Groups.{TextGroup}
 use Rattle.of_text.specs.Lines.{before}
 use Rattle.of_ovs_words.specs.declared.why.Why.{Why}
-use Rattle.of_ovs_words.specs.Words.{is_gap, name_of, words_from}
+use Rattle.of_ovs_words.specs.Words.{after_word, is_gap, name_of, word_in, words_from}
 use Rattle.of_import.specs.declared.mode.Mode.{Mode}
 use Rattle.of_import.specs.PartialFlows.{PartialFlow, Refusal, blank, with_word}
 use Rattle.of_import.specs.Finished.{flow_of, in_numbers, refusal_of}
-use Rattle.of_import.specs.PartialGroups.{PartialGroup, no_group, with_group_word, group_of}
+use Rattle.of_import.specs.PartialGroups.{PartialGroup, is_other_command, no_group, with_group_word, group_of}
 
--- what differs from the line: actions that are left out, and whether GOTO_TABLE is its `resubmit`
+-- what a flow text does not have: actions that are left out, whether GOTO_TABLE is the line's `resubmit`, and counters
 pub record Marks : Type 0 where
   pub left : List (List ℕ)
   pub resubmits : Bool
+  pub counters : List (List ℕ)
 
 pub data LineContent : Type 0 where
   Nothing : LineContent
@@ -42,7 +43,7 @@ is_heading text = bytes_eq (before 95 text) (codes "OFPST") || bytes_eq (before 
 -- all words that are refused, or else why they are no flow
 abbrev pub flow_unless : Option Refusal → PartialFlow → LineContent
 flow_unless (Some refusal) s = Refused (refusal ∷ [])
-flow_unless None s = Flow (flow_of s) (record { left = s.left; resubmits = s.resubmits })
+flow_unless None s = Flow (flow_of s) (record { left = s.left; resubmits = s.resubmits; counters = s.counters })
 
 unfoldable pub flow_content : PartialFlow → LineContent
 flow_content s = if length s.faults == 0 then flow_unless (refusal_of s) s else Refused s.faults
@@ -60,10 +61,20 @@ group_content s = if length s.faults == 0 then group_or_why (group_of s) else Re
 abbrev pub parsed_group : List ℕ → LineContent
 parsed_group text = group_content (with_words with_group_word no_group (words_from 0 text))
 
+-- a group, also behind a command: `group_id=..`, `add group_id=..`
+abbrev pub is_command : List ℕ → Bool
+is_command word = bytes_eq word (codes "add") || is_other_command word
+
+abbrev pub names_group : List ℕ → Bool
+names_group text = bytes_eq (name_of text) (codes "group_id")
+
+abbrev pub begins_group : List ℕ → Bool
+begins_group text = names_group text || (is_command (word_in 0 text) && names_group (trimmed (after_word 0 text)))
+
 abbrev pub parsed_text : Mode → List ℕ → List ℕ → LineContent
 parsed_text mode numbers text =
     if length text == 0 || is_heading text then Nothing
-    else if bytes_eq (name_of text) (codes "group_id") then parsed_group text
+    else if begins_group text then parsed_group text
     else parsed_flow mode numbers text
 
 -- WHAT A LINE SAYS, or all its words that are refused; tables get the numbers of the list

@@ -51,6 +51,13 @@ resubmit_note f = if f.marks.resubmits then comment (resubmit_words f.line) else
 abbrev pub mark_notes : FlowAt → List ℕ
 mark_notes f = flat_map (λ word. comment (action_words f.line word)) f.marks.left ++ resubmit_note f
 
+-- what a dump counted of a flow
+abbrev pub counter_words : List (List ℕ) → List ℕ
+counter_words words = codes "counters:" ++ flat_map (λ word. 32 ∷ word) words
+
+abbrev pub counter_note : FlowAt → List ℕ
+counter_note f = if length f.marks.counters == 0 then [] else comment (counter_words f.marks.counters)
+
 abbrev pub is_changed : FlowAt → Bool
 is_changed f = not (length f.marks.left == 0)
 

@@ -54,11 +54,13 @@ pub record PartialFlow : Type 0 where
   pub left : List (List ℕ)
   -- the table to go to is that of `resubmit`
   pub resubmits : Bool
+  -- what a dump counted of the flow, as words
+  pub counters : List (List ℕ)
   pub faults : List Refusal
 
 -- a flow of which nothing is said: OFP_DEFAULT_PRIORITY, and all else 0
 abbrev pub blank : Mode → PartialFlow
-blank mode = record { mode = mode; head = record { table = 0; priority = 32768; cookie = 0; idle = 0; hard = 0; flags = 0 }; settings = []; in_actions = false; apply = []; dropped = false; clears = false; writes = false; write = []; metadata = None; goto = None; stage = 0; left = []; resubmits = false; faults = [] }
+blank mode = record { mode = mode; head = record { table = 0; priority = 32768; cookie = 0; idle = 0; hard = 0; flags = 0 }; settings = []; in_actions = false; apply = []; dropped = false; clears = false; writes = false; write = []; metadata = None; goto = None; stage = 0; left = []; resubmits = false; counters = []; faults = [] }
 
 -- a word that is refused changes nothing else
 abbrev pub or_refused : PartialFlow → List ℕ → Result PartialFlow Why → PartialFlow
@@ -172,6 +174,16 @@ with_part s (Some word) name value = head_after s.mode s.head (part_of word) val
 unfoldable pub with_head_word : PartialFlow → List ℕ → List ℕ → Result PartialFlow Why
 with_head_word s name value = with_part s (head_named name) name value
 
+abbrev pub with_other_word : PartialFlow → List ℕ → PartialFlow
+with_other_word s word = or_refused s word (with_head_word s (name_of word) (value_of word))
+
+-- what a dump says of the packets of a flow, and of its age
+abbrev pub is_counter : List ℕ → Bool
+is_counter name = bytes_eq name (codes "duration") || bytes_eq name (codes "n_packets") || bytes_eq name (codes "n_bytes")
+
+abbrev pub counted : PartialFlow → List ℕ → PartialFlow
+counted s word = if is_counter (name_of word) then record s { counters = s.counters ++ word ∷ [] } else s
+
 -- an action or an instruction, if it is one
 abbrev pub with_action_word : PartialFlow → List ℕ → PartialFlow
 with_action_word s word = or_refused s word (with_flow_action s word)
@@ -188,4 +200,4 @@ unfoldable pub with_word : PartialFlow → List ℕ → PartialFlow
 with_word s word =
     if s.in_actions then with_action_word s word
     else if begins_actions (name_of word) then with_first_action s (value_of word)
-    else or_refused s word (with_head_word s (name_of word) (value_of word))
+    else with_other_word (counted s word) word

@@ -1,5 +1,5 @@
 -- WHAT THE WORDS OF A LINE SAY OF A GROUP, one after the other (ovs-ofctl(8)).
-use Rattle.std.specs.Prelude.{ℕ, ◌^◌, ◌&&◌, nat_lt, Bool, true, false, ◌==◌, List, [], ◌∷◌, ◌++◌, codes, length, Option, Some, None, Result, Ok, Err, if◌then◌else◌}
+use Rattle.std.specs.Prelude.{ℕ, ◌^◌, ◌&&◌, ◌||◌, nat_lt, Bool, true, false, ◌==◌, List, [], ◌∷◌, ◌++◌, codes, length, Option, Some, None, Result, Ok, Err, if◌then◌else◌}
 use Rattle.std.specs.List.{list_all}
 use Rattle.std.specs.Str.{bytes_eq}
 use Rattle.of_actions.specs.declared.action.Action.{Action}
@@ -77,11 +77,19 @@ with_word_of_bucket s word = group_or_refused s word (with_bucket_word s word)
 abbrev pub with_first_word : PartialGroup → List ℕ → PartialGroup
 with_first_word s value = if length value == 0 then s else with_word_of_bucket s value
 
+-- a command of a file for add-groups, other than `add`
+abbrev pub is_other_command : List ℕ → Bool
+is_other_command name =
+    bytes_eq name (codes "add_or_mod") || bytes_eq name (codes "modify") || bytes_eq name (codes "delete")
+    || bytes_eq name (codes "insert_bucket") || bytes_eq name (codes "insert_buckets") || bytes_eq name (codes "remove_bucket") || bytes_eq name (codes "remove_buckets")
+
 -- a word before the buckets
 unfoldable pub with_group_head : PartialGroup → List ℕ → Result PartialGroup Why
 with_group_head s word =
     if bytes_eq (name_of word) (codes "group_id") then (numbered (2 ^ 32) (value_of word) >>= λ n. Ok (record s { id = Some n }))
     else if bytes_eq (name_of word) (codes "type") then (kind_in (value_of word) >>= λ kind. Ok (record s { kind = Some kind }))
+    else if bytes_eq (name_of word) (codes "add") then Ok s
+    else if is_other_command (name_of word) then Err whys.Command
     else Err whys.Unknown
 
 -- ONE MORE WORD of a group

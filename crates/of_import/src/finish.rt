@@ -59,6 +59,7 @@ fn push_steps(steps: &mut Vec<StepText>, partial: &mut PartialFlow) -> Result<()
     ensures steps { OnOk result (map view_step steps.new.items ≡ map view_step steps.old.items ++ steps_of (view_partial_flow partial.old)) }
     ensures left { partial.new.left ≡ partial.old.left }
     ensures resubmits { partial.new.resubmits ≡ partial.old.resubmits }
+    ensures counters { partial.new.counters ≡ partial.old.counters }
 {
     let applies = !partial.apply.is_empty();
     push_when(
@@ -80,6 +81,7 @@ fn steps_from(alloc: Global, partial: &mut PartialFlow) -> Result<Vec<StepText>,
     ensures steps { IfOk result (λ steps. map view_step steps.items ≡ steps_of (view_partial_flow partial.old)) }
     ensures left { partial.new.left ≡ partial.old.left }
     ensures resubmits { partial.new.resubmits ≡ partial.old.resubmits }
+    ensures counters { partial.new.counters ≡ partial.old.counters }
 {
     let mut steps = Vec::new(alloc);
     push_steps(&mut steps, partial)?;
@@ -218,6 +220,7 @@ pub fn flow_from(
     ensures sound { IfOk result (λ flow. IsSound (view flow)) }
     ensures left { partial.new.left ≡ partial.old.left }
     ensures resubmits { partial.new.resubmits ≡ partial.old.resubmits }
+    ensures counters { partial.new.counters ≡ partial.old.counters }
 {
     known_head(partial.head);
     known_metadata(partial.metadata);

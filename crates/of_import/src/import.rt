@@ -4,12 +4,15 @@ ghost use Rattle.std.specs.List.{AllByRecursion};
 ghost use Rattle.of_text.specs.Configs.{EncodeConfig, config_text};
 ghost use Rattle.of_text.specs.Lines.{lines_of};
 ghost use Rattle.of_import.specs.Imports.{FaultsOf, IsConfigOf, IsImport, IsTextOf, NoImport, RefusedOf, kept_in, numbers_for as numbers_for_lines};
+ghost use Rattle.of_import.specs.Counters.{with_notes};
+ghost use Rattle.of_import.specs.CounterViews.{view_notes};
 ghost use Rattle.of_import.specs.KeptViews.{view_kept};
 ghost use Rattle.of_import.specs.ParsedLines.{parsed_lines_of};
 ghost use Rattle.of_import.specs.ParsedLinesViews.{AreSoundGroups, FlowIsSound, view_faults, view_flow_line, view_group_line};
 ghost use Rattle.of_import.specs.TableNumbersViews.{view_numbers};
 ghost use Rattle.of_import.specs.declared.import.ImportError.TheVariants.{NoMemory};
 
+use crate::counters::{counter_notes, push_with_notes};
 use crate::kept::{KeptLines, LineRefusal, keep};
 use crate::mode::Mode;
 use crate::notes::{count_changed, notes_for};
@@ -131,12 +134,17 @@ fn configure(
     }
 }
 
-// Appends the text of a configuration to comments.
-fn push_text(alloc: Global, notes: &mut Vec<u8>, config: &Config) -> Result<(), AllocError>
-    ensures { OnOk result (notes.new.items ≡ notes.old.items ++ config_text config.now) }
+// Appends the text of a configuration, and the counters of its flows, to comments.
+fn push_text(
+    alloc: Global,
+    notes: &mut Vec<u8>,
+    counters: Vec<Vec<u8>>,
+    config: &Config,
+) -> Result<(), AllocError>
+    ensures { OnOk result (notes.new.items ≡ notes.old.items ++ with_notes (view_notes counters.items) (lines_of (config_text config.now))) }
 {
     let text = disassemble(alloc, config)?;
-    notes.extend_from_slice(&text)
+    push_with_notes(notes, &text, counters)
 }
 
 // What is known of a configuration and its text.
@@ -159,9 +167,10 @@ fn written(
     ensures refused { IfOk result (λ refused. refused.items ≡ kept.refused.items) }
     ensures failed { IfErr result (RefusedOf (view_kept kept).groups (view_kept kept).flows) }
 {
+    let counters = counter_notes(alloc, &kept.flows)?;
     let config = configure(alloc, kept.groups, kept.flows)?;
     known_text(&config);
-    push_text(alloc, notes, &config)?;
+    push_text(alloc, notes, counters, &config)?;
     Ok(kept.refused)
 }
 
@@ -202,7 +211,8 @@ fn accepted(
     Ok((kept, faults))
 }
 
-/// The flow text (docs/FLOWTEXT.md) of a table that `ovs-ofctl` printed or would read, after comments about it. With `skip` lines that are
+/// The flow text (docs/FLOWTEXT.md) of a table that `ovs-ofctl` printed or would read, after comments about it, and with the counters of a dump
+/// as comments behind the flows. With `skip` lines that are
 /// refused are left out, else there has to be none. With `renumber` the tables that occur get the numbers 0 to 15.
 pub fn import_tables(alloc: Global, text: &[u8], mode: Mode) -> Result<Import, ImportError>
     ensures found { IfOk result (λ r. IsImport (lines_of text.now) mode r.text.items r.faults.items r.refused.items r.changed) }

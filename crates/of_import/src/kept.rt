@@ -1,13 +1,14 @@
 //! Which groups and flows of a table are kept.
-ghost use Rattle.std.specs.Prelude.{◌≡◌, ◌==◌, ◌++◌, ◌∷◌, map, length, is_some, slice_index_or, [], IfOk, OnOk};
+ghost use Rattle.std.specs.Prelude.{◌≡◌, ◌++◌, ◌∷◌, false, map, length, is_some, nat_eq, slice_get, slice_index_or, [], IfOk, OnOk};
+ghost use Rattle.std.specs.HashMap.{get};
 ghost use Rattle.std.specs.List.{AllByRecursion, list_any};
 ghost use Rattle.of_oxm.specs.SameMatch.{is_same_match};
-ghost use Rattle.std.specs.Option.{option_map};
+ghost use Rattle.std.specs.Option.{option_map, option_map_or};
 ghost use Rattle.of_text.specs.First.{first_refusal};
 ghost use Rattle.of_text.specs.Flows.{text_rows};
 ghost use Rattle.of_text.specs.Texts.{AreRows};
 ghost use Rattle.of_text.specs.Views.{view, view_flows, view_group, view_groups};
-ghost use Rattle.of_import.specs.Digests.{digest_of, digests_of, mixed as mixed_of};
+ghost use Rattle.of_import.specs.Digests.{digest_of, digests_of, mixed as mixed_of, HasDigests, PutsDigest};
 ghost use Rattle.of_import.specs.Kept.{accepted, after_refusal, groups_in, kept_groups, kept_of, refusal_alone as refusal_alone_of, refused as refused_of, replaces as replaces_flow, with_older, youngest as youngest_of};
 ghost use Rattle.of_import.specs.KeptViews.{view_kept, view_kept_groups, view_refusal};
 ghost use Rattle.of_import.specs.ParsedLinesViews.{AreSoundGroups, FlowIsSound, view_flow_line, view_group_line};
@@ -18,6 +19,7 @@ use crate::parsed_lines::{FlowLine, GroupLine, remove_id};
 use of_oxm::{Code, MatchField};
 use of_text::{Config, FillError, FlowText, GroupText};
 use std::alloc::{AllocError, Global};
+use std::collections::HashMap;
 
 /// A line that the switch refuses, and its first refusal (OpenFlow 1.3.5, 7.4.4).
 #[derive(Clone, Copy, Debug)]
@@ -267,45 +269,76 @@ fn digest(flow: &FlowText) -> u128
     flow.fields.iter().fold(seed, |sum, e| mixed(sum, *e))
 }
 
-fn has_digest(digests: &[u128], digest: u128) -> bool
-    ensures { result ≡ list_any (λ d. d == digest) digests.now }
+// Whether the flow at that place, if there is one, replaces another.
+fn replaces_at(later: &[FlowLine], place: usize, flow: &FlowText) -> bool
+    ensures { result ≡ option_map_or (λ g. replaces_flow (view g.flow) (view flow.now)) (slice_get later.now place) false }
 {
-    digests.iter().any(|other| *other == digest)
+    match later.get(place) {
+        Some(other) => replaces(&other.flow, flow),
+        None => false,
+    }
 }
 
-// Whether one of these flows, which have these digests, replaces another.
-fn has_younger(later: &[FlowLine], digests: &[u128], flow: &FlowText) -> bool
-    requires { digests.now ≡ digests_of later.now }
+// The same as is_replaced, beginning at a place.
+fn is_replaced_from(later: &[FlowLine], place: usize, flow: &FlowText) -> bool
     ensures { result ≡ list_any (λ g. replaces_flow (view g.flow) (view flow.now)) later.now }
 {
-    if has_digest(digests, digest(flow)) {
-        return is_replaced(later, flow);
+    if replaces_at(later, place, flow) {
+        return true;
     }
-    false
+    is_replaced(later, flow)
 }
 
-fn push_digest(digests: &mut Vec<u128>, flow: &FlowText) -> Result<(), AllocError>
-    ensures { OnOk result (digests.new.items ≡ digests.old.items ++ digest_of (view flow.now) ∷ []) }
+fn place_of(places: &HashMap<u128, usize>, key: u128) -> Option<usize>
+    ensures { result ≡ get nat_eq places.now key }
 {
-    digests.push(digest(flow))?;
+    places.get(&key).copied()
+}
+
+// Whether one of these flows replaces a flow of that digest. Under the digests of the flows there are places where one with that digest may be.
+fn has_younger(
+    later: &[FlowLine],
+    places: &HashMap<u128, usize>,
+    key: u128,
+    flow: &FlowText,
+) -> bool
+    requires digests { HasDigests (digests_of later.now) places.now }
+    requires key { key ≡ digest_of (view flow.now) }
+    ensures { result ≡ list_any (λ g. replaces_flow (view g.flow) (view flow.now)) later.now }
+{
+    match place_of(places, key) {
+        Some(place) => is_replaced_from(later, place, flow),
+        None => false,
+    }
+}
+
+fn put_digest(
+    places: &mut HashMap<u128, usize>,
+    key: u128,
+    place: usize,
+) -> Result<(), AllocError>
+    ensures { OnOk result (PutsDigest places.old places.new key place) }
+{
+    places.insert(key, place)?;
     Ok(())
 }
 
 // Adds a flow to those after it, unless one of them replaces it.
 fn add_older(
     later: &mut Vec<FlowLine>,
-    digests: &mut Vec<u128>,
+    places: &mut HashMap<u128, usize>,
     it: FlowLine,
 ) -> Result<(), AllocError>
-    requires digests { digests.old.items ≡ digests_of later.old.items }
+    requires digests { HasDigests (digests_of later.old.items) places.old }
     requires later { AllByRecursion FlowIsSound later.old.items }
     requires flow { FlowIsSound it }
     ensures added { OnOk result (map view_flow_line later.new.items ≡ with_older (map view_flow_line later.old.items) (view_flow_line it)) }
-    ensures digests { OnOk result (digests.new.items ≡ digests_of later.new.items) }
+    ensures digests { OnOk result (HasDigests (digests_of later.new.items) places.new) }
     ensures sound { OnOk result (AllByRecursion FlowIsSound later.new.items) }
 {
-    if !has_younger(later, digests, &it.flow) {
-        push_digest(digests, &it.flow)?;
+    let key = digest(&it.flow);
+    if !has_younger(later, places, key, &it.flow) {
+        put_digest(places, key, later.len())?;
         later.push(it)?;
     }
     Ok(())
@@ -319,10 +352,10 @@ pub fn youngest(alloc: Global, flows: Vec<FlowLine>) -> Result<Vec<FlowLine>, Al
     ensures sound { IfOk result (λ kept. AllByRecursion FlowIsSound kept.items) }
 {
     let mut later = Vec::new(alloc);
-    let mut digests = Vec::new(alloc);
+    let mut places = HashMap::new(alloc);
     let mut left = flows;
     while let Some(it) = left.pop() {
-        add_older(&mut later, &mut digests, it)?;
+        add_older(&mut later, &mut places, it)?;
     }
     later.reverse();
     Ok(later)

@@ -2,12 +2,16 @@
 ghost use Rattle.std.specs.Prelude.{◌++◌, ℕ, List};
 ghost use Rattle.of_text.specs.Configs.{Configuration, EncodeConfig};
 ghost use Rattle.of_text.specs.Lines.{lines_of};
+ghost use Rattle.of_import.specs.Counters.{with_counters};
 ghost use Rattle.of_import.specs.Kept.{Kept};
 ghost use Rattle.of_import.specs.Notes.{notes_of};
+ghost use Rattle.of_import.specs.ParsedLines.{FlowAt};
 ghost use Rattle.of_import.specs.PartialFlows.{Refusal};
 
-/// The comments before a text change nothing of what the text encodes: with them it is read back as the same configuration.
+/// The comments before a text and behind its flows change nothing of what the text encodes: with them it is read back as the same configuration.
 pub fn comments_change_nothing()
-    ensures { (moves : List (ℕ × ℕ)) (faults : List (ℕ × List Refusal)) (k : Kept) (text : List ℕ) (config : Configuration) →
+    ensures before { (moves : List (ℕ × ℕ)) (faults : List (ℕ × List Refusal)) (k : Kept) (text : List ℕ) (config : Configuration) →
         EncodeConfig (lines_of text) config → EncodeConfig (lines_of (notes_of moves faults k ++ text)) config }
+    ensures behind { (fs : List FlowAt) (text : List ℕ) (config : Configuration) →
+        EncodeConfig (lines_of text) config → EncodeConfig (lines_of (with_counters fs text)) config }
 {}

@@ -2,6 +2,7 @@
 #![tactic(auto)]
 
 mod copies;
+mod counters;
 mod finish;
 mod import;
 mod kept;

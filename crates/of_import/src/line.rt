@@ -6,7 +6,7 @@ ghost use Rattle.of_ovs_words.specs.Words.{words_from};
 ghost use Rattle.of_import.specs.Finished.{in_numbers, renumbered as renumbered_by};
 ghost use Rattle.of_import.specs.PartialFlows.{blank, with_word};
 ghost use Rattle.of_import.specs.PartialGroups.{no_group, with_group_word};
-ghost use Rattle.of_import.specs.LineContents.{flow_content, group_content, parsed_flow, parsed_group, is_heading as is_heading_text, parsed_line, parsed_text as parsed_text_of, with_words, trimmed as trimmed_of};
+ghost use Rattle.of_import.specs.LineContents.{begins_group as begins_group_so, flow_content, group_content, parsed_flow, parsed_group, is_command as is_command_word, is_heading as is_heading_text, names_group as names_group_so, parsed_line, parsed_text as parsed_text_of, with_words, trimmed as trimmed_of};
 ghost use Rattle.of_import.specs.Sound.{IsSoundContent};
 ghost use Rattle.of_import.specs.PartialFlowViews.{view_partial_flow};
 ghost use Rattle.of_import.specs.PartialGroupViews.{view_partial_group};
@@ -15,19 +15,21 @@ ghost use Rattle.of_import.specs.LineContentViews.{view_line_content};
 use crate::finish::{flow_from, refusal_of};
 use crate::mode::Mode;
 use crate::partial_flow::PartialFlow;
-use crate::partial_group::PartialGroup;
+use crate::partial_group::{PartialGroup, is_other_command};
 use crate::word_fault::WordFault;
 use of_ovs_words::{Stop, cut_word, fields_of, is_gap, name_of};
 use of_text::{FlowText, GroupText, cut, is};
 use std::alloc::{AllocError, Global};
 
-/// What differs from the line of a flow.
+/// What a flow text does not have of the line of a flow.
 #[derive(Drop)]
 pub struct FlowMarks {
     /// Actions that are left out.
     pub left: Vec<Vec<u8>>,
     /// Whether GOTO_TABLE is its `resubmit`.
     pub resubmits: bool,
+    /// What a dump counted of the flow, as words.
+    pub counters: Vec<Vec<u8>>,
 }
 
 /// What a line says.
@@ -123,6 +125,7 @@ fn finish_flow(alloc: Global, partial: PartialFlow) -> Result<LineContent, Alloc
         FlowMarks {
             left: partial.left,
             resubmits: partial.resubmits,
+            counters: partial.counters,
         },
     ))
 }
@@ -190,6 +193,26 @@ fn is_heading(text: &[u8]) -> bool
     is(word, b"OFPST") || is(word, b"NXST")
 }
 
+fn is_command(word: &[u8]) -> bool
+    ensures { result ≡ is_command_word word.now }
+{
+    is(word, b"add") || is_other_command(word)
+}
+
+fn names_group(text: &[u8]) -> bool
+    ensures { result ≡ names_group_so text.now }
+{
+    is(name_of(text), b"group_id")
+}
+
+// Whether it is a group, also behind a command.
+fn begins_group(text: &[u8]) -> bool
+    ensures { result ≡ begins_group_so text.now }
+{
+    let (word, rest) = cut_word(text);
+    names_group(text) || is_command(word) && names_group(trimmed(rest))
+}
+
 fn read_text(
     alloc: Global,
     mode: Mode,
@@ -201,7 +224,7 @@ fn read_text(
 {
     if text.is_empty() || is_heading(text) {
         Ok(LineContent::Nothing)
-    } else if is(name_of(text), b"group_id") {
+    } else if begins_group(text) {
         read_group(alloc, text)
     } else {
         read_flow(alloc, mode, numbers, text)

@@ -2,7 +2,7 @@
 ghost use Rattle.std.specs.Prelude.{◌≡◌, ◌++◌, ◌∷◌, filter, length, map, codes, IfOk, OnOk};
 ghost use Rattle.std.specs.List.{flat_map};
 ghost use Rattle.of_import.specs.KeptViews.{view_kept, view_refusal};
-ghost use Rattle.of_import.specs.Notes.{action_words, comment, fault_words, is_changed as is_changed_line, mark_notes, notes_of, part_note, part_words, refusal_words, resubmit_note, shown as shown_byte, table_words, word_after_space};
+ghost use Rattle.of_import.specs.Notes.{action_words, comment, counter_note as counter_note_of, fault_words, is_changed as is_changed_line, mark_notes, notes_of, part_note, part_words, refusal_words, resubmit_note, shown as shown_byte, table_words, word_after_space};
 ghost use Rattle.of_import.specs.ParsedLinesViews.{view_faults, view_flow_line};
 ghost use Rattle.of_import.specs.PartialFlowViews.{view_word_fault};
 
@@ -211,6 +211,32 @@ pub fn notes_for(
     push_refusals(alloc, &mut out, &kept.refused)?;
     push_marks(alloc, &mut out, &kept.flows)?;
     Ok(out)
+}
+
+// Appends words, with a space before each.
+fn push_counters(out: &mut Vec<u8>, words: &[Vec<u8>]) -> Result<(), AllocError>
+    ensures { OnOk result (out.new.items ≡ out.old.items ++ flat_map (λ word. 32 ∷ word) (map (λ w. w.items) words.now)) }
+{
+    for word in words {
+        out.push(b' ')?;
+        out.extend_from_slice(word)?;
+    }
+    Ok(())
+}
+
+/// What a dump counted of a flow, as a comment.
+pub fn counter_note(alloc: Global, it: &FlowLine) -> Result<Vec<u8>, AllocError>
+    ensures { IfOk result (λ note. note.items ≡ counter_note_of (view_flow_line it.now)) }
+{
+    let mut note = Vec::new(alloc);
+    if it.marks.counters.is_empty() {
+        return Ok(note);
+    }
+    let mut words = Vec::new(alloc);
+    words.extend_from_slice(b"counters:")?;
+    push_counters(&mut words, &it.marks.counters)?;
+    push_comment(&mut note, &words)?;
+    Ok(note)
 }
 
 fn is_changed(it: &FlowLine) -> bool

@@ -1,9 +1,8 @@
 //! The meaning of the words of a line for a flow.
 ghost use Rattle.std.specs.Prelude.{◌≡◌, ◌≤◌, ◌<◌, ◌^◌, ◌++◌, ◌∷◌, [], map, IfOk, IfErr, OnOk, Ok};
-ghost use Rattle.of_import.specs.PartialFlows.{alone as alone_word, begins_actions as begins_actions_so, with_first_action, blank, with_flag as head_with_flag, head_after, later_table as later_table_of, may_be_left as may_be_left_out, may_follow as may_follow_so, or_refused, is_such_port as is_such_port_name, with_action_word, with_applied, with_instruction, mask_of_metadata as metadata_mask_of, metadata_in as metadata_of, table_in as table_of, with_word as flow_with_word, with_flow_action, with_head_word, with_write};
+ghost use Rattle.of_import.specs.PartialFlows.{alone as alone_word, begins_actions as begins_actions_so, with_first_action, blank, with_flag as head_with_flag, counted, head_after, is_counter as is_counter_name, later_table as later_table_of, may_be_left as may_be_left_out, may_follow as may_follow_so, is_such_port as is_such_port_name, with_action_word, with_applied, with_instruction, mask_of_metadata as metadata_mask_of, metadata_in as metadata_of, table_in as table_of, with_word as flow_with_word, with_flow_action, with_head_word, with_other_word, with_write};
 ghost use Rattle.of_import.specs.PartialFlowViews.{view_partial_flow, view_word_fault};
 ghost use Rattle.of_ovs_words.specs.Stops.{IfRefused, Stops};
-ghost use Rattle.of_ovs_words.specs.Words.{name_of as named, value_of as valued};
 
 use crate::mode::Mode;
 use crate::word_fault::WordFault;
@@ -39,6 +38,8 @@ pub struct PartialFlow {
     pub left: Vec<Vec<u8>>,
     /// Whether the table to go to is that of `resubmit`.
     pub resubmits: bool,
+    /// What a dump counted of the flow, as words.
+    pub counters: Vec<Vec<u8>>,
     pub faults: Vec<WordFault>,
 }
 
@@ -155,6 +156,13 @@ fn may_be_left(word: &[u8]) -> bool
     }
 }
 
+// Whether it is what a dump says of the packets of a flow, or of its age.
+fn is_counter(name: &[u8]) -> bool
+    ensures { result ≡ is_counter_name name.now }
+{
+    is(name, b"duration") || is(name, b"n_packets") || is(name, b"n_bytes")
+}
+
 /// Whether the words after it are actions.
 pub fn begins_actions(name: &[u8]) -> bool
     ensures { result ≡ begins_actions_so name.now }
@@ -189,6 +197,7 @@ impl PartialFlow {
             stage: 0,
             left: Vec::new(alloc),
             resubmits: false,
+            counters: Vec::new(alloc),
             faults: Vec::new(alloc),
         }
     }
@@ -367,9 +376,19 @@ impl PartialFlow {
         }
     }
 
+    // Keeps the word, if it is a counter.
+    fn count(&mut self, alloc: Global, word: &[u8]) -> Result<(), AllocError>
+        ensures { OnOk result (view_partial_flow self.new ≡ counted (view_partial_flow self.old) word.now) }
+    {
+        if is_counter(name_of(word)) {
+            let word = word.to_vec(alloc)?;
+            self.counters.push(word)?;
+        }
+        Ok(())
+    }
+
     fn add_other_word(&mut self, alloc: Global, word: &[u8]) -> Result<(), AllocError>
-        ensures { OnOk result (view_partial_flow self.new ≡
-            or_refused (view_partial_flow self.old) word.now (with_head_word (view_partial_flow self.old) (named word.now) (valued word.now))) }
+        ensures { OnOk result (view_partial_flow self.new ≡ with_other_word (view_partial_flow self.old) word.now) }
     {
         match self.add_head_word(name_of(word), value_of(word)) {
             Ok(()) => Ok(()),
@@ -388,6 +407,7 @@ impl PartialFlow {
         } else if begins_actions(name_of(word)) {
             self.begin_actions(alloc, value_of(word))
         } else {
+            self.count(alloc, word)?;
             self.add_other_word(alloc, word)
         }
     }

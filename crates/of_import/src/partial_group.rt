@@ -1,6 +1,6 @@
 //! The meaning of the words of a line for a group.
 ghost use Rattle.std.specs.Prelude.{◌≡◌, ◌++◌, ◌∷◌, IfOk, IfErr, OnOk, Ok, Err, map, false, [], ◌<◌, ◌^◌};
-ghost use Rattle.of_import.specs.PartialGroups.{with_new_bucket, bucket_fits as bucket_fits_so, closed, first_action, group_of as group_in, group_or_refused, kind_in as kind_of, no_group, with_bucket_word as bucket_with_word, with_first_word, with_group_head, with_group_word, with_bucket_action, with_word_of_bucket};
+ghost use Rattle.of_import.specs.PartialGroups.{with_new_bucket, bucket_fits as bucket_fits_so, closed, first_action, group_of as group_in, group_or_refused, is_other_command as is_other_command_name, kind_in as kind_of, no_group, with_bucket_word as bucket_with_word, with_first_word, with_group_head, with_group_word, with_bucket_action, with_word_of_bucket};
 ghost use Rattle.of_import.specs.PartialGroupViews.{view_partial_group};
 ghost use Rattle.std.specs.List.{AllByRecursion, list_all};
 ghost use Rattle.of_text.specs.Groups.{group_rows};
@@ -39,6 +39,19 @@ const NEW_BUCKET: BucketHead = BucketHead {
     watch_port: 0xffff_ffff,
     watch_group: 0xffff_ffff,
 };
+
+/// Whether it is a command of a file for add-groups, other than `add`.
+pub fn is_other_command(name: &[u8]) -> bool
+    ensures { result ≡ is_other_command_name name.now }
+{
+    is(name, b"add_or_mod")
+        || is(name, b"modify")
+        || is(name, b"delete")
+        || is(name, b"insert_bucket")
+        || is(name, b"insert_buckets")
+        || is(name, b"remove_bucket")
+        || is(name, b"remove_buckets")
+}
 
 fn kind_in(value: &[u8]) -> Result<GroupKind, Why>
     ensures { result ≡ kind_of value.now }
@@ -221,6 +234,10 @@ impl PartialGroup {
         } else if is(name, b"type") {
             self.kind = Some(kind_in(value_of(word))?);
             Ok(())
+        } else if is(name, b"add") {
+            Ok(())
+        } else if is_other_command(name) {
+            Err(Why::Command)
         } else {
             Err(Why::Unknown)
         }

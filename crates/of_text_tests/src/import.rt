@@ -17,7 +17,7 @@ OFPST_FLOW reply (OF1.3) (xid=0x2):
 table=0,priority=11,udp,tp_dst=53,actions=mod_vlan_vid:7,2 # in place of the one above
 ";
 
-/// The same as flow text: what FLOWTEXT.md says of each word.
+/// The same as flow text: what FLOWTEXT.md says of each word, with the counters of the dump.
 const WRITTEN: &[u8] = b"group 1 all
 bucket 0 4294967295 4294967295
 output 1 0
@@ -29,6 +29,7 @@ output 1 0
 bucket 0 2 4294967295
 output 2 0
 flow 0 10 0x00000000000000ff 5 10 1
+# counters: duration=5.2s n_packets=0 n_bytes=0
 match in_port 0x00000001
 match eth_type 0x0800
 match ipv4_dst 0x0a000000 0xff000000
@@ -38,17 +39,20 @@ dec_nw_ttl
 output 2 0
 goto 3
 flow 0 13 0x0000000000000000 0 0 0
+# counters: duration=1.5s n_packets=0 n_bytes=0
 match eth_type 0x86dd
 match ipv6_src 0x20010db8000000000000000000000000 0xffffffff000000000000000000000000
 match ipv6_dst 0x20010db8000000000000000000000001
 apply
 output 4294967291 0
 flow 0 40 0x0000000000000000 0 0 0
+# counters: duration=1.1s n_packets=0 n_bytes=0
 match eth_type 0x0800
 match ip_dscp 0x2e
 apply
 to_group 1
 flow 0 27 0x0000000000000000 0 0 0
+# counters: duration=0.9s n_packets=0 n_bytes=0
 match vlan_vid 0x1005
 match vlan_pcp 0x03
 write

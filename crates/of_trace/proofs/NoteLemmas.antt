@@ -24,6 +24,8 @@ use Rattle.of_lines.specs.declared.row.Row.TheVariants as rows
 use Rattle.of_datapath.specs.declared.effect.Effect.{Effect}
 use Rattle.of_datapath.specs.Datapath.{Forwarding, world_of}
 use Rattle.of_replay.specs.Output.{text_of}
+use Rattle.of_trace.specs.declared.form.Style.{Style}
+use Rattle.of_trace.specs.declared.form.Style.TheVariants.{Lines, Words}
 use Rattle.of_trace.specs.declared.form.Asked.{Asked}
 use Rattle.of_trace.specs.declared.form.Asked.TheVariants.{Nothing}
 use Rattle.of_trace.specs.declared.form.Form.{Form}
@@ -31,10 +33,10 @@ use Rattle.of_trace.specs.declared.form.Form.TheVariants.{Plain, Explained, Why}
 use Rattle.of_trace.specs.declared.reason.Reason.{Reason}
 use Rattle.of_trace.specs.declared.sight.Sight.{Sight}
 use Rattle.of_trace.specs.Sights.{key_seen, sight_after, stepped}
-use Rattle.of_trace.specs.Text.{step_line, steps_text, trace_text}
 use Rattle.of_trace.specs.Why.{reason_in}
 use Rattle.of_trace.specs.OnlyNotes.{NotedLine, OnlyNotesAdded}
-use Rattle.of_trace.specs.Notes.{changes, entered, entry_notes, explained, explained_from, first_notes, flow_there, group_notes, head_in, is_asked, is_many, is_set, is_unsent, look_notes, looks_at, match_notes, notes, output_note, port_note, port_words, reason_note, reasons_from, said, same_value, seen_notes, sending_notes, set_notes, ttl_seen, ttl_words, reason_words, value_or_absent}
+use Rattle.of_trace.specs.Notes.{changes, entry_notes, explained, explained_from, first_notes, found_notes, group_notes, head_in, is_asked, is_many, is_set, is_unsent, line_in, look_notes, looks_at, match_notes, miss_notes, notes, output_note, plain, port_note, port_words, reason_note, reasons_from, same_value, seen_notes, sending_notes, set_notes, styled, ttl_seen, ttl_words, reason_words, value_or_absent}
+use Rattle.of_trace.specs.Words.{entered, flow_there, heading, leaving_text, words_text}
 
 pub record AreNotes (text : List ℕ) : Type 0 where
   pub notes : List (List ℕ)
@@ -70,26 +72,34 @@ of_entry : (t : ℕ) (f : Option Flow) → AreNotes (entry_notes t f)
 of_entry t None = none
 of_entry t (Some f) = both _ _ (one (encoding (rows.Flow (head_in t f)))) (matched f.fields)
 
-seen : (flows : List FlowEntry) (map : Field → Option ℕ) → AreNotes (seen_notes flows map)
-seen flows map = each _ constants.ALL (λ f. either (looks_at flows f) _ _ (one (codes "sees " ++ name_of f ++ value_or_absent f (map f))) none)
+of_found : (style : Style) (t : ℕ) (f : Option Flow) → AreNotes (found_notes style t f)
+of_found Lines t f = of_entry t f
+of_found Words t f = none
 
-of_reason : (e : FlowEntry) (place : ℕ) (r : Option Reason) → AreNotes (reason_note e place r)
-of_reason e place None = none
-of_reason e place (Some r) = one (codes "entry" ++ 32 ∷ decimal place ++ codes " (priority" ++ 32 ∷ decimal e.flow.priority ++ codes "): " ++ reason_words r)
+of_miss : (style : Style) (t : ℕ) → AreNotes (miss_notes style t)
+of_miss Lines t = one (codes "no entry matches in table" ++ 32 ∷ decimal t)
+of_miss Words t = none
 
-reasons : (asked : Asked) (t : ℕ) (map : Field → Option ℕ) (flows : List FlowEntry) (place : ℕ) (rest : List FlowEntry) → AreNotes (reasons_from asked t map flows place rest)
-reasons asked t map flows place [] = none
-reasons asked t map flows place (e ∷ rest) = both _ _ (either (is_asked asked t e) _ _ (of_reason e place (reason_in flows map place)) none) (reasons asked t map flows (suc place) rest)
+seen : (style : Style) (flows : List FlowEntry) (map : Field → Option ℕ) → AreNotes (seen_notes style flows map)
+seen style flows map = each _ constants.ALL (λ f. either (looks_at flows f) _ _ (one (codes "sees " ++ name_of f ++ value_or_absent style f (map f))) none)
 
-of_look : (f : Forwarding) (asked : Asked) (t : ℕ) (map : Field → Option ℕ) → AreNotes (look_notes f asked t map)
-of_look f asked t map =
+of_reason : (style : Style) (e : FlowEntry) (place : ℕ) (r : Option Reason) → AreNotes (reason_note style e place r)
+of_reason style e place None = none
+of_reason style e place (Some r) = one (codes "entry" ++ 32 ∷ decimal place ++ codes " (priority" ++ 32 ∷ decimal e.flow.priority ++ codes "): " ++ reason_words style r)
+
+reasons : (style : Style) (asked : Asked) (t : ℕ) (map : Field → Option ℕ) (flows : List FlowEntry) (place : ℕ) (rest : List FlowEntry) → AreNotes (reasons_from style asked t map flows place rest)
+reasons style asked t map flows place [] = none
+reasons style asked t map flows place (e ∷ rest) = both _ _ (either (is_asked asked t e) _ _ (of_reason style e place (reason_in flows map place)) none) (reasons style asked t map flows (suc place) rest)
+
+of_look : (style : Style) (f : Forwarding) (asked : Asked) (t : ℕ) (map : Field → Option ℕ) → AreNotes (look_notes style f asked t map)
+of_look style f asked t map =
     let flows : List FlowEntry = (table_at t f.tables).flows in
-    either (nat_lt t 16) _ _ (both _ _ (seen flows map) (reasons asked t map flows 0 flows)) none
+    either (nat_lt t 16) _ _ (both _ _ (seen style flows map) (reasons style asked t map flows 0 flows)) none
 
-of_changes : (step : Step) (s : Sight) → AreNotes (changes step s)
-of_changes step s =
+of_changes : (style : Style) (step : Step) (s : Sight) → AreNotes (changes style step s)
+of_changes style step s =
     both _ _
-    (each _ constants.ALL (λ f. either (same_value (key_seen s f) (key_seen (sight_after step s) f)) _ _ none (one (name_of f ++ value_or_absent f (key_seen s f) ++ codes " ->" ++ value_or_absent f (key_seen (sight_after step s) f)))))
+    (each _ constants.ALL (λ f. either (same_value (key_seen s f) (key_seen (sight_after step s) f)) _ _ none (one (name_of f ++ value_or_absent style f (key_seen s f) ++ codes " ->" ++ value_or_absent style f (key_seen (sight_after step s) f)))))
     (either (same_value (ttl_seen s) (ttl_seen (sight_after step s))) _ _ none (one (codes "nw_ttl" ++ ttl_words (ttl_seen s) ++ codes " ->" ++ ttl_words (ttl_seen (sight_after step s)))))
 
 of_port : (n : ℕ) (q : Option Port) → AreNotes (port_note n q)
@@ -111,22 +121,22 @@ of_sending f s (Output port max_len) = of_output f.ports s.ingress port
 of_sending f s (Group group) = of_group group ((world_of f).chosen group)
 of_sending f s other = none
 
-of_step : (f : Forwarding) (asked : Asked) (s : Sight) (step : Step) → AreNotes (notes f asked s step)
-of_step f asked s (Miss t) = both _ _ (one (codes "no entry matches in table" ++ 32 ∷ decimal t)) (of_look f asked t (key_seen s))
-of_step f asked s (Entry t place) = both _ _ (of_entry t (flow_there f t place)) (of_look f asked t (key_seen s))
-of_step f asked s Apply = none
-of_step f asked s Clear = none
-of_step f asked s Write = none
-of_step f asked s (Metadata value mask) = of_changes (Metadata value mask) s
-of_step f asked s (Goto t) = none
-of_step f asked s Set = none
-of_step f asked s (Act action) = both _ _ (of_sending f s action) (of_changes (Act action) s)
-of_step f asked s TtlExpired = one (codes "its work ends here")
-of_step f asked s End = none
+of_step : (style : Style) (f : Forwarding) (asked : Asked) (s : Sight) (step : Step) → AreNotes (notes style f asked s step)
+of_step style f asked s (Miss t) = both _ _ (of_miss style t) (of_look style f asked t (key_seen s))
+of_step style f asked s (Entry t place) = both _ _ (of_found style t (flow_there f t place)) (of_look style f asked t (key_seen s))
+of_step style f asked s Apply = none
+of_step style f asked s Clear = none
+of_step style f asked s Write = none
+of_step style f asked s (Metadata value mask) = of_changes style (Metadata value mask) s
+of_step style f asked s (Goto t) = none
+of_step style f asked s Set = none
+of_step style f asked s (Act action) = both _ _ (of_sending f s action) (of_changes style (Act action) s)
+of_step style f asked s TtlExpired = one (codes "its work ends here")
+of_step style f asked s End = none
 
-of_first : (f : Forwarding) (asked : Asked) (sights : List Sight) (step : Step) → AreNotes (first_notes f asked sights step)
-of_first f asked [] step = none
-of_first f asked (s ∷ others) step = of_step f asked s step
+of_first : (style : Style) (f : Forwarding) (asked : Asked) (sights : List Sight) (step : Step) → AreNotes (first_notes style f asked sights step)
+of_first style f asked [] step = none
+of_first style f asked (s ∷ others) step = of_step style f asked s step
 
 of_set : (step : Step) (behind : List Step) → AreNotes (set_notes step behind)
 of_set step behind = either (is_set step && is_unsent behind) _ _ (one (codes "the action set has no output")) none
@@ -146,23 +156,36 @@ more line text plain noted a h =
           ∙ sym (append_assoc (ended line ++ flat_map note a.notes) (flat_map (λ (l : NotedLine). ended l.line ++ flat_map note l.notes) h.lines) h.rest);
     }
 
-steps_noted : (f : Forwarding) (asked : Asked) (sights : List Sight) (steps : List Step) (rest : List ℕ) → OnlyNotesAdded (steps_text steps ++ rest) (explained_from f asked sights steps ++ rest)
-steps_noted f asked sights [] rest = record { lines = []; rest = rest; plain_is = refl; noted_is = refl }
-steps_noted f asked sights (step ∷ steps) rest =
-    let behind : List ℕ = explained_from f asked (stepped (world_of f) step sights) steps in
-    let line : List ℕ = ended (step_line step) in
-    let first : List ℕ = first_notes f asked sights step in
+-- the lines of steps, without notes
+abbrev lines_text : Style → Forwarding → List Step → List ℕ
+lines_text style f steps = flat_map (λ s. ended (line_in style f s)) steps
+
+steps_noted : (style : Style) (f : Forwarding) (asked : Asked) (sights : List Sight) (steps : List Step) (rest : List ℕ) → OnlyNotesAdded (lines_text style f steps ++ rest) (explained_from style f asked sights steps ++ rest)
+steps_noted style f asked sights [] rest = record { lines = []; rest = rest; plain_is = refl; noted_is = refl }
+steps_noted style f asked sights (step ∷ steps) rest =
+    let behind : List ℕ = explained_from style f asked (stepped (world_of f) step sights) steps in
+    let line : List ℕ = ended (line_in style f step) in
+    let first : List ℕ = first_notes style f asked sights step in
     let set : List ℕ = set_notes step steps in
-    let whole : OnlyNotesAdded (line ++ (steps_text steps ++ rest)) (line ++ (first ++ set) ++ (behind ++ rest)) = more (step_line step) (first ++ set) _ _ (both first set (of_first f asked sights step) (of_set step steps)) (steps_noted f asked (stepped (world_of f) step sights) steps rest) in
-    let plain : line ++ (steps_text steps ++ rest) ≡ steps_text (step ∷ steps) ++ rest = sym (append_assoc line (steps_text steps) rest) in
-    let noted : line ++ (first ++ set) ++ (behind ++ rest) ≡ explained_from f asked sights (step ∷ steps) ++ rest =
+    let whole : OnlyNotesAdded (line ++ (lines_text style f steps ++ rest)) (line ++ (first ++ set) ++ (behind ++ rest)) = more (line_in style f step) (first ++ set) _ _ (both first set (of_first style f asked sights step) (of_set step steps)) (steps_noted style f asked (stepped (world_of f) step sights) steps rest) in
+    let plain : line ++ (lines_text style f steps ++ rest) ≡ lines_text style f (step ∷ steps) ++ rest = sym (append_assoc line (lines_text style f steps) rest) in
+    let noted : line ++ (first ++ set) ++ (behind ++ rest) ≡ explained_from style f asked sights (step ∷ steps) ++ rest =
     ap (λ (l : List ℕ). l ++ (behind ++ rest)) (sym (append_assoc line first set)) ∙ sym (append_assoc (line ++ first ++ set) behind rest) in
     rw (sym plain, sym noted) whole
 
-pub explained_noted : (f : Forwarding) (asked : Asked) (port : ℕ) (frame : List ℕ) (steps : List Step) (effects : List Effect) → OnlyNotesAdded (trace_text steps effects) (explained f asked port frame steps effects)
-explained_noted f asked port frame steps effects = steps_noted f asked (entered port frame) steps (text_of effects)
+-- in words the frame is a line before them
+pub explained_noted : (style : Style) (f : Forwarding) (asked : Asked) (port : ℕ) (frame : List ℕ) (steps : List Step) (effects : List Effect) → OnlyNotesAdded (plain style f port frame steps effects) (explained style f asked port frame steps effects)
+explained_noted Lines f asked port frame steps effects = steps_noted Lines f asked (entered port frame) steps (text_of effects)
+explained_noted Words f asked port frame steps effects =
+    let first : List ℕ = ended (heading f port frame) in
+    let noted : List ℕ = explained_from Words f asked (entered port frame) steps in
+    let rest : List ℕ = leaving_text effects in
+    let whole : OnlyNotesAdded (first ++ (words_text f steps ++ rest)) (first ++ [] ++ (noted ++ rest)) = more (heading f port frame) [] _ _ none (steps_noted Words f asked (entered port frame) steps rest) in
+    let plain_is : first ++ (words_text f steps ++ rest) ≡ plain Words f port frame steps effects = sym (append_assoc first (words_text f steps) rest) in
+    let noted_is : first ++ [] ++ (noted ++ rest) ≡ explained Words f asked port frame steps effects = ap (λ (l : List ℕ). l ++ (noted ++ rest)) (append-nil first) ∙ sym (append_assoc first noted rest) in
+    rw (sym plain_is, sym noted_is) whole
 
-pub said_noted : (form : Form) (f : Forwarding) (port : ℕ) (frame : List ℕ) (steps : List Step) (effects : List Effect) → OnlyNotesAdded (trace_text steps effects) (said form f port frame steps effects)
-said_noted Plain f port frame steps effects = record { lines = []; rest = trace_text steps effects; plain_is = refl; noted_is = refl }
-said_noted Explained f port frame steps effects = explained_noted f Nothing port frame steps effects
-said_noted (Why asked) f port frame steps effects = explained_noted f asked port frame steps effects
+pub said_noted : (style : Style) (form : Form) (f : Forwarding) (port : ℕ) (frame : List ℕ) (steps : List Step) (effects : List Effect) → OnlyNotesAdded (plain style f port frame steps effects) (styled style form f port frame steps effects)
+said_noted style Plain f port frame steps effects = record { lines = []; rest = plain style f port frame steps effects; plain_is = refl; noted_is = refl }
+said_noted style Explained f port frame steps effects = explained_noted style f Nothing port frame steps effects
+said_noted style (Why asked) f port frame steps effects = explained_noted style f asked port frame steps effects

@@ -6,6 +6,7 @@ use Rattle.std.proofs.lemmas.List.{append_assoc}
 use Rattle.of_layers.specs.declared.field.Field.{Field}
 use Rattle.of_table.specs.Tables.{table_at}
 use Rattle.of_datapath.specs.Datapath.{Forwarding}
+use Rattle.of_trace.specs.declared.form.Style.{Style}
 use Rattle.of_trace.specs.declared.form.Asked.{Asked}
 use Rattle.of_trace.specs.Notes.{look_notes, table_notes}
 
@@ -20,7 +21,7 @@ same_part (Ok v) old new xs ys e h = h ∙ ap (λ (l : List ℕ). old ++ l) e
 same_part (Err v) old new xs ys e h = tt
 
 -- one of the sixteen tables
-pub look_is : (f : Forwarding) (asked : Asked) (t : ℕ) (map map' : Field → Option ℕ) → t < 16 → map ≡ map' → table_notes asked t map (table_at t f.tables).flows ≡ look_notes f asked t map'
-look_is f asked t map map' lt e =
+pub look_is : (style : Style) (f : Forwarding) (asked : Asked) (t : ℕ) (map map' : Field → Option ℕ) → t < 16 → map ≡ map' → table_notes style asked t map (table_at t f.tables).flows ≡ look_notes style f asked t map'
+look_is style f asked t map map' lt e =
     let test : nat_lt t 16 ≡ true = lt-ltb t 16 lt in
-    ap (λ (m : Field → Option ℕ). table_notes asked t m (table_at t f.tables).flows) e ∙ sym (ap (λ (b : Bool). cond b (table_notes asked t map' (table_at t f.tables).flows) []) test)
+    ap (λ (m : Field → Option ℕ). table_notes style asked t m (table_at t f.tables).flows) e ∙ sym (ap (λ (b : Bool). cond b (table_notes style asked t map' (table_at t f.tables).flows) []) test)

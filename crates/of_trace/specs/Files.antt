@@ -9,7 +9,7 @@ use Rattle.of_switch.specs.Runs.{run}
 use Rattle.of_switch.specs.Steps.{frame_in}
 use Rattle.of_datapath.specs.DryRun.{steps_in}
 use Rattle.of_switch.specs.Loading.{loaded}
-use Rattle.of_trace.specs.declared.form.Form.{Form}
+use Rattle.of_trace.specs.declared.form.Output.{Output}
 use Rattle.of_trace.specs.Notes.{said}
 
 -- a port is added, whose link is up
@@ -24,9 +24,9 @@ ports_up (suc n) = ports_up n ++ port_up (suc n) ∷ []
 abbrev pub traced_switch : Configuration → State
 traced_switch config = loaded config (run (ports_up 64) (start 1)).state
 
--- the text of the trace on a switch, in one of its forms
-abbrev pub trace_on : Form → ℕ → List ℕ → State → List ℕ
-trace_on form port frame s = said form s.core.forwarding port frame (steps_in port frame s.core.forwarding) (frame_in port frame s).effects
+-- what is written of the trace on a switch
+abbrev pub trace_on : Output → ℕ → List ℕ → State → List ℕ
+trace_on output port frame s = said output s.core.forwarding port frame (steps_in port frame s.core.forwarding) (frame_in port frame s).effects
 
-abbrev pub trace_of : Form → ℕ → List ℕ → Configuration → List ℕ
-trace_of form port frame config = trace_on form port frame (traced_switch config)
+abbrev pub trace_of : Output → ℕ → List ℕ → Configuration → List ℕ
+trace_of output port frame config = trace_on output port frame (traced_switch config)

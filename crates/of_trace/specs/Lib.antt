@@ -2,6 +2,8 @@ pub mod Encoded
 pub mod Text
 pub mod Why
 pub mod Sights
+pub mod Words
+pub mod Json
 pub mod Notes
 pub mod Files
 pub mod OnlyNotes

@@ -6,11 +6,9 @@ use Rattle.of_layers.specs.declared.field.Field.{Field}
 use Rattle.of_layers.specs.declared.field.TheConstants.Field as constants
 use Rattle.of_layers.specs.Fields.{name_of, number_of, ones_of}
 use Rattle.of_layers.specs.Reading.{layers_of}
-use Rattle.of_headers.specs.declared.headers.FrameFault.{FrameFault}
-use Rattle.of_headers.specs.Faults.{frame_fault}
 use Rattle.of_rewrite.specs.TimeToLive.{ttl_of}
 use Rattle.of_actions.specs.declared.action.Action.{Action}
-use Rattle.of_actions.specs.declared.action.Action.TheVariants.{Output, Group}
+use Rattle.of_actions.specs.declared.action.Action.TheVariants as actions
 use Rattle.of_ports.specs.declared.port.Port.{Port}
 use Rattle.of_ports.specs.Ports.{is_live, may_send, port_at}
 use Rattle.of_table.specs.declared.flow.Flow.{Flow}
@@ -24,10 +22,15 @@ use Rattle.of_lines.specs.declared.row.FlowHead.{FlowHead}
 use Rattle.of_text.specs.Rows.{encoding, value_word}
 use Rattle.of_lines.specs.declared.row.Row.TheVariants as rows
 use Rattle.of_datapath.specs.declared.effect.Effect.{Effect}
-use Rattle.of_datapath.specs.Datapath.{Forwarding, flow_in, world_of}
+use Rattle.of_datapath.specs.Datapath.{Forwarding, world_of}
 use Rattle.of_replay.specs.Output.{text_of}
+use Rattle.of_values.specs.Values.{value_words}
+use Rattle.of_trace.specs.declared.form.Style.{Style}
+use Rattle.of_trace.specs.declared.form.Style.TheVariants.{Lines, Words}
 use Rattle.of_trace.specs.declared.form.Asked.{Asked}
 use Rattle.of_trace.specs.declared.form.Asked.TheVariants.{Nothing, All, Priority}
+use Rattle.of_trace.specs.declared.form.Output.{Output}
+use Rattle.of_trace.specs.declared.form.Output.TheVariants as outputs
 use Rattle.of_trace.specs.declared.form.Form.{Form}
 use Rattle.of_trace.specs.declared.form.Form.TheVariants.{Plain, Explained, Why}
 use Rattle.of_trace.specs.declared.reason.Reason.{Reason}
@@ -35,6 +38,8 @@ use Rattle.of_trace.specs.declared.reason.Reason.TheVariants.{Won, Differs, Lowe
 use Rattle.of_trace.specs.declared.sight.Sight.{Sight}
 use Rattle.of_trace.specs.Sights.{key_seen, sight_after, stepped}
 use Rattle.of_trace.specs.Text.{step_line, trace_text}
+use Rattle.of_trace.specs.Words.{flow_there, heading, leaving_text, words_line, words_text}
+use Rattle.of_trace.specs.Json.{trace_json}
 use Rattle.of_trace.specs.Why.{reason_in}
 
 -- ---- values
@@ -43,9 +48,13 @@ use Rattle.of_trace.specs.Why.{reason_in}
 abbrev pub digits : Field → ℕ → List ℕ
 digits f v = 32 ∷ value_word f (bit_and v (ones_of f))
 
-abbrev pub value_or_absent : Field → Option ℕ → List ℕ
-value_or_absent f None = codes " absent"
-value_or_absent f (Some v) = digits f v
+abbrev pub value_text : Style → Field → ℕ → List ℕ
+value_text Lines f v = digits f v
+value_text Words f v = 32 ∷ value_words f v None
+
+abbrev pub value_or_absent : Style → Field → Option ℕ → List ℕ
+value_or_absent style f None = codes " absent"
+value_or_absent style f (Some v) = value_text style f v
 
 -- ---- the winning entry's `flow` line and its `match` lines, as flow text writes them
 
@@ -59,9 +68,14 @@ abbrev pub entry_notes : ℕ → Option Flow → List ℕ
 entry_notes table None = []
 entry_notes table (Some f) = note (encoding (rows.Flow (head_in table f))) ++ match_notes f.fields
 
--- the flow of an entry of one of the sixteen tables
-abbrev pub flow_there : Forwarding → ℕ → ℕ → Option Flow
-flow_there f table place = if nat_lt table 16 then flow_in f table place else None
+-- in words they are in the line itself
+abbrev pub found_notes : Style → ℕ → Option Flow → List ℕ
+found_notes Lines table flow = entry_notes table flow
+found_notes Words table flow = []
+
+abbrev pub miss_notes : Style → ℕ → List ℕ
+miss_notes Lines table = note (codes "no entry matches in table" ++ 32 ∷ decimal table)
+miss_notes Words table = []
 
 -- ---- what a table sees of a packet: each field that the match of some entry has
 
@@ -71,11 +85,11 @@ has_field f fields = list_any (λ x. number_of x.field == number_of f) fields
 abbrev pub looks_at : List FlowEntry → Field → Bool
 looks_at flows f = list_any (λ e. has_field f e.flow.fields) flows
 
-abbrev pub seen_note : List FlowEntry → (Field → Option ℕ) → Field → List ℕ
-seen_note flows map f = if looks_at flows f then note (codes "sees " ++ name_of f ++ value_or_absent f (map f)) else []
+abbrev pub seen_note : Style → List FlowEntry → (Field → Option ℕ) → Field → List ℕ
+seen_note style flows map f = if looks_at flows f then note (codes "sees " ++ name_of f ++ value_or_absent style f (map f)) else []
 
-abbrev pub seen_notes : List FlowEntry → (Field → Option ℕ) → List ℕ
-seen_notes flows map = flat_map (seen_note flows map) constants.ALL
+abbrev pub seen_notes : Style → List FlowEntry → (Field → Option ℕ) → List ℕ
+seen_notes style flows map = flat_map (seen_note style flows map) constants.ALL
 
 -- ---- why entries won or did not
 
@@ -83,15 +97,20 @@ abbrev pub mask_digits : Field → Option ℕ → List ℕ
 mask_digits f None = []
 mask_digits f (Some mask) = digits f mask
 
-abbrev pub reason_words : Reason → List ℕ
-reason_words Won = codes "wins"
-reason_words (Differs e found) = name_of e.field ++ codes " is" ++ value_or_absent e.field found ++ codes ", not" ++ digits e.field e.value ++ mask_digits e.field e.mask
-reason_words (LowerPriority winner) = codes "matches, but entry" ++ 32 ∷ decimal winner ++ codes " has a higher priority"
-reason_words (Younger winner) = codes "matches, but entry" ++ 32 ∷ decimal winner ++ codes " is older"
+-- what a field of a match wants
+abbrev pub wanted_text : Style → MatchField → List ℕ
+wanted_text Lines e = digits e.field e.value ++ mask_digits e.field e.mask
+wanted_text Words e = 32 ∷ value_words e.field e.value e.mask
 
-abbrev pub reason_note : FlowEntry → ℕ → Option Reason → List ℕ
-reason_note e place None = []
-reason_note e place (Some r) = note (codes "entry" ++ 32 ∷ decimal place ++ codes " (priority" ++ 32 ∷ decimal e.flow.priority ++ codes "): " ++ reason_words r)
+abbrev pub reason_words : Style → Reason → List ℕ
+reason_words style Won = codes "wins"
+reason_words style (Differs e found) = name_of e.field ++ codes " is" ++ value_or_absent style e.field found ++ codes ", not" ++ wanted_text style e
+reason_words style (LowerPriority winner) = codes "matches, but entry" ++ 32 ∷ decimal winner ++ codes " has a higher priority"
+reason_words style (Younger winner) = codes "matches, but entry" ++ 32 ∷ decimal winner ++ codes " is older"
+
+abbrev pub reason_note : Style → FlowEntry → ℕ → Option Reason → List ℕ
+reason_note style e place None = []
+reason_note style e place (Some r) = note (codes "entry" ++ 32 ∷ decimal place ++ codes " (priority" ++ 32 ∷ decimal e.flow.priority ++ codes "): " ++ reason_words style r)
 
 abbrev pub is_asked : Asked → ℕ → FlowEntry → Bool
 is_asked Nothing t e = false
@@ -99,15 +118,15 @@ is_asked All t e = true
 is_asked (Priority table priority) t e = (table == t) && (priority == e.flow.priority)
 
 -- of the entries from a place on
-abbrev pub reasons_from : Asked → ℕ → (Field → Option ℕ) → List FlowEntry → ℕ → List FlowEntry → List ℕ
-reasons_from asked t map flows place [] = []
-reasons_from asked t map flows place (e ∷ rest) = (if is_asked asked t e then reason_note e place (reason_in flows map place) else []) ++ reasons_from asked t map flows (suc place) rest
+abbrev pub reasons_from : Style → Asked → ℕ → (Field → Option ℕ) → List FlowEntry → ℕ → List FlowEntry → List ℕ
+reasons_from style asked t map flows place [] = []
+reasons_from style asked t map flows place (e ∷ rest) = (if is_asked asked t e then reason_note style e place (reason_in flows map place) else []) ++ reasons_from style asked t map flows (suc place) rest
 
-abbrev pub table_notes : Asked → ℕ → (Field → Option ℕ) → List FlowEntry → List ℕ
-table_notes asked t map flows = seen_notes flows map ++ reasons_from asked t map flows 0 flows
+abbrev pub table_notes : Style → Asked → ℕ → (Field → Option ℕ) → List FlowEntry → List ℕ
+table_notes style asked t map flows = seen_notes style flows map ++ reasons_from style asked t map flows 0 flows
 
-abbrev pub look_notes : Forwarding → Asked → ℕ → (Field → Option ℕ) → List ℕ
-look_notes f asked t map = if nat_lt t 16 then table_notes asked t map (table_at t f.tables).flows else []
+abbrev pub look_notes : Style → Forwarding → Asked → ℕ → (Field → Option ℕ) → List ℕ
+look_notes style f asked t map = if nat_lt t 16 then table_notes style asked t map (table_at t f.tables).flows else []
 
 -- ---- what an action changed: each field that has another value then, or is present only before or after
 
@@ -117,11 +136,11 @@ same_value None (Some b) = false
 same_value (Some a) None = false
 same_value (Some a) (Some b) = a == b
 
-abbrev pub change_note : (Field → Option ℕ) → (Field → Option ℕ) → Field → List ℕ
-change_note old new f = if same_value (old f) (new f) then [] else note (name_of f ++ value_or_absent f (old f) ++ codes " ->" ++ value_or_absent f (new f))
+abbrev pub change_note : Style → (Field → Option ℕ) → (Field → Option ℕ) → Field → List ℕ
+change_note style old new f = if same_value (old f) (new f) then [] else note (name_of f ++ value_or_absent style f (old f) ++ codes " ->" ++ value_or_absent style f (new f))
 
-abbrev pub change_notes : (Field → Option ℕ) → (Field → Option ℕ) → List ℕ
-change_notes old new = flat_map (change_note old new) constants.ALL
+abbrev pub change_notes : Style → (Field → Option ℕ) → (Field → Option ℕ) → List ℕ
+change_notes style old new = flat_map (change_note style old new) constants.ALL
 
 -- ---- whether it changed the TTL of IPv4 or the hop limit of IPv6 (RFC 791, 3.1; RFC 8200, 3)
 
@@ -166,27 +185,27 @@ group_notes group (Some (k ∷ places)) = bucket_notes (k ∷ places)
 
 -- ---- the notes of a step, which this packet takes
 
-abbrev pub changes : Step → Sight → List ℕ
-changes step s = change_notes (key_seen s) (key_seen (sight_after step s)) ++ ttl_note (ttl_seen s) (ttl_seen (sight_after step s))
+abbrev pub changes : Style → Step → Sight → List ℕ
+changes style step s = change_notes style (key_seen s) (key_seen (sight_after step s)) ++ ttl_note (ttl_seen s) (ttl_seen (sight_after step s))
 
 abbrev pub sending_notes : Forwarding → Sight → Action → List ℕ
-sending_notes f s (Output port max_len) = output_note f.ports s.ingress port
-sending_notes f s (Group group) = group_notes group ((world_of f).chosen group)
+sending_notes f s (actions.Output port max_len) = output_note f.ports s.ingress port
+sending_notes f s (actions.Group group) = group_notes group ((world_of f).chosen group)
 sending_notes f s other = []
 
-abbrev pub notes : Forwarding → Asked → Sight → Step → List ℕ
-notes f asked s (Miss t) = note (codes "no entry matches in table" ++ 32 ∷ decimal t) ++ look_notes f asked t (key_seen s)
-notes f asked s (Entry t place) = entry_notes t (flow_there f t place) ++ look_notes f asked t (key_seen s)
-notes f asked s (Metadata value mask) = changes (Metadata value mask) s
-notes f asked s (Act action) = sending_notes f s action ++ changes (Act action) s
-notes f asked s TtlExpired = note (codes "its work ends here")
-notes f asked s other = []
+abbrev pub notes : Style → Forwarding → Asked → Sight → Step → List ℕ
+notes style f asked s (Miss t) = miss_notes style t ++ look_notes style f asked t (key_seen s)
+notes style f asked s (Entry t place) = found_notes style t (flow_there f t place) ++ look_notes style f asked t (key_seen s)
+notes style f asked s (Metadata value mask) = changes style (Metadata value mask) s
+notes style f asked s (Act action) = sending_notes f s action ++ changes style (Act action) s
+notes style f asked s TtlExpired = note (codes "its work ends here")
+notes style f asked s other = []
 
 -- ---- an action set without output: none of its actions sends, and the packet ends (5.10)
 
 abbrev pub sends : Action → Bool
-sends (Output port max_len) = true
-sends (Group group) = true
+sends (actions.Output port max_len) = true
+sends (actions.Group group) = true
 sends other = false
 
 -- of a step, where this is so of those after it
@@ -209,27 +228,42 @@ set_notes step behind = if is_set step && is_unsent behind then note (codes "the
 -- ---- the text
 
 -- the first packet takes the step
-abbrev pub first_notes : Forwarding → Asked → List Sight → Step → List ℕ
-first_notes f asked [] step = []
-first_notes f asked (s ∷ others) step = notes f asked s step
+abbrev pub first_notes : Style → Forwarding → Asked → List Sight → Step → List ℕ
+first_notes style f asked [] step = []
+first_notes style f asked (s ∷ others) step = notes style f asked s step
 
-abbrev pub explained_from : Forwarding → Asked → List Sight → List Step → List ℕ
-explained_from f asked sights [] = []
-explained_from f asked sights (step ∷ steps) = ended (step_line step) ++ first_notes f asked sights step ++ set_notes step steps ++ explained_from f asked (stepped (world_of f) step sights) steps
+abbrev pub line_in : Style → Forwarding → Step → List ℕ
+line_in Lines f step = step_line step
+line_in Words f step = words_line f step
 
--- a frame that is received; one that is too short or too long is not
-abbrev pub unless_fault : ℕ → List ℕ → Option FrameFault → List Sight
-unless_fault port frame (Some fault) = []
-unless_fault port frame None = record { frame = frame; ingress = port; metadata = 0 } ∷ []
+abbrev pub explained_from : Style → Forwarding → Asked → List Sight → List Step → List ℕ
+explained_from style f asked sights [] = []
+explained_from style f asked sights (step ∷ steps) = ended (line_in style f step) ++ first_notes style f asked sights step ++ set_notes step steps ++ explained_from style f asked (stepped (world_of f) step sights) steps
 
-abbrev pub entered : ℕ → List ℕ → List Sight
-entered port frame = unless_fault port frame (frame_fault frame)
+-- in words the frame comes first
+abbrev pub heading_in : Style → Forwarding → ℕ → List ℕ → List ℕ
+heading_in Lines f port frame = []
+heading_in Words f port frame = ended (heading f port frame)
 
-abbrev pub explained : Forwarding → Asked → ℕ → List ℕ → List Step → List Effect → List ℕ
-explained f asked port frame steps effects = explained_from f asked (entered port frame) steps ++ text_of effects
+abbrev pub effects_in : Style → List Effect → List ℕ
+effects_in Lines effects = text_of effects
+effects_in Words effects = leaving_text effects
 
--- THE TEXT OF A TRACE in one of its forms
-abbrev pub said : Form → Forwarding → ℕ → List ℕ → List Step → List Effect → List ℕ
-said Plain f port frame steps effects = trace_text steps effects
-said Explained f port frame steps effects = explained f Nothing port frame steps effects
-said (Why asked) f port frame steps effects = explained f asked port frame steps effects
+abbrev pub explained : Style → Forwarding → Asked → ℕ → List ℕ → List Step → List Effect → List ℕ
+explained style f asked port frame steps effects = heading_in style f port frame ++ explained_from style f asked (entered port frame) steps ++ effects_in style effects
+
+abbrev pub plain : Style → Forwarding → ℕ → List ℕ → List Step → List Effect → List ℕ
+plain Lines f port frame steps effects = trace_text steps effects
+plain Words f port frame steps effects = ended (heading f port frame) ++ words_text f steps ++ leaving_text effects
+
+-- THE TEXT OF A TRACE in one of its styles and forms
+abbrev pub styled : Style → Form → Forwarding → ℕ → List ℕ → List Step → List Effect → List ℕ
+styled style Plain f port frame steps effects = plain style f port frame steps effects
+styled style Explained f port frame steps effects = explained style f Nothing port frame steps effects
+styled style (Why asked) f port frame steps effects = explained style f asked port frame steps effects
+
+-- and what is written of it: one of these texts, or JSON
+abbrev pub said : Output → Forwarding → ℕ → List ℕ → List Step → List Effect → List ℕ
+said (outputs.Lines form) f port frame steps effects = styled Lines form f port frame steps effects
+said (outputs.Words form) f port frame steps effects = styled Words form f port frame steps effects
+said outputs.Json f port frame steps effects = trace_json f port frame steps effects

@@ -9,10 +9,30 @@ pub enum Asked {
     Priority { table: u8, priority: u16 },
 }
 
+/// How the text of a trace says it.
+#[derive(Clone, Copy, Debug, PartialEq, Eq)]
+pub enum Style {
+    /// In the rows of flow text and of event output, for programs.
+    Lines,
+    /// In words: the frame first, addresses with dots and colons, numbers in decimal, ports and entries by what they are.
+    Words,
+}
+
+/// What is written of a trace.
+#[derive(Clone, Copy, Debug, PartialEq, Eq)]
+pub enum Output {
+    /// Text in lines for programs.
+    Lines(Form),
+    /// Text in words for people.
+    Words(Form),
+    /// One JSON document (RFC 8259), without notes.
+    Json,
+}
+
 /// How much the text of a trace says.
 #[derive(Clone, Copy, Debug, PartialEq, Eq)]
 pub enum Form {
-    /// The steps and the effects, a line each (`print`).
+    /// The steps and the effects, a line each.
     Plain,
     /// The same with notes (`explain`).
     Explained,

@@ -12,11 +12,12 @@ ghost use Rattle.of_replay.specs.Told.{Known, Left};
 ghost use Rattle.of_replay.specs.FileRuns.{Runs, TextOf, event_file, flow_text, is_text};
 ghost use Rattle.of_replay.specs.declared.event_file.Ended.TheVariants.{Done};
 ghost use Rattle.of_trace.specs.Files.{trace_of, trace_on};
+ghost use Rattle.of_trace.specs.declared.form.Output.{Output};
+ghost use Rattle.of_trace.specs.declared.form.Style.{Style};
 ghost use Rattle.of_trace.specs.declared.form.Form.{Form};
-ghost use Rattle.of_trace.specs.Notes.{said};
+ghost use Rattle.of_trace.specs.Notes.{plain, styled};
 ghost use Rattle.of_trace.specs.OnlyNotes.{OnlyNotesAdded};
 ghost use Rattle.of_trace.specs.Sights.{all_stepped, sight_of, sights_of};
-ghost use Rattle.of_trace.specs.Text.{trace_text};
 
 /// The steps of a frame tell its packets: after any number of steps of the machine, the packets that are left are, as tables see
 /// them and in turn, those that the lines of these steps tell.
@@ -26,11 +27,11 @@ pub fn steps_tell_packets()
         all_stepped w (after w k (starting (entering frame port) (Lookup 0 ∷ []))).lines (sight_of (entering frame port) ∷ []) }
 {}
 
-/// The text of a trace in any of its forms is the plain text with notes inserted below its lines: nothing else is added, and nothing
-/// is left out.
+/// The text of a trace in any of its forms is the plain text of the same style with notes inserted below its lines: nothing else is
+/// added, and nothing is left out.
 pub fn notes_only_add()
-    ensures { (form : Form) (f : Forwarding) (port : ℕ) (frame : List ℕ) (steps : List Step) (effects : List Effect) →
-        OnlyNotesAdded (trace_text steps effects) (said form f port frame steps effects) }
+    ensures { (style : Style) (form : Form) (f : Forwarding) (port : ℕ) (frame : List ℕ) (steps : List Step) (effects : List Effect) →
+        OnlyNotesAdded (plain style f port frame steps effects) (styled style form f port frame steps effects) }
 {}
 
 /// From the bytes of a file to the bytes of the output, where no read and no write fails and memory suffices: where a reader has `file` left,
@@ -38,10 +39,10 @@ pub fn notes_only_add()
 ///
 /// What is left of a reader and held by a writer is as `files_come_whole` of of_replay says.
 pub fn traces_come_whole()
-    ensures flows { (form : Form) (port : ℕ) (frame file : List ℕ) (known : Known) (ends ends' : ℕ) (old new : Option (List ℕ)) →
-        Runs flow_text (is_text (trace_of form port frame)) Done (Left (Some file)) known ends ends' old new → ends < ends' →
-        TextOf flow_text (is_text (trace_of form port frame)) file old new }
-    ensures events { (form : Form) (port : ℕ) (frame file : List ℕ) (known : Known) (ends ends' : ℕ) (old new : Option (List ℕ)) →
-        Runs event_file (is_text (trace_on form port frame)) Done (Left (Some file)) known ends ends' old new → ends < ends' →
-        TextOf event_file (is_text (trace_on form port frame)) file old new }
+    ensures flows { (output : Output) (port : ℕ) (frame file : List ℕ) (known : Known) (ends ends' : ℕ) (old new : Option (List ℕ)) →
+        Runs flow_text (is_text (trace_of output port frame)) Done (Left (Some file)) known ends ends' old new → ends < ends' →
+        TextOf flow_text (is_text (trace_of output port frame)) file old new }
+    ensures events { (output : Output) (port : ℕ) (frame file : List ℕ) (known : Known) (ends ends' : ℕ) (old new : Option (List ℕ)) →
+        Runs event_file (is_text (trace_on output port frame)) Done (Left (Some file)) known ends ends' old new → ends < ends' →
+        TextOf event_file (is_text (trace_on output port frame)) file old new }
 {}

@@ -9,10 +9,11 @@ ghost use Rattle.of_table.specs.Tables.{table_at};
 ghost use Rattle.of_trace.specs.Encoded.{are_encoded, is_encoded};
 ghost use Rattle.of_trace.specs.Sights.{key_seen, sight_after, stepped};
 ghost use Rattle.of_text.specs.Lines.{note};
-ghost use Rattle.of_trace.specs.Notes.{changes, entry_notes, explained, explained_from, first_notes, flow_there, head_in, is_unsent as is_unsent_by, look_notes, match_notes, notes as notes_of, sending_notes, sends as is_sending, set_notes, table_notes};
+ghost use Rattle.of_trace.specs.Notes.{changes, effects_in, entry_notes, explained, explained_from, first_notes, found_notes, head_in, heading_in, is_unsent as is_unsent_by, line_in, look_notes, match_notes, miss_notes, notes as notes_of, sending_notes, sends as is_sending, set_notes, table_notes};
+ghost use Rattle.of_trace.specs.Words.{flow_there};
 
 use crate::fields::{push_changes, push_seen, push_ttl_change};
-use crate::form::Asked;
+use crate::form::{Asked, Style};
 use crate::notes::push_number_note;
 use crate::packets::{Packets, enter, put_back};
 use crate::printing::push_step;
@@ -20,13 +21,14 @@ use crate::reasons::push_reasons;
 use crate::sending::{push_group_notes, push_output_note};
 use crate::sight::Sight;
 use crate::traces::Trace;
+use crate::words::{push_heading, push_leaving, push_words_line};
 use of_actions::Action;
 use of_classifier::Lookup;
 use of_headers::FieldKey;
 use of_machine::Step;
 use of_oxm::MatchField;
 use of_replay::push_effects;
-use of_switch::Switch;
+use of_switch::{Effect, Switch};
 use of_table::Flow;
 use of_text::{FlowHead, Row, begin_note, end_note, push_note, push_row};
 use of_wire::limits::TABLES;
@@ -76,7 +78,7 @@ fn push_flow_notes(out: &mut Vec<u8>, table: u8, flow: &Flow) -> Result<(), Allo
 }
 
 // Appends what the entry at that place is.
-fn push_entry_notes<L: Lookup>(
+fn push_found_notes<L: Lookup>(
     out: &mut Vec<u8>,
     switch: &Switch<L>,
     table: u8,
@@ -93,48 +95,67 @@ fn push_entry_notes<L: Lookup>(
     }
 }
 
+// The same, if its line does not say it.
+fn push_entry_notes<L: Lookup>(
+    out: &mut Vec<u8>,
+    style: Style,
+    switch: &Switch<L>,
+    table: u8,
+    place: usize,
+) -> Result<(), AllocError>
+    ensures { OnOk result (out.new.items ≡ out.old.items ++ found_notes style table (flow_there switch.now.core.forwarding table place)) }
+{
+    match style {
+        Style::Lines => push_found_notes(out, switch, table, place),
+        Style::Words => Ok(()),
+    }
+}
+
 // Appends what a table sees of a packet, and why its entries won or did not.
 fn push_table_notes<L: Lookup>(
     out: &mut Vec<u8>,
+    style: Style,
     switch: &Switch<L>,
     asked: Asked,
     table: u8,
     key: &FieldKey,
 ) -> Result<(), AllocError>
     requires { table < 16 }
-    ensures { OnOk result (out.new.items ≡ out.old.items ++ table_notes asked table (value key.now) (table_at table switch.now.core.forwarding.tables).flows) }
+    ensures { OnOk result (out.new.items ≡ out.old.items ++ table_notes style asked table (value key.now) (table_at table switch.now.core.forwarding.tables).flows) }
 {
-    push_seen(out, switch, table, key)?;
-    push_reasons(out, switch, table, key, asked)
+    push_seen(out, style, switch, table, key)?;
+    push_reasons(out, style, switch, table, key, asked)
 }
 
 // The same for one of the sixteen tables.
 fn push_look_notes<L: Lookup>(
     out: &mut Vec<u8>,
+    style: Style,
     switch: &Switch<L>,
     asked: Asked,
     table: u8,
     sight: &Sight,
 ) -> Result<(), AllocError>
-    ensures { OnOk result (out.new.items ≡ out.old.items ++ look_notes switch.now.core.forwarding asked table (key_seen sight.now)) }
+    ensures { OnOk result (out.new.items ≡ out.old.items ++ look_notes style switch.now.core.forwarding asked table (key_seen sight.now)) }
 {
     if table >= TABLES {
         return Ok(());
     }
-    push_table_notes(out, switch, asked, table, &sight.key())
+    push_table_notes(out, style, switch, asked, table, &sight.key())
 }
 
 // Appends the fields that a step changed.
 fn push_changed(
     out: &mut Vec<u8>,
+    style: Style,
     step: Step,
     sight: &Sight,
     after: &Sight,
 ) -> Result<(), AllocError>
     requires { after.now ≡ sight_after step sight.now }
-    ensures { OnOk result (out.new.items ≡ out.old.items ++ changes step sight.now) }
+    ensures { OnOk result (out.new.items ≡ out.old.items ++ changes style step sight.now) }
 {
-    push_changes(out, &sight.key(), &after.key())?;
+    push_changes(out, style, &sight.key(), &after.key())?;
     push_ttl_change(out, sight.ttl(), after.ttl())
 }
 
@@ -157,16 +178,20 @@ fn push_sending_notes<L: Lookup>(
     }
 }
 
-// Appends that no entry matches.
-fn push_miss_note(out: &mut Vec<u8>, table: u8) -> Result<(), AllocError>
-    ensures { OnOk result (out.new.items ≡ out.old.items ++ note (codes "no entry matches in table" ++ 32 ∷ decimal table)) }
+// Appends that no entry matches, if its line does not say it.
+fn push_miss_note(out: &mut Vec<u8>, style: Style, table: u8) -> Result<(), AllocError>
+    ensures { OnOk result (out.new.items ≡ out.old.items ++ miss_notes style table) }
 {
-    push_number_note(out, b"no entry matches in table", u32::from(table))
+    match style {
+        Style::Lines => push_number_note(out, b"no entry matches in table", u32::from(table)),
+        Style::Words => Ok(()),
+    }
 }
 
 // Appends the notes of a step of a packet; `after` is the packet after it.
 fn push_notes<L: Lookup>(
     out: &mut Vec<u8>,
+    style: Style,
     switch: &Switch<L>,
     asked: Asked,
     sight: &Sight,
@@ -174,21 +199,21 @@ fn push_notes<L: Lookup>(
     after: &Sight,
 ) -> Result<(), AllocError>
     requires { after.now ≡ sight_after step sight.now }
-    ensures { OnOk result (out.new.items ≡ out.old.items ++ notes_of switch.now.core.forwarding asked sight.now step) }
+    ensures { OnOk result (out.new.items ≡ out.old.items ++ notes_of style switch.now.core.forwarding asked sight.now step) }
 {
     match step {
         Step::Miss(table) => {
-            push_miss_note(out, table)?;
-            push_look_notes(out, switch, asked, table, sight)
+            push_miss_note(out, style, table)?;
+            push_look_notes(out, style, switch, asked, table, sight)
         }
         Step::Entry { table, number } => {
-            push_entry_notes(out, switch, table, number)?;
-            push_look_notes(out, switch, asked, table, sight)
+            push_entry_notes(out, style, switch, table, number)?;
+            push_look_notes(out, style, switch, asked, table, sight)
         }
-        Step::Metadata { .. } => push_changed(out, step, sight, after),
+        Step::Metadata { .. } => push_changed(out, style, step, sight, after),
         Step::Act(action) => {
             push_sending_notes(out, switch, action, sight)?;
-            push_changed(out, step, sight, after)
+            push_changed(out, style, step, sight, after)
         }
         Step::TtlExpired => push_note(out, b"its work ends here"),
         Step::Apply | Step::Clear | Step::Write | Step::Goto(_) | Step::Set | Step::End => Ok(()),
@@ -199,20 +224,21 @@ fn push_notes<L: Lookup>(
 fn push_step_notes<L: Lookup>(
     alloc: Global,
     out: &mut Vec<u8>,
+    style: Style,
     switch: &Switch<L>,
     asked: Asked,
     packets: &mut Packets,
     step: Step,
 ) -> Result<(), AllocError>
     requires { IsTrue (is_encoded step) }
-    ensures text { OnOk result (out.new.items ≡ out.old.items ++ first_notes switch.now.core.forwarding asked packets.old.items step) }
+    ensures text { OnOk result (out.new.items ≡ out.old.items ++ first_notes style switch.now.core.forwarding asked packets.old.items step) }
     ensures packets { OnOk result (packets.new.items ≡ stepped (world_of switch.now.core.forwarding) step packets.old.items) }
 {
     let Some(sight) = packets.pop_front() else {
         return Ok(());
     };
     let after = sight.after(alloc, step)?;
-    push_notes(out, switch, asked, &sight, step, &after)?;
+    push_notes(out, style, switch, asked, &sight, step, &after)?;
     put_back(alloc, packets, switch, &sight, step, after)
 }
 
@@ -248,33 +274,83 @@ fn push_set_note(out: &mut Vec<u8>, step: Step, behind: &[Step]) -> Result<(), A
     Ok(())
 }
 
+// Appends a step, without the end of its line.
+fn push_line<L: Lookup>(
+    out: &mut Vec<u8>,
+    style: Style,
+    switch: &Switch<L>,
+    step: Step,
+) -> Result<(), AllocError>
+    requires { IsTrue (is_encoded step) }
+    ensures { OnOk result (out.new.items ≡ out.old.items ++ line_in style switch.now.core.forwarding step) }
+{
+    match style {
+        Style::Lines => push_step(out, step),
+        Style::Words => push_words_line(out, switch, step),
+    }
+}
+
 // Appends the lines of steps, with notes.
 fn push_explained<L: Lookup>(
     alloc: Global,
     out: &mut Vec<u8>,
+    style: Style,
     switch: &Switch<L>,
     asked: Asked,
     packets: Packets,
     steps: &[Step],
 ) -> Result<(), AllocError>
     requires { IsTrue (are_encoded steps.now) }
-    ensures { OnOk result (out.new.items ≡ out.old.items ++ explained_from switch.now.core.forwarding asked packets.items steps.now) }
+    ensures { OnOk result (out.new.items ≡ out.old.items ++ explained_from style switch.now.core.forwarding asked packets.items steps.now) }
 {
     let mut packets = packets;
     let mut rest = steps;
     while let [step, behind @ ..] = rest {
-        push_step(out, *step)?;
+        push_line(out, style, switch, *step)?;
         out.push(b'\n')?;
-        push_step_notes(alloc, out, switch, asked, &mut packets, *step)?;
+        push_step_notes(alloc, out, style, switch, asked, &mut packets, *step)?;
         push_set_note(out, *step, behind)?;
         rest = behind;
     }
     Ok(())
 }
 
-/// The text of a trace with notes, each on a line of its own after four spaces. Without them it is the text that `print` gives.
+// Appends the frame, if the trace begins with it.
+fn push_beginning<L: Lookup>(
+    alloc: Global,
+    out: &mut Vec<u8>,
+    style: Style,
+    switch: &Switch<L>,
+    port: u32,
+    frame: &[u8],
+) -> Result<(), AllocError>
+    ensures { OnOk result (out.new.items ≡ out.old.items ++ heading_in style switch.now.core.forwarding port frame.now) }
+{
+    match style {
+        Style::Lines => Ok(()),
+        Style::Words => push_heading(alloc, out, switch, port, frame),
+    }
+}
+
+// Appends what leaves.
+fn push_end(
+    alloc: Global,
+    out: &mut Vec<u8>,
+    style: Style,
+    effects: &[Effect],
+) -> Result<(), AllocError>
+    ensures { OnOk result (out.new.items ≡ out.old.items ++ effects_in style effects.now) }
+{
+    match style {
+        Style::Lines => push_effects(alloc, out, effects),
+        Style::Words => push_leaving(alloc, out, effects),
+    }
+}
+
+/// The text of a trace with notes, each on a line of its own after four spaces. Without them it is the text that `print` or
+/// `print_words` gives.
 ///
-/// Below a lookup come the winning entry's `flow` line and `match` lines, as flow text writes them, or that no entry matches;
+/// Below a lookup come, in the style of lines, the winning entry's `flow` line and `match` lines, as flow text writes them, or that no entry matches;
 /// each field that the match of some entry of the table has, as the packet has it; and why entries won or did not, as far as it
 /// is asked. Below an action come the fields that it changed and the TTL, why an output sends nothing, or which buckets
 /// of a group run; below the action set, that it has no output.
@@ -282,16 +358,18 @@ fn push_explained<L: Lookup>(
 pub fn explain<L: Lookup>(
     alloc: Global,
     switch: &Switch<L>,
+    style: Style,
     asked: Asked,
     port: u32,
     frame: &[u8],
     trace: &Trace,
 ) -> Result<Vec<u8>, AllocError>
-    ensures { IfOk result (λ text. text.items ≡ explained switch.now.core.forwarding asked port frame.now trace.now.steps.items trace.now.effects.items) }
+    ensures { IfOk result (λ text. text.items ≡ explained style switch.now.core.forwarding asked port frame.now trace.now.steps.items trace.now.effects.items) }
 {
     let mut out = Vec::new(alloc);
+    push_beginning(alloc, &mut out, style, switch, port, frame)?;
     let packets = enter(alloc, port, frame)?;
-    push_explained(alloc, &mut out, switch, asked, packets, &trace.steps)?;
-    push_effects(alloc, &mut out, &trace.effects)?;
+    push_explained(alloc, &mut out, style, switch, asked, packets, &trace.steps)?;
+    push_end(alloc, &mut out, style, &trace.effects)?;
     Ok(out)
 }

@@ -1,6 +1,6 @@
 //! The packets of a trace, in the order in which they take steps.
-ghost use Rattle.std.specs.Prelude.{◌≡◌, ◌++◌, ◌∷◌, IfOk, OnOk, replicate};
-ghost use Rattle.of_trace.specs.Notes.{entered};
+ghost use Rattle.std.specs.Prelude.{◌≡◌, ◌++◌, ◌∷◌, IfOk, OnOk, option_to_list, replicate};
+ghost use Rattle.of_trace.specs.Words.{entered};
 ghost use Rattle.of_trace.specs.Sights.{action_copies, after_step, output_copies, sight_after};
 ghost use Rattle.of_datapath.specs.Datapath.{world_of};
 
@@ -18,19 +18,29 @@ use std::collections::VecDeque;
 /// The packets: the first takes the next step.
 pub type Packets = VecDeque<Sight>;
 
-/// The packet of a frame that is received at a port; none where the frame is too short or too long.
+/// The packet of a frame that is received at a port; None if the frame is too short or too long.
+pub fn arrived(alloc: Global, port: u32, frame: &[u8]) -> Result<Option<Sight>, AllocError>
+    ensures { IfOk result (λ packet. option_to_list packet ≡ entered port frame.now) }
+{
+    if check_length(frame).is_err() {
+        return Ok(None);
+    }
+    let mut received = Frame::new(frame.to_vec(alloc)?);
+    received.read_headers();
+    Ok(Some(Sight {
+        frame: received,
+        ingress: port,
+        metadata: 0,
+    }))
+}
+
+/// The packets with which a trace begins: that one, or none.
 pub fn enter(alloc: Global, port: u32, frame: &[u8]) -> Result<Packets, AllocError>
     ensures { IfOk result (λ packets. packets.items ≡ entered port frame.now) }
 {
     let mut packets = VecDeque::new(alloc);
-    if check_length(frame).is_ok() {
-        let mut received = Frame::new(frame.to_vec(alloc)?);
-        received.read_headers();
-        packets.push_front(Sight {
-            frame: received,
-            ingress: port,
-            metadata: 0,
-        })?;
+    if let Some(packet) = arrived(alloc, port, frame)? {
+        packets.push_front(packet)?;
     }
     Ok(packets)
 }

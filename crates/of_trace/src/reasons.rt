@@ -6,8 +6,8 @@ ghost use Rattle.of_table.specs.Tables.{table_at};
 ghost use Rattle.of_trace.specs.Notes.{is_asked, reason_note, reason_words, reasons_from};
 
 use crate::explaining::{why_where, winner_in};
-use crate::fields::{push_digits, push_found, push_mask};
-use crate::form::Asked;
+use crate::fields::{push_found, push_wanted};
+use crate::form::{Asked, Style};
 use crate::reason::Reason;
 use of_classifier::Lookup;
 use of_headers::FieldKey;
@@ -26,18 +26,17 @@ fn push_beaten(out: &mut Vec<u8>, winner: usize, by: &[u8]) -> Result<(), AllocE
 }
 
 // Appends a reason in words.
-fn push_reason(out: &mut Vec<u8>, reason: Reason) -> Result<(), AllocError>
-    ensures { OnOk result (out.new.items ≡ out.old.items ++ reason_words reason) }
+fn push_reason(out: &mut Vec<u8>, style: Style, reason: Reason) -> Result<(), AllocError>
+    ensures { OnOk result (out.new.items ≡ out.old.items ++ reason_words style reason) }
 {
     match reason {
         Reason::Won => out.extend_from_slice(b"wins"),
         Reason::Differs { field: e, found } => {
             out.extend_from_slice(e.field.name())?;
             out.extend_from_slice(b" is")?;
-            push_found(out, e.field, found)?;
+            push_found(out, style, e.field, found)?;
             out.extend_from_slice(b", not")?;
-            push_digits(out, e.field, e.value)?;
-            push_mask(out, e.field, e.mask)
+            push_wanted(out, style, e)
         }
         Reason::LowerPriority(winner) => push_beaten(out, winner, b" has a higher priority"),
         Reason::Younger(winner) => push_beaten(out, winner, b" is older"),
@@ -60,11 +59,12 @@ fn asks(asked: Asked, table: u8, entry: &Entry) -> bool
 // Appends the note of an entry.
 fn push_reason_note(
     out: &mut Vec<u8>,
+    style: Style,
     entry: &Entry,
     place: usize,
     reason: Option<Reason>,
 ) -> Result<(), AllocError>
-    ensures { OnOk result (out.new.items ≡ out.old.items ++ reason_note (entry_of entry.now) place reason) }
+    ensures { OnOk result (out.new.items ≡ out.old.items ++ reason_note style (entry_of entry.now) place reason) }
 {
     let Some(reason) = reason else {
         return Ok(());
@@ -75,20 +75,21 @@ fn push_reason_note(
     out.extend_from_slice(b" (priority")?;
     push_number(out, u64::from(entry.flow.priority))?;
     out.extend_from_slice(b"): ")?;
-    push_reason(out, reason)?;
+    push_reason(out, style, reason)?;
     end_note(out)
 }
 
 /// Appends why each entry that is asked for won or did not.
 pub fn push_reasons<L: Lookup>(
     out: &mut Vec<u8>,
+    style: Style,
     switch: &Switch<L>,
     table: u8,
     key: &FieldKey,
     asked: Asked,
 ) -> Result<(), AllocError>
     requires { table < 16 }
-    ensures { OnOk result (out.new.items ≡ out.old.items ++ reasons_from asked table (value key.now) (table_at table switch.now.core.forwarding.tables).flows 0
+    ensures { OnOk result (out.new.items ≡ out.old.items ++ reasons_from style asked table (value key.now) (table_at table switch.now.core.forwarding.tables).flows 0
         (table_at table switch.now.core.forwarding.tables).flows) }
 {
     let winner = winner_in(switch, table, key);
@@ -96,7 +97,7 @@ pub fn push_reasons<L: Lookup>(
     for entry in switch.datapath().entries(table) {
         if asks(asked, table, entry) {
             let reason = why_where(switch, table, key, place, winner);
-            push_reason_note(out, entry, place, reason)?;
+            push_reason_note(out, style, entry, place, reason)?;
         }
         place += 1;
     }

@@ -4,7 +4,7 @@ ghost use Rattle.of_replay.specs.FileRuns.{Runs, flow_text, is_text};
 ghost use Rattle.of_replay.specs.WholeFiles.{Faults};
 ghost use Rattle.of_trace.specs.Files.{port_up as port_event, ports_up as port_events, trace_of, traced_switch};
 
-use crate::form::Form;
+use crate::form::Output;
 use crate::writing::write_trace;
 use of_classifier::Lookup;
 use of_replay::{Ended, Sink, Source, read_config};
@@ -52,7 +52,7 @@ fn switch_with<L: Lookup>(alloc: Global, config: &Config) -> Result<Switch<L>, S
     Ok(switch)
 }
 
-/// Reads a flow text (docs/FLOWTEXT.md) and writes the trace of a frame received at a port, in one of its forms, on a new switch with ports 1 to
+/// Reads a flow text (docs/FLOWTEXT.md) and writes what `output` says of the trace of a frame received at a port, on a new switch with ports 1 to
 /// 64, whose links are up, and with the groups and flows of the text.
 ///
 /// The file is read whole, and nothing is written of one that is no configuration.
@@ -61,12 +61,12 @@ pub fn trace_file<L: Lookup, S: Source, W: Sink>(
     reader: &mut S,
     port: u32,
     frame: &[u8],
-    form: Form,
+    output: Output,
     writer: &mut W,
 ) -> Ended
     requires reads { S.reads reader.old ≡ 0 }
     requires failures { W.failures writer.old ≡ 0 }
-    ensures output { Runs flow_text (is_text (trace_of form port frame.now)) result (S.answers reader.old) (S.answers reader.new)
+    ensures output { Runs flow_text (is_text (trace_of output port frame.now)) result (S.answers reader.old) (S.answers reader.new)
         (S.ends reader.old) (S.ends reader.new) (W.taken writer.old) (W.taken writer.new) }
     ensures faults { Faults result (S.reads reader.new) (S.ends reader.old) (S.ends reader.new) (S.failures reader.old) (S.failures reader.new)
         (W.failures writer.new) }
@@ -77,7 +77,7 @@ pub fn trace_file<L: Lookup, S: Source, W: Sink>(
         Err(ended) => return ended,
     };
     match switch_with::<L>(alloc, &config) {
-        Ok(switch) => write_trace(alloc, &switch, port, frame, form, writer),
+        Ok(switch) => write_trace(alloc, &switch, port, frame, output, writer),
         Err(_) => Ended::NoMemory,
     }
 }

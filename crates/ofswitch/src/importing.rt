@@ -1,10 +1,11 @@
 //! Tables of Open vSwitch as flow text.
 
+use crate::hinting::say_refusal;
+use of_hints::import_hint;
 use of_import::{Import, ImportError, LineFaults, LineRefusal, Mode, import_tables, name_of};
 use of_replay::streams::{ReaderSource, WriterSink};
 use of_replay::{Ended, READ_SIZE, ended_by, read_file, write_all, zeros};
 use of_text::TextFault;
-use of_wire::Code;
 use std::alloc::Global;
 use std::io::Read;
 
@@ -58,13 +59,27 @@ pub fn imported<R: Read + Drop>(
         Ok(bytes) => bytes,
         Err(ended) => return Err(NotImported::Ended(ended)),
     };
-    match import_tables(rt.alloc(), &bytes, mode) {
-        Ok(done) => {
-            print_text(rt, &done.text)?;
-            say_faults(rt, &done.faults, &done.refused);
-            Ok(left_out(&done))
+    let done = import_of(rt, &bytes, mode)?;
+    print_text(rt, &done.text)?;
+    say_faults(rt, &done.faults, &done.refused);
+    Ok(left_out(&done))
+}
+
+/// The import of a table; if there is none, standard error says why.
+pub fn import_of(rt: &HostRuntime, bytes: &[u8], mode: Mode) -> Result<Import, NotImported> {
+    match import_tables(rt.alloc(), bytes, mode) {
+        Ok(done) => Ok(done),
+        Err(error) => {
+            say_import_hint(rt, bytes);
+            Err(say_error(rt, &error))
         }
-        Err(error) => Err(say_error(rt, &error)),
+    }
+}
+
+// What the whole text is, if it is none of ovs-ofctl.
+fn say_import_hint(rt: &HostRuntime, bytes: &[u8]) {
+    if let Some(hint) = import_hint(bytes) {
+        let _ = eprintln!(rt; "{hint}");
     }
 }
 
@@ -82,7 +97,6 @@ fn say_error(rt: &HostRuntime, error: &ImportError) -> NotImported {
             NotImported::Faults
         }
         ImportError::Refused { line, code } => {
-            say_way_out(rt, *code);
             NotImported::Ended(Ended::Text(TextFault::Refused {
                 line: *line,
                 code: *code,
@@ -112,38 +126,13 @@ fn say_faults(rt: &HostRuntime, faults: &[LineFaults], refused: &[LineRefusal]) 
             "line {}: type {} code {}",
             it.line, it.code.kind, it.code.code
         );
-        if let Some(name) = it.code.name() {
-            let _ = eprintln!(rt; "{name}");
-        }
-        say_way_out(rt, it.code);
+        say_refusal(rt, it.code);
     }
     if faults.len() > 1 {
         if let Ok(tallies) = tallies_of(rt.alloc(), faults) {
             say_tallies(rt, tallies);
         }
     }
-}
-
-// What a refusal of the switch means for a line.
-fn say_way_out(rt: &HostRuntime, code: Code) {
-    let words = match (code.kind, code.code) {
-        (2, 4) =>
-            "a port has a number from 1 to 4294967040, or is IN_PORT, ALL, FLOOD or CONTROLLER",
-        (2, 7) => "a list has at most 64 actions",
-        (2, 9) => "no group has this number: import the output of dump-groups as well",
-        (2, 10) => "an action sets a field without the match that it needs, such as ip or tcp",
-        (2, 13) => "the action sets a field that cannot be set",
-        (3, 2) => "goto_table leads to a later table, up to 15",
-        (4, 8) => "the field cannot have this mask",
-        (5, 1) => "a table holds 4096 flows",
-        (5, 2) => "this switch has tables 0 to 15; --renumber gives them numbers",
-        (6, 3) => "a switch holds 256 groups",
-        (6, 4) => "a group holds 16 buckets",
-        (6, 7) => "a chain has at most three groups",
-        (6, 13) => "a bucket of a fast failover group watches a port or a group that exists",
-        _ => return,
-    };
-    let _ = eprintln!(rt; "{words}");
 }
 
 // How often which keyword is refused.

@@ -88,23 +88,17 @@ fn begun(
     Ok(Live::new(rt.alloc(), switch, all, peers))
 }
 
-/// Forwards the frames of a network on a new switch, with the events of a file.
-pub fn live_rows(rt: &HostRuntime, asked: &Asked, rows: Vec<Event>) -> Ended {
-    let Some(seed) = draw_seed(rt) else {
-        return Ended::ReadFault;
-    };
+/// Forwards the frames of a network on a new switch, with the events of a file. None, with a line on standard error, if it cannot begin.
+pub fn live_rows(rt: &HostRuntime, asked: &Asked, rows: Vec<Event>) -> Option<Ended> {
+    let seed = draw_seed(rt)?;
     let Ok(ports) = watched_ports(rt, asked, &rows) else {
-        return Ended::NoMemory;
+        return Some(Ended::NoMemory);
     };
-    let Some(mut network) = Sockets::begin(rt, asked, ports) else {
-        return Ended::ReadFault;
+    let mut network = Sockets::begin(rt, asked, ports)?;
+    let Ok(mut switch) = begun(rt, asked, rows, seed) else {
+        return Some(Ended::NoMemory);
     };
-    match begun(rt, asked, rows, seed) {
-        Ok(mut switch) => {
-            let ended = live(rt.alloc(), &mut switch, &mut network, asked.turns);
-            network.say_counts();
-            ended
-        }
-        Err(AllocError) => Ended::NoMemory,
-    }
+    let ended = live(rt.alloc(), &mut switch, &mut network, asked.turns);
+    network.say_counts();
+    Some(ended)
 }

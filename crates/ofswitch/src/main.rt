@@ -3,26 +3,30 @@
 
 ghost use Rattle.std.specs.Prelude.{◌≡◌};
 
+mod checking;
 mod drawing;
 mod hinting;
 mod importing;
 mod live;
 mod lookups;
-mod noticing;
+mod parts;
 mod saying;
 mod serving;
 mod sockets;
 mod standard_input;
+mod tracing;
 
+use crate::checking::{NoReport, reported};
 use crate::lookups::Lookups;
-use hinting::say_hint;
-use importing::{NotImported, imported};
+use hinting::{Seen, Watched, bytes_of, say_hint, say_refusal, say_unread};
+use importing::{NotImported, imported, read_whole};
 use live::live_rows;
-use noticing::Noticing;
 use of_asking::Answering;
 use of_check::{check_events, check_file};
 use of_classifier::Scan;
-use of_command_line::{Asked, FileKind, Live, NoRequest, Request, Serve, Trace, read_request};
+use of_command_line::{
+    Check, CheckOutput, FileKind, Live, NoRequest, Request, Serve, Trace, read_request,
+};
 use of_explain::Explaining;
 use of_import::Mode;
 use of_replay::streams::{ReaderSource, WriterSink};
@@ -30,10 +34,11 @@ use of_replay::{Ended, Plain, RowPrinter, Sink, Source, asm, dis, print_file, st
 use of_serve::{ended_unopened, read_rows};
 use of_switch::Event;
 use of_text::TextFault;
-use of_trace::{FirstLines, Form, trace_events, trace_file};
+use parts::print_part;
 use saying::{Unsaid, said};
 use serving::serve_rows;
 use standard_input::StandardInput;
+use tracing::{traced, traced_by_content};
 use std::alloc::Global;
 use std::fs::File;
 use std::io::{self, Read};
@@ -44,6 +49,9 @@ const BAD_ARGUMENTS: u8 = 1;
 
 /// The exit status if lines of a table of Open vSwitch, or bytes of messages, are at fault.
 const BAD_LINES: u8 = 2;
+
+/// The exit status if a read, a write or a socket fails.
+const FAILED: u8 = 3;
 
 /// The exit status if some of its lines are left out.
 const LEFT_OUT: u8 = 4;
@@ -64,7 +72,7 @@ fn main(rt: HostRuntime) -> ExitCode {
     let Ok(words) = arguments.collect::<Vec<String>>(rt.alloc()) else {
         return end(&rt, &Ended::NoMemory);
     };
-    match read_request(rt.alloc(), &words) {
+    match read_request(rt.alloc(), &rt, &words) {
         Ok(request) => carry_out(&rt, &request),
         Err(why) => tell(&rt, &why),
     }
@@ -89,11 +97,9 @@ fn carry_out(rt: &HostRuntime, request: &Request) -> ExitCode {
     match request {
         Request::Replay { file, .. }
         | Request::Assemble { file }
-        | Request::Disassemble { file }
-        | Request::Trace(Trace { file, .. }) => run_file(rt, request, file.as_str()),
-        Request::Check { file, kind, steps } => {
-            run_check(rt, file.as_str(), *kind, *steps as usize)
-        }
+        | Request::Disassemble { file } => run_file(rt, request, file.as_str()),
+        Request::Trace(asked) => run_trace(rt, request, asked),
+        Request::Check(asked) => run_check(rt, asked),
         Request::Import {
             file,
             skip,
@@ -125,7 +131,7 @@ fn run_import(rt: &HostRuntime, path: &str, mode: Mode) -> ExitCode {
         Ok(0) => ExitCode::SUCCESS,
         Ok(_) => ExitCode::from(LEFT_OUT),
         Err(NotImported::Faults) => ExitCode::from(BAD_LINES),
-        Err(NotImported::Ended(ended)) => end(rt, &ended),
+        Err(NotImported::Ended(ended)) => end_file(rt, path, &Seen::nothing(rt.alloc()), &ended),
     }
 }
 
@@ -149,45 +155,151 @@ fn run_say(rt: &HostRuntime, word: &str) -> ExitCode {
 
 fn run_file(rt: &HostRuntime, request: &Request, path: &str) -> ExitCode {
     if path == "-" {
-        return end(rt, &run(rt, request, StandardInput::new(rt)));
+        return run_over(rt, request, path, StandardInput::new(rt));
     }
     match File::open(rt, path) {
-        Ok(file) => end_file(rt, path, &run(rt, request, file)),
+        Ok(file) => {
+            let ended = run(rt, request, file);
+            end_file(rt, path, &seen_again(rt, path, &ended), &ended)
+        }
         Err(error) => end_unopened(rt, path, &error),
     }
 }
 
-fn run_check(rt: &HostRuntime, path: &str, kind: FileKind, steps: usize) -> ExitCode {
-    let found = if path == "-" {
-        checked(rt, kind, steps, StandardInput::new(rt))
-    } else {
-        match File::open(rt, path) {
-            Ok(file) => checked(rt, kind, steps, file),
-            Err(error) => return end_unopened(rt, path, &error),
+// The lines of a file that a run ended at, read again.
+fn seen_again(rt: &HostRuntime, path: &str, ended: &Ended) -> Seen {
+    if *ended == Ended::Done {
+        return Seen::nothing(rt.alloc());
+    }
+    match bytes_of(rt, path) {
+        Some(bytes) => Seen::whole(bytes),
+        None => Seen::nothing(rt.alloc()),
+    }
+}
+
+fn run_trace(rt: &HostRuntime, request: &Request, asked: &Trace) -> ExitCode {
+    let path = asked.file.as_str();
+    if matches!(asked.kind, FileKind::Flows | FileKind::Events) {
+        return run_file(rt, request, path);
+    }
+    match traced_by_content(rt, asked) {
+        Ok((ended, seen)) => end_file(rt, path, &seen, &ended),
+        Err(why) => end_unread(rt, path, why),
+    }
+}
+
+// Whether the file is a flow text, which is read before it is used.
+fn takes_text(request: &Request) -> bool {
+    match request {
+        Request::Assemble { .. } => true,
+        Request::Trace(asked) => asked.kind == FileKind::Flows,
+        _ => false,
+    }
+}
+
+fn run_over<R: Read + Drop>(
+    rt: &HostRuntime,
+    request: &Request,
+    path: &str,
+    reader: R,
+) -> ExitCode {
+    if !takes_text(request) {
+        let mut watched = Watched::new(rt.alloc(), reader);
+        let ended = run(rt, request, &mut watched);
+        return end_file(rt, path, &watched.seen, &ended);
+    }
+    match read_whole(rt.alloc(), reader) {
+        Ok(text) => {
+            let seen = Seen::whole(text);
+            let ended = run(rt, request, seen.bytes());
+            end_file(rt, path, &seen, &ended)
         }
-    };
-    match found {
-        Ok(true) => ExitCode::from(FOUND),
-        Ok(false) => ExitCode::SUCCESS,
-        Err(ended) => end_file(rt, path, &ended),
+        Err(ended) => end_file(rt, path, &Seen::nothing(rt.alloc()), &ended),
+    }
+}
+
+fn run_check(rt: &HostRuntime, asked: &Check) -> ExitCode {
+    if asked.output != CheckOutput::Lines {
+        return run_report(rt, asked);
+    }
+    let (path, kind, steps) = (asked.file.as_str(), asked.kind, asked.steps as usize);
+    if path == "-" {
+        return check_over(rt, path, kind, steps, StandardInput::new(rt));
+    }
+    match File::open(rt, path) {
+        Ok(file) => check_over(rt, path, kind, steps, file),
+        Err(error) => end_unopened(rt, path, &error),
+    }
+}
+
+fn run_report(rt: &HostRuntime, asked: &Check) -> ExitCode {
+    let path = asked.file.as_str();
+    match reported(rt, asked) {
+        Ok((found, seen)) => end_check(rt, path, &seen, found),
+        Err(why) => end_unread(rt, path, why),
+    }
+}
+
+// Why a file that was read whole has no report or no trace.
+fn end_unread(rt: &HostRuntime, path: &str, why: NoReport) -> ExitCode {
+    match why {
+        NoReport::Ended(ended) => end_file(rt, path, &Seen::nothing(rt.alloc()), &ended),
+        NoReport::Unopened(error) => end_unopened(rt, path, &error),
+        NoReport::Faults => ExitCode::from(BAD_LINES),
+    }
+}
+
+fn check_over<R: Read + Drop>(
+    rt: &HostRuntime,
+    path: &str,
+    kind: FileKind,
+    steps: usize,
+    reader: R,
+) -> ExitCode {
+    if kind != FileKind::Events {
+        return check_text(rt, path, steps, reader);
+    }
+    let mut watched = Watched::new(rt.alloc(), reader);
+    let found = check_rows(rt, steps, &mut watched);
+    end_check(rt, path, &watched.seen, found)
+}
+
+fn check_rows<R: Read + Drop>(rt: &HostRuntime, steps: usize, reader: R) -> Result<bool, Ended> {
+    let mut source = ReaderSource::new(reader);
+    let mut writer = WriterSink::new(rt.stdout());
+    check_events::<Lookups, _, _>(rt.alloc(), &mut source, steps, &mut writer)
+}
+
+fn check_text<R: Read + Drop>(
+    rt: &HostRuntime,
+    path: &str,
+    steps: usize,
+    reader: R,
+) -> ExitCode {
+    match read_whole(rt.alloc(), reader) {
+        Ok(text) => {
+            let seen = Seen::whole(text);
+            let found = text_found(rt, seen.bytes(), steps);
+            end_check(rt, path, &seen, found)
+        }
+        Err(ended) => end_file(rt, path, &Seen::nothing(rt.alloc()), &ended),
     }
 }
 
 // Whether some flow never wins, or something is remarked. A table is looked up about once for each flow, so for a text a scan is enough: a map
 // for each mask costs more where masks are many.
-fn checked<R: Read + Drop>(
-    rt: &HostRuntime,
-    kind: FileKind,
-    steps: usize,
-    reader: R,
-) -> Result<bool, Ended> {
-    let mut reader = ReaderSource::new(reader);
+fn text_found(rt: &HostRuntime, text: &[u8], steps: usize) -> Result<bool, Ended> {
+    print_part(rt, text)?;
+    let mut source = ReaderSource::new(text);
     let mut writer = WriterSink::new(rt.stdout());
-    match kind {
-        FileKind::Flows => { check_file::<Scan, _, _>(rt.alloc(), &mut reader, steps, &mut writer) }
-        FileKind::Events => {
-            check_events::<Lookups, _, _>(rt.alloc(), &mut reader, steps, &mut writer)
-        }
+    check_file::<Scan, _, _>(rt.alloc(), &mut source, steps, &mut writer)
+}
+
+fn end_check(rt: &HostRuntime, path: &str, seen: &Seen, found: Result<bool, Ended>) -> ExitCode {
+    match found {
+        Ok(true) => ExitCode::from(FOUND),
+        Ok(false) => ExitCode::SUCCESS,
+        Err(ended) => end_file(rt, path, seen, &ended),
     }
 }
 
@@ -196,35 +308,60 @@ fn rows_of(rt: &HostRuntime, events: Option<&str>) -> Result<Vec<Event>, ExitCod
     let Some(path) = events else {
         return Ok(Vec::new(rt.alloc()));
     };
-    let rows = if path == "-" {
-        read_rows(rt.alloc(), &mut ReaderSource::new(StandardInput::new(rt)))
-    } else {
-        match File::open(rt, path) {
-            Ok(file) => read_rows(rt.alloc(), &mut ReaderSource::new(file)),
-            Err(error) => return Err(end_unopened(rt, path, &error)),
-        }
+    if path == "-" {
+        return rows_in(rt, path, StandardInput::new(rt));
+    }
+    match File::open(rt, path) {
+        Ok(file) => rows_in(rt, path, file),
+        Err(error) => Err(end_unopened(rt, path, &error)),
+    }
+}
+
+fn rows_in<R: Read + Drop>(
+    rt: &HostRuntime,
+    path: &str,
+    reader: R,
+) -> Result<Vec<Event>, ExitCode> {
+    let seen = match read_whole(rt.alloc(), reader) {
+        Ok(bytes) => Seen::whole(bytes),
+        Err(ended) => return Err(end_file(rt, path, &Seen::nothing(rt.alloc()), &ended)),
     };
-    rows.map_err(|ended| end_file(rt, path, &ended))
+    let mut source = ReaderSource::new(seen.bytes());
+    match read_rows(rt.alloc(), &mut source) {
+        Ok(rows) => Ok(rows),
+        Err(ended) => Err(end_file(rt, path, &seen, &ended)),
+    }
 }
 
 fn run_serve(rt: &HostRuntime, asked: &Serve) -> ExitCode {
     match rows_of(rt, asked.events.as_ref().map(|path| path.as_str())) {
-        Ok(rows) => end(rt, &serve_rows(rt, asked, rows)),
+        Ok(rows) => end_serving(rt, serve_rows(rt, asked, rows)),
         Err(code) => code,
     }
 }
 
 fn run_live(rt: &HostRuntime, asked: &Live) -> ExitCode {
     match rows_of(rt, asked.events.as_ref().map(|path| path.as_str())) {
-        Ok(rows) => end(rt, &live_rows(rt, asked, rows)),
+        Ok(rows) => end_serving(rt, live_rows(rt, asked, rows)),
         Err(code) => code,
     }
 }
 
+// None, if it did not begin, and said why.
+fn end_serving(rt: &HostRuntime, ended: Option<Ended>) -> ExitCode {
+    match ended {
+        Some(ended) => end(rt, &ended),
+        None => ExitCode::from(FAILED),
+    }
+}
+
 // How a run over a file ended, and what is wrong with the line that it ended at.
-fn end_file(rt: &HostRuntime, path: &str, ended: &Ended) -> ExitCode {
+fn end_file(rt: &HostRuntime, path: &str, seen: &Seen, ended: &Ended) -> ExitCode {
     let code = end(rt, ended);
-    say_hint(rt, path, ended);
+    say_hint(rt, seen, ended);
+    if *ended == Ended::ReadFault {
+        say_unread(rt, path);
+    }
     code
 }
 
@@ -240,7 +377,7 @@ fn end_unopened(rt: &HostRuntime, path: &str, error: &io::Error) -> ExitCode {
 
 fn run<R: Read + Drop>(rt: &HostRuntime, request: &Request, reader: R) -> Ended {
     if let Request::Trace(asked) = request {
-        return run_trace(rt, asked, reader);
+        return traced(rt, asked, reader);
     }
     let mut reader = ReaderSource::new(reader);
     let mut writer = WriterSink::new(rt.stdout());
@@ -289,79 +426,13 @@ fn play<T: RowPrinter<Lookups>, S: Source, W: Sink>(
     print_file::<Lookups, _, _, _>(rt.alloc(), dpid, reads, rows, reader, writer)
 }
 
-// The switch before a line is the one that the lines before it leave.
-fn run_trace<R: Read + Drop>(rt: &HostRuntime, asked: &Trace, reader: R) -> Ended {
-    let mut source = ReaderSource::new(reader);
-    match asked.at {
-        Some(row) => {
-            let lines = u64::from(row).saturating_sub(1);
-            traced(rt, asked, &mut FirstLines::new(source, lines))
-        }
-        None => traced(rt, asked, &mut source),
-    }
-}
-
-fn traced<S: Source>(rt: &HostRuntime, asked: &Trace, reader: &mut S) -> Ended
-    requires reads { S.reads reader.old ≡ 0 }
-{
-    let form = form_of(asked.explain, asked.why);
-    let (alloc, port, frame) = (rt.alloc(), asked.port, asked.frame.as_slice());
-    let mut writer = Noticing {
-        sink: WriterSink::new(rt.stdout()),
-        wrote: false,
-    };
-    let ended = match asked.kind {
-        FileKind::Flows => {
-            trace_file::<Lookups, _, _>(alloc, reader, port, frame, form, &mut writer)
-        }
-        FileKind::Events => {
-            trace_events::<Lookups, _, _>(alloc, reader, port, frame, form, &mut writer)
-        }
-    };
-    if ended == Ended::Done && !writer.wrote {
-        say_no_step(rt, port, frame.len());
-    }
-    ended
-}
-
-// Why a frame takes no step: a frame that a switch receives is looked up at least.
-fn say_no_step(rt: &HostRuntime, port: u32, length: usize) {
-    let _ = match length {
-        0..=13 => eprintln!(rt; "no step: {length} bytes, and a frame has 14 at least"),
-        14..=9216 => {
-            eprintln!(rt; "no step: the switch has no port {port}, or it is down or does not receive")
-        }
-        _ => eprintln!(rt; "no step: {length} bytes, and a frame has 9,216 at most"),
-    };
-}
-
-fn form_of(explain: bool, why: Option<Asked>) -> Form {
-    match why {
-        Some(Asked::All) => Form::Why(of_trace::Asked::All),
-        Some(Asked::Priority { table, priority }) => {
-            Form::Why(of_trace::Asked::Priority { table, priority })
-        }
-        None if explain => Form::Explained,
-        None => Form::Plain,
-    }
-}
-
 // Why the run ended, on standard error where it is a fault, and the status.
 fn end(rt: &HostRuntime, ended: &Ended) -> ExitCode {
     if *ended != Ended::Done {
         let _ = eprintln!(rt; "{ended}");
     }
-    if let Ended::Text(fault) = ended {
-        say_name(rt, fault);
+    if let Ended::Text(TextFault::Refused { code, .. }) = ended {
+        say_refusal(rt, *code);
     }
     ExitCode::from(status(ended))
-}
-
-// The name of the error that a flow text is refused with, in a line of its own.
-fn say_name(rt: &HostRuntime, fault: &TextFault) {
-    if let TextFault::Refused { code, .. } = fault {
-        if let Some(name) = code.name() {
-            let _ = eprintln!(rt; "{name}");
-        }
-    }
 }

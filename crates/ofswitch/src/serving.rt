@@ -21,33 +21,30 @@ fn refusals_of(rt: &HostRuntime, asked: &Serve, rows: &[Event]) -> Option<Refusa
     Refusals::new::<Lookups>(rt.alloc(), &file, rows).ok()
 }
 
-/// Serves controllers on a new switch, with the events of a file.
-pub fn serve_rows(rt: &HostRuntime, asked: &Serve, rows: Vec<Event>) -> Ended {
-    let Some(seed) = draw_seed(rt) else {
-        return Ended::ReadFault;
-    };
+/// Serves controllers on a new switch, with the events of a file. None, with a line on standard error, if it cannot begin.
+pub fn serve_rows(rt: &HostRuntime, asked: &Serve, rows: Vec<Event>) -> Option<Ended> {
+    let seed = draw_seed(rt)?;
     let mut peers = match Sockets::new(rt, asked.meeting, asked.quiet) {
         Ok(peers) => peers,
         Err(error) => {
             let _ = eprintln!(rt; "cannot listen: {error}");
-            return Ended::ReadFault;
+            return None;
         }
     };
     let mut clock = MachineClock::new(rt, refusals_of(rt, asked, &rows));
     let mut out = WriterSink::new(rt.stdout());
-    match Switch::<Lookups>::with_seed(rt.alloc(), asked.dpid, seed) {
-        Ok(switch) => {
-            serve_on(
-                rt.alloc(),
-                switch,
-                &mut peers,
-                &mut clock,
-                rows,
-                asked.turns,
-                &mut out,
-            )
-            .0
-        }
-        Err(AllocError) => Ended::NoMemory,
-    }
+    let switch = match Switch::<Lookups>::with_seed(rt.alloc(), asked.dpid, seed) {
+        Ok(switch) => switch,
+        Err(AllocError) => return Some(Ended::NoMemory),
+    };
+    let (ended, _) = serve_on(
+        rt.alloc(),
+        switch,
+        &mut peers,
+        &mut clock,
+        rows,
+        asked.turns,
+        &mut out,
+    );
+    Some(ended)
 }

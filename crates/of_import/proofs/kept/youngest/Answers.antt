@@ -1,13 +1,13 @@
-use Rattle.std.proofs.Common.{◌∙◌, ap, refl, subst, sym}
-use Rattle.of_import.specs.Digests.{digests_of}
+use Rattle.std.proofs.Common.{refl, subst, sym}
 use Rattle.std.specs.Prelude.{map}
 use Rattle.std.specs.List.{AllByRecursion}
 use Rattle.of_import.specs.ParsedLinesViews.{FlowIsSound, view_flow_line}
+use Rattle.of_import.proofs.DigestLemmas.{no_digests}
 use Rattle.of_import.proofs.KeptLemmas.{older_start, older_more, older_done, sifting_next, all_reversed, no_more}
 use Rattle.of_import.proofs.kept.youngest.Goals as goal
 
 pub loop-it-init : goal.loop-it-init
-loop-it-init c = record { older = older_start c.args.flows.items c.args.flows.items c.new-later.result.items refl c.new-later.ensures.items c.requires; digests = c.new-digests.ensures.items ∙ sym (ap digests_of c.new-later.ensures.items) }
+loop-it-init c = record { older = older_start c.args.flows.items c.args.flows.items c.new-later.result.items refl c.new-later.ensures.items c.requires; digests = no_digests c.new-places.result c.new-later.result.items c.new-places.ensures.empty c.new-later.ensures.items }
 
 pub add_older-requires-clause-flow : goal.add_older-requires-clause-flow
 add_older-requires-clause-flow c = sifting_next c.loop-it.left.items c.pop.new.self.items c.in-Some.it c.loop-it.invariant.older.to_come c.in-Some.ensures.items

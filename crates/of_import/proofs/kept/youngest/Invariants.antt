@@ -1,6 +1,6 @@
-use Rattle.std.proofs.Common.{◌≡◌, vec_len}
+use Rattle.std.proofs.Common.{vec_len}
 use Rattle.std.specs.Prelude.{map}
-use Rattle.of_import.specs.Digests.{digests_of}
+use Rattle.of_import.specs.Digests.{digests_of, HasDigests}
 use Rattle.of_import.specs.ParsedLinesViews.{view_flow_line}
 use Rattle.of_import.proofs.KeptLemmas.{Older}
 use Rattle.of_import.proofs.kept.youngest.Given as goal
@@ -11,5 +11,5 @@ decreases-loop-it l = vec_len l.left
 abbrev pub invariant-loop-it : goal.invariant-loop-it
 invariant-loop-it l = record {
   older : Older (map view_flow_line l.fn.flows.items) l.left.items l.later.items;
-  digests : l.digests.items ≡ digests_of l.later.items;
+  digests : HasDigests (digests_of l.later.items) l.places;
 }

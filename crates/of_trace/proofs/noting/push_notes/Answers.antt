@@ -1,6 +1,4 @@
-use Rattle.std.specs.Prelude.{◌++◌, ◌∷◌, codes, decimal}
-use Rattle.of_text.specs.Lines.{note}
-use Rattle.of_trace.specs.Notes.{look_notes}
+use Rattle.of_trace.specs.Notes.{look_notes, miss_notes}
 use Rattle.of_trace.specs.Sights.{key_seen}
 use Rattle.of_trace.proofs.NotingLemmas.{both}
 use Rattle.of_trace.proofs.noting.push_notes.Goals as goal
@@ -9,4 +7,4 @@ pub returns-in_ok-push_miss_note-in-Miss : goal.returns-in_ok-push_miss_note-in-
 returns-in_ok-push_miss_note-in-Miss g c =
     let t = c.in-Miss.table in
     rw c.in-Miss.is
-    (both c.push_look_notes.result c.args.out.now.items c.push_miss_note.new.out.items c.push_look_notes.new.out.items (note (codes "no entry matches in table" ++ 32 ∷ decimal t)) (look_notes c.args.switch.now.core.forwarding c.args.asked t (key_seen c.args.sight.now)) c.in_ok-push_miss_note-in-Miss.ensures c.push_look_notes.ensures)
+    (both c.push_look_notes.result c.args.out.now.items c.push_miss_note.new.out.items c.push_look_notes.new.out.items (miss_notes c.args.style t) (look_notes c.args.style c.args.switch.now.core.forwarding c.args.asked t (key_seen c.args.sight.now)) c.in_ok-push_miss_note-in-Miss.ensures c.push_look_notes.ensures)

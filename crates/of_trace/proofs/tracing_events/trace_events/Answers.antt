@@ -4,7 +4,7 @@ use Rattle.of_trace.specs.Files.{trace_on}
 use Rattle.of_trace.proofs.tracing_events.trace_events.Goals as goal
 
 pub returns-in-Err-clause-output : goal.returns-in-Err-clause-output
-returns-in-Err-clause-output g c = runs_unread event_file (is_text (trace_on c.args.form c.args.port c.args.frame.now)) c.in-Err.ended _ _ _ _ (g.W.Sink.taken c.args.writer.now) c.in-Err.ensures.played
+returns-in-Err-clause-output g c = runs_unread event_file (is_text (trace_on c.args.output c.args.port c.args.frame.now)) c.in-Err.ended _ _ _ _ (g.W.Sink.taken c.args.writer.now) c.in-Err.ensures.played
 
 pub returns-in-Err-clause-faults : goal.returns-in-Err-clause-faults
 returns-in-Err-clause-faults g c =
@@ -13,10 +13,10 @@ returns-in-Err-clause-faults g c =
 
 pub returns-in-Ok-clause-output : goal.returns-in-Ok-clause-output
 returns-in-Ok-clause-output g c =
-    runs_read event_file (is_text (trace_on c.args.form c.args.port c.args.frame.now)) c.in-Ok.switch c.write_trace.result _ _ _ _ (g.W.Sink.taken c.args.writer.now) (g.W.Sink.taken c.write_trace.new.writer) c.in-Ok.ensures.played c.write_trace.ensures.output
+    runs_read event_file (is_text (trace_on c.args.output c.args.port c.args.frame.now)) c.in-Ok.switch c.write_trace.result _ _ _ _ (g.W.Sink.taken c.args.writer.now) (g.W.Sink.taken c.write_trace.new.writer) c.in-Ok.ensures.played c.write_trace.ensures.output
 
 pub returns-in-Ok-clause-faults : goal.returns-in-Ok-clause-faults
 returns-in-Ok-clause-faults g c =
     let r = c.read_switch.new.reader in
-    faults_written (is_text (trace_on c.args.form c.args.port c.args.frame.now) c.in-Ok.switch) c.write_trace.result (g.W.Sink.taken c.args.writer.now) (g.W.Sink.taken c.write_trace.new.writer) (g.S.Source.reads r) (g.S.Source.ends c.args.reader.now) (g.S.Source.ends r)
+    faults_written (is_text (trace_on c.args.output c.args.port c.args.frame.now) c.in-Ok.switch) c.write_trace.result (g.W.Sink.taken c.args.writer.now) (g.W.Sink.taken c.write_trace.new.writer) (g.S.Source.reads r) (g.S.Source.ends c.args.reader.now) (g.S.Source.ends r)
     (g.S.Source.failures c.args.reader.now) (g.S.Source.failures r) (g.W.Sink.failures c.write_trace.new.writer) c.in-Ok.ensures.faults c.write_trace.ensures.output c.write_trace.ensures.write_fault

@@ -1,0 +1,10 @@
+use Rattle.std.proofs.Common.{◌≡◌, ◌++◌, take, ℕ}
+use Rattle.std.specs.Prelude.{map}
+use Rattle.std.specs.List.{flat_map}
+use Rattle.of_import.specs.Counters.{notes_in}
+use Rattle.of_import.specs.CounterViews.{view_notes}
+use Rattle.of_import.specs.ParsedLinesViews.{view_flow_line}
+use Rattle.of_import.proofs.counters.push_notes_of.Given as goal
+
+abbrev pub invariant-loop-table : goal.invariant-loop-table
+invariant-loop-table l = view_notes l.notes.items ≡ view_notes l.initial.notes.items ++ flat_map (λ (table : ℕ). notes_in table (map view_flow_line l.flows)) (take l.table-index l.ids)

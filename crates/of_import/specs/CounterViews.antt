@@ -1,0 +1,9 @@
+-- Comments apart from their layout in memory, the last one first there.
+use Rattle.std.specs.Prelude.{ℕ, List, map, reverse}
+use Rattle.std.specs.Global.{Vec}
+
+abbrev pub view_notes : List (Vec ℕ) → List (List ℕ)
+view_notes notes = map (λ n. n.items) notes
+
+abbrev pub notes_to_come : List (Vec ℕ) → List (List ℕ)
+notes_to_come left = view_notes (reverse left)

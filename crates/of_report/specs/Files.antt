@@ -1,0 +1,40 @@
+-- THE REPORT ON A FILE: on the flow tables that a new switch has once it was loaded with a flow text, and on those of a switch after rows.
+use Rattle.std.specs.Prelude.{◌≡◌, ℕ, Bool, true, false, List, [], Result, map}
+use Rattle.std.specs.Global.{Vec}
+use Rattle.of_text.specs.Configs.{Configuration}
+use Rattle.of_text.specs.Flows.{Flow}
+use Rattle.of_table.specs.Tables.{Tables}
+use Rattle.of_switch.specs.State.{State}
+use Rattle.of_switch.specs.Loading.{config_of}
+use Rattle.of_replay.specs.declared.event_file.Ended.{Ended}
+use Rattle.of_check.specs.declared.finding.Finding.{Finding}
+use Rattle.of_check.specs.Findings.{Checks}
+use Rattle.of_check.specs.Files.{IsFound, tables_in}
+use Rattle.of_remarks.specs.declared.remark.Remark.{Remark}
+use Rattle.of_remarks.specs.Remarks.{remarks_on}
+use Rattle.of_report.specs.declared.reporting.Form.{Form}
+use Rattle.of_report.specs.declared.reporting.Form.TheVariants.{Findings, All, Json}
+use Rattle.of_report.specs.Report.{report_words, is_found}
+use Rattle.of_report.specs.Json.{report_json}
+
+-- in words, without the entries that win or with them, or as JSON
+abbrev pub report_text : Form → List (List ℕ) → List (List Flow) → List Finding → List Remark → List ℕ
+report_text Findings lines tables findings remarks = report_words false lines tables findings remarks
+report_text All lines tables findings remarks = report_words true lines tables findings remarks
+report_text Json lines tables findings remarks = report_json lines tables findings remarks
+
+-- the text of the report on these tables and on this configuration, whose entries have these lines; and whether something was found
+abbrev pub IsReport : Result Bool Ended → Form → List (List ℕ) → Tables → Configuration → List ℕ → Type 0
+IsReport result form lines ts c text =
+    (findings : List Finding) × Checks ts findings × (text ≡ report_text form lines c.tables findings (remarks_on c)) × IsFound result (is_found findings (remarks_on c))
+
+-- of a configuration, and of a switch
+abbrev pub report_in : Result Bool Ended → Form → List (List ℕ) → Configuration → List ℕ → Type 0
+report_in result form lines c = IsReport result form lines (tables_in c) c
+
+abbrev pub report_on : Result Bool Ended → Form → State → List ℕ → Type 0
+report_on result form s = IsReport result form [] s.core.forwarding.tables (config_of s)
+
+-- as they lie in memory
+abbrev pub view_lines : List (Vec ℕ) → List (List ℕ)
+view_lines lines = map (λ numbers. numbers.items) lines

@@ -1,0 +1,88 @@
+-- THE REPORT OF `check` AS JSON (RFC 8259): one object in one line. Its strings have no characters that need an escape.
+use Rattle.std.specs.Prelude.{ℕ, Bool, true, false, List, [], ◌∷◌, ◌++◌, slice_get, length, codes, decimal, Option, Some, None, if◌then◌else◌}
+use Rattle.std.specs.List.{flat_map}
+use Rattle.hex.specs.Hex.{encode_lower}
+use Rattle.of_text.specs.Flows.{Flow}
+use Rattle.of_remarks.specs.Tables.{flows_at}
+use Rattle.of_remarks.specs.declared.remark.Remark.{Remark}
+use Rattle.of_remarks.specs.declared.remark.Remark.TheVariants.{Unreachable, NoTableMiss, EmptyGoto, IngressOutput, UnseenActions, UnusedGroup, NoBuckets}
+use Rattle.of_check.specs.declared.finding.Finding.{Finding}
+use Rattle.of_check.specs.declared.verdict.Verdict.{Verdict}
+use Rattle.of_check.specs.declared.verdict.Verdict.TheVariants.{Wins, Never, Open}
+use Rattle.of_check.specs.Text.{is_never}
+use Rattle.of_values.specs.Numbers.{hexadecimal}
+use Rattle.of_json.specs.Parts.{key, listed, match_object, number_member, quoted, text_member, truth}
+use Rattle.of_report.specs.Entries.{line_at}
+use Rattle.of_report.specs.Report.{count, is_found, is_open, is_win}
+
+-- ---- a flow entry: `"table":1,"entry":0,"line":12,"priority":100,"match":{"eth_type":"0x0800"}`
+
+abbrev pub line_member : Option ℕ → List ℕ
+line_member None = []
+line_member (Some n) = number_member (codes "line") n
+
+unfoldable pub flow_members : Option ℕ → Option Flow → List ℕ
+flow_members line None = []
+flow_members line (Some f) = line_member line ++ number_member (codes "priority") f.head.priority ++ 44 ∷ key (codes "match") ++ match_object f.fields
+
+unfoldable pub entry_members : List (List ℕ) → List (List Flow) → ℕ → ℕ → List ℕ
+entry_members lines tables table place =
+    key (codes "table") ++ decimal table ++ number_member (codes "entry") place ++ flow_members (line_at lines table place) (slice_get (flows_at tables table) place)
+
+unfoldable pub entry_object : List (List ℕ) → List (List Flow) → ℕ → ℕ → List ℕ
+entry_object lines tables table place = 123 ∷ entry_members lines tables table place ++ 125 ∷ []
+
+-- ---- a finding
+
+unfoldable pub packet_members : List ℕ → ℕ → ℕ → List ℕ
+packet_members frame in_port metadata =
+    text_member (codes "verdict") (codes "wins") ++ number_member (codes "in_port") in_port ++ text_member (codes "metadata") (hexadecimal 1 metadata)
+    ++ text_member (codes "frame") (encode_lower frame)
+
+unfoldable pub never_members : List (List ℕ) → List (List Flow) → ℕ → List ℕ → Bool → List ℕ
+never_members lines tables table by tie =
+    text_member (codes "verdict") (codes "never wins") ++ 44 ∷ key (codes "tie") ++ truth tie ++ 44 ∷ key (codes "shadowed_by")
+    ++ 91 ∷ listed (entry_object lines tables table) by ++ 93 ∷ []
+
+unfoldable pub verdict_members : List (List ℕ) → List (List Flow) → ℕ → Verdict → List ℕ
+verdict_members lines tables table (Wins frame in_port metadata) = packet_members frame.items in_port metadata
+verdict_members lines tables table (Never by tie) = never_members lines tables table by.items tie
+verdict_members lines tables table Open = text_member (codes "verdict") (codes "undecided")
+
+unfoldable pub finding_object : List (List ℕ) → List (List Flow) → Finding → List ℕ
+finding_object lines tables f = 123 ∷ entry_members lines tables f.table f.place ++ verdict_members lines tables f.table f.verdict ++ 125 ∷ []
+
+-- ---- a remark
+
+abbrev pub remark_member : List ℕ → List ℕ
+remark_member text = text_member (codes "remark") text
+
+unfoldable pub remark_members : List (List ℕ) → List (List Flow) → Remark → List ℕ
+remark_members lines tables (Unreachable table) = key (codes "table") ++ decimal table ++ remark_member (codes "unreachable")
+remark_members lines tables (NoTableMiss table) = key (codes "table") ++ decimal table ++ remark_member (codes "no table-miss entry")
+remark_members lines tables (EmptyGoto table place to) = entry_members lines tables table place ++ remark_member (codes "goto to a table without entries") ++ number_member (codes "to") to
+remark_members lines tables (IngressOutput table place number) = entry_members lines tables table place ++ remark_member (codes "output to the ingress port") ++ number_member (codes "port") number
+remark_members lines tables (UnseenActions table place n) = entry_members lines tables table place ++ remark_member (codes "last actions unseen") ++ number_member (codes "count") n
+remark_members lines tables (UnusedGroup id) = key (codes "group") ++ decimal id ++ remark_member (codes "unused")
+remark_members lines tables (NoBuckets id) = key (codes "group") ++ decimal id ++ remark_member (codes "no buckets")
+
+unfoldable pub remark_object : List (List ℕ) → List (List Flow) → Remark → List ℕ
+remark_object lines tables r = 123 ∷ remark_members lines tables r ++ 125 ∷ []
+
+-- ---- THE DOCUMENT: each finding, each remark, how many entries there are of each kind, and whether something was found
+
+unfoldable pub summary_members : List Finding → List ℕ
+summary_members findings =
+    key (codes "flows") ++ decimal (length findings) ++ number_member (codes "win") (count is_win findings) ++ number_member (codes "never_win") (count is_never findings)
+    ++ number_member (codes "undecided") (count is_open findings)
+
+unfoldable pub head_members : List Finding → List Remark → List ℕ
+head_members findings remarks =
+    key (codes "command") ++ quoted (codes "check") ++ 44 ∷ key (codes "found") ++ truth (is_found findings remarks)
+    ++ 44 ∷ key (codes "summary") ++ 123 ∷ summary_members findings ++ 125 ∷ []
+
+unfoldable pub report_json : List (List ℕ) → List (List Flow) → List Finding → List Remark → List ℕ
+report_json lines tables findings remarks =
+    123 ∷ head_members findings remarks
+    ++ 44 ∷ key (codes "flows") ++ 91 ∷ listed (finding_object lines tables) findings ++ 93
+    ∷ 44 ∷ key (codes "remarks") ++ 91 ∷ listed (remark_object lines tables) remarks ++ 93 ∷ 125 ∷ 10 ∷ []

@@ -1,0 +1,25 @@
+-- THE LINES OF FLOW ENTRIES in a flow text: those that begin `flow T `, by number from 1, for each table T.
+use Rattle.std.specs.Prelude.{ℕ, zero, suc, ◌+◌, ◌&&◌, Bool, List, [], ◌∷◌, ◌++◌, codes, decimal, if◌then◌else◌}
+use Rattle.std.specs.Str.{bytes_eq}
+use Rattle.of_text.specs.Lines.{lines_of, before, behind}
+
+-- the first word of a line is `flow`, and the second one the number of the table
+abbrev pub begins_flow : ℕ → List ℕ → Bool
+begins_flow table line = bytes_eq (before 32 line) (codes "flow") && bytes_eq (before 32 (behind 32 line)) (decimal table)
+
+abbrev pub number_if : Bool → ℕ → List ℕ
+number_if b n = if b then n ∷ [] else []
+
+-- of these lines, before which there are n
+abbrev pub numbers_from : ℕ → ℕ → List (List ℕ) → List ℕ
+numbers_from table n [] = []
+numbers_from table n (line ∷ lines) = number_if (begins_flow table line) (n + 1) ++ numbers_from table (n + 1) lines
+
+-- A TABLE'S LINES: the one at place K begins its entry K, since entries are in the order of the text
+unfoldable pub flow_lines : ℕ → List ℕ → List ℕ
+flow_lines table text = numbers_from table 0 (lines_of text)
+
+-- those of the first k tables
+unfoldable pub lines_below : ℕ → List ℕ → List (List ℕ)
+lines_below zero text = []
+lines_below (suc k) text = lines_below k text ++ flow_lines k text ∷ []

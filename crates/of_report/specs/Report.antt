@@ -1,0 +1,113 @@
+-- THE REPORT OF `check` in words: findings first, then a summary, and then, if all is asked for, the entries that win.
+use Rattle.std.specs.Prelude.{ℕ, ◌==◌, Bool, true, false, not, ◌&&◌, ◌||◌, List, [], ◌∷◌, ◌++◌, length, filter, codes, decimal, if◌then◌else◌}
+use Rattle.std.specs.List.{flat_map, list_any}
+use Rattle.hex.specs.Hex.{encode_lower}
+use Rattle.of_text.specs.Flows.{Flow}
+use Rattle.of_remarks.specs.declared.remark.Remark.{Remark}
+use Rattle.of_remarks.specs.declared.remark.Remark.TheVariants.{Unreachable, NoTableMiss, EmptyGoto, IngressOutput, UnseenActions, UnusedGroup, NoBuckets}
+use Rattle.of_check.specs.declared.finding.Finding.{Finding}
+use Rattle.of_check.specs.declared.verdict.Verdict.{Verdict}
+use Rattle.of_check.specs.declared.verdict.Verdict.TheVariants.{Wins, Never, Open}
+use Rattle.of_check.specs.Text.{is_never}
+use Rattle.of_values.specs.Numbers.{hexadecimal, port}
+use Rattle.of_report.specs.Entries.{entry}
+
+-- ---- entries that never win, each with those that shadow it
+
+abbrev pub tie_words : Bool → List ℕ
+tie_words tie = if tie then codes " (tie: OpenFlow does not say which of two entries of one priority wins)" else []
+
+unfoldable pub shadow_line : List (List ℕ) → List (List Flow) → ℕ → ℕ → List ℕ
+shadow_line lines tables table place = codes "    " ++ entry lines tables table place ++ 10 ∷ []
+
+abbrev pub shadow_lines : List (List ℕ) → List (List Flow) → ℕ → List ℕ → List ℕ
+shadow_lines lines tables table places = flat_map (shadow_line lines tables table) places
+
+unfoldable pub never_words : List (List ℕ) → List (List Flow) → ℕ → ℕ → Verdict → List ℕ
+never_words lines tables table place (Never by tie) = entry lines tables table place ++ codes " never wins" ++ tie_words tie ++ codes ": shadowed by" ++ 10 ∷ shadow_lines lines tables table by.items
+never_words lines tables table place (Wins frame in_port metadata) = []
+never_words lines tables table place Open = []
+
+-- ---- entries that were not decided
+
+unfoldable pub open_words : List (List ℕ) → List (List Flow) → ℕ → ℕ → Verdict → List ℕ
+open_words lines tables table place Open = entry lines tables table place ++ codes " is undecided" ++ 10 ∷ []
+open_words lines tables table place (Wins frame in_port metadata) = []
+open_words lines tables table place (Never by tie) = []
+
+-- ---- entries that win, each with a packet
+
+unfoldable pub packet_words : List ℕ → ℕ → ℕ → List ℕ
+packet_words frame in_port metadata = codes "in_port " ++ port in_port ++ codes ", metadata " ++ hexadecimal 1 metadata ++ codes ", frame " ++ encode_lower frame
+
+unfoldable pub win_words : List (List ℕ) → List (List Flow) → ℕ → ℕ → Verdict → List ℕ
+win_words lines tables table place (Wins frame in_port metadata) = entry lines tables table place ++ codes " wins: " ++ packet_words frame.items in_port metadata ++ 10 ∷ []
+win_words lines tables table place (Never by tie) = []
+win_words lines tables table place Open = []
+
+-- the lines of each finding, one after the other
+abbrev pub of_findings : (ℕ → ℕ → Verdict → List ℕ) → List Finding → List ℕ
+of_findings words findings = flat_map (λ f. words f.table f.place f.verdict) findings
+
+-- ---- what is remarked of tables and groups
+
+abbrev pub table_words : ℕ → List ℕ
+table_words table = codes "table " ++ decimal table
+
+abbrev pub group_words : ℕ → List ℕ
+group_words id = codes "group " ++ decimal id
+
+unfoldable pub remark_words : List (List ℕ) → List (List Flow) → Remark → List ℕ
+remark_words lines tables (Unreachable table) = table_words table ++ codes " is unreachable: no goto leads to it from table 0"
+remark_words lines tables (NoTableMiss table) = table_words table ++ codes " has no table-miss entry: packets that match none of its entries are dropped"
+remark_words lines tables (EmptyGoto table place to) = entry lines tables table place ++ codes " goes to table " ++ decimal to ++ codes ", which has no entries: its packets are dropped"
+remark_words lines tables (IngressOutput table place number) = entry lines tables table place ++ codes " sends to port " ++ port number ++ codes ", the ingress port that its match requires: nothing leaves"
+remark_words lines tables (UnseenActions table place n) = entry lines tables table place ++ codes " has actions at the end of its apply that nothing sees: " ++ decimal n
+remark_words lines tables (UnusedGroup id) = group_words id ++ codes " is unused: no entry and no group names it"
+remark_words lines tables (NoBuckets id) = group_words id ++ codes " has no buckets: packets end there"
+
+abbrev pub says_unreachable : ℕ → Remark → Bool
+says_unreachable table (Unreachable other) = other == table
+says_unreachable table other = false
+
+-- A REMARK IS A FINDING, but for that of a table without a table-miss entry (5.4) that is the first one, or that no packet comes to: many tables are so on purpose
+abbrev pub is_finding : List Remark → Remark → Bool
+is_finding remarks (NoTableMiss table) = not (table == 0) && not (list_any (says_unreachable table) remarks)
+is_finding remarks other = true
+
+unfoldable pub remark_line : Bool → List Remark → List (List ℕ) → List (List Flow) → Remark → List ℕ
+remark_line all remarks lines tables r = if all || is_finding remarks r then remark_words lines tables r ++ 10 ∷ [] else []
+
+-- ---- the summary: `12 flows: 9 win, 3 never win, 0 undecided`
+
+abbrev pub is_win : Verdict → Bool
+is_win (Wins frame in_port metadata) = true
+is_win (Never by tie) = false
+is_win Open = false
+
+abbrev pub is_open : Verdict → Bool
+is_open Open = true
+is_open (Wins frame in_port metadata) = false
+is_open (Never by tie) = false
+
+abbrev pub count : (Verdict → Bool) → List Finding → ℕ
+count is findings = length (filter (λ f. is f.verdict) findings)
+
+unfoldable pub summary : List Finding → List ℕ
+summary findings =
+    decimal (length findings) ++ codes " flows: " ++ decimal (count is_win findings) ++ codes " win, " ++ decimal (count is_never findings) ++ codes " never win, "
+    ++ decimal (count is_open findings) ++ codes " undecided" ++ 10 ∷ []
+
+-- ---- THE REPORT: on these findings and remarks, where entries have these lines, and tables these flows
+
+abbrev pub wins_if : Bool → List (List ℕ) → List (List Flow) → List Finding → List ℕ
+wins_if all lines tables findings = if all then of_findings (win_words lines tables) findings else []
+
+unfoldable pub report_words : Bool → List (List ℕ) → List (List Flow) → List Finding → List Remark → List ℕ
+report_words all lines tables findings remarks =
+    of_findings (never_words lines tables) findings ++ of_findings (open_words lines tables) findings
+    ++ flat_map (remark_line all remarks lines tables) remarks ++ summary findings ++ wins_if all lines tables findings
+
+-- SOMETHING IS FOUND: an entry that does not win, or a remark that is a finding
+abbrev pub is_found : List Finding → List Remark → Bool
+is_found findings remarks = list_any (λ f. not (is_win f.verdict)) findings || list_any (is_finding remarks) remarks

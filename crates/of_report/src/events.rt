@@ -1,0 +1,54 @@
+//! The report after an event file.
+ghost use Rattle.std.specs.Prelude.{◌≡◌, ◌≤◌, ◌<◌, ◌↔◌};
+ghost use Rattle.of_replay.specs.FileRuns.{Runs, Writes, ended_as, event_file};
+ghost use Rattle.of_replay.specs.WholeFiles.{Faults};
+ghost use Rattle.of_report.specs.Files.{report_on};
+
+use crate::reporting::{Form, write_report};
+use of_classifier::Lookup;
+use of_replay::{Ended, Sink, Source, read_switch};
+use of_switch::Switch;
+use std::alloc::Global;
+
+// Writes the report on a switch, whose entries come from no lines.
+fn write_state<L: Lookup, W: Sink>(
+    alloc: Global,
+    switch: &Switch<L>,
+    steps: usize,
+    form: Form,
+    writer: &mut W,
+) -> Result<bool, Ended>
+    requires { W.failures writer.old ≡ 0 }
+    ensures output { Writes (report_on result form switch.now) (ended_as result) (W.taken writer.old) (W.taken writer.new) }
+    ensures write_fault { (ended_as result ≡ Ended.WriteFault) ↔ (0 < W.failures writer.new) }
+{
+    match switch.config() {
+        Ok(config) => write_report(alloc, switch, &config, &[], steps, form, writer),
+        Err(_) => Err(Ended::NoMemory),
+    }
+}
+
+/// Plays the rows of an event file (docs/EVENTS.md) on a new switch as `replay` does, without writing what they give, and writes the report on
+/// the tables that the switch has after them, with at most so many steps for each entry. Ok says whether something was found.
+///
+/// Of a file with a bad row nothing is written.
+pub fn report_events<L: Lookup, S: Source, W: Sink>(
+    alloc: Global,
+    reader: &mut S,
+    steps: usize,
+    form: Form,
+    writer: &mut W,
+) -> Result<bool, Ended>
+    requires reads { S.reads reader.old ≡ 0 }
+    requires failures { W.failures writer.old ≡ 0 }
+    ensures output { Runs event_file (report_on result form) (ended_as result) (S.answers reader.old) (S.answers reader.new) (S.ends reader.old)
+        (S.ends reader.new) (W.taken writer.old) (W.taken writer.new) }
+    ensures faults { Faults (ended_as result) (S.reads reader.new) (S.ends reader.old) (S.ends reader.new) (S.failures reader.old) (S.failures reader.new)
+        (W.failures writer.new) }
+    ensures reads { S.reads reader.new ≤ 1000000 }
+{
+    match read_switch::<L, S>(alloc, reader) {
+        Ok(switch) => write_state(alloc, &switch, steps, form, writer),
+        Err(ended) => Err(ended),
+    }
+}

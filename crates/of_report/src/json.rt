@@ -1,0 +1,191 @@
+//! The report as JSON.
+ghost use Rattle.std.specs.Prelude.{◌≡◌, ◌++◌, ◌∷◌, IfOk, OnOk};
+ghost use Rattle.std.specs.List.{flat_map};
+ghost use Rattle.of_json.specs.Parts.{listed};
+ghost use Rattle.of_report.specs.Json.{finding_object, head_members, never_members, packet_members, report_json, summary_members, verdict_members};
+ghost use Rattle.of_report.specs.Files.{view_lines};
+
+use crate::counting::{count_open, count_shadowed, count_wins, is_found};
+use crate::json_entries::{push_entry_members, push_entry_objects};
+use crate::json_remarks::push_remark_objects;
+use of_json::{push_bytes_member, push_hex_member, push_key, push_number_member, push_quoted, push_text_member, push_truth};
+use of_check::{Finding, Verdict};
+use of_remarks::Remark;
+use of_text::Config;
+use of_values::push_decimal;
+use std::alloc::{AllocError, Global};
+
+// Appends the packet with which an entry wins.
+#[tactic(auto, unfolding(crate::specs::Json::packet_members))]
+fn push_packet(
+    alloc: Global,
+    out: &mut Vec<u8>,
+    frame: &[u8],
+    in_port: u32,
+    metadata: u64,
+) -> Result<(), AllocError>
+    ensures { OnOk result (out.new.items ≡ out.old.items ++ packet_members frame.now in_port metadata) }
+{
+    push_text_member(out, b"verdict", b"wins")?;
+    push_number_member(out, b"in_port", u128::from(in_port))?;
+    push_hex_member(out, b"metadata", u128::from(metadata))?;
+    push_bytes_member(alloc, out, b"frame", frame)
+}
+
+// Appends the entries that shadow another one.
+#[tactic(auto, unfolding(crate::specs::Json::never_members))]
+fn push_never(
+    out: &mut Vec<u8>,
+    config: &Config,
+    lines: &[Vec<usize>],
+    table: u8,
+    by: &[usize],
+    tie: bool,
+) -> Result<(), AllocError>
+    ensures { OnOk result (out.new.items ≡ out.old.items ++ never_members (view_lines lines.now) config.now.tables table by.now tie) }
+{
+    push_text_member(out, b"verdict", b"never wins")?;
+    out.push(b',')?;
+    push_key(out, b"tie")?;
+    push_truth(out, tie)?;
+    out.push(b',')?;
+    push_key(out, b"shadowed_by")?;
+    out.push(b'[')?;
+    push_entry_objects(out, config, lines, table, by)?;
+    out.push(b']')?;
+    Ok(())
+}
+
+#[tactic(auto, unfolding(crate::specs::Json::verdict_members))]
+fn push_verdict(
+    alloc: Global,
+    out: &mut Vec<u8>,
+    config: &Config,
+    lines: &[Vec<usize>],
+    table: u8,
+    verdict: &Verdict,
+) -> Result<(), AllocError>
+    ensures { OnOk result (out.new.items ≡ out.old.items ++ verdict_members (view_lines lines.now) config.now.tables table verdict.now) }
+{
+    match verdict {
+        Verdict::Wins {
+            frame,
+            in_port,
+            metadata,
+        } => push_packet(alloc, out, frame, *in_port, *metadata),
+        Verdict::Never { by, tie } => push_never(out, config, lines, table, by, *tie),
+        Verdict::Open => push_text_member(out, b"verdict", b"undecided"),
+    }
+}
+
+#[tactic(auto, unfolding(crate::specs::Json::finding_object))]
+fn push_finding(
+    alloc: Global,
+    out: &mut Vec<u8>,
+    config: &Config,
+    lines: &[Vec<usize>],
+    finding: &Finding,
+) -> Result<(), AllocError>
+    ensures { OnOk result (out.new.items ≡ out.old.items ++ finding_object (view_lines lines.now) config.now.tables finding.now) }
+{
+    out.push(b'{')?;
+    push_entry_members(out, config, lines, finding.table, finding.place)?;
+    push_verdict(alloc, out, config, lines, finding.table, &finding.verdict)?;
+    out.push(b'}')?;
+    Ok(())
+}
+
+fn push_further_findings(
+    alloc: Global,
+    out: &mut Vec<u8>,
+    config: &Config,
+    lines: &[Vec<usize>],
+    findings: &[Finding],
+) -> Result<(), AllocError>
+    ensures { OnOk result (out.new.items ≡ out.old.items ++
+        flat_map (λ f. 44 ∷ finding_object (view_lines lines.now) config.now.tables f) findings.now) }
+{
+    for finding in findings {
+        out.push(b',')?;
+        push_finding(alloc, out, config, lines, finding)?;
+    }
+    Ok(())
+}
+
+fn push_findings(
+    alloc: Global,
+    out: &mut Vec<u8>,
+    config: &Config,
+    lines: &[Vec<usize>],
+    findings: &[Finding],
+) -> Result<(), AllocError>
+    ensures { OnOk result (out.new.items ≡ out.old.items ++ listed (finding_object (view_lines lines.now) config.now.tables) findings.now) }
+{
+    match findings {
+        [] => Ok(()),
+        [first, others @ ..] => {
+            push_finding(alloc, out, config, lines, first)?;
+            push_further_findings(alloc, out, config, lines, others)
+        }
+    }
+}
+
+// Appends how many entries there are of each kind.
+#[tactic(auto, unfolding(crate::specs::Json::summary_members))]
+fn push_summary(out: &mut Vec<u8>, findings: &[Finding]) -> Result<(), AllocError>
+    ensures { OnOk result (out.new.items ≡ out.old.items ++ summary_members findings.now) }
+{
+    push_key(out, b"flows")?;
+    push_decimal(out, findings.len() as u128)?;
+    push_number_member(out, b"win", count_wins(findings) as u128)?;
+    push_number_member(out, b"never_win", count_shadowed(findings) as u128)?;
+    push_number_member(out, b"undecided", count_open(findings) as u128)
+}
+
+// Appends the members of a report that do not name entries.
+#[tactic(auto, unfolding(crate::specs::Json::head_members))]
+fn push_head(
+    out: &mut Vec<u8>,
+    findings: &[Finding],
+    remarks: &[Remark],
+) -> Result<(), AllocError>
+    ensures { OnOk result (out.new.items ≡ out.old.items ++ head_members findings.now remarks.now) }
+{
+    push_key(out, b"command")?;
+    push_quoted(out, b"check")?;
+    out.push(b',')?;
+    push_key(out, b"found")?;
+    push_truth(out, is_found(findings, remarks))?;
+    out.push(b',')?;
+    push_key(out, b"summary")?;
+    out.push(b'{')?;
+    push_summary(out, findings)?;
+    out.push(b'}')?;
+    Ok(())
+}
+
+/// The report on findings and remarks as JSON, for a configuration whose entries have these lines.
+#[tactic(auto, unfolding(crate::specs::Json::report_json))]
+pub fn json_of(
+    alloc: Global,
+    config: &Config,
+    lines: &[Vec<usize>],
+    findings: &[Finding],
+    remarks: &[Remark],
+) -> Result<Vec<u8>, AllocError>
+    ensures { IfOk result (λ text. text.items ≡ report_json (view_lines lines.now) config.now.tables findings.now remarks.now) }
+{
+    let mut out = Vec::new(alloc);
+    out.push(b'{')?;
+    push_head(&mut out, findings, remarks)?;
+    out.push(b',')?;
+    push_key(&mut out, b"flows")?;
+    out.push(b'[')?;
+    push_findings(alloc, &mut out, config, lines, findings)?;
+    out.extend_from_slice(b"],")?;
+    push_key(&mut out, b"remarks")?;
+    out.push(b'[')?;
+    push_remark_objects(&mut out, config, lines, remarks)?;
+    out.extend_from_slice(b"]}\n")?;
+    Ok(out)
+}

@@ -1,0 +1,116 @@
+//! Remarks as JSON.
+ghost use Rattle.std.specs.Prelude.{◌≡◌, ◌++◌, ◌∷◌, OnOk, decimal};
+ghost use Rattle.std.specs.List.{flat_map};
+ghost use Rattle.of_json.specs.Parts.{key, listed};
+ghost use Rattle.of_report.specs.Json.{remark_member, remark_members, remark_object};
+ghost use Rattle.of_report.specs.Files.{view_lines};
+
+use crate::json_entries::push_entry_members;
+use of_json::{push_key, push_number_member, push_text_member};
+use of_remarks::Remark;
+use of_text::Config;
+use of_values::push_decimal;
+use std::alloc::AllocError;
+
+// Appends a number with its name, and what is remarked of it.
+fn push_named(
+    out: &mut Vec<u8>,
+    name: &[u8],
+    number: u128,
+    remark: &[u8],
+) -> Result<(), AllocError>
+    ensures { OnOk result (out.new.items ≡ out.old.items ++ (key name.now ++ decimal number ++ remark_member remark.now)) }
+{
+    push_key(out, name)?;
+    push_decimal(out, number)?;
+    push_text_member(out, b"remark", remark)
+}
+
+#[tactic(auto, unfolding(crate::specs::Json::remark_members))]
+fn push_remark(
+    out: &mut Vec<u8>,
+    config: &Config,
+    lines: &[Vec<usize>],
+    remark: &Remark,
+) -> Result<(), AllocError>
+    ensures { OnOk result (out.new.items ≡ out.old.items ++ remark_members (view_lines lines.now) config.now.tables remark.now) }
+{
+    match *remark {
+        Remark::Unreachable { table } => {
+            push_named(out, b"table", u128::from(table), b"unreachable")
+        }
+        Remark::NoTableMiss { table } => {
+            push_named(out, b"table", u128::from(table), b"no table-miss entry")
+        }
+        Remark::EmptyGoto { table, place, to } => {
+            push_entry_members(out, config, lines, table, place)?;
+            push_text_member(out, b"remark", b"goto to a table without entries")?;
+            push_number_member(out, b"to", u128::from(to))
+        }
+        Remark::IngressOutput { table, place, port } => {
+            push_entry_members(out, config, lines, table, place)?;
+            push_text_member(out, b"remark", b"output to the ingress port")?;
+            push_number_member(out, b"port", u128::from(port))
+        }
+        Remark::UnseenActions {
+            table,
+            place,
+            count,
+        } => {
+            push_entry_members(out, config, lines, table, place)?;
+            push_text_member(out, b"remark", b"last actions unseen")?;
+            push_number_member(out, b"count", count as u128)
+        }
+        Remark::UnusedGroup { id } => push_named(out, b"group", u128::from(id), b"unused"),
+        Remark::NoBuckets { id } => push_named(out, b"group", u128::from(id), b"no buckets"),
+    }
+}
+
+#[tactic(auto, unfolding(crate::specs::Json::remark_object))]
+fn push_remark_object(
+    out: &mut Vec<u8>,
+    config: &Config,
+    lines: &[Vec<usize>],
+    remark: &Remark,
+) -> Result<(), AllocError>
+    ensures { OnOk result (out.new.items ≡ out.old.items ++ remark_object (view_lines lines.now) config.now.tables remark.now) }
+{
+    out.push(b'{')?;
+    push_remark(out, config, lines, remark)?;
+    out.push(b'}')?;
+    Ok(())
+}
+
+fn push_further_remarks(
+    out: &mut Vec<u8>,
+    config: &Config,
+    lines: &[Vec<usize>],
+    remarks: &[Remark],
+) -> Result<(), AllocError>
+    ensures { OnOk result (out.new.items ≡ out.old.items ++
+        flat_map (λ r. 44 ∷ remark_object (view_lines lines.now) config.now.tables r) remarks.now) }
+{
+    for remark in remarks {
+        out.push(b',')?;
+        push_remark_object(out, config, lines, remark)?;
+    }
+    Ok(())
+}
+
+/// Appends remarks, with commas between them.
+pub fn push_remark_objects(
+    out: &mut Vec<u8>,
+    config: &Config,
+    lines: &[Vec<usize>],
+    remarks: &[Remark],
+) -> Result<(), AllocError>
+    ensures { OnOk result (out.new.items ≡ out.old.items ++ listed (remark_object (view_lines lines.now) config.now.tables) remarks.now) }
+{
+    match remarks {
+        [] => Ok(()),
+        [first, others @ ..] => {
+            push_remark_object(out, config, lines, first)?;
+            push_further_remarks(out, config, lines, others)
+        }
+    }
+}

@@ -1,0 +1,135 @@
+//! Remarks in words.
+ghost use Rattle.std.specs.Prelude.{◌≡◌, ◌++◌, OnOk};
+ghost use Rattle.std.specs.List.{flat_map};
+ghost use Rattle.of_report.specs.Report.{group_words, is_finding as is_finding_among, remark_line, remark_words, says_unreachable as is_saying_unreachable, table_words};
+ghost use Rattle.of_report.specs.Files.{view_lines};
+
+use crate::entries::push_entry;
+use of_remarks::Remark;
+use of_text::Config;
+use of_values::{push_decimal, push_port};
+use std::alloc::AllocError;
+
+// Whether a remark says that no packet comes to a table.
+fn says_unreachable(remark: &Remark, table: u8) -> bool
+    ensures { result ≡ is_saying_unreachable table remark.now }
+{
+    match remark {
+        Remark::Unreachable { table: other } => *other == table,
+        _ => false,
+    }
+}
+
+/// Whether a remark, one of these, is a finding.
+pub fn is_finding(remarks: &[Remark], remark: &Remark) -> bool
+    ensures { result ≡ is_finding_among remarks.now remark.now }
+{
+    match remark {
+        Remark::NoTableMiss { table } => {
+            *table != 0 && !remarks.iter().any(|other| says_unreachable(other, *table))
+        }
+        _ => true,
+    }
+}
+
+fn push_table(out: &mut Vec<u8>, table: u8) -> Result<(), AllocError>
+    ensures { OnOk result (out.new.items ≡ out.old.items ++ table_words table) }
+{
+    out.extend_from_slice(b"table ")?;
+    push_decimal(out, u128::from(table))
+}
+
+fn push_group(out: &mut Vec<u8>, id: u32) -> Result<(), AllocError>
+    ensures { OnOk result (out.new.items ≡ out.old.items ++ group_words id) }
+{
+    out.extend_from_slice(b"group ")?;
+    push_decimal(out, u128::from(id))
+}
+
+// Appends a remark.
+#[tactic(auto, unfolding(crate::specs::Report::remark_words))]
+fn push_remark(
+    out: &mut Vec<u8>,
+    config: &Config,
+    lines: &[Vec<usize>],
+    remark: &Remark,
+) -> Result<(), AllocError>
+    ensures { OnOk result (out.new.items ≡ out.old.items ++ remark_words (view_lines lines.now) config.now.tables remark.now) }
+{
+    match *remark {
+        Remark::Unreachable { table } => {
+            push_table(out, table)?;
+            out.extend_from_slice(b" is unreachable: no goto leads to it from table 0")
+        }
+        Remark::NoTableMiss { table } => {
+            push_table(out, table)?;
+            out.extend_from_slice(
+                b" has no table-miss entry: packets that match none of its entries are dropped",
+            )
+        }
+        Remark::EmptyGoto { table, place, to } => {
+            push_entry(out, config, lines, table, place)?;
+            out.extend_from_slice(b" goes to table ")?;
+            push_decimal(out, u128::from(to))?;
+            out.extend_from_slice(b", which has no entries: its packets are dropped")
+        }
+        Remark::IngressOutput { table, place, port } => {
+            push_entry(out, config, lines, table, place)?;
+            out.extend_from_slice(b" sends to port ")?;
+            push_port(out, u128::from(port))?;
+            out.extend_from_slice(b", the ingress port that its match requires: nothing leaves")
+        }
+        Remark::UnseenActions {
+            table,
+            place,
+            count,
+        } => {
+            push_entry(out, config, lines, table, place)?;
+            out.extend_from_slice(b" has actions at the end of its apply that nothing sees: ")?;
+            push_decimal(out, count as u128)
+        }
+        Remark::UnusedGroup { id } => {
+            push_group(out, id)?;
+            out.extend_from_slice(b" is unused: no entry and no group names it")
+        }
+        Remark::NoBuckets { id } => {
+            push_group(out, id)?;
+            out.extend_from_slice(b" has no buckets: packets end there")
+        }
+    }
+}
+
+// Appends the line of a remark, if it is a finding or all are asked for.
+#[tactic(auto, unfolding(crate::specs::Report::remark_line))]
+fn push_line(
+    out: &mut Vec<u8>,
+    config: &Config,
+    lines: &[Vec<usize>],
+    all: bool,
+    remarks: &[Remark],
+    remark: &Remark,
+) -> Result<(), AllocError>
+    ensures { OnOk result (out.new.items ≡ out.old.items ++ remark_line all remarks.now (view_lines lines.now) config.now.tables remark.now) }
+{
+    if all || is_finding(remarks, remark) {
+        push_remark(out, config, lines, remark)?;
+        out.push(b'\n')?;
+    }
+    Ok(())
+}
+
+/// Appends the remarks that are findings, or all.
+pub fn push_remarks(
+    out: &mut Vec<u8>,
+    config: &Config,
+    lines: &[Vec<usize>],
+    all: bool,
+    remarks: &[Remark],
+) -> Result<(), AllocError>
+    ensures { OnOk result (out.new.items ≡ out.old.items ++ flat_map (remark_line all remarks.now (view_lines lines.now) config.now.tables) remarks.now) }
+{
+    for remark in remarks {
+        push_line(out, config, lines, all, remarks, remark)?;
+    }
+    Ok(())
+}

@@ -1,0 +1,66 @@
+//! The report in words.
+ghost use Rattle.std.specs.Prelude.{◌≡◌, ◌++◌, IfOk, OnOk};
+ghost use Rattle.of_report.specs.Report.{report_words, summary, wins_if};
+ghost use Rattle.of_report.specs.Files.{view_lines};
+
+use crate::counting::{count_open, count_shadowed, count_wins};
+use crate::remarks::push_remarks;
+use crate::words::{push_nevers, push_opens, push_wins};
+use of_check::Finding;
+use of_remarks::Remark;
+use of_text::Config;
+use of_values::push_decimal;
+use std::alloc::{AllocError, Global};
+
+// Appends how many entries there are of each kind.
+#[tactic(auto, unfolding(crate::specs::Report::summary))]
+fn push_summary(out: &mut Vec<u8>, findings: &[Finding]) -> Result<(), AllocError>
+    ensures { OnOk result (out.new.items ≡ out.old.items ++ summary findings.now) }
+{
+    push_decimal(out, findings.len() as u128)?;
+    out.extend_from_slice(b" flows: ")?;
+    push_decimal(out, count_wins(findings) as u128)?;
+    out.extend_from_slice(b" win, ")?;
+    push_decimal(out, count_shadowed(findings) as u128)?;
+    out.extend_from_slice(b" never win, ")?;
+    push_decimal(out, count_open(findings) as u128)?;
+    out.extend_from_slice(b" undecided\n")
+}
+
+fn push_wins_if(
+    alloc: Global,
+    out: &mut Vec<u8>,
+    all: bool,
+    config: &Config,
+    lines: &[Vec<usize>],
+    findings: &[Finding],
+) -> Result<(), AllocError>
+    ensures { OnOk result (out.new.items ≡ out.old.items ++ wins_if all (view_lines lines.now) config.now.tables findings.now) }
+{
+    if all {
+        push_wins(alloc, out, config, lines, findings)?;
+    }
+    Ok(())
+}
+
+/// The report on findings and remarks in words, for a configuration whose entries have these lines: what is found, then a summary, then, with
+/// `all`, the entries that win.
+#[tactic(auto, unfolding(crate::specs::Report::report_words))]
+pub fn words_of(
+    alloc: Global,
+    all: bool,
+    config: &Config,
+    lines: &[Vec<usize>],
+    findings: &[Finding],
+    remarks: &[Remark],
+) -> Result<Vec<u8>, AllocError>
+    ensures { IfOk result (λ text. text.items ≡ report_words all (view_lines lines.now) config.now.tables findings.now remarks.now) }
+{
+    let mut out = Vec::new(alloc);
+    push_nevers(&mut out, config, lines, findings)?;
+    push_opens(&mut out, config, lines, findings)?;
+    push_remarks(&mut out, config, lines, all, remarks)?;
+    push_summary(&mut out, findings)?;
+    push_wins_if(alloc, &mut out, all, config, lines, findings)?;
+    Ok(out)
+}

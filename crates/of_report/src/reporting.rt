@@ -1,0 +1,78 @@
+//! The report on the flow tables of a switch.
+ghost use Rattle.std.specs.Prelude.{◌≡◌, ◌<◌, ◌↔◌, IfOk};
+ghost use Rattle.of_replay.specs.FileRuns.{Writes, ended_as};
+ghost use Rattle.of_report.specs.Files.{IsReport, report_text, view_lines};
+
+use crate::counting::is_found;
+use crate::json::json_of;
+use crate::report::words_of;
+use of_check::{Finding, check};
+use of_classifier::Lookup;
+use of_remarks::{Remark, remarks_on};
+use of_replay::{Ended, Sink, write_all};
+use of_switch::Switch;
+use of_text::Config;
+use std::alloc::{AllocError, Global};
+
+/// How a report is written.
+#[derive(Clone, Copy, Debug, PartialEq, Eq)]
+pub enum Form {
+    /// In words: what is found, and a summary.
+    Findings,
+    /// In words, and after these the entries that win, each with a packet. All remarks are findings.
+    All,
+    /// As a JSON document (docs/JSON.md).
+    Json,
+}
+
+// The text of a report.
+fn text_of(
+    alloc: Global,
+    form: Form,
+    config: &Config,
+    lines: &[Vec<usize>],
+    findings: &[Finding],
+    remarks: &[Remark],
+) -> Result<Vec<u8>, AllocError>
+    ensures { IfOk result (λ text. text.items ≡ report_text form (view_lines lines.now) config.now.tables findings.now remarks.now) }
+{
+    match form {
+        Form::Findings => words_of(alloc, false, config, lines, findings, remarks),
+        Form::All => words_of(alloc, true, config, lines, findings, remarks),
+        Form::Json => json_of(alloc, config, lines, findings, remarks),
+    }
+}
+
+/// Writes the report on the entries of a switch, each after at most so many steps, and on its configuration, whose entries have these lines, by
+/// table, then by age. Ok says whether something was found.
+///
+/// Err is `WriteFault`, where a write failed and a prefix of the text was written; or `NoMemory`, where nothing was.
+pub fn write_report<L: Lookup, W: Sink>(
+    alloc: Global,
+    switch: &Switch<L>,
+    config: &Config,
+    lines: &[Vec<usize>],
+    steps: usize,
+    form: Form,
+    writer: &mut W,
+) -> Result<bool, Ended>
+    requires { W.failures writer.old ≡ 0 }
+    ensures output { Writes (IsReport result form (view_lines lines.now) switch.now.core.forwarding.tables config.now) (ended_as result)
+        (W.taken writer.old) (W.taken writer.new) }
+    ensures write_fault { (ended_as result ≡ Ended.WriteFault) ↔ (0 < W.failures writer.new) }
+{
+    let Ok(findings) = check(alloc, switch, steps) else {
+        return Err(Ended::NoMemory);
+    };
+    let Ok(remarks) = remarks_on(alloc, config) else {
+        return Err(Ended::NoMemory);
+    };
+    let Ok(text) = text_of(alloc, form, config, lines, &findings, &remarks) else {
+        return Err(Ended::NoMemory);
+    };
+    if write_all(writer, &text) {
+        Ok(is_found(&findings, &remarks))
+    } else {
+        Err(Ended::WriteFault)
+    }
+}

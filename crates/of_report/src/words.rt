@@ -1,0 +1,190 @@
+//! Findings in words.
+ghost use Rattle.std.specs.Prelude.{◌≡◌, ◌++◌, ◌∷◌, OnOk};
+ghost use Rattle.of_report.specs.Report.{never_words, of_findings, open_words, packet_words, shadow_line, shadow_lines, tie_words, win_words};
+ghost use Rattle.of_report.specs.Files.{view_lines};
+
+use crate::entries::push_entry;
+use of_build::push_hex;
+use of_check::{Finding, Verdict};
+use of_text::Config;
+use of_values::{push_hexadecimal, push_port};
+use std::alloc::{AllocError, Global};
+
+fn push_tie(out: &mut Vec<u8>, tie: bool) -> Result<(), AllocError>
+    ensures { OnOk result (out.new.items ≡ out.old.items ++ tie_words tie) }
+{
+    if tie {
+        out.extend_from_slice(
+            b" (tie: OpenFlow does not say which of two entries of one priority wins)",
+        )?;
+    }
+    Ok(())
+}
+
+#[tactic(auto, unfolding(crate::specs::Report::shadow_line))]
+fn push_shadow(
+    out: &mut Vec<u8>,
+    config: &Config,
+    lines: &[Vec<usize>],
+    table: u8,
+    place: usize,
+) -> Result<(), AllocError>
+    ensures { OnOk result (out.new.items ≡ out.old.items ++ shadow_line (view_lines lines.now) config.now.tables table place) }
+{
+    out.extend_from_slice(b"    ")?;
+    push_entry(out, config, lines, table, place)?;
+    out.push(b'\n')?;
+    Ok(())
+}
+
+// Appends the entries that shadow another one, a line each.
+fn push_shadows(
+    out: &mut Vec<u8>,
+    config: &Config,
+    lines: &[Vec<usize>],
+    table: u8,
+    places: &[usize],
+) -> Result<(), AllocError>
+    ensures { OnOk result (out.new.items ≡ out.old.items ++ shadow_lines (view_lines lines.now) config.now.tables table places.now) }
+{
+    for place in places {
+        push_shadow(out, config, lines, table, *place)?;
+    }
+    Ok(())
+}
+
+// Appends an entry that never wins.
+#[tactic(auto, unfolding(crate::specs::Report::never_words))]
+fn push_never(
+    out: &mut Vec<u8>,
+    config: &Config,
+    lines: &[Vec<usize>],
+    finding: &Finding,
+) -> Result<(), AllocError>
+    ensures { OnOk result (out.new.items ≡ out.old.items ++
+        never_words (view_lines lines.now) config.now.tables finding.now.table finding.now.place finding.now.verdict) }
+{
+    match &finding.verdict {
+        Verdict::Never { by, tie } => {
+            push_entry(out, config, lines, finding.table, finding.place)?;
+            out.extend_from_slice(b" never wins")?;
+            push_tie(out, *tie)?;
+            out.extend_from_slice(b": shadowed by\n")?;
+            push_shadows(out, config, lines, finding.table, by)
+        }
+        Verdict::Wins { .. } | Verdict::Open => Ok(()),
+    }
+}
+
+// Appends an entry that was not decided.
+#[tactic(auto, unfolding(crate::specs::Report::open_words))]
+fn push_open(
+    out: &mut Vec<u8>,
+    config: &Config,
+    lines: &[Vec<usize>],
+    finding: &Finding,
+) -> Result<(), AllocError>
+    ensures { OnOk result (out.new.items ≡ out.old.items ++
+        open_words (view_lines lines.now) config.now.tables finding.now.table finding.now.place finding.now.verdict) }
+{
+    match &finding.verdict {
+        Verdict::Open => {
+            push_entry(out, config, lines, finding.table, finding.place)?;
+            out.extend_from_slice(b" is undecided\n")
+        }
+        Verdict::Wins { .. } | Verdict::Never { .. } => Ok(()),
+    }
+}
+
+// Appends the packet with which an entry wins.
+#[tactic(auto, unfolding(crate::specs::Report::packet_words))]
+fn push_packet(
+    alloc: Global,
+    out: &mut Vec<u8>,
+    frame: &[u8],
+    in_port: u32,
+    metadata: u64,
+) -> Result<(), AllocError>
+    ensures { OnOk result (out.new.items ≡ out.old.items ++ packet_words frame.now in_port metadata) }
+{
+    out.extend_from_slice(b"in_port ")?;
+    push_port(out, u128::from(in_port))?;
+    out.extend_from_slice(b", metadata ")?;
+    push_hexadecimal(out, 1, u128::from(metadata))?;
+    out.extend_from_slice(b", frame ")?;
+    push_hex(alloc, out, frame)
+}
+
+// Appends an entry that wins.
+#[tactic(auto, unfolding(crate::specs::Report::win_words))]
+fn push_win(
+    alloc: Global,
+    out: &mut Vec<u8>,
+    config: &Config,
+    lines: &[Vec<usize>],
+    finding: &Finding,
+) -> Result<(), AllocError>
+    ensures { OnOk result (out.new.items ≡ out.old.items ++
+        win_words (view_lines lines.now) config.now.tables finding.now.table finding.now.place finding.now.verdict) }
+{
+    match &finding.verdict {
+        Verdict::Wins {
+            frame,
+            in_port,
+            metadata,
+        } => {
+            push_entry(out, config, lines, finding.table, finding.place)?;
+            out.extend_from_slice(b" wins: ")?;
+            push_packet(alloc, out, frame, *in_port, *metadata)?;
+            out.push(b'\n')?;
+            Ok(())
+        }
+        Verdict::Never { .. } | Verdict::Open => Ok(()),
+    }
+}
+
+/// Appends the entries that never win.
+pub fn push_nevers(
+    out: &mut Vec<u8>,
+    config: &Config,
+    lines: &[Vec<usize>],
+    findings: &[Finding],
+) -> Result<(), AllocError>
+    ensures { OnOk result (out.new.items ≡ out.old.items ++ of_findings (never_words (view_lines lines.now) config.now.tables) findings.now) }
+{
+    for finding in findings {
+        push_never(out, config, lines, finding)?;
+    }
+    Ok(())
+}
+
+/// Appends the entries that were not decided.
+pub fn push_opens(
+    out: &mut Vec<u8>,
+    config: &Config,
+    lines: &[Vec<usize>],
+    findings: &[Finding],
+) -> Result<(), AllocError>
+    ensures { OnOk result (out.new.items ≡ out.old.items ++ of_findings (open_words (view_lines lines.now) config.now.tables) findings.now) }
+{
+    for finding in findings {
+        push_open(out, config, lines, finding)?;
+    }
+    Ok(())
+}
+
+/// Appends the entries that win.
+pub fn push_wins(
+    alloc: Global,
+    out: &mut Vec<u8>,
+    config: &Config,
+    lines: &[Vec<usize>],
+    findings: &[Finding],
+) -> Result<(), AllocError>
+    ensures { OnOk result (out.new.items ≡ out.old.items ++ of_findings (win_words (view_lines lines.now) config.now.tables) findings.now) }
+{
+    for finding in findings {
+        push_win(alloc, out, config, lines, finding)?;
+    }
+    Ok(())
+}

@@ -1,0 +1,5 @@
+pub mod Layering
+pub mod Tagging
+pub mod Widths
+pub mod Setting
+pub mod Pushing

@@ -1,0 +1,11 @@
+use Rattle.std.proofs.Common.{◌≡◌, ◌++◌, drop}
+use Rattle.std.specs.Prelude.{IsTrue}
+use Rattle.of_trace.specs.Encoded.{are_encoded}
+use Rattle.of_trace.specs.Words.{words_text}
+use Rattle.of_trace.proofs.words.push_words.Given as goal
+
+abbrev pub invariant-loop-step : goal.invariant-loop-step
+invariant-loop-step g l = record {
+  encoded : IsTrue (are_encoded (drop l.step-index l.steps));
+  text : l.out.items ++ words_text l.switch.core.forwarding (drop l.step-index l.steps) ≡ l.fn.out.items ++ words_text l.switch.core.forwarding l.steps;
+}

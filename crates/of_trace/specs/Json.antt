@@ -1,0 +1,73 @@
+-- A TRACE AS JSON (RFC 8259): one object in one line, with an object for each step and for each effect.
+use Rattle.std.specs.Prelude.{ℕ, List, [], ◌∷◌, ◌++◌, codes, decimal, Option, Some, None}
+use Rattle.hex.specs.Hex.{encode_lower}
+use Rattle.of_layers.specs.Fields.{name_of}
+use Rattle.of_actions.specs.declared.action.Action.{Action}
+use Rattle.of_actions.specs.declared.action.Action.TheVariants.{Output, PushVlan, PopVlan, Group, SetNwTtl, DecNwTtl, SetField}
+use Rattle.of_table.specs.declared.flow.Flow.{Flow}
+use Rattle.of_machine.specs.declared.data.Step.{Step}
+use Rattle.of_machine.specs.declared.data.Step.TheVariants.{Miss, Entry, Apply, Clear, Write, Metadata, Goto, Set, Act, TtlExpired, End}
+use Rattle.of_datapath.specs.declared.effect.Effect.{Effect}
+use Rattle.of_datapath.specs.declared.effect.Effect.TheVariants.{Answer, Sent, Closed}
+use Rattle.of_datapath.specs.Datapath.{Forwarding}
+use Rattle.of_json.specs.Parts.{key, listed, match_object, number_member, quoted, text_member}
+use Rattle.of_values.specs.Numbers as numbers
+use Rattle.of_values.specs.Values.{value_words}
+use Rattle.of_trace.specs.Words.{flow_there}
+
+-- the first member of a step
+abbrev pub named : List ℕ → List ℕ
+named step = key (codes "step") ++ quoted step
+
+-- the priority and the match of an entry
+abbrev pub flow_members : Option Flow → List ℕ
+flow_members None = []
+flow_members (Some flow) = number_member (codes "priority") flow.priority ++ 44 ∷ key (codes "match") ++ match_object flow.fields
+
+-- numbers of more than 53 bits are strings
+abbrev pub hexadecimal_member : List ℕ → ℕ → ℕ → List ℕ
+hexadecimal_member name least n = text_member name (numbers.hexadecimal least n)
+
+unfoldable pub action_members : Action → List ℕ
+action_members (Output port max_len) = named (codes "output") ++ text_member (codes "port") (numbers.port port) ++ number_member (codes "max_len") max_len
+action_members (PushVlan type) = named (codes "push_vlan") ++ hexadecimal_member (codes "type") 4 type
+action_members PopVlan = named (codes "pop_vlan")
+action_members (Group group) = named (codes "group") ++ number_member (codes "group") group
+action_members (SetNwTtl ttl) = named (codes "set_nw_ttl") ++ number_member (codes "ttl") ttl
+action_members DecNwTtl = named (codes "dec_nw_ttl")
+action_members (SetField field value) = named (codes "set") ++ text_member (codes "field") (name_of field) ++ text_member (codes "value") (value_words field value None)
+
+unfoldable pub step_members : Forwarding → Step → List ℕ
+step_members f (Miss table) = named (codes "miss") ++ number_member (codes "table") table
+step_members f (Entry table place) = named (codes "entry") ++ number_member (codes "table") table ++ number_member (codes "entry") place ++ flow_members (flow_there f table place)
+step_members f Apply = named (codes "apply")
+step_members f Clear = named (codes "clear")
+step_members f Write = named (codes "write")
+step_members f (Metadata value mask) = named (codes "metadata") ++ hexadecimal_member (codes "value") 1 value ++ hexadecimal_member (codes "mask") 1 mask
+step_members f (Goto table) = named (codes "goto") ++ number_member (codes "table") table
+step_members f Set = named (codes "action set")
+step_members f (Act action) = action_members action
+step_members f TtlExpired = named (codes "TTL expired")
+step_members f End = named (codes "end")
+
+abbrev pub step_object : Forwarding → Step → List ℕ
+step_object f step = 123 ∷ step_members f step ++ 125 ∷ []
+
+unfoldable pub effect_members : Effect → List ℕ
+effect_members (Answer bytes) = key (codes "effect") ++ quoted (codes "message") ++ text_member (codes "message") (encode_lower bytes)
+effect_members (Sent port frame) = key (codes "effect") ++ quoted (codes "frame") ++ number_member (codes "port") port ++ text_member (codes "frame") (encode_lower frame)
+effect_members Closed = key (codes "effect") ++ quoted (codes "closed")
+
+abbrev pub effect_object : Effect → List ℕ
+effect_object effect = 123 ∷ effect_members effect ++ 125 ∷ []
+
+-- the frame and the port at which it is received
+unfoldable pub head_members : ℕ → List ℕ → List ℕ
+head_members port frame = key (codes "command") ++ quoted (codes "trace") ++ number_member (codes "in_port") port ++ text_member (codes "frame") (encode_lower frame)
+
+-- THE DOCUMENT
+unfoldable pub trace_json : Forwarding → ℕ → List ℕ → List Step → List Effect → List ℕ
+trace_json f port frame steps effects =
+    123 ∷ head_members port frame
+    ++ 44 ∷ key (codes "steps") ++ 91 ∷ listed (step_object f) steps ++ 93
+    ∷ 44 ∷ key (codes "effects") ++ 91 ∷ listed effect_object effects ++ 93 ∷ 125 ∷ 10 ∷ []

@@ -1,0 +1,139 @@
+-- A TRACE IN WORDS: the frame, the steps, and what leaves.
+use Rattle.std.specs.Prelude.{ℕ, ◌==◌, nat_lt, bit_and, List, [], ◌∷◌, ◌++◌, length, Option, Some, None, codes, decimal, if◌then◌else◌}
+use Rattle.std.specs.List.{flat_map}
+use Rattle.of_wire.specs.declared.limits.TheConstants.{OFPP_CONTROLLER}
+use Rattle.hex.specs.Hex.{encode_lower}
+use Rattle.of_layers.specs.declared.field.Field.{Field}
+use Rattle.of_layers.specs.declared.field.Field.TheVariants as fields
+use Rattle.of_layers.specs.Fields.{name_of}
+use Rattle.of_layers.specs.Reading.{layers_of}
+use Rattle.of_headers.specs.declared.headers.FrameFault.{FrameFault}
+use Rattle.of_headers.specs.declared.headers.FrameFault.TheVariants.{Short, Long}
+use Rattle.of_headers.specs.Faults.{frame_fault}
+use Rattle.of_rewrite.specs.TimeToLive.{ttl_of}
+use Rattle.of_actions.specs.declared.action.Action.{Action}
+use Rattle.of_actions.specs.declared.action.Action.TheVariants.{Output, Group, SetField}
+use Rattle.of_ports.specs.declared.port.Port.{Port}
+use Rattle.of_ports.specs.Ports.{port_at}
+use Rattle.of_table.specs.declared.flow.Flow.{Flow}
+use Rattle.of_machine.specs.declared.data.Step.{Step}
+use Rattle.of_machine.specs.declared.data.Step.TheVariants.{Miss, Entry, Apply, Clear, Write, Metadata, Goto, Set, Act, TtlExpired, End}
+use Rattle.of_text.specs.Lines.{ended}
+use Rattle.of_text.specs.Rows.{encoding}
+use Rattle.of_lines.specs.declared.row.Row.TheVariants as rows
+use Rattle.of_datapath.specs.declared.effect.Effect.{Effect}
+use Rattle.of_datapath.specs.declared.effect.Effect.TheVariants.{Answer, Sent, Closed}
+use Rattle.of_datapath.specs.Datapath.{Forwarding, flow_in}
+use Rattle.of_values.specs.Numbers as numbers
+use Rattle.of_values.specs.Values.{value_words}
+use Rattle.of_values.specs.Entries.{entry_words}
+use Rattle.of_trace.specs.declared.sight.Sight.{Sight}
+use Rattle.of_trace.specs.Sights.{key_seen}
+
+-- ---- THE FRAME: its ingress port, and of each header the fields that say from where and to where
+
+-- a word and two fields that a frame has both or none of
+abbrev pub pair_words : List ℕ → Field → List ℕ → Field → Option ℕ → Option ℕ → List ℕ
+pair_words word a between b (Some x) (Some y) = codes ", " ++ word ++ 32 ∷ value_words a x None ++ between ++ value_words b y None
+pair_words word a between b x y = []
+
+abbrev pub pair : (Field → Option ℕ) → List ℕ → Field → List ℕ → Field → List ℕ
+pair map word a between b = pair_words word a between b (map a) (map b)
+
+-- a word and a field
+abbrev pub single_words : List ℕ → Field → Option ℕ → List ℕ
+single_words word f None = []
+single_words word f (Some v) = codes ", " ++ word ++ 32 ∷ value_words f v None
+
+abbrev pub single : (Field → Option ℕ) → List ℕ → Field → List ℕ
+single map word f = single_words word f (map f)
+
+abbrev pub ttl_part : Option ℕ → List ℕ
+ttl_part None = []
+ttl_part (Some n) = codes ", ttl" ++ 32 ∷ decimal n
+
+abbrev pub header_words : (Field → Option ℕ) → List ℕ
+header_words map =
+    pair map (codes "eth") fields.EthSrc (codes " > ") fields.EthDst
+    ++ single map (codes "eth_type") fields.EthType
+    ++ pair map (codes "vlan") fields.VlanVid (codes " priority ") fields.VlanPcp
+    ++ pair map (codes "arp") fields.ArpSpa (codes " > ") fields.ArpTpa
+    ++ single map (codes "arp_op") fields.ArpOp
+    ++ pair map (codes "ipv4") fields.Ipv4Src (codes " > ") fields.Ipv4Dst
+    ++ pair map (codes "ipv6") fields.Ipv6Src (codes " > ") fields.Ipv6Dst
+    ++ single map (codes "ip_proto") fields.IpProto
+    ++ pair map (codes "tcp") fields.TcpSrc (codes " > ") fields.TcpDst
+    ++ pair map (codes "udp") fields.UdpSrc (codes " > ") fields.UdpDst
+    ++ pair map (codes "icmp type") fields.Icmpv4Type (codes " code ") fields.Icmpv4Code
+    ++ pair map (codes "icmpv6 type") fields.Icmpv6Type (codes " code ") fields.Icmpv6Code
+
+-- what tables see of it, and its TTL or hop limit
+abbrev pub sight_words : Sight → List ℕ
+sight_words s = header_words (key_seen s) ++ ttl_part (ttl_of (layers_of s.frame))
+
+-- a frame that is received; one that is too short or too long is not
+abbrev pub unless_fault : ℕ → List ℕ → Option FrameFault → List Sight
+unless_fault port frame (Some fault) = []
+unless_fault port frame None = record { frame = frame; ingress = port; metadata = 0 } ∷ []
+
+abbrev pub entered : ℕ → List ℕ → List Sight
+entered port frame = unless_fault port frame (frame_fault frame)
+
+-- its headers, or that nothing happens, since a frame has 14 to 9,216 bytes
+abbrev pub packet_words : List ℕ → List Sight → List ℕ
+packet_words frame [] = codes "," ++ 32 ∷ decimal (length frame) ++ codes " bytes: a frame has 14 to 9216 bytes, so it is dropped"
+packet_words frame (s ∷ others) = sight_words s
+
+abbrev pub absent_port : Option Port → List ℕ
+absent_port None = codes ": there is no such port, so the frame is dropped"
+absent_port (Some q) = []
+
+abbrev pub heading : Forwarding → ℕ → List ℕ → List ℕ
+heading f port frame = codes "in_port " ++ numbers.port port ++ packet_words frame (entered port frame) ++ absent_port (port_at f.ports port)
+
+-- ---- THE STEPS
+
+-- the flow of an entry of one of the sixteen tables
+abbrev pub flow_there : Forwarding → ℕ → ℕ → Option Flow
+flow_there f table place = if nat_lt table 16 then flow_in f table place else None
+
+-- its priority and its match
+abbrev pub found_words : Option Flow → List ℕ
+found_words None = []
+found_words (Some flow) = codes ", " ++ entry_words flow.priority flow.fields
+
+-- how many bytes of the packet the controller gets
+abbrev pub length_words : ℕ → ℕ → List ℕ
+length_words port max_len = if port == OFPP_CONTROLLER then (if max_len == 0xffff then [] else codes ", the first" ++ 32 ∷ decimal max_len ++ codes " bytes") else []
+
+abbrev pub action_line : Action → List ℕ
+action_line (Output port max_len) = codes "output " ++ numbers.port port ++ length_words port max_len
+action_line (Group group) = codes "group" ++ 32 ∷ decimal group
+action_line (SetField field value) = codes "set " ++ name_of field ++ 32 ∷ value_words field value None
+action_line other = encoding (rows.Do other)
+
+abbrev pub words_line : Forwarding → Step → List ℕ
+words_line f (Miss table) = codes "table" ++ 32 ∷ decimal table ++ codes ": no entry matches"
+words_line f (Entry table place) = codes "table" ++ 32 ∷ decimal table ++ codes ": entry" ++ 32 ∷ decimal place ++ found_words (flow_there f table place)
+words_line f Apply = codes "apply actions"
+words_line f Clear = codes "clear the action set"
+words_line f Write = codes "write into the action set"
+words_line f (Metadata value mask) = codes "write metadata " ++ value_words fields.Metadata value (Some mask)
+words_line f (Goto table) = codes "go to table" ++ 32 ∷ decimal table
+words_line f Set = codes "run the action set"
+words_line f (Act action) = action_line action
+words_line f TtlExpired = codes "dec_nw_ttl: the TTL has expired, so the packet goes to the controller"
+words_line f End = codes "end"
+
+abbrev pub words_text : Forwarding → List Step → List ℕ
+words_text f steps = flat_map (λ s. ended (words_line f s)) steps
+
+-- ---- WHAT LEAVES
+
+abbrev pub leaving_line : Effect → List ℕ
+leaving_line (Answer bytes) = codes "to the controller: " ++ encode_lower bytes ++ 10 ∷ []
+leaving_line (Sent port frame) = codes "out by port" ++ 32 ∷ decimal port ++ codes ": " ++ encode_lower frame ++ 10 ∷ []
+leaving_line Closed = codes "the connection is closed" ++ 10 ∷ []
+
+abbrev pub leaving_text : List Effect → List ℕ
+leaving_text effects = (if length effects == 0 then codes "nothing leaves" ++ 10 ∷ [] else []) ++ flat_map leaving_line effects

@@ -1,0 +1,5 @@
+pub mod Numbers
+pub mod Ipv6
+pub mod Masks
+pub mod Values
+pub mod Entries

@@ -1,0 +1,58 @@
+-- NUMBERS IN WORDS: hexadecimal digits, Ethernet and IPv4 addresses, ports.
+use Rattle.std.specs.Prelude.{ℕ, zero, suc, ◌+◌, ◌*◌, ◌/◌, ◌%◌, ◌^◌, ◌==◌, ◌||◌, not, nat_lt, List, [], ◌∷◌, ◌++◌, codes, decimal, if◌then◌else◌}
+
+-- ---- hexadecimal digits
+
+-- 0 to 9, then a to f
+abbrev pub digit : ℕ → ℕ
+digit d = if nat_lt d 10 then 48 + d else 87 + d
+
+-- the digit at a place, from 0 for the last one; nothing where it and all before it are 0, but at the `least` last places
+abbrev pub digit_at : ℕ → ℕ → ℕ → List ℕ
+digit_at least place n = if nat_lt place least || not (n / 2 ^ (4 * place) == 0) then digit (n / 2 ^ (4 * place) % 16) ∷ [] else []
+
+-- those of the last `most` places
+unfoldable pub digits : ℕ → ℕ → ℕ → List ℕ
+digits least zero n = []
+digits least (suc place) n = digit_at least place n ++ digits least place n
+
+-- 0x and the digits of a number of 128 bits, so many at least
+unfoldable pub hexadecimal : ℕ → ℕ → List ℕ
+hexadecimal least n = codes "0x" ++ digits least 32 n
+
+-- ---- addresses
+
+-- the byte that begins at a bit, from 0 for the last one
+abbrev pub byte_at : ℕ → ℕ → ℕ
+byte_at bit n = n / 2 ^ bit % 256
+
+-- 02:00:00:00:00:a1
+abbrev pub byte_digits : ℕ → ℕ → List ℕ
+byte_digits bit n = digits 2 2 (byte_at bit n)
+
+abbrev pub colon_byte : ℕ → ℕ → List ℕ
+colon_byte bit n = 58 ∷ byte_digits bit n
+
+unfoldable pub ethernet : ℕ → List ℕ
+ethernet n = byte_digits 40 n ++ colon_byte 32 n ++ colon_byte 24 n ++ colon_byte 16 n ++ colon_byte 8 n ++ colon_byte 0 n
+
+-- 10.0.0.1
+abbrev pub dot_byte : ℕ → ℕ → List ℕ
+dot_byte bit n = 46 ∷ decimal (byte_at bit n)
+
+unfoldable pub ipv4 : ℕ → List ℕ
+ipv4 n = decimal (byte_at 24 n) ++ dot_byte 16 n ++ dot_byte 8 n ++ dot_byte 0 n
+
+-- ---- ports (7.2.1): the reserved ones by their names
+
+unfoldable pub port : ℕ → List ℕ
+port n =
+    if n == 0xfffffff8 then codes "in_port"
+    else if n == 0xfffffff9 then codes "table"
+    else if n == 0xfffffffa then codes "normal"
+    else if n == 0xfffffffb then codes "flood"
+    else if n == 0xfffffffc then codes "all"
+    else if n == 0xfffffffd then codes "controller"
+    else if n == 0xfffffffe then codes "local"
+    else if n == 0xffffffff then codes "any"
+    else decimal n

@@ -1,0 +1,17 @@
+//! Values of match fields and flow entries in words, as people who run networks write them.
+#![tactic(auto)]
+
+mod addresses;
+mod digits;
+mod entries;
+mod form;
+mod ipv6;
+mod ports;
+mod prefixes;
+mod values;
+
+pub use digits::{push_decimal, push_hexadecimal};
+pub use entries::{push_entry_words, push_field_words};
+pub use form::{Form, form_of};
+pub use ports::push_port;
+pub use values::push_value_words;

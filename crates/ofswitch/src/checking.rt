@@ -1,0 +1,132 @@
+//! Reports of `check`.
+use crate::hinting::Seen;
+use crate::importing::{NotImported, import_of, read_whole};
+use crate::parts::print_part;
+use crate::lookups::Lookups;
+use crate::standard_input::StandardInput;
+use of_classifier::Scan;
+use of_command_line::{Check, CheckOutput, FileKind};
+use of_import::Mode;
+use of_replay::Ended;
+use of_replay::streams::{ReaderSource, WriterSink};
+use of_report::{Content, Form, content_of, lines_by_table, report_events, report_flows};
+use std::fs::File;
+use std::io;
+
+/// Why there is no report, or no trace.
+#[derive(Drop)]
+pub enum NoReport {
+    /// The file does not open.
+    Unopened(io::Error),
+    /// Lines of a table of Open vSwitch are refused, which standard error names.
+    Faults,
+    /// As other runs over a file end.
+    Ended(Ended),
+}
+
+/// The bytes of a file; `-` is standard input.
+pub fn bytes_of(rt: &HostRuntime, path: &str) -> Result<Vec<u8>, NoReport> {
+    let bytes = if path == "-" {
+        read_whole(rt.alloc(), StandardInput::new(rt))
+    } else {
+        match File::open(rt, path) {
+            Ok(file) => read_whole(rt.alloc(), file),
+            Err(error) => return Err(NoReport::Unopened(error)),
+        }
+    };
+    bytes.map_err(NoReport::Ended)
+}
+
+fn form_of(output: CheckOutput) -> Form {
+    match output {
+        CheckOutput::Lines | CheckOutput::Report => Form::Findings,
+        CheckOutput::All => Form::All,
+        CheckOutput::Json => Form::Json,
+    }
+}
+
+/// What a file is.
+pub fn content_as(kind: FileKind, bytes: &[u8]) -> Content {
+    match kind {
+        FileKind::Guessed => content_of(bytes),
+        FileKind::Flows => Content::FlowText,
+        FileKind::Events => Content::EventFile,
+        FileKind::Ovs => Content::OvsTable,
+    }
+}
+
+// Prints the report on a flow text, whose entries have these lines.
+fn flows_reported(
+    rt: &HostRuntime,
+    asked: &Check,
+    text: &[u8],
+    lines: &[Vec<usize>],
+) -> Result<bool, Ended> {
+    if asked.output != CheckOutput::Json {
+        print_part(rt, text)?;
+    }
+    let mut reader = ReaderSource::new(text);
+    let mut writer = WriterSink::new(rt.stdout());
+    let (steps, form) = (asked.steps as usize, form_of(asked.output));
+    report_flows::<Scan, _, _>(rt.alloc(), &mut reader, lines, steps, form, &mut writer)
+}
+
+fn events_reported(rt: &HostRuntime, asked: &Check, bytes: &[u8]) -> Result<bool, Ended> {
+    let mut reader = ReaderSource::new(bytes);
+    let mut writer = WriterSink::new(rt.stdout());
+    let (steps, form) = (asked.steps as usize, form_of(asked.output));
+    report_events::<Lookups, _, _>(rt.alloc(), &mut reader, steps, form, &mut writer)
+}
+
+/// The flow text of what ovs-ofctl prints.
+pub fn text_of_table(
+    rt: &HostRuntime,
+    kind: FileKind,
+    bytes: &[u8],
+) -> Result<Vec<u8>, NoReport> {
+    let mode = Mode {
+        skip: false,
+        renumber: false,
+    };
+    match import_of(rt, bytes, mode) {
+        Ok(done) => Ok(done.text),
+        Err(NotImported::Ended(ended)) => Err(NoReport::Ended(ended)),
+        Err(NotImported::Faults) => {
+            say_guess(rt, kind);
+            Err(NoReport::Faults)
+        }
+    }
+}
+
+
+// A file of another kind with a mistake in its first line is taken for a table of Open vSwitch.
+fn say_guess(rt: &HostRuntime, kind: FileKind) {
+    if kind == FileKind::Guessed {
+        let _ = eprintln!(rt;
+            "the file was taken for what ovs-ofctl prints; --flows or --events says that it is a flow text or an event file"
+        );
+    }
+}
+
+// The report on a flow text.
+fn text_reported(rt: &HostRuntime, asked: &Check, text: &[u8]) -> Result<bool, Ended> {
+    match lines_by_table(rt.alloc(), text) {
+        Ok(lines) => flows_reported(rt, asked, text, &lines),
+        Err(_) => Err(Ended::NoMemory),
+    }
+}
+
+/// Prints the report on the file. Returns whether something was found, or how the run ended, and what was read.
+pub fn reported(rt: &HostRuntime, asked: &Check) -> Result<(Result<bool, Ended>, Seen), NoReport> {
+    let bytes = bytes_of(rt, asked.file.as_str())?;
+    let found = match content_as(asked.kind, &bytes) {
+        Content::EventFile => events_reported(rt, asked, &bytes),
+        Content::FlowText => text_reported(rt, asked, &bytes),
+        // its entries have other lines than those of the flow text that it becomes
+        Content::OvsTable => {
+            let text = text_of_table(rt, asked.kind, &bytes)?;
+            flows_reported(rt, asked, &text, &[])
+        }
+    };
+    Ok((found, Seen::whole(bytes)))
+}
