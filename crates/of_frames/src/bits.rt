@@ -60,7 +60,7 @@ pub fn push_sixteen(out: &mut Vec<u8>, number: u128) -> Result<(), AllocError>
     Ok(())
 }
 
-/// Bytes are below 256, which a proof that speaks of them takes from here.
-pub fn all_bytes(s: &[u8])
-    ensures { AreBytes s.now }
+/// What the type of bytes says of them.
+pub fn known_bytes(bytes: &[u8])
+    ensures { AreBytes bytes.now }
 {}

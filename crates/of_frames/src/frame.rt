@@ -6,7 +6,7 @@ ghost use Rattle.of_rewrite.specs.Frames.{IsFrame};
 ghost use Rattle.of_frames.specs.Given.{fields_given, number, or_zero, type_given};
 ghost use Rattle.of_frames.specs.Packets.{frame_given, frame_size, layers_given};
 
-use crate::bits::{all_bytes, push_word};
+use crate::bits::{known_bytes, push_word};
 use crate::packets::{push_body, push_ends, push_tags};
 use of_headers::{FieldKey, Numbers};
 use of_shapes::{Shape, Tagging};
@@ -39,7 +39,7 @@ fn frame_with(
     push_tags(&mut out, tagging, numbers)?;
     push_word(&mut out, type_of(shape, numbers))?;
     push_body(&mut out, shape, numbers)?;
-    all_bytes(out.as_slice());
+    known_bytes(out.as_slice());
     Ok(out)
 }
 

@@ -11,5 +11,5 @@ use Rattle.of_frames.proofs.frame.frame_with.Goals as goal
 pub returns : goal.returns
 returns c =
     let v = number c.args.numbers.now in
-    frame_is c.args.shape c.args.tagging v _ (subst AreBytes c.as_slice.ensures.value c.all_bytes.ensures)
+    frame_is c.args.shape c.args.tagging v _ (subst AreBytes c.as_slice.ensures.value c.known_bytes.ensures)
     (whole (layers_given c.args.shape c.args.tagging v) (subst (λ (old : List ℕ). Adds old _ _) c.new-out.ensures.items c.in_ok-push_ends.ensures) c.in_ok-push_tags.ensures (same _ (ap (bits 16) c.type_of.ensures) c.in_ok-push_word.ensures) c.in_ok-push_body.ensures)
