@@ -22,12 +22,7 @@ fn digit(value: u8) -> u8
 }
 
 // Appends the digit of a number at a place, unless it is one of the zeros that are left out.
-fn push_digit(
-    out: &mut Vec<u8>,
-    least: u32,
-    place: u32,
-    number: u128,
-) -> Result<(), AllocError>
+fn push_digit(out: &mut Vec<u8>, least: u32, place: u32, number: u128) -> Result<(), AllocError>
     requires { place < 32 }
     ensures { OnOk result (out.new.items ≡ out.old.items ++ digit_at least place number) }
 {
@@ -40,12 +35,7 @@ fn push_digit(
 
 /// Appends the hexadecimal digits of the last `most` places of a number, at least those of the last `least` ones.
 #[tactic(auto, unfolding(crate::specs::Numbers::digits))]
-pub fn push_digits(
-    out: &mut Vec<u8>,
-    least: u32,
-    most: u32,
-    number: u128,
-) -> Result<(), AllocError>
+pub fn push_digits(out: &mut Vec<u8>, least: u32, most: u32, number: u128) -> Result<(), AllocError>
     requires { most ≤ 32 }
     ensures { OnOk result (out.new.items ≡ out.old.items ++ digits least most number) }
 {

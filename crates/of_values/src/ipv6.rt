@@ -102,12 +102,7 @@ fn push_further_groups(
 
 // The same, with colons between them.
 #[tactic(auto, unfolding(crate::specs::Ipv6::groups))]
-fn push_groups(
-    out: &mut Vec<u8>,
-    number: u128,
-    low: u32,
-    count: u32,
-) -> Result<(), AllocError>
+fn push_groups(out: &mut Vec<u8>, number: u128, low: u32, count: u32) -> Result<(), AllocError>
     requires { low + count ≤ 8 }
     ensures { OnOk result (out.new.items ≡ out.old.items ++ groups low count number) }
 {
