@@ -39,10 +39,15 @@ packet_members frame in_port metadata =
     text_member (codes "verdict") (codes "wins") ++ number_member (codes "in_port") in_port ++ text_member (codes "metadata") (hexadecimal 1 metadata)
     ++ text_member (codes "frame") (encode_lower frame)
 
+unfoldable pub truth_member : List ℕ → Bool → List ℕ
+truth_member name b = 44 ∷ key name ++ truth b
+
+unfoldable pub shadows_member : List (List ℕ) → List (List Flow) → ℕ → List ℕ → List ℕ
+shadows_member lines tables table by = 44 ∷ key (codes "shadowed_by") ++ 91 ∷ listed (entry_object lines tables table) by ++ 93 ∷ []
+
 unfoldable pub never_members : List (List ℕ) → List (List Flow) → ℕ → List ℕ → Bool → List ℕ
 never_members lines tables table by tie =
-    text_member (codes "verdict") (codes "never wins") ++ 44 ∷ key (codes "tie") ++ truth tie ++ 44 ∷ key (codes "shadowed_by")
-    ++ 91 ∷ listed (entry_object lines tables table) by ++ 93 ∷ []
+    text_member (codes "verdict") (codes "never wins") ++ truth_member (codes "tie") tie ++ shadows_member lines tables table by
 
 unfoldable pub verdict_members : List (List ℕ) → List (List Flow) → ℕ → Verdict → List ℕ
 verdict_members lines tables table (Wins frame in_port metadata) = packet_members frame.items in_port metadata
@@ -57,12 +62,16 @@ finding_object lines tables f = 123 ∷ entry_members lines tables f.table f.pla
 abbrev pub remark_member : List ℕ → List ℕ
 remark_member text = text_member (codes "remark") text
 
+-- what is remarked of an entry, with a number
+unfoldable pub entry_remark : List ℕ → List ℕ → List ℕ → ℕ → List ℕ
+entry_remark members remark name n = members ++ (remark_member remark ++ number_member name n)
+
 unfoldable pub remark_members : List (List ℕ) → List (List Flow) → Remark → List ℕ
 remark_members lines tables (Unreachable table) = key (codes "table") ++ decimal table ++ remark_member (codes "unreachable")
 remark_members lines tables (NoTableMiss table) = key (codes "table") ++ decimal table ++ remark_member (codes "no table-miss entry")
-remark_members lines tables (EmptyGoto table place to) = entry_members lines tables table place ++ remark_member (codes "goto to a table without entries") ++ number_member (codes "to") to
-remark_members lines tables (IngressOutput table place number) = entry_members lines tables table place ++ remark_member (codes "output to the ingress port") ++ number_member (codes "port") number
-remark_members lines tables (UnseenActions table place n) = entry_members lines tables table place ++ remark_member (codes "last actions unseen") ++ number_member (codes "count") n
+remark_members lines tables (EmptyGoto table place to) = entry_remark (entry_members lines tables table place) (codes "goto to a table without entries") (codes "to") to
+remark_members lines tables (IngressOutput table place number) = entry_remark (entry_members lines tables table place) (codes "output to the ingress port") (codes "port") number
+remark_members lines tables (UnseenActions table place n) = entry_remark (entry_members lines tables table place) (codes "last actions unseen") (codes "count") n
 remark_members lines tables (UnusedGroup id) = key (codes "group") ++ decimal id ++ remark_member (codes "unused")
 remark_members lines tables (NoBuckets id) = key (codes "group") ++ decimal id ++ remark_member (codes "no buckets")
 
@@ -76,13 +85,18 @@ summary_members findings =
     key (codes "flows") ++ decimal (length findings) ++ number_member (codes "win") (count is_win findings) ++ number_member (codes "never_win") (count is_never findings)
     ++ number_member (codes "undecided") (count is_open findings)
 
+unfoldable pub summary_member : List Finding → List ℕ
+summary_member findings = 44 ∷ key (codes "summary") ++ 123 ∷ summary_members findings ++ 125 ∷ []
+
 unfoldable pub head_members : List Finding → List Remark → List ℕ
-head_members findings remarks =
-    key (codes "command") ++ quoted (codes "check") ++ 44 ∷ key (codes "found") ++ truth (is_found findings remarks)
-    ++ 44 ∷ key (codes "summary") ++ 123 ∷ summary_members findings ++ 125 ∷ []
+head_members findings remarks = key (codes "command") ++ quoted (codes "check") ++ truth_member (codes "found") (is_found findings remarks) ++ summary_member findings
+
+unfoldable pub flows_member : List (List ℕ) → List (List Flow) → List Finding → List ℕ
+flows_member lines tables findings = 44 ∷ key (codes "flows") ++ 91 ∷ listed (finding_object lines tables) findings ++ 93 ∷ []
+
+unfoldable pub remarks_member : List (List ℕ) → List (List Flow) → List Remark → List ℕ
+remarks_member lines tables remarks = 44 ∷ key (codes "remarks") ++ 91 ∷ listed (remark_object lines tables) remarks ++ 93 ∷ []
 
 unfoldable pub report_json : List (List ℕ) → List (List Flow) → List Finding → List Remark → List ℕ
 report_json lines tables findings remarks =
-    123 ∷ head_members findings remarks
-    ++ 44 ∷ key (codes "flows") ++ 91 ∷ listed (finding_object lines tables) findings ++ 93
-    ∷ 44 ∷ key (codes "remarks") ++ 91 ∷ listed (remark_object lines tables) remarks ++ 93 ∷ 125 ∷ 10 ∷ []
+    123 ∷ head_members findings remarks ++ flows_member lines tables findings ++ remarks_member lines tables remarks ++ 125 ∷ 10 ∷ []

@@ -14,8 +14,10 @@ use Rattle.of_report.specs.Entries.{entry}
 
 -- ---- entries that never win, each with those that shadow it
 
-abbrev pub tie_words : Bool → List ℕ
-tie_words tie = if tie then codes " (tie: OpenFlow does not say which of two entries of one priority wins)" else []
+unfoldable pub reason_words : Bool → List ℕ
+reason_words tie =
+    (if tie then codes " never wins (tie: OpenFlow does not say which of two entries of one priority wins): shadowed by" else codes " never wins: shadowed by")
+    ++ 10 ∷ []
 
 unfoldable pub shadow_line : List (List ℕ) → List (List Flow) → ℕ → ℕ → List ℕ
 shadow_line lines tables table place = codes "    " ++ entry lines tables table place ++ 10 ∷ []
@@ -24,7 +26,7 @@ abbrev pub shadow_lines : List (List ℕ) → List (List Flow) → ℕ → List 
 shadow_lines lines tables table places = flat_map (shadow_line lines tables table) places
 
 unfoldable pub never_words : List (List ℕ) → List (List Flow) → ℕ → ℕ → Verdict → List ℕ
-never_words lines tables table place (Never by tie) = entry lines tables table place ++ codes " never wins" ++ tie_words tie ++ codes ": shadowed by" ++ 10 ∷ shadow_lines lines tables table by.items
+never_words lines tables table place (Never by tie) = entry lines tables table place ++ reason_words tie ++ shadow_lines lines tables table by.items
 never_words lines tables table place (Wins frame in_port metadata) = []
 never_words lines tables table place Open = []
 
@@ -60,9 +62,9 @@ group_words id = codes "group " ++ decimal id
 unfoldable pub remark_words : List (List ℕ) → List (List Flow) → Remark → List ℕ
 remark_words lines tables (Unreachable table) = table_words table ++ codes " is unreachable: no goto leads to it from table 0"
 remark_words lines tables (NoTableMiss table) = table_words table ++ codes " has no table-miss entry: packets that match none of its entries are dropped"
-remark_words lines tables (EmptyGoto table place to) = entry lines tables table place ++ codes " goes to table " ++ decimal to ++ codes ", which has no entries: its packets are dropped"
-remark_words lines tables (IngressOutput table place number) = entry lines tables table place ++ codes " sends to port " ++ port number ++ codes ", the ingress port that its match requires: nothing leaves"
-remark_words lines tables (UnseenActions table place n) = entry lines tables table place ++ codes " has actions at the end of its apply that nothing sees: " ++ decimal n
+remark_words lines tables (EmptyGoto table place to) = entry lines tables table place ++ (codes " goes to table " ++ decimal to ++ codes ", which has no entries: its packets are dropped")
+remark_words lines tables (IngressOutput table place number) = entry lines tables table place ++ (codes " sends to port " ++ port number ++ codes ", the ingress port that its match requires: nothing leaves")
+remark_words lines tables (UnseenActions table place n) = entry lines tables table place ++ (codes " has at the end of its apply " ++ decimal n ++ codes " actions that nothing sees")
 remark_words lines tables (UnusedGroup id) = group_words id ++ codes " is unused: no entry and no group names it"
 remark_words lines tables (NoBuckets id) = group_words id ++ codes " has no buckets: packets end there"
 
@@ -93,10 +95,13 @@ is_open (Never by tie) = false
 abbrev pub count : (Verdict → Bool) → List Finding → ℕ
 count is findings = length (filter (λ f. is f.verdict) findings)
 
+unfoldable pub counted : ℕ → List ℕ → List ℕ
+counted n words = decimal n ++ words
+
 unfoldable pub summary : List Finding → List ℕ
 summary findings =
-    decimal (length findings) ++ codes " flows: " ++ decimal (count is_win findings) ++ codes " win, " ++ decimal (count is_never findings) ++ codes " never win, "
-    ++ decimal (count is_open findings) ++ codes " undecided" ++ 10 ∷ []
+    counted (length findings) (codes " flows: ") ++ counted (count is_win findings) (codes " win, ") ++ counted (count is_never findings) (codes " never win, ")
+    ++ counted (count is_open findings) (codes " undecided") ++ 10 ∷ []
 
 -- ---- THE REPORT: on these findings and remarks, where entries have these lines, and tables these flows
 

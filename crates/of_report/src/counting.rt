@@ -1,7 +1,8 @@
 //! How many entries have which verdict, and whether something is found.
-ghost use Rattle.std.specs.Prelude.{◌≡◌};
+ghost use Rattle.std.specs.Prelude.{◌≡◌, not};
+ghost use Rattle.std.specs.List.{list_any};
 ghost use Rattle.of_check.specs.Text.{is_never as is_never_in};
-ghost use Rattle.of_report.specs.Report.{count, is_found as is_found_in, is_open as is_open_in, is_win as is_win_in};
+ghost use Rattle.of_report.specs.Report.{count, is_finding as is_finding_among, is_found as is_found_in, is_open as is_open_in, is_win as is_win_in};
 
 use crate::remarks::is_finding;
 use of_check::{Finding, Verdict};
@@ -64,10 +65,21 @@ pub fn count_open(findings: &[Finding]) -> usize
         .count()
 }
 
+fn some_lose(findings: &[Finding]) -> bool
+    ensures { result ≡ list_any (λ f. not (is_win_in f.verdict)) findings.now }
+{
+    findings.iter().any(|finding| !is_win(&finding.verdict))
+}
+
+fn some_findings(remarks: &[Remark]) -> bool
+    ensures { result ≡ list_any (is_finding_among remarks.now) remarks.now }
+{
+    remarks.iter().any(|remark| is_finding(remarks, remark))
+}
+
 /// Whether something is found: an entry that does not win, or a remark that is a finding.
 pub fn is_found(findings: &[Finding], remarks: &[Remark]) -> bool
     ensures { result ≡ is_found_in findings.now remarks.now }
 {
-    findings.iter().any(|finding| !is_win(&finding.verdict))
-        || remarks.iter().any(|remark| is_finding(remarks, remark))
+    some_lose(findings) || some_findings(remarks)
 }

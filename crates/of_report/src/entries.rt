@@ -92,5 +92,10 @@ pub fn push_entry(
     ensures { OnOk result (out.new.items ≡ out.old.items ++ entry (view_lines lines.now) config.now.tables table place) }
 {
     push_place(out, table, place)?;
-    push_detail(out, line_at(lines, table, place), entries_of(config, table), place)
+    push_detail(
+        out,
+        line_at(lines, table, place),
+        entries_of(config, table),
+        place,
+    )
 }

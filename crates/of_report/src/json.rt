@@ -2,14 +2,17 @@
 ghost use Rattle.std.specs.Prelude.{◌≡◌, ◌++◌, ◌∷◌, IfOk, OnOk};
 ghost use Rattle.std.specs.List.{flat_map};
 ghost use Rattle.of_json.specs.Parts.{listed};
-ghost use Rattle.of_report.specs.Json.{finding_object, head_members, never_members, packet_members, report_json, summary_members, verdict_members};
+ghost use Rattle.of_report.specs.Json.{finding_object, flows_member, head_members, never_members, packet_members, remarks_member, report_json, shadows_member, summary_member, summary_members, truth_member, verdict_members};
 ghost use Rattle.of_report.specs.Files.{view_lines};
 
 use crate::counting::{count_open, count_shadowed, count_wins, is_found};
 use crate::json_entries::{push_entry_members, push_entry_objects};
 use crate::json_remarks::push_remark_objects;
-use of_json::{push_bytes_member, push_hex_member, push_key, push_number_member, push_quoted, push_text_member, push_truth};
 use of_check::{Finding, Verdict};
+use of_json::{
+    push_bytes_member, push_hex_member, push_key, push_number_member, push_quoted,
+    push_text_member, push_truth,
+};
 use of_remarks::Remark;
 use of_text::Config;
 use of_values::push_decimal;
@@ -32,7 +35,34 @@ fn push_packet(
     push_bytes_member(alloc, out, b"frame", frame)
 }
 
+#[tactic(auto, unfolding(crate::specs::Json::truth_member))]
+fn push_truth_member(out: &mut Vec<u8>, name: &[u8], truth: bool) -> Result<(), AllocError>
+    ensures { OnOk result (out.new.items ≡ out.old.items ++ truth_member name.now truth) }
+{
+    out.push(b',')?;
+    push_key(out, name)?;
+    push_truth(out, truth)
+}
+
 // Appends the entries that shadow another one.
+#[tactic(auto, unfolding(crate::specs::Json::shadows_member))]
+fn push_shadows(
+    out: &mut Vec<u8>,
+    config: &Config,
+    lines: &[Vec<usize>],
+    table: u8,
+    by: &[usize],
+) -> Result<(), AllocError>
+    ensures { OnOk result (out.new.items ≡ out.old.items ++ shadows_member (view_lines lines.now) config.now.tables table by.now) }
+{
+    out.push(b',')?;
+    push_key(out, b"shadowed_by")?;
+    out.push(b'[')?;
+    push_entry_objects(out, config, lines, table, by)?;
+    out.push(b']')?;
+    Ok(())
+}
+
 #[tactic(auto, unfolding(crate::specs::Json::never_members))]
 fn push_never(
     out: &mut Vec<u8>,
@@ -45,15 +75,8 @@ fn push_never(
     ensures { OnOk result (out.new.items ≡ out.old.items ++ never_members (view_lines lines.now) config.now.tables table by.now tie) }
 {
     push_text_member(out, b"verdict", b"never wins")?;
-    out.push(b',')?;
-    push_key(out, b"tie")?;
-    push_truth(out, tie)?;
-    out.push(b',')?;
-    push_key(out, b"shadowed_by")?;
-    out.push(b'[')?;
-    push_entry_objects(out, config, lines, table, by)?;
-    out.push(b']')?;
-    Ok(())
+    push_truth_member(out, b"tie", tie)?;
+    push_shadows(out, config, lines, table, by)
 }
 
 #[tactic(auto, unfolding(crate::specs::Json::verdict_members))]
@@ -142,25 +165,61 @@ fn push_summary(out: &mut Vec<u8>, findings: &[Finding]) -> Result<(), AllocErro
     push_number_member(out, b"undecided", count_open(findings) as u128)
 }
 
-// Appends the members of a report that do not name entries.
-#[tactic(auto, unfolding(crate::specs::Json::head_members))]
-fn push_head(
-    out: &mut Vec<u8>,
-    findings: &[Finding],
-    remarks: &[Remark],
-) -> Result<(), AllocError>
-    ensures { OnOk result (out.new.items ≡ out.old.items ++ head_members findings.now remarks.now) }
+#[tactic(auto, unfolding(crate::specs::Json::summary_member))]
+fn push_summary_member(out: &mut Vec<u8>, findings: &[Finding]) -> Result<(), AllocError>
+    ensures { OnOk result (out.new.items ≡ out.old.items ++ summary_member findings.now) }
 {
-    push_key(out, b"command")?;
-    push_quoted(out, b"check")?;
-    out.push(b',')?;
-    push_key(out, b"found")?;
-    push_truth(out, is_found(findings, remarks))?;
     out.push(b',')?;
     push_key(out, b"summary")?;
     out.push(b'{')?;
     push_summary(out, findings)?;
     out.push(b'}')?;
+    Ok(())
+}
+
+// Appends the members of a report that do not name entries.
+#[tactic(auto, unfolding(crate::specs::Json::head_members))]
+fn push_head(out: &mut Vec<u8>, findings: &[Finding], remarks: &[Remark]) -> Result<(), AllocError>
+    ensures { OnOk result (out.new.items ≡ out.old.items ++ head_members findings.now remarks.now) }
+{
+    push_key(out, b"command")?;
+    push_quoted(out, b"check")?;
+    push_truth_member(out, b"found", is_found(findings, remarks))?;
+    push_summary_member(out, findings)
+}
+
+#[tactic(auto, unfolding(crate::specs::Json::flows_member))]
+fn push_flows_member(
+    alloc: Global,
+    out: &mut Vec<u8>,
+    config: &Config,
+    lines: &[Vec<usize>],
+    findings: &[Finding],
+) -> Result<(), AllocError>
+    ensures { OnOk result (out.new.items ≡ out.old.items ++ flows_member (view_lines lines.now) config.now.tables findings.now) }
+{
+    out.push(b',')?;
+    push_key(out, b"flows")?;
+    out.push(b'[')?;
+    push_findings(alloc, out, config, lines, findings)?;
+    out.push(b']')?;
+    Ok(())
+}
+
+#[tactic(auto, unfolding(crate::specs::Json::remarks_member))]
+fn push_remarks_member(
+    out: &mut Vec<u8>,
+    config: &Config,
+    lines: &[Vec<usize>],
+    remarks: &[Remark],
+) -> Result<(), AllocError>
+    ensures { OnOk result (out.new.items ≡ out.old.items ++ remarks_member (view_lines lines.now) config.now.tables remarks.now) }
+{
+    out.push(b',')?;
+    push_key(out, b"remarks")?;
+    out.push(b'[')?;
+    push_remark_objects(out, config, lines, remarks)?;
+    out.push(b']')?;
     Ok(())
 }
 
@@ -178,14 +237,8 @@ pub fn json_of(
     let mut out = Vec::new(alloc);
     out.push(b'{')?;
     push_head(&mut out, findings, remarks)?;
-    out.push(b',')?;
-    push_key(&mut out, b"flows")?;
-    out.push(b'[')?;
-    push_findings(alloc, &mut out, config, lines, findings)?;
-    out.extend_from_slice(b"],")?;
-    push_key(&mut out, b"remarks")?;
-    out.push(b'[')?;
-    push_remark_objects(&mut out, config, lines, remarks)?;
-    out.extend_from_slice(b"]}\n")?;
+    push_flows_member(alloc, &mut out, config, lines, findings)?;
+    push_remarks_member(&mut out, config, lines, remarks)?;
+    out.extend_from_slice(b"}\n")?;
     Ok(out)
 }

@@ -63,7 +63,12 @@ pub fn push_entry_members(
     push_key(out, b"table")?;
     push_decimal(out, u128::from(table))?;
     push_number_member(out, b"entry", place as u128)?;
-    push_flow_at(out, line_at(lines, table, place), entries_of(config, table), place)
+    push_flow_at(
+        out,
+        line_at(lines, table, place),
+        entries_of(config, table),
+        place,
+    )
 }
 
 #[tactic(auto, unfolding(crate::specs::Json::entry_object))]

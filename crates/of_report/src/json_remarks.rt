@@ -1,7 +1,7 @@
 //! Remarks as JSON.
 ghost use Rattle.std.specs.Prelude.{◌≡◌, ◌++◌, ◌∷◌, OnOk, decimal};
 ghost use Rattle.std.specs.List.{flat_map};
-ghost use Rattle.of_json.specs.Parts.{key, listed};
+ghost use Rattle.of_json.specs.Parts.{key, listed, number_member};
 ghost use Rattle.of_report.specs.Json.{remark_member, remark_members, remark_object};
 ghost use Rattle.of_report.specs.Files.{view_lines};
 
@@ -13,12 +13,7 @@ use of_values::push_decimal;
 use std::alloc::AllocError;
 
 // Appends a number with its name, and what is remarked of it.
-fn push_named(
-    out: &mut Vec<u8>,
-    name: &[u8],
-    number: u128,
-    remark: &[u8],
-) -> Result<(), AllocError>
+fn push_named(out: &mut Vec<u8>, name: &[u8], number: u128, remark: &[u8]) -> Result<(), AllocError>
     ensures { OnOk result (out.new.items ≡ out.old.items ++ (key name.now ++ decimal number ++ remark_member remark.now)) }
 {
     push_key(out, name)?;
@@ -26,7 +21,20 @@ fn push_named(
     push_text_member(out, b"remark", remark)
 }
 
-#[tactic(auto, unfolding(crate::specs::Json::remark_members))]
+// Appends what is remarked of an entry, whose members are there already, and a number.
+fn push_further(
+    out: &mut Vec<u8>,
+    remark: &[u8],
+    name: &[u8],
+    number: u128,
+) -> Result<(), AllocError>
+    ensures { OnOk result (out.new.items ≡ out.old.items ++ (remark_member remark.now ++ number_member name.now number)) }
+{
+    push_text_member(out, b"remark", remark)?;
+    push_number_member(out, name, number)
+}
+
+#[tactic(auto, unfolding(crate::specs::Json::remark_members, crate::specs::Json::entry_remark))]
 fn push_remark(
     out: &mut Vec<u8>,
     config: &Config,
@@ -44,13 +52,21 @@ fn push_remark(
         }
         Remark::EmptyGoto { table, place, to } => {
             push_entry_members(out, config, lines, table, place)?;
-            push_text_member(out, b"remark", b"goto to a table without entries")?;
-            push_number_member(out, b"to", u128::from(to))
+            push_further(
+                out,
+                b"goto to a table without entries",
+                b"to",
+                u128::from(to),
+            )
         }
         Remark::IngressOutput { table, place, port } => {
             push_entry_members(out, config, lines, table, place)?;
-            push_text_member(out, b"remark", b"output to the ingress port")?;
-            push_number_member(out, b"port", u128::from(port))
+            push_further(
+                out,
+                b"output to the ingress port",
+                b"port",
+                u128::from(port),
+            )
         }
         Remark::UnseenActions {
             table,
@@ -58,8 +74,7 @@ fn push_remark(
             count,
         } => {
             push_entry_members(out, config, lines, table, place)?;
-            push_text_member(out, b"remark", b"last actions unseen")?;
-            push_number_member(out, b"count", count as u128)
+            push_further(out, b"last actions unseen", b"count", count as u128)
         }
         Remark::UnusedGroup { id } => push_named(out, b"group", u128::from(id), b"unused"),
         Remark::NoBuckets { id } => push_named(out, b"group", u128::from(id), b"no buckets"),

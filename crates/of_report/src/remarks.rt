@@ -1,6 +1,7 @@
 //! Remarks in words.
-ghost use Rattle.std.specs.Prelude.{◌≡◌, ◌++◌, OnOk};
-ghost use Rattle.std.specs.List.{flat_map};
+ghost use Rattle.std.specs.Prelude.{◌≡◌, ◌++◌, OnOk, decimal};
+ghost use Rattle.std.specs.List.{flat_map, list_any};
+ghost use Rattle.of_values.specs.Numbers.{port};
 ghost use Rattle.of_report.specs.Report.{group_words, is_finding as is_finding_among, remark_line, remark_words, says_unreachable as is_saying_unreachable, table_words};
 ghost use Rattle.of_report.specs.Files.{view_lines};
 
@@ -20,14 +21,18 @@ fn says_unreachable(remark: &Remark, table: u8) -> bool
     }
 }
 
+fn some_unreachable(remarks: &[Remark], table: u8) -> bool
+    ensures { result ≡ list_any (is_saying_unreachable table) remarks.now }
+{
+    remarks.iter().any(|other| says_unreachable(other, table))
+}
+
 /// Whether a remark, one of these, is a finding.
 pub fn is_finding(remarks: &[Remark], remark: &Remark) -> bool
     ensures { result ≡ is_finding_among remarks.now remark.now }
 {
     match remark {
-        Remark::NoTableMiss { table } => {
-            *table != 0 && !remarks.iter().any(|other| says_unreachable(other, *table))
-        }
+        Remark::NoTableMiss { table } => *table != 0 && !some_unreachable(remarks, *table),
         _ => true,
     }
 }
@@ -46,6 +51,52 @@ fn push_group(out: &mut Vec<u8>, id: u32) -> Result<(), AllocError>
     push_decimal(out, u128::from(id))
 }
 
+fn push_of_table(out: &mut Vec<u8>, table: u8, words: &[u8]) -> Result<(), AllocError>
+    ensures { OnOk result (out.new.items ≡ out.old.items ++ (table_words table ++ words.now)) }
+{
+    push_table(out, table)?;
+    out.extend_from_slice(words)?;
+    Ok(())
+}
+
+fn push_of_group(out: &mut Vec<u8>, id: u32, words: &[u8]) -> Result<(), AllocError>
+    ensures { OnOk result (out.new.items ≡ out.old.items ++ (group_words id ++ words.now)) }
+{
+    push_group(out, id)?;
+    out.extend_from_slice(words)?;
+    Ok(())
+}
+
+// Appends words, a number, and words.
+fn push_around(
+    out: &mut Vec<u8>,
+    before: &[u8],
+    number: u128,
+    after: &[u8],
+) -> Result<(), AllocError>
+    ensures { OnOk result (out.new.items ≡ out.old.items ++ (before.now ++ decimal number ++ after.now)) }
+{
+    out.extend_from_slice(before)?;
+    push_decimal(out, number)?;
+    out.extend_from_slice(after)?;
+    Ok(())
+}
+
+// Appends words, a port, and words.
+fn push_around_port(
+    out: &mut Vec<u8>,
+    before: &[u8],
+    number: u128,
+    after: &[u8],
+) -> Result<(), AllocError>
+    ensures { OnOk result (out.new.items ≡ out.old.items ++ (before.now ++ port number ++ after.now)) }
+{
+    out.extend_from_slice(before)?;
+    push_port(out, number)?;
+    out.extend_from_slice(after)?;
+    Ok(())
+}
+
 // Appends a remark.
 #[tactic(auto, unfolding(crate::specs::Report::remark_words))]
 fn push_remark(
@@ -58,26 +109,34 @@ fn push_remark(
 {
     match *remark {
         Remark::Unreachable { table } => {
-            push_table(out, table)?;
-            out.extend_from_slice(b" is unreachable: no goto leads to it from table 0")
-        }
-        Remark::NoTableMiss { table } => {
-            push_table(out, table)?;
-            out.extend_from_slice(
-                b" has no table-miss entry: packets that match none of its entries are dropped",
+            push_of_table(
+                out,
+                table,
+                b" is unreachable: no goto leads to it from table 0",
             )
         }
+        Remark::NoTableMiss { table } => push_of_table(
+            out,
+            table,
+            b" has no table-miss entry: packets that match none of its entries are dropped",
+        ),
         Remark::EmptyGoto { table, place, to } => {
             push_entry(out, config, lines, table, place)?;
-            out.extend_from_slice(b" goes to table ")?;
-            push_decimal(out, u128::from(to))?;
-            out.extend_from_slice(b", which has no entries: its packets are dropped")
+            push_around(
+                out,
+                b" goes to table ",
+                u128::from(to),
+                b", which has no entries: its packets are dropped",
+            )
         }
         Remark::IngressOutput { table, place, port } => {
             push_entry(out, config, lines, table, place)?;
-            out.extend_from_slice(b" sends to port ")?;
-            push_port(out, u128::from(port))?;
-            out.extend_from_slice(b", the ingress port that its match requires: nothing leaves")
+            push_around_port(
+                out,
+                b" sends to port ",
+                u128::from(port),
+                b", the ingress port that its match requires: nothing leaves",
+            )
         }
         Remark::UnseenActions {
             table,
@@ -85,16 +144,18 @@ fn push_remark(
             count,
         } => {
             push_entry(out, config, lines, table, place)?;
-            out.extend_from_slice(b" has actions at the end of its apply that nothing sees: ")?;
-            push_decimal(out, count as u128)
+            push_around(
+                out,
+                b" has at the end of its apply ",
+                count as u128,
+                b" actions that nothing sees",
+            )
         }
         Remark::UnusedGroup { id } => {
-            push_group(out, id)?;
-            out.extend_from_slice(b" is unused: no entry and no group names it")
+            push_of_group(out, id, b" is unused: no entry and no group names it")
         }
         Remark::NoBuckets { id } => {
-            push_group(out, id)?;
-            out.extend_from_slice(b" has no buckets: packets end there")
+            push_of_group(out, id, b" has no buckets: packets end there")
         }
     }
 }

@@ -1,6 +1,6 @@
 //! The report in words.
 ghost use Rattle.std.specs.Prelude.{◌≡◌, ◌++◌, IfOk, OnOk};
-ghost use Rattle.of_report.specs.Report.{report_words, summary, wins_if};
+ghost use Rattle.of_report.specs.Report.{counted, report_words, summary, wins_if};
 ghost use Rattle.of_report.specs.Files.{view_lines};
 
 use crate::counting::{count_open, count_shadowed, count_wins};
@@ -12,19 +12,25 @@ use of_text::Config;
 use of_values::push_decimal;
 use std::alloc::{AllocError, Global};
 
+#[tactic(auto, unfolding(crate::specs::Report::counted))]
+fn push_count(out: &mut Vec<u8>, number: usize, words: &[u8]) -> Result<(), AllocError>
+    ensures { OnOk result (out.new.items ≡ out.old.items ++ counted number words.now) }
+{
+    push_decimal(out, number as u128)?;
+    out.extend_from_slice(words)
+}
+
 // Appends how many entries there are of each kind.
 #[tactic(auto, unfolding(crate::specs::Report::summary))]
 fn push_summary(out: &mut Vec<u8>, findings: &[Finding]) -> Result<(), AllocError>
     ensures { OnOk result (out.new.items ≡ out.old.items ++ summary findings.now) }
 {
-    push_decimal(out, findings.len() as u128)?;
-    out.extend_from_slice(b" flows: ")?;
-    push_decimal(out, count_wins(findings) as u128)?;
-    out.extend_from_slice(b" win, ")?;
-    push_decimal(out, count_shadowed(findings) as u128)?;
-    out.extend_from_slice(b" never win, ")?;
-    push_decimal(out, count_open(findings) as u128)?;
-    out.extend_from_slice(b" undecided\n")
+    push_count(out, findings.len(), b" flows: ")?;
+    push_count(out, count_wins(findings), b" win, ")?;
+    push_count(out, count_shadowed(findings), b" never win, ")?;
+    push_count(out, count_open(findings), b" undecided")?;
+    out.push(b'\n')?;
+    Ok(())
 }
 
 fn push_wins_if(

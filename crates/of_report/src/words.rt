@@ -1,6 +1,6 @@
 //! Findings in words.
 ghost use Rattle.std.specs.Prelude.{◌≡◌, ◌++◌, ◌∷◌, OnOk};
-ghost use Rattle.of_report.specs.Report.{never_words, of_findings, open_words, packet_words, shadow_line, shadow_lines, tie_words, win_words};
+ghost use Rattle.of_report.specs.Report.{never_words, of_findings, open_words, packet_words, reason_words, shadow_line, shadow_lines, win_words};
 ghost use Rattle.of_report.specs.Files.{view_lines};
 
 use crate::entries::push_entry;
@@ -10,14 +10,19 @@ use of_text::Config;
 use of_values::{push_hexadecimal, push_port};
 use std::alloc::{AllocError, Global};
 
-fn push_tie(out: &mut Vec<u8>, tie: bool) -> Result<(), AllocError>
-    ensures { OnOk result (out.new.items ≡ out.old.items ++ tie_words tie) }
+// Appends that an entry never wins.
+#[tactic(auto, unfolding(crate::specs::Report::reason_words))]
+fn push_reason(out: &mut Vec<u8>, tie: bool) -> Result<(), AllocError>
+    ensures { OnOk result (out.new.items ≡ out.old.items ++ reason_words tie) }
 {
     if tie {
         out.extend_from_slice(
-            b" (tie: OpenFlow does not say which of two entries of one priority wins)",
+            b" never wins (tie: OpenFlow does not say which of two entries of one priority wins): shadowed by",
         )?;
+    } else {
+        out.extend_from_slice(b" never wins: shadowed by")?;
     }
+    out.push(b'\n')?;
     Ok(())
 }
 
@@ -67,9 +72,7 @@ fn push_never(
     match &finding.verdict {
         Verdict::Never { by, tie } => {
             push_entry(out, config, lines, finding.table, finding.place)?;
-            out.extend_from_slice(b" never wins")?;
-            push_tie(out, *tie)?;
-            out.extend_from_slice(b": shadowed by\n")?;
+            push_reason(out, *tie)?;
             push_shadows(out, config, lines, finding.table, by)
         }
         Verdict::Wins { .. } | Verdict::Open => Ok(()),
