@@ -32,6 +32,9 @@ entry_members lines tables table place =
 unfoldable pub entry_object : List (List ℕ) → List (List Flow) → ℕ → ℕ → List ℕ
 entry_object lines tables table place = 123 ∷ entry_members lines tables table place ++ 125 ∷ []
 
+unfoldable pub entry_array : List (List ℕ) → List (List Flow) → ℕ → List ℕ → List ℕ
+entry_array lines tables table places = 91 ∷ listed (entry_object lines tables table) places ++ 93 ∷ []
+
 -- ---- a finding
 
 unfoldable pub packet_members : List ℕ → ℕ → ℕ → List ℕ
@@ -43,7 +46,7 @@ unfoldable pub truth_member : List ℕ → Bool → List ℕ
 truth_member name b = 44 ∷ key name ++ truth b
 
 unfoldable pub shadows_member : List (List ℕ) → List (List Flow) → ℕ → List ℕ → List ℕ
-shadows_member lines tables table by = 44 ∷ key (codes "shadowed_by") ++ 91 ∷ listed (entry_object lines tables table) by ++ 93 ∷ []
+shadows_member lines tables table by = 44 ∷ key (codes "shadowed_by") ++ entry_array lines tables table by
 
 unfoldable pub never_members : List (List ℕ) → List (List Flow) → ℕ → List ℕ → Bool → List ℕ
 never_members lines tables table by tie =

@@ -6,7 +6,7 @@ ghost use Rattle.of_report.specs.Json.{finding_object, flows_member, head_member
 ghost use Rattle.of_report.specs.Files.{view_lines};
 
 use crate::counting::{count_open, count_shadowed, count_wins, is_found};
-use crate::json_entries::{push_entry_members, push_entry_objects};
+use crate::json_entries::{push_entry_array, push_entry_members};
 use crate::json_remarks::push_remark_objects;
 use of_check::{Finding, Verdict};
 use of_json::{
@@ -57,10 +57,7 @@ fn push_shadows(
 {
     out.push(b',')?;
     push_key(out, b"shadowed_by")?;
-    out.push(b'[')?;
-    push_entry_objects(out, config, lines, table, by)?;
-    out.push(b']')?;
-    Ok(())
+    push_entry_array(out, config, lines, table, by)
 }
 
 #[tactic(auto, unfolding(crate::specs::Json::never_members))]

@@ -3,7 +3,7 @@ ghost use Rattle.std.specs.Prelude.{◌≡◌, ◌++◌, ◌∷◌, Some, slice_
 ghost use Rattle.std.specs.List.{flat_map};
 ghost use Rattle.of_text.specs.Views.{view, view_flows};
 ghost use Rattle.of_json.specs.Parts.{listed};
-ghost use Rattle.of_report.specs.Json.{entry_members, entry_object, flow_members, line_member};
+ghost use Rattle.of_report.specs.Json.{entry_array, entry_members, entry_object, flow_members, line_member};
 ghost use Rattle.of_report.specs.Files.{view_lines};
 
 use crate::entries::{entries_of, line_at};
@@ -104,8 +104,8 @@ fn push_further_objects(
     Ok(())
 }
 
-/// Appends entries of a table, with commas between them.
-pub fn push_entry_objects(
+// Appends entries of a table, with commas between them.
+fn push_entry_objects(
     out: &mut Vec<u8>,
     config: &Config,
     lines: &[Vec<usize>],
@@ -121,4 +121,21 @@ pub fn push_entry_objects(
             push_further_objects(out, config, lines, table, others)
         }
     }
+}
+
+/// Appends an array of entries of a table.
+#[tactic(auto, unfolding(crate::specs::Json::entry_array))]
+pub fn push_entry_array(
+    out: &mut Vec<u8>,
+    config: &Config,
+    lines: &[Vec<usize>],
+    table: u8,
+    places: &[usize],
+) -> Result<(), AllocError>
+    ensures { OnOk result (out.new.items ≡ out.old.items ++ entry_array (view_lines lines.now) config.now.tables table places.now) }
+{
+    out.push(b'[')?;
+    push_entry_objects(out, config, lines, table, places)?;
+    out.push(b']')?;
+    Ok(())
 }
