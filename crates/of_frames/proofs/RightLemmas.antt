@@ -1,6 +1,6 @@
 -- The checksums of a frame with given fields are right: with the words that they cover they sum up to all ones (RFC 1071, 1).
-use Rattle.std.proofs.Common.{◌≡◌, ℕ, zero, suc, ◌+◌, ◌-◌, ◌*◌, ◌/◌, ◌%◌, ◌^◌, ◌<◌, ◌≤◌, Bool, true, false, cond, List, [], ◌∷◌, ◌++◌, length, take, drop, sum, refl, sym, ap, ◌∙◌, arith, append_assoc, append-nil, subst, inl, inr}
-use Rattle.std.specs.Prelude.{◌==◌, ◌||◌, is_some, IsTrue}
+use Rattle.std.proofs.Common.{◌≡◌, ℕ, zero, suc, ◌+◌, ◌-◌, ◌*◌, ◌/◌, ◌%◌, ◌^◌, ◌<◌, ◌≤◌, Bool, true, false, List, [], ◌∷◌, ◌++◌, length, take, drop, sum, refl, sym, ap, ◌∙◌, arith, append_assoc, append-nil, subst, inl, inr}
+use Rattle.std.specs.Prelude.{◌||◌, is_some, IsTrue}
 use Rattle.std.proofs.lemmas.Bool.{cases_eq, eq-eqb, ne_eqb}
 use Rattle.std.proofs.lemmas.List.{take_at, drop_at, length-append}
 use Rattle.std.proofs.lemmas.List.Sums.{sum_by-cons}
@@ -71,6 +71,15 @@ one_more : (w : ℕ) (ws : List ℕ) → w < 65536 → AreWords ws → AreWords 
 one_more w ws h k zero = h
 one_more w ws h k (suc i) = k i
 
+record Small (ws : List ℕ) : Type 0 where
+  are : AreWords ws
+
+none_small : Small []
+none_small = record { are = no_words }
+
+more : {w : ℕ} {ws : List ℕ} → w < 65536 → Small ws → Small (w ∷ ws)
+more {w} {ws} h k = record { are = one_more w ws h k.are }
+
 words-append : (a b : List ℕ) → AreWords a → AreWords b → AreWords (a ++ b)
 words-append [] b h k = k
 words-append (w ∷ a) b h k = one_more w (a ++ b) (h 0) (words-append a b (λ i. h (suc i)) k)
@@ -86,7 +95,7 @@ sum_is [] = refl
 sum_is (w ∷ ws) = sum_by-cons (λ (k : ℕ). k) w ws ∙ ap (λ (s : ℕ). w + s) (sum_is ws)
 
 total-append : (a b : List ℕ) → total (a ++ b) ≡ total a + total b
-total-append [] b = refl
+total-append [] b = omega arith
 total-append (w ∷ a) b = omega (arith, total-append a b)
 
 -- a sum and its complement
@@ -184,33 +193,36 @@ header_encoded k v =
     let lives : bits 16 (0x4000 + protocol_with k v) ≡ bits 8 64 ++ bits 8 (protocol_with k v) = bits_parts 8 8 64 (protocol_with k v) (protocol_small k v) in
     let none : bits 16 0 ≡ bits 3 0 ++ bits 13 0 = bits_parts 3 13 0 0 (omega arith) in
     regrouped (bits 4 4) (bits 4 5) (bits 6 (given v IpDscp)) (bits 2 (given v IpEcn)) (bits 16 (20 + size_with k)) (bits 16 0) (bits 3 0) (bits 13 0) (bits 8 64) (bits 8 (protocol_with k v)) (bits 16 (checksum_of (header_sum k v)))
-        (bits 32 (given v Ipv4Src) ++ (bits 32 (given v Ipv4Dst) ++ []))
+    (bits 32 (given v Ipv4Src) ++ (bits 32 (given v Ipv4Dst) ++ []))
     ∙ (λ j. sym first j ++ (bits 16 (20 + size_with k) ++ (bits 16 0 ++ (sym none j ++ (sym lives j ++ (bits 16 (checksum_of (header_sum k v)) ++ pair_encoded 2 (given v Ipv4Src) (given v Ipv4Dst) j))))))
 
 below : (f : ℕ) → 65535 - f < 65536
 below f = omega arith
 
-front_small : (k : Transport) (v : Field → ℕ) → AreWords (front_words k v)
+first_small : (x : ℕ) → x < 256 → 0x4500 + x < 65536
+first_small x h = omega arith
+
+second_small : (x : ℕ) → x ≤ 20 → 20 + x < 65536
+second_small x h = omega arith
+
+fifth_small : (x : ℕ) → x < 256 → 0x4000 + x < 65536
+fifth_small x h = omega arith
+
+nothing_small : 0 < 65536
+nothing_small = omega arith
+
+front_small : (k : Transport) (v : Field → ℕ) → Small (front_words k v)
 unfolding row_of
 front_small k v =
-    let s : service_given v < 256 = service_small (given v IpDscp) (given v IpEcn) (given_small v IpDscp) (given_small v IpEcn) in
-    let z : size_with k ≤ 20 = size_small k in
-    let p : protocol_with k v < 256 = protocol_small k v in
-    one_more _ _ (first s) (one_more _ _ (second z) (one_more _ _ (omega arith) (one_more _ _ (omega arith) (one_more _ _ (fifth p) (one_more _ _ (below (fold (header_sum k v))) no_words)))))
-  where
-    first : service_given v < 256 → 0x4500 + service_given v < 65536
-    first h = omega arith
-    second : size_with k ≤ 20 → 20 + size_with k < 65536
-    second h = omega arith
-    fifth : protocol_with k v < 256 → 0x4000 + protocol_with k v < 65536
-    fifth h = omega arith
+    more (first_small (service_given v) (service_small (given v IpDscp) (given v IpEcn) (given_small v IpDscp) (given_small v IpEcn)))
+    (more (second_small (size_with k) (size_small k)) (more nothing_small (more nothing_small (more (fifth_small (protocol_with k v) (protocol_small k v)) (more (below (fold (header_sum k v))) none_small)))))
 
 header_total : (a b e c x y : ℕ) → a + (b + (0 + (0 + (e + (c + (x + y)))))) ≡ (a + b + e + x + y) + c
 header_total a b e c x y = omega arith
 
 pub header_right : (k : Transport) (v : Field → ℕ) → header_is_right (over_ipv4 k v) ≡ true
 header_right k v =
-    let small : AreWords (header_words k v) = words-append (front_words k v) (words_in 2 (given v Ipv4Src) ++ words_in 2 (given v Ipv4Dst)) (front_small k v) (pair_small 2 (given v Ipv4Src) (given v Ipv4Dst)) in
+    let small : AreWords (header_words k v) = words-append (front_words k v) (words_in 2 (given v Ipv4Src) ++ words_in 2 (given v Ipv4Dst)) (front_small k v).are (pair_small 2 (given v Ipv4Src) (given v Ipv4Dst)) in
     let are : words (cells_in ipv4 (ipv4_given k v) ++ byte_cells []) ≡ header_words k v = words_are (cells_in ipv4 (ipv4_given k v) ++ byte_cells []) (header_words k v) small (header_encoded k v) in
     let all : total (header_words k v) ≡ header_sum k v + checksum_of (header_sum k v) =
     ap (λ (t : ℕ). (0x4500 + service_given v) + ((20 + size_with k) + (0 + (0 + ((0x4000 + protocol_with k v) + (checksum_of (header_sum k v) + t)))))) (pair_total 2 (given v Ipv4Src) (given v Ipv4Dst))
@@ -259,13 +271,20 @@ own_total Icmpv6 v c h = icmp_total (given v Icmpv6Type * 256 + given v Icmpv6Co
 word_of_two : (t d : ℕ) → t < 256 → d < 256 → t * 256 + d < 65536
 word_of_two t d h i = omega arith
 
-own_small : (k : Transport) (v : Field → ℕ) (c : ℕ) → c < 65536 → AreWords (own_words k v c)
+offset_small : 0x5000 < 65536
+offset_small = omega arith
+
+length_small : 8 < 65536
+length_small = omega arith
+
+own_small : (k : Transport) (v : Field → ℕ) (c : ℕ) → c < 65536 → Small (own_words k v c)
 unfolding row_of
-own_small Nothing v c h = no_words
-own_small Tcp v c h = one_more _ _ (given_small v TcpSrc) (one_more _ _ (given_small v TcpDst) (one_more _ _ (omega arith) (one_more _ _ (omega arith) (one_more _ _ (omega arith) (one_more _ _ (omega arith) (one_more _ _ (omega arith) (one_more _ _ (omega arith) (one_more _ _ h (one_more _ _ (omega arith) no_words)))))))))
-own_small Udp v c h = one_more _ _ (given_small v UdpSrc) (one_more _ _ (given_small v UdpDst) (one_more _ _ (omega arith) (one_more _ _ h no_words)))
-own_small Icmpv4 v c h = one_more _ _ (word_of_two (given v Icmpv4Type) (given v Icmpv4Code) (given_small v Icmpv4Type) (given_small v Icmpv4Code)) (one_more _ _ h no_words)
-own_small Icmpv6 v c h = one_more _ _ (word_of_two (given v Icmpv6Type) (given v Icmpv6Code) (given_small v Icmpv6Type) (given_small v Icmpv6Code)) (one_more _ _ h no_words)
+own_small Nothing v c h = none_small
+own_small Tcp v c h =
+    more (given_small v TcpSrc) (more (given_small v TcpDst) (more nothing_small (more nothing_small (more nothing_small (more nothing_small (more offset_small (more nothing_small (more h (more nothing_small none_small)))))))))
+own_small Udp v c h = more (given_small v UdpSrc) (more (given_small v UdpDst) (more length_small (more h none_small)))
+own_small Icmpv4 v c h = more (word_of_two (given v Icmpv4Type) (given v Icmpv4Code) (given_small v Icmpv4Type) (given_small v Icmpv4Code)) (more h none_small)
+own_small Icmpv6 v c h = more (word_of_two (given v Icmpv6Type) (given v Icmpv6Code) (given_small v Icmpv6Type) (given_small v Icmpv6Code)) (more h none_small)
 
 zeros : bits 32 0 ≡ bits 16 0 ++ bits 16 0
 zeros = bits_parts 16 16 0 0 (omega arith)
@@ -287,7 +306,7 @@ own_encoded Icmpv4 v c = icmp_encoded (given v Icmpv4Type) (given v Icmpv4Code) 
 own_encoded Icmpv6 v c = icmp_encoded (given v Icmpv6Type) (given v Icmpv6Code) c (given_small v Icmpv6Code)
 
 own_are : (k : Transport) (v : Field → ℕ) (c : ℕ) → c < 65536 → words (cells_in (items_of k) (numbers_given k v c)) ≡ own_words k v c
-own_are k v c h = words_are (cells_in (items_of k) (numbers_given k v c)) (own_words k v c) (own_small k v c h) (own_encoded k v c)
+own_are k v c h = words_are (cells_in (items_of k) (numbers_given k v c)) (own_words k v c) (own_small k v c h).are (own_encoded k v c)
 
 -- with what is around, and the checksum of both
 summed3 : (x a b c : ℕ) → x + a + b + c ≡ x + (a + b + c)
@@ -304,11 +323,14 @@ counted around Udp = around
 counted around Icmpv4 = 0
 counted around Icmpv6 = around
 
+zero_first : (x y : ℕ) → 0 + x + y ≡ x + y
+zero_first x y = omega arith
+
 own_ones : (around : ℕ) (k : Transport) (v : Field → ℕ) → Carries k → fold (counted around k + own_sum k v + carried_checksum around k v) ≡ 65535
 own_ones around Nothing v h = absurd h
 own_ones around Tcp v h = ap (λ (s : ℕ). fold (around + own_sum Tcp v + checksum_of s)) (summed3 around (given v TcpSrc) (given v TcpDst) 0x5000) ∙ all_ones (around + own_sum Tcp v)
 own_ones around Udp v h = ap (λ (s : ℕ). fold (around + own_sum Udp v + never_zero (checksum_of s))) (summed3 around (given v UdpSrc) (given v UdpDst) 8) ∙ never_wrong (around + own_sum Udp v)
-own_ones around Icmpv4 v h = all_ones (own_sum Icmpv4 v)
+own_ones around Icmpv4 v h = ap fold (zero_first (own_sum Icmpv4 v) (checksum_of (own_sum Icmpv4 v))) ∙ all_ones (own_sum Icmpv4 v)
 own_ones around Icmpv6 v h = ap (λ (s : ℕ). fold (around + own_sum Icmpv6 v + checksum_of s)) (summed2 around (given v Icmpv6Type * 256) (given v Icmpv6Code)) ∙ all_ones (around + own_sum Icmpv6 v)
 
 or_true : (b c : Bool) → c ≡ true → (b || c) ≡ true
@@ -346,7 +368,7 @@ unfolding words_of
 icmp4 v left c e =
     let small : c < 65536 = subst (λ (n : ℕ). n < 65536) (sym e) (checksum_small (ipv4_sum Icmpv4 v) Icmpv4 v) in
     or_true left (sums_to_ones (words (cells_in (items_of Icmpv4) (numbers_given Icmpv4 v c))))
-    (ap sums_to_ones (own_are Icmpv4 v c small) ∙ ones_by (own_words Icmpv4 v c) (own_sum Icmpv4 v + c) (own_total Icmpv4 v c tt) (ap (λ (n : ℕ). fold (own_sum Icmpv4 v + n)) e ∙ own_ones (ipv4_sum Icmpv4 v) Icmpv4 v tt))
+    (ap sums_to_ones (own_are Icmpv4 v c small) ∙ ones_by (own_words Icmpv4 v c) (own_sum Icmpv4 v + c) (own_total Icmpv4 v c tt) (ap (λ (n : ℕ). fold (own_sum Icmpv4 v + n)) e ∙ all_ones (own_sum Icmpv4 v)))
 
 -- ---- frames
 
