@@ -343,7 +343,6 @@ fn output_of(kind: FileKind, matches: &ArgMatches<'_>) -> CheckOutput {
     }
 }
 
-
 // A number of 32 bits as event files and flow texts write it: without a sign, and without zeros before it.
 fn number_in(word: &str) -> Option<u32> {
     if word.starts_with('+') || word.len() > 1 && word.starts_with('0') {
@@ -477,11 +476,7 @@ fn text_of(alloc: Global, word: Option<&str>) -> Result<Option<String>, AllocErr
     }
 }
 
-fn serve_of<N: Net>(
-    alloc: Global,
-    net: &N,
-    matches: &ArgMatches<'_>,
-) -> Result<Serve, NoRequest> {
+fn serve_of<N: Net>(alloc: Global, net: &N, matches: &ArgMatches<'_>) -> Result<Serve, NoRequest> {
     Ok(Serve {
         meeting: meeting_of(alloc, net, matches)?,
         events: text_of(alloc, matches.get_str("FILE"))?,
@@ -491,11 +486,7 @@ fn serve_of<N: Net>(
     })
 }
 
-fn live_of<N: Net>(
-    alloc: Global,
-    net: &N,
-    matches: &ArgMatches<'_>,
-) -> Result<Live, NoRequest> {
+fn live_of<N: Net>(alloc: Global, net: &N, matches: &ArgMatches<'_>) -> Result<Live, NoRequest> {
     Ok(Live {
         tunnel: tunnel_of(alloc, matches.get_str("vxlan").unwrap_or(DEFAULT_TUNNEL))?,
         meeting: meeting_of(alloc, net, matches)?,

@@ -1,6 +1,6 @@
 -- The fields that settings say, and the frame with these.
-use Rattle.std.proofs.Common.{◌≡◌, ℕ, ◌+◌, ◌<◌, Bool, true, false, cond, List, [], ◌∷◌, length, drop, get_or, Option, Some, None, Result, Ok, Err, refl, sym, ap, ◌∙◌, arith}
-use Rattle.std.specs.Prelude.{◌==◌, bit_and}
+use Rattle.std.proofs.Common.{◌≡◌, ℕ, ◌+◌, ◌<◌, ◌≤◌, cond, List, [], length, drop, get_or, Option, Some, None, Result, Ok, Err, sym, ap, ◌∙◌, drop_of_length-le}
+use Rattle.std.specs.Prelude.{◌==◌, bit_and, IfErr}
 use Rattle.std.proofs.Math.Path.{fun_ext}
 use Rattle.std.proofs.lemmas.List.{drop_more}
 use Rattle.of_layers.specs.declared.field.Field.{Field}
@@ -15,9 +15,13 @@ use Rattle.of_frames.specs.Packets.{frame_given}
 use Rattle.of_frames.proofs.KeyLemmas.{numbers_are}
 use Rattle.of_oxm.specs.declared.match_field.MatchField.{MatchField}
 use Rattle.of_ovs_words.specs.FieldWords.{text_of, word_for}
+use Rattle.of_ovs_words.specs.Outcomes.{◌>>=◌}
+use Rattle.of_ovs_words.specs.Words.{words_from}
 use Rattle.of_frame_words.specs.declared.why.NoFrame.{NoFrame}
-use Rattle.of_frame_words.specs.Frames.{ReceivedFrame, at_port, with_setting, set_by, shape_by, tagging_by, received_by, map_of, missed, why_missed, unless_missed, checked}
+use Rattle.of_frame_words.specs.declared.why.NoFrame.TheVariants.{NoMemory, Refused}
+use Rattle.of_frame_words.specs.Frames.{ReceivedFrame, at_port, with_setting, set_by, shape_by, tagging_by, received, received_by, frame_in, map_of, missed, why_missed, unless_missed, checked}
 use Rattle.of_frame_words.specs.Refusals.{IsRefusal, Stops}
+use Rattle.of_frame_words.specs.Said.{WordRefusal, with_words}
 use Rattle.of_frame_words.proofs.WordLemmas.{refusal_stops}
 
 -- the port alone
@@ -26,13 +30,15 @@ unfolding row_of
 key_at_is port none map e h = fun_ext (λ f. elim f as (λ f. map f ≡ at_port port f) [ InPort ↦ h InPort | f ↦ h f ∙ e f ])
 
 -- one more setting
-pub setting_more : (settings : List MatchField) (i : ℕ) (e : MatchField) (map next all : Field → Option ℕ) → i < length settings → get_or settings i e ≡ e →
-    ((f : Field) → next f ≡ cond (number_of f == number_of e.field) (Some (bit_and e.value (ones_of e.field))) (map f)) →
+pub setting_more : (settings : List MatchField) (i ones : ℕ) (d : MatchField) (map next all : Field → Option ℕ) → i < length settings → ones ≡ ones_of (get_or settings i d).field →
+    ((f : Field) → next f ≡ cond (number_of f == number_of (get_or settings i d).field) (Some (bit_and (get_or settings i d).value ones)) (map f)) →
     set_by (drop i settings) map ≡ all → set_by (drop (i + 1) settings) next ≡ all
-setting_more settings i e map next all lt at h k =
-    let is : next ≡ with_setting e map = fun_ext h in
-    let cut : drop i settings ≡ e ∷ drop (i + 1) settings = drop_more settings i e lt ∙ ap (λ (x : MatchField). x ∷ drop (i + 1) settings) at in
-    ap (set_by (drop (i + 1) settings)) is ∙ sym (ap (λ (xs : List MatchField). set_by xs map) cut) ∙ k
+setting_more settings i ones d map next all lt e h k =
+    let is : next ≡ with_setting (get_or settings i d) map = fun_ext (λ f. h f ∙ ap (λ (x : ℕ). cond (number_of f == number_of (get_or settings i d).field) (Some (bit_and (get_or settings i d).value x)) (map f)) e) in
+    ap (set_by (drop (i + 1) settings)) is ∙ sym (ap (λ (xs : List MatchField). set_by xs map) (drop_more settings i d lt)) ∙ k
+
+pub settings_end : (settings : List MatchField) (i : ℕ) (map all : Field → Option ℕ) → length settings ≤ i → set_by (drop i settings) map ≡ all → map ≡ all
+settings_end settings i map all le k = sym (ap (λ (xs : List MatchField). set_by xs map) (drop_of_length-le settings le)) ∙ k
 
 -- the frame with the fields of a key
 pub received_is : (key : FieldKey) (said : Field → Option ℕ) (shape : Shape) (tagging : Tagging) (frame : List ℕ) → value key ≡ said → shape ≡ shape_by key.numbers.eth_type key.numbers.ip_proto → tagging ≡ tagging_by key.numbers.vlan_vid →
@@ -50,3 +56,20 @@ checked_ok settings r map k m = ap (unless_missed settings r) (sym (m ∙ ap (mi
 
 pub checked_stop : (settings : List MatchField) (r : ReceivedFrame) (map : Field → Option ℕ) (e : MatchField) (stop : NoFrame) → map ≡ map_of r → Some e ≡ missed settings map → IsRefusal (text_of (word_for e.field)) (why_missed settings e) stop → Stops (checked settings r) stop
 checked_stop settings r map e stop k m h = refusal_stops (checked settings r) (text_of (word_for e.field)) (why_missed settings e) stop (ap (unless_missed settings r) (sym (m ∙ ap (missed settings) k))) h
+
+-- ---- the whole
+
+pub frame_stops : (port : ℕ) (text : List ℕ) (s : List MatchField) (stop : NoFrame) → s ≡ [] → Stops (with_words s (words_from 0 text)) stop → Stops (frame_in port text) stop
+unfolding frame_in
+frame_stops port text s NoMemory e h = tt
+frame_stops port text s (Refused r) e h =
+    ap (λ (x : Result (List MatchField) WordRefusal). x >>= λ settings. checked settings (received port settings)) (ap (λ (xs : List MatchField). with_words xs (words_from 0 text)) (sym e) ∙ h)
+
+pub frame_is : (port : ℕ) (text : List ℕ) (s settings : List MatchField) (r : ReceivedFrame) → s ≡ [] → with_words s (words_from 0 text) ≡ Ok settings → r ≡ received port settings → frame_in port text ≡ checked settings r
+unfolding frame_in
+frame_is port text s settings r e w h =
+    ap (λ (x : Result (List MatchField) WordRefusal). x >>= λ settings. checked settings (received port settings)) (ap (λ (xs : List MatchField). with_words xs (words_from 0 text)) (sym e) ∙ w) ∙ ap (checked settings) (sym h)
+
+pub err_weaker : {T E : Type 0} (r : Result T E) (P Q : E → Type 0) → ((e : E) → P e → Q e) → IfErr r P → IfErr r Q
+err_weaker (Ok x) P Q f h = h
+err_weaker (Err e) P Q f h = f e h

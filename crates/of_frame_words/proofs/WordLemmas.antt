@@ -1,5 +1,5 @@
 -- Words for a frame, one after the other.
-use Rattle.std.proofs.Common.{◌≡◌, ℕ, ◌<◌, eqb, sym, Bool, true, false, cond, List, [], ◌∷◌, length, Result, Ok, Err, refl, ap, ◌∙◌}
+use Rattle.std.proofs.Common.{◌≡◌, ℕ, ◌<◌, eqb, sym, Bool, true, false, cond, List, [], length, Result, Ok, Err, refl, ap, ◌∙◌, subst}
 use Rattle.of_oxm.specs.declared.match_field.MatchField.{MatchField}
 use Rattle.of_ovs_words.specs.declared.why.Why.{Why as WordWhy}
 use Rattle.of_ovs_words.specs.Outcomes.{◌>>=◌}
@@ -15,12 +15,15 @@ use Rattle.of_frame_words.specs.Said.{WordRefusal, refuse, said, of_word, has_ma
 
 -- ---- refusals
 
-same_refusal : {A : Type 0} (word : List ℕ) (why : Why) (r : Refusal) → r.word.items ≡ word → r.why ≡ why → refuse {A} word why ≡ Err (view_refusal r)
+same_refusal : {A : Type 0} (word : List ℕ) (why : Why) (r : Refusal) → r.word.items ≡ word → r.why ≡ why → ◌≡◌ {A = Result A WordRefusal} (refuse word why) (Err (view_refusal r))
 same_refusal word why r e f = λ j. Err (record { word = sym e j; why = sym f j })
 
 pub refusal_stops : {A : Type 0} (outcome : Result A WordRefusal) (word : List ℕ) (why : Why) (stop : NoFrame) → outcome ≡ refuse word why → IsRefusal word why stop → Stops outcome stop
 refusal_stops outcome word why NoMemory e h = tt
 refusal_stops outcome word why (Refused r) e h = e ∙ same_refusal word why r h.0 h.1
+
+pub refusal_as : (w x : List ℕ) (why other : Why) (stop : NoFrame) → w ≡ x → why ≡ other → IsRefusal w why stop → IsRefusal x other stop
+refusal_as w x why other stop e f h = subst (λ (a : List ℕ). IsRefusal a other stop) e (subst (λ (b : Why). IsRefusal w b stop) f h)
 
 pub stops_same : {A : Type 0} (a b : Result A WordRefusal) (stop : NoFrame) → a ≡ b → Stops b stop → Stops a stop
 stops_same a b NoMemory e h = tt

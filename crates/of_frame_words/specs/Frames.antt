@@ -1,5 +1,5 @@
 -- FRAMES IN WORDS: the frame that has the fields which words say. Fields of its headers of which no word says anything are 0; TTL and hop limit are 64.
-use Rattle.std.specs.Prelude.{◌≡◌, ◌⊎◌, ℕ, ◌==◌, nat_le, not, Bool, true, false, List, [], ◌∷◌, find, bit_and, Option, Some, None, Result, Ok, Err, if◌then◌else◌}
+use Rattle.std.specs.Prelude.{◌≡◌, ◌⊎◌, ℕ, ◌==◌, nat_le, not, Bool, true, false, List, [], ◌∷◌, find, bit_and, Option, Some, None, Result, Ok, if◌then◌else◌}
 use Rattle.std.specs.List.{list_any}
 use Rattle.of_layers.specs.declared.field.Field.{Field}
 use Rattle.of_layers.specs.declared.field.Field.TheVariants.{InPort, EthType, VlanVid, IpProto}

@@ -52,6 +52,9 @@ abbrev pub with_words : List MatchField → List (List ℕ) → Result (List Mat
 with_words settings [] = Ok settings
 with_words settings (w ∷ ws) = if length w == 0 then with_words settings ws else with_word settings w >>= λ next. with_words next ws
 
--- a text has words for a frame, and not its bytes
+abbrev pub has_value : List ℕ → Bool
+has_value text = list_any (λ b. b == 61) text
+
+-- a text has words for a frame, and not its bytes: a word has a value, or the first one is for a protocol
 abbrev pub are_frame_words : List ℕ → Bool
-are_frame_words text = list_any (λ b. b == 61) text || is_some (protocol_named (word_in 0 text))
+are_frame_words text = has_value text || is_some (protocol_named (word_in 0 text))

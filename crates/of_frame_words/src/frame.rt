@@ -21,11 +21,7 @@ pub struct Received {
 }
 
 // The frame that settings say, received at this port unless they say another one.
-fn received(
-    alloc: Global,
-    port: u32,
-    settings: &[MatchField],
-) -> Result<Received, AllocError>
+fn frame_said(alloc: Global, port: u32, settings: &[MatchField]) -> Result<Received, AllocError>
     ensures received { IfOk result (λ r. view_received r ≡ received_so port settings.now) }
     ensures long { IfOk result (λ r. 14 ≤ length r.frame.items) }
 {
@@ -66,6 +62,6 @@ pub fn read_frame(alloc: Global, port: u32, text: &[u8]) -> Result<Received, NoF
 {
     let mut settings = Vec::new(alloc);
     add_words(alloc, &mut settings, text)?;
-    let received = received(alloc, port, &settings)?;
+    let received = frame_said(alloc, port, &settings)?;
     checked(alloc, &settings, received)
 }

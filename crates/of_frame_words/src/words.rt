@@ -3,7 +3,7 @@ ghost use Rattle.std.specs.Prelude.{◌≡◌, IfOk, IfErr, Ok};
 ghost use Rattle.of_ovs_words.specs.Stops.{Stops as WordStops};
 ghost use Rattle.of_ovs_words.specs.Words.{words_from};
 ghost use Rattle.of_frame_words.specs.Refusals.{Stops};
-ghost use Rattle.of_frame_words.specs.Said.{are_frame_words, by_name, has_mask as is_masked, said, with_word, with_words};
+ghost use Rattle.of_frame_words.specs.Said.{are_frame_words, by_name, has_mask as is_masked, has_value as has_a_value, said, with_word, with_words};
 
 use crate::why::{NoFrame, Why, refuse};
 use of_ovs_words::{
@@ -12,12 +12,19 @@ use of_ovs_words::{
 use of_oxm::MatchField;
 use std::alloc::Global;
 
+// Whether some word has a value.
+fn has_value(text: &[u8]) -> bool
+    ensures { result ≡ has_a_value text.now }
+{
+    text.iter().any(|byte| *byte == b'=')
+}
+
 /// Whether a text is a frame in words, which hexadecimal digits never are: it has a value, or its first word is one for a protocol.
 pub fn is_frame_words(text: &[u8]) -> bool
     ensures { result ≡ are_frame_words text.now }
 {
     let (first, _) = cut_word(text);
-    text.iter().any(|byte| *byte == b'=') || ProtocolWord::named(first).is_some()
+    has_value(text) || ProtocolWord::named(first).is_some()
 }
 
 // Whether a mask comes after a value.
@@ -74,11 +81,7 @@ fn add_word(alloc: Global, settings: &mut Vec<MatchField>, word: &[u8]) -> Resul
 }
 
 /// Appends what words say, until one is refused.
-pub fn add_words(
-    alloc: Global,
-    settings: &mut Vec<MatchField>,
-    text: &[u8],
-) -> Result<(), NoFrame>
+pub fn add_words(alloc: Global, settings: &mut Vec<MatchField>, text: &[u8]) -> Result<(), NoFrame>
     ensures added { IfOk result (λ _. with_words settings.old.items (words_from 0 text.now) ≡ Ok settings.new.items) }
     ensures stopped { IfErr result (Stops (with_words settings.old.items (words_from 0 text.now))) }
 {

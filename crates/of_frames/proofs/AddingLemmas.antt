@@ -1,5 +1,5 @@
 -- Bytes that grow by bits.
-use Rattle.std.proofs.Common.{◌≡◌, ℕ, ◌+◌, ◌*◌, ◌/◌, ◌%◌, ◌^◌, ◌<◌, List, [], ◌∷◌, ◌++◌, refl, sym, ap, ◌∙◌, arith, append_assoc}
+use Rattle.std.proofs.Common.{◌≡◌, ℕ, ◌+◌, ◌*◌, ◌/◌, ◌%◌, ◌^◌, ◌<◌, List, [], ◌∷◌, ◌++◌, refl, sym, ap, ◌∙◌, arith, append_assoc, subst}
 use Rattle.std.proofs.lemmas.List.{append-nil}
 use Rattle.of_layers.specs.declared.field.Field.TheVariants.{IpProto}
 use Rattle.of_layers.specs.Bits.{bits, bits_of}
@@ -25,6 +25,9 @@ last {o} {a} {x} p = same (x ++ []) (sym (append-nil x)) p
 
 pub no_bits : (o : List ℕ) → Adds o o []
 no_bits o = record { is = sym (append-nil (bits_of o)) }
+
+pub from_nothing : (o a x : List ℕ) → o ≡ [] → Adds o a x → Adds [] a x
+from_nothing o a x e p = subst (λ (s : List ℕ). Adds s a x) e p
 
 -- bits that are parts
 pub two : {o a b y : List ℕ} (x z : List ℕ) → Adds o a (x ++ z) → Adds a b y → Adds o b (x ++ (z ++ y))

@@ -1,5 +1,5 @@
 -- The layers with given fields have these fields, and no others.
-use Rattle.std.proofs.Common.{◌≡◌, ℕ, ◌+◌, ◌*◌, Option, refl, arith}
+use Rattle.std.proofs.Common.{◌≡◌, ℕ, ◌*◌, refl}
 use Rattle.std.proofs.Math.Path.{fun_ext}
 use Rattle.of_layers.specs.declared.field.Field.{Field}
 use Rattle.of_layers.specs.declared.field.Field.TheVariants.{InPort}

@@ -1,22 +1,21 @@
 -- The layers with given fields are layers that a frame can have.
-use Rattle.std.proofs.Common.{◌≡◌, ℕ, zero, suc, ◌+◌, ◌-◌, ◌*◌, ◌%◌, ◌^◌, ◌<◌, ◌≤◌, min, Bool, true, false, cond, ◌&&◌, List, [], ◌∷◌, length, refl, sym, ap, ◌∙◌, arith}
+use Rattle.std.proofs.Common.{◌≡◌, ℕ, zero, suc, ◌+◌, ◌-◌, ◌^◌, ◌<◌, ◌≤◌, min, Bool, true, false, cond, ◌&&◌, [], ◌∷◌, length, refl, arith}
 use Rattle.std.specs.Prelude.{◌||◌, ◌==◌, nat_le}
 use Rattle.std.proofs.lemmas.Nat.{pow_pos, mod_below}
 use Rattle.of_layers.specs.declared.field.Field.{Field}
 use Rattle.of_layers.specs.declared.field.Field.TheVariants.{EthDst, EthSrc, EthType, VlanPcp, IpDscp, IpEcn, IpProto, Ipv4Src, Ipv4Dst, TcpSrc, TcpDst, UdpSrc, UdpDst, Icmpv4Type, Icmpv4Code, ArpOp, ArpSpa, ArpTpa, ArpSha, ArpTha, Ipv6Src, Ipv6Dst, Ipv6Flabel, Icmpv6Type, Icmpv6Code}
 use Rattle.of_layers.specs.declared.transport.Transport.{Transport}
 use Rattle.of_layers.specs.declared.transport.Transport.TheVariants.{Nothing, Tcp, Udp, Icmpv4, Icmpv6}
-use Rattle.of_layers.specs.Fields.{row_of, number_of, bits_of}
-use Rattle.of_layers.specs.Layers.{Carried, Body, Plain, Layers, items_of, addresses, inner_tag, arp, body_cells, encoded}
-use Rattle.of_layers.specs.Reading.{is_tag_type, over_ipv4, over_ipv6, whole_in, kind_behind, has_extension, is_arp, is_ipv4, is_ipv6, is_fragment, has_options, extension_size}
-use Rattle.of_layers.specs.WellFormed.{AreBytes, Fits, AreTags, IsCarried, bytes_in, IsArp, IsIpv4, IsIpv6, AreExtensions, IsBody, IsLayers, has_packet}
-use Rattle.of_rewrite.specs.Checksum.{never_zero}
+use Rattle.of_layers.specs.Fields.{row_of, bits_of}
+use Rattle.of_layers.specs.Layers.{items_of, addresses, body_cells, encoded}
+use Rattle.of_layers.specs.Reading.{is_tag_type, over_ipv4, over_ipv6, whole_in, has_extension, is_fragment, has_options, extension_size}
+use Rattle.of_layers.specs.WellFormed.{AreBytes, Fits, AreTags, bytes_in, IsArp, IsIpv4, IsIpv6, IsBody, IsLayers, has_packet}
 use Rattle.of_shapes.specs.declared.shape.Shape.{Shape}
 use Rattle.of_shapes.specs.declared.shape.Shape.TheVariants as shapes
 use Rattle.of_shapes.specs.declared.shape.Tagging.{Tagging}
 use Rattle.of_shapes.specs.declared.shape.Tagging.TheVariants.{Untagged, Tagged}
-use Rattle.of_frames.specs.Given.{given, type_given, vid_given}
-use Rattle.of_frames.specs.Checksums.{checksum_of, protocol_with, size_with, header_sum, ipv4_sum, ipv6_sum, carried_checksum}
+use Rattle.of_frames.specs.Given.{given, type_given}
+use Rattle.of_frames.specs.Checksums.{protocol_with, size_with, ipv4_sum, ipv6_sum, carried_checksum}
 use Rattle.of_frames.specs.Packets.{ends_given, tags_given, arp_given, ipv4_given, ipv6_given, numbers_given, bytes_behind, carried_given, body_given, layers_given}
 
 -- ---- numbers within their bits
@@ -212,14 +211,14 @@ no_packet type = no_packet_by (type == 0x0806) (type == 0x0800) (type == 0x86dd)
 body_fits : (s : Shape) (v : Field → ℕ) → IsBody (type_given s v) (body_given s v)
 body_fits shapes.Bare v = (no_bytes, no_packet (type_given shapes.Bare v))
 body_fits shapes.Arp v = (refl, arp_fits v)
-body_fits shapes.Ipv4 v = (refl, ipv4_fits Nothing v _ tt (checksum_small _ Nothing v))
-body_fits shapes.Ipv4Tcp v = (refl, ipv4_fits Tcp v _ tt (checksum_small _ Tcp v))
-body_fits shapes.Ipv4Udp v = (refl, ipv4_fits Udp v _ tt (checksum_small _ Udp v))
-body_fits shapes.Ipv4Icmp v = (refl, ipv4_fits Icmpv4 v _ tt (checksum_small _ Icmpv4 v))
-body_fits shapes.Ipv6 v = (refl, ipv6_fits Nothing v _ tt (checksum_small _ Nothing v))
-body_fits shapes.Ipv6Tcp v = (refl, ipv6_fits Tcp v _ tt (checksum_small _ Tcp v))
-body_fits shapes.Ipv6Udp v = (refl, ipv6_fits Udp v _ tt (checksum_small _ Udp v))
-body_fits shapes.Ipv6Icmp v = (refl, ipv6_fits Icmpv6 v _ tt (checksum_small _ Icmpv6 v))
+body_fits shapes.Ipv4 v = (refl, ipv4_fits Nothing v (carried_checksum (ipv4_sum Nothing v) Nothing v) tt (checksum_small (ipv4_sum Nothing v) Nothing v))
+body_fits shapes.Ipv4Tcp v = (refl, ipv4_fits Tcp v (carried_checksum (ipv4_sum Tcp v) Tcp v) tt (checksum_small (ipv4_sum Tcp v) Tcp v))
+body_fits shapes.Ipv4Udp v = (refl, ipv4_fits Udp v (carried_checksum (ipv4_sum Udp v) Udp v) tt (checksum_small (ipv4_sum Udp v) Udp v))
+body_fits shapes.Ipv4Icmp v = (refl, ipv4_fits Icmpv4 v (carried_checksum (ipv4_sum Icmpv4 v) Icmpv4 v) tt (checksum_small (ipv4_sum Icmpv4 v) Icmpv4 v))
+body_fits shapes.Ipv6 v = (refl, ipv6_fits Nothing v (carried_checksum (ipv6_sum Nothing v) Nothing v) tt (checksum_small (ipv6_sum Nothing v) Nothing v))
+body_fits shapes.Ipv6Tcp v = (refl, ipv6_fits Tcp v (carried_checksum (ipv6_sum Tcp v) Tcp v) tt (checksum_small (ipv6_sum Tcp v) Tcp v))
+body_fits shapes.Ipv6Udp v = (refl, ipv6_fits Udp v (carried_checksum (ipv6_sum Udp v) Udp v) tt (checksum_small (ipv6_sum Udp v) Udp v))
+body_fits shapes.Ipv6Icmp v = (refl, ipv6_fits Icmpv6 v (carried_checksum (ipv6_sum Icmpv6 v) Icmpv6 v) tt (checksum_small (ipv6_sum Icmpv6 v) Icmpv6 v))
 
 -- ---- the whole
 

@@ -1,5 +1,5 @@
 -- The frame with given fields.
-use Rattle.std.proofs.Common.{◌≡◌, ℕ, ◌+◌, ◌*◌, ◌/◌, ◌≤◌, List, length, refl, sym, ap, ◌∙◌, arith, subst}
+use Rattle.std.proofs.Common.{◌≡◌, ℕ, ◌*◌, ◌/◌, List, length, sym, ap, ◌∙◌, arith, subst}
 use Rattle.of_layers.specs.Bits.{bits_of}
 use Rattle.of_layers.specs.declared.field.Field.{Field}
 use Rattle.of_layers.specs.Layers.{Layers, cells, encoded}

@@ -1,5 +1,5 @@
 -- The numbers of a key are the values of its fields, and 0 for those that it lacks.
-use Rattle.std.proofs.Common.{◌≡◌, ℕ, zero, suc, ◌<◌, ◌+◌, ◌*◌, ◌/◌, ◌^◌, cond, Option, Some, None, refl, sym, ap, ◌∙◌, arith}
+use Rattle.std.proofs.Common.{◌≡◌, ℕ, zero, suc, ◌<◌, ◌/◌, ◌^◌, cond, Some, None, refl, arith}
 use Rattle.std.specs.Prelude.{◌==◌, slice_index, unwrap_or}
 use Rattle.std.specs.Int.{bit_at}
 use Rattle.std.proofs.Math.Path.{fun_ext}

@@ -1,7 +1,6 @@
 -- Packets of which something is known that has a shape.
 use Rattle.std.proofs.Common.{◌≡◌, ℕ, ◌+◌, ◌-◌, ◌*◌, ◌/◌, ◌%◌, ◌^◌, ◌<◌, ◌≤◌, Bool, true, false, cond, Option, Some, None, refl, sym, ap, ◌∙◌, arith, subst, inl, inr}
 use Rattle.std.specs.Prelude.{bit_and, unwrap_or, IfSome}
-use Rattle.std.specs.Int.{bit_at}
 use Rattle.std.proofs.lemmas.Nat.{pow_pos, and_mask}
 use Rattle.std.proofs.lemmas.Nat.Bits.{and_pow}
 use Rattle.std.proofs.Math.Nat.{mod-eq_of_lt}
@@ -17,7 +16,7 @@ use Rattle.of_shapes.specs.declared.shape.Tagging.TheVariants.{Untagged, Tagged}
 use Rattle.of_shapes.specs.declared.shape.Rule.TheVariants.{Absent, Under}
 use Rattle.of_shapes.specs.Rules.{Obeys, HasShape, IsTagging, has_header, of_tagging, protocol_of, type_of, valued}
 use Rattle.of_frames.specs.Given.{given, or_zero, fields_given, vlan_vid_given, vlan_pcp_given}
-use Rattle.of_frames.specs.Knowing.{AreWithinBits, IsAmong, IsKnown, NothingOfTags}
+use Rattle.of_frames.specs.Knowing.{AreWithinBits, IsAmong, IsKnown}
 use Rattle.of_frames.specs.Packets.{frame_given}
 use Rattle.of_frames.proofs.FrameLemmas.{given_fields}
 

@@ -6,3 +6,4 @@ pub mod OctetLemmas
 pub mod KeyLemmas
 pub mod FrameLemmas
 pub mod KnownLemmas
+pub mod RightLemmas

@@ -3,3 +3,4 @@ pub mod Checksums
 pub mod Packets
 pub mod Adding
 pub mod Knowing
+pub mod Beside

@@ -17,8 +17,9 @@ use std::alloc::{AllocError, Global};
 fn type_of(shape: Shape, numbers: &Numbers) -> u16
     ensures { result ≡ type_given shape (number numbers.now) }
 {
+    let given = numbers.eth_type;
     match shape {
-        Shape::Bare => numbers.eth_type,
+        Shape::Bare => given,
         Shape::Arp => 0x0806,
         Shape::Ipv4 | Shape::Ipv4Tcp | Shape::Ipv4Udp | Shape::Ipv4Icmp => 0x0800,
         Shape::Ipv6 | Shape::Ipv6Tcp | Shape::Ipv6Udp | Shape::Ipv6Icmp => 0x86dd,

@@ -8,4 +8,4 @@ mod packets;
 mod sums;
 
 pub use frame::frame_of;
-pub use laws::{frames_have_their_fields, known_packets_have_frames};
+pub use laws::{checksums_are_right, frames_have_their_fields, known_packets_have_frames};

@@ -4,6 +4,7 @@ ghost use Rattle.of_layers.specs.Bits.{bits};
 ghost use Rattle.of_layers.specs.Layers.{addresses, arp, body_cells, carried_cells, cells_in, encoded, ipv4, ipv6, named, tag_cells};
 ghost use Rattle.of_layers.specs.declared.field.Field.TheVariants.{IpProto};
 ghost use Rattle.of_layers.specs.declared.transport.Transport.TheVariants.{Tcp, Udp};
+ghost use Rattle.of_shapes.specs.declared.shape.Tagging.TheVariants.{Tagged};
 ghost use Rattle.of_frames.specs.Adding.{Adds};
 ghost use Rattle.of_frames.specs.Given.{number};
 ghost use Rattle.of_frames.specs.Packets.{arp_given, body_given, carried_given, ends_given, ipv4_given, ipv6_given, over_ipv4, over_ipv6, tags_given};
@@ -41,11 +42,7 @@ fn push_one_tag(out: &mut Vec<u8>, numbers: &Numbers) -> Result<(), AllocError>
 }
 
 /// Appends a tag, if there is one.
-pub fn push_tags(
-    out: &mut Vec<u8>,
-    tagging: Tagging,
-    numbers: &Numbers,
-) -> Result<(), AllocError>
+pub fn push_tags(out: &mut Vec<u8>, tagging: Tagging, numbers: &Numbers) -> Result<(), AllocError>
     ensures { OnOk result (Adds out.old.items out.new.items (encoded (tag_cells (tags_given tagging (number numbers.now))))) }
 {
     match tagging {
@@ -126,11 +123,7 @@ fn push_carried(
 }
 
 // Appends an IPv4 header without options (RFC 791, 3.1).
-fn push_ipv4_header(
-    out: &mut Vec<u8>,
-    kind: Transport,
-    numbers: &Numbers,
-) -> Result<(), AllocError>
+fn push_ipv4_header(out: &mut Vec<u8>, kind: Transport, numbers: &Numbers) -> Result<(), AllocError>
     ensures { OnOk result (Adds out.old.items out.new.items (encoded (cells_in ipv4 (ipv4_given kind (number numbers.now))))) }
 {
     push_byte(out, 0x45)?;
@@ -156,11 +149,7 @@ fn push_ipv4(out: &mut Vec<u8>, kind: Transport, numbers: &Numbers) -> Result<()
 }
 
 // Appends an IPv6 header (RFC 8200, 3).
-fn push_ipv6_header(
-    out: &mut Vec<u8>,
-    kind: Transport,
-    numbers: &Numbers,
-) -> Result<(), AllocError>
+fn push_ipv6_header(out: &mut Vec<u8>, kind: Transport, numbers: &Numbers) -> Result<(), AllocError>
     ensures { OnOk result (Adds out.old.items out.new.items (encoded (cells_in (ipv6 (named IpProto 8)) (ipv6_given kind (number numbers.now))))) }
 {
     let class = 6 * 256 + service_of(numbers) as u32;

@@ -11,8 +11,9 @@ use of_headers::{Numbers, Transport};
 pub fn protocol_of(kind: Transport, numbers: &Numbers) -> u8
     ensures { result ≡ protocol_with kind (number numbers.now) }
 {
+    let given = numbers.ip_proto;
     match kind {
-        Transport::Nothing => numbers.ip_proto,
+        Transport::Nothing => given,
         Transport::Tcp => 6,
         Transport::Udp => 17,
         Transport::Icmpv4 => 1,

@@ -55,17 +55,13 @@ fn refuses(
     let Err(NoFrame::Refused(refusal)) = read_frame(alloc, 7, words.as_bytes()) else {
         return Err("a refusal".into());
     };
-    let word = std::str::from_utf8(&refusal.word)
-        .ok()
-        .ok_or("a word")?;
+    let word = std::str::from_utf8(&refusal.word).ok().ok_or("a word")?;
     assert_eq!(rt; word, wanted, "{words}");
     let by_word = matches!(
         refusal.why,
         Why::Mask
             | Why::Word(
-                of_ovs_words::Why::Unknown
-                    | of_ovs_words::Why::Value
-                    | of_ovs_words::Why::Protocol
+                of_ovs_words::Why::Unknown | of_ovs_words::Why::Value | of_ovs_words::Why::Protocol
             )
     );
     assert_eq!(rt; by_word, meaningless, "{words}");

@@ -1,7 +1,6 @@
-use Rattle.std.proofs.Common.{◌*◌, ◌+◌, ◌%◌, arith}
-use Rattle.of_layers.specs.Bits.{bits}
+use Rattle.std.proofs.Common.{◌%◌, arith}
 use Rattle.of_layers.specs.Fields.{row_of}
-use Rattle.of_frames.proofs.AddingLemmas.{add, same, last, tag_bits}
+use Rattle.of_frames.proofs.AddingLemmas.{add, same, tag_bits}
 use Rattle.of_frames.proofs.packets.push_one_tag.Goals as goal
 
 pub returns : goal.returns

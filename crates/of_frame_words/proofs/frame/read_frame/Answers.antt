@@ -1,0 +1,27 @@
+use Rattle.std.proofs.Common.{List, ◌∙◌, ap, sym}
+use Rattle.std.proofs.lemmas.Result.{IfOk-weaker, err_from_is_err_and}
+use Rattle.of_oxm.specs.declared.match_field.MatchField.{MatchField}
+use Rattle.of_frame_words.specs.Frames.{checked, received}
+use Rattle.of_frame_words.specs.Views.{view_received}
+use Rattle.of_frame_words.proofs.WordLemmas.{stops_same}
+use Rattle.of_frame_words.proofs.SaidLemmas.{err_weaker, frame_is, frame_stops}
+use Rattle.of_frame_words.proofs.frame.read_frame.Goals as goal
+
+pub returns-in_err-add_words-clause-stopped : goal.returns-in_err-add_words-clause-stopped
+returns-in_err-add_words-clause-stopped c =
+    let p = err_from_is_err_and c.from_residual.result c.from_residual.ensures.1 in
+    rw (p.1, p.2) (frame_stops c.args.port c.args.text.now c.new-settings.result.items c.in_err-add_words.field-0.0 c.new-settings.ensures.items c.in_err-add_words.ensures.stopped)
+
+pub returns-clause-read : goal.returns-clause-read
+returns-clause-read c =
+    IfOk-weaker c.checked.result _ _
+    (λ r e. frame_is c.args.port c.args.text.now c.new-settings.result.items c.add_words.new.settings.items (view_received c.in_ok-received.received) c.new-settings.ensures.items c.in_ok-add_words.ensures.added
+    (c.in_ok-received.ensures.received ∙ ap (received c.args.port) c.deref.ensures.value) ∙ ap (λ (xs : List MatchField). checked xs (view_received c.in_ok-received.received)) (sym c.deref-2.ensures.value) ∙ e)
+    c.checked.ensures.read
+
+pub returns-clause-stopped : goal.returns-clause-stopped
+returns-clause-stopped c =
+    err_weaker c.checked.result _ _
+    (λ stop h. stops_same _ _ stop (frame_is c.args.port c.args.text.now c.new-settings.result.items c.add_words.new.settings.items (view_received c.in_ok-received.received) c.new-settings.ensures.items c.in_ok-add_words.ensures.added
+    (c.in_ok-received.ensures.received ∙ ap (received c.args.port) c.deref.ensures.value) ∙ ap (λ (xs : List MatchField). checked xs (view_received c.in_ok-received.received)) (sym c.deref-2.ensures.value)) h)
+    c.checked.ensures.stopped
