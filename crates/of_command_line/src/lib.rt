@@ -379,11 +379,7 @@ fn text_of(alloc: Global, word: Option<&str>) -> Result<Option<String>, AllocErr
     }
 }
 
-fn serve_of<N: Net>(
-    alloc: Global,
-    net: &N,
-    matches: &ArgMatches<'_>,
-) -> Result<Serve, NoRequest> {
+fn serve_of<N: Net>(alloc: Global, net: &N, matches: &ArgMatches<'_>) -> Result<Serve, NoRequest> {
     Ok(Serve {
         meeting: meeting_of(alloc, net, matches)?,
         events: text_of(alloc, matches.get_str("FILE"))?,
@@ -393,11 +389,7 @@ fn serve_of<N: Net>(
     })
 }
 
-fn live_of<N: Net>(
-    alloc: Global,
-    net: &N,
-    matches: &ArgMatches<'_>,
-) -> Result<Live, NoRequest> {
+fn live_of<N: Net>(alloc: Global, net: &N, matches: &ArgMatches<'_>) -> Result<Live, NoRequest> {
     Ok(Live {
         tunnel: tunnel_of(alloc, matches.get_str("vxlan").unwrap_or(DEFAULT_TUNNEL))?,
         meeting: meeting_of(alloc, net, matches)?,
