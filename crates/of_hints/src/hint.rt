@@ -106,7 +106,9 @@ pub fn import_hint(text: &[u8]) -> Option<Hint>
     if let Some(fault) = text_fault(text) {
         return Some(Hint::Layout(fault));
     }
-    let line = text.split(|byte| *byte == b'\n').find(|line| !is_passed_over(line))?;
+    let line = text
+        .split(|byte| *byte == b'\n')
+        .find(|line| !is_passed_over(line))?;
     if form_of(line, &FLOW_LINES).is_some() {
         return Some(Hint::FlowText);
     }

@@ -1,6 +1,6 @@
 -- Flows that replace each other have the same digest.
 use Rattle.std.proofs.Common.{◌≡◌, ℕ, eqb, Bool, true, false, cond, List, [], ◌∷◌, ◌++◌, Option, Some, None, refl, sym, ap, ◌∙◌}
-use Rattle.std.specs.Prelude.{map, ◌||◌, ◌&&◌, is_some, slice_get}
+use Rattle.std.specs.Prelude.{◌||◌, ◌&&◌, is_some, slice_get}
 use Rattle.std.specs.HashMap.{HashMap, get}
 use Rattle.std.specs.List.{list_any}
 use Rattle.std.specs.Map.{lookup}

@@ -1,5 +1,5 @@
 -- From what was read to its configuration.
-use Rattle.std.proofs.Common.{◌≡◌, ◌≤◌, ℕ, ◌+◌, false, List, ◌++◌, length, Option, Some, sym, ap, ◌∙◌, subst}
+use Rattle.std.proofs.Common.{◌≡◌, ◌≤◌, ℕ, ◌+◌, false, List, ◌++◌, length, Option, Some, ap, ◌∙◌, subst}
 use Rattle.std.specs.Prelude.{filter, map, slice_index_or}
 use Rattle.of_wire.specs.declared.code.Code.{Code}
 use Rattle.of_text.specs.declared.assembling.FillError.{FillError}

@@ -1,14 +1,16 @@
 -- Comments before a text change nothing of what it encodes.
-use Rattle.std.proofs.Common.{◌≡◌, ℕ, ◌+◌, length, Bool, true, false, List, [], ◌∷◌, ◌++◌, refl, ◌∙◌, ap, append_assoc, arith}
+use Rattle.std.proofs.Common.{◌≡◌, ℕ, ◌+◌, ◌<◌, length, take, get_or, Bool, true, false, List, [], ◌∷◌, ◌++◌, refl, sym, ◌∙◌, ap, append_assoc, arith}
 use Rattle.std.specs.Prelude.{◌==◌, ◌&&◌, nat_le, map, if◌then◌else◌}
 use Rattle.std.specs.List.{flat_map}
 use Rattle.std.proofs.lemmas.Bool.Decides.{nat_tests}
+use Rattle.std.proofs.lemmas.List.{append-nil, map_more}
+use Rattle.std.proofs.lemmas.List.Concat.{flat_map-append}
 use Rattle.of_text.specs.Lines.{lines_of}
 use Rattle.of_text.specs.Texts.{kept}
 use Rattle.of_text.specs.Configs.{Configuration, EncodeConfig}
 use Rattle.of_lines.specs.Lines.{prepended}
 use Rattle.of_import.specs.Kept.{Kept}
-use Rattle.of_import.specs.Notes.{action_words, comment, fault_words, mark_notes, notes_of, part_note, part_words, refusal_words, resubmit_note, resubmit_words, shown, table_words}
+use Rattle.of_import.specs.Notes.{action_words, comment, fault_words, mark_notes, notes_of, part_words, refusal_words, resubmit_note, resubmit_words, shown, table_words}
 use Rattle.of_import.specs.ParsedLines.{FlowAt}
 use Rattle.of_import.specs.PartialFlows.{Refusal}
 
@@ -78,3 +80,11 @@ encoded_behind moves faults k text config h = record {
   stand = h.stand;
   filled = h.filled;
 }
+
+-- ---- one after the other
+
+pub notes_more : {X Y : Type 0} (f : Y → List ℕ) (v : X → Y) (xs : List X) (i : ℕ) (x : X) (start old new : List ℕ) → i < length xs → x ≡ get_or xs i x → old ≡ start ++ flat_map f (map v (take i xs)) → new ≡ old ++ f (v x) → new ≡ start ++ flat_map f (map v (take (i + 1) xs))
+notes_more {X} {Y} f v xs i x start old new h is o n =
+    let before : List ℕ = flat_map f (map v (take i xs)) in
+    let whole : flat_map f (map v (take (i + 1) xs)) ≡ before ++ f (v x) = ap (flat_map f) (map_more v xs i x h) ∙ (flat_map-append f (map v (take i xs)) (v (get_or xs i x) ∷ []) ∙ (ap (λ (zs : List ℕ). before ++ zs) (append-nil (f (v (get_or xs i x)))) ∙ ap (λ (y : X). before ++ f (v y)) (sym is))) in
+    n ∙ (ap (λ (ys : List ℕ). ys ++ f (v x)) o ∙ (append_assoc start before (f (v x)) ∙ ap (λ (ys : List ℕ). start ++ ys) (sym whole)))

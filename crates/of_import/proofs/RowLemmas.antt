@@ -5,7 +5,6 @@ use Rattle.std.specs.List.{AllByRecursion, flat_map, list_all}
 use Rattle.of_actions.specs.declared.action.Action.{Action}
 use Rattle.of_actions.specs.Rising.{is_ascending}
 use Rattle.of_text.specs.declared.flow.FlowText.{FlowText}
-use Rattle.of_text.specs.declared.group.GroupText.{GroupText}
 use Rattle.of_lines.specs.declared.order.Place.{Place}
 use Rattle.of_lines.specs.declared.order.Place.TheVariants.{Start, InGroup, InBucket, InFlow}
 use Rattle.of_lines.specs.declared.row.Row.{Row}

@@ -14,7 +14,7 @@ use Rattle.of_actions.specs.declared.action.Action.{Action}
 use Rattle.of_actions.specs.declared.action.Action.TheVariants as actions
 use Rattle.of_lines.specs.declared.row.Row.{Row}
 use Rattle.of_lines.specs.declared.row.Row.TheVariants as rows
-use Rattle.of_text.specs.Flows.{Flow, Step, Apply, Clear, Write, step_rows}
+use Rattle.of_text.specs.Flows.{Step, Apply, Clear, Write, step_rows}
 use Rattle.of_text.specs.Rows.{Fits, ActionFits, HeadFits, IsMask}
 use Rattle.of_text.specs.Order.{flow_next, flow_standing}
 use Rattle.of_ovs_words.specs.Settings.{last_of}

@@ -1,5 +1,5 @@
 -- THE TEXT OF A TABLE OF OPEN VSWITCH: the configuration that its lines say, without those that are left out, after comments about these.
-use Rattle.std.specs.Prelude.{◌≡◌, ◌<◌, ◌≤◌, ◌+◌, ◌++◌, ℕ, Bool, false, List, [], filter, map, length, None, Some, if◌then◌else◌}
+use Rattle.std.specs.Prelude.{◌≡◌, ◌<◌, ◌≤◌, ◌+◌, ◌++◌, ℕ, false, List, [], filter, map, length, None, Some, if◌then◌else◌}
 use Rattle.of_text.specs.Configs.{Configuration, EncodeConfig, tables_of, config_text}
 use Rattle.of_text.specs.Groups.{TextGroup}
 use Rattle.of_text.specs.Lines.{lines_of}

@@ -1,12 +1,14 @@
 -- What is kept, apart from its layout in memory.
-use Rattle.std.specs.Prelude.{ℕ, map}
+use Rattle.std.specs.Prelude.{ℕ, Bool, map}
 use Rattle.std.specs.Global.{Vec}
 use Rattle.of_wire.specs.declared.code.Code.{Code}
+use Rattle.of_import.specs.declared.parsed_lines.FlowLine.{FlowLine}
 use Rattle.of_import.specs.declared.parsed_lines.GroupLine.{GroupLine}
 use Rattle.of_import.specs.declared.kept.LineRefusal.{LineRefusal}
 use Rattle.of_import.specs.declared.kept.KeptLines.{KeptLines}
 use Rattle.of_import.specs.ParsedLinesViews.{view_flow_line, view_group_line}
 use Rattle.of_import.specs.Kept.{Kept, KeptGroups}
+use Rattle.of_import.specs.Notes.{is_changed}
 
 abbrev pub view_refusal : LineRefusal → ℕ × Code
 view_refusal r = (r.line, r.code)
@@ -16,3 +18,7 @@ view_kept_groups groups refused = record { groups = map view_group_line groups.i
 
 abbrev pub view_kept : KeptLines → Kept
 view_kept k = record { groups = map view_group_line k.groups.items; flows = map view_flow_line k.flows.items; refused = map view_refusal k.refused.items }
+
+-- an action of the flow is left out
+unfoldable pub loses_action : FlowLine → Bool
+loses_action f = is_changed (view_flow_line f)

@@ -1,5 +1,5 @@
 -- NEW NUMBERS OF TABLES: those that occur, as the table of a flow or of GOTO_TABLE, get the numbers from 0 on, in their order.
-use Rattle.std.specs.Prelude.{ℕ, suc, zero, ◌+◌, ◌==◌, ◌&&◌, ◌||◌, not, min, Bool, true, false, List, [], ◌∷◌, ◌++◌, if◌then◌else◌}
+use Rattle.std.specs.Prelude.{ℕ, suc, zero, ◌+◌, ◌==◌, ◌&&◌, ◌||◌, not, min, Bool, false, List, [], ◌∷◌, ◌++◌, if◌then◌else◌}
 use Rattle.std.specs.List.{list_any}
 use Rattle.of_text.specs.Flows.{Flow as TextFlow, Step, Goto}
 use Rattle.of_import.specs.ParsedLines.{FlowAt}

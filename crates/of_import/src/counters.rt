@@ -95,11 +95,7 @@ fn push_line(out: &mut Vec<u8>, line: &[u8]) -> Result<(), AllocError>
 }
 
 // Appends a line, and if it begins a flow the next of the comments.
-fn push_noted(
-    out: &mut Vec<u8>,
-    left: &mut Vec<Vec<u8>>,
-    line: &[u8],
-) -> Result<(), AllocError>
+fn push_noted(out: &mut Vec<u8>, left: &mut Vec<Vec<u8>>, line: &[u8]) -> Result<(), AllocError>
     ensures out { OnOk result (out.new.items ≡ out.old.items ++ noted_line (notes_to_come left.old.items) line.now) }
     ensures left { OnOk result (notes_to_come left.new.items ≡ notes_after (notes_to_come left.old.items) line.now) }
 {

@@ -312,11 +312,7 @@ fn has_younger(
     }
 }
 
-fn put_digest(
-    places: &mut HashMap<u128, usize>,
-    key: u128,
-    place: usize,
-) -> Result<(), AllocError>
+fn put_digest(places: &mut HashMap<u128, usize>, key: u128, place: usize) -> Result<(), AllocError>
     ensures { OnOk result (PutsDigest places.old places.new key place) }
 {
     places.insert(key, place)?;

@@ -1,7 +1,7 @@
 //! Comments about a text.
 ghost use Rattle.std.specs.Prelude.{◌≡◌, ◌++◌, ◌∷◌, filter, length, map, codes, IfOk, OnOk};
 ghost use Rattle.std.specs.List.{flat_map};
-ghost use Rattle.of_import.specs.KeptViews.{view_kept, view_refusal};
+ghost use Rattle.of_import.specs.KeptViews.{loses_action, view_kept, view_refusal};
 ghost use Rattle.of_import.specs.Notes.{action_words, comment, counter_note as counter_note_of, fault_words, is_changed as is_changed_line, mark_notes, notes_of, part_note, part_words, refusal_words, resubmit_note, shown as shown_byte, table_words, word_after_space};
 ghost use Rattle.of_import.specs.ParsedLinesViews.{view_faults, view_flow_line};
 ghost use Rattle.of_import.specs.PartialFlowViews.{view_word_fault};
@@ -239,14 +239,15 @@ pub fn counter_note(alloc: Global, it: &FlowLine) -> Result<Vec<u8>, AllocError>
     Ok(note)
 }
 
+#[tactic(auto, unfolding(crate::specs::KeptViews::loses_action))]
 fn is_changed(it: &FlowLine) -> bool
-    ensures { result ≡ is_changed_line (view_flow_line it.now) }
+    ensures { result ≡ loses_action it.now }
 {
     !it.marks.left.is_empty()
 }
 
 fn count_lines(flows: &[FlowLine]) -> usize
-    ensures { result ≡ length (filter (λ it. is_changed_line (view_flow_line it)) flows.now) }
+    ensures { result ≡ length (filter loses_action flows.now) }
 {
     flows.iter().filter(|it| is_changed(it)).count()
 }

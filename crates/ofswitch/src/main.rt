@@ -270,12 +270,7 @@ fn check_rows<R: Read + Drop>(rt: &HostRuntime, steps: usize, reader: R) -> Resu
     check_events::<Lookups, _, _>(rt.alloc(), &mut source, steps, &mut writer)
 }
 
-fn check_text<R: Read + Drop>(
-    rt: &HostRuntime,
-    path: &str,
-    steps: usize,
-    reader: R,
-) -> ExitCode {
+fn check_text<R: Read + Drop>(rt: &HostRuntime, path: &str, steps: usize, reader: R) -> ExitCode {
     match read_whole(rt.alloc(), reader) {
         Ok(text) => {
             let seen = Seen::whole(text);

@@ -1,4 +1,4 @@
-use Rattle.std.proofs.Common.{◌≡◌, ◌∙◌, sym, ap, true, false, List}
+use Rattle.std.proofs.Common.{◌∙◌, sym, ap, List}
 use Rattle.std.specs.List.{list_any}
 use Rattle.of_text.specs.Views.{view}
 use Rattle.of_import.specs.declared.parsed_lines.FlowLine.{FlowLine}

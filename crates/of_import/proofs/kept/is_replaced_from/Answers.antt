@@ -5,5 +5,5 @@ use Rattle.of_import.specs.Kept.{replaces}
 use Rattle.of_import.proofs.DigestLemmas.{any_at}
 use Rattle.of_import.proofs.kept.is_replaced_from.Goals as goal
 
-pub returns-if-replaces_at : goal.returns-if-replaces_at
-returns-if-replaces_at c = sym (any_at (λ (g : FlowLine). replaces (view g.flow) (view c.args.flow.now)) c.args.later.now c.args.place (sym c.replaces_at.ensures ∙ c.if-replaces_at.true))
+pub returns-then-replaces_at : goal.returns-then-replaces_at
+returns-then-replaces_at c = sym (any_at (λ (g : FlowLine). replaces (view g.flow) (view c.args.flow.now)) c.args.later.now c.args.place (sym c.replaces_at.ensures ∙ c.if-replaces_at.true))

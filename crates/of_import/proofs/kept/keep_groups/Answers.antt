@@ -1,4 +1,4 @@
-use Rattle.std.proofs.Common.{◌∙◌, refl, [], length}
+use Rattle.std.proofs.Common.{refl, [], length}
 use Rattle.std.specs.Prelude.{map}
 use Rattle.of_text.specs.First.{first_refusal}
 use Rattle.of_import.specs.Kept.{groups_in}

@@ -1,4 +1,4 @@
-use Rattle.std.proofs.Common.{◌≡◌, ◌≤◌, length}
+use Rattle.std.proofs.Common.{◌≡◌, length}
 use Rattle.of_import.specs.Kept.{kept_groups}
 use Rattle.of_import.specs.KeptViews.{view_kept_groups}
 use Rattle.of_import.specs.ParsedLinesViews.{AreSoundGroups}

@@ -1,4 +1,4 @@
-use Rattle.std.proofs.Common.{◌≡◌, ◌∙◌, sym, ap, subst, [], List, ℕ}
+use Rattle.std.proofs.Common.{◌∙◌, sym, ap, subst, [], List}
 use Rattle.std.specs.Prelude.{map, slice_index_or}
 use Rattle.of_import.specs.declared.parsed_lines.GroupLine.{GroupLine}
 use Rattle.of_text.specs.First.{first_refusal}

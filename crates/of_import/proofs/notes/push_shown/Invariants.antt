@@ -1,6 +1,5 @@
-use Rattle.std.proofs.Common.{◌≡◌, ◌++◌, take, List, ℕ}
+use Rattle.std.proofs.Common.{◌≡◌, ◌++◌, take}
 use Rattle.std.specs.Prelude.{map}
-use Rattle.std.specs.List.{flat_map}
 use Rattle.of_import.specs.Notes.{shown}
 use Rattle.of_import.proofs.notes.push_shown.Given as goal
 
